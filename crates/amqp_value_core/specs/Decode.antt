@@ -1,0 +1,54 @@
+-- The outcome as a function: what reading computes to, for any list of bytes.
+use Rattle.std.specs.Prelude.{ℕ, suc, zero, Option, Some, None, option_map, List, [], ◌∷◌, length, take, drop}
+use Rattle.std.specs.Int.{Width, byte_len}
+use Rattle.amqp_value_core.specs.declared.types.AMQPType.{AMQPType}
+use Rattle.amqp_value_core.specs.declared.types.AMQPType.TheVariants as amqp
+use Rattle.amqp_value_core.specs.Values.{Tree, scalar, array, Trees, no_trees, tree}
+use Rattle.amqp_value_core.specs.Ids.{kind}
+use Rattle.amqp_value_core.specs.Layouts.{fixed}
+use Rattle.amqp_value_core.specs.Outcomes.{Reading, found, more, unknown, malformed, length_field, counted, lack}
+
+-- the value that the bytes behind a length field mean, if they mean one
+abbrev pub Meaning : Type 0
+Meaning = AMQPType → List ℕ → Option Tree
+
+-- reading a length field, and as many bytes as it counts
+abbrev pub framed : Width → (List ℕ → Option Tree) → List ℕ → Reading
+framed w mean b =
+    let n = counted w b in
+    let s = drop (byte_len w) b in
+    elim (mean (take n s)) [ Some v ↦ found v (drop n s) | None ↦ malformed ]
+
+-- reading a payload of the type
+abbrev pub raw_outcome_by : Meaning → AMQPType → List ℕ → Reading
+raw_outcome_by mean type b = elim (lack type b) [
+  | suc n ↦ more (suc n)
+  | zero ↦ elim (fixed type) [
+    | Some f ↦ found (scalar (f.meaning (take f.width b))) (drop f.width b)
+    | None ↦ framed (length_field type) (mean type) b
+  ]
+]
+
+-- reading an id and a payload of its type
+abbrev pub outcome_by : Meaning → List ℕ → Reading
+outcome_by mean [] = more 1
+outcome_by mean (c ∷ b) = elim (kind c) [ None ↦ unknown | Some type ↦ raw_outcome_by mean type b ]
+
+-- the values that bytes spell one after another, at most n of them
+abbrev pub values : (List ℕ → Reading) → ℕ → List ℕ → Option Trees
+values read n [] = Some no_trees
+values read zero (c ∷ b) = None
+values read (suc n) (c ∷ b) = elim (read (c ∷ b)) [ found v rest ↦ option_map (tree v) (values read n rest) | _ ↦ None ]
+
+-- the meaning where containers nest at most `depth` deep
+abbrev pub meaning : ℕ → Meaning
+meaning (suc depth) amqp.FieldArray s = option_map array (values (outcome_by (meaning depth)) (length s) s)
+meaning _ _ s = None
+
+-- the outcome of reading a value: no value nests as deep as it has bytes
+abbrev pub outcome : List ℕ → Reading
+outcome s = outcome_by (meaning (length s)) s
+
+-- the outcome of reading a payload of the type
+abbrev pub raw_outcome : AMQPType → List ℕ → Reading
+raw_outcome type b = raw_outcome_by (meaning (length b)) type b

@@ -1,0 +1,30 @@
+-- The grammar: which bytes are a value's wire. It says what the bytes are, and not how they are read.
+-- AMQP 0-9-1, section 4.2.5.5; the length of an array is that of its body in bytes.
+use Rattle.std.specs.Prelude.{ℕ, ◌^◌, ◌<◌, ◌≡◌, Some, List, [], ◌∷◌, ◌++◌, length}
+use Rattle.std.specs.Int.{w32, to_be_bytes}
+use Rattle.amqp_value_core.specs.declared.types.AMQPType.{AMQPType}
+use Rattle.amqp_value_core.specs.declared.types.AMQPType.TheVariants as amqp
+use Rattle.amqp_value_core.specs.Values.{Tree, scalar, array, Trees, no_trees, tree}
+use Rattle.amqp_value_core.specs.Ids.{kind}
+use Rattle.amqp_value_core.specs.Layouts.{Layout, fixed}
+
+-- bytes behind their length in four bytes
+abbrev pub large : List ℕ → List ℕ
+large s = to_be_bytes w32 (length s) ++ s
+
+mutual
+  -- w is a wire of v: an id, and a payload of its type
+  pub data Wire : List ℕ → Tree → Type 0 where
+    wire : (c : ℕ) → (type : AMQPType) → (b : List ℕ) → (v : Tree) → kind c ≡ Some type → Raw type b v → Wire (c ∷ b) v
+
+  -- b is a payload of the type, and means v
+  pub data Raw : AMQPType → List ℕ → Tree → Type 0 where
+    -- of a type of fixed width: that many bytes, with the meaning of the type
+    raw_fixed : (type : AMQPType) → (f : Layout) → (b : List ℕ) → fixed type ≡ Some f → length b ≡ f.width → Raw type b (scalar (f.meaning b))
+    -- of an array: its body behind the body's length
+    raw_array : (body : List ℕ) → (vs : Trees) → length body < 2 ^ 32 → Body body vs → Raw amqp.FieldArray (large body) (array vs)
+
+  -- the bytes are wires of these values, one after another, and nothing else
+  pub data Body : List ℕ → Trees → Type 0 where
+    no_values : Body [] no_trees
+    value : (w : List ℕ) → (more : List ℕ) → (v : Tree) → (vs : Trees) → Wire w v → Body more vs → Body (w ++ more) (tree v vs)

@@ -1,0 +1,9 @@
+pub mod Values
+pub mod Ids
+pub mod Layouts
+pub mod Grammar
+pub mod Outcomes
+pub mod Decode
+pub mod Texts
+pub mod View
+pub mod Inputs
