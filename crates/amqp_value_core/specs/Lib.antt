@@ -7,3 +7,5 @@ pub mod Decode
 pub mod Texts
 pub mod View
 pub mod Inputs
+pub mod Equality
+pub mod Decided

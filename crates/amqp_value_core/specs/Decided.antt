@@ -1,0 +1,61 @@
+-- The test of equality holds exactly of equal trees: the laws that `PartialEq` owes.
+use Rattle.std.proofs.Common.{◌≡◌, ℕ, Bool, true, false, ◌==◌, ◌∷◌, [], get_or, refl, sym, ap, ◌∙◌, Decides}
+use Rattle.std.specs.Cmp.{IsPartialEquivalence, decided, on_per, partial_equiv_from_equiv, unsigned_Decides}
+use Rattle.std.proofs.lemmas.Bool.Decides.{Decides-and, Decides-like}
+use Rattle.amqp_value_core.specs.declared.types.AMQPType.{AMQPType}
+use Rattle.amqp_value_core.specs.declared.types.AMQPType.TheVariants as amqp
+use Rattle.amqp_value_core.specs.Values.{Scalar, boolean, number, void, Tree, scalar, array, Trees, no_trees, tree}
+use Rattle.amqp_value_core.specs.Equality.{place_of, same_truth, same_scalar, same_tree, same_trees}
+
+-- the type at a place
+type_at : ℕ → AMQPType
+type_at n = get_or (amqp.Boolean ∷ amqp.ShortShortInt ∷ amqp.LongInt ∷ amqp.FieldArray ∷ []) n amqp.Void
+
+type_at-place_of : (t : AMQPType) → type_at (place_of t) ≡ t
+unfolding type_at
+type_at-place_of amqp.Boolean = refl
+type_at-place_of amqp.ShortShortInt = refl
+type_at-place_of amqp.LongInt = refl
+type_at-place_of amqp.FieldArray = refl
+type_at-place_of amqp.Void = refl
+
+types_decide : (t u : AMQPType) → Decides (place_of t == place_of u) (t ≡ u)
+types_decide t u = Decides-like _ (λ e. sym (type_at-place_of t) ∙ ap type_at e ∙ type_at-place_of u) (λ e. ap place_of e) (unsigned_Decides (place_of t) (place_of u))
+
+truths_decide : (a b : Bool) → Decides (same_truth a b) (a ≡ b)
+truths_decide true true = (λ _. refl, λ _. refl)
+truths_decide true false = (λ e. cc, λ e. cc)
+truths_decide false true = (λ e. cc, λ e. cc)
+truths_decide false false = (λ _. refl, λ _. refl)
+
+scalars_decide : (x y : Scalar) → Decides (same_scalar x y) (x ≡ y)
+scalars_decide (boolean a) (boolean b) = Decides-like _ (λ e. ap boolean e) (λ e. cc) (truths_decide a b)
+scalars_decide (number t m) (number u n) = Decides-like _ (λ e. ap (λ k. number k m) e.0 ∙ ap (number u) e.1) (λ e. let p : t ≡ u = cc in let q : m ≡ n = cc in (p, q)) (Decides-and _ _ (types_decide t u) (unsigned_Decides m n))
+scalars_decide void void = (λ _. refl, λ _. refl)
+scalars_decide (boolean a) (number u n) = (λ e. cc, λ e. cc)
+scalars_decide (boolean a) void = (λ e. cc, λ e. cc)
+scalars_decide (number t m) (boolean b) = (λ e. cc, λ e. cc)
+scalars_decide (number t m) void = (λ e. cc, λ e. cc)
+scalars_decide void (boolean b) = (λ e. cc, λ e. cc)
+scalars_decide void (number u n) = (λ e. cc, λ e. cc)
+
+mutual
+  -- equal trees are what the test holds of
+  pub tree_decides : (v u : Tree) → Decides (same_tree v u) (v ≡ u)
+  tree_decides (scalar x) (scalar y) = Decides-like _ (λ e. ap scalar e) (λ e. cc) (scalars_decide x y)
+  tree_decides (array vs) (array us) = Decides-like _ (λ e. ap array e) (λ e. cc) (trees_decide vs us)
+  tree_decides (scalar x) (array us) = (λ e. cc, λ e. cc)
+  tree_decides (array vs) (scalar y) = (λ e. cc, λ e. cc)
+
+  pub trees_decide : (vs us : Trees) → Decides (same_trees vs us) (vs ≡ us)
+  trees_decide no_trees no_trees = (λ _. refl, λ _. refl)
+  trees_decide (tree v vs) (tree u us) = Decides-like _ (λ e. ap (λ k. tree k vs) e.0 ∙ ap (tree u) e.1) (λ e. let p : v ≡ u = cc in let q : vs ≡ us = cc in (p, q)) (Decides-and _ _ (tree_decides v u) (trees_decide vs us))
+  trees_decide no_trees (tree u us) = (λ e. cc, λ e. cc)
+  trees_decide (tree v vs) no_trees = (λ e. cc, λ e. cc)
+
+-- a test of trees is a partial equivalence of what has trees
+pub same_tree_laws : {X : Type 0} (f : X → Tree) → IsPartialEquivalence (λ a b. same_tree (f a) (f b))
+same_tree_laws f = on_per f (partial_equiv_from_equiv (decided same_tree tree_decides))
+
+pub same_trees_laws : {X : Type 0} (f : X → Trees) → IsPartialEquivalence (λ a b. same_trees (f a) (f b))
+same_trees_laws f = on_per f (partial_equiv_from_equiv (decided same_trees trees_decide))
