@@ -3,5 +3,7 @@
 
 mod equality;
 pub mod input;
+#[cfg(test)]
+mod tests;
 pub mod types;
 pub mod value;
