@@ -2,6 +2,7 @@ pub mod Fronts
 pub mod Headers
 pub mod Unique
 pub mod Spelling
+pub mod Outcomes
 pub mod Reading
 pub mod MoreBytes
 pub mod Laws
