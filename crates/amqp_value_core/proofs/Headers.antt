@@ -85,6 +85,10 @@ lack-append type b t lt = lack_of-append (fixed type) (length_field type) b t lt
 pub counted-large : (s rest : List ℕ) → length s < 2 ^ 32 → counted w32 (large s ++ rest) ≡ length s
 counted-large s rest fits = from_be_bytes-to_be_bytes_4 (length s) fits
 
+-- bytes behind their length are a whole frame
+pub lack_of-large : (s rest : List ℕ) → length s < 2 ^ 32 → lack_of None w32 (large s ++ rest) ≡ 0
+lack_of-large s rest fits = lack_of-none None w32 (large s ++ rest) (omega (arith, counted-large s rest fits, length-append s rest))
+
 -- the extent of a payload is its length, whatever follows
 pub extent-raw : (type : AMQPType) (b rest : List ℕ) (v : Tree) → Raw type b v → extent type (b ++ rest) ≡ length b
 extent-raw _ _ rest _ (raw_fixed type f b row len) = ap (λ (o : Option Layout). extent_of o (length_field type) (b ++ rest)) row ∙ sym len

@@ -6,6 +6,7 @@ use Rattle.amqp_value_core.specs.Ids.{kind}
 use Rattle.amqp_value_core.specs.Grammar.{Wire, wire, Raw}
 use Rattle.amqp_value_core.specs.Outcomes.{Reading, found, more, unknown, malformed, lack, Unless, RawFront, Front, RawOutcome, Outcome, RawHeavy, Heavy}
 use Rattle.amqp_value_core.proofs.Fronts.{one_held}
+use Rattle.amqp_value_core.proofs.Headers.{lack-raw}
 use Rattle.amqp_value_core.proofs.Unique.{one_raw_front, one_raw_meaning}
 
 -- ---- a value and its payload
@@ -63,6 +64,20 @@ unknown_outcome c b o k = (λ x. subst (KnownOutcome b o c) k x, λ x. subst (Kn
 -- a value takes memory where its payload does
 pub value_heavy : (c : ℕ) (type : AMQPType) (b : List ℕ) → kind c ≡ Some type → RawHeavy type b → Heavy (c ∷ b)
 value_heavy c type b k x = subst (λ (k : Option AMQPType). MatchOption k ⊥ (λ type. RawHeavy type b)) (sym k) x
+
+-- ---- whole frames
+
+-- a whole frame comes to what its front decides
+pub raw_whole : (type : AMQPType) (s : List ℕ) (o : Reading) → lack type s ≡ 0 → RawFront type s o → RawOutcome type s o
+raw_whole type s o whole f = subst (λ (n : ℕ). Unless n (RawFront type s o) o) (sym whole) f
+
+-- a payload is found at the front
+pub raw_found : (type : AMQPType) (b rest : List ℕ) (v : Tree) → Raw type b v → RawOutcome type (b ++ rest) (found v rest)
+raw_found type b rest v p = raw_whole type (b ++ rest) (found v rest) (lack-raw type b rest v p) (b, p, refl)
+
+-- a wire is found at the front
+pub wire_found : (w rest : List ℕ) (v : Tree) → Wire w v → Outcome (w ++ rest) (found v rest)
+wire_found _ rest _ (wire c type b v k p) = value_from_raw c type (b ++ rest) (found v rest) k (raw_found type b rest v p)
 
 -- ---- one outcome
 

@@ -23,7 +23,7 @@ one_front _ _ x y _ _ (wire c type b v k p) (wire d type2 b2 z k2 q) e =
     (cc, rest.1)
 
 -- a wire has a first byte
-no_empty_wire : (w rest : List ℕ) (v : Tree) → Wire w v → w ++ rest ≡ [] → ⊥
+pub no_empty_wire : (w rest : List ℕ) (v : Tree) → Wire w v → w ++ rest ≡ [] → ⊥
 no_empty_wire _ rest _ (wire c type b v k p) e = cc
 
 mutual
