@@ -8,7 +8,7 @@ use Rattle.amqp_value_core.specs.Grammar.{Raw}
 use Rattle.amqp_value_core.specs.Outcomes.{Reading, found, more, unknown, malformed, lack, Unless, RawFront, RawOutcome, Outcome, with_more, StillWaits}
 use Rattle.amqp_value_core.proofs.Fronts.{front_inside}
 use Rattle.amqp_value_core.proofs.Headers.{extent, extent-whole, extent-append, extent-raw, lack-whole, lack-append}
-use Rattle.amqp_value_core.proofs.Outcomes.{raw_whole, raw_from_value, value_from_raw, unknown_outcome}
+use Rattle.amqp_value_core.proofs.Outcomes.{raw_whole, value_to_raw, raw_to_value, unknown_outcome}
 
 -- a payload at the front of a joined list stands in its first part, where that is a whole frame
 raw_inside : (type : AMQPType) (s t b rest : List ℕ) (v : Tree) → lack type s ≡ 0 → Raw type b v → s ++ t ≡ b ++ rest → s ≡ b ++ drop (length b) s
@@ -59,5 +59,5 @@ more_bytes (c ∷ b) t o x waits = by (kind c) refl
         let known = unknown_outcome c b o k in
         (unknown_outcome c (b ++ t) (with_more o t) k).1 (ap (λ (r : Reading). with_more r t) (known.0 x))
     by (Some type) k =
-        value_from_raw c type (b ++ t) (with_more o t) k
-        (more_raw_bytes type b t o (raw_from_value c type b o k x) waits)
+        raw_to_value c type (b ++ t) (with_more o t) k
+        (more_raw_bytes type b t o (value_to_raw c type b o k x) waits)

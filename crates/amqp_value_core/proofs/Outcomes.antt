@@ -1,5 +1,5 @@
 -- Outcomes: a value's is that of its payload, and a list has at most one.
-use Rattle.std.proofs.Common.{◌≡◌, ◌<◌, ℕ, zero, suc, List, [], ◌∷◌, ◌++◌, Option, Some, None, MatchOption, refl, sym, ap, ap₂, ◌∙◌, subst, arith}
+use Rattle.std.proofs.Common.{◌≡◌, ℕ, zero, suc, List, [], ◌∷◌, ◌++◌, Option, Some, None, MatchOption, refl, sym, ap, ap₂, ◌∙◌, subst}
 use Rattle.amqp_value_core.specs.declared.types.AMQPType.{AMQPType}
 use Rattle.amqp_value_core.specs.Values.{Tree}
 use Rattle.amqp_value_core.specs.Ids.{kind}
@@ -7,7 +7,7 @@ use Rattle.amqp_value_core.specs.Grammar.{Wire, wire, Raw}
 use Rattle.amqp_value_core.specs.Outcomes.{Reading, found, more, unknown, malformed, lack, Unless, RawFront, Front, RawOutcome, Outcome, RawHeavy, Heavy}
 use Rattle.amqp_value_core.proofs.Fronts.{one_held}
 use Rattle.amqp_value_core.proofs.Headers.{lack-raw}
-use Rattle.amqp_value_core.proofs.Unique.{one_raw_front, one_raw_meaning}
+use Rattle.amqp_value_core.proofs.Unique.{one_raw_reading}
 
 -- ---- a value and its payload
 
@@ -46,14 +46,14 @@ abbrev pub KnownOutcome : List ℕ → Reading → ℕ → Option AMQPType → T
 KnownOutcome b o c k = MatchOption k (o ≡ unknown) (λ type. Unless (lack type b) (Front (c ∷ b) o) o)
 
 -- reading an id and then its payload is reading the value
-pub value_from_raw : (c : ℕ) (type : AMQPType) (b : List ℕ) (o : Reading) → kind c ≡ Some type → RawOutcome type b o → Outcome (c ∷ b) o
-value_from_raw c type b o k x =
+pub raw_to_value : (c : ℕ) (type : AMQPType) (b : List ℕ) (o : Reading) → kind c ≡ Some type → RawOutcome type b o → Outcome (c ∷ b) o
+raw_to_value c type b o k x =
     subst (KnownOutcome b o c) (sym k)
     (Unless-weaker (lack type b) (RawFront type b o) (Front (c ∷ b) o) o (front_from_raw c type b o k) x)
 
 -- and the other way round
-pub raw_from_value : (c : ℕ) (type : AMQPType) (b : List ℕ) (o : Reading) → kind c ≡ Some type → Outcome (c ∷ b) o → RawOutcome type b o
-raw_from_value c type b o k x =
+pub value_to_raw : (c : ℕ) (type : AMQPType) (b : List ℕ) (o : Reading) → kind c ≡ Some type → Outcome (c ∷ b) o → RawOutcome type b o
+value_to_raw c type b o k x =
     Unless-weaker (lack type b) (Front (c ∷ b) o) (RawFront type b o) o (raw_from_front c type b o k)
     (subst (KnownOutcome b o c) k x)
 
@@ -62,8 +62,8 @@ pub unknown_outcome : (c : ℕ) (b : List ℕ) (o : Reading) → kind c ≡ None
 unknown_outcome c b o k = (λ x. subst (KnownOutcome b o c) k x, λ x. subst (KnownOutcome b o c) (sym k) x)
 
 -- a value takes memory where its payload does
-pub value_heavy : (c : ℕ) (type : AMQPType) (b : List ℕ) → kind c ≡ Some type → RawHeavy type b → Heavy (c ∷ b)
-value_heavy c type b k x = subst (λ (k : Option AMQPType). MatchOption k ⊥ (λ type. RawHeavy type b)) (sym k) x
+pub raw_to_heavy : (c : ℕ) (type : AMQPType) (b : List ℕ) → kind c ≡ Some type → RawHeavy type b → Heavy (c ∷ b)
+raw_to_heavy c type b k x = subst (λ (k : Option AMQPType). MatchOption k ⊥ (λ type. RawHeavy type b)) (sym k) x
 
 -- ---- whole frames
 
@@ -77,15 +77,15 @@ raw_found type b rest v p = raw_whole type (b ++ rest) (found v rest) (lack-raw 
 
 -- a wire is found at the front
 pub wire_found : (w rest : List ℕ) (v : Tree) → Wire w v → Outcome (w ++ rest) (found v rest)
-wire_found _ rest _ (wire c type b v k p) = value_from_raw c type (b ++ rest) (found v rest) k (raw_found type b rest v p)
+wire_found _ rest _ (wire c type b v k p) = raw_to_value c type (b ++ rest) (found v rest) k (raw_found type b rest v p)
 
 -- ---- one outcome
 
 -- a list has one front that is a payload, or none
 one_front_outcome : (type : AMQPType) (s : List ℕ) (o p : Reading) → RawFront type s o → RawFront type s p → o ≡ p
 one_front_outcome type s (found v rest) (found u left) f g =
-    let same = one_raw_front type f.0 g.0 rest left v u f.1 g.1 (sym f.2 ∙ g.2) in
-    ap₂ found (one_raw_meaning type f.0 g.0 v u f.1 g.1 same.0) same.1
+    let same = one_raw_reading type f.0 g.0 rest left v u f.1 g.1 (sym f.2 ∙ g.2) in
+    ap₂ found same.1 same.2
 one_front_outcome type s (found v rest) malformed f g = absurd (g f.0 rest v f.1 f.2)
 one_front_outcome type s malformed (found v rest) f g = absurd (f g.0 rest v g.1 g.2)
 one_front_outcome type s malformed malformed f g = refl
@@ -109,4 +109,4 @@ one_outcome (c ∷ b) o p x y = by (kind c) refl
   where
     by : (k : Option AMQPType) → kind c ≡ k → o ≡ p
     by None k = (unknown_outcome c b o k).0 x ∙ sym ((unknown_outcome c b p k).0 y)
-    by (Some type) k = one_raw_outcome type b o p (raw_from_value c type b o k x) (raw_from_value c type b p k y)
+    by (Some type) k = one_raw_outcome type b o p (value_to_raw c type b o k x) (value_to_raw c type b p k y)

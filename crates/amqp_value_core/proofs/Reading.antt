@@ -1,5 +1,5 @@
 -- Reading back: the text of a value is read as that value, where it is readable.
-use Rattle.std.proofs.Common.{◌≡◌, ◌<◌, ◌^◌, ℕ, List, [], ◌∷◌, ◌++◌, length, drop, Bool, true, false, refl, sym, ap, ◌∙◌, arith, IsTrue, if◌then◌else◌}
+use Rattle.std.proofs.Common.{◌≡◌, ◌<◌, ◌^◌, ℕ, List, [], ◌++◌, length, drop, Bool, true, false, refl, sym, ap, ◌∙◌, arith, IsTrue, if◌then◌else◌}
 use Rattle.std.specs.Int.{w32}
 use Rattle.std.proofs.lemmas.Bool.{and_from, both_ways}
 use Rattle.amqp_value_core.specs.declared.types.AMQPType.TheVariants as amqp
@@ -10,9 +10,9 @@ use Rattle.amqp_value_core.specs.Texts.{text, body, Fits, AllFit, IsValue, AreVa
 use Rattle.amqp_value_core.specs.Outcomes.{counted, found, malformed, RawFront, Outcome}
 use Rattle.amqp_value_core.proofs.Fronts.{same_fronts}
 use Rattle.amqp_value_core.proofs.Headers.{counted-large, lack_of-large}
-use Rattle.amqp_value_core.proofs.Unique.{one_front, no_empty_wire}
-use Rattle.amqp_value_core.proofs.Outcomes.{raw_of_wire, raw_whole, value_from_raw, wire_found}
-use Rattle.amqp_value_core.proofs.Spelling.{length-body, text-payload, text_wire}
+use Rattle.amqp_value_core.proofs.Unique.{one_front}
+use Rattle.amqp_value_core.proofs.Outcomes.{raw_of_wire, raw_whole, raw_to_value, wire_found}
+use Rattle.amqp_value_core.proofs.Spelling.{length_of_body, text_is_wire}
 
 -- two lists behind their lengths, at the front of one list, are one
 one_large : (s t x y : List ℕ) → length s < 2 ^ 32 → length t < 2 ^ 32 → large s ++ x ≡ large t ++ y → (s ≡ t) × (x ≡ y)
@@ -38,7 +38,7 @@ mutual
   text_readable (scalar s) x w y z is fits p e = refl
   text_readable (array vs) x w y z is fits p e =
       let r = raw_of_wire (id_of amqp.FieldArray) amqp.FieldArray (large (body vs) ++ x) w y z refl p e in
-      let b = array_body (body vs) x r.0 y z (omega (arith, fits.0, length-body vs)) r.1 r.2 in
+      let b = array_body (body vs) x r.0 y z (omega (arith, fits.0, length_of_body vs)) r.1 r.2 in
       body_readable vs (body vs) b.0 is fits.1 b.1 refl
 
   -- and so are values whose joined texts are an array's body
@@ -47,18 +47,18 @@ mutual
   body_readable (tree v vs) _ _ is fits no_values e = absurd (no_empty_text v (body vs) e)
   body_readable (tree v vs) _ _ is fits (value w more z us p all) e =
       let r = text_readable v (body vs) w more z is.0 fits.0 p e in
-      let same = one_front (text v) w (body vs) more v z (text_wire v is.0 fits.0 r) p e in
+      let same = one_front (text v) w (body vs) more v z (text_is_wire v is.0 fits.0 r) p e in
       and_from (readable v) (all_readable vs) r (body_readable vs more us is.1 fits.1 all same.1)
 
 -- the text of a value that is not readable is a whole frame, and no wire
 unreadable : (v : Tree) (rest : List ℕ) → IsValue v → Fits v → readable v ≡ false → Outcome (text v ++ rest) malformed
 unreadable (scalar s) rest is fits r = absurd cc
 unreadable (array vs) rest is fits r =
-    let short : length (body vs) < 2 ^ 32 = omega (arith, fits.0, length-body vs) in
+    let short : length (body vs) < 2 ^ 32 = omega (arith, fits.0, length_of_body vs) in
     let none : RawFront amqp.FieldArray (large (body vs) ++ rest) malformed = λ b y z p e.
         let s = array_body (body vs) rest b y z short p e in
         both_ways (all_readable vs) r (body_readable vs (body vs) s.0 is fits.1 s.1 refl) in
-    value_from_raw (id_of amqp.FieldArray) amqp.FieldArray (large (body vs) ++ rest) malformed refl
+    raw_to_value (id_of amqp.FieldArray) amqp.FieldArray (large (body vs) ++ rest) malformed refl
     (raw_whole amqp.FieldArray (large (body vs) ++ rest) malformed (lack_of-large (body vs) rest short) none)
 
 -- the text of a value, with `rest` behind it, is read as that value, or as no value where it is not readable
@@ -66,5 +66,5 @@ pub reading_back : (v : Tree) (rest : List ℕ) → IsValue v → Fits v → Out
 reading_back v rest is fits = by (readable v) refl
   where
     by : (r : Bool) → readable v ≡ r → Outcome (text v ++ rest) (if r then found v rest else malformed)
-    by true r = wire_found (text v) rest v (text_wire v is fits r)
+    by true r = wire_found (text v) rest v (text_is_wire v is fits r)
     by false r = unreadable v rest is fits r

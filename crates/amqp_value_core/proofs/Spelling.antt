@@ -1,5 +1,5 @@
 -- Spelling: the text of a value has the value's size, and is a wire of it.
-use Rattle.std.proofs.Common.{◌≡◌, ◌<◌, ◌+◌, ◌^◌, ℕ, zero, suc, List, [], ◌∷◌, ◌++◌, length, true, false, Some, refl, ap, subst, arith, length-append, IsTrue}
+use Rattle.std.proofs.Common.{◌≡◌, ◌<◌, ◌+◌, ◌^◌, ℕ, zero, suc, ◌∷◌, length, true, false, Some, refl, ap, subst, arith, length-append, IsTrue}
 use Rattle.std.specs.Int.{w8, from_be_bytes, bytes_high_first}
 use Rattle.std.proofs.lemmas.Bool.{and_parts}
 use Rattle.std.proofs.lemmas.Nat.{from_be_bytes-to_be_bytes_4}
@@ -27,14 +27,14 @@ length-spelled void = refl
 
 mutual
   -- the text of a value has the value's size
-  pub length-text : (v : Tree) → length (text v) ≡ size v
-  length-text (scalar x) = omega (arith, length-spelled x)
-  length-text (array vs) = omega (arith, length-body vs)
+  pub length_of_text : (v : Tree) → length (text v) ≡ size v
+  length_of_text (scalar x) = omega (arith, length-spelled x)
+  length_of_text (array vs) = omega (arith, length_of_body vs)
 
   -- and so have texts that are joined
-  pub length-body : (vs : Trees) → length (body vs) ≡ body_size vs
-  length-body no_trees = refl
-  length-body (tree v vs) = omega (arith, length-append (text v) (body vs), length-text v, length-body vs)
+  pub length_of_body : (vs : Trees) → length (body vs) ≡ body_size vs
+  length_of_body no_trees = refl
+  length_of_body (tree v vs) = omega (arith, length-append (text v) (body vs), length_of_text v, length_of_body vs)
 
 -- the text is the id and the payload
 pub text-payload : (v : Tree) → text v ≡ id_of (type_of v) ∷ payload v
@@ -42,8 +42,8 @@ text-payload (scalar x) = refl
 text-payload (array vs) = refl
 
 -- the payload is one byte shorter than the text
-pub length-payload : (v : Tree) → length (payload v) + 1 ≡ size v
-length-payload v = omega (arith, length-text v, ap length (text-payload v))
+pub length_of_payload : (v : Tree) → length (payload v) + 1 ≡ size v
+length_of_payload v = omega (arith, length_of_text v, ap length (text-payload v))
 
 -- ---- values of fixed width
 
@@ -83,21 +83,21 @@ scalar_raw x is =
 
 mutual
   -- the text of a value is a wire of it
-  pub text_wire : (v : Tree) → IsValue v → Fits v → IsTrue (readable v) → Wire (text v) v
-  text_wire (scalar x) is fits r =
+  pub text_is_wire : (v : Tree) → IsValue v → Fits v → IsTrue (readable v) → Wire (text v) v
+  text_is_wire (scalar x) is fits r =
       wire (id_of (scalar_type x)) (scalar_type x) (spelled x) (scalar x) (scalar_spelled x is).id (scalar_raw x is)
-  text_wire (array vs) is fits r =
+  text_is_wire (array vs) is fits r =
       wire (id_of amqp.FieldArray) amqp.FieldArray (large (body vs)) (array vs) refl
-      (raw_array (body vs) vs (omega (arith, fits.0, length-body vs)) (text_body vs is fits.1 r))
+      (raw_array (body vs) vs (omega (arith, fits.0, length_of_body vs)) (texts_are_body vs is fits.1 r))
 
   -- texts that are joined are an array's body
-  pub text_body : (vs : Trees) → AreValues vs → AllFit vs → IsTrue (all_readable vs) → Body (body vs) vs
-  text_body no_trees is fits r = no_values
-  text_body (tree v vs) is fits r =
+  pub texts_are_body : (vs : Trees) → AreValues vs → AllFit vs → IsTrue (all_readable vs) → Body (body vs) vs
+  texts_are_body no_trees is fits r = no_values
+  texts_are_body (tree v vs) is fits r =
       let both = and_parts (readable v) (all_readable vs) r in
-      value (text v) (body vs) v vs (text_wire v is.0 fits.0 both.0) (text_body vs is.1 fits.1 both.1)
+      value (text v) (body vs) v vs (text_is_wire v is.0 fits.0 both.0) (texts_are_body vs is.1 fits.1 both.1)
 
 -- the payload of a value is one of its type
-pub payload_raw : (v : Tree) → IsValue v → Fits v → IsTrue (readable v) → Raw (type_of v) (payload v) v
-payload_raw (scalar x) is fits r = scalar_raw x is
-payload_raw (array vs) is fits r = raw_array (body vs) vs (omega (arith, fits.0, length-body vs)) (text_body vs is fits.1 r)
+pub payload_is_raw : (v : Tree) → IsValue v → Fits v → IsTrue (readable v) → Raw (type_of v) (payload v) v
+payload_is_raw (scalar x) is fits r = scalar_raw x is
+payload_is_raw (array vs) is fits r = raw_array (body vs) vs (omega (arith, fits.0, length_of_body vs)) (texts_are_body vs is fits.1 r)
