@@ -54,10 +54,10 @@ lack_of-append : (o : Option Layout) (w : Width) (b t : List ℕ) → length t <
 lack_of-append (Some f) w b t lt = omega (arith, length-append b t)
 lack_of-append None w b t lt = elim (cases_lt (length b) (byte_len w)) [
   | inl cut ↦
-    let whole = frame_lack_cut w b cut in
-    omega (arith, whole, length-append b t, frame_lack_cut w (b ++ t) (omega (arith, whole, length-append b t)))
+      let whole = frame_lack_cut w b cut in
+      omega (arith, whole, length-append b t, frame_lack_cut w (b ++ t) (omega (arith, whole, length-append b t)))
   | inr known ↦
-    omega (arith, length-append b t, counted-append w b t known, frame_lack_known w b known, frame_lack_known w (b ++ t) (omega (arith, length-append b t)))
+      omega (arith, length-append b t, counted-append w b t known, frame_lack_known w b known, frame_lack_known w (b ++ t) (omega (arith, length-append b t)))
 ]
 
 -- a whole frame reaches its extent

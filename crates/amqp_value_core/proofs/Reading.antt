@@ -50,16 +50,19 @@ mutual
       let same = one_front (text v) w (body vs) more v z (text_is_wire v is.0 fits.0 r) p e in
       and_from (readable v) (all_readable vs) r (body_readable vs more us is.1 fits.1 all same.1)
 
--- the text of a value that is not readable is a whole frame, and no wire
+-- where a value of an array is not readable, no front is a payload of an array
+no_front : (vs : Trees) (rest : List ℕ) → AreValues vs → Fits (array vs) → all_readable vs ≡ false → RawFront amqp.FieldArray (large (body vs) ++ rest) malformed
+no_front vs rest is fits r b y z p e =
+    let found = array_body (body vs) rest b y z (omega (arith, fits.0, length_of_body vs)) p e in
+    both_ways (all_readable vs) r (body_readable vs (body vs) found.0 is fits.1 found.1 refl)
+
+-- the text of a value that is not readable is a whole frame, and no front of it is a wire
 unreadable : (v : Tree) (rest : List ℕ) → IsValue v → Fits v → readable v ≡ false → Outcome (text v ++ rest) malformed
 unreadable (scalar s) rest is fits r = absurd cc
 unreadable (array vs) rest is fits r =
-    let short : length (body vs) < 2 ^ 32 = omega (arith, fits.0, length_of_body vs) in
-    let none : RawFront amqp.FieldArray (large (body vs) ++ rest) malformed = λ b y z p e.
-        let s = array_body (body vs) rest b y z short p e in
-        both_ways (all_readable vs) r (body_readable vs (body vs) s.0 is fits.1 s.1 refl) in
+    let whole = lack_of-large (body vs) rest (omega (arith, fits.0, length_of_body vs)) in
     raw_to_value (id_of amqp.FieldArray) amqp.FieldArray (large (body vs) ++ rest) malformed refl
-    (raw_whole amqp.FieldArray (large (body vs) ++ rest) malformed (lack_of-large (body vs) rest short) none)
+    (raw_whole amqp.FieldArray (large (body vs) ++ rest) malformed whole (no_front vs rest is fits r))
 
 -- the text of a value, with `rest` behind it, is read as that value, or as no value where it is not readable
 pub reading_back : (v : Tree) (rest : List ℕ) → IsValue v → Fits v → Outcome (text v ++ rest) (read_back v rest)
