@@ -11,7 +11,7 @@ use Rattle.amqp_value_core.proofs.Unique.{one_raw_reading}
 
 -- ---- a value and its payload
 
--- a wire at a known first byte: its payload is one of the byte's type
+-- a wire at the front of c and b, where c is an id: a payload of c's type stands at the front of b
 pub raw_of_wire : (c : ℕ) (type : AMQPType) (b w rest : List ℕ) (v : Tree) → kind c ≡ Some type → Wire w v → c ∷ b ≡ w ++ rest
     → (p : List ℕ) × Raw type p v × (b ≡ p ++ rest)
 raw_of_wire c type b _ rest _ k (wire d type2 p v k2 q) e =
@@ -19,7 +19,7 @@ raw_of_wire c type b _ rest _ k (wire d type2 p v k2 q) e =
     let same : type2 ≡ type = one_held (kind c) type2 type (ap kind head ∙ k2) k in
     (p, subst (λ (t : AMQPType). Raw t p v) same q, cc)
 
--- what holds of a front behind a first byte holds with it
+-- what a payload at the front of b decides, a wire at the front of c and b does
 front_from_raw : (c : ℕ) (type : AMQPType) (b : List ℕ) (o : Reading) → kind c ≡ Some type → RawFront type b o → Front (c ∷ b) o
 front_from_raw c type b (found v rest) k f = (c ∷ f.0, wire c type f.0 v k f.1, ap (λ (t : List ℕ). c ∷ t) f.2)
 front_from_raw c type b malformed k f = λ w rest v p e.
@@ -36,7 +36,7 @@ raw_from_front c type b malformed k f = λ p rest v q e.
 raw_from_front c type b (more n) k f = absurd f
 raw_from_front c type b unknown k f = absurd f
 
--- what follows from what decides follows from what n bytes or that decides
+-- where no byte lacks, what P decides Q does
 Unless-weaker : (n : ℕ) (P Q : Type 0) (o : Reading) → (P → Q) → Unless n P o → Unless n Q o
 Unless-weaker zero P Q o f x = f x
 Unless-weaker (suc n) P Q o f x = x
@@ -57,7 +57,7 @@ value_to_raw c type b o k x =
     Unless-weaker (lack type b) (Front (c ∷ b) o) (RawFront type b o) o (raw_from_front c type b o k)
     (subst (KnownOutcome b o c) k x)
 
--- a first byte that is no id
+-- where the first byte is no id, that is the outcome
 pub unknown_outcome : (c : ℕ) (b : List ℕ) (o : Reading) → kind c ≡ None → (Outcome (c ∷ b) o → o ≡ unknown) × (o ≡ unknown → Outcome (c ∷ b) o)
 unknown_outcome c b o k = (λ x. subst (KnownOutcome b o c) k x, λ x. subst (KnownOutcome b o c) (sym k) x)
 
