@@ -41,25 +41,25 @@ Unless-weaker : (n : ℕ) (P Q : Type 0) (o : Reading) → (P → Q) → Unless 
 Unless-weaker zero P Q o f x = f x
 Unless-weaker (suc n) P Q o f x = x
 
--- the outcome of a list whose first byte is known
-abbrev pub KnownOutcome : List ℕ → Reading → ℕ → Option AMQPType → Type 0
-KnownOutcome b o c k = MatchOption k (o ≡ unknown) (λ type. Unless (lack type b) (Front (c ∷ b) o) o)
+-- the outcome of reading c and b, where k is what c stands for
+abbrev OutcomeAt : List ℕ → Reading → ℕ → Option AMQPType → Type 0
+OutcomeAt b o c k = MatchOption k (o ≡ unknown) (λ type. Unless (lack type b) (Front (c ∷ b) o) o)
 
 -- reading an id and then its payload is reading the value
 pub raw_to_value : (c : ℕ) (type : AMQPType) (b : List ℕ) (o : Reading) → kind c ≡ Some type → RawOutcome type b o → Outcome (c ∷ b) o
 raw_to_value c type b o k x =
-    subst (KnownOutcome b o c) (sym k)
+    subst (OutcomeAt b o c) (sym k)
     (Unless-weaker (lack type b) (RawFront type b o) (Front (c ∷ b) o) o (front_from_raw c type b o k) x)
 
 -- and the other way round
 pub value_to_raw : (c : ℕ) (type : AMQPType) (b : List ℕ) (o : Reading) → kind c ≡ Some type → Outcome (c ∷ b) o → RawOutcome type b o
 value_to_raw c type b o k x =
     Unless-weaker (lack type b) (Front (c ∷ b) o) (RawFront type b o) o (raw_from_front c type b o k)
-    (subst (KnownOutcome b o c) k x)
+    (subst (OutcomeAt b o c) k x)
 
 -- where the first byte is no id, that is the outcome
 pub unknown_outcome : (c : ℕ) (b : List ℕ) (o : Reading) → kind c ≡ None → (Outcome (c ∷ b) o → o ≡ unknown) × (o ≡ unknown → Outcome (c ∷ b) o)
-unknown_outcome c b o k = (λ x. subst (KnownOutcome b o c) k x, λ x. subst (KnownOutcome b o c) (sym k) x)
+unknown_outcome c b o k = (λ x. subst (OutcomeAt b o c) k x, λ x. subst (OutcomeAt b o c) (sym k) x)
 
 -- a value takes memory where its payload does
 pub raw_to_heavy : (c : ℕ) (type : AMQPType) (b : List ℕ) → kind c ≡ Some type → RawHeavy type b → Heavy (c ∷ b)
