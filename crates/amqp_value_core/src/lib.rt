@@ -3,7 +3,9 @@
 
 mod equality;
 pub mod input;
-#[cfg(test)]
-mod tests;
+pub mod laws;
 pub mod types;
 pub mod value;
+
+#[cfg(test)]
+mod tests;
