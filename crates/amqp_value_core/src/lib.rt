@@ -1,6 +1,8 @@
 //! The values of AMQP 0-9-1 field tables, what they mean as bytes, and the inputs that parsers read.
 #![tactic(auto)]
 
+pub mod computing;
 pub mod input;
+pub mod rows;
 pub mod types;
 pub mod value;

@@ -1,0 +1,4 @@
+pub mod Found
+pub mod Nests
+pub mod Sound
+pub mod Agreement
