@@ -10,7 +10,7 @@ use Rattle.amqp_value_core.specs.Outcomes.{IsBytes, Reading, found, more, unknow
 use Rattle.amqp_value_core.specs.Decode.{outcome_by, raw_outcome_by, meaning, outcome, raw_outcome}
 use Rattle.amqp_value_core.proofs.Found.{found_wire, found_raw}
 use Rattle.amqp_value_core.proofs.Nests.{nesting-le, raw_nesting-le}
-use Rattle.amqp_value_core.proofs.Sound.{Ends, RawEnds, WireEnds, raw_ends, wire_ends, means_spelled}
+use Rattle.amqp_value_core.proofs.Sound.{Ends, RawEnds, WireEnds, unless_weaker, raw_ends, wire_ends, means_spelled}
 
 -- `Front` and `RawFront`, of any P
 abbrev FrontBy : (List ℕ → Tree → Type 0) → List ℕ → Reading → Type 0
@@ -23,11 +23,12 @@ outcome_at : (s w rest : List ℕ) (v : Tree) → Wire w v → s ≡ w ++ rest �
 outcome_at s w rest v p is =
     subst (λ x. outcome x ≡ found v rest) (sym is) (found_wire (length (w ++ rest)) w rest v p (omega (arith, nesting-le w v p, length-append w rest)))
 
+-- so is a payload
 raw_outcome_at : (type : AMQPType) (s b rest : List ℕ) (v : Tree) → Raw type b v → s ≡ b ++ rest → raw_outcome type s ≡ found v rest
 raw_outcome_at type s b rest v p is =
     subst (λ x. raw_outcome type x ≡ found v rest) (sym is) (found_raw (length (b ++ rest)) type b rest v p (omega (arith, raw_nesting-le type b v p, length-append b rest)))
 
--- where each P at the front is the outcome, a refusal means that there is none
+-- where each P at the front is the outcome, a refusal says that there is none
 front_by : (P Q : List ℕ → Tree → Type 0) (s : List ℕ) (o : Reading) → ((w rest : List ℕ) (v : Tree) → P w v → s ≡ w ++ rest → o ≡ found v rest)
     → ((w : List ℕ) (v : Tree) → Q w v → P w v) → Ends Q s o → FrontBy P s o
 front_by P Q s (found v rest) finds forget (w, q, is) = (w, forget w v q, is)
@@ -35,7 +36,7 @@ front_by P Q s malformed finds forget ends = λ w rest v p is. let e = finds w r
 front_by P Q s (more n) finds forget ends = ends
 front_by P Q s unknown finds forget ends = ends
 
--- of two outcomes one of which is that of each front
+-- two outcomes of one list are one, where each P at the front is the second
 same_front : (P : List ℕ → Tree → Type 0) (s : List ℕ) (o p : Reading) → ((w rest : List ℕ) (v : Tree) → P w v → s ≡ w ++ rest → p ≡ found v rest)
     → FrontBy P s o → FrontBy P s p → o ≡ p
 same_front P s (found v rest) p finds (w, q, is) there = sym (finds w rest v q is)
@@ -46,26 +47,24 @@ same_front P s malformed unknown finds none there = absurd there
 same_front P s (more n) p finds here there = absurd here
 same_front P s unknown p finds here there = absurd here
 
-unless_weaker : (n : ℕ) (P Q : Type 0) (o : Reading) → (P → Q) → Unless n P o → Unless n Q o
-unless_weaker zero P Q o weaker here = weaker here
-unless_weaker (suc n) P Q o weaker here = here
-
+-- two outcomes are one, if they are where no byte lacks
 same_unless : (n : ℕ) (P Q : Type 0) (o p : Reading) → (P → Q → o ≡ p) → Unless n P o → Unless n Q p → o ≡ p
 same_unless zero P Q o p same here there = same here there
 same_unless (suc n) P Q o p same here there = here ∙ sym there
 
--- the outcome of a payload is what the function says
+-- reading a payload comes to what the function says
 pub raw_outcome_holds : (type : AMQPType) (s : List ℕ) → IsBytes s → RawOutcome type s (raw_outcome type s)
 raw_outcome_holds type s bytes =
     unless_weaker (lack type s) _ _ (raw_outcome type s)
         (front_by (Raw type) (RawWithin (length s) type) s (raw_outcome type s) (raw_outcome_at type s) (λ b v q. q.0))
         (raw_ends (length s) (meaning (length s)) (means_spelled (length s)) type s bytes)
 
+-- and to nothing else
 raw_outcome_only : (type : AMQPType) (s : List ℕ) (o : Reading) → IsBytes s → RawOutcome type s o → o ≡ raw_outcome type s
 raw_outcome_only type s o bytes here =
     same_unless (lack type s) _ _ o (raw_outcome type s) (same_front (Raw type) s o (raw_outcome type s) (raw_outcome_at type s)) here (raw_outcome_holds type s bytes)
 
--- the outcome of a value is what the function says
+-- reading a value comes to what the function says
 pub outcome_holds : (s : List ℕ) → IsBytes s → Outcome s (outcome s)
 outcome_holds [] bytes = refl
 outcome_holds (c ∷ b) bytes = at_kind (kind c) (wire_ends (length (c ∷ b)) (meaning (length (c ∷ b))) (means_spelled (length (c ∷ b))) (c ∷ b) bytes) where
@@ -76,6 +75,7 @@ outcome_holds (c ∷ b) bytes = at_kind (kind c) (wire_ends (length (c ∷ b)) (
       unless_weaker (lack type b) (Ends (WireWithin (length (c ∷ b))) (c ∷ b) (outcome (c ∷ b))) (Front (c ∷ b) (outcome (c ∷ b))) (outcome (c ∷ b))
           (front_by Wire (WireWithin (length (c ∷ b))) (c ∷ b) (outcome (c ∷ b)) (outcome_at (c ∷ b)) (λ w v q. q.0)) ends
 
+-- and to nothing else
 outcome_only : (s : List ℕ) (o : Reading) → IsBytes s → Outcome s o → o ≡ outcome s
 outcome_only [] o bytes here = here
 outcome_only (c ∷ b) o bytes here = at_kind (kind c) here (outcome_holds (c ∷ b) bytes) where
@@ -86,8 +86,10 @@ outcome_only (c ∷ b) o bytes here = at_kind (kind c) here (outcome_holds (c �
       same_unless (lack type b) (Front (c ∷ b) o) (Front (c ∷ b) (outcome (c ∷ b))) o (outcome (c ∷ b))
           (same_front Wire (c ∷ b) o (outcome (c ∷ b)) (outcome_at (c ∷ b))) here there
 
+-- the relation is the function
 pub outcome_is : (s : List ℕ) (o : Reading) → IsBytes s → Outcome s o ↔ (o ≡ outcome s)
 outcome_is s o bytes = (outcome_only s o bytes, λ is. subst (Outcome s) (sym is) (outcome_holds s bytes))
 
+-- of payloads too
 pub raw_outcome_is : (type : AMQPType) (s : List ℕ) (o : Reading) → IsBytes s → RawOutcome type s o ↔ (o ≡ raw_outcome type s)
 raw_outcome_is type s o bytes = (raw_outcome_only type s o bytes, λ is. subst (RawOutcome type s) (sym is) (raw_outcome_holds type s bytes))
