@@ -1,16 +1,16 @@
 -- Reading as a function and as a relation are the same.
-use Rattle.std.proofs.Common.{ℕ, suc, zero, ◌+◌, ◌≤◌, ◌≡◌, ◌∙◌, ◌↔◌, ap, sym, refl, subst, Option, Some, None, List, [], ◌∷◌, ◌++◌, length, arith, length-append}
+use Rattle.std.proofs.Common.{ℕ, suc, zero, ◌≡◌, ◌∙◌, ◌↔◌, sym, refl, subst, Option, Some, None, List, [], ◌∷◌, ◌++◌, length, arith, length-append}
 use Rattle.std.specs.Prelude.{MatchOption}
 use Rattle.amqp_value_core.specs.declared.types.AMQPType.{AMQPType}
 use Rattle.amqp_value_core.specs.Values.{Tree}
 use Rattle.amqp_value_core.specs.Ids.{kind}
 use Rattle.amqp_value_core.specs.Grammar.{Wire, Raw}
-use Rattle.amqp_value_core.specs.Nesting.{nesting, raw_nesting, WireWithin, RawWithin}
-use Rattle.amqp_value_core.specs.Outcomes.{IsBytes, Reading, found, more, unknown, malformed, Unless, lack, Front, RawFront, Outcome, RawOutcome}
-use Rattle.amqp_value_core.specs.Decode.{outcome_by, raw_outcome_by, meaning, outcome, raw_outcome}
+use Rattle.amqp_value_core.specs.Nesting.{WireWithin, RawWithin}
+use Rattle.amqp_value_core.specs.Outcomes.{IsBytes, Reading, found, more, unknown, malformed, Unless, lack, Front, Outcome, RawOutcome}
+use Rattle.amqp_value_core.specs.Decode.{meaning, outcome, raw_outcome}
 use Rattle.amqp_value_core.proofs.Found.{found_wire, found_raw}
 use Rattle.amqp_value_core.proofs.Nests.{nesting-le, raw_nesting-le}
-use Rattle.amqp_value_core.proofs.Sound.{Ends, RawEnds, WireEnds, unless_weaker, raw_ends, wire_ends, means_spelled}
+use Rattle.amqp_value_core.proofs.Sound.{Ends, WireEnds, unless_weaker, raw_ends, wire_ends, means_spelled}
 
 -- `Front` and `RawFront`, of any P
 abbrev FrontBy : (List ℕ → Tree → Type 0) → List ℕ → Reading → Type 0
@@ -56,35 +56,42 @@ same_unless (suc n) P Q o p same here there = here ∙ sym there
 pub raw_outcome_holds : (type : AMQPType) (s : List ℕ) → IsBytes s → RawOutcome type s (raw_outcome type s)
 raw_outcome_holds type s bytes =
     unless_weaker (lack type s) _ _ (raw_outcome type s)
-        (front_by (Raw type) (RawWithin (length s) type) s (raw_outcome type s) (raw_outcome_at type s) (λ b v q. q.0))
-        (raw_ends (length s) (meaning (length s)) (means_spelled (length s)) type s bytes)
+    (front_by (Raw type) (RawWithin (length s) type) s (raw_outcome type s) (raw_outcome_at type s) (λ b v q. q.0))
+    (raw_ends (length s) (meaning (length s)) (means_spelled (length s)) type s bytes)
 
 -- and to nothing else
 raw_outcome_only : (type : AMQPType) (s : List ℕ) (o : Reading) → IsBytes s → RawOutcome type s o → o ≡ raw_outcome type s
 raw_outcome_only type s o bytes here =
     same_unless (lack type s) _ _ o (raw_outcome type s) (same_front (Raw type) s o (raw_outcome type s) (raw_outcome_at type s)) here (raw_outcome_holds type s bytes)
 
+-- reading that finds wires alone, and each wire at the front, comes to this outcome
+outcome_by_ends : (depth : ℕ) (s : List ℕ) (o : Reading) → ((w rest : List ℕ) (v : Tree) → Wire w v → s ≡ w ++ rest → o ≡ found v rest)
+    → WireEnds depth s o → Outcome s o
+outcome_by_ends depth [] o finds ends = ends
+outcome_by_ends depth (c ∷ b) o finds ends = at_kind (kind c) ends where
+  at_kind : (k : Option AMQPType) → MatchOption k (o ≡ unknown) (λ type. Unless (lack type b) (Ends (WireWithin depth) (c ∷ b) o) o)
+      → MatchOption k (o ≡ unknown) (λ type. Unless (lack type b) (Front (c ∷ b) o) o)
+  at_kind None is = is
+  at_kind (Some type) ends = unless_weaker (lack type b) _ _ o (front_by Wire (WireWithin depth) (c ∷ b) o finds (λ w v q. q.0)) ends
+
+-- two outcomes of one list are one, where each wire at the front is the second
+same_outcome : (s : List ℕ) (o p : Reading) → ((w rest : List ℕ) (v : Tree) → Wire w v → s ≡ w ++ rest → p ≡ found v rest)
+    → Outcome s o → Outcome s p → o ≡ p
+same_outcome [] o p finds here there = here ∙ sym there
+same_outcome (c ∷ b) o p finds here there = at_kind (kind c) here there where
+  at_kind : (k : Option AMQPType) → MatchOption k (o ≡ unknown) (λ type. Unless (lack type b) (Front (c ∷ b) o) o)
+      → MatchOption k (p ≡ unknown) (λ type. Unless (lack type b) (Front (c ∷ b) p) p) → o ≡ p
+  at_kind None here there = here ∙ sym there
+  at_kind (Some type) here there = same_unless (lack type b) _ _ o p (same_front Wire (c ∷ b) o p finds) here there
+
 -- reading a value comes to what the function says
 pub outcome_holds : (s : List ℕ) → IsBytes s → Outcome s (outcome s)
-outcome_holds [] bytes = refl
-outcome_holds (c ∷ b) bytes = at_kind (kind c) (wire_ends (length (c ∷ b)) (meaning (length (c ∷ b))) (means_spelled (length (c ∷ b))) (c ∷ b) bytes) where
-  at_kind : (k : Option AMQPType) → MatchOption k (outcome (c ∷ b) ≡ unknown) (λ type. Unless (lack type b) (Ends (WireWithin (length (c ∷ b))) (c ∷ b) (outcome (c ∷ b))) (outcome (c ∷ b)))
-      → MatchOption k (outcome (c ∷ b) ≡ unknown) (λ type. Unless (lack type b) (Front (c ∷ b) (outcome (c ∷ b))) (outcome (c ∷ b)))
-  at_kind None is = is
-  at_kind (Some type) ends =
-      unless_weaker (lack type b) (Ends (WireWithin (length (c ∷ b))) (c ∷ b) (outcome (c ∷ b))) (Front (c ∷ b) (outcome (c ∷ b))) (outcome (c ∷ b))
-          (front_by Wire (WireWithin (length (c ∷ b))) (c ∷ b) (outcome (c ∷ b)) (outcome_at (c ∷ b)) (λ w v q. q.0)) ends
+outcome_holds s bytes =
+    outcome_by_ends (length s) s (outcome s) (outcome_at s) (wire_ends (length s) (meaning (length s)) (means_spelled (length s)) s bytes)
 
 -- and to nothing else
 outcome_only : (s : List ℕ) (o : Reading) → IsBytes s → Outcome s o → o ≡ outcome s
-outcome_only [] o bytes here = here
-outcome_only (c ∷ b) o bytes here = at_kind (kind c) here (outcome_holds (c ∷ b) bytes) where
-  at_kind : (k : Option AMQPType) → MatchOption k (o ≡ unknown) (λ type. Unless (lack type b) (Front (c ∷ b) o) o)
-      → MatchOption k (outcome (c ∷ b) ≡ unknown) (λ type. Unless (lack type b) (Front (c ∷ b) (outcome (c ∷ b))) (outcome (c ∷ b))) → o ≡ outcome (c ∷ b)
-  at_kind None is there = is ∙ sym there
-  at_kind (Some type) here there =
-      same_unless (lack type b) (Front (c ∷ b) o) (Front (c ∷ b) (outcome (c ∷ b))) o (outcome (c ∷ b))
-          (same_front Wire (c ∷ b) o (outcome (c ∷ b)) (outcome_at (c ∷ b))) here there
+outcome_only s o bytes here = same_outcome s o (outcome s) (outcome_at s) here (outcome_holds s bytes)
 
 -- the relation is the function
 pub outcome_is : (s : List ℕ) (o : Reading) → IsBytes s → Outcome s o ↔ (o ≡ outcome s)

@@ -1,18 +1,17 @@
 -- What has a wire is found: reading as a function finds each value of the grammar, whatever stands behind its wire.
-use Rattle.std.proofs.Common.{ℕ, suc, zero, ◌+◌, ◌-◌, ◌*◌, ◌≤◌, ◌<◌, ◌≡◌, ◌∙◌, ap, sym, refl, Option, Some, None, option_map, List, [], ◌∷◌, ◌++◌, length, take, drop, arith, append_assoc, length-append}
-use Rattle.std.proofs.Math.Seq.{take-append_seam, drop-append_seam, take-length}
+use Rattle.std.proofs.Common.{ℕ, suc, zero, ◌+◌, ◌-◌, ◌≤◌, ◌≡◌, ◌∙◌, ap, sym, refl, Option, Some, None, option_map, List, ◌++◌, length, take, drop, arith, append_assoc, length-append}
+use Rattle.std.proofs.Math.Seq.{take-append_seam, drop-append_seam}
 use Rattle.std.proofs.lemmas.Bool.{le-ltb}
 use Rattle.std.proofs.lemmas.Nat.{from_be_bytes-to_be_bytes_4}
-use Rattle.std.specs.Prelude.{cond, nat_lt}
+use Rattle.std.specs.Prelude.{cond}
 use Rattle.std.specs.Int.{Width, w32, byte_len, from_be_bytes, to_be_bytes}
 use Rattle.amqp_value_core.specs.declared.types.AMQPType.{AMQPType}
 use Rattle.amqp_value_core.specs.declared.types.AMQPType.TheVariants as amqp
-use Rattle.amqp_value_core.specs.Values.{Tree, scalar, array, Trees, no_trees, tree}
-use Rattle.amqp_value_core.specs.Ids.{kind}
+use Rattle.amqp_value_core.specs.Values.{Tree, scalar, array, Trees, tree}
 use Rattle.amqp_value_core.specs.Layouts.{Layout, fixed}
 use Rattle.amqp_value_core.specs.Grammar.{Wire, Raw, Body, wire, raw_fixed, raw_array, no_values, value}
 use Rattle.amqp_value_core.specs.Nesting.{nesting, raw_nesting, body_nesting}
-use Rattle.amqp_value_core.specs.Outcomes.{Reading, found, more, unknown, malformed, length_field, counted, lack, lack_of, frame_lack}
+use Rattle.amqp_value_core.specs.Outcomes.{Reading, found, more, unknown, malformed, length_field, counted, lack_of, frame_lack}
 use Rattle.amqp_value_core.specs.Decode.{Meaning, framed, raw_outcome_by, outcome_by, values, meaning}
 
 -- the cases of reading, under names: by what the id stands for
@@ -55,7 +54,7 @@ fixed_found mean type f b rest is wide =
     let front : take f.width (b ++ rest) ≡ b = ap (λ n. take n (b ++ rest)) (sym wide) ∙ take-append_seam b rest in
     let behind : drop f.width (b ++ rest) ≡ rest = ap (λ n. drop n (b ++ rest)) (sym wide) ∙ drop-append_seam b rest in
     ap (λ n. by_lack n mean type (b ++ rest)) (ap (λ o. lack_of o (length_field type) (b ++ rest)) is ∙ whole)
-        ∙ (ap (λ o. by_layout o mean type (b ++ rest)) is ∙ λ i. found (scalar (f.meaning (front i))) (behind i))
+    ∙ (ap (λ o. by_layout o mean type (b ++ rest)) is ∙ λ i. found (scalar (f.meaning (front i))) (behind i))
 
 -- a payload with a length field is found, where the bytes that it counts have a meaning
 framed_found : (mean : Meaning) (type : AMQPType) (l s rest : List ℕ) (v : Tree) → fixed type ≡ None
@@ -65,17 +64,17 @@ framed_found mean type l s rest v is long counts means =
     let w = length_field type in
     let b = (l ++ s) ++ rest in
     let field : take (byte_len w) b ≡ l =
-        ap (λ n. take n b) (sym long) ∙ (ap (take (length l)) (append_assoc l s rest) ∙ take-append_seam l (s ++ rest)) in
+    ap (λ n. take n b) (sym long) ∙ (ap (take (length l)) (append_assoc l s rest) ∙ take-append_seam l (s ++ rest)) in
     let behind : drop (byte_len w) b ≡ s ++ rest =
-        ap (λ n. drop n b) (sym long) ∙ (ap (drop (length l)) (append_assoc l s rest) ∙ drop-append_seam l (s ++ rest)) in
+    ap (λ n. drop n b) (sym long) ∙ (ap (drop (length l)) (append_assoc l s rest) ∙ drop-append_seam l (s ++ rest)) in
     let n : counted w b ≡ length s = ap (from_be_bytes w) field ∙ counts in
     let size : length b ≡ length l + length s + length rest = length-append (l ++ s) rest ∙ ap (λ k. k + length rest) (length-append l s) in
     let whole = frame_lack-whole w b (omega arith) (omega arith) in
     ap (λ k. by_lack k mean type b) (ap (λ o. lack_of o w b) is ∙ whole)
-        ∙ (ap (λ o. by_layout o mean type b) is
-        ∙ ((λ i. by_meaning (mean type (take (n i) (behind i))) (drop (n i) (behind i)))
-        ∙ ((λ i. by_meaning (mean type (take-append_seam s rest i)) (drop-append_seam s rest i))
-        ∙ ap (λ o. by_meaning o rest) means)))
+    ∙ (ap (λ o. by_layout o mean type b) is
+    ∙ ((λ i. by_meaning (mean type (take (n i) (behind i))) (drop (n i) (behind i)))
+    ∙ ((λ i. by_meaning (mean type (take-append_seam s rest i)) (drop-append_seam s rest i))
+    ∙ ap (λ o. by_meaning o rest) means)))
 
 -- a wire has its id
 pub wire_starts : (w : List ℕ) (v : Tree) → Wire w v → 1 ≤ length w
@@ -106,7 +105,7 @@ mutual
   found_raw depth _ _ rest _ (raw_fixed type f b is wide) within = fixed_found (meaning depth) type f b rest is wide
   found_raw depth _ _ rest _ (raw_array body vs fits entries) within =
       framed_found (meaning depth) amqp.FieldArray (to_be_bytes w32 (length body)) body rest (array vs) refl refl (from_be_bytes-to_be_bytes_4 (length body) fits)
-          (array_means depth (body_nesting body vs entries) body vs within (λ inner deep. found_body inner (length body) body vs entries deep (omega arith)))
+      (array_means depth (body_nesting body vs entries) body vs within (λ inner deep. found_body inner (length body) body vs entries deep (omega arith)))
 
   -- and a body's values are those that it spells
   pub found_body : (depth n : ℕ) (body : List ℕ) (vs : Trees) (p : Body body vs) → body_nesting body vs p ≤ depth → length body ≤ n
@@ -115,4 +114,4 @@ mutual
   found_body depth zero _ _ (value w rest v vs first others) within room = absurd (omega (arith, length-append w rest, wire_starts w v first))
   found_body depth (suc n) _ _ (value w rest v vs first others) within room =
       value_first (outcome_by (meaning depth)) n w rest v first room (found_wire depth w rest v first (omega arith))
-          ∙ ap (option_map (tree v)) (found_body depth n rest vs others (omega arith) (omega (arith, length-append w rest, wire_starts w v first)))
+      ∙ ap (option_map (tree v)) (found_body depth n rest vs others (omega arith) (omega (arith, length-append w rest, wire_starts w v first)))

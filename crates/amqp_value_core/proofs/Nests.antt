@@ -1,5 +1,5 @@
 -- How deep a wire can nest: each container that holds another takes five bytes.
-use Rattle.std.proofs.Common.{ℕ, suc, ◌+◌, ◌*◌, ◌≤◌, List, ◌++◌, length, arith, length-append}
+use Rattle.std.proofs.Common.{ℕ, suc, ◌*◌, ◌≤◌, List, length, arith, length-append}
 use Rattle.amqp_value_core.specs.declared.types.AMQPType.{AMQPType}
 use Rattle.amqp_value_core.specs.Values.{Tree, Trees}
 use Rattle.amqp_value_core.specs.Grammar.{Wire, Raw, Body, wire, raw_fixed, raw_array, no_values, value}

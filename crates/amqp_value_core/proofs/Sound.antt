@@ -1,5 +1,5 @@
 -- What is found has a wire: reading as a function finds nothing but values of the grammar.
-use Rattle.std.proofs.Common.{ℕ, suc, zero, ◌+◌, ◌-◌, ◌≤◌, ◌<◌, ◌^◌, ◌≡◌, ◌∙◌, ap, sym, refl, subst, Bool, true, false, Option, Some, None, option_map, List, [], ◌∷◌, ◌++◌, length, get_or, take, drop, arith, append_assoc, length-append, length-take, length-drop}
+use Rattle.std.proofs.Common.{ℕ, suc, zero, ◌+◌, ◌-◌, ◌≤◌, ◌<◌, ◌^◌, ◌≡◌, ◌∙◌, ap, sym, refl, subst, Bool, true, false, Option, Some, None, option_map, List, [], ◌∷◌, ◌++◌, length, get_or, take, drop, arith, append_assoc, length-take, length-drop}
 use Rattle.std.proofs.lemmas.Bool.{ltb-true, ltb-false}
 use Rattle.std.proofs.lemmas.List.{take-append-drop}
 use Rattle.std.proofs.lemmas.Nat.{be_bytes_4}
@@ -8,11 +8,11 @@ use Rattle.std.specs.Option.{IfSome}
 use Rattle.std.specs.Int.{Width, w32, byte_len, from_be_bytes, to_be_bytes}
 use Rattle.amqp_value_core.specs.declared.types.AMQPType.{AMQPType}
 use Rattle.amqp_value_core.specs.declared.types.AMQPType.TheVariants as amqp
-use Rattle.amqp_value_core.specs.Values.{Tree, scalar, array, Trees, no_trees, tree}
+use Rattle.amqp_value_core.specs.Values.{Tree, array, Trees, tree}
 use Rattle.amqp_value_core.specs.Ids.{kind}
 use Rattle.amqp_value_core.specs.Layouts.{Layout, fixed}
-use Rattle.amqp_value_core.specs.Grammar.{Wire, Raw, Body, wire, raw_fixed, raw_array, no_values, value, large}
-use Rattle.amqp_value_core.specs.Nesting.{nesting, raw_nesting, body_nesting, WireWithin, RawWithin, BodyWithin}
+use Rattle.amqp_value_core.specs.Grammar.{wire, raw_fixed, raw_array, no_values, value}
+use Rattle.amqp_value_core.specs.Nesting.{WireWithin, RawWithin, BodyWithin}
 use Rattle.amqp_value_core.specs.Outcomes.{IsBytes, Reading, found, more, unknown, malformed, Unless, length_field, counted, lack, lack_of, frame_lack}
 use Rattle.amqp_value_core.specs.Decode.{Meaning, framed, raw_outcome_by, outcome_by, values, meaning}
 use Rattle.amqp_value_core.proofs.Found.{by_kind, by_layout, by_lack, by_meaning, and_others}
@@ -93,9 +93,9 @@ framed_ends depth mean type b means bytes whole =
     let long : length l ≡ byte_len w = length-take (byte_len w) b ∙ omega (arith, enough) in
     let counts : n ≡ length s = omega (arith, enough, length-take n behind, length-drop (byte_len w) b) in
     let is : b ≡ (l ++ s) ++ drop n behind =
-        sym (take-append-drop (byte_len w) b) ∙ (ap (λ t. l ++ t) (sym (take-append-drop n behind)) ∙ sym (append_assoc l s (drop n behind))) in
+    sym (take-append-drop (byte_len w) b) ∙ (ap (λ t. l ++ t) (sym (take-append-drop n behind)) ∙ sym (append_assoc l s (drop n behind))) in
     by_meaning_ends (RawWithin depth type) b (l ++ s) (drop n behind) (mean type s)
-        (means type l s (IsBytes-take (byte_len w) b bytes) long counts (IsBytes-take n behind (IsBytes-drop (byte_len w) b bytes))) is
+    (means type l s (IsBytes-take (byte_len w) b bytes) long counts (IsBytes-take n behind (IsBytes-drop (byte_len w) b bytes))) is
 
 -- reading a payload that lacks nothing
 by_layout_ends : (depth : ℕ) (mean : Meaning) (type : AMQPType) (b : List ℕ) → Means depth mean → IsBytes b
@@ -133,7 +133,7 @@ wire_ends depth mean means (c ∷ b) bytes = at_kind (kind c) refl where
   at_kind None is = refl
   at_kind (Some type) is =
       unless_weaker (lack type b) (Ends (RawWithin depth type) b (raw_outcome_by mean type b)) (Ends (WireWithin depth) (c ∷ b) (raw_outcome_by mean type b))
-          (raw_outcome_by mean type b) (id_before depth c type b (raw_outcome_by mean type b) is) (raw_ends depth mean means type b bytes.1)
+      (raw_outcome_by mean type b) (id_before depth c type b (raw_outcome_by mean type b) is) (raw_ends depth mean means type b bytes.1)
 
 -- reading found what it found
 if_found : (P : List ℕ → Tree → Type 0) (s : List ℕ) (o : Reading) → Ends P s o → IfFound P s o
@@ -149,6 +149,7 @@ wire_found depth (c ∷ b) o ends = at_kind (kind c) ends where
   at_lack : (n : ℕ) → Unless n (Ends (WireWithin depth) (c ∷ b) o) o → IfFound (WireWithin depth) (c ∷ b) o
   at_lack (suc n) is = subst (IfFound (WireWithin depth) (c ∷ b)) (sym is) tt
   at_lack zero ends = if_found (WireWithin depth) (c ∷ b) o ends
+
   at_kind : (k : Option AMQPType) → MatchOption k (o ≡ unknown) (λ type. Unless (lack type b) (Ends (WireWithin depth) (c ∷ b) o) o) → IfFound (WireWithin depth) (c ∷ b) o
   at_kind None is = subst (IfFound (WireWithin depth) (c ∷ b)) (sym is) tt
   at_kind (Some type) ends = at_lack (lack type b) ends
@@ -192,5 +193,5 @@ array_end depth l s bytes long counts (Some vs) (p, within) =
 pub means_spelled : (depth : ℕ) → Means depth (meaning depth)
 means_spelled (suc depth) amqp.FieldArray l s field long counts bytes =
     array_end depth l s field long counts (values (outcome_by (meaning depth)) (length s) s)
-        (values_end depth (outcome_by (meaning depth)) (λ b bytes. wire_found depth b (outcome_by (meaning depth) b) (wire_ends depth (meaning depth) (means_spelled depth) b bytes)) (length s) s bytes)
+    (values_end depth (outcome_by (meaning depth)) (λ b bytes. wire_found depth b (outcome_by (meaning depth) b) (wire_ends depth (meaning depth) (means_spelled depth) b bytes)) (length s) s bytes)
 means_spelled _ _ l s field long counts bytes = tt

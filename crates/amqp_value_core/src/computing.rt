@@ -13,13 +13,11 @@ ghost use Rattle.amqp_value_core.specs.Decode.{outcome, raw_outcome};
 pub fn outcome_computes()
     ensures holds { (s : List ℕ) → IsBytes s → Outcome s (outcome s) }
     ensures only { (s : List ℕ) (o : Reading) → IsBytes s → Outcome s o ↔ (o ≡ outcome s) }
-{
-}
+{}
 
 /// The same of reading a payload, for each type.
 #[tactic(auto, using(crate::proofs::Agreement::raw_outcome_holds, crate::proofs::Agreement::raw_outcome_is))]
 pub fn raw_outcome_computes()
     ensures holds { (type : AMQPType) (s : List ℕ) → IsBytes s → RawOutcome type s (raw_outcome type s) }
     ensures only { (type : AMQPType) (s : List ℕ) (o : Reading) → IsBytes s → RawOutcome type s o ↔ (o ≡ raw_outcome type s) }
-{
-}
+{}

@@ -1,4 +1,4 @@
-use Rattle.std.proofs.Common.{rules, negsuc, ap, sym, ◌∙◌}
+use Rattle.std.proofs.Common.{negsuc, ap, sym, ◌∙◌}
 use Rattle.amqp_value_core.specs.Values.{Tree, Trees}
 use Rattle.amqp_value_core.specs.View.{view, view_step, array_step}
 use Rattle.amqp_value_core.specs.declared.value.AMQPValue.TheOpen.{AMQPValue-F}
