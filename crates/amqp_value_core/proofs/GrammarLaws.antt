@@ -1,4 +1,4 @@
--- The laws of the grammar, for proofs to cite. `src/laws.rt` states each but the last group.
+-- The laws of the grammar, for proofs to cite: each is a clause of a function of `src/laws.rt`.
 
 -- one reading for each list
 pub use Rattle.amqp_value_core.proofs.Unique.{one_reading, one_raw_reading}
@@ -9,4 +9,6 @@ pub use Rattle.amqp_value_core.proofs.Reading.{reading_back}
 pub use Rattle.amqp_value_core.proofs.MoreBytes.{more_bytes, more_raw_bytes}
 pub use Rattle.amqp_value_core.proofs.Outcomes.{one_outcome, one_raw_outcome}
 -- from a payload of the type that a first byte stands for to the value: the outcome, and that it takes memory
-pub use Rattle.amqp_value_core.proofs.Outcomes.{raw_to_value, value_to_raw, raw_to_heavy}
+pub use Rattle.amqp_value_core.proofs.Outcomes.{raw_to_value, raw_to_heavy}
+-- the outcome as a function
+pub use Rattle.amqp_value_core.proofs.Agreement.{outcome_holds, outcome_is, raw_outcome_holds, raw_outcome_is}

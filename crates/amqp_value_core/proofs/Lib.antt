@@ -5,4 +5,8 @@ mod Spelling
 mod Outcomes
 mod Reading
 mod MoreBytes
+mod Found
+mod Nests
+mod Sound
+mod Agreement
 pub mod GrammarLaws

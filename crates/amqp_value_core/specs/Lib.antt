@@ -2,6 +2,7 @@ pub mod Values
 pub mod Ids
 pub mod Layouts
 pub mod Grammar
+pub mod Nesting
 pub mod Outcomes
 pub mod Decode
 pub mod Texts

@@ -4,8 +4,8 @@
 mod equality;
 pub mod input;
 pub mod laws;
-pub mod types;
-pub mod value;
-
+pub mod rows;
 #[cfg(test)]
 mod tests;
+pub mod types;
+pub mod value;
