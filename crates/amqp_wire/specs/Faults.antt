@@ -1,0 +1,10 @@
+-- Which fault an error of a reader or a writer is.
+use Rattle.std.specs.declared.io.ErrorKind.{ErrorKind}
+use Rattle.std.specs.declared.io.ErrorKind.TheVariants as kind
+use Rattle.amqp_wire.specs.declared.fault.WireFault.{WireFault}
+use Rattle.amqp_wire.specs.declared.fault.WireFault.TheVariants.{OutOfMemory, Io}
+
+-- want of memory where the kind says so, and a failure of input or output for any other kind
+abbrev pub fault_of : ErrorKind → WireFault
+fault_of kind.OutOfMemory = OutOfMemory
+fault_of _ = Io
