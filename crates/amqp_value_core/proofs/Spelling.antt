@@ -1,0 +1,1 @@
+-- Spelling: the text of a value is a wire of it.
