@@ -1,11 +1,10 @@
 -- Frames: the length of an array's body, and the body behind it.
-use Rattle.std.proofs.Common.{◌≡◌, ◌<◌, ◌≤◌, ◌^◌, ℕ, List, ◌++◌, length, take, drop, Some, None, refl, sym, ap, ◌∙◌, subst, arith, append_assoc, take-append-drop}
+use Rattle.std.proofs.Common.{◌≡◌, ◌<◌, ◌≤◌, ◌^◌, ℕ, List, ◌++◌, length, take, drop, refl, sym, ap, ◌∙◌, subst, arith, append_assoc, take-append-drop}
 use Rattle.std.specs.Int.{w32, to_be_bytes, from_be_bytes}
 use Rattle.std.proofs.lemmas.List.{length-take-le, take_at}
 use Rattle.std.proofs.lemmas.Nat.{from_be_bytes-to_be_bytes_4}
 use Rattle.amqp_value_core.specs.declared.types.AMQPType.TheVariants as amqp
 use Rattle.amqp_value_core.specs.Values.{Tree, Trees, array}
-use Rattle.amqp_value_core.specs.Layouts.{Layout}
 use Rattle.amqp_value_core.specs.Grammar.{large, Raw, raw_fixed, raw_array, Body}
 use Rattle.amqp_value_core.specs.Outcomes.{Reading, found, more, unknown, malformed, lack, counted, RawOutcome, RawHeavy}
 use Rattle.amqp_value_core.proofs.Fronts.{same_fronts}

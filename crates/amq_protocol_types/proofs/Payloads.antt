@@ -1,5 +1,5 @@
 -- Payloads: what is read of one type.
-use Rattle.std.proofs.Common.{◌≡◌, ◌<◌, ◌≤◌, ◌-◌, ◌+◌, ℕ, zero, suc, List, [], ◌∷◌, ◌++◌, length, ◌^◌, ℤ, Bool, true, false, cond, nat_eq, Some, refl, sym, ap, ◌∙◌, subst, arith}
+use Rattle.std.proofs.Common.{◌≡◌, ◌<◌, ℕ, List, [], ◌++◌, length, ◌^◌, ℤ, Bool, true, false, cond, nat_eq, Some, refl, sym, ap, ◌∙◌, subst, arith}
 use Rattle.std.specs.Prelude.{not}
 use Rattle.std.specs.Int.{Width, w8, w32, to_be_bytes, from_be_bytes, cast_signed, cast_unsigned}
 use Rattle.std.proofs.lemmas.Int.{of_z-to_z}
@@ -10,7 +10,7 @@ use Rattle.amqp_value_core.specs.declared.types.AMQPType.TheVariants as amqp
 use Rattle.amqp_value_core.specs.Values.{Scalar, boolean, number, void, Tree, scalar}
 use Rattle.amqp_value_core.specs.Layouts.{Layout, fixed, truth}
 use Rattle.amqp_value_core.specs.Grammar.{Raw, raw_fixed}
-use Rattle.amqp_value_core.specs.Outcomes.{Reading, found, more, lack, Unless, RawFront, RawOutcome}
+use Rattle.amqp_value_core.specs.Outcomes.{Reading, found, lack, Unless, RawFront, RawOutcome}
 use Rattle.amqp_value_core.proofs.Headers.{lack-raw}
 
 -- where nothing lacks, the front decides

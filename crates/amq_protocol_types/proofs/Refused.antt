@@ -1,5 +1,4 @@
 -- Refusals: what is right of a part is right of the whole.
-use Rattle.std.proofs.Common.{◌≡◌}
 use Rattle.amqp_value_core.specs.Outcomes.{Reading, more, unknown, malformed}
 use Rattle.amq_protocol_types.specs.declared.parsing.errors.Err.TheVariants.{Incomplete, Error, Failure}
 use Rattle.amq_protocol_types.specs.declared.parsing.errors.Needed.TheVariants.{Unknown, Size}

@@ -1,5 +1,5 @@
 -- A value behind its id.
-use Rattle.std.proofs.Common.{◌≡◌, ℕ, List, ◌∷◌, sym, subst}
+use Rattle.std.proofs.Common.{ℕ, List, sym, subst}
 use Rattle.amqp_value_core.specs.declared.types.AMQPType.{AMQPType}
 use Rattle.amqp_value_core.specs.Outcomes.{Reading, RawOutcome, Outcome, RawHeavy, Heavy}
 use Rattle.amqp_value_core.proofs.Outcomes.{value_from_raw, value_heavy}

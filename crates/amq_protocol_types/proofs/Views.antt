@@ -1,6 +1,5 @@
 -- Values in memory as trees.
 use Rattle.std.proofs.Common.{◌≡◌, sym, ap, ◌∙◌}
-use Rattle.amqp_value_core.specs.declared.value.AMQPValue.{AMQPValue}
 use Rattle.amqp_value_core.specs.declared.value.AMQPValue.TheVariants.{Void, rolls-Void}
 use Rattle.amqp_value_core.specs.declared.value.AMQPValue.TheOpen.{AMQPValue-F}
 use Rattle.amqp_value_core.specs.declared.value.AMQPValue.TheFolds.{fold-roll-AMQPValue}

@@ -5,11 +5,11 @@ use Rattle.amqp_value_core.specs.declared.types.AMQPType.{AMQPType}
 use Rattle.amqp_value_core.specs.Values.{Trees}
 use Rattle.amqp_value_core.specs.Ids.{kind}
 use Rattle.amqp_value_core.specs.Grammar.{Body}
-use Rattle.amqp_value_core.specs.Outcomes.{Reading, found, more, unknown, malformed}
+use Rattle.amqp_value_core.specs.Outcomes.{Reading, more, unknown, malformed}
 use Rattle.amq_protocol_types.specs.declared.parsing.errors.Err.TheVariants.{Incomplete, Error, Failure}
 use Rattle.amq_protocol_types.specs.declared.parsing.errors.Needed.TheVariants.{Unknown, Size}
 use Rattle.amq_protocol_types.specs.declared.parsing.errors.ErrorKind.{ErrorKind}
-use Rattle.amq_protocol_types.specs.declared.parsing.errors.ErrorKind.TheVariants.{MapOpt, MapRes, Eof, OutOfMemory}
+use Rattle.amq_protocol_types.specs.declared.parsing.errors.ErrorKind.TheVariants.{MapOpt, Eof, OutOfMemory}
 use Rattle.amq_protocol_types.specs.Refusals.{Refusal}
 
 -- an error of the kind is right: the input reads as the kind says
