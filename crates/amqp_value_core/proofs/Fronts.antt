@@ -1,5 +1,5 @@
 -- Fronts of lists.
-use Rattle.std.proofs.Common.{◌≡◌, ℕ, ◌≤◌, List, [], ◌∷◌, ◌++◌, length, take, drop, refl, sym, ap, ◌∙◌, arith, length-append, take-append-drop, Option, Some}
+use Rattle.std.proofs.Common.{◌≡◌, ℕ, ◌≤◌, List, [], ◌∷◌, ◌++◌, length, take, drop, refl, sym, ap, ◌∙◌, arith, take-append-drop, Option, Some}
 use Rattle.std.proofs.lemmas.List.{take_at, take-append-le}
 use Rattle.std.proofs.lemmas.Option.{same_Some}
 
@@ -15,8 +15,7 @@ same_fronts (c ∷ a) (d ∷ b) x y len e =
 -- a front of a joined list that is no longer than its first part is a front of that part
 pub front_inside : (s t b rest : List ℕ) → s ++ t ≡ b ++ rest → length b ≤ length s → s ≡ b ++ drop (length b) s
 front_inside s t b rest e le =
-    let front : take (length b) s ≡ b =
-        sym (take-append-le (length b) s t le) ∙ (ap (take (length b)) e ∙ take_at b rest (length b) refl) in
+    let front : take (length b) s ≡ b = sym (take-append-le (length b) s t le) ∙ (ap (take (length b)) e ∙ take_at b rest (length b) refl) in
     sym (take-append-drop (length b) s) ∙ ap (λ (p : List ℕ). p ++ drop (length b) s) front
 
 -- what an option holds is one thing

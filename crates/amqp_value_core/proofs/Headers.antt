@@ -1,5 +1,5 @@
 -- Headers: how many bytes a payload has is known from its type or its length field alone.
-use Rattle.std.proofs.Common.{◌≡◌, ℕ, suc, ◌+◌, ◌-◌, ◌^◌, ◌<◌, ◌≤◌, List, [], ◌∷◌, ◌++◌, length, take, Option, Some, None, refl, sym, ap, ◌∙◌, arith, inl, inr, length-append}
+use Rattle.std.proofs.Common.{◌≡◌, ℕ, ◌+◌, ◌-◌, ◌^◌, ◌<◌, ◌≤◌, List, ◌++◌, length, Option, Some, None, refl, sym, ap, ◌∙◌, arith, inl, inr, length-append}
 use Rattle.std.specs.Int.{Width, w32, byte_len}
 use Rattle.std.proofs.lemmas.Bool.{cases_lt, lt-ltb, le-ltb}
 use Rattle.std.proofs.lemmas.List.{take-append-le}
@@ -54,10 +54,10 @@ lack_of-append : (o : Option Layout) (w : Width) (b t : List ℕ) → length t <
 lack_of-append (Some f) w b t lt = omega (arith, length-append b t)
 lack_of-append None w b t lt = elim (cases_lt (length b) (byte_len w)) [
   | inl cut ↦
-    let whole = frame_lack_cut w b cut in
-    omega (arith, whole, length-append b t, frame_lack_cut w (b ++ t) (omega (arith, whole, length-append b t)))
+      let whole = frame_lack_cut w b cut in
+      omega (arith, whole, length-append b t, frame_lack_cut w (b ++ t) (omega (arith, whole, length-append b t)))
   | inr known ↦
-    omega (arith, length-append b t, counted-append w b t known, frame_lack_known w b known, frame_lack_known w (b ++ t) (omega (arith, length-append b t)))
+      omega (arith, length-append b t, counted-append w b t known, frame_lack_known w b known, frame_lack_known w (b ++ t) (omega (arith, length-append b t)))
 ]
 
 -- a whole frame reaches its extent
@@ -84,6 +84,10 @@ lack-append type b t lt = lack_of-append (fixed type) (length_field type) b t lt
 -- the number before counted bytes is how many they are
 pub counted-large : (s rest : List ℕ) → length s < 2 ^ 32 → counted w32 (large s ++ rest) ≡ length s
 counted-large s rest fits = from_be_bytes-to_be_bytes_4 (length s) fits
+
+-- bytes behind their length are a whole frame
+pub lack_of-large : (s rest : List ℕ) → length s < 2 ^ 32 → lack_of None w32 (large s ++ rest) ≡ 0
+lack_of-large s rest fits = lack_of-none None w32 (large s ++ rest) (omega (arith, counted-large s rest fits, length-append s rest))
 
 -- the extent of a payload is its length, whatever follows
 pub extent-raw : (type : AMQPType) (b rest : List ℕ) (v : Tree) → Raw type b v → extent type (b ++ rest) ≡ length b

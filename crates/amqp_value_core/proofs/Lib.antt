@@ -1,7 +1,8 @@
-pub mod Fronts
-pub mod Headers
-pub mod Unique
-pub mod Spelling
-pub mod Reading
-pub mod MoreBytes
-pub mod Laws
+mod Fronts
+mod Headers
+mod Unique
+mod Spelling
+mod Outcomes
+mod Reading
+mod MoreBytes
+pub mod GrammarLaws

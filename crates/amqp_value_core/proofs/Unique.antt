@@ -1,11 +1,10 @@
 -- One reading: a list has at most one wire at its front, and a wire one meaning.
-use Rattle.std.proofs.Common.{◌≡◌, ◌^◌, ◌<◌, ℕ, List, [], ◌∷◌, ◌++◌, length, drop, Option, Some, None, refl, sym, ap, ap₂, ◌∙◌, subst, arith}
-use Rattle.std.proofs.lemmas.List.{append-nil}
+use Rattle.std.proofs.Common.{◌≡◌, ℕ, List, [], ◌++◌, drop, refl, sym, ap, ap₂, ◌∙◌, subst}
 use Rattle.amqp_value_core.specs.declared.types.AMQPType.{AMQPType}
-use Rattle.amqp_value_core.specs.Values.{Tree, scalar, array, Trees, no_trees, tree}
+use Rattle.amqp_value_core.specs.Values.{Tree, scalar, array, Trees, tree}
 use Rattle.amqp_value_core.specs.Ids.{kind}
 use Rattle.amqp_value_core.specs.Layouts.{Layout, fixed}
-use Rattle.amqp_value_core.specs.Grammar.{large, Wire, wire, Raw, raw_fixed, raw_array, Body, no_values, value}
+use Rattle.amqp_value_core.specs.Grammar.{Wire, wire, Raw, raw_fixed, raw_array, Body, no_values, value}
 use Rattle.amqp_value_core.proofs.Fronts.{same_fronts, one_held}
 use Rattle.amqp_value_core.proofs.Headers.{extent, extent-raw}
 
@@ -23,7 +22,7 @@ one_front _ _ x y _ _ (wire c type b v k p) (wire d type2 b2 z k2 q) e =
     (cc, rest.1)
 
 -- a wire has a first byte
-no_empty_wire : (w rest : List ℕ) (v : Tree) → Wire w v → w ++ rest ≡ [] → ⊥
+pub no_empty_wire : (w rest : List ℕ) (v : Tree) → Wire w v → w ++ rest ≡ [] → ⊥
 no_empty_wire _ rest _ (wire c type b v k p) e = cc
 
 mutual
@@ -51,3 +50,15 @@ mutual
   one_body_meaning _ _ _ _ (value w more v vs p all) (value w2 more2 v2 us p2 all2) e =
       let same = one_front w w2 more more2 v v2 p p2 e in
       ap₂ tree (one_meaning w w2 v v2 p p2 same.0) (one_body_meaning more more2 vs us all all2 same.1)
+
+-- a list has one front that is a payload of the type, with one meaning
+pub one_raw_reading : (type : AMQPType) (b c x y : List ℕ) (v u : Tree) → Raw type b v → Raw type c u → b ++ x ≡ c ++ y → (b ≡ c) × (v ≡ u) × (x ≡ y)
+one_raw_reading type b c x y v u p q e =
+    let same = one_raw_front type b c x y v u p q e in
+    (same.0, one_raw_meaning type b c v u p q same.0, same.1)
+
+-- a list has one front that is a wire, with one meaning
+pub one_reading : (w u x y : List ℕ) (v z : Tree) → Wire w v → Wire u z → w ++ x ≡ u ++ y → (w ≡ u) × (v ≡ z) × (x ≡ y)
+one_reading w u x y v z p q e =
+    let same = one_front w u x y v z p q e in
+    (same.0, one_meaning w u v z p q same.0, same.1)
