@@ -6,14 +6,12 @@ use Rattle.amqp_value_core.specs.Ids.{kind}
 use Rattle.amqp_value_core.specs.Values.{Tree, Trees, no_trees, tree, trees_of}
 use Rattle.amqp_value_core.specs.Grammar.{Wire, wire, Body, no_values, value}
 use Rattle.amqp_value_core.specs.Outcomes.{Reading, found, more, unknown, malformed, lack, Unless, Front, Outcome, Heavy}
-use Rattle.amqp_value_core.proofs.Unique.{one_front}
-use Rattle.amqp_value_core.proofs.Outcomes.{value_from_raw, one_outcome}
+use Rattle.amqp_value_core.proofs.GrammarLaws.{one_reading, one_outcome, wire_found}
 use Rattle.amq_protocol_types.specs.declared.parsing.errors.Err.TheVariants.{Incomplete, Error, Failure}
 use Rattle.amq_protocol_types.specs.declared.parsing.errors.Needed.TheVariants.{Unknown, Size}
 use Rattle.amq_protocol_types.specs.declared.parsing.errors.ErrorKind.TheVariants.{MapOpt, MapRes, Eof, OutOfMemory}
 use Rattle.amq_protocol_types.specs.Refusals.{Refusal, inside}
 use Rattle.amq_protocol_types.specs.Answers.{Refuses, IsNoBody}
-use Rattle.amq_protocol_types.proofs.Payloads.{raw_found}
 
 -- the values of a list, and others behind them
 abbrev pub behind : List Tree → Trees → Trees
@@ -38,10 +36,6 @@ behind-nothing : (xs : List Tree) → behind xs no_trees ≡ trees_of xs
 behind-nothing [] = refl
 behind-nothing (x ∷ xs) = ap (tree x) (behind-nothing xs)
 
--- a wire at the front is read
-wire_found : (w rest : List ℕ) (v : Tree) → Wire w v → Outcome (w ++ rest) (found v rest)
-wire_found _ rest _ (wire c type b v k p) = value_from_raw c type (b ++ rest) (found v rest) k (raw_found type (b ++ rest) b rest v refl p)
-
 -- a wire has at least one byte
 length-wire : (w : List ℕ) (v : Tree) → Wire w v → 0 < length w
 length-wire _ _ (wire c type b v k p) = omega arith
@@ -61,8 +55,8 @@ no_body s vs o x other h p =
 body_behind : (s w rest : List ℕ) (v : Tree) (vs : Trees) → s ≡ w ++ rest → Wire w v → Body s vs → (more : Trees) × Body rest more
 body_behind _ w rest v _ e p no_values = let h = length-wire w v p in absurd (omega (arith, ap length e, length-append w rest))
 body_behind _ w rest v _ e p (value u left z vs q all) =
-    let same = one_front u w left rest z v q p e in
-    (vs, subst (λ (t : List ℕ). Body t vs) same.1 all)
+    let same = one_reading u w left rest z v q p e in
+    (vs, subst (λ (t : List ℕ). Body t vs) same.2 all)
 
 -- a value that is read stands at the front
 front_of : (s : List ℕ) (v : Tree) (rest : List ℕ) → Outcome s (found v rest) → (w : List ℕ) × Wire w v × (s ≡ w ++ rest)

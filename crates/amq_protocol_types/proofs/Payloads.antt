@@ -11,21 +11,12 @@ use Rattle.amqp_value_core.specs.Values.{Scalar, boolean, number, void, Tree, sc
 use Rattle.amqp_value_core.specs.Layouts.{Layout, fixed, truth}
 use Rattle.amqp_value_core.specs.Grammar.{Raw, raw_fixed}
 use Rattle.amqp_value_core.specs.Outcomes.{Reading, found, lack, Unless, RawFront, RawOutcome}
-use Rattle.amqp_value_core.proofs.Headers.{lack-raw}
-
--- where nothing lacks, the front decides
-pub raw_decided : (type : AMQPType) (s : List ℕ) (o : Reading) → lack type s ≡ 0 → RawFront type s o → RawOutcome type s o
-raw_decided type s o e f = subst (λ (n : ℕ). Unless n (RawFront type s o) o) (sym e) f
-
--- a payload at the front is read
-pub raw_found : (type : AMQPType) (s b rest : List ℕ) (v : Tree) → s ≡ b ++ rest → Raw type b v → RawOutcome type s (found v rest)
-raw_found type s b rest v e p =
-    raw_decided type s (found v rest) (subst (λ (t : List ℕ). lack type t ≡ 0) (sym e) (lack-raw type b rest v p)) (b, p, e)
+use Rattle.amqp_value_core.proofs.GrammarLaws.{raw_found}
 
 -- a payload of fixed width at the front is read
 pub fixed_found : (type : AMQPType) (f : Layout) (s b rest : List ℕ) → fixed type ≡ Some f → length b ≡ f.width → s ≡ b ++ rest
     → RawOutcome type s (found (scalar (f.meaning b)) rest)
-fixed_found type f s b rest row len e = raw_found type s b rest (scalar (f.meaning b)) e (raw_fixed type f b row len)
+fixed_found type f s b rest row len e = rw e (raw_found type b rest (scalar (f.meaning b)) (raw_fixed type f b row len))
 
 -- the one byte of a number below 256
 byte_back : (n : ℕ) → n < 256 → from_be_bytes w8 (to_be_bytes w8 n) ≡ n

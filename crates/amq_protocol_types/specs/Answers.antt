@@ -5,7 +5,7 @@ use Rattle.amqp_value_core.specs.declared.types.AMQPType.{AMQPType}
 use Rattle.amqp_value_core.specs.Values.{Trees}
 use Rattle.amqp_value_core.specs.Ids.{kind}
 use Rattle.amqp_value_core.specs.Grammar.{Body}
-use Rattle.amqp_value_core.specs.Outcomes.{Reading, more, unknown, malformed}
+use Rattle.amqp_value_core.specs.Outcomes.{Reading, more, unknown, malformed, Outcome, StillWaits, with_more}
 use Rattle.amq_protocol_types.specs.declared.parsing.errors.Err.TheVariants.{Incomplete, Error, Failure}
 use Rattle.amq_protocol_types.specs.declared.parsing.errors.Needed.TheVariants.{Unknown, Size}
 use Rattle.amq_protocol_types.specs.declared.parsing.errors.ErrorKind.{ErrorKind}
@@ -47,3 +47,11 @@ IsCut w s o = (length s < byte_len w) × (o ≡ more (byte_len w - length s))
 abbrev pub IsNoBody : List ℕ → Reading → Type 0
 IsNoBody s malformed = (vs : Trees) → Body s vs → ⊥
 IsNoBody s _ = ⊥
+
+-- reading s comes to one outcome and no other: the value, the rest and the refusal are determined
+abbrev pub HasOneOutcome : List ℕ → Type 0
+HasOneOutcome s = (o p : Reading) → Outcome s o → Outcome s p → o ≡ p
+
+-- more bytes join the rest behind a value, are so many fewer that lack, and leave a refusal as it is
+abbrev pub KeepsOutcome : List ℕ → Type 0
+KeepsOutcome s = (o : Reading) (t : List ℕ) → Outcome s o → StillWaits o t → Outcome (s ++ t) (with_more o t)

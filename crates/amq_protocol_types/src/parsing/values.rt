@@ -5,7 +5,7 @@ ghost use Rattle.amqp_value_core.specs.Values.{array};
 ghost use Rattle.amqp_value_core.specs.Grammar.{Body};
 ghost use Rattle.amqp_value_core.specs.Outcomes.{Outcome, RawOutcome, Heavy, RawHeavy, found};
 ghost use Rattle.amqp_value_core.specs.View.{view, array_view};
-ghost use Rattle.amq_protocol_types.specs.Answers.{Refuses, IsNoBody};
+ghost use Rattle.amq_protocol_types.specs.Answers.{Refuses, HasOneOutcome, KeepsOutcome, IsNoBody};
 
 use super::errors::{ParserError, ParserResult, inside, lacks, out_of_memory};
 use super::scalars::{
@@ -21,10 +21,13 @@ use std::alloc::Global;
 /// It recurses as deep as arrays nest, which the input's length alone bounds. Memory is taken only
 /// for the values of an array whose bytes are all there.
 #[cycle(parser)]
+#[tactic(auto, using(amqp_value_core::proofs::GrammarLaws::one_outcome, amqp_value_core::proofs::GrammarLaws::more_bytes))]
 pub fn parse_value<I: ParsableInput>(alloc: Global, i: I) -> ParserResult<I, AMQPValue>
-    ensures { MatchResult result
+    ensures outcome { MatchResult result
         (λ x. Outcome (I.bytes i) (found (view x.1) (I.bytes x.0)))
         (Refuses (Outcome (I.bytes i)) (Heavy (I.bytes i))) }
+    ensures one { HasOneOutcome (I.bytes i) }
+    ensures more_bytes { KeepsOutcome (I.bytes i) }
 {
     let (i, amqp_type) = parse_type(i)?;
     parse_raw_value(alloc, amqp_type, i)
