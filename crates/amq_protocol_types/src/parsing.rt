@@ -12,3 +12,6 @@ pub use scalars::{
     parse_type,
 };
 pub use values::{parse_field_array, parse_raw_value, parse_value};
+
+#[cfg(test)]
+mod tests;
