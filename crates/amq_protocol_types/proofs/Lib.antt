@@ -1,1 +1,3 @@
+pub mod Rooms
 pub mod Slices
+pub mod Steps

@@ -105,5 +105,4 @@ pub record GoesBack (at : ℕ) (before : Seen) (after : Seen) : Type 0 where
   pub told : after.told ≡ option_map (take at) before.told
   pub position : after.at ≡ at
   pub room : after.room ≡ option_map (λ room. room + (before.at - at)) before.room
-  -- faults are never taken back
-  pub faults : before.faults ≤ after.faults
+  pub faults : after.faults ≡ before.faults
