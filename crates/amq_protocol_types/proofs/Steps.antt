@@ -1,9 +1,11 @@
 -- Lemmas on writes to a buffer that follow one another.
-use Rattle.std.proofs.Common.{◌≡◌, ℕ, ◌+◌, ◌-◌, ◌<◌, ◌≤◌, ◌⊎◌, inl, inr, Bool, true, IsTrue, Option, Some, None, IsSome, IfSome, IsOk, Result, Ok, Err, IsErrOf, List, [], ◌∷◌, ◌++◌, length, take, drop, refl, sym, ap, ◌∙◌, subst, arith, append_assoc, length-append}
+use Rattle.std.proofs.Common.{◌≡◌, ℕ, ◌+◌, ◌-◌, ◌^◌, ◌<◌, ◌≤◌, ◌⊎◌, inl, inr, Bool, true, IsTrue, Option, Some, None, IsSome, IfSome, IsOk, Result, Ok, Err, IsErrOf, List, [], ◌∷◌, ◌++◌, length, take, drop, replicate, refl, sym, ap, ◌∙◌, subst, arith, append_assoc, length-append}
 use Rattle.std.specs.Option.{option_map}
 use Rattle.std.specs.Io.KnownBytes.{Appends}
 use Rattle.std.proofs.KnownBytes.{Appends-trans, Appends-kept, Appends-nil}
 use Rattle.std.proofs.lemmas.List.{drop-drop}
+use Rattle.std.specs.Int.{w32, to_be_bytes}
+use Rattle.amqp_value_core.specs.Grammar.{large}
 use Rattle.amq_protocol_types.specs.declared.generation.error.GenError.{GenError}
 use Rattle.amq_protocol_types.specs.declared.generation.error.GenError.TheVariants.{BufferTooSmall, LengthTooLong, IoError, InvalidOffset}
 use Rattle.amq_protocol_types.specs.Outputs.{Seen, IsWhole, Writes, GoesBack, HasFailed, filled}
@@ -39,18 +41,18 @@ failed_since s t u w before after (inl more) = inl (omega arith)
 failed_since s t u w before after (inr most) = inr (after ∙ most)
 
 -- xs were put, ys refused, and xs taken back: so more than both was refused
-pub refused : {A B : Type 0} {xs ys : List ℕ} {s t u w : Seen} {e : GenError} (C : Type 0) (zs : List ℕ) → IsWhole s → length xs + length ys ≤ length zs → (C → B) → Writes true A xs s (Ok tt) t → Writes true B ys t (Err e) u → GoesBack s.at u w → Writes true C zs s (Err e) w
-refused {xs = xs} {ys = ys} {s = s} {t = t} {u = u} {w = w} {e = e} C zs whole long lengths p q back =
-    let at : u.at ≡ t.at = q.stayed refl in
+pub refused : {A B : Type 0} {xs ys : List ℕ} {s t u w : Seen} {e : GenError} (C : Type 0) (zs : List ℕ) (at : ℕ) → at ≡ s.at → IsWhole s → length xs + length ys ≤ length zs → (C → B) → Writes true A xs s (Ok tt) t → Writes true B ys t (Err e) u → GoesBack at u w → Writes true C zs s (Err e) w
+refused {xs = xs} {ys = ys} {s = s} {t = t} {u = u} {w = w} {e = e} C zs at place whole long lengths p q back =
+    let kept : u.at ≡ t.at = q.stayed refl in
     let told : u.told ≡ t.told = q.kept refl in
     let room : u.room ≡ t.room = q.room_kept refl in
-    let cut : u.at - s.at ≡ length xs = omega (arith, p.moved) in
+    let cut : u.at - at ≡ length xs = omega (arith, p.moved) in
     record {
       appended = tt;
       moved = tt;
       tail = tt;
-      stayed = λ _. back.position;
-      kept = λ _. told_back s.told t.told w.told s.at xs whole.counted whole.told p.appended (back.told ∙ ap (option_map (take s.at)) told);
+      stayed = λ _. back.position ∙ place;
+      kept = λ _. told_back s.told t.told w.told s.at xs whole.counted whole.told p.appended (back.told ∙ (λ i. option_map (take (place i)) (told i)));
       room_kept = λ _. room_back s.room t.room w.room (length xs) p.room p.room_left (back.room ∙ (λ i. option_map (λ n. n + cut i) (room i)));
       fits = tt;
       room = tt;
@@ -108,3 +110,27 @@ filled_in zeros more {s = s} {t = t} C ys whole same lengths p =
       no_other = λ _. tt;
       faults = p.faults
     }
+
+-- what a buffer wrote, whatever says that it is one
+pub by_buffer : {b : Bool} {A : Type 0} {xs : List ℕ} {s t : Seen} → b ≡ true → Writes b A xs s (Ok tt) t → Writes true A xs s (Ok tt) t
+by_buffer {A = A} {xs = xs} {s = s} {t = t} e p =
+    let P : Bool → Type 0 = λ c. Writes c A xs s (Ok tt) t in
+    subst P e p
+
+-- behind four reserved bytes some bytes of `all` were put, ys refused, and all taken back
+pub refused_inside : {A B : Type 0} (some all : List ℕ) {ys : List ℕ} {s t u w : Seen} {e : GenError} (C : Type 0) (at : ℕ) → at ≡ s.at → IsWhole s → length some + length ys ≤ length all → (C → B) → Writes true A (replicate 4 0 ++ some) s (Ok tt) t → Writes true B ys t (Err e) u → GoesBack at u w → Writes true C (large all) s (Err e) w
+refused_inside some all C at place whole long lengths p q back = refused C (large all) at place whole (omega arith) lengths p q back
+
+-- behind four reserved bytes all were put, their number doesn't fit, and all are taken back
+pub refused_length : {A : Type 0} (all : List ℕ) {s t w : Seen} (C : Type 0) (at : ℕ) → at ≡ s.at → IsWhole s → (2 ^ 32 ≤ length all → C → ⊥) → Writes true A (replicate 4 0 ++ all) s (Ok tt) t → 2 ^ 32 ≤ t.at - at - 4 → GoesBack at t w → Writes true C (large all) s (Err LengthTooLong) w
+refused_length all {s = s} {t = t} C at place whole long p many back =
+    let long : C → ⊥ = long (omega (arith, p.moved)) in
+    refused C (large all) at place whole (omega arith) (λ c. c) p (refused_as_long t C long) back
+
+-- behind four reserved bytes all were put, and their number was filled in
+pub length_filled : {A : Type 0} (all : List ℕ) {s t w : Seen} (C : Type 0) (at n : ℕ) → at ≡ s.at → IsWhole s → (n ≡ length all → A → C) → Writes true A (replicate 4 0 ++ all) s (Ok tt) t → n ≡ t.at - at - 4 → w ≡ filled t at (to_be_bytes w32 n) → Writes true C (large all) s (Ok tt) w
+length_filled all {s = s} {t = t} {w = w} C at n place whole lengths p count is =
+    let same : n ≡ length all = omega (arith, p.moved) in
+    let now : filled t s.at (to_be_bytes w32 (length all)) ≡ w = (λ i. filled t (sym place i) (to_be_bytes w32 (sym same i))) ∙ sym is in
+    let P : Seen → Type 0 = λ u. Writes true C (large all) s (Ok tt) u in
+    subst P now (filled_in (replicate 4 0) all C (to_be_bytes w32 (length all)) whole refl (lengths same) p)
