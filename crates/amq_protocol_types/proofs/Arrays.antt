@@ -1,12 +1,12 @@
 -- Lemmas on an array that is written behind its length.
-use Rattle.std.proofs.Common.{◌≡◌, ℕ, ◌-◌, ◌^◌, ◌<◌, ◌≤◌, true, Ok, Err, List, ◌++◌, length, get_or, take, replicate, ap, sym, ◌∙◌, subst, arith}
+use Rattle.std.proofs.Common.{◌≡◌, ℕ, ◌-◌, ◌^◌, ◌<◌, ◌≤◌, true, Ok, Err, List, ◌++◌, length, get_or, take, replicate, subst, arith}
 use Rattle.std.specs.Int.{w32, to_be_bytes}
 use Rattle.std.proofs.lemmas.List.{take_all}
 use Rattle.amqp_value_core.specs.declared.value.AMQPValue.{AMQPValue}
-use Rattle.amqp_value_core.specs.Values.{Trees, array}
+use Rattle.amqp_value_core.specs.Values.{array}
 use Rattle.amqp_value_core.specs.Grammar.{large}
 use Rattle.amqp_value_core.specs.View.{view, trees}
-use Rattle.amqp_value_core.specs.Texts.{text, body, body_size, Fits, AllFit}
+use Rattle.amqp_value_core.specs.Texts.{text, body, Fits, AllFit}
 use Rattle.amqp_value_core.proofs.Views.{length-body}
 use Rattle.amq_protocol_types.specs.declared.generation.error.GenError.{GenError}
 use Rattle.amq_protocol_types.specs.declared.generation.error.GenError.TheVariants.{LengthTooLong}
@@ -39,13 +39,13 @@ all_put vs k s t done p =
     subst P (take_all k vs done) p
 
 -- the length of all values doesn't fit its field, and all was taken back
-pub count_refused : (vs items : List AMQPValue) (k : ℕ) (at : ℕ) {s t w : Seen} → vs ≡ items → length vs ≤ k → at ≡ s.at → IsWhole s → HasPut vs k s t → 2 ^ 32 ≤ t.at - at - 4 → GoesBack at t w → Refuses items s LengthTooLong w
-count_refused vs items k at {s = s} {t = t} {w = w} all done place whole p many back =
+pub count_refused : (vs items : List AMQPValue) (k at now : ℕ) {s t w : Seen} → vs ≡ items → length vs ≤ k → at ≡ s.at → IsWhole s → HasPut vs k s t → now ≡ t.at → 2 ^ 32 ≤ now - at - 4 → GoesBack at t w → Refuses items s LengthTooLong w
+count_refused vs items k at now {s = s} {t = t} {w = w} all done place whole p here many back =
     let P : List AMQPValue → Type 0 = λ us. Refuses us s LengthTooLong w in
-    subst P all (refused_length (body (trees vs)) (Fits (array (trees vs))) at place whole (λ long fit. omega (arith, fit.0, length-body (trees vs))) (all_put vs k s t done p) many back)
+    subst P all (refused_length (body (trees vs)) (Fits (array (trees vs))) at now place whole (λ long fit. omega (arith, fit.0, length-body (trees vs))) (all_put vs k s t done p) here many back)
 
 -- the length of all values was filled in
-pub count_filled : (vs items : List AMQPValue) (k : ℕ) (at n : ℕ) {s t w : Seen} → vs ≡ items → length vs ≤ k → at ≡ s.at → IsWhole s → HasPut vs k s t → n < 2 ^ 32 → n ≡ t.at - at - 4 → w ≡ filled t at (to_be_bytes w32 n) → HasWritten items s w
-count_filled vs items k at n {s = s} {t = t} {w = w} all done place whole p few count is =
+pub count_filled : (vs items : List AMQPValue) (k at now n : ℕ) (bytes : List ℕ) {s t w : Seen} → vs ≡ items → length vs ≤ k → at ≡ s.at → IsWhole s → HasPut vs k s t → now ≡ t.at → n < 2 ^ 32 → n ≡ now - at - 4 → bytes ≡ to_be_bytes w32 n → w ≡ filled t at bytes → HasWritten items s w
+count_filled vs items k at now n bytes {s = s} {t = t} {w = w} all done place whole p here few count spelling is =
     let P : List AMQPValue → Type 0 = λ us. HasWritten us s w in
-    subst P all (length_filled (body (trees vs)) (Fits (array (trees vs))) at n place whole (λ same fit. (omega (arith, length-body (trees vs)), fit)) (all_put vs k s t done p) count is)
+    subst P all (length_filled (body (trees vs)) (Fits (array (trees vs))) at now n bytes place whole (λ same fit. (omega (arith, length-body (trees vs)), fit)) (all_put vs k s t done p) here count spelling is)

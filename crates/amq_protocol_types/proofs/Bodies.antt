@@ -1,15 +1,14 @@
 -- Lemmas on the values of an array, one after another.
-use Rattle.std.proofs.Common.{◌≡◌, ℕ, zero, suc, ◌+◌, ◌^◌, ◌<◌, ◌≤◌, List, [], ◌∷◌, ◌++◌, map, length, get_or, take, replicate, refl, sym, ap, ◌∙◌, subst, arith, append_assoc, append-nil, length-append}
+use Rattle.std.proofs.Common.{◌≡◌, ℕ, zero, suc, ◌+◌, ◌<◌, ◌≤◌, List, [], ◌∷◌, ◌++◌, length, get_or, take, replicate, sym, ap, ◌∙◌, subst, arith, append_assoc, append-nil, length-append}
 use Rattle.amqp_value_core.specs.declared.value.AMQPValue.{AMQPValue}
 use Rattle.std.proofs.lemmas.List.{take_more}
 use Rattle.amqp_value_core.specs.declared.types.AMQPType.{AMQPType}
-use Rattle.amqp_value_core.specs.Values.{Tree, Trees, no_trees, tree, scalar, array, type_of}
+use Rattle.amqp_value_core.specs.Values.{Tree, scalar, array, type_of}
 use Rattle.amqp_value_core.specs.Ids.{id_of}
 use Rattle.amqp_value_core.specs.Layouts.{spelled}
 use Rattle.amqp_value_core.specs.Grammar.{large}
 use Rattle.amqp_value_core.specs.View.{view, trees}
-use Rattle.amqp_value_core.specs.Texts.{text, body, payload, body_size, Fits, AllFit, IsValue, AreValues}
-use Rattle.amqp_value_core.proofs.Views.{length-body}
+use Rattle.amqp_value_core.specs.Texts.{text, body, payload, Fits, AllFit, IsValue, AreValues}
 
 -- an id and the payload are the text
 pub text_of : (v : Tree) (type : AMQPType) → type ≡ type_of v → text v ≡ id_of type ∷ [] ++ payload v

@@ -1,7 +1,6 @@
-use Rattle.std.proofs.Common.{◌≡◌, ◌-◌, [], ◌∷◌, length, refl, sym, ap, ◌∙◌, arith, rules}
+use Rattle.std.proofs.Common.{◌∙◌, arith}
 use Rattle.amqp_value_core.specs.View.{view, array_items}
 use Rattle.amqp_value_core.specs.Texts.{text, Fits}
-use Rattle.amq_protocol_types.specs.Outputs.{filled}
 use Rattle.amq_protocol_types.proofs.Arrays.{value_refused, count_refused, count_filled}
 use Rattle.amq_protocol_types.proofs.Bodies.{text_of, longer_by_id, body_next, fit_next, values_next}
 use Rattle.amq_protocol_types.proofs.Steps.{both_put, refused, by_buffer}
@@ -40,9 +39,9 @@ gen_field_array-returns-in-Err-clause-written g t c =
 pub gen_field_array-returns-in_default-try_from-clause-written : goal.gen_field_array-returns-in_default-try_from-clause-written
 gen_field_array-returns-in_default-try_from-clause-written g t c =
     let known = c.loop-v.invariant in
-    count_refused c.as_slice-v-items.result.now (array_items c.args.a.now) c.loop-v.v-index c.in_ok-at.at known.items (omega arith) known.place known.whole known.written (omega (arith, c.in_default-try_from.ensures, c.at.ensures.at)) c.back_to-in_default-try_from.ensures.back
+    count_refused c.as_slice-v-items.result.now (array_items c.args.a.now) c.loop-v.v-index c.in_ok-at.at c.at.result known.items (omega arith) known.place known.whole known.written c.at.ensures.at (omega (arith, c.in_default-try_from.ensures)) c.back_to-in_default-try_from.ensures.back
 
 pub gen_field_array-returns-clause-written : goal.gen_field_array-returns-clause-written
 gen_field_array-returns-clause-written g t c =
     let known = c.loop-v.invariant in
-    count_filled c.as_slice-v-items.result.now (array_items c.args.a.now) c.loop-v.v-index c.in_ok-at.at c.in-Ok.n known.items (omega arith) known.place known.whole known.written (omega (arith, c.in-Ok.ensures)) (c.in-Ok.ensures.1 ∙ ap (λ n. n - c.in_ok-at.at - 4) c.at.ensures.at) (c.fill.ensures.filled ∙ ap (filled _ c.in_ok-at.at) c.to_be_bytes.ensures)
+    count_filled c.as_slice-v-items.result.now (array_items c.args.a.now) c.loop-v.v-index c.in_ok-at.at c.at.result c.in-Ok.n c.to_be_bytes.result known.items (omega arith) known.place known.whole known.written c.at.ensures.at (omega (arith, c.in-Ok.ensures)) c.in-Ok.ensures.1 c.to_be_bytes.ensures c.fill.ensures.filled
