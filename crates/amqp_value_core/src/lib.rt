@@ -2,5 +2,6 @@
 #![tactic(auto)]
 
 pub mod input;
+pub mod laws;
 pub mod types;
 pub mod value;

@@ -1,0 +1,61 @@
+//! The laws of the grammar: what its definitions imply, for every list of bytes and every value.
+//!
+//! Each function is a law. It does nothing, and its contract says what holds.
+
+ghost use Rattle.std.specs.Prelude.{◌≡◌, ◌+◌, ℕ, List, ◌++◌, length, IsTrue};
+ghost use Rattle.amqp_value_core.specs.declared.types.AMQPType.{AMQPType};
+ghost use Rattle.amqp_value_core.specs.Values.{Tree, type_of, readable};
+ghost use Rattle.amqp_value_core.specs.Grammar.{Wire, Raw};
+ghost use Rattle.amqp_value_core.specs.Texts.{text, payload, size, Fits, IsValue, read_back};
+ghost use Rattle.amqp_value_core.specs.Outcomes.{Reading, Outcome, RawOutcome, StillWaits, with_more};
+
+/// A list begins with at most one wire, and that wire has one meaning. So no wire is a proper front
+/// of another.
+#[tactic(auto, using(crate::proofs::GrammarLaws::one_reading))]
+pub fn one_reading()
+    ensures { (w u x y : List ℕ) (v z : Tree) → Wire w v → Wire u z → w ++ x ≡ u ++ y → (w ≡ u) × (v ≡ z) × (x ≡ y) }
+{}
+
+/// A list begins with at most one payload of a given type, and that payload has one meaning.
+#[tactic(auto, using(crate::proofs::GrammarLaws::one_raw_reading))]
+pub fn one_raw_reading()
+    ensures { (type : AMQPType) (b c x y : List ℕ) (v z : Tree) → Raw type b v → Raw type c z → b ++ x ≡ c ++ y → (b ≡ c) × (v ≡ z) × (x ≡ y) }
+{}
+
+/// The size of a value is the number of bytes of its text. The payload is the text without its
+/// first byte, the id.
+#[tactic(auto, using(crate::proofs::GrammarLaws::length_of_text, crate::proofs::GrammarLaws::length_of_payload))]
+pub fn length_of_text()
+    ensures text { (v : Tree) → length (text v) ≡ size v }
+    ensures payload { (v : Tree) → length (payload v) + 1 ≡ size v }
+{}
+
+/// The text of a value is a wire of it, and the payload is one of its type: of every value in
+/// memory whose lengths fit their fields, and in which every value has an id that is read.
+#[tactic(auto, using(crate::proofs::GrammarLaws::text_is_wire, crate::proofs::GrammarLaws::payload_is_raw))]
+pub fn text_is_wire()
+    ensures text { (v : Tree) → IsValue v → Fits v → IsTrue (readable v) → Wire (text v) v }
+    ensures payload { (v : Tree) → IsValue v → Fits v → IsTrue (readable v) → Raw (type_of v) (payload v) v }
+{}
+
+/// Whatever follows it, the text of a value is read as that value, and what follows is left. Where
+/// the value is not readable, the text is refused.
+#[tactic(auto, using(crate::proofs::GrammarLaws::reading_back))]
+pub fn reading_back()
+    ensures { (v : Tree) (rest : List ℕ) → IsValue v → Fits v → Outcome (text v ++ rest) (read_back v rest) }
+{}
+
+/// What more bytes change of an outcome: they join the rest behind a value, and fewer of them than
+/// lack are that many less that lack. A refusal stays.
+#[tactic(auto, using(crate::proofs::GrammarLaws::more_bytes, crate::proofs::GrammarLaws::more_raw_bytes))]
+pub fn more_bytes()
+    ensures value { (s t : List ℕ) (o : Reading) → Outcome s o → StillWaits o t → Outcome (s ++ t) (with_more o t) }
+    ensures payload { (type : AMQPType) (s t : List ℕ) (o : Reading) → RawOutcome type s o → StillWaits o t → RawOutcome type (s ++ t) (with_more o t) }
+{}
+
+/// Reading a list comes to at most one outcome.
+#[tactic(auto, using(crate::proofs::GrammarLaws::one_outcome, crate::proofs::GrammarLaws::one_raw_outcome))]
+pub fn one_outcome()
+    ensures value { (s : List ℕ) (o p : Reading) → Outcome s o → Outcome s p → o ≡ p }
+    ensures payload { (type : AMQPType) (s : List ℕ) (o p : Reading) → RawOutcome type s o → RawOutcome type s p → o ≡ p }
+{}
