@@ -7,7 +7,7 @@ use Rattle.amqp_value_core.specs.Values.{array}
 use Rattle.amqp_value_core.specs.Grammar.{large}
 use Rattle.amqp_value_core.specs.View.{view, trees}
 use Rattle.amqp_value_core.specs.Texts.{text, body, Fits, AllFit}
-use Rattle.amqp_value_core.proofs.Views.{length-body}
+use Rattle.amqp_value_core.proofs.GrammarLaws.{length_of_text}
 use Rattle.amq_protocol_types.specs.declared.generation.error.GenError.{GenError}
 use Rattle.amq_protocol_types.specs.declared.generation.error.GenError.TheVariants.{LengthTooLong}
 use Rattle.amq_protocol_types.specs.Outputs.{Seen, IsWhole, Writes, GoesBack, filled}
@@ -42,10 +42,10 @@ all_put vs k s t done p =
 pub count_refused : (vs items : List AMQPValue) (k at now : ℕ) {s t w : Seen} → vs ≡ items → length vs ≤ k → at ≡ s.at → IsWhole s → HasPut vs k s t → now ≡ t.at → 2 ^ 32 ≤ now - at - 4 → GoesBack at t w → Refuses items s LengthTooLong w
 count_refused vs items k at now {s = s} {t = t} {w = w} all done place whole p here many back =
     let P : List AMQPValue → Type 0 = λ us. Refuses us s LengthTooLong w in
-    subst P all (refused_length (body (trees vs)) (Fits (array (trees vs))) at now place whole (λ long fit. omega (arith, fit.0, length-body (trees vs))) (all_put vs k s t done p) here many back)
+    subst P all (refused_length (body (trees vs)) (Fits (array (trees vs))) at now place whole (λ long fit. omega (arith, fit.0, length_of_text (array (trees vs)))) (all_put vs k s t done p) here many back)
 
 -- the length of all values was filled in
 pub count_filled : (vs items : List AMQPValue) (k at now n : ℕ) (bytes : List ℕ) {s t w : Seen} → vs ≡ items → length vs ≤ k → at ≡ s.at → IsWhole s → HasPut vs k s t → now ≡ t.at → n < 2 ^ 32 → n ≡ now - at - 4 → bytes ≡ to_be_bytes w32 n → w ≡ filled t at bytes → HasWritten items s w
 count_filled vs items k at now n bytes {s = s} {t = t} {w = w} all done place whole p here few count spelling is =
     let P : List AMQPValue → Type 0 = λ us. HasWritten us s w in
-    subst P all (length_filled (body (trees vs)) (Fits (array (trees vs))) at now n bytes place whole (λ same fit. (omega (arith, length-body (trees vs)), fit)) (all_put vs k s t done p) here count spelling is)
+    subst P all (length_filled (body (trees vs)) (Fits (array (trees vs))) at now n bytes place whole (λ same fit. (omega (arith, length_of_text (array (trees vs))), fit)) (all_put vs k s t done p) here count spelling is)

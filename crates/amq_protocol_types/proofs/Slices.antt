@@ -33,11 +33,11 @@ put_fits s t ys fit put tail =
         failed = tt;
         offset = λ e. search rules;
         no_other = λ _. tt;
-        faults = omega arith
+        faults = omega arith;
       };
       stayed = tt;
       promised = λ _. refl;
-      promise = omega arith
+      promise = omega arith;
     }
 
 -- bytes were written at the place, and the place moved behind them
@@ -48,8 +48,8 @@ put_next s xs ys bytes at k was same long fit =
     let left = length-drop at xs in
     let P : Sliced → Type 0 = λ x. Puts true bytes (seen_slice x) (Ok tt) (seen_slice (cut_at (put_mid at (at + k - at) xs ys) (at + k))) in
     subst P was (put_fits (cut_at xs at) _ bytes (omega arith)
-      (take-put_mid at (at + k - at) xs ys (at + k) (omega arith) (omega arith) ∙ ap (λ l. take at xs ++ l) same)
-      (drop-put_mid at (at + k - at) xs ys (at + k) (omega arith) (omega arith) (omega arith) ∙ sym tail))
+    (take-put_mid at (at + k - at) xs ys (at + k) (omega arith) (omega arith) ∙ ap (λ l. take at xs ++ l) same)
+    (drop-put_mid at (at + k - at) xs ys (at + k) (omega arith) (omega arith) (omega arith) ∙ sym tail))
 
 -- bytes before the place were overwritten
 pub fill_before : (s : Sliced) (xs ys bytes : List ℕ) (from at : ℕ) → cut_at xs at ≡ s → ys ≡ bytes → from + length bytes ≤ length s.put → at ≤ length xs → seen_slice (cut_at (put_mid from (from + length bytes - from) xs ys) at) ≡ filled (seen_slice s) from bytes

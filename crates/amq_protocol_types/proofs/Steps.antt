@@ -32,7 +32,7 @@ both_put {xs = xs} {ys = ys} {s = s} {t = t} {u = u} C zs both lengths p q =
       failed = tt;
       offset = λ e. cc;
       no_other = λ _. tt;
-      faults = omega (arith, p.faults, q.faults)
+      faults = omega (arith, p.faults, q.faults);
     }
 
 -- a device that failed in a later call has failed since an earlier one
@@ -63,7 +63,7 @@ refused {xs = xs} {ys = ys} {s = s} {t = t} {u = u} {w = w} {e = e} C zs at plac
       failed = λ kind is. failed_since s t u w p.faults back.faults (q.failed kind is);
       offset = λ is. omega (arith, q.offset is, p.moved);
       no_other = λ fixed. q.no_other (still_fixed s.room t.room _ p.room_left fixed);
-      faults = omega (arith, p.faults, q.faults, back.faults)
+      faults = omega (arith, p.faults, q.faults, back.faults);
     }
 
 -- a length that doesn't fit its field is refused where nothing more was put
@@ -84,7 +84,7 @@ refused_as_long s C long = record {
   failed = λ kind e. cc;
   offset = λ e. cc;
   no_other = λ _. inr refl;
-  faults = omega arith
+  faults = omega arith;
 }
 
 -- zeros were put, and then more; the zeros were overwritten
@@ -108,7 +108,7 @@ filled_in zeros more {s = s} {t = t} C ys whole same lengths p =
       failed = tt;
       offset = λ e. cc;
       no_other = λ _. tt;
-      faults = p.faults
+      faults = p.faults;
     }
 
 -- what a buffer wrote, whatever says that it is one

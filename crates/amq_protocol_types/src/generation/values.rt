@@ -1,21 +1,26 @@
-ghost use Rattle.std.specs.Prelude.{◌≡◌, true, OnOk};
+ghost use Rattle.std.specs.Prelude.{◌≡◌, ℕ, List, ◌++◌, true, OnOk};
 ghost use Rattle.amqp_value_core.specs.Values.{array};
 ghost use Rattle.amqp_value_core.specs.View.{view, array_view};
-ghost use Rattle.amqp_value_core.specs.Texts.{text, payload, Fits, IsValue};
+ghost use Rattle.amqp_value_core.specs.Texts.{text, payload, Fits, IsValue, read_back};
+ghost use Rattle.amqp_value_core.specs.Outcomes.{Outcome};
 ghost use Rattle.amq_protocol_types.specs.Outputs.{Writes};
 ghost use Rattle.amq_protocol_types.specs.Contexts.{start_of, shown};
 
-use crate::generation::{BackToTheBuffer, GenError, GenResult, WriteContext};
-use crate::generation::{gen_boolean, gen_long_int, gen_short_short_int, gen_type};
+use crate::generation::{
+    BackToTheBuffer, GenError, GenResult, WriteContext, gen_boolean, gen_long_int,
+    gen_short_short_int, gen_type,
+};
 use amqp_value_core::types::FieldArray;
 use amqp_value_core::value::AMQPValue;
 
 /// Writes a value: the id of its type, then its payload.
 #[cycle(values)]
+#[tactic(auto, using(amqp_value_core::proofs::GrammarLaws::reading_back))]
 pub fn gen_value<W: BackToTheBuffer>(v: &AMQPValue, x: &mut WriteContext<W>) -> GenResult
     ensures written { Writes true (Fits (view v.now)) (text (view v.now)) (shown W.seen x.old) result (shown W.seen x.new) }
     ensures start { start_of x.new ≡ start_of x.old }
     ensures value { OnOk result (IsValue (view v.now)) }
+    ensures read_back { OnOk result ((rest : List ℕ) → Outcome (text (view v.now) ++ rest) (read_back (view v.now) rest)) }
 {
     let at = x.at();
     gen_type(v.get_type(), x)?;

@@ -28,7 +28,7 @@ gen_field_array-loop-v-preserved g t c =
       place = known.place;
       written = both_put _ _ (body_next vs k v c.loop-v-test.true c.v-item.is) (fit_next vs k v c.loop-v-test.true c.v-item.is) known.written c.in_default.ensures.written;
       start = c.in_default.ensures.start ∙ known.start;
-      values = values_next vs k v c.loop-v-test.true c.v-item.is known.values c.in_default.ensures.value
+      values = values_next vs k v c.loop-v-test.true c.v-item.is known.values c.in_default.ensures.value;
     }
 
 pub gen_field_array-returns-in-Err-clause-written : goal.gen_field_array-returns-in-Err-clause-written

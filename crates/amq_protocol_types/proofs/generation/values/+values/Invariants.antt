@@ -15,5 +15,5 @@ invariant-gen_field_array-loop-v g l =
       place : l.at ≡ (shown seen l.fn.x).at;
       written : Writes true (AllFit done) (replicate 4 0 ++ body done) (shown seen l.fn.x) (Ok tt) (shown seen l.x);
       start : start_of l.x ≡ start_of l.fn.x;
-      values : AreValues done
+      values : AreValues done;
     }
