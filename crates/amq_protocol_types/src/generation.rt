@@ -5,6 +5,8 @@ mod error;
 mod output;
 mod scalars;
 mod slice;
+#[cfg(test)]
+mod tests;
 mod values;
 
 pub use context::WriteContext;
