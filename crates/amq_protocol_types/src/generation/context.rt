@@ -33,7 +33,8 @@ impl<W: Output> WriteContext<W> {
 
     /// Appends all of `bytes` to the output, or refuses.
     pub fn put(&mut self, bytes: &[u8]) -> GenResult
-        ensures put { Puts W.is_buffer bytes.now (shown W.seen self.old) result (shown W.seen self.new) }
+        ensures put { Puts W.is_buffer bytes.now
+            (shown W.seen self.old) result (shown W.seen self.new) }
         ensures start { start_of self.new ≡ start_of self.old }
     {
         self.output.put(bytes)
@@ -60,7 +61,8 @@ impl<W: BackToTheBuffer> WriteContext<W> {
 
     // Appends `n` bytes of 0 and answers the position before them, or refuses.
     pub(crate) fn reserve(&mut self, n: usize) -> Result<u64, GenError>
-        ensures written { Writes true ⊤ (replicate n 0) (shown W.seen self.old) (answer_of result) (shown W.seen self.new) }
+        ensures written { Writes true ⊤ (replicate n 0)
+            (shown W.seen self.old) (answer_of result) (shown W.seen self.new) }
         ensures place { IfOk result (λ at. at ≡ (shown W.seen self.old).at) }
         ensures start { start_of self.new ≡ start_of self.old }
         ensures whole { IsWhole (shown W.seen self.old) }

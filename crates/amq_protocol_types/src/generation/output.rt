@@ -34,7 +34,8 @@ pub trait Output {
 pub trait BackToTheBuffer: Output {
     /// Appends `n` bytes of 0, or refuses. Answers the position before them.
     fn reserve(&mut self, n: usize) -> Result<u64, GenError>
-        ensures written { Writes true ⊤ (replicate n 0) (Self.seen self.old) (answer_of result) (Self.seen self.new) }
+        ensures written { Writes true ⊤ (replicate n 0)
+            (Self.seen self.old) (answer_of result) (Self.seen self.new) }
         ensures place { IfOk result (λ at. at ≡ (Self.seen self.old).at) };
 
     /// Replaces the bytes from `at` on by `bytes`, as many as these are.

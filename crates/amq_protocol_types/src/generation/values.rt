@@ -17,10 +17,12 @@ use amqp_value_core::value::AMQPValue;
 #[cycle(values)]
 #[tactic(auto, using(amqp_value_core::proofs::GrammarLaws::reading_back))]
 pub fn gen_value<W: BackToTheBuffer>(v: &AMQPValue, x: &mut WriteContext<W>) -> GenResult
-    ensures written { Writes true (Fits (view v.now)) (text (view v.now)) (shown W.seen x.old) result (shown W.seen x.new) }
+    ensures written { Writes true (Fits (view v.now)) (text (view v.now))
+        (shown W.seen x.old) result (shown W.seen x.new) }
     ensures start { start_of x.new ≡ start_of x.old }
     ensures value { OnOk result (IsValue (view v.now)) }
-    ensures read_back { OnOk result ((rest : List ℕ) → Outcome (text (view v.now) ++ rest) (read_back (view v.now) rest)) }
+    ensures read_back { OnOk result ((rest : List ℕ) →
+        Outcome (text (view v.now) ++ rest) (read_back (view v.now) rest)) }
 {
     let at = x.at();
     gen_type(v.get_type(), x)?;
@@ -34,7 +36,8 @@ pub fn gen_value<W: BackToTheBuffer>(v: &AMQPValue, x: &mut WriteContext<W>) -> 
 /// Writes a value's payload, without the id of its type.
 #[cycle(values)]
 pub fn gen_raw_value<W: BackToTheBuffer>(v: &AMQPValue, x: &mut WriteContext<W>) -> GenResult
-    ensures written { Writes true (Fits (view v.now)) (payload (view v.now)) (shown W.seen x.old) result (shown W.seen x.new) }
+    ensures written { Writes true (Fits (view v.now)) (payload (view v.now))
+        (shown W.seen x.old) result (shown W.seen x.new) }
     ensures start { start_of x.new ≡ start_of x.old }
     ensures value { OnOk result (IsValue (view v.now)) }
 {
@@ -50,7 +53,8 @@ pub fn gen_raw_value<W: BackToTheBuffer>(v: &AMQPValue, x: &mut WriteContext<W>)
 /// Writes an array's values, each with its id, behind the number of bytes that they take.
 #[cycle(values)]
 pub fn gen_field_array<W: BackToTheBuffer>(a: &FieldArray, x: &mut WriteContext<W>) -> GenResult
-    ensures written { Writes true (Fits (array (array_view a.now))) (payload (array (array_view a.now))) (shown W.seen x.old) result (shown W.seen x.new) }
+    ensures written { Writes true (Fits (array (array_view a.now))) (payload (array (array_view a.now)))
+        (shown W.seen x.old) result (shown W.seen x.new) }
     ensures start { start_of x.new ≡ start_of x.old }
     ensures value { OnOk result (IsValue (array (array_view a.now))) }
 {
