@@ -4,3 +4,8 @@ pub mod Frames
 pub mod Bodies
 pub mod Typed
 pub mod Views
+pub mod Rooms
+pub mod Slices
+pub mod Steps
+pub mod Texts
+pub mod Arrays

@@ -1,6 +1,7 @@
 //! The types and the wire codec of AMQP 0-9-1 field tables.
 #![tactic(auto)]
 
+pub mod generation;
 pub mod parsing;
 
 pub use amqp_value_core::types::{AMQPType, FieldArray};
