@@ -2,12 +2,14 @@
 
 ghost use Rattle.std.specs.Prelude.{◌≡◌};
 ghost use Rattle.std.specs.IoError.{error_kind};
-ghost use Rattle.amqp_wire.specs.Faults.{fault_of};
+ghost use Rattle.std.specs.Process.{exit_status};
+ghost use Rattle.amqp_wire.specs.Faults.{fault_of, status_of};
 ghost use Rattle.amqp_wire.specs.declared.fault.WireFault.TheVariants.{OutOfMemory};
 
 use std::alloc::AllocError;
 use std::io;
 use std::io::ErrorKind;
+use std::process::ExitCode;
 use thiserror::Error;
 
 /// A fault of memory, or of the reader or the writer.
@@ -36,6 +38,17 @@ impl From<io::Error> for WireFault {
         match error.kind() {
             ErrorKind::OutOfMemory => WireFault::OutOfMemory,
             _ => WireFault::Io,
+        }
+    }
+}
+
+impl From<WireFault> for ExitCode {
+    ghost from_gives = { λ fault code. exit_status code ≡ status_of fault };
+
+    fn from(fault: WireFault) -> ExitCode {
+        match fault {
+            WireFault::OutOfMemory => ExitCode::from(1),
+            WireFault::Io => ExitCode::from(2),
         }
     }
 }

@@ -1,4 +1,5 @@
-//! Reads lines of hexadecimal text, and answers each with what its bytes are as an AMQP value.
+//! Reads lines of hexadecimal text from standard input, and answers each with a line that says what
+//! its bytes are read as: a value, a number of bytes that lack, or a refusal.
 #![tactic(auto)]
 
 mod fault;
@@ -7,19 +8,15 @@ mod run;
 #[cfg(test)]
 mod tests;
 
-use fault::WireFault;
 use std::process::ExitCode;
 
 fn main(rt: HostRuntime) -> ExitCode {
     match run::run(rt.alloc(), &mut rt.stdin(), &mut rt.stdout()) {
         Ok(()) => ExitCode::SUCCESS,
         Err(fault) => {
-            // A failure to say so changes nothing.
+            // Where the message can't be written, the status still says what happened.
             let _ = eprintln!(rt; "amqp_wire: {fault}");
-            match fault {
-                WireFault::OutOfMemory => ExitCode::from(1),
-                WireFault::Io => ExitCode::from(2),
-            }
+            ExitCode::from(fault)
         }
     }
 }
