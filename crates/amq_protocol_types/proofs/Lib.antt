@@ -1,0 +1,5 @@
+pub mod Arrays
+pub mod Bodies
+pub mod Rooms
+pub mod Slices
+pub mod Steps

@@ -1,0 +1,74 @@
+ghost use Rattle.std.specs.Prelude.{◌≡◌, ℕ, List, ◌++◌, true, OnOk};
+ghost use Rattle.amqp_value_core.specs.Values.{array};
+ghost use Rattle.amqp_value_core.specs.View.{view, array_view};
+ghost use Rattle.amqp_value_core.specs.Texts.{text, payload, Fits, IsValue, read_back};
+ghost use Rattle.amqp_value_core.specs.Outcomes.{Outcome};
+ghost use Rattle.amq_protocol_types.specs.Outputs.{Writes};
+ghost use Rattle.amq_protocol_types.specs.Contexts.{start_of, shown};
+
+use crate::generation::{
+    BackToTheBuffer, GenError, GenResult, WriteContext, gen_boolean, gen_long_int,
+    gen_short_short_int, gen_type,
+};
+use amqp_value_core::types::FieldArray;
+use amqp_value_core::value::AMQPValue;
+
+/// Writes a value: the id of its type, then its payload.
+#[cycle(values)]
+#[tactic(auto, using(amqp_value_core::proofs::GrammarLaws::reading_back))]
+pub fn gen_value<W: BackToTheBuffer>(v: &AMQPValue, x: &mut WriteContext<W>) -> GenResult
+    ensures written { Writes true (Fits (view v.now)) (text (view v.now))
+        (shown W.seen x.old) result (shown W.seen x.new) }
+    ensures start { start_of x.new ≡ start_of x.old }
+    ensures value { OnOk result (IsValue (view v.now)) }
+    ensures read_back { OnOk result ((rest : List ℕ) →
+        Outcome (text (view v.now) ++ rest) (read_back (view v.now) rest)) }
+{
+    let at = x.at();
+    gen_type(v.get_type(), x)?;
+    if let Err(e) = gen_raw_value(v, x) {
+        x.back_to(at);
+        return Err(e);
+    }
+    Ok(())
+}
+
+/// Writes a value's payload, without the id of its type.
+#[cycle(values)]
+pub fn gen_raw_value<W: BackToTheBuffer>(v: &AMQPValue, x: &mut WriteContext<W>) -> GenResult
+    ensures written { Writes true (Fits (view v.now)) (payload (view v.now))
+        (shown W.seen x.old) result (shown W.seen x.new) }
+    ensures start { start_of x.new ≡ start_of x.old }
+    ensures value { OnOk result (IsValue (view v.now)) }
+{
+    match v {
+        AMQPValue::Boolean(b) => gen_boolean(*b, x),
+        AMQPValue::ShortShortInt(n) => gen_short_short_int(*n, x),
+        AMQPValue::LongInt(n) => gen_long_int(*n, x),
+        AMQPValue::FieldArray(a) => gen_field_array(a, x),
+        AMQPValue::Void => Ok(()),
+    }
+}
+
+/// Writes an array's values, each with its id, behind the number of bytes that they take.
+#[cycle(values)]
+pub fn gen_field_array<W: BackToTheBuffer>(a: &FieldArray, x: &mut WriteContext<W>) -> GenResult
+    ensures written { Writes true (Fits (array (array_view a.now))) (payload (array (array_view a.now)))
+        (shown W.seen x.old) result (shown W.seen x.new) }
+    ensures start { start_of x.new ≡ start_of x.old }
+    ensures value { OnOk result (IsValue (array (array_view a.now))) }
+{
+    let at = x.reserve(4)?;
+    for v in a.as_slice() {
+        if let Err(e) = gen_value(v, x) {
+            x.back_to(at);
+            return Err(e);
+        }
+    }
+    let Ok(n) = u32::try_from(x.at() - at - 4) else {
+        x.back_to(at);
+        return Err(GenError::LengthTooLong);
+    };
+    x.fill(at, &n.to_be_bytes());
+    Ok(())
+}
