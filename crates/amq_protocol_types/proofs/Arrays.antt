@@ -11,7 +11,7 @@ use Rattle.amqp_value_core.proofs.GrammarLaws.{length_of_text}
 use Rattle.amq_protocol_types.specs.declared.generation.error.GenError.{GenError}
 use Rattle.amq_protocol_types.specs.declared.generation.error.GenError.TheVariants.{LengthTooLong}
 use Rattle.amq_protocol_types.specs.Outputs.{Seen, IsWhole, Writes, GoesBack, filled}
-use Rattle.amq_protocol_types.proofs.Bodies.{fits_of, within_of}
+use Rattle.amq_protocol_types.proofs.Texts.{fits_of, within_of}
 use Rattle.amq_protocol_types.proofs.Steps.{refused_inside, refused_length, length_filled}
 
 -- the first k values were put behind four reserved bytes

@@ -1,77 +1,118 @@
--- Lemmas on the values of an array, one after another.
-use Rattle.std.proofs.Common.{◌≡◌, ℕ, zero, suc, ◌+◌, ◌<◌, ◌≤◌, List, [], ◌∷◌, ◌++◌, length, get_or, take, replicate, sym, ap, ◌∙◌, subst, arith, append_assoc, append-nil, length-append}
-use Rattle.amqp_value_core.specs.declared.value.AMQPValue.{AMQPValue}
-use Rattle.std.proofs.lemmas.List.{take_more}
+-- The body of an array, as it is read: the values so far, and what is left.
+use Rattle.std.proofs.Common.{◌≡◌, ◌<◌, ◌≤◌, ℕ, zero, suc, List, [], ◌∷◌, ◌++◌, length, Option, Some, None, MatchOption, refl, sym, ap, subst, arith, length-append}
+use Rattle.std.proofs.lemmas.List.{nil_from_length}
 use Rattle.amqp_value_core.specs.declared.types.AMQPType.{AMQPType}
-use Rattle.amqp_value_core.specs.Values.{Tree, scalar, array, type_of}
-use Rattle.amqp_value_core.specs.Ids.{id_of}
-use Rattle.amqp_value_core.specs.Layouts.{spelled}
-use Rattle.amqp_value_core.specs.Grammar.{large}
-use Rattle.amqp_value_core.specs.View.{view, trees}
-use Rattle.amqp_value_core.specs.Texts.{text, body, payload, Fits, AllFit, IsValue, AreValues}
+use Rattle.amqp_value_core.specs.Ids.{kind}
+use Rattle.amqp_value_core.specs.Values.{Tree, Trees, no_trees, tree, trees_of}
+use Rattle.amqp_value_core.specs.Grammar.{Wire, wire, Body, no_values, value}
+use Rattle.amqp_value_core.specs.Outcomes.{Reading, found, more, unknown, malformed, lack, Unless, Front, Outcome, Heavy}
+use Rattle.amqp_value_core.proofs.GrammarLaws.{one_reading, one_outcome, wire_found}
+use Rattle.amq_protocol_types.specs.declared.parsing.errors.Err.TheVariants.{Incomplete, Error, Failure}
+use Rattle.amq_protocol_types.specs.declared.parsing.errors.Needed.TheVariants.{Unknown, Size}
+use Rattle.amq_protocol_types.specs.declared.parsing.errors.ErrorKind.TheVariants.{MapOpt, MapRes, Eof, OutOfMemory}
+use Rattle.amq_protocol_types.specs.Refusals.{Refusal, inside}
+use Rattle.amq_protocol_types.specs.Answers.{Refuses, IsNoBody}
 
--- an id and the payload are the text
-pub text_of : (v : Tree) (type : AMQPType) → type ≡ type_of v → text v ≡ id_of type ∷ [] ++ payload v
-text_of (scalar x) type e = ap (λ t. id_of t ∷ spelled x) (sym e)
-text_of (array vs) type e = ap (λ t. id_of t ∷ large (body vs)) (sym e)
+-- the values of a list, and others behind them
+abbrev pub behind : List Tree → Trees → Trees
+behind [] vs = vs
+behind (x ∷ xs) vs = tree x (behind xs vs)
 
--- an id is one byte
-pub longer_by_id : (v : Tree) → 1 + length (payload v) ≤ length (text v)
-longer_by_id (scalar x) = omega arith
-longer_by_id (array vs) = omega arith
+-- values xs are read of the body s, and `rest` is left
+pub record Goes (s : List ℕ) (xs : List Tree) (rest : List ℕ) : Type 0 where
+  -- the values of what is left, behind those, are the values of the body
+  pub whole : (vs : Trees) → Body rest vs → Body s (behind xs vs)
+  -- what is left has values if the body has
+  pub only : (vs : Trees) → Body s vs → (more : Trees) × Body rest more
+  pub shorter : length rest ≤ length s
 
--- the texts of some values, and then that of one more
-body_more : (vs : List AMQPValue) (v : AMQPValue) → body (trees (vs ++ v ∷ [])) ≡ body (trees vs) ++ text (view v)
-body_more [] v = append-nil (text (view v))
-body_more (u ∷ vs) v = ap (λ l. text (view u) ++ l) (body_more vs v) ∙ sym (append_assoc (text (view u)) (body (trees vs)) (text (view v)))
+-- one value more
+behind-push : (xs : List Tree) (v : Tree) (vs : Trees) → behind (xs ++ v ∷ []) vs ≡ behind xs (tree v vs)
+behind-push [] v vs = refl
+behind-push (x ∷ xs) v vs = ap (tree x) (behind-push xs v vs)
 
--- where one more fits, all do
-fit_more : (vs : List AMQPValue) (v : AMQPValue) → AllFit (trees vs) → Fits (view v) → AllFit (trees (vs ++ v ∷ []))
-fit_more [] v p q = (q, tt)
-fit_more (u ∷ vs) v p q = (p.0, fit_more vs v p.1 q)
+-- no value more
+behind-nothing : (xs : List Tree) → behind xs no_trees ≡ trees_of xs
+behind-nothing [] = refl
+behind-nothing (x ∷ xs) = ap (tree x) (behind-nothing xs)
 
--- where one more is a value, all are
-values_more : (vs : List AMQPValue) (v : AMQPValue) → AreValues (trees vs) → IsValue (view v) → AreValues (trees (vs ++ v ∷ []))
-values_more [] v p q = (q, tt)
-values_more (u ∷ vs) v p q = (p.0, values_more vs v p.1 q)
+-- a wire has at least one byte
+length-wire : (w : List ℕ) (v : Tree) → Wire w v → 0 < length w
+length-wire _ _ (wire c type b v k p) = omega arith
 
--- the first values and the next one
-taken_more : (vs : List AMQPValue) (k : ℕ) (v : AMQPValue) → k < length vs → v ≡ get_or vs k v → take k vs ++ v ∷ [] ≡ take (k + 1) vs
-taken_more vs k v h e = ap (λ u. take k vs ++ u ∷ []) e ∙ sym (take_more vs k v h)
+-- a body that isn't empty begins with a value
+body_found : (s : List ℕ) (vs : Trees) → Body s vs → 0 < length s → (v : Tree) × (rest : List ℕ) × Outcome s (found v rest)
+body_found _ _ no_values h = absurd (omega arith)
+body_found _ _ (value w left v vs p all) h = (v, left, wire_found w left v p)
 
--- their texts, behind four reserved bytes
-pub body_next : (vs : List AMQPValue) (k : ℕ) (v : AMQPValue) → k < length vs → v ≡ get_or vs k v → replicate 4 0 ++ body (trees (take (k + 1) vs)) ≡ replicate 4 0 ++ body (trees (take k vs)) ++ text (view v)
-body_next vs k v h e = ap (λ l. replicate 4 0 ++ l) (ap (λ us. body (trees us)) (sym (taken_more vs k v h e)) ∙ body_more (take k vs) v)
+-- what else a body comes to that isn't empty has no values
+no_body : (s : List ℕ) (vs : Trees) (o : Reading) → Outcome s o → ((v : Tree) (rest : List ℕ) → o ≡ found v rest → ⊥) → 0 < length s → Body s vs → ⊥
+no_body s vs o x other h p =
+    let f = body_found s vs p h in
+    other f.0 f.1 (one_outcome s o (found f.0 f.1) x f.2)
 
-pub fit_next : (vs : List AMQPValue) (k : ℕ) (v : AMQPValue) → k < length vs → v ≡ get_or vs k v → AllFit (trees (take k vs)) → Fits (view v) → AllFit (trees (take (k + 1) vs))
-fit_next vs k v h e p q =
-    let P : List AMQPValue → Type 0 = λ us. AllFit (trees us) in
-    subst P (taken_more vs k v h e) (fit_more (take k vs) v p q)
+-- behind the first value of a body stands a body
+body_behind : (s w rest : List ℕ) (v : Tree) (vs : Trees) → s ≡ w ++ rest → Wire w v → Body s vs → (more : Trees) × Body rest more
+body_behind _ w rest v _ e p no_values = let h = length-wire w v p in absurd (omega (arith, ap length e, length-append w rest))
+body_behind _ w rest v _ e p (value u left z vs q all) =
+    let same = one_reading u w left rest z v q p e in
+    (vs, subst (λ (t : List ℕ). Body t vs) same.2 all)
 
-pub values_next : (vs : List AMQPValue) (k : ℕ) (v : AMQPValue) → k < length vs → v ≡ get_or vs k v → AreValues (trees (take k vs)) → IsValue (view v) → AreValues (trees (take (k + 1) vs))
-values_next vs k v h e p q =
-    let P : List AMQPValue → Type 0 = λ us. AreValues (trees us) in
-    subst P (taken_more vs k v h e) (values_more (take k vs) v p q)
+-- a value that is read stands at the front
+front_of : (s : List ℕ) (v : Tree) (rest : List ℕ) → Outcome s (found v rest) → (w : List ℕ) × Wire w v × (s ≡ w ++ rest)
+front_of [] v rest x = absurd cc
+front_of (c ∷ b) v rest x = by (kind c) x
+  where
+    decided : (n : ℕ) → Unless n (Front (c ∷ b) (found v rest)) (found v rest) → Front (c ∷ b) (found v rest)
+    decided zero f = f
+    decided (suc n) e = absurd cc
+    by : (k : Option AMQPType)
+        → MatchOption k (found v rest ≡ unknown) (λ type. Unless (lack type b) (Front (c ∷ b) (found v rest)) (found v rest))
+        → Front (c ∷ b) (found v rest)
+    by None e = absurd cc
+    by (Some type) f = decided (lack type b) f
 
--- where all fit, each does
-fits_at : (vs : List AMQPValue) (k : ℕ) (d : AMQPValue) → k < length vs → AllFit (trees vs) → Fits (view (get_or vs k d))
-fits_at [] k d h p = absurd (omega arith)
-fits_at (v ∷ vs) zero d h p = p.0
-fits_at (v ∷ vs) (suc k) d h p = fits_at vs k d (omega arith) p.1
+-- what is left behind a value is shorter
+pub rest_shorter : (s : List ℕ) (v : Tree) (rest : List ℕ) → Outcome s (found v rest) → length rest < length s
+rest_shorter s v rest x =
+    let f = front_of s v rest x in
+    omega (arith, ap length f.2, length-append f.0 rest, length-wire f.0 v f.1)
 
--- the texts of the first values and that of the next are no longer than all of them
-within_at : (vs : List AMQPValue) (k : ℕ) (d : AMQPValue) → k < length vs → length (body (trees (take k vs))) + length (text (view (get_or vs k d))) ≤ length (body (trees vs))
-within_at [] k d h = absurd (omega arith)
-within_at (v ∷ vs) zero d h = omega (arith, length-append (text (view v)) (body (trees vs)))
-within_at (v ∷ vs) (suc k) d h = omega (arith, length-append (text (view v)) (body (trees vs)), length-append (text (view v)) (body (trees (take k vs))), within_at vs k d (omega arith))
+-- before the first value
+pub Goes-start : (s : List ℕ) → Goes s [] s
+Goes-start s = record { whole = λ vs p. p; only = λ vs p. (vs, p); shorter = omega arith }
 
--- the same of an element, by its own name
-pub fits_of : (vs : List AMQPValue) (k : ℕ) (v : AMQPValue) → k < length vs → v ≡ get_or vs k v → AllFit (trees vs) → Fits (view v)
-fits_of vs k v h e p =
-    let P : AMQPValue → Type 0 = λ u. Fits (view u) in
-    subst P (sym e) (fits_at vs k v h p)
+-- behind one value more
+pub Goes-step : (s : List ℕ) (xs : List Tree) (left : List ℕ) (v : Tree) (rest : List ℕ) → Goes s xs left → Outcome left (found v rest)
+    → Goes s (xs ++ v ∷ []) rest
+Goes-step s xs left v rest g x =
+    let f = front_of left v rest x in
+    record {
+      whole = λ vs p.
+          subst (Body s) (sym (behind-push xs v vs))
+          (g.whole (tree v vs) (subst (λ (t : List ℕ). Body t (tree v vs)) (sym f.2) (value f.0 rest v vs f.1 p)));
+      only = λ vs p. let m = g.only vs p in body_behind left f.0 rest v m.0 f.2 f.1 m.1;
+      shorter = omega (arith, g.shorter, rest_shorter left v rest x);
+    }
 
-pub within_of : (vs : List AMQPValue) (k : ℕ) (v : AMQPValue) → k < length vs → v ≡ get_or vs k v → length (body (trees (take k vs))) + length (text (view v)) ≤ length (body (trees vs))
-within_of vs k v h e =
-    let P : AMQPValue → Type 0 = λ u. length (body (trees (take k vs))) + length (text (view u)) ≤ length (body (trees vs)) in
-    subst P (sym e) (within_at vs k v h)
+-- behind the last value
+pub Goes-end : (s : List ℕ) (xs : List Tree) (rest : List ℕ) → Goes s xs rest → length rest ≡ 0 → Body s (trees_of xs)
+Goes-end s xs rest g e =
+    subst (Body s) (behind-nothing xs)
+    (g.whole no_trees (subst (λ (t : List ℕ). Body t no_trees) (sym (nil_from_length rest e)) no_values))
+
+-- where a value can't be read there are no values
+Goes-stuck : (s : List ℕ) (xs : List Tree) (rest : List ℕ) (o : Reading) → Goes s xs rest → 0 < length rest → Outcome rest o
+    → ((v : Tree) (left : List ℕ) → o ≡ found v left → ⊥) → IsNoBody s malformed
+Goes-stuck s xs rest o g h x other = λ vs p. let m = g.only vs p in no_body rest m.0 o x other h m.1
+
+-- the refusal of a value, for the array round it
+pub Goes-refused : (s : List ℕ) (xs : List Tree) (rest : List ℕ) (e : Refusal) → Goes s xs rest → 0 < length rest
+    → Refuses (Outcome rest) (Heavy rest) e → Refuses (IsNoBody s) (0 < length s) (inside e)
+Goes-refused s xs rest (Incomplete Unknown) g h x = absurd x
+Goes-refused s xs rest (Incomplete (Size n)) g h x = Goes-stuck s xs rest (more n) g h x (λ v left e. cc)
+Goes-refused s xs rest (Error MapOpt) g h x = Goes-stuck s xs rest unknown g h x (λ v left e. cc)
+Goes-refused s xs rest (Error Eof) g h x = Goes-stuck s xs rest malformed g h x (λ v left e. cc)
+Goes-refused s xs rest (Error MapRes) g h x = absurd x
+Goes-refused s xs rest (Error OutOfMemory) g h x = absurd x
+Goes-refused s xs rest (Failure k) g h x = (x.0, omega (arith, g.shorter))

@@ -1,5 +1,11 @@
-pub mod Arrays
+pub mod Refused
+pub mod Payloads
+pub mod Frames
 pub mod Bodies
+pub mod Typed
+pub mod Views
 pub mod Rooms
 pub mod Slices
 pub mod Steps
+pub mod Texts
+pub mod Arrays

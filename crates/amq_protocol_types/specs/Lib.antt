@@ -1,3 +1,5 @@
+pub mod Refusals
+pub mod Answers
 pub mod Outputs
 pub mod Slices
 pub mod Contexts

@@ -1,4 +1,4 @@
--- The laws of the grammar, for proofs to cite: each is a clause of a function of `src/laws.rt`.
+-- The laws of the grammar, for proofs to cite. `src/laws.rt` states each but those of the last three groups.
 
 -- one reading for each list
 pub use Rattle.amqp_value_core.proofs.Unique.{one_reading, one_raw_reading}
@@ -9,6 +9,11 @@ pub use Rattle.amqp_value_core.proofs.Reading.{reading_back}
 pub use Rattle.amqp_value_core.proofs.MoreBytes.{more_bytes, more_raw_bytes}
 pub use Rattle.amqp_value_core.proofs.Outcomes.{one_outcome, one_raw_outcome}
 -- from a payload of the type that a first byte stands for to the value: the outcome, and that it takes memory
-pub use Rattle.amqp_value_core.proofs.Outcomes.{raw_to_value, raw_to_heavy}
 -- the outcome as a function
 pub use Rattle.amqp_value_core.proofs.Agreement.{outcome_holds, outcome_is, raw_outcome_holds, raw_outcome_is}
+pub use Rattle.amqp_value_core.proofs.Outcomes.{raw_to_value, value_to_raw, raw_to_heavy}
+-- from what stands at the front to the outcome
+pub use Rattle.amqp_value_core.proofs.Outcomes.{raw_whole, raw_found, wire_found}
+-- bytes behind their length: the number is theirs, the frame is whole, and as an array's payload they are its body
+pub use Rattle.amqp_value_core.proofs.Headers.{counted-large, lack_of-large}
+pub use Rattle.amqp_value_core.proofs.Reading.{array_body}

@@ -21,7 +21,7 @@ one_large s t x y short_s short_t e =
     same_fronts s t x y len (ap (drop 4) e)
 
 -- the payload of an array is a body behind its length
-array_body : (s x b y : List ℕ) (z : Tree) → length s < 2 ^ 32 → Raw amqp.FieldArray b z → large s ++ x ≡ b ++ y → (us : Trees) × Body s us
+pub array_body : (s x b y : List ℕ) (z : Tree) → length s < 2 ^ 32 → Raw amqp.FieldArray b z → large s ++ x ≡ b ++ y → (us : Trees) × Body s us
 array_body s x _ y _ fits (raw_fixed type f b row len) e = absurd cc
 array_body s x _ y _ fits (raw_array c us short p) e =
     let same = one_large s c x y fits short e in

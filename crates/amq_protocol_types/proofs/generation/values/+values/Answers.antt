@@ -2,7 +2,7 @@ use Rattle.std.proofs.Common.{◌∙◌, arith}
 use Rattle.amqp_value_core.specs.View.{view, array_items}
 use Rattle.amqp_value_core.specs.Texts.{text, Fits}
 use Rattle.amq_protocol_types.proofs.Arrays.{value_refused, count_refused, count_filled}
-use Rattle.amq_protocol_types.proofs.Bodies.{text_of, longer_by_id, body_next, fit_next, values_next}
+use Rattle.amq_protocol_types.proofs.Texts.{text_of, longer_by_id, body_next, fit_next, values_next}
 use Rattle.amq_protocol_types.proofs.Steps.{both_put, refused, by_buffer}
 use Rattle.amq_protocol_types.proofs.generation.values.+values.Goals as goal
 

@@ -1,0 +1,23 @@
+-- Refusals: what is right of a part is right of the whole.
+use Rattle.amqp_value_core.specs.Outcomes.{Reading, more, unknown, malformed}
+use Rattle.amq_protocol_types.specs.declared.parsing.errors.Err.TheVariants.{Incomplete, Error, Failure}
+use Rattle.amq_protocol_types.specs.declared.parsing.errors.Needed.TheVariants.{Unknown, Size}
+use Rattle.amq_protocol_types.specs.declared.parsing.errors.ErrorKind.{ErrorKind}
+use Rattle.amq_protocol_types.specs.declared.parsing.errors.ErrorKind.TheVariants.{MapOpt, MapRes, Eof, OutOfMemory}
+use Rattle.amq_protocol_types.specs.Refusals.{Refusal}
+use Rattle.amq_protocol_types.specs.Answers.{RightKind, Refuses}
+
+-- a kind stays right where what is read stays right
+RightKind-weaker : (Is Now : Reading → Type 0) (k : ErrorKind) → ((o : Reading) → Is o → Now o) → RightKind Is k → RightKind Now k
+RightKind-weaker Is Now MapOpt f x = f unknown x
+RightKind-weaker Is Now Eof f x = f malformed x
+RightKind-weaker Is Now MapRes f x = x
+RightKind-weaker Is Now OutOfMemory f x = x
+
+-- a refusal stays right where what is read and what takes memory stay right
+pub Refuses-weaker : (Is Now : Reading → Type 0) (heavy now : Type 0) (e : Refusal) → ((o : Reading) → Is o → Now o) → (heavy → now)
+    → Refuses Is heavy e → Refuses Now now e
+Refuses-weaker Is Now heavy now (Incomplete Unknown) f h x = x
+Refuses-weaker Is Now heavy now (Incomplete (Size n)) f h x = f (more n) x
+Refuses-weaker Is Now heavy now (Error k) f h x = RightKind-weaker Is Now k f x
+Refuses-weaker Is Now heavy now (Failure k) f h x = (x.0, h x.1)

@@ -1,0 +1,57 @@
+-- What the parsers answer.
+use Rattle.std.specs.Prelude.{ℕ, ◌<◌, ◌-◌, ◌≡◌, Some, None, List, [], ◌∷◌, ◌++◌, length}
+use Rattle.std.specs.Int.{Width, byte_len, to_be_bytes}
+use Rattle.amqp_value_core.specs.declared.types.AMQPType.{AMQPType}
+use Rattle.amqp_value_core.specs.Values.{Trees}
+use Rattle.amqp_value_core.specs.Ids.{kind}
+use Rattle.amqp_value_core.specs.Grammar.{Body}
+use Rattle.amqp_value_core.specs.Outcomes.{Reading, more, unknown, malformed, Outcome, StillWaits, with_more}
+use Rattle.amq_protocol_types.specs.declared.parsing.errors.Err.TheVariants.{Incomplete, Error, Failure}
+use Rattle.amq_protocol_types.specs.declared.parsing.errors.Needed.TheVariants.{Unknown, Size}
+use Rattle.amq_protocol_types.specs.declared.parsing.errors.ErrorKind.{ErrorKind}
+use Rattle.amq_protocol_types.specs.declared.parsing.errors.ErrorKind.TheVariants.{MapOpt, Eof, OutOfMemory}
+use Rattle.amq_protocol_types.specs.Refusals.{Refusal}
+
+-- an error of the kind is right: the input reads as the kind says
+abbrev pub RightKind : (Reading → Type 0) → ErrorKind → Type 0
+RightKind Is MapOpt = Is unknown
+RightKind Is Eof = Is malformed
+RightKind Is _ = ⊥
+
+-- a refusal is right, where `Is` says what reading the input comes to, and memory may be wanted only where
+-- `heavy` holds
+abbrev pub Refuses : (Reading → Type 0) → Type 0 → Refusal → Type 0
+Refuses Is heavy (Incomplete Unknown) = ⊥
+Refuses Is heavy (Incomplete (Size n)) = Is (more n)
+Refuses Is heavy (Error kind) = RightKind Is kind
+Refuses Is heavy (Failure kind) = (kind ≡ OutOfMemory) × heavy
+
+-- a type is read from s, and `rest` is left: the first byte is an id of it
+abbrev pub IsType : List ℕ → AMQPType → List ℕ → Type 0
+IsType s type rest = (c : ℕ) × (s ≡ c ∷ rest) × (kind c ≡ Some type)
+
+-- no type is read from s: there is no byte, or the first is no id
+abbrev pub IsNoType : List ℕ → Reading → Type 0
+IsNoType [] o = o ≡ more 1
+IsNoType (c ∷ b) o = (o ≡ unknown) × (kind c ≡ None)
+
+-- n is read from s, and `rest` is left: the first bytes are those of n, the highest first
+abbrev pub IsNumberRead : Width → List ℕ → ℕ → List ℕ → Type 0
+IsNumberRead w s n rest = s ≡ to_be_bytes w n ++ rest
+
+-- a number of the width isn't all there, and lacks so many bytes
+abbrev pub IsCut : Width → List ℕ → Reading → Type 0
+IsCut w s o = (length s < byte_len w) × (o ≡ more (byte_len w - length s))
+
+-- the bytes are no values one after another
+abbrev pub IsNoBody : List ℕ → Reading → Type 0
+IsNoBody s malformed = (vs : Trees) → Body s vs → ⊥
+IsNoBody s _ = ⊥
+
+-- reading s comes to one outcome and no other: the value, the rest and the refusal are determined
+abbrev pub HasOneOutcome : List ℕ → Type 0
+HasOneOutcome s = (o p : Reading) → Outcome s o → Outcome s p → o ≡ p
+
+-- more bytes join the rest behind a value, are so many fewer that lack, and leave a refusal as it is
+abbrev pub KeepsOutcome : List ℕ → Type 0
+KeepsOutcome s = (o : Reading) (t : List ℕ) → Outcome s o → StillWaits o t → Outcome (s ++ t) (with_more o t)

@@ -1,0 +1,36 @@
+-- The refusals of parsers. A `ParserErrors` is seen as its kind.
+use Rattle.std.specs.Prelude.{ℕ, List, codes}
+use Rattle.amq_protocol_types.specs.declared.parsing.errors.Err.{Err}
+use Rattle.amq_protocol_types.specs.declared.parsing.errors.Err.TheVariants.{Incomplete, Error, Failure}
+use Rattle.amq_protocol_types.specs.declared.parsing.errors.Needed.TheVariants.{Size}
+use Rattle.amq_protocol_types.specs.declared.parsing.errors.ErrorKind.{ErrorKind}
+use Rattle.amq_protocol_types.specs.declared.parsing.errors.ErrorKind.TheVariants.{MapOpt, MapRes, Eof, OutOfMemory}
+
+-- a refusal or a number of bytes that lack, as the alias `ParserError`
+abbrev pub Refusal : Type 0
+Refusal = Err ErrorKind
+
+-- the text of a refusal
+abbrev pub printed : ErrorKind → List ℕ
+printed MapOpt = codes "Parser error: Nom(MapOpt)"
+printed MapRes = codes "Parser error: Nom(MapRes)"
+printed Eof = codes "Parser error: Nom(Eof)"
+printed OutOfMemory = codes "Parser error: OutOfMemory"
+
+-- the field that is being read lacks n bytes
+abbrev pub lacks : ℕ → Refusal
+lacks n = Incomplete (Size n)
+
+-- the input isn't what the parser reads
+abbrev pub refused : ErrorKind → Refusal
+refused kind = Error kind
+
+-- a request for memory was refused
+abbrev pub out_of_memory : Refusal
+out_of_memory = Failure OutOfMemory
+
+-- what the refusal of an entry means for the container round it, whose body is whole: want of memory stays,
+-- and whatever else keeps the entry from being read keeps the body from being a concatenation of entries
+abbrev pub inside : Refusal → Refusal
+inside (Failure kind) = Failure kind
+inside _ = Error Eof

@@ -1,0 +1,32 @@
+-- Fronts of a text, written one after another.
+use Rattle.std.proofs.Common.{◌≡◌, ℕ, Option, List, [], ◌∷◌, ◌++◌, take, drop, ap, ◌∙◌, sym, append_assoc, take-append-drop}
+use Rattle.std.specs.Io.KnownBytes.{Appends}
+use Rattle.std.proofs.KnownBytes.{Appends-trans}
+use Rattle.amqp_wire.specs.Lines.{line, lines, AppendsFront}
+
+-- a front of the text was appended, and this is the rest
+abbrev pub Written : Option (List ℕ) → Option (List ℕ) → List ℕ → List ℕ → Type 0
+Written a b text rest = (front : List ℕ) × (text ≡ front ++ rest) × Appends a b front
+
+-- a front of the rest was appended
+pub written_more : (a b c : Option (List ℕ)) (text rest more left : List ℕ) → Written a b text rest → rest ≡ more ++ left → Appends b c more → Written a c text left
+written_more a b c text rest more left (front, e, p) e' q =
+    (front ++ more, e ∙ ap (λ l. front ++ l) e' ∙ sym (append_assoc front more left), Appends-trans a b c front more p q)
+
+-- the first n bytes of the rest were appended
+pub written_front : (a b c : Option (List ℕ)) (text rest left : List ℕ) (n : ℕ) → Written a b text rest → Appends b c (take n rest) → left ≡ drop n rest → Written a c text left
+written_front a b c text rest left n h p e =
+    written_more a b c text rest (take n rest) left h (sym (take-append-drop n rest) ∙ ap (λ l. take n rest ++ l) (sym e)) p
+
+-- a front of a front of the rest was appended
+pub written_part : (a b c : Option (List ℕ)) (text rest more left : List ℕ) → Written a b text rest → rest ≡ more ++ left → AppendsFront b c more → AppendsFront a c text
+written_part a b c text rest more left (front, e, p) e' (part, missing, e'', q) = (
+  front ++ part,
+  missing ++ left,
+  e ∙ ap (λ l. front ++ l) (e' ∙ ap (λ l. l ++ left) e'' ∙ append_assoc part missing left) ∙ sym (append_assoc front part (missing ++ left)),
+  Appends-trans a b c front part p q,
+)
+
+-- the answers that are left begin with the answer to the first line that is left
+pub first_answer : (left next : List (List ℕ)) (b more : List ℕ) → left ≡ b ∷ next → more ≡ line b ++ 10 ∷ [] → lines left ≡ more ++ lines next
+first_answer left next b more e e' = ap lines e ∙ ap (λ l. l ++ lines next) (sym e')

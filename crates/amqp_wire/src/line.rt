@@ -1,0 +1,71 @@
+//! The answer to one line.
+
+ghost use Rattle.std.specs.Prelude.{◌≡◌, ◌≤◌, ◌++◌, ◌∷◌, [], IfOk, length, string_bytes};
+ghost use Rattle.amqp_value_core.specs.Outcomes.{found};
+ghost use Rattle.amqp_value_core.specs.Decode.{outcome};
+ghost use Rattle.amqp_value_core.specs.View.{view};
+ghost use Rattle.amqp_value_core.specs.Texts.{text};
+ghost use Rattle.hex.specs.Hex.{encode_lower};
+ghost use Rattle.amqp_wire.specs.Lines.{line, said};
+
+use crate::fault::WireFault;
+use amq_protocol_types::AMQPValue;
+use amq_protocol_types::generation::{SliceOutput, WriteContext, gen_value};
+use amq_protocol_types::parsing::traits::ParsableInput;
+use amq_protocol_types::parsing::{Err, ErrorKind, Needed, SliceInput, parse_value};
+use hex::FromHexError;
+use std::alloc::Global;
+
+/// The text of a value in hexadecimal. There are `room` bytes for the text.
+fn hex_of(alloc: Global, value: &AMQPValue, room: usize) -> Result<String, WireFault>
+    ensures { IfOk result (λ hex. string_bytes hex ≡ encode_lower (text (view value.now))) }
+{
+    let mut bytes = vec![in alloc; 0; room]?;
+    let mut context = WriteContext::from(SliceOutput::new(bytes.as_mut_slice()));
+    if gen_value(value, &mut context).is_err() {
+        return Err(WireFault::Io);
+    }
+    let (output, _) = context.into_inner();
+    Ok(hex::encode(alloc, output.written())?)
+}
+
+/// What is said of the bytes that a line spells.
+fn answer_to_bytes(alloc: Global, bytes: &[u8]) -> Result<String, WireFault>
+    ensures { IfOk result (λ answer. string_bytes answer ≡ said (outcome bytes.now)) }
+{
+    match parse_value(alloc, SliceInput::new(bytes)) {
+        Ok((rest, value)) => {
+            let left = rest.input_len();
+            let hex = hex_of(alloc, &value, bytes.len() - left)?;
+            Ok(format!(in alloc; "value {hex} rest {left}")?)
+        }
+        Err(Err::Incomplete(Needed::Size(lack))) => Ok(format!(in alloc; "more {lack}")?),
+        Err(Err::Incomplete(Needed::Unknown)) => unreachable!(),
+        Err(Err::Error(error)) => match error.kind() {
+            ErrorKind::MapOpt => Ok(String::from_str(alloc, "refused MapOpt")?),
+            ErrorKind::Eof => Ok(String::from_str(alloc, "refused Eof")?),
+            ErrorKind::MapRes | ErrorKind::OutOfMemory => unreachable!(),
+        },
+        Err(Err::Failure(_)) => Err(WireFault::OutOfMemory),
+    }
+}
+
+/// The answer to a line, without its end.
+fn answer_to(alloc: Global, input: &[u8]) -> Result<String, WireFault>
+    ensures { IfOk result (λ answer. string_bytes answer ≡ line input.now) }
+{
+    match hex::decode(alloc, input) {
+        Ok(bytes) => answer_to_bytes(alloc, bytes.as_slice()),
+        Err(FromHexError::OutOfMemory) => Err(WireFault::OutOfMemory),
+        Err(_) => Ok(String::from_str(alloc, "not hex")?),
+    }
+}
+
+/// The answer to a line, with a line feed at its end.
+pub fn ended_answer_to(alloc: Global, input: &[u8]) -> Result<Vec<u8>, WireFault>
+    ensures { IfOk result (λ bytes. bytes.items ≡ line input.now ++ 10 ∷ []) }
+{
+    let mut answer = answer_to(alloc, input)?;
+    answer.push('\n')?;
+    Ok(answer.into_bytes())
+}

@@ -1,0 +1,57 @@
+//! All lines, from a reader to a writer.
+
+ghost use Rattle.std.specs.Prelude.{OnOk, OnErr, IfSome, map};
+ghost use Rattle.std.specs.Io.KnownBytes.{Appends, IsAtEnd};
+ghost use Rattle.bstr.specs.Text.{lines_of, without_terminator};
+ghost use Rattle.amqp_wire.specs.Lines.{output, AppendsFront};
+
+use crate::fault::WireFault;
+use crate::line::ended_answer_to;
+use bstr::ByteSlice;
+use std::alloc::Global;
+use std::io::{Read, Write};
+
+/// Reads all that the reader has, and answers each line of it with a line. A line ends at `\n` or
+/// `\r\n`, or with the input, and is the hexadecimal text of bytes, in either case.
+pub fn run<R: Read, W: Write>(
+    alloc: Global,
+    reader: &mut R,
+    writer: &mut W,
+) -> Result<(), WireFault>
+    ensures ok { OnOk result (IfSome (R.remaining reader.old)
+        (λ xs. Appends (W.contents writer.old) (W.contents writer.new) (output xs))) }
+    ensures err { OnErr result (IfSome (R.remaining reader.old)
+        (λ xs. AppendsFront (W.contents writer.old) (W.contents writer.new) (output xs))) }
+    ensures end { OnOk result (IsAtEnd (R.remaining reader.new)) }
+{
+    let mut input = Vec::new(alloc);
+    reader.read_to_end(&mut input)?;
+    write_answers(alloc, input.as_slice(), writer)
+}
+
+/// Writes the answers to the lines of `input`.
+fn write_answers<W: Write>(alloc: Global, input: &[u8], writer: &mut W) -> Result<(), WireFault>
+    ensures ok { OnOk result (Appends (W.contents writer.old) (W.contents writer.new) (output input.now)) }
+    ensures err { OnErr result (AppendsFront (W.contents writer.old) (W.contents writer.new) (output input.now)) }
+{
+    for line in input.lines() {
+        let answer = ended_answer_to(alloc, line)?;
+        write_out(answer.as_slice(), writer)?;
+    }
+    Ok(())
+}
+
+/// Writes all of the bytes. Each error of the writer ends it, and so does a writer that takes none.
+fn write_out<W: Write>(bytes: &[u8], writer: &mut W) -> Result<(), WireFault>
+    ensures ok { OnOk result (Appends (W.contents writer.old) (W.contents writer.new) bytes.now) }
+    ensures err { OnErr result (AppendsFront (W.contents writer.old) (W.contents writer.new) bytes.now) }
+{
+    let mut rest = bytes;
+    'writes: while !rest.is_empty() {
+        match writer.write(rest)? {
+            0 => return Err(WireFault::Io),
+            n => rest = rest.split_at(n).1,
+        }
+    }
+    Ok(())
+}
