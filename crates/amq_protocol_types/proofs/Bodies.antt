@@ -66,6 +66,7 @@ front_of (c ∷ b) v rest x = by (kind c) x
     decided : (n : ℕ) → Unless n (Front (c ∷ b) (found v rest)) (found v rest) → Front (c ∷ b) (found v rest)
     decided zero f = f
     decided (suc n) e = absurd cc
+
     by : (k : Option AMQPType)
         → MatchOption k (found v rest ≡ unknown) (λ type. Unless (lack type b) (Front (c ∷ b) (found v rest)) (found v rest))
         → Front (c ∷ b) (found v rest)

@@ -7,10 +7,10 @@ use mir.Val.{bits}
 use Rattle.std.proofs.lemmas.Nat.{from_be_bytes-to_be_bytes_4}
 use Rattle.amqp_value_core.specs.declared.types.AMQPType.{AMQPType}
 use Rattle.amqp_value_core.specs.declared.types.AMQPType.TheVariants as amqp
-use Rattle.amqp_value_core.specs.Values.{Scalar, boolean, number, void, Tree, scalar}
+use Rattle.amqp_value_core.specs.Values.{Scalar, boolean, number, void, scalar}
 use Rattle.amqp_value_core.specs.Layouts.{Layout, fixed, truth}
-use Rattle.amqp_value_core.specs.Grammar.{Raw, raw_fixed}
-use Rattle.amqp_value_core.specs.Outcomes.{Reading, found, lack, Unless, RawFront, RawOutcome}
+use Rattle.amqp_value_core.specs.Grammar.{raw_fixed}
+use Rattle.amqp_value_core.specs.Outcomes.{found, RawOutcome}
 use Rattle.amqp_value_core.proofs.GrammarLaws.{raw_found}
 
 -- a payload of fixed width at the front is read
@@ -38,6 +38,7 @@ boolean_found s rest n h e =
     as_not : (b : Bool) → cond b false true ≡ not b
     as_not true = refl
     as_not false = refl
+
     is_truth : (n : ℕ) → n < 256 → truth (from_be_bytes w8 (to_be_bytes w8 n)) ≡ not (nat_eq n 0)
     is_truth n h = ap truth (byte_back n h) ∙ as_not (nat_eq n 0)
 

@@ -8,9 +8,9 @@ pub use Rattle.amqp_value_core.proofs.Spelling.{length_of_text, length_of_payloa
 pub use Rattle.amqp_value_core.proofs.Reading.{reading_back}
 pub use Rattle.amqp_value_core.proofs.MoreBytes.{more_bytes, more_raw_bytes}
 pub use Rattle.amqp_value_core.proofs.Outcomes.{one_outcome, one_raw_outcome}
--- from a payload of the type that a first byte stands for to the value: the outcome, and that it takes memory
 -- the outcome as a function
 pub use Rattle.amqp_value_core.proofs.Agreement.{outcome_holds, outcome_is, raw_outcome_holds, raw_outcome_is}
+-- from a payload of the type that a first byte stands for to the value: the outcome, and that it takes memory
 pub use Rattle.amqp_value_core.proofs.Outcomes.{raw_to_value, value_to_raw, raw_to_heavy}
 -- from what stands at the front to the outcome
 pub use Rattle.amqp_value_core.proofs.Outcomes.{raw_whole, raw_found, wire_found}

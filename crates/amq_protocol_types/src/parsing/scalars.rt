@@ -55,15 +55,15 @@ pub fn parse_boolean<I: ParsableInput>(i: I) -> ParserResult<I, bool>
         (λ x. RawOutcome AMQPType.Boolean (I.bytes i) (found (scalar (boolean x.1)) (I.bytes x.0)))
         (Refuses (RawOutcome AMQPType.Boolean (I.bytes i)) ⊥) }
 {
-    let (i, n) = parse_short_short_uint(i)?;
-    Ok((i, n != 0))
+    let (i, byte) = parse_short_short_uint(i)?;
+    Ok((i, byte != 0))
 }
 
 /// Reads a signed number of 8 bits.
 pub fn parse_short_short_int<I: ParsableInput>(i: I) -> ParserResult<I, i8>
     ensures { MatchResult result
         (λ x. RawOutcome AMQPType.ShortShortInt (I.bytes i)
-            (found (scalar (number AMQPType.ShortShortInt (cast_unsigned w8 x.1))) (I.bytes x.0)))
+        (found (scalar (number AMQPType.ShortShortInt (cast_unsigned w8 x.1))) (I.bytes x.0)))
         (Refuses (RawOutcome AMQPType.ShortShortInt (I.bytes i)) ⊥) }
 {
     let (i, n) = parse_short_short_uint(i)?;
@@ -74,7 +74,7 @@ pub fn parse_short_short_int<I: ParsableInput>(i: I) -> ParserResult<I, i8>
 pub fn parse_long_int<I: ParsableInput>(i: I) -> ParserResult<I, i32>
     ensures { MatchResult result
         (λ x. RawOutcome AMQPType.LongInt (I.bytes i)
-            (found (scalar (number AMQPType.LongInt (cast_unsigned w32 x.1))) (I.bytes x.0)))
+        (found (scalar (number AMQPType.LongInt (cast_unsigned w32 x.1))) (I.bytes x.0)))
         (Refuses (RawOutcome AMQPType.LongInt (I.bytes i)) ⊥) }
 {
     let (i, n) = parse_long_uint(i)?;

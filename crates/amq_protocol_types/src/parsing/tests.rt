@@ -43,8 +43,14 @@ fn refuses_what_is_no_value(rt: HostRuntime) {
     let alloc = rt.alloc();
     assert_eq!(rt; refusal(alloc, &[122]), Some(ErrorKind::MapOpt));
     assert_eq!(rt; refusal(alloc, &[244]), Some(ErrorKind::MapOpt));
-    assert_eq!(rt; refusal(alloc, &[65, 0, 0, 0, 1, 122]), Some(ErrorKind::Eof));
-    assert_eq!(rt; refusal(alloc, &[65, 0, 0, 0, 2, 73, 0]), Some(ErrorKind::Eof));
+    assert_eq!(rt;
+        refusal(alloc, &[65, 0, 0, 0, 1, 122]),
+        Some(ErrorKind::Eof)
+    );
+    assert_eq!(rt;
+        refusal(alloc, &[65, 0, 0, 0, 2, 73, 0]),
+        Some(ErrorKind::Eof)
+    );
 }
 
 #[test]
@@ -66,7 +72,12 @@ fn reads_values(rt: HostRuntime) {
     }
     match parse_value(alloc, SliceInput::new(&[65, 0, 0, 0, 3, 116, 7, 86])) {
         Ok((rest, AMQPValue::FieldArray(array))) => {
-            assert!(rt; matches!(array.as_slice(), [AMQPValue::Boolean(true), AMQPValue::Void]));
+            assert!(rt;
+                matches!(
+                    array.as_slice(),
+                    [AMQPValue::Boolean(true), AMQPValue::Void]
+                )
+            );
             assert_eq!(rt; rest.input_len(), 0);
         }
         _ => assert!(rt; false, "no array"),
@@ -91,7 +102,12 @@ fn reads_scalars(rt: HostRuntime) {
     assert!(rt; matches!(parse_long_int(ones), Ok((_, -1))));
     assert!(rt; matches!(parse_long_uint(zeros), Ok((_, 0))));
     assert!(rt; matches!(parse_long_uint(ones), Ok((_, 4294967295))));
-    assert!(rt; matches!(parse_type(SliceInput::new(&[73, 0])), Ok((_, AMQPType::LongInt))));
+    assert!(rt;
+        matches!(
+            parse_type(SliceInput::new(&[73, 0])),
+            Ok((_, AMQPType::LongInt))
+        )
+    );
     assert!(rt; matches!(parse_field_array(rt.alloc(), zeros), Ok(_)));
 }
 

@@ -4,4 +4,4 @@ use Rattle.amq_protocol_types.proofs.parsing.scalars.parse_boolean.Goals as goal
 
 pub returns : goal.returns
 returns g c =
-    boolean_found (g.I.ParsableInput.bytes c.args.i) (g.I.ParsableInput.bytes c.in_ok-i.i) c.in_ok-i.n (omega arith) c.in_ok-i.ensures
+    boolean_found (g.I.ParsableInput.bytes c.args.i) (g.I.ParsableInput.bytes c.in_ok-i.i) c.in_ok-i.byte (omega arith) c.in_ok-i.ensures

@@ -1,6 +1,6 @@
 use Rattle.std.proofs.Common.{◌≡◌, [], ◌∷◌, ◌++◌, sym, subst, rules, arith, map, take, drop}
 use Rattle.std.proofs.lemmas.List.{length-take-le, map_push}
-use Rattle.std.proofs.lemmas.Result.{MatchResult-weaker, err_from_is_err_and}
+use Rattle.std.proofs.lemmas.Result.{err_from_is_err_and}
 use Rattle.amqp_value_core.specs.declared.types.AMQPType.TheVariants as amqp
 use Rattle.amqp_value_core.specs.Values.{Tree}
 use Rattle.amqp_value_core.specs.View.{view, array_items, array_view}
@@ -8,7 +8,7 @@ use Rattle.amqp_value_core.specs.Outcomes.{found, RawOutcome}
 use Rattle.amq_protocol_types.proofs.Bodies.{Goes-step, Goes-end, Goes-refused, rest_shorter}
 use Rattle.amq_protocol_types.proofs.Frames.{split_large, array_found, array_refused}
 use Rattle.amq_protocol_types.proofs.Payloads.{void_found}
-use Rattle.amq_protocol_types.proofs.Typed.{typed_outcome, typed_refused}
+use Rattle.amq_protocol_types.proofs.Typed.{typed_answer}
 use Rattle.amq_protocol_types.proofs.Views.{view-Void}
 use Rattle.amq_protocol_types.proofs.parsing.values.+parser.Goals as goal
 
@@ -39,7 +39,7 @@ parse_field_array-returns-in_err-array g t c =
     let p = err_from_is_err_and c.from_residual-in_err-array.result c.from_residual-in_err-array.ensures.1 in
     rw (p.1, p.2)
     (array_refused s (take n left) (drop n left) (split_large s left n c.in_ok-i.ensures (omega arith)) (omega (arith, length-take-le n left))
-        c.in_err-array.field-0.0 (rw c.take.ensures at c.in_err-array.ensures))
+    c.in_err-array.field-0.0 (rw c.take.ensures at c.in_err-array.ensures))
 
 pub parse_field_array-returns : goal.parse_field_array-returns
 parse_field_array-returns g t c =
@@ -48,7 +48,7 @@ parse_field_array-returns g t c =
     let n = c.in_ok-i.len in
     rw c.take_from.ensures
     (array_found s (take n left) (drop n left) (split_large s left n c.in_ok-i.ensures (omega arith)) (omega (arith, length-take-le n left))
-        (array_view c.in_ok-array.array) (rw c.take.ensures at c.in_ok-array.ensures))
+    (array_view c.in_ok-array.array) (rw c.take.ensures at c.in_ok-array.ensures))
 
 pub parse_raw_value-returns-in-Void : goal.parse_raw_value-returns-in-Void
 parse_raw_value-returns-in-Void g t c =
@@ -58,8 +58,5 @@ parse_raw_value-returns-in-Void g t c =
 
 pub parse_value-returns-clause-outcome : goal.parse_value-returns-clause-outcome
 parse_value-returns-clause-outcome g t c =
-    let s = g.I.ParsableInput.bytes c.args.i in
-    let rest = g.I.ParsableInput.bytes c.in_ok-i.i in
-    MatchResult-weaker c.parse_raw_value.result c.parse_raw_value.ensures
-    (λ x p. typed_outcome s rest c.in_ok-i.amqp_type c.in_ok-i.ensures (found (view x.1) (g.I.ParsableInput.bytes x.0)) p)
-    (λ e p. typed_refused s rest c.in_ok-i.amqp_type c.in_ok-i.ensures e p)
+    typed_answer (g.I.ParsableInput.bytes c.args.i) (g.I.ParsableInput.bytes c.in_ok-i.i) c.in_ok-i.amqp_type c.in_ok-i.ensures
+    g.I.ParsableInput.bytes c.parse_raw_value.result c.parse_raw_value.ensures
