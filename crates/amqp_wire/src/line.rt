@@ -1,9 +1,9 @@
 //! The answer to one line.
 
-ghost use Rattle.std.specs.Prelude.{◌≡◌, ◌++◌, ◌∷◌, [], IfOk, string_bytes};
+ghost use Rattle.std.specs.Prelude.{◌≡◌, ◌≤◌, ◌++◌, ◌∷◌, [], IfOk, IsErrOf, length, string_bytes};
 ghost use Rattle.amqp_value_core.specs.Decode.{outcome};
 ghost use Rattle.amqp_value_core.specs.View.{view};
-ghost use Rattle.amqp_value_core.specs.Texts.{text};
+ghost use Rattle.amqp_value_core.specs.Texts.{text, Fits};
 ghost use Rattle.hex.specs.Hex.{encode_lower};
 ghost use Rattle.amqp_wire.specs.Lines.{line, said};
 
@@ -15,10 +15,11 @@ use amq_protocol_types::parsing::{Err, ErrorKind, Needed, SliceInput, parse_valu
 use hex::FromHexError;
 use std::alloc::Global;
 
-/// The text of a value in hexadecimal. It is written to `room` bytes first, and where they don't
-/// suffice the answer is `Io`.
+/// The text of a value in hexadecimal. It is written to `room` bytes first.
 fn hex_of(alloc: Global, value: &AMQPValue, room: usize) -> Result<String, WireFault>
-    ensures { IfOk result (λ hex. string_bytes hex ≡ encode_lower (text (view value.now))) }
+    ensures hex { IfOk result (λ hex. string_bytes hex ≡ encode_lower (text (view value.now))) }
+    ensures succeeds { Fits (view value.now) → length (text (view value.now)) ≤ room
+        → ¬ (IsErrOf result WireFault.Io) }
 {
     let mut bytes = vec![in alloc; 0; room]?;
     let mut context = WriteContext::from(SliceOutput::new(bytes.as_mut_slice()));

@@ -1,6 +1,6 @@
 //! All lines, from a reader to a writer.
 
-ghost use Rattle.std.specs.Prelude.{OnOk, OnErr, IfSome};
+ghost use Rattle.std.specs.Prelude.{◌<◌, OnOk, OnErr, IfSome, length};
 ghost use Rattle.std.specs.Io.KnownBytes.{Appends, IsAtEnd};
 ghost use Rattle.amqp_wire.specs.Lines.{output, AppendsFront};
 
@@ -44,6 +44,7 @@ fn write_answers<W: Write>(alloc: Global, input: &[u8], writer: &mut W) -> Resul
 fn write_out<W: Write>(bytes: &[u8], writer: &mut W) -> Result<(), WireFault>
     ensures ok { OnOk result (Appends (W.contents writer.old) (W.contents writer.new) bytes.now) }
     ensures err { OnErr result (AppendsFront (W.contents writer.old) (W.contents writer.new) bytes.now) }
+    ensures some { OnErr result (0 < length bytes.now) }
 {
     let mut rest = bytes;
     'writes: while !rest.is_empty() {
