@@ -1,15 +1,15 @@
 -- What is said of an outcome.
-use Rattle.std.proofs.Common.{◌≡◌, ◌<◌, ℕ, suc, zero, List, [], ◌∷◌, slice_index, ap}
+use Rattle.std.proofs.Common.{◌≡◌, ℕ, suc, List, [], ◌∷◌, slice_index, Fits, w8, ap}
 use Rattle.amqp_value_core.specs.Outcomes.{Reading, IsBytes, Outcome}
 use Rattle.amqp_value_core.specs.Decode.{outcome}
 use Rattle.amqp_value_core.proofs.GrammarLaws.{outcome_is}
 use Rattle.amqp_wire.specs.Lines.{said}
 
 -- what a slice of bytes shows are bytes
-pub all_bytes : (s : List ℕ) → ((i : ℕ) → slice_index s i < 256) → IsBytes s
-all_bytes [] h = tt
-all_bytes (c ∷ s) h = (h 0, all_bytes s (λ i. h (suc i)))
+bytes_fit : (s : List ℕ) → ((i : ℕ) → Fits w8 (slice_index s i)) → IsBytes s
+bytes_fit [] fit = tt
+bytes_fit (c ∷ s) fit = ((fit 0).fits, bytes_fit s (λ i. fit (suc i)))
 
--- what is said of the outcome of some bytes is what is said of any that they have
-pub said_of_outcome : (s : List ℕ) (o : Reading) → IsBytes s → Outcome s o → said o ≡ said (outcome s)
-said_of_outcome s o bytes here = ap said ((outcome_is s o bytes).0 here)
+-- what is said of an outcome of a slice's bytes is what is said of the one that is computed
+pub said_of_outcome : (s : List ℕ) (o : Reading) → ((i : ℕ) → Fits w8 (slice_index s i)) → Outcome s o → said o ≡ said (outcome s)
+said_of_outcome s o fit here = ap said ((outcome_is s o (bytes_fit s fit)).0 here)

@@ -1,7 +1,6 @@
 //! The answer to one line.
 
-ghost use Rattle.std.specs.Prelude.{◌≡◌, ◌≤◌, ◌++◌, ◌∷◌, [], IfOk, length, string_bytes};
-ghost use Rattle.amqp_value_core.specs.Outcomes.{found};
+ghost use Rattle.std.specs.Prelude.{◌≡◌, ◌++◌, ◌∷◌, [], IfOk, string_bytes};
 ghost use Rattle.amqp_value_core.specs.Decode.{outcome};
 ghost use Rattle.amqp_value_core.specs.View.{view};
 ghost use Rattle.amqp_value_core.specs.Texts.{text};
@@ -16,7 +15,8 @@ use amq_protocol_types::parsing::{Err, ErrorKind, Needed, SliceInput, parse_valu
 use hex::FromHexError;
 use std::alloc::Global;
 
-/// The text of a value in hexadecimal. There are `room` bytes for the text.
+/// The text of a value in hexadecimal. It is written to `room` bytes first, and where they don't
+/// suffice the answer is `Io`.
 fn hex_of(alloc: Global, value: &AMQPValue, room: usize) -> Result<String, WireFault>
     ensures { IfOk result (λ hex. string_bytes hex ≡ encode_lower (text (view value.now))) }
 {
@@ -29,7 +29,7 @@ fn hex_of(alloc: Global, value: &AMQPValue, room: usize) -> Result<String, WireF
     Ok(hex::encode(alloc, output.written())?)
 }
 
-/// What is said of the bytes that a line spells.
+/// What is said of the bytes that a line spells. A value's text gets as much room as its wire took.
 fn answer_to_bytes(alloc: Global, bytes: &[u8]) -> Result<String, WireFault>
     ensures { IfOk result (λ answer. string_bytes answer ≡ said (outcome bytes.now)) }
 {

@@ -1,8 +1,7 @@
 //! All lines, from a reader to a writer.
 
-ghost use Rattle.std.specs.Prelude.{OnOk, OnErr, IfSome, map};
+ghost use Rattle.std.specs.Prelude.{OnOk, OnErr, IfSome};
 ghost use Rattle.std.specs.Io.KnownBytes.{Appends, IsAtEnd};
-ghost use Rattle.bstr.specs.Text.{lines_of, without_terminator};
 ghost use Rattle.amqp_wire.specs.Lines.{output, AppendsFront};
 
 use crate::fault::WireFault;
