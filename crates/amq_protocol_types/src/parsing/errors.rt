@@ -14,7 +14,7 @@ pub enum Err<E> {
     Incomplete(Needed),
     /// The input isn't what the parser reads, whatever follows.
     Error(E),
-    /// The parser gave up, whatever the input is.
+    /// The parser gave up for want of memory, whatever the input is.
     Failure(E),
 }
 
