@@ -30,7 +30,10 @@ pub trait Output {
         ensures { result ≡ (seen self.now).faults };
 }
 
-/// A buffer, whose bytes can be changed after they were put.
+/// A buffer, whose bytes can be changed and taken back after they were put.
+///
+/// Whoever implements it owes that it is a buffer, and that it tells its bytes, as many as its
+/// position says.
 pub trait BackToTheBuffer: Output {
     /// Appends `n` bytes of 0, or refuses. Answers the position before them.
     fn reserve(&mut self, n: usize) -> Result<u64, GenError>
@@ -48,7 +51,6 @@ pub trait BackToTheBuffer: Output {
         requires { at ≤ (Self.seen self.old).at }
         ensures { GoesBack at (Self.seen self.old) (Self.seen self.new) };
 
-    // It is a buffer, and shows all of its bytes.
     ghost is_one: { Self.is_buffer ≡ true };
 
     ghost whole: { (s : Self) → IsWhole (Self.seen s) };

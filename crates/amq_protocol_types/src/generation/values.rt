@@ -53,7 +53,8 @@ pub fn gen_raw_value<W: BackToTheBuffer>(v: &AMQPValue, x: &mut WriteContext<W>)
 /// Writes an array's values, each with its id, behind the number of bytes that they take.
 #[cycle(values)]
 pub fn gen_field_array<W: BackToTheBuffer>(a: &FieldArray, x: &mut WriteContext<W>) -> GenResult
-    ensures written { Writes true (Fits (array (array_view a.now))) (payload (array (array_view a.now)))
+    ensures written { Writes true (Fits (array (array_view a.now)))
+        (payload (array (array_view a.now)))
         (shown W.seen x.old) result (shown W.seen x.new) }
     ensures start { start_of x.new ≡ start_of x.old }
     ensures value { OnOk result (IsValue (array (array_view a.now))) }

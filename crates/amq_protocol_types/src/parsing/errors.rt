@@ -1,6 +1,7 @@
 //! What parsers answer where they give no value.
 
 ghost use Rattle.std.specs.Prelude.{◌≡◌, Some};
+ghost use Rattle.amq_protocol_types.specs.Refusals.{lacks, refused, out_of_memory, inside};
 
 use std::error::Error;
 use std::fmt;
@@ -13,7 +14,7 @@ pub enum Err<E> {
     Incomplete(Needed),
     /// The input isn't what the parser reads, whatever follows.
     Error(E),
-    /// The parser gave up, whatever the input is.
+    /// The parser gave up for want of memory, whatever the input is.
     Failure(E),
 }
 
@@ -86,8 +87,6 @@ pub type ParserError = Err<ParserErrors>;
 
 /// What a parser answers: what is left of its input, and a value; or why there is none.
 pub type ParserResult<I, T> = Result<(I, T), ParserError>;
-
-ghost use Rattle.amq_protocol_types.specs.Refusals.{lacks, refused, out_of_memory, inside};
 
 // the field that is being read lacks `n` bytes
 pub(super) fn lacks(n: usize) -> ParserError
