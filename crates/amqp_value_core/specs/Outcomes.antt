@@ -1,8 +1,9 @@
 -- What reading some bytes comes to: a value, a number of bytes that lack, or a refusal.
 use Rattle.std.specs.Prelude.{ℕ, suc, zero, ◌+◌, ◌-◌, ◌<◌, ◌≡◌, Option, Some, None, MatchOption, List, [], ◌∷◌, ◌++◌, length, take, nat_lt, if◌then◌else◌}
-use Rattle.std.specs.Int.{Width, w32, byte_len, from_be_bytes}
+use Rattle.std.specs.Int.{Width, w8, w32, byte_len, from_be_bytes}
 use Rattle.std.specs.List.{AllByRecursion}
 use Rattle.amqp_value_core.specs.declared.types.AMQPType.{AMQPType}
+use Rattle.amqp_value_core.specs.declared.types.AMQPType.TheVariants as amqp
 use Rattle.amqp_value_core.specs.Values.{Tree}
 use Rattle.amqp_value_core.specs.Ids.{kind}
 use Rattle.amqp_value_core.specs.Layouts.{Layout, fixed}
@@ -24,6 +25,7 @@ pub data Reading : Type 0 where
 
 -- the width of the length field of a type that has one
 abbrev pub length_field : AMQPType → Width
+length_field amqp.ShortString = w8
 length_field _ = w32
 
 -- the number in a length field
@@ -36,9 +38,13 @@ frame_lack w b =
     if nat_lt (length b) (byte_len w) then byte_len w - length b
     else byte_len w + counted w b - length b
 
+-- what the first field of a layout lacks, and once it is whole what all of its fields lack
+abbrev pub fields_lack : Layout → List ℕ → ℕ
+fields_lack f b = if nat_lt (length b) f.first then f.first - length b else f.width - length b
+
 -- what a payload of the layout lacks, or one with a length field
 abbrev pub lack_of : Option Layout → Width → List ℕ → ℕ
-lack_of (Some f) w b = f.width - length b
+lack_of (Some f) w b = fields_lack f b
 lack_of None w b = frame_lack w b
 
 -- how many bytes the field that is being read lacks, by the header alone; 0 where the frame is whole

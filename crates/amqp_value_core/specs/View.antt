@@ -1,26 +1,45 @@
 -- The tree that an `AMQPValue` stands for.
-use Rattle.std.specs.Prelude.{List, map}
-use Rattle.std.specs.Int.{w8, w32, cast_unsigned}
+use Rattle.std.specs.Prelude.{ℕ, List, map}
+use Rattle.std.specs.Int.{w8, w16, w32, w64, cast_unsigned}
 use Rattle.amqp_value_core.specs.declared.types.AMQPType.TheVariants as amqp
-use Rattle.amqp_value_core.specs.declared.types.FieldArray.{FieldArray}
+use Rattle.amqp_value_core.specs.declared.types.field_array.FieldArray.{FieldArray}
+use Rattle.amqp_value_core.specs.declared.types.field_table.FieldTable.{FieldTable}
 use Rattle.amqp_value_core.specs.declared.value.AMQPValue.{AMQPValue, fold-AMQPValue}
-use Rattle.amqp_value_core.specs.declared.value.AMQPValue.TheOpen.{AMQPValue-F, FieldArray-F}
-use Rattle.amqp_value_core.specs.Values.{boolean, number, void, Tree, scalar, array, Trees, trees_of}
+use Rattle.amqp_value_core.specs.declared.value.AMQPValue.TheOpen.{AMQPValue-F, FieldArray-F, FieldTable-F}
+use Rattle.amqp_value_core.specs.Values.{boolean, number, decimal, void, Tree, scalar, short, long, octets, array, table, Trees, trees_of, Entries, entries_of}
+use Rattle.amqp_value_core.specs.Numbers.{float_bits, double_bits}
+use Rattle.amqp_value_core.specs.Bytes.{long_bytes, array_bytes}
 
 -- one level, with each value inside already seen as its tree
-abbrev pub view_step : AMQPValue-F Tree Trees → Tree
+abbrev pub view_step : AMQPValue-F Tree Trees Entries → Tree
 view_step (AMQPValue-F.Boolean b) = scalar (boolean b)
 view_step (AMQPValue-F.ShortShortInt z) = scalar (number amqp.ShortShortInt (cast_unsigned w8 z))
+view_step (AMQPValue-F.ShortShortUInt n) = scalar (number amqp.ShortShortUInt n)
+view_step (AMQPValue-F.ShortInt z) = scalar (number amqp.ShortInt (cast_unsigned w16 z))
+view_step (AMQPValue-F.ShortUInt n) = scalar (number amqp.ShortUInt n)
 view_step (AMQPValue-F.LongInt z) = scalar (number amqp.LongInt (cast_unsigned w32 z))
+view_step (AMQPValue-F.LongUInt n) = scalar (number amqp.LongUInt n)
+view_step (AMQPValue-F.LongLongInt z) = scalar (number amqp.LongLongInt (cast_unsigned w64 z))
+view_step (AMQPValue-F.Float f) = scalar (number amqp.Float (float_bits f))
+view_step (AMQPValue-F.Double f) = scalar (number amqp.Double (double_bits f))
+view_step (AMQPValue-F.DecimalValue d) = scalar (decimal d.scale d.value)
+view_step (AMQPValue-F.ShortString s) = short s
+view_step (AMQPValue-F.LongString s) = long (long_bytes s)
 view_step (AMQPValue-F.FieldArray vs) = array vs
+view_step (AMQPValue-F.Timestamp n) = scalar (number amqp.Timestamp n)
+view_step (AMQPValue-F.FieldTable es) = table es
+view_step (AMQPValue-F.ByteArray s) = octets (array_bytes s)
 view_step AMQPValue-F.Void = scalar void
 
-abbrev pub array_step : FieldArray-F Tree Trees → Trees
+abbrev pub array_step : FieldArray-F Tree Trees Entries → Trees
 array_step a = trees_of a.items.items
+
+abbrev pub table_step : FieldTable-F Tree Trees Entries → Entries
+table_step t = entries_of t.map.entries
 
 -- the tree of a value
 abbrev pub view : AMQPValue → Tree
-view = fold-AMQPValue Tree Trees view_step array_step
+view = fold-AMQPValue Tree Trees Entries view_step array_step table_step
 
 -- the values of an array, in order
 abbrev pub array_items : FieldArray → List AMQPValue
@@ -33,3 +52,15 @@ trees vs = trees_of (map view vs)
 -- the trees of an array's values
 abbrev pub array_view : FieldArray → Trees
 array_view a = trees (array_items a)
+
+-- the entries of a table: keys and values, in the order of the keys' bytes
+abbrev pub table_entries : FieldTable → List (List ℕ × AMQPValue)
+table_entries t = t.map.entries
+
+-- the trees of some entries' values, with their keys
+abbrev pub entries : List (List ℕ × AMQPValue) → Entries
+entries es = entries_of (map (λ e. (e.0, view e.1)) es)
+
+-- the trees of a table's values, with their keys
+abbrev pub table_view : FieldTable → Entries
+table_view t = entries (table_entries t)

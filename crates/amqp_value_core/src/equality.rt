@@ -1,12 +1,13 @@
-//! `==` on values and on arrays: equality of their trees.
+//! `==` on values, arrays and tables: equality of their trees.
 
 ghost use Rattle.std.specs.Prelude.{◌≡◌, ◌↔◌, IsTrue};
-ghost use Rattle.amqp_value_core.specs.View.{view, array_view, trees};
-ghost use Rattle.amqp_value_core.specs.Equality.{same_tree, same_trees};
-ghost use Rattle.amqp_value_core.specs.Decided.{same_tree_laws, same_trees_laws};
+ghost use Rattle.amqp_value_core.specs.View.{view, array_view, table_view, trees, entries};
+ghost use Rattle.amqp_value_core.specs.Equality.{same_tree, same_trees, same_entries};
+ghost use Rattle.amqp_value_core.specs.Decided.{same_tree_laws, same_trees_laws, same_entries_laws};
 
-use crate::types::FieldArray;
+use crate::types::{FieldArray, FieldTable, ShortString};
 use crate::value::AMQPValue;
+use std::collections::BTreeMap;
 
 impl PartialEq for AMQPValue {
     ghost eq = { λ a b. same_tree (view a) (view b) };
@@ -34,6 +35,19 @@ impl PartialEq for FieldArray {
     }
 }
 
+impl PartialEq for FieldTable {
+    ghost eq = { λ a b. same_entries (table_view a) (table_view b) };
+
+    ghost laws = { same_entries_laws table_view };
+
+    fn eq(&self, other: &Self) -> bool
+        ensures test { result ≡ same_entries (table_view self.now) (table_view other.now) }
+        ensures trees { IsTrue result ↔ (table_view self.now ≡ table_view other.now) }
+    {
+        same_pairs(self.inner(), other.inner())
+    }
+}
+
 /// Whether two values have one type and the same contents.
 #[cycle(same)]
 fn same(a: &AMQPValue, b: &AMQPValue) -> bool
@@ -42,10 +56,23 @@ fn same(a: &AMQPValue, b: &AMQPValue) -> bool
     match (a, b) {
         (AMQPValue::Boolean(a), AMQPValue::Boolean(b)) => a == b,
         (AMQPValue::ShortShortInt(a), AMQPValue::ShortShortInt(b)) => a == b,
+        (AMQPValue::ShortShortUInt(a), AMQPValue::ShortShortUInt(b)) => a == b,
+        (AMQPValue::ShortInt(a), AMQPValue::ShortInt(b)) => a == b,
+        (AMQPValue::ShortUInt(a), AMQPValue::ShortUInt(b)) => a == b,
         (AMQPValue::LongInt(a), AMQPValue::LongInt(b)) => a == b,
+        (AMQPValue::LongUInt(a), AMQPValue::LongUInt(b)) => a == b,
+        (AMQPValue::LongLongInt(a), AMQPValue::LongLongInt(b)) => a == b,
+        (AMQPValue::Float(a), AMQPValue::Float(b)) => a == b,
+        (AMQPValue::Double(a), AMQPValue::Double(b)) => a == b,
+        (AMQPValue::DecimalValue(a), AMQPValue::DecimalValue(b)) => a == b,
+        (AMQPValue::ShortString(a), AMQPValue::ShortString(b)) => a == b,
+        (AMQPValue::LongString(a), AMQPValue::LongString(b)) => a == b,
         (AMQPValue::FieldArray(a), AMQPValue::FieldArray(b)) => {
             same_items(a.as_slice(), b.as_slice())
         }
+        (AMQPValue::Timestamp(a), AMQPValue::Timestamp(b)) => a == b,
+        (AMQPValue::FieldTable(a), AMQPValue::FieldTable(b)) => { same_pairs(a.inner(), b.inner()) }
+        (AMQPValue::ByteArray(a), AMQPValue::ByteArray(b)) => a == b,
         (AMQPValue::Void, AMQPValue::Void) => true,
         _ => false,
     }
@@ -58,6 +85,19 @@ fn same_items(a: &[AMQPValue], b: &[AMQPValue]) -> bool
 {
     for (x, y) in a.iter().zip(b) {
         if !same(x, y) {
+            return false;
+        }
+    }
+    a.len() == b.len()
+}
+
+/// Whether two maps have as many entries, each with the key and the value of the one at its place.
+#[cycle(same)]
+fn same_pairs(a: &BTreeMap<ShortString, AMQPValue>, b: &BTreeMap<ShortString, AMQPValue>) -> bool
+    ensures { result ≡ same_entries (entries a.now.entries) (entries b.now.entries) }
+{
+    for ((j, x), (k, y)) in a.iter().zip(b.iter()) {
+        if j != k || !same(x, y) {
             return false;
         }
     }

@@ -1,6 +1,7 @@
 //! What parsers read from.
 
 ghost use Rattle.std.specs.Prelude.{◌≡◌, ◌<◌, ◌≤◌, List, ℕ, length, slice_index, take, drop};
+ghost use Rattle.amqp_value_core.specs.Fronts.{IsFront};
 
 /// Bytes that a parser reads. It is seen as a list of bytes, and its calls take no memory and copy
 /// no byte.
@@ -28,6 +29,14 @@ pub trait ParsableInput: Copy {
     fn take_from(&self, n: usize) -> Self
         requires { n ≤ length (bytes self.now) }
         ensures { bytes result ≡ drop n (bytes self.now) };
+
+    /// Some of the first bytes, as a slice: as many as lie there, maybe none. What copies bytes
+    /// copies them by chunks, and one by one where a chunk is empty. An implementor may leave it out.
+    fn chunk(&self) -> &[u8]
+        ensures { IsFront result.now (bytes self.now) }
+    {
+        &[]
+    }
 }
 
 /// The bytes of a slice, as an input.
@@ -77,5 +86,13 @@ impl<'a> ParsableInput for SliceInput<'a> {
         SliceInput {
             slice: &self.slice[n..],
         }
+    }
+
+    /// All of the bytes.
+    fn chunk(&self) -> &[u8]
+        ensures all { result.now ≡ slice_bytes self.now }
+        ensures front { IsFront result.now (slice_bytes self.now) }
+    {
+        self.slice
     }
 }

@@ -3,8 +3,29 @@
 ghost use Rattle.std.specs.Prelude.{◌≡◌, Some};
 ghost use Rattle.amqp_value_core.specs.Ids.{kind, id_of, read_as};
 
-use crate::value::AMQPValue;
-use std::alloc::{AllocError, Global};
+mod byte_array;
+mod decimal_value;
+mod double;
+mod field_array;
+mod field_table;
+mod float;
+mod long_string;
+mod names;
+mod short_string;
+
+pub use byte_array::ByteArray;
+pub use decimal_value::DecimalValue;
+pub use double::Double;
+pub use field_array::FieldArray;
+pub use field_table::FieldTable;
+pub use float::Float;
+pub use long_string::LongString;
+pub use names::{
+    Boolean, ChannelId, ChunkSize, ConsumerCount, DeliveryTag, FrameSize, Heartbeat, Identifier,
+    LongInt, LongLongInt, LongLongUInt, LongUInt, MAX_SHORT_STRING_LENGTH, MessageCount,
+    PayloadSize, ReplyCode, ShortInt, ShortShortInt, ShortShortUInt, ShortUInt, Timestamp, Void,
+};
+pub use short_string::{ShortString, ShortStringError, TryCopyError};
 use std::fmt;
 
 /// The type of an AMQP value.
@@ -14,30 +35,73 @@ pub enum AMQPType {
     Boolean,
     /// A signed number of 8 bits, an `i8`.
     ShortShortInt,
+    /// An unsigned number of 8 bits, a `u8`.
+    ShortShortUInt,
+    /// A signed number of 16 bits, an `i16`.
+    ShortInt,
+    /// An unsigned number of 16 bits, a `u16`.
+    ShortUInt,
     /// A signed number of 32 bits, an `i32`.
     LongInt,
+    /// An unsigned number of 32 bits, a `u32`.
+    LongUInt,
+    /// A signed number of 64 bits, an `i64`.
+    LongLongInt,
+    /// An unsigned number of 64 bits, a `u64`. No id stands for it: where its id is written, a
+    /// `LongLongInt` of the same bits is read.
+    LongLongUInt,
+    /// A floating-point number of 32 bits.
+    Float,
+    /// A floating-point number of 64 bits.
+    Double,
+    /// A decimal number: a scale and an unsigned number of 32 bits.
+    DecimalValue,
+    /// A text of at most 255 bytes. No id stands for it: it is a key of a table, and where it is
+    /// written as a value no reader takes it.
+    ShortString,
+    /// Bytes of any kind, a text for most peers.
+    LongString,
     /// A list of values, each with its type.
     FieldArray,
+    /// A time, an unsigned number of 64 bits.
+    Timestamp,
+    /// A map from short strings to values, each with its type.
+    FieldTable,
+    /// Bytes of any kind.
+    ByteArray,
     /// Nothing: a type with one value.
     Void,
 }
 
 impl AMQPType {
-    /// The type that an id stands for: AMQP's letters as RabbitMQ reads them.
+    /// The type that an id stands for: AMQP's letters as RabbitMQ reads them. `U` is read as `s`
+    /// is, and `L` as `l`.
     pub fn from_id(id: char) -> Option<AMQPType>
         ensures { result ≡ kind id }
     {
         match id {
             't' => Some(AMQPType::Boolean),
             'b' => Some(AMQPType::ShortShortInt),
+            'B' => Some(AMQPType::ShortShortUInt),
+            's' | 'U' => Some(AMQPType::ShortInt),
+            'u' => Some(AMQPType::ShortUInt),
             'I' => Some(AMQPType::LongInt),
+            'i' => Some(AMQPType::LongUInt),
+            'l' | 'L' => Some(AMQPType::LongLongInt),
+            'f' => Some(AMQPType::Float),
+            'd' => Some(AMQPType::Double),
+            'D' => Some(AMQPType::DecimalValue),
+            'S' => Some(AMQPType::LongString),
             'A' => Some(AMQPType::FieldArray),
+            'T' => Some(AMQPType::Timestamp),
+            'F' => Some(AMQPType::FieldTable),
+            'x' => Some(AMQPType::ByteArray),
             'V' => Some(AMQPType::Void),
             _ => None,
         }
     }
 
-    /// The id that is written for the type, a letter of ASCII.
+    /// The id that is written for the type, a letter of ASCII or `_`.
     pub fn get_id(self) -> char
         ensures id { result ≡ id_of self }
         ensures read_back { kind result ≡ read_as self }
@@ -45,8 +109,22 @@ impl AMQPType {
         match self {
             AMQPType::Boolean => 't',
             AMQPType::ShortShortInt => 'b',
+            AMQPType::ShortShortUInt => 'B',
+            AMQPType::ShortInt => 's',
+            AMQPType::ShortUInt => 'u',
             AMQPType::LongInt => 'I',
+            AMQPType::LongUInt => 'i',
+            AMQPType::LongLongInt => 'l',
+            AMQPType::LongLongUInt => 'l',
+            AMQPType::Float => 'f',
+            AMQPType::Double => 'd',
+            AMQPType::DecimalValue => 'D',
+            AMQPType::ShortString => '_',
+            AMQPType::LongString => 'S',
             AMQPType::FieldArray => 'A',
+            AMQPType::Timestamp => 'T',
+            AMQPType::FieldTable => 'F',
+            AMQPType::ByteArray => 'x',
             AMQPType::Void => 'V',
         }
     }
@@ -61,56 +139,23 @@ impl fmt::Display for AMQPType {
         f.write_str(match self {
             AMQPType::Boolean => "Boolean",
             AMQPType::ShortShortInt => "ShortShortInt",
+            AMQPType::ShortShortUInt => "ShortShortUInt",
+            AMQPType::ShortInt => "ShortInt",
+            AMQPType::ShortUInt => "ShortUInt",
             AMQPType::LongInt => "LongInt",
+            AMQPType::LongUInt => "LongUInt",
+            AMQPType::LongLongInt => "LongLongInt",
+            AMQPType::LongLongUInt => "LongLongUInt",
+            AMQPType::Float => "Float",
+            AMQPType::Double => "Double",
+            AMQPType::DecimalValue => "DecimalValue",
+            AMQPType::ShortString => "ShortString",
+            AMQPType::LongString => "LongString",
             AMQPType::FieldArray => "FieldArray",
+            AMQPType::Timestamp => "Timestamp",
+            AMQPType::FieldTable => "FieldTable",
+            AMQPType::ByteArray => "ByteArray",
             AMQPType::Void => "Void",
         })
-    }
-}
-
-/// A list of values, each with its type.
-#[cycle(values)]
-#[derive(Debug, Drop)]
-pub struct FieldArray {
-    items: Vec<AMQPValue>,
-}
-
-impl FieldArray {
-    ghost use Rattle.std.specs.Prelude.{[], ◌∷◌, ◌++◌, OnOk, OnErr};
-    ghost use Rattle.amqp_value_core.specs.View.{array_items};
-
-    /// The array with no values. Takes no memory.
-    pub fn new_in(alloc: Global) -> Self
-        ensures { array_items result ≡ [] }
-    {
-        FieldArray {
-            items: Vec::new(alloc),
-        }
-    }
-
-    /// The values, in order.
-    pub fn as_slice(&self) -> &[AMQPValue]
-        ensures { result.now ≡ array_items self.now }
-    {
-        self.items.as_slice()
-    }
-
-    /// Appends a value. Where memory is refused the array is as before, and the value is dropped.
-    pub fn push(&mut self, v: AMQPValue) -> Result<(), AllocError>
-        ensures ok { OnOk result (array_items self.new ≡ array_items self.old ++ v ∷ []) }
-        ensures err { OnErr result (array_items self.new ≡ array_items self.old) }
-    {
-        self.items.push(v)?;
-        Ok(())
-    }
-}
-
-impl From<Vec<AMQPValue>> for FieldArray {
-    ghost use Rattle.amqp_value_core.specs.View.{array_items};
-
-    ghost from_gives = { λ v a. array_items a ≡ v.items };
-
-    fn from(items: Vec<AMQPValue>) -> Self {
-        FieldArray { items }
     }
 }

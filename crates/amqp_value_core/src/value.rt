@@ -1,19 +1,49 @@
 //! The values of field tables and arrays.
 
-use crate::types::{AMQPType, FieldArray};
+use crate::types::{
+    AMQPType, Boolean, ByteArray, DecimalValue, Double, FieldArray, FieldTable, Float, LongInt,
+    LongLongInt, LongString, LongUInt, ShortInt, ShortShortInt, ShortShortUInt, ShortString,
+    ShortUInt, Timestamp,
+};
 
 /// A value, with its type.
 #[cycle(values)]
 #[derive(Debug, Drop)]
 pub enum AMQPValue {
     /// A truth value.
-    Boolean(bool),
+    Boolean(Boolean),
     /// A signed number of 8 bits.
-    ShortShortInt(i8),
+    ShortShortInt(ShortShortInt),
+    /// An unsigned number of 8 bits.
+    ShortShortUInt(ShortShortUInt),
+    /// A signed number of 16 bits.
+    ShortInt(ShortInt),
+    /// An unsigned number of 16 bits.
+    ShortUInt(ShortUInt),
     /// A signed number of 32 bits.
-    LongInt(i32),
+    LongInt(LongInt),
+    /// An unsigned number of 32 bits.
+    LongUInt(LongUInt),
+    /// A signed number of 64 bits.
+    LongLongInt(LongLongInt),
+    /// A floating-point number of 32 bits.
+    Float(Float),
+    /// A floating-point number of 64 bits.
+    Double(Double),
+    /// A decimal number.
+    DecimalValue(DecimalValue),
+    /// A text of at most 255 bytes. It can be written, and no reader takes what is written.
+    ShortString(ShortString),
+    /// Bytes of any kind, a text for most peers.
+    LongString(LongString),
     /// A list of values, each with its type.
     FieldArray(FieldArray),
+    /// A time, an unsigned number of 64 bits.
+    Timestamp(Timestamp),
+    /// A map from short strings to values, each with its type.
+    FieldTable(FieldTable),
+    /// Bytes of any kind.
+    ByteArray(ByteArray),
     /// No value.
     Void,
 }
@@ -30,8 +60,21 @@ impl AMQPValue {
         match self {
             AMQPValue::Boolean(_) => AMQPType::Boolean,
             AMQPValue::ShortShortInt(_) => AMQPType::ShortShortInt,
+            AMQPValue::ShortShortUInt(_) => AMQPType::ShortShortUInt,
+            AMQPValue::ShortInt(_) => AMQPType::ShortInt,
+            AMQPValue::ShortUInt(_) => AMQPType::ShortUInt,
             AMQPValue::LongInt(_) => AMQPType::LongInt,
+            AMQPValue::LongUInt(_) => AMQPType::LongUInt,
+            AMQPValue::LongLongInt(_) => AMQPType::LongLongInt,
+            AMQPValue::Float(_) => AMQPType::Float,
+            AMQPValue::Double(_) => AMQPType::Double,
+            AMQPValue::DecimalValue(_) => AMQPType::DecimalValue,
+            AMQPValue::ShortString(_) => AMQPType::ShortString,
+            AMQPValue::LongString(_) => AMQPType::LongString,
             AMQPValue::FieldArray(_) => AMQPType::FieldArray,
+            AMQPValue::Timestamp(_) => AMQPType::Timestamp,
+            AMQPValue::FieldTable(_) => AMQPType::FieldTable,
+            AMQPValue::ByteArray(_) => AMQPType::ByteArray,
             AMQPValue::Void => AMQPType::Void,
         }
     }

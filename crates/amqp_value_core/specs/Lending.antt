@@ -1,0 +1,21 @@
+-- A table that is lent whole: what becomes of it where a call refuses.
+use Rattle.std.specs.Prelude.{◌≡◌, Result, Ok, Err}
+use Rattle.std.specs.Borrow.{Fml, MutBor, RestsIfErr}
+use Rattle.amqp_value_core.specs.declared.types.field_table.FieldTable.{FieldTable}
+use Rattle.amqp_value_core.specs.declared.types.field_table.Lent.{Lent}
+use Rattle.amqp_value_core.specs.contracts.types.field_table.FieldTable.{the_row}
+use Rattle.amqp_value_core.specs.View.{table_view}
+
+module _ (s : MutBor FieldTable) {E : Type 0} where
+  -- s is lent in r; at `Err` it keeps its entries
+  abbrev pub Rests : Result (MutBor FieldTable) E → Fml
+  Rests r = RestsIfErr the_row s (λ t. t.ghost_name) r (λ last. table_view last ≡ table_view s.now)
+
+  -- the same, where what was lent stands in a struct
+  abbrev pub RestsIn : Result Lent E → Fml
+  RestsIn r = RestsIfErr the_row s (λ h. h.table.ghost_name) r (λ last. table_view last ≡ table_view s.now)
+
+-- what was lent, out of its struct
+abbrev pub bare_of : {E : Type 0} → Result Lent E → Result (MutBor FieldTable) E
+bare_of (Ok h) = Ok h.table
+bare_of (Err e) = Err e

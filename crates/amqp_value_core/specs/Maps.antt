@@ -1,0 +1,18 @@
+-- A table is a finite map: what is found at a key.
+use Rattle.std.specs.Prelude.{ℕ, Bool, true, false, ◌||◌, Option, Some, None, List, nat_eq, if◌then◌else◌}
+use Rattle.std.specs.Cmp.Lexicographic.{pointwise}
+use Rattle.amqp_value_core.specs.Values.{Tree, Entries, no_entries, entry}
+
+-- whether two keys are the same bytes
+abbrev pub same_bytes : List ℕ → List ℕ → Bool
+same_bytes = pointwise nat_eq
+
+-- whether there is a value at a key
+abbrev pub has_key : List ℕ → Entries → Bool
+has_key k no_entries = false
+has_key k (entry j v es) = same_bytes k j || has_key k es
+
+-- the value at a key
+abbrev pub value_at : List ℕ → Entries → Option Tree
+value_at k no_entries = None
+value_at k (entry j v es) = if same_bytes k j then Some v else value_at k es

@@ -1,0 +1,54 @@
+ghost use Rattle.std.specs.Prelude.{◌≡◌, [], length, nat_eq};
+ghost use Rattle.amqp_value_core.specs.Bytes.{array_bytes};
+
+use std::alloc::Global;
+
+/// Bytes of any kind, at most 4294967295 of which can be written.
+///
+/// Equality and hash are those of its bytes.
+#[derive(Debug, PartialEq, Eq, Hash, Drop)]
+pub struct ByteArray {
+    bytes: Vec<u8>,
+}
+
+impl ByteArray {
+    /// The array with no bytes. Takes no memory.
+    pub fn new_in(alloc: Global) -> Self
+        ensures { array_bytes result ≡ [] }
+    {
+        ByteArray {
+            bytes: Vec::new(alloc),
+        }
+    }
+
+    /// The bytes.
+    pub fn as_slice(&self) -> &[u8]
+        ensures { result.now ≡ array_bytes self.now }
+    {
+        self.bytes.as_slice()
+    }
+
+    /// How many bytes there are.
+    pub fn len(&self) -> usize
+        ensures { result ≡ length (array_bytes self.now) }
+    {
+        self.bytes.len()
+    }
+
+    /// Whether there is no byte.
+    pub fn is_empty(&self) -> bool
+        ensures { result ≡ nat_eq (length (array_bytes self.now)) 0 }
+    {
+        self.bytes.is_empty()
+    }
+}
+
+impl From<Vec<u8>> for ByteArray {
+    ghost use Rattle.amqp_value_core.specs.Bytes.{array_bytes};
+
+    ghost from_gives = { λ v a. array_bytes a ≡ v.items };
+
+    fn from(bytes: Vec<u8>) -> Self {
+        ByteArray { bytes }
+    }
+}

@@ -1,0 +1,11 @@
+use crate::types::{LongUInt, ShortShortUInt};
+
+/// A decimal number: `value` with its point moved `scale` digits to the left. What it stands for
+/// isn't computed here.
+#[derive(Clone, Copy, Debug, PartialEq, Eq, Hash)]
+pub struct DecimalValue {
+    /// How many digits stand behind the point.
+    pub scale: ShortShortUInt,
+    /// The digits, as a number.
+    pub value: LongUInt,
+}

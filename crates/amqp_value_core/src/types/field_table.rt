@@ -1,0 +1,113 @@
+ghost use Rattle.std.specs.Prelude.{◌≡◌, [], OnOk, OnErr, IfOk};
+ghost use Rattle.std.specs.Borrow.{sem};
+ghost use Rattle.amqp_value_core.specs.Values.{put};
+ghost use Rattle.amqp_value_core.specs.Maps.{has_key};
+ghost use Rattle.amqp_value_core.specs.View.{view, table_entries, table_view};
+ghost use Rattle.amqp_value_core.specs.Lending.{Rests, RestsIn, bare_of};
+
+use crate::types::ShortString;
+use crate::value::AMQPValue;
+use std::alloc::{AllocError, Global};
+use std::collections::{BTreeMap, btree_map};
+
+/// A map from short strings to values, each with its type. Its keys are in the order of their bytes.
+#[cycle(values)]
+#[derive(Debug, Drop)]
+pub struct FieldTable {
+    map: BTreeMap<ShortString, AMQPValue>,
+}
+
+/// A table that a call hands back.
+#[derive(Drop)]
+struct Lent<'a> {
+    table: &'a mut FieldTable,
+}
+
+// the table, out of its struct
+fn bare(lent: Result<Lent<'_>, AllocError>) -> Result<&mut FieldTable, AllocError>
+    ensures { result ≡ bare_of lent.entry }
+{
+    match lent {
+        Ok(Lent { table }) => Ok(table),
+        Err(e) => Err(e),
+    }
+}
+
+impl FieldTable {
+    /// The table with no entries. Takes no memory.
+    pub fn new_in(alloc: Global) -> Self
+        ensures { table_entries result ≡ [] }
+    {
+        FieldTable {
+            map: BTreeMap::new(alloc),
+        }
+    }
+
+    /// Puts a value at a key, in the place of the one that was there, and hands back the table.
+    /// Where memory is refused the table is as before, and the key and the value are dropped.
+    pub fn insert(&mut self, k: ShortString, v: AMQPValue) -> Result<&mut FieldTable, AllocError>
+        ensures* unchanged_at_err { sem 𝓛 (Rests self.entry result) }
+        ensures same { IfOk result (λ r. r.ghost_name ≡ self.entry.ghost_name) }
+        ensures ok { IfOk result (λ r. table_view r.now ≡ put k (view v) (table_view self.old)) }
+    {
+        bare(self.lend(k, v))
+    }
+
+    fn lend(&mut self, k: ShortString, v: AMQPValue) -> Result<Lent<'_>, AllocError>
+        ensures* unchanged_at_err { sem 𝓛 (RestsIn self.entry result) }
+        ensures same { IfOk result (λ r. r.table.ghost_name ≡ self.entry.ghost_name) }
+        ensures ok { IfOk result (λ r. table_view r.table.now ≡ put k (view v) (table_view self.old)) }
+    {
+        self.place(k, v)?;
+        Ok(Lent { table: self })
+    }
+
+    /// Puts a value at a key, as `insert` does, and hands nothing back: for callers whose own
+    /// contract speaks of the table after a refusal.
+    pub fn place(&mut self, k: ShortString, v: AMQPValue) -> Result<(), AllocError>
+        ensures ok { OnOk result (table_view self.new ≡ put k (view v) (table_view self.old)) }
+        ensures err { OnErr result (table_entries self.new ≡ table_entries self.old) }
+    {
+        drop(self.map.insert(k, v)?);
+        Ok(())
+    }
+
+    /// Whether there is a value at the key. Walks the entries, and takes no memory.
+    pub fn contains_key(&self, k: &str) -> bool
+        ensures { result ≡ has_key k.now (table_view self.now) }
+    {
+        for (key, _) in self.map.iter() {
+            if key.as_str() == k {
+                return true;
+            }
+        }
+        false
+    }
+
+    /// The entries as a map.
+    pub fn inner(&self) -> &BTreeMap<ShortString, AMQPValue>
+        ensures { result.now.entries ≡ table_entries self.now }
+    {
+        &self.map
+    }
+}
+
+impl From<BTreeMap<ShortString, AMQPValue>> for FieldTable {
+    ghost use Rattle.amqp_value_core.specs.View.{table_entries};
+
+    ghost from_gives = { λ m t. table_entries t ≡ m.entries };
+
+    fn from(map: BTreeMap<ShortString, AMQPValue>) -> Self {
+        FieldTable { map }
+    }
+}
+
+impl<'a> IntoIterator for &'a FieldTable {
+    type Item = (&'a ShortString, &'a AMQPValue);
+
+    type IntoIter = btree_map::Iter<'a, ShortString, AMQPValue>;
+
+    fn into_iter(self) -> btree_map::Iter<'a, ShortString, AMQPValue> {
+        self.map.iter()
+    }
+}
