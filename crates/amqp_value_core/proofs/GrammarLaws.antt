@@ -17,3 +17,4 @@ pub use Rattle.amqp_value_core.proofs.Outcomes.{raw_whole, raw_found, wire_found
 -- bytes behind their length: the number is theirs, the frame is whole, and as an array's payload they are its body
 pub use Rattle.amqp_value_core.proofs.Headers.{counted-large, lack_of-large}
 pub use Rattle.amqp_value_core.proofs.Reading.{array_body}
+pub use Rattle.amqp_value_core.proofs.Headers.{counted-small, lack_of-small}
