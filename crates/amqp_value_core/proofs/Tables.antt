@@ -3,10 +3,10 @@ use Rattle.std.proofs.Common.{◌≡◌, ℕ, List, refl, sym, ap, ◌∙◌, su
 use Rattle.std.specs.Ordering.{nat_cmp, match_ordering, ordering_reverse}
 use Rattle.std.specs.Cmp.Lexicographic.{slice_cmp}
 use Rattle.std.specs.declared.cmp.Ordering.{Ordering}
-use Rattle.std.specs.declared.cmp.Ordering.TheVariants.{Less, Equal, Greater}
+use Rattle.std.specs.declared.cmp.Ordering.TheVariants.{Less, Greater}
 use Rattle.std.proofs.lemmas.Cmp.{nat_list_cmp_total}
 use Rattle.amqp_value_core.specs.Values.{Tree, Entries, no_entries, entry, put, onto}
-use Rattle.amqp_value_core.specs.Texts.{ComesBefore, AreEntries}
+use Rattle.amqp_value_core.specs.Texts.{AreEntries}
 use Rattle.amqp_value_core.specs.Maps.{IsRising}
 
 -- ---- the order of keys

@@ -1,5 +1,5 @@
 -- A table is a finite map: what is found at a key.
-use Rattle.std.specs.Prelude.{ℕ, Bool, true, false, ◌||◌, Option, Some, None, List, nat_eq, if◌then◌else◌}
+use Rattle.std.specs.Prelude.{ℕ, Bool, false, ◌||◌, Option, Some, None, List, nat_eq, if◌then◌else◌}
 use Rattle.std.specs.Cmp.Lexicographic.{pointwise}
 use Rattle.amqp_value_core.specs.Values.{Tree, Entries, no_entries, entry}
 use Rattle.amqp_value_core.specs.Texts.{ComesBefore}
