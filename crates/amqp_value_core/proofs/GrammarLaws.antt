@@ -16,4 +16,9 @@ pub use Rattle.amqp_value_core.proofs.Outcomes.{raw_to_value, value_to_raw, raw_
 pub use Rattle.amqp_value_core.proofs.Outcomes.{raw_whole, raw_found, wire_found}
 -- bytes behind their length: the number is theirs, the frame is whole, and as an array's payload they are its body
 pub use Rattle.amqp_value_core.proofs.Headers.{counted-large, lack_of-large}
+pub use Rattle.amqp_value_core.proofs.Headers.{counted-small, lack_of-small}
 pub use Rattle.amqp_value_core.proofs.Reading.{array_body}
+-- as a table's payload they are its pairs, and as a short string's its bytes
+pub use Rattle.amqp_value_core.proofs.Reading.{table_body, short_bytes}
+-- pairs whose keys rise are put together as they are
+pub use Rattle.amqp_value_core.proofs.Tables.{onto-rising}

@@ -1,6 +1,7 @@
 mod Fronts
 mod Headers
 mod Unique
+mod Tables
 mod Spelling
 mod Outcomes
 mod Reading

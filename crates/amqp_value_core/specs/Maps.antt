@@ -1,7 +1,8 @@
 -- A table is a finite map: what is found at a key.
-use Rattle.std.specs.Prelude.{ℕ, Bool, true, false, ◌||◌, Option, Some, None, List, nat_eq, if◌then◌else◌}
+use Rattle.std.specs.Prelude.{ℕ, Bool, false, ◌||◌, Option, Some, None, List, nat_eq, if◌then◌else◌}
 use Rattle.std.specs.Cmp.Lexicographic.{pointwise}
 use Rattle.amqp_value_core.specs.Values.{Tree, Entries, no_entries, entry}
+use Rattle.amqp_value_core.specs.Texts.{ComesBefore}
 
 -- whether two keys are the same bytes
 abbrev pub same_bytes : List ℕ → List ℕ → Bool
@@ -16,3 +17,8 @@ has_key k (entry j v es) = same_bytes k j || has_key k es
 abbrev pub value_at : List ℕ → Entries → Option Tree
 value_at k no_entries = None
 value_at k (entry j v es) = if same_bytes k j then Some v else value_at k es
+
+-- the keys rise by their bytes, so no two are equal
+abbrev pub IsRising : Entries → Type 0
+IsRising no_entries = Unit {0}
+IsRising (entry k v es) = ComesBefore k es × IsRising es
