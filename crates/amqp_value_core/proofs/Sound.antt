@@ -1,21 +1,24 @@
 -- What is found has a wire: reading as a function finds nothing but values of the grammar.
 use Rattle.std.proofs.Common.{ℕ, suc, zero, ◌+◌, ◌-◌, ◌≤◌, ◌<◌, ◌^◌, ◌≡◌, ◌∙◌, ap, sym, refl, subst, Bool, true, false, Option, Some, None, option_map, List, [], ◌∷◌, ◌++◌, length, get_or, take, drop, arith, append_assoc, length-take, length-drop}
-use Rattle.std.proofs.lemmas.Bool.{ltb-true, ltb-false}
+use Rattle.std.proofs.lemmas.Bool.{ltb-true, ltb-false, leb-true, and_parts}
 use Rattle.std.proofs.lemmas.List.{take-append-drop}
 use Rattle.std.proofs.lemmas.Nat.{be_bytes_4}
-use Rattle.std.specs.Prelude.{cond, nat_lt, MatchOption}
+use Rattle.std.proofs.lemmas.Str.{IsUtf8-from_is_utf8}
+use Rattle.std.specs.Prelude.{cond, nat_lt, nat_le, MatchOption}
+use Rattle.std.specs.Str.{is_utf8}
 use Rattle.std.specs.Option.{IfSome}
-use Rattle.std.specs.Int.{Width, w32, byte_len, from_be_bytes, to_be_bytes}
+use Rattle.std.specs.Int.{Width, w8, w32, byte_len, from_be_bytes, to_be_bytes}
 use Rattle.amqp_value_core.specs.declared.types.AMQPType.{AMQPType}
 use Rattle.amqp_value_core.specs.declared.types.AMQPType.TheVariants as amqp
-use Rattle.amqp_value_core.specs.Values.{Tree, array, Trees, tree}
+use Rattle.amqp_value_core.specs.Values.{Tree, short, long, octets, array, table, Trees, tree, Entries, no_entries, entry, put, onto}
 use Rattle.amqp_value_core.specs.Ids.{kind}
 use Rattle.amqp_value_core.specs.Layouts.{Layout, fixed}
-use Rattle.amqp_value_core.specs.Grammar.{wire, raw_fixed, raw_array, no_values, value}
-use Rattle.amqp_value_core.specs.Nesting.{WireWithin, RawWithin, BodyWithin}
+use Rattle.amqp_value_core.specs.Strings.{IsShort}
+use Rattle.amqp_value_core.specs.Grammar.{small, large, wire, raw_fixed, raw_short, raw_long, raw_octets, raw_array, raw_table, no_values, value, no_pairs, pair}
+use Rattle.amqp_value_core.specs.Nesting.{WireWithin, RawWithin, BodyWithin, PairsWithin}
 use Rattle.amqp_value_core.specs.Outcomes.{IsBytes, Reading, found, more, unknown, malformed, Unless, length_field, counted, lack, lack_of, frame_lack}
-use Rattle.amqp_value_core.specs.Decode.{Meaning, framed, raw_outcome_by, outcome_by, values, meaning}
-use Rattle.amqp_value_core.proofs.Found.{by_kind, by_layout, by_lack, by_meaning, and_others}
+use Rattle.amqp_value_core.specs.Decode.{Meaning, framed, raw_outcome_by, outcome_by, values, is_short, is_key, pairs_onto, meaning}
+use Rattle.amqp_value_core.proofs.Found.{by_kind, by_layout, by_lack, by_meaning, and_others, and_pairs, and_key}
 
 -- a part of some bytes is bytes
 IsBytes-front : (s t : List ℕ) → IsBytes (s ++ t) → IsBytes s
@@ -63,9 +66,12 @@ abbrev pub Means : ℕ → Meaning → Type 0
 Means depth mean = (type : AMQPType) (l s : List ℕ) → IsBytes l → length l ≡ byte_len (length_field type)
     → from_be_bytes (length_field type) l ≡ length s → IsBytes s → IfSome (mean type s) (RawWithin depth type (l ++ s))
 
--- a field that lacks nothing is whole
+-- fields that lack nothing are whole
 fixed_lack-zero : (f : Layout) (w : Width) (b : List ℕ) → lack_of (Some f) w b ≡ 0 → f.width ≤ length b
-fixed_lack-zero f w b whole = omega arith
+fixed_lack-zero f w b whole = at_test (nat_lt (length b) f.first) refl whole where
+  at_test : (t : Bool) → nat_lt (length b) f.first ≡ t → cond t (f.first - length b) (f.width - length b) ≡ 0 → f.width ≤ length b
+  at_test true is whole = absurd (omega (arith, ltb-true (length b) f.first is))
+  at_test false is whole = omega arith
 
 -- so is a frame
 frame_lack-zero : (w : Width) (b : List ℕ) → frame_lack w b ≡ 0 → (byte_len w ≤ length b) × (byte_len w + counted w b ≤ length b)
@@ -90,12 +96,12 @@ framed_ends depth mean type b means bytes whole =
     let n = counted w b in
     let s = take n behind in
     let enough = frame_lack-zero w b whole in
-    let long : length l ≡ byte_len w = length-take (byte_len w) b ∙ omega (arith, enough) in
+    let wide : length l ≡ byte_len w = length-take (byte_len w) b ∙ omega (arith, enough) in
     let counts : n ≡ length s = omega (arith, enough, length-take n behind, length-drop (byte_len w) b) in
     let is : b ≡ (l ++ s) ++ drop n behind =
     sym (take-append-drop (byte_len w) b) ∙ (ap (λ t. l ++ t) (sym (take-append-drop n behind)) ∙ sym (append_assoc l s (drop n behind))) in
     by_meaning_ends (RawWithin depth type) b (l ++ s) (drop n behind) (mean type s)
-    (means type l s (IsBytes-take (byte_len w) b bytes) long counts (IsBytes-take n behind (IsBytes-drop (byte_len w) b bytes))) is
+    (means type l s (IsBytes-take (byte_len w) b bytes) wide counts (IsBytes-take n behind (IsBytes-drop (byte_len w) b bytes))) is
 
 -- reading a payload that lacks nothing
 by_layout_ends : (depth : ℕ) (mean : Meaning) (type : AMQPType) (b : List ℕ) → Means depth mean → IsBytes b
@@ -179,19 +185,104 @@ values_end depth read reads zero (c ∷ b) bytes = tt
 values_end depth read reads (suc n) (c ∷ b) bytes =
     others_end depth read n (c ∷ b) (read (c ∷ b)) bytes (reads (c ∷ b) bytes) (values_end depth read reads n)
 
+-- what is found to be a short string is one
+is_short-holds : (s : List ℕ) → is_short s ≡ true → IsShort s
+is_short-holds s is =
+    let both = and_parts (nat_le (length s) 255) (is_utf8 s) is in
+    record { few = leb-true (length s) 255 both.0; utf8 = IsUtf8-from_is_utf8 s both.1 }
+
+-- pairs, put onto es
+abbrev PairsOnto : ℕ → Entries → List ℕ → Entries → Type 0
+PairsOnto depth es s fs = (ps : Entries) × PairsWithin depth s ps × (fs ≡ onto es ps)
+
+-- a key and a value's wire, and the other pairs behind them
+pair_ends : (depth : ℕ) (es : Entries) (k t w rest : List ℕ) (v : Tree) (fs : Option Entries) → IsShort k → WireWithin depth w v → t ≡ w ++ rest
+    → IfSome fs (PairsOnto depth (put k v es) rest) → IfSome fs (PairsOnto depth es (small k ++ t))
+pair_ends depth es k t w rest v None key first is others = tt
+pair_ends depth es k t w rest v (Some fs) key (p, within) is (ps, (q, all_within), onto_es) =
+    subst (λ x. PairsOnto depth es (small k ++ x) fs) (sym is) (entry k v ps, (pair k w rest v ps key p q, omega arith), onto_es)
+
+-- what stands behind the first key, and what the other pairs are
+pairs_behind : (depth : ℕ) (read : List ℕ → Reading) (n : ℕ) (es : Entries) (k t : List ℕ) (o : Reading) → IsShort k → IsBytes t → IfFound (WireWithin depth) t o
+    → ((fs : Entries) (rest : List ℕ) → IsBytes rest → IfSome (pairs_onto read n fs rest) (PairsOnto depth fs rest))
+    → IfSome (and_pairs read n es k o) (PairsOnto depth es (small k ++ t))
+pairs_behind depth read n es k t (found v rest) key bytes (w, first, is) others =
+    pair_ends depth es k t w rest v (pairs_onto read n (put k v es) rest) key first is (others (put k v es) rest (IsBytes-behind w rest (subst IsBytes is bytes)))
+pairs_behind depth read n es k t (more m) key bytes ends others = tt
+pairs_behind depth read n es k t unknown key bytes ends others = tt
+pairs_behind depth read n es k t malformed key bytes ends others = tt
+
+-- what the first key is, and what the pairs are
+key_ends : (depth : ℕ) (read : List ℕ → Reading) → ((s : List ℕ) → IsBytes s → IfFound (WireWithin depth) s (read s))
+    → (n : ℕ) (es : Entries) (c : ℕ) (s : List ℕ) → IsBytes s
+    → ((fs : Entries) (rest : List ℕ) → IsBytes rest → IfSome (pairs_onto read n fs rest) (PairsOnto depth fs rest))
+    → IfSome (pairs_onto read (suc n) es (c ∷ s)) (PairsOnto depth es (c ∷ s))
+key_ends depth read reads n es c s bytes others = at_test (is_key c s) refl where
+  at_test : (t : Bool) → is_key c s ≡ t → IfSome (and_key t (and_pairs read n es (take c s) (read (drop c s)))) (PairsOnto depth es (c ∷ s))
+  at_test false is = tt
+  at_test true is =
+      let both = and_parts (nat_le c (length s)) (is_short (take c s)) is in
+      let enough = leb-true c (length s) both.0 in
+      let k = take c s in
+      let counts : length k ≡ c = length-take c s ∙ omega arith in
+      let whole : small k ++ drop c s ≡ c ∷ s = λ i. counts i ∷ take-append-drop c s i in
+      subst (λ x. IfSome (and_pairs read n es k (read (drop c s))) (PairsOnto depth es x)) whole
+      (pairs_behind depth read n es k (drop c s) (read (drop c s)) (is_short-holds k both.1) (IsBytes-drop c s bytes) (reads (drop c s) (IsBytes-drop c s bytes)) others)
+
+-- pairs that are put one after another are pairs
+pairs_end : (depth : ℕ) (read : List ℕ → Reading) → ((s : List ℕ) → IsBytes s → IfFound (WireWithin depth) s (read s))
+    → (n : ℕ) (es : Entries) (s : List ℕ) → IsBytes s → IfSome (pairs_onto read n es s) (PairsOnto depth es s)
+pairs_end depth read reads n es [] bytes = (no_entries, (no_pairs, omega arith), refl)
+pairs_end depth read reads zero es (c ∷ s) bytes = tt
+pairs_end depth read reads (suc n) es (c ∷ s) bytes = key_ends depth read reads n es c s bytes.1 (pairs_end depth read reads n)
+
+-- what holds of bytes behind their length in one byte holds behind each field that counts them
+small_end : (P : List ℕ → Type 0) (l s : List ℕ) → length l ≡ 1 → from_be_bytes w8 l ≡ length s → P (small s) → P (l ++ s)
+small_end P [] s one counts here = absurd (omega arith)
+small_end P (c ∷ []) s one counts here = subst (λ n. P (n ∷ s)) (sym counts) here
+small_end P (c ∷ d ∷ l) s one counts here = absurd (omega arith)
+
+-- so it is of a length in four bytes, which fits its field
+large_end : (P : List ℕ → Type 0) (l s : List ℕ) → IsBytes l → length l ≡ 4 → from_be_bytes w32 l ≡ length s → (length s < 2 ^ 32 → P (large s)) → P (l ++ s)
+large_end P l s bytes four counts here =
+    let undone : to_be_bytes w32 (length s) ≡ l = be_bytes_4 l (length s) four (IsBytes-get l bytes) (sym counts) in
+    let at = IsBytes-get l bytes in
+    let fits : length s < 2 ^ 32 = omega (arith, at 0, at 1, at 2, at 3, counts) in
+    subst (λ x. P (x ++ s)) undone (here fits)
+
+-- bytes that are found to be one are a short string
+short_end : (depth : ℕ) (l s : List ℕ) → length l ≡ 1 → from_be_bytes w8 l ≡ length s → (t : Bool) → is_short s ≡ t
+    → IfSome (cond t (Some (short s)) None) (RawWithin depth amqp.ShortString (l ++ s))
+short_end depth l s one counts false is = tt
+short_end depth l s one counts true is =
+    small_end (λ b. RawWithin depth amqp.ShortString b (short s)) l s one counts (raw_short s (is_short-holds s is), omega arith)
+
 -- a body behind its length is an array
 array_end : (depth : ℕ) (l s : List ℕ) → IsBytes l → length l ≡ 4 → from_be_bytes w32 l ≡ length s → (vs : Option Trees)
     → IfSome vs (BodyWithin depth s) → IfSome (option_map array vs) (RawWithin (suc depth) amqp.FieldArray (l ++ s))
-array_end depth l s bytes long counts None ends = tt
-array_end depth l s bytes long counts (Some vs) (p, within) =
-    let undone : to_be_bytes w32 (length s) ≡ l = be_bytes_4 l (length s) long (IsBytes-get l bytes) (sym counts) in
-    let at = IsBytes-get l bytes in
-    let fits : length s < 2 ^ 32 = omega (arith, at 0, at 1, at 2, at 3, counts) in
-    subst (λ x. RawWithin (suc depth) amqp.FieldArray (x ++ s) (array vs)) undone (raw_array s vs fits p, omega arith)
+array_end depth l s bytes four counts None ends = tt
+array_end depth l s bytes four counts (Some vs) (p, within) =
+    large_end (λ b. RawWithin (suc depth) amqp.FieldArray b (array vs)) l s bytes four counts (λ fits. (raw_array s vs fits p, omega arith))
+
+-- or a table
+table_end : (depth : ℕ) (l s : List ℕ) → IsBytes l → length l ≡ 4 → from_be_bytes w32 l ≡ length s → (es : Option Entries)
+    → IfSome es (PairsOnto depth no_entries s) → IfSome (option_map table es) (RawWithin (suc depth) amqp.FieldTable (l ++ s))
+table_end depth l s bytes four counts None ends = tt
+table_end depth l s bytes four counts (Some es) (ps, (p, within), is) =
+    subst (λ x. RawWithin (suc depth) amqp.FieldTable (l ++ s) (table x)) (sym is)
+    (large_end (λ b. RawWithin (suc depth) amqp.FieldTable b (table (onto no_entries ps))) l s bytes four counts (λ fits. (raw_table s ps fits p, omega arith)))
 
 -- what bytes mean, they spell
 pub means_spelled : (depth : ℕ) → Means depth (meaning depth)
-means_spelled (suc depth) amqp.FieldArray l s field long counts bytes =
-    array_end depth l s field long counts (values (outcome_by (meaning depth)) (length s) s)
+means_spelled depth amqp.ShortString l s field one counts bytes = short_end depth l s one counts (is_short s) refl
+means_spelled depth amqp.LongString l s field four counts bytes =
+    large_end (λ b. RawWithin depth amqp.LongString b (long s)) l s field four counts (λ fits. (raw_long s fits, omega arith))
+means_spelled depth amqp.ByteArray l s field four counts bytes =
+    large_end (λ b. RawWithin depth amqp.ByteArray b (octets s)) l s field four counts (λ fits. (raw_octets s fits, omega arith))
+means_spelled (suc depth) amqp.FieldArray l s field four counts bytes =
+    array_end depth l s field four counts (values (outcome_by (meaning depth)) (length s) s)
     (values_end depth (outcome_by (meaning depth)) (λ b bytes. wire_found depth b (outcome_by (meaning depth) b) (wire_ends depth (meaning depth) (means_spelled depth) b bytes)) (length s) s bytes)
-means_spelled _ _ l s field long counts bytes = tt
+means_spelled (suc depth) amqp.FieldTable l s field four counts bytes =
+    table_end depth l s field four counts (pairs_onto (outcome_by (meaning depth)) (length s) no_entries s)
+    (pairs_end depth (outcome_by (meaning depth)) (λ b bytes. wire_found depth b (outcome_by (meaning depth) b) (wire_ends depth (meaning depth) (means_spelled depth) b bytes)) (length s) no_entries s bytes)
+means_spelled _ _ l s field wide counts bytes = tt
