@@ -1,15 +1,16 @@
 -- What the parsers answer.
-use Rattle.std.specs.Prelude.{ℕ, ◌<◌, ◌-◌, ◌≡◌, Some, None, List, [], ◌∷◌, ◌++◌, length}
-use Rattle.std.specs.Int.{Width, byte_len, to_be_bytes}
+use Rattle.std.specs.Prelude.{ℕ, ◌<◌, ◌-◌, ◌^◌, ◌≡◌, Some, None, List, [], ◌∷◌, ◌++◌, length}
+use Rattle.std.specs.Int.{Width, w32, byte_len, to_be_bytes}
 use Rattle.amqp_value_core.specs.declared.types.AMQPType.{AMQPType}
-use Rattle.amqp_value_core.specs.Values.{Trees}
+use Rattle.amqp_value_core.specs.declared.types.AMQPType.TheVariants as amqp
+use Rattle.amqp_value_core.specs.Values.{Trees, Entries, no_entries, onto}
 use Rattle.amqp_value_core.specs.Ids.{kind}
-use Rattle.amqp_value_core.specs.Grammar.{Body}
-use Rattle.amqp_value_core.specs.Outcomes.{Reading, more, unknown, malformed, Outcome, StillWaits, with_more}
+use Rattle.amqp_value_core.specs.Grammar.{large, Body, Pairs}
+use Rattle.amqp_value_core.specs.Outcomes.{Reading, more, unknown, malformed, frame_lack, RawOutcome, RawHeavy, Outcome, StillWaits, with_more}
 use Rattle.amq_protocol_types.specs.declared.parsing.errors.Err.TheVariants.{Incomplete, Error, Failure}
 use Rattle.amq_protocol_types.specs.declared.parsing.errors.Needed.TheVariants.{Unknown, Size}
 use Rattle.amq_protocol_types.specs.declared.parsing.errors.ErrorKind.{ErrorKind}
-use Rattle.amq_protocol_types.specs.declared.parsing.errors.ErrorKind.TheVariants.{MapOpt, Eof, OutOfMemory}
+use Rattle.amq_protocol_types.specs.declared.parsing.errors.ErrorKind.TheVariants.{MapOpt, MapRes, Eof, OutOfMemory}
 use Rattle.amq_protocol_types.specs.Refusals.{Refusal}
 
 -- an error of the kind is right: the input reads as the kind says
@@ -25,6 +26,19 @@ Refuses Is heavy (Incomplete Unknown) = ⊥
 Refuses Is heavy (Incomplete (Size n)) = Is (more n)
 Refuses Is heavy (Error kind) = RightKind Is kind
 Refuses Is heavy (Failure kind) = (kind ≡ OutOfMemory) × heavy
+
+-- the kind of refusal where a frame is whole and is no payload of the type: a short string's bytes aren't
+-- UTF-8, and a container's aren't entries
+abbrev pub bad_kind : AMQPType → ErrorKind
+bad_kind amqp.ShortString = MapRes
+bad_kind _ = Eof
+
+-- a refusal to read a payload of the type from s is right
+abbrev pub RawRefuses : AMQPType → List ℕ → Refusal → Type 0
+RawRefuses type s (Incomplete Unknown) = ⊥
+RawRefuses type s (Incomplete (Size n)) = RawOutcome type s (more n)
+RawRefuses type s (Error kind) = (kind ≡ bad_kind type) × RawOutcome type s malformed
+RawRefuses type s (Failure kind) = (kind ≡ OutOfMemory) × RawHeavy type s
 
 -- a type is read from s, and `rest` is left: the first byte is an id of it
 abbrev pub IsType : List ℕ → AMQPType → List ℕ → Type 0
@@ -43,10 +57,29 @@ IsNumberRead w s n rest = s ≡ to_be_bytes w n ++ rest
 abbrev pub IsCut : Width → List ℕ → Reading → Type 0
 IsCut w s o = (length s < byte_len w) × (o ≡ more (byte_len w - length s))
 
+-- bytes behind their length in four bytes are read from s, and `rest` is left
+pub record IsFrame (s body rest : List ℕ) : Type 0 where
+  pub framed : s ≡ large body ++ rest
+  pub fits : length body < 2 ^ 32
+
+-- the frame isn't all there, and lacks so many bytes: of its length, or of what that counts
+abbrev pub IsCutFrame : List ℕ → Reading → Type 0
+IsCutFrame s o = (0 < frame_lack w32 s) × (o ≡ more (frame_lack w32 s))
+
 -- the bytes are no values one after another
 abbrev pub IsNoBody : List ℕ → Reading → Type 0
 IsNoBody s malformed = (vs : Trees) → Body s vs → ⊥
 IsNoBody s _ = ⊥
+
+-- the bytes are pairs one after another, and the entries are what they come to: of equal keys the last pair's
+-- value stays
+abbrev pub IsTable : List ℕ → Entries → Type 0
+IsTable s es = (ps : Entries) × Pairs s ps × (es ≡ onto no_entries ps)
+
+-- the bytes are no pairs one after another
+abbrev pub IsNoTable : List ℕ → Reading → Type 0
+IsNoTable s malformed = (ps : Entries) → Pairs s ps → ⊥
+IsNoTable s _ = ⊥
 
 -- reading s comes to one outcome and no other: the value, the rest and the refusal are determined
 abbrev pub HasOneOutcome : List ℕ → Type 0

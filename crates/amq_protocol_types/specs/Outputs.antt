@@ -72,6 +72,11 @@ pub record Puts (is_buffer : Bool) (bytes : List ℕ) (before : Seen) (result : 
   pub promised : length bytes ≤ before.promise → IsOk result
   pub promise : OnOk result (before.promise ≤ after.promise + length bytes)
 
+-- A length doesn't fit its field: the call is refused for that, and nothing was put.
+pub record RefusedAsLong (before : Seen) (result : Result (Unit {0}) GenError) (after : Seen) : Type 0 where
+  pub is : result ≡ Err LengthTooLong
+  pub unchanged : after ≡ before
+
 -- Room was made for n more bytes, or refused; nothing else changed.
 pub record MakesRoom (is_buffer : Bool) (n : ℕ) (before : Seen) (result : Result (Unit {0}) GenError) (after : Seen) : Type 0 where
   pub told : after.told ≡ before.told

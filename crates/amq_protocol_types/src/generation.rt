@@ -8,6 +8,7 @@ mod error;
 mod output;
 mod scalars;
 mod slice;
+mod strings;
 #[cfg(test)]
 mod tests;
 mod values;
@@ -16,7 +17,10 @@ pub use context::WriteContext;
 pub use error::{GenError, GenResult};
 pub use output::{BackToTheBuffer, Output};
 pub use scalars::{
-    gen_boolean, gen_long_int, gen_long_uint, gen_short_short_int, gen_short_short_uint, gen_type,
+    gen_boolean, gen_decimal_value, gen_double, gen_float, gen_id, gen_long_int, gen_long_long_int,
+    gen_long_long_uint, gen_long_uint, gen_short_int, gen_short_short_int, gen_short_short_uint,
+    gen_short_uint, gen_timestamp, gen_type,
 };
 pub use slice::SliceOutput;
-pub use values::{gen_field_array, gen_raw_value, gen_value};
+pub use strings::{gen_byte_array, gen_long_string, gen_short_string};
+pub use values::{gen_field_array, gen_field_table, gen_raw_value, gen_value};

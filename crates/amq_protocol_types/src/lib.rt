@@ -4,5 +4,11 @@
 pub mod generation;
 pub mod parsing;
 
-pub use amqp_value_core::types::{AMQPType, FieldArray};
+pub use amqp_value_core::types::{
+    AMQPType, Boolean, ByteArray, ChannelId, ChunkSize, ConsumerCount, DecimalValue, DeliveryTag,
+    Double, FieldArray, FieldTable, Float, FrameSize, Heartbeat, Identifier, LongInt, LongLongInt,
+    LongLongUInt, LongString, LongUInt, MAX_SHORT_STRING_LENGTH, MessageCount, PayloadSize,
+    ReplyCode, ShortInt, ShortShortInt, ShortShortUInt, ShortString, ShortStringError, ShortUInt,
+    Timestamp, TryCopyError, Void,
+};
 pub use amqp_value_core::value::AMQPValue;

@@ -40,6 +40,15 @@ impl<W: Output> WriteContext<W> {
         self.output.put(bytes)
     }
 
+    // Makes room for `n` more bytes, so that a buffer won't refuse them, or refuses.
+    pub(crate) fn make_room(&mut self, n: usize) -> GenResult
+        ensures made { MakesRoom W.is_buffer n
+            (shown W.seen self.old) result (shown W.seen self.new) }
+        ensures start { start_of self.new ≡ start_of self.old }
+    {
+        self.output.make_room(n)
+    }
+
     /// The output, and how many bytes were put through this context.
     pub fn into_inner(self) -> (W, u64)
         ensures output { result.0 ≡ output_of self }

@@ -1,16 +1,20 @@
 ghost use Rattle.std.specs.Prelude.{◌≡◌, ℕ, List, ◌++◌, true, OnOk};
-ghost use Rattle.amqp_value_core.specs.Values.{array};
-ghost use Rattle.amqp_value_core.specs.View.{view, array_view};
+ghost use Rattle.amqp_value_core.specs.Values.{array, table};
+ghost use Rattle.amqp_value_core.specs.View.{view, array_view, table_view};
+ghost use Rattle.amqp_value_core.specs.Strings.{IsShort};
+ghost use Rattle.amqp_value_core.specs.Grammar.{small};
 ghost use Rattle.amqp_value_core.specs.Texts.{text, payload, Fits, IsValue, read_back};
 ghost use Rattle.amqp_value_core.specs.Outcomes.{Outcome};
 ghost use Rattle.amq_protocol_types.specs.Outputs.{Writes};
 ghost use Rattle.amq_protocol_types.specs.Contexts.{start_of, shown};
 
 use crate::generation::{
-    BackToTheBuffer, GenError, GenResult, WriteContext, gen_boolean, gen_long_int,
-    gen_short_short_int, gen_type,
+    BackToTheBuffer, GenError, GenResult, WriteContext, gen_boolean, gen_byte_array,
+    gen_decimal_value, gen_double, gen_float, gen_long_int, gen_long_long_int, gen_long_string,
+    gen_long_uint, gen_short_int, gen_short_short_int, gen_short_short_uint, gen_short_string,
+    gen_short_uint, gen_timestamp, gen_type,
 };
-use amqp_value_core::types::FieldArray;
+use amqp_value_core::types::{FieldArray, FieldTable, ShortString};
 use amqp_value_core::value::AMQPValue;
 
 /// Writes a value: the id of its type, then its payload.
@@ -44,8 +48,21 @@ pub fn gen_raw_value<W: BackToTheBuffer>(v: &AMQPValue, x: &mut WriteContext<W>)
     match v {
         AMQPValue::Boolean(b) => gen_boolean(*b, x),
         AMQPValue::ShortShortInt(n) => gen_short_short_int(*n, x),
+        AMQPValue::ShortShortUInt(n) => gen_short_short_uint(*n, x),
+        AMQPValue::ShortInt(n) => gen_short_int(*n, x),
+        AMQPValue::ShortUInt(n) => gen_short_uint(*n, x),
         AMQPValue::LongInt(n) => gen_long_int(*n, x),
+        AMQPValue::LongUInt(n) => gen_long_uint(*n, x),
+        AMQPValue::LongLongInt(n) => gen_long_long_int(*n, x),
+        AMQPValue::Float(f) => gen_float(*f, x),
+        AMQPValue::Double(f) => gen_double(*f, x),
+        AMQPValue::DecimalValue(d) => gen_decimal_value(*d, x),
+        AMQPValue::ShortString(s) => gen_short_string(s.as_str(), x),
+        AMQPValue::LongString(s) => gen_long_string(s.as_bytes(), x),
         AMQPValue::FieldArray(a) => gen_field_array(a, x),
+        AMQPValue::Timestamp(n) => gen_timestamp(*n, x),
+        AMQPValue::FieldTable(t) => gen_field_table(t, x),
+        AMQPValue::ByteArray(a) => gen_byte_array(a, x),
         AMQPValue::Void => Ok(()),
     }
 }
@@ -71,5 +88,52 @@ pub fn gen_field_array<W: BackToTheBuffer>(a: &FieldArray, x: &mut WriteContext<
         return Err(GenError::LengthTooLong);
     };
     x.fill(at, &n.to_be_bytes());
+    Ok(())
+}
+
+/// Writes a table's entries, each its key as a short string and its value with its id, in the order
+/// of the keys' bytes, behind the number of bytes that they take.
+#[cycle(values)]
+pub fn gen_field_table<W: BackToTheBuffer>(t: &FieldTable, x: &mut WriteContext<W>) -> GenResult
+    ensures written { Writes true (Fits (table (table_view t.now)))
+        (payload (table (table_view t.now)))
+        (shown W.seen x.old) result (shown W.seen x.new) }
+    ensures start { start_of x.new ≡ start_of x.old }
+    ensures value { OnOk result (IsValue (table (table_view t.now))) }
+{
+    let at = x.reserve(4)?;
+    for (k, v) in t.inner().iter() {
+        if let Err(e) = gen_entry(k, v, x) {
+            x.back_to(at);
+            return Err(e);
+        }
+    }
+    let Ok(n) = u32::try_from(x.at() - at - 4) else {
+        x.back_to(at);
+        return Err(GenError::LengthTooLong);
+    };
+    x.fill(at, &n.to_be_bytes());
+    Ok(())
+}
+
+// Writes an entry of a table: its key as a short string, then its value with its id.
+#[cycle(values)]
+fn gen_entry<W: BackToTheBuffer>(
+    k: &ShortString,
+    v: &AMQPValue,
+    x: &mut WriteContext<W>,
+) -> GenResult
+    ensures written { Writes true (Fits (view v.now)) (small k.now ++ text (view v.now))
+        (shown W.seen x.old) result (shown W.seen x.new) }
+    ensures start { start_of x.new ≡ start_of x.old }
+    ensures key { IsShort k.now }
+    ensures value { OnOk result (IsValue (view v.now)) }
+{
+    let at = x.at();
+    gen_short_string(k.as_str(), x)?;
+    if let Err(e) = gen_value(v, x) {
+        x.back_to(at);
+        return Err(e);
+    }
     Ok(())
 }

@@ -1,25 +1,28 @@
 //! Parsers of values and of containers.
 
 ghost use Rattle.std.specs.Prelude.{◌≡◌, ◌<◌, MatchResult, length};
-ghost use Rattle.amqp_value_core.specs.Values.{array};
+ghost use Rattle.amqp_value_core.specs.Values.{array, table};
 ghost use Rattle.amqp_value_core.specs.Grammar.{Body};
 ghost use Rattle.amqp_value_core.specs.Outcomes.{Outcome, RawOutcome, Heavy, RawHeavy, found};
-ghost use Rattle.amqp_value_core.specs.View.{view, array_view};
-ghost use Rattle.amq_protocol_types.specs.Answers.{Refuses, HasOneOutcome, KeepsOutcome, IsNoBody};
+ghost use Rattle.amqp_value_core.specs.View.{view, array_view, table_view};
+ghost use Rattle.amq_protocol_types.specs.Answers.{Refuses, RawRefuses, HasOneOutcome, KeepsOutcome, IsNoBody, IsTable, IsNoTable};
 
-use super::errors::{ParserError, ParserResult, inside, lacks, out_of_memory};
+use super::errors::{ParserError, ParserResult, inside, out_of_memory};
 use super::scalars::{
-    parse_boolean, parse_long_int, parse_long_uint, parse_short_short_int, parse_type,
+    parse_boolean, parse_decimal_value, parse_double, parse_float, parse_long_int,
+    parse_long_long_int, parse_long_uint, parse_short_int, parse_short_short_int,
+    parse_short_short_uint, parse_short_uint, parse_timestamp, parse_type,
 };
+use super::strings::{parse_byte_array, parse_frame, parse_long_string, parse_short_string};
 use super::traits::ParsableInput;
-use amqp_value_core::types::{AMQPType, FieldArray};
+use amqp_value_core::types::{AMQPType, FieldArray, FieldTable};
 use amqp_value_core::value::AMQPValue;
 use std::alloc::Global;
 
 /// Reads a value: the id of its type, then its payload.
 ///
-/// It recurses as deep as arrays nest, which the input's length alone bounds. Memory is taken only
-/// for the values of an array whose bytes are all there.
+/// It recurses as deep as containers nest, which the input's length alone bounds. Memory is taken
+/// only for strings, byte arrays and containers whose bytes are all there.
 #[cycle(parser)]
 #[tactic(auto, using(amqp_value_core::proofs::GrammarLaws::one_outcome, amqp_value_core::proofs::GrammarLaws::more_bytes))]
 pub fn parse_value<I: ParsableInput>(alloc: Global, i: I) -> ParserResult<I, AMQPValue>
@@ -34,6 +37,8 @@ pub fn parse_value<I: ParsableInput>(alloc: Global, i: I) -> ParserResult<I, AMQ
 }
 
 /// Reads the payload of a value of the type.
+///
+/// A `LongLongUInt` is given as the `LongLongInt` of the same bits.
 #[cycle(parser)]
 pub fn parse_raw_value<I: ParsableInput>(
     alloc: Global,
@@ -42,7 +47,7 @@ pub fn parse_raw_value<I: ParsableInput>(
 ) -> ParserResult<I, AMQPValue>
     ensures { MatchResult result
         (λ x. RawOutcome amqp_type (I.bytes i) (found (view x.1) (I.bytes x.0)))
-        (Refuses (RawOutcome amqp_type (I.bytes i)) (RawHeavy amqp_type (I.bytes i))) }
+        (RawRefuses amqp_type (I.bytes i)) }
 {
     match amqp_type {
         AMQPType::Boolean => {
@@ -53,13 +58,69 @@ pub fn parse_raw_value<I: ParsableInput>(
             let (i, n) = parse_short_short_int(i)?;
             Ok((i, AMQPValue::ShortShortInt(n)))
         }
+        AMQPType::ShortShortUInt => {
+            let (i, n) = parse_short_short_uint(i)?;
+            Ok((i, AMQPValue::ShortShortUInt(n)))
+        }
+        AMQPType::ShortInt => {
+            let (i, n) = parse_short_int(i)?;
+            Ok((i, AMQPValue::ShortInt(n)))
+        }
+        AMQPType::ShortUInt => {
+            let (i, n) = parse_short_uint(i)?;
+            Ok((i, AMQPValue::ShortUInt(n)))
+        }
         AMQPType::LongInt => {
             let (i, n) = parse_long_int(i)?;
             Ok((i, AMQPValue::LongInt(n)))
         }
+        AMQPType::LongUInt => {
+            let (i, n) = parse_long_uint(i)?;
+            Ok((i, AMQPValue::LongUInt(n)))
+        }
+        AMQPType::LongLongInt => {
+            let (i, n) = parse_long_long_int(i)?;
+            Ok((i, AMQPValue::LongLongInt(n)))
+        }
+        AMQPType::LongLongUInt => {
+            let (i, n) = parse_long_long_int(i)?;
+            Ok((i, AMQPValue::LongLongInt(n)))
+        }
+        AMQPType::Float => {
+            let (i, f) = parse_float(i)?;
+            Ok((i, AMQPValue::Float(f)))
+        }
+        AMQPType::Double => {
+            let (i, f) = parse_double(i)?;
+            Ok((i, AMQPValue::Double(f)))
+        }
+        AMQPType::DecimalValue => {
+            let (i, d) = parse_decimal_value(i)?;
+            Ok((i, AMQPValue::DecimalValue(d)))
+        }
+        AMQPType::ShortString => {
+            let (i, s) = parse_short_string(alloc, i)?;
+            Ok((i, AMQPValue::ShortString(s)))
+        }
+        AMQPType::LongString => {
+            let (i, s) = parse_long_string(alloc, i)?;
+            Ok((i, AMQPValue::LongString(s)))
+        }
         AMQPType::FieldArray => {
             let (i, array) = parse_field_array(alloc, i)?;
             Ok((i, AMQPValue::FieldArray(array)))
+        }
+        AMQPType::Timestamp => {
+            let (i, n) = parse_timestamp(i)?;
+            Ok((i, AMQPValue::Timestamp(n)))
+        }
+        AMQPType::FieldTable => {
+            let (i, table) = parse_field_table(alloc, i)?;
+            Ok((i, AMQPValue::FieldTable(table)))
+        }
+        AMQPType::ByteArray => {
+            let (i, bytes) = parse_byte_array(alloc, i)?;
+            Ok((i, AMQPValue::ByteArray(bytes)))
         }
         AMQPType::Void => Ok((i, AMQPValue::Void)),
     }
@@ -74,14 +135,9 @@ pub fn parse_field_array<I: ParsableInput>(alloc: Global, i: I) -> ParserResult<
         (λ x. RawOutcome AMQPType.FieldArray (I.bytes i) (found (array (array_view x.1)) (I.bytes x.0)))
         (Refuses (RawOutcome AMQPType.FieldArray (I.bytes i)) (RawHeavy AMQPType.FieldArray (I.bytes i))) }
 {
-    let (i, len) = parse_long_uint(i)?;
-    let len = len as usize;
-    let there = i.input_len();
-    if there < len {
-        return Err(lacks(len - there));
-    }
-    let array = parse_body(alloc, i.take(len))?;
-    Ok((i.take_from(len), array))
+    let (i, body) = parse_frame(i)?;
+    let array = parse_body(alloc, body)?;
+    Ok((i, array))
 }
 
 // Reads values one after another to the end of the body.
@@ -104,4 +160,45 @@ fn parse_body<I: ParsableInput>(alloc: Global, body: I) -> Result<FieldArray, Pa
         rest = after;
     }
     Ok(array)
+}
+
+/// Reads a table: the length of its body in bytes, in four bytes, then its entries, each a key as a
+/// short string and a value with its id. Of equal keys the last one's value stays.
+///
+/// The body is taken whole before an entry of it is looked at.
+#[cycle(parser)]
+pub fn parse_field_table<I: ParsableInput>(alloc: Global, i: I) -> ParserResult<I, FieldTable>
+    ensures { MatchResult result
+        (λ x. RawOutcome AMQPType.FieldTable (I.bytes i) (found (table (table_view x.1)) (I.bytes x.0)))
+        (Refuses (RawOutcome AMQPType.FieldTable (I.bytes i)) (RawHeavy AMQPType.FieldTable (I.bytes i))) }
+{
+    let (i, body) = parse_frame(i)?;
+    let table = parse_pairs(alloc, body)?;
+    Ok((i, table))
+}
+
+// Reads keys, each with a value, one after another to the end of the body.
+#[cycle(parser)]
+fn parse_pairs<I: ParsableInput>(alloc: Global, body: I) -> Result<FieldTable, ParserError>
+    ensures { MatchResult result
+        (λ table. IsTable (I.bytes body) (table_view table))
+        (Refuses (IsNoTable (I.bytes body)) (0 < length (I.bytes body))) }
+{
+    let mut table = FieldTable::new_in(alloc);
+    let mut rest = body;
+    'entries: while rest.input_len() > 0 {
+        let (behind_key, key) = match parse_short_string(alloc, rest) {
+            Ok(read) => read,
+            Err(e) => return Err(inside(e)),
+        };
+        let (after, value) = match parse_value(alloc, behind_key) {
+            Ok(read) => read,
+            Err(e) => return Err(inside(e)),
+        };
+        if table.place(key, value).is_err() {
+            return Err(out_of_memory());
+        }
+        rest = after;
+    }
+    Ok(table)
 }

@@ -1,0 +1,86 @@
+//! Parsers of strings and byte arrays: a length, then as many bytes.
+
+ghost use Rattle.std.specs.Prelude.{◌≡◌, MatchResult};
+ghost use Rattle.amqp_value_core.specs.Values.{short, long, octets};
+ghost use Rattle.amqp_value_core.specs.Bytes.{long_bytes, array_bytes};
+ghost use Rattle.amqp_value_core.specs.Outcomes.{RawOutcome, RawHeavy, found};
+ghost use Rattle.amq_protocol_types.specs.Answers.{Refuses, RawRefuses, IsFrame, IsCutFrame};
+
+use super::bytes::copy_of;
+use super::errors::{ErrorKind, ParserResult, lacks, out_of_memory, refused};
+use super::scalars::{parse_long_uint, parse_short_short_uint};
+use super::traits::ParsableInput;
+use amqp_value_core::types::{AMQPType, ByteArray, LongString, ShortString};
+use std::alloc::Global;
+
+/// Reads a short string: its length in one byte, then its bytes, which are UTF-8.
+///
+/// The bytes are looked at once all of them are there. Memory is taken only for a string that isn't
+/// empty.
+pub fn parse_short_string<I: ParsableInput>(alloc: Global, i: I) -> ParserResult<I, ShortString>
+    ensures { MatchResult result
+        (λ x. RawOutcome AMQPType.ShortString (I.bytes i) (found (short x.1) (I.bytes x.0)))
+        (RawRefuses AMQPType.ShortString (I.bytes i)) }
+{
+    let (i, len) = parse_short_short_uint(i)?;
+    let len = usize::from(len);
+    let there = i.input_len();
+    if there < len {
+        return Err(lacks(len - there));
+    }
+    let Ok(bytes) = copy_of(alloc, i.take(len)) else {
+        return Err(out_of_memory());
+    };
+    let Ok(text) = String::from_utf8(bytes) else {
+        return Err(refused(ErrorKind::MapRes));
+    };
+    match ShortString::try_new(text) {
+        Ok(text) => Ok((i.take_from(len), text)),
+        Err(_) => unreachable!(),
+    }
+}
+
+/// Reads a long string: its length in four bytes, then its bytes, of any kind.
+///
+/// Memory is taken only for a string that isn't empty and whose bytes are all there.
+pub fn parse_long_string<I: ParsableInput>(alloc: Global, i: I) -> ParserResult<I, LongString>
+    ensures { MatchResult result
+        (λ x. RawOutcome AMQPType.LongString (I.bytes i) (found (long (long_bytes x.1)) (I.bytes x.0)))
+        (Refuses (RawOutcome AMQPType.LongString (I.bytes i)) (RawHeavy AMQPType.LongString (I.bytes i))) }
+{
+    let (i, body) = parse_frame(i)?;
+    let Ok(bytes) = copy_of(alloc, body) else {
+        return Err(out_of_memory());
+    };
+    Ok((i, LongString::from(bytes)))
+}
+
+/// Reads a byte array: its length in four bytes, then its bytes.
+///
+/// Memory is taken only for an array that isn't empty and whose bytes are all there.
+pub fn parse_byte_array<I: ParsableInput>(alloc: Global, i: I) -> ParserResult<I, ByteArray>
+    ensures { MatchResult result
+        (λ x. RawOutcome AMQPType.ByteArray (I.bytes i) (found (octets (array_bytes x.1)) (I.bytes x.0)))
+        (Refuses (RawOutcome AMQPType.ByteArray (I.bytes i)) (RawHeavy AMQPType.ByteArray (I.bytes i))) }
+{
+    let (i, body) = parse_frame(i)?;
+    let Ok(bytes) = copy_of(alloc, body) else {
+        return Err(out_of_memory());
+    };
+    Ok((i, ByteArray::from(bytes)))
+}
+
+// Reads a length in four bytes, and takes as many bytes, once all of them are there.
+pub(super) fn parse_frame<I: ParsableInput>(i: I) -> ParserResult<I, I>
+    ensures { MatchResult result
+        (λ x. IsFrame (I.bytes i) (I.bytes x.1) (I.bytes x.0))
+        (Refuses (IsCutFrame (I.bytes i)) ⊥) }
+{
+    let (i, len) = parse_long_uint(i)?;
+    let len = len as usize;
+    let there = i.input_len();
+    if there < len {
+        return Err(lacks(len - there));
+    }
+    Ok((i.take_from(len), i.take(len)))
+}
