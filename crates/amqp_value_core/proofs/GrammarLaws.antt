@@ -22,3 +22,5 @@ pub use Rattle.amqp_value_core.proofs.Reading.{array_body}
 pub use Rattle.amqp_value_core.proofs.Reading.{table_body, short_bytes}
 -- pairs whose keys rise are put together as they are
 pub use Rattle.amqp_value_core.proofs.Tables.{onto-rising}
+-- tables as finite maps
+pub use Rattle.amqp_value_core.proofs.Tables.{put_found, put_other, key_has_value, last_stays, pairs_rise, same_tables, entries_rise}

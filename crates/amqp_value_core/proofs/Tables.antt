@@ -1,13 +1,15 @@
 -- Tables: pairs that are put one after another, and what is found at a key.
-use Rattle.std.proofs.Common.{◌≡◌, ℕ, List, refl, sym, ap, ◌∙◌, subst}
-use Rattle.std.specs.Ordering.{nat_cmp, match_ordering, ordering_reverse}
-use Rattle.std.specs.Cmp.Lexicographic.{slice_cmp}
+use Rattle.std.proofs.Common.{◌≡◌, ◌≢◌, ℕ, List, Bool, true, false, ◌||◌, Option, Some, None, is_some, if◌then◌else◌, refl, sym, ap, ◌∙◌, subst}
+use Rattle.std.specs.Option.{option_or}
+use Rattle.std.specs.Ordering.{nat_cmp, match_ordering, ordering_reverse, is_eq}
+use Rattle.std.specs.Cmp.Lexicographic.{slice_cmp, bytes_decides, texts_ties}
+use Rattle.std.specs.FinMap.{nat_cmp-IsAntisymmetric, slice_cmp-IsAntisymmetric}
 use Rattle.std.specs.declared.cmp.Ordering.{Ordering}
-use Rattle.std.specs.declared.cmp.Ordering.TheVariants.{Less, Greater}
+use Rattle.std.specs.declared.cmp.Ordering.TheVariants.{Less, Equal, Greater}
 use Rattle.std.proofs.lemmas.Cmp.{nat_list_cmp_total}
 use Rattle.amqp_value_core.specs.Values.{Tree, Entries, no_entries, entry, put, onto}
-use Rattle.amqp_value_core.specs.Texts.{AreEntries}
-use Rattle.amqp_value_core.specs.Maps.{IsRising}
+use Rattle.amqp_value_core.specs.Texts.{ComesBefore, AreEntries}
+use Rattle.amqp_value_core.specs.Maps.{same_bytes, has_key, value_at, last_at, IsRising}
 
 -- ---- the order of keys
 
@@ -15,12 +17,34 @@ use Rattle.amqp_value_core.specs.Maps.{IsRising}
 greater : (j k : List ℕ) → slice_cmp nat_cmp j k ≡ Less → slice_cmp nat_cmp k j ≡ Greater
 greater j k less = nat_list_cmp_total.antisymm k j ∙ ap ordering_reverse less
 
+-- and the other way round
+less : (j k : List ℕ) → slice_cmp nat_cmp k j ≡ Greater → slice_cmp nat_cmp j k ≡ Less
+less j k greater = nat_list_cmp_total.antisymm j k ∙ ap ordering_reverse greater
+
+-- keys that tie are equal
+equal_keys : (j k : List ℕ) → slice_cmp nat_cmp j k ≡ Equal → j ≡ k
+equal_keys j k tie = slice_cmp-IsAntisymmetric nat_cmp-IsAntisymmetric j k tie
+
+-- the order says whether keys are the same bytes
+same_by_order : (j k : List ℕ) (o : Ordering) → slice_cmp nat_cmp j k ≡ o → same_bytes j k ≡ is_eq o
+same_by_order j k o is = texts_ties j k ∙ ap is_eq is
+
+same_itself : (k : List ℕ) → same_bytes k k ≡ true
+same_itself k = (bytes_decides k k).1 refl
+
+not_same : (j k : List ℕ) → j ≢ k → same_bytes j k ≡ false
+not_same j k other = by (same_bytes j k) (bytes_decides j k).0
+  where
+    by : (b : Bool) → (b ≡ true → j ≡ k) → b ≡ false
+    by true f = absurd (other (f refl))
+    by false f = refl
+
 -- ---- rising entries
 
 -- the keys of a value's table rise
-rising-entries : (es : Entries) → AreEntries es → IsRising es
-rising-entries no_entries are = tt
-rising-entries (entry k v es) are = (are.2, rising-entries es are.3)
+pub entries_rise : (es : Entries) → AreEntries es → IsRising es
+entries_rise no_entries are = tt
+entries_rise (entry k v es) are = (are.2, entries_rise es are.3)
 
 -- entries, and others behind them
 join : Entries → Entries → Entries
@@ -62,4 +86,154 @@ onto-join (entry k v fs) es rises =
 -- rising entries, put one after another, are those entries
 pub onto-rising : (es : Entries) → AreEntries es → onto no_entries es ≡ es
 unfolding join
-onto-rising es are = onto-join es no_entries (rising-entries es are)
+onto-rising es are = onto-join es no_entries (entries_rise es are)
+
+-- what comes before a key and before the entries comes before them with the key
+before-put : (j k : List ℕ) (v : Tree) (es : Entries) → slice_cmp nat_cmp j k ≡ Less → ComesBefore j es → ComesBefore j (put k v es)
+before-put j k v no_entries first before = first
+before-put j k v (entry i u es) first before = by (slice_cmp nat_cmp k i)
+  where
+    by : (o : Ordering) → ComesBefore j (match_ordering o (entry k v (entry i u es)) (entry i v es) (entry i u (put k v es)))
+    by Less = first
+    by Equal = before
+    by Greater = before
+
+-- keys still rise where one is put
+rising-put : (k : List ℕ) (v : Tree) (es : Entries) → IsRising es → IsRising (put k v es)
+rising-put k v no_entries rises = (tt, tt)
+rising-put k v (entry j u es) rises = by (slice_cmp nat_cmp k j) refl (rising-put k v es rises.1)
+  where
+    by : (o : Ordering) → slice_cmp nat_cmp k j ≡ o → IsRising (put k v es)
+        → IsRising (match_ordering o (entry k v (entry j u es)) (entry j v es) (entry j u (put k v es)))
+    by Less is inner = (is, rises)
+    by Equal is inner = rises
+    by Greater is inner = (before-put j k v es (less j k is) rises.0, inner)
+
+-- so they do where pairs are put one after another
+pub rising-onto : (ps es : Entries) → IsRising es → IsRising (onto es ps)
+rising-onto no_entries es rises = rises
+rising-onto (entry k v ps) es rises = rising-onto ps (put k v es) (rising-put k v es rises)
+
+-- the keys of what pairs mean rise
+pub pairs_rise : (ps : Entries) → IsRising (onto no_entries ps)
+pairs_rise ps = rising-onto ps no_entries tt
+
+-- ---- a finite map
+
+-- a value is found at the key where it was put
+pub put_found : (k : List ℕ) (v : Tree) (es : Entries) → value_at k (put k v es) ≡ Some v
+put_found k v no_entries = ap (λ (t : Bool). if t then Some v else None) (same_itself k)
+put_found k v (entry j u es) = by (slice_cmp nat_cmp k j) refl (put_found k v es)
+  where
+    by : (o : Ordering) → slice_cmp nat_cmp k j ≡ o → value_at k (put k v es) ≡ Some v
+        → value_at k (match_ordering o (entry k v (entry j u es)) (entry j v es) (entry j u (put k v es))) ≡ Some v
+    by Less is inner = ap (λ (t : Bool). if t then Some v else value_at k (entry j u es)) (same_itself k)
+    by Equal is inner = ap (λ (t : Bool). if t then Some v else value_at k es) (same_by_order k j Equal is)
+    by Greater is inner = ap (λ (t : Bool). if t then Some u else value_at k (put k v es)) (same_by_order k j Greater is) ∙ inner
+
+-- and every other key keeps its value
+pub put_other : (j k : List ℕ) (v : Tree) (es : Entries) → j ≢ k → value_at j (put k v es) ≡ value_at j es
+put_other j k v no_entries other = ap (λ (t : Bool). if t then Some v else None) (not_same j k other)
+put_other j k v (entry i u es) other = by (slice_cmp nat_cmp k i) refl (put_other j k v es other)
+  where
+    by : (o : Ordering) → slice_cmp nat_cmp k i ≡ o → value_at j (put k v es) ≡ value_at j es
+        → value_at j (match_ordering o (entry k v (entry i u es)) (entry i v es) (entry i u (put k v es))) ≡ value_at j (entry i u es)
+    by Less is inner = ap (λ (t : Bool). if t then Some v else value_at j (entry i u es)) (not_same j k other)
+    by Equal is inner =
+        let apart : same_bytes j i ≡ false = not_same j i (λ e. other (e ∙ sym (equal_keys k i is))) in
+        ap (λ (t : Bool). if t then Some v else value_at j es) apart ∙ sym (ap (λ (t : Bool). if t then Some u else value_at j es) apart)
+    by Greater is inner = ap (λ (x : Option Tree). if same_bytes j i then Some u else x) inner
+
+-- there is a value where there is a key
+pub key_has_value : (k : List ℕ) (es : Entries) → has_key k es ≡ is_some (value_at k es)
+key_has_value k no_entries = refl
+key_has_value k (entry j u es) = by (same_bytes k j) (key_has_value k es)
+  where
+    by : (t : Bool) → has_key k es ≡ is_some (value_at k es) → (t || has_key k es) ≡ is_some (if t then Some u else value_at k es)
+    by true inner = refl
+    by false inner = inner
+
+-- the value at a key where one was put, by whether it is this key
+put_or : (k j : List ℕ) (v : Tree) (es : Entries) → value_at k (put j v es) ≡ option_or (if same_bytes k j then Some v else None) (value_at k es)
+put_or k j v es = by (same_bytes k j) refl
+  where
+    by : (t : Bool) → same_bytes k j ≡ t → value_at k (put j v es) ≡ option_or (if t then Some v else None) (value_at k es)
+    by true is = ap (λ (i : List ℕ). value_at i (put j v es)) ((bytes_decides k j).0 is) ∙ put_found j v es
+    by false is = put_other k j v es (λ e. let same = (bytes_decides k j).1 e in cc)
+
+-- the first of three that is there
+option_or-assoc : (a b c : Option Tree) → option_or (option_or a b) c ≡ option_or a (option_or b c)
+option_or-assoc None b c = refl
+option_or-assoc (Some x) b c = refl
+
+option_or-none : (a : Option Tree) → option_or a None ≡ a
+option_or-none None = refl
+option_or-none (Some x) = refl
+
+-- of pairs that are put one after another the last with the key decides
+onto_or : (k : List ℕ) (ps es : Entries) → value_at k (onto es ps) ≡ option_or (last_at k ps) (value_at k es)
+onto_or k no_entries es = refl
+onto_or k (entry j v ps) es =
+    onto_or k ps (put j v es)
+    ∙ (ap (option_or (last_at k ps)) (put_or k j v es)
+    ∙ sym (option_or-assoc (last_at k ps) (if same_bytes k j then Some v else None) (value_at k es)))
+
+-- of equal keys the last pair's value stays
+pub last_stays : (k : List ℕ) (ps : Entries) → value_at k (onto no_entries ps) ≡ last_at k ps
+last_stays k ps = onto_or k ps no_entries ∙ option_or-none (last_at k ps)
+
+-- ---- equal tables
+
+-- what comes before a key comes before what that comes before
+before-trans : (j k : List ℕ) (es : Entries) → slice_cmp nat_cmp j k ≡ Less → ComesBefore k es → ComesBefore j es
+before-trans j k no_entries first before = tt
+before-trans j k (entry i u es) first before = nat_list_cmp_total.trans j k i first before
+
+-- at a key that comes before all there is no value
+none_before : (k : List ℕ) (es : Entries) → ComesBefore k es → IsRising es → value_at k es ≡ None
+none_before k no_entries before rises = refl
+none_before k (entry j u es) before rises =
+    ap (λ (t : Bool). if t then Some u else value_at k es) (same_by_order k j Less before)
+    ∙ none_before k es (before-trans k j es before rises.0) rises.1
+
+-- the value at the first key is the first one
+first_value : (k : List ℕ) (v : Tree) (es : Entries) → value_at k (entry k v es) ≡ Some v
+first_value k v es = ap (λ (t : Bool). if t then Some v else value_at k es) (same_itself k)
+
+-- with the same value at each key the others have it too
+same_others : (k : List ℕ) (v u : Tree) (es fs : Entries) → IsRising (entry k v es) → IsRising (entry k u fs)
+    → ((i : List ℕ) → value_at i (entry k v es) ≡ value_at i (entry k u fs)) → (i : List ℕ) → value_at i es ≡ value_at i fs
+same_others k v u es fs r s same i = by (same_bytes i k) refl (same i)
+  where
+    by : (t : Bool) → same_bytes i k ≡ t → (if t then Some v else value_at i es) ≡ (if t then Some u else value_at i fs) → value_at i es ≡ value_at i fs
+    by true is e =
+        subst (λ (x : List ℕ). value_at x es ≡ value_at x fs) (sym ((bytes_decides i k).0 is)) (none_before k es r.0 r.1 ∙ sym (none_before k fs s.0 s.1))
+    by false is e = e
+
+-- with one first key they are equal where the others are
+same_tables-at : (k j : List ℕ) (v u : Tree) (es fs : Entries) → k ≡ j → IsRising (entry k v es) → IsRising (entry j u fs)
+    → ((i : List ℕ) → value_at i (entry k v es) ≡ value_at i (entry j u fs)) → (((i : List ℕ) → value_at i es ≡ value_at i fs) → es ≡ fs)
+    → entry k v es ≡ entry j u fs
+same_tables-at k j v u es fs one r s same inner =
+    let same_k = subst (λ (x : List ℕ). (i : List ℕ) → value_at i (entry k v es) ≡ value_at i (entry x u fs)) (sym one) same in
+    let rises = subst (λ (x : List ℕ). IsRising (entry x u fs)) (sym one) s in
+    let values : Some v ≡ Some u = sym (first_value k v es) ∙ (same_k k ∙ first_value k u fs) in
+    let first : v ≡ u = cc in
+    let others : es ≡ fs = inner (same_others k v u es fs r rises same_k) in
+    cc
+
+-- rising entries with the same value at each key are equal
+pub same_tables : (es fs : Entries) → IsRising es → IsRising fs → ((k : List ℕ) → value_at k es ≡ value_at k fs) → es ≡ fs
+same_tables no_entries no_entries r s same = refl
+same_tables no_entries (entry j u fs) r s same = let e : None ≡ Some u = same j ∙ first_value j u fs in cc
+same_tables (entry k v es) no_entries r s same = let e : Some v ≡ None = sym (first_value k v es) ∙ same k in cc
+same_tables (entry k v es) (entry j u fs) r s same = by (slice_cmp nat_cmp k j) refl (same_tables es fs r.1 s.1)
+  where
+    by : (o : Ordering) → slice_cmp nat_cmp k j ≡ o → (((i : List ℕ) → value_at i es ≡ value_at i fs) → es ≡ fs) → entry k v es ≡ entry j u fs
+    by Less is inner =
+        let e : Some v ≡ None = sym (first_value k v es) ∙ (same k ∙ none_before k (entry j u fs) is s) in
+        cc
+    by Equal is inner = same_tables-at k j v u es fs (equal_keys k j is) r s same inner
+    by Greater is inner =
+        let e : None ≡ Some u = sym (none_before j (entry k v es) (less j k is) r) ∙ (same j ∙ first_value j u fs) in
+        cc

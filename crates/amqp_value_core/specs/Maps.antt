@@ -1,5 +1,6 @@
 -- A table is a finite map: what is found at a key.
 use Rattle.std.specs.Prelude.{ℕ, Bool, false, ◌||◌, Option, Some, None, List, nat_eq, if◌then◌else◌}
+use Rattle.std.specs.Option.{option_or}
 use Rattle.std.specs.Cmp.Lexicographic.{pointwise}
 use Rattle.amqp_value_core.specs.Values.{Tree, Entries, no_entries, entry}
 use Rattle.amqp_value_core.specs.Texts.{ComesBefore}
@@ -17,6 +18,11 @@ has_key k (entry j v es) = same_bytes k j || has_key k es
 abbrev pub value_at : List ℕ → Entries → Option Tree
 value_at k no_entries = None
 value_at k (entry j v es) = if same_bytes k j then Some v else value_at k es
+
+-- the value of the last pair with the key, if a pair has it
+abbrev pub last_at : List ℕ → Entries → Option Tree
+last_at k no_entries = None
+last_at k (entry j v ps) = option_or (last_at k ps) (if same_bytes k j then Some v else None)
 
 -- the keys rise by their bytes, so no two are equal
 abbrev pub IsRising : Entries → Type 0

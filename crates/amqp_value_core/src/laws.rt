@@ -10,6 +10,9 @@ ghost use Rattle.amqp_value_core.specs.Texts.{text, payload, size, Fits, IsValue
 ghost use Rattle.amqp_value_core.specs.Ids.{kind};
 ghost use Rattle.amqp_value_core.specs.Outcomes.{IsBytes, Reading, Outcome, RawOutcome, Heavy, RawHeavy, StillWaits, with_more};
 ghost use Rattle.amqp_value_core.specs.Decode.{outcome, raw_outcome};
+ghost use Rattle.std.specs.Prelude.{◌≢◌, is_some};
+ghost use Rattle.amqp_value_core.specs.Values.{Entries, no_entries, table, put, onto};
+ghost use Rattle.amqp_value_core.specs.Maps.{has_key, value_at, last_at, IsRising};
 
 /// A list begins with at most one wire, and that wire has one meaning. So no wire is a proper front
 /// of another.
@@ -77,6 +80,33 @@ pub fn value_from_payload()
         → RawOutcome type b o → Outcome (c ∷ b) o }
     ensures heavy { (c : ℕ) (type : AMQPType) (b : List ℕ) → kind c ≡ Some type
         → RawHeavy type b → Heavy (c ∷ b) }
+{}
+
+/// A table is a finite map: a value is found at the key where it was put, every other key keeps its
+/// value, and there is a value where there is a key.
+#[tactic(auto, using(crate::proofs::GrammarLaws::put_found, crate::proofs::GrammarLaws::put_other, crate::proofs::GrammarLaws::key_has_value))]
+pub fn table_is_a_map()
+    ensures put { (k : List ℕ) (v : Tree) (es : Entries) → value_at k (put k v es) ≡ Some v }
+    ensures others { (j k : List ℕ) (v : Tree) (es : Entries) → j ≢ k
+        → value_at j (put k v es) ≡ value_at j es }
+    ensures keys { (k : List ℕ) (es : Entries) → has_key k es ≡ is_some (value_at k es) }
+{}
+
+/// What the pairs of a wire mean: at each key the value of the last pair with it, under keys that
+/// rise.
+#[tactic(auto, using(crate::proofs::GrammarLaws::last_stays, crate::proofs::GrammarLaws::pairs_rise))]
+pub fn last_pair_stays()
+    ensures values { (k : List ℕ) (ps : Entries) → value_at k (onto no_entries ps) ≡ last_at k ps }
+    ensures keys { (ps : Entries) → IsRising (onto no_entries ps) }
+{}
+
+/// Tables are equal where they have the same value at each key. The keys of every table in memory
+/// rise.
+#[tactic(auto, using(crate::proofs::GrammarLaws::same_tables, crate::proofs::GrammarLaws::entries_rise))]
+pub fn same_tables()
+    ensures equal { (es fs : Entries) → IsRising es → IsRising fs
+        → ((k : List ℕ) → value_at k es ≡ value_at k fs) → es ≡ fs }
+    ensures rising { (es : Entries) → IsValue (table es) → IsRising es }
 {}
 
 /// Reading a value from any bytes has an outcome, it has no other, and the function `outcome`
