@@ -15,5 +15,7 @@ pub mod Bytes
 pub mod View
 pub mod Inputs
 pub mod Lending
+pub mod Canonical
+pub mod Headline
 pub mod Equality
 pub mod Decided
