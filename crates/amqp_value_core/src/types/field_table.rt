@@ -103,9 +103,20 @@ impl From<BTreeMap<ShortString, AMQPValue>> for FieldTable {
 }
 
 impl<'a> IntoIterator for &'a FieldTable {
+    ghost use Rattle.std.specs.Prelude.{ℕ, List, ◌<◌, ◌^◌, length};
+    ghost use Rattle.std.specs.Ordering.{nat_cmp};
+    ghost use Rattle.std.specs.Cmp.Lexicographic.{slice_cmp};
+    ghost use Rattle.std.specs.List.Sorted.{IsStrictlySortedBy};
+    ghost use Rattle.std.specs.Map.{keys_of};
+    ghost use Rattle.std.specs.Map.Iter.{ShowsInOrder, ShowsValuesInOrder, ShowsInReverse, deref_pair};
+    ghost use Rattle.amqp_value_core.specs.declared.value.AMQPValue.{AMQPValue};
+
     type Item = (&'a ShortString, &'a AMQPValue);
 
     type IntoIter = btree_map::Iter<'a, ShortString, AMQPValue>;
+
+    // the entries, in order or from the back; the keys rise
+    ghost into_iter_gives = { λ t r. (r ≡ table_entries t.now) × (length r < 2 ^ 63) × ShowsInOrder (deref_pair {K = List ℕ} {X = AMQPValue}) × ShowsValuesInOrder (deref_pair {K = List ℕ} {X = AMQPValue}) × ShowsInReverse (deref_pair {K = List ℕ} {X = AMQPValue}) × IsStrictlySortedBy (slice_cmp nat_cmp) (keys_of (table_entries t.now)) };
 
     fn into_iter(self) -> btree_map::Iter<'a, ShortString, AMQPValue> {
         self.map.iter()

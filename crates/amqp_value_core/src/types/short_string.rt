@@ -33,7 +33,7 @@ impl Model for ShortString {
 }
 
 impl ShortString {
-    ghost use Rattle.std.specs.Prelude.{[]};
+    ghost use Rattle.std.specs.Prelude.{[], Ok};
 
     /// The text with no bytes. Takes no memory.
     pub fn new_in(alloc: Global) -> Self
@@ -64,6 +64,7 @@ impl ShortString {
         ensures ok { IfOk result (λ short. short ≡ s.now) }
         ensures fits { OnOk result (length s.now ≤ 255) }
         ensures err { IfErr result (IsCopyRefused s.now) }
+        ensures empty { s.now ≡ [] → result ≡ Ok [] }
     {
         let length = s.len();
         if length > MAX_SHORT_STRING_LENGTH {
