@@ -24,3 +24,6 @@ pub use Rattle.amqp_value_core.proofs.Reading.{table_body, short_bytes}
 pub use Rattle.amqp_value_core.proofs.Tables.{onto-rising}
 -- tables as finite maps
 pub use Rattle.amqp_value_core.proofs.Tables.{put_found, put_other, key_has_value, last_stays, pairs_rise, same_tables, entries_rise}
+-- what a wire bounds, what is read from it, and that the text is the shortest wire
+pub use Rattle.amqp_value_core.proofs.Bounds.{bounds, raw_bounds}
+pub use Rattle.amqp_value_core.proofs.Shortest.{what_is_read, what_raw_reads, read_is_value, raw_value, shortest, same_text_same_value}

@@ -118,6 +118,29 @@ rising-onto (entry k v ps) es rises = rising-onto ps (put k v es) (rising-put k 
 pub pairs_rise : (ps : Entries) → IsRising (onto no_entries ps)
 pairs_rise ps = rising-onto ps no_entries tt
 
+-- ---- what holds of each entry
+
+-- P holds of each key and its value
+abbrev pub Each : (List ℕ → Tree → Type 0) → Entries → Type 0
+Each P no_entries = Unit {0}
+Each P (entry k v es) = P k v × Each P es
+
+-- what holds of each entry, and of one that is put, holds of each then
+each-put : (P : List ℕ → Tree → Type 0) (k : List ℕ) (v : Tree) (es : Entries) → P k v → Each P es → Each P (put k v es)
+each-put P k v no_entries here others = (here, tt)
+each-put P k v (entry j u es) here others = by (slice_cmp nat_cmp k j) refl (each-put P k v es here others.1)
+  where
+    by : (o : Ordering) → slice_cmp nat_cmp k j ≡ o → Each P (put k v es)
+        → Each P (match_ordering o (entry k v (entry j u es)) (entry j v es) (entry j u (put k v es)))
+    by Less is inner = (here, others)
+    by Equal is inner = (subst (λ (i : List ℕ). P i v) (equal_keys k j is) here, others.1)
+    by Greater is inner = (others.0, inner)
+
+-- so does what holds of each pair
+pub each-onto : (P : List ℕ → Tree → Type 0) (ps es : Entries) → Each P ps → Each P es → Each P (onto es ps)
+each-onto P no_entries es pairs others = others
+each-onto P (entry k v ps) es pairs others = each-onto P ps (put k v es) pairs.1 (each-put P k v es pairs.0 others)
+
 -- ---- a finite map
 
 -- a value is found at the key where it was put
