@@ -84,9 +84,13 @@ onto-join (entry k v fs) es rises =
     ∙ (onto-join fs (join es (entry k v no_entries)) (subst IsRising (sym (join-entry es k v fs)) rises) ∙ join-entry es k v fs)
 
 -- rising entries, put one after another, are those entries
-pub onto-rising : (es : Entries) → AreEntries es → onto no_entries es ≡ es
+pub rising_pairs : (es : Entries) → IsRising es → onto no_entries es ≡ es
 unfolding join
-onto-rising es are = onto-join es no_entries (entries_rise es are)
+rising_pairs es rises = onto-join es no_entries rises
+
+-- so are those of a table
+pub onto-rising : (es : Entries) → AreEntries es → onto no_entries es ≡ es
+onto-rising es are = rising_pairs es (entries_rise es are)
 
 -- what comes before a key and before the entries comes before them with the key
 before-put : (j k : List ℕ) (v : Tree) (es : Entries) → slice_cmp nat_cmp j k ≡ Less → ComesBefore j es → ComesBefore j (put k v es)

@@ -94,11 +94,12 @@ pub fn table_is_a_map()
 {}
 
 /// What the pairs of a wire mean: at each key the value of the last pair with it, under keys that
-/// rise.
-#[tactic(auto, using(crate::proofs::GrammarLaws::last_stays, crate::proofs::GrammarLaws::pairs_rise))]
+/// rise. Where the pairs' own keys rise they are the table's entries as they stand.
+#[tactic(auto, using(crate::proofs::GrammarLaws::last_stays, crate::proofs::GrammarLaws::pairs_rise, crate::proofs::GrammarLaws::rising_pairs))]
 pub fn last_pair_stays()
     ensures values { (k : List ℕ) (ps : Entries) → value_at k (onto no_entries ps) ≡ last_at k ps }
     ensures keys { (ps : Entries) → IsRising (onto no_entries ps) }
+    ensures rising { (ps : Entries) → IsRising ps → onto no_entries ps ≡ ps }
 {}
 
 /// Tables are equal where they have the same value at each key. The keys of every table in memory
