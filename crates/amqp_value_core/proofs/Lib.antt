@@ -8,5 +8,6 @@ mod MoreBytes
 mod Found
 mod Nests
 mod Sound
+mod OnLiterals
 mod Agreement
 pub mod GrammarLaws
