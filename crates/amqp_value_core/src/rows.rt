@@ -184,6 +184,48 @@ pub fn keys_in_order()
     ensures writes { text (table (entries_of ((97 ∷ [], scalar void) ∷ (98 ∷ [], scalar void) ∷ []))) ≡ 70 ∷ 0 ∷ 0 ∷ 0 ∷ 6 ∷ 1 ∷ 97 ∷ 86 ∷ 1 ∷ 98 ∷ 86 ∷ [] }
 {}
 
+/// A table of seventeen keys, with a value of nearly every type, in 199 bytes: it is written so, and read back.
+pub fn a_large_table()
+    ensures { let bytes =
+        70 ∷ 0 ∷ 0 ∷ 0 ∷ 194
+        ∷ 4 ∷ 97 ∷ 97 ∷ 97 ∷ 97 ∷ 98 ∷ 42
+        ∷ 3 ∷ 98 ∷ 97 ∷ 114 ∷ 70 ∷ 0 ∷ 0 ∷ 0 ∷ 0
+        ∷ 4 ∷ 98 ∷ 98 ∷ 98 ∷ 98 ∷ 66 ∷ 64
+        ∷ 4 ∷ 98 ∷ 108 ∷ 97 ∷ 104 ∷ 116 ∷ 0
+        ∷ 4 ∷ 99 ∷ 99 ∷ 99 ∷ 99 ∷ 115 ∷ 0 ∷ 32
+        ∷ 4 ∷ 100 ∷ 100 ∷ 100 ∷ 100 ∷ 117 ∷ 0 ∷ 132
+        ∷ 4 ∷ 101 ∷ 101 ∷ 101 ∷ 101 ∷ 73 ∷ 255 ∷ 255 ∷ 255 ∷ 203
+        ∷ 4 ∷ 102 ∷ 102 ∷ 102 ∷ 102 ∷ 105 ∷ 0 ∷ 1 ∷ 4 ∷ 106
+        ∷ 3 ∷ 102 ∷ 111 ∷ 111 ∷ 65 ∷ 0 ∷ 0 ∷ 0 ∷ 3 ∷ 116 ∷ 1 ∷ 86
+        ∷ 4 ∷ 103 ∷ 103 ∷ 103 ∷ 103 ∷ 108 ∷ 255 ∷ 255 ∷ 255 ∷ 255 ∷ 255 ∷ 255 ∷ 216 ∷ 241
+        ∷ 4 ∷ 104 ∷ 104 ∷ 104 ∷ 104 ∷ 120 ∷ 0 ∷ 0 ∷ 0 ∷ 4 ∷ 42 ∷ 1 ∷ 2 ∷ 3
+        ∷ 4 ∷ 105 ∷ 105 ∷ 105 ∷ 105 ∷ 102 ∷ 66 ∷ 41 ∷ 174 ∷ 20
+        ∷ 4 ∷ 106 ∷ 106 ∷ 106 ∷ 106 ∷ 100 ∷ 64 ∷ 69 ∷ 53 ∷ 194 ∷ 143 ∷ 92 ∷ 40 ∷ 246
+        ∷ 4 ∷ 107 ∷ 107 ∷ 107 ∷ 107 ∷ 84 ∷ 0 ∷ 0 ∷ 0 ∷ 0 ∷ 73 ∷ 150 ∷ 2 ∷ 210
+        ∷ 4 ∷ 108 ∷ 108 ∷ 108 ∷ 108 ∷ 86
+        ∷ 3 ∷ 111 ∷ 111 ∷ 102 ∷ 65 ∷ 0 ∷ 0 ∷ 0 ∷ 0
+        ∷ 4 ∷ 116 ∷ 97 ∷ 98 ∷ 108 ∷ 70 ∷ 0 ∷ 0 ∷ 0 ∷ 25 ∷ 3 ∷ 98 ∷ 97 ∷ 122 ∷ 83 ∷ 0 ∷ 0 ∷ 0 ∷ 6 ∷ 98 ∷ 108 ∷ 97 ∷ 104 ∷ 52 ∷ 50 ∷ 3 ∷ 102 ∷ 111 ∷ 111 ∷ 68 ∷ 55 ∷ 0 ∷ 0 ∷ 3 ∷ 231 ∷ [] in
+        let entries = entries_of (
+        (97 ∷ 97 ∷ 97 ∷ 97 ∷ [], scalar (number AMQPType.ShortShortInt 42))
+        ∷ (98 ∷ 97 ∷ 114 ∷ [], table no_entries)
+        ∷ (98 ∷ 98 ∷ 98 ∷ 98 ∷ [], scalar (number AMQPType.ShortShortUInt 64))
+        ∷ (98 ∷ 108 ∷ 97 ∷ 104 ∷ [], scalar (boolean false))
+        ∷ (99 ∷ 99 ∷ 99 ∷ 99 ∷ [], scalar (number AMQPType.ShortInt 32))
+        ∷ (100 ∷ 100 ∷ 100 ∷ 100 ∷ [], scalar (number AMQPType.ShortUInt 132))
+        ∷ (101 ∷ 101 ∷ 101 ∷ 101 ∷ [], scalar (number AMQPType.LongInt (cast_unsigned w32 (negsuc 52))))
+        ∷ (102 ∷ 102 ∷ 102 ∷ 102 ∷ [], scalar (number AMQPType.LongUInt 66666))
+        ∷ (102 ∷ 111 ∷ 111 ∷ [], array (trees_of (scalar (boolean true) ∷ scalar void ∷ [])))
+        ∷ (103 ∷ 103 ∷ 103 ∷ 103 ∷ [], scalar (number AMQPType.LongLongInt (cast_unsigned w64 (negsuc 9998))))
+        ∷ (104 ∷ 104 ∷ 104 ∷ 104 ∷ [], octets (42 ∷ 1 ∷ 2 ∷ 3 ∷ []))
+        ∷ (105 ∷ 105 ∷ 105 ∷ 105 ∷ [], scalar (number AMQPType.Float 1110027796))
+        ∷ (106 ∷ 106 ∷ 106 ∷ 106 ∷ [], scalar (number AMQPType.Double 4631166901565532406))
+        ∷ (107 ∷ 107 ∷ 107 ∷ 107 ∷ [], scalar (number AMQPType.Timestamp 1234567890))
+        ∷ (108 ∷ 108 ∷ 108 ∷ 108 ∷ [], scalar void)
+        ∷ (111 ∷ 111 ∷ 102 ∷ [], array no_trees)
+        ∷ (116 ∷ 97 ∷ 98 ∷ 108 ∷ [], table (entries_of ((98 ∷ 97 ∷ 122 ∷ [], long (98 ∷ 108 ∷ 97 ∷ 104 ∷ 52 ∷ 50 ∷ [])) ∷ (102 ∷ 111 ∷ 111 ∷ [], scalar (decimal 55 999)) ∷ []))) ∷ []) in
+        (text (table entries) ≡ bytes) × (size (table entries) ≡ 199) × (outcome bytes ≡ found (table entries) []) }
+{}
+
 /// A table inside an array: what is written is as much shorter as the key that came twice.
 #[tactic(auto, using(crate::proofs::OnLiterals::letter_a))]
 pub fn a_table_in_an_array()
