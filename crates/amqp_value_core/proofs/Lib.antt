@@ -12,5 +12,6 @@ mod Shortest
 mod Found
 mod Nests
 mod Sound
+mod OnLiterals
 mod Agreement
 pub mod GrammarLaws
