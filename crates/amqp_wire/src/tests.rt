@@ -1,3 +1,5 @@
+mod integration;
+
 use crate::fault::WireFault;
 use crate::run::run;
 use std::alloc::Global;
@@ -71,17 +73,34 @@ fn answers_each_line(rt: HostRuntime) -> Result<(), Fail> {
             "4100000007410000000262ff01",
             "value 4100000007410000000262ff rest 1",
         ),
-        ("4201", "refused MapOpt"),
+        ("4201", "value 4201 rest 0"),
         ("41000000024900", "refused Eof"),
         ("41ffffffff", "more 4294967295"),
         ("", "more 1"),
         ("7a", "refused MapOpt"),
         ("41000000027300", "refused Eof"),
         ("560a", "value 56 rest 1"),
-        ("550005", "refused MapOpt"),
+        ("550005", "value 730005 rest 0"),
         ("5", "not hex"),
         ("xy", "not hex"),
         ("490000002A", "value 490000002a rest 0"),
+        (
+            "46000000110161740101614600000006016256016256",
+            "value 460000000a01614600000003016256 rest 0",
+        ),
+        ("4100000003565656", "value 4100000003565656 rest 0"),
+        (
+            "4600000006016256016156",
+            "value 4600000006016156016256 rest 0",
+        ),
+        (
+            "4600000006016156016256",
+            "value 4600000006016156016256 rest 0",
+        ),
+        (
+            "4600000009016156016256016156",
+            "value 4600000006016156016256 rest 0",
+        ),
         ("7400\r", "value 7400 rest 0"),
     ] {
         let out = written(rt.alloc(), format!(in rt.alloc(); "{line}\n")?.as_str())?;
