@@ -10,17 +10,18 @@ pub use Rattle.amqp_value_core.proofs.MoreBytes.{more_bytes, more_raw_bytes}
 pub use Rattle.amqp_value_core.proofs.Outcomes.{one_outcome, one_raw_outcome}
 -- the outcome as a function
 pub use Rattle.amqp_value_core.proofs.Agreement.{outcome_holds, outcome_is, raw_outcome_holds, raw_outcome_is}
+-- tables as finite maps, and what pairs mean
+pub use Rattle.amqp_value_core.proofs.Tables.{put_found, put_other, key_has_value, last_stays, pairs_rise, rising_pairs, same_tables, entries_rise}
+-- what a wire bounds, what is read from it, and that the text is a shortest wire
+pub use Rattle.amqp_value_core.proofs.Bounds.{bounds, raw_bounds}
+pub use Rattle.amqp_value_core.proofs.Shortest.{what_is_read, what_raw_reads, read_is_value, raw_value, shortest, same_text_same_value}
 -- from a payload of the type that a first byte stands for to the value: the outcome, and that it takes memory
 pub use Rattle.amqp_value_core.proofs.Outcomes.{raw_to_value, value_to_raw, raw_to_heavy}
 -- from what stands at the front to the outcome
 pub use Rattle.amqp_value_core.proofs.Outcomes.{raw_whole, raw_found, wire_found}
--- bytes behind their length: the number is theirs, the frame is whole, and as an array's payload they are its body
+-- bytes behind their length: the number is theirs, the frame is whole, and as a payload they are an array's body, a table's pairs
+-- or a short string
 pub use Rattle.amqp_value_core.proofs.Headers.{counted-large, lack_of-large}
 pub use Rattle.amqp_value_core.proofs.Headers.{counted-small, lack_of-small}
 pub use Rattle.amqp_value_core.proofs.Reading.{array_body}
--- as a table's payload they are its pairs, and as a short string's its bytes
 pub use Rattle.amqp_value_core.proofs.Reading.{table_body, short_bytes}
--- pairs whose keys rise are put together as they are
-pub use Rattle.amqp_value_core.proofs.Tables.{onto-rising}
--- tables as finite maps
-pub use Rattle.amqp_value_core.proofs.Tables.{put_found, put_other, key_has_value, last_stays, pairs_rise, same_tables, entries_rise}

@@ -1,4 +1,5 @@
 mod Fronts
+mod Bytes
 mod Headers
 mod Unique
 mod Tables
@@ -6,6 +7,8 @@ mod Spelling
 mod Outcomes
 mod Reading
 mod MoreBytes
+mod Bounds
+mod Shortest
 mod Found
 mod Nests
 mod Sound

@@ -84,9 +84,13 @@ onto-join (entry k v fs) es rises =
     ∙ (onto-join fs (join es (entry k v no_entries)) (subst IsRising (sym (join-entry es k v fs)) rises) ∙ join-entry es k v fs)
 
 -- rising entries, put one after another, are those entries
-pub onto-rising : (es : Entries) → AreEntries es → onto no_entries es ≡ es
+pub rising_pairs : (es : Entries) → IsRising es → onto no_entries es ≡ es
 unfolding join
-onto-rising es are = onto-join es no_entries (entries_rise es are)
+rising_pairs es rises = onto-join es no_entries rises
+
+-- so are those of a table
+pub onto-rising : (es : Entries) → AreEntries es → onto no_entries es ≡ es
+onto-rising es are = rising_pairs es (entries_rise es are)
 
 -- what comes before a key and before the entries comes before them with the key
 before-put : (j k : List ℕ) (v : Tree) (es : Entries) → slice_cmp nat_cmp j k ≡ Less → ComesBefore j es → ComesBefore j (put k v es)
@@ -117,6 +121,29 @@ rising-onto (entry k v ps) es rises = rising-onto ps (put k v es) (rising-put k 
 -- the keys of what pairs mean rise
 pub pairs_rise : (ps : Entries) → IsRising (onto no_entries ps)
 pairs_rise ps = rising-onto ps no_entries tt
+
+-- ---- what holds of each entry
+
+-- P holds of each key and its value
+abbrev pub Each : (List ℕ → Tree → Type 0) → Entries → Type 0
+Each P no_entries = Unit {0}
+Each P (entry k v es) = P k v × Each P es
+
+-- what holds of each entry, and of one that is put, holds of each then
+each-put : (P : List ℕ → Tree → Type 0) (k : List ℕ) (v : Tree) (es : Entries) → P k v → Each P es → Each P (put k v es)
+each-put P k v no_entries here others = (here, tt)
+each-put P k v (entry j u es) here others = by (slice_cmp nat_cmp k j) refl (each-put P k v es here others.1)
+  where
+    by : (o : Ordering) → slice_cmp nat_cmp k j ≡ o → Each P (put k v es)
+        → Each P (match_ordering o (entry k v (entry j u es)) (entry j v es) (entry j u (put k v es)))
+    by Less is inner = (here, others)
+    by Equal is inner = (subst (λ (i : List ℕ). P i v) (equal_keys k j is) here, others.1)
+    by Greater is inner = (others.0, inner)
+
+-- so does what holds of each pair
+pub each-onto : (P : List ℕ → Tree → Type 0) (ps es : Entries) → Each P ps → Each P es → Each P (onto es ps)
+each-onto P no_entries es pairs others = others
+each-onto P (entry k v ps) es pairs others = each-onto P ps (put k v es) pairs.1 (each-put P k v es pairs.0 others)
 
 -- ---- a finite map
 

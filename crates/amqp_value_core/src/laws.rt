@@ -10,8 +10,9 @@ ghost use Rattle.amqp_value_core.specs.Texts.{text, payload, size, Fits, IsValue
 ghost use Rattle.amqp_value_core.specs.Ids.{kind};
 ghost use Rattle.amqp_value_core.specs.Outcomes.{IsBytes, Reading, Outcome, RawOutcome, Heavy, RawHeavy, StillWaits, with_more};
 ghost use Rattle.amqp_value_core.specs.Decode.{outcome, raw_outcome};
-ghost use Rattle.std.specs.Prelude.{◌≢◌, is_some};
-ghost use Rattle.amqp_value_core.specs.Values.{Entries, no_entries, table, put, onto};
+ghost use Rattle.std.specs.Prelude.{◌≢◌, ◌≤◌, ◌*◌, is_some};
+ghost use Rattle.amqp_value_core.specs.declared.types.AMQPType.TheVariants as amqp;
+ghost use Rattle.amqp_value_core.specs.Values.{Entries, no_entries, table, put, onto, depth, count};
 ghost use Rattle.amqp_value_core.specs.Maps.{has_key, value_at, last_at, IsRising};
 
 /// A list begins with at most one wire, and that wire has one meaning. So no wire is a proper front
@@ -93,11 +94,12 @@ pub fn table_is_a_map()
 {}
 
 /// What the pairs of a wire mean: at each key the value of the last pair with it, under keys that
-/// rise.
-#[tactic(auto, using(crate::proofs::GrammarLaws::last_stays, crate::proofs::GrammarLaws::pairs_rise))]
+/// rise. Where the pairs' own keys rise they are the table's entries as they stand.
+#[tactic(auto, using(crate::proofs::GrammarLaws::last_stays, crate::proofs::GrammarLaws::pairs_rise, crate::proofs::GrammarLaws::rising_pairs))]
 pub fn last_pair_stays()
     ensures values { (k : List ℕ) (ps : Entries) → value_at k (onto no_entries ps) ≡ last_at k ps }
     ensures keys { (ps : Entries) → IsRising (onto no_entries ps) }
+    ensures rising { (ps : Entries) → IsRising ps → onto no_entries ps ≡ ps }
 {}
 
 /// Tables are equal where they have the same value at each key. The keys of every table in memory
@@ -107,6 +109,43 @@ pub fn same_tables()
     ensures equal { (es fs : Entries) → IsRising es → IsRising fs
         → ((k : List ℕ) → value_at k es ≡ value_at k fs) → es ≡ fs }
     ensures rising { (es : Entries) → IsValue (table es) → IsRising es }
+{}
+
+/// What is in a wire takes bytes: as many as the text of its value has, one for each value in it, and
+/// five for each container down to the deepest. A payload has one byte less, since it has no id.
+#[tactic(auto, using(crate::proofs::GrammarLaws::bounds, crate::proofs::GrammarLaws::raw_bounds))]
+pub fn bounds()
+    ensures value { (w : List ℕ) (v : Tree) → Wire w v
+        → (size v ≤ length w) × (count v ≤ length w) × (5 * depth v ≤ length w) }
+    ensures payload { (type : AMQPType) (b : List ℕ) (v : Tree) → Raw type b v
+        → (size v ≤ length b + 1) × (count v ≤ length b + 1) × (5 * depth v ≤ length b + 1) }
+{}
+
+/// What a wire means can be written and read again: its lengths fit their fields, and each value in
+/// it has an id that is read. Where the wire is bytes, it is a value. The same holds of a payload,
+/// but a short string's, which no id stands for.
+#[tactic(auto, using(crate::proofs::GrammarLaws::what_is_read, crate::proofs::GrammarLaws::what_raw_reads, crate::proofs::GrammarLaws::read_is_value, crate::proofs::GrammarLaws::raw_value))]
+pub fn what_is_read()
+    ensures fits { (w : List ℕ) (v : Tree) → Wire w v → Fits v × IsTrue (readable v) }
+    ensures value { (w : List ℕ) (v : Tree) → IsBytes w → Wire w v → IsValue v }
+    ensures payload_fits { (type : AMQPType) (b : List ℕ) (v : Tree) → type ≢ amqp.ShortString
+        → Raw type b v → Fits v × IsTrue (readable v) }
+    ensures payload_value { (type : AMQPType) (b : List ℕ) (v : Tree) → IsBytes b → Raw type b v
+        → IsValue v }
+{}
+
+/// Of all wires of a value that are bytes, its text is a shortest one.
+#[tactic(auto, using(crate::proofs::GrammarLaws::shortest))]
+pub fn shortest()
+    ensures { (w : List ℕ) (v : Tree) → IsBytes w → Wire w v
+        → Wire (text v) v × (length (text v) ≤ length w) }
+{}
+
+/// Values that are read from bytes have the same text only where they are equal.
+#[tactic(auto, using(crate::proofs::GrammarLaws::same_text_same_value))]
+pub fn same_text_same_value()
+    ensures { (w u : List ℕ) (v z : Tree) → Wire w v → Wire u z → IsBytes w → IsBytes u
+        → text v ≡ text z → v ≡ z }
 {}
 
 /// Reading a value from any bytes has an outcome, it has no other, and the function `outcome`
