@@ -9,6 +9,8 @@ mod Reading
 mod MoreBytes
 mod Bounds
 mod Shortest
+mod Canons
+mod TextCanon
 mod Found
 mod Nests
 mod Sound

@@ -13,6 +13,8 @@ ghost use Rattle.amqp_value_core.specs.Decode.{outcome, raw_outcome};
 ghost use Rattle.std.specs.Prelude.{◌≢◌, ◌≤◌, ◌*◌, is_some};
 ghost use Rattle.amqp_value_core.specs.declared.types.AMQPType.TheVariants as amqp;
 ghost use Rattle.amqp_value_core.specs.Values.{Entries, no_entries, table, put, onto, depth, count};
+ghost use Rattle.amqp_value_core.specs.Canonical.{Canon};
+ghost use Rattle.amqp_value_core.specs.Headline.{IsCanonical};
 ghost use Rattle.amqp_value_core.specs.Maps.{has_key, value_at, last_at, IsRising};
 
 /// A list begins with at most one wire, and that wire has one meaning. So no wire is a proper front
@@ -146,6 +148,22 @@ pub fn shortest()
 pub fn same_text_same_value()
     ensures { (w u : List ℕ) (v z : Tree) → Wire w v → Wire u z → IsBytes w → IsBytes u
         → text v ≡ text z → v ≡ z }
+{}
+
+/// A canonical wire is told by its bytes alone: no second spelling of an id, no boolean but 0 or 1,
+/// and keys that rise. Bytes are such a wire of a value in memory, whose lengths fit their fields,
+/// exactly where each value in it has an id that is read and they are its text.
+#[tactic(auto, using(crate::proofs::GrammarLaws::is_canonical))]
+pub fn canonical()
+    ensures { (v : Tree) → IsValue v → Fits v → IsCanonical v }
+{}
+
+/// A canonical wire of any value is a wire, its value fits its fields and is readable, and where it
+/// is bytes, it is the text.
+#[tactic(auto, using(crate::proofs::GrammarLaws::canon_is_wire, crate::proofs::GrammarLaws::canon_fits, crate::proofs::GrammarLaws::canon_is_text))]
+pub fn canonical_wire()
+    ensures { (w : List ℕ) (v : Tree) → Canon w v → IsBytes w
+        → Wire w v × Fits v × IsTrue (readable v) × (w ≡ text v) }
 {}
 
 /// Reading a value from any bytes has an outcome, it has no other, and the function `outcome`
