@@ -16,4 +16,5 @@ mod Nests
 mod Sound
 mod OnLiterals
 mod Agreement
+mod Headlines
 pub mod GrammarLaws

@@ -2,20 +2,18 @@
 //!
 //! Each function is a law. It does nothing, and its contract says what holds.
 
-ghost use Rattle.std.specs.Prelude.{◌≡◌, ◌↔◌, ◌+◌, ℕ, List, ◌∷◌, ◌++◌, length, IsTrue, Some};
+ghost use Rattle.std.specs.Prelude.{◌≡◌, ◌↔◌, ◌+◌, ℕ, List, ◌∷◌, ◌++◌, length, IsTrue, Some, ◌≢◌, ◌≤◌, ◌*◌, is_some, ◌-◌};
 ghost use Rattle.amqp_value_core.specs.declared.types.AMQPType.{AMQPType};
-ghost use Rattle.amqp_value_core.specs.Values.{Tree, type_of, readable};
+ghost use Rattle.amqp_value_core.specs.Values.{Tree, type_of, readable, Entries, no_entries, table, put, onto, depth, count};
 ghost use Rattle.amqp_value_core.specs.Grammar.{Wire, Raw};
 ghost use Rattle.amqp_value_core.specs.Texts.{text, payload, size, Fits, IsValue, read_back};
 ghost use Rattle.amqp_value_core.specs.Ids.{kind};
-ghost use Rattle.amqp_value_core.specs.Outcomes.{IsBytes, Reading, Outcome, RawOutcome, Heavy, RawHeavy, StillWaits, with_more};
+ghost use Rattle.amqp_value_core.specs.Outcomes.{IsBytes, Reading, Outcome, RawOutcome, Heavy, RawHeavy, StillWaits, with_more, found, Front};
 ghost use Rattle.amqp_value_core.specs.Decode.{outcome, raw_outcome};
-ghost use Rattle.std.specs.Prelude.{◌≢◌, ◌≤◌, ◌*◌, is_some};
-ghost use Rattle.amqp_value_core.specs.declared.types.AMQPType.TheVariants as amqp;
-ghost use Rattle.amqp_value_core.specs.Values.{Entries, no_entries, table, put, onto, depth, count};
 ghost use Rattle.amqp_value_core.specs.Canonical.{Canon};
-ghost use Rattle.amqp_value_core.specs.Headline.{IsCanonical};
+ghost use Rattle.amqp_value_core.specs.Headline.{IsCanonical, IsBounded, IsShortest, TellsApart};
 ghost use Rattle.amqp_value_core.specs.Maps.{has_key, value_at, last_at, IsRising};
+ghost use Rattle.amqp_value_core.specs.declared.types.AMQPType.TheVariants as amqp;
 
 /// A list begins with at most one wire, and that wire has one meaning. So no wire is a proper front
 /// of another.
@@ -164,6 +162,22 @@ pub fn canonical()
 pub fn canonical_wire()
     ensures { (w : List ℕ) (v : Tree) → Canon w v → IsBytes w
         → Wire w v × Fits v × IsTrue (readable v) × (w ≡ text v) }
+{}
+
+/// What reading finds has a wire at the front, and keeps to the number of bytes that were taken.
+#[tactic(auto, using(crate::proofs::GrammarLaws::found_front, crate::proofs::GrammarLaws::bounded_found))]
+pub fn what_is_found()
+    ensures front { (s rest : List ℕ) (v : Tree) → Outcome s (found v rest) → Front s (found v rest) }
+    ensures bounded { (s rest : List ℕ) (v : Tree) → Outcome s (found v rest)
+        → IsBounded (length s - length rest) v }
+{}
+
+/// The text of each value is a shortest wire of it, if it has a wire, and among values that have
+/// wires it is the text of that value alone.
+#[tactic(auto, using(crate::proofs::GrammarLaws::is_shortest, crate::proofs::GrammarLaws::tells_apart))]
+pub fn what_a_text_is()
+    ensures shortest { (v : Tree) → IsShortest v }
+    ensures tells_apart { (v : Tree) → TellsApart v }
 {}
 
 /// Reading a value from any bytes has an outcome, it has no other, and the function `outcome`
