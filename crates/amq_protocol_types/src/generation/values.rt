@@ -5,7 +5,9 @@ ghost use Rattle.amqp_value_core.specs.Strings.{IsShort};
 ghost use Rattle.amqp_value_core.specs.Grammar.{small};
 ghost use Rattle.amqp_value_core.specs.Texts.{text, payload, Fits, IsValue, read_back};
 ghost use Rattle.amqp_value_core.specs.Outcomes.{Outcome};
+ghost use Rattle.amqp_value_core.specs.Headline.{IsShortest, TellsApart, IsCanonical};
 ghost use Rattle.amq_protocol_types.specs.Outputs.{Writes};
+ghost use Rattle.amq_protocol_types.specs.Written.{WritesWhatWasRead};
 ghost use Rattle.amq_protocol_types.specs.Contexts.{start_of, shown};
 
 use crate::generation::{
@@ -18,8 +20,10 @@ use amqp_value_core::types::{FieldArray, FieldTable, ShortString};
 use amqp_value_core::value::AMQPValue;
 
 /// Writes a value: the id of its type, then its payload.
-#[cycle(values)]
-#[tactic(auto, using(amqp_value_core::proofs::GrammarLaws::reading_back))]
+///
+/// What is written is the value's one text: a shortest wire, which no other value has. Where the
+/// value was read, room for as many bytes as it was read from is enough.
+#[tactic(auto, using(amqp_value_core::proofs::GrammarLaws::reading_back, amqp_value_core::proofs::GrammarLaws::is_shortest, amqp_value_core::proofs::GrammarLaws::tells_apart, amqp_value_core::proofs::GrammarLaws::is_canonical, crate::proofs::WhatWasRead::writes_what_was_read))]
 pub fn gen_value<W: BackToTheBuffer>(v: &AMQPValue, x: &mut WriteContext<W>) -> GenResult
     ensures written { Writes true (Fits (view v.now)) (text (view v.now))
         (shown W.seen x.old) result (shown W.seen x.new) }
@@ -27,6 +31,21 @@ pub fn gen_value<W: BackToTheBuffer>(v: &AMQPValue, x: &mut WriteContext<W>) -> 
     ensures value { OnOk result (IsValue (view v.now)) }
     ensures read_back { OnOk result ((rest : List ℕ) →
         Outcome (text (view v.now) ++ rest) (read_back (view v.now) rest)) }
+    ensures of_a_wire { WritesWhatWasRead (view v.now) (shown W.seen x.old) result }
+    ensures shortest { IsShortest (view v.now) }
+    ensures tells_apart { TellsApart (view v.now) }
+    ensures canonical { OnOk result (IsCanonical (view v.now)) }
+{
+    write_value(v, x)
+}
+
+// Writes a value, for `gen_value` and for the containers that it stands in.
+#[cycle(values)]
+fn write_value<W: BackToTheBuffer>(v: &AMQPValue, x: &mut WriteContext<W>) -> GenResult
+    ensures written { Writes true (Fits (view v.now)) (text (view v.now))
+        (shown W.seen x.old) result (shown W.seen x.new) }
+    ensures start { start_of x.new ≡ start_of x.old }
+    ensures value { OnOk result (IsValue (view v.now)) }
 {
     let at = x.at();
     gen_type(v.get_type(), x)?;
@@ -78,7 +97,7 @@ pub fn gen_field_array<W: BackToTheBuffer>(a: &FieldArray, x: &mut WriteContext<
 {
     let at = x.reserve(4)?;
     for v in a.as_slice() {
-        if let Err(e) = gen_value(v, x) {
+        if let Err(e) = write_value(v, x) {
             x.back_to(at);
             return Err(e);
         }
@@ -131,7 +150,7 @@ fn gen_entry<W: BackToTheBuffer>(
 {
     let at = x.at();
     gen_short_string(k.as_str(), x)?;
-    if let Err(e) = gen_value(v, x) {
+    if let Err(e) = write_value(v, x) {
         x.back_to(at);
         return Err(e);
     }
