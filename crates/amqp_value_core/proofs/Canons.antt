@@ -1,15 +1,15 @@
 -- Canonical wires: each is a wire, and of bytes each is the text of its value.
-use Rattle.std.proofs.Common.{◌≡◌, ◌≢◌, ◌<◌, ◌^◌, ℕ, zero, suc, Bool, true, false, cond, nat_eq, List, [], ◌∷◌, ◌++◌, length, take, drop, Option, Some, None, IsTrue, refl, sym, ap, ap₂, ◌∙◌, subst, arith}
+use Rattle.std.proofs.Common.{◌≡◌, ◌≢◌, ℕ, zero, suc, Bool, true, false, cond, nat_eq, List, [], ◌∷◌, ◌++◌, length, take, drop, Option, Some, IsTrue, refl, sym, ap, ap₂, ◌∙◌, subst, arith}
 use Rattle.std.specs.Map.{lookup}
 use Rattle.std.specs.List.{AllByRecursion}
 use Rattle.std.specs.Option.{IfSome}
 use Rattle.std.specs.Int.{w8, w16, w32, w64, from_be_bytes, to_be_bytes, bytes_high_first}
 use Rattle.std.proofs.lemmas.Bool.{eqb-true}
-use Rattle.std.proofs.lemmas.List.{nil_from_length, take-append-drop}
+use Rattle.std.proofs.lemmas.List.{nil_from_length}
 use Rattle.std.proofs.lemmas.Nat.{be_bytes_2, be_bytes_4, be_bytes_8}
 use Rattle.amqp_value_core.specs.declared.types.AMQPType.{AMQPType}
 use Rattle.amqp_value_core.specs.declared.types.AMQPType.TheVariants as amqp
-use Rattle.amqp_value_core.specs.Values.{Scalar, boolean, number, decimal, void, Tree, table, Trees, tree, Entries, entry, scalar_type, type_of, readable}
+use Rattle.amqp_value_core.specs.Values.{boolean, Tree, table, Trees, Entries, scalar_type, type_of, readable}
 use Rattle.amqp_value_core.specs.Ids.{letters, kind, id_of, read_as}
 use Rattle.amqp_value_core.specs.Layouts.{Layout, fixed, truth, spelled}
 use Rattle.amqp_value_core.specs.Grammar.{small, large, Wire, wire, Raw, raw_fixed, raw_long, raw_octets, raw_array, raw_table, Body, no_values, value, Pairs, no_pairs, pair}
@@ -17,7 +17,7 @@ use Rattle.amqp_value_core.specs.Texts.{text, body, pairs, payload, Fits}
 use Rattle.amqp_value_core.specs.Outcomes.{IsBytes}
 use Rattle.amqp_value_core.specs.Maps.{IsRising}
 use Rattle.amqp_value_core.specs.Canonical.{IsStrict, Canon, canon, CanonRaw, canon_fixed, canon_long, canon_octets, canon_array, canon_table, CanonBody, no_canon_values, canon_value, CanonPairs, no_canon_pairs, canon_pair}
-use Rattle.amqp_value_core.proofs.Bytes.{bytes_front, bytes_behind, bytes_take, bytes_drop, byte_at}
+use Rattle.amqp_value_core.proofs.Bytes.{bytes_front, bytes_behind, byte_at}
 use Rattle.amqp_value_core.proofs.Tables.{rising_pairs}
 use Rattle.amqp_value_core.proofs.Spelling.{text-payload}
 use Rattle.amqp_value_core.proofs.Shortest.{kind_read, what_is_read}

@@ -1,15 +1,14 @@
 -- The text of a value is its canonical wire, and the only one that is bytes.
-use Rattle.std.proofs.Common.{◌≡◌, ◌≢◌, ◌<◌, ◌↔◌, ◌^◌, ℕ, true, false, List, ◌++◌, length, IsTrue, refl, sym, subst, arith}
+use Rattle.std.proofs.Common.{◌≢◌, ℕ, true, false, List, IsTrue, refl, sym, subst, arith}
+use Rattle.std.specs.Int.{bytes_high_first}
 use Rattle.std.proofs.lemmas.Bool.{and_parts}
 use Rattle.amqp_value_core.specs.declared.types.AMQPType.{AMQPType}
 use Rattle.amqp_value_core.specs.declared.types.AMQPType.TheVariants as amqp
 use Rattle.amqp_value_core.specs.Values.{Scalar, boolean, number, decimal, void, Tree, scalar, short, long, octets, array, table, Trees, no_trees, tree, Entries, no_entries, entry, scalar_type, readable, all_readable, entries_readable}
 use Rattle.amqp_value_core.specs.Ids.{id_of}
 use Rattle.amqp_value_core.specs.Layouts.{width_of, spelled}
-use Rattle.std.specs.Int.{bytes_high_first}
 use Rattle.amqp_value_core.specs.Grammar.{large}
 use Rattle.amqp_value_core.specs.Texts.{text, body, pairs, Fits, AllFit, EntriesFit, IsNumber, IsScalar, IsValue, AreValues, AreEntries}
-use Rattle.amqp_value_core.specs.Outcomes.{IsBytes}
 use Rattle.amqp_value_core.specs.Canonical.{IsStrict, Canon, canon, CanonRaw, canon_fixed, canon_long, canon_octets, canon_array, canon_table, CanonBody, no_canon_values, canon_value, CanonPairs, no_canon_pairs, canon_pair}
 use Rattle.amqp_value_core.specs.Headline.{IsCanonical}
 use Rattle.amqp_value_core.proofs.Spelling.{length_of_body, length_of_pairs, scalar_spelled}
