@@ -9,3 +9,4 @@ pub mod Slices
 pub mod Steps
 pub mod Texts
 pub mod Arrays
+pub mod Tables
