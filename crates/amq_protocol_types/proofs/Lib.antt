@@ -10,3 +10,4 @@ pub mod Steps
 pub mod Texts
 pub mod Arrays
 pub mod WhatWasRead
+pub mod Tables
