@@ -8,13 +8,13 @@ use Rattle.amq_protocol_types.proofs.Texts.{text_of, longer_by_id, body_next, fi
 use Rattle.amq_protocol_types.proofs.Steps.{both_put, refused, by_buffer}
 use Rattle.amq_protocol_types.proofs.generation.values.+values.Goals as goal
 
-pub gen_value-returns-clause-written : goal.gen_value-returns-clause-written
-gen_value-returns-clause-written g t c =
+pub write_value-returns-clause-written : goal.write_value-returns-clause-written
+write_value-returns-clause-written g t c =
     let v = view c.args.v.now in
     both_put (Fits v) (text v) (text_of v _ c.get_type.ensures) (λ _ fit. fit) (by_buffer g.met.W.BackToTheBuffer.is_one c.in_ok-gen_type.ensures.put.written) c.in_default.ensures.written
 
-pub gen_value-returns-in-Err-clause-written : goal.gen_value-returns-in-Err-clause-written
-gen_value-returns-in-Err-clause-written g t c =
+pub write_value-returns-in-Err-clause-written : goal.write_value-returns-in-Err-clause-written
+write_value-returns-in-Err-clause-written g t c =
     let v = view c.args.v.now in
     refused (Fits v) (text v) _ c.at-at.ensures.at c.at-at.ensures.whole (longer_by_id v) (λ fit. fit) (by_buffer g.met.W.BackToTheBuffer.is_one c.in_ok-gen_type.ensures.put.written) c.in-Err.ensures.written c.back_to.ensures.back
 
