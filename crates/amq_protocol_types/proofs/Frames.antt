@@ -1,19 +1,19 @@
 -- Frames: a length, and as many bytes behind it.
-use Rattle.std.proofs.Common.{◌≡◌, ◌+◌, ◌-◌, ◌%◌, ◌<◌, ◌≤◌, ◌^◌, ℕ, List, ◌++◌, ◌∷◌, length, take, drop, None, refl, sym, ap, ap₂, ◌∙◌, subst, arith, append_assoc, take-append-drop, length-append}
-use Rattle.std.specs.Int.{Width, w8, w32, to_be_bytes}
+use Rattle.std.proofs.Common.{◌≡◌, ◌+◌, ◌-◌, ◌%◌, ◌<◌, ◌≤◌, ℕ, List, ◌++◌, ◌∷◌, length, take, drop, None, refl, sym, ap, ap₂, ◌∙◌, subst, arith, take-append-drop}
+use Rattle.std.specs.Int.{w8, w32}
 use Rattle.std.specs.Str.{IsUtf8}
 use Rattle.std.proofs.lemmas.Bool.{le-ltb}
 use Rattle.std.proofs.lemmas.List.{length-take-le}
 use Rattle.amqp_value_core.specs.declared.types.AMQPType.{AMQPType}
 use Rattle.amqp_value_core.specs.declared.types.AMQPType.TheVariants as amqp
 use Rattle.amqp_value_core.specs.Values.{Tree, Trees, Entries, no_entries, onto, short, long, octets, array, table}
-use Rattle.amqp_value_core.specs.Layouts.{Layout, fixed}
+use Rattle.amqp_value_core.specs.Layouts.{fixed}
 use Rattle.amqp_value_core.specs.Strings.{IsShort}
-use Rattle.amqp_value_core.specs.Grammar.{small, large, Raw, raw_short, raw_long, raw_octets, raw_array, raw_table, Body, Pairs}
+use Rattle.amqp_value_core.specs.Grammar.{small, large, Raw, raw_short, raw_long, raw_octets, raw_array, raw_table, Body}
 use Rattle.amqp_value_core.specs.Outcomes.{Reading, found, more, unknown, malformed, length_field, counted, frame_lack, lack_of, lack, RawFront, RawOutcome, RawHeavy}
 use Rattle.amqp_value_core.proofs.GrammarLaws.{array_body, table_body, short_bytes, counted-large, lack_of-large, raw_found, raw_whole}
 use Rattle.amq_protocol_types.specs.Refusals.{Refusal}
-use Rattle.amq_protocol_types.specs.Answers.{Refuses, IsFrame, IsNumberRead, IsNoBody, IsNoTable}
+use Rattle.amq_protocol_types.specs.Answers.{Refuses, IsFrame, IsNumberRead, IsNoBody, IsTable, IsNoTable}
 use Rattle.amq_protocol_types.proofs.Refused.{Refuses-weaker}
 
 -- ---- a length in four bytes
@@ -65,8 +65,10 @@ module _ (s body rest : List ℕ) (f : IsFrame s body rest) where
   array_refused r x = frame_refused amqp.FieldArray s body rest refl refl f (IsNoBody body) no_array r x
 
   -- a table is read where the body is pairs
-  pub table_found : (ps : Entries) → Pairs body ps → RawOutcome amqp.FieldTable s (found (table (onto no_entries ps)) rest)
-  table_found ps p = frame_found amqp.FieldTable s body rest refl refl f (table (onto no_entries ps)) (raw_table body ps f.fits p)
+  pub table_found : (es : Entries) → IsTable body es → RawOutcome amqp.FieldTable s (found (table es) rest)
+  table_found es p =
+      subst (λ (t : Entries). RawOutcome amqp.FieldTable s (found (table t) rest)) (sym p.2)
+      (frame_found amqp.FieldTable s body rest refl refl f (table (onto no_entries p.0)) (raw_table body p.0 f.fits p.1))
 
   -- where the body is none, no front is a table
   no_table : (o : Reading) → IsNoTable body o → RawFront amqp.FieldTable s o

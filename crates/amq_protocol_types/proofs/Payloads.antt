@@ -1,17 +1,18 @@
 -- Payloads: what is read of one type of fixed width.
-use Rattle.std.proofs.Common.{◌≡◌, ◌<◌, ◌^◌, ℕ, List, [], ◌++◌, length, ℤ, Bool, true, false, cond, nat_eq, take, drop, Some, refl, sym, ap, ap₂, ◌∙◌, subst, arith, append_assoc}
+use Rattle.std.proofs.Common.{◌≡◌, ◌<◌, ◌^◌, ℕ, zero, suc, List, [], ◌++◌, length, ℤ, Bool, true, false, cond, nat_eq, Some, refl, sym, ap, ap₂, ◌∙◌, subst, arith}
 use Rattle.std.specs.Prelude.{not}
 use Rattle.std.specs.Int.{Width, w8, w16, w32, w64, byte_len, to_be_bytes, from_be_bytes, cast_signed, cast_unsigned}
 use Rattle.std.proofs.lemmas.Nat.{from_be_bytes-to_be_bytes_2, from_be_bytes-to_be_bytes_4, from_be_bytes-to_be_bytes_8}
-use Rattle.std.proofs.lemmas.Int.{of_z-to_z}
 use Rattle.amqp_value_core.specs.declared.types.AMQPType.{AMQPType}
 use Rattle.amqp_value_core.specs.declared.types.AMQPType.TheVariants as amqp
 use Rattle.amqp_value_core.specs.Values.{Tree, Scalar, boolean, number, decimal, void, scalar}
 use Rattle.amqp_value_core.specs.Layouts.{Layout, fixed, truth, whole_number}
 use Rattle.amqp_value_core.specs.Grammar.{Raw, raw_fixed}
-use Rattle.amqp_value_core.specs.Outcomes.{Reading, found, more, unknown, malformed, RawFront, RawOutcome}
+use Rattle.amqp_value_core.specs.Outcomes.{Reading, found, more, unknown, malformed, lack, Unless, RawFront, RawOutcome}
 use Rattle.amqp_value_core.proofs.GrammarLaws.{raw_found}
-use Rattle.amq_protocol_types.specs.Answers.{IsNumberRead}
+use Rattle.amq_protocol_types.specs.Refusals.{Refusal}
+use Rattle.amq_protocol_types.specs.Answers.{Refuses, RawRefuses, IsNumberRead}
+use Rattle.amq_protocol_types.proofs.Refused.{Refuses-weaker, raw_refused}
 
 -- a payload of fixed width at the front is read
 pub fixed_found : (type : AMQPType) (f : Layout) (s b rest : List ℕ) → fixed type ≡ Some f → length b ≡ f.width → s ≡ b ++ rest
@@ -77,8 +78,28 @@ pub void_found : (s : List ℕ) → RawOutcome amqp.Void s (found (scalar void) 
 void_found s = fixed_found amqp.Void _ s [] s refl refl refl
 
 -- a LongLongUInt is read as the LongLongInt of the same bytes
-signed_payload : (b : List ℕ) (v : Tree) → Raw amqp.LongLongUInt b v → Raw amqp.LongLongInt b v
-signed_payload _ _ (raw_fixed type f b row len) = raw_fixed amqp.LongLongInt f b row len
+module _ (s : List ℕ) where
+  as_signed : (b : List ℕ) (v : Tree) → Raw amqp.LongLongUInt b v → Raw amqp.LongLongInt b v
+  as_signed _ _ (raw_fixed type f b row len) = raw_fixed amqp.LongLongInt f b row len
 
-unsigned_payload : (b : List ℕ) (v : Tree) → Raw amqp.LongLongInt b v → Raw amqp.LongLongUInt b v
-unsigned_payload _ _ (raw_fixed type f b row len) = raw_fixed amqp.LongLongUInt f b row len
+  as_unsigned : (b : List ℕ) (v : Tree) → Raw amqp.LongLongInt b v → Raw amqp.LongLongUInt b v
+  as_unsigned _ _ (raw_fixed type f b row len) = raw_fixed amqp.LongLongUInt f b row len
+
+  unsigned_front : (o : Reading) → RawFront amqp.LongLongInt s o → RawFront amqp.LongLongUInt s o
+  unsigned_front (found v rest) f = (f.0, as_unsigned f.0 v f.1, f.2)
+  unsigned_front malformed f = λ b rest v p e. f b rest v (as_signed b v p) e
+  unsigned_front (more n) f = f
+  unsigned_front unknown f = f
+
+  pub unsigned_outcome : (o : Reading) → RawOutcome amqp.LongLongInt s o → RawOutcome amqp.LongLongUInt s o
+  unsigned_outcome o x = by (lack amqp.LongLongInt s) x
+    where
+      by : (n : ℕ) → Unless n (RawFront amqp.LongLongInt s o) o → Unless n (RawFront amqp.LongLongUInt s o) o
+      by zero f = unsigned_front o f
+      by (suc n) e = e
+
+  -- and so is its refusal
+  pub unsigned_refused : (e : Refusal) → Refuses (RawOutcome amqp.LongLongInt s) ⊥ e → RawRefuses amqp.LongLongUInt s e
+  unsigned_refused e x =
+      raw_refused amqp.LongLongUInt s ⊥ e refl (λ h. absurd h)
+      (Refuses-weaker (RawOutcome amqp.LongLongInt s) (RawOutcome amqp.LongLongUInt s) ⊥ ⊥ e unsigned_outcome (λ h. h) x)

@@ -10,9 +10,11 @@ returns-in_default-from_utf8 g c =
     let left = g.I.ParsableInput.bytes c.in_ok-i.i in
     let n = c.in_ok-i.len in
     let copied : c.in-Ok.bytes.items ≡ take n left = search rules in
-    rw c.refused.ensures
-    (refl, short_refused (g.I.ParsableInput.bytes c.args.i) left n (omega arith) c.in_ok-i.ensures.number (omega arith)
-    (λ utf8. false≢true (c.in_default-from_utf8.ensures.succeeds (subst IsUtf8 (sym copied) utf8))))
+    rw c.refused.ensures (
+      refl,
+      short_refused (g.I.ParsableInput.bytes c.args.i) left n (omega arith) c.in_ok-i.ensures.number (omega arith)
+          (λ utf8. false≢true (c.in_default-from_utf8.ensures.succeeds (subst IsUtf8 (sym copied) utf8))),
+    )
 
 pub returns : goal.returns
 returns g c =
