@@ -2,6 +2,7 @@ pub mod Refused
 pub mod Payloads
 pub mod Frames
 pub mod Bodies
+pub mod Pairs
 pub mod Typed
 pub mod Views
 pub mod Rooms
