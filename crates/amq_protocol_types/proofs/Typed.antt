@@ -1,12 +1,13 @@
 -- A value behind its id.
-use Rattle.std.proofs.Common.{◌≡◌, ℕ, Bool, true, false, cond, List, [], ◌∷◌, Some, Result, Ok, Err, MatchResult, nat_eq, sym, ◌∙◌, subst, rules}
+use Rattle.std.proofs.Common.{◌-◌, length, IfOk, ◌≡◌, ℕ, Bool, true, false, cond, List, [], ◌∷◌, Some, Result, Ok, Err, MatchResult, nat_eq, sym, ◌∙◌, subst, rules}
 use Rattle.std.specs.Map.{lookup}
 use Rattle.amqp_value_core.specs.declared.types.AMQPType.{AMQPType}
 use Rattle.amqp_value_core.specs.declared.value.AMQPValue.{AMQPValue}
 use Rattle.amqp_value_core.specs.Ids.{letters, kind}
 use Rattle.amqp_value_core.specs.View.{view}
 use Rattle.amqp_value_core.specs.Outcomes.{Reading, found, more, malformed, RawOutcome, Outcome, RawHeavy, Heavy}
-use Rattle.amqp_value_core.proofs.GrammarLaws.{raw_to_value, raw_to_heavy}
+use Rattle.amqp_value_core.specs.Headline.{IsBounded}
+use Rattle.amqp_value_core.proofs.GrammarLaws.{raw_to_value, raw_to_heavy, bounded_found}
 use Rattle.amq_protocol_types.specs.declared.parsing.errors.Err.TheVariants.{Incomplete, Error, Failure}
 use Rattle.amq_protocol_types.specs.declared.parsing.errors.Needed.TheVariants.{Unknown, Size}
 use Rattle.amq_protocol_types.specs.declared.parsing.errors.ErrorKind.TheVariants.{Eof}
@@ -55,3 +56,10 @@ module _ (s rest : List ℕ) (type : AMQPType) (p : IsType s type rest) where
       → MatchResult r (λ x. Outcome s (found (view x.1) (bytes x.0))) (Refuses (Outcome s) (Heavy s))
   typed_answer bytes (Ok x) p = typed_outcome (found (view x.1) (bytes x.0)) p
   typed_answer bytes (Err e) p = typed_refused e p
+
+-- what was read keeps to the number of bytes that it was read from
+pub bounded_answer : {I : Type 0} (bytes : I → List ℕ) (s : List ℕ) (r : Result (I × AMQPValue) Refusal)
+    → MatchResult r (λ x. Outcome s (found (view x.1) (bytes x.0))) (Refuses (Outcome s) (Heavy s))
+    → IfOk r (λ x. IsBounded (length s - length (bytes x.0)) (view x.1))
+bounded_answer bytes s (Ok x) p = bounded_found s (bytes x.0) (view x.1) p
+bounded_answer bytes s (Err e) p = tt

@@ -12,7 +12,7 @@ use Rattle.amq_protocol_types.proofs.Bodies.{Goes-step, Goes-end, Goes-refused, 
 use Rattle.amq_protocol_types.proofs.Pairs.{Walks-step, Walks-end, Walks-bad_key, Walks-bad_value, key_shorter}
 use Rattle.amq_protocol_types.proofs.Frames.{array_found, array_refused, table_found, table_refused}
 use Rattle.amq_protocol_types.proofs.Payloads.{unsigned_outcome, unsigned_refused, void_found}
-use Rattle.amq_protocol_types.proofs.Typed.{typed_answer}
+use Rattle.amq_protocol_types.proofs.Typed.{typed_answer, bounded_answer}
 use Rattle.amq_protocol_types.proofs.Views.{view-Void}
 use Rattle.amq_protocol_types.proofs.parsing.values.+parser.Goals as goal
 
@@ -112,3 +112,10 @@ pub parse_value-returns-clause-outcome : goal.parse_value-returns-clause-outcome
 parse_value-returns-clause-outcome g t c =
     typed_answer (g.I.ParsableInput.bytes c.args.i) (g.I.ParsableInput.bytes c.in_ok-i.i) c.in_ok-i.amqp_type c.in_ok-i.ensures
     g.I.ParsableInput.bytes c.parse_raw_value.result c.parse_raw_value.ensures
+
+pub parse_value-returns-clause-bounded : goal.parse_value-returns-clause-bounded
+parse_value-returns-clause-bounded g t c =
+    let bytes = g.I.ParsableInput.bytes in
+    let s = bytes c.args.i in
+    bounded_answer bytes s c.parse_raw_value.result
+    (typed_answer s (bytes c.in_ok-i.i) c.in_ok-i.amqp_type c.in_ok-i.ensures bytes c.parse_raw_value.result c.parse_raw_value.ensures)
