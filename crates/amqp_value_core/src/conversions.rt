@@ -1,0 +1,4 @@
+//! Between values and the types of their fields.
+
+mod from;
+mod getters;
