@@ -15,3 +15,4 @@ mod Sound
 mod OnLiterals
 mod Agreement
 pub mod GrammarLaws
+pub mod Copies

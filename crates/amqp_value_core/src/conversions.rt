@@ -1,4 +1,5 @@
 //! Between values and the types of their fields.
 
+mod copies;
 mod from;
 mod getters;
