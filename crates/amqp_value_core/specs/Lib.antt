@@ -20,3 +20,4 @@ pub mod Headline
 pub mod Equality
 pub mod Decided
 pub mod Getters
+pub mod Json

@@ -3,3 +3,4 @@
 mod copies;
 mod from;
 mod getters;
+mod json;
