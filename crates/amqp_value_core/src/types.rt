@@ -26,10 +26,11 @@ pub use names::{
     PayloadSize, ReplyCode, ShortInt, ShortShortInt, ShortShortUInt, ShortUInt, Timestamp, Void,
 };
 pub use short_string::{ShortString, ShortStringError, TryCopyError};
+use serde::{Deserialize, Serialize};
 use std::fmt;
 
 /// The type of an AMQP value.
-#[derive(Clone, Copy, Debug, PartialEq, Eq)]
+#[derive(Clone, Copy, Debug, PartialEq, Eq, Serialize, Deserialize)]
 pub enum AMQPType {
     /// A truth value, a `bool`.
     Boolean,

@@ -5,7 +5,7 @@
 
 ghost use Rattle.std.specs.Prelude.{◌≡◌, [], IfOk, IsOk};
 ghost use Rattle.amqp_value_core.specs.Bytes.{long_bytes, array_bytes};
-ghost use Rattle.amqp_value_core.specs.View.{view, trees, entries, array_view, table_view};
+ghost use Rattle.amqp_value_core.specs.View.{view, trees, entries, array_items, array_view, table_entries, table_view};
 
 use crate::types::{ByteArray, FieldArray, FieldTable, LongString, ShortString};
 use crate::value::AMQPValue;
@@ -46,18 +46,20 @@ impl ByteArray {
 }
 
 impl FieldArray {
-    /// A copy of the array, each value copied.
+    /// A copy of the array, each value copied. No values take no memory.
     pub fn clone(&self, alloc: Global) -> Result<FieldArray, AllocError>
-        ensures { IfOk result (λ a. array_view a ≡ array_view self.now) }
+        ensures same { IfOk result (λ a. array_view a ≡ array_view self.now) }
+        ensures empty { array_items self.now ≡ [] → IsOk result }
     {
         copy_items(alloc, self.as_slice())
     }
 }
 
 impl FieldTable {
-    /// A copy of the table, each key and each value copied.
+    /// A copy of the table, each key and each value copied. No entries take no memory.
     pub fn clone(&self, alloc: Global) -> Result<FieldTable, AllocError>
-        ensures { IfOk result (λ t. table_view t ≡ table_view self.now) }
+        ensures same { IfOk result (λ t. table_view t ≡ table_view self.now) }
+        ensures empty { table_entries self.now ≡ [] → IsOk result }
     {
         copy_entries(alloc, self.inner())
     }
@@ -100,7 +102,8 @@ fn copy(alloc: Global, value: &AMQPValue) -> Result<AMQPValue, AllocError>
 
 #[cycle(copies)]
 fn copy_items(alloc: Global, items: &[AMQPValue]) -> Result<FieldArray, AllocError>
-    ensures { IfOk result (λ a. array_view a ≡ trees items.now) }
+    ensures same { IfOk result (λ a. array_view a ≡ trees items.now) }
+    ensures empty { items.now ≡ [] → IsOk result }
 {
     let mut copies = FieldArray::new_in(alloc);
     for item in items {
@@ -114,7 +117,8 @@ fn copy_entries(
     alloc: Global,
     map: &BTreeMap<ShortString, AMQPValue>,
 ) -> Result<FieldTable, AllocError>
-    ensures { IfOk result (λ t. table_view t ≡ entries map.now.entries) }
+    ensures same { IfOk result (λ t. table_view t ≡ entries map.now.entries) }
+    ensures empty { map.now.entries ≡ [] → IsOk result }
 {
     let mut copies = FieldTable::new_in(alloc);
     for (key, item) in map.iter() {

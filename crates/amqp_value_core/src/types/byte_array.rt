@@ -1,12 +1,13 @@
 ghost use Rattle.std.specs.Prelude.{◌≡◌, [], length, nat_eq, IfOk, IsOk};
 ghost use Rattle.amqp_value_core.specs.Bytes.{array_bytes};
 
+use serde::{Deserialize, Serialize};
 use std::alloc::{AllocError, Global};
 
 /// Bytes of any kind, at most 4294967295 of which can be written.
 ///
 /// Equality and hash are those of its bytes.
-#[derive(Debug, PartialEq, Eq, Hash, Drop)]
+#[derive(Debug, PartialEq, Eq, Hash, Serialize, Deserialize, Drop)]
 pub struct ByteArray {
     bytes: Vec<u8>,
 }

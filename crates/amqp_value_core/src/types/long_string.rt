@@ -2,13 +2,14 @@ ghost use Rattle.std.specs.Prelude.{◌≡◌, [], length, nat_eq, IfOk, IsOk};
 ghost use Rattle.amqp_value_core.specs.Bytes.{long_bytes};
 
 use bstr::BStr;
+use serde::{Deserialize, Serialize};
 use std::alloc::{AllocError, Global};
 use std::fmt;
 
 /// Bytes of any kind, at most 4294967295 of which can be written. Most peers take them for text.
 ///
 /// Order, equality and hash are those of its bytes.
-#[derive(Debug, PartialEq, Eq, PartialOrd, Ord, Hash, Drop)]
+#[derive(Debug, PartialEq, Eq, PartialOrd, Ord, Hash, Serialize, Deserialize, Drop)]
 pub struct LongString {
     bytes: Vec<u8>,
 }

@@ -10,7 +10,7 @@ use Rattle.amqp_value_core.proofs.conversions.copies.+copies.Goals as goal
 pub copy-returns-in_ok-copy_entries-in-FieldTable :
     goal.copy-returns-in_ok-copy_entries-in-FieldTable
 copy-returns-in_ok-copy_entries-in-FieldTable t c =
-    table_again c.args.value.now c.in-FieldTable.t c.in_ok-copy_entries-in-FieldTable.field-0 c.inner.result.now.entries c.in-FieldTable.is c.inner.ensures c.in_ok-copy_entries-in-FieldTable.ensures
+    table_again c.args.value.now c.in-FieldTable.t c.in_ok-copy_entries-in-FieldTable.field-0 c.inner.result.now.entries c.in-FieldTable.is c.inner.ensures c.in_ok-copy_entries-in-FieldTable.ensures.same
 
 -- the next entry is copied behind those so far
 pub copy_entries-loop-key-preserved : goal.copy_entries-loop-key-preserved
