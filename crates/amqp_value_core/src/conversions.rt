@@ -4,3 +4,5 @@ mod copies;
 mod from;
 mod getters;
 mod json;
+#[cfg(test)]
+mod tests;

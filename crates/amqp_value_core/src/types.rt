@@ -25,8 +25,8 @@ pub use names::{
     LongInt, LongLongInt, LongLongUInt, LongUInt, MAX_SHORT_STRING_LENGTH, MessageCount,
     PayloadSize, ReplyCode, ShortInt, ShortShortInt, ShortShortUInt, ShortUInt, Timestamp, Void,
 };
-pub use short_string::{ShortString, ShortStringError, TryCopyError};
 use serde::{Deserialize, Serialize};
+pub use short_string::{ShortString, ShortStringError, TryCopyError};
 use std::fmt;
 
 /// The type of an AMQP value.

@@ -8,6 +8,7 @@ use std::alloc::{AllocError, Global};
 ///
 /// Equality and hash are those of its bytes.
 #[derive(Debug, PartialEq, Eq, Hash, Serialize, Deserialize, Drop)]
+#[serde(transparent)]
 pub struct ByteArray {
     bytes: Vec<u8>,
 }

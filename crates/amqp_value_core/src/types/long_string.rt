@@ -10,6 +10,7 @@ use std::fmt;
 ///
 /// Order, equality and hash are those of its bytes.
 #[derive(Debug, PartialEq, Eq, PartialOrd, Ord, Hash, Serialize, Deserialize, Drop)]
+#[serde(transparent)]
 pub struct LongString {
     bytes: Vec<u8>,
 }
