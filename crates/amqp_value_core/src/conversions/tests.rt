@@ -15,120 +15,146 @@ fn converted(alloc: Global, text: &str, amqp_type: AMQPType) -> Result<Option<AM
     Ok(AMQPValue::try_from(alloc, &value, amqp_type)?)
 }
 
-// a text of so many letters
-fn letters(alloc: Global, n: usize) -> Result<Value, AllocError> {
+// whether the JSON text gives this value
+fn gives(alloc: Global, text: &str, amqp_type: AMQPType, value: AMQPValue) -> Result<bool, Fail> {
+    Ok(converted(alloc, text, amqp_type)? == Some(value))
+}
+
+// a text of so many letters, in quotes
+fn letters(alloc: Global, n: usize) -> Result<String, AllocError> {
     let mut text = String::new(alloc);
+    text.push('"')?;
     for _ in 0..n {
         text.push('a')?;
     }
-    Ok(Value::String(text))
+    text.push('"')?;
+    Ok(text)
 }
 
 #[test]
-fn numbers_of_json(rt: HostRuntime) -> Result<(), Fail> {
-    let alloc = rt.alloc();
+fn some_json_gives_no_value(rt: HostRuntime) -> Result<(), Fail> {
     let rows = [
-        (
-            "255",
-            AMQPType::ShortShortUInt,
-            Some(AMQPValue::ShortShortUInt(255)),
-        ),
-        ("256", AMQPType::ShortShortUInt, None),
-        (
-            "-128",
-            AMQPType::ShortShortInt,
-            Some(AMQPValue::ShortShortInt(-128)),
-        ),
-        ("-129", AMQPType::ShortShortInt, None),
-        (
-            "65535",
-            AMQPType::ShortUInt,
-            Some(AMQPValue::ShortUInt(65535)),
-        ),
-        ("-32769", AMQPType::ShortInt, None),
-        (
-            "2147483647",
-            AMQPType::LongInt,
-            Some(AMQPValue::LongInt(2147483647)),
-        ),
-        ("4294967296", AMQPType::LongUInt, None),
-        (
-            "-42",
-            AMQPType::LongLongInt,
-            Some(AMQPValue::LongLongInt(-42)),
-        ),
-        ("9223372036854775808", AMQPType::LongLongInt, None),
-        (
-            "42",
-            AMQPType::LongLongUInt,
-            Some(AMQPValue::LongLongInt(42)),
-        ),
-        (
-            "18446744073709551615",
-            AMQPType::LongLongUInt,
-            Some(AMQPValue::LongLongInt(-1)),
-        ),
-        ("-1", AMQPType::LongLongUInt, None),
-        (
-            "9223372036854775808",
-            AMQPType::Timestamp,
-            Some(AMQPValue::Timestamp(1 << 63)),
-        ),
-        ("7", AMQPType::Double, None),
-        ("7.0", AMQPType::LongInt, None),
-        ("7", AMQPType::LongString, None),
+        ("256", AMQPType::ShortShortUInt),
+        ("-129", AMQPType::ShortShortInt),
+        ("-32769", AMQPType::ShortInt),
+        ("4294967296", AMQPType::LongUInt),
+        ("9223372036854775808", AMQPType::LongLongInt),
+        ("-1", AMQPType::LongLongUInt),
+        ("7", AMQPType::Double),
+        ("7.0", AMQPType::LongInt),
+        ("7", AMQPType::LongString),
+        ("true", AMQPType::LongInt),
+        ("null", AMQPType::Boolean),
+        ("[1]", AMQPType::FieldArray),
+        ("{}", AMQPType::FieldTable),
     ];
-    for (text, amqp_type, expected) in rows {
-        assert_eq!(rt; converted(alloc, text, amqp_type)?, expected);
+    for (text, amqp_type) in rows {
+        assert!(rt; converted(rt.alloc(), text, amqp_type)?.is_none());
     }
     Ok(())
 }
 
 #[test]
-fn other_values_of_json(rt: HostRuntime) -> Result<(), Fail> {
+fn small_numbers_of_json(rt: HostRuntime) -> Result<(), Fail> {
     let alloc = rt.alloc();
-    assert_eq!(rt;
-        converted(alloc, "false", AMQPType::Boolean)?,
-        Some(AMQPValue::Boolean(false))
+    assert!(rt;
+        gives(
+            alloc,
+            "255",
+            AMQPType::ShortShortUInt,
+            AMQPValue::ShortShortUInt(255)
+        )?
     );
-    assert_eq!(rt;
-        converted(alloc, "true", AMQPType::Boolean)?,
-        Some(AMQPValue::Boolean(true))
+    assert!(rt;
+        gives(
+            alloc,
+            "-128",
+            AMQPType::ShortShortInt,
+            AMQPValue::ShortShortInt(-128)
+        )?
     );
-    assert_eq!(rt; converted(alloc, "true", AMQPType::LongInt)?, None);
-    assert_eq!(rt;
-        converted(alloc, "null", AMQPType::Void)?,
-        Some(AMQPValue::Void)
+    assert!(rt;
+        gives(
+            alloc,
+            "2147483647",
+            AMQPType::LongInt,
+            AMQPValue::LongInt(2147483647)
+        )?
     );
-    assert_eq!(rt; converted(alloc, "null", AMQPType::Boolean)?, None);
-    assert_eq!(rt; converted(alloc, "[1]", AMQPType::FieldArray)?, None);
-    assert_eq!(rt; converted(alloc, "{}", AMQPType::FieldTable)?, None);
+    assert!(rt;
+        gives(
+            alloc,
+            "-42",
+            AMQPType::LongLongInt,
+            AMQPValue::LongLongInt(-42)
+        )?
+    );
+    assert!(rt;
+        gives(
+            alloc,
+            "42",
+            AMQPType::LongLongUInt,
+            AMQPValue::LongLongInt(42)
+        )?
+    );
+    Ok(())
+}
+
+#[test]
+fn large_numbers_of_json(rt: HostRuntime) -> Result<(), Fail> {
+    let alloc = rt.alloc();
+    let greatest = "18446744073709551615";
+    let half = "9223372036854775808";
+    assert!(rt;
+        gives(
+            alloc,
+            greatest,
+            AMQPType::LongLongUInt,
+            AMQPValue::LongLongInt(-1)
+        )?
+    );
+    assert!(rt;
+        gives(
+            alloc,
+            half,
+            AMQPType::Timestamp,
+            AMQPValue::Timestamp(1 << 63)
+        )?
+    );
+    Ok(())
+}
+
+#[test]
+fn truth_values_of_json(rt: HostRuntime) -> Result<(), Fail> {
+    let alloc = rt.alloc();
+    assert!(rt; gives(alloc, "false", AMQPType::Boolean, AMQPValue::Boolean(false))?);
+    assert!(rt; gives(alloc, "true", AMQPType::Boolean, AMQPValue::Boolean(true))?);
+    assert!(rt; gives(alloc, "null", AMQPType::Void, AMQPValue::Void)?);
     Ok(())
 }
 
 #[test]
 fn texts_of_json(rt: HostRuntime) -> Result<(), Fail> {
     let alloc = rt.alloc();
-    assert_eq!(rt;
-        converted(alloc, "\"\"", AMQPType::ShortString)?,
-        Some(AMQPValue::ShortString(ShortString::new_in(alloc)))
-    );
-    assert_eq!(rt;
-        converted(alloc, "\"\"", AMQPType::LongString)?,
-        Some(AMQPValue::LongString(LongString::new_in(alloc)))
-    );
-    assert_eq!(rt;
-        converted(alloc, "\"test\"", AMQPType::LongString)?,
-        Some(AMQPValue::LongString(LongString::from_text(alloc, "test")?))
-    );
-    let longest = letters(alloc, 255)?;
-    assert!(rt; AMQPValue::try_from(alloc, &longest, AMQPType::ShortString)?.is_some());
-    let longer = letters(alloc, 256)?;
-    assert_eq!(rt;
-        AMQPValue::try_from(alloc, &longer, AMQPType::ShortString)?,
-        None
-    );
-    assert!(rt; AMQPValue::try_from(alloc, &longer, AMQPType::LongString)?.is_some());
+    let short = AMQPValue::ShortString(ShortString::new_in(alloc));
+    assert!(rt; gives(alloc, "\"\"", AMQPType::ShortString, short)?);
+    let empty = AMQPValue::LongString(LongString::new_in(alloc));
+    assert!(rt; gives(alloc, "\"\"", AMQPType::LongString, empty)?);
+    let long = AMQPValue::LongString(LongString::from_text(alloc, "test")?);
+    assert!(rt; gives(alloc, "\"test\"", AMQPType::LongString, long)?);
+    Ok(())
+}
+
+#[test]
+fn short_texts_of_json(rt: HostRuntime) -> Result<(), Fail> {
+    let alloc = rt.alloc();
+    for (n, fits) in [(255, true), (256, false)] {
+        let text = letters(alloc, n)?;
+        assert_eq!(rt;
+            converted(alloc, text.as_str(), AMQPType::ShortString)?.is_some(),
+            fits
+        );
+    }
     Ok(())
 }
 
