@@ -212,22 +212,23 @@ fn long_strings_print_what_is_text(rt: HostRuntime) -> Result<(), Fail> {
     Ok(())
 }
 
+// a table with a list in it
+fn nested(alloc: Global) -> Result<FieldTable, Fail> {
+    let mut list = FieldArray::new_in(alloc);
+    list.push(AMQPValue::LongString(LongString::from_text(alloc, "test")?))?;
+    list.push(AMQPValue::Void)?;
+    let mut table = FieldTable::new_in(alloc);
+    table.place(
+        ShortString::try_copy(alloc, "list")?,
+        AMQPValue::FieldArray(list),
+    )?;
+    Ok(table)
+}
+
 #[test]
 fn a_copy_equals_what_is_copied(rt: HostRuntime) -> Result<(), Fail> {
     let alloc = rt.alloc();
-    let mut table = FieldTable::new_in(alloc);
-    table.insert(
-        ShortString::try_copy(alloc, "list")?,
-        AMQPValue::FieldArray(FieldArray::from(vec![in alloc;
-            AMQPValue::LongString(LongString::from_text(alloc, "test")?),
-            AMQPValue::Void,
-        ]?)),
-    )?;
-    table.insert(
-        ShortString::try_copy(alloc, "empty")?,
-        AMQPValue::from(FieldTable::new_in(alloc)),
-    )?;
-    let value = AMQPValue::from(table);
+    let value = AMQPValue::from(nested(alloc)?);
     let copy = value.clone(alloc)?;
     assert!(rt; copy == value);
     assert!(rt; copy != AMQPValue::from(FieldTable::new_in(alloc)));
