@@ -21,10 +21,9 @@ impl AMQPValue {
     pub fn as_bool(&self) -> Option<Boolean>
         ensures { result ≡ truth_in (view self.now) }
     {
-        if let AMQPValue::Boolean(field) = self {
-            Some(*field)
-        } else {
-            None
+        match self {
+            AMQPValue::Boolean(b) => Some(*b),
+            _ => None,
         }
     }
 
@@ -33,10 +32,9 @@ impl AMQPValue {
         ensures { option_map (cast_unsigned w8) result
             ≡ number_in amqp.ShortShortInt (view self.now) }
     {
-        if let AMQPValue::ShortShortInt(field) = self {
-            Some(*field)
-        } else {
-            None
+        match self {
+            AMQPValue::ShortShortInt(n) => Some(*n),
+            _ => None,
         }
     }
 
@@ -44,10 +42,9 @@ impl AMQPValue {
     pub fn as_short_short_uint(&self) -> Option<ShortShortUInt>
         ensures { result ≡ number_in amqp.ShortShortUInt (view self.now) }
     {
-        if let AMQPValue::ShortShortUInt(field) = self {
-            Some(*field)
-        } else {
-            None
+        match self {
+            AMQPValue::ShortShortUInt(n) => Some(*n),
+            _ => None,
         }
     }
 
@@ -56,10 +53,9 @@ impl AMQPValue {
         ensures { option_map (cast_unsigned w16) result
             ≡ number_in amqp.ShortInt (view self.now) }
     {
-        if let AMQPValue::ShortInt(field) = self {
-            Some(*field)
-        } else {
-            None
+        match self {
+            AMQPValue::ShortInt(n) => Some(*n),
+            _ => None,
         }
     }
 
@@ -67,10 +63,9 @@ impl AMQPValue {
     pub fn as_short_uint(&self) -> Option<ShortUInt>
         ensures { result ≡ number_in amqp.ShortUInt (view self.now) }
     {
-        if let AMQPValue::ShortUInt(field) = self {
-            Some(*field)
-        } else {
-            None
+        match self {
+            AMQPValue::ShortUInt(n) => Some(*n),
+            _ => None,
         }
     }
 
@@ -79,10 +74,9 @@ impl AMQPValue {
         ensures { option_map (cast_unsigned w32) result
             ≡ number_in amqp.LongInt (view self.now) }
     {
-        if let AMQPValue::LongInt(field) = self {
-            Some(*field)
-        } else {
-            None
+        match self {
+            AMQPValue::LongInt(n) => Some(*n),
+            _ => None,
         }
     }
 
@@ -90,10 +84,9 @@ impl AMQPValue {
     pub fn as_long_uint(&self) -> Option<LongUInt>
         ensures { result ≡ number_in amqp.LongUInt (view self.now) }
     {
-        if let AMQPValue::LongUInt(field) = self {
-            Some(*field)
-        } else {
-            None
+        match self {
+            AMQPValue::LongUInt(n) => Some(*n),
+            _ => None,
         }
     }
 
@@ -102,10 +95,9 @@ impl AMQPValue {
         ensures { option_map (cast_unsigned w64) result
             ≡ number_in amqp.LongLongInt (view self.now) }
     {
-        if let AMQPValue::LongLongInt(field) = self {
-            Some(*field)
-        } else {
-            None
+        match self {
+            AMQPValue::LongLongInt(n) => Some(*n),
+            _ => None,
         }
     }
 
@@ -113,10 +105,9 @@ impl AMQPValue {
     pub fn as_float(&self) -> Option<Float>
         ensures { option_map float_bits result ≡ number_in amqp.Float (view self.now) }
     {
-        if let AMQPValue::Float(field) = self {
-            Some(*field)
-        } else {
-            None
+        match self {
+            AMQPValue::Float(n) => Some(*n),
+            _ => None,
         }
     }
 
@@ -124,10 +115,9 @@ impl AMQPValue {
     pub fn as_double(&self) -> Option<Double>
         ensures { option_map double_bits result ≡ number_in amqp.Double (view self.now) }
     {
-        if let AMQPValue::Double(field) = self {
-            Some(*field)
-        } else {
-            None
+        match self {
+            AMQPValue::Double(n) => Some(*n),
+            _ => None,
         }
     }
 
@@ -135,10 +125,9 @@ impl AMQPValue {
     pub fn as_decimal_value(&self) -> Option<DecimalValue>
         ensures { option_map (λ d. (d.scale, d.value)) result ≡ decimal_in (view self.now) }
     {
-        if let AMQPValue::DecimalValue(field) = self {
-            Some(*field)
-        } else {
-            None
+        match self {
+            AMQPValue::DecimalValue(n) => Some(*n),
+            _ => None,
         }
     }
 
@@ -146,10 +135,9 @@ impl AMQPValue {
     pub fn as_short_string(&self) -> Option<&ShortString>
         ensures { option_map (λ s. s.now) result ≡ short_in (view self.now) }
     {
-        if let AMQPValue::ShortString(field) = self {
-            Some(field)
-        } else {
-            None
+        match self {
+            AMQPValue::ShortString(s) => Some(s),
+            _ => None,
         }
     }
 
@@ -157,10 +145,9 @@ impl AMQPValue {
     pub fn as_long_string(&self) -> Option<&LongString>
         ensures { option_map (λ s. long_bytes s.now) result ≡ long_in (view self.now) }
     {
-        if let AMQPValue::LongString(field) = self {
-            Some(field)
-        } else {
-            None
+        match self {
+            AMQPValue::LongString(s) => Some(s),
+            _ => None,
         }
     }
 
@@ -168,10 +155,9 @@ impl AMQPValue {
     pub fn as_array(&self) -> Option<&FieldArray>
         ensures { option_map (λ a. array_view a.now) result ≡ array_in (view self.now) }
     {
-        if let AMQPValue::FieldArray(field) = self {
-            Some(field)
-        } else {
-            None
+        match self {
+            AMQPValue::FieldArray(a) => Some(a),
+            _ => None,
         }
     }
 
@@ -179,10 +165,9 @@ impl AMQPValue {
     pub fn as_timestamp(&self) -> Option<Timestamp>
         ensures { result ≡ number_in amqp.Timestamp (view self.now) }
     {
-        if let AMQPValue::Timestamp(field) = self {
-            Some(*field)
-        } else {
-            None
+        match self {
+            AMQPValue::Timestamp(n) => Some(*n),
+            _ => None,
         }
     }
 
@@ -190,10 +175,9 @@ impl AMQPValue {
     pub fn as_field_table(&self) -> Option<&FieldTable>
         ensures { option_map (λ t. table_view t.now) result ≡ table_in (view self.now) }
     {
-        if let AMQPValue::FieldTable(field) = self {
-            Some(field)
-        } else {
-            None
+        match self {
+            AMQPValue::FieldTable(t) => Some(t),
+            _ => None,
         }
     }
 
@@ -201,10 +185,9 @@ impl AMQPValue {
     pub fn as_byte_array(&self) -> Option<&ByteArray>
         ensures { option_map (λ a. array_bytes a.now) result ≡ octets_in (view self.now) }
     {
-        if let AMQPValue::ByteArray(field) = self {
-            Some(field)
-        } else {
-            None
+        match self {
+            AMQPValue::ByteArray(a) => Some(a),
+            _ => None,
         }
     }
 
@@ -212,10 +195,9 @@ impl AMQPValue {
     pub fn as_void(&self) -> Option<()>
         ensures { is_some result ≡ is_void (view self.now) }
     {
-        if let AMQPValue::Void = self {
-            Some(())
-        } else {
-            None
+        match self {
+            AMQPValue::Void => Some(()),
+            _ => None,
         }
     }
 }
