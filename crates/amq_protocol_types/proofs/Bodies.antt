@@ -59,7 +59,7 @@ body_behind _ w rest v _ e p (value u left z vs q all) =
     (vs, subst (λ (t : List ℕ). Body t vs) same.2 all)
 
 -- a value that is read stands at the front
-front_of : (s : List ℕ) (v : Tree) (rest : List ℕ) → Outcome s (found v rest) → (w : List ℕ) × Wire w v × (s ≡ w ++ rest)
+pub front_of : (s : List ℕ) (v : Tree) (rest : List ℕ) → Outcome s (found v rest) → (w : List ℕ) × Wire w v × (s ≡ w ++ rest)
 front_of [] v rest x = absurd cc
 front_of (c ∷ b) v rest x = by (kind c) x
   where

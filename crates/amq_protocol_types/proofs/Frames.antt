@@ -1,47 +1,113 @@
 -- Frames: a length, and as many bytes behind it.
-use Rattle.std.proofs.Common.{◌≡◌, ◌<◌, ◌≤◌, ◌^◌, ℕ, List, ◌++◌, length, take, drop, refl, sym, ap, ◌∙◌, arith, append_assoc, take-append-drop}
-use Rattle.std.specs.Int.{w32, to_be_bytes}
+use Rattle.std.proofs.Common.{◌≡◌, ◌+◌, ◌-◌, ◌%◌, ◌<◌, ◌≤◌, ℕ, List, ◌++◌, ◌∷◌, length, take, drop, None, refl, sym, ap, ap₂, ◌∙◌, subst, arith, take-append-drop}
+use Rattle.std.specs.Int.{w8, w32}
+use Rattle.std.specs.Str.{IsUtf8}
+use Rattle.std.proofs.lemmas.Bool.{le-ltb}
 use Rattle.std.proofs.lemmas.List.{length-take-le}
+use Rattle.amqp_value_core.specs.declared.types.AMQPType.{AMQPType}
 use Rattle.amqp_value_core.specs.declared.types.AMQPType.TheVariants as amqp
-use Rattle.amqp_value_core.specs.Values.{Trees, array}
-use Rattle.amqp_value_core.specs.Grammar.{large, raw_array, Body}
-use Rattle.amqp_value_core.specs.Outcomes.{Reading, found, more, unknown, malformed, counted, lack, RawOutcome, RawHeavy}
-use Rattle.amqp_value_core.proofs.GrammarLaws.{array_body, counted-large, lack_of-large, raw_found, raw_whole}
+use Rattle.amqp_value_core.specs.Values.{Tree, Trees, Entries, no_entries, onto, short, long, octets, array, table}
+use Rattle.amqp_value_core.specs.Layouts.{fixed}
+use Rattle.amqp_value_core.specs.Strings.{IsShort}
+use Rattle.amqp_value_core.specs.Grammar.{small, large, Raw, raw_short, raw_long, raw_octets, raw_array, raw_table, Body}
+use Rattle.amqp_value_core.specs.Outcomes.{Reading, found, more, unknown, malformed, length_field, counted, frame_lack, lack_of, lack, RawFront, RawOutcome, RawHeavy}
+use Rattle.amqp_value_core.proofs.GrammarLaws.{array_body, table_body, short_bytes, counted-large, lack_of-large, raw_found, raw_whole}
 use Rattle.amq_protocol_types.specs.Refusals.{Refusal}
-use Rattle.amq_protocol_types.specs.Answers.{Refuses, IsNoBody}
+use Rattle.amq_protocol_types.specs.Answers.{Refuses, IsFrame, IsNumberRead, IsNoBody, IsTable, IsNoTable}
 use Rattle.amq_protocol_types.proofs.Refused.{Refuses-weaker}
 
--- the length n, and n bytes or more: they are n bytes behind their length, and the others
-pub split_large : (s left : List ℕ) (n : ℕ) → s ≡ to_be_bytes w32 n ++ left → n ≤ length left → s ≡ large (take n left) ++ drop n left
-split_large s left n e there =
-    rw (length-take-le n left there)
-    (e ∙ (ap (λ (t : List ℕ). to_be_bytes w32 n ++ t) (sym (take-append-drop n left)) ∙ sym (append_assoc (to_be_bytes w32 n) (take n left) (drop n left))))
+-- ---- a length in four bytes
 
--- s is a body behind its length, and `rest` behind it
-module _ (s body rest : List ℕ) (e : s ≡ large body ++ rest) (fits : length body < 2 ^ 32) where
+-- s is a payload of the type, and `rest` behind it: `body` behind its length
+module _ (type : AMQPType) (s body rest : List ℕ) (row : fixed type ≡ None) (field : length_field type ≡ w32) (f : IsFrame s body rest) where
   -- the frame is whole
-  array_whole : lack amqp.FieldArray s ≡ 0
-  array_whole = ap (lack amqp.FieldArray) e ∙ lack_of-large body rest fits
+  frame_whole : lack type s ≡ 0
+  frame_whole =
+      ap₂ (λ o w. lack_of o w s) row field ∙ (ap (lack_of None w32) f.framed ∙ lack_of-large body rest f.fits)
+
+  -- what the frame means is found
+  pub frame_found : (v : Tree) → Raw type (large body) v → RawOutcome type s (found v rest)
+  frame_found v p = rw f.framed (raw_found type (large body) rest v p)
+
+  -- it takes memory where its body has a byte
+  frame_heavy : 0 < length body → RawHeavy type s
+  frame_heavy h =
+      (row, frame_whole, omega (arith, ap₂ counted field f.framed, counted-large body rest f.fits))
+
+  -- what decides about the body decides about the frame
+  pub frame_refused : (Is : Reading → Type 0) → ((o : Reading) → Is o → RawFront type s o) → (r : Refusal) → Refuses Is (0 < length body) r
+      → Refuses (RawOutcome type s) (RawHeavy type s) r
+  frame_refused Is front r x =
+      Refuses-weaker Is (RawOutcome type s) (0 < length body) (RawHeavy type s) r
+      (λ o y. raw_whole type s o frame_whole (front o y)) frame_heavy x
+
+module _ (s body rest : List ℕ) (f : IsFrame s body rest) where
+  -- a long string and a byte array are read
+  pub long_found : RawOutcome amqp.LongString s (found (long body) rest)
+  long_found = frame_found amqp.LongString s body rest refl refl f (long body) (raw_long body f.fits)
+
+  pub octets_found : RawOutcome amqp.ByteArray s (found (octets body) rest)
+  octets_found = frame_found amqp.ByteArray s body rest refl refl f (octets body) (raw_octets body f.fits)
 
   -- an array is read where the body is values
   pub array_found : (vs : Trees) → Body body vs → RawOutcome amqp.FieldArray s (found (array vs) rest)
-  array_found vs p = rw e (raw_found amqp.FieldArray (large body) rest (array vs) (raw_array body vs fits p))
+  array_found vs p = frame_found amqp.FieldArray s body rest refl refl f (array vs) (raw_array body vs f.fits p)
 
-  -- what the body comes to, the array does
-  array_outcome : (o : Reading) → IsNoBody body o → RawOutcome amqp.FieldArray s o
-  array_outcome malformed none =
-      raw_whole amqp.FieldArray s malformed array_whole
-      (λ b left v p d. let r = array_body body rest b left v fits p (sym e ∙ d) in none r.0 r.1)
-  array_outcome (found v left) none = absurd none
-  array_outcome (more m) none = absurd none
-  array_outcome unknown none = absurd none
-
-  -- an array takes memory where its body has a byte
-  array_heavy : 0 < length body → RawHeavy amqp.FieldArray s
-  array_heavy h = (refl, array_whole, omega (arith, ap (counted w32) e, counted-large body rest fits))
+  -- where the body is none, no front is an array
+  no_array : (o : Reading) → IsNoBody body o → RawFront amqp.FieldArray s o
+  no_array malformed none = λ b left v p d. let r = array_body body rest b left v f.fits p (sym f.framed ∙ d) in none r.0 r.1
+  no_array (found v left) none = absurd none
+  no_array (more m) none = absurd none
+  no_array unknown none = absurd none
 
   -- the refusal of the body is the array's
   pub array_refused : (r : Refusal) → Refuses (IsNoBody body) (0 < length body) r → Refuses (RawOutcome amqp.FieldArray s) (RawHeavy amqp.FieldArray s) r
-  array_refused r x =
-      Refuses-weaker (IsNoBody body) (RawOutcome amqp.FieldArray s) (0 < length body) (RawHeavy amqp.FieldArray s) r
-      array_outcome array_heavy x
+  array_refused r x = frame_refused amqp.FieldArray s body rest refl refl f (IsNoBody body) no_array r x
+
+  -- a table is read where the body is pairs
+  pub table_found : (es : Entries) → IsTable body es → RawOutcome amqp.FieldTable s (found (table es) rest)
+  table_found es p =
+      subst (λ (t : Entries). RawOutcome amqp.FieldTable s (found (table t) rest)) (sym p.2)
+      (frame_found amqp.FieldTable s body rest refl refl f (table (onto no_entries p.0)) (raw_table body p.0 f.fits p.1))
+
+  -- where the body is none, no front is a table
+  no_table : (o : Reading) → IsNoTable body o → RawFront amqp.FieldTable s o
+  no_table malformed none = λ b left v p d. let r = table_body body rest b left v f.fits p (sym f.framed ∙ d) in none r.0 r.1
+  no_table (found v left) none = absurd none
+  no_table (more m) none = absurd none
+  no_table unknown none = absurd none
+
+  -- the refusal of the body is the table's
+  pub table_refused : (r : Refusal) → Refuses (IsNoTable body) (0 < length body) r → Refuses (RawOutcome amqp.FieldTable s) (RawHeavy amqp.FieldTable s) r
+  table_refused r x = frame_refused amqp.FieldTable s body rest refl refl f (IsNoTable body) no_table r x
+
+-- ---- a length in one byte
+
+-- n is the length in the first byte of s, and so many bytes or more are left behind it
+module _ (s left : List ℕ) (n : ℕ) (few : n < 256) (e : IsNumberRead w8 s n left) (there : n ≤ length left) where
+  -- they are n bytes behind their length, and the others
+  split_small : s ≡ small (take n left) ++ drop n left
+  split_small =
+      let size : n ≡ length (take n left) = sym (length-take-le n left there) in
+      let low : n % 256 ≡ length (take n left) = omega arith in
+      e ∙ ap₂ (λ (k : ℕ) (t : List ℕ). k ∷ t) low (sym (take-append-drop n left))
+
+  -- the frame is whole
+  small_whole : lack amqp.ShortString s ≡ 0
+  small_whole =
+      let size : length s ≡ 1 + length left = ap length e ∙ omega arith in
+      let known : frame_lack w8 s ≡ 1 + counted w8 s - length s = rw (le-ltb (length s) 1 (omega arith)) refl in
+      let count : counted w8 s ≡ n = ap (counted w8) e ∙ omega arith in
+      omega arith
+
+  -- a short string is read where they are UTF-8
+  pub short_found : IsUtf8 (take n left) → RawOutcome amqp.ShortString s (found (short (take n left)) (drop n left))
+  short_found utf8 =
+      let is : IsShort (take n left) = record { few = omega (arith, length-take-le n left there); utf8 = utf8 } in
+      rw split_small (raw_found amqp.ShortString (small (take n left)) (drop n left) (short (take n left)) (raw_short (take n left) is))
+
+  -- where they aren't, no front is a short string
+  pub short_refused : (IsUtf8 (take n left) → ⊥) → RawOutcome amqp.ShortString s malformed
+  short_refused none =
+      raw_whole amqp.ShortString s malformed small_whole
+      (λ b rest v p d. none (short_bytes (take n left) (drop n left) b rest v p (sym split_small ∙ d)).utf8)

@@ -2,6 +2,7 @@ pub mod Refused
 pub mod Payloads
 pub mod Frames
 pub mod Bodies
+pub mod Pairs
 pub mod Typed
 pub mod Views
 pub mod Rooms
@@ -9,3 +10,5 @@ pub mod Slices
 pub mod Steps
 pub mod Texts
 pub mod Arrays
+pub mod WhatWasRead
+pub mod Tables

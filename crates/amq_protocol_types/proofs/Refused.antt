@@ -1,11 +1,13 @@
 -- Refusals: what is right of a part is right of the whole.
-use Rattle.amqp_value_core.specs.Outcomes.{Reading, more, unknown, malformed}
+use Rattle.std.proofs.Common.{◌≡◌, ℕ, zero, suc, List, sym}
+use Rattle.amqp_value_core.specs.declared.types.AMQPType.{AMQPType}
+use Rattle.amqp_value_core.specs.Outcomes.{Reading, more, unknown, malformed, lack, Unless, RawFront, RawOutcome, RawHeavy}
 use Rattle.amq_protocol_types.specs.declared.parsing.errors.Err.TheVariants.{Incomplete, Error, Failure}
 use Rattle.amq_protocol_types.specs.declared.parsing.errors.Needed.TheVariants.{Unknown, Size}
 use Rattle.amq_protocol_types.specs.declared.parsing.errors.ErrorKind.{ErrorKind}
 use Rattle.amq_protocol_types.specs.declared.parsing.errors.ErrorKind.TheVariants.{MapOpt, MapRes, Eof, OutOfMemory}
 use Rattle.amq_protocol_types.specs.Refusals.{Refusal}
-use Rattle.amq_protocol_types.specs.Answers.{RightKind, Refuses}
+use Rattle.amq_protocol_types.specs.Answers.{RightKind, Refuses, bad_kind, RawRefuses}
 
 -- a kind stays right where what is read stays right
 RightKind-weaker : (Is Now : Reading → Type 0) (k : ErrorKind) → ((o : Reading) → Is o → Now o) → RightKind Is k → RightKind Now k
@@ -21,3 +23,22 @@ Refuses-weaker Is Now heavy now (Incomplete Unknown) f h x = x
 Refuses-weaker Is Now heavy now (Incomplete (Size n)) f h x = f (more n) x
 Refuses-weaker Is Now heavy now (Error k) f h x = RightKind-weaker Is Now k f x
 Refuses-weaker Is Now heavy now (Failure k) f h x = (x.0, h x.1)
+
+-- a payload is never of an unknown type
+no_unknown : (type : AMQPType) (s : List ℕ) → RawOutcome type s unknown → ⊥
+no_unknown type s x = by (lack type s) x
+  where
+    by : (n : ℕ) → Unless n (RawFront type s unknown) unknown → ⊥
+    by zero f = f
+    by (suc n) e = absurd cc
+
+-- the refusal of a payload, where it is no short string, and what takes memory takes it
+pub raw_refused : (type : AMQPType) (s : List ℕ) (heavy : Type 0) (e : Refusal) → bad_kind type ≡ Eof → (heavy → RawHeavy type s)
+    → Refuses (RawOutcome type s) heavy e → RawRefuses type s e
+raw_refused type s heavy (Incomplete Unknown) kind f x = absurd x
+raw_refused type s heavy (Incomplete (Size n)) kind f x = x
+raw_refused type s heavy (Error MapOpt) kind f x = absurd (no_unknown type s x)
+raw_refused type s heavy (Error Eof) kind f x = (sym kind, x)
+raw_refused type s heavy (Error MapRes) kind f x = absurd x
+raw_refused type s heavy (Error OutOfMemory) kind f x = absurd x
+raw_refused type s heavy (Failure k) kind f x = (x.0, f x.1)

@@ -1,5 +1,5 @@
 -- Lemmas on writes to a buffer that follow one another.
-use Rattle.std.proofs.Common.{◌≡◌, ℕ, ◌+◌, ◌-◌, ◌^◌, ◌≤◌, inl, inr, Bool, true, IfSome, Ok, Err, List, [], ◌++◌, length, take, drop, replicate, refl, sym, ap, ◌∙◌, subst, arith, length-append}
+use Rattle.std.proofs.Common.{◌≡◌, ℕ, ◌+◌, ◌-◌, ◌^◌, ◌<◌, ◌≤◌, inl, inr, Bool, true, IfSome, Result, Ok, Err, List, [], ◌++◌, length, take, drop, replicate, refl, sym, ap, ◌∙◌, subst, arith, length-append}
 use Rattle.std.specs.Option.{option_map}
 use Rattle.std.specs.Io.KnownBytes.{Appends}
 use Rattle.std.proofs.KnownBytes.{Appends-trans}
@@ -8,7 +8,7 @@ use Rattle.std.specs.Int.{w32, to_be_bytes}
 use Rattle.amqp_value_core.specs.Grammar.{large}
 use Rattle.amq_protocol_types.specs.declared.generation.error.GenError.{GenError}
 use Rattle.amq_protocol_types.specs.declared.generation.error.GenError.TheVariants.{LengthTooLong}
-use Rattle.amq_protocol_types.specs.Outputs.{Seen, IsWhole, Writes, GoesBack, HasFailed, filled}
+use Rattle.amq_protocol_types.specs.Outputs.{Seen, IsWhole, Writes, GoesBack, FillsLength, HasFailed, filled}
 use Rattle.amq_protocol_types.proofs.Rooms.{both_fit, both_left, room_back, both_too_many, still_fixed, rest_fits, told_back, front_overwritten, any_room}
 
 -- xs were put, and then ys: so both were
@@ -121,17 +121,15 @@ by_buffer {A = A} {xs = xs} {s = s} {t = t} e p =
 pub refused_inside : {A B : Type 0} (some all : List ℕ) {ys : List ℕ} {s t u w : Seen} {e : GenError} (C : Type 0) (at : ℕ) → at ≡ s.at → IsWhole s → length some + length ys ≤ length all → (C → B) → Writes true A (replicate 4 0 ++ some) s (Ok tt) t → Writes true B ys t (Err e) u → GoesBack at u w → Writes true C (large all) s (Err e) w
 refused_inside some all C at place whole long lengths p q back = refused C (large all) at place whole (omega arith) lengths p q back
 
--- behind four reserved bytes all were put, their number doesn't fit, and all are taken back
-pub refused_length : {A : Type 0} (all : List ℕ) {s t w : Seen} (C : Type 0) (at now : ℕ) → at ≡ s.at → IsWhole s → (2 ^ 32 ≤ length all → C → ⊥) → Writes true A (replicate 4 0 ++ all) s (Ok tt) t → now ≡ t.at → 2 ^ 32 ≤ now - at - 4 → GoesBack at t w → Writes true C (large all) s (Err LengthTooLong) w
-refused_length all {s = s} {t = t} C at now place whole long p here many back =
-    let long : C → ⊥ = long (omega (arith, p.moved)) in
-    refused C (large all) at place whole (omega arith) (λ c. c) p (refused_as_long t C long) back
-
--- behind four reserved bytes all were put, and their number was filled in
-pub length_filled : {A : Type 0} (all : List ℕ) {s t w : Seen} (C : Type 0) (at now n : ℕ) (bytes : List ℕ) → at ≡ s.at → IsWhole s → (n ≡ length all → A → C) → Writes true A (replicate 4 0 ++ all) s (Ok tt) t → now ≡ t.at → n ≡ now - at - 4 → bytes ≡ to_be_bytes w32 n → w ≡ filled t at bytes → Writes true C (large all) s (Ok tt) w
-length_filled all {s = s} {t = t} {w = w} C at now n bytes place whole lengths p here count spelling is =
-    let same : n ≡ length all = omega (arith, p.moved) in
-    let spelled : bytes ≡ to_be_bytes w32 (length all) = spelling ∙ ap (to_be_bytes w32) same in
-    let end : filled t s.at (to_be_bytes w32 (length all)) ≡ w = (λ i. filled t (sym place i) (sym spelled i)) ∙ sym is in
+-- behind four reserved bytes all were put; their number was filled in, or doesn't fit and all are taken back
+pub length_put : {A : Type 0} (all : List ℕ) {s t w : Seen} (r : Result (Unit {0}) GenError) (C : Type 0) (at : ℕ) → at ≡ s.at → IsWhole s → (2 ^ 32 ≤ length all → C → ⊥) → (length all < 2 ^ 32 → A → C) → Writes true A (replicate 4 0 ++ all) s (Ok tt) t → FillsLength at t r w → Writes true C (large all) s r w
+length_put all {s = s} {t = t} {w = w} (Ok _) C at place whole long short p f =
+    let count : t.at - at - 4 ≡ length all = omega (arith, p.moved) in
+    let few : length all < 2 ^ 32 = omega (arith, f.fits) in
+    let end : filled t s.at (to_be_bytes w32 (length all)) ≡ w = (λ i. filled t (sym place i) (to_be_bytes w32 (sym count i))) ∙ sym f.filled in
     let P : Seen → Type 0 = λ u. Writes true C (large all) s (Ok tt) u in
-    subst P end (filled_in (replicate 4 0) all C (to_be_bytes w32 (length all)) whole refl (lengths same) p)
+    subst P end (filled_in (replicate 4 0) all C (to_be_bytes w32 (length all)) whole refl (short few) p)
+length_put all {s = s} {t = t} {w = w} (Err e) C at place whole long short p f =
+    let many : 2 ^ 32 ≤ length all = omega (arith, p.moved, f.too_long) in
+    let P : GenError → Type 0 = λ d. Writes true C (large all) s (Err d) w in
+    subst P (sym f.refused) (refused C (large all) at place whole (omega arith) (λ c. c) p (refused_as_long t C (long many)) f.back)

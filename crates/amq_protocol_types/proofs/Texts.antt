@@ -3,22 +3,30 @@ use Rattle.std.proofs.Common.{◌≡◌, ℕ, zero, suc, ◌+◌, ◌<◌, ◌�
 use Rattle.amqp_value_core.specs.declared.value.AMQPValue.{AMQPValue}
 use Rattle.std.proofs.lemmas.List.{take_more}
 use Rattle.amqp_value_core.specs.declared.types.AMQPType.{AMQPType}
-use Rattle.amqp_value_core.specs.Values.{Tree, scalar, array, type_of}
+use Rattle.amqp_value_core.specs.Values.{Tree, scalar, short, long, octets, array, table, type_of}
 use Rattle.amqp_value_core.specs.Ids.{id_of}
 use Rattle.amqp_value_core.specs.Layouts.{spelled}
-use Rattle.amqp_value_core.specs.Grammar.{large}
+use Rattle.amqp_value_core.specs.Grammar.{small, large}
 use Rattle.amqp_value_core.specs.View.{view, trees}
-use Rattle.amqp_value_core.specs.Texts.{text, body, payload, Fits, AllFit, IsValue, AreValues}
+use Rattle.amqp_value_core.specs.Texts.{text, body, pairs, payload, Fits, AllFit, IsValue, AreValues}
 
 -- an id and the payload are the text
 pub text_of : (v : Tree) (type : AMQPType) → type ≡ type_of v → text v ≡ id_of type ∷ [] ++ payload v
 text_of (scalar x) type e = ap (λ t. id_of t ∷ spelled x) (sym e)
+text_of (short s) type e = ap (λ t. id_of t ∷ small s) (sym e)
+text_of (long s) type e = ap (λ t. id_of t ∷ large s) (sym e)
+text_of (octets s) type e = ap (λ t. id_of t ∷ large s) (sym e)
 text_of (array vs) type e = ap (λ t. id_of t ∷ large (body vs)) (sym e)
+text_of (table es) type e = ap (λ t. id_of t ∷ large (pairs es)) (sym e)
 
 -- an id is one byte
 pub longer_by_id : (v : Tree) → 1 + length (payload v) ≤ length (text v)
 longer_by_id (scalar x) = omega arith
+longer_by_id (short s) = omega arith
+longer_by_id (long s) = omega arith
+longer_by_id (octets s) = omega arith
 longer_by_id (array vs) = omega arith
+longer_by_id (table es) = omega arith
 
 -- the texts of some values, and then that of one more
 body_more : (vs : List AMQPValue) (v : AMQPValue) → body (trees (vs ++ v ∷ [])) ≡ body (trees vs) ++ text (view v)

@@ -3,3 +3,4 @@ pub mod Answers
 pub mod Outputs
 pub mod Slices
 pub mod Contexts
+pub mod Written

@@ -1,6 +1,7 @@
 -- Outputs: what they show of themselves, and what each call does to that.
 use Rattle.std.specs.Prelude.{ℕ, ◌≡◌, ◌+◌, ◌-◌, ◌^◌, ◌<◌, ◌≤◌, ◌⊎◌, ⊤, Bool, IsTrue, Option, Some, IsSome, IfSome, Result, Ok, Err, IsOk, IfErr, OnOk, OnErr, IsErrOf, List, ◌++◌, length, take, drop}
 use Rattle.std.specs.Option.{option_map}
+use Rattle.std.specs.Int.{w32, to_be_bytes}
 use Rattle.std.specs.declared.io.ErrorKind.{ErrorKind}
 use Rattle.std.specs.Io.KnownBytes.{Appends}
 use Rattle.amq_protocol_types.specs.declared.generation.error.GenError.{GenError}
@@ -111,3 +112,12 @@ pub record GoesBack (at : ℕ) (before : Seen) (after : Seen) : Type 0 where
   pub position : after.at ≡ at
   pub room : after.room ≡ option_map (λ room. room + (before.at - at)) before.room
   pub faults : after.faults ≡ before.faults
+
+-- The number of the bytes put behind the four from `at` on was filled in there, the highest byte first; where it
+-- doesn't fit, all from `at` on was taken back.
+pub record FillsLength (at : ℕ) (before : Seen) (result : Result (Unit {0}) GenError) (after : Seen) : Type 0 where
+  pub fits : OnOk result (before.at - at - 4 < 2 ^ 32)
+  pub filled : OnOk result (after ≡ filled before at (to_be_bytes w32 (before.at - at - 4)))
+  pub too_long : OnErr result (2 ^ 32 ≤ before.at - at - 4)
+  pub refused : IfErr result (λ e. e ≡ LengthTooLong)
+  pub back : OnErr result (GoesBack at before after)

@@ -15,6 +15,11 @@ pub use Rattle.amqp_value_core.proofs.Tables.{put_found, put_other, key_has_valu
 -- what a wire bounds, what is read from it, and that the text is a shortest wire
 pub use Rattle.amqp_value_core.proofs.Bounds.{bounds, raw_bounds}
 pub use Rattle.amqp_value_core.proofs.Shortest.{what_is_read, what_raw_reads, read_is_value, raw_value, shortest, same_text_same_value}
+-- canonical wires: each is a wire and, of bytes, the text
+pub use Rattle.amqp_value_core.proofs.Canons.{canon_is_wire, canon_fits, canon_is_text}
+pub use Rattle.amqp_value_core.proofs.TextCanon.{text_is_canon, is_canonical}
+-- the words of the headline
+pub use Rattle.amqp_value_core.proofs.Headlines.{found_front, bounded_wire, bounded_found, is_shortest, tells_apart}
 -- from a payload of the type that a first byte stands for to the value: the outcome, and that it takes memory
 pub use Rattle.amqp_value_core.proofs.Outcomes.{raw_to_value, value_to_raw, raw_to_heavy}
 -- from what stands at the front to the outcome

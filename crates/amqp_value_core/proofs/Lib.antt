@@ -9,10 +9,13 @@ mod Reading
 mod MoreBytes
 mod Bounds
 mod Shortest
+mod Canons
+mod TextCanon
 mod Found
 mod Nests
 mod Sound
 mod OnLiterals
 mod Agreement
+mod Headlines
 pub mod GrammarLaws
 pub mod Copies

@@ -24,7 +24,7 @@ use Rattle.amqp_value_core.proofs.Bounds.{bounds, array_size, table_size}
 -- ---- what is read fits its fields, and is readable
 
 -- what holds of each row of a table holds of what is found in it
-row_holds : (P : AMQPType → Type 0) (test : ℕ → Bool) (rows : List (ℕ × AMQPType)) → AllByRecursion (λ r. P r.1) rows → IfSome (lookup test rows) P
+pub row_holds : (P : AMQPType → Type 0) (test : ℕ → Bool) (rows : List (ℕ × AMQPType)) → AllByRecursion (λ r. P r.1) rows → IfSome (lookup test rows) P
 row_holds P test [] all = tt
 row_holds P test (r ∷ rows) all = by (test r.0) (row_holds P test rows all.1)
   where
@@ -36,7 +36,7 @@ row_holds P test (r ∷ rows) all = by (test r.0) (row_holds P test rows all.1)
 rows_read : AllByRecursion (λ (r : ℕ × AMQPType). read_as r.1 ≡ Some r.1) letters
 rows_read = (refl, (refl, (refl, (refl, (refl, (refl, (refl, (refl, (refl, (refl, (refl, (refl, (refl, (refl, (refl, (refl, (refl, (refl, (refl, tt)))))))))))))))))))
 
-kind_read : (c : ℕ) (type : AMQPType) → kind c ≡ Some type → read_as type ≡ Some type
+pub kind_read : (c : ℕ) (type : AMQPType) → kind c ≡ Some type → read_as type ≡ Some type
 kind_read c type k =
     subst (λ (o : Option AMQPType). IfSome o (λ type. read_as type ≡ Some type)) k
     (row_holds (λ type. read_as type ≡ Some type) (nat_eq c) letters rows_read)

@@ -63,7 +63,7 @@ length_of_payload v = omega (arith, length_of_text v, ap length (text-payload v)
 -- ---- values of fixed width
 
 -- x has the layout of its type, is what its spelling means, and has an id that is read
-record IsSpelled (x : Scalar) : Type 0 where
+pub record IsSpelled (x : Scalar) : Type 0 where
   pub layout : Layout
   pub row : fixed (scalar_type x) ≡ Some layout
   pub width : length (spelled x) ≡ layout.width
@@ -89,7 +89,7 @@ number_spelled amqp.Timestamp n lt = record { layout = _; row = refl; width = re
 number_spelled _ n none = absurd none
 
 -- the table of scalars
-scalar_spelled : (x : Scalar) → IsScalar x → IsSpelled x
+pub scalar_spelled : (x : Scalar) → IsScalar x → IsSpelled x
 scalar_spelled (boolean true) _ = record { layout = _; row = refl; width = refl; means = refl; id = refl }
 scalar_spelled (boolean false) _ = record { layout = _; row = refl; width = refl; means = refl; id = refl }
 scalar_spelled (number type n) is = number_spelled type n is

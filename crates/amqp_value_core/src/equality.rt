@@ -93,13 +93,13 @@ fn same_items(a: &[AMQPValue], b: &[AMQPValue]) -> bool
 
 /// Whether two maps have as many entries, each with the key and the value of the one at its place.
 #[cycle(same)]
-fn same_pairs(a: &BTreeMap<ShortString, AMQPValue>, b: &BTreeMap<ShortString, AMQPValue>) -> bool
-    ensures { result ≡ same_entries (entries a.now.entries) (entries b.now.entries) }
+fn same_pairs(m: &BTreeMap<ShortString, AMQPValue>, n: &BTreeMap<ShortString, AMQPValue>) -> bool
+    ensures { result ≡ same_entries (entries m.now.entries) (entries n.now.entries) }
 {
-    for ((j, x), (k, y)) in a.iter().zip(b.iter()) {
+    for ((j, x), (k, y)) in m.iter().zip(n.iter()) {
         if j != k || !same(x, y) {
             return false;
         }
     }
-    a.len() == b.len()
+    m.len() == n.len()
 }

@@ -93,6 +93,6 @@ impl<'a> ParsableInput for SliceInput<'a> {
         ensures all { result.now ≡ slice_bytes self.now }
         ensures front { IsFront result.now (slice_bytes self.now) }
     {
-        self.slice
+        self.as_slice()
     }
 }

@@ -2,18 +2,18 @@
 //!
 //! Each function is a law. It does nothing, and its contract says what holds.
 
-ghost use Rattle.std.specs.Prelude.{◌≡◌, ◌↔◌, ◌+◌, ℕ, List, ◌∷◌, ◌++◌, length, IsTrue, Some};
+ghost use Rattle.std.specs.Prelude.{◌≡◌, ◌↔◌, ◌+◌, ℕ, List, ◌∷◌, ◌++◌, length, IsTrue, Some, ◌≢◌, ◌≤◌, ◌*◌, is_some, ◌-◌};
 ghost use Rattle.amqp_value_core.specs.declared.types.AMQPType.{AMQPType};
-ghost use Rattle.amqp_value_core.specs.Values.{Tree, type_of, readable};
+ghost use Rattle.amqp_value_core.specs.Values.{Tree, type_of, readable, Entries, no_entries, table, put, onto, depth, count};
 ghost use Rattle.amqp_value_core.specs.Grammar.{Wire, Raw};
 ghost use Rattle.amqp_value_core.specs.Texts.{text, payload, size, Fits, IsValue, read_back};
 ghost use Rattle.amqp_value_core.specs.Ids.{kind};
-ghost use Rattle.amqp_value_core.specs.Outcomes.{IsBytes, Reading, Outcome, RawOutcome, Heavy, RawHeavy, StillWaits, with_more};
+ghost use Rattle.amqp_value_core.specs.Outcomes.{IsBytes, Reading, Outcome, RawOutcome, Heavy, RawHeavy, StillWaits, with_more, found, Front};
 ghost use Rattle.amqp_value_core.specs.Decode.{outcome, raw_outcome};
-ghost use Rattle.std.specs.Prelude.{◌≢◌, ◌≤◌, ◌*◌, is_some};
-ghost use Rattle.amqp_value_core.specs.declared.types.AMQPType.TheVariants as amqp;
-ghost use Rattle.amqp_value_core.specs.Values.{Entries, no_entries, table, put, onto, depth, count};
+ghost use Rattle.amqp_value_core.specs.Canonical.{Canon};
+ghost use Rattle.amqp_value_core.specs.Headline.{IsCanonical, IsBounded, IsShortest, TellsApart};
 ghost use Rattle.amqp_value_core.specs.Maps.{has_key, value_at, last_at, IsRising};
+ghost use Rattle.amqp_value_core.specs.declared.types.AMQPType.TheVariants as amqp;
 
 /// A list begins with at most one wire, and that wire has one meaning. So no wire is a proper front
 /// of another.
@@ -146,6 +146,38 @@ pub fn shortest()
 pub fn same_text_same_value()
     ensures { (w u : List ℕ) (v z : Tree) → Wire w v → Wire u z → IsBytes w → IsBytes u
         → text v ≡ text z → v ≡ z }
+{}
+
+/// A canonical wire is told by its bytes alone: no second spelling of an id, no boolean but 0 or 1,
+/// and keys that rise. Bytes are such a wire of a value in memory, whose lengths fit their fields,
+/// exactly where each value in it has an id that is read and they are its text.
+#[tactic(auto, using(crate::proofs::GrammarLaws::is_canonical))]
+pub fn canonical()
+    ensures { (v : Tree) → IsValue v → Fits v → IsCanonical v }
+{}
+
+/// A canonical wire of any value is a wire, its value fits its fields and is readable, and where it
+/// is bytes, it is the text.
+#[tactic(auto, using(crate::proofs::GrammarLaws::canon_is_wire, crate::proofs::GrammarLaws::canon_fits, crate::proofs::GrammarLaws::canon_is_text))]
+pub fn canonical_wire()
+    ensures { (w : List ℕ) (v : Tree) → Canon w v → IsBytes w
+        → Wire w v × Fits v × IsTrue (readable v) × (w ≡ text v) }
+{}
+
+/// What reading finds has a wire at the front, and keeps to the number of bytes that were taken.
+#[tactic(auto, using(crate::proofs::GrammarLaws::found_front, crate::proofs::GrammarLaws::bounded_found))]
+pub fn what_is_found()
+    ensures front { (s rest : List ℕ) (v : Tree) → Outcome s (found v rest) → Front s (found v rest) }
+    ensures bounded { (s rest : List ℕ) (v : Tree) → Outcome s (found v rest)
+        → IsBounded (length s - length rest) v }
+{}
+
+/// The text of each value is a shortest wire of it, if it has a wire, and among values that have
+/// wires it is the text of that value alone.
+#[tactic(auto, using(crate::proofs::GrammarLaws::is_shortest, crate::proofs::GrammarLaws::tells_apart))]
+pub fn what_a_text_is()
+    ensures shortest { (v : Tree) → IsShortest v }
+    ensures tells_apart { (v : Tree) → TellsApart v }
 {}
 
 /// Reading a value from any bytes has an outcome, it has no other, and the function `outcome`

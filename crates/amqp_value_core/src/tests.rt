@@ -2,7 +2,7 @@
 
 use crate::types::{
     AMQPType, ByteArray, Double, FieldArray, FieldTable, Float, LongString, ShortString,
-    ShortStringError, TryCopyError,
+    TryCopyError,
 };
 use crate::value::AMQPValue;
 use std::alloc::{AllocError, Global};

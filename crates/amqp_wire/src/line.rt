@@ -1,9 +1,9 @@
 //! The answer to one line.
 
-ghost use Rattle.std.specs.Prelude.{◌≡◌, ◌≤◌, ◌++◌, ◌∷◌, [], IfOk, IsErrOf, length, string_bytes};
+ghost use Rattle.std.specs.Prelude.{◌≡◌, ◌≤◌, ◌++◌, ◌∷◌, [], IfOk, string_bytes};
 ghost use Rattle.amqp_value_core.specs.Decode.{outcome};
 ghost use Rattle.amqp_value_core.specs.View.{view};
-ghost use Rattle.amqp_value_core.specs.Texts.{text, Fits};
+ghost use Rattle.amqp_value_core.specs.Texts.{text, size, Fits};
 ghost use Rattle.hex.specs.Hex.{encode_lower};
 ghost use Rattle.amqp_wire.specs.Lines.{line, said};
 
@@ -13,21 +13,19 @@ use amq_protocol_types::generation::{SliceOutput, WriteContext, gen_value};
 use amq_protocol_types::parsing::traits::ParsableInput;
 use amq_protocol_types::parsing::{Err, ErrorKind, Needed, SliceInput, parse_value};
 use hex::FromHexError;
-use std::alloc::Global;
+use std::alloc::{AllocError, Global};
 
-/// The text of a value in hexadecimal. It is written to `room` bytes first.
-fn hex_of(alloc: Global, value: &AMQPValue, room: usize) -> Result<String, WireFault>
+/// The text of a value in hexadecimal. It is written to `room` bytes first, which hold it.
+fn hex_of(alloc: Global, value: &AMQPValue, room: usize) -> Result<String, AllocError>
+    requires fits { Fits (view value.now) }
+    requires room { size (view value.now) ≤ room }
     ensures hex { IfOk result (λ hex. string_bytes hex ≡ encode_lower (text (view value.now))) }
-    ensures succeeds { Fits (view value.now) → length (text (view value.now)) ≤ room
-        → ¬ (IsErrOf result WireFault.Io) }
 {
     let mut bytes = vec![in alloc; 0; room]?;
     let mut context = WriteContext::from(SliceOutput::new(bytes.as_mut_slice()));
-    if gen_value(value, &mut context).is_err() {
-        return Err(WireFault::Io);
-    }
+    gen_value(value, &mut context).unwrap();
     let (output, _) = context.into_inner();
-    Ok(hex::encode(alloc, output.written())?)
+    hex::encode(alloc, output.written())
 }
 
 /// What is said of the bytes that a line spells. A value's text gets as much room as its wire took.

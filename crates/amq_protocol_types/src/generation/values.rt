@@ -1,25 +1,29 @@
-ghost use Rattle.std.specs.Prelude.{◌≡◌, ℕ, List, ◌++◌, true, OnOk};
+ghost use Rattle.std.specs.Prelude.{◌≡◌, ◌+◌, ◌≤◌, ℕ, List, ◌++◌, true, OnOk};
 ghost use Rattle.amqp_value_core.specs.Values.{array, table};
 ghost use Rattle.amqp_value_core.specs.View.{view, array_view, table_view};
 ghost use Rattle.amqp_value_core.specs.Strings.{IsShort};
 ghost use Rattle.amqp_value_core.specs.Grammar.{small};
 ghost use Rattle.amqp_value_core.specs.Texts.{text, payload, Fits, IsValue, read_back};
 ghost use Rattle.amqp_value_core.specs.Outcomes.{Outcome};
-ghost use Rattle.amq_protocol_types.specs.Outputs.{Writes};
+ghost use Rattle.amqp_value_core.specs.Headline.{IsShortest, TellsApart, IsCanonical};
+ghost use Rattle.amq_protocol_types.specs.Outputs.{Writes, FillsLength};
+ghost use Rattle.amq_protocol_types.specs.Written.{WritesWhatWasRead};
 ghost use Rattle.amq_protocol_types.specs.Contexts.{start_of, shown};
 
 use crate::generation::{
     BackToTheBuffer, GenError, GenResult, WriteContext, gen_boolean, gen_byte_array,
-    gen_decimal_value, gen_double, gen_float, gen_long_int, gen_long_long_int, gen_long_string,
+    gen_decimal_value, gen_long_int, gen_long_long_int, gen_long_long_uint, gen_long_string,
     gen_long_uint, gen_short_int, gen_short_short_int, gen_short_short_uint, gen_short_string,
     gen_short_uint, gen_timestamp, gen_type,
 };
-use amqp_value_core::types::{FieldArray, FieldTable, ShortString};
+use amqp_value_core::types::{DecimalValue, FieldArray, FieldTable, ShortString};
 use amqp_value_core::value::AMQPValue;
 
 /// Writes a value: the id of its type, then its payload.
-#[cycle(values)]
-#[tactic(auto, using(amqp_value_core::proofs::GrammarLaws::reading_back))]
+///
+/// What is written is the value's one text: a shortest wire, which no other value has. Where the
+/// value was read, room for as many bytes as it was read from is enough.
+#[tactic(auto, using(amqp_value_core::proofs::GrammarLaws::reading_back, amqp_value_core::proofs::GrammarLaws::is_shortest, amqp_value_core::proofs::GrammarLaws::tells_apart, amqp_value_core::proofs::GrammarLaws::is_canonical, crate::proofs::WhatWasRead::writes_what_was_read))]
 pub fn gen_value<W: BackToTheBuffer>(v: &AMQPValue, x: &mut WriteContext<W>) -> GenResult
     ensures written { Writes true (Fits (view v.now)) (text (view v.now))
         (shown W.seen x.old) result (shown W.seen x.new) }
@@ -27,6 +31,21 @@ pub fn gen_value<W: BackToTheBuffer>(v: &AMQPValue, x: &mut WriteContext<W>) -> 
     ensures value { OnOk result (IsValue (view v.now)) }
     ensures read_back { OnOk result ((rest : List ℕ) →
         Outcome (text (view v.now) ++ rest) (read_back (view v.now) rest)) }
+    ensures of_a_wire { WritesWhatWasRead (view v.now) (shown W.seen x.old) result }
+    ensures shortest { IsShortest (view v.now) }
+    ensures tells_apart { TellsApart (view v.now) }
+    ensures canonical { OnOk result (IsCanonical (view v.now)) }
+{
+    write_value(v, x)
+}
+
+// Writes a value, for `gen_value` and for the containers that it stands in.
+#[cycle(values)]
+fn write_value<W: BackToTheBuffer>(v: &AMQPValue, x: &mut WriteContext<W>) -> GenResult
+    ensures written { Writes true (Fits (view v.now)) (text (view v.now))
+        (shown W.seen x.old) result (shown W.seen x.new) }
+    ensures start { start_of x.new ≡ start_of x.old }
+    ensures value { OnOk result (IsValue (view v.now)) }
 {
     let at = x.at();
     gen_type(v.get_type(), x)?;
@@ -54,9 +73,14 @@ pub fn gen_raw_value<W: BackToTheBuffer>(v: &AMQPValue, x: &mut WriteContext<W>)
         AMQPValue::LongInt(n) => gen_long_int(*n, x),
         AMQPValue::LongUInt(n) => gen_long_uint(*n, x),
         AMQPValue::LongLongInt(n) => gen_long_long_int(*n, x),
-        AMQPValue::Float(f) => gen_float(*f, x),
-        AMQPValue::Double(f) => gen_double(*f, x),
-        AMQPValue::DecimalValue(d) => gen_decimal_value(*d, x),
+        AMQPValue::Float(f) => gen_long_uint(f.to_bits(), x),
+        AMQPValue::Double(f) => gen_long_long_uint(f.to_bits(), x),
+        AMQPValue::DecimalValue(d) => {
+            // each part read on its own shows its range
+            let DecimalValue { scale, value } = d;
+            let (scale, value) = (*scale, *value);
+            gen_decimal_value(DecimalValue { scale, value }, x)
+        }
         AMQPValue::ShortString(s) => gen_short_string(s.as_str(), x),
         AMQPValue::LongString(s) => gen_long_string(s.as_bytes(), x),
         AMQPValue::FieldArray(a) => gen_field_array(a, x),
@@ -78,17 +102,12 @@ pub fn gen_field_array<W: BackToTheBuffer>(a: &FieldArray, x: &mut WriteContext<
 {
     let at = x.reserve(4)?;
     for v in a.as_slice() {
-        if let Err(e) = gen_value(v, x) {
+        if let Err(e) = write_value(v, x) {
             x.back_to(at);
             return Err(e);
         }
     }
-    let Ok(n) = u32::try_from(x.at() - at - 4) else {
-        x.back_to(at);
-        return Err(GenError::LengthTooLong);
-    };
-    x.fill(at, &n.to_be_bytes());
-    Ok(())
+    fill_length(at, x)
 }
 
 /// Writes a table's entries, each its key as a short string and its value with its id, in the order
@@ -108,12 +127,7 @@ pub fn gen_field_table<W: BackToTheBuffer>(t: &FieldTable, x: &mut WriteContext<
             return Err(e);
         }
     }
-    let Ok(n) = u32::try_from(x.at() - at - 4) else {
-        x.back_to(at);
-        return Err(GenError::LengthTooLong);
-    };
-    x.fill(at, &n.to_be_bytes());
-    Ok(())
+    fill_length(at, x)
 }
 
 // Writes an entry of a table: its key as a short string, then its value with its id.
@@ -131,9 +145,23 @@ fn gen_entry<W: BackToTheBuffer>(
 {
     let at = x.at();
     gen_short_string(k.as_str(), x)?;
-    if let Err(e) = gen_value(v, x) {
+    if let Err(e) = write_value(v, x) {
         x.back_to(at);
         return Err(e);
     }
+    Ok(())
+}
+
+// Fills in how many bytes stand behind the four from `at` on, or takes all from `at` on back.
+fn fill_length<W: BackToTheBuffer>(at: u64, x: &mut WriteContext<W>) -> GenResult
+    requires { at + 4 ≤ (shown W.seen x.old).at }
+    ensures filled { FillsLength at (shown W.seen x.old) result (shown W.seen x.new) }
+    ensures start { start_of x.new ≡ start_of x.old }
+{
+    let Ok(n) = u32::try_from(x.at() - at - 4) else {
+        x.back_to(at);
+        return Err(GenError::LengthTooLong);
+    };
+    x.fill(at, &n.to_be_bytes());
     Ok(())
 }

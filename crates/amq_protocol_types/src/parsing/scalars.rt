@@ -192,7 +192,8 @@ pub fn parse_timestamp<I: ParsableInput>(i: I) -> ParserResult<I, Timestamp>
         (found (scalar (number AMQPType.Timestamp x.1)) (I.bytes x.0)))
         (Refuses (RawOutcome AMQPType.Timestamp (I.bytes i)) ⊥) }
 {
-    parse_long_long_uint(i)
+    let (i, seconds) = parse_long_long_uint(i)?;
+    Ok((i, seconds))
 }
 
 /// Reads a decimal number: its scale in one byte, then its digits as an unsigned number of 32 bits.

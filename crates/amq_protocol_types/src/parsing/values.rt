@@ -1,10 +1,11 @@
 //! Parsers of values and of containers.
 
-ghost use Rattle.std.specs.Prelude.{◌≡◌, ◌<◌, MatchResult, length};
+ghost use Rattle.std.specs.Prelude.{◌≡◌, ◌<◌, ◌-◌, MatchResult, IfOk, length};
 ghost use Rattle.amqp_value_core.specs.Values.{array, table};
 ghost use Rattle.amqp_value_core.specs.Grammar.{Body};
 ghost use Rattle.amqp_value_core.specs.Outcomes.{Outcome, RawOutcome, Heavy, RawHeavy, found};
 ghost use Rattle.amqp_value_core.specs.View.{view, array_view, table_view};
+ghost use Rattle.amqp_value_core.specs.Headline.{IsBounded};
 ghost use Rattle.amq_protocol_types.specs.Answers.{Refuses, RawRefuses, HasOneOutcome, KeepsOutcome, IsNoBody, IsTable, IsNoTable};
 
 use super::errors::{ParserError, ParserResult, inside, out_of_memory};
@@ -21,7 +22,7 @@ use std::alloc::Global;
 
 /// Reads a value: the id of its type, then its payload.
 ///
-/// It recurses as deep as containers nest, which the input's length alone bounds. Memory is taken
+/// What is read can be written again, in no more bytes than it was read from. It recurses as deep as containers nest, which the input's length alone bounds. Memory is taken
 /// only for strings, byte arrays and containers whose bytes are all there.
 #[cycle(parser)]
 #[tactic(auto, using(amqp_value_core::proofs::GrammarLaws::one_outcome, amqp_value_core::proofs::GrammarLaws::more_bytes))]
@@ -31,6 +32,8 @@ pub fn parse_value<I: ParsableInput>(alloc: Global, i: I) -> ParserResult<I, AMQ
         (Refuses (Outcome (I.bytes i)) (Heavy (I.bytes i))) }
     ensures one { HasOneOutcome (I.bytes i) }
     ensures more_bytes { KeepsOutcome (I.bytes i) }
+    ensures bounded { IfOk result (λ x.
+        IsBounded (length (I.bytes i) - length (I.bytes x.0)) (view x.1)) }
 {
     let (i, amqp_type) = parse_type(i)?;
     parse_raw_value(alloc, amqp_type, i)

@@ -99,5 +99,5 @@ same_pairs-returns t c =
     let done = one_ended _ _ c.in-None.ensures.steps in
     let a = c.len.ensures.len in
     let b = c.len-2.ensures.len in
-    let e = left (btree_map_len c.args.a.now) (btree_map_len c.args.b.now) _ _ _ done c.loop-j.invariant.as_many c.loop-j.invariant.decides in
+    let e = left (btree_map_len c.args.m.now) (btree_map_len c.args.n.now) _ _ _ done c.loop-j.invariant.as_many c.loop-j.invariant.decides in
     rw (a, b) e

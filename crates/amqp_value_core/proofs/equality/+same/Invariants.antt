@@ -11,6 +11,6 @@ invariant-same_items-loop-x l =
 -- what is left decides, and as many entries were taken of both
 abbrev pub invariant-same_pairs-loop-j : goal.invariant-same_pairs-loop-j
 invariant-same_pairs-loop-j l = record {
-  decides : same_entries (entries l.j-iterator.a) (entries l.j-iterator.b) ≡ same_entries (entries l.a.entries) (entries l.b.entries);
-  as_many : length l.j-iterator.a + length l.b.entries ≡ length l.j-iterator.b + length l.a.entries;
+  decides : same_entries (entries l.j-iterator.a) (entries l.j-iterator.b) ≡ same_entries (entries l.m.entries) (entries l.n.entries);
+  as_many : length l.j-iterator.a + length l.n.entries ≡ length l.j-iterator.b + length l.m.entries;
 }

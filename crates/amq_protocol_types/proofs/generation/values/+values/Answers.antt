@@ -1,18 +1,20 @@
-use Rattle.std.proofs.Common.{◌∙◌, arith}
+use Rattle.std.proofs.Common.{◌∙◌, ◌++◌, length, ap, arith, length-append}
+use Rattle.amqp_value_core.specs.Grammar.{small}
 use Rattle.amqp_value_core.specs.View.{view, array_items}
 use Rattle.amqp_value_core.specs.Texts.{text, Fits}
-use Rattle.amq_protocol_types.proofs.Arrays.{value_refused, count_refused, count_filled}
+use Rattle.amq_protocol_types.proofs.Arrays.{value_refused, array_closed}
+use Rattle.amq_protocol_types.proofs.Tables.{none_put, one_more_put, entry_refused, table_closed, table_value}
 use Rattle.amq_protocol_types.proofs.Texts.{text_of, longer_by_id, body_next, fit_next, values_next}
 use Rattle.amq_protocol_types.proofs.Steps.{both_put, refused, by_buffer}
 use Rattle.amq_protocol_types.proofs.generation.values.+values.Goals as goal
 
-pub gen_value-returns-clause-written : goal.gen_value-returns-clause-written
-gen_value-returns-clause-written g t c =
+pub write_value-returns-clause-written : goal.write_value-returns-clause-written
+write_value-returns-clause-written g t c =
     let v = view c.args.v.now in
     both_put (Fits v) (text v) (text_of v _ c.get_type.ensures) (λ _ fit. fit) (by_buffer g.met.W.BackToTheBuffer.is_one c.in_ok-gen_type.ensures.put.written) c.in_default.ensures.written
 
-pub gen_value-returns-in-Err-clause-written : goal.gen_value-returns-in-Err-clause-written
-gen_value-returns-in-Err-clause-written g t c =
+pub write_value-returns-in-Err-clause-written : goal.write_value-returns-in-Err-clause-written
+write_value-returns-in-Err-clause-written g t c =
     let v = view c.args.v.now in
     refused (Fits v) (text v) _ c.at-at.ensures.at c.at-at.ensures.whole (longer_by_id v) (λ fit. fit) (by_buffer g.met.W.BackToTheBuffer.is_one c.in_ok-gen_type.ensures.put.written) c.in-Err.ensures.written c.back_to.ensures.back
 
@@ -36,12 +38,47 @@ gen_field_array-returns-in-Err-clause-written g t c =
     let known = c.loop-v.invariant in
     value_refused c.as_slice-v-items.result.now (array_items c.args.a.now) c.loop-v.v-index c.v-item.result c.in_ok-at.at known.items c.loop-v-test.true c.v-item.is known.place known.whole known.written c.in-Err.ensures.written c.back_to.ensures.back
 
-pub gen_field_array-returns-in_default-try_from-clause-written : goal.gen_field_array-returns-in_default-try_from-clause-written
-gen_field_array-returns-in_default-try_from-clause-written g t c =
-    let known = c.loop-v.invariant in
-    count_refused c.as_slice-v-items.result.now (array_items c.args.a.now) c.loop-v.v-index c.in_ok-at.at c.at.result known.items (omega arith) known.place known.whole known.written c.at.ensures.at (omega (arith, c.in_default-try_from.ensures)) c.back_to-in_default-try_from.ensures.back
-
 pub gen_field_array-returns-clause-written : goal.gen_field_array-returns-clause-written
 gen_field_array-returns-clause-written g t c =
     let known = c.loop-v.invariant in
-    count_filled c.as_slice-v-items.result.now (array_items c.args.a.now) c.loop-v.v-index c.in_ok-at.at c.at.result c.in-Ok.n c.to_be_bytes.result known.items (omega arith) known.place known.whole known.written c.at.ensures.at (omega (arith, c.in-Ok.ensures)) c.in-Ok.ensures.1 c.to_be_bytes.ensures c.fill.ensures.filled
+    array_closed c.as_slice-v-items.result.now (array_items c.args.a.now) c.loop-v.v-index c.in_ok-at.at c.fill_length.result known.items (omega arith) known.place known.whole known.written c.fill_length.ensures.filled
+
+pub gen_entry-returns-in-Err-clause-written : goal.gen_entry-returns-in-Err-clause-written
+gen_entry-returns-in-Err-clause-written g t c =
+    let v = view c.args.v.now in
+    let k = c.args.k.now in
+    refused (Fits v) (small k ++ text v) c.at-at.result c.at-at.ensures.at c.at-at.ensures.whole (omega (arith, length-append k (text v), ap length c.as_str.ensures.text)) (λ fit. fit) (by_buffer g.met.W.BackToTheBuffer.is_one c.in_ok-gen_short_string.ensures.written) c.in-Err.ensures.written c.back_to.ensures.back
+
+pub gen_field_table-loop-k-init : goal.gen_field_table-loop-k-init
+gen_field_table-loop-k-init g t c = record {
+  whole = c.in_ok-at.ensures.whole;
+  place = c.in_ok-at.ensures.place;
+  start = c.in_ok-at.ensures.start;
+  put = none_put _ _ (c.into_iter-k-iterator.ensures.into_iter_gives ∙ c.iter-k-items.ensures.rest ∙ c.inner.ensures) c.in_ok-at.ensures.written;
+}
+
+pub gen_field_table-loop-k-preserved : goal.gen_field_table-loop-k-preserved
+gen_field_table-loop-k-preserved g t c =
+    let known = c.loop-k.invariant in
+    let k = c.in-Some.k.now in
+    let v = c.in-Some.v.now in
+    record {
+      whole = known.whole;
+      place = known.place;
+      start = c.in_default.ensures.start ∙ known.start;
+      put = one_more_put k v c.in-Some.ensures.steps c.in_default.ensures.key c.in_default.ensures.value known.put c.in_default.ensures.written;
+    }
+
+pub gen_field_table-returns-in-Err-clause-written : goal.gen_field_table-returns-in-Err-clause-written
+gen_field_table-returns-in-Err-clause-written g t c =
+    let known = c.loop-k.invariant in
+    entry_refused c.in-Some.k.now c.in-Some.v.now c.in_ok-at.at c.in-Some.ensures.steps known.place known.whole known.put c.in-Err.ensures.written c.back_to.ensures.back
+
+pub gen_field_table-returns-clause-written : goal.gen_field_table-returns-clause-written
+gen_field_table-returns-clause-written g t c =
+    let known = c.loop-k.invariant in
+    table_closed c.in_ok-at.at c.fill_length.result c.in-None.ensures.steps.0 known.place known.whole known.put c.fill_length.ensures.filled
+
+pub gen_field_table-returns-clause-value : goal.gen_field_table-returns-clause-value
+gen_field_table-returns-clause-value g t c =
+    table_value c.fill_length.result c.in-None.ensures.steps.0 c.inner.ensures c.iter-k-items.ensures.ordered c.loop-k.invariant.put

@@ -1,8 +1,9 @@
 use Rattle.std.proofs.Common.{◌≡◌, true, Ok, take, replicate, ◌++◌}
-use Rattle.amqp_value_core.specs.View.{array_items, trees}
+use Rattle.amqp_value_core.specs.View.{array_items, trees, table_entries}
 use Rattle.amqp_value_core.specs.Texts.{body, AllFit, AreValues}
 use Rattle.amq_protocol_types.specs.Outputs.{IsWhole, Writes}
 use Rattle.amq_protocol_types.specs.Contexts.{start_of, shown}
+use Rattle.amq_protocol_types.proofs.Tables.{HasPut}
 use Rattle.amq_protocol_types.proofs.generation.values.+values.Given as goal
 
 abbrev pub invariant-gen_field_array-loop-v : goal.invariant-gen_field_array-loop-v
@@ -16,4 +17,14 @@ invariant-gen_field_array-loop-v g l =
       written : Writes true (AllFit done) (replicate 4 0 ++ body done) (shown seen l.fn.x) (Ok tt) (shown seen l.x);
       start : start_of l.x ≡ start_of l.fn.x;
       values : AreValues done;
+    }
+
+abbrev pub invariant-gen_field_table-loop-k : goal.invariant-gen_field_table-loop-k
+invariant-gen_field_table-loop-k g l =
+    let seen = g.W.Output.seen in
+    record {
+      whole : IsWhole (shown seen l.fn.x);
+      place : l.at ≡ (shown seen l.fn.x).at;
+      start : start_of l.x ≡ start_of l.fn.x;
+      put : HasPut (table_entries l.fn.t) l.k-iterator (shown seen l.fn.x) (shown seen l.x);
     }

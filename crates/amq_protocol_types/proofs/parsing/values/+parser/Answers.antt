@@ -1,14 +1,18 @@
-use Rattle.std.proofs.Common.{◌≡◌, [], ◌∷◌, ◌++◌, sym, subst, rules, arith, map, take, drop}
-use Rattle.std.proofs.lemmas.List.{length-take-le, map_push}
+use Rattle.std.proofs.Common.{◌≡◌, [], ◌∷◌, ◌++◌, sym, subst, rules, arith, map}
+use Rattle.std.specs.Int.{w64, cast_signed, cast_unsigned}
+use Rattle.std.proofs.lemmas.List.{map_push}
 use Rattle.std.proofs.lemmas.Result.{err_from_is_err_and}
 use Rattle.amqp_value_core.specs.declared.types.AMQPType.TheVariants as amqp
-use Rattle.amqp_value_core.specs.Values.{Tree}
-use Rattle.amqp_value_core.specs.View.{view, array_items, array_view}
+use Rattle.amqp_value_core.specs.declared.value.AMQPValue.{the_lemmas}
+use Rattle.amqp_value_core.specs.declared.value.AMQPValue.TheVariants.{LongLongInt}
+use Rattle.amqp_value_core.specs.Values.{Tree, put}
+use Rattle.amqp_value_core.specs.View.{view, array_items, array_view, table_view}
 use Rattle.amqp_value_core.specs.Outcomes.{found, RawOutcome}
 use Rattle.amq_protocol_types.proofs.Bodies.{Goes-step, Goes-end, Goes-refused, rest_shorter}
-use Rattle.amq_protocol_types.proofs.Frames.{split_large, array_found, array_refused}
-use Rattle.amq_protocol_types.proofs.Payloads.{void_found}
-use Rattle.amq_protocol_types.proofs.Typed.{typed_answer}
+use Rattle.amq_protocol_types.proofs.Pairs.{Walks-step, Walks-end, Walks-bad_key, Walks-bad_value, key_shorter}
+use Rattle.amq_protocol_types.proofs.Frames.{array_found, array_refused, table_found, table_refused}
+use Rattle.amq_protocol_types.proofs.Payloads.{unsigned_outcome, unsigned_refused, void_found}
+use Rattle.amq_protocol_types.proofs.Typed.{typed_answer, bounded_answer}
 use Rattle.amq_protocol_types.proofs.Views.{view-Void}
 use Rattle.amq_protocol_types.proofs.parsing.values.+parser.Goals as goal
 
@@ -33,22 +37,15 @@ parse_body-returns g t c =
 
 pub parse_field_array-returns-in_err-array : goal.parse_field_array-returns-in_err-array
 parse_field_array-returns-in_err-array g t c =
-    let s = g.I.ParsableInput.bytes c.args.i in
-    let left = g.I.ParsableInput.bytes c.in_ok-i.i in
-    let n = c.in_ok-i.len in
     let p = err_from_is_err_and c.from_residual-in_err-array.result c.from_residual-in_err-array.ensures.1 in
     rw (p.1, p.2)
-    (array_refused s (take n left) (drop n left) (split_large s left n c.in_ok-i.ensures (omega arith)) (omega (arith, length-take-le n left))
-    c.in_err-array.field-0.0 (rw c.take.ensures at c.in_err-array.ensures))
+    (array_refused (g.I.ParsableInput.bytes c.args.i) (g.I.ParsableInput.bytes c.in_ok-i.body) (g.I.ParsableInput.bytes c.in_ok-i.i) c.in_ok-i.ensures
+    c.in_err-array.field-0.0 c.in_err-array.ensures)
 
 pub parse_field_array-returns : goal.parse_field_array-returns
 parse_field_array-returns g t c =
-    let s = g.I.ParsableInput.bytes c.args.i in
-    let left = g.I.ParsableInput.bytes c.in_ok-i.i in
-    let n = c.in_ok-i.len in
-    rw c.take_from.ensures
-    (array_found s (take n left) (drop n left) (split_large s left n c.in_ok-i.ensures (omega arith)) (omega (arith, length-take-le n left))
-    (array_view c.in_ok-array.array) (rw c.take.ensures at c.in_ok-array.ensures))
+    array_found (g.I.ParsableInput.bytes c.args.i) (g.I.ParsableInput.bytes c.in_ok-i.body) (g.I.ParsableInput.bytes c.in_ok-i.i) c.in_ok-i.ensures
+    (array_view c.in_ok-array.array) c.in_ok-array.ensures
 
 pub parse_raw_value-returns-in-Void : goal.parse_raw_value-returns-in-Void
 parse_raw_value-returns-in-Void g t c =
@@ -56,7 +53,69 @@ parse_raw_value-returns-in-Void g t c =
     rw c.in-Void.is
     (subst (λ (v : Tree). RawOutcome amqp.Void s (found v s)) (sym view-Void) (void_found s))
 
+pub parse_raw_value-returns-in_err-i-in-LongLongUInt : goal.parse_raw_value-returns-in_err-i-in-LongLongUInt
+parse_raw_value-returns-in_err-i-in-LongLongUInt g t c =
+    let p = err_from_is_err_and c.from_residual-in_err-i-in-LongLongUInt.result c.from_residual-in_err-i-in-LongLongUInt.ensures.1 in
+    rw (p.1, p.2, c.in-LongLongUInt.is)
+    (unsigned_refused (g.I.ParsableInput.bytes c.args.i) c.in_err-i-in-LongLongUInt.field-0.0 c.in_err-i-in-LongLongUInt.ensures)
+
+pub parse_raw_value-returns-in_ok-i-in-LongLongUInt : goal.parse_raw_value-returns-in_ok-i-in-LongLongUInt
+parse_raw_value-returns-in_ok-i-in-LongLongUInt g t c =
+    let s = g.I.ParsableInput.bytes c.args.i in
+    let o = found (view (LongLongInt (cast_signed w64 (cast_unsigned w64 c.in_ok-i-in-LongLongUInt.n)))) (g.I.ParsableInput.bytes c.in_ok-i-in-LongLongUInt.i) in
+    let x : RawOutcome amqp.LongLongInt s o = search (rules, the_lemmas) in
+    rw c.in-LongLongUInt.is
+    (unsigned_outcome s o x)
+
+pub parse_field_table-returns-in_err-table : goal.parse_field_table-returns-in_err-table
+parse_field_table-returns-in_err-table g t c =
+    let p = err_from_is_err_and c.from_residual-in_err-table.result c.from_residual-in_err-table.ensures.1 in
+    rw (p.1, p.2)
+    (table_refused (g.I.ParsableInput.bytes c.args.i) (g.I.ParsableInput.bytes c.in_ok-i.body) (g.I.ParsableInput.bytes c.in_ok-i.i) c.in_ok-i.ensures
+    c.in_err-table.field-0.0 c.in_err-table.ensures)
+
+pub parse_field_table-returns : goal.parse_field_table-returns
+parse_field_table-returns g t c =
+    table_found (g.I.ParsableInput.bytes c.args.i) (g.I.ParsableInput.bytes c.in_ok-i.body) (g.I.ParsableInput.bytes c.in_ok-i.i) c.in_ok-i.ensures
+    (table_view c.in_ok-table.table) c.in_ok-table.ensures
+
+pub parse_pairs-returns-in-Err : goal.parse_pairs-returns-in-Err
+parse_pairs-returns-in-Err g t c =
+    rw c.inside.ensures
+    (Walks-bad_key _ (table_view c.entries.table) (g.I.ParsableInput.bytes c.entries.rest) c.in-Err.e c.entries.invariant (omega arith) c.in-Err.ensures)
+
+pub parse_pairs-returns-in-Err-parse_value : goal.parse_pairs-returns-in-Err-parse_value
+parse_pairs-returns-in-Err-parse_value g t c =
+    rw c.inside-in-Err-parse_value.ensures
+    (Walks-bad_value _ (table_view c.entries.table) (g.I.ParsableInput.bytes c.entries.rest) c.in-Ok.read.1 (g.I.ParsableInput.bytes c.in-Ok.read.0) c.in-Err-parse_value.e
+    c.entries.invariant c.in-Ok.ensures c.in-Err-parse_value.ensures.outcome)
+
+pub parse_pairs-entries-smaller : goal.parse_pairs-entries-smaller
+parse_pairs-entries-smaller g t c =
+    let rest = g.I.ParsableInput.bytes c.entries.rest in
+    let behind = g.I.ParsableInput.bytes c.in-Ok.read.0 in
+    let after = g.I.ParsableInput.bytes c.in-Ok-parse_value.read.0 in
+    omega (arith, key_shorter rest c.in-Ok.read.1 behind c.in-Ok.ensures, rest_shorter behind (view c.in-Ok-parse_value.read.1) after c.in-Ok-parse_value.ensures.outcome)
+
+pub parse_pairs-entries-preserved : goal.parse_pairs-entries-preserved
+parse_pairs-entries-preserved g t c =
+    let grown : table_view c.place.new.self ≡ put c.in-Ok.read.1 (view c.in-Ok-parse_value.read.1) (table_view c.entries.table) = search rules in
+    rw grown
+    (Walks-step _ (table_view c.entries.table) (g.I.ParsableInput.bytes c.entries.rest) c.in-Ok.read.1 (g.I.ParsableInput.bytes c.in-Ok.read.0)
+    (view c.in-Ok-parse_value.read.1) _ c.entries.invariant c.in-Ok.ensures c.in-Ok-parse_value.ensures.outcome)
+
+pub parse_pairs-returns : goal.parse_pairs-returns
+parse_pairs-returns g t c =
+    Walks-end (g.I.ParsableInput.bytes c.args.body) (table_view c.entries.table) (g.I.ParsableInput.bytes c.entries.rest) c.entries.invariant (omega arith)
+
 pub parse_value-returns-clause-outcome : goal.parse_value-returns-clause-outcome
 parse_value-returns-clause-outcome g t c =
     typed_answer (g.I.ParsableInput.bytes c.args.i) (g.I.ParsableInput.bytes c.in_ok-i.i) c.in_ok-i.amqp_type c.in_ok-i.ensures
     g.I.ParsableInput.bytes c.parse_raw_value.result c.parse_raw_value.ensures
+
+pub parse_value-returns-clause-bounded : goal.parse_value-returns-clause-bounded
+parse_value-returns-clause-bounded g t c =
+    let bytes = g.I.ParsableInput.bytes in
+    let s = bytes c.args.i in
+    bounded_answer bytes s c.parse_raw_value.result
+    (typed_answer s (bytes c.in_ok-i.i) c.in_ok-i.amqp_type c.in_ok-i.ensures bytes c.parse_raw_value.result c.parse_raw_value.ensures)

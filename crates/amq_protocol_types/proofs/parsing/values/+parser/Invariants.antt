@@ -1,6 +1,7 @@
 use Rattle.std.proofs.Common.{length, map, ◌+◌, ◌*◌}
-use Rattle.amqp_value_core.specs.View.{view, array_items}
+use Rattle.amqp_value_core.specs.View.{view, array_items, table_view}
 use Rattle.amq_protocol_types.proofs.Bodies.{Goes}
+use Rattle.amq_protocol_types.proofs.Pairs.{Walks}
 use Rattle.amq_protocol_types.proofs.parsing.values.+parser.Given as goal
 
 -- a call has a shorter input than its caller, or as long a one and less to do
@@ -22,3 +23,16 @@ invariant-parse_body-entries g l =
 
 abbrev pub decreases-parse_body-entries : goal.decreases-parse_body-entries
 decreases-parse_body-entries g l = length (g.I.ParsableInput.bytes l.rest)
+
+abbrev pub decreases-parse_field_table : goal.decreases-parse_field_table
+decreases-parse_field_table g l = 4 * length (g.I.ParsableInput.bytes l.i) + 1
+
+abbrev pub decreases-parse_pairs : goal.decreases-parse_pairs
+decreases-parse_pairs g l = 4 * length (g.I.ParsableInput.bytes l.body) + 1
+
+abbrev pub invariant-parse_pairs-entries : goal.invariant-parse_pairs-entries
+invariant-parse_pairs-entries g l =
+    Walks (g.I.ParsableInput.bytes l.fn.body) (table_view l.table) (g.I.ParsableInput.bytes l.rest)
+
+abbrev pub decreases-parse_pairs-entries : goal.decreases-parse_pairs-entries
+decreases-parse_pairs-entries g l = length (g.I.ParsableInput.bytes l.rest)
