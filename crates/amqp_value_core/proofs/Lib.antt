@@ -18,3 +18,4 @@ mod OnLiterals
 mod Agreement
 mod Headlines
 pub mod GrammarLaws
+pub mod Copies

@@ -19,3 +19,5 @@ pub mod Canonical
 pub mod Headline
 pub mod Equality
 pub mod Decided
+pub mod Getters
+pub mod Json

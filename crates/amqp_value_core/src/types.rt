@@ -25,11 +25,12 @@ pub use names::{
     LongInt, LongLongInt, LongLongUInt, LongUInt, MAX_SHORT_STRING_LENGTH, MessageCount,
     PayloadSize, ReplyCode, ShortInt, ShortShortInt, ShortShortUInt, ShortUInt, Timestamp, Void,
 };
+use serde::{Deserialize, Serialize};
 pub use short_string::{ShortString, ShortStringError, TryCopyError};
 use std::fmt;
 
 /// The type of an AMQP value.
-#[derive(Clone, Copy, Debug, PartialEq, Eq)]
+#[derive(Clone, Copy, Debug, PartialEq, Eq, Serialize, Deserialize)]
 pub enum AMQPType {
     /// A truth value, a `bool`.
     Boolean,

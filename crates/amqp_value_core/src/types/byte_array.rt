@@ -1,12 +1,14 @@
-ghost use Rattle.std.specs.Prelude.{◌≡◌, [], length, nat_eq};
+ghost use Rattle.std.specs.Prelude.{◌≡◌, [], length, nat_eq, IfOk, IsOk};
 ghost use Rattle.amqp_value_core.specs.Bytes.{array_bytes};
 
-use std::alloc::Global;
+use serde::{Deserialize, Serialize};
+use std::alloc::{AllocError, Global};
 
 /// Bytes of any kind, at most 4294967295 of which can be written.
 ///
 /// Equality and hash are those of its bytes.
-#[derive(Debug, PartialEq, Eq, Hash, Drop)]
+#[derive(Debug, PartialEq, Eq, Hash, Serialize, Deserialize, Drop)]
+#[serde(transparent)]
 pub struct ByteArray {
     bytes: Vec<u8>,
 }
@@ -19,6 +21,19 @@ impl ByteArray {
         ByteArray {
             bytes: Vec::new(alloc),
         }
+    }
+
+    /// A copy of the bytes. No bytes take no memory.
+    pub fn from_slice(alloc: Global, bytes: &[u8]) -> Result<ByteArray, AllocError>
+        ensures bytes { IfOk result (λ a. array_bytes a ≡ bytes.now) }
+        ensures empty { bytes.now ≡ [] → IsOk result }
+    {
+        if bytes.is_empty() {
+            return Ok(ByteArray::new_in(alloc));
+        }
+        Ok(ByteArray {
+            bytes: Vec::from_slice(alloc, bytes)?,
+        })
     }
 
     /// The bytes.

@@ -1,0 +1,37 @@
+-- Copies: a walk over rising entries puts each behind the ones before it.
+use Rattle.std.proofs.Common.{◌≡◌, ℕ, List, [], ◌∷◌, ◌++◌, Less, Greater, refl, ap, ◌∙◌, rules}
+use Rattle.std.proofs.lemmas.Cmp.{nat_list_cmp_total}
+use Rattle.std.specs.Cmp.Lexicographic.{slice_cmp}
+use Rattle.std.specs.List.{AllByRecursion}
+use Rattle.std.specs.List.Sorted.{IsStrictlySortedBy}
+use Rattle.std.specs.Map.{keys_of}
+use Rattle.std.specs.Ordering.{nat_cmp, ordering_reverse}
+use Rattle.amqp_value_core.specs.declared.types.field_table.FieldTable.{FieldTable}
+use Rattle.amqp_value_core.specs.declared.value.AMQPValue.{AMQPValue, the_lemmas}
+use Rattle.amqp_value_core.specs.declared.value.AMQPValue.TheVariants as value
+use Rattle.amqp_value_core.specs.Values.{entry, put, table}
+use Rattle.amqp_value_core.specs.View.{view, entries, table_entries, table_view}
+
+abbrev pub Pair : Type 0
+Pair = List ℕ × AMQPValue
+
+-- where keys rise, the first comes before a later one
+comes_before : (k : List ℕ) (es : List Pair) (e : Pair) (more : List Pair) → AllByRecursion (λ j. slice_cmp nat_cmp k j ≡ Less) (keys_of (es ++ e ∷ more)) → slice_cmp nat_cmp k e.0 ≡ Less
+comes_before k [] e more h = h.0
+comes_before k (x ∷ es) e more h = comes_before k es e more h.1
+
+-- an entry whose key is behind all others is put at the end
+pub put_at_the_end : (done : List Pair) (e : Pair) (more : List Pair) → IsStrictlySortedBy (slice_cmp nat_cmp) (keys_of (done ++ e ∷ more))
+    → put e.0 (view e.1) (entries done) ≡ entries (done ++ e ∷ [])
+unfolding IsStrictlySortedBy
+put_at_the_end [] e more h = refl
+put_at_the_end (first ∷ done) e more h =
+    let behind : slice_cmp nat_cmp e.0 first.0 ≡ Greater =
+    nat_list_cmp_total.antisymm e.0 first.0 ∙ ap ordering_reverse (comes_before first.0 done e more h.0) in
+    rw behind (ap (entry first.0 (view first.1)) (put_at_the_end done e more h.1))
+
+-- two tables are the same value where their entries are
+pub table_again : (v : AMQPValue) (t u : FieldTable) (es : List Pair) → v ≡ value.FieldTable t → es ≡ table_entries t → table_view u ≡ entries es → view (value.FieldTable u) ≡ view v
+table_again v t u es is inner same =
+    let shown : (w : FieldTable) → view (value.FieldTable w) ≡ table (table_view w) = λ w. search (rules, the_lemmas) in
+    rw (is, shown t, shown u, ← inner) (ap table same)

@@ -1,0 +1,26 @@
+use Rattle.std.proofs.Common.{◌≡◌, [], ◌∷◌, ◌++◌, sym, ap, ◌∙◌, subst, append_assoc}
+use Rattle.std.specs.Cmp.Lexicographic.{slice_cmp}
+use Rattle.std.specs.List.Sorted.{IsStrictlySortedBy}
+use Rattle.std.specs.Map.{keys_of}
+use Rattle.std.specs.Ordering.{nat_cmp}
+use Rattle.amqp_value_core.proofs.Copies.{Pair, put_at_the_end, table_again}
+use Rattle.amqp_value_core.proofs.conversions.copies.+copies.Goals as goal
+
+pub copy-returns-in_ok-copy_entries-in-FieldTable :
+    goal.copy-returns-in_ok-copy_entries-in-FieldTable
+copy-returns-in_ok-copy_entries-in-FieldTable t c =
+    table_again c.args.value.now c.in-FieldTable.t c.in_ok-copy_entries-in-FieldTable.field-0 c.inner.result.now.entries c.in-FieldTable.is c.inner.ensures c.in_ok-copy_entries-in-FieldTable.ensures.same
+
+-- the next entry is copied behind those so far
+pub copy_entries-loop-key-preserved : goal.copy_entries-loop-key-preserved
+copy_entries-loop-key-preserved t c =
+    let l = c.loop-key in
+    let done = l.invariant.0 in
+    let e : Pair = (c.in-Some.key.now, c.in-Some.item.now) in
+    let left = c.next.new.self in
+    let all : c.args.map.now.entries ≡ done ++ e ∷ left = l.invariant.1 ∙ ap (λ es. done ++ es) c.in-Some.ensures.steps in
+    let last = put_at_the_end done e left (subst (λ es. IsStrictlySortedBy (slice_cmp nat_cmp) (keys_of es)) all c.iter-key-items.ensures.ordered) in (
+      done ++ e ∷ [],
+      all ∙ sym (append_assoc done (e ∷ []) left),
+      c.in_ok-place.ensures.ok ∙ rw (c.in_ok-name.ensures.same, c.in_ok-copy.ensures, l.invariant.2) last,
+    )

@@ -1,0 +1,8 @@
+//! Between values and the types of their fields.
+
+mod copies;
+mod from;
+mod getters;
+mod json;
+#[cfg(test)]
+mod tests;

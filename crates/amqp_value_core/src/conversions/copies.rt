@@ -1,0 +1,129 @@
+//! `clone`: a copy in memory of its own. It goes as deep as the value nests.
+//!
+//! Where memory is refused, what was copied so far is dropped. What has no bytes, no values and no
+//! entries takes no memory.
+
+ghost use Rattle.std.specs.Prelude.{◌≡◌, [], IfOk, IsOk};
+ghost use Rattle.amqp_value_core.specs.Bytes.{long_bytes, array_bytes};
+ghost use Rattle.amqp_value_core.specs.View.{view, trees, entries, array_items, array_view, table_entries, table_view};
+
+use crate::types::{ByteArray, FieldArray, FieldTable, LongString, ShortString};
+use crate::value::AMQPValue;
+use std::alloc::{AllocError, Global};
+use std::collections::BTreeMap;
+
+impl ShortString {
+    /// A copy of the text. The empty text takes no memory.
+    pub fn clone(&self, alloc: Global) -> Result<ShortString, AllocError>
+        ensures same { IfOk result (λ s. s ≡ self.now) }
+        ensures empty { self.now ≡ [] → IsOk result }
+    {
+        match ShortString::try_copy(alloc, self.as_str()) {
+            Ok(s) => Ok(s),
+            Err(_) => Err(AllocError),
+        }
+    }
+}
+
+impl LongString {
+    /// A copy of the bytes. No bytes take no memory.
+    pub fn clone(&self, alloc: Global) -> Result<LongString, AllocError>
+        ensures same { IfOk result (λ s. long_bytes s ≡ long_bytes self.now) }
+        ensures empty { long_bytes self.now ≡ [] → IsOk result }
+    {
+        LongString::from_slice(alloc, self.as_bytes())
+    }
+}
+
+impl ByteArray {
+    /// A copy of the bytes. No bytes take no memory.
+    pub fn clone(&self, alloc: Global) -> Result<ByteArray, AllocError>
+        ensures same { IfOk result (λ a. array_bytes a ≡ array_bytes self.now) }
+        ensures empty { array_bytes self.now ≡ [] → IsOk result }
+    {
+        ByteArray::from_slice(alloc, self.as_slice())
+    }
+}
+
+impl FieldArray {
+    /// A copy of the array, each value copied. No values take no memory.
+    pub fn clone(&self, alloc: Global) -> Result<FieldArray, AllocError>
+        ensures same { IfOk result (λ a. array_view a ≡ array_view self.now) }
+        ensures empty { array_items self.now ≡ [] → IsOk result }
+    {
+        copy_items(alloc, self.as_slice())
+    }
+}
+
+impl FieldTable {
+    /// A copy of the table, each key and each value copied. No entries take no memory.
+    pub fn clone(&self, alloc: Global) -> Result<FieldTable, AllocError>
+        ensures same { IfOk result (λ t. table_view t ≡ table_view self.now) }
+        ensures empty { table_entries self.now ≡ [] → IsOk result }
+    {
+        copy_entries(alloc, self.inner())
+    }
+}
+
+impl AMQPValue {
+    /// A copy of the value, and of each value in it.
+    pub fn clone(&self, alloc: Global) -> Result<AMQPValue, AllocError>
+        ensures { IfOk result (λ v. view v ≡ view self.now) }
+    {
+        copy(alloc, self)
+    }
+}
+
+#[cycle(copies)]
+fn copy(alloc: Global, value: &AMQPValue) -> Result<AMQPValue, AllocError>
+    ensures { IfOk result (λ v. view v ≡ view value.now) }
+{
+    match value {
+        AMQPValue::Boolean(b) => Ok(AMQPValue::Boolean(*b)),
+        AMQPValue::ShortShortInt(n) => Ok(AMQPValue::ShortShortInt(*n)),
+        AMQPValue::ShortShortUInt(n) => Ok(AMQPValue::ShortShortUInt(*n)),
+        AMQPValue::ShortInt(n) => Ok(AMQPValue::ShortInt(*n)),
+        AMQPValue::ShortUInt(n) => Ok(AMQPValue::ShortUInt(*n)),
+        AMQPValue::LongInt(n) => Ok(AMQPValue::LongInt(*n)),
+        AMQPValue::LongUInt(n) => Ok(AMQPValue::LongUInt(*n)),
+        AMQPValue::LongLongInt(n) => Ok(AMQPValue::LongLongInt(*n)),
+        AMQPValue::Float(n) => Ok(AMQPValue::Float(*n)),
+        AMQPValue::Double(n) => Ok(AMQPValue::Double(*n)),
+        AMQPValue::DecimalValue(n) => Ok(AMQPValue::DecimalValue(*n)),
+        AMQPValue::ShortString(s) => Ok(AMQPValue::ShortString(s.clone(alloc)?)),
+        AMQPValue::LongString(s) => Ok(AMQPValue::LongString(s.clone(alloc)?)),
+        AMQPValue::FieldArray(a) => Ok(AMQPValue::FieldArray(copy_items(alloc, a.as_slice())?)),
+        AMQPValue::Timestamp(n) => Ok(AMQPValue::Timestamp(*n)),
+        AMQPValue::FieldTable(t) => Ok(AMQPValue::FieldTable(copy_entries(alloc, t.inner())?)),
+        AMQPValue::ByteArray(a) => Ok(AMQPValue::ByteArray(a.clone(alloc)?)),
+        AMQPValue::Void => Ok(AMQPValue::Void),
+    }
+}
+
+#[cycle(copies)]
+fn copy_items(alloc: Global, items: &[AMQPValue]) -> Result<FieldArray, AllocError>
+    ensures same { IfOk result (λ a. array_view a ≡ trees items.now) }
+    ensures empty { items.now ≡ [] → IsOk result }
+{
+    let mut copies = FieldArray::new_in(alloc);
+    for item in items {
+        copies.push(copy(alloc, item)?)?;
+    }
+    Ok(copies)
+}
+
+#[cycle(copies)]
+fn copy_entries(
+    alloc: Global,
+    map: &BTreeMap<ShortString, AMQPValue>,
+) -> Result<FieldTable, AllocError>
+    ensures same { IfOk result (λ t. table_view t ≡ entries map.now.entries) }
+    ensures empty { map.now.entries ≡ [] → IsOk result }
+{
+    let mut copies = FieldTable::new_in(alloc);
+    for (key, item) in map.iter() {
+        let name = key.clone(alloc)?;
+        copies.place(name, copy(alloc, item)?)?;
+    }
+    Ok(copies)
+}

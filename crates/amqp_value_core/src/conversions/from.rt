@@ -1,0 +1,228 @@
+//! A value of a field: each type of a field goes to its own variant, and a `u64` to `Timestamp`.
+
+use crate::types::{
+    ByteArray, DecimalValue, Double, FieldArray, FieldTable, Float, LongString, ShortString,
+};
+use crate::value::AMQPValue;
+
+impl From<bool> for AMQPValue {
+    ghost use Rattle.std.specs.Prelude.{◌≡◌};
+    ghost use Rattle.amqp_value_core.specs.Values.{boolean, scalar};
+    ghost use Rattle.amqp_value_core.specs.View.{view};
+
+    ghost from_gives = { λ b value. view value ≡ scalar (boolean b) };
+
+    fn from(field: bool) -> AMQPValue {
+        AMQPValue::Boolean(field)
+    }
+}
+
+impl From<i8> for AMQPValue {
+    ghost use Rattle.std.specs.Prelude.{◌≡◌};
+    ghost use Rattle.std.specs.Int.{w8, cast_unsigned};
+    ghost use Rattle.amqp_value_core.specs.declared.types.AMQPType.TheVariants as amqp;
+    ghost use Rattle.amqp_value_core.specs.Values.{number, scalar};
+    ghost use Rattle.amqp_value_core.specs.View.{view};
+
+    ghost from_gives = { λ z value. view value ≡ scalar (number amqp.ShortShortInt (cast_unsigned w8 z)) };
+
+    fn from(field: i8) -> AMQPValue {
+        AMQPValue::ShortShortInt(field)
+    }
+}
+
+impl From<u8> for AMQPValue {
+    ghost use Rattle.std.specs.Prelude.{◌≡◌};
+    ghost use Rattle.amqp_value_core.specs.declared.types.AMQPType.TheVariants as amqp;
+    ghost use Rattle.amqp_value_core.specs.Values.{number, scalar};
+    ghost use Rattle.amqp_value_core.specs.View.{view};
+
+    ghost from_gives = { λ n value. view value ≡ scalar (number amqp.ShortShortUInt n) };
+
+    fn from(field: u8) -> AMQPValue {
+        AMQPValue::ShortShortUInt(field)
+    }
+}
+
+impl From<i16> for AMQPValue {
+    ghost use Rattle.std.specs.Prelude.{◌≡◌};
+    ghost use Rattle.std.specs.Int.{w16, cast_unsigned};
+    ghost use Rattle.amqp_value_core.specs.declared.types.AMQPType.TheVariants as amqp;
+    ghost use Rattle.amqp_value_core.specs.Values.{number, scalar};
+    ghost use Rattle.amqp_value_core.specs.View.{view};
+
+    ghost from_gives = { λ z value. view value ≡ scalar (number amqp.ShortInt (cast_unsigned w16 z)) };
+
+    fn from(field: i16) -> AMQPValue {
+        AMQPValue::ShortInt(field)
+    }
+}
+
+impl From<u16> for AMQPValue {
+    ghost use Rattle.std.specs.Prelude.{◌≡◌};
+    ghost use Rattle.amqp_value_core.specs.declared.types.AMQPType.TheVariants as amqp;
+    ghost use Rattle.amqp_value_core.specs.Values.{number, scalar};
+    ghost use Rattle.amqp_value_core.specs.View.{view};
+
+    ghost from_gives = { λ n value. view value ≡ scalar (number amqp.ShortUInt n) };
+
+    fn from(field: u16) -> AMQPValue {
+        AMQPValue::ShortUInt(field)
+    }
+}
+
+impl From<i32> for AMQPValue {
+    ghost use Rattle.std.specs.Prelude.{◌≡◌};
+    ghost use Rattle.std.specs.Int.{w32, cast_unsigned};
+    ghost use Rattle.amqp_value_core.specs.declared.types.AMQPType.TheVariants as amqp;
+    ghost use Rattle.amqp_value_core.specs.Values.{number, scalar};
+    ghost use Rattle.amqp_value_core.specs.View.{view};
+
+    ghost from_gives = { λ z value. view value ≡ scalar (number amqp.LongInt (cast_unsigned w32 z)) };
+
+    fn from(field: i32) -> AMQPValue {
+        AMQPValue::LongInt(field)
+    }
+}
+
+impl From<u32> for AMQPValue {
+    ghost use Rattle.std.specs.Prelude.{◌≡◌};
+    ghost use Rattle.amqp_value_core.specs.declared.types.AMQPType.TheVariants as amqp;
+    ghost use Rattle.amqp_value_core.specs.Values.{number, scalar};
+    ghost use Rattle.amqp_value_core.specs.View.{view};
+
+    ghost from_gives = { λ n value. view value ≡ scalar (number amqp.LongUInt n) };
+
+    fn from(field: u32) -> AMQPValue {
+        AMQPValue::LongUInt(field)
+    }
+}
+
+impl From<i64> for AMQPValue {
+    ghost use Rattle.std.specs.Prelude.{◌≡◌};
+    ghost use Rattle.std.specs.Int.{w64, cast_unsigned};
+    ghost use Rattle.amqp_value_core.specs.declared.types.AMQPType.TheVariants as amqp;
+    ghost use Rattle.amqp_value_core.specs.Values.{number, scalar};
+    ghost use Rattle.amqp_value_core.specs.View.{view};
+
+    ghost from_gives = { λ z value. view value ≡ scalar (number amqp.LongLongInt (cast_unsigned w64 z)) };
+
+    fn from(field: i64) -> AMQPValue {
+        AMQPValue::LongLongInt(field)
+    }
+}
+
+impl From<Float> for AMQPValue {
+    ghost use Rattle.std.specs.Prelude.{◌≡◌};
+    ghost use Rattle.amqp_value_core.specs.declared.types.AMQPType.TheVariants as amqp;
+    ghost use Rattle.amqp_value_core.specs.Values.{number, scalar};
+    ghost use Rattle.amqp_value_core.specs.Numbers.{float_bits};
+    ghost use Rattle.amqp_value_core.specs.View.{view};
+
+    ghost from_gives = { λ f value. view value ≡ scalar (number amqp.Float (float_bits f)) };
+
+    fn from(field: Float) -> AMQPValue {
+        AMQPValue::Float(field)
+    }
+}
+
+impl From<Double> for AMQPValue {
+    ghost use Rattle.std.specs.Prelude.{◌≡◌};
+    ghost use Rattle.amqp_value_core.specs.declared.types.AMQPType.TheVariants as amqp;
+    ghost use Rattle.amqp_value_core.specs.Values.{number, scalar};
+    ghost use Rattle.amqp_value_core.specs.Numbers.{double_bits};
+    ghost use Rattle.amqp_value_core.specs.View.{view};
+
+    ghost from_gives = { λ f value. view value ≡ scalar (number amqp.Double (double_bits f)) };
+
+    fn from(field: Double) -> AMQPValue {
+        AMQPValue::Double(field)
+    }
+}
+
+impl From<DecimalValue> for AMQPValue {
+    ghost use Rattle.std.specs.Prelude.{◌≡◌};
+    ghost use Rattle.amqp_value_core.specs.Values.{decimal, scalar};
+    ghost use Rattle.amqp_value_core.specs.View.{view};
+
+    ghost from_gives = { λ d value. view value ≡ scalar (decimal d.scale d.value) };
+
+    fn from(field: DecimalValue) -> AMQPValue {
+        AMQPValue::DecimalValue(field)
+    }
+}
+
+impl From<ShortString> for AMQPValue {
+    ghost use Rattle.std.specs.Prelude.{◌≡◌};
+    ghost use Rattle.amqp_value_core.specs.Values.{short};
+    ghost use Rattle.amqp_value_core.specs.View.{view};
+
+    ghost from_gives = { λ s value. view value ≡ short s };
+
+    fn from(field: ShortString) -> AMQPValue {
+        AMQPValue::ShortString(field)
+    }
+}
+
+impl From<LongString> for AMQPValue {
+    ghost use Rattle.std.specs.Prelude.{◌≡◌};
+    ghost use Rattle.amqp_value_core.specs.Values.{long};
+    ghost use Rattle.amqp_value_core.specs.Bytes.{long_bytes};
+    ghost use Rattle.amqp_value_core.specs.View.{view};
+
+    ghost from_gives = { λ s value. view value ≡ long (long_bytes s) };
+
+    fn from(field: LongString) -> AMQPValue {
+        AMQPValue::LongString(field)
+    }
+}
+
+impl From<FieldArray> for AMQPValue {
+    ghost use Rattle.std.specs.Prelude.{◌≡◌};
+    ghost use Rattle.amqp_value_core.specs.Values.{array};
+    ghost use Rattle.amqp_value_core.specs.View.{view, array_view};
+
+    ghost from_gives = { λ a value. view value ≡ array (array_view a) };
+
+    fn from(field: FieldArray) -> AMQPValue {
+        AMQPValue::FieldArray(field)
+    }
+}
+
+impl From<u64> for AMQPValue {
+    ghost use Rattle.std.specs.Prelude.{◌≡◌};
+    ghost use Rattle.amqp_value_core.specs.declared.types.AMQPType.TheVariants as amqp;
+    ghost use Rattle.amqp_value_core.specs.Values.{number, scalar};
+    ghost use Rattle.amqp_value_core.specs.View.{view};
+
+    ghost from_gives = { λ n value. view value ≡ scalar (number amqp.Timestamp n) };
+
+    fn from(field: u64) -> AMQPValue {
+        AMQPValue::Timestamp(field)
+    }
+}
+
+impl From<FieldTable> for AMQPValue {
+    ghost use Rattle.std.specs.Prelude.{◌≡◌};
+    ghost use Rattle.amqp_value_core.specs.Values.{table};
+    ghost use Rattle.amqp_value_core.specs.View.{view, table_view};
+
+    ghost from_gives = { λ t value. view value ≡ table (table_view t) };
+
+    fn from(field: FieldTable) -> AMQPValue {
+        AMQPValue::FieldTable(field)
+    }
+}
+
+impl From<ByteArray> for AMQPValue {
+    ghost use Rattle.std.specs.Prelude.{◌≡◌};
+    ghost use Rattle.amqp_value_core.specs.Values.{octets};
+    ghost use Rattle.amqp_value_core.specs.Bytes.{array_bytes};
+    ghost use Rattle.amqp_value_core.specs.View.{view};
+
+    ghost from_gives = { λ a value. view value ≡ octets (array_bytes a) };
+
+    fn from(field: ByteArray) -> AMQPValue {
+        AMQPValue::ByteArray(field)
+    }
+}
