@@ -4,3 +4,5 @@ pub mod Outputs
 pub mod Slices
 pub mod Contexts
 pub mod Written
+pub mod Vectors
+pub mod Devices

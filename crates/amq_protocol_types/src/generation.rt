@@ -4,6 +4,7 @@
 //! buffer. None of them asks for memory of its own.
 
 mod context;
+mod device;
 mod error;
 mod output;
 mod scalars;
@@ -12,8 +13,10 @@ mod strings;
 #[cfg(test)]
 mod tests;
 mod values;
+mod vector;
 
 pub use context::WriteContext;
+pub use device::IoOutput;
 pub use error::{GenError, GenResult};
 pub use output::{BackToTheBuffer, Output};
 pub use scalars::{
