@@ -6,3 +6,4 @@ pub mod Contexts
 pub mod Written
 pub mod Vectors
 pub mod Devices
+pub mod Lengths

@@ -14,6 +14,7 @@ mod strings;
 mod tests;
 mod values;
 mod vector;
+mod with_len;
 
 pub use context::WriteContext;
 pub use device::IoOutput;
@@ -27,3 +28,4 @@ pub use scalars::{
 pub use slice::SliceOutput;
 pub use strings::{gen_byte_array, gen_long_string, gen_short_string};
 pub use values::{gen_field_array, gen_field_table, gen_raw_value, gen_value};
+pub use with_len::gen_with_len;
