@@ -1,5 +1,7 @@
 //! Inputs and what they are read as, from the format's own numbers.
 
+mod split;
+
 ghost use Rattle.std.specs.Prelude.{replicate};
 
 use super::errors::refused;
