@@ -33,7 +33,8 @@ impl<W: Write> IoOutput<W> {
     pub fn into_inner(self) -> W
         ensures { result ≡ device_of self }
     {
-        self.device
+        let IoOutput { device, .. } = self;
+        device
     }
 }
 
@@ -70,6 +71,7 @@ impl<W: Write> Output for IoOutput<W> {
             (seen_device W.contents self.old) result (seen_device W.contents self.new) }
         ensures ok { IsOk result }
     {
+        // a device has no room to make
         Ok(())
     }
 

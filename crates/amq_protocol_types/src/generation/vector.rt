@@ -25,16 +25,14 @@ impl Output for Vec<u8> {
         ensures put { Puts true bytes.now (seen_vector self.old) result (seen_vector self.new) }
         ensures refused { IfErr result (λ e. e ≡ OutOfMemory) }
     {
-        self.extend_from_slice(bytes)?;
-        Ok(())
+        Ok(self.extend_from_slice(bytes)?)
     }
 
     fn make_room(&mut self, n: usize) -> GenResult
         ensures made { MakesRoom true n (seen_vector self.old) result (seen_vector self.new) }
         ensures refused { IfErr result (λ e. e ≡ OutOfMemory) }
     {
-        self.try_reserve(n)?;
-        Ok(())
+        Ok(self.try_reserve(n)?)
     }
 
     fn position(&self) -> u64 {

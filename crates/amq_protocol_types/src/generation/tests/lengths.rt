@@ -4,13 +4,15 @@ use super::super::*;
 use crate::AMQPType;
 use std::test::Fail;
 
+// Puts one byte behind two lengths.
+fn put_behind_two_lengths<W: BackToTheBuffer>(x: &mut WriteContext<W>) -> GenResult {
+    gen_with_len(|y| gen_with_len(|z| z.put(&[7]), y), x)
+}
+
 #[test]
 fn lengths_nest(rt: HostRuntime) -> Result<(), Fail> {
     let mut x = WriteContext::from(Vec::new(rt.alloc()));
-    assert_eq!(rt;
-        gen_with_len(|y| gen_with_len(|z| z.put(&[7]), y), &mut x),
-        Ok(())
-    );
+    assert_eq!(rt; put_behind_two_lengths(&mut x), Ok(()));
     assert_eq!(rt;
         x.into_inner().0.as_slice(),
         [0, 0, 0, 5, 0, 0, 0, 1, 7].as_slice()
