@@ -4,6 +4,7 @@
 //! buffer. None of them asks for memory of its own.
 
 mod context;
+mod device;
 mod error;
 mod output;
 mod scalars;
@@ -12,8 +13,11 @@ mod strings;
 #[cfg(test)]
 mod tests;
 mod values;
+mod vector;
+mod with_len;
 
 pub use context::WriteContext;
+pub use device::IoOutput;
 pub use error::{GenError, GenResult};
 pub use output::{BackToTheBuffer, Output};
 pub use scalars::{
@@ -24,3 +28,4 @@ pub use scalars::{
 pub use slice::SliceOutput;
 pub use strings::{gen_byte_array, gen_long_string, gen_short_string};
 pub use values::{gen_field_array, gen_field_table, gen_raw_value, gen_value};
+pub use with_len::gen_with_len;

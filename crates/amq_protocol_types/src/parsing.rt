@@ -7,7 +7,7 @@ mod strings;
 pub mod traits;
 mod values;
 
-pub use amqp_value_core::input::SliceInput;
+pub use amqp_value_core::input::{SliceInput, SplitInput};
 pub use errors::{Err, ErrorKind, Needed, ParserError, ParserErrors, ParserResult};
 pub use scalars::{
     parse_boolean, parse_decimal_value, parse_double, parse_float, parse_id, parse_long_int,

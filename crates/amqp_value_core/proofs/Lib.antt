@@ -1,4 +1,5 @@
 mod Fronts
+mod Splits
 mod Bytes
 mod Headers
 mod Unique

@@ -14,6 +14,7 @@ pub mod Numbers
 pub mod Bytes
 pub mod View
 pub mod Inputs
+pub mod Splits
 pub mod Lending
 pub mod Canonical
 pub mod Headline

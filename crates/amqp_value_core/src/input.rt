@@ -3,6 +3,10 @@
 ghost use Rattle.std.specs.Prelude.{◌≡◌, ◌<◌, ◌≤◌, List, ℕ, length, slice_index, take, drop};
 ghost use Rattle.amqp_value_core.specs.Fronts.{IsFront};
 
+mod split;
+
+pub use split::SplitInput;
+
 /// Bytes that a parser reads. It is seen as a list of bytes, and its calls take no memory and copy
 /// no byte.
 ///

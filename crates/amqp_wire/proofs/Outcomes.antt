@@ -6,10 +6,10 @@ use Rattle.amqp_value_core.proofs.GrammarLaws.{outcome_is}
 use Rattle.amqp_wire.specs.Lines.{said}
 
 -- what a slice of bytes shows are bytes
-bytes_fit : (s : List ℕ) → ((i : ℕ) → Fits w8 (slice_index s i)) → IsBytes s
+pub bytes_fit : (s : List ℕ) → ((i : ℕ) → Fits w8 (slice_index s i)) → IsBytes s
 bytes_fit [] fit = tt
 bytes_fit (c ∷ s) fit = ((fit 0).fits, bytes_fit s (λ i. fit (suc i)))
 
--- what is said of an outcome of a slice's bytes is what is said of the one that is computed
-pub said_of_outcome : (s : List ℕ) (o : Reading) → ((i : ℕ) → Fits w8 (slice_index s i)) → Outcome s o → said o ≡ said (outcome s)
-said_of_outcome s o fit here = ap said ((outcome_is s o (bytes_fit s fit)).0 here)
+-- what is said of an outcome of bytes is what is said of the one that is computed
+pub said_of_outcome : (s : List ℕ) (o : Reading) → IsBytes s → Outcome s o → said o ≡ said (outcome s)
+said_of_outcome s o fit here = ap said ((outcome_is s o fit).0 here)

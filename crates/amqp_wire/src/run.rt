@@ -5,7 +5,7 @@ ghost use Rattle.std.specs.Io.KnownBytes.{Appends, IsAtEnd};
 ghost use Rattle.amqp_wire.specs.Lines.{output, AppendsFront};
 
 use crate::fault::WireFault;
-use crate::line::ended_answer_to;
+use crate::line::{Form, ended_answer_to};
 use bstr::ByteSlice;
 use std::alloc::Global;
 use std::io::{Read, Write};
@@ -23,18 +23,56 @@ pub fn run<R: Read, W: Write>(
         (λ xs. AppendsFront (W.contents writer.old) (W.contents writer.new) (output xs))) }
     ensures end { OnOk result (IsAtEnd (R.remaining reader.new)) }
 {
+    run_in_form(alloc, reader, writer, Form::Whole)
+}
+
+/// Does what `run` does, and hands the parser the bytes of each line as two slices, cut after `at`
+/// bytes, or after the last where there are fewer.
+pub fn run_split<R: Read, W: Write>(
+    alloc: Global,
+    reader: &mut R,
+    writer: &mut W,
+    at: usize,
+) -> Result<(), WireFault>
+    ensures ok { OnOk result (IfSome (R.remaining reader.old)
+        (λ xs. Appends (W.contents writer.old) (W.contents writer.new) (output xs))) }
+    ensures err { OnErr result (IfSome (R.remaining reader.old)
+        (λ xs. AppendsFront (W.contents writer.old) (W.contents writer.new) (output xs))) }
+    ensures end { OnOk result (IsAtEnd (R.remaining reader.new)) }
+{
+    run_in_form(alloc, reader, writer, Form::Split(at))
+}
+
+/// Reads all that the reader has, and answers each line of it.
+fn run_in_form<R: Read, W: Write>(
+    alloc: Global,
+    reader: &mut R,
+    writer: &mut W,
+    form: Form,
+) -> Result<(), WireFault>
+    ensures ok { OnOk result (IfSome (R.remaining reader.old)
+        (λ xs. Appends (W.contents writer.old) (W.contents writer.new) (output xs))) }
+    ensures err { OnErr result (IfSome (R.remaining reader.old)
+        (λ xs. AppendsFront (W.contents writer.old) (W.contents writer.new) (output xs))) }
+    ensures end { OnOk result (IsAtEnd (R.remaining reader.new)) }
+{
     let mut input = Vec::new(alloc);
     reader.read_to_end(&mut input)?;
-    write_answers(alloc, input.as_slice(), writer)
+    write_answers(alloc, input.as_slice(), writer, form)
 }
 
 /// Writes the answers to the lines of `input`.
-fn write_answers<W: Write>(alloc: Global, input: &[u8], writer: &mut W) -> Result<(), WireFault>
+fn write_answers<W: Write>(
+    alloc: Global,
+    input: &[u8],
+    writer: &mut W,
+    form: Form,
+) -> Result<(), WireFault>
     ensures ok { OnOk result (Appends (W.contents writer.old) (W.contents writer.new) (output input.now)) }
     ensures err { OnErr result (AppendsFront (W.contents writer.old) (W.contents writer.new) (output input.now)) }
 {
     for line in input.lines() {
-        let answer = ended_answer_to(alloc, line)?;
+        let answer = ended_answer_to(alloc, line, form)?;
         write_out(answer.as_slice(), writer)?;
     }
     Ok(())

@@ -1,7 +1,7 @@
 mod integration;
 
 use crate::fault::WireFault;
-use crate::run::run;
+use crate::run::{run, run_split};
 use std::alloc::Global;
 use std::fmt::Display;
 use std::io;
@@ -116,6 +116,18 @@ fn answers_lines_in_order(rt: HostRuntime) -> Result<(), Fail> {
     let want = "value 56 rest 0\nmore 1\nrefused MapOpt\nvalue 56 rest 0\n";
     assert_eq!(rt; out.as_slice(), want.as_bytes());
     assert!(rt; written(rt.alloc(), "")?.is_empty());
+    Ok(())
+}
+
+#[test]
+fn answers_over_a_cut(rt: HostRuntime) -> Result<(), Fail> {
+    for at in [0, 3, 8, 99] {
+        let mut out = Vec::new(rt.alloc());
+        let mut input = "4100000003740756".as_bytes();
+        assert_eq!(rt; run_split(rt.alloc(), &mut input, &mut out, at), Ok(()));
+        let want = "value 4100000003740156 rest 0\n";
+        assert_eq!(rt; out.as_slice(), want.as_bytes(), "cut after {at}");
+    }
     Ok(())
 }
 

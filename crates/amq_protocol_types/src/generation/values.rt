@@ -153,7 +153,7 @@ fn gen_entry<W: BackToTheBuffer>(
 }
 
 // Fills in how many bytes stand behind the four from `at` on, or takes all from `at` on back.
-fn fill_length<W: BackToTheBuffer>(at: u64, x: &mut WriteContext<W>) -> GenResult
+pub(super) fn fill_length<W: BackToTheBuffer>(at: u64, x: &mut WriteContext<W>) -> GenResult
     requires { at + 4 ≤ (shown W.seen x.old).at }
     ensures filled { FillsLength at (shown W.seen x.old) result (shown W.seen x.new) }
     ensures start { start_of x.new ≡ start_of x.old }

@@ -1,5 +1,7 @@
 //! Inputs and what they are read as, from the format's own numbers.
 
+mod split;
+
 use super::errors::refused;
 use super::traits::ParsableInput;
 use super::*;

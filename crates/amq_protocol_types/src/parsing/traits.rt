@@ -1,4 +1,4 @@
 //! What the parsers are generic over.
 
 pub use super::errors::Needed;
-pub use amqp_value_core::input::{ParsableInput, SliceInput};
+pub use amqp_value_core::input::{ParsableInput, SliceInput, SplitInput};

@@ -1,6 +1,9 @@
 //! A table with an entry of nearly every type, written and read back.
 
-use amq_protocol_types::generation::{GenError, SliceOutput, WriteContext, gen_value};
+use crate::run::run_split;
+use amq_protocol_types::generation::{
+    BackToTheBuffer, GenError, GenResult, Output, SliceOutput, WriteContext, gen_value,
+};
 use amq_protocol_types::parsing::traits::ParsableInput;
 use amq_protocol_types::parsing::{SliceInput, parse_value};
 use amq_protocol_types::{
@@ -152,5 +155,88 @@ fn is_read_back(rt: HostRuntime) -> Result<(), Fail> {
     };
     assert_eq!(rt; rest.input_len(), 0);
     assert!(rt; read == value);
+    Ok(())
+}
+
+/// A vector, with a count of the reserved places and of those that are filled.
+#[derive(Drop)]
+struct Counting {
+    inner: Vec<u8>,
+    reserved: u8,
+    filled: u8,
+}
+
+impl Output for Counting {
+    ghost use Rattle.std.specs.Prelude.{true};
+    ghost use Rattle.amq_protocol_types.specs.Vectors.{seen_vector};
+
+    ghost is_buffer = { true };
+
+    ghost seen = { λ c. seen_vector c.inner };
+
+    fn put(&mut self, bytes: &[u8]) -> GenResult {
+        self.inner.put(bytes)
+    }
+
+    fn make_room(&mut self, n: usize) -> GenResult {
+        self.inner.make_room(n)
+    }
+
+    fn position(&self) -> u64 {
+        self.inner.position()
+    }
+
+    fn faults(&self) -> u64 {
+        self.inner.faults()
+    }
+}
+
+impl BackToTheBuffer for Counting {
+    ghost use Rattle.std.specs.Prelude.{refl};
+
+    ghost is_one = { refl };
+
+    ghost whole = { λ s. record { told = refl; counted = refl; tail = tt } };
+
+    fn reserve(&mut self, n: usize) -> Result<u64, GenError> {
+        self.reserved = self.reserved.saturating_add(1);
+        BackToTheBuffer::reserve(&mut self.inner, n)
+    }
+
+    fn fill(&mut self, at: u64, bytes: &[u8]) {
+        self.filled = self.filled.saturating_add(1);
+        BackToTheBuffer::fill(&mut self.inner, at, bytes)
+    }
+
+    fn back_to(&mut self, at: u64) {
+        self.inner.back_to(at)
+    }
+}
+
+#[test]
+fn has_a_length_for_each_container(rt: HostRuntime) -> Result<(), Fail> {
+    let value = table(rt.alloc())?;
+    let mut context = WriteContext::from(Counting {
+        inner: Vec::new(rt.alloc()),
+        reserved: 0,
+        filled: 0,
+    });
+    assert_eq!(rt; gen_value(&value, &mut context), Ok(()));
+    let (output, _) = context.into_inner();
+    assert_eq!(rt; output.inner.as_slice(), TEXT.as_slice());
+    assert_eq!(rt; (output.reserved, output.filled), (5, 5));
+    Ok(())
+}
+
+#[test]
+fn is_read_over_each_cut(rt: HostRuntime) -> Result<(), Fail> {
+    let hex = hex::encode(rt.alloc(), TEXT.as_slice())?;
+    let want = format!(in rt.alloc(); "value {hex} rest 0\n")?;
+    for at in 0..200 {
+        let mut out = Vec::new(rt.alloc());
+        let answer = run_split(rt.alloc(), &mut hex.as_bytes(), &mut out, at);
+        assert_eq!(rt; answer, Ok(()));
+        assert_eq!(rt; out.as_slice(), want.as_bytes(), "cut after {at}");
+    }
     Ok(())
 }
