@@ -12,3 +12,4 @@ pub mod Texts
 pub mod Arrays
 pub mod WhatWasRead
 pub mod Tables
+pub mod FlagBits

@@ -4,3 +4,4 @@ pub mod Outputs
 pub mod Slices
 pub mod Contexts
 pub mod Written
+pub mod Flags
