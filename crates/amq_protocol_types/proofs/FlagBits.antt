@@ -10,22 +10,22 @@ use Rattle.std.specs.Int.{bit_at}
 use Rattle.std.proofs.lemmas.Bool.{cases_lt}
 use Rattle.std.proofs.lemmas.List.{take_more, at_drop_more, map-append, length-map, length-take-le, nil_from_length, take-append-drop, take_at, drop_at, drop-drop}
 use Rattle.amqp_value_core.specs.Maps.{same_bytes}
-use Rattle.amq_protocol_types.specs.Flags.{Flag, shown, names_of, values_of, flag_named, bytes_for, number_of, packed, pack, low_bits, bits, unpack, AreFlagsRead, AreFlagsReadBack}
+use Rattle.amq_protocol_types.specs.Flags.{Flag, listed, names_of, values_of, flag_named, bytes_for, number_of, packed, pack, low_bits, bits, unpack, AreFlagsRead, AreFlagsReadBack}
 
 -- the next flag decides, or the flags behind it do
-named_more : (name : List ℕ) (fs : List (String Global × Bool)) (i : ℕ) (f : String Global × Bool) → i < length fs → f ≡ get_or fs i f → flag_named name (shown (drop i fs)) ≡ (if same_bytes (string_bytes f.0) name then Some f.1 else flag_named name (shown (drop (i + 1) fs)))
+named_more : (name : List ℕ) (fs : List (String Global × Bool)) (i : ℕ) (f : String Global × Bool) → i < length fs → f ≡ get_or fs i f → flag_named name (listed (drop i fs)) ≡ (if same_bytes (string_bytes f.0) name then Some f.1 else flag_named name (listed (drop (i + 1) fs)))
 named_more name fs i f few is =
-    at_drop_more (λ l. flag_named name (shown l)) fs i f few ∙ ap (λ g. flag_named name (shown (g ∷ drop (i + 1) fs))) (sym is)
+    at_drop_more (λ l. flag_named name (listed l)) fs i f few ∙ ap (λ g. flag_named name (listed (g ∷ drop (i + 1) fs))) (sym is)
 
-pub named_here : (name : List ℕ) (fs : List (String Global × Bool)) (i : ℕ) (f : String Global × Bool) (t : List ℕ) (all : Option Bool) → i < length fs → f ≡ get_or fs i f → t ≡ string_bytes f.0 → true ≡ same_bytes t name → flag_named name (shown (drop i fs)) ≡ all → Some f.1 ≡ all
+pub named_here : (name : List ℕ) (fs : List (String Global × Bool)) (i : ℕ) (f : String Global × Bool) (t : List ℕ) (all : Option Bool) → i < length fs → f ≡ get_or fs i f → t ≡ string_bytes f.0 → true ≡ same_bytes t name → flag_named name (listed (drop i fs)) ≡ all → Some f.1 ≡ all
 named_here name fs i f t all few is text same left =
     let here : true ≡ same_bytes (string_bytes f.0) name = same ∙ ap (λ l. same_bytes l name) text in
-    ap (λ b. if b then Some f.1 else flag_named name (shown (drop (i + 1) fs))) here ∙ sym (named_more name fs i f few is) ∙ left
+    ap (λ b. if b then Some f.1 else flag_named name (listed (drop (i + 1) fs))) here ∙ sym (named_more name fs i f few is) ∙ left
 
-pub named_behind : (name : List ℕ) (fs : List (String Global × Bool)) (i : ℕ) (f : String Global × Bool) (t : List ℕ) (all : Option Bool) → i < length fs → f ≡ get_or fs i f → t ≡ string_bytes f.0 → false ≡ same_bytes t name → flag_named name (shown (drop i fs)) ≡ all → flag_named name (shown (drop (i + 1) fs)) ≡ all
+pub named_behind : (name : List ℕ) (fs : List (String Global × Bool)) (i : ℕ) (f : String Global × Bool) (t : List ℕ) (all : Option Bool) → i < length fs → f ≡ get_or fs i f → t ≡ string_bytes f.0 → false ≡ same_bytes t name → flag_named name (listed (drop i fs)) ≡ all → flag_named name (listed (drop (i + 1) fs)) ≡ all
 named_behind name fs i f t all few is text other left =
     let here : false ≡ same_bytes (string_bytes f.0) name = other ∙ ap (λ l. same_bytes l name) text in
-    ap (λ b. if b then Some f.1 else flag_named name (shown (drop (i + 1) fs))) here ∙ sym (named_more name fs i f few is) ∙ left
+    ap (λ b. if b then Some f.1 else flag_named name (listed (drop (i + 1) fs))) here ∙ sym (named_more name fs i f few is) ∙ left
 
 -- one bit more, at its place
 number_push : (bs : List Bool) (b : Bool) → number_of (bs ++ b ∷ []) ≡ number_of bs + 2 ^ length bs * (if b then 1 else 0)
@@ -40,16 +40,16 @@ number_push (x ∷ xs) false =
     omega arith
 
 -- the number of the flags so far and the next
-pub next_bit : (fs : List (String Global × Bool)) (i byte : ℕ) (f : String Global × Bool) → i < length fs → f ≡ get_or fs i f → byte ≡ number_of (values_of (shown (take i fs))) → number_of (values_of (shown (take (i + 1) fs))) ≡ byte + 2 ^ i * (if f.1 then 1 else 0)
+pub next_bit : (fs : List (String Global × Bool)) (i byte : ℕ) (f : String Global × Bool) → i < length fs → f ≡ get_or fs i f → byte ≡ number_of (values_of (listed (take i fs))) → number_of (values_of (listed (take (i + 1) fs))) ≡ byte + 2 ^ i * (if f.1 then 1 else 0)
 next_bit fs i byte f lt is so_far =
     let front = take i fs in
-    let long : length (values_of (shown front)) ≡ i = length-map (shown front) _ ∙ length-map front _ ∙ length-take-le i fs (omega arith) in
-    let cut : values_of (shown (take (i + 1) fs)) ≡ values_of (shown front) ++ f.1 ∷ [] =
-    ap (λ l. values_of (shown l)) (take_more fs i f lt)
+    let long : length (values_of (listed front)) ≡ i = length-map (listed front) _ ∙ length-map front _ ∙ length-take-le i fs (omega arith) in
+    let cut : values_of (listed (take (i + 1) fs)) ≡ values_of (listed front) ++ f.1 ∷ [] =
+    ap (λ l. values_of (listed l)) (take_more fs i f lt)
     ∙ ap values_of (map-append _ front _)
-    ∙ map-append _ (shown front) _
-    ∙ ap (λ (g : String Global × Bool). values_of (shown front) ++ g.1 ∷ []) (sym is) in
-    ap number_of cut ∙ number_push (values_of (shown front)) f.1 ∙ (λ k. sym so_far k + 2 ^ long k * (if f.1 then 1 else 0))
+    ∙ map-append _ (listed front) _
+    ∙ ap (λ (g : String Global × Bool). values_of (listed front) ++ g.1 ∷ []) (sym is) in
+    ap number_of cut ∙ number_push (values_of (listed front)) f.1 ∙ (λ k. sym so_far k + 2 ^ long k * (if f.1 then 1 else 0))
 
 -- the next bit is set, or it isn't
 pub bit_set : (i byte more all : ℕ) (b : Bool) → i < 8 → byte < 2 ^ i → all ≡ byte + 2 ^ i * (if b then 1 else 0) → b ≡ true → more ≡ byte + 1 * 2 ^ i % 256 → (more ≡ all) × (more < 2 ^ (i + 1))
@@ -92,12 +92,12 @@ pack_chunk bs cs rs parts size some =
     pack_cut bs some ∙ (λ i. number_of (cut.0 i) ∷ pack (cut.1 i))
 
 -- the same of flags as they stand in memory
-pub flags_chunk : (all eight rest : List (String Global × Bool)) (n : ℕ) → n ≡ 8 → all ≡ eight ++ rest → length eight ≡ min n (length all) → 0 < length all → pack (values_of (shown all)) ≡ number_of (values_of (shown eight)) ∷ pack (values_of (shown rest))
+pub flags_chunk : (all eight rest : List (String Global × Bool)) (n : ℕ) → n ≡ 8 → all ≡ eight ++ rest → length eight ≡ min n (length all) → 0 < length all → pack (values_of (listed all)) ≡ number_of (values_of (listed eight)) ∷ pack (values_of (listed rest))
 flags_chunk all eight rest n is parts size some =
-    let long : (l : List (String Global × Bool)) → length (values_of (shown l)) ≡ length l = λ l. length-map (shown l) _ ∙ length-map l _ in
-    let cut : values_of (shown all) ≡ values_of (shown eight) ++ values_of (shown rest) =
-    ap (λ l. values_of (shown l)) parts ∙ ap values_of (map-append _ eight rest) ∙ map-append _ (shown eight) (shown rest) in
-    pack_chunk (values_of (shown all)) (values_of (shown eight)) (values_of (shown rest)) cut (omega (arith, long all, long eight)) (omega (arith, long all))
+    let long : (l : List (String Global × Bool)) → length (values_of (listed l)) ≡ length l = λ l. length-map (listed l) _ ∙ length-map l _ in
+    let cut : values_of (listed all) ≡ values_of (listed eight) ++ values_of (listed rest) =
+    ap (λ l. values_of (listed l)) parts ∙ ap values_of (map-append _ eight rest) ∙ map-append _ (listed eight) (listed rest) in
+    pack_chunk (values_of (listed all)) (values_of (listed eight)) (values_of (listed rest)) cut (omega (arith, long all, long eight)) (omega (arith, long all))
 
 -- a bit of the lowest, and those behind it
 low_at : (n i c : ℕ) (bs : List Bool) → i < n → drop i (low_bits n c ++ bs) ≡ (bit_at c i == 1) ∷ drop (suc i) (low_bits n c ++ bs)
@@ -185,3 +185,85 @@ some_flag names s i name bit =
     let many = length-map names (λ n. n.now) in
     let long = length_bits s in
     omega arith
+
+-- so many bytes
+length_packed : (n : ℕ) (bs : List Bool) → length (packed n bs) ≡ n
+length_packed zero bs = refl
+length_packed (suc n) bs = ap suc (length_packed n (drop 8 bs))
+
+pub length_pack : (bs : List Bool) → length (pack bs) ≡ bytes_for (length bs)
+length_pack bs = length_packed (bytes_for (length bs)) bs
+
+pub count_packed : (all : List (String Global × Bool)) (fs : List Flag) (n : ℕ) → listed all ≡ fs → n ≡ bytes_for (length all) → n ≡ length (pack (values_of fs))
+count_packed all fs n is count =
+    count ∙ ap bytes_for (sym (length-map all _) ∙ ap length is ∙ sym (length-map fs _)) ∙ sym (length_pack (values_of fs))
+
+-- so many bits
+length_low_bits : (n c : ℕ) → length (low_bits n c) ≡ n
+unfolding low_bits
+length_low_bits zero c = refl
+length_low_bits (suc n) c = ap suc (length_low_bits n (c / 2))
+
+-- the bits of a number are those that it was made of, and others behind them
+low_number : (n : ℕ) (bs : List Bool) → length bs ≤ n → (pad : List Bool) × (low_bits n (number_of bs) ≡ bs ++ pad) × (length bs + length pad ≡ n)
+unfolding low_bits
+low_number n [] few = (low_bits n 0, refl, omega (arith, length_low_bits n 0))
+low_number zero (b ∷ bs) few = absurd (omega arith)
+low_number (suc n) (true ∷ bs) few =
+    let m = number_of bs in
+    let behind = low_number n bs (omega arith) in
+    let bit : (1 + 2 * m) % 2 ≡ 1 = omega arith in
+    let half : (1 + 2 * m) / 2 ≡ m = omega arith in
+    (behind.0, (λ k. (bit k == 1) ∷ (ap (low_bits n) half ∙ behind.1) k), omega (arith, behind.2))
+low_number (suc n) (false ∷ bs) few =
+    let m = number_of bs in
+    let behind = low_number n bs (omega arith) in
+    let bit : (0 + 2 * m) % 2 ≡ 0 = omega arith in
+    let half : (0 + 2 * m) / 2 ≡ m = omega arith in
+    (behind.0, (λ k. (bit k == 1) ∷ (ap (low_bits n) half ∙ behind.1) k), omega (arith, behind.2))
+
+-- the bits of packed truth values are these, and others behind them
+bits_packed : (n : ℕ) (bs : List Bool) → length bs ≤ 8 * n → (pad : List Bool) × (bits (packed n bs) ≡ bs ++ pad)
+bits_packed zero [] few = ([], refl)
+bits_packed zero (b ∷ bs) few = absurd (omega arith)
+bits_packed (suc n) bs few =
+    let left = length-drop 8 bs in
+    let first = take 8 bs in
+    let parts = take-append-drop 8 bs in
+    let sum : length first + length (drop 8 bs) ≡ length bs = sym (length-append first (drop 8 bs)) ∙ ap length parts in
+    let here = low_number 8 first (omega arith) in
+    let behind = bits_packed n (drop 8 bs) (omega arith) in
+    let both : bits (packed (suc n) bs) ≡ (first ++ here.0) ++ (drop 8 bs ++ behind.0) = λ k. here.1 k ++ behind.1 k in
+    elim (cases_lt (length bs) 8) [
+      | inl short ↦
+          let past : drop 8 bs ≡ [] = nil_from_length (drop 8 bs) (omega arith) in
+          let all : first ≡ bs = sym (append-nil first) ∙ ap (λ l. first ++ l) (sym past) ∙ parts in
+          (here.0 ++ behind.0, both ∙ (λ k. (all k ++ here.0) ++ (past k ++ behind.0)) ∙ append_assoc bs here.0 behind.0)
+      | inr long ↦
+          let none : here.0 ≡ [] = nil_from_length here.0 (omega (arith, here.2)) in
+          (behind.0, both ∙ (λ k. (first ++ none k) ++ (drop 8 bs ++ behind.0)) ∙ ap (λ l. l ++ (drop 8 bs ++ behind.0)) (append-nil first) ∙ sym (append_assoc first (drop 8 bs) behind.0) ∙ ap (λ l. l ++ behind.0) parts)
+    ]
+
+-- flags are their names beside their truth values, whatever stands behind these
+zip_front : (fs : List Flag) (more : List Bool) → zip (names_of fs) (values_of fs ++ more) ≡ fs
+zip_front [] more = refl
+zip_front (f ∷ fs) more = ap (λ l. f ∷ l) (zip_front fs more)
+
+unpacked : (fs : List Flag) → unpack (names_of fs) (pack (values_of fs)) ≡ fs
+unpacked fs =
+    let values = values_of fs in
+    let whole = bits_packed (bytes_for (length values)) values (omega arith) in
+    ap (zip (names_of fs)) whole.1 ∙ zip_front fs whole.0
+
+-- what was written is read back, whatever follows
+pub flags_read_back : (fs : List Flag) → AreFlagsReadBack fs
+flags_read_back fs = λ rest.
+    let bytes = pack (values_of fs) in
+    let count : length bytes ≡ bytes_for (length (names_of fs)) =
+    length_pack (values_of fs) ∙ ap bytes_for (length-map fs _ ∙ sym (length-map fs _)) in
+    let sum = length-append bytes rest in
+    record {
+      enough = omega arith;
+      flags = sym (unpacked fs) ∙ ap (unpack (names_of fs)) (sym (take_at bytes rest _ count));
+      left = sym (drop_at bytes rest _ count);
+    }

@@ -13,3 +13,4 @@ pub mod Arrays
 pub mod WhatWasRead
 pub mod Tables
 pub mod FlagBits
+pub mod Puts

@@ -10,13 +10,13 @@ use Rattle.amq_protocol_types.specs.declared.flags.AMQPFlags.{AMQPFlags}
 abbrev pub Flag : Type 0
 Flag = List ℕ × Bool
 
--- flags as they stand in memory, shown as names with truth values
-abbrev pub shown : List (String Global × Bool) → List Flag
-shown = map (λ f. (string_bytes f.0, f.1))
+-- flags as they stand in memory, listed as names with truth values
+abbrev pub listed : List (String Global × Bool) → List Flag
+listed = map (λ f. (string_bytes f.0, f.1))
 
 -- the flags, in order
 abbrev pub flags_of : AMQPFlags → List Flag
-flags_of a = shown a.flags.items
+flags_of a = listed a.flags.items
 
 -- their names, and their truth values
 abbrev pub names_of : List Flag → List (List ℕ)

@@ -1,7 +1,7 @@
 //! Flags: truth values under names, which travel eight to a byte.
 
 ghost use Rattle.std.specs.Prelude.{◌≡◌, ◌<◌, ◌≤◌, ◌++◌, ◌∷◌, [], map, length, string_bytes, IfOk, OnOk, OnErr};
-ghost use Rattle.amq_protocol_types.specs.Flags.{shown, flags_of, values_of, flag_named, number_of, pack, unpack};
+ghost use Rattle.amq_protocol_types.specs.Flags.{listed, flags_of, values_of, flag_named, number_of, pack, unpack};
 
 use crate::Boolean;
 use crate::parsing::traits::ParsableInput;
@@ -95,7 +95,7 @@ impl AMQPFlags {
 
     // The flags as they stand in memory.
     pub(crate) fn as_slice(&self) -> &[(String, Boolean)]
-        ensures { shown result.now ≡ flags_of self.now }
+        ensures { listed result.now ≡ flags_of self.now }
     {
         self.flags.as_slice()
     }
@@ -104,7 +104,7 @@ impl AMQPFlags {
 // The byte whose bits are those of at most eight flags, the first one's the lowest.
 pub(crate) fn byte_of(flags: &[(String, Boolean)]) -> u8
     requires { length flags.now ≤ 8 }
-    ensures { result ≡ number_of (values_of (shown flags.now)) }
+    ensures { result ≡ number_of (values_of (listed flags.now)) }
 {
     let mut byte = 0;
     for (i, (_, flag)) in flags.iter().enumerate() {

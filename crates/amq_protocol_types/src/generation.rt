@@ -5,6 +5,7 @@
 
 mod context;
 mod error;
+mod flags;
 mod output;
 mod scalars;
 mod slice;
@@ -15,6 +16,7 @@ mod values;
 
 pub use context::WriteContext;
 pub use error::{GenError, GenResult};
+pub use flags::gen_flags;
 pub use output::{BackToTheBuffer, Output};
 pub use scalars::{
     gen_boolean, gen_decimal_value, gen_double, gen_float, gen_id, gen_long_int, gen_long_long_int,

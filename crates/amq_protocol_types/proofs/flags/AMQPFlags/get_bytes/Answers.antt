@@ -1,6 +1,6 @@
 use Rattle.std.proofs.Common.{◌∷◌, [], ◌++◌, ap, sym, ◌∙◌, append_assoc}
 use Rattle.std.specs.Slice.Iter.{chunks_rest}
-use Rattle.amq_protocol_types.specs.Flags.{shown, values_of, pack}
+use Rattle.amq_protocol_types.specs.Flags.{listed, values_of, pack}
 use Rattle.amq_protocol_types.proofs.FlagBits.{flags_chunk}
 use Rattle.amq_protocol_types.proofs.flags.AMQPFlags.get_bytes.Goals as goal
 
@@ -9,7 +9,7 @@ loop-eight-preserved c =
     let steps = c.in-Some.ensures.steps in
     let size = c.loop-eight.invariant.0 in
     let bytes = c.loop-eight.bytes.items in
-    let behind = pack (values_of (shown (chunks_rest c.next.new.self))) in
+    let behind = pack (values_of (listed (chunks_rest c.next.new.self))) in
     let byte = flags_chunk _ c.in-Some.eight.now (chunks_rest c.next.new.self) _ size steps.1.0 steps.1.1 steps.1.2 in (
       steps.0 ∙ size,
       ap (λ l. l ++ behind) c.in_ok-push.ensures.items
