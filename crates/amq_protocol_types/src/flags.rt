@@ -114,3 +114,6 @@ pub(crate) fn byte_of(flags: &[(String, Boolean)]) -> u8
     }
     byte
 }
+
+#[cfg(test)]
+mod tests;
