@@ -8,7 +8,7 @@ use Rattle.std.proofs.lemmas.Nat.Bits.{bit_at_lowest, bit_at-suc}
 use Rattle.std.proofs.lemmas.Slice.Zip.{length-zip}
 use Rattle.std.specs.Int.{bit_at}
 use Rattle.std.proofs.lemmas.Bool.{cases_lt}
-use Rattle.std.proofs.lemmas.List.{take_more, at_drop_more, map-append, length-map, length-take-le, nil_from_length, take-append-drop, take_at, drop_at, drop-drop}
+use Rattle.std.proofs.lemmas.List.{take_more, at_drop_more, map-append, length-map, length-take-le, nil_from_length, take-append-drop, take_at, drop_at, drop-drop, get_or-drop, get_or_append_left}
 use Rattle.amqp_value_core.specs.Maps.{same_bytes}
 use Rattle.amq_protocol_types.specs.Flags.{Flag, listed, names_of, values_of, flag_named, bytes_for, number_of, packed, pack, low_bits, bits, unpack, AreFlagsRead, AreFlagsReadBack}
 
@@ -249,7 +249,7 @@ zip_front : (fs : List Flag) (more : List Bool) → zip (names_of fs) (values_of
 zip_front [] more = refl
 zip_front (f ∷ fs) more = ap (λ l. f ∷ l) (zip_front fs more)
 
-unpacked : (fs : List Flag) → unpack (names_of fs) (pack (values_of fs)) ≡ fs
+pub unpacked : (fs : List Flag) → unpack (names_of fs) (pack (values_of fs)) ≡ fs
 unpacked fs =
     let values = values_of fs in
     let whole = bits_packed (bytes_for (length values)) values (omega arith) in
@@ -267,3 +267,16 @@ flags_read_back fs = λ rest.
       flags = sym (unpacked fs) ∙ ap (unpack (names_of fs)) (sym (take_at bytes rest _ count));
       left = sym (drop_at bytes rest _ count);
     }
+
+-- flag number n is bit n % 8 of byte n / 8
+pub flag_is_bit : (bs : List Bool) (n : ℕ) → n < length bs → (bit_at (get_or (pack bs) (n / 8) 0) (n % 8) == 1) ≡ get_or bs n false
+flag_is_bit bs n few =
+    let count = length_pack bs in
+    let there : n / 8 < length (pack bs) = omega arith in
+    let whole = bits_packed (bytes_for (length bs)) bs (omega arith) in
+    let here : get_or (drop n (bits (pack bs))) 0 false ≡ (bit_at (get_or (pack bs) (n / 8) 0) (n % 8) == 1) = ap (λ l. get_or l 0 false) (bit_there (pack bs) n there) in
+    let place : n + 0 ≡ n = omega arith in
+    sym here
+    ∙ get_or-drop n (bits (pack bs)) 0 false
+    ∙ (λ k. get_or (whole.1 k) (place k) false)
+    ∙ get_or_append_left bs whole.0 false n few

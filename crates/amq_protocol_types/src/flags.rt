@@ -3,6 +3,8 @@
 ghost use Rattle.std.specs.Prelude.{◌≡◌, ◌<◌, ◌≤◌, ◌++◌, ◌∷◌, [], map, length, string_bytes, IfOk, OnOk, OnErr};
 ghost use Rattle.amq_protocol_types.specs.Flags.{listed, flags_of, values_of, flag_named, number_of, pack, unpack};
 
+pub mod rows;
+
 use crate::Boolean;
 use crate::parsing::traits::ParsableInput;
 use std::alloc::{AllocError, Global};
