@@ -13,3 +13,5 @@ pub mod Arrays
 pub mod WhatWasRead
 pub mod Tables
 pub mod Lengths
+pub mod FlagBits
+pub mod Puts

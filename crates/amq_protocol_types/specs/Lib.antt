@@ -7,3 +7,4 @@ pub mod Written
 pub mod Vectors
 pub mod Devices
 pub mod Lengths
+pub mod Flags

@@ -6,6 +6,7 @@
 mod context;
 mod device;
 mod error;
+mod flags;
 mod output;
 mod scalars;
 mod slice;
@@ -19,6 +20,7 @@ mod with_len;
 pub use context::WriteContext;
 pub use device::IoOutput;
 pub use error::{GenError, GenResult};
+pub use flags::gen_flags;
 pub use output::{BackToTheBuffer, Output};
 pub use scalars::{
     gen_boolean, gen_decimal_value, gen_double, gen_float, gen_id, gen_long_int, gen_long_long_int,

@@ -1,6 +1,7 @@
 //! The types and the wire codec of AMQP 0-9-1 field tables.
 #![tactic(auto)]
 
+pub mod flags;
 pub mod generation;
 pub mod parsing;
 

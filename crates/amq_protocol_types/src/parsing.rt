@@ -2,6 +2,7 @@
 
 mod bytes;
 mod errors;
+mod flags;
 mod scalars;
 mod strings;
 pub mod traits;
@@ -9,6 +10,7 @@ mod values;
 
 pub use amqp_value_core::input::{SliceInput, SplitInput};
 pub use errors::{Err, ErrorKind, Needed, ParserError, ParserErrors, ParserResult};
+pub use flags::parse_flags;
 pub use scalars::{
     parse_boolean, parse_decimal_value, parse_double, parse_float, parse_id, parse_long_int,
     parse_long_long_int, parse_long_long_uint, parse_long_uint, parse_short_int,
