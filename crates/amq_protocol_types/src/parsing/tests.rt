@@ -2,13 +2,11 @@
 
 mod split;
 
-use super::errors::refused;
 use super::traits::ParsableInput;
 use super::*;
 use amqp_value_core::types::{AMQPType, DecimalValue, Double, Float};
 use amqp_value_core::value::AMQPValue;
 use std::alloc::Global;
-use std::test::Fail;
 
 // whether a number was read, and so many bytes are left
 fn reads<I: ParsableInput, T: Copy + PartialEq>(
@@ -66,10 +64,10 @@ fn reads_long_string<I: ParsableInput>(alloc: Global, i: I, text: &[u8], left: u
     }
 }
 
-// whether a byte array was read, and so many bytes are left
-fn reads_byte_array(alloc: Global, bytes: &[u8], items: &[u8], left: usize) -> bool {
+// whether a byte array was read
+fn reads_byte_array(alloc: Global, bytes: &[u8], items: &[u8]) -> bool {
     match parse_byte_array(alloc, SliceInput::new(bytes)) {
-        Ok((rest, read)) => read.as_slice() == items && rest.input_len() == left,
+        Ok((_rest, read)) => read.as_slice() == items,
         Err(_e) => false,
     }
 }
@@ -110,14 +108,10 @@ fn is_table_of(value: &Option<AMQPValue>, key: &str, truth: bool) -> bool {
 fn reads_the_least_numbers(rt: HostRuntime) {
     let zeros = SliceInput::new(&[0, 0, 0, 0, 0, 0, 0, 0]);
     assert!(rt; reads(parse_boolean(zeros), false, 7));
-    assert!(rt; reads(parse_short_short_int(zeros), 0, 7));
     assert!(rt; reads(parse_short_short_uint(zeros), 0, 7));
-    assert!(rt; reads(parse_short_int(zeros), 0, 6));
     assert!(rt; reads(parse_short_uint(zeros), 0, 6));
     assert!(rt; reads(parse_id(zeros), 0, 6));
-    assert!(rt; reads(parse_long_int(zeros), 0, 4));
     assert!(rt; reads(parse_long_uint(zeros), 0, 4));
-    assert!(rt; reads(parse_long_long_int(zeros), 0, 0));
     assert!(rt; reads(parse_long_long_uint(zeros), 0, 0));
     assert!(rt; reads(parse_timestamp(zeros), 0, 0));
 }
@@ -126,16 +120,26 @@ fn reads_the_least_numbers(rt: HostRuntime) {
 fn reads_the_greatest_numbers(rt: HostRuntime) {
     let ones = SliceInput::new(&[255, 255, 255, 255, 255, 255, 255, 255]);
     assert!(rt; reads(parse_boolean(ones), true, 7));
-    assert!(rt; reads(parse_short_short_int(ones), -1, 7));
     assert!(rt; reads(parse_short_short_uint(ones), 255, 7));
-    assert!(rt; reads(parse_short_int(ones), -1, 6));
     assert!(rt; reads(parse_short_uint(ones), 65535, 6));
     assert!(rt; reads(parse_id(ones), 65535, 6));
-    assert!(rt; reads(parse_long_int(ones), -1, 4));
     assert!(rt; reads(parse_long_uint(ones), 4294967295, 4));
-    assert!(rt; reads(parse_long_long_int(ones), -1, 0));
     assert!(rt; reads(parse_long_long_uint(ones), 18446744073709551615, 0));
     assert!(rt; reads(parse_timestamp(ones), 18446744073709551615, 0));
+}
+
+#[test]
+fn reads_signed_numbers(rt: HostRuntime) {
+    let zeros = SliceInput::new(&[0, 0, 0, 0, 0, 0, 0, 0]);
+    let ones = SliceInput::new(&[255, 255, 255, 255, 255, 255, 255, 255]);
+    assert!(rt; reads(parse_short_short_int(zeros), 0, 7));
+    assert!(rt; reads(parse_short_short_int(ones), -1, 7));
+    assert!(rt; reads(parse_short_int(zeros), 0, 6));
+    assert!(rt; reads(parse_short_int(ones), -1, 6));
+    assert!(rt; reads(parse_long_int(zeros), 0, 4));
+    assert!(rt; reads(parse_long_int(ones), -1, 4));
+    assert!(rt; reads(parse_long_long_int(zeros), 0, 0));
+    assert!(rt; reads(parse_long_long_int(ones), -1, 0));
 }
 
 #[test]
@@ -174,7 +178,7 @@ fn reads_strings(rt: HostRuntime) {
             1
         )
     );
-    assert!(rt; reads_byte_array(alloc, &[0, 0, 0, 2, 1, 0], &[1, 0], 0));
+    assert!(rt; reads_byte_array(alloc, &[0, 0, 0, 2, 1, 0], &[1, 0]));
     assert!(rt;
         refuses(
             parse_short_string(alloc, SliceInput::new(&[1, 255])),
@@ -191,7 +195,7 @@ fn reads_strings(rt: HostRuntime) {
 }
 
 #[test]
-fn reads_values(rt: HostRuntime) {
+fn tells_why_there_is_no_value(rt: HostRuntime) {
     let alloc = rt.alloc();
     assert!(rt; value_needs(alloc, &[68], 1));
     assert!(rt; value_needs(alloc, &[65, 255, 255, 255, 255], 4294967295));
@@ -210,6 +214,11 @@ fn reads_values(rt: HostRuntime) {
             ErrorKind::Eof
         )
     );
+}
+
+#[test]
+fn reads_containers(rt: HostRuntime) {
+    let alloc = rt.alloc();
     let array = value_of(alloc, &[65, 0, 0, 0, 7, 83, 0, 0, 0, 2, 104, 105]);
     assert!(rt; is_array_of(&array, &[104, 105]));
     let table = value_of(alloc, &[70, 0, 0, 0, 8, 1, 97, 116, 0, 1, 97, 116, 1]);
@@ -252,19 +261,4 @@ fn reads_inputs_of_its_callers(rt: HostRuntime) {
         bytes: &[0, 0, 0, 2, 104, 105, 7],
     };
     assert!(rt; reads_long_string(rt.alloc(), input, &[104, 105], 1));
-}
-
-#[test]
-fn prints_refusals(rt: HostRuntime) -> Result<(), Fail> {
-    for (kind, text) in [
-        (ErrorKind::MapOpt, "Parser error: Nom(MapOpt)"),
-        (ErrorKind::MapRes, "Parser error: Nom(MapRes)"),
-        (ErrorKind::Eof, "Parser error: Nom(Eof)"),
-        (ErrorKind::OutOfMemory, "Parser error: OutOfMemory"),
-    ] {
-        if let Err::Error(e) = refused(kind) {
-            assert!(rt; e.to_string(rt.alloc())?.as_str() == text);
-        }
-    }
-    Ok(())
 }
