@@ -1,150 +1,249 @@
 //! Inputs and what they are read as, from the format's own numbers.
 
-ghost use Rattle.std.specs.Prelude.{replicate};
-
 use super::errors::refused;
 use super::traits::ParsableInput;
 use super::*;
-use amqp_value_core::types::AMQPType;
+use amqp_value_core::types::{AMQPType, DecimalValue, Double, FieldTable, Float};
 use amqp_value_core::value::AMQPValue;
 use std::alloc::Global;
 use std::test::Fail;
 
-// how many bytes a value lacks
-fn lack(alloc: Global, bytes: &[u8]) -> Option<usize> {
-    match parse_value(alloc, SliceInput::new(bytes)) {
-        Err(Err::Incomplete(Needed::Size(n))) => Some(n),
-        _ => None,
+// whether a number was read, and so many bytes are left
+fn reads<I: ParsableInput, T: Copy + PartialEq>(
+    answer: ParserResult<I, T>,
+    value: T,
+    left: usize,
+) -> bool {
+    match answer {
+        Ok((rest, read)) => read == value && rest.input_len() == left,
+        Err(_e) => false,
     }
 }
 
-// why there is no value
-fn refusal(alloc: Global, bytes: &[u8]) -> Option<ErrorKind> {
+// whether so many bytes lack
+fn needs<I: ParsableInput, T: Drop>(answer: ParserResult<I, T>, n: usize) -> bool {
+    match answer {
+        Err(Err::Incomplete(Needed::Size(lack))) => lack == n,
+        Err(_e) => false,
+        Ok(_read) => false,
+    }
+}
+
+// whether the input is refused, and why
+fn refuses<I: ParsableInput, T: Drop>(answer: ParserResult<I, T>, kind: ErrorKind) -> bool {
+    match answer {
+        Err(Err::Error(e)) => e.kind() == kind,
+        Err(_e) => false,
+        Ok(_read) => false,
+    }
+}
+
+// whether a value lacks so many bytes
+fn value_needs(alloc: Global, bytes: &[u8], n: usize) -> bool {
+    needs(parse_value(alloc, SliceInput::new(bytes)), n)
+}
+
+// whether a value is refused, and why
+fn value_refuses(alloc: Global, bytes: &[u8], kind: ErrorKind) -> bool {
+    refuses(parse_value(alloc, SliceInput::new(bytes)), kind)
+}
+
+// whether a short string was read, and so many bytes are left
+fn reads_short_string(alloc: Global, bytes: &[u8], text: &str, left: usize) -> bool {
+    match parse_short_string(alloc, SliceInput::new(bytes)) {
+        Ok((rest, read)) => read.as_str() == text && rest.input_len() == left,
+        Err(_e) => false,
+    }
+}
+
+// whether a long string was read, and so many bytes are left
+fn reads_long_string<I: ParsableInput>(alloc: Global, i: I, text: &[u8], left: usize) -> bool {
+    match parse_long_string(alloc, i) {
+        Ok((rest, read)) => read.as_bytes() == text && rest.input_len() == left,
+        Err(_e) => false,
+    }
+}
+
+// whether a byte array was read, and so many bytes are left
+fn reads_byte_array(alloc: Global, bytes: &[u8], items: &[u8], left: usize) -> bool {
+    match parse_byte_array(alloc, SliceInput::new(bytes)) {
+        Ok((rest, read)) => read.as_slice() == items && rest.input_len() == left,
+        Err(_e) => false,
+    }
+}
+
+// whether a value was read that is an array of one long string
+fn reads_array_of(alloc: Global, bytes: &[u8], text: &[u8]) -> bool {
     match parse_value(alloc, SliceInput::new(bytes)) {
-        Err(Err::Error(e)) => Some(e.kind()),
-        Err(_e) => None,
-        Ok(_read) => None,
+        Ok((_rest, AMQPValue::FieldArray(array))) => match array.as_slice() {
+            [AMQPValue::LongString(s)] => s.as_bytes() == text,
+            _ => false,
+        },
+        _ => false,
+    }
+}
+
+// whether a value was read that is a table of one key, with a truth value
+fn reads_table_of(alloc: Global, bytes: &[u8], key: &str, value: bool) -> bool {
+    match parse_value(alloc, SliceInput::new(bytes)) {
+        Ok((_rest, AMQPValue::FieldTable(table))) => is_table_of(&table, key, value),
+        _ => false,
+    }
+}
+
+fn is_table_of(table: &FieldTable, key: &str, value: bool) -> bool {
+    match table.inner().iter().next() {
+        Some((k, AMQPValue::Boolean(b))) => {
+            table.inner().len() == 1 && k.as_str() == key && *b == value
+        }
+        _ => false,
     }
 }
 
 #[test]
-fn asks_for_what_the_field_lacks(rt: HostRuntime) {
-    let alloc = rt.alloc();
-    assert_eq!(rt; lack(alloc, &[]), Some(1));
-    assert_eq!(rt; lack(alloc, &[116]), Some(1));
-    assert_eq!(rt; lack(alloc, &[73, 2, 0]), Some(2));
-    assert_eq!(rt; lack(alloc, &[65, 0]), Some(3));
-    assert_eq!(rt; lack(alloc, &[65, 0, 0, 0, 10, 122]), Some(9));
-    assert_eq!(rt; lack(alloc, &[65, 255, 255, 255, 255]), Some(4294967295));
+fn reads_the_least_numbers(rt: HostRuntime) {
+    let zeros = SliceInput::new(&[0, 0, 0, 0, 0, 0, 0, 0]);
+    assert!(rt; reads(parse_boolean(zeros), false, 7));
+    assert!(rt; reads(parse_short_short_int(zeros), 0, 7));
+    assert!(rt; reads(parse_short_short_uint(zeros), 0, 7));
+    assert!(rt; reads(parse_short_int(zeros), 0, 6));
+    assert!(rt; reads(parse_short_uint(zeros), 0, 6));
+    assert!(rt; reads(parse_id(zeros), 0, 6));
+    assert!(rt; reads(parse_long_int(zeros), 0, 4));
+    assert!(rt; reads(parse_long_uint(zeros), 0, 4));
+    assert!(rt; reads(parse_long_long_int(zeros), 0, 0));
+    assert!(rt; reads(parse_long_long_uint(zeros), 0, 0));
+    assert!(rt; reads(parse_timestamp(zeros), 0, 0));
 }
 
 #[test]
-fn refuses_what_is_no_value(rt: HostRuntime) {
-    let alloc = rt.alloc();
-    assert_eq!(rt; refusal(alloc, &[122]), Some(ErrorKind::MapOpt));
-    assert_eq!(rt; refusal(alloc, &[244]), Some(ErrorKind::MapOpt));
-    assert_eq!(rt;
-        refusal(alloc, &[65, 0, 0, 0, 1, 122]),
-        Some(ErrorKind::Eof)
+fn reads_the_greatest_numbers(rt: HostRuntime) {
+    let ones = SliceInput::new(&[255, 255, 255, 255, 255, 255, 255, 255]);
+    assert!(rt; reads(parse_boolean(ones), true, 7));
+    assert!(rt; reads(parse_short_short_int(ones), -1, 7));
+    assert!(rt; reads(parse_short_short_uint(ones), 255, 7));
+    assert!(rt; reads(parse_short_int(ones), -1, 6));
+    assert!(rt; reads(parse_short_uint(ones), 65535, 6));
+    assert!(rt; reads(parse_id(ones), 65535, 6));
+    assert!(rt; reads(parse_long_int(ones), -1, 4));
+    assert!(rt; reads(parse_long_uint(ones), 4294967295, 4));
+    assert!(rt; reads(parse_long_long_int(ones), -1, 0));
+    assert!(rt; reads(parse_long_long_uint(ones), 18446744073709551615, 0));
+    assert!(rt; reads(parse_timestamp(ones), 18446744073709551615, 0));
+}
+
+#[test]
+fn reads_bits_and_digits(rt: HostRuntime) {
+    let bytes = SliceInput::new(&[64, 73, 15, 219, 0, 0, 0, 0]);
+    let digits = DecimalValue {
+        scale: 64,
+        value: 1225775872,
+    };
+    assert!(rt; reads(parse_float(bytes), Float::from_bits(1078530011), 4));
+    assert!(rt;
+        reads(
+            parse_double(bytes),
+            Double::from_bits(4632251124999520256),
+            0
+        )
     );
-    assert_eq!(rt;
-        refusal(alloc, &[65, 0, 0, 0, 2, 73, 0]),
-        Some(ErrorKind::Eof)
+    assert!(rt; reads(parse_decimal_value(bytes), digits, 3));
+    assert!(rt; reads(parse_type(SliceInput::new(&[73, 0])), AMQPType::LongInt, 1));
+    assert!(rt; needs(parse_decimal_value(SliceInput::new(&[])), 1));
+    assert!(rt; needs(parse_decimal_value(SliceInput::new(&[7])), 4));
+    assert!(rt; needs(parse_decimal_value(SliceInput::new(&[7, 0, 0, 0])), 1));
+    assert!(rt; needs(parse_double(SliceInput::new(&[64, 69])), 6));
+}
+
+#[test]
+fn reads_strings(rt: HostRuntime) {
+    let alloc = rt.alloc();
+    assert!(rt; reads_short_string(alloc, &[0, 7], "", 1));
+    assert!(rt; reads_short_string(alloc, &[2, 104, 105], "hi", 0));
+    assert!(rt;
+        reads_long_string(
+            alloc,
+            SliceInput::new(&[0, 0, 0, 2, 255, 105, 7]),
+            &[255, 105],
+            1
+        )
+    );
+    assert!(rt; reads_byte_array(alloc, &[0, 0, 0, 2, 1, 0], &[1, 0], 0));
+    assert!(rt;
+        refuses(
+            parse_short_string(alloc, SliceInput::new(&[1, 255])),
+            ErrorKind::MapRes
+        )
+    );
+    assert!(rt; needs(parse_short_string(alloc, SliceInput::new(&[2, 255])), 1));
+    assert!(rt;
+        needs(
+            parse_byte_array(alloc, SliceInput::new(&[0, 0, 0, 2, 9])),
+            1
+        )
     );
 }
 
 #[test]
 fn reads_values(rt: HostRuntime) {
     let alloc = rt.alloc();
-    match parse_value(alloc, SliceInput::new(&[116, 7])) {
-        Ok((rest, AMQPValue::Boolean(b))) => {
-            assert!(rt; b);
-            assert_eq!(rt; rest.input_len(), 0);
-        }
-        _ => assert!(rt; false, "no truth value"),
-    }
-    match parse_value(alloc, SliceInput::new(&[65, 0, 0, 0, 0, 3])) {
-        Ok((rest, AMQPValue::FieldArray(array))) => {
-            assert!(rt; array.as_slice().is_empty());
-            assert_eq!(rt; rest.as_slice(), [3].as_slice());
-        }
-        _ => assert!(rt; false, "no empty array"),
-    }
-    match parse_value(alloc, SliceInput::new(&[65, 0, 0, 0, 3, 116, 7, 86])) {
-        Ok((rest, AMQPValue::FieldArray(array))) => {
-            assert!(rt;
-                matches!(
-                    array.as_slice(),
-                    [AMQPValue::Boolean(true), AMQPValue::Void]
-                )
-            );
-            assert_eq!(rt; rest.input_len(), 0);
-        }
-        _ => assert!(rt; false, "no array"),
-    }
-    match parse_raw_value(alloc, AMQPType::Void, SliceInput::new(&[5])) {
-        Ok((rest, AMQPValue::Void)) => assert_eq!(rt; rest.as_slice(), [5].as_slice()),
-        _ => assert!(rt; false, "no void"),
-    }
-}
-
-#[test]
-fn reads_scalars(rt: HostRuntime) {
-    let zeros = SliceInput::new(&[0, 0, 0, 0]);
-    let ones = SliceInput::new(&[255, 255, 255, 255]);
-    assert!(rt; matches!(parse_boolean(zeros), Ok((_, false))));
-    assert!(rt; matches!(parse_boolean(ones), Ok((_, true))));
-    assert!(rt; matches!(parse_short_short_int(zeros), Ok((_, 0))));
-    assert!(rt; matches!(parse_short_short_int(ones), Ok((_, -1))));
-    assert!(rt; matches!(parse_short_short_uint(zeros), Ok((_, 0))));
-    assert!(rt; matches!(parse_short_short_uint(ones), Ok((_, 255))));
-    assert!(rt; matches!(parse_long_int(zeros), Ok((_, 0))));
-    assert!(rt; matches!(parse_long_int(ones), Ok((_, -1))));
-    assert!(rt; matches!(parse_long_uint(zeros), Ok((_, 0))));
-    assert!(rt; matches!(parse_long_uint(ones), Ok((_, 4294967295))));
+    assert!(rt; value_needs(alloc, &[68], 1));
+    assert!(rt; value_needs(alloc, &[65, 255, 255, 255, 255], 4294967295));
+    assert!(rt; value_refuses(alloc, &[200], ErrorKind::MapOpt));
+    assert!(rt; value_refuses(alloc, &[70, 0, 0, 0, 3, 1, 255, 86], ErrorKind::Eof));
     assert!(rt;
-        matches!(
-            parse_type(SliceInput::new(&[73, 0])),
-            Ok((_, AMQPType::LongInt))
+        reads_array_of(
+            alloc,
+            &[65, 0, 0, 0, 7, 83, 0, 0, 0, 2, 104, 105],
+            &[104, 105]
         )
     );
-    assert!(rt; matches!(parse_field_array(rt.alloc(), zeros), Ok(_)));
+    assert!(rt;
+        reads_table_of(
+            alloc,
+            &[70, 0, 0, 0, 8, 1, 97, 116, 0, 1, 97, 116, 1],
+            "a",
+            true
+        )
+    );
 }
 
-// so many bytes 86, the id of `Void`, that stand nowhere in memory
+// the bytes of a slice, one by one
 #[derive(Clone, Copy)]
-struct Voids {
-    count: usize,
+struct Singles<'a> {
+    bytes: &'a [u8],
 }
 
-impl ParsableInput for Voids {
-    ghost bytes = { λ s. replicate s.count 86 };
+impl<'a> ParsableInput for Singles<'a> {
+    ghost bytes = { λ s. s.bytes.now };
 
     fn input_len(&self) -> usize {
-        self.count
+        self.bytes.len()
     }
 
-    fn byte_at(&self, _i: usize) -> u8 {
-        86
+    fn byte_at(&self, i: usize) -> u8 {
+        self.bytes[i]
     }
 
     fn take(&self, n: usize) -> Self {
-        Voids { count: n }
+        Singles {
+            bytes: &self.bytes[..n],
+        }
     }
 
     fn take_from(&self, n: usize) -> Self {
-        Voids {
-            count: self.count - n,
+        Singles {
+            bytes: &self.bytes[n..],
         }
     }
 }
 
 #[test]
 fn reads_inputs_of_its_callers(rt: HostRuntime) {
-    match parse_value(rt.alloc(), Voids { count: 3 }) {
-        Ok((rest, AMQPValue::Void)) => assert_eq!(rt; rest.count, 2),
-        _ => assert!(rt; false, "no void"),
-    }
+    let input = Singles {
+        bytes: &[0, 0, 0, 2, 104, 105, 7],
+    };
+    assert!(rt; reads_long_string(rt.alloc(), input, &[104, 105], 1));
 }
 
 #[test]
