@@ -1,5 +1,5 @@
 -- Lemmas on flags and the bits that stand for them.
-use Rattle.std.proofs.Common.{◌≡◌, ◌==◌, ℕ, zero, suc, ◌+◌, ◌-◌, ◌*◌, ◌/◌, ◌%◌, ◌^◌, ◌<◌, ◌≤◌, min, Bool, true, false, cond, if◌then◌else◌, Option, Some, None, List, [], ◌∷◌, ◌++◌, length, get_or, take, drop, map, refl, sym, ap, ◌∙◌, subst, arith, inl, inr, rules, append_assoc, append-nil, length-append, length-drop, string_bytes, String, Bor}
+use Rattle.std.proofs.Common.{◌≡◌, ◌==◌, ℕ, zero, suc, ◌+◌, ◌-◌, ◌*◌, ◌/◌, ◌%◌, ◌^◌, ◌<◌, ◌≤◌, min, Bool, true, false, if◌then◌else◌, Option, Some, List, [], ◌∷◌, ◌++◌, length, get_or, take, drop, map, refl, sym, ap, ◌∙◌, arith, inl, inr, append_assoc, append-nil, length-append, length-drop, string_bytes, String, Bor}
 use Rattle.std.specs.declared.alloc.Global.{Global}
 use Rattle.std.specs.List.{zip}
 use Rattle.std.proofs.Math.Nat.{pow-suc}
@@ -10,7 +10,7 @@ use Rattle.std.specs.Int.{bit_at}
 use Rattle.std.proofs.lemmas.Bool.{cases_lt}
 use Rattle.std.proofs.lemmas.List.{take_more, at_drop_more, map-append, length-map, length-take-le, nil_from_length, take-append-drop, take_at, drop_at, drop-drop, get_or-drop, get_or_append_left}
 use Rattle.amqp_value_core.specs.Maps.{same_bytes}
-use Rattle.amq_protocol_types.specs.Flags.{Flag, listed, names_of, values_of, flag_named, bytes_for, number_of, packed, pack, low_bits, bits, unpack, AreFlagsRead, AreFlagsReadBack}
+use Rattle.amq_protocol_types.specs.Flags.{Flag, listed, names_of, values_of, flag_named, bytes_for, number_of, packed, pack, low_bits, bits, unpack, AreFlagsReadBack}
 
 -- the next flag decides, or the flags behind it do
 named_more : (name : List ℕ) (fs : List (String Global × Bool)) (i : ℕ) (f : String Global × Bool) → i < length fs → f ≡ get_or fs i f → flag_named name (listed (drop i fs)) ≡ (if same_bytes (string_bytes f.0) name then Some f.1 else flag_named name (listed (drop (i + 1) fs)))

@@ -1,5 +1,5 @@
 -- A value that was read finds the room that its wire took.
-use Rattle.std.proofs.Common.{ℕ, ◌≤◌, Option, Some, None, IfSome, List, length, Result, true, arith}
+use Rattle.std.proofs.Common.{ℕ, ◌≤◌, Option, Some, None, IfSome, length, Result, true, arith}
 use Rattle.amqp_value_core.specs.Values.{Tree}
 use Rattle.amqp_value_core.specs.Texts.{text, Fits}
 use Rattle.amqp_value_core.proofs.GrammarLaws.{bounded_wire, length_of_text}

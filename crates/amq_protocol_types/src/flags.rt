@@ -7,10 +7,11 @@ pub mod rows;
 
 use crate::Boolean;
 use crate::parsing::traits::ParsableInput;
+use serde::{Deserialize, Serialize};
 use std::alloc::{AllocError, Global};
 
 /// Truth values under names, in the order in which they were added. A name may come again.
-#[derive(Debug, PartialEq, Drop)]
+#[derive(Debug, PartialEq, Serialize, Deserialize, Drop)]
 pub struct AMQPFlags {
     flags: Vec<(String, Boolean)>,
 }

@@ -94,3 +94,14 @@ fn writes_flags(rt: HostRuntime) -> Result<(), Fail> {
     assert_eq!(rt; x.into_inner().0.written(), [13, 221, 2, 255, 1].as_slice());
     Ok(())
 }
+
+#[test]
+fn flags_as_json(rt: HostRuntime) -> Result<(), Fail> {
+    let alloc = rt.alloc();
+    let flags = flags_of(alloc, &[true, false, true])?;
+    let text = serde_json::to_string(alloc, &flags)?;
+    assert!(rt; serde_json::from_str::<AMQPFlags>(alloc, text.as_str())? == flags);
+    assert!(rt; serde_json::from_str::<AMQPFlags>(alloc, "{\"flags\": 1}").is_err());
+    assert!(rt; serde_json::from_str::<AMQPFlags>(alloc, "{\"flags\": [").is_err());
+    Ok(())
+}
