@@ -1,5 +1,5 @@
 -- Lemmas on a length that is put before what a call appends.
-use Rattle.std.proofs.Common.{◌≡◌, ℕ, ◌+◌, ◌-◌, ◌≤◌, true, inr, Some, None, IsSome, IfSome, Option, Result, Ok, Err, OnOk, OnErr, IfErr, List, [], ◌++◌, length, take, drop, replicate, refl, sym, ap, ◌∙◌, subst, arith, length-append}
+use Rattle.std.proofs.Common.{◌≡◌, ℕ, Bool, IsTrue, ◌+◌, ◌-◌, ◌≤◌, true, inr, Some, None, IsSome, IfSome, Option, Result, Ok, Err, OnOk, OnErr, IfErr, List, [], ◌++◌, length, take, drop, replicate, refl, sym, ap, ◌∙◌, subst, arith, length-append}
 use Rattle.std.specs.Prelude.{⊤}
 use Rattle.std.specs.Option.{option_map}
 use Rattle.std.specs.Int.{w32, to_be_bytes}
@@ -34,6 +34,25 @@ nothing_appended (Some put) b e = subst (λ (o : Option (List ℕ)). Appends (So
 -- a refusal that leaves the bytes as they were only appends
 pub refusal_appends : {s t : Seen} {e : GenError} → t.told ≡ s.told → OnlyAppends s (Err e) t
 refusal_appends {s = s} {t = t} same = record { more = []; appended = nothing_appended s.told t.told same; tail = tt }
+
+-- what was written is appended, and a refused write leaves a buffer's bytes
+pub write_appends : {b : Bool} {A : Type 0} {xs : List ℕ} {s t : Seen} {r : Result (Unit {0}) GenError} → b ≡ true → Writes b A xs s r t → OnlyAppends s r t
+write_appends {xs = xs} {r = Ok _} e p = record { more = xs; appended = p.appended; tail = p.tail }
+write_appends {r = Err _} e p = refusal_appends (p.kept (subst IsTrue (sym e) refl))
+
+-- what appends and then appends again only appends
+pub then_appends : {s t u : Seen} {r : Result (Unit {0}) GenError} → OnlyAppends s (Ok tt) t → OnlyAppends t r u → OnlyAppends s r u
+then_appends {s = s} {t = t} {u = u} {r = r} p q = record {
+  more = p.more ++ q.more;
+  appended = Appends-trans s.told t.told u.told p.more q.more p.appended q.appended;
+  tail = by r q.tail;
+}
+  where
+    by : (r : Result (Unit {0}) GenError) → OnOk r (u.tail ≡ drop (length q.more) t.tail) → OnOk r (u.tail ≡ drop (length (p.more ++ q.more)) s.tail)
+    by (Ok _) e =
+        let sum : length p.more + length q.more ≡ length (p.more ++ q.more) = sym (length-append p.more q.more) in
+        e ∙ ap (drop (length q.more)) p.tail ∙ drop-drop (length q.more) (length p.more) s.tail ∙ ap (λ n. drop n s.tail) sum
+    by (Err _) e = tt
 
 -- what was appended behind four reserved bytes was taken back with them
 pub taken_back : {s t u w : Seen} {r : Result (Unit {0}) GenError} (at : ℕ) → at ≡ s.at → IsWhole s → Writes true ⊤ (replicate 4 0) s (Ok tt) t → OnlyAppends t r u → GoesBack at u w → w.told ≡ s.told

@@ -1,5 +1,5 @@
 -- An output around a device.
-use Rattle.std.specs.Prelude.{ℕ, ◌≡◌, ◌+◌, ◌-◌, ◌^◌, ◌<◌, ◌≤◌, ◌⊎◌, List, [], Option, None, Result, Err, OnOk, IfErr, IsErrOf, min}
+use Rattle.std.specs.Prelude.{ℕ, ◌≡◌, ◌+◌, ◌-◌, ◌^◌, ◌≤◌, ◌⊎◌, List, [], Option, None, Result, Err, OnOk, IfErr, min}
 use Rattle.std.specs.declared.io.ErrorKind.{ErrorKind}
 use Rattle.amq_protocol_types.specs.declared.generation.error.GenError.{GenError}
 use Rattle.amq_protocol_types.specs.declared.generation.error.GenError.TheVariants.{IoError, InvalidOffset}

@@ -1,5 +1,8 @@
 //! A length before what a closure appends.
 
+ghost use Rattle.amq_protocol_types.specs.Contexts.{shown};
+ghost use Rattle.amq_protocol_types.specs.Lengths.{OnlyAppends};
+
 use super::super::*;
 use crate::AMQPType;
 use std::test::Fail;
@@ -7,6 +10,30 @@ use std::test::Fail;
 // Puts one byte behind two lengths.
 fn put_behind_two_lengths<W: BackToTheBuffer>(x: &mut WriteContext<W>) -> GenResult {
     gen_with_len(|y| gen_with_len(|z| z.put(&[7]), y), x)
+}
+
+// Puts two numbers behind their length.
+fn put_two_numbers<W: BackToTheBuffer>(x: &mut WriteContext<W>) -> GenResult {
+    gen_with_len(
+        |y: &mut WriteContext<W>| -> GenResult
+            ensures { OnlyAppends (shown W.seen y.old) result (shown W.seen y.new) }
+        {
+            gen_short_uint(1, y)?;
+            gen_short_uint(2, y)
+        },
+        x,
+    )
+}
+
+#[test]
+fn a_body_may_have_parts(rt: HostRuntime) -> Result<(), Fail> {
+    let mut x = WriteContext::from(Vec::new(rt.alloc()));
+    assert_eq!(rt; put_two_numbers(&mut x), Ok(()));
+    assert_eq!(rt;
+        x.into_inner().0.as_slice(),
+        [0, 0, 0, 4, 0, 1, 0, 2].as_slice()
+    );
+    Ok(())
 }
 
 #[test]
