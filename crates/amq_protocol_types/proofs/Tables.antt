@@ -5,7 +5,7 @@ use Rattle.std.specs.Cmp.Lexicographic.{slice_cmp}
 use Rattle.std.specs.List.Sorted.{IsStrictlySortedBy}
 use Rattle.std.specs.Map.{keys_of}
 use Rattle.amqp_value_core.specs.declared.value.AMQPValue.{AMQPValue}
-use Rattle.amqp_value_core.specs.Values.{table}
+use Rattle.amqp_value_core.specs.Values.{Tree, table}
 use Rattle.amqp_value_core.specs.Strings.{IsShort}
 use Rattle.amqp_value_core.specs.Grammar.{small, large}
 use Rattle.amqp_value_core.specs.View.{view, entries}
@@ -13,7 +13,7 @@ use Rattle.amqp_value_core.specs.Texts.{text, pairs, Fits, EntriesFit, IsValue, 
 use Rattle.amqp_value_core.proofs.GrammarLaws.{length_of_text}
 use Rattle.amq_protocol_types.specs.declared.generation.error.GenError.{GenError}
 use Rattle.amq_protocol_types.specs.Outputs.{Seen, IsWhole, Writes, GoesBack, FillsLength}
-use Rattle.amq_protocol_types.proofs.Steps.{both_put, refused_inside, length_put}
+use Rattle.amq_protocol_types.proofs.Steps.{both_put, refused, refused_inside, length_put}
 
 -- the entries of a table, with their values in memory
 abbrev pub Stored : Type 0
@@ -83,6 +83,11 @@ one_more_put {rest = rest} k v here is value p q =
       written = both_put _ _ bytes (fit_more p.done k v) p.written q;
       stored = stored_more p.done k v p.stored is value;
     }
+
+-- an entry's key was put and its value refused, and the key was taken back
+pub key_taken_back : {A : Type 0} (k name : List ℕ) (v : Tree) (at : ℕ) {s t u w : Seen} {e : GenError} → name ≡ k → at ≡ s.at → IsWhole s → Writes true A (small name) s (Ok tt) t → Writes true (Fits v) (text v) t (Err e) u → GoesBack at u w → Writes true (Fits v) (small k ++ text v) s (Err e) w
+key_taken_back k name v at same place whole p q back =
+    refused (Fits v) (small k ++ text v) at place whole (omega (arith, length-append k (text v), ap length same)) (λ fit. fit) p q back
 
 -- what a table's generator owes
 abbrev pub Owes : Stored → Seen → Result (Unit {0}) GenError → Seen → Type 0

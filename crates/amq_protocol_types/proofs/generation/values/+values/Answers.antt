@@ -1,9 +1,8 @@
-use Rattle.std.proofs.Common.{◌∙◌, ◌++◌, length, ap, arith, length-append}
-use Rattle.amqp_value_core.specs.Grammar.{small}
+use Rattle.std.proofs.Common.{◌∙◌, arith}
 use Rattle.amqp_value_core.specs.View.{view, array_items}
 use Rattle.amqp_value_core.specs.Texts.{text, Fits}
 use Rattle.amq_protocol_types.proofs.Arrays.{value_refused, array_closed}
-use Rattle.amq_protocol_types.proofs.Tables.{none_put, one_more_put, entry_refused, table_closed, table_value}
+use Rattle.amq_protocol_types.proofs.Tables.{none_put, one_more_put, key_taken_back, entry_refused, table_closed, table_value}
 use Rattle.amq_protocol_types.proofs.Texts.{text_of, longer_by_id, body_next, fit_next, values_next}
 use Rattle.amq_protocol_types.proofs.Steps.{both_put, refused, by_buffer}
 use Rattle.amq_protocol_types.proofs.generation.values.+values.Goals as goal
@@ -45,9 +44,7 @@ gen_field_array-returns-clause-written g t c =
 
 pub gen_entry-returns-in-Err-clause-written : goal.gen_entry-returns-in-Err-clause-written
 gen_entry-returns-in-Err-clause-written g t c =
-    let v = view c.args.v.now in
-    let k = c.args.k.now in
-    refused (Fits v) (small k ++ text v) c.at-at.result c.at-at.ensures.at c.at-at.ensures.whole (omega (arith, length-append k (text v), ap length c.as_str.ensures.text)) (λ fit. fit) (by_buffer g.met.W.BackToTheBuffer.is_one c.in_ok-gen_short_string.ensures.written) c.in-Err.ensures.written c.back_to.ensures.back
+    key_taken_back c.args.k.now c.as_str.result.now (view c.args.v.now) c.at-at.result c.as_str.ensures.text c.at-at.ensures.at c.at-at.ensures.whole (by_buffer g.met.W.BackToTheBuffer.is_one c.in_ok-gen_short_string.ensures.written) c.in-Err.ensures.written c.back_to.ensures.back
 
 pub gen_field_table-loop-k-init : goal.gen_field_table-loop-k-init
 gen_field_table-loop-k-init g t c = record {
