@@ -3,7 +3,7 @@
 use super::errors::refused;
 use super::traits::ParsableInput;
 use super::*;
-use amqp_value_core::types::{AMQPType, DecimalValue, Double, FieldTable, Float};
+use amqp_value_core::types::{AMQPType, DecimalValue, Double, Float};
 use amqp_value_core::value::AMQPValue;
 use std::alloc::Global;
 use std::test::Fail;
@@ -72,29 +72,33 @@ fn reads_byte_array(alloc: Global, bytes: &[u8], items: &[u8], left: usize) -> b
     }
 }
 
-// whether a value was read that is an array of one long string
-fn reads_array_of(alloc: Global, bytes: &[u8], text: &[u8]) -> bool {
+// the value that is read
+fn value_of(alloc: Global, bytes: &[u8]) -> Option<AMQPValue> {
     match parse_value(alloc, SliceInput::new(bytes)) {
-        Ok((_rest, AMQPValue::FieldArray(array))) => match array.as_slice() {
-            [AMQPValue::LongString(s)] => s.as_bytes() == text,
-            _ => false,
-        },
+        Ok((_rest, value)) => Some(value),
+        Err(_e) => None,
+    }
+}
+
+// whether a value is an array of one long string
+fn is_array_of(value: &Option<AMQPValue>, text: &[u8]) -> bool {
+    let Some(AMQPValue::FieldArray(array)) = value else {
+        return false;
+    };
+    match array.as_slice() {
+        [AMQPValue::LongString(s)] => s.as_bytes() == text,
         _ => false,
     }
 }
 
-// whether a value was read that is a table of one key, with a truth value
-fn reads_table_of(alloc: Global, bytes: &[u8], key: &str, value: bool) -> bool {
-    match parse_value(alloc, SliceInput::new(bytes)) {
-        Ok((_rest, AMQPValue::FieldTable(table))) => is_table_of(&table, key, value),
-        _ => false,
-    }
-}
-
-fn is_table_of(table: &FieldTable, key: &str, value: bool) -> bool {
+// whether a value is a table of one key, with a truth value
+fn is_table_of(value: &Option<AMQPValue>, key: &str, truth: bool) -> bool {
+    let Some(AMQPValue::FieldTable(table)) = value else {
+        return false;
+    };
     match table.inner().iter().next() {
         Some((k, AMQPValue::Boolean(b))) => {
-            table.inner().len() == 1 && k.as_str() == key && *b == value
+            table.inner().len() == 1 && k.as_str() == key && *b == truth
         }
         _ => false,
     }
@@ -192,20 +196,22 @@ fn reads_values(rt: HostRuntime) {
     assert!(rt; value_refuses(alloc, &[200], ErrorKind::MapOpt));
     assert!(rt; value_refuses(alloc, &[70, 0, 0, 0, 3, 1, 255, 86], ErrorKind::Eof));
     assert!(rt;
-        reads_array_of(
-            alloc,
-            &[65, 0, 0, 0, 7, 83, 0, 0, 0, 2, 104, 105],
-            &[104, 105]
+        refuses(
+            parse_raw_value(alloc, AMQPType::ShortString, SliceInput::new(&[1, 255])),
+            ErrorKind::MapRes
         )
     );
+    assert!(rt; needs(parse_field_array(alloc, SliceInput::new(&[0, 0, 0, 1])), 1));
     assert!(rt;
-        reads_table_of(
-            alloc,
-            &[70, 0, 0, 0, 8, 1, 97, 116, 0, 1, 97, 116, 1],
-            "a",
-            true
+        refuses(
+            parse_field_table(alloc, SliceInput::new(&[0, 0, 0, 1, 7])),
+            ErrorKind::Eof
         )
     );
+    let array = value_of(alloc, &[65, 0, 0, 0, 7, 83, 0, 0, 0, 2, 104, 105]);
+    assert!(rt; is_array_of(&array, &[104, 105]));
+    let table = value_of(alloc, &[70, 0, 0, 0, 8, 1, 97, 116, 0, 1, 97, 116, 1]);
+    assert!(rt; is_table_of(&table, "a", true));
 }
 
 // the bytes of a slice, one by one

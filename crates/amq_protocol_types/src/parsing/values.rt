@@ -189,7 +189,7 @@ fn parse_pairs<I: ParsableInput>(alloc: Global, body: I) -> Result<FieldTable, P
 {
     let mut table = FieldTable::new_in(alloc);
     let mut rest = body;
-    'entries: while rest.input_len() > 0 {
+    'pairs: while rest.input_len() > 0 {
         let (behind_key, key) = match parse_short_string(alloc, rest) {
             Ok(read) => read,
             Err(e) => return Err(inside(e)),

@@ -82,31 +82,31 @@ parse_field_table-returns g t c =
 pub parse_pairs-returns-in-Err : goal.parse_pairs-returns-in-Err
 parse_pairs-returns-in-Err g t c =
     rw c.inside.ensures
-    (Walks-bad_key _ (table_view c.entries.table) (g.I.ParsableInput.bytes c.entries.rest) c.in-Err.e c.entries.invariant (omega arith) c.in-Err.ensures)
+    (Walks-bad_key _ (table_view c.pairs.table) (g.I.ParsableInput.bytes c.pairs.rest) c.in-Err.e c.pairs.invariant (omega arith) c.in-Err.ensures)
 
 pub parse_pairs-returns-in-Err-parse_value : goal.parse_pairs-returns-in-Err-parse_value
 parse_pairs-returns-in-Err-parse_value g t c =
     rw c.inside-in-Err-parse_value.ensures
-    (Walks-bad_value _ (table_view c.entries.table) (g.I.ParsableInput.bytes c.entries.rest) c.in-Ok.read.1 (g.I.ParsableInput.bytes c.in-Ok.read.0) c.in-Err-parse_value.e
-    c.entries.invariant c.in-Ok.ensures c.in-Err-parse_value.ensures.outcome)
+    (Walks-bad_value _ (table_view c.pairs.table) (g.I.ParsableInput.bytes c.pairs.rest) c.in-Ok.read.1 (g.I.ParsableInput.bytes c.in-Ok.read.0) c.in-Err-parse_value.e
+    c.pairs.invariant c.in-Ok.ensures c.in-Err-parse_value.ensures.outcome)
 
-pub parse_pairs-entries-smaller : goal.parse_pairs-entries-smaller
-parse_pairs-entries-smaller g t c =
-    let rest = g.I.ParsableInput.bytes c.entries.rest in
+pub parse_pairs-pairs-smaller : goal.parse_pairs-pairs-smaller
+parse_pairs-pairs-smaller g t c =
+    let rest = g.I.ParsableInput.bytes c.pairs.rest in
     let behind = g.I.ParsableInput.bytes c.in-Ok.read.0 in
     let after = g.I.ParsableInput.bytes c.in-Ok-parse_value.read.0 in
     omega (arith, key_shorter rest c.in-Ok.read.1 behind c.in-Ok.ensures, rest_shorter behind (view c.in-Ok-parse_value.read.1) after c.in-Ok-parse_value.ensures.outcome)
 
-pub parse_pairs-entries-preserved : goal.parse_pairs-entries-preserved
-parse_pairs-entries-preserved g t c =
-    let grown : table_view c.place.new.self ≡ put c.in-Ok.read.1 (view c.in-Ok-parse_value.read.1) (table_view c.entries.table) = search rules in
+pub parse_pairs-pairs-preserved : goal.parse_pairs-pairs-preserved
+parse_pairs-pairs-preserved g t c =
+    let grown : table_view c.place.new.self ≡ put c.in-Ok.read.1 (view c.in-Ok-parse_value.read.1) (table_view c.pairs.table) = search rules in
     rw grown
-    (Walks-step _ (table_view c.entries.table) (g.I.ParsableInput.bytes c.entries.rest) c.in-Ok.read.1 (g.I.ParsableInput.bytes c.in-Ok.read.0)
-    (view c.in-Ok-parse_value.read.1) _ c.entries.invariant c.in-Ok.ensures c.in-Ok-parse_value.ensures.outcome)
+    (Walks-step _ (table_view c.pairs.table) (g.I.ParsableInput.bytes c.pairs.rest) c.in-Ok.read.1 (g.I.ParsableInput.bytes c.in-Ok.read.0)
+    (view c.in-Ok-parse_value.read.1) _ c.pairs.invariant c.in-Ok.ensures c.in-Ok-parse_value.ensures.outcome)
 
 pub parse_pairs-returns : goal.parse_pairs-returns
 parse_pairs-returns g t c =
-    Walks-end (g.I.ParsableInput.bytes c.args.body) (table_view c.entries.table) (g.I.ParsableInput.bytes c.entries.rest) c.entries.invariant (omega arith)
+    Walks-end (g.I.ParsableInput.bytes c.args.body) (table_view c.pairs.table) (g.I.ParsableInput.bytes c.pairs.rest) c.pairs.invariant (omega arith)
 
 pub parse_value-returns-clause-outcome : goal.parse_value-returns-clause-outcome
 parse_value-returns-clause-outcome g t c =

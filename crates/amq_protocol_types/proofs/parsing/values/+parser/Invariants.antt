@@ -30,9 +30,9 @@ decreases-parse_field_table g l = 4 * length (g.I.ParsableInput.bytes l.i) + 1
 abbrev pub decreases-parse_pairs : goal.decreases-parse_pairs
 decreases-parse_pairs g l = 4 * length (g.I.ParsableInput.bytes l.body) + 1
 
-abbrev pub invariant-parse_pairs-entries : goal.invariant-parse_pairs-entries
-invariant-parse_pairs-entries g l =
+abbrev pub invariant-parse_pairs-pairs : goal.invariant-parse_pairs-pairs
+invariant-parse_pairs-pairs g l =
     Walks (g.I.ParsableInput.bytes l.fn.body) (table_view l.table) (g.I.ParsableInput.bytes l.rest)
 
-abbrev pub decreases-parse_pairs-entries : goal.decreases-parse_pairs-entries
-decreases-parse_pairs-entries g l = length (g.I.ParsableInput.bytes l.rest)
+abbrev pub decreases-parse_pairs-pairs : goal.decreases-parse_pairs-pairs
+decreases-parse_pairs-pairs g l = length (g.I.ParsableInput.bytes l.rest)
