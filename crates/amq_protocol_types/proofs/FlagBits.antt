@@ -8,7 +8,7 @@ use Rattle.std.proofs.lemmas.Nat.Bits.{bit_at_lowest, bit_at-suc}
 use Rattle.std.proofs.lemmas.Slice.Zip.{length-zip}
 use Rattle.std.specs.Int.{bit_at}
 use Rattle.std.proofs.lemmas.Bool.{cases_lt}
-use Rattle.std.proofs.lemmas.List.{take_more, at_drop_more, map-append, length-map, length-take-le, nil_from_length, take-append-drop, take_at, drop_at, drop-drop, get_or-drop, get_or_append_left}
+use Rattle.std.proofs.lemmas.List.{take_more, at_drop_more, map-append, length-map, length-take-le, nil_from_length, take-append-drop, take_at, drop_at, drop-drop, get_or-drop, get_or_append_left, get_or-append-add}
 use Rattle.amqp_value_core.specs.Maps.{same_bytes}
 use Rattle.amq_protocol_types.specs.Flags.{Flag, listed, names_of, values_of, flag_named, bytes_for, number_of, packed, pack, low_bits, bits, unpack, AreFlagsReadBack}
 
@@ -198,33 +198,49 @@ pub count_packed : (all : List (String Global × Bool)) (fs : List Flag) (n : �
 count_packed all fs n is count =
     count ∙ ap bytes_for (sym (length-map all _) ∙ ap length is ∙ sym (length-map fs _)) ∙ sym (length_pack (values_of fs))
 
+-- all of them are false
+abbrev AreUnset : List Bool → Type 0
+AreUnset bs = (i : ℕ) → get_or bs i false ≡ false
+
+both_unset : (xs ys : List Bool) → AreUnset xs → AreUnset ys → AreUnset (xs ++ ys)
+both_unset [] ys p q i = q i
+both_unset (x ∷ xs) ys p q zero = p zero
+both_unset (x ∷ xs) ys p q (suc i) = both_unset xs ys (λ j. p (suc j)) q i
+
 -- so many bits
 length_low_bits : (n c : ℕ) → length (low_bits n c) ≡ n
 unfolding low_bits
 length_low_bits zero c = refl
 length_low_bits (suc n) c = ap suc (length_low_bits n (c / 2))
 
--- the bits of a number are those that it was made of, and others behind them
-low_number : (n : ℕ) (bs : List Bool) → length bs ≤ n → (pad : List Bool) × (low_bits n (number_of bs) ≡ bs ++ pad) × (length bs + length pad ≡ n)
+-- no bit of 0 is set
+no_low_bit : (n i : ℕ) → get_or (low_bits n 0) i false ≡ false
 unfolding low_bits
-low_number n [] few = (low_bits n 0, refl, omega (arith, length_low_bits n 0))
+no_low_bit zero i = refl
+no_low_bit (suc n) zero = refl
+no_low_bit (suc n) (suc i) = no_low_bit n i
+
+-- the bits of a number are those that it was made of, and unset ones behind them
+low_number : (n : ℕ) (bs : List Bool) → length bs ≤ n → (pad : List Bool) × (low_bits n (number_of bs) ≡ bs ++ pad) × (length bs + length pad ≡ n) × AreUnset pad
+unfolding low_bits
+low_number n [] few = (low_bits n 0, refl, omega (arith, length_low_bits n 0), no_low_bit n)
 low_number zero (b ∷ bs) few = absurd (omega arith)
 low_number (suc n) (true ∷ bs) few =
     let m = number_of bs in
     let behind = low_number n bs (omega arith) in
     let bit : (1 + 2 * m) % 2 ≡ 1 = omega arith in
     let half : (1 + 2 * m) / 2 ≡ m = omega arith in
-    (behind.0, (λ k. (bit k == 1) ∷ (ap (low_bits n) half ∙ behind.1) k), omega (arith, behind.2))
+    (behind.0, (λ k. (bit k == 1) ∷ (ap (low_bits n) half ∙ behind.1) k), omega (arith, behind.2), behind.3)
 low_number (suc n) (false ∷ bs) few =
     let m = number_of bs in
     let behind = low_number n bs (omega arith) in
     let bit : (0 + 2 * m) % 2 ≡ 0 = omega arith in
     let half : (0 + 2 * m) / 2 ≡ m = omega arith in
-    (behind.0, (λ k. (bit k == 1) ∷ (ap (low_bits n) half ∙ behind.1) k), omega (arith, behind.2))
+    (behind.0, (λ k. (bit k == 1) ∷ (ap (low_bits n) half ∙ behind.1) k), omega (arith, behind.2), behind.3)
 
--- the bits of packed truth values are these, and others behind them
-bits_packed : (n : ℕ) (bs : List Bool) → length bs ≤ 8 * n → (pad : List Bool) × (bits (packed n bs) ≡ bs ++ pad)
-bits_packed zero [] few = ([], refl)
+-- the bits of packed truth values are these, and unset ones behind them
+bits_packed : (n : ℕ) (bs : List Bool) → length bs ≤ 8 * n → (pad : List Bool) × (bits (packed n bs) ≡ bs ++ pad) × AreUnset pad
+bits_packed zero [] few = ([], refl, λ i. refl)
 bits_packed zero (b ∷ bs) few = absurd (omega arith)
 bits_packed (suc n) bs few =
     let left = length-drop 8 bs in
@@ -238,10 +254,10 @@ bits_packed (suc n) bs few =
       | inl short ↦
           let past : drop 8 bs ≡ [] = nil_from_length (drop 8 bs) (omega arith) in
           let all : first ≡ bs = sym (append-nil first) ∙ ap (λ l. first ++ l) (sym past) ∙ parts in
-          (here.0 ++ behind.0, both ∙ (λ k. (all k ++ here.0) ++ (past k ++ behind.0)) ∙ append_assoc bs here.0 behind.0)
+          (here.0 ++ behind.0, both ∙ (λ k. (all k ++ here.0) ++ (past k ++ behind.0)) ∙ append_assoc bs here.0 behind.0, both_unset here.0 behind.0 here.3 behind.2)
       | inr long ↦
           let none : here.0 ≡ [] = nil_from_length here.0 (omega (arith, here.2)) in
-          (behind.0, both ∙ (λ k. (first ++ none k) ++ (drop 8 bs ++ behind.0)) ∙ ap (λ l. l ++ (drop 8 bs ++ behind.0)) (append-nil first) ∙ sym (append_assoc first (drop 8 bs) behind.0) ∙ ap (λ l. l ++ behind.0) parts)
+          (behind.0, both ∙ (λ k. (first ++ none k) ++ (drop 8 bs ++ behind.0)) ∙ ap (λ l. l ++ (drop 8 bs ++ behind.0)) (append-nil first) ∙ sym (append_assoc first (drop 8 bs) behind.0) ∙ ap (λ l. l ++ behind.0) parts, behind.2)
     ]
 
 -- flags are their names beside their truth values, whatever stands behind these
@@ -280,3 +296,15 @@ flag_is_bit bs n few =
     ∙ get_or-drop n (bits (pack bs)) 0 false
     ∙ (λ k. get_or (whole.1 k) (place k) false)
     ∙ get_or_append_left bs whole.0 false n few
+
+-- the bits left over are 0
+pub left_over : (bs : List Bool) (n : ℕ) → length bs ≤ n → n / 8 < length (pack bs) → (bit_at (get_or (pack bs) (n / 8) 0) (n % 8) == 1) ≡ false
+left_over bs n past there =
+    let whole = bits_packed (bytes_for (length bs)) bs (omega arith) in
+    let here : get_or (drop n (bits (pack bs))) 0 false ≡ (bit_at (get_or (pack bs) (n / 8) 0) (n % 8) == 1) = ap (λ l. get_or l 0 false) (bit_there (pack bs) n there) in
+    let place : n + 0 ≡ length bs + (n - length bs) = omega arith in
+    sym here
+    ∙ get_or-drop n (bits (pack bs)) 0 false
+    ∙ (λ k. get_or (whole.1 k) (place k) false)
+    ∙ get_or-append-add bs whole.0 (n - length bs) false
+    ∙ whole.2 (n - length bs)
