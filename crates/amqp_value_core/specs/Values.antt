@@ -1,6 +1,6 @@
 -- Values: what an `AMQPValue` is, without where it lies in memory.
 -- AMQP 0-9-1, section 4.2.5.5 (field tables), in the reading of RabbitMQ's errata, section 3.
-use Rattle.std.specs.Prelude.{ℕ, suc, ◌+◌, max, Bool, true, false, ◌&&◌, Option, Some, None, List, [], ◌∷◌, if◌then◌else◌}
+use Rattle.std.specs.Prelude.{ℕ, suc, ◌+◌, max, Bool, true, false, ◌&&◌, List, [], ◌∷◌}
 use Rattle.std.specs.Ordering.{nat_cmp, match_ordering}
 use Rattle.std.specs.Cmp.Lexicographic.{slice_cmp}
 use Rattle.amqp_value_core.specs.declared.types.AMQPType.{AMQPType}
