@@ -1,6 +1,7 @@
 //! Over vectors and devices.
 
 use super::super::*;
+use crate::flags::AMQPFlags;
 use crate::{AMQPType, AMQPValue, ByteArray, DecimalValue, Double, FieldTable, Float, ShortString};
 use std::io;
 use std::io::{ErrorKind, Write};
@@ -23,11 +24,14 @@ fn a_device_is_handed_what_is_put(rt: HostRuntime) -> Result<(), Fail> {
     let mut x = WriteContext::from(IoOutput::new(Vec::new(rt.alloc())));
     assert_eq!(rt; gen_long_string(b"test", &mut x), Ok(()));
     assert_eq!(rt; x.position(), 8);
+    let mut flags = AMQPFlags::new_in(rt.alloc());
+    flags.add_flag(String::from_str(rt.alloc(), "durable")?, true)?;
+    assert_eq!(rt; gen_flags(&flags, &mut x), Ok(()));
     let (output, _) = x.into_inner();
     assert_eq!(rt; output.faults(), 0);
     assert_eq!(rt;
         output.into_inner().as_slice(),
-        [0, 0, 0, 4, 116, 101, 115, 116].as_slice()
+        [0, 0, 0, 4, 116, 101, 115, 116, 1].as_slice()
     );
     Ok(())
 }
