@@ -1,4 +1,5 @@
 mod lengths;
+mod numbers;
 mod vectors;
 
 use super::*;

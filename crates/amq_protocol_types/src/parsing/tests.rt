@@ -1,6 +1,7 @@
 //! Inputs and what they are read as, from the format's own numbers.
 
 mod split;
+mod vectors;
 
 use super::traits::ParsableInput;
 use super::*;
