@@ -1,0 +1,55 @@
+-- What the calls from C answer: a number of bytes, or a negative number.
+use Rattle.std.specs.Prelude.{ℕ, ◌≡◌, ◌+◌, ◌<◌, ◌⊎◌, ℤ, pos, negsuc, List, length, Result, Ok, Err, MatchResult}
+use Rattle.amqp_value_core.specs.Values.{Tree}
+use Rattle.amqp_value_core.specs.Outcomes.{Outcome, Heavy, found, more, unknown, malformed}
+use Rattle.amqp_value_core.specs.Texts.{text}
+use Rattle.amqp_bench.specs.declared.fault.Fault.{Fault}
+use Rattle.amqp_bench.specs.declared.fault.Fault.TheVariants.{Incomplete, Refused, OutOfMemory, TooSmall}
+
+-- the number that stands for a fault
+abbrev pub code_of : Fault → ℤ
+code_of Incomplete = negsuc 0
+code_of Refused = negsuc 1
+code_of OutOfMemory = negsuc 2
+code_of TooSmall = negsuc 3
+
+-- why no number of bytes is answered for s: bytes lack, s is refused, memory was wanted where the value takes some,
+-- or there is no room
+abbrev pub IsFault : List ℕ → Type 0 → Fault → Type 0
+IsFault s no_room Incomplete = (n : ℕ) × Outcome s (more n)
+IsFault s no_room Refused = Outcome s unknown ⊎ Outcome s malformed
+IsFault s no_room OutOfMemory = Heavy s
+IsFault s no_room TooSmall = no_room
+
+-- the number that stands for how many bytes, or for a fault
+abbrev pub answer_of : Result ℕ Fault → ℤ
+answer_of (Ok n) = pos n
+answer_of (Err f) = code_of f
+
+-- an answer for s: it stands for a number of bytes that is right, or for a fault that is
+abbrev pub Answers : List ℕ → (ℕ → Type 0) → Type 0 → ℤ → Type 0
+Answers s IsRight no_room z = (done : Result ℕ Fault) × (z ≡ answer_of done) × MatchResult done IsRight (IsFault s no_room)
+
+-- v is read from the first n bytes of s
+abbrev pub IsRead : List ℕ → ℕ → Tree → Type 0
+IsRead s n v = (rest : List ℕ) × Outcome s (found v rest) × (n + length rest ≡ length s)
+
+-- a value is read from the first n bytes of s
+abbrev pub IsTaken : List ℕ → ℕ → Type 0
+IsTaken s n = (v : Tree) × IsRead s n v
+
+-- the text of the value that is read from s has n bytes
+abbrev pub IsWritten : List ℕ → ℕ → Type 0
+IsWritten s n = (v : Tree) × (rest : List ℕ) × Outcome s (found v rest) × (n ≡ length (text v))
+
+-- the same, and 0 where it is written no time
+abbrev pub IsWrittenOften : ℕ → List ℕ → ℕ → Type 0
+IsWrittenOften times s n = (times ≡ 0 → n ≡ 0) × (0 < times → IsWritten s n)
+
+-- the text of the value that is read from s has more than n bytes
+abbrev pub HasNoRoom : List ℕ → ℕ → Type 0
+HasNoRoom s n = (v : Tree) × (rest : List ℕ) × Outcome s (found v rest) × (n < length (text v))
+
+-- n bytes are no room for the text of v, and the fault says so
+abbrev pub IsTooSmall : ℕ → Tree → Fault → Type 0
+IsTooSmall n v f = (f ≡ TooSmall) × (n < length (text v))

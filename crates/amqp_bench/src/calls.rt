@@ -1,0 +1,80 @@
+//! Reading a value from bytes, and writing it to bytes.
+
+ghost use Rattle.std.specs.Prelude.{◌≡◌, ◌<◌, ◌≤◌, length, MatchResult, IfOk, IfErr};
+ghost use Rattle.amqp_value_core.specs.Texts.{text, Fits};
+ghost use Rattle.amqp_value_core.specs.View.{view};
+ghost use Rattle.amqp_bench.specs.Calls.{IsFault, IsTooSmall, IsRead, IsTaken, IsWrittenOften, HasNoRoom};
+
+use crate::fault::Fault;
+use amq_protocol_types::AMQPValue;
+use amq_protocol_types::generation::{SliceOutput, WriteContext, gen_value};
+use amq_protocol_types::parsing::traits::ParsableInput;
+use amq_protocol_types::parsing::{Err, SliceInput, parse_value};
+use std::alloc::Global;
+
+/// Reads a value to a tree of its own, drops it, and answers how many bytes it took.
+pub fn decode(alloc: Global, bytes: &[u8]) -> Result<usize, Fault>
+    ensures taken { MatchResult result (IsTaken bytes.now) (IsFault bytes.now ⊥) }
+    ensures small { IfOk result (λ n. n ≤ length bytes.now) }
+{
+    let (taken, _) = read(alloc, bytes)?;
+    Ok(taken)
+}
+
+/// Reads a value, writes it `times` times, and answers how many bytes were written the last time.
+#[tactic(auto, using(crate::proofs::Written::written_often))]
+pub fn encode(alloc: Global, bytes: &[u8], out: &mut [u8], times: u64) -> Result<usize, Fault>
+    ensures written { MatchResult result
+        (IsWrittenOften times bytes.now)
+        (IsFault bytes.now (HasNoRoom bytes.now (length out.old))) }
+    ensures small { IfOk result (λ n. n ≤ length out.old) }
+{
+    let (_, value) = read(alloc, bytes)?;
+    write_often(&value, out, times)
+}
+
+/// Reads a value, and answers how many bytes it took.
+fn read(alloc: Global, bytes: &[u8]) -> Result<(usize, AMQPValue), Fault>
+    ensures read { MatchResult result
+        (λ x. IsRead bytes.now x.0 (view x.1))
+        (IsFault bytes.now ⊥) }
+    ensures small { IfOk result (λ x. x.0 ≤ length bytes.now) }
+    ensures fits { IfOk result (λ x. Fits (view x.1)) }
+{
+    match parse_value(alloc, SliceInput::new(bytes)) {
+        Ok((rest, value)) => Ok((bytes.len() - rest.input_len(), value)),
+        Err(Err::Incomplete(_)) => Err(Fault::Incomplete),
+        Err(Err::Error(_)) => Err(Fault::Refused),
+        Err(Err::Failure(_)) => Err(Fault::OutOfMemory),
+    }
+}
+
+/// Writes a value `times` times, and answers how many bytes were written the last time, 0 where it is
+/// written no time.
+fn write_often(value: &AMQPValue, out: &mut [u8], times: u64) -> Result<usize, Fault>
+    requires { Fits (view value.now) }
+    ensures none { IfOk result (λ n. times ≡ 0 → n ≡ 0) }
+    ensures some { IfOk result (λ n. 0 < times → n ≡ length (text (view value.now))) }
+    ensures small { IfOk result (λ n. n ≤ length out.old) }
+    ensures err { IfErr result (IsTooSmall (length out.old) (view value.now)) }
+{
+    let mut written = 0;
+    for _ in 0..times {
+        written = write(value, &mut *out)?;
+    }
+    Ok(written)
+}
+
+/// Writes a value from the front of `out`, and answers how many bytes were written.
+fn write(value: &AMQPValue, out: &mut [u8]) -> Result<usize, Fault>
+    requires { Fits (view value.now) }
+    ensures ok { IfOk result (λ n. n ≡ length (text (view value.now))) }
+    ensures small { IfOk result (λ n. n ≤ length out.old) }
+    ensures err { IfErr result (IsTooSmall (length out.old) (view value.now)) }
+{
+    let mut context = WriteContext::from(SliceOutput::new(out));
+    if gen_value(value, &mut context).is_err() {
+        return Err(Fault::TooSmall);
+    }
+    Ok(context.position() as usize)
+}

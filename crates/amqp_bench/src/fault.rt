@@ -1,0 +1,42 @@
+//! Why a call answers no number of bytes.
+
+ghost use Rattle.std.specs.Prelude.{◌≡◌, ◌<◌, ◌^◌, IfOk};
+ghost use Rattle.amqp_bench.specs.Calls.{code_of, answer_of};
+
+/// Why a call answers no number of bytes.
+#[derive(Clone, Copy)]
+pub enum Fault {
+    /// The bytes end before the value does.
+    Incomplete,
+    /// The bytes begin with no value.
+    Refused,
+    /// A request for memory was refused.
+    OutOfMemory,
+    /// The value's text doesn't fit the room.
+    TooSmall,
+}
+
+impl Fault {
+    /// The number that stands for the fault.
+    pub fn code(self) -> i64
+        ensures { result ≡ code_of self }
+    {
+        match self {
+            Fault::Incomplete => -1,
+            Fault::Refused => -2,
+            Fault::OutOfMemory => -3,
+            Fault::TooSmall => -4,
+        }
+    }
+}
+
+/// The number that stands for how many bytes, or for a fault.
+pub fn answer(done: Result<usize, Fault>) -> i64
+    requires { IfOk done (λ n. n < 2 ^ 63) }
+    ensures { result ≡ answer_of done }
+{
+    match done {
+        Ok(n) => n as i64,
+        Err(fault) => fault.code(),
+    }
+}

@@ -1,0 +1,48 @@
+//! The codec as a C library: what goes in and out are bytes and numbers.
+//!
+//! Each call answers a number of bytes, or -1 where more bytes are asked for, -2 where the bytes begin
+//! with no value, -3 where a request for memory was refused, and -4 where the text of the value doesn't
+//! fit. It is for benchmarks: nothing of a value is handed out.
+#![tactic(auto)]
+
+ghost use Rattle.std.specs.Prelude.{length};
+ghost use Rattle.amqp_bench.specs.Calls.{Answers, IsTaken, IsWritten, IsWrittenOften, HasNoRoom};
+
+mod calls;
+mod fault;
+
+use calls::{decode, encode};
+use fault::answer;
+use std::alloc::Global;
+
+/// Reads a value from the front of `bytes` to a tree of its own, drops it, and answers how many bytes
+/// it took.
+#[unsafe(no_mangle)]
+pub extern "C" fn amqp_bench_decode(alloc: Global, bytes: &[u8]) -> i64
+    ensures { Answers bytes.now (IsTaken bytes.now) ⊥ result }
+{
+    answer(decode(alloc, bytes))
+}
+
+/// Reads a value from the front of `bytes`, writes it from the front of `out`, and answers how many
+/// bytes were written.
+#[unsafe(no_mangle)]
+pub extern "C" fn amqp_bench_roundtrip(alloc: Global, bytes: &[u8], out: &mut [u8]) -> i64
+    ensures { Answers bytes.now (IsWritten bytes.now) (HasNoRoom bytes.now (length out.old)) result }
+{
+    answer(encode(alloc, bytes, out, 1))
+}
+
+/// Reads a value from the front of `bytes`, writes it `times` times from the front of `out`, and
+/// answers how many bytes were written the last time, 0 where it is written no time.
+#[unsafe(no_mangle)]
+pub extern "C" fn amqp_bench_encode_n(
+    alloc: Global,
+    bytes: &[u8],
+    out: &mut [u8],
+    times: u64,
+) -> i64
+    ensures { Answers bytes.now (IsWrittenOften times bytes.now) (HasNoRoom bytes.now (length out.old)) result }
+{
+    answer(encode(alloc, bytes, out, times))
+}
