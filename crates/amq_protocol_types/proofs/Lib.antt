@@ -15,3 +15,4 @@ pub mod Tables
 pub mod Lengths
 pub mod FlagBits
 pub mod Puts
+pub mod Copies

@@ -5,9 +5,25 @@ ghost use Rattle.std.specs.Prelude.{◌≡◌, ◌<◌, IfOk, OnErr, length};
 use super::traits::ParsableInput;
 use std::alloc::{AllocError, Global};
 
-// A copy of all bytes of the input, by its chunks, and byte by byte where there is none. Takes no
-// memory where there is no byte.
+// A copy of all bytes of the input. Takes no memory where there is no byte.
+#[inline(always)]
+#[tactic(auto, using(crate::proofs::Copies::whole_front))]
 pub(super) fn copy_of<I: ParsableInput>(alloc: Global, input: I) -> Result<Vec<u8>, AllocError>
+    ensures ok { IfOk result (λ bytes. bytes.items ≡ I.bytes input) }
+    ensures err { OnErr result (0 < length (I.bytes input)) }
+{
+    if input.input_len() == 0 {
+        return Ok(Vec::new(alloc));
+    }
+    let chunk = input.chunk();
+    if chunk.len() == input.input_len() {
+        return Vec::from_slice(alloc, chunk);
+    }
+    copy_by_chunks(alloc, input)
+}
+
+// A copy of all bytes of the input, by its chunks, and byte by byte where there is none.
+fn copy_by_chunks<I: ParsableInput>(alloc: Global, input: I) -> Result<Vec<u8>, AllocError>
     ensures ok { IfOk result (λ bytes. bytes.items ≡ I.bytes input) }
     ensures err { OnErr result (0 < length (I.bytes input)) }
 {

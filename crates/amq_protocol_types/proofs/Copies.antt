@@ -1,0 +1,10 @@
+-- Fronts that are as long as the whole.
+use Rattle.std.proofs.Common.{◌≡◌, ℕ, List, ◌++◌, length, ap, sym, ◌∙◌, arith}
+use Rattle.std.proofs.lemmas.List.{append-nil, nil_from_length, length-append}
+use Rattle.amqp_value_core.specs.Fronts.{IsFront}
+
+-- a front with as many bytes as there are is all of them
+pub whole_front : (a s : List ℕ) → IsFront a s → length a ≡ length s → a ≡ s
+whole_front a s (rest, e) same =
+    let none = nil_from_length rest (omega (arith, length-append a rest, ap length e)) in
+    sym (append-nil a) ∙ ap (λ l. a ++ l) (sym none) ∙ sym e
