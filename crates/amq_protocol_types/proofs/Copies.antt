@@ -1,6 +1,6 @@
 -- Fronts that are as long as the whole.
-use Rattle.std.proofs.Common.{◌≡◌, ℕ, List, ◌++◌, length, ap, sym, ◌∙◌, arith}
-use Rattle.std.proofs.lemmas.List.{append-nil, nil_from_length, length-append}
+use Rattle.std.proofs.Common.{◌≡◌, ℕ, ◌≤◌, ◌<◌, List, ◌++◌, length, take, ap, sym, ◌∙◌, subst, arith}
+use Rattle.std.proofs.lemmas.List.{append-nil, nil_from_length, length-append, length-take}
 use Rattle.amqp_value_core.specs.Fronts.{IsFront}
 
 -- a front with as many bytes as there are is all of them
@@ -8,3 +8,9 @@ pub whole_front : (a s : List ℕ) → IsFront a s → length a ≡ length s →
 whole_front a s (rest, e) same =
     let none = nil_from_length rest (omega (arith, length-append a rest, ap length e)) in
     sym (append-nil a) ∙ ap (λ l. a ++ l) (sym none) ∙ sym e
+
+-- the same of the first n bytes, where n are there
+pub whole_taken : (a body left : List ℕ) (n : ℕ) → IsFront a body → body ≡ take n left → n ≤ length left → n ≤ length a → a ≡ take n left
+whole_taken a body left n (rest, e) is there enough =
+    let size = length-take n left in
+    whole_front a body (rest, e) (omega (arith, length-append a rest, ap length e, ap length is, size)) ∙ is

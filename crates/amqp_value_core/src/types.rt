@@ -77,6 +77,7 @@ pub enum AMQPType {
 impl AMQPType {
     /// The type that an id stands for: AMQP's letters as RabbitMQ reads them. `U` is read as `s`
     /// is, and `L` as `l`.
+    #[inline(always)]
     pub fn from_id(id: char) -> Option<AMQPType>
         ensures { result ≡ kind id }
     {

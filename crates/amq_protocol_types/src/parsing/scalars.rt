@@ -15,6 +15,7 @@ use amqp_value_core::types::{
 };
 
 /// Reads the id of a type, one byte.
+#[inline(always)]
 pub fn parse_type<I: ParsableInput>(i: I) -> ParserResult<I, AMQPType>
     ensures { MatchResult result
         (λ x. IsType (I.bytes i) x.1 (I.bytes x.0))
@@ -28,6 +29,7 @@ pub fn parse_type<I: ParsableInput>(i: I) -> ParserResult<I, AMQPType>
 }
 
 /// Reads the number of a class or of a method, two bytes.
+#[inline(always)]
 pub fn parse_id<I: ParsableInput>(i: I) -> ParserResult<I, Identifier>
     ensures { MatchResult result
         (λ x. IsNumberRead w16 (I.bytes i) x.1 (I.bytes x.0))
@@ -37,6 +39,7 @@ pub fn parse_id<I: ParsableInput>(i: I) -> ParserResult<I, Identifier>
 }
 
 /// Reads a truth value, one byte: 0 is false, every other byte true.
+#[inline(always)]
 pub fn parse_boolean<I: ParsableInput>(i: I) -> ParserResult<I, Boolean>
     ensures { MatchResult result
         (λ x. RawOutcome AMQPType.Boolean (I.bytes i) (found (scalar (boolean x.1)) (I.bytes x.0)))
@@ -47,6 +50,7 @@ pub fn parse_boolean<I: ParsableInput>(i: I) -> ParserResult<I, Boolean>
 }
 
 /// Reads an unsigned number of 8 bits.
+#[inline(always)]
 pub fn parse_short_short_uint<I: ParsableInput>(i: I) -> ParserResult<I, ShortShortUInt>
     ensures number { MatchResult result
         (λ x. IsNumberRead w8 (I.bytes i) x.1 (I.bytes x.0))
@@ -62,6 +66,7 @@ pub fn parse_short_short_uint<I: ParsableInput>(i: I) -> ParserResult<I, ShortSh
 }
 
 /// Reads an unsigned number of 16 bits.
+#[inline(always)]
 pub fn parse_short_uint<I: ParsableInput>(i: I) -> ParserResult<I, ShortUInt>
     ensures number { MatchResult result
         (λ x. IsNumberRead w16 (I.bytes i) x.1 (I.bytes x.0))
@@ -79,6 +84,7 @@ pub fn parse_short_uint<I: ParsableInput>(i: I) -> ParserResult<I, ShortUInt>
 }
 
 /// Reads an unsigned number of 32 bits.
+#[inline(always)]
 pub fn parse_long_uint<I: ParsableInput>(i: I) -> ParserResult<I, LongUInt>
     ensures number { MatchResult result
         (λ x. IsNumberRead w32 (I.bytes i) x.1 (I.bytes x.0))
@@ -97,6 +103,7 @@ pub fn parse_long_uint<I: ParsableInput>(i: I) -> ParserResult<I, LongUInt>
 
 /// Reads an unsigned number of 64 bits. `parse_raw_value` gives the signed number of
 /// the same bits for it.
+#[inline(always)]
 pub fn parse_long_long_uint<I: ParsableInput>(i: I) -> ParserResult<I, LongLongUInt>
     ensures { MatchResult result
         (λ x. IsNumberRead w64 (I.bytes i) x.1 (I.bytes x.0))
@@ -120,6 +127,7 @@ pub fn parse_long_long_uint<I: ParsableInput>(i: I) -> ParserResult<I, LongLongU
 }
 
 /// Reads a signed number of 8 bits.
+#[inline(always)]
 pub fn parse_short_short_int<I: ParsableInput>(i: I) -> ParserResult<I, ShortShortInt>
     ensures { MatchResult result
         (λ x. RawOutcome AMQPType.ShortShortInt (I.bytes i)
@@ -131,6 +139,7 @@ pub fn parse_short_short_int<I: ParsableInput>(i: I) -> ParserResult<I, ShortSho
 }
 
 /// Reads a signed number of 16 bits.
+#[inline(always)]
 pub fn parse_short_int<I: ParsableInput>(i: I) -> ParserResult<I, ShortInt>
     ensures { MatchResult result
         (λ x. RawOutcome AMQPType.ShortInt (I.bytes i)
@@ -142,6 +151,7 @@ pub fn parse_short_int<I: ParsableInput>(i: I) -> ParserResult<I, ShortInt>
 }
 
 /// Reads a signed number of 32 bits.
+#[inline(always)]
 pub fn parse_long_int<I: ParsableInput>(i: I) -> ParserResult<I, LongInt>
     ensures { MatchResult result
         (λ x. RawOutcome AMQPType.LongInt (I.bytes i)
@@ -153,6 +163,7 @@ pub fn parse_long_int<I: ParsableInput>(i: I) -> ParserResult<I, LongInt>
 }
 
 /// Reads a signed number of 64 bits.
+#[inline(always)]
 pub fn parse_long_long_int<I: ParsableInput>(i: I) -> ParserResult<I, LongLongInt>
     ensures { MatchResult result
         (λ x. RawOutcome AMQPType.LongLongInt (I.bytes i)
@@ -164,6 +175,7 @@ pub fn parse_long_long_int<I: ParsableInput>(i: I) -> ParserResult<I, LongLongIn
 }
 
 /// Reads the bits of a floating-point number of 32 bits.
+#[inline(always)]
 pub fn parse_float<I: ParsableInput>(i: I) -> ParserResult<I, Float>
     ensures { MatchResult result
         (λ x. RawOutcome AMQPType.Float (I.bytes i)
@@ -175,6 +187,7 @@ pub fn parse_float<I: ParsableInput>(i: I) -> ParserResult<I, Float>
 }
 
 /// Reads the bits of a floating-point number of 64 bits.
+#[inline(always)]
 pub fn parse_double<I: ParsableInput>(i: I) -> ParserResult<I, Double>
     ensures { MatchResult result
         (λ x. RawOutcome AMQPType.Double (I.bytes i)
@@ -186,6 +199,7 @@ pub fn parse_double<I: ParsableInput>(i: I) -> ParserResult<I, Double>
 }
 
 /// Reads a time, an unsigned number of 64 bits.
+#[inline(always)]
 pub fn parse_timestamp<I: ParsableInput>(i: I) -> ParserResult<I, Timestamp>
     ensures { MatchResult result
         (λ x. RawOutcome AMQPType.Timestamp (I.bytes i)
@@ -197,6 +211,7 @@ pub fn parse_timestamp<I: ParsableInput>(i: I) -> ParserResult<I, Timestamp>
 }
 
 /// Reads a decimal number: its scale in one byte, then its digits as an unsigned number of 32 bits.
+#[inline(always)]
 pub fn parse_decimal_value<I: ParsableInput>(i: I) -> ParserResult<I, DecimalValue>
     ensures { MatchResult result
         (λ x. RawOutcome AMQPType.DecimalValue (I.bytes i)

@@ -40,9 +40,38 @@ pub fn parse_short_string<I: ParsableInput>(alloc: Global, i: I) -> ParserResult
     }
 }
 
+// Reads a key, as `parse_short_string` does, and looks at its bytes where they lie, before they are
+// copied.
+#[inline(always)]
+pub(super) fn parse_key<I: ParsableInput>(alloc: Global, i: I) -> ParserResult<I, ShortString>
+    ensures { MatchResult result
+        (λ x. RawOutcome AMQPType.ShortString (I.bytes i) (found (short x.1) (I.bytes x.0)))
+        (RawRefuses AMQPType.ShortString (I.bytes i)) }
+{
+    let (behind, len) = parse_short_short_uint(i)?;
+    let len = usize::from(len);
+    let there = behind.input_len();
+    if there < len {
+        return Err(lacks(len - there));
+    }
+    let body = behind.take(len);
+    let chunk = body.chunk();
+    if chunk.len() < len {
+        return parse_short_string(alloc, i);
+    }
+    let Ok(text) = str::from_utf8(chunk) else {
+        return Err(refused(ErrorKind::MapRes));
+    };
+    let Ok(key) = ShortString::try_copy(alloc, text) else {
+        return Err(out_of_memory());
+    };
+    Ok((behind.take_from(len), key))
+}
+
 /// Reads a long string: its length in four bytes, then its bytes, of any kind.
 ///
 /// Memory is taken only for a string that isn't empty and whose bytes are all there.
+#[inline(always)]
 pub fn parse_long_string<I: ParsableInput>(alloc: Global, i: I) -> ParserResult<I, LongString>
     ensures { MatchResult result
         (λ x. RawOutcome AMQPType.LongString (I.bytes i) (found (long (long_bytes x.1)) (I.bytes x.0)))
@@ -71,6 +100,7 @@ pub fn parse_byte_array<I: ParsableInput>(alloc: Global, i: I) -> ParserResult<I
 }
 
 // Reads a length in four bytes, and takes as many bytes, once all of them are there.
+#[inline(always)]
 pub(super) fn parse_frame<I: ParsableInput>(i: I) -> ParserResult<I, I>
     ensures { MatchResult result
         (λ x. IsFrame (I.bytes i) (I.bytes x.1) (I.bytes x.0))

@@ -14,7 +14,9 @@ use super::scalars::{
     parse_long_long_int, parse_long_uint, parse_short_int, parse_short_short_int,
     parse_short_short_uint, parse_short_uint, parse_timestamp, parse_type,
 };
-use super::strings::{parse_byte_array, parse_frame, parse_long_string, parse_short_string};
+use super::strings::{
+    parse_byte_array, parse_frame, parse_key, parse_long_string, parse_short_string,
+};
 use super::traits::ParsableInput;
 use amqp_value_core::types::{AMQPType, FieldArray, FieldTable};
 use amqp_value_core::value::AMQPValue;
@@ -25,6 +27,7 @@ use std::alloc::Global;
 /// What is read can be written again, in no more bytes than it was read from. It recurses as deep as containers nest, which the input's length alone bounds. Memory is taken
 /// only for strings, byte arrays and containers whose bytes are all there.
 #[cycle(parser)]
+#[inline(always)]
 #[tactic(auto, using(amqp_value_core::proofs::GrammarLaws::one_outcome, amqp_value_core::proofs::GrammarLaws::more_bytes))]
 pub fn parse_value<I: ParsableInput>(alloc: Global, i: I) -> ParserResult<I, AMQPValue>
     ensures outcome { MatchResult result
@@ -43,6 +46,7 @@ pub fn parse_value<I: ParsableInput>(alloc: Global, i: I) -> ParserResult<I, AMQ
 ///
 /// A `LongLongUInt` is given as the `LongLongInt` of the same bits.
 #[cycle(parser)]
+#[inline(always)]
 pub fn parse_raw_value<I: ParsableInput>(
     alloc: Global,
     amqp_type: AMQPType,
@@ -145,6 +149,7 @@ pub fn parse_field_array<I: ParsableInput>(alloc: Global, i: I) -> ParserResult<
 
 // Reads values one after another to the end of the body.
 #[cycle(parser)]
+#[inline(never)]
 fn parse_body<I: ParsableInput>(alloc: Global, body: I) -> Result<FieldArray, ParserError>
     ensures { MatchResult result
         (λ array. Body (I.bytes body) (array_view array))
@@ -182,6 +187,7 @@ pub fn parse_field_table<I: ParsableInput>(alloc: Global, i: I) -> ParserResult<
 
 // Reads keys, each with a value, one after another to the end of the body.
 #[cycle(parser)]
+#[inline(never)]
 fn parse_pairs<I: ParsableInput>(alloc: Global, body: I) -> Result<FieldTable, ParserError>
     ensures { MatchResult result
         (λ table. IsTable (I.bytes body) (table_view table))
@@ -190,7 +196,7 @@ fn parse_pairs<I: ParsableInput>(alloc: Global, body: I) -> Result<FieldTable, P
     let mut table = FieldTable::new_in(alloc);
     let mut rest = body;
     'pairs: while rest.input_len() > 0 {
-        let (behind_key, key) = match parse_short_string(alloc, rest) {
+        let (behind_key, key) = match parse_key(alloc, rest) {
             Ok(read) => read,
             Err(e) => return Err(inside(e)),
         };
