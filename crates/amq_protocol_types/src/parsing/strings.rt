@@ -1,22 +1,22 @@
 //! Parsers of strings and byte arrays: a length, then as many bytes.
 
-ghost use Rattle.std.specs.Prelude.{◌≡◌, MatchResult};
+ghost use Rattle.std.specs.Prelude.{◌≡◌, ◌<◌, true, length, MatchResult, IfOk, OnErr, if◌then◌else◌};
 ghost use Rattle.amqp_value_core.specs.Values.{short, long, octets};
 ghost use Rattle.amqp_value_core.specs.Bytes.{long_bytes, array_bytes};
 ghost use Rattle.amqp_value_core.specs.Outcomes.{RawOutcome, RawHeavy, found};
 ghost use Rattle.amq_protocol_types.specs.Answers.{Refuses, RawRefuses, IsFrame, IsCutFrame};
 
-use super::bytes::copy_of;
+use super::bytes::{copy_by_chunks, copy_of};
 use super::errors::{ErrorKind, ParserResult, lacks, out_of_memory, refused};
 use super::scalars::{parse_long_uint, parse_short_short_uint};
 use super::traits::ParsableInput;
 use amqp_value_core::types::{AMQPType, ByteArray, LongString, ShortString};
-use std::alloc::Global;
+use std::alloc::{AllocError, Global};
 
 /// Reads a short string: its length in one byte, then its bytes, which are UTF-8.
 ///
-/// The bytes are looked at once all of them are there. Memory is taken only for a string that isn't
-/// empty.
+/// The bytes are looked at once all of them are there, and copied where they are a text. Memory is
+/// taken only for a string that isn't empty.
 pub fn parse_short_string<I: ParsableInput>(alloc: Global, i: I) -> ParserResult<I, ShortString>
     ensures { MatchResult result
         (λ x. RawOutcome AMQPType.ShortString (I.bytes i) (found (short x.1) (I.bytes x.0)))
@@ -28,44 +28,45 @@ pub fn parse_short_string<I: ParsableInput>(alloc: Global, i: I) -> ParserResult
     if there < len {
         return Err(lacks(len - there));
     }
-    let Ok(bytes) = copy_of(alloc, i.take(len)) else {
+    let body = i.take(len);
+    let chunk = body.chunk();
+    // bytes that don't lie in one piece are put together first
+    let in_pieces = chunk.len() < len;
+    let Ok(joined) = joined(alloc, body, in_pieces) else {
         return Err(out_of_memory());
     };
-    let Ok(text) = String::from_utf8(bytes) else {
+    let Ok(text) = str::from_utf8(whole(in_pieces, joined.as_slice(), chunk)) else {
         return Err(refused(ErrorKind::MapRes));
     };
-    match ShortString::try_new(text) {
-        Ok(text) => Ok((i.take_from(len), text)),
-        Err(_) => unreachable!(),
+    let Ok(text) = ShortString::try_copy(alloc, text) else {
+        return Err(out_of_memory());
+    };
+    Ok((i.take_from(len), text))
+}
+
+// A copy of an input's bytes where they lie in pieces, and no byte where they don't.
+#[inline(always)]
+fn joined<I: ParsableInput>(
+    alloc: Global,
+    input: I,
+    in_pieces: bool,
+) -> Result<Vec<u8>, AllocError>
+    ensures ok { IfOk result (λ bytes. in_pieces ≡ true → bytes.items ≡ I.bytes input) }
+    ensures err { OnErr result (0 < length (I.bytes input)) }
+{
+    if in_pieces {
+        copy_by_chunks(alloc, input)
+    } else {
+        Ok(Vec::new(alloc))
     }
 }
 
-// Reads a key, as `parse_short_string` does, and looks at its bytes where they lie, before they are
-// copied.
+// The bytes that were joined, where they lie in pieces, or else the chunk that has all of them.
 #[inline(always)]
-pub(super) fn parse_key<I: ParsableInput>(alloc: Global, i: I) -> ParserResult<I, ShortString>
-    ensures { MatchResult result
-        (λ x. RawOutcome AMQPType.ShortString (I.bytes i) (found (short x.1) (I.bytes x.0)))
-        (RawRefuses AMQPType.ShortString (I.bytes i)) }
+fn whole<'a>(in_pieces: bool, joined: &'a [u8], chunk: &'a [u8]) -> &'a [u8]
+    ensures { result.now ≡ if in_pieces then joined.now else chunk.now }
 {
-    let (behind, len) = parse_short_short_uint(i)?;
-    let len = usize::from(len);
-    let there = behind.input_len();
-    if there < len {
-        return Err(lacks(len - there));
-    }
-    let body = behind.take(len);
-    let chunk = body.chunk();
-    if chunk.len() < len {
-        return parse_short_string(alloc, i);
-    }
-    let Ok(text) = str::from_utf8(chunk) else {
-        return Err(refused(ErrorKind::MapRes));
-    };
-    let Ok(key) = ShortString::try_copy(alloc, text) else {
-        return Err(out_of_memory());
-    };
-    Ok((behind.take_from(len), key))
+    if in_pieces { joined } else { chunk }
 }
 
 /// Reads a long string: its length in four bytes, then its bytes, of any kind.

@@ -1,6 +1,6 @@
 //! Parsers of values and of containers.
 
-ghost use Rattle.std.specs.Prelude.{◌≡◌, ◌<◌, ◌-◌, MatchResult, IfOk, length};
+ghost use Rattle.std.specs.Prelude.{◌≡◌, ◌≢◌, ◌<◌, ◌-◌, MatchResult, IfOk, length};
 ghost use Rattle.amqp_value_core.specs.Values.{array, table};
 ghost use Rattle.amqp_value_core.specs.Grammar.{Body};
 ghost use Rattle.amqp_value_core.specs.Outcomes.{Outcome, RawOutcome, Heavy, RawHeavy, found};
@@ -14,9 +14,7 @@ use super::scalars::{
     parse_long_long_int, parse_long_uint, parse_short_int, parse_short_short_int,
     parse_short_short_uint, parse_short_uint, parse_timestamp, parse_type,
 };
-use super::strings::{
-    parse_byte_array, parse_frame, parse_key, parse_long_string, parse_short_string,
-};
+use super::strings::{parse_byte_array, parse_frame, parse_long_string, parse_short_string};
 use super::traits::ParsableInput;
 use amqp_value_core::types::{AMQPType, FieldArray, FieldTable};
 use amqp_value_core::value::AMQPValue;
@@ -28,7 +26,7 @@ use std::alloc::Global;
 /// only for strings, byte arrays and containers whose bytes are all there.
 #[cycle(parser)]
 #[inline(always)]
-#[tactic(auto, using(amqp_value_core::proofs::GrammarLaws::one_outcome, amqp_value_core::proofs::GrammarLaws::more_bytes))]
+#[tactic(auto, using(amqp_value_core::proofs::GrammarLaws::one_outcome, amqp_value_core::proofs::GrammarLaws::more_bytes, crate::proofs::Typed::never_short))]
 pub fn parse_value<I: ParsableInput>(alloc: Global, i: I) -> ParserResult<I, AMQPValue>
     ensures outcome { MatchResult result
         (λ x. Outcome (I.bytes i) (found (view x.1) (I.bytes x.0)))
@@ -39,19 +37,39 @@ pub fn parse_value<I: ParsableInput>(alloc: Global, i: I) -> ParserResult<I, AMQ
         IsBounded (length (I.bytes i) - length (I.bytes x.0)) (view x.1)) }
 {
     let (i, amqp_type) = parse_type(i)?;
-    parse_raw_value(alloc, amqp_type, i)
+    parse_payload(alloc, amqp_type, i)
 }
 
 /// Reads the payload of a value of the type.
 ///
 /// A `LongLongUInt` is given as the `LongLongInt` of the same bits.
-#[cycle(parser)]
-#[inline(always)]
 pub fn parse_raw_value<I: ParsableInput>(
     alloc: Global,
     amqp_type: AMQPType,
     i: I,
 ) -> ParserResult<I, AMQPValue>
+    ensures { MatchResult result
+        (λ x. RawOutcome amqp_type (I.bytes i) (found (view x.1) (I.bytes x.0)))
+        (RawRefuses amqp_type (I.bytes i)) }
+{
+    match amqp_type {
+        AMQPType::ShortString => {
+            let (i, s) = parse_short_string(alloc, i)?;
+            Ok((i, AMQPValue::ShortString(s)))
+        }
+        _ => parse_payload(alloc, amqp_type, i),
+    }
+}
+
+// Reads the payload of a value of the type, which isn't `ShortString`: no id stands for that one.
+#[cycle(parser)]
+#[inline(always)]
+fn parse_payload<I: ParsableInput>(
+    alloc: Global,
+    amqp_type: AMQPType,
+    i: I,
+) -> ParserResult<I, AMQPValue>
+    requires { amqp_type ≢ AMQPType.ShortString }
     ensures { MatchResult result
         (λ x. RawOutcome amqp_type (I.bytes i) (found (view x.1) (I.bytes x.0)))
         (RawRefuses amqp_type (I.bytes i)) }
@@ -105,10 +123,7 @@ pub fn parse_raw_value<I: ParsableInput>(
             let (i, d) = parse_decimal_value(i)?;
             Ok((i, AMQPValue::DecimalValue(d)))
         }
-        AMQPType::ShortString => {
-            let (i, s) = parse_short_string(alloc, i)?;
-            Ok((i, AMQPValue::ShortString(s)))
-        }
+        AMQPType::ShortString => unreachable!(),
         AMQPType::LongString => {
             let (i, s) = parse_long_string(alloc, i)?;
             Ok((i, AMQPValue::LongString(s)))
@@ -196,7 +211,7 @@ fn parse_pairs<I: ParsableInput>(alloc: Global, body: I) -> Result<FieldTable, P
     let mut table = FieldTable::new_in(alloc);
     let mut rest = body;
     'pairs: while rest.input_len() > 0 {
-        let (behind_key, key) = match parse_key(alloc, rest) {
+        let (behind_key, key) = match parse_short_string(alloc, rest) {
             Ok(read) => read,
             Err(e) => return Err(inside(e)),
         };

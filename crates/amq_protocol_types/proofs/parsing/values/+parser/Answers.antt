@@ -47,20 +47,20 @@ parse_field_array-returns g t c =
     array_found (g.I.ParsableInput.bytes c.args.i) (g.I.ParsableInput.bytes c.in_ok-i.body) (g.I.ParsableInput.bytes c.in_ok-i.i) c.in_ok-i.ensures
     (array_view c.in_ok-array.array) c.in_ok-array.ensures
 
-pub parse_raw_value-returns-in-Void : goal.parse_raw_value-returns-in-Void
-parse_raw_value-returns-in-Void g t c =
+pub parse_payload-returns-in-Void : goal.parse_payload-returns-in-Void
+parse_payload-returns-in-Void g t c =
     let s = g.I.ParsableInput.bytes c.args.i in
     rw c.in-Void.is
     (subst (λ (v : Tree). RawOutcome amqp.Void s (found v s)) (sym view-Void) (void_found s))
 
-pub parse_raw_value-returns-in_err-i-in-LongLongUInt : goal.parse_raw_value-returns-in_err-i-in-LongLongUInt
-parse_raw_value-returns-in_err-i-in-LongLongUInt g t c =
+pub parse_payload-returns-in_err-i-in-LongLongUInt : goal.parse_payload-returns-in_err-i-in-LongLongUInt
+parse_payload-returns-in_err-i-in-LongLongUInt g t c =
     let p = err_from_is_err_and c.from_residual-in_err-i-in-LongLongUInt.result c.from_residual-in_err-i-in-LongLongUInt.ensures.1 in
     rw (p.1, p.2, c.in-LongLongUInt.is)
     (unsigned_refused (g.I.ParsableInput.bytes c.args.i) c.in_err-i-in-LongLongUInt.field-0.0 c.in_err-i-in-LongLongUInt.ensures)
 
-pub parse_raw_value-returns-in_ok-i-in-LongLongUInt : goal.parse_raw_value-returns-in_ok-i-in-LongLongUInt
-parse_raw_value-returns-in_ok-i-in-LongLongUInt g t c =
+pub parse_payload-returns-in_ok-i-in-LongLongUInt : goal.parse_payload-returns-in_ok-i-in-LongLongUInt
+parse_payload-returns-in_ok-i-in-LongLongUInt g t c =
     let s = g.I.ParsableInput.bytes c.args.i in
     let o = found (view (LongLongInt (cast_signed w64 (cast_unsigned w64 c.in_ok-i-in-LongLongUInt.n)))) (g.I.ParsableInput.bytes c.in_ok-i-in-LongLongUInt.i) in
     let x : RawOutcome amqp.LongLongInt s o = search (rules, the_lemmas) in
@@ -111,11 +111,11 @@ parse_pairs-returns g t c =
 pub parse_value-returns-clause-outcome : goal.parse_value-returns-clause-outcome
 parse_value-returns-clause-outcome g t c =
     typed_answer (g.I.ParsableInput.bytes c.args.i) (g.I.ParsableInput.bytes c.in_ok-i.i) c.in_ok-i.amqp_type c.in_ok-i.ensures
-    g.I.ParsableInput.bytes c.parse_raw_value.result c.parse_raw_value.ensures
+    g.I.ParsableInput.bytes c.parse_payload.result c.parse_payload.ensures
 
 pub parse_value-returns-clause-bounded : goal.parse_value-returns-clause-bounded
 parse_value-returns-clause-bounded g t c =
     let bytes = g.I.ParsableInput.bytes in
     let s = bytes c.args.i in
-    bounded_answer bytes s c.parse_raw_value.result
-    (typed_answer s (bytes c.in_ok-i.i) c.in_ok-i.amqp_type c.in_ok-i.ensures bytes c.parse_raw_value.result c.parse_raw_value.ensures)
+    bounded_answer bytes s c.parse_payload.result
+    (typed_answer s (bytes c.in_ok-i.i) c.in_ok-i.amqp_type c.in_ok-i.ensures bytes c.parse_payload.result c.parse_payload.ensures)

@@ -8,8 +8,8 @@ use Rattle.amq_protocol_types.proofs.parsing.values.+parser.Given as goal
 abbrev pub decreases-parse_value : goal.decreases-parse_value
 decreases-parse_value g l = 4 * length (g.I.ParsableInput.bytes l.i)
 
-abbrev pub decreases-parse_raw_value : goal.decreases-parse_raw_value
-decreases-parse_raw_value g l = 4 * length (g.I.ParsableInput.bytes l.i) + 2
+abbrev pub decreases-parse_payload : goal.decreases-parse_payload
+decreases-parse_payload g l = 4 * length (g.I.ParsableInput.bytes l.i) + 2
 
 abbrev pub decreases-parse_field_array : goal.decreases-parse_field_array
 decreases-parse_field_array g l = 4 * length (g.I.ParsableInput.bytes l.i) + 1
