@@ -17,7 +17,9 @@ pub(super) fn copy_of<I: ParsableInput>(alloc: Global, input: I) -> Result<Vec<u
     }
     let chunk = input.chunk();
     if chunk.len() == input.input_len() {
-        return Vec::from_slice(alloc, chunk);
+        let mut bytes = Vec::with_capacity(alloc, chunk.len())?;
+        bytes.extend_from_slice(chunk)?;
+        return Ok(bytes);
     }
     copy_by_chunks(alloc, input)
 }

@@ -152,6 +152,7 @@ fn parse_payload<I: ParsableInput>(
 ///
 /// The body is taken whole before a value of it is looked at.
 #[cycle(parser)]
+#[inline(always)]
 pub fn parse_field_array<I: ParsableInput>(alloc: Global, i: I) -> ParserResult<I, FieldArray>
     ensures { MatchResult result
         (λ x. RawOutcome AMQPType.FieldArray (I.bytes i) (found (array (array_view x.1)) (I.bytes x.0)))
@@ -190,6 +191,7 @@ fn parse_body<I: ParsableInput>(alloc: Global, body: I) -> Result<FieldArray, Pa
 ///
 /// The body is taken whole before an entry of it is looked at.
 #[cycle(parser)]
+#[inline(always)]
 pub fn parse_field_table<I: ParsableInput>(alloc: Global, i: I) -> ParserResult<I, FieldTable>
     ensures { MatchResult result
         (λ x. RawOutcome AMQPType.FieldTable (I.bytes i) (found (table (table_view x.1)) (I.bytes x.0)))
