@@ -10,6 +10,8 @@ ghost use Rattle.amqp_bench.specs.Calls.{Answers, IsTaken, IsWritten, IsWrittenO
 
 mod calls;
 mod fault;
+#[cfg(test)]
+mod tests;
 
 use calls::{decode, encode};
 use fault::answer;

@@ -1,0 +1,43 @@
+use super::*;
+
+#[test]
+fn takes_a_value(rt: HostRuntime) {
+    assert_eq!(rt; amqp_bench_decode(rt.alloc(), &[b'F', 0, 0, 0, 0]), 5);
+    assert_eq!(rt; amqp_bench_decode(rt.alloc(), &[b'I', 0, 0, 0, 7, 99]), 5);
+    assert_eq!(rt; amqp_bench_decode(rt.alloc(), &[b'S', 0, 0, 0, 1, 65]), 6);
+}
+
+#[test]
+fn takes_no_value(rt: HostRuntime) {
+    assert_eq!(rt; amqp_bench_decode(rt.alloc(), &[]), -1);
+    assert_eq!(rt; amqp_bench_decode(rt.alloc(), &[b'S', 0, 0, 0, 3, 1]), -1);
+    assert_eq!(rt; amqp_bench_decode(rt.alloc(), &[b'z']), -2);
+}
+
+/// No contract says that the caller's room then holds the bytes of the value: this shows it.
+#[test]
+fn writes_to_the_room(rt: HostRuntime) {
+    let mut room = [9; 4];
+    assert_eq!(rt; amqp_bench_roundtrip(rt.alloc(), &[b't', 7], &mut room), 2);
+    assert_eq!(rt; room, [b't', 1, 9, 9]);
+    assert_eq!(rt;
+        amqp_bench_roundtrip(rt.alloc(), &[b't', 7], &mut room[..1]),
+        -4
+    );
+}
+
+/// No contract says that the caller's room stays as it was where nothing is written: this shows it.
+#[test]
+fn writes_often(rt: HostRuntime) {
+    let mut room = [9; 4];
+    assert_eq!(rt;
+        amqp_bench_encode_n(rt.alloc(), &[b't', 7], &mut room, 0),
+        0
+    );
+    assert_eq!(rt; room, [9, 9, 9, 9]);
+    assert_eq!(rt;
+        amqp_bench_encode_n(rt.alloc(), &[b't', 7], &mut room, 3),
+        2
+    );
+    assert_eq!(rt; room, [b't', 1, 9, 9]);
+}
