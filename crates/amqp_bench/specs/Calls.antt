@@ -38,13 +38,9 @@ IsRead s n v = (rest : List ℕ) × Outcome s (found v rest) × (n + length rest
 abbrev pub IsTaken : List ℕ → ℕ → Type 0
 IsTaken s n = (v : Tree) × IsRead s n v
 
--- the text of the value that is read from s has n bytes
-abbrev pub IsWritten : List ℕ → ℕ → Type 0
-IsWritten s n = (v : Tree) × (rest : List ℕ) × Outcome s (found v rest) × (n ≡ length (text v))
-
--- the same, and 0 where it is written no time
-abbrev pub IsWrittenOften : ℕ → List ℕ → ℕ → Type 0
-IsWrittenOften times s n = (times ≡ 0 → n ≡ 0) × (0 < times → IsWritten s n)
+-- a value is read from s and written so many times: n is 0 where that is no time, and else the length of its text
+abbrev pub IsWritten : ℕ → List ℕ → ℕ → Type 0
+IsWritten times s n = (v : Tree) × (rest : List ℕ) × Outcome s (found v rest) × (times ≡ 0 → n ≡ 0) × (0 < times → n ≡ length (text v))
 
 -- the text of the value that is read from s has more than n bytes
 abbrev pub HasNoRoom : List ℕ → ℕ → Type 0

@@ -3,7 +3,7 @@
 ghost use Rattle.std.specs.Prelude.{◌≡◌, ◌<◌, ◌≤◌, length, MatchResult, IfOk, IfErr};
 ghost use Rattle.amqp_value_core.specs.Texts.{text, Fits};
 ghost use Rattle.amqp_value_core.specs.View.{view};
-ghost use Rattle.amqp_bench.specs.Calls.{IsFault, IsTooSmall, IsRead, IsTaken, IsWrittenOften, HasNoRoom};
+ghost use Rattle.amqp_bench.specs.Calls.{IsFault, IsTooSmall, IsRead, IsTaken, IsWritten, HasNoRoom};
 
 use crate::fault::Fault;
 use amq_protocol_types::AMQPValue;
@@ -25,7 +25,7 @@ pub fn decode(alloc: Global, bytes: &[u8]) -> Result<usize, Fault>
 #[tactic(auto, using(crate::proofs::Written::written_often))]
 pub fn encode(alloc: Global, bytes: &[u8], out: &mut [u8], times: u64) -> Result<usize, Fault>
     ensures written { MatchResult result
-        (IsWrittenOften times bytes.now)
+        (IsWritten times bytes.now)
         (IsFault bytes.now (HasNoRoom bytes.now (length out.old))) }
     ensures small { IfOk result (λ n. n ≤ length out.old) }
 {

@@ -25,7 +25,10 @@ pub(super) fn copy_of<I: ParsableInput>(alloc: Global, input: I) -> Result<Vec<u
 }
 
 // A copy of all bytes of the input, by its chunks, and byte by byte where there is none.
-pub(super) fn copy_by_chunks<I: ParsableInput>(alloc: Global, input: I) -> Result<Vec<u8>, AllocError>
+pub(super) fn copy_by_chunks<I: ParsableInput>(
+    alloc: Global,
+    input: I,
+) -> Result<Vec<u8>, AllocError>
     ensures ok { IfOk result (λ bytes. bytes.items ≡ I.bytes input) }
     ensures err { OnErr result (0 < length (I.bytes input)) }
 {

@@ -46,11 +46,7 @@ pub fn parse_short_string<I: ParsableInput>(alloc: Global, i: I) -> ParserResult
 
 // A copy of an input's bytes where they lie in pieces, and no byte where they don't.
 #[inline(always)]
-fn joined<I: ParsableInput>(
-    alloc: Global,
-    input: I,
-    in_pieces: bool,
-) -> Result<Vec<u8>, AllocError>
+fn joined<I: ParsableInput>(alloc: Global, input: I, in_pieces: bool) -> Result<Vec<u8>, AllocError>
     ensures ok { IfOk result (λ bytes. in_pieces ≡ true → bytes.items ≡ I.bytes input) }
     ensures err { OnErr result (0 < length (I.bytes input)) }
 {

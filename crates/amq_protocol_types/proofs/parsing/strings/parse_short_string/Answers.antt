@@ -1,4 +1,4 @@
-use Rattle.std.proofs.Common.{◌≡◌, length, take, refl, sym, ◌∙◌, subst, rules, arith}
+use Rattle.std.proofs.Common.{◌≡◌, take, refl, sym, ◌∙◌, subst, rules, arith}
 use Rattle.std.specs.Str.{IsUtf8}
 use Rattle.amq_protocol_types.proofs.Copies.{whole_or_joined}
 use Rattle.amq_protocol_types.proofs.Frames.{short_found, short_refused}
