@@ -16,3 +16,4 @@ pub mod Lengths
 pub mod FlagBits
 pub mod Puts
 pub mod Copies
+pub mod Gathered

@@ -8,3 +8,4 @@ pub mod Vectors
 pub mod Devices
 pub mod Lengths
 pub mod Flags
+pub mod Gathering

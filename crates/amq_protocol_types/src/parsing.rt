@@ -3,6 +3,7 @@
 mod bytes;
 mod errors;
 mod flags;
+mod pairs;
 mod scalars;
 mod strings;
 pub mod traits;

@@ -20,3 +20,4 @@ mod Agreement
 mod Headlines
 pub mod GrammarLaws
 pub mod Copies
+pub mod Gathered

@@ -92,6 +92,22 @@ fn a_table_keeps_one_value_at_a_key(rt: HostRuntime) -> Result<(), Fail> {
 }
 
 #[test]
+fn a_table_is_made_of_pairs(rt: HostRuntime) -> Result<(), Fail> {
+    let pairs = vec![in rt.alloc();
+        (key(rt.alloc(), "b")?, AMQPValue::Void),
+        (key(rt.alloc(), "a")?, AMQPValue::Void),
+        (key(rt.alloc(), "b")?, AMQPValue::LongInt(1)),
+    ]?;
+    let made = FieldTable::from_pairs(rt.alloc(), pairs)?;
+
+    let mut table = FieldTable::new_in(rt.alloc());
+    table.place(key(rt.alloc(), "a")?, AMQPValue::Void)?;
+    table.place(key(rt.alloc(), "b")?, AMQPValue::LongInt(1))?;
+    assert!(rt; made == table);
+    Ok(())
+}
+
+#[test]
 fn floats_are_equal_by_their_bits(rt: HostRuntime) {
     let nan = Float::from_bits(0x7fc0_0000);
     assert!(rt; nan == nan);

@@ -7,7 +7,8 @@ use super::traits::ParsableInput;
 use super::*;
 use amqp_value_core::types::{AMQPType, DecimalValue, Double, Float};
 use amqp_value_core::value::AMQPValue;
-use std::alloc::Global;
+use std::alloc::{AllocError, Global};
+use std::test::Fail;
 
 // whether a number was read, and so many bytes are left
 fn reads<I: ParsableInput, T: Copy + PartialEq>(
@@ -224,6 +225,24 @@ fn reads_containers(rt: HostRuntime) {
     assert!(rt; is_array_of(&array, &[104, 105]));
     let table = value_of(alloc, &[70, 0, 0, 0, 8, 1, 97, 116, 0, 1, 97, 116, 1]);
     assert!(rt; is_table_of(&table, "a", true));
+}
+
+// so many pairs with the key `k` and true, and one more with false, behind their length
+fn many_pairs(alloc: Global) -> Result<Vec<u8>, AllocError> {
+    let mut bytes = Vec::from_slice(alloc, &[70, 0, 0, 70, 84])?;
+    for _ in 0..4500 {
+        bytes.extend_from_slice(&[1, 107, 116, 1])?;
+    }
+    bytes.extend_from_slice(&[1, 107, 116, 0])?;
+    Ok(bytes)
+}
+
+/// Many pairs are gathered before a table is made of them.
+#[test]
+fn reads_a_table_of_many_pairs(rt: HostRuntime) -> Result<(), Fail> {
+    let bytes = many_pairs(rt.alloc())?;
+    assert!(rt; is_table_of(&value_of(rt.alloc(), bytes.as_slice()), "k", false));
+    Ok(())
 }
 
 // the bytes of a slice, one by one

@@ -9,6 +9,7 @@ ghost use Rattle.amqp_value_core.specs.Headline.{IsBounded};
 ghost use Rattle.amq_protocol_types.specs.Answers.{Refuses, RawRefuses, HasOneOutcome, KeepsOutcome, IsNoBody, IsTable, IsNoTable};
 
 use super::errors::{ParserError, ParserResult, inside, out_of_memory};
+use super::pairs::{has_many_pairs, keep, table_of};
 use super::scalars::{
     parse_boolean, parse_decimal_value, parse_double, parse_float, parse_long_int,
     parse_long_long_int, parse_long_uint, parse_short_int, parse_short_short_int,
@@ -210,7 +211,12 @@ fn parse_pairs<I: ParsableInput>(alloc: Global, body: I) -> Result<FieldTable, P
         (λ table. IsTable (I.bytes body) (table_view table))
         (Refuses (IsNoTable (I.bytes body)) (0 < length (I.bytes body))) }
 {
+    if body.input_len() == 0 {
+        return Ok(FieldTable::new_in(alloc));
+    }
+    let many = has_many_pairs(body);
     let mut table = FieldTable::new_in(alloc);
+    let mut pairs = Vec::new(alloc);
     let mut rest = body;
     'pairs: while rest.input_len() > 0 {
         let (behind_key, key) = match parse_short_string(alloc, rest) {
@@ -221,10 +227,13 @@ fn parse_pairs<I: ParsableInput>(alloc: Global, body: I) -> Result<FieldTable, P
             Ok(read) => read,
             Err(e) => return Err(inside(e)),
         };
-        if table.place(key, value).is_err() {
+        if keep(many, &mut table, &mut pairs, key, value).is_err() {
             return Err(out_of_memory());
         }
         rest = after;
     }
-    Ok(table)
+    match table_of(alloc, many, table, pairs) {
+        Ok(table) => Ok(table),
+        Err(_) => Err(out_of_memory()),
+    }
 }

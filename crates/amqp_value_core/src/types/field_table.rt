@@ -1,8 +1,8 @@
 ghost use Rattle.std.specs.Prelude.{◌≡◌, [], OnOk, OnErr, IfOk};
 ghost use Rattle.std.specs.Borrow.{sem};
-ghost use Rattle.amqp_value_core.specs.Values.{put};
+ghost use Rattle.amqp_value_core.specs.Values.{no_entries, put, onto};
 ghost use Rattle.amqp_value_core.specs.Maps.{has_key};
-ghost use Rattle.amqp_value_core.specs.View.{view, table_entries, table_view};
+ghost use Rattle.amqp_value_core.specs.View.{view, entries, table_entries, table_view};
 ghost use Rattle.amqp_value_core.specs.Lending.{Rests, RestsIn, bare_of};
 
 use crate::types::ShortString;
@@ -70,6 +70,20 @@ impl FieldTable {
     {
         drop(self.map.insert(k, v)?);
         Ok(())
+    }
+
+    /// The table of the pairs, put one after another: of equal keys the last one's value stays. It is
+    /// faster than to put each from some hundred pairs on, and takes more memory meanwhile.
+    #[inline(never)]
+    #[tactic(auto, using(crate::proofs::Gathered::made_of))]
+    pub fn from_pairs(
+        alloc: Global,
+        pairs: Vec<(ShortString, AMQPValue)>,
+    ) -> Result<FieldTable, AllocError>
+        ensures { IfOk result (λ table. table_view table ≡ onto no_entries (entries pairs.items)) }
+    {
+        let map: BTreeMap<ShortString, AMQPValue> = pairs.into_iter().collect(alloc)?;
+        Ok(FieldTable { map })
     }
 
     /// Whether there is a value at the key. Walks the entries, and takes no memory.

@@ -1,15 +1,16 @@
-use Rattle.std.proofs.Common.{◌≡◌, [], ◌∷◌, ◌++◌, sym, subst, rules, arith, map}
+use Rattle.std.proofs.Common.{◌≡◌, [], ◌∷◌, ◌++◌, sym, ap, subst, rules, arith, map}
 use Rattle.std.specs.Int.{w64, cast_signed, cast_unsigned}
 use Rattle.std.proofs.lemmas.List.{map_push}
 use Rattle.std.proofs.lemmas.Result.{err_from_is_err_and}
 use Rattle.amqp_value_core.specs.declared.types.AMQPType.TheVariants as amqp
 use Rattle.amqp_value_core.specs.declared.value.AMQPValue.{the_lemmas}
 use Rattle.amqp_value_core.specs.declared.value.AMQPValue.TheVariants.{LongLongInt}
-use Rattle.amqp_value_core.specs.Values.{Tree, put}
-use Rattle.amqp_value_core.specs.View.{view, array_items, array_view, table_view}
+use Rattle.amqp_value_core.specs.Values.{Tree, no_entries, put}
+use Rattle.amqp_value_core.specs.View.{view, array_items, array_view, entries, table_view}
 use Rattle.amqp_value_core.specs.Outcomes.{found, RawOutcome}
+use Rattle.amq_protocol_types.specs.Gathering.{kept}
 use Rattle.amq_protocol_types.proofs.Bodies.{Goes-step, Goes-end, Goes-refused, rest_shorter}
-use Rattle.amq_protocol_types.proofs.Pairs.{Walks-step, Walks-end, Walks-bad_key, Walks-bad_value, key_shorter}
+use Rattle.amq_protocol_types.proofs.Pairs.{Walks-start, Walks-step, Walks-end, Walks-bad_key, Walks-bad_value, key_shorter}
 use Rattle.amq_protocol_types.proofs.Frames.{array_found, array_refused, table_found, table_refused}
 use Rattle.amq_protocol_types.proofs.Payloads.{unsigned_outcome, unsigned_refused, void_found}
 use Rattle.amq_protocol_types.proofs.Typed.{typed_answer, bounded_answer}
@@ -82,12 +83,12 @@ parse_field_table-returns g t c =
 pub parse_pairs-returns-in-Err : goal.parse_pairs-returns-in-Err
 parse_pairs-returns-in-Err g t c =
     rw c.inside.ensures
-    (Walks-bad_key _ (table_view c.pairs.table) (g.I.ParsableInput.bytes c.pairs.rest) c.in-Err.e c.pairs.invariant (omega arith) c.in-Err.ensures)
+    (Walks-bad_key _ (kept c.has_many_pairs-many.result c.pairs.table c.pairs.pairs.items) (g.I.ParsableInput.bytes c.pairs.rest) c.in-Err.e c.pairs.invariant (omega arith) c.in-Err.ensures)
 
 pub parse_pairs-returns-in-Err-parse_value : goal.parse_pairs-returns-in-Err-parse_value
 parse_pairs-returns-in-Err-parse_value g t c =
     rw c.inside-in-Err-parse_value.ensures
-    (Walks-bad_value _ (table_view c.pairs.table) (g.I.ParsableInput.bytes c.pairs.rest) c.in-Ok.read.1 (g.I.ParsableInput.bytes c.in-Ok.read.0) c.in-Err-parse_value.e
+    (Walks-bad_value _ (kept c.has_many_pairs-many.result c.pairs.table c.pairs.pairs.items) (g.I.ParsableInput.bytes c.pairs.rest) c.in-Ok.read.1 (g.I.ParsableInput.bytes c.in-Ok.read.0) c.in-Err-parse_value.e
     c.pairs.invariant c.in-Ok.ensures c.in-Err-parse_value.ensures.outcome)
 
 pub parse_pairs-pairs-smaller : goal.parse_pairs-pairs-smaller
@@ -99,14 +100,21 @@ parse_pairs-pairs-smaller g t c =
 
 pub parse_pairs-pairs-preserved : goal.parse_pairs-pairs-preserved
 parse_pairs-pairs-preserved g t c =
-    let grown : table_view c.place.new.self ≡ put c.in-Ok.read.1 (view c.in-Ok-parse_value.read.1) (table_view c.pairs.table) = search rules in
+    let grown : kept c.has_many_pairs-many.result c.keep.new.table c.keep.new.pairs.items ≡ put c.in-Ok.read.1 (view c.in-Ok-parse_value.read.1) (kept c.has_many_pairs-many.result c.pairs.table c.pairs.pairs.items) = search rules in
     rw grown
-    (Walks-step _ (table_view c.pairs.table) (g.I.ParsableInput.bytes c.pairs.rest) c.in-Ok.read.1 (g.I.ParsableInput.bytes c.in-Ok.read.0)
+    (Walks-step _ (kept c.has_many_pairs-many.result c.pairs.table c.pairs.pairs.items) (g.I.ParsableInput.bytes c.pairs.rest) c.in-Ok.read.1 (g.I.ParsableInput.bytes c.in-Ok.read.0)
     (view c.in-Ok-parse_value.read.1) _ c.pairs.invariant c.in-Ok.ensures c.in-Ok-parse_value.ensures.outcome)
 
-pub parse_pairs-returns : goal.parse_pairs-returns
-parse_pairs-returns g t c =
-    Walks-end (g.I.ParsableInput.bytes c.args.body) (table_view c.pairs.table) (g.I.ParsableInput.bytes c.pairs.rest) c.pairs.invariant (omega arith)
+pub parse_pairs-returns-in-Ok-table_of : goal.parse_pairs-returns-in-Ok-table_of
+parse_pairs-returns-in-Ok-table_of g t c =
+    rw c.in-Ok-table_of.ensures
+    (Walks-end (g.I.ParsableInput.bytes c.args.body) (kept c.has_many_pairs-many.result c.pairs.table c.pairs.pairs.items) (g.I.ParsableInput.bytes c.pairs.rest) c.pairs.invariant (omega arith))
+
+pub parse_pairs-returns-then-input_len-eq0 : goal.parse_pairs-returns-then-input_len-eq0
+parse_pairs-returns-then-input_len-eq0 g t c =
+    let s = g.I.ParsableInput.bytes c.args.body in
+    let none : table_view c.new_in.result ≡ no_entries = ap entries c.new_in.ensures in
+    rw none (Walks-end s no_entries s (Walks-start s) (omega arith))
 
 pub parse_value-returns-clause-outcome : goal.parse_value-returns-clause-outcome
 parse_value-returns-clause-outcome g t c =

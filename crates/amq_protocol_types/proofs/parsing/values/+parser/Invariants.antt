@@ -1,5 +1,6 @@
 use Rattle.std.proofs.Common.{length, map, ◌+◌, ◌*◌}
-use Rattle.amqp_value_core.specs.View.{view, array_items, table_view}
+use Rattle.amqp_value_core.specs.View.{view, array_items}
+use Rattle.amq_protocol_types.specs.Gathering.{kept}
 use Rattle.amq_protocol_types.proofs.Bodies.{Goes}
 use Rattle.amq_protocol_types.proofs.Pairs.{Walks}
 use Rattle.amq_protocol_types.proofs.parsing.values.+parser.Given as goal
@@ -32,7 +33,7 @@ decreases-parse_pairs g l = 4 * length (g.I.ParsableInput.bytes l.body) + 1
 
 abbrev pub invariant-parse_pairs-pairs : goal.invariant-parse_pairs-pairs
 invariant-parse_pairs-pairs g l =
-    Walks (g.I.ParsableInput.bytes l.fn.body) (table_view l.table) (g.I.ParsableInput.bytes l.rest)
+    Walks (g.I.ParsableInput.bytes l.fn.body) (kept l.many l.table l.pairs.items) (g.I.ParsableInput.bytes l.rest)
 
 abbrev pub decreases-parse_pairs-pairs : goal.decreases-parse_pairs-pairs
 decreases-parse_pairs-pairs g l = length (g.I.ParsableInput.bytes l.rest)
