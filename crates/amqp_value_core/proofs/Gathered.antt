@@ -1,5 +1,5 @@
 -- Pairs that are gathered: the map that is made of them at once is the one that they come to, put one after another.
-use Rattle.std.proofs.Common.{◌≡◌, ℕ, List, [], ◌∷◌, ◌++◌, Bool, true, false, cond, Option, Some, None, if◌then◌else◌, Ordering, refl, sym, ap, ◌∙◌}
+use Rattle.std.proofs.Common.{◌≡◌, ℕ, List, [], ◌∷◌, Bool, true, false, cond, Option, Some, None, if◌then◌else◌, Ordering, refl, sym, ap, ◌∙◌}
 use Rattle.std.specs.Option.{option_or, option_map}
 use Rattle.std.specs.Ordering.{nat_cmp, eq_by_cmp}
 use Rattle.std.specs.Cmp.Lexicographic.{slice_cmp, texts_ties, nat_list_eq_equiv}
@@ -7,7 +7,7 @@ use Rattle.std.specs.List.Sorted.{IsStrictlySortedBy}
 use Rattle.std.specs.Map.{keys_of, lookup, update, update_all}
 use Rattle.std.specs.BTreeMap.{is_at}
 use Rattle.amqp_value_core.specs.declared.value.AMQPValue.{AMQPValue}
-use Rattle.amqp_value_core.specs.Values.{Tree, Entries, no_entries, entry, put, onto}
+use Rattle.amqp_value_core.specs.Values.{Tree, no_entries, onto}
 use Rattle.amqp_value_core.specs.Maps.{same_bytes, value_at, last_at, IsRising}
 use Rattle.amqp_value_core.specs.Texts.{ComesBefore}
 use Rattle.amqp_value_core.specs.View.{view, entries}
