@@ -1,8 +1,7 @@
 -- A value behind its id.
-use Rattle.std.proofs.Common.{◌-◌, length, IfOk, ◌≡◌, ◌≢◌, ℕ, Bool, true, false, cond, List, [], ◌∷◌, Some, Result, Ok, Err, MatchResult, nat_eq, sym, ◌∙◌, subst, rules}
+use Rattle.std.proofs.Common.{◌-◌, length, IfOk, ◌≡◌, ℕ, Bool, true, false, cond, List, [], ◌∷◌, Some, Result, Ok, Err, MatchResult, nat_eq, sym, ◌∙◌, subst, rules}
 use Rattle.std.specs.Map.{lookup}
 use Rattle.amqp_value_core.specs.declared.types.AMQPType.{AMQPType}
-use Rattle.amqp_value_core.specs.declared.types.AMQPType.TheVariants as amqp
 use Rattle.amqp_value_core.specs.declared.value.AMQPValue.{AMQPValue}
 use Rattle.amqp_value_core.specs.Ids.{letters, kind}
 use Rattle.amqp_value_core.specs.View.{view}
@@ -32,12 +31,6 @@ eof_of test (x ∷ xs) type all e = by (test x.0) (eof_of test xs type all.1) e
 
 eof_of_kind : (c : ℕ) (type : AMQPType) → kind c ≡ Some type → bad_kind type ≡ Eof
 eof_of_kind c type e = eof_of (nat_eq c) letters type (search rules) e
-
--- no id stands for a short string
-pub never_short : (s rest : List ℕ) (type : AMQPType) → IsType s type rest → type ≢ amqp.ShortString
-never_short s rest type p e =
-    let eof : bad_kind amqp.ShortString ≡ Eof = subst (λ (t : AMQPType). bad_kind t ≡ Eof) e (eof_of_kind p.0 type p.2) in
-    cc
 
 -- the id of the type is read from s, and `rest` is left
 module _ (s rest : List ℕ) (type : AMQPType) (p : IsType s type rest) where

@@ -1,6 +1,6 @@
 //! The types of AMQP values.
 
-ghost use Rattle.std.specs.Prelude.{◌≡◌, Some};
+ghost use Rattle.std.specs.Prelude.{◌≡◌, Some, IfSome};
 ghost use Rattle.amqp_value_core.specs.Ids.{kind, id_of, read_as};
 
 mod byte_array;
@@ -78,8 +78,10 @@ impl AMQPType {
     /// The type that an id stands for: AMQP's letters as RabbitMQ reads them. `U` is read as `s`
     /// is, and `L` as `l`.
     #[inline(always)]
+    #[tactic(auto, using(crate::proofs::Shortest::kind_read))]
     pub fn from_id(id: char) -> Option<AMQPType>
-        ensures { result ≡ kind id }
+        ensures kind { result ≡ kind id }
+        ensures read_back { IfSome result (λ t. read_as t ≡ Some t) }
     {
         match id {
             't' => Some(AMQPType::Boolean),

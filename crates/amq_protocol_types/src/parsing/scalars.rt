@@ -1,7 +1,8 @@
 //! Parsers that take no memory.
 
-ghost use Rattle.std.specs.Prelude.{◌≡◌, MatchResult};
+ghost use Rattle.std.specs.Prelude.{◌≡◌, Some, IfOk, MatchResult};
 ghost use Rattle.std.specs.Int.{w8, w16, w32, w64, cast_unsigned};
+ghost use Rattle.amqp_value_core.specs.Ids.{read_as};
 ghost use Rattle.amqp_value_core.specs.Values.{scalar, boolean, number, decimal};
 ghost use Rattle.amqp_value_core.specs.Numbers.{float_bits, double_bits};
 ghost use Rattle.amqp_value_core.specs.Outcomes.{RawOutcome, found};
@@ -17,9 +18,10 @@ use amqp_value_core::types::{
 /// Reads the id of a type, one byte.
 #[inline(always)]
 pub fn parse_type<I: ParsableInput>(i: I) -> ParserResult<I, AMQPType>
-    ensures { MatchResult result
+    ensures id { MatchResult result
         (λ x. IsType (I.bytes i) x.1 (I.bytes x.0))
         (Refuses (IsNoType (I.bytes i)) ⊥) }
+    ensures read_back { IfOk result (λ x. read_as x.1 ≡ Some x.1) }
 {
     let (i, id) = parse_short_short_uint(i)?;
     match AMQPType::from_id(char::from(id)) {

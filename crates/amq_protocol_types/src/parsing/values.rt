@@ -23,11 +23,12 @@ use std::alloc::Global;
 
 /// Reads a value: the id of its type, then its payload.
 ///
-/// What is read can be written again, in no more bytes than it was read from. It recurses as deep as containers nest, which the input's length alone bounds. Memory is taken
-/// only for strings, byte arrays and containers whose bytes are all there.
+/// What is read can be written again, in no more bytes than it was read from. It recurses as deep as
+/// containers nest, which the input's length alone bounds. Memory is taken only for strings, byte
+/// arrays and containers whose bytes are all there.
 #[cycle(parser)]
 #[inline(always)]
-#[tactic(auto, using(amqp_value_core::proofs::GrammarLaws::one_outcome, amqp_value_core::proofs::GrammarLaws::more_bytes, crate::proofs::Typed::never_short))]
+#[tactic(auto, using(amqp_value_core::proofs::GrammarLaws::one_outcome, amqp_value_core::proofs::GrammarLaws::more_bytes))]
 pub fn parse_value<I: ParsableInput>(alloc: Global, i: I) -> ParserResult<I, AMQPValue>
     ensures outcome { MatchResult result
         (λ x. Outcome (I.bytes i) (found (view x.1) (I.bytes x.0)))

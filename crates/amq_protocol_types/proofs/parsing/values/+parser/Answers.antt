@@ -118,7 +118,7 @@ parse_pairs-returns-then-input_len-eq0 g t c =
 
 pub parse_value-returns-clause-outcome : goal.parse_value-returns-clause-outcome
 parse_value-returns-clause-outcome g t c =
-    typed_answer (g.I.ParsableInput.bytes c.args.i) (g.I.ParsableInput.bytes c.in_ok-i.i) c.in_ok-i.amqp_type c.in_ok-i.ensures
+    typed_answer (g.I.ParsableInput.bytes c.args.i) (g.I.ParsableInput.bytes c.in_ok-i.i) c.in_ok-i.amqp_type c.in_ok-i.ensures.id
     g.I.ParsableInput.bytes c.parse_payload.result c.parse_payload.ensures
 
 pub parse_value-returns-clause-bounded : goal.parse_value-returns-clause-bounded
@@ -126,4 +126,4 @@ parse_value-returns-clause-bounded g t c =
     let bytes = g.I.ParsableInput.bytes in
     let s = bytes c.args.i in
     bounded_answer bytes s c.parse_payload.result
-    (typed_answer s (bytes c.in_ok-i.i) c.in_ok-i.amqp_type c.in_ok-i.ensures bytes c.parse_payload.result c.parse_payload.ensures)
+    (typed_answer s (bytes c.in_ok-i.i) c.in_ok-i.amqp_type c.in_ok-i.ensures.id bytes c.parse_payload.result c.parse_payload.ensures)
