@@ -11,7 +11,7 @@ use Rattle.amqp_value_core.specs.Values.{Tree, no_entries, onto}
 use Rattle.amqp_value_core.specs.Maps.{same_bytes, value_at, last_at, IsRising}
 use Rattle.amqp_value_core.specs.Texts.{ComesBefore}
 use Rattle.amqp_value_core.specs.View.{view, entries}
-use Rattle.amqp_value_core.proofs.Tables.{same_tables, pairs_rise, last_stays}
+use Rattle.amqp_value_core.proofs.Tables.{same_tables, pairs_rise, last_stays, option_or-none}
 use Rattle.amqp_value_core.proofs.Copies.{Pair}
 
 abbrev order : List ℕ → List ℕ → Ordering
@@ -58,8 +58,4 @@ rise (e ∷ es) h = (first es h, rise es h.1)
 pub made_of : (ps es : List Pair) → ((k : List ℕ) → lookup (is_at (order k)) es ≡ update_all (eq_by_cmp order) (λ _. None) ps k) → IsStrictlySortedBy order (keys_of es) → entries es ≡ onto no_entries (entries ps)
 made_of ps es found sorted =
     same_tables _ _ (rise es sorted) (pairs_rise (entries ps))
-    (λ k. found_at k es ∙ ap (option_map view) (found k) ∙ last_put k ps (λ _. None) ∙ none (last_at k (entries ps)) ∙ sym (last_stays k (entries ps)))
-  where
-    none : (o : Option Tree) → option_or o None ≡ o
-    none None = refl
-    none (Some x) = refl
+    (λ k. found_at k es ∙ ap (option_map view) (found k) ∙ last_put k ps (λ _. None) ∙ option_or-none (last_at k (entries ps)) ∙ sym (last_stays k (entries ps)))

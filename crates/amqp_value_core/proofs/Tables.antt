@@ -193,7 +193,8 @@ option_or-assoc : (a b c : Option Tree) → option_or (option_or a b) c ≡ opti
 option_or-assoc None b c = refl
 option_or-assoc (Some x) b c = refl
 
-option_or-none : (a : Option Tree) → option_or a None ≡ a
+-- nothing behind it changes nothing
+pub option_or-none : (a : Option Tree) → option_or a None ≡ a
 option_or-none None = refl
 option_or-none (Some x) = refl
 

@@ -1,4 +1,4 @@
-ghost use Rattle.std.specs.Prelude.{◌≡◌, [], OnOk, OnErr, IfOk};
+ghost use Rattle.std.specs.Prelude.{◌≡◌, [], OnOk, OnErr, IfOk, IsOk};
 ghost use Rattle.std.specs.Borrow.{sem};
 ghost use Rattle.amqp_value_core.specs.Values.{no_entries, put, onto};
 ghost use Rattle.amqp_value_core.specs.Maps.{has_key};
@@ -73,15 +73,20 @@ impl FieldTable {
     }
 
     /// The table of the pairs, put one after another: of equal keys the last one's value stays. It is
-    /// faster than to put each from some hundred pairs on, and takes more memory meanwhile.
+    /// faster than to put each from some hundred pairs on, and takes more memory meanwhile. No pairs
+    /// take none.
     #[inline(never)]
     #[tactic(auto, using(crate::proofs::Gathered::made_of))]
     pub fn from_pairs(
         alloc: Global,
         pairs: Vec<(ShortString, AMQPValue)>,
     ) -> Result<FieldTable, AllocError>
-        ensures { IfOk result (λ table. table_view table ≡ onto no_entries (entries pairs.items)) }
+        ensures pairs { IfOk result (λ table. table_view table ≡ onto no_entries (entries pairs.items)) }
+        ensures empty { pairs.items ≡ [] → IsOk result }
     {
+        if pairs.is_empty() {
+            return Ok(FieldTable::new_in(alloc));
+        }
         let map: BTreeMap<ShortString, AMQPValue> = pairs.into_iter().collect(alloc)?;
         Ok(FieldTable { map })
     }
