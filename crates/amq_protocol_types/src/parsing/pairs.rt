@@ -1,13 +1,13 @@
 //! Pairs on their way into a table: few are put one by one, many are gathered first.
 
-ghost use Rattle.std.specs.Prelude.{◌≡◌, IfOk, OnOk};
+ghost use Rattle.std.specs.Prelude.{◌≡◌, ◌≤◌, IfOk, OnOk, length};
 ghost use Rattle.amqp_value_core.specs.Values.{put};
 ghost use Rattle.amqp_value_core.specs.View.{view, table_view};
 ghost use Rattle.amq_protocol_types.specs.Gathering.{kept};
 
 use super::scalars::parse_long_uint;
 use super::traits::ParsableInput;
-use amqp_value_core::types::{FieldTable, ShortString};
+use amqp_value_core::types::{AMQPType, FieldTable, ShortString};
 use amqp_value_core::value::AMQPValue;
 use std::alloc::{AllocError, Global};
 
@@ -24,18 +24,21 @@ pub(super) fn has_many_pairs<I: ParsableInput>(body: I) -> bool {
 
 // Whether the first value of a long body takes a small part of it.
 #[inline(never)]
-fn begins_small<I: ParsableInput>(body: I) -> bool {
-    let bytes = body.input_len();
-    if bytes < MANY_BYTES {
-        return false;
-    }
+fn begins_small<I: ParsableInput>(body: I) -> bool
+    requires { 16384 ≤ length (I.bytes body) }
+{
     let id_at = 1 + usize::from(body.byte_at(0));
-    if !matches!(body.byte_at(id_at), b'S' | b'x' | b'A' | b'F') {
-        return true;
-    }
-    match parse_long_uint(body.take_from(id_at + 1)) {
-        Ok((_, len)) => len as usize <= bytes / MANY,
-        Err(_) => false,
+    match AMQPType::from_id(char::from(body.byte_at(id_at))) {
+        Some(
+            AMQPType::LongString
+            | AMQPType::ByteArray
+            | AMQPType::FieldArray
+            | AMQPType::FieldTable,
+        ) => match parse_long_uint(body.take_from(id_at + 1)) {
+            Ok((_, len)) => len as usize <= body.input_len() / MANY,
+            Err(_) => false,
+        },
+        _ => true,
     }
 }
 
