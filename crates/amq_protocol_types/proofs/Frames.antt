@@ -9,9 +9,10 @@ use Rattle.amqp_value_core.specs.declared.types.AMQPType.TheVariants as amqp
 use Rattle.amqp_value_core.specs.Values.{Tree, Trees, Entries, no_entries, onto, short, long, octets, array, table}
 use Rattle.amqp_value_core.specs.Layouts.{fixed}
 use Rattle.amqp_value_core.specs.Strings.{IsShort}
-use Rattle.amqp_value_core.specs.Grammar.{small, large, Raw, raw_short, raw_long, raw_octets, raw_array, raw_table, Body}
-use Rattle.amqp_value_core.specs.Outcomes.{Reading, found, more, unknown, malformed, length_field, counted, frame_lack, lack_of, lack, RawFront, RawOutcome, RawHeavy}
-use Rattle.amqp_value_core.proofs.GrammarLaws.{array_body, table_body, short_bytes, counted-large, lack_of-large, raw_found, raw_whole}
+use Rattle.amqp_value_core.specs.Grammar.{small, large, Raw, raw_short, raw_long, raw_octets, raw_array, raw_table}
+use Rattle.amqp_value_core.specs.Nesting.{RawWithin, BodyWithin, RawOutcomeWithin}
+use Rattle.amqp_value_core.specs.Outcomes.{Reading, found, more, unknown, malformed, length_field, counted, frame_lack, lack_of, lack, FrontBy, RawFront, RawOutcome, RawHeavy}
+use Rattle.amqp_value_core.proofs.GrammarLaws.{array_body_within, table_body_within, raw_found_within, raw_whole_within, short_bytes, counted-large, lack_of-large, raw_found, raw_whole}
 use Rattle.amq_protocol_types.specs.Refusals.{Refusal}
 use Rattle.amq_protocol_types.specs.Answers.{Refuses, IsFrame, IsNumberRead, IsNoBody, IsTable, IsNoTable}
 use Rattle.amq_protocol_types.proofs.Refused.{Refuses-weaker}
@@ -41,6 +42,20 @@ module _ (type : AMQPType) (s body rest : List ℕ) (row : fixed type ≡ None) 
       Refuses-weaker Is (RawOutcome type s) (0 < length body) (RawHeavy type s) r
       (λ o y. raw_whole type s o frame_whole (front o y)) frame_heavy x
 
+  -- the same, where containers nest at most d deep
+  pub frame_found_within : (d : ℕ) (v : Tree) → RawWithin d type (large body) v → RawOutcomeWithin d type s (found v rest)
+  frame_found_within d v p = rw f.framed (raw_found_within d type (large body) rest v p)
+
+  pub frame_refused_within : (d : ℕ) (Is : Reading → Type 0) → ((o : Reading) → Is o → FrontBy (RawWithin d type) s o) → (r : Refusal) → Refuses Is (0 < length body) r
+      → Refuses (RawOutcomeWithin d type s) (RawHeavy type s) r
+  frame_refused_within d Is front r x =
+      Refuses-weaker Is (RawOutcomeWithin d type s) (0 < length body) (RawHeavy type s) r
+      (λ o y. raw_whole_within d type s o frame_whole (front o y)) frame_heavy x
+
+  -- a whole frame that no front decides is malformed
+  pub frame_malformed : (d : ℕ) → FrontBy (RawWithin d type) s malformed → RawOutcomeWithin d type s malformed
+  frame_malformed d none = raw_whole_within d type s malformed frame_whole none
+
 module _ (s body rest : List ℕ) (f : IsFrame s body rest) where
   -- a long string and a byte array are read
   pub long_found : RawOutcome amqp.LongString s (found (long body) rest)
@@ -49,37 +64,50 @@ module _ (s body rest : List ℕ) (f : IsFrame s body rest) where
   pub octets_found : RawOutcome amqp.ByteArray s (found (octets body) rest)
   octets_found = frame_found amqp.ByteArray s body rest refl refl f (octets body) (raw_octets body f.fits)
 
-  -- an array is read where the body is values
-  pub array_found : (vs : Trees) → Body body vs → RawOutcome amqp.FieldArray s (found (array vs) rest)
-  array_found vs p = frame_found amqp.FieldArray s body rest refl refl f (array vs) (raw_array body vs f.fits p)
+-- containers, where they nest at most d deep
+module _ (d : ℕ) (s body rest : List ℕ) (f : IsFrame s body rest) where
+  -- an array is read where the body is values that nest one less
+  pub array_found : (vs : Trees) → 0 < d → BodyWithin (d - 1) body vs → RawOutcomeWithin d amqp.FieldArray s (found (array vs) rest)
+  array_found vs some p = frame_found_within amqp.FieldArray s body rest refl refl f d (array vs) (raw_array body vs f.fits p.0, omega (arith, p.1))
 
   -- where the body is none, no front is an array
-  no_array : (o : Reading) → IsNoBody body o → RawFront amqp.FieldArray s o
-  no_array malformed none = λ b left v p d. let r = array_body body rest b left v f.fits p (sym f.framed ∙ d) in none r.0 r.1
+  no_array : (o : Reading) → IsNoBody (d - 1) body o → FrontBy (RawWithin d amqp.FieldArray) s o
+  no_array malformed none = λ b left v p e. let r = array_body_within d body rest b left v f.fits p.0 p.1 (sym f.framed ∙ e) in none r.0 (r.1, omega (arith, r.2))
   no_array (found v left) none = absurd none
   no_array (more m) none = absurd none
   no_array unknown none = absurd none
 
   -- the refusal of the body is the array's
-  pub array_refused : (r : Refusal) → Refuses (IsNoBody body) (0 < length body) r → Refuses (RawOutcome amqp.FieldArray s) (RawHeavy amqp.FieldArray s) r
-  array_refused r x = frame_refused amqp.FieldArray s body rest refl refl f (IsNoBody body) no_array r x
+  pub array_refused : (r : Refusal) → Refuses (IsNoBody (d - 1) body) (0 < length body) r → Refuses (RawOutcomeWithin d amqp.FieldArray s) (RawHeavy amqp.FieldArray s) r
+  array_refused r x = frame_refused_within amqp.FieldArray s body rest refl refl f d (IsNoBody (d - 1) body) no_array r x
 
-  -- a table is read where the body is pairs
-  pub table_found : (es : Entries) → IsTable body es → RawOutcome amqp.FieldTable s (found (table es) rest)
-  table_found es p =
-      subst (λ (t : Entries). RawOutcome amqp.FieldTable s (found (table t) rest)) (sym p.2)
-      (frame_found amqp.FieldTable s body rest refl refl f (table (onto no_entries p.0)) (raw_table body p.0 f.fits p.1))
+  -- where no container may stand, there is no array
+  pub array_too_deep : d ≡ 0 → RawOutcomeWithin d amqp.FieldArray s malformed
+  array_too_deep none =
+      frame_malformed amqp.FieldArray s body rest refl refl f d
+      (λ b left v p e. let r = array_body_within d body rest b left v f.fits p.0 p.1 (sym f.framed ∙ e) in absurd (omega (arith, r.2)))
+
+  -- a table is read where the body is pairs that nest one less
+  pub table_found : (es : Entries) → 0 < d → IsTable (d - 1) body es → RawOutcomeWithin d amqp.FieldTable s (found (table es) rest)
+  table_found es some p =
+      subst (λ (t : Entries). RawOutcomeWithin d amqp.FieldTable s (found (table t) rest)) (sym p.2)
+      (frame_found_within amqp.FieldTable s body rest refl refl f d (table (onto no_entries p.0)) (raw_table body p.0 f.fits p.1.0, omega (arith, p.1.1)))
 
   -- where the body is none, no front is a table
-  no_table : (o : Reading) → IsNoTable body o → RawFront amqp.FieldTable s o
-  no_table malformed none = λ b left v p d. let r = table_body body rest b left v f.fits p (sym f.framed ∙ d) in none r.0 r.1
+  no_table : (o : Reading) → IsNoTable (d - 1) body o → FrontBy (RawWithin d amqp.FieldTable) s o
+  no_table malformed none = λ b left v p e. let r = table_body_within d body rest b left v f.fits p.0 p.1 (sym f.framed ∙ e) in none r.0 (r.1, omega (arith, r.2))
   no_table (found v left) none = absurd none
   no_table (more m) none = absurd none
   no_table unknown none = absurd none
 
   -- the refusal of the body is the table's
-  pub table_refused : (r : Refusal) → Refuses (IsNoTable body) (0 < length body) r → Refuses (RawOutcome amqp.FieldTable s) (RawHeavy amqp.FieldTable s) r
-  table_refused r x = frame_refused amqp.FieldTable s body rest refl refl f (IsNoTable body) no_table r x
+  pub table_refused : (r : Refusal) → Refuses (IsNoTable (d - 1) body) (0 < length body) r → Refuses (RawOutcomeWithin d amqp.FieldTable s) (RawHeavy amqp.FieldTable s) r
+  table_refused r x = frame_refused_within amqp.FieldTable s body rest refl refl f d (IsNoTable (d - 1) body) no_table r x
+
+  pub table_too_deep : d ≡ 0 → RawOutcomeWithin d amqp.FieldTable s malformed
+  table_too_deep none =
+      frame_malformed amqp.FieldTable s body rest refl refl f d
+      (λ b left v p e. let r = table_body_within d body rest b left v f.fits p.0 p.1 (sym f.framed ∙ e) in absurd (omega (arith, r.2)))
 
 -- ---- a length in one byte
 

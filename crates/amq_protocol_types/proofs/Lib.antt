@@ -17,3 +17,9 @@ pub mod FlagBits
 pub mod Puts
 pub mod Copies
 pub mod Gathered
+mod Kept
+pub mod Waits
+pub mod Comes
+pub mod Plain
+pub mod Again
+pub mod Told

@@ -5,7 +5,7 @@ use Rattle.amqp_value_core.specs.Outcomes.{Reading, more, unknown, malformed, la
 use Rattle.amq_protocol_types.specs.declared.parsing.errors.Err.TheVariants.{Incomplete, Error, Failure}
 use Rattle.amq_protocol_types.specs.declared.parsing.errors.Needed.TheVariants.{Unknown, Size}
 use Rattle.amq_protocol_types.specs.declared.parsing.errors.ErrorKind.{ErrorKind}
-use Rattle.amq_protocol_types.specs.declared.parsing.errors.ErrorKind.TheVariants.{MapOpt, MapRes, Eof, OutOfMemory}
+use Rattle.amq_protocol_types.specs.declared.parsing.errors.ErrorKind.TheVariants.{MapOpt, MapRes, Eof, OutOfMemory, TooLarge}
 use Rattle.amq_protocol_types.specs.Refusals.{Refusal}
 use Rattle.amq_protocol_types.specs.Answers.{RightKind, Refuses, bad_kind, RawRefuses}
 
@@ -15,6 +15,7 @@ RightKind-weaker Is Now MapOpt f x = f unknown x
 RightKind-weaker Is Now Eof f x = f malformed x
 RightKind-weaker Is Now MapRes f x = x
 RightKind-weaker Is Now OutOfMemory f x = x
+RightKind-weaker Is Now TooLarge f x = x
 
 -- a refusal stays right where what is read and what takes memory stay right
 pub Refuses-weaker : (Is Now : Reading → Type 0) (heavy now : Type 0) (e : Refusal) → ((o : Reading) → Is o → Now o) → (heavy → now)
@@ -41,4 +42,5 @@ raw_refused type s heavy (Error MapOpt) kind f x = absurd (no_unknown type s x)
 raw_refused type s heavy (Error Eof) kind f x = (sym kind, x)
 raw_refused type s heavy (Error MapRes) kind f x = absurd x
 raw_refused type s heavy (Error OutOfMemory) kind f x = absurd x
+raw_refused type s heavy (Error TooLarge) kind f x = absurd x
 raw_refused type s heavy (Failure k) kind f x = (x.0, f x.1)

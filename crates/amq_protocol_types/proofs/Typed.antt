@@ -1,18 +1,20 @@
 -- A value behind its id.
-use Rattle.std.proofs.Common.{◌-◌, length, IfOk, ◌≡◌, ℕ, Bool, true, false, cond, List, [], ◌∷◌, Some, Result, Ok, Err, MatchResult, nat_eq, sym, ◌∙◌, subst, rules}
+use Rattle.std.proofs.Common.{◌-◌, arith, length, IfOk, ◌≡◌, ℕ, Bool, true, false, cond, List, [], ◌∷◌, Some, Result, Ok, Err, MatchResult, nat_eq, sym, ◌∙◌, subst, rules}
 use Rattle.std.specs.Map.{lookup}
 use Rattle.amqp_value_core.specs.declared.types.AMQPType.{AMQPType}
 use Rattle.amqp_value_core.specs.declared.value.AMQPValue.{AMQPValue}
 use Rattle.amqp_value_core.specs.Ids.{letters, kind}
 use Rattle.amqp_value_core.specs.View.{view}
 use Rattle.amqp_value_core.specs.Outcomes.{Reading, found, more, malformed, RawOutcome, Outcome, RawHeavy, Heavy}
+use Rattle.amqp_value_core.specs.Nesting.{OutcomeWithin, RawOutcomeWithin}
 use Rattle.amqp_value_core.specs.Headline.{IsBounded}
-use Rattle.amqp_value_core.proofs.GrammarLaws.{raw_to_value, raw_to_heavy, bounded_found}
+use Rattle.amqp_value_core.proofs.GrammarLaws.{raw_to_value_within, raw_to_heavy, bounded_found, unlimited}
 use Rattle.amq_protocol_types.specs.declared.parsing.errors.Err.TheVariants.{Incomplete, Error, Failure}
 use Rattle.amq_protocol_types.specs.declared.parsing.errors.Needed.TheVariants.{Unknown, Size}
 use Rattle.amq_protocol_types.specs.declared.parsing.errors.ErrorKind.TheVariants.{Eof}
 use Rattle.amq_protocol_types.specs.Refusals.{Refusal}
-use Rattle.amq_protocol_types.specs.Answers.{IsType, RightKind, Refuses, bad_kind, RawRefuses}
+use Rattle.amq_protocol_types.specs.Answers.{IsType, Refuses, bad_kind}
+use Rattle.amq_protocol_types.proofs.Refused.{Refuses-weaker}
 
 -- none of the types that are read is a short string
 abbrev AreEof : List (ℕ × AMQPType) → Type 0
@@ -33,29 +35,30 @@ eof_of_kind : (c : ℕ) (type : AMQPType) → kind c ≡ Some type → bad_kind 
 eof_of_kind c type e = eof_of (nat_eq c) letters type (search rules) e
 
 -- the id of the type is read from s, and `rest` is left
-module _ (s rest : List ℕ) (type : AMQPType) (p : IsType s type rest) where
+module _ (d : ℕ) (s rest : List ℕ) (type : AMQPType) (p : IsType s type rest) where
   -- what reading the payload comes to, reading the value does
-  typed_outcome : (o : Reading) → RawOutcome type rest o → Outcome s o
-  typed_outcome o x = subst (λ (t : List ℕ). Outcome t o) (sym p.1) (raw_to_value p.0 type rest o p.2 x)
+  typed_outcome : (o : Reading) → RawOutcomeWithin d type rest o → OutcomeWithin d s o
+  typed_outcome o x = subst (λ (t : List ℕ). OutcomeWithin d t o) (sym p.1) (raw_to_value_within d p.0 type rest o p.2 x)
 
   -- the value takes memory where the payload does
   typed_heavy : RawHeavy type rest → Heavy s
   typed_heavy x = subst Heavy (sym p.1) (raw_to_heavy p.0 type rest p.2 x)
 
-  -- the refusal of the payload is the value's
-  typed_refused : (r : Refusal) → RawRefuses type rest r → Refuses (Outcome s) (Heavy s) r
-  typed_refused (Incomplete Unknown) x = absurd x
-  typed_refused (Incomplete (Size n)) x = typed_outcome (more n) x
-  typed_refused (Error k) x =
-      subst (RightKind (Outcome s)) (sym (x.0 ∙ eof_of_kind p.0 type p.2)) (typed_outcome malformed x.1)
-  typed_refused (Failure k) x = (x.0, typed_heavy x.1)
-
   -- what the parser of the payload answers, over an input that shows `bytes`, is right of the value
   pub typed_answer : {I : Type 0} (bytes : I → List ℕ) (r : Result (I × AMQPValue) Refusal)
-      → MatchResult r (λ x. RawOutcome type rest (found (view x.1) (bytes x.0))) (RawRefuses type rest)
-      → MatchResult r (λ x. Outcome s (found (view x.1) (bytes x.0))) (Refuses (Outcome s) (Heavy s))
+      → MatchResult r (λ x. RawOutcomeWithin d type rest (found (view x.1) (bytes x.0))) (Refuses (RawOutcomeWithin d type rest) (RawHeavy type rest))
+      → MatchResult r (λ x. OutcomeWithin d s (found (view x.1) (bytes x.0))) (Refuses (OutcomeWithin d s) (Heavy s))
   typed_answer bytes (Ok x) p = typed_outcome (found (view x.1) (bytes x.0)) p
-  typed_answer bytes (Err e) p = typed_refused e p
+  typed_answer bytes (Err e) p =
+      Refuses-weaker (RawOutcomeWithin d type rest) (OutcomeWithin d s) (RawHeavy type rest) (Heavy s) e typed_outcome typed_heavy p
+
+-- a depth that the bytes can't pass limits no answer
+pub unlimited_answer : {I : Type 0} (bytes : I → List ℕ) (d : ℕ) (s : List ℕ) (r : Result (I × AMQPValue) Refusal) → d ≡ length s
+    → MatchResult r (λ x. OutcomeWithin d s (found (view x.1) (bytes x.0))) (Refuses (OutcomeWithin d s) (Heavy s))
+    → MatchResult r (λ x. Outcome s (found (view x.1) (bytes x.0))) (Refuses (Outcome s) (Heavy s))
+unlimited_answer bytes d s (Ok x) e p = unlimited d s (found (view x.1) (bytes x.0)) (omega arith) p
+unlimited_answer bytes d s (Err r) e p =
+    Refuses-weaker (OutcomeWithin d s) (Outcome s) (Heavy s) (Heavy s) r (λ o x. unlimited d s o (omega arith) x) (λ h. h) p
 
 -- what was read keeps to the number of bytes that it was read from
 pub bounded_answer : {I : Type 0} (bytes : I → List ℕ) (s : List ℕ) (r : Result (I × AMQPValue) Refusal)

@@ -5,7 +5,8 @@ use Rattle.amqp_value_core.specs.declared.types.AMQPType.{AMQPType}
 use Rattle.amqp_value_core.specs.declared.types.AMQPType.TheVariants as amqp
 use Rattle.amqp_value_core.specs.Values.{Trees, Entries, no_entries, onto}
 use Rattle.amqp_value_core.specs.Ids.{kind}
-use Rattle.amqp_value_core.specs.Grammar.{large, Body, Pairs}
+use Rattle.amqp_value_core.specs.Grammar.{large}
+use Rattle.amqp_value_core.specs.Nesting.{BodyWithin, PairsWithin}
 use Rattle.amqp_value_core.specs.Outcomes.{Reading, more, unknown, malformed, frame_lack, RawOutcome, RawHeavy, Outcome, StillWaits, with_more}
 use Rattle.amq_protocol_types.specs.declared.parsing.errors.Err.TheVariants.{Incomplete, Error, Failure}
 use Rattle.amq_protocol_types.specs.declared.parsing.errors.Needed.TheVariants.{Unknown, Size}
@@ -66,20 +67,20 @@ pub record IsFrame (s body rest : List ℕ) : Type 0 where
 abbrev pub IsCutFrame : List ℕ → Reading → Type 0
 IsCutFrame s o = (0 < frame_lack w32 s) × (o ≡ more (frame_lack w32 s))
 
--- the bytes are no values one after another
-abbrev pub IsNoBody : List ℕ → Reading → Type 0
-IsNoBody s malformed = (vs : Trees) → Body s vs → ⊥
-IsNoBody s _ = ⊥
+-- the bytes are no values one after another, with containers at most `depth` deep in each
+abbrev pub IsNoBody : ℕ → List ℕ → Reading → Type 0
+IsNoBody depth s malformed = (vs : Trees) → BodyWithin depth s vs → ⊥
+IsNoBody depth s _ = ⊥
 
 -- the bytes are pairs one after another, and the entries are what they come to: of equal keys the last pair's
 -- value stays
-abbrev pub IsTable : List ℕ → Entries → Type 0
-IsTable s es = (ps : Entries) × Pairs s ps × (es ≡ onto no_entries ps)
+abbrev pub IsTable : ℕ → List ℕ → Entries → Type 0
+IsTable depth s es = (ps : Entries) × PairsWithin depth s ps × (es ≡ onto no_entries ps)
 
 -- the bytes are no pairs one after another
-abbrev pub IsNoTable : List ℕ → Reading → Type 0
-IsNoTable s malformed = (ps : Entries) → Pairs s ps → ⊥
-IsNoTable s _ = ⊥
+abbrev pub IsNoTable : ℕ → List ℕ → Reading → Type 0
+IsNoTable depth s malformed = (ps : Entries) → PairsWithin depth s ps → ⊥
+IsNoTable depth s _ = ⊥
 
 -- reading s comes to one outcome and no other: the value, the rest and the refusal are determined
 abbrev pub HasOneOutcome : List ℕ → Type 0

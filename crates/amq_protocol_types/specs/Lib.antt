@@ -9,3 +9,7 @@ pub mod Devices
 pub mod Lengths
 pub mod Flags
 pub mod Gathering
+pub mod Headers
+pub mod Streams
+pub mod Passing
+pub mod Readers

@@ -4,7 +4,7 @@ use Rattle.amq_protocol_types.specs.declared.parsing.errors.Err.{Err}
 use Rattle.amq_protocol_types.specs.declared.parsing.errors.Err.TheVariants.{Incomplete, Error, Failure}
 use Rattle.amq_protocol_types.specs.declared.parsing.errors.Needed.TheVariants.{Size}
 use Rattle.amq_protocol_types.specs.declared.parsing.errors.ErrorKind.{ErrorKind}
-use Rattle.amq_protocol_types.specs.declared.parsing.errors.ErrorKind.TheVariants.{MapOpt, MapRes, Eof, OutOfMemory}
+use Rattle.amq_protocol_types.specs.declared.parsing.errors.ErrorKind.TheVariants.{MapOpt, MapRes, Eof, OutOfMemory, TooLarge}
 
 -- a refusal or a number of bytes that lack, as the alias `ParserError`
 abbrev pub Refusal : Type 0
@@ -16,6 +16,7 @@ printed MapOpt = codes "Parser error: Nom(MapOpt)"
 printed MapRes = codes "Parser error: Nom(MapRes)"
 printed Eof = codes "Parser error: Nom(Eof)"
 printed OutOfMemory = codes "Parser error: OutOfMemory"
+printed TooLarge = codes "Parser error: Nom(TooLarge)"
 
 -- the field that is being read lacks n bytes
 abbrev pub lacks : ℕ → Refusal

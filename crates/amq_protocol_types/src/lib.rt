@@ -4,6 +4,7 @@
 pub mod flags;
 pub mod generation;
 pub mod parsing;
+pub mod stream;
 
 pub use amqp_value_core::types::{
     AMQPType, Boolean, ByteArray, ChannelId, ChunkSize, ConsumerCount, DecimalValue, DeliveryTag,

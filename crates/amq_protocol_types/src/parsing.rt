@@ -1,13 +1,13 @@
 //! Parsers of values, and of what values are made of.
 
 mod bytes;
-mod errors;
+pub(crate) mod errors;
 mod flags;
 mod pairs;
 mod scalars;
 mod strings;
 pub mod traits;
-mod values;
+pub(crate) mod values;
 
 pub use amqp_value_core::input::{SliceInput, SplitInput};
 pub use errors::{Err, ErrorKind, Needed, ParserError, ParserErrors, ParserResult};

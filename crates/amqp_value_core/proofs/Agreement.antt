@@ -5,18 +5,13 @@ use Rattle.amqp_value_core.specs.declared.types.AMQPType.{AMQPType}
 use Rattle.amqp_value_core.specs.Values.{Tree}
 use Rattle.amqp_value_core.specs.Ids.{kind}
 use Rattle.amqp_value_core.specs.Grammar.{Wire, Raw}
-use Rattle.amqp_value_core.specs.Nesting.{WireWithin, RawWithin}
-use Rattle.amqp_value_core.specs.Outcomes.{IsBytes, Reading, found, more, unknown, malformed, Unless, lack, Front, Outcome, RawOutcome}
-use Rattle.amqp_value_core.specs.Decode.{meaning, outcome, raw_outcome}
+use Rattle.amqp_value_core.specs.Nesting.{WireWithin, RawWithin, OutcomeWithin}
+use Rattle.amqp_value_core.specs.Outcomes.{IsBytes, Reading, found, more, unknown, malformed, Unless, lack, FrontBy, Front, Outcome, RawOutcome}
+use Rattle.amqp_value_core.specs.Decode.{outcome_by, meaning, outcome, raw_outcome}
 use Rattle.amqp_value_core.proofs.Found.{found_wire, found_raw}
+use Rattle.amqp_value_core.proofs.Limited.{one_outcome_within}
 use Rattle.amqp_value_core.proofs.Nests.{nesting-le, raw_nesting-le}
 use Rattle.amqp_value_core.proofs.Sound.{Ends, WireEnds, unless_weaker, raw_ends, wire_ends, means_spelled}
-
--- `Front` and `RawFront`, of any P
-abbrev FrontBy : (List ℕ → Tree → Type 0) → List ℕ → Reading → Type 0
-FrontBy P s (found v rest) = (w : List ℕ) × P w v × (s ≡ w ++ rest)
-FrontBy P s malformed = (w rest : List ℕ) (v : Tree) → P w v → s ≡ w ++ rest → ⊥
-FrontBy P s _ = ⊥
 
 -- a wire at the front is the outcome
 outcome_at : (s w rest : List ℕ) (v : Tree) → Wire w v → s ≡ w ++ rest → outcome s ≡ found v rest
@@ -100,3 +95,27 @@ outcome_is s o bytes = (outcome_only s o bytes, λ is. subst (Outcome s) (sym is
 -- of payloads too
 pub raw_outcome_is : (type : AMQPType) (s : List ℕ) (o : Reading) → IsBytes s → RawOutcome type s o ↔ (o ≡ raw_outcome type s)
 raw_outcome_is type s o bytes = (raw_outcome_only type s o bytes, λ is. subst (RawOutcome type s) (sym is) (raw_outcome_holds type s bytes))
+
+-- ---- within a depth
+
+-- the function finds each wire that nests no deeper
+within_at : (d : ℕ) (s w rest : List ℕ) (v : Tree) → WireWithin d w v → s ≡ w ++ rest → outcome_by (meaning d) s ≡ found v rest
+within_at d s w rest v p is = subst (λ x. outcome_by (meaning d) x ≡ found v rest) (sym is) (found_wire d w rest v p.0 p.1)
+
+within_by_ends : (d : ℕ) (s : List ℕ) (o : Reading) → ((w rest : List ℕ) (v : Tree) → WireWithin d w v → s ≡ w ++ rest → o ≡ found v rest)
+    → WireEnds d s o → OutcomeWithin d s o
+within_by_ends d [] o finds ends = ends
+within_by_ends d (c ∷ b) o finds ends = at_kind (kind c) ends where
+  at_kind : (k : Option AMQPType) → MatchOption k (o ≡ unknown) (λ type. Unless (lack type b) (Ends (WireWithin d) (c ∷ b) o) o)
+      → MatchOption k (o ≡ unknown) (λ type. Unless (lack type b) (FrontBy (WireWithin d) (c ∷ b) o) o)
+  at_kind None is = is
+  at_kind (Some type) ends = unless_weaker (lack type b) _ _ o (front_by (WireWithin d) (WireWithin d) (c ∷ b) o finds (λ w v q. q)) ends
+
+-- reading within a depth comes to what the function says, with containers at most so deep
+pub within_holds : (d : ℕ) (s : List ℕ) → IsBytes s → OutcomeWithin d s (outcome_by (meaning d) s)
+within_holds d s bytes = within_by_ends d s (outcome_by (meaning d) s) (within_at d s) (wire_ends d (meaning d) (means_spelled d) s bytes)
+
+-- and to nothing else
+pub within_is : (d : ℕ) (s : List ℕ) (o : Reading) → IsBytes s → OutcomeWithin d s o ↔ (o ≡ outcome_by (meaning d) s)
+within_is d s o bytes =
+    (λ x. one_outcome_within d s o (outcome_by (meaning d) s) x (within_holds d s bytes), λ is. subst (OutcomeWithin d s) (sym is) (within_holds d s bytes))

@@ -15,7 +15,7 @@ use Rattle.amqp_value_core.specs.Texts.{size, body_size, pairs_size}
 -- ---- entries that are put
 
 -- size, count and depth of some entries are at most these
-record Within (bytes values deep : ℕ) (es : Entries) : Type 0 where
+pub record Within (bytes values deep : ℕ) (es : Entries) : Type 0 where
   pub size : pairs_size es ≤ bytes
   pub count : entries_count es ≤ values
   pub depth : entries_depth es ≤ deep
@@ -35,7 +35,7 @@ put_within k v (entry j u es) = by (slice_cmp nat_cmp k j) (put_within k v es)
     by Greater inner = record { size = omega arith; count = omega arith; depth = omega arith }
 
 -- so they do where pairs are put one after another
-onto_within : (ps es : Entries)
+pub onto_within : (ps es : Entries)
     → Within (pairs_size ps + pairs_size es) (entries_count ps + entries_count es) (max (entries_depth ps) (entries_depth es)) (onto es ps)
 onto_within no_entries es = record { size = omega arith; count = omega arith; depth = omega arith }
 onto_within (entry k v ps) es =

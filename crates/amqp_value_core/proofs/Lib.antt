@@ -14,6 +14,8 @@ mod Canons
 mod TextCanon
 mod Found
 mod Nests
+pub mod Limited
+mod TextDepth
 mod Sound
 mod OnLiterals
 mod Agreement

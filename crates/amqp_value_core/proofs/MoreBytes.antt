@@ -11,7 +11,7 @@ use Rattle.amqp_value_core.proofs.Headers.{extent, extent-whole, extent-append, 
 use Rattle.amqp_value_core.proofs.Outcomes.{raw_whole, value_to_raw, raw_to_value, unknown_outcome}
 
 -- a payload at the front of a joined list stands in its first part, where that is a whole frame
-raw_inside : (type : AMQPType) (s t b rest : List ℕ) (v : Tree) → lack type s ≡ 0 → Raw type b v → s ++ t ≡ b ++ rest → s ≡ b ++ drop (length b) s
+pub raw_inside : (type : AMQPType) (s t b rest : List ℕ) (v : Tree) → lack type s ≡ 0 → Raw type b v → s ++ t ≡ b ++ rest → s ≡ b ++ drop (length b) s
 raw_inside type s t b rest v whole p e =
     let same : extent type s ≡ length b = sym (extent-append type s t whole) ∙ (ap (extent type) e ∙ extent-raw type b rest v p) in
     front_inside s t b rest e (omega (arith, same, extent-whole type s whole))

@@ -1,5 +1,5 @@
 -- Reading back: the text of a value is read as that value, where it is readable.
-use Rattle.std.proofs.Common.{◌≡◌, ◌<◌, ◌^◌, ℕ, List, [], ◌∷◌, ◌++◌, length, drop, Some, None, Bool, true, false, refl, sym, ap, ◌∙◌, arith, IsTrue, if◌then◌else◌}
+use Rattle.std.proofs.Common.{◌≡◌, ◌<◌, ◌≤◌, ◌^◌, ℕ, suc, subst, List, [], ◌∷◌, ◌++◌, length, drop, Some, None, Bool, true, false, refl, sym, ap, ◌∙◌, arith, IsTrue, if◌then◌else◌}
 use Rattle.std.specs.Int.{w32}
 use Rattle.std.proofs.lemmas.Bool.{and_from, both_ways}
 use Rattle.amqp_value_core.specs.declared.types.AMQPType.{AMQPType}
@@ -8,6 +8,7 @@ use Rattle.amqp_value_core.specs.Values.{Tree, scalar, short, long, octets, arra
 use Rattle.amqp_value_core.specs.Ids.{kind, id_of}
 use Rattle.amqp_value_core.specs.Strings.{IsShort}
 use Rattle.amqp_value_core.specs.Grammar.{small, large, Wire, wire, Raw, raw_fixed, raw_short, raw_array, raw_table, Body, no_values, value, Pairs, no_pairs, pair}
+use Rattle.amqp_value_core.specs.Nesting.{raw_nesting, body_nesting, pairs_nesting}
 use Rattle.amqp_value_core.specs.Texts.{text, body, pairs, Fits, AllFit, EntriesFit, IsValue, AreValues, AreEntries, unread, read_back}
 use Rattle.amqp_value_core.specs.Outcomes.{counted, found, malformed, lack, RawFront, Outcome}
 use Rattle.amqp_value_core.proofs.Fronts.{same_fronts}
@@ -29,12 +30,29 @@ array_body s x _ y _ fits (raw_array c us room p) e =
     let same = one_large s c x y fits room e in
     (us, rw same.0 p)
 
+-- and one that nests no deeper than its payload, which counts one more
+pub array_body_within : (d : ℕ) (s x b y : List ℕ) (z : Tree) → length s < 2 ^ 32 → (p : Raw amqp.FieldArray b z) → raw_nesting amqp.FieldArray b z p ≤ d
+    → large s ++ x ≡ b ++ y → (us : Trees) × (q : Body s us) × (suc (body_nesting s us q) ≤ d)
+array_body_within d s x _ y _ fits (raw_fixed type f b row len) within e = absurd cc
+array_body_within d s x _ y _ fits (raw_array c us room p) within e =
+    let same = one_large s c x y fits room e in
+    let at = subst (λ (t : List ℕ). (q : Body t us) × (suc (body_nesting t us q) ≤ d)) (sym same.0) (p, within) in
+    (us, at.0, at.1)
+
 -- the payload of a table is pairs behind their length
 pub table_body : (s x b y : List ℕ) (z : Tree) → length s < 2 ^ 32 → Raw amqp.FieldTable b z → large s ++ x ≡ b ++ y → (ps : Entries) × Pairs s ps
 table_body s x _ y _ fits (raw_fixed type f b row len) e = absurd cc
 table_body s x _ y _ fits (raw_table c ps room p) e =
     let same = one_large s c x y fits room e in
     (ps, rw same.0 p)
+
+pub table_body_within : (d : ℕ) (s x b y : List ℕ) (z : Tree) → length s < 2 ^ 32 → (p : Raw amqp.FieldTable b z) → raw_nesting amqp.FieldTable b z p ≤ d
+    → large s ++ x ≡ b ++ y → (ps : Entries) × (q : Pairs s ps) × (suc (pairs_nesting s ps q) ≤ d)
+table_body_within d s x _ y _ fits (raw_fixed type f b row len) within e = absurd cc
+table_body_within d s x _ y _ fits (raw_table c ps room p) within e =
+    let same = one_large s c x y fits room e in
+    let at = subst (λ (t : List ℕ). (q : Pairs t ps) × (suc (pairs_nesting t ps q) ≤ d)) (sym same.0) (p, within) in
+    (ps, at.0, at.1)
 
 -- the payload of a short string is one behind its length
 pub short_bytes : (s x b y : List ℕ) (z : Tree) → Raw amqp.ShortString b z → small s ++ x ≡ b ++ y → IsShort s

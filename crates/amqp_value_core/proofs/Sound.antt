@@ -21,7 +21,7 @@ use Rattle.amqp_value_core.specs.Decode.{Meaning, framed, raw_outcome_by, outcom
 use Rattle.amqp_value_core.proofs.Found.{by_kind, by_layout, by_lack, by_meaning, and_others, and_pairs, and_key}
 
 -- a part of some bytes is bytes
-IsBytes-front : (s t : List ℕ) → IsBytes (s ++ t) → IsBytes s
+pub IsBytes-front : (s t : List ℕ) → IsBytes (s ++ t) → IsBytes s
 IsBytes-front [] t bytes = tt
 IsBytes-front (c ∷ s) t bytes = (bytes.0, IsBytes-front s t bytes.1)
 

@@ -98,7 +98,7 @@ scalar_spelled (decimal scale n) is =
 scalar_spelled void _ = record { layout = _; row = refl; width = refl; means = refl; id = refl }
 
 -- what is spelled for a scalar is a payload of it
-scalar_raw : (x : Scalar) → IsScalar x → Raw (scalar_type x) (spelled x) (scalar x)
+pub scalar_raw : (x : Scalar) → IsScalar x → Raw (scalar_type x) (spelled x) (scalar x)
 scalar_raw x is =
     let s = scalar_spelled x is in
     subst (λ (y : Scalar). Raw (scalar_type x) (spelled x) (scalar y)) s.means

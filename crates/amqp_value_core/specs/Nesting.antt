@@ -2,6 +2,7 @@
 use Rattle.std.specs.Prelude.{ℕ, suc, max, ◌≤◌, List}
 use Rattle.amqp_value_core.specs.declared.types.AMQPType.{AMQPType}
 use Rattle.amqp_value_core.specs.Values.{Tree, Trees, Entries}
+use Rattle.amqp_value_core.specs.Outcomes.{Reading, RawOutcomeBy, OutcomeBy}
 use Rattle.amqp_value_core.specs.Grammar.{Wire, Raw, Body, Pairs, wire, raw_fixed, raw_short, raw_long, raw_octets, raw_array, raw_table, no_values, value, no_pairs, pair}
 
 -- a container counts 1 more than what nests deepest in its body, all that is no container 0
@@ -40,3 +41,10 @@ BodyWithin depth body vs = (p : Body body vs) × (body_nesting body vs p ≤ dep
 -- the bytes are these pairs, and containers nest at most `depth` deep in each
 abbrev pub PairsWithin : ℕ → List ℕ → Entries → Type 0
 PairsWithin depth body ps = (p : Pairs body ps) × (pairs_nesting body ps p ≤ depth)
+
+-- reading a payload of the type, or a value, comes to o where containers nest at most `depth` deep
+abbrev pub RawOutcomeWithin : ℕ → AMQPType → List ℕ → Reading → Type 0
+RawOutcomeWithin depth type s o = RawOutcomeBy (RawWithin depth type) type s o
+
+abbrev pub OutcomeWithin : ℕ → List ℕ → Reading → Type 0
+OutcomeWithin depth s o = OutcomeBy (WireWithin depth) s o

@@ -56,27 +56,37 @@ abbrev pub Unless : ℕ → Type 0 → Reading → Type 0
 Unless zero P o = P
 Unless (suc n) P o = o ≡ more (suc n)
 
+-- P holds of a front of s and what is found, or of no front and no value
+abbrev pub FrontBy : (List ℕ → Tree → Type 0) → List ℕ → Reading → Type 0
+FrontBy P s (found v rest) = (b : List ℕ) × P b v × (s ≡ b ++ rest)
+FrontBy P s malformed = (b rest : List ℕ) (v : Tree) → P b v → s ≡ b ++ rest → ⊥
+FrontBy P s _ = ⊥
+
+-- reading a payload of the type from s comes to o, where P says what its payloads are
+abbrev pub RawOutcomeBy : (List ℕ → Tree → Type 0) → AMQPType → List ℕ → Reading → Type 0
+RawOutcomeBy P type s o = Unless (lack type s) (FrontBy P s o) o
+
+-- reading a value from s comes to o, by the first of these that holds: there is no byte, and one lacks;
+-- the first byte is no id; the frame lacks bytes; P holds of a front and a value; it holds of none
+abbrev pub OutcomeBy : (List ℕ → Tree → Type 0) → List ℕ → Reading → Type 0
+OutcomeBy P [] o = o ≡ more 1
+OutcomeBy P (c ∷ b) o = MatchOption (kind c) (o ≡ unknown) (λ type. Unless (lack type b) (FrontBy P (c ∷ b) o) o)
+
 -- a front of s is a payload of the type, or none is
 abbrev pub RawFront : AMQPType → List ℕ → Reading → Type 0
-RawFront type s (found v rest) = (b : List ℕ) × Raw type b v × (s ≡ b ++ rest)
-RawFront type s malformed = (b rest : List ℕ) (v : Tree) → Raw type b v → s ≡ b ++ rest → ⊥
-RawFront type s _ = ⊥
+RawFront type s o = FrontBy (Raw type) s o
 
 -- a front of s is a wire, or none is
 abbrev pub Front : List ℕ → Reading → Type 0
-Front s (found v rest) = (w : List ℕ) × Wire w v × (s ≡ w ++ rest)
-Front s malformed = (w rest : List ℕ) (v : Tree) → Wire w v → s ≡ w ++ rest → ⊥
-Front s _ = ⊥
+Front s o = FrontBy Wire s o
 
 -- reading a payload of the type from s comes to o
 abbrev pub RawOutcome : AMQPType → List ℕ → Reading → Type 0
-RawOutcome type s o = Unless (lack type s) (RawFront type s o) o
+RawOutcome type s o = RawOutcomeBy (Raw type) type s o
 
--- reading a value from s comes to o, by the first of these that holds: there is no byte, and one lacks;
--- the first byte is no id; the frame lacks bytes; a front is a wire; none is
+-- reading a value from s comes to o
 abbrev pub Outcome : List ℕ → Reading → Type 0
-Outcome [] o = o ≡ more 1
-Outcome (c ∷ b) o = MatchOption (kind c) (o ≡ unknown) (λ type. Unless (lack type b) (Front (c ∷ b) o) o)
+Outcome s o = OutcomeBy Wire s o
 
 -- a payload of the type takes memory: its frame is whole and counts at least one byte
 abbrev pub RawHeavy : AMQPType → List ℕ → Type 0

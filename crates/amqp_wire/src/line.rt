@@ -54,7 +54,7 @@ fn answer_to_bytes<I: ParsableInput>(alloc: Global, bytes: I) -> Result<String, 
         Err(Err::Error(error)) => match error.kind() {
             ErrorKind::MapOpt => Ok(String::from_str(alloc, "refused MapOpt")?),
             ErrorKind::Eof => Ok(String::from_str(alloc, "refused Eof")?),
-            ErrorKind::MapRes | ErrorKind::OutOfMemory => unreachable!(),
+            ErrorKind::MapRes | ErrorKind::OutOfMemory | ErrorKind::TooLarge => unreachable!(),
         },
         Err(Err::Failure(_)) => Err(WireFault::OutOfMemory),
     }

@@ -5,6 +5,7 @@
 mod fault;
 mod line;
 mod run;
+mod stream;
 #[cfg(test)]
 mod tests;
 

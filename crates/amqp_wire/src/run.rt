@@ -79,7 +79,7 @@ fn write_answers<W: Write>(
 }
 
 /// Writes all of the bytes. Each error of the writer ends it, and so does a writer that takes none.
-fn write_out<W: Write>(bytes: &[u8], writer: &mut W) -> Result<(), WireFault>
+pub fn write_out<W: Write>(bytes: &[u8], writer: &mut W) -> Result<(), WireFault>
     ensures ok { OnOk result (Appends (W.contents writer.old) (W.contents writer.new) bytes.now) }
     ensures err { OnErr result (AppendsFront (W.contents writer.old) (W.contents writer.new) bytes.now) }
     ensures some { OnErr result (0 < length bytes.now) }

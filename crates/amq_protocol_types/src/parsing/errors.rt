@@ -38,6 +38,8 @@ pub enum ErrorKind {
     Eof,
     /// A request for memory was refused.
     OutOfMemory,
+    /// A value is longer than the limit on frames, by what its first bytes tell.
+    TooLarge,
 }
 
 /// The refusal of a parser.
@@ -76,6 +78,7 @@ impl fmt::Display for ParserErrors {
             ErrorKind::MapRes => "Parser error: Nom(MapRes)",
             ErrorKind::Eof => "Parser error: Nom(Eof)",
             ErrorKind::OutOfMemory => "Parser error: OutOfMemory",
+            ErrorKind::TooLarge => "Parser error: Nom(TooLarge)",
         })
     }
 }
@@ -89,21 +92,28 @@ pub type ParserError = Err<ParserErrors>;
 pub type ParserResult<I, T> = Result<(I, T), ParserError>;
 
 // the field that is being read lacks `n` bytes
-pub(super) fn lacks(n: usize) -> ParserError
+pub(crate) fn lacks(n: usize) -> ParserError
     ensures { result ≡ lacks n }
 {
     Err::Incomplete(Needed::Size(n))
 }
 
+// the refusal of that kind
+pub(crate) fn refusal(kind: ErrorKind) -> ParserErrors
+    ensures { result ≡ kind }
+{
+    ParserErrors { kind }
+}
+
 // the input isn't what the parser reads
-pub(super) fn refused(kind: ErrorKind) -> ParserError
+pub(crate) fn refused(kind: ErrorKind) -> ParserError
     ensures { result ≡ refused kind }
 {
     Err::Error(ParserErrors { kind })
 }
 
 // a request for memory was refused
-pub(super) fn out_of_memory() -> ParserError
+pub(crate) fn out_of_memory() -> ParserError
     ensures { result ≡ out_of_memory }
 {
     Err::Failure(ParserErrors {

@@ -2,13 +2,13 @@
 
 ghost use Rattle.std.specs.Prelude.{◌≡◌, ◌≢◌, ◌<◌, ◌-◌, MatchResult, IfOk, length};
 ghost use Rattle.amqp_value_core.specs.Values.{array, table};
-ghost use Rattle.amqp_value_core.specs.Grammar.{Body};
+ghost use Rattle.amqp_value_core.specs.Nesting.{BodyWithin, OutcomeWithin, RawOutcomeWithin};
 ghost use Rattle.amqp_value_core.specs.Outcomes.{Outcome, RawOutcome, Heavy, RawHeavy, found};
 ghost use Rattle.amqp_value_core.specs.View.{view, array_view, table_view};
 ghost use Rattle.amqp_value_core.specs.Headline.{IsBounded};
 ghost use Rattle.amq_protocol_types.specs.Answers.{Refuses, RawRefuses, HasOneOutcome, KeepsOutcome, IsNoBody, IsTable, IsNoTable};
 
-use super::errors::{ParserError, ParserResult, inside, out_of_memory};
+use super::errors::{ErrorKind, ParserError, ParserResult, inside, out_of_memory, refused};
 use super::pairs::{has_many_pairs, keep, table_of};
 use super::scalars::{
     parse_boolean, parse_decimal_value, parse_double, parse_float, parse_long_int,
@@ -26,7 +26,6 @@ use std::alloc::Global;
 /// What is read can be written again, in no more bytes than it was read from. It recurses as deep as
 /// containers nest, which the input's length alone bounds. Memory is taken only for strings, byte
 /// arrays and containers whose bytes are all there.
-#[cycle(parser)]
 #[inline(always)]
 #[tactic(auto, using(amqp_value_core::proofs::GrammarLaws::one_outcome, amqp_value_core::proofs::GrammarLaws::more_bytes))]
 pub fn parse_value<I: ParsableInput>(alloc: Global, i: I) -> ParserResult<I, AMQPValue>
@@ -38,8 +37,24 @@ pub fn parse_value<I: ParsableInput>(alloc: Global, i: I) -> ParserResult<I, AMQ
     ensures bounded { IfOk result (λ x.
         IsBounded (length (I.bytes i) - length (I.bytes x.0)) (view x.1)) }
 {
+    value_within(alloc, i, i.input_len())
+}
+
+/// Reads a value in which containers nest at most `depth` deep.
+#[cycle(parser)]
+#[inline(always)]
+#[tactic(auto, using(crate::proofs::Typed::never_short))]
+pub(crate) fn value_within<I: ParsableInput>(
+    alloc: Global,
+    i: I,
+    depth: usize,
+) -> ParserResult<I, AMQPValue>
+    ensures { MatchResult result
+        (λ x. OutcomeWithin depth (I.bytes i) (found (view x.1) (I.bytes x.0)))
+        (Refuses (OutcomeWithin depth (I.bytes i)) (Heavy (I.bytes i))) }
+{
     let (i, amqp_type) = parse_type(i)?;
-    parse_payload(alloc, amqp_type, i)
+    payload_within(alloc, amqp_type, i, depth)
 }
 
 /// Reads the payload of a value of the type.
@@ -59,19 +74,47 @@ pub fn parse_raw_value<I: ParsableInput>(
             let (i, s) = parse_short_string(alloc, i)?;
             Ok((i, AMQPValue::ShortString(s)))
         }
-        _ => parse_payload(alloc, amqp_type, i),
+        _ => payload_within(alloc, amqp_type, i, i.input_len()),
     }
 }
 
 // Reads the payload of a value of the type, which isn't `ShortString`: no id stands for that one.
 #[cycle(parser)]
 #[inline(always)]
-fn parse_payload<I: ParsableInput>(
+fn payload_within<I: ParsableInput>(
+    alloc: Global,
+    amqp_type: AMQPType,
+    i: I,
+    depth: usize,
+) -> ParserResult<I, AMQPValue>
+    requires { amqp_type ≢ AMQPType.ShortString }
+    ensures { MatchResult result
+        (λ x. RawOutcomeWithin depth amqp_type (I.bytes i) (found (view x.1) (I.bytes x.0)))
+        (Refuses (RawOutcomeWithin depth amqp_type (I.bytes i)) (RawHeavy amqp_type (I.bytes i))) }
+{
+    match amqp_type {
+        AMQPType::FieldArray => {
+            let (i, array) = array_within(alloc, i, depth)?;
+            Ok((i, AMQPValue::FieldArray(array)))
+        }
+        AMQPType::FieldTable => {
+            let (i, table) = table_within(alloc, i, depth)?;
+            Ok((i, AMQPValue::FieldTable(table)))
+        }
+        _ => parse_plain(alloc, amqp_type, i),
+    }
+}
+
+// Reads the payload of a value of the type, which is no container's.
+#[inline(always)]
+fn parse_plain<I: ParsableInput>(
     alloc: Global,
     amqp_type: AMQPType,
     i: I,
 ) -> ParserResult<I, AMQPValue>
-    requires { amqp_type ≢ AMQPType.ShortString }
+    requires short { amqp_type ≢ AMQPType.ShortString }
+    requires array { amqp_type ≢ AMQPType.FieldArray }
+    requires table { amqp_type ≢ AMQPType.FieldTable }
     ensures { MatchResult result
         (λ x. RawOutcome amqp_type (I.bytes i) (found (view x.1) (I.bytes x.0)))
         (RawRefuses amqp_type (I.bytes i)) }
@@ -125,22 +168,14 @@ fn parse_payload<I: ParsableInput>(
             let (i, d) = parse_decimal_value(i)?;
             Ok((i, AMQPValue::DecimalValue(d)))
         }
-        AMQPType::ShortString => unreachable!(),
+        AMQPType::ShortString | AMQPType::FieldArray | AMQPType::FieldTable => unreachable!(),
         AMQPType::LongString => {
             let (i, s) = parse_long_string(alloc, i)?;
             Ok((i, AMQPValue::LongString(s)))
         }
-        AMQPType::FieldArray => {
-            let (i, array) = parse_field_array(alloc, i)?;
-            Ok((i, AMQPValue::FieldArray(array)))
-        }
         AMQPType::Timestamp => {
             let (i, n) = parse_timestamp(i)?;
             Ok((i, AMQPValue::Timestamp(n)))
-        }
-        AMQPType::FieldTable => {
-            let (i, table) = parse_field_table(alloc, i)?;
-            Ok((i, AMQPValue::FieldTable(table)))
         }
         AMQPType::ByteArray => {
             let (i, bytes) = parse_byte_array(alloc, i)?;
@@ -153,30 +188,43 @@ fn parse_payload<I: ParsableInput>(
 /// Reads an array: the length of its body in bytes, in four bytes, then its values, each with its id.
 ///
 /// The body is taken whole before a value of it is looked at.
-#[cycle(parser)]
 #[inline(always)]
 pub fn parse_field_array<I: ParsableInput>(alloc: Global, i: I) -> ParserResult<I, FieldArray>
     ensures { MatchResult result
         (λ x. RawOutcome AMQPType.FieldArray (I.bytes i) (found (array (array_view x.1)) (I.bytes x.0)))
         (Refuses (RawOutcome AMQPType.FieldArray (I.bytes i)) (RawHeavy AMQPType.FieldArray (I.bytes i))) }
 {
+    array_within(alloc, i, i.input_len())
+}
+
+// Reads an array in which containers nest at most `depth` deep, itself included.
+#[cycle(parser)]
+#[inline(always)]
+fn array_within<I: ParsableInput>(alloc: Global, i: I, depth: usize) -> ParserResult<I, FieldArray>
+    ensures { MatchResult result
+        (λ x. RawOutcomeWithin depth AMQPType.FieldArray (I.bytes i) (found (array (array_view x.1)) (I.bytes x.0)))
+        (Refuses (RawOutcomeWithin depth AMQPType.FieldArray (I.bytes i)) (RawHeavy AMQPType.FieldArray (I.bytes i))) }
+{
     let (i, body) = parse_frame(i)?;
-    let array = parse_body(alloc, body)?;
+    if depth == 0 {
+        return Err(refused(ErrorKind::Eof));
+    }
+    let array = parse_body(alloc, body, depth - 1)?;
     Ok((i, array))
 }
 
 // Reads values one after another to the end of the body.
 #[cycle(parser)]
 #[inline(never)]
-fn parse_body<I: ParsableInput>(alloc: Global, body: I) -> Result<FieldArray, ParserError>
+fn parse_body<I: ParsableInput>(alloc: Global, body: I, depth: usize) -> Result<FieldArray, ParserError>
     ensures { MatchResult result
-        (λ array. Body (I.bytes body) (array_view array))
-        (Refuses (IsNoBody (I.bytes body)) (0 < length (I.bytes body))) }
+        (λ array. BodyWithin depth (I.bytes body) (array_view array))
+        (Refuses (IsNoBody depth (I.bytes body)) (0 < length (I.bytes body))) }
 {
     let mut array = FieldArray::new_in(alloc);
     let mut rest = body;
     'entries: while rest.input_len() > 0 {
-        let (after, value) = match parse_value(alloc, rest) {
+        let (after, value) = match value_within(alloc, rest, depth) {
             Ok(read) => read,
             Err(e) => return Err(inside(e)),
         };
@@ -192,25 +240,38 @@ fn parse_body<I: ParsableInput>(alloc: Global, body: I) -> Result<FieldArray, Pa
 /// short string and a value with its id. Of equal keys the last one's value stays.
 ///
 /// The body is taken whole before an entry of it is looked at.
-#[cycle(parser)]
 #[inline(always)]
 pub fn parse_field_table<I: ParsableInput>(alloc: Global, i: I) -> ParserResult<I, FieldTable>
     ensures { MatchResult result
         (λ x. RawOutcome AMQPType.FieldTable (I.bytes i) (found (table (table_view x.1)) (I.bytes x.0)))
         (Refuses (RawOutcome AMQPType.FieldTable (I.bytes i)) (RawHeavy AMQPType.FieldTable (I.bytes i))) }
 {
+    table_within(alloc, i, i.input_len())
+}
+
+// Reads a table in which containers nest at most `depth` deep, itself included.
+#[cycle(parser)]
+#[inline(always)]
+fn table_within<I: ParsableInput>(alloc: Global, i: I, depth: usize) -> ParserResult<I, FieldTable>
+    ensures { MatchResult result
+        (λ x. RawOutcomeWithin depth AMQPType.FieldTable (I.bytes i) (found (table (table_view x.1)) (I.bytes x.0)))
+        (Refuses (RawOutcomeWithin depth AMQPType.FieldTable (I.bytes i)) (RawHeavy AMQPType.FieldTable (I.bytes i))) }
+{
     let (i, body) = parse_frame(i)?;
-    let table = parse_pairs(alloc, body)?;
+    if depth == 0 {
+        return Err(refused(ErrorKind::Eof));
+    }
+    let table = parse_pairs(alloc, body, depth - 1)?;
     Ok((i, table))
 }
 
 // Reads keys, each with a value, one after another to the end of the body.
 #[cycle(parser)]
 #[inline(never)]
-fn parse_pairs<I: ParsableInput>(alloc: Global, body: I) -> Result<FieldTable, ParserError>
+fn parse_pairs<I: ParsableInput>(alloc: Global, body: I, depth: usize) -> Result<FieldTable, ParserError>
     ensures { MatchResult result
-        (λ table. IsTable (I.bytes body) (table_view table))
-        (Refuses (IsNoTable (I.bytes body)) (0 < length (I.bytes body))) }
+        (λ table. IsTable depth (I.bytes body) (table_view table))
+        (Refuses (IsNoTable depth (I.bytes body)) (0 < length (I.bytes body))) }
 {
     if body.input_len() == 0 {
         return Ok(FieldTable::new_in(alloc));
@@ -224,7 +285,7 @@ fn parse_pairs<I: ParsableInput>(alloc: Global, body: I) -> Result<FieldTable, P
             Ok(read) => read,
             Err(e) => return Err(inside(e)),
         };
-        let (after, value) = match parse_value(alloc, behind_key) {
+        let (after, value) = match value_within(alloc, behind_key, depth) {
             Ok(read) => read,
             Err(e) => return Err(inside(e)),
         };

@@ -1,0 +1,53 @@
+-- What was read within limits is read again within them.
+use Rattle.std.proofs.Common.{◌≡◌, ◌<◌, ◌≤◌, ◌+◌, ℕ, suc, List, [], ◌∷◌, ◌++◌, length, Option, Some, None, Result, Ok, Err, MatchResult, IfOk, refl, sym, ap, ◌∙◌, subst, arith, length-append}
+use Rattle.std.specs.Int.{Width, byte_len}
+use Rattle.std.proofs.lemmas.Bool.{le-ltb}
+use Rattle.amqp_value_core.specs.declared.types.AMQPType.{AMQPType}
+use Rattle.amqp_value_core.specs.declared.value.AMQPValue.{AMQPValue}
+use Rattle.amqp_value_core.specs.View.{view}
+use Rattle.amqp_value_core.specs.Values.{Tree, depth}
+use Rattle.amqp_value_core.specs.Ids.{kind}
+use Rattle.amqp_value_core.specs.Layouts.{Layout, fixed}
+use Rattle.amqp_value_core.specs.Grammar.{Wire, wire, Raw}
+use Rattle.amqp_value_core.specs.Nesting.{WireWithin, OutcomeWithin}
+use Rattle.amqp_value_core.specs.Texts.{text, size}
+use Rattle.amqp_value_core.specs.Outcomes.{IsBytes, found, Heavy, length_field, counted}
+use Rattle.amqp_value_core.proofs.GrammarLaws.{front_within, wire_found_within, text_again, depth_within, bounds, length_of_text, extent-raw, header_extent_of, bytes_front}
+use Rattle.amq_protocol_types.specs.declared.stream.limits.Limits.{Limits}
+use Rattle.amq_protocol_types.specs.Refusals.{Refusal}
+use Rattle.amq_protocol_types.specs.Headers.{extent_of, raw_extent, extent_at, extent}
+use Rattle.amq_protocol_types.specs.Streams.{Within, IsReadAgain}
+use Rattle.amq_protocol_types.specs.Answers.{Refuses}
+
+
+-- where the length field is whole, a payload's least extent is its extent
+whole_extent : (o : Option Layout) (w : Width) (b : List ℕ) (n : ℕ) → header_extent_of o w b ≡ n → n ≤ length b → extent_of o w b ≡ n
+whole_extent (Some f) w b n e le = e
+whole_extent None w b n e le = rw (le-ltb (length b) (byte_len w) (omega arith)) e
+
+-- the least extent of what begins with a wire is the wire's length
+pub wire_extent : (w t : List ℕ) (v : Tree) → Wire w v → extent (w ++ t) ≡ length w
+wire_extent _ t _ (wire c type b v k p) =
+    let raw : raw_extent type (b ++ t) ≡ length b = whole_extent (fixed type) (length_field type) (b ++ t) (length b) (extent-raw type b t v p) (omega (arith, length-append b t)) in
+    ap (λ o. extent_at o (b ++ t)) k ∙ ap suc raw
+
+-- what was read within limits is read again within them
+read_again : (l : Limits) (s rest : List ℕ) (v : Tree) → IsBytes s → Within l s (found v rest) → IsReadAgain l v
+read_again l s rest v bytes (few, x) = λ t.
+    let f = front_within l.depth s rest v x in
+    let w = f.0 in
+    let again = text_again l.depth w v (bytes_front w rest (subst IsBytes f.2 bytes)) f.1 in
+    let small : extent s ≡ length w = ap extent f.2 ∙ wire_extent w rest v f.1.0 in
+    (omega (arith, few, small, wire_extent (text v) t v again.0, length_of_text v, (bounds w v f.1.0).0), wire_found_within l.depth (text v) t v again.0 again.1)
+
+pub again_answer : {I : Type 0} (bytes : I → List ℕ) (l : Limits) (s : List ℕ) (r : Result (I × AMQPValue) Refusal)
+    → extent s ≤ l.frame → MatchResult r (λ x. OutcomeWithin l.depth s (found (view x.1) (bytes x.0))) (Refuses (OutcomeWithin l.depth s) (Heavy s))
+    → IsBytes s → IfOk r (λ x. IsReadAgain l (view x.1))
+again_answer bytes l s (Ok x) few p is = read_again l s (bytes x.0) (view x.1) is (few, p)
+again_answer bytes l s (Err e) few p is = tt
+
+pub depth_answer : {I : Type 0} (bytes : I → List ℕ) (l : Limits) (s : List ℕ) (r : Result (I × AMQPValue) Refusal)
+    → extent s ≤ l.frame → MatchResult r (λ x. OutcomeWithin l.depth s (found (view x.1) (bytes x.0))) (Refuses (OutcomeWithin l.depth s) (Heavy s))
+    → IfOk r (λ x. depth (view x.1) ≤ l.depth)
+depth_answer bytes l s (Ok x) few p = let f = front_within l.depth s (bytes x.0) (view x.1) p in depth_within l.depth f.0 (view x.1) f.1
+depth_answer bytes l s (Err e) few p = tt

@@ -1,0 +1,67 @@
+-- Payloads that are no container, and answers without a limit.
+use Rattle.std.proofs.Common.{◌≡◌, ◌≢◌, ◌≤◌, ℕ, List, length, Result, Ok, Err, MatchResult, refl, sym, ◌∙◌, subst, arith}
+use Rattle.amqp_value_core.specs.declared.types.AMQPType.{AMQPType}
+use Rattle.amqp_value_core.specs.declared.types.AMQPType.TheVariants as amqp
+use Rattle.amqp_value_core.specs.declared.value.AMQPValue.{AMQPValue}
+use Rattle.amqp_value_core.specs.Values.{Tree}
+use Rattle.amqp_value_core.specs.Grammar.{Raw, raw_fixed, raw_short, raw_long, raw_octets, raw_array, raw_table}
+use Rattle.amqp_value_core.specs.Nesting.{raw_nesting, RawWithin, RawOutcomeWithin}
+use Rattle.amqp_value_core.specs.View.{view}
+use Rattle.amqp_value_core.specs.Outcomes.{Reading, found, more, malformed, RawOutcome, RawHeavy}
+use Rattle.amqp_value_core.proofs.GrammarLaws.{raw_outcome_same, raw_unlimited}
+use Rattle.amq_protocol_types.specs.declared.parsing.errors.Err.TheVariants.{Incomplete, Error, Failure}
+use Rattle.amq_protocol_types.specs.declared.parsing.errors.Needed.TheVariants.{Unknown, Size}
+use Rattle.amq_protocol_types.specs.declared.parsing.errors.ErrorKind.TheVariants.{Eof}
+use Rattle.amq_protocol_types.specs.Refusals.{Refusal}
+use Rattle.amq_protocol_types.specs.Answers.{RightKind, Refuses, bad_kind, RawRefuses}
+use Rattle.amq_protocol_types.proofs.Refused.{Refuses-weaker, raw_refused}
+
+-- no container, so nothing nests
+flat : (type : AMQPType) (b : List ℕ) (v : Tree) (p : Raw type b v) → type ≢ amqp.FieldArray → type ≢ amqp.FieldTable → raw_nesting type b v p ≡ 0
+flat _ _ _ (raw_fixed type f b is wide) no_array no_table = refl
+flat _ _ _ (raw_short s is) no_array no_table = refl
+flat _ _ _ (raw_long s fits) no_array no_table = refl
+flat _ _ _ (raw_octets s fits) no_array no_table = refl
+flat _ _ _ (raw_array body vs fits all) no_array no_table = absurd (no_array refl)
+flat _ _ _ (raw_table body ps fits all) no_array no_table = absurd (no_table refl)
+
+plain_outcome : (d : ℕ) (type : AMQPType) (s : List ℕ) (o : Reading) → type ≢ amqp.FieldArray → type ≢ amqp.FieldTable → RawOutcome type s o → RawOutcomeWithin d type s o
+plain_outcome d type s o no_array no_table x =
+    raw_outcome_same (Raw type) (RawWithin d type) type s o (λ b rest v e p. (p, omega (arith, flat type b v p no_array no_table))) (λ b rest v e p. p.0) x
+
+-- a type that isn't a short string's has this kind of refusal
+eof_of_type : (type : AMQPType) → type ≢ amqp.ShortString → bad_kind type ≡ Eof
+eof_of_type amqp.ShortString no_short = absurd (no_short refl)
+eof_of_type _ no_short = refl
+
+plain_refused : (d : ℕ) (type : AMQPType) (s : List ℕ) (e : Refusal) → type ≢ amqp.ShortString → type ≢ amqp.FieldArray → type ≢ amqp.FieldTable → RawRefuses type s e
+    → Refuses (RawOutcomeWithin d type s) (RawHeavy type s) e
+plain_refused d type s (Incomplete Unknown) no_short no_array no_table x = absurd x
+plain_refused d type s (Incomplete (Size n)) no_short no_array no_table x = plain_outcome d type s (more n) no_array no_table x
+plain_refused d type s (Error k) no_short no_array no_table x =
+    subst (RightKind (RawOutcomeWithin d type s)) (sym (x.0 ∙ eof_of_type type no_short)) (plain_outcome d type s malformed no_array no_table x.1)
+plain_refused d type s (Failure k) no_short no_array no_table x = x
+
+-- what is answered of a payload that is no container is right within any depth
+pub plain_answer : {I : Type 0} (bytes : I → List ℕ) (d : ℕ) (type : AMQPType) (s : List ℕ) (r : Result (I × AMQPValue) Refusal)
+    → type ≢ amqp.ShortString → type ≢ amqp.FieldArray → type ≢ amqp.FieldTable
+    → MatchResult r (λ x. RawOutcome type s (found (view x.1) (bytes x.0))) (RawRefuses type s)
+    → MatchResult r (λ x. RawOutcomeWithin d type s (found (view x.1) (bytes x.0))) (Refuses (RawOutcomeWithin d type s) (RawHeavy type s))
+plain_answer bytes d type s (Ok x) no_short no_array no_table p = plain_outcome d type s (found (view x.1) (bytes x.0)) no_array no_table p
+plain_answer bytes d type s (Err e) no_short no_array no_table p = plain_refused d type s e no_short no_array no_table p
+
+-- a depth that the bytes can't pass limits no answer
+pub raw_unlimited_answer : {I V : Type 0} (bytes : I → List ℕ) (value : V → Tree) (type : AMQPType) (d : ℕ) (s : List ℕ) (r : Result (I × V) Refusal) → d ≡ length s
+    → MatchResult r (λ x. RawOutcomeWithin d type s (found (value x.1) (bytes x.0))) (Refuses (RawOutcomeWithin d type s) (RawHeavy type s))
+    → MatchResult r (λ x. RawOutcome type s (found (value x.1) (bytes x.0))) (Refuses (RawOutcome type s) (RawHeavy type s))
+raw_unlimited_answer bytes value type d s (Ok x) e p = raw_unlimited d type s (found (value x.1) (bytes x.0)) (omega arith) p
+raw_unlimited_answer bytes value type d s (Err r) e p =
+    Refuses-weaker (RawOutcomeWithin d type s) (RawOutcome type s) (RawHeavy type s) (RawHeavy type s) r (λ o x. raw_unlimited d type s o (omega arith) x) (λ h. h) p
+
+-- so of any payload that isn't a short string's
+pub raw_value_answer : {I : Type 0} (bytes : I → List ℕ) (type : AMQPType) (d : ℕ) (s : List ℕ) (r : Result (I × AMQPValue) Refusal) → type ≢ amqp.ShortString → d ≡ length s
+    → MatchResult r (λ x. RawOutcomeWithin d type s (found (view x.1) (bytes x.0))) (Refuses (RawOutcomeWithin d type s) (RawHeavy type s))
+    → MatchResult r (λ x. RawOutcome type s (found (view x.1) (bytes x.0))) (RawRefuses type s)
+raw_value_answer bytes type d s (Ok x) no_short e p = raw_unlimited_answer bytes view type d s (Ok x) e p
+raw_value_answer bytes type d s (Err r) no_short e p =
+    raw_refused type s (RawHeavy type s) r (eof_of_type type no_short) (λ h. h) (raw_unlimited_answer bytes view type d s (Err r) e p)

@@ -1,0 +1,11 @@
+use Rattle.std.proofs.Common.{rules}
+use Rattle.amqp_value_core.specs.Nesting.{WireWithin}
+use Rattle.amq_protocol_types.specs.Headers.{wanted}
+use Rattle.amq_protocol_types.specs.Readers.{kept}
+use Rattle.amq_protocol_types.proofs.Waits.{more_wanted}
+use Rattle.amq_protocol_types.proofs.stream.values.Values.ended.Goals as goal
+
+pub returns-clause-answer : goal.returns-clause-answer
+returns-clause-answer c = λ left end.
+    let s = kept c.args.self.now in
+    (search rules, (wanted s, (c.requires.within, more_wanted (WireWithin c.args.self.now.limits.depth) s c.requires.wants)), search rules, end)

@@ -1,0 +1,50 @@
+-- What a reader of values answers.
+use Rattle.std.specs.Prelude.{ℕ, ◌<◌, ◌≤◌, ◌≡◌, Bool, true, false, Option, Some, None, Result, Ok, Err, List, [], length}
+use Rattle.std.specs.Io.KnownBytes.{IsAtEnd}
+use Rattle.amqp_value_core.specs.declared.value.AMQPValue.{AMQPValue}
+use Rattle.amqp_value_core.specs.View.{view}
+use Rattle.amqp_value_core.specs.Outcomes.{found, more}
+use Rattle.amq_protocol_types.specs.declared.parsing.errors.Err.TheVariants.{Error}
+use Rattle.amq_protocol_types.specs.declared.stream.error.StreamError.{StreamError}
+use Rattle.amq_protocol_types.specs.declared.stream.error.StreamError.TheVariants as stream
+use Rattle.amq_protocol_types.specs.declared.stream.limits.Limits.{Limits}
+use Rattle.amq_protocol_types.specs.declared.stream.values.Values.{Values}
+use Rattle.amq_protocol_types.specs.Headers.{IsWaiting}
+use Rattle.amq_protocol_types.specs.Streams.{Within, RefusesWithin}
+
+-- the bytes that are kept of a value that hasn't all come
+abbrev pub kept : Values → List ℕ
+kept r = r.pending
+
+abbrev pub has_failed : Values → Bool
+has_failed r = r.failed
+
+abbrev pub limits_of : Values → Limits
+limits_of r = r.limits
+
+-- `next` may answer this, where s is what was kept and what came, `left` is what the reader has left, `now` is kept
+-- afterwards, and `failed` says that the reader of values failed for good
+abbrev pub Answers : Limits → List ℕ → Option (List ℕ) → List ℕ → Bool → Result (Option AMQPValue) StreamError → Type 0
+Answers l s left now failed (Ok (Some v)) = Within l s (found (view v) []) × (length s ≤ l.frame) × (now ≡ []) × (failed ≡ false)
+Answers l s left now failed (Ok None) = (s ≡ []) × (now ≡ []) × (failed ≡ false) × IsAtEnd left
+Answers l s left now failed (Err (stream.Refused kind)) = RefusesWithin l s (Error kind) × IsWaiting l.frame s × (failed ≡ true)
+Answers l s left now failed (Err stream.Truncated) = (0 < length s) × ((n : ℕ) × Within l s (more n)) × (failed ≡ true) × IsAtEnd left
+Answers l s left now failed (Err (stream.Read kind)) = (now ≡ s) × (failed ≡ false)
+Answers l s left now failed (Err stream.OutOfMemory) = (now ≡ s) × (failed ≡ false)
+Answers l s left now failed (Err stream.Failed) = ⊥
+
+-- `next` answers that it failed before
+abbrev pub IsFailed : Result (Option AMQPValue) StreamError → Type 0
+IsFailed (Err stream.Failed) = Unit {0}
+IsFailed _ = ⊥
+
+-- `next` may answer this where the reader tells its bytes, s is what was kept and then all that the reader held, and `left` is
+-- what it has left: what reading s within the limits comes to, however the reader cuts its bytes
+abbrev pub AnswersAll : Limits → List ℕ → Option (List ℕ) → Result (Option AMQPValue) StreamError → Type 0
+AnswersAll l s left (Ok (Some v)) = (rest : List ℕ) × Within l s (found (view v) rest) × (left ≡ Some rest)
+AnswersAll l s left (Ok None) = (s ≡ []) × (left ≡ Some [])
+AnswersAll l s left (Err (stream.Refused kind)) = RefusesWithin l s (Error kind)
+AnswersAll l s left (Err stream.Truncated) = (0 < length s) × ((n : ℕ) × Within l s (more n)) × (left ≡ Some [])
+AnswersAll l s left (Err (stream.Read kind)) = Unit {0}
+AnswersAll l s left (Err stream.OutOfMemory) = Unit {0}
+AnswersAll l s left (Err stream.Failed) = ⊥

@@ -1,0 +1,98 @@
+//! A stream of values, from a reader to a writer.
+
+ghost use Rattle.std.specs.Prelude.{◌≡◌, ◌<◌, ◌∷◌, ◌++◌, [], true, false, OnOk, OnErr, IfOk, IfSome, string_bytes};
+ghost use Rattle.std.specs.Io.KnownBytes.{Appends};
+ghost use Rattle.amqp_value_core.specs.Outcomes.{IsBytes};
+ghost use Rattle.amqp_value_core.specs.View.{view};
+ghost use Rattle.amq_protocol_types.specs.Readers.{kept, has_failed, limits_of};
+ghost use Rattle.amqp_wire.specs.Lines.{AppendsFront};
+ghost use Rattle.amqp_wire.specs.Streams.{value_line, stream_text, IsLine};
+
+use crate::fault::WireFault;
+use crate::run::write_out;
+use amq_protocol_types::AMQPValue;
+use amq_protocol_types::generation::{WriteContext, gen_value};
+use amq_protocol_types::parsing::ErrorKind;
+use amq_protocol_types::stream::{Limits, StreamError, Values};
+use std::alloc::Global;
+use std::io;
+use std::io::{Read, Write};
+
+/// The line of a value.
+fn line_of(alloc: Global, value: &AMQPValue) -> Result<Vec<u8>, WireFault>
+    ensures { IfOk result (λ line. line.items ≡ value_line (view value.now)) }
+{
+    let mut context = WriteContext::from(Vec::new(alloc));
+    if gen_value(value, &mut context).is_err() {
+        return Err(WireFault::OutOfMemory);
+    }
+    let (bytes, _) = context.into_inner();
+    let hex = hex::encode(alloc, bytes.as_slice())?;
+    let mut line = format!(in alloc; "value {hex}")?;
+    line.push('\n')?;
+    Ok(line.into_bytes())
+}
+
+/// A line of its own.
+fn text_of(alloc: Global, text: &str) -> Result<Vec<u8>, WireFault>
+    ensures { IfOk result (λ line. line.items ≡ text.now) }
+{
+    Ok(String::from_str(alloc, text)?.into_bytes())
+}
+
+/// The next line, and whether it is a value's.
+fn next_line<R: Read>(
+    alloc: Global,
+    values: &mut Values,
+    reader: &mut R,
+) -> Result<(Vec<u8>, bool), WireFault>
+    requires kept { kept values.old ≡ [] }
+    requires goes_on { has_failed values.old ≡ false }
+    ensures line { IfOk result (λ p. IfSome (R.remaining reader.old)
+        (λ s. IsBytes s → IsLine (limits_of values.old) s (R.remaining reader.new) p.0.items p.1)) }
+    ensures more { IfOk result (λ p. p.1 ≡ true → (kept values.new ≡ []) × (has_failed values.new ≡ false)) }
+    ensures limits { limits_of values.new ≡ limits_of values.old }
+{
+    match values.next_of(reader) {
+        Ok(Some(value)) => Ok((line_of(alloc, &value)?, true)),
+        Ok(None) => Ok((text_of(alloc, "end\n")?, false)),
+        Err(StreamError::Truncated) => Ok((text_of(alloc, "truncated\n")?, false)),
+        Err(StreamError::Refused(error)) => match error.kind() {
+            ErrorKind::MapOpt => Ok((text_of(alloc, "refused MapOpt\n")?, false)),
+            ErrorKind::Eof => Ok((text_of(alloc, "refused Eof\n")?, false)),
+            ErrorKind::TooLarge => Ok((text_of(alloc, "refused TooLarge\n")?, false)),
+            ErrorKind::MapRes | ErrorKind::OutOfMemory => unreachable!(),
+        },
+        Err(StreamError::Read(kind)) => Err(WireFault::from(io::Error::from(kind))),
+        Err(StreamError::OutOfMemory) => Err(WireFault::OutOfMemory),
+        Err(StreamError::Failed) => unreachable!(),
+    }
+}
+
+/// Reads values from the reader until there are `most`, and writes a line for each. Before that a
+/// last line says why there are fewer.
+pub fn run_stream<R: Read, W: Write>(
+    alloc: Global,
+    reader: &mut R,
+    writer: &mut W,
+    limits: Limits,
+    most: usize,
+) -> Result<(), WireFault>
+    requires { 0 < limits.frame }
+    ensures ok { OnOk result (IfSome (R.remaining reader.old) (λ s. IsBytes s →
+        Appends (W.contents writer.old) (W.contents writer.new) (stream_text limits most s))) }
+    ensures err { OnErr result (IfSome (R.remaining reader.old) (λ s. IsBytes s →
+        AppendsFront (W.contents writer.old) (W.contents writer.new) (stream_text limits most s))) }
+{
+    let mut values = Values::new(alloc, limits);
+    let mut left = most;
+    'values: while left > 0 {
+        let (line, is_value) = next_line(alloc, &mut values, reader)?;
+        write_out(line.as_slice(), writer)?;
+        if !is_value {
+            return Ok(());
+        }
+        left -= 1;
+    }
+    Ok(())
+}
