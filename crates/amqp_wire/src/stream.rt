@@ -53,7 +53,7 @@ fn next_line<R: Read>(
     ensures more { IfOk result (λ p. p.1 ≡ true → (kept values.new ≡ []) × (has_failed values.new ≡ false)) }
     ensures limits { limits_of values.new ≡ limits_of values.old }
 {
-    match values.next_of(reader) {
+    match values.next_from(reader) {
         Ok(Some(value)) => Ok((line_of(alloc, &value)?, true)),
         Ok(None) => Ok((text_of(alloc, "end\n")?, false)),
         Err(StreamError::Truncated) => Ok((text_of(alloc, "truncated\n")?, false)),

@@ -1,19 +1,24 @@
-//! Why a reader of values gave none.
-
 use crate::parsing::ParserErrors;
 use std::io;
+use thiserror::Error;
 
 /// Why a reader of values gave none.
-#[derive(Debug, PartialEq, Drop)]
+#[derive(Clone, Debug, PartialEq, Drop, Error)]
 pub enum StreamError {
-    /// What came is refused, and the reader of values gives none from now on.
+    /// What came begins with no value within the limits. The reader of values has failed for good.
+    #[error(transparent)]
     Refused(ParserErrors),
-    /// The reader ended inside a value, and the reader of values gives none from now on.
+    /// The reader ended inside a value. The reader of values has failed for good.
+    #[error("truncated")]
     Truncated,
-    /// The reader failed. Nothing that came is lost, and the next call goes on.
+    /// The reader failed in this way, `Interrupted` too. Nothing that came is lost, and the next
+    /// call goes on.
+    #[error("read failed")]
     Read(io::ErrorKind),
     /// A request for memory was refused. Nothing that came is lost, and the next call goes on.
+    #[error("out of memory")]
     OutOfMemory,
-    /// An earlier call answered that this one gives no value.
+    /// An earlier call answered `Refused` or `Truncated`. Nothing was read.
+    #[error("failed before")]
     Failed,
 }

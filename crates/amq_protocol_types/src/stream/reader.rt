@@ -41,6 +41,6 @@ impl<R: Read> ValueReader<R> {
         ensures failed { has_failed self.old.values ≡ true → IsFailed result × (self.new ≡ self.old) }
         ensures limits { limits_of self.new.values ≡ limits_of self.old.values }
     {
-        self.values.next_of(&mut self.reader)
+        self.values.next_from(&mut self.reader)
     }
 }

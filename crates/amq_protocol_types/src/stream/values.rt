@@ -46,7 +46,7 @@ impl Values {
     }
 
     /// The next value of the reader, or `None` where the reader ended behind the value before.
-    pub fn next_of<R: Read>(&mut self, reader: &mut R) -> Result<Option<AMQPValue>, StreamError>
+    pub fn next_from<R: Read>(&mut self, reader: &mut R) -> Result<Option<AMQPValue>, StreamError>
         ensures answer { has_failed self.old ≡ false → (x : List ℕ)
             × Consumes (R.remaining reader.old) (R.remaining reader.new) x
             × Answers (limits_of self.old) (kept self.old ++ x) (R.remaining reader.new) (kept self.new) (has_failed self.new) result }

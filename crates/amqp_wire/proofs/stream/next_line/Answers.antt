@@ -11,7 +11,7 @@ use Rattle.amqp_wire.proofs.stream.next_line.Goals as goal
 pub returns-in_ok-line_of-in-Ok-Some-clause-line : goal.returns-in_ok-line_of-in-Ok-Some-clause-line
 returns-in_ok-line_of-in-Ok-Some-clause-line g c =
     let l = limits_of c.args.values.now in
-    let left = g.R.Read.remaining c.next_of.new.reader in
+    let left = g.R.Read.remaining c.next_from.new.reader in
     let line = c.in_ok-line_of-in-Ok-Some.field-0.items in
     let is : line ≡ value_line (view c.in-Ok-Some.value) = search rules in
     line_told l (kept c.args.values.now) (g.R.Read.remaining c.args.reader.now) left line true (Ok c.in-Ok-Some.field-0) (λ s bytes a. value_told l s left c.in-Ok-Some.value line is bytes (subst (λ o. AnswersAll l s left (Ok o)) c.in-Ok-Some.field-0-is a)) c.requires.kept (c.in-Ok-Some.ensures.told c.requires.goes_on)
@@ -19,7 +19,7 @@ returns-in_ok-line_of-in-Ok-Some-clause-line g c =
 pub returns-in_ok-text_of-in-Err-Truncated-clause-line : goal.returns-in_ok-text_of-in-Err-Truncated-clause-line
 returns-in_ok-text_of-in-Err-Truncated-clause-line g c =
     let l = limits_of c.args.values.now in
-    let left = g.R.Read.remaining c.next_of.new.reader in
+    let left = g.R.Read.remaining c.next_from.new.reader in
     let line = c.in_ok-text_of-in-Err-Truncated.field-0.items in
     let is : line ≡ codes "truncated\n" = search rules in
     line_told l (kept c.args.values.now) (g.R.Read.remaining c.args.reader.now) left line false (Err c.in-Err-Truncated.field-0) (λ s bytes a. cut_told l s left line is bytes (subst (λ e. AnswersAll l s left (Err e)) c.in-Err-Truncated.field-0-is a)) c.requires.kept (c.in-Err-Truncated.ensures.told c.requires.goes_on)
@@ -27,7 +27,7 @@ returns-in_ok-text_of-in-Err-Truncated-clause-line g c =
 pub returns-in_ok-text_of-in-MapOpt-clause-line : goal.returns-in_ok-text_of-in-MapOpt-clause-line
 returns-in_ok-text_of-in-MapOpt-clause-line g c =
     let l = limits_of c.args.values.now in
-    let left = g.R.Read.remaining c.next_of.new.reader in
+    let left = g.R.Read.remaining c.next_from.new.reader in
     let line = c.in_ok-text_of-in-MapOpt.field-0.items in
     let is : line ≡ codes "refused MapOpt\n" = search rules in
     line_told l (kept c.args.values.now) (g.R.Read.remaining c.args.reader.now) left line false (Err (stream.Refused MapOpt)) (λ s. map_opt_told l s left line is) c.requires.kept (search (rules, c.in-Err-Refused.ensures.told c.requires.goes_on))
@@ -35,7 +35,7 @@ returns-in_ok-text_of-in-MapOpt-clause-line g c =
 pub returns-in_ok-text_of-in-Eof-clause-line : goal.returns-in_ok-text_of-in-Eof-clause-line
 returns-in_ok-text_of-in-Eof-clause-line g c =
     let l = limits_of c.args.values.now in
-    let left = g.R.Read.remaining c.next_of.new.reader in
+    let left = g.R.Read.remaining c.next_from.new.reader in
     let line = c.in_ok-text_of-in-Eof.field-0.items in
     let is : line ≡ codes "refused Eof\n" = search rules in
     line_told l (kept c.args.values.now) (g.R.Read.remaining c.args.reader.now) left line false (Err (stream.Refused Eof)) (λ s. eof_told l s left line is) c.requires.kept (search (rules, c.in-Err-Refused.ensures.told c.requires.goes_on))

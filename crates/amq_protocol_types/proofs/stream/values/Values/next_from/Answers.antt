@@ -1,6 +1,6 @@
 use Rattle.amq_protocol_types.specs.Readers.{kept, has_failed, limits_of}
 use Rattle.amq_protocol_types.proofs.Told.{told}
-use Rattle.amq_protocol_types.proofs.stream.values.Values.next_of.Goals as goal
+use Rattle.amq_protocol_types.proofs.stream.values.Values.next_from.Goals as goal
 
 pub returns-clause-told : goal.returns-clause-told
 returns-clause-told g c = λ _.
