@@ -10,14 +10,13 @@ use Rattle.amqp_value_core.specs.Ids.{kind}
 use Rattle.amqp_value_core.specs.Layouts.{Layout, fixed}
 use Rattle.amqp_value_core.specs.Grammar.{Wire, wire, Raw}
 use Rattle.amqp_value_core.specs.Nesting.{WireWithin, OutcomeWithin}
-use Rattle.amqp_value_core.specs.Texts.{text, size}
-use Rattle.amqp_value_core.specs.Outcomes.{IsBytes, found, Heavy, length_field, counted}
-use Rattle.amqp_value_core.proofs.GrammarLaws.{front_within, wire_found_within, text_again, depth_within, bounds, length_of_text, extent-raw, header_extent_of, bytes_front}
+use Rattle.amqp_value_core.specs.Texts.{text, size, Fits, IsValue}
+use Rattle.amqp_value_core.specs.Outcomes.{IsBytes, found, length_field, counted}
+use Rattle.amqp_value_core.proofs.GrammarLaws.{front_within, wire_found_within, text_within, text_again, depth_within, bounds, length_of_text, tells_apart, extent-raw, header_extent_of, bytes_front}
 use Rattle.amq_protocol_types.specs.declared.stream.limits.Limits.{Limits}
 use Rattle.amq_protocol_types.specs.Refusals.{Refusal}
 use Rattle.amq_protocol_types.specs.Headers.{extent_of, raw_extent, extent_at, extent}
-use Rattle.amq_protocol_types.specs.Streams.{Within, IsReadAgain}
-use Rattle.amq_protocol_types.specs.Answers.{Refuses}
+use Rattle.amq_protocol_types.specs.Limits.{Within, RefusesWithin, IsReadAgain, ReadsBack, IsShortestWithin, TellsApartWithin}
 
 
 -- where the length field is whole, a payload's least extent is its extent
@@ -31,6 +30,19 @@ wire_extent _ t _ (wire c type b v k p) =
     let raw : raw_extent type (b ++ t) ≡ length b = whole_extent (fixed type) (length_field type) (b ++ t) (length b) (extent-raw type b t v p) (omega (arith, length-append b t)) in
     ap (λ o. extent_at o (b ++ t)) k ∙ ap suc raw
 
+-- a text that keeps to the limits is read within them
+pub reads_back : (l : Limits) → ReadsBack l
+reads_back l v is fits readable deep small = λ t.
+    let p = text_within v is fits readable in
+    (omega (arith, small, wire_extent (text v) t v p.0, length_of_text v), wire_found_within l.depth (text v) t v p.0 (omega (arith, p.1, deep)))
+
+-- the text is a shortest wire of its value within a depth, and of no other value
+pub shortest_within : (d : ℕ) (v : Tree) → IsShortestWithin d v
+shortest_within d v = λ w bytes p. (text_again d w v bytes p, omega (arith, length_of_text v, (bounds w v p.0).0))
+
+pub tells_apart_within : (d : ℕ) (v : Tree) → TellsApartWithin d v
+tells_apart_within d v = λ u w x bytes_w bytes_x p q. tells_apart v u w x bytes_w bytes_x p.0 q.0
+
 -- what was read within limits is read again within them
 read_again : (l : Limits) (s rest : List ℕ) (v : Tree) → IsBytes s → Within l s (found v rest) → IsReadAgain l v
 read_again l s rest v bytes (few, x) = λ t.
@@ -40,14 +52,14 @@ read_again l s rest v bytes (few, x) = λ t.
     let small : extent s ≡ length w = ap extent f.2 ∙ wire_extent w rest v f.1.0 in
     (omega (arith, few, small, wire_extent (text v) t v again.0, length_of_text v, (bounds w v f.1.0).0), wire_found_within l.depth (text v) t v again.0 again.1)
 
-pub again_answer : {I : Type 0} (bytes : I → List ℕ) (l : Limits) (s : List ℕ) (r : Result (I × AMQPValue) Refusal)
-    → extent s ≤ l.frame → MatchResult r (λ x. OutcomeWithin l.depth s (found (view x.1) (bytes x.0))) (Refuses (OutcomeWithin l.depth s) (Heavy s))
-    → IsBytes s → IfOk r (λ x. IsReadAgain l (view x.1))
-again_answer bytes l s (Ok x) few p is = read_again l s (bytes x.0) (view x.1) is (few, p)
-again_answer bytes l s (Err e) few p is = tt
+-- so of what a parser answers
+module _ {I : Type 0} (bytes : I → List ℕ) (l : Limits) (s : List ℕ) where
+  pub again_answer : (r : Result (I × AMQPValue) Refusal) → MatchResult r (λ x. Within l s (found (view x.1) (bytes x.0))) (RefusesWithin l s)
+      → IsBytes s → IfOk r (λ x. IsReadAgain l (view x.1))
+  again_answer (Ok x) p is = read_again l s (bytes x.0) (view x.1) is p
+  again_answer (Err e) p is = tt
 
-pub depth_answer : {I : Type 0} (bytes : I → List ℕ) (l : Limits) (s : List ℕ) (r : Result (I × AMQPValue) Refusal)
-    → extent s ≤ l.frame → MatchResult r (λ x. OutcomeWithin l.depth s (found (view x.1) (bytes x.0))) (Refuses (OutcomeWithin l.depth s) (Heavy s))
-    → IfOk r (λ x. depth (view x.1) ≤ l.depth)
-depth_answer bytes l s (Ok x) few p = let f = front_within l.depth s (bytes x.0) (view x.1) p in depth_within l.depth f.0 (view x.1) f.1
-depth_answer bytes l s (Err e) few p = tt
+  pub depth_answer : (r : Result (I × AMQPValue) Refusal) → MatchResult r (λ x. Within l s (found (view x.1) (bytes x.0))) (RefusesWithin l s)
+      → IfOk r (λ x. depth (view x.1) ≤ l.depth)
+  depth_answer (Ok x) p = let f = front_within l.depth s (bytes x.0) (view x.1) p.1 in depth_within l.depth f.0 (view x.1) f.1
+  depth_answer (Err e) p = tt

@@ -22,4 +22,5 @@ pub mod Waits
 pub mod Comes
 pub mod Plain
 pub mod Again
+pub mod Appends
 pub mod Told

@@ -34,15 +34,15 @@ more_wanted P (c ∷ b) h = by (kind c) h
     by (Some type) lt = at (lack type b) _ lt
 
 -- what is asked for lacks
-pub wanted_more : (s : List ℕ) (n : ℕ) → Outcome s (more n) → wanted s ≡ n
-wanted_more [] n x = cc
-wanted_more (c ∷ b) n x = by (kind c) x
+pub wanted_more : (P : List ℕ → Tree → Type 0) (s : List ℕ) (n : ℕ) → OutcomeBy P s (more n) → wanted s ≡ n
+wanted_more P [] n x = cc
+wanted_more P (c ∷ b) n x = by (kind c) x
   where
-    at : (m : ℕ) → Unless m (Front (c ∷ b) (more n)) (more n) → m ≡ n
+    at : (m : ℕ) → Unless m (FrontBy P (c ∷ b) (more n)) (more n) → m ≡ n
     at zero none = absurd none
     at (suc m) is = cc
 
-    by : (k : Option AMQPType) → MatchOption k (more n ≡ unknown) (λ type. Unless (lack type b) (Front (c ∷ b) (more n)) (more n))
+    by : (k : Option AMQPType) → MatchOption k (more n ≡ unknown) (λ type. Unless (lack type b) (FrontBy P (c ∷ b) (more n)) (more n))
         → wanted_at k b ≡ n
     by None is = absurd cc
     by (Some type) y = at (lack type b) y
@@ -62,8 +62,8 @@ wanted_found (c ∷ b) v rest x = by (kind c) x
     by (Some type) y = at (lack type b) y
 
 -- fewer bytes than lack leave the others lacking
-wanted-append : (s m : List ℕ) → length m < wanted s → wanted (s ++ m) ≡ wanted s - length m
-wanted-append s m lt = wanted_more (s ++ m) (wanted s - length m) (more_bytes s m (more (wanted s)) (more_wanted Wire s (omega arith)) lt)
+pub wanted-append : (s m : List ℕ) → length m < wanted s → wanted (s ++ m) ≡ wanted s - length m
+wanted-append s m lt = wanted_more Wire (s ++ m) (wanted s - length m) (more_bytes s m (more (wanted s)) (more_wanted Wire s (omega arith)) lt)
 
 -- ---- the least extent
 
@@ -84,7 +84,7 @@ extent_of-append None w b m lt = elim (cases_lt (length b) (byte_len w)) [
 ]
 
 -- nor that of a value
-extent-append : (s m : List ℕ) → length m < wanted s → extent (s ++ m) ≡ extent s
+pub extent-append : (s m : List ℕ) → length m < wanted s → extent (s ++ m) ≡ extent s
 extent-append [] m lt = ap extent (nil_from_length m (omega arith))
 extent-append (c ∷ b) m lt = by (kind c) lt
   where

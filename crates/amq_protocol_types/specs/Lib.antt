@@ -10,6 +10,6 @@ pub mod Lengths
 pub mod Flags
 pub mod Gathering
 pub mod Headers
-pub mod Streams
+pub mod Limits
 pub mod Passing
 pub mod Readers

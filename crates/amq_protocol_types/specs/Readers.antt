@@ -1,16 +1,18 @@
--- What a reader of values answers.
+-- What readers of values keep and answer.
 use Rattle.std.specs.Prelude.{ℕ, ◌<◌, ◌≤◌, ◌≡◌, Bool, true, false, Option, Some, None, Result, Ok, Err, List, [], length}
 use Rattle.std.specs.Io.KnownBytes.{IsAtEnd}
 use Rattle.amqp_value_core.specs.declared.value.AMQPValue.{AMQPValue}
+use Rattle.amqp_value_core.specs.Nesting.{WireWithin}
 use Rattle.amqp_value_core.specs.View.{view}
 use Rattle.amqp_value_core.specs.Outcomes.{found, more}
 use Rattle.amq_protocol_types.specs.declared.parsing.errors.Err.TheVariants.{Error}
 use Rattle.amq_protocol_types.specs.declared.stream.error.StreamError.{StreamError}
 use Rattle.amq_protocol_types.specs.declared.stream.error.StreamError.TheVariants as stream
 use Rattle.amq_protocol_types.specs.declared.stream.limits.Limits.{Limits}
+use Rattle.amq_protocol_types.specs.declared.stream.reader.ValueReader.{ValueReader}
 use Rattle.amq_protocol_types.specs.declared.stream.values.Values.{Values}
 use Rattle.amq_protocol_types.specs.Headers.{IsWaiting}
-use Rattle.amq_protocol_types.specs.Streams.{Within, RefusesWithin}
+use Rattle.amq_protocol_types.specs.Limits.{Within, RefusesWithin}
 
 -- the bytes that are kept of a value that hasn't all come
 abbrev pub kept : Values → List ℕ
@@ -22,10 +24,19 @@ has_failed r = r.failed
 abbrev pub limits_of : Values → Limits
 limits_of r = r.limits
 
--- `next` may answer this, where s is what was kept and what came, `left` is what the reader has left, `now` is kept
--- afterwards, and `failed` says that the reader of values failed for good
+-- a `ValueReader` is the state between two values, and a reader
+abbrev pub values_of : {R : Type 0} → ValueReader R → Values
+values_of r = r.values
+
+abbrev pub reader_of : {R : Type 0} → ValueReader R → R
+reader_of r = r.reader
+
+-- a call for the next value may answer this, where s is what was kept and then what came, `left` is what the reader has left,
+-- `now` is kept afterwards, and `failed` says whether it gives none from then on:
+-- a value, whose wire s is; none, where nothing was kept or came, and the reader is at its end; a refusal, which no shorter
+-- front met; that s is cut, where the reader is at its end; a fault, where all of s is kept
 abbrev pub Answers : Limits → List ℕ → Option (List ℕ) → List ℕ → Bool → Result (Option AMQPValue) StreamError → Type 0
-Answers l s left now failed (Ok (Some v)) = Within l s (found (view v) []) × (length s ≤ l.frame) × (now ≡ []) × (failed ≡ false)
+Answers l s left now failed (Ok (Some v)) = WireWithin l.depth s (view v) × (length s ≤ l.frame) × (now ≡ []) × (failed ≡ false)
 Answers l s left now failed (Ok None) = (s ≡ []) × (now ≡ []) × (failed ≡ false) × IsAtEnd left
 Answers l s left now failed (Err (stream.Refused kind)) = RefusesWithin l s (Error kind) × IsWaiting l.frame s × (failed ≡ true)
 Answers l s left now failed (Err stream.Truncated) = (0 < length s) × ((n : ℕ) × Within l s (more n)) × (failed ≡ true) × IsAtEnd left
@@ -33,13 +44,14 @@ Answers l s left now failed (Err (stream.Read kind)) = (now ≡ s) × (failed �
 Answers l s left now failed (Err stream.OutOfMemory) = (now ≡ s) × (failed ≡ false)
 Answers l s left now failed (Err stream.Failed) = ⊥
 
--- `next` answers that it failed before
+-- the answer is that an earlier call failed for good
 abbrev pub IsFailed : Result (Option AMQPValue) StreamError → Type 0
 IsFailed (Err stream.Failed) = Unit {0}
 IsFailed _ = ⊥
 
--- `next` may answer this where the reader tells its bytes, s is what was kept and then all that the reader held, and `left` is
--- what it has left: what reading s within the limits comes to, however the reader cuts its bytes
+-- a call for the next value may answer this, where the reader tells its bytes, s is what was kept and then all that the reader
+-- held, and `left` is what it has left: what reading s within the limits comes to, however the reader cuts its bytes, and with
+-- all behind the value unread
 abbrev pub AnswersAll : Limits → List ℕ → Option (List ℕ) → Result (Option AMQPValue) StreamError → Type 0
 AnswersAll l s left (Ok (Some v)) = (rest : List ℕ) × Within l s (found (view v) rest) × (left ≡ Some rest)
 AnswersAll l s left (Ok None) = (s ≡ []) × (left ≡ Some [])

@@ -1,4 +1,5 @@
-//! Values from a stream of bytes, none longer than a limit.
+//! Values from strangers' bytes, within limits on their length and on how deep they nest: one from an
+//! input, or one after another from a reader.
 
 mod error;
 mod header;

@@ -33,7 +33,7 @@ pub use Rattle.amqp_value_core.proofs.Reading.{table_body, short_bytes}
 -- reading where containers nest at most so deep
 pub use Rattle.amqp_value_core.proofs.Limited.{one_outcome_within, front_within, raw_to_value_within, raw_whole_within, raw_found_within, wire_found_within, raw_outcome_same, unlimited, raw_unlimited, deep_enough}
 pub use Rattle.amqp_value_core.proofs.Reading.{array_body_within, table_body_within}
-pub use Rattle.amqp_value_core.proofs.TextDepth.{text_again, depth_within}
+pub use Rattle.amqp_value_core.proofs.TextDepth.{text_within, text_again, depth_within}
 pub use Rattle.amqp_value_core.proofs.Agreement.{within_holds, within_is}
 pub use Rattle.amqp_value_core.proofs.Headers.{extent-raw, extent_of as header_extent_of}
 pub use Rattle.amqp_value_core.proofs.Sound.{IsBytes-front as bytes_front}

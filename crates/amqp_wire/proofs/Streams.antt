@@ -15,7 +15,7 @@ use Rattle.amq_protocol_types.specs.declared.stream.error.StreamError.{StreamErr
 use Rattle.amq_protocol_types.specs.declared.stream.error.StreamError.TheVariants as stream
 use Rattle.amq_protocol_types.specs.declared.stream.limits.Limits.{Limits}
 use Rattle.amq_protocol_types.specs.Headers.{extent}
-use Rattle.amq_protocol_types.specs.Streams.{Within}
+use Rattle.amq_protocol_types.specs.Limits.{Within}
 use Rattle.amq_protocol_types.specs.Readers.{AnswersAll}
 use Rattle.std.specs.Io.KnownBytes.{Appends}
 use Rattle.std.proofs.KnownBytes.{Appends-trans}

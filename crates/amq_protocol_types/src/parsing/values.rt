@@ -43,7 +43,6 @@ pub fn parse_value<I: ParsableInput>(alloc: Global, i: I) -> ParserResult<I, AMQ
 /// Reads a value in which containers nest at most `depth` deep.
 #[cycle(parser)]
 #[inline(always)]
-#[tactic(auto, using(crate::proofs::Typed::never_short))]
 pub(crate) fn value_within<I: ParsableInput>(
     alloc: Global,
     i: I,

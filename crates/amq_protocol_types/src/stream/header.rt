@@ -4,7 +4,7 @@ ghost use Rattle.std.specs.Prelude.{◌≡◌, ◌≢◌, ◌<◌, ◌≤◌, �
 ghost use Rattle.amqp_value_core.specs.Layouts.{fixed};
 ghost use Rattle.amqp_value_core.specs.Outcomes.{length_field};
 ghost use Rattle.amq_protocol_types.specs.Headers.{raw_extent, first_of};
-ghost use Rattle.amq_protocol_types.specs.Streams.{IsHeader};
+ghost use Rattle.amq_protocol_types.specs.Limits.{IsHeader};
 
 use crate::parsing::traits::ParsableInput;
 use crate::parsing::{parse_long_uint, parse_type};

@@ -9,9 +9,10 @@ use std::alloc::{AllocError, Global};
 use std::io::Read;
 use std::marker::Model;
 
-// So many bytes of room are made at a time.
+// The first room.
 const ROOM: [u8; 4096] = [0; 4096];
 
+// Room for bytes, of which the first `filled` came.
 #[derive(Drop)]
 pub(super) struct Pending {
     bytes: Vec<u8>,
@@ -26,17 +27,24 @@ impl Model for Pending {
     ghost invariant = { λ p. p.filled ≤ length p.bytes.items };
 }
 
-// Makes room behind the first `filled` bytes, where there is none.
-fn make_room(bytes: &mut Vec<u8>, filled: usize) -> Result<(), AllocError>
-    requires { filled ≤ vec_len bytes.old }
+// Makes room for some of `most` bytes behind the first `filled`, where there is none: as much again as
+// there is, whatever a length claims.
+fn make_room(bytes: &mut Vec<u8>, filled: usize, most: usize) -> Result<(), AllocError>
+    requires within { filled ≤ vec_len bytes.old }
+    requires some { 0 < most }
     ensures kept { take filled bytes.new.items ≡ take filled bytes.old.items }
     ensures within { filled ≤ vec_len bytes.new }
     ensures room { OnOk result (filled < vec_len bytes.new) }
 {
-    if filled == bytes.len() {
-        bytes.extend_from_slice(&ROOM)?;
+    let room = bytes.len();
+    if filled < room {
+        return Ok(());
     }
-    Ok(())
+    if room < ROOM.len() {
+        bytes.extend_from_slice(&ROOM)
+    } else {
+        bytes.extend_from_within(..most.min(room))
+    }
 }
 
 impl Pending {
@@ -76,7 +84,7 @@ impl Pending {
             × Keeps (R.remaining reader.old) (R.remaining reader.new)) }
     {
         let start = self.filled;
-        if make_room(&mut self.bytes, start).is_err() {
+        if make_room(&mut self.bytes, start, most).is_err() {
             return Err(StreamError::OutOfMemory);
         }
         let end = start + most.min(self.bytes.len() - start);

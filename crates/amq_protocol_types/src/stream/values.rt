@@ -1,6 +1,6 @@
 //! Values that come from a reader, one after another.
 
-ghost use Rattle.std.specs.Prelude.{◌≡◌, ◌<◌, ◌≤◌, ◌++◌, List, ℕ, Option, IfSome, true, false, []};
+ghost use Rattle.std.specs.Prelude.{◌≡◌, ◌<◌, ◌≤◌, ◌++◌, List, ℕ, Option, length, IfSome, true, false, []};
 ghost use Rattle.std.specs.Io.KnownBytes.{Consumes, IsAtEnd};
 ghost use Rattle.std.proofs.Props.{props};
 ghost use Rattle.amq_protocol_types.specs.Headers.{IsWaiting, IsWhole, extent, wanted};
@@ -16,7 +16,8 @@ use amqp_value_core::value::AMQPValue;
 use std::alloc::Global;
 use std::io::Read;
 
-/// What is kept between the values of a reader, which is handed over with each call.
+/// What a reader of values keeps between its calls, each of which is handed the reader: where a
+/// `ValueReader` would borrow it for the whole stream.
 #[derive(Drop)]
 pub struct Values {
     alloc: Global,
@@ -30,7 +31,7 @@ pub struct Values {
 impl Values {
     ghost use Rattle.amq_protocol_types.specs.Readers.{kept, has_failed, limits_of, Answers, AnswersAll, IsFailed};
 
-    /// Nothing is kept.
+    /// Nothing is kept yet. It takes no memory.
     pub fn new(alloc: Global, limits: Limits) -> Self
         requires { 0 < limits.frame }
         ensures limits { limits_of result ≡ limits }
@@ -45,7 +46,9 @@ impl Values {
         }
     }
 
-    /// The next value of the reader, or `None` where the reader ended behind the value before.
+    /// The next value, or `None` where the reader ended behind the value before. The reader may be
+    /// another one each time: what is kept of a value is read on in it.
+    #[tactic(auto, using(crate::proofs::Waits::kept_within))]
     pub fn next_from<R: Read>(&mut self, reader: &mut R) -> Result<Option<AMQPValue>, StreamError>
         ensures answer { has_failed self.old ≡ false → (x : List ℕ)
             × Consumes (R.remaining reader.old) (R.remaining reader.new) x
@@ -54,6 +57,8 @@ impl Values {
             (λ z. AnswersAll (limits_of self.old) (kept self.old ++ z) (R.remaining reader.new) result) }
         ensures failed { has_failed self.old ≡ true → IsFailed result × (self.new ≡ self.old) × (reader.new ≡ reader.old) }
         ensures limits { limits_of self.new ≡ limits_of self.old }
+        ensures bounded { length (kept self.new) ≤ (limits_of self.new).frame }
+        ensures waiting { IsWaiting (limits_of self.new).frame (kept self.new) }
     {
         if self.failed {
             return Err(StreamError::Failed);

@@ -1,8 +1,9 @@
-use Rattle.std.proofs.Common.{◌≡◌, List, ℕ, [], subst, rules}
+use Rattle.std.proofs.Common.{◌≡◌, ◌++◌, ◌∙◌, List, ℕ, [], ap, sym, subst, append-nil, rules}
 use Rattle.amqp_value_core.specs.View.{view}
-use Rattle.amqp_value_core.specs.Nesting.{OutcomeWithin}
+use Rattle.amqp_value_core.specs.Nesting.{WireWithin, OutcomeWithin}
 use Rattle.amqp_value_core.specs.Outcomes.{found}
 use Rattle.amqp_value_core.specs.Inputs.{slice_bytes}
+use Rattle.amqp_value_core.proofs.GrammarLaws.{front_within}
 use Rattle.amq_protocol_types.specs.Readers.{kept}
 use Rattle.amq_protocol_types.proofs.Waits.{nothing_behind, kept_within}
 use Rattle.amq_protocol_types.proofs.stream.values.Values.whole.Goals as goal
@@ -15,4 +16,6 @@ returns-in-Ok-clause-answer c = λ left.
     let d = r.limits.depth in
     let x : OutcomeWithin d s (found (view c.in-Ok.value) rest) = search (rules, c.in-Ok.ensures) in
     let none : rest ≡ [] = nothing_behind r.limits.frame d s (view c.in-Ok.value) rest r.waiting x in
-    ((c.requires.within, subst (λ (t : List ℕ). OutcomeWithin d s (found (view c.in-Ok.value) t)) none x), kept_within r.limits.frame s r.some r.waiting, search rules, c.requires.goes_on)
+    let f = front_within d s rest (view c.in-Ok.value) x in
+    let all : f.0 ≡ s = sym (f.2 ∙ ap (λ (t : List ℕ). f.0 ++ t) none ∙ append-nil f.0) in
+    (subst (λ (t : List ℕ). WireWithin d t (view c.in-Ok.value)) all f.1, kept_within r.limits.frame s r.some r.waiting, search rules, c.requires.goes_on)
