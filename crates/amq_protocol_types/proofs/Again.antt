@@ -1,5 +1,5 @@
 -- What was read within limits is read again within them.
-use Rattle.std.proofs.Common.{◌≡◌, ◌<◌, ◌≤◌, ◌+◌, ℕ, suc, List, [], ◌∷◌, ◌++◌, length, Option, Some, None, Result, Ok, Err, MatchResult, IfOk, refl, sym, ap, ◌∙◌, subst, arith, length-append}
+use Rattle.std.proofs.Common.{◌≡◌, ◌<◌, ◌≤◌, ◌+◌, ◌-◌, ℕ, suc, List, [], ◌∷◌, ◌++◌, length, Option, Some, None, Result, Ok, Err, MatchResult, IfOk, refl, sym, ap, ◌∙◌, subst, arith, length-append}
 use Rattle.std.specs.Int.{Width, byte_len}
 use Rattle.std.proofs.lemmas.Bool.{le-ltb}
 use Rattle.amqp_value_core.specs.declared.types.AMQPType.{AMQPType}
@@ -10,9 +10,10 @@ use Rattle.amqp_value_core.specs.Ids.{kind}
 use Rattle.amqp_value_core.specs.Layouts.{Layout, fixed}
 use Rattle.amqp_value_core.specs.Grammar.{Wire, wire, Raw}
 use Rattle.amqp_value_core.specs.Nesting.{WireWithin, OutcomeWithin}
+use Rattle.amqp_value_core.specs.Headline.{IsBounded}
 use Rattle.amqp_value_core.specs.Texts.{text, size, Fits, IsValue}
 use Rattle.amqp_value_core.specs.Outcomes.{IsBytes, found, length_field, counted}
-use Rattle.amqp_value_core.proofs.GrammarLaws.{front_within, wire_found_within, text_within, text_again, depth_within, bounds, length_of_text, tells_apart, extent-raw, header_extent_of, bytes_front}
+use Rattle.amqp_value_core.proofs.GrammarLaws.{front_within, bounded_wire, wire_found_within, text_within, text_again, depth_within, bounds, length_of_text, tells_apart, extent-raw, header_extent_of, bytes_front}
 use Rattle.amq_protocol_types.specs.declared.stream.limits.Limits.{Limits}
 use Rattle.amq_protocol_types.specs.Refusals.{Refusal}
 use Rattle.amq_protocol_types.specs.Headers.{extent_of, raw_extent, extent_at, extent}
@@ -63,3 +64,11 @@ module _ {I : Type 0} (bytes : I → List ℕ) (l : Limits) (s : List ℕ) where
       → IfOk r (λ x. depth (view x.1) ≤ l.depth)
   depth_answer (Ok x) p = let f = front_within l.depth s (bytes x.0) (view x.1) p.1 in depth_within l.depth f.0 (view x.1) f.1
   depth_answer (Err e) p = tt
+
+  pub bounded_within : (r : Result (I × AMQPValue) Refusal) → MatchResult r (λ x. Within l s (found (view x.1) (bytes x.0))) (RefusesWithin l s)
+      → IfOk r (λ x. IsBounded (length s - length (bytes x.0)) (view x.1))
+  bounded_within (Ok x) p =
+      let f = front_within l.depth s (bytes x.0) (view x.1) p.1 in
+      let taken : length f.0 ≡ length s - length (bytes x.0) = omega (arith, ap length f.2, length-append f.0 (bytes x.0)) in
+      subst (λ (n : ℕ). IsBounded n (view x.1)) taken (bounded_wire f.0 (view x.1) f.1.0)
+  bounded_within (Err e) p = tt

@@ -1,15 +1,71 @@
 -- What is said of an outcome.
-use Rattle.std.proofs.Common.{◌≡◌, ℕ, suc, List, [], ◌∷◌, slice_index, Fits, w8, ap}
-use Rattle.amqp_value_core.specs.Outcomes.{Reading, IsBytes, Outcome}
-use Rattle.amqp_value_core.specs.Decode.{outcome}
-use Rattle.amqp_value_core.proofs.GrammarLaws.{outcome_is}
-use Rattle.amqp_wire.specs.Lines.{said}
+use Rattle.std.proofs.Common.{◌≡◌, ◌<◌, ◌≤◌, ℕ, suc, Option, Some, None, List, [], ◌∷◌, cond, slice_index, Fits, w8, ap, sym, ◌∙◌}
+use Rattle.std.proofs.lemmas.Bool.{le-ltb, lt-ltb}
+use Rattle.amqp_value_core.specs.Outcomes.{Reading, more, unknown, malformed, IsBytes, Outcome, Heavy}
+use Rattle.amqp_value_core.specs.Decode.{outcome, outcome_by, meaning}
+use Rattle.amqp_value_core.proofs.GrammarLaws.{outcome_is, within_is}
+use Rattle.amq_protocol_types.specs.declared.parsing.errors.Err.TheVariants.{Incomplete, Error, Failure}
+use Rattle.amq_protocol_types.specs.declared.parsing.errors.Needed.TheVariants.{Unknown, Size}
+use Rattle.amq_protocol_types.specs.declared.parsing.errors.ErrorKind.TheVariants.{MapOpt, MapRes, Eof, OutOfMemory, TooLarge}
+use Rattle.amq_protocol_types.specs.declared.stream.limits.Limits.{Limits}
+use Rattle.amq_protocol_types.specs.Refusals.{Refusal}
+use Rattle.amq_protocol_types.specs.Answers.{Refuses}
+use Rattle.amq_protocol_types.specs.Headers.{extent}
+use Rattle.amq_protocol_types.specs.Limits.{Within, RefusesWithin}
+use Rattle.amqp_wire.specs.Lines.{said, said_within, read_within}
+use Rattle.amqp_wire.specs.Refusals.{IsSaid, IsTold}
 
 -- what a slice of bytes shows are bytes
 pub bytes_fit : (s : List ℕ) → ((i : ℕ) → Fits w8 (slice_index s i)) → IsBytes s
 bytes_fit [] fit = tt
 bytes_fit (c ∷ s) fit = ((fit 0).fits, bytes_fit s (λ i. fit (suc i)))
 
+-- ---- any value
+
 -- what is said of an outcome of bytes is what is said of the one that is computed
 pub said_of_outcome : (s : List ℕ) (o : Reading) → IsBytes s → Outcome s o → said o ≡ said (outcome s)
 said_of_outcome s o fit here = ap said ((outcome_is s o fit).0 here)
+
+-- and what is said of a refusal
+pub said_of_refusal : (s : List ℕ) (e : Refusal) (t : List ℕ) → IsBytes s → Refuses (Outcome s) (Heavy s) e → IsSaid e t → t ≡ said (outcome s)
+said_of_refusal s (Incomplete Unknown) t fit right is = absurd right
+said_of_refusal s (Incomplete (Size n)) t fit right is = is ∙ said_of_outcome s (more n) fit right
+said_of_refusal s (Error MapOpt) t fit right is = is ∙ said_of_outcome s unknown fit right
+said_of_refusal s (Error Eof) t fit right is = is ∙ said_of_outcome s malformed fit right
+said_of_refusal s (Error _) t fit right is = absurd right
+said_of_refusal s (Failure kind) t fit right is = absurd is
+
+pub refusal_told : (s : List ℕ) (e : Refusal) → Refuses (Outcome s) (Heavy s) e → IsTold e
+refusal_told s (Incomplete Unknown) right = absurd right
+refusal_told s (Incomplete (Size n)) right = tt
+refusal_told s (Error kind) right = tt
+refusal_told s (Failure kind) right = tt
+
+-- ---- within limits
+
+-- what reading comes to, the function says
+pub read_is : (l : Limits) (s : List ℕ) (o : Reading) → IsBytes s → Within l s o → read_within l s ≡ Some o
+read_is l s o bytes (few, x) =
+    ap (λ b. cond b None (Some (outcome_by (meaning l.depth) s))) (le-ltb l.frame (extent s) few) ∙ ap Some (sym ((within_is l.depth s o bytes).0 x))
+
+pub too_large : (l : Limits) (s : List ℕ) → l.frame < extent s → read_within l s ≡ None
+too_large l s lt = ap (λ b. cond b None (Some (outcome_by (meaning l.depth) s))) (lt-ltb l.frame (extent s) lt)
+
+pub said_of_within : (l : Limits) (s : List ℕ) (o : Reading) → IsBytes s → Within l s o → said o ≡ said_within (read_within l s)
+said_of_within l s o fit here = ap said_within (sym (read_is l s o fit here))
+
+pub said_of_limited : (l : Limits) (s : List ℕ) (e : Refusal) (t : List ℕ) → IsBytes s → RefusesWithin l s e → IsSaid e t → t ≡ said_within (read_within l s)
+said_of_limited l s (Incomplete Unknown) t fit right is = absurd is
+said_of_limited l s (Incomplete (Size n)) t fit right is = is ∙ said_of_within l s (more n) fit right
+said_of_limited l s (Error MapOpt) t fit right is = is ∙ said_of_within l s unknown fit right
+said_of_limited l s (Error Eof) t fit right is = is ∙ said_of_within l s malformed fit right
+said_of_limited l s (Error TooLarge) t fit right is = is ∙ ap said_within (sym (too_large l s right))
+said_of_limited l s (Error MapRes) t fit right is = absurd right.1
+said_of_limited l s (Error OutOfMemory) t fit right is = absurd right.1
+said_of_limited l s (Failure kind) t fit right is = absurd is
+
+pub limited_told : (l : Limits) (s : List ℕ) (e : Refusal) → RefusesWithin l s e → IsTold e
+limited_told l s (Incomplete Unknown) right = absurd right.1
+limited_told l s (Incomplete (Size n)) right = tt
+limited_told l s (Error kind) right = tt
+limited_told l s (Failure kind) right = tt

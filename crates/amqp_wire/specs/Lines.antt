@@ -1,38 +1,69 @@
 -- The lines that are written for the lines that are read.
-use Rattle.std.specs.Prelude.{◌≡◌, ℕ, Option, List, [], ◌∷◌, ◌++◌, length, map, codes, Result, Ok, Err}
+use Rattle.std.specs.Prelude.{◌≡◌, ℕ, Option, Some, None, List, [], ◌∷◌, ◌++◌, length, map, codes, nat_lt, if◌then◌else◌, Result, Ok, Err}
 use Rattle.std.specs.Fmt.{decimal}
 use Rattle.std.specs.Io.KnownBytes.{Appends}
 use Rattle.bstr.specs.Text.{lines_of, without_terminator}
 use Rattle.hex.specs.Hex.{decode_of, encode_lower}
 use Rattle.hex.specs.declared.error.FromHexError.{FromHexError}
 use Rattle.amqp_value_core.specs.Outcomes.{Reading, found, more, unknown, malformed}
-use Rattle.amqp_value_core.specs.Decode.{outcome}
+use Rattle.amqp_value_core.specs.Decode.{outcome, outcome_by, meaning}
+use Rattle.amqp_value_core.specs.Values.{Tree}
 use Rattle.amqp_value_core.specs.Texts.{text}
+use Rattle.amq_protocol_types.specs.Headers.{extent}
+use Rattle.amq_protocol_types.specs.declared.stream.limits.Limits.{Limits}
+use Rattle.amqp_wire.specs.declared.line.Form.{Form}
+use Rattle.amqp_wire.specs.declared.line.Form.TheVariants as form
 
--- what is said of a reading: of a value, its text in hexadecimal and the number of bytes behind its wire
+-- what is said of a value, behind which n bytes are left: its text in hexadecimal, and n
+abbrev pub said_of_value : Tree → ℕ → List ℕ
+said_of_value v n = codes "value " ++ (encode_lower (text v) ++ (codes " rest " ++ decimal n))
+
+-- what is said of a reading
 abbrev pub said : Reading → List ℕ
-said (found v rest) = codes "value " ++ (encode_lower (text v) ++ (codes " rest " ++ decimal (length rest)))
+said (found v rest) = said_of_value v (length rest)
 said (more n) = codes "more " ++ decimal n
 said unknown = codes "refused MapOpt"
 said malformed = codes "refused Eof"
 
+-- what reading s within limits comes to, and none where the value is too large
+abbrev pub read_within : Limits → List ℕ → Option Reading
+read_within l s = if nat_lt l.frame (extent s) then None else Some (outcome_by (meaning l.depth) s)
+
+-- and what is said of that
+abbrev pub said_within : Option Reading → List ℕ
+said_within None = codes "refused TooLarge"
+said_within (Some o) = said o
+
+-- what is said of bytes that are read in a form
+abbrev pub said_in : Form → List ℕ → List ℕ
+said_in (form.Within l) s = said_within (read_within l s)
+said_in _ s = said (outcome s)
+
 -- what is said of the bytes that a hexadecimal text spells, if it spells any
-abbrev pub said_of : Result (List ℕ) FromHexError → List ℕ
-said_of (Ok s) = said (outcome s)
-said_of (Err e) = codes "not hex"
+abbrev pub said_of : (List ℕ → List ℕ) → Result (List ℕ) FromHexError → List ℕ
+said_of say (Ok s) = say s
+said_of say (Err e) = codes "not hex"
 
 -- the answer to a line, without its end
-abbrev pub line : List ℕ → List ℕ
-line b = said_of (decode_of b)
+abbrev pub line_by : (List ℕ → List ℕ) → List ℕ → List ℕ
+line_by say b = said_of say (decode_of b)
 
 -- the answers to some lines, each with a line feed at its end
-abbrev pub lines : List (List ℕ) → List ℕ
-lines [] = []
-lines (b ∷ bs) = (line b ++ 10 ∷ []) ++ lines bs
+abbrev pub lines_by : (List ℕ → List ℕ) → List (List ℕ) → List ℕ
+lines_by say [] = []
+lines_by say (b ∷ bs) = (line_by say b ++ 10 ∷ []) ++ lines_by say bs
 
 -- all that is written for some bytes
+abbrev pub output_by : (List ℕ → List ℕ) → List ℕ → List ℕ
+output_by say xs = lines_by say (map without_terminator (lines_of xs))
+
+-- where a value may be of any length and depth
 abbrev pub output : List ℕ → List ℕ
-output xs = lines (map without_terminator (lines_of xs))
+output xs = output_by (λ s. said (outcome s)) xs
+
+-- where values are read within limits
+abbrev pub output_within : Limits → List ℕ → List ℕ
+output_within l xs = output_by (λ s. said_within (read_within l s)) xs
 
 -- known bytes grow by a front of the text
 abbrev pub AppendsFront : Option (List ℕ) → Option (List ℕ) → List ℕ → Type 0

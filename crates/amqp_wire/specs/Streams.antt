@@ -1,40 +1,76 @@
 -- What is written for a stream of values.
-use Rattle.std.specs.Prelude.{◌≡◌, ℕ, zero, suc, Bool, true, false, Option, Some, None, List, [], ◌∷◌, ◌++◌, codes, nat_lt, if◌then◌else◌}
+use Rattle.std.specs.Prelude.{◌≡◌, ◌≤◌, ◌<◌, ℕ, zero, suc, Bool, true, false, Option, Some, None, List, [], ◌∷◌, ◌++◌, length, take, codes}
 use Rattle.hex.specs.Hex.{encode_lower}
 use Rattle.amqp_value_core.specs.Values.{Tree}
+use Rattle.amqp_value_core.specs.Nesting.{WireWithin}
 use Rattle.amqp_value_core.specs.Outcomes.{IsBytes, Reading, found, more, unknown, malformed}
-use Rattle.amqp_value_core.specs.Decode.{outcome_by, meaning}
 use Rattle.amqp_value_core.specs.Texts.{text}
 use Rattle.amq_protocol_types.specs.declared.stream.limits.Limits.{Limits}
-use Rattle.amq_protocol_types.specs.Headers.{extent}
+use Rattle.amqp_wire.specs.Lines.{read_within}
 
--- the line of a value, and others
+-- the line of a value
 abbrev pub value_line : Tree → List ℕ
 value_line v = codes "value " ++ (encode_lower (text v) ++ 10 ∷ [])
 
--- what reading s within limits comes to, and none where the value is too large
-abbrev pub read_within : Limits → List ℕ → Option Reading
-read_within l s = if nat_lt l.frame (extent s) then None else Some (outcome_by (meaning l.depth) s)
+-- the last line, where no value begins: nothing is left, or a value is cut, or it is refused
+abbrev pub cut_line : List ℕ → List ℕ
+cut_line [] = codes "end\n"
+cut_line (c ∷ s) = codes "truncated\n"
 
--- the last line, where a value is cut or none has begun
-abbrev pub end_line : List ℕ → List ℕ
-end_line [] = codes "end\n"
-end_line (c ∷ s) = codes "truncated\n"
+abbrev pub last_line : List ℕ → Option Reading → List ℕ
+last_line s None = codes "refused TooLarge\n"
+last_line s (Some unknown) = codes "refused MapOpt\n"
+last_line s (Some malformed) = codes "refused Eof\n"
+last_line s (Some (more n)) = cut_line s
+last_line s (Some (found v rest)) = []
 
--- by what reading s comes to: a line, and others behind a value's
+-- by what reading s comes to: the line of a value, and the lines of what is left behind it, or a last line
 abbrev pub stream_step : (List ℕ → List ℕ) → List ℕ → Option Reading → List ℕ
-stream_step others s None = codes "refused TooLarge\n"
 stream_step others s (Some (found v rest)) = value_line v ++ others rest
-stream_step others s (Some (more m)) = end_line s
-stream_step others s (Some unknown) = codes "refused MapOpt\n"
-stream_step others s (Some malformed) = codes "refused Eof\n"
+stream_step others s o = last_line s o
 
--- the lines of a stream: at most n values, and a last line where there are fewer
+-- the lines of a stream: of at most n values, and a last line where there are fewer
 abbrev pub stream_text : Limits → ℕ → List ℕ → List ℕ
 stream_text l zero s = []
 stream_text l (suc n) s = stream_step (stream_text l n) s (read_within l s)
 
--- a line of the stream s, and whether it is a value's, behind which `left` is left
+-- ---- the same as a relation
+
+-- s begins with wires of these values, one behind another, each within the limits, and `left` is left
+abbrev pub BeginsWith : Limits → List ℕ → List Tree → List ℕ → Type 0
+BeginsWith l s [] left = s ≡ left
+BeginsWith l s (v ∷ vs) left = (w : List ℕ) × (rest : List ℕ) × (s ≡ w ++ rest) × WireWithin l.depth w v × (length w ≤ l.frame) × BeginsWith l rest vs left
+
+-- s begins with no value within the limits
+abbrev pub BeginsNone : Limits → List ℕ → Type 0
+BeginsNone l s = (w rest : List ℕ) (v : Tree) → s ≡ w ++ rest → WireWithin l.depth w v → length w ≤ l.frame → ⊥
+
+-- the values of a stream, as many as stand one behind another, and what is left behind them
+abbrev pub AreValues : Limits → List ℕ → List Tree → List ℕ → Type 0
+AreValues l s vs left = BeginsWith l s vs left × BeginsNone l left
+
+-- the lines of values
+abbrev pub value_lines : List Tree → List ℕ
+value_lines [] = []
+value_lines (v ∷ vs) = value_line v ++ value_lines vs
+
+-- the lines of a stream are those of its first values, or where there are fewer those of all and a last line
+abbrev pub AreLines : Limits → ℕ → List ℕ → Type 0
+AreLines l most s = (vs : List Tree) (left : List ℕ) → AreValues l s vs left
+    → (most ≤ length vs → stream_text l most s ≡ value_lines (take most vs))
+    × (length vs < most → stream_text l most s ≡ value_lines vs ++ last_line left (read_within l left))
+
+-- each stream has values, if only none, and its lines are theirs
+abbrev pub HasLines : Limits → ℕ → Type 0
+HasLines l most = (s : List ℕ) → IsBytes s → ((vs : List Tree) × (left : List ℕ) × AreValues l s vs left) × AreLines l most s
+
+-- where s begins with n values, all behind them is left
+abbrev pub Leaves : Limits → ℕ → List ℕ → Option (List ℕ) → Type 0
+Leaves l n s now = (vs : List Tree) (left : List ℕ) → BeginsWith l s vs left → length vs ≡ n → now ≡ Some left
+
+-- ---- one line
+
+-- a line of the stream s, and whether it is a value's, behind which `left` is left; or else it is the last line
 abbrev pub IsLine : Limits → List ℕ → Option (List ℕ) → List ℕ → Bool → Type 0
-IsLine l s left line true = (v : Tree) × (rest : List ℕ) × IsBytes rest × (read_within l s ≡ Some (found v rest)) × (line ≡ value_line v) × (left ≡ Some rest)
-IsLine l s left line false = (n : ℕ) → stream_text l (suc n) s ≡ line
+IsLine l s left line true = (v : Tree) × (rest : List ℕ) × IsBytes rest × (read_within l s ≡ Some (found v rest)) × BeginsWith l s (v ∷ []) rest × (line ≡ value_line v) × (left ≡ Some rest)
+IsLine l s left line false = (line ≡ last_line s (read_within l s)) × BeginsNone l s

@@ -6,23 +6,29 @@ ghost use Rattle.amqp_value_core.specs.Decode.{outcome};
 ghost use Rattle.amqp_value_core.specs.View.{view};
 ghost use Rattle.amqp_value_core.specs.Texts.{text, size, Fits};
 ghost use Rattle.hex.specs.Hex.{encode_lower};
-ghost use Rattle.amqp_wire.specs.Lines.{line, said};
+ghost use Rattle.amqp_wire.specs.Lines.{line_by, read_within, said, said_in, said_of_value, said_within};
+ghost use Rattle.amqp_wire.specs.Refusals.{kind_name, IsSaid, IsTold};
 
 use crate::fault::WireFault;
 use amq_protocol_types::AMQPValue;
 use amq_protocol_types::generation::{SliceOutput, WriteContext, gen_value};
 use amq_protocol_types::parsing::traits::ParsableInput;
-use amq_protocol_types::parsing::{Err, ErrorKind, Needed, SliceInput, SplitInput, parse_value};
+use amq_protocol_types::parsing::{
+    Err, ErrorKind, Needed, ParserError, SliceInput, SplitInput, parse_value,
+};
+use amq_protocol_types::stream::{Limits, parse_value_within};
 use hex::FromHexError;
 use std::alloc::{AllocError, Global};
 
-/// In which form a parser is handed the bytes that a line spells.
+/// How the bytes that a line spells are read.
 #[derive(Clone, Copy, Debug)]
 pub enum Form {
     /// As one slice.
     Whole,
     /// As two slices, cut after so many bytes, or after the last where there are fewer.
     Split(usize),
+    /// As one slice, within limits.
+    Within(Limits),
 }
 
 /// The text of a value in hexadecimal. It is written to `room` bytes first, which hold it.
@@ -38,7 +44,52 @@ fn hex_of(alloc: Global, value: &AMQPValue, room: usize) -> Result<String, Alloc
     hex::encode(alloc, output.written())
 }
 
-/// What is said of the bytes that a line spells. A value's text gets as much room as its wire took.
+/// What is said of a value that took `taken` bytes, and behind which `left` are left. Its text gets as
+/// much room as its wire took.
+fn value_answer(
+    alloc: Global,
+    value: &AMQPValue,
+    taken: usize,
+    left: usize,
+) -> Result<String, WireFault>
+    requires fits { Fits (view value.now) }
+    requires room { size (view value.now) ≤ taken }
+    ensures { IfOk result (λ answer. string_bytes answer ≡ said_of_value (view value.now) left) }
+{
+    let hex = hex_of(alloc, value, taken)?;
+    Ok(format!(in alloc; "value {hex} rest {left}")?)
+}
+
+/// The name of a kind.
+pub fn name_of(kind: ErrorKind) -> &'static str
+    ensures { result.now ≡ kind_name kind }
+{
+    match kind {
+        ErrorKind::MapOpt => "MapOpt",
+        ErrorKind::MapRes => "MapRes",
+        ErrorKind::Eof => "Eof",
+        ErrorKind::OutOfMemory => "OutOfMemory",
+        ErrorKind::TooLarge => "TooLarge",
+    }
+}
+
+/// What is said of a refusal.
+fn refusal_answer(alloc: Global, error: ParserError) -> Result<String, WireFault>
+    requires { IsTold error }
+    ensures { IfOk result (λ answer. IsSaid error (string_bytes answer)) }
+{
+    match error {
+        Err::Incomplete(Needed::Size(lack)) => Ok(format!(in alloc; "more {lack}")?),
+        Err::Incomplete(Needed::Unknown) => unreachable!(),
+        Err::Error(error) => {
+            let name = name_of(error.kind());
+            Ok(format!(in alloc; "refused {name}")?)
+        }
+        Err::Failure(_) => Err(WireFault::OutOfMemory),
+    }
+}
+
+/// What is said of the bytes that a line spells.
 fn answer_to_bytes<I: ParsableInput>(alloc: Global, bytes: I) -> Result<String, WireFault>
     requires { IsBytes (I.bytes bytes) }
     ensures { IfOk result (λ answer. string_bytes answer ≡ said (outcome (I.bytes bytes))) }
@@ -46,23 +97,33 @@ fn answer_to_bytes<I: ParsableInput>(alloc: Global, bytes: I) -> Result<String, 
     match parse_value(alloc, bytes) {
         Ok((rest, value)) => {
             let left = rest.input_len();
-            let hex = hex_of(alloc, &value, bytes.input_len() - left)?;
-            Ok(format!(in alloc; "value {hex} rest {left}")?)
+            value_answer(alloc, &value, bytes.input_len() - left, left)
         }
-        Err(Err::Incomplete(Needed::Size(lack))) => Ok(format!(in alloc; "more {lack}")?),
-        Err(Err::Incomplete(Needed::Unknown)) => unreachable!(),
-        Err(Err::Error(error)) => match error.kind() {
-            ErrorKind::MapOpt => Ok(String::from_str(alloc, "refused MapOpt")?),
-            ErrorKind::Eof => Ok(String::from_str(alloc, "refused Eof")?),
-            ErrorKind::MapRes | ErrorKind::OutOfMemory | ErrorKind::TooLarge => unreachable!(),
-        },
-        Err(Err::Failure(_)) => Err(WireFault::OutOfMemory),
+        Err(error) => refusal_answer(alloc, error),
     }
 }
 
-/// What is said of the bytes that a line spells, handed over as `form` says.
+/// What is said of them where they are read within limits.
+fn answer_within<I: ParsableInput>(
+    alloc: Global,
+    bytes: I,
+    limits: Limits,
+) -> Result<String, WireFault>
+    requires { IsBytes (I.bytes bytes) }
+    ensures { IfOk result (λ answer. string_bytes answer ≡ said_within (read_within limits (I.bytes bytes))) }
+{
+    match parse_value_within(alloc, bytes, limits) {
+        Ok((rest, value)) => {
+            let left = rest.input_len();
+            value_answer(alloc, &value, bytes.input_len() - left, left)
+        }
+        Err(error) => refusal_answer(alloc, error),
+    }
+}
+
+/// What is said of the bytes that a line spells, read as `form` says.
 fn answer_in_form(alloc: Global, bytes: &[u8], form: Form) -> Result<String, WireFault>
-    ensures { IfOk result (λ answer. string_bytes answer ≡ said (outcome bytes.now)) }
+    ensures { IfOk result (λ answer. string_bytes answer ≡ said_in form bytes.now) }
 {
     match form {
         Form::Whole => answer_to_bytes(alloc, SliceInput::new(bytes)),
@@ -70,12 +131,13 @@ fn answer_in_form(alloc: Global, bytes: &[u8], form: Form) -> Result<String, Wir
             let (first, second) = bytes.split_at(at.min(bytes.len()));
             answer_to_bytes(alloc, SplitInput::new(first, second))
         }
+        Form::Within(limits) => answer_within(alloc, SliceInput::new(bytes), limits),
     }
 }
 
 /// The answer to a line, without its end.
 fn answer_to(alloc: Global, input: &[u8], form: Form) -> Result<String, WireFault>
-    ensures { IfOk result (λ answer. string_bytes answer ≡ line input.now) }
+    ensures { IfOk result (λ answer. string_bytes answer ≡ line_by (said_in form) input.now) }
 {
     match hex::decode(alloc, input) {
         Ok(bytes) => answer_in_form(alloc, bytes.as_slice(), form),
@@ -86,7 +148,7 @@ fn answer_to(alloc: Global, input: &[u8], form: Form) -> Result<String, WireFaul
 
 /// The answer to a line, with a line feed at its end.
 pub fn ended_answer_to(alloc: Global, input: &[u8], form: Form) -> Result<Vec<u8>, WireFault>
-    ensures { IfOk result (λ bytes. bytes.items ≡ line input.now ++ 10 ∷ []) }
+    ensures { IfOk result (λ bytes. bytes.items ≡ line_by (said_in form) input.now ++ 10 ∷ []) }
 {
     let mut answer = answer_to(alloc, input, form)?;
     answer.push('\n')?;

@@ -2,10 +2,11 @@
 
 ghost use Rattle.std.specs.Prelude.{◌<◌, OnOk, OnErr, IfSome, length};
 ghost use Rattle.std.specs.Io.KnownBytes.{Appends, IsAtEnd};
-ghost use Rattle.amqp_wire.specs.Lines.{output, AppendsFront};
+ghost use Rattle.amqp_wire.specs.Lines.{output, output_by, output_within, said_in, AppendsFront};
 
 use crate::fault::WireFault;
 use crate::line::{Form, ended_answer_to};
+use amq_protocol_types::stream::Limits;
 use bstr::ByteSlice;
 use std::alloc::Global;
 use std::io::{Read, Write};
@@ -43,6 +44,23 @@ pub fn run_split<R: Read, W: Write>(
     run_in_form(alloc, reader, writer, Form::Split(at))
 }
 
+/// Does what `run` does, and reads each value within the limits: one that has more bytes, or nests
+/// deeper, is refused.
+pub fn run_within<R: Read, W: Write>(
+    alloc: Global,
+    reader: &mut R,
+    writer: &mut W,
+    limits: Limits,
+) -> Result<(), WireFault>
+    ensures ok { OnOk result (IfSome (R.remaining reader.old)
+        (λ xs. Appends (W.contents writer.old) (W.contents writer.new) (output_within limits xs))) }
+    ensures err { OnErr result (IfSome (R.remaining reader.old)
+        (λ xs. AppendsFront (W.contents writer.old) (W.contents writer.new) (output_within limits xs))) }
+    ensures end { OnOk result (IsAtEnd (R.remaining reader.new)) }
+{
+    run_in_form(alloc, reader, writer, Form::Within(limits))
+}
+
 /// Reads all that the reader has, and answers each line of it.
 fn run_in_form<R: Read, W: Write>(
     alloc: Global,
@@ -51,9 +69,9 @@ fn run_in_form<R: Read, W: Write>(
     form: Form,
 ) -> Result<(), WireFault>
     ensures ok { OnOk result (IfSome (R.remaining reader.old)
-        (λ xs. Appends (W.contents writer.old) (W.contents writer.new) (output xs))) }
+        (λ xs. Appends (W.contents writer.old) (W.contents writer.new) (output_by (said_in form) xs))) }
     ensures err { OnErr result (IfSome (R.remaining reader.old)
-        (λ xs. AppendsFront (W.contents writer.old) (W.contents writer.new) (output xs))) }
+        (λ xs. AppendsFront (W.contents writer.old) (W.contents writer.new) (output_by (said_in form) xs))) }
     ensures end { OnOk result (IsAtEnd (R.remaining reader.new)) }
 {
     let mut input = Vec::new(alloc);
@@ -68,8 +86,8 @@ fn write_answers<W: Write>(
     writer: &mut W,
     form: Form,
 ) -> Result<(), WireFault>
-    ensures ok { OnOk result (Appends (W.contents writer.old) (W.contents writer.new) (output input.now)) }
-    ensures err { OnErr result (AppendsFront (W.contents writer.old) (W.contents writer.new) (output input.now)) }
+    ensures ok { OnOk result (Appends (W.contents writer.old) (W.contents writer.new) (output_by (said_in form) input.now)) }
+    ensures err { OnErr result (AppendsFront (W.contents writer.old) (W.contents writer.new) (output_by (said_in form) input.now)) }
 {
     for line in input.lines() {
         let answer = ended_answer_to(alloc, line, form)?;

@@ -1,20 +1,22 @@
 //! A stream of values, from a reader to a writer.
 
-ghost use Rattle.std.specs.Prelude.{◌≡◌, ◌<◌, ◌∷◌, ◌++◌, [], true, false, OnOk, OnErr, IfOk, IfSome, string_bytes};
+ghost use Rattle.std.specs.Prelude.{◌≡◌, ◌<◌, ◌∷◌, ◌++◌, [], true, false, codes, OnOk, OnErr, IfOk, IfSome, string_bytes};
 ghost use Rattle.std.specs.Io.KnownBytes.{Appends};
 ghost use Rattle.amqp_value_core.specs.Outcomes.{IsBytes};
 ghost use Rattle.amqp_value_core.specs.View.{view};
 ghost use Rattle.amq_protocol_types.specs.Readers.{kept, has_failed, limits_of};
 ghost use Rattle.amqp_wire.specs.Lines.{AppendsFront};
-ghost use Rattle.amqp_wire.specs.Streams.{value_line, stream_text, IsLine};
+ghost use Rattle.amqp_wire.specs.Refusals.{kind_name};
+ghost use Rattle.amqp_wire.specs.Streams.{value_line, stream_text, HasLines, Leaves, IsLine};
 
 use crate::fault::WireFault;
+use crate::line::name_of;
 use crate::run::write_out;
 use amq_protocol_types::AMQPValue;
 use amq_protocol_types::generation::{WriteContext, gen_value};
 use amq_protocol_types::parsing::ErrorKind;
 use amq_protocol_types::stream::{Limits, StreamError, Values};
-use std::alloc::Global;
+use std::alloc::{AllocError, Global};
 use std::io;
 use std::io::{Read, Write};
 
@@ -28,13 +30,19 @@ fn line_of(alloc: Global, value: &AMQPValue) -> Result<Vec<u8>, WireFault>
     }
     let (bytes, _) = context.into_inner();
     let hex = hex::encode(alloc, bytes.as_slice())?;
-    let mut line = format!(in alloc; "value {hex}")?;
-    line.push('\n')?;
-    Ok(line.into_bytes())
+    Ok(format!(in alloc; "value {hex}\n")?.into_bytes())
+}
+
+/// The last line where a value is refused.
+fn refused_line(alloc: Global, kind: ErrorKind) -> Result<Vec<u8>, AllocError>
+    ensures { IfOk result (λ line. line.items ≡ codes "refused " ++ (kind_name kind ++ 10 ∷ [])) }
+{
+    let name = name_of(kind);
+    Ok(format!(in alloc; "refused {name}\n")?.into_bytes())
 }
 
 /// A line of its own.
-fn text_of(alloc: Global, text: &str) -> Result<Vec<u8>, WireFault>
+fn text_of(alloc: Global, text: &str) -> Result<Vec<u8>, AllocError>
     ensures { IfOk result (λ line. line.items ≡ text.now) }
 {
     Ok(String::from_str(alloc, text)?.into_bytes())
@@ -57,20 +65,16 @@ fn next_line<R: Read>(
         Ok(Some(value)) => Ok((line_of(alloc, &value)?, true)),
         Ok(None) => Ok((text_of(alloc, "end\n")?, false)),
         Err(StreamError::Truncated) => Ok((text_of(alloc, "truncated\n")?, false)),
-        Err(StreamError::Refused(error)) => match error.kind() {
-            ErrorKind::MapOpt => Ok((text_of(alloc, "refused MapOpt\n")?, false)),
-            ErrorKind::Eof => Ok((text_of(alloc, "refused Eof\n")?, false)),
-            ErrorKind::TooLarge => Ok((text_of(alloc, "refused TooLarge\n")?, false)),
-            ErrorKind::MapRes | ErrorKind::OutOfMemory => unreachable!(),
-        },
+        Err(StreamError::Refused(error)) => Ok((refused_line(alloc, error.kind())?, false)),
         Err(StreamError::Read(kind)) => Err(WireFault::from(io::Error::from(kind))),
         Err(StreamError::OutOfMemory) => Err(WireFault::OutOfMemory),
         Err(StreamError::Failed) => unreachable!(),
     }
 }
 
-/// Reads values from the reader until there are `most`, and writes a line for each. Before that a
-/// last line says why there are fewer.
+/// Reads values from the reader within the limits until there are `most`, and writes a line for each.
+/// Where there are fewer a last line says why: the reader ended, or ended inside a value, or what
+/// came is refused. No byte behind the last value is read.
 pub fn run_stream<R: Read, W: Write>(
     alloc: Global,
     reader: &mut R,
@@ -81,6 +85,28 @@ pub fn run_stream<R: Read, W: Write>(
     requires { 0 < limits.frame }
     ensures ok { OnOk result (IfSome (R.remaining reader.old) (λ s. IsBytes s →
         Appends (W.contents writer.old) (W.contents writer.new) (stream_text limits most s))) }
+    ensures rest { OnOk result (IfSome (R.remaining reader.old) (λ s. IsBytes s →
+        Leaves limits most s (R.remaining reader.new))) }
+    ensures err { OnErr result (IfSome (R.remaining reader.old) (λ s. IsBytes s →
+        AppendsFront (W.contents writer.old) (W.contents writer.new) (stream_text limits most s))) }
+    ensures values { HasLines limits most }
+{
+    write_stream(alloc, reader, writer, limits, most)
+}
+
+/// Writes the lines of a stream, one after another.
+fn write_stream<R: Read, W: Write>(
+    alloc: Global,
+    reader: &mut R,
+    writer: &mut W,
+    limits: Limits,
+    most: usize,
+) -> Result<(), WireFault>
+    requires { 0 < limits.frame }
+    ensures ok { OnOk result (IfSome (R.remaining reader.old) (λ s. IsBytes s →
+        Appends (W.contents writer.old) (W.contents writer.new) (stream_text limits most s))) }
+    ensures rest { OnOk result (IfSome (R.remaining reader.old) (λ s. IsBytes s →
+        Leaves limits most s (R.remaining reader.new))) }
     ensures err { OnErr result (IfSome (R.remaining reader.old) (λ s. IsBytes s →
         AppendsFront (W.contents writer.old) (W.contents writer.new) (stream_text limits most s))) }
 {

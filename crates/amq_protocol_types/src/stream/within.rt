@@ -1,6 +1,7 @@
 //! Reading one value within limits.
 
-ghost use Rattle.std.specs.Prelude.{◌≡◌, ◌≤◌, MatchResult, IfOk};
+ghost use Rattle.std.specs.Prelude.{◌≡◌, ◌-◌, ◌≤◌, length, MatchResult, IfOk};
+ghost use Rattle.amqp_value_core.specs.Headline.{IsBounded};
 ghost use Rattle.amqp_value_core.specs.Outcomes.{IsBytes, found};
 ghost use Rattle.amqp_value_core.specs.Values.{depth};
 ghost use Rattle.amqp_value_core.specs.View.{view};
@@ -32,6 +33,8 @@ pub fn parse_value_within<I: ParsableInput>(
         (RefusesWithin limits (I.bytes i)) }
     ensures one { HasOneOutcomeWithin limits (I.bytes i) }
     ensures more_bytes { KeepsOutcomeWithin limits (I.bytes i) }
+    ensures bounded { IfOk result (λ x.
+        IsBounded (length (I.bytes i) - length (I.bytes x.0)) (view x.1)) }
     ensures depth { IfOk result (λ x. depth (view x.1) ≤ limits.depth) }
     ensures read_again { IsBytes (I.bytes i) → IfOk result (λ x. IsReadAgain limits (view x.1)) }
     ensures read_back { ReadsBack limits }

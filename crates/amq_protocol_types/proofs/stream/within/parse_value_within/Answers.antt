@@ -1,7 +1,7 @@
 use Rattle.std.proofs.Common.{Result, Ok, Err, IfOk}
 use Rattle.amqp_value_core.specs.View.{view}
 use Rattle.amq_protocol_types.specs.Limits.{IsShortestWithin, TellsApartWithin}
-use Rattle.amq_protocol_types.proofs.Again.{again_answer, depth_answer, reads_back, shortest_within, tells_apart_within}
+use Rattle.amq_protocol_types.proofs.Again.{again_answer, bounded_within, depth_answer, reads_back, shortest_within, tells_apart_within}
 use Rattle.amq_protocol_types.proofs.Appends.{has_one_outcome_within, keeps_outcome_within}
 use Rattle.amq_protocol_types.proofs.stream.within.parse_value_within.Goals as goal
 
@@ -10,6 +10,9 @@ returns-clause-one g c = has_one_outcome_within c.args.limits (g.I.ParsableInput
 
 pub returns-clause-more_bytes : goal.returns-clause-more_bytes
 returns-clause-more_bytes g c = keeps_outcome_within c.args.limits (g.I.ParsableInput.bytes c.args.i)
+
+pub returns-clause-bounded : goal.returns-clause-bounded
+returns-clause-bounded g c = bounded_within g.I.ParsableInput.bytes c.args.limits (g.I.ParsableInput.bytes c.args.i) c.read_within.result c.read_within.ensures
 
 pub returns-clause-depth : goal.returns-clause-depth
 returns-clause-depth g c = depth_answer g.I.ParsableInput.bytes c.args.limits (g.I.ParsableInput.bytes c.args.i) c.read_within.result c.read_within.ensures

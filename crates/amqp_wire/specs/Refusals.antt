@@ -1,0 +1,28 @@
+-- What is said of a refusal, for functions of this crate alone.
+use Rattle.std.specs.Prelude.{◌≡◌, List, ℕ, ◌++◌, codes}
+use Rattle.std.specs.Fmt.{decimal}
+use Rattle.amq_protocol_types.specs.Refusals.{Refusal}
+use Rattle.amq_protocol_types.specs.declared.parsing.errors.Err.TheVariants.{Incomplete, Error, Failure}
+use Rattle.amq_protocol_types.specs.declared.parsing.errors.Needed.TheVariants.{Unknown, Size}
+use Rattle.amq_protocol_types.specs.declared.parsing.errors.ErrorKind.{ErrorKind}
+use Rattle.amq_protocol_types.specs.declared.parsing.errors.ErrorKind.TheVariants.{MapOpt, MapRes, Eof, OutOfMemory, TooLarge}
+
+-- the name of a kind
+abbrev pub kind_name : ErrorKind → List ℕ
+kind_name MapOpt = codes "MapOpt"
+kind_name MapRes = codes "MapRes"
+kind_name Eof = codes "Eof"
+kind_name OutOfMemory = codes "OutOfMemory"
+kind_name TooLarge = codes "TooLarge"
+
+-- a text says what a refusal is; none says a want of memory
+abbrev pub IsSaid : Refusal → List ℕ → Type 0
+IsSaid (Incomplete Unknown) t = ⊥
+IsSaid (Incomplete (Size n)) t = t ≡ codes "more " ++ decimal n
+IsSaid (Error kind) t = t ≡ codes "refused " ++ kind_name kind
+IsSaid (Failure kind) t = ⊥
+
+-- a parser tells how many bytes lack
+abbrev pub IsTold : Refusal → Type 0
+IsTold (Incomplete Unknown) = ⊥
+IsTold _ = Unit {0}
