@@ -1,6 +1,6 @@
 -- What is said of an outcome.
-use Rattle.std.proofs.Common.{◌≡◌, ◌<◌, ◌≤◌, ℕ, suc, Option, Some, None, List, [], ◌∷◌, cond, slice_index, Fits, w8, ap, sym, ◌∙◌}
-use Rattle.std.proofs.lemmas.Bool.{le-ltb, lt-ltb}
+use Rattle.std.proofs.Common.{◌≡◌, ◌<◌, ◌≤◌, ℕ, suc, Option, Some, None, List, [], ◌∷◌, cond, slice_index, Fits, w8, inl, inr, ap, sym, ◌∙◌}
+use Rattle.std.proofs.lemmas.Bool.{cases_lt, le-ltb, lt-ltb}
 use Rattle.amqp_value_core.specs.Outcomes.{Reading, more, unknown, malformed, IsBytes, Outcome, Heavy}
 use Rattle.amqp_value_core.specs.Decode.{outcome, outcome_by, meaning}
 use Rattle.amqp_value_core.proofs.GrammarLaws.{outcome_is, within_is}
@@ -13,7 +13,7 @@ use Rattle.amq_protocol_types.specs.Answers.{Refuses}
 use Rattle.amq_protocol_types.specs.Headers.{extent}
 use Rattle.amq_protocol_types.specs.Limits.{Within, RefusesWithin}
 use Rattle.amqp_wire.specs.Lines.{said, said_within, read_within}
-use Rattle.amqp_wire.specs.Refusals.{IsSaid, IsTold}
+use Rattle.amqp_wire.specs.Refusals.{IsSaid}
 
 -- what a slice of bytes shows are bytes
 pub bytes_fit : (s : List ℕ) → ((i : ℕ) → Fits w8 (slice_index s i)) → IsBytes s
@@ -34,12 +34,6 @@ said_of_refusal s (Error MapOpt) t fit right is = is ∙ said_of_outcome s unkno
 said_of_refusal s (Error Eof) t fit right is = is ∙ said_of_outcome s malformed fit right
 said_of_refusal s (Error _) t fit right is = absurd right
 said_of_refusal s (Failure kind) t fit right is = absurd is
-
-pub refusal_told : (s : List ℕ) (e : Refusal) → Refuses (Outcome s) (Heavy s) e → IsTold e
-refusal_told s (Incomplete Unknown) right = absurd right
-refusal_told s (Incomplete (Size n)) right = tt
-refusal_told s (Error kind) right = tt
-refusal_told s (Failure kind) right = tt
 
 -- ---- within limits
 
@@ -64,8 +58,13 @@ said_of_limited l s (Error MapRes) t fit right is = absurd right.1
 said_of_limited l s (Error OutOfMemory) t fit right is = absurd right.1
 said_of_limited l s (Failure kind) t fit right is = absurd is
 
-pub limited_told : (l : Limits) (s : List ℕ) (e : Refusal) → RefusesWithin l s e → IsTold e
-limited_told l s (Incomplete Unknown) right = absurd right.1
-limited_told l s (Incomplete (Size n)) right = tt
-limited_told l s (Error kind) right = tt
-limited_told l s (Failure kind) right = tt
+-- and the other way round
+pub read_holds : (l : Limits) (s : List ℕ) (o : Reading) → IsBytes s → read_within l s ≡ Some o → Within l s o
+read_holds l s o bytes e = elim (cases_lt l.frame (extent s)) [
+  | inl large ↦
+      let clash : None ≡ Some o = sym (too_large l s large) ∙ e in
+      absurd cc
+  | inr few ↦
+      let is : Some (outcome_by (meaning l.depth) s) ≡ Some o = sym (ap (λ b. cond b None (Some (outcome_by (meaning l.depth) s))) (le-ltb l.frame (extent s) few)) ∙ e in
+      (few, (within_is l.depth s o bytes).1 cc)
+]

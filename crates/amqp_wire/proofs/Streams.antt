@@ -1,70 +1,180 @@
--- Lines of a stream.
-use Rattle.std.proofs.Common.{◌≡◌, ◌<◌, ◌≤◌, ◌-◌, append-nil, ℕ, zero, suc, Bool, true, false, Option, Some, None, Result, Ok, Err, List, [], ◌∷◌, ◌++◌, length, codes, cond, refl, sym, ap, ◌∙◌, subst, arith}
-use Rattle.std.specs.Prelude.{nat_lt}
+-- The values of a stream, and its lines.
+use Rattle.std.proofs.Common.{◌≡◌, ◌<◌, ◌≤◌, ◌+◌, ◌-◌, ℕ, zero, suc, Bool, true, false, Option, Some, None, Result, Ok, Err, List, [], ◌∷◌, ◌++◌, ◌⊎◌, length, take, codes, refl, sym, ap, ◌∙◌, subst, arith, inl, inr, append-nil, append_assoc, length-append}
 use Rattle.std.specs.Option.{IfSome}
-use Rattle.std.proofs.lemmas.Bool.{le-ltb, lt-ltb}
+use Rattle.std.specs.Io.KnownBytes.{Appends}
+use Rattle.std.proofs.KnownBytes.{Appends-trans}
 use Rattle.amqp_value_core.specs.declared.value.AMQPValue.{AMQPValue}
 use Rattle.amqp_value_core.specs.Values.{Tree}
 use Rattle.amqp_value_core.specs.View.{view}
+use Rattle.amqp_value_core.specs.Nesting.{WireWithin}
+use Rattle.amqp_value_core.specs.Grammar.{Wire, wire}
 use Rattle.amqp_value_core.specs.Outcomes.{IsBytes, Reading, found, more, unknown, malformed}
-use Rattle.amqp_value_core.specs.Decode.{outcome_by, meaning}
-use Rattle.amqp_value_core.proofs.GrammarLaws.{within_is, front_within}
+use Rattle.amqp_value_core.proofs.GrammarLaws.{one_reading, front_within, wire_found_within}
+use Rattle.amq_protocol_types.specs.declared.parsing.errors.Err.TheVariants.{Error}
 use Rattle.amq_protocol_types.specs.declared.parsing.errors.ErrorKind.{ErrorKind}
-use Rattle.amq_protocol_types.specs.declared.parsing.errors.ErrorKind.TheVariants.{MapOpt, Eof, TooLarge}
+use Rattle.amq_protocol_types.specs.declared.parsing.errors.ErrorKind.TheVariants.{MapOpt, MapRes, Eof, OutOfMemory, TooLarge}
 use Rattle.amq_protocol_types.specs.declared.stream.error.StreamError.{StreamError}
 use Rattle.amq_protocol_types.specs.declared.stream.error.StreamError.TheVariants as stream
 use Rattle.amq_protocol_types.specs.declared.stream.limits.Limits.{Limits}
 use Rattle.amq_protocol_types.specs.Headers.{extent}
-use Rattle.amq_protocol_types.specs.Limits.{Within}
+use Rattle.amq_protocol_types.specs.Limits.{Within, RefusesWithin}
 use Rattle.amq_protocol_types.specs.Readers.{AnswersAll}
-use Rattle.std.specs.Io.KnownBytes.{Appends}
-use Rattle.std.proofs.KnownBytes.{Appends-trans}
-use Rattle.amqp_wire.specs.Lines.{AppendsFront}
+use Rattle.amq_protocol_types.proofs.Again.{wire_extent}
+use Rattle.amqp_wire.specs.Lines.{read_within, AppendsFront}
+use Rattle.amqp_wire.specs.Refusals.{kind_name}
+use Rattle.amqp_wire.specs.Streams.{value_line, last_line, stream_step, stream_text, BeginsWith, BeginsNone, AreValues, value_lines, HasLines, Leaves, IsLine}
 use Rattle.amqp_wire.proofs.Fronts.{Written, written_more, written_part}
-use Rattle.amqp_wire.specs.Streams.{value_line, read_within, stream_step, stream_text, IsLine}
+use Rattle.amqp_wire.proofs.Outcomes.{read_is, read_holds, too_large}
 
 -- the bytes behind a front are bytes
 behind : (s t : List ℕ) → IsBytes (s ++ t) → IsBytes t
 behind [] t bytes = bytes
 behind (c ∷ s) t bytes = behind s t bytes.1
 
--- what reading comes to, the function says
-read_is : (l : Limits) (s : List ℕ) (o : Reading) → IsBytes s → Within l s o → read_within l s ≡ Some o
-read_is l s o bytes (few, x) =
-    ap (λ b. cond b None (Some (outcome_by (meaning l.depth) s))) (le-ltb l.frame (extent s) few) ∙ ap Some (sym ((within_is l.depth s o bytes).0 x))
+-- ---- what stands at the front
 
-too_large : (l : Limits) (s : List ℕ) → l.frame < extent s → read_within l s ≡ None
-too_large l s lt = ap (λ b. cond b None (Some (outcome_by (meaning l.depth) s))) (lt-ltb l.frame (extent s) lt)
+-- what is found begins with a wire
+found_begins : (l : Limits) (s rest : List ℕ) (v : Tree) → Within l s (found v rest) → BeginsWith l s (v ∷ []) rest
+found_begins l s rest v (few, x) =
+    let f = front_within l.depth s rest v x in
+    let small : extent s ≡ length f.0 = ap extent f.2 ∙ wire_extent f.0 rest v f.1.0 in
+    (f.0, rest, f.2, f.1, omega (arith, few, small), refl)
 
--- each answer's line
+-- and the other way round
+begins_found : (l : Limits) (s w rest : List ℕ) (v : Tree) → s ≡ w ++ rest → WireWithin l.depth w v → length w ≤ l.frame → Within l s (found v rest)
+begins_found l s w rest v e p few =
+    subst (λ (t : List ℕ). Within l t (found v rest)) (sym e) (omega (arith, few, wire_extent w rest v p.0), wire_found_within l.depth w rest v p.0 p.1)
+
+-- where reading comes to no value, none is there
+abbrev NoValue : Option Reading → Type 0
+NoValue o = (v : Tree) (rest : List ℕ) → o ≡ Some (found v rest) → ⊥
+
+none_begins : (l : Limits) (s : List ℕ) → IsBytes s → NoValue (read_within l s) → BeginsNone l s
+none_begins l s bytes none = λ w rest v e p few. none v rest (read_is l s (found v rest) bytes (begins_found l s w rest v e p few))
+
+no_value : (l : Limits) (s : List ℕ) → IsBytes s → BeginsNone l s → NoValue (read_within l s)
+no_value l s bytes none = λ v rest e.
+    let b = found_begins l s rest v (read_holds l s (found v rest) bytes e) in
+    none b.0 b.1 v b.2 b.3 b.4
+
+-- a value or none
+value_or_none : (o : Option Reading) → ((v : Tree) × (rest : List ℕ) × (o ≡ Some (found v rest))) ⊎ NoValue o
+value_or_none None = inr (λ v rest e. cc)
+value_or_none (Some (found v rest)) = inl (v, rest, refl)
+value_or_none (Some (more n)) = inr (λ v rest e. cc)
+value_or_none (Some unknown) = inr (λ v rest e. cc)
+value_or_none (Some malformed) = inr (λ v rest e. cc)
+
+-- so many values are followed by the same
+begins_unique : (l : Limits) (s a b : List ℕ) (us vs : List Tree) → BeginsWith l s us a → BeginsWith l s vs b → length us ≡ length vs → a ≡ b
+begins_unique l s a b [] [] p q e = sym p ∙ q
+begins_unique l s a b [] (v ∷ vs) p q e = absurd (omega (arith, e))
+begins_unique l s a b (u ∷ us) [] p q e = absurd (omega (arith, e))
+begins_unique l s a b (u ∷ us) (v ∷ vs) (w, rest, is, p, few, others) (x, left, is', q, few', others') e =
+    let same = one_reading w x rest left u v p.0 q.0 (sym is ∙ is') in
+    begins_unique l left a b us vs (subst (λ (t : List ℕ). BeginsWith l t us a) same.2 others) others' (omega (arith, e))
+
+-- and where none follows there are no more
+begins_more : (l : Limits) (s a b : List ℕ) (us vs : List Tree) → BeginsWith l s us a → BeginsNone l a → BeginsWith l s vs b → length us < length vs → ⊥
+begins_more l s a b us [] p none q lt = omega (arith, lt)
+begins_more l s a b [] (v ∷ vs) p none (x, left, is, q, few, others) lt = none x left v (sym p ∙ is) q few
+begins_more l s a b (u ∷ us) (v ∷ vs) (w, rest, is, p, few, others) none (x, left, is', q, few', others') lt =
+    let same = one_reading w x rest left u v p.0 q.0 (sym is ∙ is') in
+    begins_more l left a b us vs (subst (λ (t : List ℕ). BeginsWith l t us a) same.2 others) none others' (omega (arith, lt))
+
+-- one value more
+begins_behind : (l : Limits) (s a b : List ℕ) (us : List Tree) (v : Tree) → BeginsWith l s us a → BeginsWith l a (v ∷ []) b → BeginsWith l s (us ++ v ∷ []) b
+begins_behind l s a b [] v p q = subst (λ (t : List ℕ). BeginsWith l t (v ∷ []) b) (sym p) q
+begins_behind l s a b (u ∷ us) v (w, rest, is, p, few, others) q = (w, rest, is, p, few, begins_behind l rest a b us v others q)
+
+-- ---- the lines of all values
+
+step_none : (others : List ℕ → List ℕ) (s : List ℕ) (o : Option Reading) → NoValue o → stream_step others s o ≡ last_line s o
+step_none others s None none = refl
+step_none others s (Some (found v rest)) none = absurd (none v rest refl)
+step_none others s (Some (more n)) none = refl
+step_none others s (Some unknown) none = refl
+step_none others s (Some malformed) none = refl
+
+-- a value's line comes first
+step_value : (l : Limits) (n : ℕ) (s rest : List ℕ) (v : Tree) → read_within l s ≡ Some (found v rest) → stream_text l (suc n) s ≡ value_line v ++ stream_text l n rest
+step_value l n s rest v e = ap (stream_step (stream_text l n) s) e
+
+are_lines : (l : Limits) (most : ℕ) (s : List ℕ) → IsBytes s → (vs : List Tree) (left : List ℕ) → AreValues l s vs left
+    → (most ≤ length vs → stream_text l most s ≡ value_lines (take most vs))
+    × (length vs < most → stream_text l most s ≡ value_lines vs ++ last_line left (read_within l left))
+are_lines l zero s bytes vs left p = (λ le. refl, λ lt. absurd (omega (arith, lt)))
+are_lines l (suc n) s bytes [] left (is, none) =
+    let here = no_value l left (subst IsBytes is bytes) none in
+    (λ le. absurd (omega (arith, le)), λ lt. ap (stream_text l (suc n)) is ∙ step_none (stream_text l n) left (read_within l left) here)
+are_lines l (suc n) s bytes (v ∷ vs) left ((w, rest, is, p, few, others), none) =
+    let first = step_value l n s rest v (read_is l s (found v rest) bytes (begins_found l s w rest v is p few)) in
+    let next = are_lines l n rest (behind w rest (subst IsBytes is bytes)) vs left (others, none) in
+    (λ le. first ∙ ap (λ (t : List ℕ). value_line v ++ t) (next.0 (omega (arith, le))),
+     λ lt. first ∙ ap (λ (t : List ℕ). value_line v ++ t) (next.1 (omega (arith, lt))) ∙ sym (append_assoc (value_line v) (value_lines vs) (last_line left (read_within l left))))
+
+-- a wire has a byte
+some_byte : (w : List ℕ) (v : Tree) → Wire w v → 0 < length w
+some_byte _ _ (wire c type b v k p) = omega arith
+
+-- a stream has values, if only none
+has_values : (l : Limits) (n : ℕ) (s : List ℕ) → IsBytes s → length s < n → (vs : List Tree) × (left : List ℕ) × AreValues l s vs left
+has_values l zero s bytes lt = absurd (omega (arith, lt))
+has_values l (suc n) s bytes lt = elim (value_or_none (read_within l s)) [
+  | inl (v, rest, e) ↦
+      let (w, r, is, p, few, same) = found_begins l s rest v (read_holds l s (found v rest) bytes e) in
+      let (vs, left, both) = has_values l n r (behind w r (subst IsBytes is bytes)) (omega (arith, lt, ap length is, length-append w r, some_byte w v p.0)) in
+      (v ∷ vs, left, ((w, r, is, p, few, both.0), both.1))
+  | inr none ↦ ([], s, (refl, none_begins l s bytes none))
+]
+
+pub has_lines : (l : Limits) (most : ℕ) → HasLines l most
+has_lines l most = λ s bytes. (has_values l (suc (length s)) s bytes (omega arith), are_lines l most s bytes)
+
+-- ---- each answer's line
+
 pub value_told : (l : Limits) (s : List ℕ) (left : Option (List ℕ)) (v : AMQPValue) (line : List ℕ) → line ≡ value_line (view v) → IsBytes s → AnswersAll l s left (Ok (Some v)) → IsLine l s left line true
 value_told l s left v line e bytes (rest, x, is) =
-    let f = front_within l.depth s rest (view v) x.1 in
-    (view v, rest, behind f.0 rest (subst IsBytes f.2 bytes), read_is l s (found (view v) rest) bytes x, e, is)
+    let b = found_begins l s rest (view v) x in
+    (view v, rest, subst IsBytes b.5 (behind b.0 b.1 (subst IsBytes b.2 bytes)), read_is l s (found (view v) rest) bytes x, b, e, is)
+
+-- reading comes to no value, and so the line is the last one
+last_told : (l : Limits) (s : List ℕ) (left : Option (List ℕ)) (line : List ℕ) (o : Option Reading) → IsBytes s → read_within l s ≡ o → NoValue o → line ≡ last_line s o → IsLine l s left line false
+last_told l s left line o bytes is none e = (e ∙ ap (last_line s) (sym is), none_begins l s bytes (subst NoValue (sym is) none))
+
+pub end_told : (l : Limits) (s : List ℕ) (left : Option (List ℕ)) (line : List ℕ) → line ≡ codes "end\n" → IsBytes s → AnswersAll l s left (Ok None) → IsLine l s left line false
+end_told l [] left line e bytes (none, is) = last_told l [] left line (Some (more 1)) bytes (read_is l [] (more 1) bytes (omega arith, refl)) (λ v rest c. cc) e
+end_told l (c ∷ s) left line e bytes (none, is) = absurd cc
 
 pub cut_told : (l : Limits) (s : List ℕ) (left : Option (List ℕ)) (line : List ℕ) → line ≡ codes "truncated\n" → IsBytes s → AnswersAll l s left (Err stream.Truncated) → IsLine l s left line false
 cut_told l [] left line e bytes (some, x, is) = absurd (omega (arith, some))
-cut_told l (c ∷ s) left line e bytes (some, (n, x), is) = λ k. ap (stream_step (stream_text l k) (c ∷ s)) (read_is l (c ∷ s) (more n) bytes x) ∙ sym e
+cut_told l (c ∷ s) left line e bytes (some, (n, x), is) = last_told l (c ∷ s) left line (Some (more n)) bytes (read_is l (c ∷ s) (more n) bytes x) (λ v rest d. cc) e
 
-pub map_opt_told : (l : Limits) (s : List ℕ) (left : Option (List ℕ)) (line : List ℕ) → line ≡ codes "refused MapOpt\n" → IsBytes s → AnswersAll l s left (Err (stream.Refused MapOpt)) → IsLine l s left line false
-map_opt_told l s left line e bytes x = λ k. ap (stream_step (stream_text l k) s) (read_is l s unknown bytes x) ∙ sym e
-
-pub eof_told : (l : Limits) (s : List ℕ) (left : Option (List ℕ)) (line : List ℕ) → line ≡ codes "refused Eof\n" → IsBytes s → AnswersAll l s left (Err (stream.Refused Eof)) → IsLine l s left line false
-eof_told l s left line e bytes x = λ k. ap (stream_step (stream_text l k) s) (read_is l s malformed bytes x) ∙ sym e
-
-pub large_told : (l : Limits) (s : List ℕ) (left : Option (List ℕ)) (line : List ℕ) → line ≡ codes "refused TooLarge\n" → IsBytes s → AnswersAll l s left (Err (stream.Refused TooLarge)) → IsLine l s left line false
-large_told l s left line e bytes x = λ k. ap (stream_step (stream_text l k) s) (too_large l s x) ∙ sym e
+pub refused_told : (l : Limits) (s : List ℕ) (left : Option (List ℕ)) (line : List ℕ) (kind : ErrorKind) → line ≡ codes "refused " ++ (kind_name kind ++ 10 ∷ []) → IsBytes s → AnswersAll l s left (Err (stream.Refused kind)) → IsLine l s left line false
+refused_told l s left line MapOpt e bytes x = last_told l s left line (Some unknown) bytes (read_is l s unknown bytes x) (λ v rest d. cc) e
+refused_told l s left line Eof e bytes x = last_told l s left line (Some malformed) bytes (read_is l s malformed bytes x) (λ v rest d. cc) e
+refused_told l s left line TooLarge e bytes x = last_told l s left line None bytes (too_large l s x) (λ v rest d. cc) e
+refused_told l s left line MapRes e bytes x = absurd x.1
+refused_told l s left line OutOfMemory e bytes x = absurd x.1
 
 -- of all that the reader held, where nothing was kept
 pub line_told : (l : Limits) (k : List ℕ) (old left : Option (List ℕ)) (line : List ℕ) (b : Bool) (r : Result (Option AMQPValue) StreamError)
     → ((s : List ℕ) → IsBytes s → AnswersAll l s left r → IsLine l s left line b) → k ≡ []
     → IfSome old (λ z. AnswersAll l (k ++ z) left r) → IfSome old (λ s. IsBytes s → IsLine l s left line b)
 line_told l k None left line b r one none told = tt
-line_told l k (Some z) left line b r one none told = λ bytes. one z bytes (subst (λ t. AnswersAll l (t ++ z) left r) none told)
+line_told l k (Some z) left line b r one none told = λ bytes. one z bytes (subst (λ (t : List ℕ). AnswersAll l (t ++ z) left r) none told)
 
--- the lines so far were written, and the others are those of what is left
+-- ---- line after line
+
+-- the lines so far were written, and the others are those of what is left behind as many values
 abbrev pub Progress : Limits → ℕ → ℕ → Option (List ℕ) → Option (List ℕ) → Option (List ℕ) → Option (List ℕ) → Type 0
-Progress l most left held now a b = IfSome held (λ s. IsBytes s → (rest : List ℕ) × IsBytes rest × (now ≡ Some rest) × Written a b (stream_text l most s) (stream_text l left rest))
+Progress l most left held now a b = IfSome held (λ s. IsBytes s → (rest : List ℕ) × IsBytes rest × (now ≡ Some rest)
+    × Written a b (stream_text l most s) (stream_text l left rest)
+    × ((us : List Tree) × BeginsWith l s us rest × (length us + left ≡ most)))
+
+pub starts : (l : Limits) (most : ℕ) (held a : Option (List ℕ)) → Appends a a [] → Progress l most most held held a a
+starts l most None a none = tt
+starts l most (Some s) a none = λ bytes. (s, bytes, refl, ([], refl, none), ([], refl, omega arith))
 
 abbrev pub LineTold : Limits → Option (List ℕ) → Option (List ℕ) → List ℕ → Bool → Type 0
 LineTold l now new line b = IfSome now (λ s. IsBytes s → IsLine l s new line b)
@@ -72,39 +182,72 @@ LineTold l now new line b = IfSome now (λ s. IsBytes s → IsLine l s new line 
 told_at : (l : Limits) (now new : Option (List ℕ)) (line rest : List ℕ) (b : Bool) → now ≡ Some rest → IsBytes rest → LineTold l now new line b → IsLine l rest new line b
 told_at l now new line rest b is bytes told = subst (λ o. IfSome o (λ s. IsBytes s → IsLine l s new line b)) is told bytes
 
+-- a last line is all that is left to write
+last_is : (l : Limits) (n : ℕ) (s line : List ℕ) (new : Option (List ℕ)) → IsBytes s → IsLine l s new line false → stream_text l (suc n) s ≡ line
+last_is l n s line new bytes (e, none) = step_none (stream_text l n) s (read_within l s) (no_value l s bytes none) ∙ sym e
+
 -- a line is the first of what is left
-line_first : (l : Limits) (k : ℕ) (s : List ℕ) (new : Option (List ℕ)) (line : List ℕ) (b : Bool) → 0 < k → IsLine l s new line b → (others : List ℕ) × (stream_text l k s ≡ line ++ others)
-line_first l zero s new line b lt is = absurd (omega arith)
-line_first l (suc n) s new line true lt (v, rest, bytes, found_it, e, left) =
-    (stream_text l n rest, ap (stream_step (stream_text l n) s) found_it ∙ ap (λ t. t ++ stream_text l n rest) (sym e))
-line_first l (suc n) s new line false lt is = ([], is n ∙ sym (append-nil line))
+line_first : (l : Limits) (k : ℕ) (s : List ℕ) (new : Option (List ℕ)) (line : List ℕ) (b : Bool) → 0 < k → IsBytes s → IsLine l s new line b → (others : List ℕ) × (stream_text l k s ≡ line ++ others)
+line_first l zero s new line b lt bytes is = absurd (omega (arith, lt))
+line_first l (suc n) s new line true lt bytes (v, rest, rest_bytes, found_it, b, e, left) =
+    (stream_text l n rest, step_value l n s rest v found_it ∙ ap (λ (t : List ℕ). t ++ stream_text l n rest) (sym e))
+line_first l (suc n) s new line false lt bytes is = ([], last_is l n s line new bytes is ∙ sym (append-nil line))
 
 pub on_err : (l : Limits) (most left : ℕ) (held now new a b c : Option (List ℕ)) (line : List ℕ) (t : Bool) → 0 < left → Progress l most left held now a b → LineTold l now new line t → AppendsFront b c line
     → IfSome held (λ s. IsBytes s → AppendsFront a c (stream_text l most s))
 on_err l most left None now new a b c line t lt p told front = tt
 on_err l most left (Some s) now new a b c line t lt p told front = λ bytes.
-    let (rest, rest_bytes, is, written) = p bytes in
-    let first = line_first l left rest new line t lt (told_at l now new line rest t is rest_bytes told) in
+    let (rest, rest_bytes, is, written, taken) = p bytes in
+    let first = line_first l left rest new line t lt rest_bytes (told_at l now new line rest t is rest_bytes told) in
     written_part a b c (stream_text l most s) (stream_text l left rest) line first.0 written first.1 front
+
+-- where no line was to be written, a front was
+pub on_fault : (l : Limits) (most left : ℕ) (held now a b : Option (List ℕ)) → Progress l most left held now a b → IfSome held (λ s. IsBytes s → AppendsFront a b (stream_text l most s))
+on_fault l most left None now a b p = tt
+on_fault l most left (Some s) now a b p = λ bytes.
+    let (rest, rest_bytes, is, (front, whole, before), taken) = p bytes in
+    (front, stream_text l left rest, whole, before)
 
 pub on_last : (l : Limits) (most left : ℕ) (held now new a b c : Option (List ℕ)) (line : List ℕ) → 0 < left → Progress l most left held now a b → LineTold l now new line false → Appends b c line
     → IfSome held (λ s. IsBytes s → Appends a c (stream_text l most s))
 on_last l most left None now new a b c line lt p told all = tt
-on_last l most zero (Some s) now new a b c line lt p told all = absurd (omega arith)
+on_last l most zero (Some s) now new a b c line lt p told all = absurd (omega (arith, lt))
 on_last l most (suc n) (Some s) now new a b c line lt p told all = λ bytes.
-    let (rest, rest_bytes, is, (front, whole, before)) = p bytes in
-    let last : stream_text l (suc n) rest ≡ line = told_at l now new line rest false is rest_bytes told n in
-    subst (λ u. Appends a c u) (sym (whole ∙ ap (λ u. front ++ u) last)) (Appends-trans a b c front line before all)
+    let (rest, rest_bytes, is, (front, whole, before), taken) = p bytes in
+    let last : stream_text l (suc n) rest ≡ line = last_is l n rest line new rest_bytes (told_at l now new line rest false is rest_bytes told) in
+    subst (λ (u : List ℕ). Appends a c u) (sym (whole ∙ ap (λ (u : List ℕ). front ++ u) last)) (Appends-trans a b c front line before all)
+
+-- fewer values than `most` stood there
+pub on_last_left : (l : Limits) (most left : ℕ) (held now new end a b : Option (List ℕ)) (line : List ℕ) → 0 < left → Progress l most left held now a b → LineTold l now new line false
+    → IfSome held (λ s. IsBytes s → Leaves l most s end)
+on_last_left l most left None now new end a b line lt p told = tt
+on_last_left l most left (Some s) now new end a b line lt p told = λ bytes vs z begins len.
+    let (rest, rest_bytes, is, written, (us, begun, count)) = p bytes in
+    absurd (begins_more l s rest z us vs begun (told_at l now new line rest false is rest_bytes told).1 begins (omega (arith, lt, count, len)))
+
+-- all values were taken
+pub on_end : (l : Limits) (most : ℕ) (held now a b : Option (List ℕ)) → Progress l most zero held now a b → IfSome held (λ s. IsBytes s → Appends a b (stream_text l most s))
+on_end l most None now a b p = tt
+on_end l most (Some s) now a b p = λ bytes.
+    let (rest, rest_bytes, is, (front, whole, before), taken) = p bytes in
+    subst (λ (u : List ℕ). Appends a b u) (sym (whole ∙ append-nil front)) before
+
+pub on_end_left : (l : Limits) (most : ℕ) (held now a b : Option (List ℕ)) → Progress l most zero held now a b → IfSome held (λ s. IsBytes s → Leaves l most s now)
+on_end_left l most None now a b p = tt
+on_end_left l most (Some s) now a b p = λ bytes vs z begins len.
+    let (rest, rest_bytes, is, written, (us, begun, count)) = p bytes in
+    is ∙ ap Some (begins_unique l s rest z us vs begun begins (omega (arith, count, len)))
 
 more_by : (l : Limits) (most n : ℕ) (held now new a b c : Option (List ℕ)) (line : List ℕ) → Progress l most (suc n) held now a b → LineTold l now new line true → Appends b c line
     → Progress l most n held new a c
 more_by l most n None now new a b c line p told all = tt
 more_by l most n (Some s) now new a b c line p told all = λ bytes.
-    let (rest, rest_bytes, is, written) = p bytes in
-    let (v, others, others_bytes, found_it, e, left) = told_at l now new line rest true is rest_bytes told in
-    let first : stream_text l (suc n) rest ≡ line ++ stream_text l n others = ap (stream_step (stream_text l n) rest) found_it ∙ ap (λ t. t ++ stream_text l n others) (sym e) in
-    (others, others_bytes, left, written_more a b c (stream_text l most s) (stream_text l (suc n) rest) line (stream_text l n others) written first all)
+    let (rest, rest_bytes, is, written, (us, begun, count)) = p bytes in
+    let (v, others, others_bytes, found_it, begins, e, left) = told_at l now new line rest true is rest_bytes told in
+    let first : stream_text l (suc n) rest ≡ line ++ stream_text l n others = step_value l n rest others v found_it ∙ ap (λ (t : List ℕ). t ++ stream_text l n others) (sym e) in
+    (others, others_bytes, left, written_more a b c (stream_text l most s) (stream_text l (suc n) rest) line (stream_text l n others) written first all,
+     (us ++ v ∷ [], begins_behind l s rest others us v begun begins, omega (arith, count, length-append us (v ∷ []))))
 
 pub on_more : (l : Limits) (most left less : ℕ) (held now new a b c : Option (List ℕ)) (line : List ℕ) → left ≡ suc less → Progress l most left held now a b → LineTold l now new line true → Appends b c line
     → Progress l most less held new a c
-on_more l most left less held now new a b c line e p told all = more_by l most less held now new a b c line (subst (λ k. Progress l most k held now a b) e p) told all
+on_more l most left less held now new a b c line e p told all = more_by l most less held now new a b c line (subst (λ (k : ℕ). Progress l most k held now a b) e p) told all

@@ -1,5 +1,23 @@
-use Rattle.std.proofs.Common.{rules}
-use Rattle.amqp_value_core.specs.Outcomes.{found}
+use Rattle.std.proofs.Common.{◌≡◌, List, ℕ, IfOk, length, subst, string_bytes, rules}
+use Rattle.std.proofs.lemmas.Result.{IfOk-weaker}
+use Rattle.amqp_value_core.specs.Outcomes.{Outcome, Heavy, found}
+use Rattle.amqp_value_core.specs.Decode.{outcome}
 use Rattle.amqp_value_core.specs.View.{view}
-use Rattle.amqp_wire.proofs.Outcomes.{said_of_outcome, said_of_refusal, refusal_told}
+use Rattle.amq_protocol_types.specs.Answers.{Refuses}
+use Rattle.amqp_wire.specs.Lines.{said, said_of_value}
+use Rattle.amqp_wire.specs.Refusals.{IsSaid}
+use Rattle.amqp_wire.proofs.Outcomes.{said_of_outcome, said_of_refusal}
 use Rattle.amqp_wire.proofs.line.answer_to_bytes.Goals as goal
+
+pub returns-in-Ok : goal.returns-in-Ok
+returns-in-Ok g c =
+    let s = g.I.ParsableInput.bytes c.args.bytes in
+    let rest = g.I.ParsableInput.bytes c.in-Ok.rest in
+    let said_it : said_of_value (view c.in-Ok.value) (length rest) ≡ said (outcome s) = said_of_outcome s (found (view c.in-Ok.value) rest) c.requires (search (rules, c.in-Ok.ensures.outcome)) in
+    search (rules, said_it)
+
+pub returns-in-Err : goal.returns-in-Err
+returns-in-Err g c =
+    let s = g.I.ParsableInput.bytes c.args.bytes in
+    let right : Refuses (Outcome s) (Heavy s) c.in-Err.error = search (rules, c.in-Err.ensures.outcome) in
+    IfOk-weaker c.refusal_answer.result (λ a. IsSaid c.in-Err.error (string_bytes a)) (λ a. string_bytes a ≡ said (outcome s)) (λ a is. said_of_refusal s c.in-Err.error _ c.requires right is) c.refusal_answer.ensures

@@ -1,0 +1,78 @@
+use Rattle.std.proofs.Common.{◌≡◌, List, ℕ, Bool, suc, ◌-◌, true, false, subst, ◌∙◌, rules, arith}
+use Rattle.std.specs.Option.{IfSome}
+use Rattle.std.specs.Io.KnownBytes.{Appends}
+use Rattle.amqp_value_core.specs.Outcomes.{IsBytes}
+use Rattle.amqp_wire.specs.Lines.{AppendsFront}
+use Rattle.amqp_wire.specs.Streams.{stream_text}
+use Rattle.amqp_wire.proofs.Streams.{Progress, LineTold, on_err, on_last, on_last_left, on_end_left, on_more}
+use Rattle.amqp_wire.proofs.stream.write_stream.Goals as goal
+
+pub returns-in_err-write_out-clause-err : goal.returns-in_err-write_out-clause-err
+returns-in_err-write_out-clause-err g c =
+    let held = g.R.Read.remaining c.args.reader.now in
+    let now = g.R.Read.remaining c.values.reader in
+    let new = g.R.Read.remaining c.next_line.new.reader in
+    let a = g.W.Write.contents c.args.writer.now in
+    let b = g.W.Write.contents c.values.writer in
+    let d = g.W.Write.contents c.write_out.new.writer in
+    let line = c.in_ok-line.line.items in
+    let told = subst (λ l. LineTold l now new line c.in_ok-line.is_value) c.values.invariant.2 c.in_ok-line.ensures.line in
+    let front : AppendsFront b d line = search rules in
+    let t : IfSome held (λ s. IsBytes s → AppendsFront a d (stream_text c.args.limits c.args.most s)) =
+    on_err c.args.limits c.args.most c.values.left held now new a b d line c.in_ok-line.is_value (omega arith) c.values.invariant.3 told front in
+    search rules
+
+pub returns-then-not-is_value-clause-ok : goal.returns-then-not-is_value-clause-ok
+returns-then-not-is_value-clause-ok g c =
+    let held = g.R.Read.remaining c.args.reader.now in
+    let now = g.R.Read.remaining c.values.reader in
+    let new = g.R.Read.remaining c.next_line.new.reader in
+    let a = g.W.Write.contents c.args.writer.now in
+    let b = g.W.Write.contents c.values.writer in
+    let d = g.W.Write.contents c.write_out.new.writer in
+    let line = c.in_ok-line.line.items in
+    let told = subst (λ l. LineTold l now new line c.in_ok-line.is_value) c.values.invariant.2 c.in_ok-line.ensures.line in
+    let last : c.in_ok-line.is_value ≡ false = search rules in
+    let all : Appends b d line = search rules in
+    on_last c.args.limits c.args.most c.values.left held now new a b d line (omega arith) c.values.invariant.3
+    (subst (λ (t : Bool). LineTold c.args.limits now new line t) last told) all
+
+pub returns-then-not-is_value-clause-rest : goal.returns-then-not-is_value-clause-rest
+returns-then-not-is_value-clause-rest g c =
+    let held = g.R.Read.remaining c.args.reader.now in
+    let now = g.R.Read.remaining c.values.reader in
+    let new = g.R.Read.remaining c.next_line.new.reader in
+    let a = g.W.Write.contents c.args.writer.now in
+    let b = g.W.Write.contents c.values.writer in
+    let d = g.W.Write.contents c.write_out.new.writer in
+    let line = c.in_ok-line.line.items in
+    let told = subst (λ l. LineTold l now new line c.in_ok-line.is_value) c.values.invariant.2 c.in_ok-line.ensures.line in
+    let last : c.in_ok-line.is_value ≡ false = search rules in
+    on_last_left c.args.limits c.args.most c.values.left held now new _ a b line (omega arith) c.values.invariant.3
+    (subst (λ (t : Bool). LineTold c.args.limits now new line t) last told)
+
+pub returns-clause-rest : goal.returns-clause-rest
+returns-clause-rest g c =
+    let held = g.R.Read.remaining c.args.reader.now in
+    let now = g.R.Read.remaining c.values.reader in
+    let a = g.W.Write.contents c.args.writer.now in
+    let b = g.W.Write.contents c.values.writer in
+    let none : c.values.left ≡ 0 = omega arith in
+    on_end_left c.args.limits c.args.most held now a b (subst (λ (n : ℕ). Progress c.args.limits c.args.most n held now a b) none c.values.invariant.3)
+
+pub values-preserved : goal.values-preserved
+values-preserved g c =
+    let held = g.R.Read.remaining c.args.reader.now in
+    let now = g.R.Read.remaining c.values.reader in
+    let new = g.R.Read.remaining c.next_line.new.reader in
+    let a = g.W.Write.contents c.args.writer.now in
+    let b = g.W.Write.contents c.values.writer in
+    let d = g.W.Write.contents c.write_out.new.writer in
+    let line = c.in_ok-line.line.items in
+    let told = subst (λ l. LineTold l now new line c.in_ok-line.is_value) c.values.invariant.2 c.in_ok-line.ensures.line in
+    let one : c.in_ok-line.is_value ≡ true = search rules in
+    let all : Appends b d line = search rules in
+    let more = c.in_ok-line.ensures.more one in
+    (more.0, more.1, c.next_line.ensures.limits ∙ c.values.invariant.2,
+     on_more c.args.limits c.args.most c.values.left (c.values.left - 1) held now new a b d line (omega arith) c.values.invariant.3
+     (subst (λ (t : Bool). LineTold c.args.limits now new line t) one told) all)

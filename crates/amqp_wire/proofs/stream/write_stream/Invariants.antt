@@ -1,0 +1,15 @@
+use Rattle.std.proofs.Common.{◌≡◌, [], false}
+use Rattle.amq_protocol_types.specs.Readers.{kept, has_failed, limits_of}
+use Rattle.amqp_wire.proofs.Streams.{Progress}
+use Rattle.amqp_wire.proofs.stream.write_stream.Given as goal
+
+-- all but the lines of what is left was written
+abbrev pub invariant-values : goal.invariant-values
+invariant-values g l =
+    (kept l.values ≡ [])
+    × (has_failed l.values ≡ false)
+    × (limits_of l.values ≡ l.fn.limits)
+    × Progress l.fn.limits l.fn.most l.left (g.R.Read.remaining l.initial.reader) (g.R.Read.remaining l.reader) (g.W.Write.contents l.initial.writer) (g.W.Write.contents l.writer)
+
+abbrev pub decreases-values : goal.decreases-values
+decreases-values g l = l.left
