@@ -19,7 +19,6 @@ use Rattle.amq_protocol_types.specs.Refusals.{Refusal}
 use Rattle.amq_protocol_types.specs.Headers.{extent_of, raw_extent, extent_at, extent}
 use Rattle.amq_protocol_types.specs.Limits.{Within, RefusesWithin, IsReadAgain, ReadsBack, IsShortestWithin, TellsApartWithin}
 
-
 -- where the length field is whole, a payload's least extent is its extent
 whole_extent : (o : Option Layout) (w : Width) (b : List ℕ) (n : ℕ) → header_extent_of o w b ≡ n → n ≤ length b → extent_of o w b ≡ n
 whole_extent (Some f) w b n e le = e

@@ -100,9 +100,10 @@ within_append l s t (found v rest) (few, x) waits =
 within_append l s t (more n) (few, x) fewer =
     let is = wanted_more (WireWithin l.depth) s n x in
     let less : length t < wanted s = omega (arith, is, fewer) in
-    let left : wanted (s ++ t) ≡ n - length t = wanted-append s t less ∙ ap (λ (k : ℕ). k - length t) is in
-    (omega (arith, few, extent-append s t less),
-     subst (λ (k : ℕ). OutcomeWithin l.depth (s ++ t) (more k)) left (more_wanted (WireWithin l.depth) (s ++ t) (omega (arith, left, fewer))))
+    let left : wanted (s ++ t) ≡ n - length t = wanted-append s t less ∙ ap (λ (k : ℕ). k - length t) is in (
+      omega (arith, few, extent-append s t less),
+      subst (λ (k : ℕ). OutcomeWithin l.depth (s ++ t) (more k)) left (more_wanted (WireWithin l.depth) (s ++ t) (omega (arith, left, fewer))),
+    )
 within_append l s t unknown (few, x) waits = (omega (arith, few, unknown_extent l.depth s t x), unknown_append l.depth s t x)
 within_append l s t malformed (few, x) waits = (omega (arith, few, malformed_extent l.depth s t x), malformed_append l.depth s t x)
 

@@ -29,6 +29,8 @@ joined old mid new k s now x more came is comes all =
 pub answered : {R : Type 0} (remaining : R → Option (List ℕ)) (r : Result (Option AMQPValue) StreamError) (frame limit : Limits) (old last gone : R) (k s : List ℕ) (kept : List ℕ) (failed : Bool)
     → frame ≡ limit → gone ≡ last → (y : List ℕ) × Consumes (remaining old) (remaining last) y × (s ≡ k ++ y) → Answers frame s (remaining gone) kept failed r
     → (y : List ℕ) × Consumes (remaining old) (remaining gone) y × Answers limit (k ++ y) (remaining gone) kept failed r
-answered remaining r frame limit old last gone k s kept failed same stays (y, comes, all) answer =
-    (y, subst (λ t. Consumes (remaining old) (remaining t) y) (sym stays) comes,
-     subst (λ (n : Limits). Answers n (k ++ y) (remaining gone) kept failed r) same (subst (λ (t : List ℕ). Answers frame t (remaining gone) kept failed r) all answer))
+answered remaining r frame limit old last gone k s kept failed same stays (y, comes, all) answer = (
+  y,
+  subst (λ t. Consumes (remaining old) (remaining t) y) (sym stays) comes,
+  subst (λ (n : Limits). Answers n (k ++ y) (remaining gone) kept failed r) same (subst (λ (t : List ℕ). Answers frame t (remaining gone) kept failed r) all answer),
+)

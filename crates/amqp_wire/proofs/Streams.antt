@@ -109,9 +109,10 @@ are_lines l (suc n) s bytes [] left (is, none) =
     (λ le. absurd (omega (arith, le)), λ lt. ap (stream_text l (suc n)) is ∙ step_none (stream_text l n) left (read_within l left) here)
 are_lines l (suc n) s bytes (v ∷ vs) left ((w, rest, is, p, few, others), none) =
     let first = step_value l n s rest v (read_is l s (found v rest) bytes (begins_found l s w rest v is p few)) in
-    let next = are_lines l n rest (behind w rest (subst IsBytes is bytes)) vs left (others, none) in
-    (λ le. first ∙ ap (λ (t : List ℕ). value_line v ++ t) (next.0 (omega (arith, le))),
-     λ lt. first ∙ ap (λ (t : List ℕ). value_line v ++ t) (next.1 (omega (arith, lt))) ∙ sym (append_assoc (value_line v) (value_lines vs) (last_line left (read_within l left))))
+    let next = are_lines l n rest (behind w rest (subst IsBytes is bytes)) vs left (others, none) in (
+      λ le. first ∙ ap (λ (t : List ℕ). value_line v ++ t) (next.0 (omega (arith, le))),
+      λ lt. first ∙ ap (λ (t : List ℕ). value_line v ++ t) (next.1 (omega (arith, lt))) ∙ sym (append_assoc (value_line v) (value_lines vs) (last_line left (read_within l left))),
+    )
 
 -- a wire has a byte
 some_byte : (w : List ℕ) (v : Tree) → Wire w v → 0 < length w
@@ -244,9 +245,13 @@ more_by l most n None now new a b c line p told all = tt
 more_by l most n (Some s) now new a b c line p told all = λ bytes.
     let (rest, rest_bytes, is, written, (us, begun, count)) = p bytes in
     let (v, others, others_bytes, found_it, begins, e, left) = told_at l now new line rest true is rest_bytes told in
-    let first : stream_text l (suc n) rest ≡ line ++ stream_text l n others = step_value l n rest others v found_it ∙ ap (λ (t : List ℕ). t ++ stream_text l n others) (sym e) in
-    (others, others_bytes, left, written_more a b c (stream_text l most s) (stream_text l (suc n) rest) line (stream_text l n others) written first all,
-     (us ++ v ∷ [], begins_behind l s rest others us v begun begins, omega (arith, count, length-append us (v ∷ []))))
+    let first : stream_text l (suc n) rest ≡ line ++ stream_text l n others = step_value l n rest others v found_it ∙ ap (λ (t : List ℕ). t ++ stream_text l n others) (sym e) in (
+      others,
+      others_bytes,
+      left,
+      written_more a b c (stream_text l most s) (stream_text l (suc n) rest) line (stream_text l n others) written first all,
+      (us ++ v ∷ [], begins_behind l s rest others us v begun begins, omega (arith, count, length-append us (v ∷ []))),
+    )
 
 pub on_more : (l : Limits) (most left less : ℕ) (held now new a b c : Option (List ℕ)) (line : List ℕ) → left ≡ suc less → Progress l most left held now a b → LineTold l now new line true → Appends b c line
     → Progress l most less held new a c

@@ -1,8 +1,9 @@
 //! The answer to one line.
 
-ghost use Rattle.std.specs.Prelude.{◌≡◌, ◌≤◌, ◌++◌, ◌∷◌, [], IfOk, string_bytes};
+ghost use Rattle.std.specs.Prelude.{◌≡◌, ◌-◌, ◌≤◌, ◌++◌, ◌∷◌, [], length, IfOk, string_bytes};
 ghost use Rattle.amqp_value_core.specs.Outcomes.{IsBytes};
 ghost use Rattle.amqp_value_core.specs.Decode.{outcome};
+ghost use Rattle.amqp_value_core.specs.Headline.{IsBounded};
 ghost use Rattle.amqp_value_core.specs.View.{view};
 ghost use Rattle.amqp_value_core.specs.Texts.{text, size, Fits};
 ghost use Rattle.hex.specs.Hex.{encode_lower};
@@ -44,19 +45,19 @@ fn hex_of(alloc: Global, value: &AMQPValue, room: usize) -> Result<String, Alloc
     hex::encode(alloc, output.written())
 }
 
-/// What is said of a value that took `taken` bytes, and behind which `left` are left. Its text gets as
-/// much room as its wire took.
-fn value_answer(
+/// What is said of a value that was read from `bytes`, and behind which `rest` is left. Its text gets
+/// as much room as its wire took.
+fn value_answer<I: ParsableInput>(
     alloc: Global,
     value: &AMQPValue,
-    taken: usize,
-    left: usize,
+    bytes: I,
+    rest: I,
 ) -> Result<String, WireFault>
-    requires fits { Fits (view value.now) }
-    requires room { size (view value.now) ≤ taken }
-    ensures { IfOk result (λ answer. string_bytes answer ≡ said_of_value (view value.now) left) }
+    requires { IsBounded (length (I.bytes bytes) - length (I.bytes rest)) (view value.now) }
+    ensures { IfOk result (λ answer. string_bytes answer ≡ said_of_value (view value.now) (length (I.bytes rest))) }
 {
-    let hex = hex_of(alloc, value, taken)?;
+    let left = rest.input_len();
+    let hex = hex_of(alloc, value, bytes.input_len().saturating_sub(left))?;
     Ok(format!(in alloc; "value {hex} rest {left}")?)
 }
 
@@ -95,10 +96,7 @@ fn answer_to_bytes<I: ParsableInput>(alloc: Global, bytes: I) -> Result<String, 
     ensures { IfOk result (λ answer. string_bytes answer ≡ said (outcome (I.bytes bytes))) }
 {
     match parse_value(alloc, bytes) {
-        Ok((rest, value)) => {
-            let left = rest.input_len();
-            value_answer(alloc, &value, bytes.input_len() - left, left)
-        }
+        Ok((rest, value)) => value_answer(alloc, &value, bytes, rest),
         Err(error) => refusal_answer(alloc, error),
     }
 }
@@ -113,10 +111,7 @@ fn answer_within<I: ParsableInput>(
     ensures { IfOk result (λ answer. string_bytes answer ≡ said_within (read_within limits (I.bytes bytes))) }
 {
     match parse_value_within(alloc, bytes, limits) {
-        Ok((rest, value)) => {
-            let left = rest.input_len();
-            value_answer(alloc, &value, bytes.input_len() - left, left)
-        }
+        Ok((rest, value)) => value_answer(alloc, &value, bytes, rest),
         Err(error) => refusal_answer(alloc, error),
     }
 }

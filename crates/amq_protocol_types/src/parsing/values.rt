@@ -215,7 +215,11 @@ fn array_within<I: ParsableInput>(alloc: Global, i: I, depth: usize) -> ParserRe
 // Reads values one after another to the end of the body.
 #[cycle(parser)]
 #[inline(never)]
-fn parse_body<I: ParsableInput>(alloc: Global, body: I, depth: usize) -> Result<FieldArray, ParserError>
+fn parse_body<I: ParsableInput>(
+    alloc: Global,
+    body: I,
+    depth: usize,
+) -> Result<FieldArray, ParserError>
     ensures { MatchResult result
         (λ array. BodyWithin depth (I.bytes body) (array_view array))
         (Refuses (IsNoBody depth (I.bytes body)) (0 < length (I.bytes body))) }
@@ -267,7 +271,11 @@ fn table_within<I: ParsableInput>(alloc: Global, i: I, depth: usize) -> ParserRe
 // Reads keys, each with a value, one after another to the end of the body.
 #[cycle(parser)]
 #[inline(never)]
-fn parse_pairs<I: ParsableInput>(alloc: Global, body: I, depth: usize) -> Result<FieldTable, ParserError>
+fn parse_pairs<I: ParsableInput>(
+    alloc: Global,
+    body: I,
+    depth: usize,
+) -> Result<FieldTable, ParserError>
     ensures { MatchResult result
         (λ table. IsTable depth (I.bytes body) (table_view table))
         (Refuses (IsNoTable depth (I.bytes body)) (0 < length (I.bytes body))) }

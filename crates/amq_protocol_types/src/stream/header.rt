@@ -32,10 +32,8 @@ fn fields_of(amqp_type: AMQPType) -> Option<(usize, usize)>
         AMQPType::Boolean | AMQPType::ShortShortInt | AMQPType::ShortShortUInt => Some((1, 1)),
         AMQPType::ShortInt | AMQPType::ShortUInt => Some((2, 2)),
         AMQPType::LongInt | AMQPType::LongUInt | AMQPType::Float => Some((4, 4)),
-        AMQPType::LongLongInt
-        | AMQPType::LongLongUInt
-        | AMQPType::Double
-        | AMQPType::Timestamp => Some((8, 8)),
+        AMQPType::LongLongInt | AMQPType::LongLongUInt | AMQPType::Double | AMQPType::Timestamp =>
+            Some((8, 8)),
         AMQPType::DecimalValue => Some((1, 5)),
         AMQPType::ShortString
         | AMQPType::LongString

@@ -43,7 +43,7 @@ impl<R: Read> ValueReader<R> {
         ensures answer { has_failed (values_of self.old) ≡ false → (x : List ℕ)
             × Consumes (R.remaining (reader_of self.old)) (R.remaining (reader_of self.new)) x
             × Answers (limits_of (values_of self.old)) (kept (values_of self.old) ++ x) (R.remaining (reader_of self.new))
-                (kept (values_of self.new)) (has_failed (values_of self.new)) result }
+            (kept (values_of self.new)) (has_failed (values_of self.new)) result }
         ensures told { has_failed (values_of self.old) ≡ false → IfSome (R.remaining (reader_of self.old))
             (λ z. AnswersAll (limits_of (values_of self.old)) (kept (values_of self.old) ++ z) (R.remaining (reader_of self.new)) result) }
         ensures failed { has_failed (values_of self.old) ≡ true → IsFailed result × (self.new ≡ self.old) }

@@ -46,8 +46,13 @@ fn reads_a_large_frame_byte_by_byte(rt: HostRuntime) -> Result<(), Fail> {
     bytes[4] = 64;
     let mut values = ValueReader::new(
         rt.alloc(),
-        Slow { bytes: bytes.as_slice() },
-        Limits { frame: 2000000, depth: 0 },
+        Slow {
+            bytes: bytes.as_slice(),
+        },
+        Limits {
+            frame: 2000000,
+            depth: 0,
+        },
     );
     assert!(rt; matches!(values.next(), Ok(Some(AMQPValue::LongString(_)))));
     assert_eq!(rt; values.next(), Ok(None));

@@ -46,11 +46,7 @@ pub fn parse_value_within<I: ParsableInput>(
 }
 
 // Reads a value once its header tells that it is whole, and within the frame.
-fn read_within<I: ParsableInput>(
-    alloc: Global,
-    i: I,
-    limits: Limits,
-) -> ParserResult<I, AMQPValue>
+fn read_within<I: ParsableInput>(alloc: Global, i: I, limits: Limits) -> ParserResult<I, AMQPValue>
     ensures { MatchResult result
         (λ x. Within limits (I.bytes i) (found (view x.1) (I.bytes x.0)))
         (RefusesWithin limits (I.bytes i)) }

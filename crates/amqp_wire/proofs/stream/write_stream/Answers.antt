@@ -72,7 +72,10 @@ values-preserved g c =
     let told = subst (λ l. LineTold l now new line c.in_ok-line.is_value) c.values.invariant.2 c.in_ok-line.ensures.line in
     let one : c.in_ok-line.is_value ≡ true = search rules in
     let all : Appends b d line = search rules in
-    let more = c.in_ok-line.ensures.more one in
-    (more.0, more.1, c.next_line.ensures.limits ∙ c.values.invariant.2,
-     on_more c.args.limits c.args.most c.values.left (c.values.left - 1) held now new a b d line (omega arith) c.values.invariant.3
-     (subst (λ (t : Bool). LineTold c.args.limits now new line t) one told) all)
+    let more = c.in_ok-line.ensures.more one in (
+      more.0,
+      more.1,
+      c.next_line.ensures.limits ∙ c.values.invariant.2,
+      on_more c.args.limits c.args.most c.values.left (c.values.left - 1) held now new a b d line (omega arith) c.values.invariant.3
+          (subst (λ (t : Bool). LineTold c.args.limits now new line t) one told) all,
+    )
