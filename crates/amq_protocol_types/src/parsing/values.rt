@@ -91,17 +91,15 @@ fn payload_within<I: ParsableInput>(
         (λ x. RawOutcomeWithin depth amqp_type (I.bytes i) (found (view x.1) (I.bytes x.0)))
         (Refuses (RawOutcomeWithin depth amqp_type (I.bytes i)) (RawHeavy amqp_type (I.bytes i))) }
 {
-    match amqp_type {
-        AMQPType::FieldArray => {
-            let (i, array) = array_within(alloc, i, depth)?;
-            Ok((i, AMQPValue::FieldArray(array)))
-        }
-        AMQPType::FieldTable => {
-            let (i, table) = table_within(alloc, i, depth)?;
-            Ok((i, AMQPValue::FieldTable(table)))
-        }
-        _ => parse_plain(alloc, amqp_type, i),
+    if let AMQPType::FieldArray = amqp_type {
+        let (i, array) = array_within(alloc, i, depth)?;
+        return Ok((i, AMQPValue::FieldArray(array)));
     }
+    if let AMQPType::FieldTable = amqp_type {
+        let (i, table) = table_within(alloc, i, depth)?;
+        return Ok((i, AMQPValue::FieldTable(table)));
+    }
+    parse_plain(alloc, amqp_type, i)
 }
 
 // Reads the payload of a value of the type, which is no container's.

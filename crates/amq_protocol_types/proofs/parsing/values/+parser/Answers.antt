@@ -116,18 +116,18 @@ table_within-returns-then-depth-eq0 g t c =
 pub parse_body-entries-init : goal.parse_body-entries-init
 parse_body-entries-init g t c = rw c.new_in-array.ensures (Goes-start c.args.depth (g.I.ParsableInput.bytes c.args.body))
 
-pub payload_within-returns-in_ok-i-in-FieldArray : goal.payload_within-returns-in_ok-i-in-FieldArray
-payload_within-returns-in_ok-i-in-FieldArray g t c =
-    let a = c.in_ok-i-in-FieldArray.array in
+pub payload_within-returns-in-FieldArray : goal.payload_within-returns-in-FieldArray
+payload_within-returns-in-FieldArray g t c =
+    let a = c.in_ok-i.array in
     let shown : view (FieldArray a) ≡ array (array_view a) = search (rules, the_lemmas) in
-    rw (c.in-FieldArray.is, shown) c.in_ok-i-in-FieldArray.ensures
+    rw (c.in-FieldArray.is, shown) c.in_ok-i.ensures
 
-pub payload_within-returns-in_ok-i-in-FieldTable : goal.payload_within-returns-in_ok-i-in-FieldTable
-payload_within-returns-in_ok-i-in-FieldTable g t c =
-    let a = c.in_ok-i-in-FieldTable.table in
+pub payload_within-returns-in-FieldTable : goal.payload_within-returns-in-FieldTable
+payload_within-returns-in-FieldTable g t c =
+    let a = c.in_ok-i-2.table in
     let shown : view (FieldTable a) ≡ table (table_view a) = search (rules, the_lemmas) in
-    rw (c.in-FieldTable.is, shown) c.in_ok-i-in-FieldTable.ensures
+    rw (c.in-FieldTable.is, shown) c.in_ok-i-2.ensures
 
-pub payload_within-returns-in_default : goal.payload_within-returns-in_default
-payload_within-returns-in_default g t c =
-    plain_answer g.I.ParsableInput.bytes c.args.depth c.args.amqp_type (g.I.ParsableInput.bytes c.args.i) c.parse_plain.result c.requires c.in_default.not-FieldArray c.in_default.not-FieldTable c.parse_plain.ensures
+pub payload_within-returns : goal.payload_within-returns
+payload_within-returns g t c =
+    plain_answer g.I.ParsableInput.bytes c.args.depth c.args.amqp_type (g.I.ParsableInput.bytes c.args.i) c.parse_plain.result c.requires c.in_default.not-FieldArray c.in_default-amqp_type.not-FieldTable c.parse_plain.ensures
