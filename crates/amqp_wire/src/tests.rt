@@ -1,4 +1,5 @@
 mod integration;
+mod stream;
 
 use crate::fault::WireFault;
 use crate::run::{run, run_split};
