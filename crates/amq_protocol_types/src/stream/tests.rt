@@ -28,36 +28,65 @@ enum Event<'a> {
 /// Does the events in turn, and then ends. It gives at most `most` bytes at a time.
 #[derive(Drop)]
 struct Script<'a> {
-    bytes: &'a [u8],
     events: &'a [Event<'a>],
+    done: usize,
+    given: usize,
     most: usize,
 }
 
 impl<'a> Script<'a> {
     fn new(events: &'a [Event<'a>], most: usize) -> Self {
         Script {
-            bytes: &[],
             events,
+            done: 0,
+            given: 0,
             most,
         }
+    }
+
+    // What it would give next.
+    fn left(&self) -> &[u8] {
+        match self.events.get(self.done) {
+            Some(Event::Gives(bytes)) => bytes.split_at(self.given.min(bytes.len())).1,
+            _ => &[],
+        }
+    }
+
+    // Goes on with the next event.
+    fn go_on(&mut self) {
+        self.done = self.done.saturating_add(1);
+        self.given = 0;
+    }
+
+    // Gives the next of these bytes.
+    fn give(&mut self, bytes: &[u8], buf: &mut [u8]) -> io::Result<usize> {
+        let mut rest = bytes.split_at(self.given.min(bytes.len())).1;
+        let most = buf.len().min(self.most);
+        let n = rest.read(&mut buf[..most])?;
+        self.given = self.given.saturating_add(n);
+        if rest.is_empty() {
+            self.go_on();
+        }
+        Ok(n)
     }
 }
 
 impl Read for Script<'_> {
     fn read(&mut self, buf: &mut [u8]) -> io::Result<usize> {
-        if self.bytes.is_empty() {
-            let Some((event, later)) = self.events.split_first() else {
-                return Ok(0);
-            };
-            self.events = later;
-            match *event {
-                Event::Gives(bytes) => self.bytes = bytes,
-                Event::Fails(kind) => return Err(io::Error::from(kind)),
-                Event::Ends => return Ok(0),
+        let Some(event) = self.events.get(self.done) else {
+            return Ok(0);
+        };
+        match *event {
+            Event::Gives(bytes) => self.give(bytes, buf),
+            Event::Fails(kind) => {
+                self.go_on();
+                Err(io::Error::from(kind))
+            }
+            Event::Ends => {
+                self.go_on();
+                Ok(0)
             }
         }
-        let most = buf.len().min(self.most);
-        self.bytes.read(&mut buf[..most])
     }
 }
 
@@ -102,8 +131,7 @@ fn answers(
     }
 }
 
-/// What is answered to what a reader does, call by call, and what is left of the bytes that it last
-/// began to give.
+/// What is answered to what a reader does, call by call, and which bytes it would give next.
 #[derive(Clone, Copy)]
 struct Row<'a> {
     limits: Limits,
@@ -112,7 +140,7 @@ struct Row<'a> {
     left: &'a [u8],
 }
 
-// A reader of values answers as the row says.
+// A reader of values answers as the row says, and gives its reader back with what is left.
 fn owner_answers(rt: &impl Abort, alloc: Global, row: Row<'_>, most: usize) {
     assert!(rt; 0 < row.limits.frame);
     let mut values = ValueReader::new(alloc, Script::new(row.events, most), row.limits);
@@ -123,6 +151,8 @@ fn owner_answers(rt: &impl Abort, alloc: Global, row: Row<'_>, most: usize) {
             "{want:?}, {most} bytes at a time"
         );
     }
+    let reader = values.into_inner();
+    assert_eq!(rt; reader.left(), row.left, "{most} bytes at a time");
 }
 
 // So do values of a reader that is the caller's, and what is left stays in it.
@@ -137,7 +167,7 @@ fn caller_has_answers(rt: &impl Abort, alloc: Global, row: Row<'_>, most: usize)
             "{want:?}, {most} bytes at a time"
         );
     }
-    assert_eq!(rt; reader.bytes, row.left, "{most} bytes at a time");
+    assert_eq!(rt; reader.left(), row.left, "{most} bytes at a time");
 }
 
 // Both answer as the row says, however the reader cuts what it gives.

@@ -78,7 +78,8 @@ fn is_read(alloc: Global, bytes: &[u8], depth: u32) -> bool {
 fn is_eof(answer: ParserResult<SliceInput<'_>, AMQPValue>) -> bool {
     match answer {
         Err(Err::Error(e)) => e.kind() == ErrorKind::Eof,
-        _ => false,
+        Err(_e) => false,
+        Ok(_read) => false,
     }
 }
 

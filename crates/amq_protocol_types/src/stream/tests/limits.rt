@@ -7,6 +7,22 @@ use crate::parsing::{Err, Needed, ParserResult, SplitInput};
 use crate::stream::parse_value_within;
 use std::test::Fail;
 
+const EMPTY: &[u8] = &[65, 0, 0, 0, 0];
+
+const NESTED: &[u8] = &[65, 0, 0, 0, 5, 65, 0, 0, 0, 0];
+
+/// The key of two nested arrays comes again, with Void.
+const DEEP_FIRST: &[u8] = &[
+    70, 0, 0, 0, 15, 1, 97, 65, 0, 0, 0, 5, 65, 0, 0, 0, 0, 1, 97, 86,
+];
+
+/// The other way round, and what is kept of that.
+const DEEP_LAST: &[u8] = &[
+    70, 0, 0, 0, 15, 1, 97, 86, 1, 97, 65, 0, 0, 0, 5, 65, 0, 0, 0, 0,
+];
+
+const KEPT: &[u8] = &[70, 0, 0, 0, 12, 1, 97, 65, 0, 0, 0, 5, 65, 0, 0, 0, 0];
+
 /// What an input comes to.
 #[derive(Clone, Copy, Debug)]
 enum Outcome<'a> {
@@ -88,7 +104,6 @@ fn hold(rt: &impl Abort, alloc: Global, cases: &[Case<'_>]) {
 
 #[test]
 fn a_value_keeps_both_limits(rt: HostRuntime) {
-    let nested = [65, 0, 0, 0, 5, 65, 0, 0, 0, 0];
     hold(
         &rt,
         rt.alloc(),
@@ -96,19 +111,19 @@ fn a_value_keeps_both_limits(rt: HostRuntime) {
             Case {
                 frame: 10,
                 depth: 2,
-                bytes: &nested,
-                outcome: Outcome::Value(&nested, 0),
+                bytes: NESTED,
+                outcome: Outcome::Value(NESTED, 0),
             },
             Case {
                 frame: 10,
                 depth: 1,
-                bytes: &nested,
+                bytes: NESTED,
                 outcome: Outcome::Refused(ErrorKind::Eof),
             },
             Case {
                 frame: 9,
                 depth: 2,
-                bytes: &nested,
+                bytes: NESTED,
                 outcome: Outcome::Refused(ErrorKind::TooLarge),
             },
             Case {
@@ -129,7 +144,6 @@ fn a_value_keeps_both_limits(rt: HostRuntime) {
 
 #[test]
 fn only_containers_have_depth(rt: HostRuntime) {
-    let empty = [65, 0, 0, 0, 0];
     hold(
         &rt,
         rt.alloc(),
@@ -149,14 +163,14 @@ fn only_containers_have_depth(rt: HostRuntime) {
             Case {
                 frame: 5,
                 depth: 0,
-                bytes: &empty,
+                bytes: EMPTY,
                 outcome: Outcome::Refused(ErrorKind::Eof),
             },
             Case {
                 frame: 5,
                 depth: 1,
-                bytes: &empty,
-                outcome: Outcome::Value(&empty, 0),
+                bytes: EMPTY,
+                outcome: Outcome::Value(EMPTY, 0),
             },
             Case {
                 frame: 5,
@@ -170,13 +184,6 @@ fn only_containers_have_depth(rt: HostRuntime) {
 
 #[test]
 fn a_written_entry_counts_whose_key_comes_again(rt: HostRuntime) {
-    let deep_first = [
-        70, 0, 0, 0, 15, 1, 97, 65, 0, 0, 0, 5, 65, 0, 0, 0, 0, 1, 97, 86,
-    ];
-    let deep_last = [
-        70, 0, 0, 0, 15, 1, 97, 86, 1, 97, 65, 0, 0, 0, 5, 65, 0, 0, 0, 0,
-    ];
-    let kept = [70, 0, 0, 0, 12, 1, 97, 65, 0, 0, 0, 5, 65, 0, 0, 0, 0];
     hold(
         &rt,
         rt.alloc(),
@@ -184,25 +191,25 @@ fn a_written_entry_counts_whose_key_comes_again(rt: HostRuntime) {
             Case {
                 frame: 20,
                 depth: 3,
-                bytes: &deep_first,
+                bytes: DEEP_FIRST,
                 outcome: Outcome::Value(&[70, 0, 0, 0, 3, 1, 97, 86], 0),
             },
             Case {
                 frame: 20,
                 depth: 2,
-                bytes: &deep_first,
+                bytes: DEEP_FIRST,
                 outcome: Outcome::Refused(ErrorKind::Eof),
             },
             Case {
                 frame: 20,
                 depth: 3,
-                bytes: &deep_last,
-                outcome: Outcome::Value(&kept, 0),
+                bytes: DEEP_LAST,
+                outcome: Outcome::Value(KEPT, 0),
             },
             Case {
                 frame: 20,
                 depth: 2,
-                bytes: &deep_last,
+                bytes: DEEP_LAST,
                 outcome: Outcome::Refused(ErrorKind::Eof),
             },
         ],
@@ -328,12 +335,11 @@ fn array_of(alloc: Global, value: AMQPValue) -> Result<AMQPValue, Fail> {
 fn an_array_holds_an_empty_array(rt: HostRuntime) -> Result<(), Fail> {
     let empty = AMQPValue::FieldArray(FieldArray::new_in(rt.alloc()));
     let want = array_of(rt.alloc(), empty)?;
-    let bytes = [65, 0, 0, 0, 5, 65, 0, 0, 0, 0];
     let limits = Limits {
         frame: 10,
         depth: 2,
     };
-    match parse_value_within(rt.alloc(), SliceInput::new(&bytes), limits) {
+    match parse_value_within(rt.alloc(), SliceInput::new(NESTED), limits) {
         Ok((_rest, value)) => assert!(rt; value == want),
         Err(_e) => assert!(rt; false),
     }

@@ -1,6 +1,8 @@
 //! Requests for memory that are refused. Each run of these tests may have one of them refused.
 
 use super::*;
+use crate::parsing::Err;
+use crate::stream::parse_value_within;
 
 const BYTES: &[u8] = &[
     70, 0, 0, 0, 11, 1, 97, 83, 0, 0, 0, 4, 116, 101, 115, 116, 86,
@@ -60,8 +62,9 @@ fn want_of_memory_loses_nothing(rt: HostRuntime) {
 fn a_refusal_takes_no_memory(rt: HostRuntime) {
     let limits = Limits { frame: 9, depth: 2 };
     let input = SliceInput::new(&[65, 0, 0, 0, 5, 65, 0, 0, 0, 0]);
-    match crate::stream::parse_value_within(rt.alloc(), input, limits) {
-        Err(crate::parsing::Err::Error(e)) => assert_eq!(rt; e.kind(), ErrorKind::TooLarge),
-        _ => assert!(rt; false),
+    match parse_value_within(rt.alloc(), input, limits) {
+        Err(Err::Error(e)) => assert_eq!(rt; e.kind(), ErrorKind::TooLarge),
+        Err(_e) => assert!(rt; false),
+        Ok(_read) => assert!(rt; false),
     }
 }

@@ -97,7 +97,7 @@ fn an_end_inside_a_value_is_for_good(rt: HostRuntime) {
             Event::Gives(&[3, 4, 5, 6, 7, 8, 86]),
         ],
         answers: &[Answer::Truncated, Answer::Failed, Answer::Failed],
-        left: &[],
+        left: &[3, 4, 5, 6, 7, 8, 86],
     };
     holds(&rt, rt.alloc(), row);
 }
