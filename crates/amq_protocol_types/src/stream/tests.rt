@@ -57,18 +57,6 @@ impl<'a> Script<'a> {
         self.done = self.done.saturating_add(1);
         self.given = 0;
     }
-
-    // Gives the next of these bytes.
-    fn give(&mut self, bytes: &[u8], buf: &mut [u8]) -> io::Result<usize> {
-        let mut rest = bytes.split_at(self.given.min(bytes.len())).1;
-        let most = buf.len().min(self.most);
-        let n = rest.read(&mut buf[..most])?;
-        self.given = self.given.saturating_add(n);
-        if rest.is_empty() {
-            self.go_on();
-        }
-        Ok(n)
-    }
 }
 
 impl Read for Script<'_> {
@@ -77,7 +65,16 @@ impl Read for Script<'_> {
             return Ok(0);
         };
         match *event {
-            Event::Gives(bytes) => self.give(bytes, buf),
+            Event::Gives(bytes) => {
+                let mut rest = bytes.split_at(self.given.min(bytes.len())).1;
+                let most = buf.len().min(self.most);
+                let n = rest.read(&mut buf[..most])?;
+                self.given = self.given.saturating_add(n);
+                if rest.is_empty() {
+                    self.go_on();
+                }
+                Ok(n)
+            }
             Event::Fails(kind) => {
                 self.go_on();
                 Err(io::Error::from(kind))

@@ -104,16 +104,18 @@ fn are_read_as_alone(rt: HostRuntime) -> Result<(), Fail> {
 }
 
 #[test]
-fn the_longest_keeps_no_less_limit(rt: HostRuntime) -> Result<(), Fail> {
+fn are_refused_within_a_byte_less(rt: HostRuntime) -> Result<(), Fail> {
     let bytes = joined(rt.alloc())?;
+    let wires = bytes.as_slice();
+    assert_eq!(rt; wires.len(), 265);
     let row = Row {
         limits: Limits {
             frame: 198,
             depth: 2,
         },
-        events: &[Event::Gives(bytes.as_slice())],
+        events: &[Event::Gives(wires)],
         answers: &[Answer::Refused(ErrorKind::TooLarge), Answer::Failed],
-        left: &bytes.as_slice()[5..],
+        left: &wires[5..],
     };
     holds(&rt, rt.alloc(), row);
     Ok(())
