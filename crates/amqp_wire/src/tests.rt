@@ -1,4 +1,6 @@
 mod integration;
+mod stream;
+mod within;
 
 use crate::fault::WireFault;
 use crate::run::{run, run_split};

@@ -1,60 +1,176 @@
-use super::{Limits, StreamError, ValueReader};
+//! Values within limits, from inputs and from readers, by the format's own numbers.
+
+mod deep;
+mod joined;
+mod large;
+mod limits;
+mod memory;
+mod reader;
+mod requests;
+mod texts;
+
+use super::{Limits, StreamError, ValueReader, Values};
 use crate::AMQPValue;
-use crate::parsing::ErrorKind;
+use crate::parsing::{ErrorKind, SliceInput, parse_value};
+use std::alloc::Global;
 use std::io;
 use std::io::Read;
-use std::test::Fail;
+use std::process::Abort;
 
-/// Gives one byte at a time.
+/// What a reader does next.
+#[derive(Clone, Copy, Debug)]
+enum Event<'a> {
+    Gives(&'a [u8]),
+    Fails(io::ErrorKind),
+    Ends,
+}
+
+/// Does the events in turn, and then ends. It gives at most `most` bytes at a time.
 #[derive(Drop)]
-struct Slow<'a> {
-    bytes: &'a [u8],
+struct Script<'a> {
+    events: &'a [Event<'a>],
+    done: usize,
+    given: usize,
+    most: usize,
 }
 
-impl Read for Slow<'_> {
+impl<'a> Script<'a> {
+    fn new(events: &'a [Event<'a>], most: usize) -> Self {
+        Script {
+            events,
+            done: 0,
+            given: 0,
+            most,
+        }
+    }
+
+    // What it would give next.
+    fn left(&self) -> &[u8] {
+        match self.events.get(self.done) {
+            Some(Event::Gives(bytes)) => bytes.split_at(self.given.min(bytes.len())).1,
+            _ => &[],
+        }
+    }
+
+    // Goes on with the next event.
+    fn go_on(&mut self) {
+        self.done = self.done.saturating_add(1);
+        self.given = 0;
+    }
+}
+
+impl Read for Script<'_> {
     fn read(&mut self, buf: &mut [u8]) -> io::Result<usize> {
-        let most = buf.len().min(1);
-        self.bytes.read(&mut buf[..most])
+        let Some(event) = self.events.get(self.done) else {
+            return Ok(0);
+        };
+        match *event {
+            Event::Gives(bytes) => {
+                let mut rest = bytes.split_at(self.given.min(bytes.len())).1;
+                let most = buf.len().min(self.most);
+                let n = rest.read(&mut buf[..most])?;
+                self.given = self.given.saturating_add(n);
+                if rest.is_empty() {
+                    self.go_on();
+                }
+                Ok(n)
+            }
+            Event::Fails(kind) => {
+                self.go_on();
+                Err(io::Error::from(kind))
+            }
+            Event::Ends => {
+                self.go_on();
+                Ok(0)
+            }
+        }
     }
 }
 
-#[test]
-fn reads_byte_by_byte(rt: HostRuntime) -> Result<(), Fail> {
-    let bytes = [86, 83, 0, 0, 0, 4, 116, 101, 115, 116, 83, 0, 0, 0, 5];
-    let mut values = ValueReader::new(
-        rt.alloc(),
-        Slow { bytes: &bytes },
-        Limits { frame: 9, depth: 2 },
-    );
-    assert_eq!(rt; values.next(), Ok(Some(AMQPValue::Void)));
-    assert!(rt; matches!(values.next(), Ok(Some(AMQPValue::LongString(_)))));
-    match values.next() {
-        Err(StreamError::Refused(e)) => assert_eq!(rt; e.kind(), ErrorKind::TooLarge),
-        _ => assert!(rt; false),
-    }
-    assert_eq!(rt; values.next(), Err(StreamError::Failed));
-    Ok(())
+/// What a call answers.
+#[derive(Clone, Copy, Debug)]
+enum Answer<'a> {
+    /// The value of this wire.
+    Value(&'a [u8]),
+    /// No value, since the reader ended.
+    End,
+    Refused(ErrorKind),
+    Truncated,
+    Read(io::ErrorKind),
+    Failed,
 }
 
-#[test]
-fn reads_a_large_frame_byte_by_byte(rt: HostRuntime) -> Result<(), Fail> {
-    let mut bytes = vec![in rt.alloc(); 7; 1000005]?;
-    bytes[0] = 83;
-    bytes[1] = 0;
-    bytes[2] = 15;
-    bytes[3] = 66;
-    bytes[4] = 64;
-    let mut values = ValueReader::new(
-        rt.alloc(),
-        Slow {
-            bytes: bytes.as_slice(),
+// whether the bytes are a wire of the value
+fn is_wire_of(alloc: Global, bytes: &[u8], value: &AMQPValue) -> bool {
+    match parse_value(alloc, SliceInput::new(bytes)) {
+        Ok((rest, read)) => rest.as_slice().is_empty() && read == *value,
+        Err(_e) => false,
+    }
+}
+
+// whether a call answers so
+fn answers(
+    alloc: Global,
+    answer: Result<Option<AMQPValue>, StreamError>,
+    want: Answer<'_>,
+) -> bool {
+    match answer {
+        Ok(Some(value)) => match want {
+            Answer::Value(wire) => is_wire_of(alloc, wire, &value),
+            _ => false,
         },
-        Limits {
-            frame: 2000000,
-            depth: 0,
-        },
-    );
-    assert!(rt; matches!(values.next(), Ok(Some(AMQPValue::LongString(_)))));
-    assert_eq!(rt; values.next(), Ok(None));
-    Ok(())
+        Ok(None) => matches!(want, Answer::End),
+        Err(StreamError::Refused(e)) => matches!(want, Answer::Refused(kind) if kind == e.kind()),
+        Err(StreamError::Truncated) => matches!(want, Answer::Truncated),
+        Err(StreamError::Read(kind)) => matches!(want, Answer::Read(wanted) if wanted == kind),
+        Err(StreamError::Failed) => matches!(want, Answer::Failed),
+        Err(StreamError::OutOfMemory) => false,
+    }
+}
+
+/// What is answered to what a reader does, call by call, and which bytes it would give next.
+#[derive(Clone, Copy)]
+struct Row<'a> {
+    limits: Limits,
+    events: &'a [Event<'a>],
+    answers: &'a [Answer<'a>],
+    left: &'a [u8],
+}
+
+// A reader of values answers as the row says, and gives its reader back with what is left.
+fn owner_answers(rt: &impl Abort, alloc: Global, row: Row<'_>, most: usize) {
+    assert!(rt; 0 < row.limits.frame);
+    let mut values = ValueReader::new(alloc, Script::new(row.events, most), row.limits);
+    for want in row.answers {
+        let answer = values.next();
+        assert!(rt;
+            answers(alloc, answer, *want),
+            "{want:?}, {most} bytes at a time"
+        );
+    }
+    let reader = values.into_inner();
+    assert_eq!(rt; reader.left(), row.left, "{most} bytes at a time");
+}
+
+// So do values of a reader that is the caller's, and what is left stays in it.
+fn caller_has_answers(rt: &impl Abort, alloc: Global, row: Row<'_>, most: usize) {
+    assert!(rt; 0 < row.limits.frame);
+    let mut reader = Script::new(row.events, most);
+    let mut values = Values::new(alloc, row.limits);
+    for want in row.answers {
+        let answer = values.next_from(&mut reader);
+        assert!(rt;
+            answers(alloc, answer, *want),
+            "{want:?}, {most} bytes at a time"
+        );
+    }
+    assert_eq!(rt; reader.left(), row.left, "{most} bytes at a time");
+}
+
+// Both answer as the row says, however the reader cuts what it gives.
+fn holds(rt: &impl Abort, alloc: Global, row: Row<'_>) {
+    for most in [1, 2, 3, 7, 4096] {
+        owner_answers(rt, alloc, row, most);
+        caller_has_answers(rt, alloc, row, most);
+    }
 }
