@@ -1,12 +1,10 @@
 -- The body of an array, as it is read: the values so far, and what is left.
-use Rattle.std.proofs.Common.{◌≡◌, ◌<◌, ◌≤◌, ℕ, zero, suc, List, [], ◌∷◌, ◌++◌, length, Option, Some, None, MatchOption, refl, sym, ap, subst, arith, length-append}
+use Rattle.std.proofs.Common.{◌≡◌, ◌<◌, ◌≤◌, ℕ, List, [], ◌∷◌, ◌++◌, length, refl, sym, ap, subst, arith, length-append}
 use Rattle.std.proofs.lemmas.List.{nil_from_length}
-use Rattle.amqp_value_core.specs.declared.types.AMQPType.{AMQPType}
-use Rattle.amqp_value_core.specs.Ids.{kind}
 use Rattle.amqp_value_core.specs.Values.{Tree, Trees, no_trees, tree, trees_of}
 use Rattle.amqp_value_core.specs.Grammar.{Wire, wire, Body, no_values, value}
-use Rattle.amqp_value_core.specs.Nesting.{nesting, body_nesting, WireWithin, BodyWithin, OutcomeWithin}
-use Rattle.amqp_value_core.specs.Outcomes.{Reading, found, more, unknown, malformed, lack, Unless, Front, Outcome, Heavy}
+use Rattle.amqp_value_core.specs.Nesting.{body_nesting, BodyWithin, OutcomeWithin}
+use Rattle.amqp_value_core.specs.Outcomes.{Reading, found, more, unknown, malformed, Heavy}
 use Rattle.amqp_value_core.proofs.GrammarLaws.{one_reading, one_outcome_within, wire_found_within, front_within}
 use Rattle.amq_protocol_types.specs.declared.parsing.errors.Err.TheVariants.{Incomplete, Error, Failure}
 use Rattle.amq_protocol_types.specs.declared.parsing.errors.Needed.TheVariants.{Unknown, Size}

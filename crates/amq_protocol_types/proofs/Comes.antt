@@ -1,7 +1,7 @@
 -- What came from a reader, read after read.
-use Rattle.std.proofs.Common.{◌≡◌, ◌≤◌, ◌<◌, ◌-◌, ℕ, suc, Bool, List, ◌++◌, length, Option, Result, Ok, Err, IfOk, sym, ap, ◌∙◌, subst, arith, append_assoc}
+use Rattle.std.proofs.Common.{◌≡◌, ◌≤◌, ℕ, Bool, List, ◌++◌, length, Option, Result, Ok, Err, IfOk, sym, ap, ◌∙◌, subst, arith, append_assoc}
 use Rattle.std.specs.Result.{IfErr}
-use Rattle.std.specs.Io.KnownBytes.{Consumes, Keeps}
+use Rattle.std.specs.Io.KnownBytes.{Consumes}
 use Rattle.std.proofs.KnownBytes.{Consumes-trans}
 use Rattle.amq_protocol_types.specs.declared.stream.error.StreamError.{StreamError}
 use Rattle.amqp_value_core.specs.declared.value.AMQPValue.{AMQPValue}

@@ -10,9 +10,7 @@ use Rattle.amqp_value_core.specs.Layouts.{Layout, fixed, truth, whole_number}
 use Rattle.amqp_value_core.specs.Grammar.{Raw, raw_fixed}
 use Rattle.amqp_value_core.specs.Outcomes.{Reading, found, more, unknown, malformed, lack, Unless, RawFront, RawOutcome}
 use Rattle.amqp_value_core.proofs.GrammarLaws.{raw_found}
-use Rattle.amq_protocol_types.specs.Refusals.{Refusal}
-use Rattle.amq_protocol_types.specs.Answers.{Refuses, RawRefuses, IsNumberRead}
-use Rattle.amq_protocol_types.proofs.Refused.{Refuses-weaker, raw_refused}
+use Rattle.amq_protocol_types.specs.Answers.{IsNumberRead}
 
 -- a payload of fixed width at the front is read
 pub fixed_found : (type : AMQPType) (f : Layout) (s b rest : List ℕ) → fixed type ≡ Some f → length b ≡ f.width → s ≡ b ++ rest
@@ -99,7 +97,3 @@ module _ (s : List ℕ) where
       by (suc n) e = e
 
   -- and so is its refusal
-  pub unsigned_refused : (e : Refusal) → Refuses (RawOutcome amqp.LongLongInt s) ⊥ e → RawRefuses amqp.LongLongUInt s e
-  unsigned_refused e x =
-      raw_refused amqp.LongLongUInt s ⊥ e refl (λ h. absurd h)
-      (Refuses-weaker (RawOutcome amqp.LongLongInt s) (RawOutcome amqp.LongLongUInt s) ⊥ ⊥ e unsigned_outcome (λ h. h) x)

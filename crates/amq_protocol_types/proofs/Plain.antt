@@ -1,5 +1,5 @@
 -- Payloads that are no container, and answers without a limit.
-use Rattle.std.proofs.Common.{◌≡◌, ◌≢◌, ◌≤◌, ℕ, List, length, Result, Ok, Err, MatchResult, refl, sym, ◌∙◌, subst, arith}
+use Rattle.std.proofs.Common.{◌≡◌, ◌≢◌, ℕ, List, length, Result, Ok, Err, MatchResult, refl, subst, arith}
 use Rattle.amqp_value_core.specs.declared.types.AMQPType.{AMQPType}
 use Rattle.amqp_value_core.specs.declared.types.AMQPType.TheVariants as amqp
 use Rattle.amqp_value_core.specs.declared.value.AMQPValue.{AMQPValue}
@@ -7,13 +7,12 @@ use Rattle.amqp_value_core.specs.Values.{Tree}
 use Rattle.amqp_value_core.specs.Grammar.{Raw, raw_fixed, raw_short, raw_long, raw_octets, raw_array, raw_table}
 use Rattle.amqp_value_core.specs.Nesting.{raw_nesting, RawWithin, RawOutcomeWithin}
 use Rattle.amqp_value_core.specs.View.{view}
-use Rattle.amqp_value_core.specs.Outcomes.{Reading, found, more, malformed, RawOutcome, RawHeavy}
+use Rattle.amqp_value_core.specs.Outcomes.{Reading, found, RawOutcome, RawHeavy}
 use Rattle.amqp_value_core.proofs.GrammarLaws.{raw_outcome_same, raw_unlimited}
-use Rattle.amq_protocol_types.specs.declared.parsing.errors.Err.TheVariants.{Incomplete, Error, Failure}
-use Rattle.amq_protocol_types.specs.declared.parsing.errors.Needed.TheVariants.{Unknown, Size}
 use Rattle.amq_protocol_types.specs.declared.parsing.errors.ErrorKind.TheVariants.{Eof}
 use Rattle.amq_protocol_types.specs.Refusals.{Refusal}
-use Rattle.amq_protocol_types.specs.Answers.{RightKind, Refuses, bad_kind, RawRefuses}
+use Rattle.amq_protocol_types.specs.Answers.{Refuses, bad_kind, RawRefuses}
+use Rattle.amq_protocol_types.proofs.Payloads.{unsigned_outcome}
 use Rattle.amq_protocol_types.proofs.Refused.{Refuses-weaker, raw_refused}
 
 -- no container, so nothing nests
@@ -29,26 +28,34 @@ plain_outcome : (d : ℕ) (type : AMQPType) (s : List ℕ) (o : Reading) → typ
 plain_outcome d type s o no_array no_table x =
     raw_outcome_same (Raw type) (RawWithin d type) type s o (λ b rest v e p. (p, omega (arith, flat type b v p no_array no_table))) (λ b rest v e p. p.0) x
 
+-- a payload of the type is no container
+abbrev pub IsPlain : AMQPType → Type 0
+IsPlain amqp.FieldArray = ⊥
+IsPlain amqp.FieldTable = ⊥
+IsPlain _ = Unit {0}
+
+-- what reading it comes to is the same within any depth
+plain_within : (d : ℕ) (type : AMQPType) (s : List ℕ) (o : Reading) → IsPlain type → RawOutcome type s o → RawOutcomeWithin d type s o
+plain_within d type s o plain x = plain_outcome d type s o (λ e. subst IsPlain e plain) (λ e. subst IsPlain e plain) x
+
+pub plain_found : (d : ℕ) (type : AMQPType) (s rest : List ℕ) (v : Tree) → IsPlain type → RawOutcome type s (found v rest) → RawOutcomeWithin d type s (found v rest)
+plain_found d type s rest v plain x = plain_within d type s (found v rest) plain x
+
+pub plain_refuses : (d : ℕ) (type : AMQPType) (s : List ℕ) (heavy : Type 0) (e : Refusal) → IsPlain type → (heavy → RawHeavy type s) → Refuses (RawOutcome type s) heavy e
+    → Refuses (RawOutcomeWithin d type s) (RawHeavy type s) e
+plain_refuses d type s heavy e plain weaker x =
+    Refuses-weaker (RawOutcome type s) (RawOutcomeWithin d type s) heavy (RawHeavy type s) e (λ o y. plain_within d type s o plain y) weaker x
+
+-- a LongLongUInt is refused as the LongLongInt of the same bytes
+pub unsigned_refuses : (d : ℕ) (s : List ℕ) (e : Refusal) → Refuses (RawOutcome amqp.LongLongInt s) ⊥ e → Refuses (RawOutcomeWithin d amqp.LongLongUInt s) (RawHeavy amqp.LongLongUInt s) e
+unsigned_refuses d s e x =
+    Refuses-weaker (RawOutcome amqp.LongLongInt s) (RawOutcomeWithin d amqp.LongLongUInt s) ⊥ (RawHeavy amqp.LongLongUInt s) e
+    (λ o y. plain_within d amqp.LongLongUInt s o tt (unsigned_outcome s o y)) (λ h. absurd h) x
+
 -- a type that isn't a short string's has this kind of refusal
 eof_of_type : (type : AMQPType) → type ≢ amqp.ShortString → bad_kind type ≡ Eof
 eof_of_type amqp.ShortString no_short = absurd (no_short refl)
 eof_of_type _ no_short = refl
-
-plain_refused : (d : ℕ) (type : AMQPType) (s : List ℕ) (e : Refusal) → type ≢ amqp.ShortString → type ≢ amqp.FieldArray → type ≢ amqp.FieldTable → RawRefuses type s e
-    → Refuses (RawOutcomeWithin d type s) (RawHeavy type s) e
-plain_refused d type s (Incomplete Unknown) no_short no_array no_table x = absurd x
-plain_refused d type s (Incomplete (Size n)) no_short no_array no_table x = plain_outcome d type s (more n) no_array no_table x
-plain_refused d type s (Error k) no_short no_array no_table x =
-    subst (RightKind (RawOutcomeWithin d type s)) (sym (x.0 ∙ eof_of_type type no_short)) (plain_outcome d type s malformed no_array no_table x.1)
-plain_refused d type s (Failure k) no_short no_array no_table x = x
-
--- what is answered of a payload that is no container is right within any depth
-pub plain_answer : {I : Type 0} (bytes : I → List ℕ) (d : ℕ) (type : AMQPType) (s : List ℕ) (r : Result (I × AMQPValue) Refusal)
-    → type ≢ amqp.ShortString → type ≢ amqp.FieldArray → type ≢ amqp.FieldTable
-    → MatchResult r (λ x. RawOutcome type s (found (view x.1) (bytes x.0))) (RawRefuses type s)
-    → MatchResult r (λ x. RawOutcomeWithin d type s (found (view x.1) (bytes x.0))) (Refuses (RawOutcomeWithin d type s) (RawHeavy type s))
-plain_answer bytes d type s (Ok x) no_short no_array no_table p = plain_outcome d type s (found (view x.1) (bytes x.0)) no_array no_table p
-plain_answer bytes d type s (Err e) no_short no_array no_table p = plain_refused d type s e no_short no_array no_table p
 
 -- a depth that the bytes can't pass limits no answer
 pub raw_unlimited_answer : {I V : Type 0} (bytes : I → List ℕ) (value : V → Tree) (type : AMQPType) (d : ℕ) (s : List ℕ) (r : Result (I × V) Refusal) → d ≡ length s

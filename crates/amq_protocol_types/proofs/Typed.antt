@@ -1,16 +1,14 @@
 -- A value behind its id.
-use Rattle.std.proofs.Common.{◌-◌, arith, length, IfOk, ◌≡◌, ℕ, Bool, true, false, cond, List, [], ◌∷◌, Some, Result, Ok, Err, MatchResult, nat_eq, sym, ◌∙◌, subst, rules}
+use Rattle.std.proofs.Common.{◌-◌, arith, length, IfOk, ◌≡◌, ℕ, Bool, true, false, cond, List, [], ◌∷◌, Some, Result, Ok, Err, MatchResult, nat_eq, sym, subst, rules}
 use Rattle.std.specs.Map.{lookup}
 use Rattle.amqp_value_core.specs.declared.types.AMQPType.{AMQPType}
 use Rattle.amqp_value_core.specs.declared.value.AMQPValue.{AMQPValue}
 use Rattle.amqp_value_core.specs.Ids.{letters, kind}
 use Rattle.amqp_value_core.specs.View.{view}
-use Rattle.amqp_value_core.specs.Outcomes.{Reading, found, more, malformed, RawOutcome, Outcome, RawHeavy, Heavy}
+use Rattle.amqp_value_core.specs.Outcomes.{Reading, found, Outcome, RawHeavy, Heavy}
 use Rattle.amqp_value_core.specs.Nesting.{OutcomeWithin, RawOutcomeWithin}
 use Rattle.amqp_value_core.specs.Headline.{IsBounded}
 use Rattle.amqp_value_core.proofs.GrammarLaws.{raw_to_value_within, raw_to_heavy, bounded_found, unlimited}
-use Rattle.amq_protocol_types.specs.declared.parsing.errors.Err.TheVariants.{Incomplete, Error, Failure}
-use Rattle.amq_protocol_types.specs.declared.parsing.errors.Needed.TheVariants.{Unknown, Size}
 use Rattle.amq_protocol_types.specs.declared.parsing.errors.ErrorKind.TheVariants.{Eof}
 use Rattle.amq_protocol_types.specs.Refusals.{Refusal}
 use Rattle.amq_protocol_types.specs.Answers.{IsType, Refuses, bad_kind}

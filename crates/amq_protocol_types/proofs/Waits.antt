@@ -1,6 +1,5 @@
 -- What lacks of a value that hasn't all come, as more of it comes.
-use Rattle.std.proofs.Common.{◌≡◌, ◌<◌, ◌≤◌, ◌+◌, ◌-◌, ℕ, zero, suc, Bool, true, false, List, [], ◌∷◌, ◌++◌, length, take, drop, Option, Some, None, MatchOption, cond, refl, sym, ap, ap₂, ◌∙◌, subst, arith, inl, inr, length-append, take-append-drop}
-use Rattle.std.specs.Prelude.{nat_lt}
+use Rattle.std.proofs.Common.{◌≡◌, ◌<◌, ◌≤◌, ◌+◌, ◌-◌, ℕ, zero, suc, List, [], ◌∷◌, ◌++◌, length, take, Option, Some, None, MatchOption, refl, ap, ap₂, ◌∙◌, subst, arith, inl, inr, length-append}
 use Rattle.std.specs.Option.{IfSome}
 use Rattle.amqp_value_core.specs.declared.types.AMQPType.TheVariants as amqp
 use Rattle.std.specs.Int.{Width, byte_len}
@@ -12,9 +11,9 @@ use Rattle.amqp_value_core.specs.Ids.{kind}
 use Rattle.amqp_value_core.specs.Layouts.{Layout, fixed}
 use Rattle.amqp_value_core.specs.Grammar.{Wire}
 use Rattle.amqp_value_core.specs.Nesting.{OutcomeWithin}
-use Rattle.amqp_value_core.specs.Outcomes.{Reading, found, more, unknown, length_field, counted, frame_lack, fields_lack, lack_of, lack, Unless, FrontBy, Front, OutcomeBy, Outcome}
+use Rattle.amqp_value_core.specs.Outcomes.{found, more, unknown, length_field, counted, frame_lack, fields_lack, lack_of, lack, Unless, FrontBy, Front, OutcomeBy, Outcome}
 use Rattle.amqp_value_core.proofs.GrammarLaws.{more_bytes, wire_found, front_within}
-use Rattle.amq_protocol_types.specs.Headers.{extent_of, raw_extent, extent_at, extent, wanted_at, wanted, IsWaiting}
+use Rattle.amq_protocol_types.specs.Headers.{extent_of, extent_at, extent, wanted_at, wanted, IsWaiting}
 use lib.Seq.{take-add}
 
 -- ---- what lacks, and the outcome

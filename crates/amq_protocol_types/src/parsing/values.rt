@@ -80,6 +80,7 @@ pub fn parse_raw_value<I: ParsableInput>(
 // Reads the payload of a value of the type, which isn't `ShortString`: no id stands for that one.
 #[cycle(parser)]
 #[inline(always)]
+#[tactic(auto, using(crate::proofs::Plain::plain_refuses))]
 fn payload_within<I: ParsableInput>(
     alloc: Global,
     amqp_type: AMQPType,
@@ -90,31 +91,6 @@ fn payload_within<I: ParsableInput>(
     ensures { MatchResult result
         (λ x. RawOutcomeWithin depth amqp_type (I.bytes i) (found (view x.1) (I.bytes x.0)))
         (Refuses (RawOutcomeWithin depth amqp_type (I.bytes i)) (RawHeavy amqp_type (I.bytes i))) }
-{
-    if let AMQPType::FieldArray = amqp_type {
-        let (i, array) = array_within(alloc, i, depth)?;
-        return Ok((i, AMQPValue::FieldArray(array)));
-    }
-    if let AMQPType::FieldTable = amqp_type {
-        let (i, table) = table_within(alloc, i, depth)?;
-        return Ok((i, AMQPValue::FieldTable(table)));
-    }
-    parse_plain(alloc, amqp_type, i)
-}
-
-// Reads the payload of a value of the type, which is no container's.
-#[inline(always)]
-fn parse_plain<I: ParsableInput>(
-    alloc: Global,
-    amqp_type: AMQPType,
-    i: I,
-) -> ParserResult<I, AMQPValue>
-    requires short { amqp_type ≢ AMQPType.ShortString }
-    requires array { amqp_type ≢ AMQPType.FieldArray }
-    requires table { amqp_type ≢ AMQPType.FieldTable }
-    ensures { MatchResult result
-        (λ x. RawOutcome amqp_type (I.bytes i) (found (view x.1) (I.bytes x.0)))
-        (RawRefuses amqp_type (I.bytes i)) }
 {
     match amqp_type {
         AMQPType::Boolean => {
@@ -165,7 +141,15 @@ fn parse_plain<I: ParsableInput>(
             let (i, d) = parse_decimal_value(i)?;
             Ok((i, AMQPValue::DecimalValue(d)))
         }
-        AMQPType::ShortString | AMQPType::FieldArray | AMQPType::FieldTable => unreachable!(),
+        AMQPType::ShortString => unreachable!(),
+        AMQPType::FieldArray => {
+            let (i, array) = array_within(alloc, i, depth)?;
+            Ok((i, AMQPValue::FieldArray(array)))
+        }
+        AMQPType::FieldTable => {
+            let (i, table) = table_within(alloc, i, depth)?;
+            Ok((i, AMQPValue::FieldTable(table)))
+        }
         AMQPType::LongString => {
             let (i, s) = parse_long_string(alloc, i)?;
             Ok((i, AMQPValue::LongString(s)))

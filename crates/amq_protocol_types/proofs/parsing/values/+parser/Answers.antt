@@ -1,11 +1,12 @@
 use Rattle.std.proofs.Common.{◌≡◌, [], ◌∷◌, ◌++◌, sym, ap, subst, rules, arith, map}
-use Rattle.std.specs.Int.{w64, cast_signed, cast_unsigned}
+use Rattle.std.specs.Int.{w8, w16, w32, w64, cast_signed, cast_unsigned}
 use Rattle.std.proofs.lemmas.List.{map_push}
 use Rattle.std.proofs.lemmas.Result.{err_from_is_err_and}
 use Rattle.amqp_value_core.specs.declared.types.AMQPType.TheVariants as amqp
 use Rattle.amqp_value_core.specs.declared.value.AMQPValue.{the_lemmas}
-use Rattle.amqp_value_core.specs.declared.value.AMQPValue.TheVariants.{LongLongInt, FieldArray, FieldTable}
-use Rattle.amqp_value_core.specs.Values.{Tree, array, table, no_entries, put}
+use Rattle.amqp_value_core.specs.declared.value.AMQPValue.TheVariants.{FieldArray, FieldTable}
+use Rattle.amqp_value_core.specs.declared.value.AMQPValue.TheVariants as value
+use Rattle.amqp_value_core.specs.Values.{Tree, scalar, void, array, table, no_entries, put}
 use Rattle.amqp_value_core.specs.View.{view, array_items, array_view, entries, table_view}
 use Rattle.amqp_value_core.specs.Outcomes.{found, RawOutcome}
 use Rattle.amq_protocol_types.specs.Gathering.{kept}
@@ -13,9 +14,9 @@ use Rattle.amq_protocol_types.proofs.Bodies.{Goes-start, Goes-step, Goes-end, Go
 use Rattle.amq_protocol_types.proofs.Pairs.{Walks-start, Walks-step, Walks-end, Walks-bad_key, Walks-bad_value, key_shorter}
 use Rattle.amq_protocol_types.proofs.Frames.{array_found, array_refused, array_too_deep, table_found, table_refused, table_too_deep}
 use Rattle.amqp_value_core.specs.Nesting.{RawOutcomeWithin}
-use Rattle.amq_protocol_types.proofs.Plain.{plain_answer}
-use Rattle.amq_protocol_types.proofs.Payloads.{unsigned_outcome, unsigned_refused, void_found}
-use Rattle.amq_protocol_types.proofs.Typed.{typed_answer, bounded_answer}
+use Rattle.amq_protocol_types.proofs.Plain.{plain_found, unsigned_refuses}
+use Rattle.amq_protocol_types.proofs.Payloads.{unsigned_outcome, void_found}
+use Rattle.amq_protocol_types.proofs.Typed.{typed_answer}
 use Rattle.amq_protocol_types.proofs.Views.{view-Void}
 use Rattle.amq_protocol_types.proofs.parsing.values.+parser.Goals as goal
 
@@ -116,18 +117,162 @@ table_within-returns-then-depth-eq0 g t c =
 pub parse_body-entries-init : goal.parse_body-entries-init
 parse_body-entries-init g t c = rw c.new_in-array.ensures (Goes-start c.args.depth (g.I.ParsableInput.bytes c.args.body))
 
-pub payload_within-returns-in-FieldArray : goal.payload_within-returns-in-FieldArray
-payload_within-returns-in-FieldArray g t c =
-    let a = c.in_ok-i.array in
+pub payload_within-returns-in_ok-i-in-FieldArray : goal.payload_within-returns-in_ok-i-in-FieldArray
+payload_within-returns-in_ok-i-in-FieldArray g t c =
+    let a = c.in_ok-i-in-FieldArray.array in
     let shown : view (FieldArray a) ≡ array (array_view a) = search (rules, the_lemmas) in
-    rw (c.in-FieldArray.is, shown) c.in_ok-i.ensures
+    rw (c.in-FieldArray.is, shown) c.in_ok-i-in-FieldArray.ensures
 
-pub payload_within-returns-in-FieldTable : goal.payload_within-returns-in-FieldTable
-payload_within-returns-in-FieldTable g t c =
-    let a = c.in_ok-i-2.table in
+pub payload_within-returns-in_ok-i-in-FieldTable : goal.payload_within-returns-in_ok-i-in-FieldTable
+payload_within-returns-in_ok-i-in-FieldTable g t c =
+    let a = c.in_ok-i-in-FieldTable.table in
     let shown : view (FieldTable a) ≡ table (table_view a) = search (rules, the_lemmas) in
-    rw (c.in-FieldTable.is, shown) c.in_ok-i-2.ensures
+    rw (c.in-FieldTable.is, shown) c.in_ok-i-in-FieldTable.ensures
 
-pub payload_within-returns : goal.payload_within-returns
-payload_within-returns g t c =
-    plain_answer g.I.ParsableInput.bytes c.args.depth c.args.amqp_type (g.I.ParsableInput.bytes c.args.i) c.parse_plain.result c.requires c.in_default.not-FieldArray c.in_default-amqp_type.not-FieldTable c.parse_plain.ensures
+pub payload_within-returns-in_ok-i-in-Boolean : goal.payload_within-returns-in_ok-i-in-Boolean
+payload_within-returns-in_ok-i-in-Boolean g t c =
+    let a = c.in_ok-i-in-Boolean in
+    let s = g.I.ParsableInput.bytes c.args.i in
+    let v = view (value.Boolean a.b) in
+    let rest = g.I.ParsableInput.bytes a.i in
+    let x : RawOutcome amqp.Boolean s (found v rest) = search (rules, the_lemmas) in
+    rw c.in-Boolean.is (plain_found c.args.depth amqp.Boolean s rest v tt x)
+
+pub payload_within-returns-in_ok-i-in-ShortShortInt : goal.payload_within-returns-in_ok-i-in-ShortShortInt
+payload_within-returns-in_ok-i-in-ShortShortInt g t c =
+    let a = c.in_ok-i-in-ShortShortInt in
+    let s = g.I.ParsableInput.bytes c.args.i in
+    let v = view (value.ShortShortInt (cast_signed w8 (cast_unsigned w8 a.n))) in
+    let rest = g.I.ParsableInput.bytes a.i in
+    let x : RawOutcome amqp.ShortShortInt s (found v rest) = search (rules, the_lemmas) in
+    rw c.in-ShortShortInt.is (plain_found c.args.depth amqp.ShortShortInt s rest v tt x)
+
+pub payload_within-returns-in_ok-i-in-ShortShortUInt : goal.payload_within-returns-in_ok-i-in-ShortShortUInt
+payload_within-returns-in_ok-i-in-ShortShortUInt g t c =
+    let a = c.in_ok-i-in-ShortShortUInt in
+    let s = g.I.ParsableInput.bytes c.args.i in
+    let v = view (value.ShortShortUInt a.n) in
+    let rest = g.I.ParsableInput.bytes a.i in
+    let x : RawOutcome amqp.ShortShortUInt s (found v rest) = search (rules, the_lemmas) in
+    rw c.in-ShortShortUInt.is (plain_found c.args.depth amqp.ShortShortUInt s rest v tt x)
+
+pub payload_within-returns-in_ok-i-in-ShortInt : goal.payload_within-returns-in_ok-i-in-ShortInt
+payload_within-returns-in_ok-i-in-ShortInt g t c =
+    let a = c.in_ok-i-in-ShortInt in
+    let s = g.I.ParsableInput.bytes c.args.i in
+    let v = view (value.ShortInt (cast_signed w16 (cast_unsigned w16 a.n))) in
+    let rest = g.I.ParsableInput.bytes a.i in
+    let x : RawOutcome amqp.ShortInt s (found v rest) = search (rules, the_lemmas) in
+    rw c.in-ShortInt.is (plain_found c.args.depth amqp.ShortInt s rest v tt x)
+
+pub payload_within-returns-in_ok-i-in-ShortUInt : goal.payload_within-returns-in_ok-i-in-ShortUInt
+payload_within-returns-in_ok-i-in-ShortUInt g t c =
+    let a = c.in_ok-i-in-ShortUInt in
+    let s = g.I.ParsableInput.bytes c.args.i in
+    let v = view (value.ShortUInt a.n) in
+    let rest = g.I.ParsableInput.bytes a.i in
+    let x : RawOutcome amqp.ShortUInt s (found v rest) = search (rules, the_lemmas) in
+    rw c.in-ShortUInt.is (plain_found c.args.depth amqp.ShortUInt s rest v tt x)
+
+pub payload_within-returns-in_ok-i-in-LongInt : goal.payload_within-returns-in_ok-i-in-LongInt
+payload_within-returns-in_ok-i-in-LongInt g t c =
+    let a = c.in_ok-i-in-LongInt in
+    let s = g.I.ParsableInput.bytes c.args.i in
+    let v = view (value.LongInt (cast_signed w32 (cast_unsigned w32 a.n))) in
+    let rest = g.I.ParsableInput.bytes a.i in
+    let x : RawOutcome amqp.LongInt s (found v rest) = search (rules, the_lemmas) in
+    rw c.in-LongInt.is (plain_found c.args.depth amqp.LongInt s rest v tt x)
+
+pub payload_within-returns-in_ok-i-in-LongUInt : goal.payload_within-returns-in_ok-i-in-LongUInt
+payload_within-returns-in_ok-i-in-LongUInt g t c =
+    let a = c.in_ok-i-in-LongUInt in
+    let s = g.I.ParsableInput.bytes c.args.i in
+    let v = view (value.LongUInt a.n) in
+    let rest = g.I.ParsableInput.bytes a.i in
+    let x : RawOutcome amqp.LongUInt s (found v rest) = search (rules, the_lemmas) in
+    rw c.in-LongUInt.is (plain_found c.args.depth amqp.LongUInt s rest v tt x)
+
+pub payload_within-returns-in_ok-i-in-LongLongInt : goal.payload_within-returns-in_ok-i-in-LongLongInt
+payload_within-returns-in_ok-i-in-LongLongInt g t c =
+    let a = c.in_ok-i-in-LongLongInt in
+    let s = g.I.ParsableInput.bytes c.args.i in
+    let v = view (value.LongLongInt (cast_signed w64 (cast_unsigned w64 a.n))) in
+    let rest = g.I.ParsableInput.bytes a.i in
+    let x : RawOutcome amqp.LongLongInt s (found v rest) = search (rules, the_lemmas) in
+    rw c.in-LongLongInt.is (plain_found c.args.depth amqp.LongLongInt s rest v tt x)
+
+pub payload_within-returns-in_ok-i-in-Float : goal.payload_within-returns-in_ok-i-in-Float
+payload_within-returns-in_ok-i-in-Float g t c =
+    let a = c.in_ok-i-in-Float in
+    let s = g.I.ParsableInput.bytes c.args.i in
+    let v = view (value.Float a.f) in
+    let rest = g.I.ParsableInput.bytes a.i in
+    let x : RawOutcome amqp.Float s (found v rest) = search (rules, the_lemmas) in
+    rw c.in-Float.is (plain_found c.args.depth amqp.Float s rest v tt x)
+
+pub payload_within-returns-in_ok-i-in-Double : goal.payload_within-returns-in_ok-i-in-Double
+payload_within-returns-in_ok-i-in-Double g t c =
+    let a = c.in_ok-i-in-Double in
+    let s = g.I.ParsableInput.bytes c.args.i in
+    let v = view (value.Double a.f) in
+    let rest = g.I.ParsableInput.bytes a.i in
+    let x : RawOutcome amqp.Double s (found v rest) = search (rules, the_lemmas) in
+    rw c.in-Double.is (plain_found c.args.depth amqp.Double s rest v tt x)
+
+pub payload_within-returns-in_ok-i-in-DecimalValue : goal.payload_within-returns-in_ok-i-in-DecimalValue
+payload_within-returns-in_ok-i-in-DecimalValue g t c =
+    let a = c.in_ok-i-in-DecimalValue in
+    let s = g.I.ParsableInput.bytes c.args.i in
+    let v = view (value.DecimalValue a.d) in
+    let rest = g.I.ParsableInput.bytes a.i in
+    let x : RawOutcome amqp.DecimalValue s (found v rest) = search (rules, the_lemmas) in
+    rw c.in-DecimalValue.is (plain_found c.args.depth amqp.DecimalValue s rest v tt x)
+
+pub payload_within-returns-in_ok-i-in-LongString : goal.payload_within-returns-in_ok-i-in-LongString
+payload_within-returns-in_ok-i-in-LongString g t c =
+    let a = c.in_ok-i-in-LongString in
+    let s = g.I.ParsableInput.bytes c.args.i in
+    let v = view (value.LongString a.s) in
+    let rest = g.I.ParsableInput.bytes a.i in
+    let x : RawOutcome amqp.LongString s (found v rest) = search (rules, the_lemmas) in
+    rw c.in-LongString.is (plain_found c.args.depth amqp.LongString s rest v tt x)
+
+pub payload_within-returns-in_ok-i-in-Timestamp : goal.payload_within-returns-in_ok-i-in-Timestamp
+payload_within-returns-in_ok-i-in-Timestamp g t c =
+    let a = c.in_ok-i-in-Timestamp in
+    let s = g.I.ParsableInput.bytes c.args.i in
+    let v = view (value.Timestamp a.n) in
+    let rest = g.I.ParsableInput.bytes a.i in
+    let x : RawOutcome amqp.Timestamp s (found v rest) = search (rules, the_lemmas) in
+    rw c.in-Timestamp.is (plain_found c.args.depth amqp.Timestamp s rest v tt x)
+
+pub payload_within-returns-in_ok-i-in-ByteArray : goal.payload_within-returns-in_ok-i-in-ByteArray
+payload_within-returns-in_ok-i-in-ByteArray g t c =
+    let a = c.in_ok-i-in-ByteArray in
+    let s = g.I.ParsableInput.bytes c.args.i in
+    let v = view (value.ByteArray a.bytes) in
+    let rest = g.I.ParsableInput.bytes a.i in
+    let x : RawOutcome amqp.ByteArray s (found v rest) = search (rules, the_lemmas) in
+    rw c.in-ByteArray.is (plain_found c.args.depth amqp.ByteArray s rest v tt x)
+
+pub payload_within-returns-in_err-i-in-LongLongUInt : goal.payload_within-returns-in_err-i-in-LongLongUInt
+payload_within-returns-in_err-i-in-LongLongUInt g t c =
+    let s = g.I.ParsableInput.bytes c.args.i in
+    let p = err_from_is_err_and c.from_residual-in_err-i-in-LongLongUInt.result c.from_residual-in_err-i-in-LongLongUInt.ensures.1 in
+    rw (p.1, p.2, c.in-LongLongUInt.is)
+    (unsigned_refuses c.args.depth s c.in_err-i-in-LongLongUInt.field-0.0 c.in_err-i-in-LongLongUInt.ensures)
+
+pub payload_within-returns-in_ok-i-in-LongLongUInt : goal.payload_within-returns-in_ok-i-in-LongLongUInt
+payload_within-returns-in_ok-i-in-LongLongUInt g t c =
+    let a = c.in_ok-i-in-LongLongUInt in
+    let s = g.I.ParsableInput.bytes c.args.i in
+    let v = view (value.LongLongInt (cast_signed w64 (cast_unsigned w64 a.n))) in
+    let rest = g.I.ParsableInput.bytes a.i in
+    let x : RawOutcome amqp.LongLongInt s (found v rest) = search (rules, the_lemmas) in
+    rw c.in-LongLongUInt.is (plain_found c.args.depth amqp.LongLongUInt s rest v tt (unsigned_outcome s (found v rest) x))
+
+pub payload_within-returns-in-Void : goal.payload_within-returns-in-Void
+payload_within-returns-in-Void g t c =
+    let s = g.I.ParsableInput.bytes c.args.i in
+    rw c.in-Void.is
+    (subst (λ (v : Tree). RawOutcomeWithin c.args.depth amqp.Void s (found v s)) (sym view-Void) (plain_found c.args.depth amqp.Void s s (scalar void) tt (void_found s)))

@@ -1,4 +1,4 @@
-use Rattle.std.proofs.Common.{Result, Ok, Err, IfOk}
+use Rattle.std.proofs.Common.{Ok, Err, IfOk}
 use Rattle.amqp_value_core.specs.View.{view}
 use Rattle.amq_protocol_types.specs.Limits.{IsShortestWithin, TellsApartWithin}
 use Rattle.amq_protocol_types.proofs.Again.{again_answer, bounded_within, depth_answer, reads_back, shortest_within, tells_apart_within}

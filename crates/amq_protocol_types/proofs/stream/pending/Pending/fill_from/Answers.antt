@@ -1,4 +1,4 @@
-use Rattle.std.proofs.Common.{◌≡◌, ◌+◌, ◌≤◌, ◌++◌, ◌∙◌, ℕ, List, length, take, sym, ap, arith, rules}
+use Rattle.std.proofs.Common.{◌≡◌, ◌+◌, ◌≤◌, ◌++◌, ◌∙◌, ℕ, List, length, take, sym, ap, rules}
 use Rattle.amq_protocol_types.proofs.Kept.{filled_up}
 use Rattle.amq_protocol_types.proofs.stream.pending.Pending.fill_from.Goals as goal
 
