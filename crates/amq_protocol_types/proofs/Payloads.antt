@@ -95,5 +95,4 @@ module _ (s : List ℕ) where
       by : (n : ℕ) → Unless n (RawFront amqp.LongLongInt s o) o → Unless n (RawFront amqp.LongLongUInt s o) o
       by zero f = unsigned_front o f
       by (suc n) e = e
-
-  -- and so is its refusal
+      -- and so is its refusal

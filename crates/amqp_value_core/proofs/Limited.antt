@@ -167,9 +167,9 @@ malformed_append d (c ∷ b) t x = by (kind c) refl x
     decided type k zero whole none =
         subst (λ (n : ℕ). Unless n (FrontBy (WireWithin d) (c ∷ (b ++ t)) malformed) malformed) (sym (lack-whole type b t whole))
         (λ w rest v p e.
-            let r = raw_of_wire d c type (b ++ t) w rest v k p.0 p.1 e in
-            let inside = raw_inside type b t r.0 rest v whole r.1.0 r.2 in
-            none (c ∷ r.0) (drop (length r.0) b) v (wire_of_raw d c type r.0 v k r.1) (ap (λ (l : List ℕ). c ∷ l) inside))
+        let r = raw_of_wire d c type (b ++ t) w rest v k p.0 p.1 e in
+        let inside = raw_inside type b t r.0 rest v whole r.1.0 r.2 in
+        none (c ∷ r.0) (drop (length r.0) b) v (wire_of_raw d c type r.0 v k r.1) (ap (λ (l : List ℕ). c ∷ l) inside))
 
     by : (k : Option AMQPType) → kind c ≡ k → MatchOption k (malformed ≡ unknown) (λ type. Unless (lack type b) (FrontBy (WireWithin d) (c ∷ b) malformed) malformed)
         → MatchOption k (malformed ≡ unknown) (λ type. Unless (lack type (b ++ t)) (FrontBy (WireWithin d) (c ∷ (b ++ t)) malformed) malformed)
