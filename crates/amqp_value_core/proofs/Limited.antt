@@ -1,16 +1,16 @@
 -- Reading where containers nest at most so deep: the laws of reading, with that limit.
-use Rattle.std.proofs.Common.{◌≡◌, ◌↔◌, ◌<◌, ◌≤◌, ◌*◌, ◌+◌, ◌/◌, ℕ, zero, suc, List, [], ◌∷◌, ◌++◌, length, drop, Option, Some, None, refl, sym, ap, ap₂, ◌∙◌, subst, arith, length-append}
+use Rattle.std.proofs.Common.{◌≡◌, ◌↔◌, ◌≤◌, ◌*◌, ◌+◌, ◌/◌, ℕ, zero, suc, List, [], ◌∷◌, ◌++◌, length, drop, Option, Some, None, refl, sym, ap, ap₂, ◌∙◌, subst, arith, length-append}
 use Rattle.std.specs.Prelude.{MatchOption}
 use Rattle.amqp_value_core.specs.declared.types.AMQPType.{AMQPType}
 use Rattle.amqp_value_core.specs.Values.{Tree}
 use Rattle.amqp_value_core.specs.Ids.{kind}
 use Rattle.amqp_value_core.specs.Grammar.{Wire, wire, Raw}
-use Rattle.amqp_value_core.specs.Outcomes.{IsBytes, Reading, found, more, unknown, malformed, lack, Unless, FrontBy, RawOutcomeBy, OutcomeBy, RawOutcome, Outcome}
-use Rattle.amqp_value_core.specs.Nesting.{nesting, raw_nesting, WireWithin, RawWithin, OutcomeWithin, RawOutcomeWithin}
+use Rattle.amqp_value_core.specs.Outcomes.{Reading, found, more, unknown, malformed, lack, Unless, FrontBy, RawOutcomeBy, OutcomeBy, RawOutcome, Outcome}
+use Rattle.amqp_value_core.specs.Nesting.{nesting, WireWithin, RawWithin, OutcomeWithin, RawOutcomeWithin}
 use Rattle.amqp_value_core.proofs.Fronts.{one_held}
 use Rattle.amqp_value_core.proofs.Headers.{lack-raw, lack-whole}
 use Rattle.amqp_value_core.proofs.MoreBytes.{raw_inside}
-use Rattle.amqp_value_core.proofs.Unique.{one_reading, one_raw_reading}
+use Rattle.amqp_value_core.proofs.Unique.{one_reading}
 use Rattle.amqp_value_core.proofs.Nests.{nesting-le, raw_nesting-le}
 
 -- ---- of any P

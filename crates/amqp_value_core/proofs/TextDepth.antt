@@ -1,12 +1,12 @@
 -- How deep a text nests: as deep as its value, which is no deeper than any wire of it.
-use Rattle.std.proofs.Common.{◌≡◌, ◌≤◌, ◌<◌, ◌^◌, ℕ, suc, zero, max, List, [], ◌∷◌, ◌++◌, length, Option, Some, refl, sym, ap, subst, arith, IsTrue}
+use Rattle.std.proofs.Common.{◌≡◌, ◌≤◌, ℕ, suc, List, ◌∷◌, refl, subst, arith, IsTrue}
 use Rattle.std.proofs.lemmas.Bool.{and_parts}
 use Rattle.amqp_value_core.specs.declared.types.AMQPType.{AMQPType}
 use Rattle.amqp_value_core.specs.declared.types.AMQPType.TheVariants as amqp
 use Rattle.amqp_value_core.specs.Values.{Scalar, Tree, scalar, short, long, octets, array, table, Trees, no_trees, tree, Entries, no_entries, entry, scalar_type, onto, depth, greatest_depth, entries_depth, readable, all_readable, entries_readable}
 use Rattle.amqp_value_core.specs.Ids.{id_of}
-use Rattle.amqp_value_core.specs.Layouts.{Layout, spelled}
-use Rattle.amqp_value_core.specs.Grammar.{large, small, Wire, wire, Raw, raw_fixed, raw_short, raw_long, raw_octets, raw_array, raw_table, Body, no_values, value, Pairs, no_pairs, pair}
+use Rattle.amqp_value_core.specs.Layouts.{spelled}
+use Rattle.amqp_value_core.specs.Grammar.{large, Wire, wire, Raw, raw_fixed, raw_short, raw_long, raw_octets, raw_array, raw_table, Body, no_values, value, Pairs, no_pairs, pair}
 use Rattle.amqp_value_core.specs.Nesting.{nesting, raw_nesting, body_nesting, pairs_nesting, WireWithin, BodyWithin, PairsWithin}
 use Rattle.amqp_value_core.specs.Outcomes.{IsBytes}
 use Rattle.amqp_value_core.proofs.Shortest.{what_is_read, read_is_value}

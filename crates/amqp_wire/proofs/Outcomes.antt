@@ -1,5 +1,5 @@
 -- What is said of an outcome.
-use Rattle.std.proofs.Common.{◌≡◌, ◌<◌, ◌≤◌, ℕ, suc, Option, Some, None, List, [], ◌∷◌, cond, slice_index, Fits, w8, inl, inr, ap, sym, ◌∙◌}
+use Rattle.std.proofs.Common.{◌≡◌, ◌<◌, ℕ, suc, Some, None, List, [], ◌∷◌, cond, slice_index, Fits, w8, inl, inr, ap, sym, ◌∙◌}
 use Rattle.std.proofs.lemmas.Bool.{cases_lt, le-ltb, lt-ltb}
 use Rattle.amqp_value_core.specs.Outcomes.{Reading, more, unknown, malformed, IsBytes, Outcome, Heavy}
 use Rattle.amqp_value_core.specs.Decode.{outcome, outcome_by, meaning}

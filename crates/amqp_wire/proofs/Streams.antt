@@ -1,5 +1,5 @@
 -- The values of a stream, and its lines.
-use Rattle.std.proofs.Common.{◌≡◌, ◌<◌, ◌≤◌, ◌+◌, ◌-◌, ℕ, zero, suc, Bool, true, false, Option, Some, None, Result, Ok, Err, List, [], ◌∷◌, ◌++◌, ◌⊎◌, length, take, codes, refl, sym, ap, ◌∙◌, subst, arith, inl, inr, append-nil, append_assoc, length-append}
+use Rattle.std.proofs.Common.{◌≡◌, ◌<◌, ◌≤◌, ◌+◌, ℕ, zero, suc, Bool, true, false, Option, Some, None, Result, Ok, Err, List, [], ◌∷◌, ◌++◌, ◌⊎◌, length, take, codes, refl, sym, ap, ◌∙◌, subst, arith, inl, inr, append-nil, append_assoc, length-append}
 use Rattle.std.specs.Option.{IfSome}
 use Rattle.std.specs.Io.KnownBytes.{Appends}
 use Rattle.std.proofs.KnownBytes.{Appends-trans}
@@ -10,14 +10,13 @@ use Rattle.amqp_value_core.specs.Nesting.{WireWithin}
 use Rattle.amqp_value_core.specs.Grammar.{Wire, wire}
 use Rattle.amqp_value_core.specs.Outcomes.{IsBytes, Reading, found, more, unknown, malformed}
 use Rattle.amqp_value_core.proofs.GrammarLaws.{one_reading, front_within, wire_found_within}
-use Rattle.amq_protocol_types.specs.declared.parsing.errors.Err.TheVariants.{Error}
 use Rattle.amq_protocol_types.specs.declared.parsing.errors.ErrorKind.{ErrorKind}
 use Rattle.amq_protocol_types.specs.declared.parsing.errors.ErrorKind.TheVariants.{MapOpt, MapRes, Eof, OutOfMemory, TooLarge}
 use Rattle.amq_protocol_types.specs.declared.stream.error.StreamError.{StreamError}
 use Rattle.amq_protocol_types.specs.declared.stream.error.StreamError.TheVariants as stream
 use Rattle.amq_protocol_types.specs.declared.stream.limits.Limits.{Limits}
 use Rattle.amq_protocol_types.specs.Headers.{extent}
-use Rattle.amq_protocol_types.specs.Limits.{Within, RefusesWithin}
+use Rattle.amq_protocol_types.specs.Limits.{Within}
 use Rattle.amq_protocol_types.specs.Readers.{AnswersAll}
 use Rattle.amq_protocol_types.proofs.Again.{wire_extent}
 use Rattle.amqp_wire.specs.Lines.{read_within, AppendsFront}
