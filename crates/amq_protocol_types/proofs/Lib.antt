@@ -17,7 +17,6 @@ pub mod FlagBits
 pub mod Puts
 pub mod Copies
 pub mod Gathered
-mod Kept
 pub mod Waits
 pub mod Comes
 pub mod Plain

@@ -1,50 +1,68 @@
 //! The bytes of a value that hasn't all come.
 
-ghost use Rattle.std.specs.Prelude.{◌≡◌, ◌<◌, ◌≤◌, ◌++◌, ℕ, List, [], length, take, vec_len, IfOk, OnOk, IfErr};
+ghost use Rattle.std.specs.Prelude.{◌≡◌, ◌<◌, ◌≤◌, ◌+◌, ◌++◌, ℕ, List, [], length, vec_len, vec_capacity, IfOk, OnErr, IfErr};
 ghost use Rattle.std.specs.Io.KnownBytes.{Consumes, Keeps, IsAtEnd};
 ghost use Rattle.amq_protocol_types.specs.Passing.{IsPassing};
 
 use super::error::StreamError;
 use std::alloc::{AllocError, Global};
+use std::io;
 use std::io::Read;
 use std::marker::Model;
 
 // The first room.
-const ROOM: [u8; 4096] = [0; 4096];
+const ROOM: usize = 4096;
 
-// Room for bytes, of which the first `filled` came.
+// So many bytes are read at once, at most: few, as those of an id, or many.
+const FEW: usize = 64;
+
+const MANY: usize = 16_384;
+
 #[derive(Drop)]
 pub(super) struct Pending {
     bytes: Vec<u8>,
-    filled: usize,
 }
 
 impl Model for Pending {
     ghost Value = { List ℕ };
 
-    ghost view = { λ p. take p.filled p.bytes.items };
-
-    ghost invariant = { λ p. p.filled ≤ length p.bytes.items };
+    ghost view = { λ p. p.bytes.items };
 }
 
-// Makes room for some of `most` bytes behind the first `filled`, where there is none: as much again as
-// there is, whatever a length claims.
-fn make_room(bytes: &mut Vec<u8>, filled: usize, most: usize) -> Result<(), AllocError>
-    requires within { filled ≤ vec_len bytes.old }
-    requires some { 0 < most }
-    ensures kept { take filled bytes.new.items ≡ take filled bytes.old.items }
-    ensures within { filled ≤ vec_len bytes.new }
-    ensures room { OnOk result (filled < vec_len bytes.new) }
+// Makes room for some of `most` bytes, where there is none: as much again as there is, whatever a length
+// claims. Answers for how many there is room.
+fn make_room(bytes: &mut Vec<u8>, most: usize) -> Result<usize, AllocError>
+    requires { 0 < most }
+    ensures same { bytes.new.items ≡ bytes.old.items }
+    ensures room { IfOk result (λ n. (0 < n) × (n ≤ most) × (vec_len bytes.new + n ≤ vec_capacity bytes.new)) }
 {
-    let room = bytes.len();
-    if filled < room {
-        return Ok(());
+    let len = bytes.len();
+    if len == bytes.capacity() {
+        bytes.reserve_exact(most.min(len).max(ROOM))?;
     }
-    if room < ROOM.len() {
-        bytes.extend_from_slice(&ROOM)
-    } else {
-        bytes.extend_from_within(..most.min(room))
-    }
+    Ok(most.min(bytes.capacity() - len))
+}
+
+// Asks the reader once for at most `most` bytes, for which there is room, and appends those that it
+// gives. They come by way of a block of `N`, since what isn't filled yet can't be read into.
+fn read_block<R: Read, const N: usize>(
+    bytes: &mut Vec<u8>,
+    reader: &mut R,
+    most: usize,
+) -> io::Result<usize>
+    requires block { 0 < N }
+    requires small { N ≤ 65536 }
+    requires some { 0 < most }
+    requires room { vec_len bytes.old + most ≤ vec_capacity bytes.old }
+    ensures ok { IfOk result (λ n. (more : List ℕ) × (length more ≡ n) × (n ≤ most) × (bytes.new.items ≡ bytes.old.items ++ more)
+        × Consumes (R.remaining reader.old) (R.remaining reader.new) more) }
+    ensures end { IfOk result (λ n. n ≡ 0 → IsAtEnd (R.remaining reader.new)) }
+    ensures err { OnErr result ((bytes.new.items ≡ bytes.old.items) × Keeps (R.remaining reader.old) (R.remaining reader.new)) }
+{
+    let mut block = [0; N];
+    let n = reader.read(&mut block[..most.min(N)])?;
+    bytes.extend_from_slice(&block[..n]).unwrap();
+    Ok(n)
 }
 
 impl Pending {
@@ -53,21 +71,20 @@ impl Pending {
     {
         Pending {
             bytes: Vec::new(alloc),
-            filled: 0,
         }
     }
 
     pub(super) fn as_slice(&self) -> &[u8]
         ensures { result.now ≡ self.now }
     {
-        &self.bytes[..self.filled]
+        self.bytes.as_slice()
     }
 
     // Keeps no byte. The room stays.
     pub(super) fn clear(&mut self)
         ensures { self.new ≡ [] }
     {
-        self.filled = 0;
+        self.bytes.clear();
     }
 
     // Asks the reader once for at most `most` bytes, and keeps those that it gives.
@@ -83,16 +100,16 @@ impl Pending {
         ensures err { IfErr result (λ e. IsPassing e × (self.new ≡ self.old)
             × Keeps (R.remaining reader.old) (R.remaining reader.new)) }
     {
-        let start = self.filled;
-        if make_room(&mut self.bytes, start, most).is_err() {
+        let Ok(room) = make_room(&mut self.bytes, most) else {
             return Err(StreamError::OutOfMemory);
-        }
-        let end = start + most.min(self.bytes.len() - start);
-        match reader.read(&mut self.bytes[start..end]) {
-            Ok(n) => {
-                self.filled = start + n;
-                Ok(n)
-            }
+        };
+        let read = if room <= FEW {
+            read_block::<R, FEW>(&mut self.bytes, reader, room)
+        } else {
+            read_block::<R, MANY>(&mut self.bytes, reader, room)
+        };
+        match read {
+            Ok(n) => Ok(n),
             Err(e) => Err(StreamError::Read(e.kind())),
         }
     }
