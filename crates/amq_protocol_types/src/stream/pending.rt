@@ -10,17 +10,14 @@ use std::io;
 use std::io::Read;
 use std::marker::Model;
 
-// The first room.
-const ROOM: usize = 4096;
+// So many bytes are read at once, at most, and the first room is for as many.
+const BLOCK: usize = 8192;
 
-// So many bytes are read at once, at most: few, as those of an id, or many.
-const FEW: usize = 64;
-
-const MANY: usize = 16_384;
-
+// The bytes, and a block that they come by: what isn't filled yet can't be read into.
 #[derive(Drop)]
 pub(super) struct Pending {
     bytes: Vec<u8>,
+    block: [u8; BLOCK],
 }
 
 impl Model for Pending {
@@ -38,20 +35,20 @@ fn make_room(bytes: &mut Vec<u8>, most: usize) -> Result<usize, AllocError>
 {
     let len = bytes.len();
     if len == bytes.capacity() {
-        bytes.reserve_exact(most.min(len).max(ROOM))?;
+        bytes.reserve_exact(most.min(len).max(BLOCK))?;
     }
     Ok(most.min(bytes.capacity() - len))
 }
 
 // Asks the reader once for at most `most` bytes, for which there is room, and appends those that it
-// gives. They come by way of a block of `N`, since what isn't filled yet can't be read into.
-fn read_block<R: Read, const N: usize>(
+// gives.
+fn read_block<R: Read>(
     bytes: &mut Vec<u8>,
+    block: &mut [u8],
     reader: &mut R,
     most: usize,
 ) -> io::Result<usize>
-    requires block { 0 < N }
-    requires small { N ≤ 65536 }
+    requires block { 0 < length block.old }
     requires some { 0 < most }
     requires room { vec_len bytes.old + most ≤ vec_capacity bytes.old }
     ensures ok { IfOk result (λ n. (more : List ℕ) × (length more ≡ n) × (n ≤ most) × (bytes.new.items ≡ bytes.old.items ++ more)
@@ -59,8 +56,8 @@ fn read_block<R: Read, const N: usize>(
     ensures end { IfOk result (λ n. n ≡ 0 → IsAtEnd (R.remaining reader.new)) }
     ensures err { OnErr result ((bytes.new.items ≡ bytes.old.items) × Keeps (R.remaining reader.old) (R.remaining reader.new)) }
 {
-    let mut block = [0; N];
-    let n = reader.read(&mut block[..most.min(N)])?;
+    let most = most.min(block.len());
+    let n = reader.read(&mut block[..most])?;
     bytes.extend_from_slice(&block[..n]).unwrap();
     Ok(n)
 }
@@ -71,6 +68,7 @@ impl Pending {
     {
         Pending {
             bytes: Vec::new(alloc),
+            block: [0; BLOCK],
         }
     }
 
@@ -103,12 +101,7 @@ impl Pending {
         let Ok(room) = make_room(&mut self.bytes, most) else {
             return Err(StreamError::OutOfMemory);
         };
-        let read = if room <= FEW {
-            read_block::<R, FEW>(&mut self.bytes, reader, room)
-        } else {
-            read_block::<R, MANY>(&mut self.bytes, reader, room)
-        };
-        match read {
+        match read_block(&mut self.bytes, &mut self.block, reader, room) {
             Ok(n) => Ok(n),
             Err(e) => Err(StreamError::Read(e.kind())),
         }
