@@ -1,0 +1,79 @@
+//! Cases of values made of JSON.
+
+use crate::asking::{ask, ask_again};
+use crate::{made, shown};
+use amq_protocol_types::{AMQPType, AMQPValue};
+use serde_json::Value;
+use std::alloc::Global;
+use std::io;
+
+/// The cases of this module, each by its name.
+pub const CASES: [&str; 3] = [
+    "try_from_to_a_short_string",
+    "try_from_to_a_long_string",
+    "try_from_without_memory",
+];
+
+/// Runs the case of this name. Answers whether there is one.
+pub fn run<R: Print + Eprint>(rt: &R, alloc: Global, name: &str) -> io::Result<bool> {
+    match name {
+        "try_from_to_a_short_string" => of_a_text(rt, alloc, AMQPType::ShortString)?,
+        "try_from_to_a_long_string" => of_a_text(rt, alloc, AMQPType::LongString)?,
+        "try_from_without_memory" => without(rt, alloc)?,
+        _ => return Ok(false),
+    }
+    Ok(true)
+}
+
+/// A value that may be there.
+fn shown(alloc: Global, value: Option<AMQPValue>) -> io::Result<String> {
+    match value {
+        Some(value) => shown::value(alloc, &value),
+        None => Ok(String::from_str(alloc, "none")?),
+    }
+}
+
+fn of_a_text<R: Print + Eprint>(rt: &R, alloc: Global, to: AMQPType) -> io::Result<()> {
+    let text = Value::String(String::from_str(alloc, "test")?);
+    ask_again!(
+        rt, text.to_string(alloc)?, () = (), AMQPValue::try_from(alloc, &text, to),
+        v => shown(alloc, v)?
+    );
+    Ok(())
+}
+
+/// Each type of a number, of null, of the empty text, and a text that is too long for its type.
+fn without<R: Print + Eprint>(rt: &R, alloc: Global) -> io::Result<()> {
+    let seven = Value::from_str(alloc, "7").map_err(made::unmade)?;
+    let empty = Value::String(String::new(alloc));
+    for to in [
+        AMQPType::Boolean,
+        AMQPType::ShortShortInt,
+        AMQPType::ShortShortUInt,
+        AMQPType::ShortInt,
+        AMQPType::ShortUInt,
+        AMQPType::LongInt,
+        AMQPType::LongUInt,
+        AMQPType::LongLongInt,
+        AMQPType::LongLongUInt,
+        AMQPType::Float,
+        AMQPType::Double,
+        AMQPType::DecimalValue,
+        AMQPType::ShortString,
+        AMQPType::LongString,
+        AMQPType::FieldArray,
+        AMQPType::Timestamp,
+        AMQPType::FieldTable,
+        AMQPType::ByteArray,
+        AMQPType::Void,
+    ] {
+        ask!(rt, AMQPValue::try_from(alloc, &seven, to), v => shown(alloc, v)?);
+        ask!(rt, AMQPValue::try_from(alloc, &empty, to), v => shown(alloc, v)?);
+    }
+    let letters = String::from_utf8(made::letters(alloc, 256)?).map_err(made::unmade)?;
+    let long = Value::String(letters);
+    ask!(rt, AMQPValue::try_from(alloc, &long, AMQPType::ShortString), v => shown(alloc, v)?);
+    ask!(rt, AMQPValue::try_from(alloc, &long, AMQPType::FieldArray), v => shown(alloc, v)?);
+    ask!(rt, AMQPValue::try_from(alloc, &Value::Null, AMQPType::Void), v => shown(alloc, v)?);
+    Ok(())
+}

@@ -1,0 +1,123 @@
+//! Cases of flags.
+
+use crate::asking::{ask, ask_again};
+use crate::{made, shown};
+use amq_protocol_types::flags::AMQPFlags;
+use amq_protocol_types::parsing::{SliceInput, SplitInput, parse_flags};
+use std::alloc::Global;
+use std::io;
+
+/// The cases of this module, each by its name.
+pub const CASES: [&str; 8] = [
+    "parse_flags",
+    "parse_flags_in_two",
+    "flags_from_bytes",
+    "add_flag",
+    "get_bytes",
+    "clone_of_flags",
+    "clone_of_many_flags",
+    "flags_without_memory",
+];
+
+/// Runs the case of this name. Answers whether there is one.
+pub fn run<R: Print + Eprint>(rt: &R, alloc: Global, name: &str) -> io::Result<bool> {
+    match name {
+        "parse_flags" => parse(rt, alloc)?,
+        "parse_flags_in_two" => parse_in_two(rt, alloc)?,
+        "flags_from_bytes" => from_bytes(rt, alloc)?,
+        "add_flag" => add(rt, alloc)?,
+        "get_bytes" => get_bytes(rt, alloc)?,
+        "clone_of_flags" => clone(rt, alloc)?,
+        "clone_of_many_flags" => clone_of_many(rt, alloc)?,
+        "flags_without_memory" => without(rt, alloc)?,
+        _ => return Ok(false),
+    }
+    Ok(true)
+}
+
+/// Flags, as their names and truth values.
+fn shown(alloc: Global, flags: &AMQPFlags) -> io::Result<String> {
+    Ok(format!(in alloc; "{flags:?}")?)
+}
+
+fn parse<R: Print + Eprint>(rt: &R, alloc: Global) -> io::Result<()> {
+    ask_again!(
+        rt, "", input = SliceInput::new(&[221, 2]), parse_flags(alloc, input, &made::NAMES),
+        (_, flags) => shown(alloc, &flags)?
+    );
+    Ok(())
+}
+
+fn parse_in_two<R: Print + Eprint>(rt: &R, alloc: Global) -> io::Result<()> {
+    ask_again!(
+        rt, "", input = SplitInput::new(&[221], &[2]), parse_flags(alloc, input, &made::NAMES),
+        (_, flags) => shown(alloc, &flags)?
+    );
+    Ok(())
+}
+
+/// Eight flags, since there is one byte.
+fn from_bytes<R: Print + Eprint>(rt: &R, alloc: Global) -> io::Result<()> {
+    ask_again!(
+        rt, "", input = SliceInput::new(&[5]), AMQPFlags::from_bytes(alloc, &made::NAMES, input),
+        flags => shown(alloc, &flags)?
+    );
+    Ok(())
+}
+
+/// Ten flags are added one after another.
+fn add<R: Print + Eprint>(rt: &R, alloc: Global) -> io::Result<()> {
+    let mut flags = AMQPFlags::new_in(alloc);
+    for name in made::NAMES {
+        ask_again!(
+            rt, shown(alloc, &flags)?, text = String::from_str(alloc, name)?,
+            flags.add_flag(text, true), () => name
+        );
+    }
+    println!(rt; "made {}", shown(alloc, &flags)?)
+}
+
+fn get_bytes<R: Print + Eprint>(rt: &R, alloc: Global) -> io::Result<()> {
+    let flags = made::flags(alloc, &made::NAMES)?;
+    ask_again!(
+        rt, shown(alloc, &flags)?, () = (), flags.get_bytes(alloc),
+        bytes => shown::bytes(alloc, bytes.as_slice())?
+    );
+    Ok(())
+}
+
+fn clone<R: Print + Eprint>(rt: &R, alloc: Global) -> io::Result<()> {
+    let flags = made::flags(alloc, &["a", "", "c"])?;
+    ask_again!(
+        rt, shown(alloc, &flags)?, () = (), flags.clone(alloc),
+        copy => shown(alloc, &copy)?
+    );
+    Ok(())
+}
+
+/// A hundred flags, all of the empty name.
+fn clone_of_many<R: Print + Eprint>(rt: &R, alloc: Global) -> io::Result<()> {
+    let flags = made::flags(alloc, &[""; 100])?;
+    ask_again!(
+        rt, shown(alloc, &flags)?, () = (), flags.clone(alloc),
+        copy => copy == flags
+    );
+    Ok(())
+}
+
+/// No flags, and bytes that lack.
+fn without<R: Print + Eprint>(rt: &R, alloc: Global) -> io::Result<()> {
+    let none = AMQPFlags::new_in(alloc);
+    let no_byte = SliceInput::new(&[]);
+    let one_byte = SliceInput::new(&[221]);
+    ask!(rt, none.get_bytes(alloc), bytes => bytes.len());
+    ask!(rt, none.clone(alloc), copy => shown(alloc, &copy)?);
+    ask!(rt, AMQPFlags::from_bytes(alloc, &made::NAMES, no_byte), flags => shown(alloc, &flags)?);
+    ask!(rt, AMQPFlags::from_bytes(alloc, &[], one_byte), flags => shown(alloc, &flags)?);
+    ask!(rt, parse_flags(alloc, one_byte, &[]), (_, flags) => shown(alloc, &flags)?);
+    ask!(rt, parse_flags(alloc, one_byte, &made::NAMES), (_, flags) => shown(alloc, &flags)?);
+    let flags = made::flags(alloc, &made::NAMES)?;
+    ask!(rt, flags.get_flag("b").ok_or(()), flag => flag);
+    ask!(rt, flags.get_flag("z").ok_or(()), flag => flag);
+    Ok(())
+}
