@@ -13,19 +13,19 @@ macro_rules! ask {
     };
 }
 
-/// Makes a call, and prints what it answered. Where that is a refusal, prints what `$state` was
-/// before the call and is after it, and makes the call once more. Before each call `$given` is made.
-macro_rules! ask_again {
-    ($rt:ident, $state:expr, $given:pat = $prepared:expr, $call:expr, $answer:pat => $shown:expr) => {
+/// Makes `$given` and then a call, and runs `$then` where it answers Ok. Where it answers a refusal,
+/// prints that, and what `$state` was before the call and is after it, and does all once more.
+macro_rules! insist {
+    ($rt:ident, $state:expr, $given:pat = $made:expr, $call:expr, $answer:pat => $then:expr) => {
         for _ in 0..2 {
             let had = $state;
-            let $given = $prepared;
+            let $given = $made;
             eprintln!($rt; "begin")?;
             let answer = $call;
             eprintln!($rt; "end")?;
             match answer {
                 Ok($answer) => {
-                    println!($rt; "ok {}", $shown)?;
+                    $then;
                     break;
                 }
                 Err(e) => println!($rt; "refused {e:?}")?,
@@ -36,5 +36,15 @@ macro_rules! ask_again {
     };
 }
 
+/// Does what `insist` does, for a call that changes nothing, and prints what it answered.
+macro_rules! ask_again {
+    ($rt:ident, $state:expr, $given:pat = $made:expr, $call:expr, $answer:pat => $shown:expr) => {
+        crate::asking::insist!(
+            $rt, $state, $given = $made, $call, $answer => println!($rt; "ok {}", $shown)?
+        )
+    };
+}
+
 pub(crate) use ask;
 pub(crate) use ask_again;
+pub(crate) use insist;

@@ -1,6 +1,6 @@
 //! Cases of flags.
 
-use crate::asking::{ask, ask_again};
+use crate::asking::{ask, ask_again, insist};
 use crate::{made, shown};
 use amq_protocol_types::flags::AMQPFlags;
 use amq_protocol_types::parsing::{SliceInput, SplitInput, parse_flags};
@@ -69,9 +69,9 @@ fn from_bytes<R: Print + Eprint>(rt: &R, alloc: Global) -> io::Result<()> {
 fn add<R: Print + Eprint>(rt: &R, alloc: Global) -> io::Result<()> {
     let mut flags = AMQPFlags::new_in(alloc);
     for name in made::NAMES {
-        ask_again!(
+        insist!(
             rt, shown(alloc, &flags)?, text = String::from_str(alloc, name)?,
-            flags.add_flag(text, true), () => name
+            flags.add_flag(text, true), () => ()
         );
     }
     println!(rt; "made {}", shown(alloc, &flags)?)

@@ -2,9 +2,11 @@
 
 use crate::asking::ask_again;
 use crate::{made, shown};
-use amq_protocol_types::AMQPType;
 use amq_protocol_types::parsing::traits::ParsableInput;
-use amq_protocol_types::parsing::{SliceInput, SplitInput, parse_raw_value, parse_value};
+use amq_protocol_types::parsing::{
+    Err, ErrorKind, ParserError, ParserResult, SliceInput, SplitInput, parse_raw_value, parse_value,
+};
+use amq_protocol_types::{AMQPType, AMQPValue};
 use std::alloc::{AllocError, Global};
 use std::io;
 
@@ -109,9 +111,25 @@ pub fn many_bytes<R: Print + Eprint>(rt: &R, alloc: Global) -> io::Result<()> {
     value_of(rt, alloc, SliceInput::new(wire.as_slice()))
 }
 
+// what an input that begins with no value is refused as
+fn kind_of<I: ParsableInput>(
+    answer: ParserResult<I, AMQPValue>,
+) -> Result<Option<ErrorKind>, ParserError> {
+    match answer {
+        Ok(_) => Ok(None),
+        Err(Err::Error(e)) => Ok(Some(e.kind())),
+        Err(e) => Err(e),
+    }
+}
+
 /// An array of a Void and of a number that is cut.
 pub fn refused<R: Print + Eprint>(rt: &R, alloc: Global) -> io::Result<()> {
-    value_of(rt, alloc, SliceInput::new(&[65, 0, 0, 0, 3, 86, 73, 0]))
+    let wire = [65, 0, 0, 0, 3, 86, 73, 0];
+    ask_again!(
+        rt, "", input = SliceInput::new(&wire), kind_of(parse_value(alloc, input)),
+        kind => format!(in alloc; "{kind:?}")?
+    );
+    Ok(())
 }
 
 /// A short string of two letters.
