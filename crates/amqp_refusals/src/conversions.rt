@@ -1,7 +1,8 @@
 //! Cases of values made of JSON.
 
-use crate::asking::{ask, ask_again};
-use crate::{made, shown};
+use crate::asking::{insist, tell, within};
+use crate::made;
+use crate::shown::Shown;
 use amq_protocol_types::{AMQPType, AMQPValue};
 use serde_json::Value;
 use std::alloc::Global;
@@ -25,19 +26,14 @@ pub fn run<R: Print + Eprint>(rt: &R, alloc: Global, name: &str) -> io::Result<b
     Ok(true)
 }
 
-/// A value that may be there.
-fn shown(alloc: Global, value: Option<AMQPValue>) -> io::Result<String> {
-    match value {
-        Some(value) => shown::value(alloc, &value),
-        None => Ok(String::from_str(alloc, "none")?),
-    }
-}
-
 fn of_a_text<R: Print + Eprint>(rt: &R, alloc: Global, to: AMQPType) -> io::Result<()> {
     let text = Value::String(String::from_str(alloc, "test")?);
-    ask_again!(
-        rt, text.to_string(alloc)?, () = (), AMQPValue::try_from(alloc, &text, to),
-        v => shown(alloc, v)?
+    insist!(
+        rt,
+        alloc,
+        text,
+        () = (),
+        AMQPValue::try_from(alloc, &text, to)
     );
     Ok(())
 }
@@ -67,13 +63,33 @@ fn without<R: Print + Eprint>(rt: &R, alloc: Global) -> io::Result<()> {
         AMQPType::ByteArray,
         AMQPType::Void,
     ] {
-        ask!(rt, AMQPValue::try_from(alloc, &seven, to), v => shown(alloc, v)?);
-        ask!(rt, AMQPValue::try_from(alloc, &empty, to), v => shown(alloc, v)?);
+        tell(
+            rt,
+            alloc,
+            within!(rt, AMQPValue::try_from(alloc, &seven, to)),
+        )?;
+        tell(
+            rt,
+            alloc,
+            within!(rt, AMQPValue::try_from(alloc, &empty, to)),
+        )?;
     }
     let letters = String::from_utf8(made::letters(alloc, 256)?).map_err(made::unmade)?;
     let long = Value::String(letters);
-    ask!(rt, AMQPValue::try_from(alloc, &long, AMQPType::ShortString), v => shown(alloc, v)?);
-    ask!(rt, AMQPValue::try_from(alloc, &long, AMQPType::FieldArray), v => shown(alloc, v)?);
-    ask!(rt, AMQPValue::try_from(alloc, &Value::Null, AMQPType::Void), v => shown(alloc, v)?);
+    tell(
+        rt,
+        alloc,
+        within!(rt, AMQPValue::try_from(alloc, &long, AMQPType::ShortString)),
+    )?;
+    tell(
+        rt,
+        alloc,
+        within!(rt, AMQPValue::try_from(alloc, &long, AMQPType::FieldArray)),
+    )?;
+    tell(
+        rt,
+        alloc,
+        within!(rt, AMQPValue::try_from(alloc, &Value::Null, AMQPType::Void)),
+    )?;
     Ok(())
 }

@@ -1,7 +1,8 @@
 //! Cases of copies.
 
-use crate::asking::{ask, ask_again};
-use crate::{made, shown};
+use crate::asking::{insist, tell, within};
+use crate::made;
+use crate::shown::Shown;
 use amq_protocol_types::{AMQPValue, ByteArray, FieldArray, FieldTable, LongString, ShortString};
 use std::alloc::Global;
 use std::io;
@@ -50,22 +51,19 @@ pub fn run<R: Print + Eprint>(rt: &R, alloc: Global, name: &str) -> io::Result<b
 
 fn short_string<R: Print + Eprint>(rt: &R, alloc: Global) -> io::Result<()> {
     let s = made::short(alloc, "test")?;
-    ask_again!(rt, shown::bytes(alloc, s.as_str().as_bytes())?, () = (), s.clone(alloc), c => c);
+    insist!(rt, alloc, s, () = (), s.clone(alloc));
     Ok(())
 }
 
 fn long_string<R: Print + Eprint>(rt: &R, alloc: Global) -> io::Result<()> {
     let s = made::long(alloc, "test")?;
-    ask_again!(rt, shown::bytes(alloc, s.as_bytes())?, () = (), s.clone(alloc), c => c);
+    insist!(rt, alloc, s, () = (), s.clone(alloc));
     Ok(())
 }
 
 fn byte_array<R: Print + Eprint>(rt: &R, alloc: Global, count: usize) -> io::Result<()> {
     let a = ByteArray::from(made::letters(alloc, count)?);
-    ask_again!(
-        rt, shown::bytes(alloc, a.as_slice())?, () = (), a.clone(alloc),
-        c => shown::bytes(alloc, c.as_slice())?
-    );
+    insist!(rt, alloc, a, () = (), a.clone(alloc));
     Ok(())
 }
 
@@ -73,10 +71,7 @@ fn byte_array<R: Print + Eprint>(rt: &R, alloc: Global, count: usize) -> io::Res
 fn array<R: Print + Eprint>(rt: &R, alloc: Global) -> io::Result<()> {
     let payload = [0, 0, 0, 13, 65, 0, 0, 0, 2, 116, 1, 83, 0, 0, 0, 1, 97];
     let a = made::array(alloc, &payload)?;
-    ask_again!(
-        rt, shown::array(alloc, &a)?, () = (), a.clone(alloc),
-        c => shown::array(alloc, &c)?
-    );
+    insist!(rt, alloc, a, () = (), a.clone(alloc));
     Ok(())
 }
 
@@ -90,29 +85,20 @@ fn table<R: Print + Eprint>(rt: &R, alloc: Global, count: u8) -> io::Result<()> 
             AMQPValue::ShortShortUInt(n),
         )?;
     }
-    ask_again!(
-        rt, shown::table(alloc, &t)?, () = (), t.clone(alloc),
-        c => shown::table(alloc, &c)?
-    );
+    insist!(rt, alloc, t, () = (), t.clone(alloc));
     Ok(())
 }
 
 /// The value of a wire.
 fn value<R: Print + Eprint>(rt: &R, alloc: Global, wire: &[u8]) -> io::Result<()> {
     let v = made::value(alloc, wire)?;
-    ask_again!(
-        rt, shown::value(alloc, &v)?, () = (), v.clone(alloc),
-        c => shown::value(alloc, &c)?
-    );
+    insist!(rt, alloc, v, () = (), v.clone(alloc));
     Ok(())
 }
 
 fn short_string_value<R: Print + Eprint>(rt: &R, alloc: Global) -> io::Result<()> {
     let v = AMQPValue::from(made::short(alloc, "a")?);
-    ask_again!(
-        rt, shown::value(alloc, &v)?, () = (), v.clone(alloc),
-        c => shown::value(alloc, &c)?
-    );
+    insist!(rt, alloc, v, () = (), v.clone(alloc));
     Ok(())
 }
 
@@ -134,7 +120,7 @@ fn scalars<R: Print + Eprint>(rt: &R, alloc: Global) -> io::Result<()> {
         [86].as_slice(),
     ] {
         let v = made::value(alloc, wire)?;
-        ask!(rt, v.clone(alloc), c => shown::value(alloc, &c)?);
+        tell(rt, alloc, within!(rt, v.clone(alloc)))?;
     }
     Ok(())
 }
@@ -146,11 +132,11 @@ fn empty<R: Print + Eprint>(rt: &R, alloc: Global) -> io::Result<()> {
     let bytes = ByteArray::new_in(alloc);
     let array = FieldArray::new_in(alloc);
     let table = FieldTable::new_in(alloc);
-    ask!(rt, short.clone(alloc), c => c);
-    ask!(rt, long.clone(alloc), c => c);
-    ask!(rt, bytes.clone(alloc), c => c.len());
-    ask!(rt, array.clone(alloc), c => shown::array(alloc, &c)?);
-    ask!(rt, table.clone(alloc), c => shown::table(alloc, &c)?);
+    tell(rt, alloc, within!(rt, short.clone(alloc)))?;
+    tell(rt, alloc, within!(rt, long.clone(alloc)))?;
+    tell(rt, alloc, within!(rt, bytes.clone(alloc)))?;
+    tell(rt, alloc, within!(rt, array.clone(alloc)))?;
+    tell(rt, alloc, within!(rt, table.clone(alloc)))?;
     for v in [
         AMQPValue::from(short),
         AMQPValue::from(long),
@@ -158,7 +144,7 @@ fn empty<R: Print + Eprint>(rt: &R, alloc: Global) -> io::Result<()> {
         AMQPValue::from(array),
         AMQPValue::from(table),
     ] {
-        ask!(rt, v.clone(alloc), c => shown::value(alloc, &c)?);
+        tell(rt, alloc, within!(rt, v.clone(alloc)))?;
     }
     Ok(())
 }

@@ -1,7 +1,8 @@
 //! Cases of flags.
 
-use crate::asking::{ask, ask_again, insist};
-use crate::{made, shown};
+use crate::asking::{insist, tell, within};
+use crate::made;
+use crate::shown::Shown;
 use amq_protocol_types::flags::AMQPFlags;
 use amq_protocol_types::parsing::{SliceInput, SplitInput, parse_flags};
 use std::alloc::Global;
@@ -35,32 +36,36 @@ pub fn run<R: Print + Eprint>(rt: &R, alloc: Global, name: &str) -> io::Result<b
     Ok(true)
 }
 
-/// Flags, as their names and truth values.
-fn shown(alloc: Global, flags: &AMQPFlags) -> io::Result<String> {
-    Ok(format!(in alloc; "{flags:?}")?)
-}
-
 fn parse<R: Print + Eprint>(rt: &R, alloc: Global) -> io::Result<()> {
-    ask_again!(
-        rt, "", input = SliceInput::new(&[221, 2]), parse_flags(alloc, input, &made::NAMES),
-        (_, flags) => shown(alloc, &flags)?
+    insist!(
+        rt,
+        alloc,
+        (),
+        input = SliceInput::new(&[221, 2]),
+        parse_flags(alloc, input, &made::NAMES)
     );
     Ok(())
 }
 
 fn parse_in_two<R: Print + Eprint>(rt: &R, alloc: Global) -> io::Result<()> {
-    ask_again!(
-        rt, "", input = SplitInput::new(&[221], &[2]), parse_flags(alloc, input, &made::NAMES),
-        (_, flags) => shown(alloc, &flags)?
+    insist!(
+        rt,
+        alloc,
+        (),
+        input = SplitInput::new(&[221], &[2]),
+        parse_flags(alloc, input, &made::NAMES)
     );
     Ok(())
 }
 
 /// Eight flags, since there is one byte.
 fn from_bytes<R: Print + Eprint>(rt: &R, alloc: Global) -> io::Result<()> {
-    ask_again!(
-        rt, "", input = SliceInput::new(&[5]), AMQPFlags::from_bytes(alloc, &made::NAMES, input),
-        flags => shown(alloc, &flags)?
+    insist!(
+        rt,
+        alloc,
+        (),
+        input = SliceInput::new(&[5]),
+        AMQPFlags::from_bytes(alloc, &made::NAMES, input)
     );
     Ok(())
 }
@@ -70,38 +75,32 @@ fn add<R: Print + Eprint>(rt: &R, alloc: Global) -> io::Result<()> {
     let mut flags = AMQPFlags::new_in(alloc);
     for name in made::NAMES {
         insist!(
-            rt, shown(alloc, &flags)?, text = String::from_str(alloc, name)?,
-            flags.add_flag(text, true), () => ()
+            rt,
+            alloc,
+            flags,
+            text = String::from_str(alloc, name)?,
+            flags.add_flag(text, true)
         );
     }
-    println!(rt; "made {}", shown(alloc, &flags)?)
+    println!(rt; "made {}", flags.shown(alloc)?)
 }
 
 fn get_bytes<R: Print + Eprint>(rt: &R, alloc: Global) -> io::Result<()> {
     let flags = made::flags(alloc, &made::NAMES)?;
-    ask_again!(
-        rt, shown(alloc, &flags)?, () = (), flags.get_bytes(alloc),
-        bytes => shown::bytes(alloc, bytes.as_slice())?
-    );
+    insist!(rt, alloc, flags, () = (), flags.get_bytes(alloc));
     Ok(())
 }
 
 fn clone<R: Print + Eprint>(rt: &R, alloc: Global) -> io::Result<()> {
     let flags = made::flags(alloc, &["a", "", "c"])?;
-    ask_again!(
-        rt, shown(alloc, &flags)?, () = (), flags.clone(alloc),
-        copy => shown(alloc, &copy)?
-    );
+    insist!(rt, alloc, flags, () = (), flags.clone(alloc));
     Ok(())
 }
 
-/// A hundred flags, all of the empty name.
+/// Thirty flags, all of the empty name.
 fn clone_of_many<R: Print + Eprint>(rt: &R, alloc: Global) -> io::Result<()> {
-    let flags = made::flags(alloc, &[""; 100])?;
-    ask_again!(
-        rt, shown(alloc, &flags)?, () = (), flags.clone(alloc),
-        copy => copy == flags
-    );
+    let flags = made::flags(alloc, &[""; 30])?;
+    insist!(rt, alloc, flags, () = (), flags.clone(alloc));
     Ok(())
 }
 
@@ -110,14 +109,26 @@ fn without<R: Print + Eprint>(rt: &R, alloc: Global) -> io::Result<()> {
     let none = AMQPFlags::new_in(alloc);
     let no_byte = SliceInput::new(&[]);
     let one_byte = SliceInput::new(&[221]);
-    ask!(rt, none.get_bytes(alloc), bytes => bytes.len());
-    ask!(rt, none.clone(alloc), copy => shown(alloc, &copy)?);
-    ask!(rt, AMQPFlags::from_bytes(alloc, &made::NAMES, no_byte), flags => shown(alloc, &flags)?);
-    ask!(rt, AMQPFlags::from_bytes(alloc, &[], one_byte), flags => shown(alloc, &flags)?);
-    ask!(rt, parse_flags(alloc, one_byte, &[]), (_, flags) => shown(alloc, &flags)?);
-    ask!(rt, parse_flags(alloc, one_byte, &made::NAMES), (_, flags) => shown(alloc, &flags)?);
+    tell(rt, alloc, within!(rt, none.get_bytes(alloc)))?;
+    tell(rt, alloc, within!(rt, none.clone(alloc)))?;
+    tell(
+        rt,
+        alloc,
+        within!(rt, AMQPFlags::from_bytes(alloc, &made::NAMES, no_byte)),
+    )?;
+    tell(
+        rt,
+        alloc,
+        within!(rt, AMQPFlags::from_bytes(alloc, &[], one_byte)),
+    )?;
+    tell(rt, alloc, within!(rt, parse_flags(alloc, one_byte, &[])))?;
+    tell(
+        rt,
+        alloc,
+        within!(rt, parse_flags(alloc, one_byte, &made::NAMES)),
+    )?;
     let flags = made::flags(alloc, &made::NAMES)?;
-    ask!(rt, flags.get_flag("b").ok_or(()), flag => flag);
-    ask!(rt, flags.get_flag("z").ok_or(()), flag => flag);
+    tell(rt, alloc, within!(rt, flags.get_flag("b").ok_or(())))?;
+    tell(rt, alloc, within!(rt, flags.get_flag("z").ok_or(())))?;
     Ok(())
 }

@@ -1,9 +1,10 @@
 //! Cases of generators.
 
-use crate::asking::{ask, ask_again};
-use crate::{made, shown};
+use crate::asking::{insist, tell, tell_left, within};
+use crate::made;
+use crate::shown::{Shown, bytes};
 use amq_protocol_types::generation::{
-    BackToTheBuffer, Output, SliceOutput, WriteContext, gen_byte_array, gen_field_array,
+    BackToTheBuffer, GenResult, Output, SliceOutput, WriteContext, gen_byte_array, gen_field_array,
     gen_field_table, gen_flags, gen_long_int, gen_long_string, gen_raw_value, gen_short_string,
     gen_value, gen_with_len,
 };
@@ -51,41 +52,65 @@ pub fn run<R: Print + Eprint>(rt: &R, alloc: Global, name: &str) -> io::Result<b
     Ok(true)
 }
 
-/// Writes by a generator behind the byte 9 of a vector, and shows the position and the vector.
-macro_rules! ask_of_a_vector {
+/// What was put through a context, and the vector behind it.
+#[derive(Drop)]
+struct Written {
+    count: u64,
+    vector: Vec<u8>,
+}
+
+impl Shown for Written {
+    fn shown(&self, alloc: Global) -> io::Result<String> {
+        let text = self.vector.shown(alloc)?;
+        Ok(format!(in alloc; "{} {text}", self.count)?)
+    }
+}
+
+/// Prints what a generator answered, and what it left. Answers whether it was Ok.
+fn tell_written<R: Print>(
+    rt: &R,
+    alloc: Global,
+    answer: GenResult,
+    had: &str,
+    written: &Written,
+) -> io::Result<bool> {
+    if tell(rt, alloc, answer)? {
+        println!(rt; "made {}", written.shown(alloc)?)?;
+        return Ok(true);
+    }
+    tell_left(rt, alloc, had, written)?;
+    Ok(false)
+}
+
+/// Makes a call of a generator behind the byte 9 of a vector, and tells what it answered. Where that
+/// is a refusal, does so once more with what is left of the vector.
+macro_rules! insist_on_writing {
     ($rt:ident, $alloc:ident, $x:ident => $call:expr) => {
         let mut vector = Vec::from_slice($alloc, &[9])?;
         for _ in 0..2 {
-            let had = shown::bytes($alloc, vector.as_slice())?;
-            let mut $x = WriteContext::from(vector);
-            eprintln!($rt; "begin")?;
-            let answer = $call;
-            eprintln!($rt; "end")?;
-            let (output, count) = $x.into_inner();
-            let left = shown::bytes($alloc, output.as_slice())?;
-            match answer {
-                Ok(()) => {
-                    println!($rt; "ok {count} {left}")?;
-                    break;
-                }
-                Err(e) => println!($rt; "refused {e:?}")?,
+            let had = Written { count: 0, vector };
+            let text = had.shown($alloc)?;
+            let mut $x = WriteContext::from(had.vector);
+            let answer = within!($rt, $call);
+            let (vector_left, count) = $x.into_inner();
+            let written = Written { count, vector: vector_left };
+            if tell_written($rt, $alloc, answer, text.as_str(), &written)? {
+                break;
             }
-            println!($rt; "had 0 {had}")?;
-            println!($rt; "left {count} {left}")?;
-            vector = output;
+            vector = written.vector;
         }
     };
 }
 
 fn value<R: Print + Eprint>(rt: &R, alloc: Global) -> io::Result<()> {
     let v = made::value(alloc, &made::TABLE)?;
-    ask_of_a_vector!(rt, alloc, x => gen_value(&v, &mut x));
+    insist_on_writing!(rt, alloc, x => gen_value(&v, &mut x));
     Ok(())
 }
 
 fn raw_value<R: Print + Eprint>(rt: &R, alloc: Global) -> io::Result<()> {
     let v = made::value(alloc, &made::TABLE)?;
-    ask_of_a_vector!(rt, alloc, x => gen_raw_value(&v, &mut x));
+    insist_on_writing!(rt, alloc, x => gen_raw_value(&v, &mut x));
     Ok(())
 }
 
@@ -95,7 +120,7 @@ fn field_array<R: Print + Eprint>(rt: &R, alloc: Global) -> io::Result<()> {
     for _ in 0..20 {
         a.push(AMQPValue::Boolean(true))?;
     }
-    ask_of_a_vector!(rt, alloc, x => gen_field_array(&a, &mut x));
+    insist_on_writing!(rt, alloc, x => gen_field_array(&a, &mut x));
     Ok(())
 }
 
@@ -103,42 +128,42 @@ fn field_array<R: Print + Eprint>(rt: &R, alloc: Global) -> io::Result<()> {
 fn field_table<R: Print + Eprint>(rt: &R, alloc: Global) -> io::Result<()> {
     let payload = [0, 0, 0, 11, 1, 97, 83, 0, 0, 0, 4, 116, 101, 115, 116];
     let t = made::table(alloc, &payload)?;
-    ask_of_a_vector!(rt, alloc, x => gen_field_table(&t, &mut x));
+    insist_on_writing!(rt, alloc, x => gen_field_table(&t, &mut x));
     Ok(())
 }
 
 fn short_string<R: Print + Eprint>(rt: &R, alloc: Global) -> io::Result<()> {
-    ask_of_a_vector!(rt, alloc, x => gen_short_string("test", &mut x));
+    insist_on_writing!(rt, alloc, x => gen_short_string("test", &mut x));
     Ok(())
 }
 
 /// So many letters.
 fn long_string<R: Print + Eprint>(rt: &R, alloc: Global, count: usize) -> io::Result<()> {
     let letters = made::letters(alloc, count)?;
-    ask_of_a_vector!(rt, alloc, x => gen_long_string(letters.as_slice(), &mut x));
+    insist_on_writing!(rt, alloc, x => gen_long_string(letters.as_slice(), &mut x));
     Ok(())
 }
 
 fn byte_array<R: Print + Eprint>(rt: &R, alloc: Global) -> io::Result<()> {
     let a = ByteArray::from(made::letters(alloc, 3)?);
-    ask_of_a_vector!(rt, alloc, x => gen_byte_array(&a, &mut x));
+    insist_on_writing!(rt, alloc, x => gen_byte_array(&a, &mut x));
     Ok(())
 }
 
 fn long_int<R: Print + Eprint>(rt: &R, alloc: Global) -> io::Result<()> {
-    ask_of_a_vector!(rt, alloc, x => gen_long_int(-2, &mut x));
+    insist_on_writing!(rt, alloc, x => gen_long_int(-2, &mut x));
     Ok(())
 }
 
 fn flags<R: Print + Eprint>(rt: &R, alloc: Global) -> io::Result<()> {
     let flags = made::flags(alloc, &made::NAMES)?;
-    ask_of_a_vector!(rt, alloc, x => gen_flags(&flags, &mut x));
+    insist_on_writing!(rt, alloc, x => gen_flags(&flags, &mut x));
     Ok(())
 }
 
 /// Twenty bytes behind two lengths.
 fn with_len<R: Print + Eprint>(rt: &R, alloc: Global) -> io::Result<()> {
-    ask_of_a_vector!(
+    insist_on_writing!(
         rt, alloc, x => gen_with_len(|y| gen_with_len(|z| z.put(&[7; 20]), y), &mut x)
     );
     Ok(())
@@ -147,20 +172,23 @@ fn with_len<R: Print + Eprint>(rt: &R, alloc: Global) -> io::Result<()> {
 /// A vector as a buffer: what it puts, makes room for and reserves.
 fn buffer<R: Print + Eprint>(rt: &R, alloc: Global) -> io::Result<()> {
     let mut vector = Vec::from_slice(alloc, &[9])?;
-    ask_again!(
-        rt, shown::bytes(alloc, vector.as_slice())?, () = (), Output::put(&mut vector, &[7; 20]),
-        () => "put"
+    insist!(
+        rt,
+        alloc,
+        vector,
+        () = (),
+        Output::put(&mut vector, &[7; 20])
     );
-    ask_again!(
-        rt, shown::bytes(alloc, vector.as_slice())?, () = (), vector.make_room(1000),
-        () => "room"
-    );
+    insist!(rt, alloc, vector, () = (), vector.make_room(1000));
     vector.shrink_to_fit();
-    ask_again!(
-        rt, shown::bytes(alloc, vector.as_slice())?, () = (), BackToTheBuffer::reserve(&mut vector, 4),
-        at => at
+    insist!(
+        rt,
+        alloc,
+        vector,
+        () = (),
+        BackToTheBuffer::reserve(&mut vector, 4)
     );
-    println!(rt; "made {}", shown::bytes(alloc, vector.as_slice())?)
+    println!(rt; "made {}", vector.shown(alloc)?)
 }
 
 /// Into a slice of so many bytes.
@@ -172,9 +200,9 @@ fn to_slice<R: Print + Eprint>(
 ) -> io::Result<()> {
     let mut room = vec![in alloc; 0; room]?;
     let mut x = WriteContext::from(SliceOutput::new(room.as_mut_slice()));
-    ask!(rt, gen_value(v, &mut x), () => x.position());
+    tell(rt, alloc, within!(rt, gen_value(v, &mut x)))?;
     let (output, _) = x.into_inner();
-    println!(rt; "made {}", shown::bytes(alloc, output.written())?)
+    println!(rt; "made {}", bytes(alloc, output.written())?)
 }
 
 /// Into slices, where there is room and where there is none.
@@ -189,22 +217,40 @@ fn to_slices<R: Print + Eprint>(rt: &R, alloc: Global) -> io::Result<()> {
     let flags = made::flags(alloc, &made::NAMES)?;
     let mut room = [0; 40];
     let mut x = WriteContext::from(SliceOutput::new(&mut room));
-    ask!(rt, gen_flags(&flags, &mut x), () => x.position());
-    ask!(rt, gen_with_len(|y| y.put(&[7; 20]), &mut x), () => x.position());
-    ask!(rt, gen_long_string(b"a long text", &mut x), () => x.position());
+    tell(rt, alloc, within!(rt, gen_flags(&flags, &mut x)))?;
+    tell(
+        rt,
+        alloc,
+        within!(rt, gen_with_len(|y| y.put(&[7; 20]), &mut x)),
+    )?;
+    tell(
+        rt,
+        alloc,
+        within!(rt, gen_long_string(b"a long text", &mut x)),
+    )?;
     let (output, _) = x.into_inner();
-    println!(rt; "made {}", shown::bytes(alloc, output.written())?)
+    println!(rt; "made {}", bytes(alloc, output.written())?)
+}
+
+// fills in two bytes of a vector, and cuts it
+fn fill_and_cut(vector: &mut Vec<u8>) {
+    if vector.len() < 5 {
+        return;
+    }
+    BackToTheBuffer::fill(vector, 1, &[0, 0]);
+    BackToTheBuffer::back_to(vector, 5);
 }
 
 /// Into a vector with room for it.
 fn promised<R: Print + Eprint>(rt: &R, alloc: Global) -> io::Result<()> {
     let mut vector = Vec::from_slice(alloc, &[9])?;
     vector.make_room(9).map_err(made::unmade)?;
-    ask!(rt, Output::put(&mut vector, &[1, 2, 3, 4, 5, 6, 7, 8]), () => "put");
-    ask!(rt, Output::put(&mut vector, &[10]), () => "put");
-    eprintln!(rt; "begin")?;
-    BackToTheBuffer::fill(&mut vector, 1, &[0, 0]);
-    BackToTheBuffer::back_to(&mut vector, 5);
-    eprintln!(rt; "end")?;
-    println!(rt; "made {}", shown::bytes(alloc, vector.as_slice())?)
+    tell(
+        rt,
+        alloc,
+        within!(rt, Output::put(&mut vector, &[1, 2, 3, 4, 5, 6, 7, 8])),
+    )?;
+    tell(rt, alloc, within!(rt, Output::put(&mut vector, &[10])))?;
+    within!(rt, fill_and_cut(&mut vector));
+    println!(rt; "made {}", vector.shown(alloc)?)
 }

@@ -8,9 +8,10 @@ use std::alloc::Global;
 use std::io;
 
 /// The cases of this module, each by its name.
-pub const CASES: [&str; 28] = [
+pub const CASES: [&str; 29] = [
     "value_of_a_table",
     "value_of_a_table_in_two",
+    "value_of_many_keys",
     "value_of_many_pairs",
     "value_of_equal_keys",
     "value_of_many_values",
@@ -44,6 +45,7 @@ pub fn run<R: Print + Eprint>(rt: &R, alloc: Global, name: &str) -> io::Result<b
     match name {
         "value_of_a_table" => values::table(rt, alloc)?,
         "value_of_a_table_in_two" => values::table_in_two(rt, alloc)?,
+        "value_of_many_keys" => values::many_keys(rt, alloc)?,
         "value_of_many_pairs" => values::many_pairs(rt, alloc)?,
         "value_of_equal_keys" => values::equal_keys(rt, alloc)?,
         "value_of_many_values" => values::many_values(rt, alloc)?,

@@ -1,13 +1,17 @@
 //! Cases of what makes strings, arrays and tables, and of what grows them.
 
-use crate::asking::{ask, ask_again, insist};
-use crate::{made, shown};
-use amq_protocol_types::{AMQPValue, ByteArray, FieldArray, FieldTable, LongString, ShortString};
+use crate::asking::{insist, tell, within};
+use crate::made;
+use crate::shown::Shown;
+use amq_protocol_types::{
+    AMQPType, AMQPValue, ByteArray, FieldArray, FieldTable, LongString, ShortString,
+    ShortStringError,
+};
 use std::alloc::{AllocError, Global};
 use std::io;
 
 /// The cases of this module, each by its name.
-pub const CASES: [&str; 14] = [
+pub const CASES: [&str; 15] = [
     "try_copy",
     "from_text",
     "long_string_from_slice",
@@ -22,6 +26,7 @@ pub const CASES: [&str; 14] = [
     "from_pairs",
     "from_many_pairs",
     "made_without_memory",
+    "looked_at_without_memory",
 ];
 
 /// Runs the case of this name. Answers whether there is one.
@@ -41,39 +46,52 @@ pub fn run<R: Print + Eprint>(rt: &R, alloc: Global, name: &str) -> io::Result<b
         "from_pairs" => from_pairs(rt, alloc)?,
         "from_many_pairs" => from_many_pairs(rt, alloc)?,
         "made_without_memory" => without(rt, alloc)?,
+        "looked_at_without_memory" => looked_at(rt, alloc)?,
         _ => return Ok(false),
     }
     Ok(true)
 }
 
 fn try_copy<R: Print + Eprint>(rt: &R, alloc: Global) -> io::Result<()> {
-    ask_again!(rt, "", () = (), ShortString::try_copy(alloc, "test"), s => s);
+    insist!(rt, alloc, (), () = (), ShortString::try_copy(alloc, "test"));
     Ok(())
 }
 
 fn from_text<R: Print + Eprint>(rt: &R, alloc: Global) -> io::Result<()> {
-    ask_again!(rt, "", () = (), LongString::from_text(alloc, "test"), s => s);
+    insist!(rt, alloc, (), () = (), LongString::from_text(alloc, "test"));
     Ok(())
 }
 
 fn long_string_from_slice<R: Print + Eprint>(rt: &R, alloc: Global) -> io::Result<()> {
-    ask_again!(rt, "", () = (), LongString::from_slice(alloc, b"test"), s => s);
+    insist!(
+        rt,
+        alloc,
+        (),
+        () = (),
+        LongString::from_slice(alloc, b"test")
+    );
     Ok(())
 }
 
 fn byte_array_from_slice<R: Print + Eprint>(rt: &R, alloc: Global) -> io::Result<()> {
-    ask_again!(
-        rt, "", () = (), ByteArray::from_slice(alloc, &[1, 0, 255]),
-        a => shown::bytes(alloc, a.as_slice())?
+    insist!(
+        rt,
+        alloc,
+        (),
+        () = (),
+        ByteArray::from_slice(alloc, &[1, 0, 255])
     );
     Ok(())
 }
 
 fn byte_array_from_many_bytes<R: Print + Eprint>(rt: &R, alloc: Global) -> io::Result<()> {
     let letters = made::letters(alloc, 70_000)?;
-    ask_again!(
-        rt, "", () = (), ByteArray::from_slice(alloc, letters.as_slice()),
-        a => shown::bytes(alloc, a.as_slice())?
+    insist!(
+        rt,
+        alloc,
+        (),
+        () = (),
+        ByteArray::from_slice(alloc, letters.as_slice())
     );
     Ok(())
 }
@@ -83,11 +101,14 @@ fn push<R: Print + Eprint>(rt: &R, alloc: Global) -> io::Result<()> {
     let mut array = FieldArray::new_in(alloc);
     for n in 0..20 {
         insist!(
-            rt, shown::array(alloc, &array)?, value = AMQPValue::ShortShortUInt(n),
-            array.push(value), () => ()
+            rt,
+            alloc,
+            array,
+            value = AMQPValue::ShortShortUInt(n),
+            array.push(value)
         );
     }
-    println!(rt; "made {}", shown::array(alloc, &array)?)
+    println!(rt; "made {}", array.shown(alloc)?)
 }
 
 /// A table of twelve keys, "b" among them, "c" not.
@@ -109,20 +130,26 @@ fn inserted(table: &mut FieldTable, key: ShortString, value: AMQPValue) -> Resul
 fn insert<R: Print + Eprint>(rt: &R, alloc: Global, key: &str) -> io::Result<()> {
     let mut table = twelve_keys(alloc)?;
     insist!(
-        rt, shown::table(alloc, &table)?, short = made::short(alloc, key)?,
-        inserted(&mut table, short, AMQPValue::Boolean(true)), () => ()
+        rt,
+        alloc,
+        table,
+        short = made::short(alloc, key)?,
+        inserted(&mut table, short, AMQPValue::Boolean(true))
     );
-    println!(rt; "made {}", shown::table(alloc, &table)?)
+    println!(rt; "made {}", table.shown(alloc)?)
 }
 
 /// The same by `place`.
 fn place<R: Print + Eprint>(rt: &R, alloc: Global, key: &str) -> io::Result<()> {
     let mut table = twelve_keys(alloc)?;
     insist!(
-        rt, shown::table(alloc, &table)?, short = made::short(alloc, key)?,
-        table.place(short, AMQPValue::Boolean(true)), () => ()
+        rt,
+        alloc,
+        table,
+        short = made::short(alloc, key)?,
+        table.place(short, AMQPValue::Boolean(true))
     );
-    println!(rt; "made {}", shown::table(alloc, &table)?)
+    println!(rt; "made {}", table.shown(alloc)?)
 }
 
 /// A hundred pairs are inserted one after another, so that nodes of each kind are split.
@@ -131,11 +158,14 @@ fn insert_of_many_keys<R: Print + Eprint>(rt: &R, alloc: Global) -> io::Result<(
     for n in 0..100 {
         let key = format!(in alloc; "{n:02}")?;
         insist!(
-            rt, shown::table(alloc, &table)?, short = made::short(alloc, key.as_str())?,
-            inserted(&mut table, short, AMQPValue::ShortShortUInt(n)), () => ()
+            rt,
+            alloc,
+            table,
+            short = made::short(alloc, key.as_str())?,
+            inserted(&mut table, short, AMQPValue::ShortShortUInt(n))
         );
     }
-    println!(rt; "made {}", shown::table(alloc, &table)?)
+    println!(rt; "made {}", table.shown(alloc)?)
 }
 
 /// Pairs of so many keys.
@@ -152,68 +182,88 @@ fn pairs(alloc: Global, count: u8) -> io::Result<Vec<(ShortString, AMQPValue)>> 
 }
 
 fn from_pairs<R: Print + Eprint>(rt: &R, alloc: Global) -> io::Result<()> {
-    ask_again!(
-        rt, "", given = pairs(alloc, 2)?, FieldTable::from_pairs(alloc, given),
-        table => shown::table(alloc, &table)?
+    insist!(
+        rt,
+        alloc,
+        (),
+        given = pairs(alloc, 2)?,
+        FieldTable::from_pairs(alloc, given)
     );
     Ok(())
 }
 
 fn from_many_pairs<R: Print + Eprint>(rt: &R, alloc: Global) -> io::Result<()> {
-    ask_again!(
-        rt, "", given = pairs(alloc, 100)?, FieldTable::from_pairs(alloc, given),
-        table => shown::table(alloc, &table)?
+    insist!(
+        rt,
+        alloc,
+        (),
+        given = pairs(alloc, 100)?,
+        FieldTable::from_pairs(alloc, given)
     );
     Ok(())
 }
 
-/// What is empty, what is too long, what is handed over whole, and what is only looked at.
+/// What is empty, and what is too long.
 fn without<R: Print + Eprint>(rt: &R, alloc: Global) -> io::Result<()> {
-    let letters = made::letters(alloc, 256)?;
-    let letters = String::from_utf8(letters).map_err(made::unmade)?;
-    ask!(rt, ShortString::try_copy(alloc, letters.as_str()), s => s);
-    ask!(rt, ShortString::try_copy(alloc, ""), s => s);
-    ask!(rt, LongString::from_text(alloc, ""), s => s);
-    ask!(rt, LongString::from_slice(alloc, &[]), s => s);
-    ask!(rt, ByteArray::from_slice(alloc, &[]), a => a.len());
-    ask!(rt, FieldTable::from_pairs(alloc, Vec::new(alloc)), t => shown::table(alloc, &t)?);
-    let bytes = made::letters(alloc, 3)?;
-    let value = made::value(alloc, &made::TABLE)?;
-    ask!(rt, ShortString::try_new(letters), s => s);
-    let text = String::from_str(alloc, "test")?;
-    ask!(rt, ShortString::try_new(text), s => AMQPValue::from(s).get_type());
-    let text = String::from_str(alloc, "test")?;
-    ask!(rt, only_looked_at(alloc, value, text, bytes), are_known => are_known);
+    let letters = String::from_utf8(made::letters(alloc, 256)?).map_err(made::unmade)?;
+    tell(
+        rt,
+        alloc,
+        within!(rt, ShortString::try_copy(alloc, letters.as_str())),
+    )?;
+    tell(rt, alloc, within!(rt, ShortString::try_new(letters)))?;
+    tell(rt, alloc, within!(rt, ShortString::try_copy(alloc, "")))?;
+    tell(rt, alloc, within!(rt, LongString::from_text(alloc, "")))?;
+    tell(rt, alloc, within!(rt, LongString::from_slice(alloc, &[])))?;
+    tell(rt, alloc, within!(rt, ByteArray::from_slice(alloc, &[])))?;
+    tell(
+        rt,
+        alloc,
+        within!(rt, FieldTable::from_pairs(alloc, Vec::new(alloc))),
+    )?;
     Ok(())
 }
 
-// calls that take what they are handed, or look at it
-fn only_looked_at(
+/// What is handed over whole, and what is only looked at.
+fn looked_at<R: Print + Eprint>(rt: &R, alloc: Global) -> io::Result<()> {
+    let value = made::value(alloc, &made::TABLE)?;
+    let text = String::from_str(alloc, "test")?;
+    let letters = made::letters(alloc, 3)?;
+    tell(
+        rt,
+        alloc,
+        within!(rt, are_known(alloc, value, text, letters)),
+    )?;
+    Ok(())
+}
+
+// whether what is made of these, and what is looked at, is as it should be
+fn are_known(
     alloc: Global,
     value: AMQPValue,
     text: String,
-    bytes: Vec<u8>,
-) -> Result<bool, ()> {
-    let text = LongString::from(text);
-    let short = ShortString::new_in(alloc);
-    let array = FieldArray::from(Vec::new(alloc));
-    let bytes = ByteArray::from(bytes);
-    let table = value.as_field_table().ok_or(())?;
-    let mut keys = 0;
-    for (key, inner) in table {
-        if key.as_str() != "bar" && *inner == value {
-            return Ok(false);
-        }
-        keys = 1;
+    letters: Vec<u8>,
+) -> Result<bool, ShortStringError> {
+    let letters = ByteArray::from(letters);
+    let short = ShortString::try_new(text)?;
+    let is_short = short.as_str() == "test";
+    let long = LongString::from(String::from(short));
+    let Some(table) = value.as_field_table() else {
+        return Ok(false);
+    };
+    let mut has_foo = false;
+    for (key, entry) in table {
+        has_foo = has_foo || key.as_str() == "foo" && entry.as_array().is_some();
     }
     Ok(
-        keys == 1
+        has_foo
+            && is_short
             && table.contains_key("tabl")
             && !table.contains_key("tab")
-            && text.len() == 4
-            && short.as_str().is_empty()
-            && array.as_slice().is_empty()
-            && bytes.as_slice() == [97, 97, 97].as_slice()
+            && FieldArray::from(Vec::new(alloc)).as_slice().is_empty()
+            && letters.as_slice() == [97, 97, 97].as_slice()
+            && long.len() == 4
+            && AMQPValue::from(long).get_type() == AMQPType::LongString
             && value == value,
     )
 }

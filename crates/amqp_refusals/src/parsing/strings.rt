@@ -1,7 +1,7 @@
 //! Cases of the parsers of strings, byte arrays and containers.
 
-use crate::asking::ask_again;
-use crate::shown;
+use crate::asking::insist;
+use crate::shown::Shown;
 use amq_protocol_types::parsing::{
     SliceInput, SplitInput, parse_byte_array, parse_field_array, parse_field_table,
     parse_long_string, parse_short_string,
@@ -11,18 +11,24 @@ use std::io;
 
 /// A short string of the two bytes of é.
 pub fn short_string<R: Print + Eprint>(rt: &R, alloc: Global) -> io::Result<()> {
-    ask_again!(
-        rt, "", input = SliceInput::new(&[2, 195, 169]), parse_short_string(alloc, input),
-        (_, s) => s
+    insist!(
+        rt,
+        alloc,
+        (),
+        input = SliceInput::new(&[2, 195, 169]),
+        parse_short_string(alloc, input)
     );
     Ok(())
 }
 
 /// The same in two slices, cut between the two bytes.
 pub fn short_string_in_two<R: Print + Eprint>(rt: &R, alloc: Global) -> io::Result<()> {
-    ask_again!(
-        rt, "", input = SplitInput::new(&[2, 195], &[169]), parse_short_string(alloc, input),
-        (_, s) => s
+    insist!(
+        rt,
+        alloc,
+        (),
+        input = SplitInput::new(&[2, 195], &[169]),
+        parse_short_string(alloc, input)
     );
     Ok(())
 }
@@ -30,38 +36,48 @@ pub fn short_string_in_two<R: Print + Eprint>(rt: &R, alloc: Global) -> io::Resu
 /// A long string of four letters.
 pub fn long_string<R: Print + Eprint>(rt: &R, alloc: Global) -> io::Result<()> {
     let bytes = [0, 0, 0, 4, 116, 101, 115, 116];
-    ask_again!(
-        rt, "", input = SliceInput::new(&bytes), parse_long_string(alloc, input),
-        (_, s) => s
+    insist!(
+        rt,
+        alloc,
+        (),
+        input = SliceInput::new(&bytes),
+        parse_long_string(alloc, input)
     );
     Ok(())
 }
 
 /// The same in two slices, cut inside its length.
 pub fn long_string_in_two<R: Print + Eprint>(rt: &R, alloc: Global) -> io::Result<()> {
-    ask_again!(
-        rt, "", input = SplitInput::new(&[0, 0], &[0, 4, 116, 101, 115, 116]),
-        parse_long_string(alloc, input),
-        (_, s) => s
+    insist!(
+        rt,
+        alloc,
+        (),
+        input = SplitInput::new(&[0, 0], &[0, 4, 116, 101, 115, 116]),
+        parse_long_string(alloc, input)
     );
     Ok(())
 }
 
 /// Four bytes.
 pub fn byte_array<R: Print + Eprint>(rt: &R, alloc: Global) -> io::Result<()> {
-    ask_again!(
-        rt, "", input = SliceInput::new(&[0, 0, 0, 4, 42, 1, 2, 3]), parse_byte_array(alloc, input),
-        (_, a) => shown::bytes(alloc, a.as_slice())?
+    insist!(
+        rt,
+        alloc,
+        (),
+        input = SliceInput::new(&[0, 0, 0, 4, 42, 1, 2, 3]),
+        parse_byte_array(alloc, input)
     );
     Ok(())
 }
 
 /// The same in two slices, cut among them.
 pub fn byte_array_in_two<R: Print + Eprint>(rt: &R, alloc: Global) -> io::Result<()> {
-    ask_again!(
-        rt, "", input = SplitInput::new(&[0, 0, 0, 4, 42], &[1, 2, 3]),
-        parse_byte_array(alloc, input),
-        (_, a) => shown::bytes(alloc, a.as_slice())?
+    insist!(
+        rt,
+        alloc,
+        (),
+        input = SplitInput::new(&[0, 0, 0, 4, 42], &[1, 2, 3]),
+        parse_byte_array(alloc, input)
     );
     Ok(())
 }
@@ -69,9 +85,12 @@ pub fn byte_array_in_two<R: Print + Eprint>(rt: &R, alloc: Global) -> io::Result
 /// An array of a Void and of a long string.
 pub fn field_array<R: Print + Eprint>(rt: &R, alloc: Global) -> io::Result<()> {
     let bytes = [0, 0, 0, 7, 86, 83, 0, 0, 0, 1, 97];
-    ask_again!(
-        rt, "", input = SliceInput::new(&bytes), parse_field_array(alloc, input),
-        (_, a) => shown::array(alloc, &a)?
+    insist!(
+        rt,
+        alloc,
+        (),
+        input = SliceInput::new(&bytes),
+        parse_field_array(alloc, input)
     );
     Ok(())
 }
@@ -79,9 +98,12 @@ pub fn field_array<R: Print + Eprint>(rt: &R, alloc: Global) -> io::Result<()> {
 /// A table of two pairs, with an array in the first.
 pub fn field_table<R: Print + Eprint>(rt: &R, alloc: Global) -> io::Result<()> {
     let bytes = [0, 0, 0, 11, 1, 97, 65, 0, 0, 0, 1, 86, 1, 98, 86];
-    ask_again!(
-        rt, "", input = SliceInput::new(&bytes), parse_field_table(alloc, input),
-        (_, t) => shown::table(alloc, &t)?
+    insist!(
+        rt,
+        alloc,
+        (),
+        input = SliceInput::new(&bytes),
+        parse_field_table(alloc, input)
     );
     Ok(())
 }

@@ -1,7 +1,8 @@
 //! Cases of `parse_value` and of `parse_raw_value`.
 
-use crate::asking::ask_again;
-use crate::{made, shown};
+use crate::asking::insist;
+use crate::made;
+use crate::shown::Shown;
 use amq_protocol_types::parsing::traits::ParsableInput;
 use amq_protocol_types::parsing::{
     Err, ErrorKind, ParserError, ParserResult, SliceInput, SplitInput, parse_raw_value, parse_value,
@@ -16,7 +17,7 @@ fn value_of<R: Print + Eprint, I: ParsableInput>(
     alloc: Global,
     input: I,
 ) -> io::Result<()> {
-    ask_again!(rt, "", () = (), parse_value(alloc, input), (_, v) => shown::value(alloc, &v)?);
+    insist!(rt, alloc, (), () = (), parse_value(alloc, input));
     Ok(())
 }
 
@@ -27,9 +28,12 @@ fn payload_of<R: Print + Eprint>(
     amqp_type: AMQPType,
     bytes: &[u8],
 ) -> io::Result<()> {
-    ask_again!(
-        rt, "", input = SliceInput::new(bytes), parse_raw_value(alloc, amqp_type, input),
-        (_, v) => shown::value(alloc, &v)?
+    insist!(
+        rt,
+        alloc,
+        (),
+        input = SliceInput::new(bytes),
+        parse_raw_value(alloc, amqp_type, input)
     );
     Ok(())
 }
@@ -61,11 +65,29 @@ pub fn table_in_two<R: Print + Eprint>(rt: &R, alloc: Global) -> io::Result<()> 
     value_of(rt, alloc, SplitInput::new(first, second))
 }
 
-/// A table whose body begins as one of many pairs does: of a a Void, then of b 20,000 letters, then
-/// of a a truth value.
+/// Pairs of 100 keys with a truth value each.
+fn hundred_pairs(alloc: Global) -> Result<Vec<u8>, AllocError> {
+    let mut pairs = Vec::new(alloc);
+    for n in 0..100u8 {
+        pairs.extend_from_slice(&[1, n, 116, 1])?;
+    }
+    Ok(pairs)
+}
+
+/// A table of 100 keys.
+pub fn many_keys<R: Print + Eprint>(rt: &R, alloc: Global) -> io::Result<()> {
+    let mut wire = Vec::from_slice(alloc, &[70, 0, 0, 1, 144])?;
+    wire.extend_from_slice(hundred_pairs(alloc)?.as_slice())?;
+    value_of(rt, alloc, SliceInput::new(wire.as_slice()))
+}
+
+/// A table of the same keys and of 20,000 letters under one more, so that its pairs are gathered
+/// before it is made of them.
 pub fn many_pairs<R: Print + Eprint>(rt: &R, alloc: Global) -> io::Result<()> {
-    let header = [70, 0, 0, 78, 46, 1, 97, 86, 1, 98, 83, 0, 0, 78, 32];
-    let wire = repeated(alloc, &header, 20_000, &[97], &[1, 97, 116, 1])?;
+    let mut wire = Vec::from_slice(alloc, &[70, 0, 0, 79, 183])?;
+    wire.extend_from_slice(hundred_pairs(alloc)?.as_slice())?;
+    let letters = repeated(alloc, &[1, 122, 83, 0, 0, 78, 32], 20_000, &[97], &[])?;
+    wire.extend_from_slice(letters.as_slice())?;
     value_of(rt, alloc, SliceInput::new(wire.as_slice()))
 }
 
@@ -116,18 +138,24 @@ fn kind_of<I: ParsableInput>(
     answer: ParserResult<I, AMQPValue>,
 ) -> Result<Option<ErrorKind>, ParserError> {
     match answer {
-        Ok(_) => Ok(None),
-        Err(Err::Error(e)) => Ok(Some(e.kind())),
-        Err(e) => Err(e),
+        Ok((_rest, _value)) => Ok(None),
+        Err(e) => match e {
+            Err::Error(error) => Ok(Some(error.kind())),
+            Err::Incomplete(needed) => Err(Err::Incomplete(needed)),
+            Err::Failure(error) => Err(Err::Failure(error)),
+        },
     }
 }
 
 /// An array of a Void and of a number that is cut.
 pub fn refused<R: Print + Eprint>(rt: &R, alloc: Global) -> io::Result<()> {
     let wire = [65, 0, 0, 0, 3, 86, 73, 0];
-    ask_again!(
-        rt, "", input = SliceInput::new(&wire), kind_of(parse_value(alloc, input)),
-        kind => format!(in alloc; "{kind:?}")?
+    insist!(
+        rt,
+        alloc,
+        (),
+        input = SliceInput::new(&wire),
+        kind_of(parse_value(alloc, input))
     );
     Ok(())
 }

@@ -1,8 +1,7 @@
 //! Calls of parsers that take no memory: where the frame isn't whole or has no body, and where what
 //! is read holds none.
 
-use crate::asking::ask;
-use crate::shown;
+use crate::asking::{tell, tell_number, within};
 use amq_protocol_types::AMQPType;
 use amq_protocol_types::parsing::{
     SliceInput, SplitInput, parse_boolean, parse_byte_array, parse_decimal_value, parse_double,
@@ -48,8 +47,12 @@ pub fn values<R: Print + Eprint>(rt: &R, alloc: Global) -> io::Result<()> {
     ] {
         let (front, behind) = wire.split_at(wire.len() / 2);
         let input = SplitInput::new(front, behind);
-        ask!(rt, parse_value(alloc, SliceInput::new(wire)), (_, v) => shown::value(alloc, &v)?);
-        ask!(rt, parse_value(alloc, input), (_, v) => shown::value(alloc, &v)?);
+        tell(
+            rt,
+            alloc,
+            within!(rt, parse_value(alloc, SliceInput::new(wire))),
+        )?;
+        tell(rt, alloc, within!(rt, parse_value(alloc, input)))?;
     }
     Ok(())
 }
@@ -65,7 +68,11 @@ pub fn payloads<R: Print + Eprint>(rt: &R, alloc: Global) -> io::Result<()> {
     ] {
         for bytes in [[0, 0, 0, 0].as_slice(), [255, 255, 255, 255].as_slice()] {
             let input = SliceInput::new(bytes);
-            ask!(rt, parse_raw_value(alloc, amqp_type, input), (_, v) => shown::value(alloc, &v)?);
+            tell(
+                rt,
+                alloc,
+                within!(rt, parse_raw_value(alloc, amqp_type, input)),
+            )?;
         }
     }
     for amqp_type in [
@@ -85,7 +92,11 @@ pub fn payloads<R: Print + Eprint>(rt: &R, alloc: Global) -> io::Result<()> {
         AMQPType::Void,
     ] {
         let input = SliceInput::new(&[1, 2, 3, 4, 5, 6, 7, 8]);
-        ask!(rt, parse_raw_value(alloc, amqp_type, input), (_, v) => shown::value(alloc, &v)?);
+        tell(
+            rt,
+            alloc,
+            within!(rt, parse_raw_value(alloc, amqp_type, input)),
+        )?;
     }
     Ok(())
 }
@@ -93,7 +104,11 @@ pub fn payloads<R: Print + Eprint>(rt: &R, alloc: Global) -> io::Result<()> {
 /// Strings and byte arrays that are empty, and such as are cut.
 pub fn strings<R: Print + Eprint>(rt: &R, alloc: Global) -> io::Result<()> {
     for bytes in [[0].as_slice(), [].as_slice(), [9, 255].as_slice()] {
-        ask!(rt, parse_short_string(alloc, SliceInput::new(bytes)), (_, s) => s);
+        tell(
+            rt,
+            alloc,
+            within!(rt, parse_short_string(alloc, SliceInput::new(bytes))),
+        )?;
     }
     for bytes in [
         [0, 0, 0, 0].as_slice(),
@@ -101,8 +116,8 @@ pub fn strings<R: Print + Eprint>(rt: &R, alloc: Global) -> io::Result<()> {
         [0, 0, 0, 2, 1].as_slice(),
     ] {
         let input = SliceInput::new(bytes);
-        ask!(rt, parse_long_string(alloc, input), (_, s) => s);
-        ask!(rt, parse_byte_array(alloc, input), (_, a) => a.len());
+        tell(rt, alloc, within!(rt, parse_long_string(alloc, input)))?;
+        tell(rt, alloc, within!(rt, parse_byte_array(alloc, input)))?;
     }
     Ok(())
 }
@@ -115,8 +130,8 @@ pub fn containers<R: Print + Eprint>(rt: &R, alloc: Global) -> io::Result<()> {
         [0, 0, 0, 4, 1, 97, 86].as_slice(),
     ] {
         let input = SliceInput::new(bytes);
-        ask!(rt, parse_field_array(alloc, input), (_, a) => shown::array(alloc, &a)?);
-        ask!(rt, parse_field_table(alloc, input), (_, t) => shown::table(alloc, &t)?);
+        tell(rt, alloc, within!(rt, parse_field_array(alloc, input)))?;
+        tell(rt, alloc, within!(rt, parse_field_table(alloc, input)))?;
     }
     Ok(())
 }
@@ -128,22 +143,37 @@ pub fn scalars<R: Print + Eprint>(rt: &R) -> io::Result<()> {
         [73].as_slice(),
         [73, 0, 0, 0, 1, 0, 0, 0, 2].as_slice(),
     ] {
-        let i = SliceInput::new(bytes);
-        ask!(rt, parse_type(i), (_, t) => t);
-        ask!(rt, parse_id(i), (_, n) => n);
-        ask!(rt, parse_boolean(i), (_, b) => b);
-        ask!(rt, parse_short_short_int(i), (_, n) => n);
-        ask!(rt, parse_short_short_uint(i), (_, n) => n);
-        ask!(rt, parse_short_int(i), (_, n) => n);
-        ask!(rt, parse_short_uint(i), (_, n) => n);
-        ask!(rt, parse_long_int(i), (_, n) => n);
-        ask!(rt, parse_long_uint(i), (_, n) => n);
-        ask!(rt, parse_long_long_int(i), (_, n) => n);
-        ask!(rt, parse_long_long_uint(i), (_, n) => n);
-        ask!(rt, parse_float(i), (_, f) => f.to_bits());
-        ask!(rt, parse_double(i), (_, f) => f.to_bits());
-        ask!(rt, parse_decimal_value(i), (_, d) => d.value);
-        ask!(rt, parse_timestamp(i), (_, n) => n);
+        let input = SliceInput::new(bytes);
+        small_numbers(rt, input)?;
+        large_numbers(rt, input)?;
+        points(rt, input)?;
     }
     Ok(())
+}
+
+fn small_numbers<R: Print + Eprint>(rt: &R, i: SliceInput<'_>) -> io::Result<()> {
+    tell_number(rt, within!(rt, parse_type(i)))?;
+    tell_number(rt, within!(rt, parse_id(i)))?;
+    tell_number(rt, within!(rt, parse_boolean(i)))?;
+    tell_number(rt, within!(rt, parse_short_short_int(i)))?;
+    tell_number(rt, within!(rt, parse_short_short_uint(i)))?;
+    tell_number(rt, within!(rt, parse_short_int(i)))?;
+    tell_number(rt, within!(rt, parse_short_uint(i)))
+}
+
+fn large_numbers<R: Print + Eprint>(rt: &R, i: SliceInput<'_>) -> io::Result<()> {
+    tell_number(rt, within!(rt, parse_long_int(i)))?;
+    tell_number(rt, within!(rt, parse_long_uint(i)))?;
+    tell_number(rt, within!(rt, parse_long_long_int(i)))?;
+    tell_number(rt, within!(rt, parse_long_long_uint(i)))?;
+    tell_number(rt, within!(rt, parse_timestamp(i)))
+}
+
+fn points<R: Print + Eprint>(rt: &R, i: SliceInput<'_>) -> io::Result<()> {
+    let float = within!(rt, parse_float(i));
+    tell_number(rt, float.map(|(rest, f)| (rest, f.to_bits())))?;
+    let double = within!(rt, parse_double(i));
+    tell_number(rt, double.map(|(rest, f)| (rest, f.to_bits())))?;
+    let decimal = within!(rt, parse_decimal_value(i));
+    tell_number(rt, decimal.map(|(rest, d)| (rest, d.value)))
 }
