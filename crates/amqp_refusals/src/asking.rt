@@ -74,6 +74,12 @@ macro_rules! within {
 /// Makes `$given` and then a call, and tells what it answered. Where that is a refusal, tells what
 /// `$state` was before the call and is after it, and does all once more.
 macro_rules! insist {
+    ($rt:ident, $alloc:ident, $call:expr) => {
+        crate::asking::insist!($rt, $alloc, (), () = (), $call)
+    };
+    ($rt:ident, $alloc:ident, $state:expr, $call:expr) => {
+        crate::asking::insist!($rt, $alloc, $state, () = (), $call)
+    };
     ($rt:ident, $alloc:ident, $state:expr, $given:pat = $made:expr, $call:expr) => {
         for _ in 0..2 {
             let had = $state.shown($alloc)?;

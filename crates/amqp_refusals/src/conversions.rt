@@ -18,23 +18,25 @@ pub const CASES: [&str; 3] = [
 /// Runs the case of this name. Answers whether there is one.
 pub fn run<R: Print + Eprint>(rt: &R, alloc: Global, name: &str) -> io::Result<bool> {
     match name {
-        "try_from_to_a_short_string" => of_a_text(rt, alloc, AMQPType::ShortString)?,
-        "try_from_to_a_long_string" => of_a_text(rt, alloc, AMQPType::LongString)?,
+        "try_from_to_a_short_string" => of_a_text(rt, alloc, AMQPType::ShortString, 255)?,
+        "try_from_to_a_long_string" => of_a_text(rt, alloc, AMQPType::LongString, 70_000)?,
         "try_from_without_memory" => without(rt, alloc)?,
         _ => return Ok(false),
     }
     Ok(true)
 }
 
-fn of_a_text<R: Print + Eprint>(rt: &R, alloc: Global, to: AMQPType) -> io::Result<()> {
-    let text = Value::String(String::from_str(alloc, "test")?);
-    insist!(
-        rt,
-        alloc,
-        text,
-        () = (),
-        AMQPValue::try_from(alloc, &text, to)
-    );
+/// A short text, and a long one.
+fn of_a_text<R: Print + Eprint>(
+    rt: &R,
+    alloc: Global,
+    to: AMQPType,
+    long: usize,
+) -> io::Result<()> {
+    for count in [4, long] {
+        let text = Value::String(made::text(alloc, count)?);
+        insist!(rt, alloc, text, AMQPValue::try_from(alloc, &text, to));
+    }
     Ok(())
 }
 
@@ -74,7 +76,7 @@ fn without<R: Print + Eprint>(rt: &R, alloc: Global) -> io::Result<()> {
             within!(rt, AMQPValue::try_from(alloc, &empty, to)),
         )?;
     }
-    let letters = String::from_utf8(made::letters(alloc, 256)?).map_err(made::unmade)?;
+    let letters = made::text(alloc, 256)?;
     let long = Value::String(letters);
     tell(
         rt,

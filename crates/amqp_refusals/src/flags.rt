@@ -9,14 +9,13 @@ use std::alloc::Global;
 use std::io;
 
 /// The cases of this module, each by its name.
-pub const CASES: [&str; 8] = [
+pub const CASES: [&str; 7] = [
     "parse_flags",
     "parse_flags_in_two",
     "flags_from_bytes",
     "add_flag",
     "get_bytes",
     "clone_of_flags",
-    "clone_of_many_flags",
     "flags_without_memory",
 ];
 
@@ -29,44 +28,33 @@ pub fn run<R: Print + Eprint>(rt: &R, alloc: Global, name: &str) -> io::Result<b
         "add_flag" => add(rt, alloc)?,
         "get_bytes" => get_bytes(rt, alloc)?,
         "clone_of_flags" => clone(rt, alloc)?,
-        "clone_of_many_flags" => clone_of_many(rt, alloc)?,
         "flags_without_memory" => without(rt, alloc)?,
         _ => return Ok(false),
     }
     Ok(true)
 }
 
+/// Ten flags, and thirty of the empty name.
 fn parse<R: Print + Eprint>(rt: &R, alloc: Global) -> io::Result<()> {
-    insist!(
-        rt,
-        alloc,
-        (),
-        input = SliceInput::new(&[221, 2]),
-        parse_flags(alloc, input, &made::NAMES)
-    );
+    let input = SliceInput::new(&[221, 2]);
+    insist!(rt, alloc, parse_flags(alloc, input, &made::NAMES));
+    let input = SliceInput::new(&[1, 2, 3, 4]);
+    insist!(rt, alloc, parse_flags(alloc, input, &[""; 30]));
     Ok(())
 }
 
 fn parse_in_two<R: Print + Eprint>(rt: &R, alloc: Global) -> io::Result<()> {
-    insist!(
-        rt,
-        alloc,
-        (),
-        input = SplitInput::new(&[221], &[2]),
-        parse_flags(alloc, input, &made::NAMES)
-    );
+    let input = SplitInput::new(&[221], &[2]);
+    insist!(rt, alloc, parse_flags(alloc, input, &made::NAMES));
     Ok(())
 }
 
-/// Eight flags, since there is one byte.
+/// Eight flags of ten names, since there is one byte, and thirty of the empty name.
 fn from_bytes<R: Print + Eprint>(rt: &R, alloc: Global) -> io::Result<()> {
-    insist!(
-        rt,
-        alloc,
-        (),
-        input = SliceInput::new(&[5]),
-        AMQPFlags::from_bytes(alloc, &made::NAMES, input)
-    );
+    let input = SliceInput::new(&[5]);
+    insist!(rt, alloc, AMQPFlags::from_bytes(alloc, &made::NAMES, input));
+    let input = SliceInput::new(&[1, 2, 3, 4]);
+    insist!(rt, alloc, AMQPFlags::from_bytes(alloc, &[""; 30], input));
     Ok(())
 }
 
@@ -85,22 +73,25 @@ fn add<R: Print + Eprint>(rt: &R, alloc: Global) -> io::Result<()> {
     println!(rt; "made {}", flags.shown(alloc)?)
 }
 
+/// Ten flags, and thirty of the empty name.
 fn get_bytes<R: Print + Eprint>(rt: &R, alloc: Global) -> io::Result<()> {
-    let flags = made::flags(alloc, &made::NAMES)?;
-    insist!(rt, alloc, flags, () = (), flags.get_bytes(alloc));
+    for flags in [
+        made::flags(alloc, &made::NAMES)?,
+        made::flags(alloc, &[""; 30])?,
+    ] {
+        insist!(rt, alloc, flags, flags.get_bytes(alloc));
+    }
     Ok(())
 }
 
+/// Three flags, and thirty of the empty name.
 fn clone<R: Print + Eprint>(rt: &R, alloc: Global) -> io::Result<()> {
-    let flags = made::flags(alloc, &["a", "", "c"])?;
-    insist!(rt, alloc, flags, () = (), flags.clone(alloc));
-    Ok(())
-}
-
-/// Thirty flags, all of the empty name.
-fn clone_of_many<R: Print + Eprint>(rt: &R, alloc: Global) -> io::Result<()> {
-    let flags = made::flags(alloc, &[""; 30])?;
-    insist!(rt, alloc, flags, () = (), flags.clone(alloc));
+    for flags in [
+        made::flags(alloc, &["a", "", "c"])?,
+        made::flags(alloc, &[""; 30])?,
+    ] {
+        insist!(rt, alloc, flags, flags.clone(alloc));
+    }
     Ok(())
 }
 

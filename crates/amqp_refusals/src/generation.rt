@@ -13,14 +13,13 @@ use std::alloc::Global;
 use std::io;
 
 /// The cases of this module, each by its name.
-pub const CASES: [&str; 14] = [
+pub const CASES: [&str; 13] = [
     "gen_value",
     "gen_raw_value",
     "gen_field_array",
     "gen_field_table",
     "gen_short_string",
     "gen_long_string",
-    "gen_long_string_of_many_bytes",
     "gen_byte_array",
     "gen_long_int",
     "gen_flags",
@@ -38,8 +37,7 @@ pub fn run<R: Print + Eprint>(rt: &R, alloc: Global, name: &str) -> io::Result<b
         "gen_field_array" => field_array(rt, alloc)?,
         "gen_field_table" => field_table(rt, alloc)?,
         "gen_short_string" => short_string(rt, alloc)?,
-        "gen_long_string" => long_string(rt, alloc, 4)?,
-        "gen_long_string_of_many_bytes" => long_string(rt, alloc, 70_000)?,
+        "gen_long_string" => long_string(rt, alloc)?,
         "gen_byte_array" => byte_array(rt, alloc)?,
         "gen_long_int" => long_int(rt, alloc)?,
         "gen_flags" => flags(rt, alloc)?,
@@ -102,51 +100,61 @@ macro_rules! insist_on_writing {
     };
 }
 
+/// A table with an entry of nearly every type, and a long string.
 fn value<R: Print + Eprint>(rt: &R, alloc: Global) -> io::Result<()> {
-    let v = made::value(alloc, &made::TABLE)?;
-    insist_on_writing!(rt, alloc, x => gen_value(&v, &mut x));
-    Ok(())
-}
-
-fn raw_value<R: Print + Eprint>(rt: &R, alloc: Global) -> io::Result<()> {
-    let v = made::value(alloc, &made::TABLE)?;
-    insist_on_writing!(rt, alloc, x => gen_raw_value(&v, &mut x));
-    Ok(())
-}
-
-/// Twenty times true.
-fn field_array<R: Print + Eprint>(rt: &R, alloc: Global) -> io::Result<()> {
-    let mut a = FieldArray::new_in(alloc);
-    for _ in 0..20 {
-        a.push(AMQPValue::Boolean(true))?;
+    let letters = LongString::from(made::letters(alloc, 70_000)?);
+    for v in [made::value(alloc, &made::TABLE)?, AMQPValue::from(letters)] {
+        insist_on_writing!(rt, alloc, x => gen_value(&v, &mut x));
     }
-    insist_on_writing!(rt, alloc, x => gen_field_array(&a, &mut x));
     Ok(())
 }
 
-/// A pair, with a long string.
+/// The same without their ids.
+fn raw_value<R: Print + Eprint>(rt: &R, alloc: Global) -> io::Result<()> {
+    let letters = LongString::from(made::letters(alloc, 70_000)?);
+    for v in [made::value(alloc, &made::TABLE)?, AMQPValue::from(letters)] {
+        insist_on_writing!(rt, alloc, x => gen_raw_value(&v, &mut x));
+    }
+    Ok(())
+}
+
+fn field_array<R: Print + Eprint>(rt: &R, alloc: Global) -> io::Result<()> {
+    for count in [1, 4000] {
+        let a = made::voids(alloc, count)?;
+        insist_on_writing!(rt, alloc, x => gen_field_array(&a, &mut x));
+    }
+    Ok(())
+}
+
 fn field_table<R: Print + Eprint>(rt: &R, alloc: Global) -> io::Result<()> {
-    let payload = [0, 0, 0, 11, 1, 97, 83, 0, 0, 0, 4, 116, 101, 115, 116];
-    let t = made::table(alloc, &payload)?;
-    insist_on_writing!(rt, alloc, x => gen_field_table(&t, &mut x));
+    for count in [3, 100] {
+        let t = made::keys(alloc, count)?;
+        insist_on_writing!(rt, alloc, x => gen_field_table(&t, &mut x));
+    }
     Ok(())
 }
 
 fn short_string<R: Print + Eprint>(rt: &R, alloc: Global) -> io::Result<()> {
-    insist_on_writing!(rt, alloc, x => gen_short_string("test", &mut x));
+    for count in [4, 255] {
+        let text = made::text(alloc, count)?;
+        insist_on_writing!(rt, alloc, x => gen_short_string(text.as_str(), &mut x));
+    }
     Ok(())
 }
 
-/// So many letters.
-fn long_string<R: Print + Eprint>(rt: &R, alloc: Global, count: usize) -> io::Result<()> {
-    let letters = made::letters(alloc, count)?;
-    insist_on_writing!(rt, alloc, x => gen_long_string(letters.as_slice(), &mut x));
+fn long_string<R: Print + Eprint>(rt: &R, alloc: Global) -> io::Result<()> {
+    for count in [4, 70_000] {
+        let letters = made::letters(alloc, count)?;
+        insist_on_writing!(rt, alloc, x => gen_long_string(letters.as_slice(), &mut x));
+    }
     Ok(())
 }
 
 fn byte_array<R: Print + Eprint>(rt: &R, alloc: Global) -> io::Result<()> {
-    let a = ByteArray::from(made::letters(alloc, 3)?);
-    insist_on_writing!(rt, alloc, x => gen_byte_array(&a, &mut x));
+    for count in [3, 70_000] {
+        let a = ByteArray::from(made::letters(alloc, count)?);
+        insist_on_writing!(rt, alloc, x => gen_byte_array(&a, &mut x));
+    }
     Ok(())
 }
 
@@ -155,9 +163,14 @@ fn long_int<R: Print + Eprint>(rt: &R, alloc: Global) -> io::Result<()> {
     Ok(())
 }
 
+/// Ten flags, and thirty of the empty name.
 fn flags<R: Print + Eprint>(rt: &R, alloc: Global) -> io::Result<()> {
-    let flags = made::flags(alloc, &made::NAMES)?;
-    insist_on_writing!(rt, alloc, x => gen_flags(&flags, &mut x));
+    for flags in [
+        made::flags(alloc, &made::NAMES)?,
+        made::flags(alloc, &[""; 30])?,
+    ] {
+        insist_on_writing!(rt, alloc, x => gen_flags(&flags, &mut x));
+    }
     Ok(())
 }
 
@@ -172,22 +185,10 @@ fn with_len<R: Print + Eprint>(rt: &R, alloc: Global) -> io::Result<()> {
 /// A vector as a buffer: what it puts, makes room for and reserves.
 fn buffer<R: Print + Eprint>(rt: &R, alloc: Global) -> io::Result<()> {
     let mut vector = Vec::from_slice(alloc, &[9])?;
-    insist!(
-        rt,
-        alloc,
-        vector,
-        () = (),
-        Output::put(&mut vector, &[7; 20])
-    );
-    insist!(rt, alloc, vector, () = (), vector.make_room(1000));
+    insist!(rt, alloc, vector, Output::put(&mut vector, &[7; 20]));
+    insist!(rt, alloc, vector, vector.make_room(1000));
     vector.shrink_to_fit();
-    insist!(
-        rt,
-        alloc,
-        vector,
-        () = (),
-        BackToTheBuffer::reserve(&mut vector, 4)
-    );
+    insist!(rt, alloc, vector, BackToTheBuffer::reserve(&mut vector, 4));
     println!(rt; "made {}", vector.shown(alloc)?)
 }
 

@@ -2,7 +2,7 @@
 
 use amq_protocol_types::flags::AMQPFlags;
 use amq_protocol_types::parsing::{SliceInput, parse_field_array, parse_field_table, parse_value};
-use amq_protocol_types::{AMQPValue, FieldArray, FieldTable, LongString, ShortString};
+use amq_protocol_types::{AMQPValue, FieldArray, FieldTable, ShortString};
 use std::alloc::Global;
 use std::io;
 use std::io::ErrorKind;
@@ -62,14 +62,33 @@ pub fn short(alloc: Global, text: &str) -> io::Result<ShortString> {
     ShortString::try_copy(alloc, text).map_err(unmade)
 }
 
-/// A text as a long string.
-pub fn long(alloc: Global, text: &str) -> io::Result<LongString> {
-    Ok(LongString::from_text(alloc, text)?)
-}
-
 /// So many letters a.
 pub fn letters(alloc: Global, count: usize) -> io::Result<Vec<u8>> {
     Ok(vec![in alloc; 97; count]?)
+}
+
+/// The same as a text.
+pub fn text(alloc: Global, count: usize) -> io::Result<String> {
+    String::from_utf8(letters(alloc, count)?).map_err(unmade)
+}
+
+/// An array of so many Voids.
+pub fn voids(alloc: Global, count: usize) -> io::Result<FieldArray> {
+    let mut array = FieldArray::new_in(alloc);
+    for _ in 0..count {
+        array.push(AMQPValue::Void)?;
+    }
+    Ok(array)
+}
+
+/// A table of so many keys.
+pub fn keys(alloc: Global, count: u8) -> io::Result<FieldTable> {
+    let mut table = FieldTable::new_in(alloc);
+    for n in 0..count {
+        let key = format!(in alloc; "{n:02}")?;
+        table.place(short(alloc, key.as_str())?, AMQPValue::ShortShortUInt(n))?;
+    }
+    Ok(table)
 }
 
 /// Flags under these names, the first one true, and then each other one.

@@ -3,8 +3,7 @@
 use crate::made::unmade;
 use amq_protocol_types::flags::AMQPFlags;
 use amq_protocol_types::generation::{
-    GenResult, SliceOutput, WriteContext, gen_byte_array, gen_field_array, gen_field_table,
-    gen_value,
+    GenResult, SliceOutput, WriteContext, gen_field_array, gen_field_table, gen_value,
 };
 use amq_protocol_types::parsing::ErrorKind;
 use amq_protocol_types::parsing::traits::ParsableInput;
@@ -75,10 +74,8 @@ impl Shown for FieldTable {
 
 impl Shown for ByteArray {
     fn shown(&self, alloc: Global) -> io::Result<String> {
-        let mut room = vec![in alloc; 0; ROOM]?;
-        let mut context = WriteContext::from(SliceOutput::new(room.as_mut_slice()));
-        let answer = gen_byte_array(self, &mut context);
-        written(alloc, context, answer)
+        let text = bytes(alloc, self.as_slice())?;
+        Ok(format!(in alloc; "[{text}]")?)
     }
 }
 
@@ -90,7 +87,8 @@ impl Shown for ShortString {
 
 impl Shown for LongString {
     fn shown(&self, alloc: Global) -> io::Result<String> {
-        Ok(format!(in alloc; "'{self}'")?)
+        let text = bytes(alloc, self.as_bytes())?;
+        Ok(format!(in alloc; "[{text}]")?)
     }
 }
 

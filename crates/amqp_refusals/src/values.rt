@@ -11,12 +11,11 @@ use std::alloc::{AllocError, Global};
 use std::io;
 
 /// The cases of this module, each by its name.
-pub const CASES: [&str; 15] = [
+pub const CASES: [&str; 13] = [
     "try_copy",
     "from_text",
     "long_string_from_slice",
     "byte_array_from_slice",
-    "byte_array_from_many_bytes",
     "push",
     "insert_of_a_new_key",
     "insert_of_a_key_that_is_there",
@@ -24,7 +23,6 @@ pub const CASES: [&str; 15] = [
     "place_of_a_new_key",
     "place_of_a_key_that_is_there",
     "from_pairs",
-    "from_many_pairs",
     "made_without_memory",
     "looked_at_without_memory",
 ];
@@ -36,7 +34,6 @@ pub fn run<R: Print + Eprint>(rt: &R, alloc: Global, name: &str) -> io::Result<b
         "from_text" => from_text(rt, alloc)?,
         "long_string_from_slice" => long_string_from_slice(rt, alloc)?,
         "byte_array_from_slice" => byte_array_from_slice(rt, alloc)?,
-        "byte_array_from_many_bytes" => byte_array_from_many_bytes(rt, alloc)?,
         "push" => push(rt, alloc)?,
         "insert_of_a_new_key" => insert(rt, alloc, "c")?,
         "insert_of_a_key_that_is_there" => insert(rt, alloc, "b")?,
@@ -44,7 +41,6 @@ pub fn run<R: Print + Eprint>(rt: &R, alloc: Global, name: &str) -> io::Result<b
         "place_of_a_new_key" => place(rt, alloc, "c")?,
         "place_of_a_key_that_is_there" => place(rt, alloc, "b")?,
         "from_pairs" => from_pairs(rt, alloc)?,
-        "from_many_pairs" => from_many_pairs(rt, alloc)?,
         "made_without_memory" => without(rt, alloc)?,
         "looked_at_without_memory" => looked_at(rt, alloc)?,
         _ => return Ok(false),
@@ -53,46 +49,34 @@ pub fn run<R: Print + Eprint>(rt: &R, alloc: Global, name: &str) -> io::Result<b
 }
 
 fn try_copy<R: Print + Eprint>(rt: &R, alloc: Global) -> io::Result<()> {
-    insist!(rt, alloc, (), () = (), ShortString::try_copy(alloc, "test"));
+    for count in [4, 255] {
+        let text = made::text(alloc, count)?;
+        insist!(rt, alloc, ShortString::try_copy(alloc, text.as_str()));
+    }
     Ok(())
 }
 
 fn from_text<R: Print + Eprint>(rt: &R, alloc: Global) -> io::Result<()> {
-    insist!(rt, alloc, (), () = (), LongString::from_text(alloc, "test"));
+    for count in [4, 70_000] {
+        let text = made::text(alloc, count)?;
+        insist!(rt, alloc, LongString::from_text(alloc, text.as_str()));
+    }
     Ok(())
 }
 
 fn long_string_from_slice<R: Print + Eprint>(rt: &R, alloc: Global) -> io::Result<()> {
-    insist!(
-        rt,
-        alloc,
-        (),
-        () = (),
-        LongString::from_slice(alloc, b"test")
-    );
+    for count in [4, 70_000] {
+        let letters = made::letters(alloc, count)?;
+        insist!(rt, alloc, LongString::from_slice(alloc, letters.as_slice()));
+    }
     Ok(())
 }
 
 fn byte_array_from_slice<R: Print + Eprint>(rt: &R, alloc: Global) -> io::Result<()> {
-    insist!(
-        rt,
-        alloc,
-        (),
-        () = (),
-        ByteArray::from_slice(alloc, &[1, 0, 255])
-    );
-    Ok(())
-}
-
-fn byte_array_from_many_bytes<R: Print + Eprint>(rt: &R, alloc: Global) -> io::Result<()> {
-    let letters = made::letters(alloc, 70_000)?;
-    insist!(
-        rt,
-        alloc,
-        (),
-        () = (),
-        ByteArray::from_slice(alloc, letters.as_slice())
-    );
+    for count in [3, 70_000] {
+        let letters = made::letters(alloc, count)?;
+        insist!(rt, alloc, ByteArray::from_slice(alloc, letters.as_slice()));
+    }
     Ok(())
 }
 
@@ -182,30 +166,21 @@ fn pairs(alloc: Global, count: u8) -> io::Result<Vec<(ShortString, AMQPValue)>> 
 }
 
 fn from_pairs<R: Print + Eprint>(rt: &R, alloc: Global) -> io::Result<()> {
-    insist!(
-        rt,
-        alloc,
-        (),
-        given = pairs(alloc, 2)?,
-        FieldTable::from_pairs(alloc, given)
-    );
-    Ok(())
-}
-
-fn from_many_pairs<R: Print + Eprint>(rt: &R, alloc: Global) -> io::Result<()> {
-    insist!(
-        rt,
-        alloc,
-        (),
-        given = pairs(alloc, 100)?,
-        FieldTable::from_pairs(alloc, given)
-    );
+    for count in [2, 100] {
+        insist!(
+            rt,
+            alloc,
+            (),
+            given = pairs(alloc, count)?,
+            FieldTable::from_pairs(alloc, given)
+        );
+    }
     Ok(())
 }
 
 /// What is empty, and what is too long.
 fn without<R: Print + Eprint>(rt: &R, alloc: Global) -> io::Result<()> {
-    let letters = String::from_utf8(made::letters(alloc, 256)?).map_err(made::unmade)?;
+    let letters = made::text(alloc, 256)?;
     tell(
         rt,
         alloc,

@@ -11,99 +11,59 @@ use std::io;
 
 /// A short string of the two bytes of é.
 pub fn short_string<R: Print + Eprint>(rt: &R, alloc: Global) -> io::Result<()> {
-    insist!(
-        rt,
-        alloc,
-        (),
-        input = SliceInput::new(&[2, 195, 169]),
-        parse_short_string(alloc, input)
-    );
+    let input = SliceInput::new(&[2, 195, 169]);
+    insist!(rt, alloc, parse_short_string(alloc, input));
     Ok(())
 }
 
 /// The same in two slices, cut between the two bytes.
 pub fn short_string_in_two<R: Print + Eprint>(rt: &R, alloc: Global) -> io::Result<()> {
-    insist!(
-        rt,
-        alloc,
-        (),
-        input = SplitInput::new(&[2, 195], &[169]),
-        parse_short_string(alloc, input)
-    );
+    let input = SplitInput::new(&[2, 195], &[169]);
+    insist!(rt, alloc, parse_short_string(alloc, input));
     Ok(())
 }
 
 /// A long string of four letters.
 pub fn long_string<R: Print + Eprint>(rt: &R, alloc: Global) -> io::Result<()> {
     let bytes = [0, 0, 0, 4, 116, 101, 115, 116];
-    insist!(
-        rt,
-        alloc,
-        (),
-        input = SliceInput::new(&bytes),
-        parse_long_string(alloc, input)
-    );
+    let input = SliceInput::new(&bytes);
+    insist!(rt, alloc, parse_long_string(alloc, input));
     Ok(())
 }
 
 /// The same in two slices, cut inside its length.
 pub fn long_string_in_two<R: Print + Eprint>(rt: &R, alloc: Global) -> io::Result<()> {
-    insist!(
-        rt,
-        alloc,
-        (),
-        input = SplitInput::new(&[0, 0], &[0, 4, 116, 101, 115, 116]),
-        parse_long_string(alloc, input)
-    );
+    let input = SplitInput::new(&[0, 0], &[0, 4, 116, 101, 115, 116]);
+    insist!(rt, alloc, parse_long_string(alloc, input));
     Ok(())
 }
 
 /// Four bytes.
 pub fn byte_array<R: Print + Eprint>(rt: &R, alloc: Global) -> io::Result<()> {
-    insist!(
-        rt,
-        alloc,
-        (),
-        input = SliceInput::new(&[0, 0, 0, 4, 42, 1, 2, 3]),
-        parse_byte_array(alloc, input)
-    );
+    let input = SliceInput::new(&[0, 0, 0, 4, 42, 1, 2, 3]);
+    insist!(rt, alloc, parse_byte_array(alloc, input));
     Ok(())
 }
 
 /// The same in two slices, cut among them.
 pub fn byte_array_in_two<R: Print + Eprint>(rt: &R, alloc: Global) -> io::Result<()> {
-    insist!(
-        rt,
-        alloc,
-        (),
-        input = SplitInput::new(&[0, 0, 0, 4, 42], &[1, 2, 3]),
-        parse_byte_array(alloc, input)
-    );
+    let input = SplitInput::new(&[0, 0, 0, 4, 42], &[1, 2, 3]);
+    insist!(rt, alloc, parse_byte_array(alloc, input));
     Ok(())
 }
 
 /// An array of a Void and of a long string.
 pub fn field_array<R: Print + Eprint>(rt: &R, alloc: Global) -> io::Result<()> {
     let bytes = [0, 0, 0, 7, 86, 83, 0, 0, 0, 1, 97];
-    insist!(
-        rt,
-        alloc,
-        (),
-        input = SliceInput::new(&bytes),
-        parse_field_array(alloc, input)
-    );
+    let input = SliceInput::new(&bytes);
+    insist!(rt, alloc, parse_field_array(alloc, input));
     Ok(())
 }
 
 /// A table of two pairs, with an array in the first.
 pub fn field_table<R: Print + Eprint>(rt: &R, alloc: Global) -> io::Result<()> {
     let bytes = [0, 0, 0, 11, 1, 97, 65, 0, 0, 0, 1, 86, 1, 98, 86];
-    insist!(
-        rt,
-        alloc,
-        (),
-        input = SliceInput::new(&bytes),
-        parse_field_table(alloc, input)
-    );
+    let input = SliceInput::new(&bytes);
+    insist!(rt, alloc, parse_field_table(alloc, input));
     Ok(())
 }

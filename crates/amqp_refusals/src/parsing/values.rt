@@ -17,7 +17,7 @@ fn value_of<R: Print + Eprint, I: ParsableInput>(
     alloc: Global,
     input: I,
 ) -> io::Result<()> {
-    insist!(rt, alloc, (), () = (), parse_value(alloc, input));
+    insist!(rt, alloc, parse_value(alloc, input));
     Ok(())
 }
 
@@ -28,13 +28,8 @@ fn payload_of<R: Print + Eprint>(
     amqp_type: AMQPType,
     bytes: &[u8],
 ) -> io::Result<()> {
-    insist!(
-        rt,
-        alloc,
-        (),
-        input = SliceInput::new(bytes),
-        parse_raw_value(alloc, amqp_type, input)
-    );
+    let input = SliceInput::new(bytes);
+    insist!(rt, alloc, parse_raw_value(alloc, amqp_type, input));
     Ok(())
 }
 
@@ -150,24 +145,23 @@ fn kind_of<I: ParsableInput>(
 /// An array of a Void and of a number that is cut.
 pub fn refused<R: Print + Eprint>(rt: &R, alloc: Global) -> io::Result<()> {
     let wire = [65, 0, 0, 0, 3, 86, 73, 0];
-    insist!(
-        rt,
-        alloc,
-        (),
-        input = SliceInput::new(&wire),
-        kind_of(parse_value(alloc, input))
-    );
+    let input = SliceInput::new(&wire);
+    insist!(rt, alloc, kind_of(parse_value(alloc, input)));
     Ok(())
 }
 
-/// A short string of two letters.
+/// A short string of two letters, and one of 255.
 pub fn short_string_payload<R: Print + Eprint>(rt: &R, alloc: Global) -> io::Result<()> {
-    payload_of(rt, alloc, AMQPType::ShortString, &[2, 104, 105])
+    payload_of(rt, alloc, AMQPType::ShortString, &[2, 104, 105])?;
+    let bytes = repeated(alloc, &[255], 255, &[97], &[])?;
+    payload_of(rt, alloc, AMQPType::ShortString, bytes.as_slice())
 }
 
-/// A long string of two letters.
+/// A long string of two letters, and one of 70,000.
 pub fn long_string_payload<R: Print + Eprint>(rt: &R, alloc: Global) -> io::Result<()> {
-    payload_of(rt, alloc, AMQPType::LongString, &[0, 0, 0, 2, 104, 105])
+    payload_of(rt, alloc, AMQPType::LongString, &[0, 0, 0, 2, 104, 105])?;
+    let bytes = repeated(alloc, &[0, 1, 17, 112], 70_000, &[97], &[])?;
+    payload_of(rt, alloc, AMQPType::LongString, bytes.as_slice())
 }
 
 /// Two bytes.
