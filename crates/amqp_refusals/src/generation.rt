@@ -174,11 +174,14 @@ fn flags<R: Print + Eprint>(rt: &R, alloc: Global) -> io::Result<()> {
     Ok(())
 }
 
-/// Twenty bytes behind two lengths.
+// puts bytes behind their length
+fn put_with_length<W: BackToTheBuffer>(bytes: &[u8], x: &mut WriteContext<W>) -> GenResult {
+    gen_with_len(|y| y.put(bytes), x)
+}
+
+/// Twenty bytes behind their length.
 fn with_len<R: Print + Eprint>(rt: &R, alloc: Global) -> io::Result<()> {
-    insist_on_writing!(
-        rt, alloc, x => gen_with_len(|y| gen_with_len(|z| z.put(&[7; 20]), y), &mut x)
-    );
+    insist_on_writing!(rt, alloc, x => put_with_length(&[7; 20], &mut x));
     Ok(())
 }
 
@@ -219,11 +222,7 @@ fn to_slices<R: Print + Eprint>(rt: &R, alloc: Global) -> io::Result<()> {
     let mut room = [0; 40];
     let mut x = WriteContext::from(SliceOutput::new(&mut room));
     tell(rt, alloc, within!(rt, gen_flags(&flags, &mut x)))?;
-    tell(
-        rt,
-        alloc,
-        within!(rt, gen_with_len(|y| y.put(&[7; 20]), &mut x)),
-    )?;
+    tell(rt, alloc, within!(rt, put_with_length(&[7; 20], &mut x)))?;
     tell(
         rt,
         alloc,
