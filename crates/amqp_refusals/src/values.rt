@@ -95,10 +95,12 @@ fn push<R: Print + Eprint>(rt: &R, alloc: Global) -> io::Result<()> {
     println!(rt; "made {}", array.shown(alloc)?)
 }
 
-/// A table of twelve keys, "b" among them, "c" not.
-fn twelve_keys(alloc: Global) -> io::Result<FieldTable> {
+/// A table of fifteen keys, as many as a node of it holds, "b" among them, "c" not.
+fn fifteen_keys(alloc: Global) -> io::Result<FieldTable> {
     let mut table = made::table(alloc, &[0, 0, 0, 6, 1, 97, 86, 1, 98, 86])?;
-    for key in ["d", "e", "f", "g", "h", "i", "j", "k", "l"] {
+    for key in [
+        "d", "e", "f", "g", "h", "i", "j", "k", "l", "m", "n", "o", "p",
+    ] {
         table.place(made::short(alloc, key)?, AMQPValue::Void)?;
     }
     Ok(table)
@@ -112,7 +114,7 @@ fn inserted(table: &mut FieldTable, key: ShortString, value: AMQPValue) -> Resul
 
 /// A pair is inserted into a table whose one node is full.
 fn insert<R: Print + Eprint>(rt: &R, alloc: Global, key: &str) -> io::Result<()> {
-    let mut table = twelve_keys(alloc)?;
+    let mut table = fifteen_keys(alloc)?;
     insist!(
         rt,
         alloc,
@@ -125,7 +127,7 @@ fn insert<R: Print + Eprint>(rt: &R, alloc: Global, key: &str) -> io::Result<()>
 
 /// The same by `place`.
 fn place<R: Print + Eprint>(rt: &R, alloc: Global, key: &str) -> io::Result<()> {
-    let mut table = twelve_keys(alloc)?;
+    let mut table = fifteen_keys(alloc)?;
     insist!(
         rt,
         alloc,
