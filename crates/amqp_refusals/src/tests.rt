@@ -1,12 +1,18 @@
 //! A value is read while the process has no memory left.
 
-use crate::{made, shown};
+use crate::made;
+use crate::shown::{Shown, bytes};
 use amq_protocol_types::parsing::{Err, ErrorKind, SliceInput, parse_value};
 use std::alloc::Global;
 use std::test::Fail;
 
 /// More blocks than the process is given, each of them as large as it can be.
 const BLOCKS: usize = 20_000;
+
+/// The largest block that is asked for, and how many sizes, each half of the one before.
+const LARGEST: usize = 1 << 44;
+
+const SIZES: usize = 41;
 
 /// Takes blocks of this size until one is refused.
 fn take_blocks(alloc: Global, blocks: &mut Vec<Vec<u8>>, size: usize) {
@@ -24,8 +30,10 @@ fn take_blocks(alloc: Global, blocks: &mut Vec<Vec<u8>>, size: usize) {
 fn a_value_is_read_once_there_is_memory(rt: HostRuntime) -> Result<(), Fail> {
     let alloc = rt.alloc();
     let mut blocks = Vec::with_capacity(alloc, BLOCKS)?;
-    for bits in (4..=44).rev() {
-        take_blocks(alloc, &mut blocks, 1 << bits);
+    let mut size = LARGEST;
+    for _ in 0..SIZES {
+        take_blocks(alloc, &mut blocks, size);
+        size /= 2;
     }
     let mut refusals = 0u64;
     for _ in 0..BLOCKS {
@@ -33,8 +41,8 @@ fn a_value_is_read_once_there_is_memory(rt: HostRuntime) -> Result<(), Fail> {
             Ok((_, value)) => {
                 drop(blocks);
                 assert!(rt; refusals > 0, "no memory was taken away");
-                let text = shown::value(alloc, &value)?;
-                let want = shown::bytes(alloc, &made::TABLE)?;
+                let text = value.shown(alloc)?;
+                let want = bytes(alloc, &made::TABLE)?;
                 assert_eq!(rt; text.as_str(), want.as_str());
                 return Ok(());
             }
