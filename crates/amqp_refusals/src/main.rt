@@ -13,8 +13,6 @@ mod generation;
 mod made;
 mod parsing;
 mod shown;
-#[cfg(test)]
-mod tests;
 mod values;
 
 use std::alloc::Global;

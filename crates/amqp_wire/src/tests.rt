@@ -1,3 +1,4 @@
+mod exhausted;
 mod integration;
 
 use crate::fault::WireFault;

@@ -1,10 +1,16 @@
-//! A value is read while the process has no memory left.
+//! Lines are answered while the process has no memory left.
 
-use crate::made;
-use crate::shown::{Shown, bytes};
-use amq_protocol_types::parsing::{Err, ErrorKind, SliceInput, parse_value};
+use crate::fault::WireFault;
+use crate::run::run;
 use std::alloc::Global;
 use std::test::Fail;
+
+/// Lines of each kind.
+const LINES: &str = "\n7a\n41000000027300\n560a\n550005\n5\nxy\n";
+
+/// The answers to them.
+const ANSWERS: &str =
+    "more 1\nrefused MapOpt\nrefused Eof\nvalue 56 rest 1\nvalue 730005 rest 0\nnot hex\nnot hex\n";
 
 /// More blocks than the process is given, each of them as large as it can be.
 const BLOCKS: usize = 20_000;
@@ -27,8 +33,9 @@ fn take_blocks(alloc: Global, blocks: &mut Vec<Vec<u8>>, size: usize) {
 }
 
 #[test]
-fn a_value_is_read_once_there_is_memory(rt: HostRuntime) -> Result<(), Fail> {
+fn lines_are_answered_once_there_is_memory(rt: HostRuntime) -> Result<(), Fail> {
     let alloc = rt.alloc();
+    let mut out = Vec::with_capacity(alloc, ANSWERS.len())?;
     let mut blocks = Vec::with_capacity(alloc, BLOCKS)?;
     let mut size = LARGEST;
     for _ in 0..SIZES {
@@ -37,18 +44,16 @@ fn a_value_is_read_once_there_is_memory(rt: HostRuntime) -> Result<(), Fail> {
     }
     let mut refusals = 0u64;
     for _ in 0..BLOCKS {
-        match parse_value(alloc, SliceInput::new(&made::TABLE)) {
-            Ok((_, value)) => {
-                drop(blocks);
-                assert!(rt; refusals > 0, "no memory was taken away");
-                let text = value.shown(alloc)?;
-                let want = bytes(alloc, &made::TABLE)?;
-                assert_eq!(rt; text.as_str(), want.as_str());
-                return Ok(());
-            }
-            Err(Err::Failure(e)) => assert_eq!(rt; e.kind(), ErrorKind::OutOfMemory),
-            Err(_) => assert!(rt; false, "the table isn't read"),
+        out.clear();
+        let answer = run(alloc, &mut LINES.as_bytes(), &mut out);
+        assert!(rt; ANSWERS.as_bytes().starts_with(out.as_slice()));
+        if answer.is_ok() {
+            drop(blocks);
+            assert_eq!(rt; out.as_slice(), ANSWERS.as_bytes());
+            assert!(rt; refusals > 0, "no memory was taken away");
+            return Ok(());
         }
+        assert_eq!(rt; answer, Err(WireFault::OutOfMemory));
         refusals = refusals.saturating_add(1);
         drop(blocks.pop());
     }
