@@ -1,3 +1,4 @@
+mod exhausted;
 mod integration;
 mod stream;
 mod within;
