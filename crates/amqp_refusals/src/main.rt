@@ -13,6 +13,7 @@ mod generation;
 mod made;
 mod parsing;
 mod shown;
+mod stream;
 mod values;
 
 use std::alloc::Global;
@@ -45,7 +46,8 @@ fn run_case<R: Print + Eprint>(rt: &R, alloc: Global, name: &str) -> io::Result<
             || values::run(rt, alloc, name)?
             || copies::run(rt, alloc, name)?
             || conversions::run(rt, alloc, name)?
-            || generation::run(rt, alloc, name)?,
+            || generation::run(rt, alloc, name)?
+            || stream::run(rt, alloc, name)?,
     )
 }
 
@@ -59,6 +61,7 @@ fn run_all<R: Print + Eprint>(rt: &R, alloc: Global) -> io::Result<bool> {
         copies::CASES.as_slice(),
         conversions::CASES.as_slice(),
         generation::CASES.as_slice(),
+        stream::CASES.as_slice(),
     ] {
         for name in names {
             are_found = run_case(rt, alloc, name)? && are_found;
