@@ -1,16 +1,17 @@
 -- Copies: a walk over rising entries puts each behind the ones before it.
-use Rattle.std.proofs.Common.{◌≡◌, ℕ, List, [], ◌∷◌, ◌++◌, Less, Greater, refl, ap, ◌∙◌, rules}
+use Rattle.std.proofs.Common.{◌≡◌, ℕ, List, [], ◌∷◌, ◌++◌, Less, Greater, refl, ap, subst, ◌∙◌, rules}
 use Rattle.std.proofs.lemmas.Cmp.{nat_list_cmp_total}
 use Rattle.std.specs.Cmp.Lexicographic.{slice_cmp}
 use Rattle.std.specs.List.{AllByRecursion}
 use Rattle.std.specs.List.Sorted.{IsStrictlySortedBy}
 use Rattle.std.specs.Map.{keys_of}
 use Rattle.std.specs.Ordering.{nat_cmp, ordering_reverse}
+use Rattle.amqp_value_core.specs.declared.types.field_array.FieldArray.{FieldArray}
 use Rattle.amqp_value_core.specs.declared.types.field_table.FieldTable.{FieldTable}
 use Rattle.amqp_value_core.specs.declared.value.AMQPValue.{AMQPValue, the_lemmas}
 use Rattle.amqp_value_core.specs.declared.value.AMQPValue.TheVariants as value
-use Rattle.amqp_value_core.specs.Values.{entry, put, table}
-use Rattle.amqp_value_core.specs.View.{view, entries, table_entries, table_view}
+use Rattle.amqp_value_core.specs.Values.{no_trees, no_entries, entry, put, array, table, IsLight}
+use Rattle.amqp_value_core.specs.View.{view, trees, entries, array_items, array_view, table_entries, table_view}
 
 abbrev pub Pair : Type 0
 Pair = List ℕ × AMQPValue
@@ -35,3 +36,23 @@ pub table_again : (v : AMQPValue) (t u : FieldTable) (es : List Pair) → v ≡ 
 table_again v t u es is inner same =
     let shown : (w : FieldTable) → view (value.FieldTable w) ≡ table (table_view w) = λ w. search (rules, the_lemmas) in
     rw (is, shown t, shown u, ← inner) (ap table same)
+
+-- what shows no values has none, and what shows no entries has none
+no_items : (vs : List AMQPValue) → trees vs ≡ no_trees → vs ≡ []
+no_items [] is = refl
+no_items (v ∷ vs) is = absurd (cc is)
+
+no_pairs : (es : List Pair) → entries es ≡ no_entries → es ≡ []
+no_pairs [] is = refl
+no_pairs (e ∷ es) is = absurd (cc is)
+
+-- so an array or a table that is kept with no memory is empty
+pub no_items_in : (v : AMQPValue) (a : FieldArray) → v ≡ value.FieldArray a → IsLight (view v) → array_items a ≡ []
+no_items_in v a is light =
+    let shown : view (value.FieldArray a) ≡ array (array_view a) = search (rules, the_lemmas) in
+    no_items (array_items a) (subst IsLight (ap view is ∙ shown) light)
+
+pub no_pairs_in : (v : AMQPValue) (t : FieldTable) → v ≡ value.FieldTable t → IsLight (view v) → table_entries t ≡ []
+no_pairs_in v t is light =
+    let shown : view (value.FieldTable t) ≡ table (table_view t) = search (rules, the_lemmas) in
+    no_pairs (table_entries t) (subst IsLight (ap view is ∙ shown) light)

@@ -9,6 +9,8 @@ pub use Rattle.amqp_value_core.proofs.Reading.{reading_back}
 pub use Rattle.amqp_value_core.proofs.MoreBytes.{more_bytes, more_raw_bytes}
 pub use Rattle.amqp_value_core.proofs.Outcomes.{one_outcome, one_raw_outcome}
 -- the outcome as a function
+-- and that no payload but a short string, an array or a table is malformed
+pub use Rattle.amqp_value_core.proofs.Whole.{never_malformed}
 pub use Rattle.amqp_value_core.proofs.Agreement.{outcome_holds, outcome_is, raw_outcome_holds, raw_outcome_is}
 -- tables as finite maps, and what pairs mean
 pub use Rattle.amqp_value_core.proofs.Tables.{put_found, put_other, key_has_value, last_stays, pairs_rise, rising_pairs, same_tables, entries_rise}

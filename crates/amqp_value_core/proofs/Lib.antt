@@ -19,6 +19,7 @@ mod TextDepth
 mod Sound
 mod OnLiterals
 mod Agreement
+mod Whole
 mod Headlines
 pub mod GrammarLaws
 pub mod Copies

@@ -1,6 +1,6 @@
 -- Values: what an `AMQPValue` is, without where it lies in memory.
 -- AMQP 0-9-1, section 4.2.5.5 (field tables), in the reading of RabbitMQ's errata, section 3.
-use Rattle.std.specs.Prelude.{ℕ, suc, ◌+◌, max, Bool, true, false, ◌&&◌, List, [], ◌∷◌}
+use Rattle.std.specs.Prelude.{ℕ, suc, ◌+◌, ◌≡◌, max, Bool, true, false, ◌&&◌, List, [], ◌∷◌}
 use Rattle.std.specs.Ordering.{nat_cmp, match_ordering}
 use Rattle.std.specs.Cmp.Lexicographic.{slice_cmp}
 use Rattle.amqp_value_core.specs.declared.types.AMQPType.{AMQPType}
@@ -125,3 +125,12 @@ abbrev mutual
   pub entries_readable : Entries → Bool
   entries_readable no_entries = true
   entries_readable (entry k v es) = readable v && entries_readable es
+
+-- v is kept with no memory of its own: it has a fixed width, or it is empty
+abbrev pub IsLight : Tree → Type 0
+IsLight (scalar x) = Unit {0}
+IsLight (short s) = s ≡ []
+IsLight (long s) = s ≡ []
+IsLight (octets s) = s ≡ []
+IsLight (array vs) = vs ≡ no_trees
+IsLight (table es) = es ≡ no_entries

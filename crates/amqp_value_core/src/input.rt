@@ -2,22 +2,24 @@
 
 ghost use Rattle.std.specs.Prelude.{◌≡◌, ◌<◌, ◌≤◌, List, ℕ, length, slice_index, take, drop};
 ghost use Rattle.amqp_value_core.specs.Fronts.{IsFront};
+ghost use Rattle.amqp_value_core.specs.Outcomes.{IsBytes};
 
 mod split;
 
 pub use split::SplitInput;
 
-/// Bytes that a parser reads. It is seen as a list of bytes, and its calls take no memory and copy
-/// no byte.
+/// Bytes that a parser reads. It is seen as a list of bytes, each below 256, and its calls take no
+/// memory and copy no byte.
 ///
-/// Whoever implements it owes the four clauses below, and that copies of an input show the same
-/// bytes. Each parser of this project works over every implementor.
+/// Whoever implements it owes the clauses below, and that copies of an input show the same bytes.
+/// Each parser of this project works over every implementor.
 pub trait ParsableInput: Copy {
     ghost bytes: { Self → List ℕ };
 
     /// How many bytes there are.
     fn input_len(&self) -> usize
-        ensures { result ≡ length (bytes self.now) };
+        ensures count { result ≡ length (bytes self.now) }
+        ensures bytes { IsBytes (bytes self.now) };
 
     /// The byte at `i`, counted from 0.
     fn byte_at(&self, i: usize) -> u8
@@ -41,6 +43,15 @@ pub trait ParsableInput: Copy {
     {
         &[]
     }
+}
+
+// How many bytes a slice has, each below 256.
+#[inline(always)]
+fn length_of(bytes: &[u8]) -> usize
+    ensures count { result ≡ length bytes.now }
+    ensures bytes { IsBytes bytes.now }
+{
+    bytes.len()
 }
 
 /// The bytes of a slice, as an input.
@@ -73,7 +84,7 @@ impl<'a> ParsableInput for SliceInput<'a> {
     ghost bytes = { slice_bytes };
 
     fn input_len(&self) -> usize {
-        self.slice.len()
+        length_of(self.slice)
     }
 
     fn byte_at(&self, i: usize) -> u8 {

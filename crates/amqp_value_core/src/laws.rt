@@ -8,7 +8,7 @@ ghost use Rattle.amqp_value_core.specs.Values.{Tree, type_of, readable, Entries,
 ghost use Rattle.amqp_value_core.specs.Grammar.{Wire, Raw};
 ghost use Rattle.amqp_value_core.specs.Texts.{text, payload, size, Fits, IsValue, read_back};
 ghost use Rattle.amqp_value_core.specs.Ids.{kind};
-ghost use Rattle.amqp_value_core.specs.Outcomes.{IsBytes, Reading, Outcome, RawOutcome, Heavy, RawHeavy, StillWaits, with_more, found, Front};
+ghost use Rattle.amqp_value_core.specs.Outcomes.{IsBytes, Reading, Outcome, RawOutcome, Heavy, RawHeavy, StillWaits, with_more, found, malformed, Front};
 ghost use Rattle.amqp_value_core.specs.Decode.{outcome, raw_outcome};
 ghost use Rattle.amqp_value_core.specs.Canonical.{Canon};
 ghost use Rattle.amqp_value_core.specs.Headline.{IsCanonical, IsBounded, IsShortest, TellsApart};
@@ -195,4 +195,13 @@ pub fn raw_outcome_computes()
         → RawOutcome type s (raw_outcome type s) }
     ensures only { (type : AMQPType) (s : List ℕ) (o : Reading) → IsBytes s
         → RawOutcome type s o ↔ (o ≡ raw_outcome type s) }
+{}
+
+/// A payload of fixed width, a long string and a byte array are never malformed: once all of the bytes
+/// are there, they have a value.
+#[tactic(auto, using(crate::proofs::Whole::never_malformed))]
+pub fn never_malformed()
+    ensures { (type : AMQPType) (s : List ℕ) → IsBytes s
+        → type ≢ amqp.ShortString → type ≢ amqp.FieldArray → type ≢ amqp.FieldTable
+        → RawOutcome type s malformed → ⊥ }
 {}

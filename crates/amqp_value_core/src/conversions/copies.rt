@@ -5,6 +5,7 @@
 
 ghost use Rattle.std.specs.Prelude.{◌≡◌, [], IfOk, IsOk};
 ghost use Rattle.amqp_value_core.specs.Bytes.{long_bytes, array_bytes};
+ghost use Rattle.amqp_value_core.specs.Values.{IsLight};
 ghost use Rattle.amqp_value_core.specs.View.{view, trees, entries, array_items, array_view, table_entries, table_view};
 
 use crate::types::{ByteArray, FieldArray, FieldTable, LongString, ShortString};
@@ -66,9 +67,11 @@ impl FieldTable {
 }
 
 impl AMQPValue {
-    /// A copy of the value, and of each value in it.
+    /// A copy of the value, and of each value in it. A number, a truth value, Void and what is empty
+    /// take no memory.
     pub fn clone(&self, alloc: Global) -> Result<AMQPValue, AllocError>
-        ensures { IfOk result (λ v. view v ≡ view self.now) }
+        ensures same { IfOk result (λ v. view v ≡ view self.now) }
+        ensures light { IsLight (view self.now) → IsOk result }
     {
         copy(alloc, self)
     }
@@ -76,7 +79,8 @@ impl AMQPValue {
 
 #[cycle(copies)]
 fn copy(alloc: Global, value: &AMQPValue) -> Result<AMQPValue, AllocError>
-    ensures { IfOk result (λ v. view v ≡ view value.now) }
+    ensures same { IfOk result (λ v. view v ≡ view value.now) }
+    ensures light { IsLight (view value.now) → IsOk result }
 {
     match value {
         AMQPValue::Boolean(b) => Ok(AMQPValue::Boolean(*b)),

@@ -1,6 +1,6 @@
 ghost use Rattle.std.specs.Prelude.{◌≡◌, ◌+◌, ◌-◌, ◌^◌, ◌<◌, ◌≤◌, ◌++◌, length, take, drop};
 
-use crate::input::ParsableInput;
+use crate::input::{ParsableInput, length_of};
 
 /// The bytes of a slice, followed by those of another, as one input. A byte stays in the part that
 /// it came in.
@@ -38,8 +38,9 @@ impl<'a> ParsableInput for SplitInput<'a> {
 
     ghost bytes = { λ s. split_first s ++ split_second s };
 
+    #[tactic(auto, using(crate::proofs::Bytes::bytes_join))]
     fn input_len(&self) -> usize {
-        self.first.len() + self.second.len()
+        length_of(self.first) + length_of(self.second)
     }
 
     fn byte_at(&self, i: usize) -> u8 {
