@@ -8,13 +8,15 @@ use Rattle.amqp_value_core.specs.declared.types.AMQPType.{AMQPType}
 use Rattle.amqp_value_core.specs.Ids.{kind}
 use Rattle.amqp_value_core.specs.Layouts.{Layout, fixed}
 use Rattle.amqp_value_core.specs.Nesting.{WireWithin, OutcomeWithin}
-use Rattle.amqp_value_core.specs.Outcomes.{Reading, found, more, unknown, malformed, length_field, counted, lack, lack_of, frame_lack, Unless, FrontBy, StillWaits, with_more}
-use Rattle.amqp_value_core.proofs.GrammarLaws.{one_outcome_within, front_within, wire_found_within, malformed_append, unknown_append}
+use Rattle.amqp_value_core.specs.Outcomes.{IsBytes, Reading, found, more, unknown, malformed, length_field, counted, lack, lack_of, frame_lack, Unless, FrontBy, StillWaits, with_more}
+use Rattle.amqp_value_core.specs.Decode.{outcome_by, meaning, outcome}
+use Rattle.amqp_value_core.proofs.GrammarLaws.{outcome_holds, outcome_is, within_holds, one_outcome_within, front_within, wire_found_within, malformed_append, unknown_append}
 use Rattle.amq_protocol_types.specs.declared.parsing.errors.Err.TheVariants.{Error}
 use Rattle.amq_protocol_types.specs.declared.parsing.errors.ErrorKind.{ErrorKind}
 use Rattle.amq_protocol_types.specs.declared.parsing.errors.ErrorKind.TheVariants.{MapOpt, MapRes, Eof, OutOfMemory, TooLarge}
 use Rattle.amq_protocol_types.specs.declared.stream.limits.Limits.{Limits}
 use Rattle.amq_protocol_types.specs.Headers.{extent_of, raw_extent, extent_at, extent, wanted}
+use Rattle.amq_protocol_types.specs.Answers.{HasOneOutcome}
 use Rattle.amq_protocol_types.specs.Limits.{Within, RefusesWithin, HasOneOutcomeWithin, KeepsOutcomeWithin}
 use Rattle.amq_protocol_types.proofs.Again.{wire_extent}
 use Rattle.amq_protocol_types.proofs.Waits.{more_wanted, wanted_more, wanted-append, extent-append}
@@ -122,5 +124,12 @@ pub keeps_outcome_within : (l : Limits) (s : List ℕ) → KeepsOutcomeWithin l 
 keeps_outcome_within l s = (λ o t x waits. within_append l s t o x waits, λ t large. too_large_append l s t large)
 
 -- there is one outcome at most
-pub has_one_outcome_within : (l : Limits) (s : List ℕ) → HasOneOutcomeWithin l s
-has_one_outcome_within l s = (λ o p x y. one_outcome_within l.depth s o p x.1 y.1, λ o large x. omega (arith, large, x.0))
+pub has_one_outcome_within : (l : Limits) (s : List ℕ) → IsBytes s → HasOneOutcomeWithin l s
+has_one_outcome_within l s bytes =
+    let o = outcome_by (meaning l.depth) s in
+    let here = within_holds l.depth s bytes in
+    (λ small. (o, (small, here), λ p x. one_outcome_within l.depth s p o x.1 here), λ o large x. omega (arith, large, x.0))
+
+-- and without limits
+pub has_one_outcome : (s : List ℕ) → IsBytes s → HasOneOutcome s
+has_one_outcome s bytes = (outcome s, outcome_holds s bytes, λ p here. (outcome_is s p bytes).0 here)

@@ -129,9 +129,9 @@ module _ {W : Type 0} (seen : W → Seen) (may : WriteContext W → Result (Unit
   put_with_length (Err e) f start = tt
 
   -- where it doesn't fit, the call may pass it
-  pub too_long : (r : Result (Unit {0}) GenError) → FillsLength at u r w → IfErr r (RefusesWithLength seen may old new)
-  too_long (Ok _) f = tt
-  too_long (Err e) f = inr (inr (
+  pub too_long : (r : Result (Unit {0}) GenError) → FillsLength at u r w → start_of new ≡ start_of after → IfErr r (RefusesWithLength seen may old new)
+  too_long (Ok _) f start = tt
+  too_long (Err e) f start = inr (inr (
     f.refused,
     record {
       before = before;
@@ -141,6 +141,7 @@ module _ {W : Type 0} (seen : W → Seen) (may : WriteContext W → Result (Unit
       more = o.more;
       appended = o.appended;
       long = omega (arith, f.too_long, size);
+      start = start;
     },
   ))
 

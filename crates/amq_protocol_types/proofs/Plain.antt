@@ -11,9 +11,9 @@ use Rattle.amqp_value_core.specs.Outcomes.{Reading, found, RawOutcome, RawHeavy}
 use Rattle.amqp_value_core.proofs.GrammarLaws.{raw_outcome_same, raw_unlimited}
 use Rattle.amq_protocol_types.specs.declared.parsing.errors.ErrorKind.TheVariants.{Eof}
 use Rattle.amq_protocol_types.specs.Refusals.{Refusal}
-use Rattle.amq_protocol_types.specs.Answers.{Refuses, bad_kind, RawRefuses}
+use Rattle.amq_protocol_types.specs.Answers.{Refuses, OnlyLacks, bad_kind, RawRefuses}
 use Rattle.amq_protocol_types.proofs.Payloads.{unsigned_outcome}
-use Rattle.amq_protocol_types.proofs.Refused.{Refuses-weaker, raw_refused}
+use Rattle.amq_protocol_types.proofs.Refused.{Refuses-weaker, OnlyLacks-refuses, raw_refused}
 
 -- no container, so nothing nests
 flat : (type : AMQPType) (b : List ℕ) (v : Tree) (p : Raw type b v) → type ≢ amqp.FieldArray → type ≢ amqp.FieldTable → raw_nesting type b v p ≡ 0
@@ -46,11 +46,15 @@ pub plain_refuses : (d : ℕ) (type : AMQPType) (s : List ℕ) (heavy : Type 0) 
 plain_refuses d type s heavy e plain weaker x =
     Refuses-weaker (RawOutcome type s) (RawOutcomeWithin d type s) heavy (RawHeavy type s) e (λ o y. plain_within d type s o plain y) weaker x
 
--- a LongLongUInt is refused as the LongLongInt of the same bytes
-pub unsigned_refuses : (d : ℕ) (s : List ℕ) (e : Refusal) → Refuses (RawOutcome amqp.LongLongInt s) ⊥ e → Refuses (RawOutcomeWithin d amqp.LongLongUInt s) (RawHeavy amqp.LongLongUInt s) e
+pub plain_lacks : (d : ℕ) (type : AMQPType) (s : List ℕ) (heavy : Type 0) (e : Refusal) → IsPlain type → (heavy → RawHeavy type s) → OnlyLacks (RawOutcome type s) heavy e
+    → Refuses (RawOutcomeWithin d type s) (RawHeavy type s) e
+plain_lacks d type s heavy e plain weaker x = plain_refuses d type s heavy e plain weaker (OnlyLacks-refuses (RawOutcome type s) heavy e x)
+
+-- a LongLongUInt is refused as the LongLongInt of the same bits
+pub unsigned_refuses : (d : ℕ) (s : List ℕ) (e : Refusal) → OnlyLacks (RawOutcome amqp.LongLongInt s) ⊥ e → Refuses (RawOutcomeWithin d amqp.LongLongUInt s) (RawHeavy amqp.LongLongUInt s) e
 unsigned_refuses d s e x =
     Refuses-weaker (RawOutcome amqp.LongLongInt s) (RawOutcomeWithin d amqp.LongLongUInt s) ⊥ (RawHeavy amqp.LongLongUInt s) e
-    (λ o y. plain_within d amqp.LongLongUInt s o tt (unsigned_outcome s o y)) (λ h. absurd h) x
+    (λ o y. plain_within d amqp.LongLongUInt s o tt (unsigned_outcome s o y)) (λ h. absurd h) (OnlyLacks-refuses (RawOutcome amqp.LongLongInt s) ⊥ e x)
 
 -- a type that isn't a short string's has this kind of refusal
 eof_of_type : (type : AMQPType) → type ≢ amqp.ShortString → bad_kind type ≡ Eof

@@ -47,6 +47,7 @@ room_made {s = s} {t = t} same m = record {
     too_long = λ e _. cc;
     failed = tt;
     offset = λ e. cc;
+    memory = λ e. cc;
     no_other = λ _. tt;
     faults = m.faults;
   };
@@ -73,6 +74,7 @@ room_refused {b = b} {n = n} {s = s} {t = t} {e = e} all count m =
       too_long = λ is _. r.too_long is;
       failed = r.failed;
       offset = r.offset;
+      memory = r.memory;
       no_other = λ fixed. inl (r.no_other fixed);
       faults = r.faults;
     }
@@ -99,6 +101,7 @@ put_more {done = xs} {ys = ys} {s = s} {t = t} {u = u} so_far new =
         too_long = λ e _. cc;
         failed = tt;
         offset = λ e. cc;
+        memory = λ e. cc;
         no_other = λ _. tt;
         faults = omega (arith, p.faults, q.faults);
       };
@@ -133,6 +136,7 @@ refused_later {b = b} {n = n} {done = xs} {ys = ys} {s = s} {t = t} {u = u} {e =
       too_long = λ is. q.too_long is;
       failed = λ kind is. failed_since s t u p.faults (q.failed kind is);
       offset = λ is. omega (arith, q.offset is, p.moved);
+      memory = λ is. q.memory is;
       no_other = λ fixed. q.no_other (still_fixed s.room t.room _ p.room_left fixed);
       faults = omega (arith, p.faults, q.faults);
     }

@@ -7,7 +7,7 @@ use Rattle.amq_protocol_types.specs.declared.parsing.errors.Needed.TheVariants.{
 use Rattle.amq_protocol_types.specs.declared.parsing.errors.ErrorKind.{ErrorKind}
 use Rattle.amq_protocol_types.specs.declared.parsing.errors.ErrorKind.TheVariants.{MapOpt, MapRes, Eof, OutOfMemory, TooLarge}
 use Rattle.amq_protocol_types.specs.Refusals.{Refusal}
-use Rattle.amq_protocol_types.specs.Answers.{RightKind, Refuses, bad_kind, RawRefuses}
+use Rattle.amq_protocol_types.specs.Answers.{RightKind, Refuses, OnlyLacks, bad_kind, RawRefuses}
 
 -- a kind stays right where what is read stays right
 RightKind-weaker : (Is Now : Reading → Type 0) (k : ErrorKind) → ((o : Reading) → Is o → Now o) → RightKind Is k → RightKind Now k
@@ -44,3 +44,9 @@ raw_refused type s heavy (Error MapRes) kind f x = absurd x
 raw_refused type s heavy (Error OutOfMemory) kind f x = absurd x
 raw_refused type s heavy (Error TooLarge) kind f x = absurd x
 raw_refused type s heavy (Failure k) kind f x = (x.0, f x.1)
+
+-- a refusal that comes only where bytes lack is a refusal
+pub OnlyLacks-refuses : (Is : Reading → Type 0) (heavy : Type 0) (e : Refusal) → OnlyLacks Is heavy e → Refuses Is heavy e
+OnlyLacks-refuses Is heavy (Incomplete lack) x = x
+OnlyLacks-refuses Is heavy (Error kind) x = absurd x
+OnlyLacks-refuses Is heavy (Failure kind) x = x

@@ -32,6 +32,7 @@ put_fits s t ys fit put tail =
         too_long = λ e _. search rules;
         failed = tt;
         offset = λ e. search rules;
+        memory = λ e. search rules;
         no_other = λ _. tt;
         faults = omega arith;
       };

@@ -31,6 +31,7 @@ both_put {xs = xs} {ys = ys} {s = s} {t = t} {u = u} C zs both lengths p q =
       too_long = λ e _. cc;
       failed = tt;
       offset = λ e. cc;
+      memory = λ e. cc;
       no_other = λ _. tt;
       faults = omega (arith, p.faults, q.faults);
     }
@@ -62,6 +63,7 @@ refused {xs = xs} {ys = ys} {s = s} {t = t} {u = u} {w = w} {e = e} C zs at plac
       too_long = λ is c. q.too_long is (lengths c);
       failed = λ kind is. failed_since s t u w p.faults back.faults (q.failed kind is);
       offset = λ is. omega (arith, q.offset is, p.moved);
+      memory = λ is. q.memory is;
       no_other = λ fixed. q.no_other (still_fixed s.room t.room _ p.room_left fixed);
       faults = omega (arith, p.faults, q.faults, back.faults);
     }
@@ -83,6 +85,7 @@ refused_as_long s C long = record {
   too_long = λ _. long;
   failed = λ kind e. cc;
   offset = λ e. cc;
+  memory = λ e. cc;
   no_other = λ _. inr refl;
   faults = omega arith;
 }
@@ -107,6 +110,7 @@ filled_in zeros more {s = s} {t = t} C ys whole same lengths p =
       too_long = λ e _. cc;
       failed = tt;
       offset = λ e. cc;
+      memory = λ e. cc;
       no_other = λ _. tt;
       faults = p.faults;
     }

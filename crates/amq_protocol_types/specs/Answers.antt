@@ -28,6 +28,11 @@ Refuses Is heavy (Incomplete (Size n)) = Is (more n)
 Refuses Is heavy (Error kind) = RightKind Is kind
 Refuses Is heavy (Failure kind) = (kind ≡ OutOfMemory) × heavy
 
+-- a refusal is right that comes only where bytes lack, or where memory is wanted
+abbrev pub OnlyLacks : (Reading → Type 0) → Type 0 → Refusal → Type 0
+OnlyLacks Is heavy (Error kind) = ⊥
+OnlyLacks Is heavy e = Refuses Is heavy e
+
 -- the kind of refusal where a frame is whole and is no payload of the type: a short string's bytes aren't
 -- UTF-8, and a container's aren't entries
 abbrev pub bad_kind : AMQPType → ErrorKind
@@ -82,9 +87,9 @@ abbrev pub IsNoTable : ℕ → List ℕ → Reading → Type 0
 IsNoTable depth s malformed = (ps : Entries) → PairsWithin depth s ps → ⊥
 IsNoTable depth s _ = ⊥
 
--- reading s comes to one outcome and no other: the value, the rest and the refusal are determined
+-- reading s comes to exactly one outcome: the value, the rest and the refusal are determined
 abbrev pub HasOneOutcome : List ℕ → Type 0
-HasOneOutcome s = (o p : Reading) → Outcome s o → Outcome s p → o ≡ p
+HasOneOutcome s = (o : Reading) × Outcome s o × ((p : Reading) → Outcome s p → p ≡ o)
 
 -- more bytes join the rest behind a value, are so many fewer that lack, and leave a refusal as it is
 abbrev pub KeepsOutcome : List ℕ → Type 0

@@ -41,15 +41,16 @@ pub record PutsWithLength {W : Type 0} (seen : W → Seen) (may : WriteContext W
   pub filled : shown seen new ≡ filled (shown seen after) (shown seen old).at (to_be_bytes w32 (length more))
   pub start : start_of new ≡ start_of after
 
--- a call may answer a refusal
-pub record MayRefuse {W : Type 0} (seen : W → Seen) (may : WriteContext W → Result (Unit {0}) GenError → WriteContext W → Type 0) (old : WriteContext W) (e : GenError) : Type 0 where
+-- a call may answer a refusal, and leaves the start of the context so
+pub record MayRefuse {W : Type 0} (seen : W → Seen) (may : WriteContext W → Result (Unit {0}) GenError → WriteContext W → Type 0) (old new : WriteContext W) (e : GenError) : Type 0 where
   pub before : WriteContext W
   pub after : WriteContext W
   pub reserved : Reserved seen old before
   pub called : may before (Err e) after
+  pub start : start_of new ≡ start_of after
 
--- a call may append more than four bytes count
-pub record MayPassLength {W : Type 0} (seen : W → Seen) (may : WriteContext W → Result (Unit {0}) GenError → WriteContext W → Type 0) (old : WriteContext W) : Type 0 where
+-- a call may append more than four bytes count, and leaves the start of the context so
+pub record MayPassLength {W : Type 0} (seen : W → Seen) (may : WriteContext W → Result (Unit {0}) GenError → WriteContext W → Type 0) (old new : WriteContext W) : Type 0 where
   pub before : WriteContext W
   pub after : WriteContext W
   pub reserved : Reserved seen old before
@@ -57,9 +58,10 @@ pub record MayPassLength {W : Type 0} (seen : W → Seen) (may : WriteContext W 
   pub more : List ℕ
   pub appended : Appends (shown seen before).told (shown seen after).told more
   pub long : 2 ^ 32 ≤ length more
+  pub start : start_of new ≡ start_of after
 
 -- Why no length was put: the four bytes for it were refused, or the call was, or what it appended is too long.
 abbrev pub RefusesWithLength : {W : Type 0} → (W → Seen) → (WriteContext W → Result (Unit {0}) GenError → WriteContext W → Type 0) → WriteContext W → WriteContext W → GenError → Type 0
 RefusesWithLength seen may old new e =
-    Writes true ⊤ (replicate 4 0) (shown seen old) (Err e) (shown seen new)
-    ⊎ (MayRefuse seen may old e ⊎ ((e ≡ LengthTooLong) × MayPassLength seen may old))
+    (Writes true ⊤ (replicate 4 0) (shown seen old) (Err e) (shown seen new) × (start_of new ≡ start_of old))
+    ⊎ (MayRefuse seen may old new e ⊎ ((e ≡ LengthTooLong) × MayPassLength seen may old new))

@@ -24,9 +24,11 @@ abbrev pub RefusesWithin : Limits → List ℕ → Refusal → Type 0
 RefusesWithin l s (Error TooLarge) = l.frame < extent s
 RefusesWithin l s e = (extent s ≤ l.frame) × Refuses (OutcomeWithin l.depth s) (Heavy s) e
 
--- reading s within limits comes to one outcome and no other, and to none where the value is too large
+-- reading s within limits comes to exactly one outcome, and to none where the value is too large
 abbrev pub HasOneOutcomeWithin : Limits → List ℕ → Type 0
-HasOneOutcomeWithin l s = ((o p : Reading) → Within l s o → Within l s p → o ≡ p) × ((o : Reading) → l.frame < extent s → Within l s o → ⊥)
+HasOneOutcomeWithin l s =
+    (extent s ≤ l.frame → (o : Reading) × Within l s o × ((p : Reading) → Within l s p → p ≡ o))
+    × ((o : Reading) → l.frame < extent s → Within l s o → ⊥)
 
 -- more bytes join the rest behind a value, are so many fewer that lack, and leave a refusal as it is
 abbrev pub KeepsOutcomeWithin : Limits → List ℕ → Type 0

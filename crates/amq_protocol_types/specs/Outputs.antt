@@ -5,7 +5,7 @@ use Rattle.std.specs.Int.{w32, to_be_bytes}
 use Rattle.std.specs.declared.io.ErrorKind.{ErrorKind}
 use Rattle.std.specs.Io.KnownBytes.{Appends}
 use Rattle.amq_protocol_types.specs.declared.generation.error.GenError.{GenError}
-use Rattle.amq_protocol_types.specs.declared.generation.error.GenError.TheVariants.{BufferTooSmall, LengthTooLong, IoError, InvalidOffset}
+use Rattle.amq_protocol_types.specs.declared.generation.error.GenError.TheVariants.{BufferTooSmall, LengthTooLong, IoError, InvalidOffset, OutOfMemory}
 
 -- what an output shows
 pub record Seen : Type 0 where
@@ -60,6 +60,8 @@ pub record Writes (is_buffer : Bool) (lengths : Type 0) (bytes : List ℕ) (befo
   pub too_long : IsErrOf result LengthTooLong → lengths → ⊥
   pub failed : IfErr result (λ e. (kind : ErrorKind) → e ≡ IoError kind → HasFailed before after)
   pub offset : IsErrOf result InvalidOffset → 2 ^ 64 ≤ before.at + length bytes
+  -- memory is wanted by a buffer alone, and one of open room
+  pub memory : IsErrOf result OutOfMemory → IsTrue is_buffer
   pub no_other : IsSome before.room → IfErr result (λ e. (e ≡ BufferTooSmall) ⊎ (e ≡ LengthTooLong))
   -- faults are never taken back
   pub faults : before.faults ≤ after.faults
@@ -94,6 +96,8 @@ pub record MakesRoom (is_buffer : Bool) (n : ℕ) (before : Seen) (result : Resu
   pub too_long : IsErrOf result LengthTooLong → ⊥
   pub failed : IfErr result (λ e. (kind : ErrorKind) → e ≡ IoError kind → HasFailed before after)
   pub offset : IsErrOf result InvalidOffset → 2 ^ 64 ≤ before.at + n
+  -- memory is wanted by a buffer alone, and one of open room
+  pub memory : IsErrOf result OutOfMemory → IsTrue is_buffer
   pub no_other : IsSome before.room → IfErr result (λ e. e ≡ BufferTooSmall)
   -- faults are never taken back
   pub faults : before.faults ≤ after.faults

@@ -2,13 +2,22 @@
 use Rattle.std.specs.Prelude.{ℕ, ◌≤◌, List, length, Result, IsOk, IsErrOf}
 use Rattle.std.specs.Option.{IfSome}
 use Rattle.amqp_value_core.specs.Values.{Tree}
-use Rattle.amqp_value_core.specs.Grammar.{Wire}
+use Rattle.amqp_value_core.specs.declared.types.AMQPType.{AMQPType}
+use Rattle.amqp_value_core.specs.Grammar.{Wire, Raw}
 use Rattle.amq_protocol_types.specs.declared.generation.error.GenError.{GenError}
 use Rattle.amq_protocol_types.specs.declared.generation.error.GenError.TheVariants.{LengthTooLong}
 use Rattle.amq_protocol_types.specs.Outputs.{Seen}
 
--- A value that has a wire, whichever: no length in it is refused, and fixed room for as many bytes as the wire has
+-- Bytes that may be read, whichever, come to what is written: no length in it is refused, and fixed room for as many
 -- is enough.
-pub record WritesWhatWasRead (v : Tree) (before : Seen) (result : Result (Unit {0}) GenError) : Type 0 where
-  pub never_too_long : (w : List ℕ) → Wire w v → IsErrOf result LengthTooLong → ⊥
-  pub succeeds : (w : List ℕ) → Wire w v → IfSome before.room (λ room. length w ≤ room → IsOk result)
+pub record WritesWhatIs (Is : List ℕ → Type 0) (before : Seen) (result : Result (Unit {0}) GenError) : Type 0 where
+  pub never_too_long : (w : List ℕ) → Is w → IsErrOf result LengthTooLong → ⊥
+  pub succeeds : (w : List ℕ) → Is w → IfSome before.room (λ room. length w ≤ room → IsOk result)
+
+-- so it is with a value's wires
+abbrev pub WritesWhatWasRead : Tree → Seen → Result (Unit {0}) GenError → Type 0
+WritesWhatWasRead v before result = WritesWhatIs (λ w. Wire w v) before result
+
+-- and with its payloads
+abbrev pub WritesPayloadRead : AMQPType → Tree → Seen → Result (Unit {0}) GenError → Type 0
+WritesPayloadRead type v before result = WritesWhatIs (λ b. Raw type b v) before result

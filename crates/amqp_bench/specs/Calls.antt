@@ -1,5 +1,5 @@
 -- What the calls from C answer: a number of bytes, or a negative number.
-use Rattle.std.specs.Prelude.{ℕ, ◌≡◌, ◌+◌, ◌<◌, ◌⊎◌, ℤ, pos, negsuc, List, length, Result, Ok, Err, MatchResult}
+use Rattle.std.specs.Prelude.{ℕ, ◌≡◌, ◌+◌, ◌<◌, ◌≤◌, ◌⊎◌, ℤ, pos, negsuc, List, length, Result, Ok, Err, MatchResult}
 use Rattle.amqp_value_core.specs.Values.{Tree}
 use Rattle.amqp_value_core.specs.Outcomes.{Outcome, Heavy, found, more, unknown, malformed}
 use Rattle.amqp_value_core.specs.Texts.{text}
@@ -38,9 +38,11 @@ IsRead s n v = (rest : List ℕ) × Outcome s (found v rest) × (n + length rest
 abbrev pub IsTaken : List ℕ → ℕ → Type 0
 IsTaken s n = (v : Tree) × IsRead s n v
 
--- a value is read from s and written so many times: n is 0 where that is no time, and else the length of its text
-abbrev pub IsWritten : ℕ → List ℕ → ℕ → Type 0
-IsWritten times s n = (v : Tree) × (rest : List ℕ) × Outcome s (found v rest) × (times ≡ 0 → n ≡ 0) × (0 < times → n ≡ length (text v))
+-- a value is read from s and written so many times to room for so many bytes: n is 0 where that is no time, and else
+-- the length of its text, and no more than there is room
+abbrev pub IsWritten : ℕ → List ℕ → ℕ → ℕ → Type 0
+IsWritten times s room n =
+    (v : Tree) × (rest : List ℕ) × Outcome s (found v rest) × (times ≡ 0 → n ≡ 0) × (0 < times → n ≡ length (text v)) × (n ≤ room)
 
 -- the text of the value that is read from s has more than n bytes
 abbrev pub HasNoRoom : List ℕ → ℕ → Type 0

@@ -25,7 +25,7 @@ pub fn decode(alloc: Global, bytes: &[u8]) -> Result<usize, Fault>
 #[tactic(auto, using(crate::proofs::Written::written_often))]
 pub fn encode(alloc: Global, bytes: &[u8], out: &mut [u8], times: u64) -> Result<usize, Fault>
     ensures written { MatchResult result
-        (IsWritten times bytes.now)
+        (IsWritten times bytes.now (length out.old))
         (IsFault bytes.now (HasNoRoom bytes.now (length out.old))) }
     ensures small { IfOk result (λ n. n ≤ length out.old) }
 {

@@ -30,7 +30,7 @@ pub extern "C" fn amqp_bench_decode(alloc: Global, bytes: &[u8]) -> i64
 /// bytes were written.
 #[unsafe(no_mangle)]
 pub extern "C" fn amqp_bench_roundtrip(alloc: Global, bytes: &[u8], out: &mut [u8]) -> i64
-    ensures { Answers bytes.now (IsWritten 1 bytes.now) (HasNoRoom bytes.now (length out.old)) result }
+    ensures { Answers bytes.now (IsWritten 1 bytes.now (length out.old)) (HasNoRoom bytes.now (length out.old)) result }
 {
     answer(encode(alloc, bytes, out, 1))
 }
@@ -44,7 +44,7 @@ pub extern "C" fn amqp_bench_encode_n(
     out: &mut [u8],
     times: u64,
 ) -> i64
-    ensures { Answers bytes.now (IsWritten times bytes.now) (HasNoRoom bytes.now (length out.old)) result }
+    ensures { Answers bytes.now (IsWritten times bytes.now (length out.old)) (HasNoRoom bytes.now (length out.old)) result }
 {
     answer(encode(alloc, bytes, out, times))
 }

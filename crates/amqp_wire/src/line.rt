@@ -1,7 +1,6 @@
 //! The answer to one line.
 
 ghost use Rattle.std.specs.Prelude.{◌≡◌, ◌-◌, ◌≤◌, ◌++◌, ◌∷◌, [], length, IfOk, string_bytes};
-ghost use Rattle.amqp_value_core.specs.Outcomes.{IsBytes};
 ghost use Rattle.amqp_value_core.specs.Decode.{outcome};
 ghost use Rattle.amqp_value_core.specs.Headline.{IsBounded};
 ghost use Rattle.amqp_value_core.specs.View.{view};
@@ -45,19 +44,19 @@ fn hex_of(alloc: Global, value: &AMQPValue, room: usize) -> Result<String, Alloc
     hex::encode(alloc, output.written())
 }
 
-/// What is said of a value that was read from `bytes`, and behind which `rest` is left. Its text gets
-/// as much room as its wire took.
+/// What is said of a value that was read from `count` bytes, of which `rest` is left behind it. Its text
+/// gets as much room as its wire took.
 fn value_answer<I: ParsableInput>(
     alloc: Global,
     value: &AMQPValue,
-    bytes: I,
+    count: usize,
     rest: I,
 ) -> Result<String, WireFault>
-    requires { IsBounded (length (I.bytes bytes) - length (I.bytes rest)) (view value.now) }
+    requires { IsBounded (count - length (I.bytes rest)) (view value.now) }
     ensures { IfOk result (λ answer. string_bytes answer ≡ said_of_value (view value.now) (length (I.bytes rest))) }
 {
     let left = rest.input_len();
-    let hex = hex_of(alloc, value, bytes.input_len().saturating_sub(left))?;
+    let hex = hex_of(alloc, value, count.saturating_sub(left))?;
     Ok(format!(in alloc; "value {hex} rest {left}")?)
 }
 
@@ -92,11 +91,11 @@ fn refusal_answer(alloc: Global, error: ParserError) -> Result<String, WireFault
 
 /// What is said of the bytes that a line spells.
 fn answer_to_bytes<I: ParsableInput>(alloc: Global, bytes: I) -> Result<String, WireFault>
-    requires { IsBytes (I.bytes bytes) }
     ensures { IfOk result (λ answer. string_bytes answer ≡ said (outcome (I.bytes bytes))) }
 {
+    let count = bytes.input_len();
     match parse_value(alloc, bytes) {
-        Ok((rest, value)) => value_answer(alloc, &value, bytes, rest),
+        Ok((rest, value)) => value_answer(alloc, &value, count, rest),
         Err(error) => refusal_answer(alloc, error),
     }
 }
@@ -107,11 +106,11 @@ fn answer_within<I: ParsableInput>(
     bytes: I,
     limits: Limits,
 ) -> Result<String, WireFault>
-    requires { IsBytes (I.bytes bytes) }
     ensures { IfOk result (λ answer. string_bytes answer ≡ said_within (read_within limits (I.bytes bytes))) }
 {
+    let count = bytes.input_len();
     match parse_value_within(alloc, bytes, limits) {
-        Ok((rest, value)) => value_answer(alloc, &value, bytes, rest),
+        Ok((rest, value)) => value_answer(alloc, &value, count, rest),
         Err(error) => refusal_answer(alloc, error),
     }
 }

@@ -70,6 +70,7 @@ impl<W: Write> Output for IoOutput<W> {
         ensures made { MakesRoom false n
             (seen_device W.contents self.old) result (seen_device W.contents self.new) }
         ensures ok { IsOk result }
+        ensures unchanged { self.new ≡ self.old }
     {
         // a device has no room to make
         Ok(())

@@ -7,7 +7,7 @@ ghost use Rattle.amqp_value_core.specs.Texts.{text, payload, Fits, IsValue, read
 ghost use Rattle.amqp_value_core.specs.Outcomes.{Outcome};
 ghost use Rattle.amqp_value_core.specs.Headline.{IsShortest, TellsApart, IsCanonical};
 ghost use Rattle.amq_protocol_types.specs.Outputs.{Writes, FillsLength};
-ghost use Rattle.amq_protocol_types.specs.Written.{WritesWhatWasRead};
+ghost use Rattle.amq_protocol_types.specs.Written.{WritesWhatWasRead, WritesPayloadRead};
 ghost use Rattle.amq_protocol_types.specs.Contexts.{start_of, shown};
 
 use crate::generation::{
@@ -16,7 +16,7 @@ use crate::generation::{
     gen_long_uint, gen_short_int, gen_short_short_int, gen_short_short_uint, gen_short_string,
     gen_short_uint, gen_timestamp, gen_type,
 };
-use amqp_value_core::types::{DecimalValue, FieldArray, FieldTable, ShortString};
+use amqp_value_core::types::{AMQPType, DecimalValue, FieldArray, FieldTable, ShortString};
 use amqp_value_core::value::AMQPValue;
 
 /// Writes a value: the id of its type, then its payload.
@@ -93,12 +93,15 @@ pub fn gen_raw_value<W: BackToTheBuffer>(v: &AMQPValue, x: &mut WriteContext<W>)
 
 /// Writes an array's values, each with its id, behind the number of bytes that they take.
 #[cycle(values)]
+#[tactic(auto, using(crate::proofs::WhatWasRead::writes_payload_read))]
 pub fn gen_field_array<W: BackToTheBuffer>(a: &FieldArray, x: &mut WriteContext<W>) -> GenResult
     ensures written { Writes true (Fits (array (array_view a.now)))
         (payload (array (array_view a.now)))
         (shown W.seen x.old) result (shown W.seen x.new) }
     ensures start { start_of x.new ≡ start_of x.old }
     ensures value { OnOk result (IsValue (array (array_view a.now))) }
+    ensures of_a_wire { WritesPayloadRead AMQPType.FieldArray (array (array_view a.now))
+        (shown W.seen x.old) result }
 {
     let at = x.reserve(4)?;
     for v in a.as_slice() {
@@ -113,12 +116,15 @@ pub fn gen_field_array<W: BackToTheBuffer>(a: &FieldArray, x: &mut WriteContext<
 /// Writes a table's entries, each its key as a short string and its value with its id, in the order
 /// of the keys' bytes, behind the number of bytes that they take.
 #[cycle(values)]
+#[tactic(auto, using(crate::proofs::WhatWasRead::writes_payload_read))]
 pub fn gen_field_table<W: BackToTheBuffer>(t: &FieldTable, x: &mut WriteContext<W>) -> GenResult
     ensures written { Writes true (Fits (table (table_view t.now)))
         (payload (table (table_view t.now)))
         (shown W.seen x.old) result (shown W.seen x.new) }
     ensures start { start_of x.new ≡ start_of x.old }
     ensures value { OnOk result (IsValue (table (table_view t.now))) }
+    ensures of_a_wire { WritesPayloadRead AMQPType.FieldTable (table (table_view t.now))
+        (shown W.seen x.old) result }
 {
     let at = x.reserve(4)?;
     for (k, v) in t.inner().iter() {

@@ -6,7 +6,7 @@ ghost use Rattle.amqp_value_core.specs.Ids.{read_as};
 ghost use Rattle.amqp_value_core.specs.Values.{scalar, boolean, number, decimal};
 ghost use Rattle.amqp_value_core.specs.Numbers.{float_bits, double_bits};
 ghost use Rattle.amqp_value_core.specs.Outcomes.{RawOutcome, found};
-ghost use Rattle.amq_protocol_types.specs.Answers.{Refuses, IsType, IsNoType, IsNumberRead, IsCut};
+ghost use Rattle.amq_protocol_types.specs.Answers.{Refuses, OnlyLacks, IsType, IsNoType, IsNumberRead, IsCut};
 
 use super::errors::{ErrorKind, ParserResult, lacks, refused};
 use super::traits::ParsableInput;
@@ -45,7 +45,7 @@ pub fn parse_id<I: ParsableInput>(i: I) -> ParserResult<I, Identifier>
 pub fn parse_boolean<I: ParsableInput>(i: I) -> ParserResult<I, Boolean>
     ensures { MatchResult result
         (λ x. RawOutcome AMQPType.Boolean (I.bytes i) (found (scalar (boolean x.1)) (I.bytes x.0)))
-        (Refuses (RawOutcome AMQPType.Boolean (I.bytes i)) ⊥) }
+        (OnlyLacks (RawOutcome AMQPType.Boolean (I.bytes i)) ⊥) }
 {
     let (i, byte) = parse_short_short_uint(i)?;
     Ok((i, byte != 0))
@@ -59,7 +59,7 @@ pub fn parse_short_short_uint<I: ParsableInput>(i: I) -> ParserResult<I, ShortSh
         (Refuses (IsCut w8 (I.bytes i)) ⊥) }
     ensures payload { MatchResult result
         (λ x. RawOutcome AMQPType.ShortShortUInt (I.bytes i) (found (scalar (number AMQPType.ShortShortUInt x.1)) (I.bytes x.0)))
-        (Refuses (RawOutcome AMQPType.ShortShortUInt (I.bytes i)) ⊥) }
+        (OnlyLacks (RawOutcome AMQPType.ShortShortUInt (I.bytes i)) ⊥) }
 {
     if i.input_len() == 0 {
         return Err(lacks(1));
@@ -75,7 +75,7 @@ pub fn parse_short_uint<I: ParsableInput>(i: I) -> ParserResult<I, ShortUInt>
         (Refuses (IsCut w16 (I.bytes i)) ⊥) }
     ensures payload { MatchResult result
         (λ x. RawOutcome AMQPType.ShortUInt (I.bytes i) (found (scalar (number AMQPType.ShortUInt x.1)) (I.bytes x.0)))
-        (Refuses (RawOutcome AMQPType.ShortUInt (I.bytes i)) ⊥) }
+        (OnlyLacks (RawOutcome AMQPType.ShortUInt (I.bytes i)) ⊥) }
 {
     let there = i.input_len();
     if there < 2 {
@@ -93,7 +93,7 @@ pub fn parse_long_uint<I: ParsableInput>(i: I) -> ParserResult<I, LongUInt>
         (Refuses (IsCut w32 (I.bytes i)) ⊥) }
     ensures payload { MatchResult result
         (λ x. RawOutcome AMQPType.LongUInt (I.bytes i) (found (scalar (number AMQPType.LongUInt x.1)) (I.bytes x.0)))
-        (Refuses (RawOutcome AMQPType.LongUInt (I.bytes i)) ⊥) }
+        (OnlyLacks (RawOutcome AMQPType.LongUInt (I.bytes i)) ⊥) }
 {
     let there = i.input_len();
     if there < 4 {
@@ -134,7 +134,7 @@ pub fn parse_short_short_int<I: ParsableInput>(i: I) -> ParserResult<I, ShortSho
     ensures { MatchResult result
         (λ x. RawOutcome AMQPType.ShortShortInt (I.bytes i)
         (found (scalar (number AMQPType.ShortShortInt (cast_unsigned w8 x.1))) (I.bytes x.0)))
-        (Refuses (RawOutcome AMQPType.ShortShortInt (I.bytes i)) ⊥) }
+        (OnlyLacks (RawOutcome AMQPType.ShortShortInt (I.bytes i)) ⊥) }
 {
     let (i, n) = parse_short_short_uint(i)?;
     Ok((i, n.cast_signed()))
@@ -146,7 +146,7 @@ pub fn parse_short_int<I: ParsableInput>(i: I) -> ParserResult<I, ShortInt>
     ensures { MatchResult result
         (λ x. RawOutcome AMQPType.ShortInt (I.bytes i)
         (found (scalar (number AMQPType.ShortInt (cast_unsigned w16 x.1))) (I.bytes x.0)))
-        (Refuses (RawOutcome AMQPType.ShortInt (I.bytes i)) ⊥) }
+        (OnlyLacks (RawOutcome AMQPType.ShortInt (I.bytes i)) ⊥) }
 {
     let (i, n) = parse_short_uint(i)?;
     Ok((i, n.cast_signed()))
@@ -158,7 +158,7 @@ pub fn parse_long_int<I: ParsableInput>(i: I) -> ParserResult<I, LongInt>
     ensures { MatchResult result
         (λ x. RawOutcome AMQPType.LongInt (I.bytes i)
         (found (scalar (number AMQPType.LongInt (cast_unsigned w32 x.1))) (I.bytes x.0)))
-        (Refuses (RawOutcome AMQPType.LongInt (I.bytes i)) ⊥) }
+        (OnlyLacks (RawOutcome AMQPType.LongInt (I.bytes i)) ⊥) }
 {
     let (i, n) = parse_long_uint(i)?;
     Ok((i, n.cast_signed()))
@@ -170,7 +170,7 @@ pub fn parse_long_long_int<I: ParsableInput>(i: I) -> ParserResult<I, LongLongIn
     ensures { MatchResult result
         (λ x. RawOutcome AMQPType.LongLongInt (I.bytes i)
         (found (scalar (number AMQPType.LongLongInt (cast_unsigned w64 x.1))) (I.bytes x.0)))
-        (Refuses (RawOutcome AMQPType.LongLongInt (I.bytes i)) ⊥) }
+        (OnlyLacks (RawOutcome AMQPType.LongLongInt (I.bytes i)) ⊥) }
 {
     let (i, n) = parse_long_long_uint(i)?;
     Ok((i, n.cast_signed()))
@@ -182,7 +182,7 @@ pub fn parse_float<I: ParsableInput>(i: I) -> ParserResult<I, Float>
     ensures { MatchResult result
         (λ x. RawOutcome AMQPType.Float (I.bytes i)
         (found (scalar (number AMQPType.Float (float_bits x.1))) (I.bytes x.0)))
-        (Refuses (RawOutcome AMQPType.Float (I.bytes i)) ⊥) }
+        (OnlyLacks (RawOutcome AMQPType.Float (I.bytes i)) ⊥) }
 {
     let (i, bits) = parse_long_uint(i)?;
     Ok((i, Float::from_bits(bits)))
@@ -194,7 +194,7 @@ pub fn parse_double<I: ParsableInput>(i: I) -> ParserResult<I, Double>
     ensures { MatchResult result
         (λ x. RawOutcome AMQPType.Double (I.bytes i)
         (found (scalar (number AMQPType.Double (double_bits x.1))) (I.bytes x.0)))
-        (Refuses (RawOutcome AMQPType.Double (I.bytes i)) ⊥) }
+        (OnlyLacks (RawOutcome AMQPType.Double (I.bytes i)) ⊥) }
 {
     let (i, bits) = parse_long_long_uint(i)?;
     Ok((i, Double::from_bits(bits)))
@@ -206,7 +206,7 @@ pub fn parse_timestamp<I: ParsableInput>(i: I) -> ParserResult<I, Timestamp>
     ensures { MatchResult result
         (λ x. RawOutcome AMQPType.Timestamp (I.bytes i)
         (found (scalar (number AMQPType.Timestamp x.1)) (I.bytes x.0)))
-        (Refuses (RawOutcome AMQPType.Timestamp (I.bytes i)) ⊥) }
+        (OnlyLacks (RawOutcome AMQPType.Timestamp (I.bytes i)) ⊥) }
 {
     let (i, seconds) = parse_long_long_uint(i)?;
     Ok((i, seconds))
@@ -218,7 +218,7 @@ pub fn parse_decimal_value<I: ParsableInput>(i: I) -> ParserResult<I, DecimalVal
     ensures { MatchResult result
         (λ x. RawOutcome AMQPType.DecimalValue (I.bytes i)
         (found (scalar (decimal x.1.scale x.1.value)) (I.bytes x.0)))
-        (Refuses (RawOutcome AMQPType.DecimalValue (I.bytes i)) ⊥) }
+        (OnlyLacks (RawOutcome AMQPType.DecimalValue (I.bytes i)) ⊥) }
 {
     let (i, scale) = parse_short_short_uint(i)?;
     let (i, value) = parse_long_uint(i)?;

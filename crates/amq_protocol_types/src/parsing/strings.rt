@@ -4,7 +4,7 @@ ghost use Rattle.std.specs.Prelude.{◌≡◌, ◌<◌, true, length, MatchResul
 ghost use Rattle.amqp_value_core.specs.Values.{short, long, octets};
 ghost use Rattle.amqp_value_core.specs.Bytes.{long_bytes, array_bytes};
 ghost use Rattle.amqp_value_core.specs.Outcomes.{RawOutcome, RawHeavy, found};
-ghost use Rattle.amq_protocol_types.specs.Answers.{Refuses, RawRefuses, IsFrame, IsCutFrame};
+ghost use Rattle.amq_protocol_types.specs.Answers.{Refuses, OnlyLacks, RawRefuses, IsFrame, IsCutFrame};
 
 use super::bytes::{copy_by_chunks, copy_of};
 use super::errors::{ErrorKind, ParserResult, lacks, out_of_memory, refused};
@@ -72,7 +72,7 @@ fn whole<'a>(in_pieces: bool, joined: &'a [u8], chunk: &'a [u8]) -> &'a [u8]
 pub fn parse_long_string<I: ParsableInput>(alloc: Global, i: I) -> ParserResult<I, LongString>
     ensures { MatchResult result
         (λ x. RawOutcome AMQPType.LongString (I.bytes i) (found (long (long_bytes x.1)) (I.bytes x.0)))
-        (Refuses (RawOutcome AMQPType.LongString (I.bytes i)) (RawHeavy AMQPType.LongString (I.bytes i))) }
+        (OnlyLacks (RawOutcome AMQPType.LongString (I.bytes i)) (RawHeavy AMQPType.LongString (I.bytes i))) }
 {
     let (i, body) = parse_frame(i)?;
     let Ok(bytes) = copy_of(alloc, body) else {
@@ -87,7 +87,7 @@ pub fn parse_long_string<I: ParsableInput>(alloc: Global, i: I) -> ParserResult<
 pub fn parse_byte_array<I: ParsableInput>(alloc: Global, i: I) -> ParserResult<I, ByteArray>
     ensures { MatchResult result
         (λ x. RawOutcome AMQPType.ByteArray (I.bytes i) (found (octets (array_bytes x.1)) (I.bytes x.0)))
-        (Refuses (RawOutcome AMQPType.ByteArray (I.bytes i)) (RawHeavy AMQPType.ByteArray (I.bytes i))) }
+        (OnlyLacks (RawOutcome AMQPType.ByteArray (I.bytes i)) (RawHeavy AMQPType.ByteArray (I.bytes i))) }
 {
     let (i, body) = parse_frame(i)?;
     let Ok(bytes) = copy_of(alloc, body) else {

@@ -27,7 +27,7 @@ use std::alloc::Global;
 /// containers nest, which the input's length alone bounds. Memory is taken only for strings, byte
 /// arrays and containers whose bytes are all there.
 #[inline(always)]
-#[tactic(auto, using(amqp_value_core::proofs::GrammarLaws::one_outcome, amqp_value_core::proofs::GrammarLaws::more_bytes))]
+#[tactic(auto, using(crate::proofs::Appends::has_one_outcome, amqp_value_core::proofs::GrammarLaws::more_bytes))]
 pub fn parse_value<I: ParsableInput>(alloc: Global, i: I) -> ParserResult<I, AMQPValue>
     ensures outcome { MatchResult result
         (λ x. Outcome (I.bytes i) (found (view x.1) (I.bytes x.0)))
@@ -80,7 +80,7 @@ pub fn parse_raw_value<I: ParsableInput>(
 // Reads the payload of a value of the type, which isn't `ShortString`: no id stands for that one.
 #[cycle(parser)]
 #[inline(always)]
-#[tactic(auto, using(crate::proofs::Plain::plain_refuses))]
+#[tactic(auto, using(crate::proofs::Plain::plain_lacks))]
 fn payload_within<I: ParsableInput>(
     alloc: Global,
     amqp_type: AMQPType,

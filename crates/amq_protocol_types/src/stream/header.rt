@@ -2,7 +2,7 @@
 
 ghost use Rattle.std.specs.Prelude.{◌≡◌, ◌≢◌, ◌<◌, ◌≤◌, ◌+◌, option_map};
 ghost use Rattle.amqp_value_core.specs.Layouts.{fixed};
-ghost use Rattle.amqp_value_core.specs.Outcomes.{length_field};
+ghost use Rattle.amqp_value_core.specs.Outcomes.{IsBytes, length_field};
 ghost use Rattle.amq_protocol_types.specs.Headers.{raw_extent, first_of};
 ghost use Rattle.amq_protocol_types.specs.Limits.{IsHeader};
 
@@ -61,7 +61,8 @@ fn payload_of<I: ParsableInput>(amqp_type: AMQPType, i: I) -> (usize, usize)
 
 // What the header of a value tells, where none may have more than `frame` bytes.
 pub(super) fn header_of<I: ParsableInput>(i: I, frame: u32) -> Header
-    ensures { IsHeader frame (I.bytes i) result }
+    ensures header { IsHeader frame (I.bytes i) result }
+    ensures bytes { IsBytes (I.bytes i) }
 {
     if i.input_len() == 0 {
         return Header::Lacks(1);

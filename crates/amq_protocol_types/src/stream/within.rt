@@ -36,7 +36,7 @@ pub fn parse_value_within<I: ParsableInput>(
     ensures bounded { IfOk result (λ x.
         IsBounded (length (I.bytes i) - length (I.bytes x.0)) (view x.1)) }
     ensures depth { IfOk result (λ x. depth (view x.1) ≤ limits.depth) }
-    ensures read_again { IsBytes (I.bytes i) → IfOk result (λ x. IsReadAgain limits (view x.1)) }
+    ensures read_again { IfOk result (λ x. IsReadAgain limits (view x.1)) }
     ensures read_back { ReadsBack limits }
     ensures shortest { IfOk result (λ x. IsShortestWithin limits.depth (view x.1)) }
     ensures tells_apart { IfOk result (λ x. TellsApartWithin limits.depth (view x.1)) }
@@ -47,9 +47,10 @@ pub fn parse_value_within<I: ParsableInput>(
 
 // Reads a value once its header tells that it is whole, and within the frame.
 fn read_within<I: ParsableInput>(alloc: Global, i: I, limits: Limits) -> ParserResult<I, AMQPValue>
-    ensures { MatchResult result
+    ensures within { MatchResult result
         (λ x. Within limits (I.bytes i) (found (view x.1) (I.bytes x.0)))
         (RefusesWithin limits (I.bytes i)) }
+    ensures bytes { IsBytes (I.bytes i) }
 {
     match header_of(i, limits.frame) {
         Header::Unknown => Err(refused(ErrorKind::MapOpt)),

@@ -13,11 +13,11 @@ pub returns-in-Ok : goal.returns-in-Ok
 returns-in-Ok g c =
     let s = g.I.ParsableInput.bytes c.args.bytes in
     let rest = g.I.ParsableInput.bytes c.in-Ok.rest in
-    let said_it : said_of_value (view c.in-Ok.value) (length rest) ≡ said (outcome s) = said_of_outcome s (found (view c.in-Ok.value) rest) c.requires (search (rules, c.in-Ok.ensures.outcome)) in
+    let said_it : said_of_value (view c.in-Ok.value) (length rest) ≡ said (outcome s) = said_of_outcome s (found (view c.in-Ok.value) rest) c.input_len-count.ensures.bytes (search (rules, c.in-Ok.ensures.outcome)) in
     search (rules, said_it)
 
 pub returns-in-Err : goal.returns-in-Err
 returns-in-Err g c =
     let s = g.I.ParsableInput.bytes c.args.bytes in
     let right : Refuses (Outcome s) (Heavy s) c.in-Err.error = search (rules, c.in-Err.ensures.outcome) in
-    IfOk-weaker c.refusal_answer.result (λ a. IsSaid c.in-Err.error (string_bytes a)) (λ a. string_bytes a ≡ said (outcome s)) (λ a is. said_of_refusal s c.in-Err.error _ c.requires right is) c.refusal_answer.ensures
+    IfOk-weaker c.refusal_answer.result (λ a. IsSaid c.in-Err.error (string_bytes a)) (λ a. string_bytes a ≡ said (outcome s)) (λ a is. said_of_refusal s c.in-Err.error _ c.input_len-count.ensures.bytes right is) c.refusal_answer.ensures

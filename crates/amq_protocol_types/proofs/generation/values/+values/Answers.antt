@@ -5,6 +5,7 @@ use Rattle.amq_protocol_types.proofs.Arrays.{value_refused, array_closed}
 use Rattle.amq_protocol_types.proofs.Tables.{none_put, one_more_put, key_taken_back, entry_refused, table_closed, table_value}
 use Rattle.amq_protocol_types.proofs.Texts.{text_of, longer_by_id, body_next, fit_next, values_next}
 use Rattle.amq_protocol_types.proofs.Steps.{both_put, refused, by_buffer}
+use Rattle.amq_protocol_types.proofs.WhatWasRead.{writes_payload_read}
 use Rattle.amq_protocol_types.proofs.generation.values.+values.Goals as goal
 
 pub write_value-returns-clause-written : goal.write_value-returns-clause-written
@@ -79,3 +80,15 @@ gen_field_table-returns-clause-written g t c =
 pub gen_field_table-returns-clause-value : goal.gen_field_table-returns-clause-value
 gen_field_table-returns-clause-value g t c =
     table_value c.fill_length.result c.in-None.ensures.steps.0 c.inner.ensures c.iter-k-items.ensures.ordered c.loop-k.invariant.put
+
+pub gen_field_array-returns-in-Err-clause-of_a_wire : goal.gen_field_array-returns-in-Err-clause-of_a_wire
+gen_field_array-returns-in-Err-clause-of_a_wire g t c = writes_payload_read (λ e. cc) (gen_field_array-returns-in-Err-clause-written g t c)
+
+pub gen_field_array-returns-clause-of_a_wire : goal.gen_field_array-returns-clause-of_a_wire
+gen_field_array-returns-clause-of_a_wire g t c = writes_payload_read (λ e. cc) (gen_field_array-returns-clause-written g t c)
+
+pub gen_field_table-returns-in-Err-clause-of_a_wire : goal.gen_field_table-returns-in-Err-clause-of_a_wire
+gen_field_table-returns-in-Err-clause-of_a_wire g t c = writes_payload_read (λ e. cc) (gen_field_table-returns-in-Err-clause-written g t c)
+
+pub gen_field_table-returns-clause-of_a_wire : goal.gen_field_table-returns-clause-of_a_wire
+gen_field_table-returns-clause-of_a_wire g t c = writes_payload_read (λ e. cc) (gen_field_table-returns-clause-written g t c)

@@ -16,6 +16,7 @@ returns-in-Err-clause-err g c =
       after = _;
       reserved = record { zeros = c.in_ok-at.ensures.written; start = c.in_ok-at.ensures.start };
       called = record { shown = _; shows = refl; left = _; met = c.in-Err.ensures; leaves = refl };
+      start = c.back_to.ensures.start;
     }))
 
 pub returns-in-Err-clause-kept : goal.returns-in-Err-clause-kept
@@ -40,7 +41,7 @@ returns-clause-ok g c =
 
 pub returns-clause-err : goal.returns-clause-err
 returns-clause-err g c =
-    too_long _ _ _ _ _ c.fill_length.new.x _ c.in_ok-at.ensures.place c.in_ok-at.ensures.whole (g.met.W.BackToTheBuffer.whole _) (record { zeros = c.in_ok-at.ensures.written; start = c.in_ok-at.ensures.start }) c.requires.appends (record { shown = _; shows = refl; left = _; met = c.in_default.ensures; leaves = refl }) _ c.fill_length.ensures.filled
+    too_long _ _ _ _ _ c.fill_length.new.x _ c.in_ok-at.ensures.place c.in_ok-at.ensures.whole (g.met.W.BackToTheBuffer.whole _) (record { zeros = c.in_ok-at.ensures.written; start = c.in_ok-at.ensures.start }) c.requires.appends (record { shown = _; shows = refl; left = _; met = c.in_default.ensures; leaves = refl }) _ c.fill_length.ensures.filled c.fill_length.ensures.start
 
 pub returns-clause-kept : goal.returns-clause-kept
 returns-clause-kept g c =

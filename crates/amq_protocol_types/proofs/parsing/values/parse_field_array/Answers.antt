@@ -6,4 +6,4 @@ use Rattle.amq_protocol_types.proofs.parsing.values.parse_field_array.Goals as g
 
 pub returns : goal.returns
 returns g c =
-    raw_unlimited_answer g.I.ParsableInput.bytes (λ x. array (array_view x)) amqp.FieldArray c.input_len.result (g.I.ParsableInput.bytes c.args.i) c.array_within.result c.input_len.ensures c.array_within.ensures
+    raw_unlimited_answer g.I.ParsableInput.bytes (λ x. array (array_view x)) amqp.FieldArray c.input_len.result (g.I.ParsableInput.bytes c.args.i) c.array_within.result c.input_len.ensures.count c.array_within.ensures

@@ -6,4 +6,4 @@ use Rattle.amq_protocol_types.proofs.parsing.values.parse_field_table.Goals as g
 
 pub returns : goal.returns
 returns g c =
-    raw_unlimited_answer g.I.ParsableInput.bytes (λ x. table (table_view x)) amqp.FieldTable c.input_len.result (g.I.ParsableInput.bytes c.args.i) c.table_within.result c.input_len.ensures c.table_within.ensures
+    raw_unlimited_answer g.I.ParsableInput.bytes (λ x. table (table_view x)) amqp.FieldTable c.input_len.result (g.I.ParsableInput.bytes c.args.i) c.table_within.result c.input_len.ensures.count c.table_within.ensures

@@ -6,19 +6,19 @@ use Rattle.amq_protocol_types.proofs.Appends.{has_one_outcome_within, keeps_outc
 use Rattle.amq_protocol_types.proofs.stream.within.parse_value_within.Goals as goal
 
 pub returns-clause-one : goal.returns-clause-one
-returns-clause-one g c = has_one_outcome_within c.args.limits (g.I.ParsableInput.bytes c.args.i)
+returns-clause-one g c = has_one_outcome_within c.args.limits (g.I.ParsableInput.bytes c.args.i) c.read_within.ensures.bytes
 
 pub returns-clause-more_bytes : goal.returns-clause-more_bytes
 returns-clause-more_bytes g c = keeps_outcome_within c.args.limits (g.I.ParsableInput.bytes c.args.i)
 
 pub returns-clause-bounded : goal.returns-clause-bounded
-returns-clause-bounded g c = bounded_within g.I.ParsableInput.bytes c.args.limits (g.I.ParsableInput.bytes c.args.i) c.read_within.result c.read_within.ensures
+returns-clause-bounded g c = bounded_within g.I.ParsableInput.bytes c.args.limits (g.I.ParsableInput.bytes c.args.i) c.read_within.result c.read_within.ensures.within
 
 pub returns-clause-depth : goal.returns-clause-depth
-returns-clause-depth g c = depth_answer g.I.ParsableInput.bytes c.args.limits (g.I.ParsableInput.bytes c.args.i) c.read_within.result c.read_within.ensures
+returns-clause-depth g c = depth_answer g.I.ParsableInput.bytes c.args.limits (g.I.ParsableInput.bytes c.args.i) c.read_within.result c.read_within.ensures.within
 
 pub returns-clause-read_again : goal.returns-clause-read_again
-returns-clause-read_again g c = again_answer g.I.ParsableInput.bytes c.args.limits (g.I.ParsableInput.bytes c.args.i) c.read_within.result c.read_within.ensures
+returns-clause-read_again g c = again_answer g.I.ParsableInput.bytes c.args.limits (g.I.ParsableInput.bytes c.args.i) c.read_within.result c.read_within.ensures.within c.read_within.ensures.bytes
 
 pub returns-clause-read_back : goal.returns-clause-read_back
 returns-clause-read_back g c = reads_back c.args.limits
