@@ -118,5 +118,3 @@ pub(crate) fn byte_of(flags: &[(String, Boolean)]) -> u8
     byte
 }
 
-#[cfg(test)]
-mod tests;

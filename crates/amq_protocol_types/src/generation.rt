@@ -11,8 +11,6 @@ mod output;
 mod scalars;
 mod slice;
 mod strings;
-#[cfg(test)]
-mod tests;
 mod values;
 mod vector;
 mod with_len;

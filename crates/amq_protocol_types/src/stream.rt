@@ -15,5 +15,3 @@ pub use reader::ValueReader;
 pub use values::Values;
 pub use within::parse_value_within;
 
-#[cfg(test)]
-mod tests;

@@ -4,5 +4,3 @@ mod copies;
 mod from;
 mod getters;
 mod json;
-#[cfg(test)]
-mod tests;

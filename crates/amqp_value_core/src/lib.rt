@@ -6,7 +6,5 @@ mod equality;
 pub mod input;
 pub mod laws;
 pub mod rows;
-#[cfg(test)]
-mod tests;
 pub mod types;
 pub mod value;

@@ -1,0 +1,78 @@
+//! Rooms that are too small, and what is left after a refusal.
+
+use crate::shown;
+use amq_protocol_types::AMQPValue;
+use amq_protocol_types::generation::{
+    BackToTheBuffer, GenError, GenResult, SliceOutput, WriteContext, gen_value, gen_with_len,
+};
+use std::alloc::Global;
+use std::io;
+
+/// A text of what a generator answered.
+fn said(alloc: Global, answer: GenResult) -> io::Result<String> {
+    Ok(format!(in alloc; "{answer:?}")?)
+}
+
+/// Prints what writing a value comes to in room for so many bytes, each 170, behind those that were put
+/// before. Where the value is written, prints how many bytes behind it are still so.
+fn in_room<P: Print>(
+    rt: &P,
+    alloc: Global,
+    value: &AMQPValue,
+    before: &[u8],
+    room: usize,
+) -> io::Result<()> {
+    let mut slice = vec![in alloc; 170; before.len().saturating_add(room)]?;
+    let mut x = WriteContext::from(SliceOutput::new(slice.as_mut_slice()));
+    x.put(before).map_err(crate::unmade)?;
+    let answer = gen_value(value, &mut x);
+    let (output, position) = x.into_inner();
+    let put = shown::bytes(alloc, output.written())?;
+    println!(rt; "room {room}: {answer:?} position {position} put {put}")?;
+    if answer.is_ok() {
+        let behind = slice
+            .as_slice()
+            .split_at(slice.len().min(position as usize))
+            .1;
+        let untouched = behind.iter().filter(|byte| **byte == 170).count();
+        println!(rt; "behind it {untouched} bytes of 170")?;
+    }
+    Ok(())
+}
+
+/// Puts three bytes, and refuses.
+fn puts_and_refuses<W: BackToTheBuffer>(x: &mut WriteContext<W>) -> GenResult {
+    gen_with_len(
+        |x: &mut WriteContext<W>| {
+            x.put(&[1, 2, 3])?;
+            Err(GenError::InvalidOffset)
+        },
+        x,
+    )
+}
+
+/// Prints what is left of a vector and of a slice where what has a length refuses.
+fn with_length<P: Print>(rt: &P, alloc: Global) -> io::Result<()> {
+    let mut x = WriteContext::from(Vec::from_slice(alloc, &[9])?);
+    let answer = said(alloc, puts_and_refuses(&mut x))?;
+    let (vector, count) = x.into_inner();
+    let put = shown::bytes(alloc, vector.as_slice())?;
+    println!(rt; "a refusal behind a length: {answer} position {count} put {put}")?;
+    let mut room = [0; 20];
+    let mut x = WriteContext::from(SliceOutput::new(&mut room));
+    x.put(&[9]).map_err(crate::unmade)?;
+    let answer = said(alloc, puts_and_refuses(&mut x))?;
+    let (output, count) = x.into_inner();
+    let put = shown::bytes(alloc, output.written())?;
+    println!(rt; "a refusal behind a length: {answer} position {count} put {put}")
+}
+
+/// Prints all of it.
+pub fn run<P: Print>(rt: &P, alloc: Global, value: &AMQPValue) -> io::Result<()> {
+    for room in 0..200 {
+        in_room(rt, alloc, value, &[], room)?;
+    }
+    in_room(rt, alloc, value, &[], 300)?;
+    in_room(rt, alloc, value, &[1, 2, 3], 100)?;
+    with_length(rt, alloc)
+}

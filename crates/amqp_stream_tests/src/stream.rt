@@ -1,0 +1,176 @@
+//! Values within limits, from inputs and from readers, by the format's own numbers.
+
+mod deep;
+mod joined;
+mod large;
+mod limits;
+mod memory;
+mod reader;
+mod requests;
+mod texts;
+
+use amq_protocol_types::AMQPValue;
+use amq_protocol_types::parsing::{ErrorKind, SliceInput, parse_value};
+use amq_protocol_types::stream::{Limits, StreamError, ValueReader, Values};
+use std::alloc::Global;
+use std::io;
+use std::io::Read;
+use std::process::Abort;
+
+/// What a reader does next.
+#[derive(Clone, Copy, Debug)]
+enum Event<'a> {
+    Gives(&'a [u8]),
+    Fails(io::ErrorKind),
+    Ends,
+}
+
+/// Does the events in turn, and then ends. It gives at most `most` bytes at a time.
+#[derive(Drop)]
+struct Script<'a> {
+    events: &'a [Event<'a>],
+    done: usize,
+    given: usize,
+    most: usize,
+}
+
+impl<'a> Script<'a> {
+    fn new(events: &'a [Event<'a>], most: usize) -> Self {
+        Script {
+            events,
+            done: 0,
+            given: 0,
+            most,
+        }
+    }
+
+    // What it would give next.
+    fn left(&self) -> &[u8] {
+        match self.events.get(self.done) {
+            Some(Event::Gives(bytes)) => bytes.split_at(self.given.min(bytes.len())).1,
+            _ => &[],
+        }
+    }
+
+    // Goes on with the next event.
+    fn go_on(&mut self) {
+        self.done = self.done.saturating_add(1);
+        self.given = 0;
+    }
+}
+
+impl Read for Script<'_> {
+    fn read(&mut self, buf: &mut [u8]) -> io::Result<usize> {
+        let Some(event) = self.events.get(self.done) else {
+            return Ok(0);
+        };
+        match *event {
+            Event::Gives(bytes) => {
+                let mut rest = bytes.split_at(self.given.min(bytes.len())).1;
+                let most = buf.len().min(self.most);
+                let n = rest.read(&mut buf[..most])?;
+                self.given = self.given.saturating_add(n);
+                if rest.is_empty() {
+                    self.go_on();
+                }
+                Ok(n)
+            }
+            Event::Fails(kind) => {
+                self.go_on();
+                Err(io::Error::from(kind))
+            }
+            Event::Ends => {
+                self.go_on();
+                Ok(0)
+            }
+        }
+    }
+}
+
+/// What a call answers.
+#[derive(Clone, Copy, Debug)]
+enum Answer<'a> {
+    /// The value of this wire.
+    Value(&'a [u8]),
+    /// No value, since the reader ended.
+    End,
+    Refused(ErrorKind),
+    Truncated,
+    Read(io::ErrorKind),
+    Failed,
+}
+
+// whether the bytes are a wire of the value
+fn is_wire_of(alloc: Global, bytes: &[u8], value: &AMQPValue) -> bool {
+    match parse_value(alloc, SliceInput::new(bytes)) {
+        Ok((rest, read)) => rest.as_slice().is_empty() && read == *value,
+        Err(_e) => false,
+    }
+}
+
+// whether a call answers so
+fn answers(
+    alloc: Global,
+    answer: Result<Option<AMQPValue>, StreamError>,
+    want: Answer<'_>,
+) -> bool {
+    match answer {
+        Ok(Some(value)) => match want {
+            Answer::Value(wire) => is_wire_of(alloc, wire, &value),
+            _ => false,
+        },
+        Ok(None) => matches!(want, Answer::End),
+        Err(StreamError::Refused(e)) => matches!(want, Answer::Refused(kind) if kind == e.kind()),
+        Err(StreamError::Truncated) => matches!(want, Answer::Truncated),
+        Err(StreamError::Read(kind)) => matches!(want, Answer::Read(wanted) if wanted == kind),
+        Err(StreamError::Failed) => matches!(want, Answer::Failed),
+        Err(StreamError::OutOfMemory) => false,
+    }
+}
+
+/// What is answered to what a reader does, call by call, and which bytes it would give next.
+#[derive(Clone, Copy)]
+struct Row<'a> {
+    limits: Limits,
+    events: &'a [Event<'a>],
+    answers: &'a [Answer<'a>],
+    left: &'a [u8],
+}
+
+// A reader of values answers as the row says, and gives its reader back with what is left.
+fn owner_answers(rt: &impl Abort, alloc: Global, row: Row<'_>, most: usize) {
+    assert!(rt; 0 < row.limits.frame);
+    let mut values = ValueReader::new(alloc, Script::new(row.events, most), row.limits);
+    for want in row.answers {
+        let answer = values.next();
+        assert!(rt;
+            answers(alloc, answer, *want),
+            "{want:?}, {most} bytes at a time"
+        );
+    }
+    let reader = values.into_inner();
+    assert_eq!(rt; reader.left(), row.left, "{most} bytes at a time");
+}
+
+// So do values of a reader that is the caller's, and what is left stays in it.
+fn caller_has_answers(rt: &impl Abort, alloc: Global, row: Row<'_>, most: usize) {
+    assert!(rt; 0 < row.limits.frame);
+    let mut reader = Script::new(row.events, most);
+    let mut values = Values::new(alloc, row.limits);
+    for want in row.answers {
+        let answer = values.next_from(&mut reader);
+        assert!(rt;
+            answers(alloc, answer, *want),
+            "{want:?}, {most} bytes at a time"
+        );
+    }
+    assert_eq!(rt; reader.left(), row.left, "{most} bytes at a time");
+}
+
+// Both answer as the row says, however the reader cuts what it gives.
+fn holds(rt: &impl Abort, alloc: Global, row: Row<'_>) {
+    for most in [1, 2, 3, 7, 4096] {
+        owner_answers(rt, alloc, row, most);
+        caller_has_answers(rt, alloc, row, most);
+    }
+}

@@ -1,0 +1,103 @@
+//! A length before what a closure appends.
+
+ghost use Rattle.amq_protocol_types.specs.Contexts.{shown};
+ghost use Rattle.amq_protocol_types.specs.Lengths.{OnlyAppends};
+
+use amq_protocol_types::AMQPType;
+use amq_protocol_types::generation::*;
+use std::test::Fail;
+
+// Puts one byte behind two lengths.
+fn put_behind_two_lengths<W: BackToTheBuffer>(x: &mut WriteContext<W>) -> GenResult {
+    gen_with_len(|y| gen_with_len(|z| z.put(&[7]), y), x)
+}
+
+// Puts two numbers behind their length.
+fn put_two_numbers<W: BackToTheBuffer>(x: &mut WriteContext<W>) -> GenResult {
+    gen_with_len(
+        |y: &mut WriteContext<W>| -> GenResult
+            ensures { OnlyAppends (shown W.seen y.old) result (shown W.seen y.new) }
+        {
+            gen_short_uint(1, y)?;
+            gen_short_uint(2, y)
+        },
+        x,
+    )
+}
+
+#[test]
+fn a_body_may_have_parts(rt: HostRuntime) -> Result<(), Fail> {
+    let mut x = WriteContext::from(Vec::new(rt.alloc()));
+    assert_eq!(rt; put_two_numbers(&mut x), Ok(()));
+    assert_eq!(rt;
+        x.into_inner().0.as_slice(),
+        [0, 0, 0, 4, 0, 1, 0, 2].as_slice()
+    );
+    Ok(())
+}
+
+#[test]
+fn lengths_nest(rt: HostRuntime) -> Result<(), Fail> {
+    let mut x = WriteContext::from(Vec::new(rt.alloc()));
+    assert_eq!(rt; put_behind_two_lengths(&mut x), Ok(()));
+    assert_eq!(rt;
+        x.into_inner().0.as_slice(),
+        [0, 0, 0, 5, 0, 0, 0, 1, 7].as_slice()
+    );
+    Ok(())
+}
+
+#[test]
+fn a_generator_is_a_body(rt: HostRuntime) -> Result<(), Fail> {
+    let mut x = WriteContext::from(Vec::from_slice(rt.alloc(), &[9])?);
+    assert_eq!(rt;
+        gen_with_len(|y| gen_type(AMQPType::Void, y), &mut x),
+        Ok(())
+    );
+    assert_eq!(rt; x.into_inner().0.as_slice(), [9, 0, 0, 0, 1, 86].as_slice());
+    Ok(())
+}
+
+#[test]
+fn a_refused_body_is_taken_back(rt: HostRuntime) -> Result<(), Fail> {
+    let mut x = WriteContext::from(Vec::from_slice(rt.alloc(), &[9])?);
+    let answer = gen_with_len(
+        |y| {
+            y.put(&[1])?;
+            Err(GenError::LengthTooLong)
+        },
+        &mut x,
+    );
+    assert_eq!(rt; answer, Err(GenError::LengthTooLong));
+    assert_eq!(rt; x.position(), 0);
+    assert_eq!(rt; x.into_inner().0.as_slice(), [9].as_slice());
+    Ok(())
+}
+
+#[test]
+fn a_length_without_room_calls_nothing(rt: HostRuntime) {
+    let mut slice = [7u8; 3];
+    let mut x = WriteContext::from(SliceOutput::new(&mut slice));
+    let mut called = false;
+    let answer = gen_with_len(
+        |y| {
+            called = true;
+            y.put(&[1])
+        },
+        &mut x,
+    );
+    assert_eq!(rt; answer, Err(GenError::BufferTooSmall));
+    assert_eq!(rt; x.position(), 0);
+    assert!(rt; !called);
+}
+
+#[test]
+fn a_body_without_room_is_taken_back(rt: HostRuntime) {
+    let mut slice = [7u8; 5];
+    let mut x = WriteContext::from(SliceOutput::new(&mut slice));
+    assert_eq!(rt;
+        gen_with_len(|y| y.put(&[1, 2]), &mut x),
+        Err(GenError::BufferTooSmall)
+    );
+    assert_eq!(rt; x.position(), 0);
+}
