@@ -263,6 +263,8 @@ fn plain_types_go_both_ways(rt: HostRuntime) -> Result<(), Fail> {
         )?
     );
     assert!(rt; goes_both_ways(alloc, &ByteArray::new_in(alloc), "[]")?);
+    let bytes = ByteArray::from_slice(alloc, &[255, 0])?;
+    assert!(rt; goes_both_ways(alloc, &bytes, "[255,0]")?);
     Ok(())
 }
 

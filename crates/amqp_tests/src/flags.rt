@@ -105,3 +105,20 @@ fn flags_as_json(rt: HostRuntime) -> Result<(), Fail> {
     assert!(rt; serde_json::from_str::<AMQPFlags>(alloc, "{\"flags\": [").is_err());
     Ok(())
 }
+
+#[test]
+fn many_flags(rt: HostRuntime) -> Result<(), Fail> {
+    let alloc = rt.alloc();
+    let mut flags = AMQPFlags::new_in(alloc);
+    for n in 0..1000u32 {
+        flags.add_flag(format!(in alloc; "flag {n}")?, n % 3 == 0)?;
+    }
+    assert!(rt; flags.clone(alloc)? == flags);
+    assert_eq!(rt; flags.get_flag("flag 999"), Some(true));
+    let bytes = flags.get_bytes(alloc)?;
+    assert_eq!(rt; bytes.len(), 125);
+    let names = ["a"; 1000];
+    let read = AMQPFlags::from_bytes(alloc, &names, SliceInput::new(bytes.as_slice()))?;
+    assert!(rt; read.get_bytes(alloc)? == bytes);
+    Ok(())
+}

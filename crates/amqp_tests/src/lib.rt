@@ -10,4 +10,6 @@ mod generation;
 #[cfg(test)]
 mod parsing;
 #[cfg(test)]
+mod rows;
+#[cfg(test)]
 mod values;

@@ -153,3 +153,31 @@ fn strings_of_bytes_show_their_bytes(rt: HostRuntime) -> Result<(), Fail> {
     assert!(rt; bytes != ByteArray::new_in(rt.alloc()) && bytes.as_slice() == [7].as_slice());
     Ok(())
 }
+
+#[test]
+fn large_values_are_made_and_copied(rt: HostRuntime) -> Result<(), Fail> {
+    let alloc = rt.alloc();
+    let bytes = vec![in alloc; 7u8; 300_000]?;
+    let long = LongString::from_slice(alloc, bytes.as_slice())?;
+    assert!(rt; long.clone(alloc)? == long);
+    let octets = ByteArray::from_slice(alloc, bytes.as_slice())?;
+    assert!(rt; octets.clone(alloc)? == octets);
+    let short = ShortString::try_new(letters(alloc, 255)?)?;
+    assert!(rt; short.clone(alloc)? == short);
+    let mut array = FieldArray::new_in(alloc);
+    let mut table = FieldTable::new_in(alloc);
+    for n in 0..2000u32 {
+        array.push(AMQPValue::from(n))?;
+        table.place(
+            ShortString::try_new(format!(in alloc; "{n}")?)?,
+            AMQPValue::from(n),
+        )?;
+    }
+    array.push(AMQPValue::from(octets))?;
+    assert!(rt; array.clone(alloc)? == array);
+    assert!(rt; table.clone(alloc)? == table);
+    array.push(AMQPValue::from(table))?;
+    let value = AMQPValue::from(array);
+    assert!(rt; value.clone(alloc)? == value);
+    Ok(())
+}
