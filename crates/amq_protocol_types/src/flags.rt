@@ -117,4 +117,3 @@ pub(crate) fn byte_of(flags: &[(String, Boolean)]) -> u8
     }
     byte
 }
-

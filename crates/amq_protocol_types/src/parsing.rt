@@ -19,4 +19,3 @@ pub use scalars::{
 };
 pub use strings::{parse_byte_array, parse_long_string, parse_short_string};
 pub use values::{parse_field_array, parse_field_table, parse_raw_value, parse_value};
-

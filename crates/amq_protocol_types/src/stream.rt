@@ -14,4 +14,3 @@ pub use limits::Limits;
 pub use reader::ValueReader;
 pub use values::Values;
 pub use within::parse_value_within;
-
