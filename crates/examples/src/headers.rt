@@ -1,0 +1,41 @@
+//! The headers of a message that was dead-lettered: an array of tables under the key `x-death`.
+
+use crate::fault::Fault;
+use amq_protocol_types::parsing::{SliceInput, parse_value};
+use amq_protocol_types::{AMQPValue, FieldTable};
+use std::alloc::Global;
+
+/// Headers as RabbitMQ writes them: `retry`, which is true, and `x-death` with one entry.
+const HEADERS: &[u8] = b"F\0\0\0\x5a\x05retryt\x01\x07x-deathA\0\0\0\x45F\0\0\0\x40\
+    \x05countl\0\0\0\0\0\0\0\x03\x08exchangeS\0\0\0\0\x05queueS\0\0\0\x04work\
+    \x06reasonS\0\0\0\x08rejected";
+
+/// The value at a key.
+fn value_at<'a>(table: &'a FieldTable, key: &str) -> Option<&'a AMQPValue> {
+    for (name, value) in table {
+        if name.as_str() == key {
+            return Some(value);
+        }
+    }
+    None
+}
+
+/// How often the message was dead-lettered for the first reason that is told.
+fn deaths(headers: &FieldTable) -> Option<i64> {
+    let entries = value_at(headers, "x-death")?.as_array()?;
+    let first = entries.as_slice().first()?.as_field_table()?;
+    value_at(first, "count")?.as_long_long_int()
+}
+
+/// Prints what stands under `x-death`.
+pub fn run<P: Print>(rt: &P, alloc: Global) -> Result<(), Fault> {
+    let (_rest, value) = parse_value(alloc, SliceInput::new(HEADERS))?;
+    let Some(headers) = value.as_field_table() else {
+        return Err(Fault::Read);
+    };
+    match deaths(headers) {
+        Some(count) => println!(rt; "headers: dead-lettered {count} times")?,
+        None => println!(rt; "headers: never dead-lettered")?,
+    }
+    Ok(())
+}

@@ -1,0 +1,38 @@
+//! Values of a stream, one after another, within limits.
+
+use crate::fault::Fault;
+use amq_protocol_types::stream::{Limits, StreamError, ValueReader};
+use std::alloc::Global;
+use std::io::ErrorKind;
+
+/// Void, a long string, and the beginning of one that is longer than the limit.
+const STREAM: &[u8] = b"VS\0\0\0\x04testS\0\x10\0\0";
+
+/// Prints the values that a stream gives, and why there are no more.
+pub fn run<P: Print>(rt: &P, alloc: Global) -> Result<(), Fault> {
+    let limits = Limits {
+        frame: 131_072,
+        depth: 64,
+    };
+    let mut values = ValueReader::new(alloc, STREAM, limits);
+    for _ in 0..10 {
+        match values.next() {
+            Ok(Some(value)) => println!(rt; "stream: {}", value.get_type())?,
+            Ok(None) => {
+                println!(rt; "stream: ended after a value")?;
+                break;
+            }
+            // nothing that came is lost: ask again
+            Err(StreamError::Read(ErrorKind::Interrupted)) => {}
+            Err(StreamError::Read(_)) => return Err(Fault::Output),
+            // nor is it here, once there is memory again
+            Err(StreamError::OutOfMemory) => return Err(Fault::OutOfMemory),
+            // the stream ended inside a value, or what came is refused
+            Err(error) => {
+                println!(rt; "stream: {error}")?;
+                break;
+            }
+        }
+    }
+    Ok(())
+}
