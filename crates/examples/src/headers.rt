@@ -12,7 +12,7 @@ const HEADERS: &[u8] = b"F\0\0\0\x5a\x05retryt\x01\x07x-deathA\0\0\0\x45F\0\0\0\
 
 /// The value at a key.
 fn value_at<'a>(table: &'a FieldTable, key: &str) -> Option<&'a AMQPValue> {
-    for (name, value) in table {
+    for (name, value) in table.inner().iter() {
         if name.as_str() == key {
             return Some(value);
         }
