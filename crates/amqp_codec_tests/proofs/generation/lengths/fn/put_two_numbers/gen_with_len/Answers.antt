@@ -1,5 +1,5 @@
 use Rattle.amq_protocol_types.proofs.Lengths.{write_appends, then_appends}
-use Rattle.amqp_tests.proofs.generation.lengths.fn.put_two_numbers.gen_with_len.Goals as goal
+use Rattle.amqp_codec_tests.proofs.generation.lengths.fn.put_two_numbers.gen_with_len.Goals as goal
 
 pub returns : goal.returns
 returns g c =

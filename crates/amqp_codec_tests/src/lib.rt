@@ -1,0 +1,7 @@
+//! Tests of parsers and generators, from outside.
+#![tactic(auto)]
+
+#[cfg(test)]
+mod generation;
+#[cfg(test)]
+mod parsing;
