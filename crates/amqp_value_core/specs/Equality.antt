@@ -1,4 +1,4 @@
--- Equality of values as a test, which holds exactly of equal trees (`equal_values` of `laws`).
+-- Equality of values as a test, which holds exactly of equal trees (clause `trees` of `==`).
 use Rattle.std.specs.Prelude.{ℕ, Bool, true, false, ◌&&◌, ◌==◌}
 use Rattle.amqp_value_core.specs.declared.types.AMQPType.{AMQPType}
 use Rattle.amqp_value_core.specs.declared.types.AMQPType.TheVariants as amqp

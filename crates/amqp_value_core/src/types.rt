@@ -75,8 +75,8 @@ pub enum AMQPType {
 }
 
 impl AMQPType {
-    /// The type that an id stands for: AMQP's letters as RabbitMQ reads them. `U` is read as `s`
-    /// is, and `L` as `l`.
+    /// The type that an id stands for: the letters of RabbitMQ's errata. Two are second spellings:
+    /// `U` is read as `s` is, and `L` as `l`.
     #[inline(always)]
     #[tactic(auto, using(crate::proofs::Shortest::kind_read))]
     pub fn from_id(id: char) -> Option<AMQPType>
