@@ -18,7 +18,7 @@ use std::io::Read;
 use std::process::Abort;
 
 /// What a reader does next.
-#[derive(Clone, Copy, Debug)]
+#[derive(Clone, Copy)]
 enum Event<'a> {
     Gives(&'a [u8]),
     Fails(io::ErrorKind),
@@ -88,7 +88,7 @@ impl Read for Script<'_> {
 }
 
 /// What a call answers.
-#[derive(Clone, Copy, Debug)]
+#[derive(Clone, Copy)]
 enum Answer<'a> {
     /// The value of this wire.
     Value(&'a [u8]),
@@ -131,46 +131,36 @@ fn answers(
 /// What is answered to what a reader does, call by call, and which bytes it would give next.
 #[derive(Clone, Copy)]
 struct Row<'a> {
+    says: &'a str,
     limits: Limits,
     events: &'a [Event<'a>],
     answers: &'a [Answer<'a>],
     left: &'a [u8],
 }
 
-// A reader of values answers as the row says, and gives its reader back with what is left.
-fn owner_answers(rt: &impl Abort, alloc: Global, row: Row<'_>, most: usize) {
+// A reader of values, and values of a reader that is the caller's, answer as the row says, and leave
+// what it says, where the reader gives at most so many bytes at a time.
+fn holds_for(rt: &impl Abort, alloc: Global, row: Row<'_>, most: usize) {
     assert!(rt; 0 < row.limits.frame);
-    let mut values = ValueReader::new(alloc, Script::new(row.events, most), row.limits);
-    for want in row.answers {
-        let answer = values.next();
-        assert!(rt;
-            answers(alloc, answer, *want),
-            "{want:?}, {most} bytes at a time"
-        );
-    }
-    let reader = values.into_inner();
-    assert_eq!(rt; reader.left(), row.left, "{most} bytes at a time");
-}
-
-// So do values of a reader that is the caller's, and what is left stays in it.
-fn caller_has_answers(rt: &impl Abort, alloc: Global, row: Row<'_>, most: usize) {
-    assert!(rt; 0 < row.limits.frame);
+    let mut owner = ValueReader::new(alloc, Script::new(row.events, most), row.limits);
     let mut reader = Script::new(row.events, most);
     let mut values = Values::new(alloc, row.limits);
-    for want in row.answers {
-        let answer = values.next_from(&mut reader);
+    for (at, want) in row.answers.iter().enumerate() {
+        let is_owners = answers(alloc, owner.next(), *want);
+        let is_callers = answers(alloc, values.next_from(&mut reader), *want);
         assert!(rt;
-            answers(alloc, answer, *want),
-            "{want:?}, {most} bytes at a time"
+            is_owners && is_callers,
+            "{}: answer {at}, {most} bytes at a time",
+            row.says
         );
     }
-    assert_eq!(rt; reader.left(), row.left, "{most} bytes at a time");
+    assert_eq!(rt; owner.into_inner().left(), row.left, "{}", row.says);
+    assert_eq!(rt; reader.left(), row.left, "{}", row.says);
 }
 
 // Both answer as the row says, however the reader cuts what it gives.
 fn holds(rt: &impl Abort, alloc: Global, row: Row<'_>) {
     for most in [1, 2, 3, 7, 4096] {
-        owner_answers(rt, alloc, row, most);
-        caller_has_answers(rt, alloc, row, most);
+        holds_for(rt, alloc, row, most);
     }
 }

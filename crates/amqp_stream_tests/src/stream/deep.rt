@@ -1,7 +1,7 @@
 //! Two hundred arrays, one in another.
 
+use super::limits::{Outcome, comes_to};
 use super::*;
-use amq_protocol_types::parsing::{Err, ParserResult};
 use amq_protocol_types::stream::parse_value_within;
 use std::alloc::AllocError;
 use std::test::Fail;
@@ -16,82 +16,51 @@ fn arrays(alloc: Global) -> Result<Vec<u8>, AllocError> {
     Ok(bytes)
 }
 
-#[test]
-fn are_a_thousand_bytes(rt: HostRuntime) -> Result<(), Fail> {
-    let bytes = arrays(rt.alloc())?;
-    assert_eq!(rt; bytes.len(), 1000);
-    assert!(rt;
-        bytes
-            .as_slice()
-            .starts_with(&[65, 0, 0, 3, 227, 65, 0, 0, 3, 222])
-    );
-    assert!(rt;
-        bytes
-            .as_slice()
-            .ends_with(&[65, 0, 0, 0, 5, 65, 0, 0, 0, 0])
-    );
-    Ok(())
-}
-
-#[test]
-fn are_read_within_their_depth(rt: HostRuntime) -> Result<(), Fail> {
-    let bytes = arrays(rt.alloc())?;
-    let row = Row {
-        limits: Limits {
-            frame: 1000,
-            depth: 200,
-        },
-        events: &[Event::Gives(bytes.as_slice())],
-        answers: &[Answer::Value(bytes.as_slice()), Answer::End],
-        left: &[],
-    };
-    holds(&rt, rt.alloc(), row);
-    Ok(())
-}
-
-#[test]
-fn are_refused_within_less(rt: HostRuntime) -> Result<(), Fail> {
-    let bytes = arrays(rt.alloc())?;
-    let row = Row {
-        limits: Limits {
-            frame: 1000,
-            depth: 199,
-        },
-        events: &[Event::Gives(bytes.as_slice())],
-        answers: &[Answer::Refused(ErrorKind::Eof), Answer::Failed],
-        left: &[],
-    };
-    holds(&rt, rt.alloc(), row);
-    Ok(())
-}
-
-// whether all the bytes are read as the value that they are without limits
-fn is_read(alloc: Global, bytes: &[u8], depth: u32) -> bool {
+// A reader that gives the bytes is answered so, and an input of them comes to that.
+fn are_answered(
+    rt: &impl Abort,
+    alloc: Global,
+    bytes: &[u8],
+    depth: u32,
+    answers: &[Answer<'_>],
+    outcome: Outcome<'_>,
+) {
     let limits = Limits { frame: 1000, depth };
-    match parse_value_within(alloc, SliceInput::new(bytes), limits) {
-        Ok((rest, value)) => rest.as_slice().is_empty() && is_wire_of(alloc, bytes, &value),
-        Err(_e) => false,
-    }
-}
-
-// whether a body is refused
-fn is_eof(answer: ParserResult<SliceInput<'_>, AMQPValue>) -> bool {
-    match answer {
-        Err(Err::Error(e)) => e.kind() == ErrorKind::Eof,
-        Err(_e) => false,
-        Ok(_read) => false,
-    }
+    let row = Row {
+        says: "arrays in one another",
+        limits,
+        events: &[Event::Gives(bytes)],
+        answers,
+        left: &[],
+    };
+    holds(rt, alloc, row);
+    let answer = parse_value_within(alloc, SliceInput::new(bytes), limits);
+    assert!(rt; comes_to(alloc, answer, outcome), "at depth {depth}");
 }
 
 #[test]
-fn are_an_input_within_limits(rt: HostRuntime) -> Result<(), Fail> {
-    let bytes = arrays(rt.alloc())?;
-    assert!(rt; is_read(rt.alloc(), bytes.as_slice(), 200));
-    let limits = Limits {
-        frame: 1000,
-        depth: 199,
-    };
-    let answer = parse_value_within(rt.alloc(), SliceInput::new(bytes.as_slice()), limits);
-    assert!(rt; is_eof(answer));
+fn arrays_nest_no_deeper_than_the_limit(rt: HostRuntime) -> Result<(), Fail> {
+    let made = arrays(rt.alloc())?;
+    let bytes = made.as_slice();
+    assert_eq!(rt; bytes.len(), 1000);
+    assert!(rt; bytes.starts_with(&[65, 0, 0, 3, 227, 65, 0, 0, 3, 222]));
+    assert!(rt; bytes.ends_with(&[65, 0, 0, 0, 5, 65, 0, 0, 0, 0]));
+    let outcome = Outcome::Value(bytes, 0);
+    are_answered(
+        &rt,
+        rt.alloc(),
+        bytes,
+        200,
+        &[Answer::Value(bytes), Answer::End],
+        outcome,
+    );
+    are_answered(
+        &rt,
+        rt.alloc(),
+        bytes,
+        199,
+        &[Answer::Refused(ErrorKind::Eof), Answer::Failed],
+        Outcome::Refused(ErrorKind::Eof),
+    );
     Ok(())
 }

@@ -4,8 +4,8 @@ use super::*;
 use std::alloc::AllocError;
 use std::test::Fail;
 
-/// A table with an entry of nearly every type, keys in order.
-const INTEGRATION: &[u8] = &[
+/// A table with an entry of nearly every type: its id, its length, and an entry a line, keys in order.
+const TABLE: &[u8] = &[
     70, 0, 0, 0, 194, //
     4, 97, 97, 97, 97, 98, 42, // aaaa: ShortShortInt
     3, 98, 97, 114, 70, 0, 0, 0, 0, // bar: the empty table
@@ -29,8 +29,8 @@ const INTEGRATION: &[u8] = &[
 ];
 
 /// The wires.
-const WIRES: [&[u8]; 9] = [
-    INTEGRATION,
+const WIRES: &[&[u8]] = &[
+    TABLE,
     &[116, 7],
     &[85, 0, 5],
     &[76, 255, 255, 255, 255, 255, 255, 255, 255],
@@ -42,8 +42,8 @@ const WIRES: [&[u8]; 9] = [
 ];
 
 /// What is answered to them: the values that are written so.
-const ANSWERS: [Answer<'static>; 10] = [
-    Answer::Value(INTEGRATION),
+const ANSWERS: &[Answer<'static>] = &[
+    Answer::Value(TABLE),
     Answer::Value(&[116, 1]),
     Answer::Value(&[115, 0, 5]),
     Answer::Value(&[108, 255, 255, 255, 255, 255, 255, 255, 255]),
@@ -64,19 +64,33 @@ pub(super) fn joined(alloc: Global) -> Result<Vec<u8>, AllocError> {
     Ok(bytes)
 }
 
+// Within frames of so many bytes they are answered so, and this is left.
+fn are_answered(
+    rt: &impl Abort,
+    alloc: Global,
+    wires: &[u8],
+    frame: u32,
+    answers: &[Answer<'_>],
+    left: &[u8],
+) {
+    let row = Row {
+        says: "joined wires",
+        limits: Limits { frame, depth: 2 },
+        events: &[Event::Gives(wires)],
+        answers,
+        left,
+    };
+    holds(rt, alloc, row);
+}
+
 #[test]
 fn are_read_one_by_one(rt: HostRuntime) -> Result<(), Fail> {
     let bytes = joined(rt.alloc())?;
-    let row = Row {
-        limits: Limits {
-            frame: 199,
-            depth: 2,
-        },
-        events: &[Event::Gives(bytes.as_slice())],
-        answers: &ANSWERS,
-        left: &[],
-    };
-    holds(&rt, rt.alloc(), row);
+    let wires = bytes.as_slice();
+    assert_eq!(rt; wires.len(), 265);
+    are_answered(&rt, rt.alloc(), wires, 199, ANSWERS, &[]);
+    let refused = [Answer::Refused(ErrorKind::TooLarge), Answer::Failed];
+    are_answered(&rt, rt.alloc(), wires, 198, &refused, &wires[5..]);
     Ok(())
 }
 
@@ -85,13 +99,11 @@ fn are_read_one_by_one(rt: HostRuntime) -> Result<(), Fail> {
 fn are_read_as_alone(rt: HostRuntime) -> Result<(), Fail> {
     let bytes = joined(rt.alloc())?;
     let mut reader = bytes.as_slice();
-    let mut values = Values::new(
-        rt.alloc(),
-        Limits {
-            frame: 199,
-            depth: 2,
-        },
-    );
+    let limits = Limits {
+        frame: 199,
+        depth: 2,
+    };
+    let mut values = Values::new(rt.alloc(), limits);
     for wire in WIRES {
         let answer = values.next_from(&mut reader);
         assert!(rt;
@@ -100,23 +112,5 @@ fn are_read_as_alone(rt: HostRuntime) -> Result<(), Fail> {
         );
     }
     assert!(rt; reader.is_empty());
-    Ok(())
-}
-
-#[test]
-fn are_refused_within_a_byte_less(rt: HostRuntime) -> Result<(), Fail> {
-    let bytes = joined(rt.alloc())?;
-    let wires = bytes.as_slice();
-    assert_eq!(rt; wires.len(), 265);
-    let row = Row {
-        limits: Limits {
-            frame: 198,
-            depth: 2,
-        },
-        events: &[Event::Gives(wires)],
-        answers: &[Answer::Refused(ErrorKind::TooLarge), Answer::Failed],
-        left: &wires[5..],
-    };
-    holds(&rt, rt.alloc(), row);
     Ok(())
 }

@@ -1,4 +1,4 @@
-//! Large frames, and large claims.
+//! A large frame.
 
 use super::*;
 use std::alloc::AllocError;
@@ -21,60 +21,23 @@ fn is_text_of_sevens(answer: Result<Option<AMQPValue>, StreamError>, length: usi
     }
 }
 
+// The reader gives the long string and nothing behind it.
+fn gives_it(rt: &impl Abort, alloc: Global, reader: impl Read + Drop) {
+    let limits = Limits {
+        frame: 1048576,
+        depth: 0,
+    };
+    let mut values = ValueReader::new(alloc, reader, limits);
+    assert!(rt; is_text_of_sevens(values.next(), 1048571));
+    assert!(rt; matches!(values.next(), Ok(None)));
+}
+
 #[test]
-fn a_long_frame_is_read_byte_by_byte(rt: HostRuntime) -> Result<(), Fail> {
+fn a_long_frame_is_read_byte_by_byte_and_at_once(rt: HostRuntime) -> Result<(), Fail> {
     let bytes = long_wire(rt.alloc())?;
     assert_eq!(rt; bytes.len(), 1048576);
     let events = [Event::Gives(bytes.as_slice())];
-    let limits = Limits {
-        frame: 1048576,
-        depth: 0,
-    };
-    let mut values = ValueReader::new(rt.alloc(), Script::new(&events, 1), limits);
-    assert!(rt; is_text_of_sevens(values.next(), 1048571));
-    assert!(rt; matches!(values.next(), Ok(None)));
+    gives_it(&rt, rt.alloc(), Script::new(&events, 1));
+    gives_it(&rt, rt.alloc(), bytes.as_slice());
     Ok(())
-}
-
-#[test]
-fn a_long_frame_is_read_at_once(rt: HostRuntime) -> Result<(), Fail> {
-    let bytes = long_wire(rt.alloc())?;
-    let limits = Limits {
-        frame: 1048576,
-        depth: 0,
-    };
-    let mut values = ValueReader::new(rt.alloc(), bytes.as_slice(), limits);
-    assert!(rt; is_text_of_sevens(values.next(), 1048571));
-    assert!(rt; matches!(values.next(), Ok(None)));
-    Ok(())
-}
-
-#[test]
-fn a_claim_is_no_more_than_a_claim(rt: HostRuntime) {
-    let row = Row {
-        limits: Limits {
-            frame: 4294967295,
-            depth: 0,
-        },
-        events: &[Event::Gives(&[83, 255, 255, 255, 250])],
-        answers: &[Answer::Truncated, Answer::Failed],
-        left: &[],
-    };
-    holds(&rt, rt.alloc(), row);
-}
-
-#[test]
-fn a_claim_past_the_limit_is_refused(rt: HostRuntime) {
-    for claim in [251, 255] {
-        let row = Row {
-            limits: Limits {
-                frame: 4294967295,
-                depth: 0,
-            },
-            events: &[Event::Gives(&[83, 255, 255, 255, claim, 7])],
-            answers: &[Answer::Refused(ErrorKind::TooLarge), Answer::Failed],
-            left: &[7],
-        };
-        holds(&rt, rt.alloc(), row);
-    }
 }

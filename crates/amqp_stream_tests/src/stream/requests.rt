@@ -26,17 +26,22 @@ fn lack(bytes: &[u8]) -> usize {
 
 #[test]
 fn lack_is_by_fields(rt: HostRuntime) {
-    assert_eq!(rt; lack(&[]), 1);
-    assert_eq!(rt; lack(&[86]), 0);
-    assert_eq!(rt; lack(&[84, 1]), 7);
-    assert_eq!(rt; lack(&[68]), 1);
-    assert_eq!(rt; lack(&[68, 2, 0]), 3);
-    assert_eq!(rt; lack(&[65, 0]), 3);
-    assert_eq!(rt; lack(&[65, 0, 0, 0, 10, 122]), 9);
+    let rows: &[(&[u8], usize)] = &[
+        (&[], 1),
+        (&[86], 0),
+        (&[84, 1], 7),
+        (&[68], 1),
+        (&[68, 2, 0], 3),
+        (&[65, 0], 3),
+        (&[65, 0, 0, 0, 10, 122], 9),
+    ];
+    for (bytes, want) in rows {
+        assert_eq!(rt; lack(bytes), *want, "of {bytes:?}");
+    }
 }
 
 /// A request: how many bytes it is for, and how many the field lacked then.
-#[derive(Clone, Copy, Debug)]
+#[derive(Clone, Copy)]
 struct Request {
     most: usize,
     lack: usize,
@@ -78,78 +83,88 @@ impl Read for Noting<'_> {
     }
 }
 
-// Each request is for a byte at least, and for no more than what lacks.
-fn are_modest(rt: &impl Abort, requests: &[Request]) {
-    assert!(rt; !requests.is_empty());
-    for request in requests {
-        assert!(rt;
-            0 < request.most && request.most <= request.lack,
-            "{request:?}"
-        );
-    }
+// whether each request is for a byte at least, and for no more than what lacks
+fn are_modest(requests: &[Request]) -> bool {
+    requests
+        .iter()
+        .all(|request| 0 < request.most && request.most <= request.lack)
 }
 
-// So are those for the values of these bytes, which are so many, and for what is no value behind them.
-fn asks_modestly(rt: &impl Abort, alloc: Global, bytes: &[u8], limits: Limits, calls: usize) {
+// Requests for the values of these bytes, which are so many, and for what is no value behind them are
+// modest, where at most so many bytes come at a time.
+fn asks_modestly_for(
+    rt: &impl Abort,
+    alloc: Global,
+    bytes: &[u8],
+    limits: Limits,
+    count: usize,
+    most: usize,
+) {
     assert!(rt; 0 < limits.frame);
-    for most in [1, 2, 3, 7, 4096] {
-        let mut reader = Noting::new(alloc, bytes, most);
-        let mut values = Values::new(alloc, limits);
-        for _ in 0..calls {
-            let answer = values.next_from(&mut reader);
-            assert!(rt; matches!(answer, Ok(Some(_))));
-        }
+    let mut reader = Noting::new(alloc, bytes, most);
+    let mut values = Values::new(alloc, limits);
+    for _ in 0..count {
         let answer = values.next_from(&mut reader);
-        assert!(rt; !matches!(answer, Ok(Some(_))));
-        are_modest(rt, reader.requests.as_slice());
+        assert!(rt; matches!(answer, Ok(Some(_))), "{bytes:?}");
+    }
+    let answer = values.next_from(&mut reader);
+    assert!(rt; !matches!(answer, Ok(Some(_))), "{bytes:?}");
+    let requests = reader.requests.as_slice();
+    assert!(rt; !requests.is_empty() && are_modest(requests), "{bytes:?}");
+}
+
+// So are they however many bytes come at a time.
+fn asks_modestly(rt: &impl Abort, alloc: Global, bytes: &[u8], limits: Limits, count: usize) {
+    for most in [1, 2, 3, 7, 4096] {
+        asks_modestly_for(rt, alloc, bytes, limits, count, most);
     }
 }
 
-#[test]
-fn are_modest_for_values(rt: HostRuntime) {
-    for (bytes, calls) in [
-        (
-            [86, 83, 0, 0, 0, 4, 116, 101, 115, 116, 83, 0, 0, 0, 5].as_slice(),
-            2,
-        ),
-        ([83, 0, 0, 0, 4, 116, 101, 115, 116, 86].as_slice(), 2),
-        ([84, 1, 2].as_slice(), 0),
-        ([65, 0, 0, 0, 1, 122].as_slice(), 0),
-        ([65, 0, 0, 0, 0].as_slice(), 1),
-        ([68, 55, 0, 0, 3, 231, 86].as_slice(), 2),
-        ([122, 86].as_slice(), 0),
-        ([].as_slice(), 0),
-    ] {
-        asks_modestly(&rt, rt.alloc(), bytes, Limits { frame: 9, depth: 2 }, calls);
-    }
-}
+const NESTED: &[u8] = &[65, 0, 0, 0, 5, 65, 0, 0, 0, 0, 86];
+
+/// A table whose key of two nested arrays comes again, with Void.
+const REPEATED: &[u8] = &[
+    70, 0, 0, 0, 15, 1, 97, 65, 0, 0, 0, 5, 65, 0, 0, 0, 0, 1, 97, 86,
+];
+
+/// The longest frame, the greatest depth, the bytes and how many values they begin with.
+const ROWS: &[(u32, u32, &[u8], usize)] = &[
+    (
+        9,
+        2,
+        &[86, 83, 0, 0, 0, 4, 116, 101, 115, 116, 83, 0, 0, 0, 5],
+        2,
+    ),
+    (9, 2, &[83, 0, 0, 0, 4, 116, 101, 115, 116, 86], 2),
+    (9, 2, &[84, 1, 2], 0),
+    (9, 2, &[65, 0, 0, 0, 1, 122], 0),
+    (9, 2, &[65, 0, 0, 0, 0], 1),
+    (9, 2, &[68, 55, 0, 0, 3, 231, 86], 2),
+    (9, 2, &[122, 86], 0),
+    (9, 2, &[], 0),
+    (10, 2, NESTED, 2),
+    (10, 1, NESTED, 0),
+    (9, 2, NESTED, 0),
+    (4, 2, NESTED, 0),
+    (20, 3, REPEATED, 1),
+    (20, 2, REPEATED, 0),
+];
 
 #[test]
-fn are_modest_within_less(rt: HostRuntime) {
-    let nested = [65, 0, 0, 0, 5, 65, 0, 0, 0, 0, 86];
-    for (frame, depth, calls) in [(10, 2, 2), (10, 1, 0), (9, 2, 0), (4, 2, 0)] {
-        asks_modestly(&rt, rt.alloc(), &nested, Limits { frame, depth }, calls);
+fn are_modest_for_values(rt: HostRuntime) -> Result<(), Fail> {
+    for (frame, depth, bytes, count) in ROWS {
+        let limits = Limits {
+            frame: *frame,
+            depth: *depth,
+        };
+        asks_modestly(&rt, rt.alloc(), bytes, limits, *count);
     }
-}
-
-#[test]
-fn are_modest_for_repeated_keys(rt: HostRuntime) {
-    let bytes = [
-        70, 0, 0, 0, 15, 1, 97, 65, 0, 0, 0, 5, 65, 0, 0, 0, 0, 1, 97, 86,
-    ];
-    for (depth, calls) in [(3, 1), (2, 0)] {
-        asks_modestly(&rt, rt.alloc(), &bytes, Limits { frame: 20, depth }, calls);
-    }
-}
-
-#[test]
-fn are_modest_for_joined_wires(rt: HostRuntime) -> Result<(), Fail> {
-    let bytes = joined(rt.alloc())?;
+    let wires = joined(rt.alloc())?;
     let limits = Limits {
         frame: 199,
         depth: 2,
     };
-    asks_modestly(&rt, rt.alloc(), bytes.as_slice(), limits, 9);
+    asks_modestly(&rt, rt.alloc(), wires.as_slice(), limits, 9);
     Ok(())
 }
 
@@ -170,6 +185,7 @@ fn are_small_whatever_a_length_claims(rt: HostRuntime) {
     let mut values = Values::new(rt.alloc(), limits);
     let answer = values.next_from(&mut reader);
     assert!(rt; answers(rt.alloc(), answer, Answer::Truncated));
-    are_modest(&rt, reader.requests.as_slice());
-    assert!(rt; are_at_most(reader.requests.as_slice(), 65536));
+    let requests = reader.requests.as_slice();
+    assert!(rt; !requests.is_empty() && are_modest(requests));
+    assert!(rt; are_at_most(requests, 65536));
 }

@@ -13,14 +13,19 @@ fn error_of(alloc: Global, bytes: &[u8], limits: Limits) -> Option<StreamError> 
 
 #[test]
 fn a_refusal_has_the_text_of_its_kind(rt: HostRuntime) -> Result<(), Fail> {
-    for (bytes, text) in [
-        ([65, 0, 0, 0, 5].as_slice(), "Parser error: Nom(TooLarge)"),
-        ([122].as_slice(), "Parser error: Nom(MapOpt)"),
-        ([65, 0, 0, 0, 1, 122].as_slice(), "Parser error: Nom(Eof)"),
-        ([65, 0].as_slice(), "truncated"),
-    ] {
-        let error = error_of(rt.alloc(), bytes, Limits { frame: 9, depth: 2 }).ok_or("a value")?;
-        assert_eq!(rt; error.to_string(rt.alloc())?.as_str(), text);
+    let rows: &[(u32, u32, &[u8], &str)] = &[
+        (9, 2, &[65, 0, 0, 0, 5], "Parser error: Nom(TooLarge)"),
+        (9, 2, &[122], "Parser error: Nom(MapOpt)"),
+        (9, 2, &[65, 0, 0, 0, 1, 122], "Parser error: Nom(Eof)"),
+        (9, 2, &[65, 0], "truncated"),
+    ];
+    for (frame, depth, bytes, text) in rows {
+        let limits = Limits {
+            frame: *frame,
+            depth: *depth,
+        };
+        let error = error_of(rt.alloc(), bytes, limits).ok_or("a value")?;
+        assert_eq!(rt; error.to_string(rt.alloc())?.as_str(), *text);
     }
     Ok(())
 }
