@@ -1,0 +1,202 @@
+//! Readers and writers that fail.
+
+use super::rows::{BYTES, LINES};
+use super::*;
+use Failing::{TakingNone, With};
+use std::io;
+use std::io::ErrorKind;
+use std::test::Fail;
+
+/// Gives the bytes of a text, at most 3 at a time, and then answers an error.
+#[derive(Drop)]
+struct BrokenReader<'a> {
+    text: &'a [u8],
+    kind: ErrorKind,
+}
+
+impl Read for BrokenReader<'_> {
+    fn read(&mut self, buf: &mut [u8]) -> io::Result<usize> {
+        if self.text.is_empty() {
+            return Err(io::Error::from(self.kind));
+        }
+        let most = buf.len().min(3);
+        self.text.read(&mut buf[..most])
+    }
+}
+
+/// How a writer fails.
+#[derive(Clone, Copy)]
+enum Failing {
+    With(ErrorKind),
+    TakingNone,
+}
+
+/// Takes at most 5 bytes at a time, and fails once it was called `calls` times.
+#[derive(Drop)]
+struct BrokenWriter {
+    taken: Vec<u8>,
+    calls: usize,
+    failing: Failing,
+}
+
+impl Write for BrokenWriter {
+    fn write(&mut self, buf: &[u8]) -> io::Result<usize> {
+        if self.calls == 0 {
+            return match self.failing {
+                With(kind) => Err(io::Error::from(kind)),
+                TakingNone => Ok(0),
+            };
+        }
+        self.calls -= 1;
+        let most = buf.len().min(5);
+        self.taken.write(&buf[..most])
+    }
+
+    fn flush(&mut self) -> io::Result<()> {
+        Ok(())
+    }
+}
+
+/// What is run, what is read until the reader fails, how, what is answered, and what is written.
+const READERS: &[(Program, &[u8], ErrorKind, Result<(), WireFault>, &str)] = &[
+    (
+        Lines,
+        b"56\n56\n",
+        ErrorKind::BrokenPipe,
+        Err(WireFault::Io),
+        "",
+    ),
+    (
+        Lines,
+        b"56\n56\n",
+        ErrorKind::OutOfMemory,
+        Err(WireFault::OutOfMemory),
+        "",
+    ),
+    (
+        Within(9, 2),
+        b"56\n56\n",
+        ErrorKind::BrokenPipe,
+        Err(WireFault::Io),
+        "",
+    ),
+    (
+        Within(9, 2),
+        b"56\n56\n",
+        ErrorKind::OutOfMemory,
+        Err(WireFault::OutOfMemory),
+        "",
+    ),
+    (
+        Stream(9, 2, 9),
+        CUT,
+        ErrorKind::BrokenPipe,
+        Err(WireFault::Io),
+        "value 56\n",
+    ),
+    (
+        Stream(9, 2, 9),
+        CUT,
+        ErrorKind::Interrupted,
+        Err(WireFault::Io),
+        "value 56\n",
+    ),
+    (
+        Stream(9, 2, 9),
+        CUT,
+        ErrorKind::OutOfMemory,
+        Err(WireFault::OutOfMemory),
+        "value 56\n",
+    ),
+    // a reader that fails behind the last value isn't asked
+    (
+        Stream(9, 2, 2),
+        &[86, 86],
+        ErrorKind::BrokenPipe,
+        Ok(()),
+        "value 56\nvalue 56\n",
+    ),
+];
+
+/// Void, and the beginning of a long string.
+const CUT: &[u8] = &[86, 83, 0, 0, 0, 4, 116];
+
+#[test]
+fn a_fault_of_the_reader_ends_it(rt: HostRuntime) {
+    for (at, (program, text, kind, answer, written)) in READERS.iter().enumerate() {
+        let mut reader = BrokenReader { text, kind: *kind };
+        let mut out = Vec::new(rt.alloc());
+        let answered = run_program(&rt, rt.alloc(), *program, &mut reader, &mut out);
+        assert_eq!(rt; answered, *answer, "row {at}");
+        assert_eq!(rt; out.as_slice(), written.as_bytes(), "row {at}");
+    }
+}
+
+/// What is run, what is read, what is written, and in how many calls: one for each five bytes of a
+/// line, and one for what is left of it.
+const WRITERS: &[(Program, &[u8], &str, usize)] = &[
+    (Lines, b"56\n7\n", "value 56 rest 0\nnot hex\n", 6),
+    (Within(4, 2), b"41", "refused TooLarge\n", 4),
+    (Stream(9, 2, 9), BYTES, LINES, 11),
+];
+
+/// How a writer fails, and what is answered.
+const FAILINGS: &[(Failing, WireFault)] = &[
+    (With(ErrorKind::BrokenPipe), WireFault::Io),
+    (With(ErrorKind::Interrupted), WireFault::Io),
+    (TakingNone, WireFault::Io),
+    (With(ErrorKind::OutOfMemory), WireFault::OutOfMemory),
+];
+
+// Until the writer fails it takes the beginning of what is written, and where it doesn't, all.
+fn is_taken(
+    rt: &impl Abort,
+    alloc: Global,
+    program: Program,
+    input: &[u8],
+    lines: &[u8],
+    mut writer: BrokenWriter,
+    answer: Result<(), WireFault>,
+) {
+    let mut reader = input;
+    let answered = run_program(rt, alloc, program, &mut reader, &mut writer);
+    assert_eq!(rt; answered, answer);
+    assert!(rt; lines.starts_with(writer.taken.as_slice()));
+    assert_eq!(rt; writer.taken.len() == lines.len(), answer.is_ok());
+}
+
+#[test]
+fn a_fault_of_the_writer_ends_it(rt: HostRuntime) {
+    for (program, input, lines, needed) in WRITERS {
+        for (failing, fault) in FAILINGS {
+            for calls in 0..12 {
+                let writer = BrokenWriter {
+                    taken: Vec::new(rt.alloc()),
+                    calls,
+                    failing: *failing,
+                };
+                let answer = if calls < *needed { Err(*fault) } else { Ok(()) };
+                is_taken(
+                    &rt,
+                    rt.alloc(),
+                    *program,
+                    input,
+                    lines.as_bytes(),
+                    writer,
+                    answer,
+                );
+            }
+        }
+    }
+}
+
+#[test]
+fn names_faults(rt: HostRuntime) -> Result<(), Fail> {
+    for (fault, text) in [
+        (WireFault::OutOfMemory, "out of memory"),
+        (WireFault::Io, "input or output failed"),
+    ] {
+        assert_eq!(rt; fault.to_string(rt.alloc())?.as_str(), text);
+    }
+    Ok(())
+}
