@@ -1,20 +1,47 @@
-mod lengths;
-mod numbers;
-mod vectors;
+//! What generators put, by the format's own numbers.
 
+mod fields;
+mod lengths;
+mod outputs;
+mod table;
+
+use crate::field::Field;
+use Piece::{Array, Bytes, Long, Number, Payload, Short, Table, Value};
 use amq_protocol_types::generation::*;
 use amq_protocol_types::{
-    AMQPType, AMQPValue, ByteArray, DecimalValue, Double, FieldArray, FieldTable, Float,
-    ShortString,
+    AMQPValue, ByteArray, DecimalValue, FieldArray, FieldTable, Float, LongString, ShortString,
 };
 use std::alloc::{AllocError, Global};
+use std::collections::BTreeMap;
 use std::io::ErrorKind;
 use std::process::Abort;
 use std::test::Fail;
 
-// A generator's answer is the expected one.
-fn answers(rt: &impl Abort, answer: GenResult, expected: GenResult) {
-    assert_eq!(rt; answer, expected);
+/// What a generator is handed.
+#[derive(Clone, Copy)]
+enum Piece<'a> {
+    Number(Field),
+    Short(&'a str),
+    Long(&'a [u8]),
+    Bytes(&'a ByteArray),
+    Value(&'a AMQPValue),
+    Payload(&'a AMQPValue),
+    Array(&'a FieldArray),
+    Table(&'a FieldTable),
+}
+
+// Writes a piece.
+fn put<W: BackToTheBuffer>(piece: Piece<'_>, x: &mut WriteContext<W>) -> GenResult {
+    match piece {
+        Number(field) => fields::put(field, x),
+        Short(text) => gen_short_string(text, x),
+        Long(text) => gen_long_string(text, x),
+        Bytes(bytes) => gen_byte_array(bytes, x),
+        Value(value) => gen_value(value, x),
+        Payload(value) => gen_raw_value(value, x),
+        Array(array) => gen_field_array(array, x),
+        Table(table) => gen_field_table(table, x),
+    }
 }
 
 // The bytes put are the expected ones, and as many as the position says.
@@ -23,147 +50,88 @@ fn has_put(rt: &impl Abort, x: WriteContext<SliceOutput<'_>>, bytes: &[u8]) {
     assert_eq!(rt; x.into_inner().0.written(), bytes);
 }
 
-// The helpers below: what a generator answers, and what it puts into so many bytes of room.
-
-fn short_string(rt: &impl Abort, s: &str, room: usize, answer: GenResult, bytes: &[u8]) {
+// In so many bytes of room a generator answers this, and puts these bytes.
+fn room_holds(rt: &impl Abort, piece: Piece<'_>, room: usize, answer: GenResult, bytes: &[u8]) {
     let mut slice = [7u8; 255];
     assert!(rt; room <= 255);
     let mut x = WriteContext::from(SliceOutput::new(&mut slice[..room]));
-    answers(rt, gen_short_string(s, &mut x), answer);
+    assert_eq!(rt; put(piece, &mut x), answer, "{bytes:?} in {room}");
     has_put(rt, x, bytes);
 }
 
-fn long_string(rt: &impl Abort, s: &[u8], bytes: &[u8]) {
-    let mut slice = [7u8; 255];
-    let mut x = WriteContext::from(SliceOutput::new(&mut slice));
-    answers(rt, gen_long_string(s, &mut x), Ok(()));
-    has_put(rt, x, bytes);
+// They fill as much room, and aren't put into a byte less.
+fn fills_its_room(rt: &impl Abort, piece: Piece<'_>, bytes: &[u8]) {
+    let less = bytes.len().saturating_sub(1);
+    room_holds(rt, piece, bytes.len(), Ok(()), bytes);
+    room_holds(rt, piece, less, Err(GenError::BufferTooSmall), &[]);
 }
 
-fn value(rt: &impl Abort, v: &AMQPValue, bytes: &[u8]) {
-    let mut slice = [7u8; 255];
-    let mut x = WriteContext::from(SliceOutput::new(&mut slice));
-    answers(rt, gen_value(v, &mut x), Ok(()));
-    has_put(rt, x, bytes);
-}
-
-fn array(rt: &impl Abort, a: &FieldArray, room: usize, answer: GenResult, bytes: &[u8]) {
-    let mut slice = [7u8; 255];
-    assert!(rt; room <= 255);
-    let mut x = WriteContext::from(SliceOutput::new(&mut slice[..room]));
-    answers(rt, gen_field_array(a, &mut x), answer);
-    has_put(rt, x, bytes);
-}
-
-fn table(rt: &impl Abort, t: &FieldTable, room: usize, answer: GenResult, bytes: &[u8]) {
-    let mut slice = [7u8; 255];
-    assert!(rt; room <= 255);
-    let mut x = WriteContext::from(SliceOutput::new(&mut slice[..room]));
-    answers(rt, gen_field_table(t, &mut x), answer);
-    has_put(rt, x, bytes);
+// So do those of a value, and those of its payload behind its id.
+fn value_fills_its_room(rt: &impl Abort, value: &AMQPValue, bytes: &[u8]) {
+    fills_its_room(rt, Value(value), bytes);
+    fills_its_room(rt, Payload(value), bytes.split_at(bytes.len().min(1)).1);
 }
 
 #[test]
-fn small_numbers(rt: HostRuntime) {
-    let mut slice = [7u8; 24];
-    let mut x = WriteContext::from(SliceOutput::new(&mut slice));
-    answers(&rt, gen_type(AMQPType::ShortInt, &mut x), Ok(()));
-    answers(&rt, gen_type(AMQPType::ShortShortInt, &mut x), Ok(()));
-    answers(&rt, gen_boolean(true, &mut x), Ok(()));
-    answers(&rt, gen_short_short_int(-1, &mut x), Ok(()));
-    answers(&rt, gen_short_short_uint(255, &mut x), Ok(()));
-    answers(&rt, gen_short_int(-2, &mut x), Ok(()));
-    answers(&rt, gen_short_uint(65535, &mut x), Ok(()));
-    answers(&rt, gen_id(258, &mut x), Ok(()));
-    has_put(&rt, x, &[115, 98, 1, 255, 255, 255, 254, 255, 255, 1, 2]);
+fn strings_fill_their_room(rt: HostRuntime) {
+    let rows: [(Piece<'_>, &[u8]); 4] = [
+        (Short(""), &[0]),
+        (Short("test"), &[4, 116, 101, 115, 116]),
+        (Long(&[]), &[0, 0, 0, 0]),
+        (Long(b"test"), &[0, 0, 0, 4, 116, 101, 115, 116]),
+    ];
+    for (piece, bytes) in rows {
+        fills_its_room(&rt, piece, bytes);
+    }
 }
 
 #[test]
-fn large_numbers(rt: HostRuntime) {
-    let mut slice = [7u8; 32];
-    let mut x = WriteContext::from(SliceOutput::new(&mut slice));
-    answers(&rt, gen_long_int(-1, &mut x), Ok(()));
-    answers(&rt, gen_long_uint(258, &mut x), Ok(()));
-    answers(&rt, gen_long_long_int(0, &mut x), Ok(()));
-    answers(
-        &rt,
-        gen_long_long_uint(18446744073709551615, &mut x),
-        Ok(()),
-    );
-    answers(&rt, gen_timestamp(1, &mut x), Ok(()));
-    has_put(
-        &rt,
-        x,
-        &[
-            255, 255, 255, 255, 0, 0, 1, 2, 0, 0, 0, 0, 0, 0, 0, 0, 255, 255, 255, 255, 255, 255,
-            255, 255, 0, 0, 0, 0, 0, 0, 0, 1,
-        ],
-    );
-}
-
-#[test]
-fn floats_and_decimals(rt: HostRuntime) {
-    let mut slice = [7u8; 24];
-    let mut x = WriteContext::from(SliceOutput::new(&mut slice));
-    answers(
-        &rt,
-        gen_float(Float::from_bits(0x4229_ae14), &mut x),
-        Ok(()),
-    );
-    answers(
-        &rt,
-        gen_double(Double::from_bits(0x4045_35c2_8f5c_28f6), &mut x),
-        Ok(()),
-    );
-    answers(
-        &rt,
-        gen_decimal_value(
-            DecimalValue {
-                scale: 2,
-                value: 42,
-            },
-            &mut x,
-        ),
-        Ok(()),
-    );
-    has_put(
-        &rt,
-        x,
-        &[
-            66, 41, 174, 20, 64, 69, 53, 194, 143, 92, 40, 246, 2, 0, 0, 0, 42,
-        ],
-    );
-}
-
-#[test]
-fn no_room(rt: HostRuntime) {
-    let mut slice = [7u8; 7];
-    let mut x = WriteContext::from(SliceOutput::new(&mut slice));
-    answers(&rt, gen_timestamp(1, &mut x), Err(GenError::BufferTooSmall));
-    has_put(&rt, x, &[]);
-}
-
-#[test]
-fn strings(rt: HostRuntime) -> Result<(), Fail> {
-    short_string(&rt, "", 1, Ok(()), &[0]);
-    short_string(&rt, "test", 5, Ok(()), &[4, 116, 101, 115, 116]);
+fn short_strings_have_at_most_255_bytes(rt: HostRuntime) -> Result<(), Fail> {
     let letters = [97u8; 256];
     let longest = std::str::from_utf8(&letters[1..])?;
-    short_string(&rt, longest, 255, Err(GenError::BufferTooSmall), &[]);
+    room_holds(&rt, Short(longest), 255, Err(GenError::BufferTooSmall), &[]);
     let too_long = std::str::from_utf8(&letters)?;
-    short_string(&rt, too_long, 2, Err(GenError::LengthTooLong), &[]);
-    long_string(&rt, &[], &[0, 0, 0, 0]);
-    long_string(&rt, "test".as_bytes(), &[0, 0, 0, 4, 116, 101, 115, 116]);
+    room_holds(&rt, Short(too_long), 2, Err(GenError::LengthTooLong), &[]);
     Ok(())
 }
 
 #[test]
-fn byte_arrays(rt: HostRuntime) -> Result<(), Fail> {
-    let bytes = ByteArray::from(vec![in rt.alloc(); 1, 2, 255]?);
-    let mut slice = [7u8; 7];
-    let mut x = WriteContext::from(SliceOutput::new(&mut slice));
-    answers(&rt, gen_byte_array(&bytes, &mut x), Ok(()));
-    has_put(&rt, x, &[0, 0, 0, 3, 1, 2, 255]);
+fn byte_arrays_fill_their_room(rt: HostRuntime) -> Result<(), Fail> {
+    let rows: &[(&[u8], &[u8])] = &[
+        (&[1, 2, 255], &[0, 0, 0, 3, 1, 2, 255]),
+        (&[42, 1, 2, 3], &[0, 0, 0, 4, 42, 1, 2, 3]),
+    ];
+    for (bytes, written) in rows {
+        let made = ByteArray::from_slice(rt.alloc(), bytes)?;
+        fills_its_room(&rt, Bytes(&made), written);
+    }
+    Ok(())
+}
+
+#[test]
+fn values_fill_their_room(rt: HostRuntime) {
+    let decimal = DecimalValue {
+        scale: 2,
+        value: 42,
+    };
+    let rows: [(AMQPValue, &[u8]); 3] = [
+        (AMQPValue::from(true), &[116, 1]),
+        (AMQPValue::from(42i32), &[73, 0, 0, 0, 42]),
+        (AMQPValue::from(decimal), &[68, 2, 0, 0, 0, 42]),
+    ];
+    for (value, bytes) in &rows {
+        value_fills_its_room(&rt, value, bytes);
+    }
+}
+
+#[test]
+fn values_of_bytes_fill_their_room(rt: HostRuntime) -> Result<(), Fail> {
+    let text = AMQPValue::from(LongString::from_text(rt.alloc(), "test")?);
+    value_fills_its_room(&rt, &text, &[83, 0, 0, 0, 4, 116, 101, 115, 116]);
+    let bytes = AMQPValue::from(ByteArray::from_slice(rt.alloc(), &[42, 1, 2, 3])?);
+    value_fills_its_room(&rt, &bytes, &[120, 0, 0, 0, 4, 42, 1, 2, 3]);
+    let short = AMQPValue::ShortString(ShortString::try_copy(rt.alloc(), "x")?);
+    value_fills_its_room(&rt, &short, &[95, 1, 120]);
     Ok(())
 }
 
@@ -172,49 +140,42 @@ fn array_of(alloc: Global, v: AMQPValue) -> Result<FieldArray, AllocError> {
 }
 
 #[test]
-fn values(rt: HostRuntime) -> Result<(), Fail> {
-    value(&rt, &AMQPValue::LongInt(42), &[73, 0, 0, 0, 42]);
-    let x = AMQPValue::ShortString(ShortString::try_copy(rt.alloc(), "x")?);
-    value(&rt, &x, &[95, 1, 120]);
-    let array_of_x = array_of(rt.alloc(), x)?;
-    array(&rt, &array_of_x, 7, Ok(()), &[0, 0, 0, 3, 95, 1, 120]);
+fn arrays_fill_their_room(rt: HostRuntime) -> Result<(), Fail> {
+    let empty = FieldArray::new_in(rt.alloc());
+    fills_its_room(&rt, Array(&empty), &[0, 0, 0, 0]);
+    let of_true = array_of(rt.alloc(), AMQPValue::Boolean(true))?;
+    fills_its_room(&rt, Array(&of_true), &[0, 0, 0, 2, 116, 1]);
+    let x = ShortString::try_copy(rt.alloc(), "x")?;
+    let of_x = array_of(rt.alloc(), AMQPValue::ShortString(x))?;
+    fills_its_room(&rt, Array(&of_x), &[0, 0, 0, 3, 95, 1, 120]);
     Ok(())
 }
 
-#[test]
-fn arrays(rt: HostRuntime) -> Result<(), Fail> {
-    array(
-        &rt,
-        &FieldArray::new_in(rt.alloc()),
-        4,
-        Ok(()),
-        &[0, 0, 0, 0],
-    );
-    let array_of_true = array_of(rt.alloc(), AMQPValue::Boolean(true))?;
-    array(&rt, &array_of_true, 6, Ok(()), &[0, 0, 0, 2, 116, 1]);
-    array(&rt, &array_of_true, 5, Err(GenError::BufferTooSmall), &[]);
-    Ok(())
-}
+/// A table with a float at `test` and false at `test2`.
+const ENTRIES: &[u8] = &[
+    70, 0, 0, 0, 18, 4, 116, 101, 115, 116, 102, 66, 41, 174, 20, 5, 116, 101, 115, 116, 50, 116, 0,
+];
 
 #[test]
-fn tables(rt: HostRuntime) -> Result<(), Fail> {
+fn tables_fill_their_room(rt: HostRuntime) -> Result<(), Fail> {
     let mut entries = FieldTable::new_in(rt.alloc());
-    table(&rt, &entries, 4, Ok(()), &[0, 0, 0, 0]);
+    fills_its_room(&rt, Table(&entries), &[0, 0, 0, 0]);
     let last = ShortString::try_copy(rt.alloc(), "test2")?;
     entries.place(last, AMQPValue::Boolean(false))?;
     let first = ShortString::try_copy(rt.alloc(), "test")?;
     entries.place(first, AMQPValue::Float(Float::from_bits(0x4229_ae14)))?;
-    table(&rt, &entries, 21, Err(GenError::BufferTooSmall), &[]);
-    table(
-        &rt,
-        &entries,
-        22,
-        Ok(()),
-        &[
-            0, 0, 0, 18, 4, 116, 101, 115, 116, 102, 66, 41, 174, 20, 5, 116, 101, 115, 116, 50,
-            116, 0,
-        ],
-    );
+    fills_its_room(&rt, Table(&entries), &ENTRIES[1..]);
+    Ok(())
+}
+
+#[test]
+fn a_table_of_a_map_fills_its_room(rt: HostRuntime) -> Result<(), Fail> {
+    let mut map: BTreeMap<ShortString, AMQPValue> = BTreeMap::new(rt.alloc());
+    let first = ShortString::try_copy(rt.alloc(), "test")?;
+    drop(map.insert(first, AMQPValue::from(Float::from_bits(1_110_027_796)))?);
+    let last = ShortString::try_copy(rt.alloc(), "test2")?;
+    drop(map.insert(last, AMQPValue::from(false))?);
+    value_fills_its_room(&rt, &AMQPValue::from(FieldTable::from(map)), ENTRIES);
     Ok(())
 }
 

@@ -2,6 +2,8 @@
 #![tactic(auto)]
 
 #[cfg(test)]
+mod field;
+#[cfg(test)]
 mod generation;
 #[cfg(test)]
 mod parsing;

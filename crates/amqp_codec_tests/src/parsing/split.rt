@@ -7,35 +7,40 @@ use std::test::Fail;
 
 #[test]
 fn a_value_goes_over_the_cut(rt: HostRuntime) -> Result<(), Fail> {
-    let alloc = rt.alloc();
+    let text = AMQPValue::LongString(LongString::from_slice(rt.alloc(), b"test")?);
     let input = SplitInput::new(&[83, 0, 0], &[0, 4, 116, 101, 115, 116, 9]);
-    let Ok((rest, value)) = parse_value(alloc, input) else {
-        return Err(Fail::from("refused"));
-    };
-    let text = LongString::from(Vec::from_slice(alloc, b"test")?);
-    assert!(rt; value == AMQPValue::LongString(text));
-    assert_eq!(rt; rest.input_len(), 1);
-    assert_eq!(rt; rest.byte_at(0), 9);
-
-    let input = SplitInput::new(&[2, 195], &[169]);
-    let Ok((rest, text)) = parse_short_string(alloc, input) else {
-        return Err(Fail::from("refused"));
-    };
-    assert_eq!(rt; text.as_str().as_bytes(), [195, 169].as_slice());
-    assert_eq!(rt; rest.input_len(), 0);
+    match parse_value(rt.alloc(), input) {
+        Ok((rest, value)) => {
+            assert!(rt; value == text && rest.input_len() == 1);
+            assert_eq!(rt; rest.byte_at(0), 9);
+        }
+        Err(_e) => assert!(rt; false),
+    }
     Ok(())
 }
 
 #[test]
-fn a_byte_stays_in_its_part(rt: HostRuntime) -> Result<(), Fail> {
-    let input = SplitInput::new(&[86, 1], &[2]);
-    let Ok((rest, AMQPValue::Void)) = parse_value(rt.alloc(), input) else {
-        return Err(Fail::from("refused"));
-    };
-    let (first, second) = rest.parts();
-    assert_eq!(rt; first, [1].as_slice());
-    assert_eq!(rt; second, [2].as_slice());
-    Ok(())
+fn a_letter_goes_over_the_cut(rt: HostRuntime) {
+    match parse_short_string(rt.alloc(), SplitInput::new(&[2, 195], &[169])) {
+        Ok((rest, text)) => {
+            assert_eq!(rt; text.as_str().as_bytes(), [195, 169].as_slice());
+            assert_eq!(rt; rest.input_len(), 0);
+        }
+        Err(_e) => assert!(rt; false),
+    }
+}
+
+#[test]
+fn a_byte_stays_in_its_part(rt: HostRuntime) {
+    match parse_value(rt.alloc(), SplitInput::new(&[86, 1], &[2])) {
+        Ok((rest, AMQPValue::Void)) => {
+            let (first, second) = rest.parts();
+            assert_eq!(rt; first, [1].as_slice());
+            assert_eq!(rt; second, [2].as_slice());
+        }
+        Ok(_read) => assert!(rt; false),
+        Err(_e) => assert!(rt; false),
+    }
 }
 
 #[test]
