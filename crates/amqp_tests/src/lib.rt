@@ -6,6 +6,8 @@ mod conversions;
 #[cfg(test)]
 mod flags;
 #[cfg(test)]
-mod rows;
+mod getters;
+#[cfg(test)]
+mod json;
 #[cfg(test)]
 mod values;
