@@ -1,97 +1,71 @@
 //! How a call is made and told.
 
-use crate::shown::Shown;
+use crate::things::{Refusal, Thing};
 use std::alloc::Global;
-use std::fmt::{Debug, Display};
 use std::io;
 
-/// Says that a call's requests for memory begin.
-pub fn begin<R: Eprint>(rt: &R) {
+/// A call, with what it is made on.
+pub trait Call {
+    /// What the call is made on, as a text. Empty where that can't change.
+    fn state(&self, alloc: Global) -> io::Result<String> {
+        Ok(String::new(alloc))
+    }
+
+    /// Makes what one call uses up.
+    fn make_ready(&mut self, _alloc: Global) -> io::Result<()> {
+        Ok(())
+    }
+
+    /// Makes the call. Nothing else in here asks for memory.
+    fn answer(&mut self, alloc: Global) -> Result<Thing, Refusal>;
+}
+
+/// The line that tells what a call answered. None tells of a call that answers nothing.
+fn line(alloc: Global, answer: &Result<Thing, Refusal>) -> io::Result<String> {
+    Ok(match answer {
+        Ok(Thing::Nothing) => String::new(alloc),
+        Ok(thing) => {
+            let text = thing.text(alloc)?;
+            format!(in alloc; "ok {text}\n")?
+        }
+        Err(e) => format!(in alloc; "refused {e:?}\n")?,
+    })
+}
+
+/// Prints what a call answered. Answers whether it was Ok.
+pub fn tell<R: Print>(rt: &R, alloc: Global, answer: &Result<Thing, Refusal>) -> io::Result<bool> {
+    let line = line(alloc, answer)?;
+    print!(rt; "{line}")?;
+    Ok(answer.is_ok())
+}
+
+/// Makes a call, says where its requests for memory begin and end, and tells what it answered. Answers
+/// whether that was Ok.
+pub fn ask<R: Print + Eprint, C: Call>(rt: &R, alloc: Global, call: &mut C) -> io::Result<bool> {
     // Where nothing can be said, whoever counts requests finds none.
     let _ = eprintln!(rt; "begin");
-}
-
-/// Says that a call's requests for memory are over.
-pub fn end<R: Eprint>(rt: &R) {
+    let answer = call.answer(alloc);
     let _ = eprintln!(rt; "end");
+    tell(rt, alloc, &answer)
 }
 
-/// Prints what a call answered. Of a call that answers nothing only a refusal is printed. Answers
-/// whether it was Ok.
-pub fn tell<R: Print, T: Shown + Drop, E: Debug + Drop>(
-    rt: &R,
-    alloc: Global,
-    answer: Result<T, E>,
-) -> io::Result<bool> {
-    match answer {
-        Ok(answer) => {
-            let text = answer.shown(alloc)?;
-            if !text.is_empty() {
-                println!(rt; "ok {text}")?;
-            }
-            Ok(true)
+/// Makes a call that is to be refused for want of memory alone. Where it is, tells what was there
+/// before the call and is there after it, and makes it once more.
+pub fn insist<R: Print + Eprint, C: Call>(rt: &R, alloc: Global, call: &mut C) -> io::Result<()> {
+    for _ in 0..2 {
+        call.make_ready(alloc)?;
+        let had = call.state(alloc)?;
+        if ask(rt, alloc, call)? {
+            break;
         }
-        Err(e) => {
-            println!(rt; "refused {e:?}")?;
-            Ok(false)
-        }
+        let left = call.state(alloc)?;
+        println!(rt; "had {had}\nleft {left}")?;
     }
+    Ok(())
 }
 
-/// Prints what the parser of a number answered.
-pub fn tell_number<R: Print, I: Drop, T: Display + Drop, E: Debug + Drop>(
-    rt: &R,
-    answer: Result<(I, T), E>,
-) -> io::Result<()> {
-    match answer {
-        Ok((_rest, number)) => println!(rt; "ok {number}"),
-        Err(e) => println!(rt; "refused {e:?}"),
-    }
+/// Prints what calls have made.
+pub fn tell_made<R: Print, C: Call>(rt: &R, alloc: Global, call: &C) -> io::Result<()> {
+    let text = call.state(alloc)?;
+    println!(rt; "made {text}")
 }
-
-/// Prints what was there before a call that was refused, and what is there after it.
-pub fn tell_left<R: Print, S: Shown>(
-    rt: &R,
-    alloc: Global,
-    had: &str,
-    state: &S,
-) -> io::Result<()> {
-    let left = state.shown(alloc)?;
-    println!(rt; "had {had}")?;
-    println!(rt; "left {left}")
-}
-
-/// Makes a call, and says where its requests for memory begin and end.
-macro_rules! within {
-    ($rt:ident, $call:expr) => {{
-        crate::asking::begin($rt);
-        let answer = $call;
-        crate::asking::end($rt);
-        answer
-    }};
-}
-
-/// Makes `$given` and then a call, and tells what it answered. Where that is a refusal, tells what
-/// `$state` was before the call and is after it, and does all once more.
-macro_rules! insist {
-    ($rt:ident, $alloc:ident, $call:expr) => {
-        crate::asking::insist!($rt, $alloc, (), () = (), $call)
-    };
-    ($rt:ident, $alloc:ident, $state:expr, $call:expr) => {
-        crate::asking::insist!($rt, $alloc, $state, () = (), $call)
-    };
-    ($rt:ident, $alloc:ident, $state:expr, $given:pat = $made:expr, $call:expr) => {
-        for _ in 0..2 {
-            let had = $state.shown($alloc)?;
-            let $given = $made;
-            let answer = crate::asking::within!($rt, $call);
-            if crate::asking::tell($rt, $alloc, answer)? {
-                break;
-            }
-            crate::asking::tell_left($rt, $alloc, had.as_str(), &$state)?;
-        }
-    };
-}
-
-pub(crate) use insist;
-pub(crate) use within;

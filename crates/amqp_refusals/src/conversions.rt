@@ -1,97 +1,73 @@
-//! Cases of values made of JSON.
+//! Calls that make values of JSON.
 
-use crate::asking::{insist, tell, within};
+use crate::asking::{Call, insist};
 use crate::made;
-use crate::shown::Shown;
+use crate::things::{Refusal, Thing};
 use amq_protocol_types::{AMQPType, AMQPValue};
 use serde_json::Value;
 use std::alloc::Global;
 use std::io;
 
-/// The cases of this module, each by its name.
-pub const CASES: [&str; 3] = [
-    "try_from_to_a_short_string",
-    "try_from_to_a_long_string",
-    "try_from_without_memory",
-];
-
-/// Runs the case of this name. Answers whether there is one.
-pub fn run<R: Print + Eprint>(rt: &R, alloc: Global, name: &str) -> io::Result<bool> {
-    match name {
-        "try_from_to_a_short_string" => of_a_text(rt, alloc, AMQPType::ShortString, 255)?,
-        "try_from_to_a_long_string" => of_a_text(rt, alloc, AMQPType::LongString, 70_000)?,
-        "try_from_without_memory" => without(rt, alloc)?,
-        _ => return Ok(false),
-    }
-    Ok(true)
+/// A document that becomes a value of a type.
+#[derive(Drop)]
+struct Converting {
+    json: Value,
+    to: AMQPType,
 }
 
-/// A short text, and a long one.
-fn of_a_text<R: Print + Eprint>(
+impl Call for Converting {
+    fn state(&self, alloc: Global) -> io::Result<String> {
+        Ok(format!(in alloc; "{}", self.json)?)
+    }
+
+    fn answer(&mut self, alloc: Global) -> Result<Thing, Refusal> {
+        let value = AMQPValue::try_from(alloc, &self.json, self.to)?;
+        Ok(value.map_or(Thing::NoValue, Thing::Value))
+    }
+}
+
+/// A document.
+#[derive(Clone, Copy)]
+pub enum Document {
+    /// Null.
+    Null,
+    /// The number 7.
+    Seven,
+    /// A text of that length.
+    Text(usize),
+}
+
+/// The document itself.
+fn made_of(alloc: Global, document: Document) -> io::Result<Value> {
+    match document {
+        Document::Null => Ok(Value::Null),
+        Document::Seven => Value::from_str(alloc, "7").map_err(made::unmade),
+        Document::Text(length) => Ok(Value::String(made::text(alloc, length)?)),
+    }
+}
+
+/// A document becomes a value of a type.
+fn converted<R: Print + Eprint>(
     rt: &R,
     alloc: Global,
+    document: Document,
     to: AMQPType,
-    long: usize,
 ) -> io::Result<()> {
-    for count in [4, long] {
-        let text = Value::String(made::text(alloc, count)?);
-        insist!(rt, alloc, text, AMQPValue::try_from(alloc, &text, to));
-    }
-    Ok(())
+    let json = made_of(alloc, document)?;
+    insist(rt, alloc, &mut Converting { json, to })
 }
 
-/// Each type of a number, of null, of the empty text, and a text that is too long for its type.
-fn without<R: Print + Eprint>(rt: &R, alloc: Global) -> io::Result<()> {
-    let seven = Value::from_str(alloc, "7").map_err(made::unmade)?;
-    let empty = Value::String(String::new(alloc));
-    for to in [
-        AMQPType::Boolean,
-        AMQPType::ShortShortInt,
-        AMQPType::ShortShortUInt,
-        AMQPType::ShortInt,
-        AMQPType::ShortUInt,
-        AMQPType::LongInt,
-        AMQPType::LongUInt,
-        AMQPType::LongLongInt,
-        AMQPType::LongLongUInt,
-        AMQPType::Float,
-        AMQPType::Double,
-        AMQPType::DecimalValue,
-        AMQPType::ShortString,
-        AMQPType::LongString,
-        AMQPType::FieldArray,
-        AMQPType::Timestamp,
-        AMQPType::FieldTable,
-        AMQPType::ByteArray,
-        AMQPType::Void,
-    ] {
-        tell(
-            rt,
-            alloc,
-            within!(rt, AMQPValue::try_from(alloc, &seven, to)),
-        )?;
-        tell(
-            rt,
-            alloc,
-            within!(rt, AMQPValue::try_from(alloc, &empty, to)),
-        )?;
+/// Each document becomes a value of each type.
+pub fn all<R: Print + Eprint>(
+    rt: &R,
+    alloc: Global,
+    types: &[AMQPType],
+    documents: &[Document],
+) -> io::Result<()> {
+    for to in types {
+        for document in documents {
+            converted(rt, alloc, *document, *to)?;
+        }
     }
-    let letters = made::text(alloc, 256)?;
-    let long = Value::String(letters);
-    tell(
-        rt,
-        alloc,
-        within!(rt, AMQPValue::try_from(alloc, &long, AMQPType::ShortString)),
-    )?;
-    tell(
-        rt,
-        alloc,
-        within!(rt, AMQPValue::try_from(alloc, &long, AMQPType::FieldArray)),
-    )?;
-    tell(
-        rt,
-        alloc,
-        within!(rt, AMQPValue::try_from(alloc, &Value::Null, AMQPType::Void)),
-    )?;
     Ok(())
 }

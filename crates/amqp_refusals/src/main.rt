@@ -6,15 +6,17 @@
 #![tactic(auto)]
 
 mod asking;
+mod cases;
 mod conversions;
 mod copies;
 mod flags;
 mod generation;
+mod growing;
 mod made;
+mod making;
 mod parsing;
-mod shown;
 mod stream;
-mod values;
+mod things;
 
 use std::alloc::Global;
 use std::process::ExitCode;
@@ -40,28 +42,23 @@ fn run<R: Env + Alloc + Print + Eprint>(rt: &R, alloc: Global) -> io::Result<boo
 /// Runs the case of this name. Answers whether there is one.
 fn run_case<R: Print + Eprint>(rt: &R, alloc: Global, name: &str) -> io::Result<bool> {
     println!(rt; "case {name}")?;
-    Ok(
-        parsing::run(rt, alloc, name)?
-            || flags::run(rt, alloc, name)?
-            || values::run(rt, alloc, name)?
-            || copies::run(rt, alloc, name)?
-            || conversions::run(rt, alloc, name)?
-            || generation::run(rt, alloc, name)?
-            || stream::run(rt, alloc, name)?,
-    )
+    cases::run(rt, alloc, name)
 }
 
 /// Runs all cases. Answers whether each was found under its name.
 fn run_all<R: Print + Eprint>(rt: &R, alloc: Global) -> io::Result<bool> {
     let mut are_found = true;
     for names in [
-        parsing::CASES.as_slice(),
-        flags::CASES.as_slice(),
-        values::CASES.as_slice(),
-        copies::CASES.as_slice(),
-        conversions::CASES.as_slice(),
-        generation::CASES.as_slice(),
-        stream::CASES.as_slice(),
+        cases::VALUES_READ.as_slice(),
+        cases::PAYLOADS_READ.as_slice(),
+        cases::STRINGS_READ.as_slice(),
+        cases::READ_WITHOUT.as_slice(),
+        cases::FLAGS.as_slice(),
+        cases::VALUES_MADE.as_slice(),
+        cases::COPIES.as_slice(),
+        cases::CONVERSIONS.as_slice(),
+        cases::GENERATORS.as_slice(),
+        cases::STREAMS.as_slice(),
     ] {
         for name in names {
             are_found = run_case(rt, alloc, name)? && are_found;

@@ -1,91 +1,67 @@
-//! Cases of values within limits, and of readers of values.
+//! Calls of readers of values.
 
-use crate::asking::{insist, tell, within};
+use crate::asking::{Call, ask, insist, tell};
 use crate::made;
-use crate::shown::Shown;
-use amq_protocol_types::parsing::SliceInput;
-use amq_protocol_types::stream::{Limits, ValueReader, parse_value_within};
+use crate::things::{Refusal, Thing};
+use amq_protocol_types::stream::{Limits, ValueReader};
 use std::alloc::Global;
 use std::io;
 use std::io::Read;
 
-/// The cases of this module, each by its name.
-pub const CASES: [&str; 4] = [
-    "value_within_limits",
-    "next_value",
-    "next_value_byte_by_byte",
-    "streams_without_memory",
-];
-
 /// Limits that the table keeps to.
-const LIMITS: Limits = Limits {
+pub const LIMITS: Limits = Limits {
     frame: 199,
     depth: 3,
 };
 
-/// Runs the case of this name. Answers whether there is one.
-pub fn run<R: Print + Eprint>(rt: &R, alloc: Global, name: &str) -> io::Result<bool> {
-    match name {
-        "value_within_limits" => value(rt, alloc)?,
-        "next_value" => next(rt, alloc)?,
-        "next_value_byte_by_byte" => next_byte_by_byte(rt, alloc)?,
-        "streams_without_memory" => without(rt, alloc)?,
-        _ => return Ok(false),
-    }
-    Ok(true)
-}
+/// Limits that are one byte too narrow for it.
+pub const NARROW: Limits = Limits {
+    frame: 198,
+    depth: 3,
+};
 
-/// Gives one byte at a time.
+/// Gives at most so many bytes at a time.
 #[derive(Drop)]
-struct Slow<'a> {
-    bytes: &'a [u8],
+struct Slow {
+    bytes: &'static [u8],
+    most: usize,
 }
 
-impl Read for Slow<'_> {
+impl Read for Slow {
     fn read(&mut self, buf: &mut [u8]) -> io::Result<usize> {
-        let most = buf.len().min(1);
+        let most = buf.len().min(self.most);
         self.bytes.read(&mut buf[..most])
     }
 }
 
-/// A table with an entry of nearly every type.
-fn value<R: Print + Eprint>(rt: &R, alloc: Global) -> io::Result<()> {
-    let input = SliceInput::new(&made::TABLE);
-    insist!(rt, alloc, parse_value_within(alloc, input, LIMITS));
-    Ok(())
+/// A reader of values, whose next value is asked for.
+#[derive(Drop)]
+struct Asking {
+    values: ValueReader<Slow>,
 }
 
-/// The same table from a reader, and then its end: the call after a refusal goes on.
-fn next<R: Print + Eprint>(rt: &R, alloc: Global) -> io::Result<()> {
-    let mut values = ValueReader::new(alloc, made::TABLE.as_slice(), LIMITS);
-    insist!(rt, alloc, values.next());
-    insist!(rt, alloc, values.next());
-    Ok(())
+impl Call for Asking {
+    fn answer(&mut self, _alloc: Global) -> Result<Thing, Refusal> {
+        Ok(self.values.next()?.map_or(Thing::NoValue, Thing::Value))
+    }
 }
 
-/// The same from a reader that gives a byte at a time.
-fn next_byte_by_byte<R: Print + Eprint>(rt: &R, alloc: Global) -> io::Result<()> {
+/// The table from a reader that gives at most so many bytes at a time, and then its end: the call
+/// after a refusal goes on.
+pub fn run<R: Print + Eprint>(rt: &R, alloc: Global, most: usize) -> io::Result<()> {
     let bytes = made::TABLE.as_slice();
-    let mut values = ValueReader::new(alloc, Slow { bytes }, LIMITS);
-    insist!(rt, alloc, values.next());
-    insist!(rt, alloc, values.next());
-    Ok(())
+    let values = ValueReader::new(alloc, Slow { bytes, most }, LIMITS);
+    let mut asking = Asking { values };
+    insist(rt, alloc, &mut asking)?;
+    insist(rt, alloc, &mut asking)
 }
 
-/// A value that is too large, and a reader of values that has failed.
-fn without<R: Print + Eprint>(rt: &R, alloc: Global) -> io::Result<()> {
-    let limits = Limits {
-        frame: 198,
-        depth: 3,
-    };
-    let input = SliceInput::new(&made::TABLE);
-    tell(
-        rt,
-        alloc,
-        within!(rt, parse_value_within(alloc, input, limits)),
-    )?;
-    let mut values = ValueReader::new(alloc, [122].as_slice(), limits);
-    tell(rt, alloc, values.next())?;
-    tell(rt, alloc, within!(rt, values.next()))?;
+/// A reader of values that has failed is asked.
+pub fn failed<R: Print + Eprint>(rt: &R, alloc: Global) -> io::Result<()> {
+    let bytes = [122].as_slice();
+    let values = ValueReader::new(alloc, Slow { bytes, most: 1 }, NARROW);
+    let mut asking = Asking { values };
+    tell(rt, alloc, &asking.answer(alloc))?;
+    ask(rt, alloc, &mut asking)?;
     Ok(())
 }
