@@ -1,8 +1,8 @@
 -- What the calls from C answer: a number of bytes, or a negative number.
 use Rattle.std.specs.Prelude.{ℕ, ◌≡◌, ◌+◌, ◌<◌, ◌≤◌, ◌⊎◌, ℤ, pos, negsuc, List, length, Result, Ok, Err, MatchResult}
-use Rattle.amqp_value_core.specs.Values.{Tree}
-use Rattle.amqp_value_core.specs.Outcomes.{Outcome, Heavy, found, more, unknown, malformed}
-use Rattle.amqp_value_core.specs.Texts.{text}
+use Rattle.amqp_grammar.specs.Values.{Tree}
+use Rattle.amqp_grammar.specs.Outcomes.{Outcome, Heavy, found, more, unknown, malformed}
+use Rattle.amqp_grammar.specs.Texts.{text}
 use Rattle.amqp_bench.specs.declared.fault.Fault.{Fault}
 use Rattle.amqp_bench.specs.declared.fault.Fault.TheVariants.{Incomplete, Refused, OutOfMemory, TooSmall}
 

@@ -1,7 +1,7 @@
 //! Reading a value from bytes, and writing it to bytes.
 
 ghost use Rattle.std.specs.Prelude.{◌≡◌, ◌<◌, ◌≤◌, length, MatchResult, IfOk, IfErr};
-ghost use Rattle.amqp_value_core.specs.Texts.{text, Fits};
+ghost use Rattle.amqp_grammar.specs.Texts.{text, Fits};
 ghost use Rattle.amqp_value_core.specs.View.{view};
 ghost use Rattle.amqp_bench.specs.Calls.{IsFault, IsTooSmall, IsRead, IsTaken, IsWritten, HasNoRoom};
 

@@ -1,14 +1,14 @@
 -- The tree that an `AMQPValue` stands for.
 use Rattle.std.specs.Prelude.{ℕ, List, map}
 use Rattle.std.specs.Int.{w8, w16, w32, w64, cast_unsigned}
-use Rattle.amqp_value_core.specs.declared.types.AMQPType.TheVariants as amqp
+use Rattle.amqp_types.specs.declared.amqp_type.AMQPType.TheVariants as amqp
 use Rattle.amqp_value_core.specs.declared.types.field_array.FieldArray.{FieldArray}
 use Rattle.amqp_value_core.specs.declared.types.field_table.FieldTable.{FieldTable}
 use Rattle.amqp_value_core.specs.declared.value.AMQPValue.{AMQPValue, fold-AMQPValue}
 use Rattle.amqp_value_core.specs.declared.value.AMQPValue.TheOpen.{AMQPValue-F, FieldArray-F, FieldTable-F}
-use Rattle.amqp_value_core.specs.Values.{boolean, number, decimal, void, Tree, scalar, short, long, octets, array, table, Trees, trees_of, Entries, entries_of}
-use Rattle.amqp_value_core.specs.Numbers.{float_bits, double_bits}
-use Rattle.amqp_value_core.specs.Bytes.{long_bytes, array_bytes}
+use Rattle.amqp_grammar.specs.Values.{boolean, number, decimal, void, Tree, scalar, short, long, octets, array, table, Trees, trees_of, Entries, entries_of}
+use Rattle.amqp_types.specs.Numbers.{float_bits, double_bits}
+use Rattle.amqp_types.specs.Bytes.{long_bytes, array_bytes}
 
 -- one level, with each value inside already seen as its tree
 abbrev pub view_step : AMQPValue-F Tree Trees Entries → Tree

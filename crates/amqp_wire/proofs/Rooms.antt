@@ -1,10 +1,10 @@
 -- A value that fits finds the room that its size asks for.
 use Rattle.std.proofs.Common.{◌≡◌, ◌≤◌, ℕ, Option, Some, IfSome, length, Result, IsOk, true, subst, arith}
-use Rattle.amqp_value_core.specs.Values.{Tree}
-use Rattle.amqp_value_core.specs.Texts.{text, size, Fits}
-use Rattle.amqp_value_core.proofs.GrammarLaws.{length_of_text}
-use Rattle.amq_protocol_types.specs.declared.generation.error.GenError.{GenError}
-use Rattle.amq_protocol_types.specs.Outputs.{Seen, Writes}
+use Rattle.amqp_grammar.specs.Values.{Tree}
+use Rattle.amqp_grammar.specs.Texts.{text, size, Fits}
+use Rattle.amqp_grammar.proofs.GrammarLaws.{length_of_text}
+use Rattle.amqp_generation.specs.declared.error.GenError.{GenError}
+use Rattle.amqp_generation.specs.Outputs.{Seen, Writes}
 
 -- what writes a value's text succeeds in room for its size
 pub finds_room : (v : Tree) {s t : Seen} {r : Result (Unit {0}) GenError} (n : ℕ) → Writes true (Fits v) (text v) s r t → s.room ≡ Some n → Fits v → size v ≤ n → IsOk r

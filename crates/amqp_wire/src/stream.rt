@@ -2,9 +2,9 @@
 
 ghost use Rattle.std.specs.Prelude.{◌≡◌, ◌<◌, ◌∷◌, ◌++◌, [], true, false, codes, OnOk, OnErr, IfOk, IfSome, string_bytes};
 ghost use Rattle.std.specs.Io.KnownBytes.{Appends};
-ghost use Rattle.amqp_value_core.specs.Outcomes.{IsBytes};
+ghost use Rattle.amqp_input.specs.Inputs.{IsBytes};
 ghost use Rattle.amqp_value_core.specs.View.{view};
-ghost use Rattle.amq_protocol_types.specs.Readers.{kept, has_failed, limits_of};
+ghost use Rattle.amqp_stream.specs.Readers.{kept, has_failed, limits_of};
 ghost use Rattle.amqp_wire.specs.Lines.{AppendsFront};
 ghost use Rattle.amqp_wire.specs.Refusals.{kind_name};
 ghost use Rattle.amqp_wire.specs.Streams.{value_line, stream_text, HasLines, Leaves, IsLine};

@@ -1,4 +1,3 @@
 //! What the parsers are generic over.
 
-pub use super::errors::Needed;
-pub use amqp_value_core::input::{ParsableInput, SliceInput, SplitInput};
+pub use amqp_parsing::traits::{Needed, ParsableInput, SliceInput, SplitInput};

@@ -1,7 +1,7 @@
 //! A length before what a closure appends.
 
-ghost use Rattle.amq_protocol_types.specs.Contexts.{shown};
-ghost use Rattle.amq_protocol_types.specs.Lengths.{OnlyAppends};
+ghost use Rattle.amqp_generation.specs.Contexts.{shown};
+ghost use Rattle.amqp_generation.specs.Lengths.{OnlyAppends};
 
 use amq_protocol_types::AMQPType;
 use amq_protocol_types::generation::*;

@@ -127,7 +127,7 @@ pub(super) struct Recorder {
 
 impl Output for Recorder {
     ghost use Rattle.std.specs.Prelude.{true};
-    ghost use Rattle.amq_protocol_types.specs.Vectors.{seen_vector};
+    ghost use Rattle.amqp_generation.specs.Vectors.{seen_vector};
 
     ghost is_buffer = { true };
 

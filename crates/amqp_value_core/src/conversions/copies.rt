@@ -4,47 +4,13 @@
 //! entries takes no memory.
 
 ghost use Rattle.std.specs.Prelude.{◌≡◌, [], IfOk, IsOk};
-ghost use Rattle.amqp_value_core.specs.Bytes.{long_bytes, array_bytes};
-ghost use Rattle.amqp_value_core.specs.Values.{IsLight};
+ghost use Rattle.amqp_grammar.specs.Values.{IsLight};
 ghost use Rattle.amqp_value_core.specs.View.{view, trees, entries, array_items, array_view, table_entries, table_view};
 
-use crate::types::{ByteArray, FieldArray, FieldTable, LongString, ShortString};
+use crate::types::{FieldArray, FieldTable, ShortString};
 use crate::value::AMQPValue;
 use std::alloc::{AllocError, Global};
 use std::collections::BTreeMap;
-
-impl ShortString {
-    /// A copy of the text. The empty text takes no memory.
-    pub fn clone(&self, alloc: Global) -> Result<ShortString, AllocError>
-        ensures same { IfOk result (λ s. s ≡ self.now) }
-        ensures empty { self.now ≡ [] → IsOk result }
-    {
-        match ShortString::try_copy(alloc, self.as_str()) {
-            Ok(s) => Ok(s),
-            Err(_) => Err(AllocError),
-        }
-    }
-}
-
-impl LongString {
-    /// A copy of the bytes. No bytes take no memory.
-    pub fn clone(&self, alloc: Global) -> Result<LongString, AllocError>
-        ensures same { IfOk result (λ s. long_bytes s ≡ long_bytes self.now) }
-        ensures empty { long_bytes self.now ≡ [] → IsOk result }
-    {
-        LongString::from_slice(alloc, self.as_bytes())
-    }
-}
-
-impl ByteArray {
-    /// A copy of the bytes. No bytes take no memory.
-    pub fn clone(&self, alloc: Global) -> Result<ByteArray, AllocError>
-        ensures same { IfOk result (λ a. array_bytes a ≡ array_bytes self.now) }
-        ensures empty { array_bytes self.now ≡ [] → IsOk result }
-    {
-        ByteArray::from_slice(alloc, self.as_slice())
-    }
-}
 
 impl FieldArray {
     /// A copy of the array, each value copied. No values take no memory.

@@ -7,7 +7,7 @@ use crate::value::AMQPValue;
 
 impl From<bool> for AMQPValue {
     ghost use Rattle.std.specs.Prelude.{◌≡◌};
-    ghost use Rattle.amqp_value_core.specs.Values.{boolean, scalar};
+    ghost use Rattle.amqp_grammar.specs.Values.{boolean, scalar};
     ghost use Rattle.amqp_value_core.specs.View.{view};
 
     ghost from_gives = { λ b value. view value ≡ scalar (boolean b) };
@@ -20,8 +20,8 @@ impl From<bool> for AMQPValue {
 impl From<i8> for AMQPValue {
     ghost use Rattle.std.specs.Prelude.{◌≡◌};
     ghost use Rattle.std.specs.Int.{w8, cast_unsigned};
-    ghost use Rattle.amqp_value_core.specs.declared.types.AMQPType.TheVariants as amqp;
-    ghost use Rattle.amqp_value_core.specs.Values.{number, scalar};
+    ghost use Rattle.amqp_types.specs.declared.amqp_type.AMQPType.TheVariants as amqp;
+    ghost use Rattle.amqp_grammar.specs.Values.{number, scalar};
     ghost use Rattle.amqp_value_core.specs.View.{view};
 
     ghost from_gives = { λ z value. view value ≡ scalar (number amqp.ShortShortInt (cast_unsigned w8 z)) };
@@ -33,8 +33,8 @@ impl From<i8> for AMQPValue {
 
 impl From<u8> for AMQPValue {
     ghost use Rattle.std.specs.Prelude.{◌≡◌};
-    ghost use Rattle.amqp_value_core.specs.declared.types.AMQPType.TheVariants as amqp;
-    ghost use Rattle.amqp_value_core.specs.Values.{number, scalar};
+    ghost use Rattle.amqp_types.specs.declared.amqp_type.AMQPType.TheVariants as amqp;
+    ghost use Rattle.amqp_grammar.specs.Values.{number, scalar};
     ghost use Rattle.amqp_value_core.specs.View.{view};
 
     ghost from_gives = { λ n value. view value ≡ scalar (number amqp.ShortShortUInt n) };
@@ -47,8 +47,8 @@ impl From<u8> for AMQPValue {
 impl From<i16> for AMQPValue {
     ghost use Rattle.std.specs.Prelude.{◌≡◌};
     ghost use Rattle.std.specs.Int.{w16, cast_unsigned};
-    ghost use Rattle.amqp_value_core.specs.declared.types.AMQPType.TheVariants as amqp;
-    ghost use Rattle.amqp_value_core.specs.Values.{number, scalar};
+    ghost use Rattle.amqp_types.specs.declared.amqp_type.AMQPType.TheVariants as amqp;
+    ghost use Rattle.amqp_grammar.specs.Values.{number, scalar};
     ghost use Rattle.amqp_value_core.specs.View.{view};
 
     ghost from_gives = { λ z value. view value ≡ scalar (number amqp.ShortInt (cast_unsigned w16 z)) };
@@ -60,8 +60,8 @@ impl From<i16> for AMQPValue {
 
 impl From<u16> for AMQPValue {
     ghost use Rattle.std.specs.Prelude.{◌≡◌};
-    ghost use Rattle.amqp_value_core.specs.declared.types.AMQPType.TheVariants as amqp;
-    ghost use Rattle.amqp_value_core.specs.Values.{number, scalar};
+    ghost use Rattle.amqp_types.specs.declared.amqp_type.AMQPType.TheVariants as amqp;
+    ghost use Rattle.amqp_grammar.specs.Values.{number, scalar};
     ghost use Rattle.amqp_value_core.specs.View.{view};
 
     ghost from_gives = { λ n value. view value ≡ scalar (number amqp.ShortUInt n) };
@@ -74,8 +74,8 @@ impl From<u16> for AMQPValue {
 impl From<i32> for AMQPValue {
     ghost use Rattle.std.specs.Prelude.{◌≡◌};
     ghost use Rattle.std.specs.Int.{w32, cast_unsigned};
-    ghost use Rattle.amqp_value_core.specs.declared.types.AMQPType.TheVariants as amqp;
-    ghost use Rattle.amqp_value_core.specs.Values.{number, scalar};
+    ghost use Rattle.amqp_types.specs.declared.amqp_type.AMQPType.TheVariants as amqp;
+    ghost use Rattle.amqp_grammar.specs.Values.{number, scalar};
     ghost use Rattle.amqp_value_core.specs.View.{view};
 
     ghost from_gives = { λ z value. view value ≡ scalar (number amqp.LongInt (cast_unsigned w32 z)) };
@@ -87,8 +87,8 @@ impl From<i32> for AMQPValue {
 
 impl From<u32> for AMQPValue {
     ghost use Rattle.std.specs.Prelude.{◌≡◌};
-    ghost use Rattle.amqp_value_core.specs.declared.types.AMQPType.TheVariants as amqp;
-    ghost use Rattle.amqp_value_core.specs.Values.{number, scalar};
+    ghost use Rattle.amqp_types.specs.declared.amqp_type.AMQPType.TheVariants as amqp;
+    ghost use Rattle.amqp_grammar.specs.Values.{number, scalar};
     ghost use Rattle.amqp_value_core.specs.View.{view};
 
     ghost from_gives = { λ n value. view value ≡ scalar (number amqp.LongUInt n) };
@@ -101,8 +101,8 @@ impl From<u32> for AMQPValue {
 impl From<i64> for AMQPValue {
     ghost use Rattle.std.specs.Prelude.{◌≡◌};
     ghost use Rattle.std.specs.Int.{w64, cast_unsigned};
-    ghost use Rattle.amqp_value_core.specs.declared.types.AMQPType.TheVariants as amqp;
-    ghost use Rattle.amqp_value_core.specs.Values.{number, scalar};
+    ghost use Rattle.amqp_types.specs.declared.amqp_type.AMQPType.TheVariants as amqp;
+    ghost use Rattle.amqp_grammar.specs.Values.{number, scalar};
     ghost use Rattle.amqp_value_core.specs.View.{view};
 
     ghost from_gives = { λ z value. view value ≡ scalar (number amqp.LongLongInt (cast_unsigned w64 z)) };
@@ -114,9 +114,9 @@ impl From<i64> for AMQPValue {
 
 impl From<Float> for AMQPValue {
     ghost use Rattle.std.specs.Prelude.{◌≡◌};
-    ghost use Rattle.amqp_value_core.specs.declared.types.AMQPType.TheVariants as amqp;
-    ghost use Rattle.amqp_value_core.specs.Values.{number, scalar};
-    ghost use Rattle.amqp_value_core.specs.Numbers.{float_bits};
+    ghost use Rattle.amqp_types.specs.declared.amqp_type.AMQPType.TheVariants as amqp;
+    ghost use Rattle.amqp_grammar.specs.Values.{number, scalar};
+    ghost use Rattle.amqp_types.specs.Numbers.{float_bits};
     ghost use Rattle.amqp_value_core.specs.View.{view};
 
     ghost from_gives = { λ f value. view value ≡ scalar (number amqp.Float (float_bits f)) };
@@ -128,9 +128,9 @@ impl From<Float> for AMQPValue {
 
 impl From<Double> for AMQPValue {
     ghost use Rattle.std.specs.Prelude.{◌≡◌};
-    ghost use Rattle.amqp_value_core.specs.declared.types.AMQPType.TheVariants as amqp;
-    ghost use Rattle.amqp_value_core.specs.Values.{number, scalar};
-    ghost use Rattle.amqp_value_core.specs.Numbers.{double_bits};
+    ghost use Rattle.amqp_types.specs.declared.amqp_type.AMQPType.TheVariants as amqp;
+    ghost use Rattle.amqp_grammar.specs.Values.{number, scalar};
+    ghost use Rattle.amqp_types.specs.Numbers.{double_bits};
     ghost use Rattle.amqp_value_core.specs.View.{view};
 
     ghost from_gives = { λ f value. view value ≡ scalar (number amqp.Double (double_bits f)) };
@@ -142,7 +142,7 @@ impl From<Double> for AMQPValue {
 
 impl From<DecimalValue> for AMQPValue {
     ghost use Rattle.std.specs.Prelude.{◌≡◌};
-    ghost use Rattle.amqp_value_core.specs.Values.{decimal, scalar};
+    ghost use Rattle.amqp_grammar.specs.Values.{decimal, scalar};
     ghost use Rattle.amqp_value_core.specs.View.{view};
 
     ghost from_gives = { λ d value. view value ≡ scalar (decimal d.scale d.value) };
@@ -154,7 +154,7 @@ impl From<DecimalValue> for AMQPValue {
 
 impl From<ShortString> for AMQPValue {
     ghost use Rattle.std.specs.Prelude.{◌≡◌};
-    ghost use Rattle.amqp_value_core.specs.Values.{short};
+    ghost use Rattle.amqp_grammar.specs.Values.{short};
     ghost use Rattle.amqp_value_core.specs.View.{view};
 
     ghost from_gives = { λ s value. view value ≡ short s };
@@ -166,8 +166,8 @@ impl From<ShortString> for AMQPValue {
 
 impl From<LongString> for AMQPValue {
     ghost use Rattle.std.specs.Prelude.{◌≡◌};
-    ghost use Rattle.amqp_value_core.specs.Values.{long};
-    ghost use Rattle.amqp_value_core.specs.Bytes.{long_bytes};
+    ghost use Rattle.amqp_grammar.specs.Values.{long};
+    ghost use Rattle.amqp_types.specs.Bytes.{long_bytes};
     ghost use Rattle.amqp_value_core.specs.View.{view};
 
     ghost from_gives = { λ s value. view value ≡ long (long_bytes s) };
@@ -179,7 +179,7 @@ impl From<LongString> for AMQPValue {
 
 impl From<FieldArray> for AMQPValue {
     ghost use Rattle.std.specs.Prelude.{◌≡◌};
-    ghost use Rattle.amqp_value_core.specs.Values.{array};
+    ghost use Rattle.amqp_grammar.specs.Values.{array};
     ghost use Rattle.amqp_value_core.specs.View.{view, array_view};
 
     ghost from_gives = { λ a value. view value ≡ array (array_view a) };
@@ -191,8 +191,8 @@ impl From<FieldArray> for AMQPValue {
 
 impl From<u64> for AMQPValue {
     ghost use Rattle.std.specs.Prelude.{◌≡◌};
-    ghost use Rattle.amqp_value_core.specs.declared.types.AMQPType.TheVariants as amqp;
-    ghost use Rattle.amqp_value_core.specs.Values.{number, scalar};
+    ghost use Rattle.amqp_types.specs.declared.amqp_type.AMQPType.TheVariants as amqp;
+    ghost use Rattle.amqp_grammar.specs.Values.{number, scalar};
     ghost use Rattle.amqp_value_core.specs.View.{view};
 
     ghost from_gives = { λ n value. view value ≡ scalar (number amqp.Timestamp n) };
@@ -204,7 +204,7 @@ impl From<u64> for AMQPValue {
 
 impl From<FieldTable> for AMQPValue {
     ghost use Rattle.std.specs.Prelude.{◌≡◌};
-    ghost use Rattle.amqp_value_core.specs.Values.{table};
+    ghost use Rattle.amqp_grammar.specs.Values.{table};
     ghost use Rattle.amqp_value_core.specs.View.{view, table_view};
 
     ghost from_gives = { λ t value. view value ≡ table (table_view t) };
@@ -216,8 +216,8 @@ impl From<FieldTable> for AMQPValue {
 
 impl From<ByteArray> for AMQPValue {
     ghost use Rattle.std.specs.Prelude.{◌≡◌};
-    ghost use Rattle.amqp_value_core.specs.Values.{octets};
-    ghost use Rattle.amqp_value_core.specs.Bytes.{array_bytes};
+    ghost use Rattle.amqp_grammar.specs.Values.{octets};
+    ghost use Rattle.amqp_types.specs.Bytes.{array_bytes};
     ghost use Rattle.amqp_value_core.specs.View.{view};
 
     ghost from_gives = { λ a value. view value ≡ octets (array_bytes a) };

@@ -11,9 +11,9 @@ use crate::value::AMQPValue;
 impl AMQPValue {
     ghost use Rattle.std.specs.Prelude.{◌≡◌, option_map, is_some};
     ghost use Rattle.std.specs.Int.{w8, w16, w32, w64, cast_unsigned};
-    ghost use Rattle.amqp_value_core.specs.declared.types.AMQPType.TheVariants as amqp;
-    ghost use Rattle.amqp_value_core.specs.Numbers.{float_bits, double_bits};
-    ghost use Rattle.amqp_value_core.specs.Bytes.{long_bytes, array_bytes};
+    ghost use Rattle.amqp_types.specs.declared.amqp_type.AMQPType.TheVariants as amqp;
+    ghost use Rattle.amqp_types.specs.Numbers.{float_bits, double_bits};
+    ghost use Rattle.amqp_types.specs.Bytes.{long_bytes, array_bytes};
     ghost use Rattle.amqp_value_core.specs.View.{view, array_view, table_view};
     ghost use Rattle.amqp_value_core.specs.Getters.{truth_in, number_in, decimal_in, short_in, long_in, octets_in, array_in, table_in, is_void};
 

@@ -1,6 +1,6 @@
 use Rattle.std.proofs.Common.{◌≡◌, ◌∷◌, ◌++◌, [], Ok, Err, true, false, codes, subst, rules}
 use Rattle.amqp_value_core.specs.View.{view}
-use Rattle.amq_protocol_types.specs.Readers.{kept, limits_of, AnswersAll}
+use Rattle.amqp_stream.specs.Readers.{kept, limits_of, AnswersAll}
 use Rattle.amqp_wire.specs.Refusals.{kind_name}
 use Rattle.amqp_wire.specs.Streams.{value_line}
 use Rattle.amqp_wire.proofs.Streams.{line_told, value_told, cut_told, refused_told}

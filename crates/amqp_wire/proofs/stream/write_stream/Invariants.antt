@@ -1,5 +1,5 @@
 use Rattle.std.proofs.Common.{◌≡◌, [], false}
-use Rattle.amq_protocol_types.specs.Readers.{kept, has_failed, limits_of}
+use Rattle.amqp_stream.specs.Readers.{kept, has_failed, limits_of}
 use Rattle.amqp_wire.proofs.Streams.{Progress}
 use Rattle.amqp_wire.proofs.stream.write_stream.Given as goal
 

@@ -1,4 +1,4 @@
-use Rattle.amq_protocol_types.proofs.Lengths.{write_appends, then_appends}
+use Rattle.amqp_generation.proofs.Lengths.{write_appends, then_appends}
 use Rattle.amqp_codec_tests.proofs.generation.lengths.fn.put_two_numbers.gen_with_len.Goals as goal
 
 pub returns : goal.returns

@@ -1,8 +1,0 @@
-use Rattle.amq_protocol_types.specs.Readers.{kept, has_failed, limits_of}
-use Rattle.amq_protocol_types.proofs.Told.{told}
-use Rattle.amq_protocol_types.proofs.stream.values.Values.next_from.Goals as goal
-
-pub returns-clause-told : goal.returns-clause-told
-returns-clause-told g c = λ _.
-    told (limits_of c.args.self.now) (kept c.args.self.now) (kept c.read_value.new.self) (has_failed c.read_value.new.self) c.read_value.result
-    (g.R.Read.remaining c.args.reader.now) (g.R.Read.remaining c.read_value.new.reader) c.read_value.ensures.answer

@@ -1,0 +1,7 @@
+use Rattle.std.proofs.Common.{◌≡◌, take}
+use Rattle.amqp_flags.specs.Flags.{listed, flags_of}
+use Rattle.amqp_flags.proofs.flags.AMQPFlags.clone.Given as goal
+
+-- the flags so far were copied
+abbrev pub invariant-loop-name : goal.invariant-loop-name
+invariant-loop-name l = flags_of l.copy ≡ listed (take l.name-index l.name-items)

@@ -1,0 +1,26 @@
+use Rattle.std.proofs.Common.{string_bytes, arith, rules}
+use Rattle.amqp_flags.specs.Flags.{flags_of}
+use Rattle.amqp_flags.proofs.FlagBits.{next_flag, names_end, bits_end, some_flag}
+use Rattle.amqp_flags.proofs.flags.AMQPFlags.from_bytes.Goals as goal
+use Rattle.amqp_flags.proofs.flags.AMQPFlags.from_bytes.Goals.{else-loop-n-test, then-loop-n-test+then-n-input_len}
+
+pub returns-in_err-from_str-clause-err : goal.returns-in_err-from_str-clause-err
+returns-in_err-from_str-clause-err g c =
+    let some = some_flag c.args.names.now (g.I.ParsableInput.bytes c.args.bytes) c.loop-n.n c.loop-n-test.true (omega arith) in
+    search rules
+
+pub returns-in_err-add_flag-clause-err : goal.returns-in_err-add_flag-clause-err
+returns-in_err-add_flag-clause-err g c =
+    let some = some_flag c.args.names.now (g.I.ParsableInput.bytes c.args.bytes) c.loop-n.n c.loop-n-test.true (omega arith) in
+    search rules
+
+pub loop-n-preserved : goal.loop-n-preserved
+loop-n-preserved g c =
+    next_flag c.args.names.now (g.I.ParsableInput.bytes c.args.bytes) c.loop-n.n _ (string_bytes c.in_ok-from_str.field-0) c.byte_at.result (flags_of c.loop-n.flags) (flags_of c.add_flag.new.self) _ c.loop-n-test.true c.in_ok-from_str.ensures.ok (omega arith) c.byte_at.ensures c.in_ok-add_flag.ensures.ok c.loop-n.invariant
+
+pub returns-clause-ok : goal.returns-clause-ok
+returns-clause-ok g c =
+    elim c.loop-n-test.branch [
+      | else-loop-n-test w ↦ names_end c.args.names.now _ c.loop-n.n (flags_of c.loop-n.flags) _ (omega arith) c.loop-n.invariant
+      | then-loop-n-test+then-n-input_len w ↦ bits_end _ (g.I.ParsableInput.bytes c.args.bytes) c.loop-n.n (flags_of c.loop-n.flags) _ (omega arith) c.loop-n.invariant
+    ]

@@ -1,0 +1,7 @@
+use Rattle.std.proofs.Common.{◌≡◌, drop}
+use Rattle.amqp_flags.specs.Flags.{listed, flag_named}
+use Rattle.amqp_flags.proofs.flags.AMQPFlags.get_flag.Given as goal
+
+-- the flags that are left decide
+abbrev pub invariant-loop-n : goal.invariant-loop-n
+invariant-loop-n l = flag_named l.name (listed (drop l.n-index l.n-items)) ≡ flag_named l.name (listed l.n-items)

@@ -1,0 +1,7 @@
+use Rattle.std.proofs.Common.{◌≡◌, ◌<◌, ◌^◌, take}
+use Rattle.amqp_flags.specs.Flags.{listed, values_of, number_of}
+use Rattle.amqp_flags.proofs.flags.byte_of.Given as goal
+
+-- the number of the flags so far
+abbrev pub invariant-loop-i : goal.invariant-loop-i
+invariant-loop-i l = (l.byte ≡ number_of (values_of (listed (take l.i l.flags)))) × (l.byte < 2 ^ l.i)

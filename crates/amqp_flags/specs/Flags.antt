@@ -1,0 +1,81 @@
+-- Flags: names with truth values, and the bits that stand for these.
+use Rattle.std.specs.Prelude.{ℕ, zero, suc, ◌+◌, ◌*◌, ◌/◌, ◌%◌, ◌<◌, ◌≤◌, ◌-◌, ◌==◌, ◌≡◌, Bool, Option, Some, None, String, string_bytes, List, [], ◌∷◌, ◌++◌, length, take, drop, map, if◌then◌else◌}
+use Rattle.std.specs.declared.alloc.Global.{Global}
+use Rattle.std.specs.List.{zip}
+use Rattle.amqp_grammar.specs.Maps.{same_bytes}
+use Rattle.amqp_grammar.specs.Outcomes.{Reading, more}
+use Rattle.amqp_flags.specs.declared.flags.AMQPFlags.{AMQPFlags}
+
+-- a flag: its name, and whether it is set
+abbrev pub Flag : Type 0
+Flag = List ℕ × Bool
+
+-- flags as they stand in memory, listed as names with truth values
+abbrev pub listed : List (String Global × Bool) → List Flag
+listed = map (λ f. (string_bytes f.0, f.1))
+
+-- the flags, in order
+abbrev pub flags_of : AMQPFlags → List Flag
+flags_of a = listed a.flags.items
+
+-- their names, and their truth values
+abbrev pub names_of : List Flag → List (List ℕ)
+names_of = map (λ f. f.0)
+
+abbrev pub values_of : List Flag → List Bool
+values_of = map (λ f. f.1)
+
+-- the truth value of the first flag of the name
+abbrev pub flag_named : List ℕ → List Flag → Option Bool
+flag_named name [] = None
+flag_named name (f ∷ fs) = if same_bytes f.0 name then Some f.1 else flag_named name fs
+
+-- how many bytes so many flags take: eight to a byte
+abbrev pub bytes_for : ℕ → ℕ
+bytes_for n = (n + 7) / 8
+
+-- the number whose bits these are, counted from the lowest: the sum of 2 ^ i over the true ones
+abbrev pub number_of : List Bool → ℕ
+number_of [] = 0
+number_of (b ∷ bs) = (if b then 1 else 0) + 2 * number_of bs
+
+-- the next n bytes, each the number of the next eight truth values
+abbrev pub packed : ℕ → List Bool → List ℕ
+packed zero bs = []
+packed (suc n) bs = number_of (take 8 bs) ∷ packed n (drop 8 bs)
+
+-- the bytes of truth values: that of number 8k + i is bit i of byte k, and the bits left over are 0
+abbrev pub pack : List Bool → List ℕ
+pack bs = packed (bytes_for (length bs)) bs
+
+-- the n lowest bits of a number, the lowest first
+unfoldable pub low_bits : ℕ → ℕ → List Bool
+low_bits zero c = []
+low_bits (suc n) c = (c % 2 == 1) ∷ low_bits n (c / 2)
+
+-- the bits of bytes, those of the first byte first
+abbrev pub bits : List ℕ → List Bool
+bits [] = []
+bits (c ∷ s) = low_bits 8 c ++ bits s
+
+-- the names in order with the bits, as long as both last
+abbrev pub unpack : List (List ℕ) → List ℕ → List Flag
+unpack names s = zip names (bits s)
+
+-- flags of the names are read from s, and `rest` is left
+pub record AreFlagsRead (names : List (List ℕ)) (s : List ℕ) (fs : List Flag) (rest : List ℕ) : Type 0 where
+  pub enough : bytes_for (length names) ≤ length s
+  pub flags : fs ≡ unpack names (take (bytes_for (length names)) s)
+  pub left : rest ≡ drop (bytes_for (length names)) s
+
+-- the bytes of so many flags aren't all there, and so many lack
+abbrev pub AreFlagsCut : ℕ → List ℕ → Reading → Type 0
+AreFlagsCut n s o = (length s < bytes_for n) × (o ≡ more (bytes_for n - length s))
+
+-- memory may be wanted: there is a flag, and its bytes are all there
+abbrev pub AreFlagsHeavy : ℕ → List ℕ → Type 0
+AreFlagsHeavy n s = (0 < n) × (bytes_for n ≤ length s)
+
+-- what was written is read back as the same flags, whatever follows
+abbrev pub AreFlagsReadBack : List Flag → Type 0
+AreFlagsReadBack fs = (rest : List ℕ) → AreFlagsRead (names_of fs) (pack (values_of fs) ++ rest) fs rest

@@ -1,0 +1,117 @@
+//! Flags: truth values under names, which travel eight to a byte.
+
+ghost use Rattle.std.specs.Prelude.{◌≡◌, ◌<◌, ◌≤◌, ◌++◌, ◌∷◌, [], map, length, string_bytes, IfOk, OnOk, OnErr};
+ghost use Rattle.amqp_flags.specs.Flags.{listed, flags_of, values_of, flag_named, number_of, pack, unpack};
+
+use amqp_input::ParsableInput;
+use amqp_types::Boolean;
+use serde::{Deserialize, Serialize};
+use std::alloc::{AllocError, Global};
+
+/// Truth values under names, in the order in which they were added. A name may come again.
+#[derive(Debug, PartialEq, Serialize, Deserialize, Drop)]
+pub struct AMQPFlags {
+    flags: Vec<(String, Boolean)>,
+}
+
+impl AMQPFlags {
+    /// No flags. Takes no memory.
+    pub fn new_in(alloc: Global) -> Self
+        ensures { flags_of result ≡ [] }
+    {
+        AMQPFlags {
+            flags: Vec::new(alloc),
+        }
+    }
+
+    /// Appends a flag, also where there is one of that name. Where memory is refused the flags are
+    /// as before, and the name is dropped.
+    pub fn add_flag(&mut self, name: String, flag: Boolean) -> Result<(), AllocError>
+        ensures ok { OnOk result
+            (flags_of self.new ≡ flags_of self.old ++ (string_bytes name, flag) ∷ []) }
+        ensures err { OnErr result (flags_of self.new ≡ flags_of self.old) }
+    {
+        self.flags.push((name, flag))?;
+        Ok(())
+    }
+
+    /// The truth value of the first flag of that name.
+    pub fn get_flag(&self, name: &str) -> Option<Boolean>
+        ensures { result ≡ flag_named name.now (flags_of self.now) }
+    {
+        for (n, flag) in &self.flags {
+            if n.as_str() == name {
+                return Some(*flag);
+            }
+        }
+        None
+    }
+
+    /// The flags as bits, eight to a byte, the first one's bit the lowest. No flags are no bytes,
+    /// and take no memory.
+    pub fn get_bytes(&self, alloc: Global) -> Result<Vec<u8>, AllocError>
+        ensures ok { IfOk result (λ bytes. bytes.items ≡ pack (values_of (flags_of self.now))) }
+        ensures err { OnErr result (0 < length (flags_of self.now)) }
+    {
+        let mut bytes = Vec::new(alloc);
+        for eight in self.flags.chunks(8) {
+            bytes.push(byte_of(eight))?;
+        }
+        Ok(bytes)
+    }
+
+    /// A flag for each name that a bit is there for, in order, the lowest bit of a byte first. No
+    /// flag takes no memory.
+    pub fn from_bytes<I: ParsableInput>(
+        alloc: Global,
+        names: &[&str],
+        bytes: I,
+    ) -> Result<AMQPFlags, AllocError>
+        ensures ok { IfOk result
+            (λ flags. flags_of flags ≡ unpack (map (λ n. n.now) names.now) (I.bytes bytes)) }
+        ensures err { OnErr result (0 < length (unpack (map (λ n. n.now) names.now) (I.bytes bytes))) }
+    {
+        let mut flags = AMQPFlags::new_in(alloc);
+        for (n, name) in names.iter().enumerate() {
+            if n / 8 >= bytes.input_len() {
+                break;
+            }
+            let flag = (bytes.byte_at(n / 8) >> (n % 8)) % 2 == 1;
+            flags.add_flag(String::from_str(alloc, name)?, flag)?;
+        }
+        Ok(flags)
+    }
+
+    /// A copy, with the same flags.
+    pub fn clone(&self, alloc: Global) -> Result<AMQPFlags, AllocError>
+        ensures ok { IfOk result (λ copy. flags_of copy ≡ flags_of self.now) }
+        ensures err { OnErr result (0 < length (flags_of self.now)) }
+    {
+        let mut copy = AMQPFlags::new_in(alloc);
+        for (name, flag) in &self.flags {
+            copy.add_flag(String::from_str(alloc, name.as_str())?, *flag)?;
+        }
+        Ok(copy)
+    }
+
+    /// The flags, in order.
+    pub fn as_slice(&self) -> &[(String, Boolean)]
+        ensures { listed result.now ≡ flags_of self.now }
+    {
+        self.flags.as_slice()
+    }
+}
+
+/// The byte whose bits are those of at most eight flags, the first one's the lowest.
+pub fn byte_of(flags: &[(String, Boolean)]) -> u8
+    requires { length flags.now ≤ 8 }
+    ensures { result ≡ number_of (values_of (listed flags.now)) }
+{
+    let mut byte = 0;
+    for (i, (_, flag)) in flags.iter().enumerate() {
+        if *flag {
+            byte += 1 << i;
+        }
+    }
+    byte
+}

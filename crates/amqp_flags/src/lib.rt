@@ -1,0 +1,7 @@
+//! Flags: truth values under names, which travel eight to a byte.
+#![tactic(auto)]
+
+mod flags;
+pub mod rows;
+
+pub use flags::{AMQPFlags, byte_of};

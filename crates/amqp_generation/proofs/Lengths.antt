@@ -1,0 +1,156 @@
+-- Lemmas on a length that is put before what a call appends.
+use Rattle.std.proofs.Common.{◌≡◌, ℕ, Bool, IsTrue, ◌+◌, ◌-◌, ◌≤◌, true, inr, Some, None, IsSome, IfSome, Option, Result, Ok, Err, OnOk, OnErr, IfErr, List, [], ◌++◌, length, take, drop, replicate, refl, sym, ap, ◌∙◌, subst, arith, length-append}
+use Rattle.std.specs.Prelude.{⊤}
+use Rattle.std.specs.Option.{option_map}
+use Rattle.std.specs.Int.{w32, to_be_bytes}
+use Rattle.std.specs.Io.KnownBytes.{Appends}
+use Rattle.std.proofs.KnownBytes.{Appends-trans}
+use Rattle.std.proofs.lemmas.List.{drop-drop, append-nil}
+use Rattle.amqp_grammar.specs.Grammar.{large}
+use Rattle.amqp_generation.specs.declared.error.GenError.{GenError}
+use Rattle.amqp_generation.specs.Outputs.{Seen, IsWhole, Writes, GoesBack, FillsLength, filled}
+use Rattle.amqp_generation.specs.Lengths.{OnlyAppends, Reserved, PutsWithLength, RefusesWithLength}
+use Rattle.amqp_generation.specs.Contexts.{start_of, shown}
+use Rattle.amqp_generation.specs.declared.context.WriteContext.{WriteContext}
+use Rattle.amqp_generation.proofs.Rooms.{told_back, front_overwritten}
+
+-- the position counts what was appended
+pub counted : (a b : Option (List ℕ)) (n m : ℕ) (xs : List ℕ) → IsSome a → IfSome a (λ put. length put ≡ n) → IsSome b → IfSome b (λ put. length put ≡ m) → Appends a b xs → m ≡ n + length xs
+counted None b n m xs h e k d p = absurd cc
+counted (Some put) None n m xs h e k d p = absurd cc
+counted (Some put) (Some all) n m xs h e k d p = sym d ∙ ap length p ∙ length-append put xs ∙ ap (λ i. i + length xs) e
+
+-- what only appends leaves the position or raises it
+pub behind : {s t : Seen} {r : Result (Unit {0}) GenError} → IsWhole s → IsWhole t → OnlyAppends s r t → s.at ≤ t.at
+behind {s = s} {t = t} here there o =
+    let n = counted s.told t.told s.at t.at o.more here.told here.counted there.told there.counted o.appended in
+    omega arith
+
+-- nothing was appended where the bytes are as they were
+pub nothing_appended : (a b : Option (List ℕ)) → b ≡ a → Appends a b []
+nothing_appended None b e = tt
+nothing_appended (Some put) b e = subst (λ (o : Option (List ℕ)). Appends (Some put) o []) (sym e) (sym (append-nil put))
+
+-- a refusal that leaves the bytes as they were only appends
+pub refusal_appends : {s t : Seen} {e : GenError} → t.told ≡ s.told → OnlyAppends s (Err e) t
+refusal_appends {s = s} {t = t} same = record { more = []; appended = nothing_appended s.told t.told same; tail = tt }
+
+-- what was written is appended, and a refused write leaves a buffer's bytes
+pub write_appends : {b : Bool} {A : Type 0} {xs : List ℕ} {s t : Seen} {r : Result (Unit {0}) GenError} → b ≡ true → Writes b A xs s r t → OnlyAppends s r t
+write_appends {xs = xs} {r = Ok _} e p = record { more = xs; appended = p.appended; tail = p.tail }
+write_appends {r = Err _} e p = refusal_appends (p.kept (subst IsTrue (sym e) refl))
+
+-- what appends and then appends again only appends
+pub then_appends : {s t u : Seen} {r : Result (Unit {0}) GenError} → OnlyAppends s (Ok tt) t → OnlyAppends t r u → OnlyAppends s r u
+then_appends {s = s} {t = t} {u = u} {r = r} p q = record {
+  more = p.more ++ q.more;
+  appended = Appends-trans s.told t.told u.told p.more q.more p.appended q.appended;
+  tail = by r q.tail;
+}
+  where
+    by : (r : Result (Unit {0}) GenError) → OnOk r (u.tail ≡ drop (length q.more) t.tail) → OnOk r (u.tail ≡ drop (length (p.more ++ q.more)) s.tail)
+    by (Ok _) e =
+        let sum : length p.more + length q.more ≡ length (p.more ++ q.more) = sym (length-append p.more q.more) in
+        e ∙ ap (drop (length q.more)) p.tail ∙ drop-drop (length q.more) (length p.more) s.tail ∙ ap (λ n. drop n s.tail) sum
+    by (Err _) e = tt
+
+-- what was appended behind four reserved bytes was taken back with them
+pub taken_back : {s t u w : Seen} {r : Result (Unit {0}) GenError} (at : ℕ) → at ≡ s.at → IsWhole s → Writes true ⊤ (replicate 4 0) s (Ok tt) t → OnlyAppends t r u → GoesBack at u w → w.told ≡ s.told
+taken_back {s = s} {t = t} {u = u} {w = w} at place whole p o back =
+    told_back s.told u.told w.told s.at (replicate 4 0 ++ o.more) whole.counted whole.told
+    (Appends-trans s.told t.told u.told (replicate 4 0) o.more p.appended o.appended)
+    (back.told ∙ ap (λ n. option_map (take n) u.told) place)
+
+-- a call appended behind four reserved bytes, which were then filled with the number of what it appended, or were taken
+-- back with that
+module _ {W : Type 0} (seen : W → Seen) (may : WriteContext W → Result (Unit {0}) GenError → WriteContext W → Type 0) (old before after new : WriteContext W) (at : ℕ) (place : at ≡ (shown seen old).at) (whole : IsWhole (shown seen old)) (end : IsWhole (shown seen after)) (reserved : Reserved seen old before) (appends : (x y : WriteContext W) (r : Result (Unit {0}) GenError) → may x r y → OnlyAppends (shown seen x) r (shown seen y)) (called : may before (Ok tt) after) where
+  abbrev s : Seen
+  s = shown seen old
+
+  abbrev u : Seen
+  u = shown seen after
+
+  abbrev w : Seen
+  w = shown seen new
+
+  -- it only appended
+  abbrev o : OnlyAppends (shown seen before) (Ok tt) u
+  o = appends before after (Ok tt) called
+
+  -- the four bytes and those behind them
+  both : Appends s.told u.told (replicate 4 0 ++ o.more)
+  both = Appends-trans s.told (shown seen before).told u.told (replicate 4 0) o.more reserved.zeros.appended o.appended
+
+  -- how many they are
+  size : u.at - at - 4 ≡ length o.more
+  size = let n = counted s.told u.told s.at u.at (replicate 4 0 ++ o.more) whole.told whole.counted end.told end.counted both in omega arith
+
+  -- what stands behind the position
+  rest : u.tail ≡ drop (length (large o.more)) s.tail
+  rest =
+      let sum : 4 + length o.more ≡ length (large o.more) = omega arith in
+      o.tail ∙ ap (drop (length o.more)) reserved.zeros.tail ∙ drop-drop (length o.more) 4 s.tail ∙ ap (λ n. drop n s.tail) sum
+
+  module _ (e : w ≡ filled u at (to_be_bytes w32 (u.at - at - 4))) where
+    -- the number is that of what was appended
+    number : w ≡ filled u s.at (to_be_bytes w32 (length o.more))
+    number = e ∙ (λ i. filled u (place i) (to_be_bytes w32 (size i)))
+
+    -- so that stands behind its length
+    put : Appends s.told w.told (large o.more)
+    put = subst (λ (x : Seen). Appends s.told x.told (large o.more)) (sym number) (front_overwritten s.told u.told s.at (replicate 4 0) (to_be_bytes w32 (length o.more)) o.more whole.counted refl both)
+
+    -- and is all that was put
+    moved : w.at ≡ s.at + length (large o.more)
+    moved =
+        let n = counted s.told u.told s.at u.at (replicate 4 0 ++ o.more) whole.told whole.counted end.told end.counted both in
+        let same : w.at ≡ u.at = ap (λ (x : Seen). x.at) number in
+        omega arith
+
+    -- the tail was cut by as much
+    tail : w.tail ≡ drop (length (large o.more)) s.tail
+    tail = ap (λ (x : Seen). x.tail) number ∙ rest
+
+  -- where the number fits, it is put before what was appended
+  pub put_with_length : (r : Result (Unit {0}) GenError) → FillsLength at u r w → start_of new ≡ start_of after → OnOk r (PutsWithLength seen may old new)
+  put_with_length (Ok _) f start = record {
+    before = before;
+    after = after;
+    reserved = reserved;
+    called = called;
+    more = o.more;
+    appended = o.appended;
+    fits = omega (arith, f.fits, size);
+    put = put f.filled;
+    moved = moved f.filled;
+    filled = number f.filled;
+    start = start;
+  }
+  put_with_length (Err e) f start = tt
+
+  -- where it doesn't fit, the call may pass it
+  pub too_long : (r : Result (Unit {0}) GenError) → FillsLength at u r w → start_of new ≡ start_of after → IfErr r (RefusesWithLength seen may old new)
+  too_long (Ok _) f start = tt
+  too_long (Err e) f start = inr (inr (
+    f.refused,
+    record {
+      before = before;
+      after = after;
+      reserved = reserved;
+      called = called;
+      more = o.more;
+      appended = o.appended;
+      long = omega (arith, f.too_long, size);
+      start = start;
+    },
+  ))
+
+  -- then all is taken back
+  pub all_back : (r : Result (Unit {0}) GenError) → FillsLength at u r w → OnErr r (w.told ≡ s.told)
+  all_back (Ok _) f = tt
+  all_back (Err e) f = taken_back at place whole reserved.zeros o f.back
+
+  -- so it only appends
+  pub length_appends : (r : Result (Unit {0}) GenError) → FillsLength at u r w → OnlyAppends s r w
+  length_appends (Ok _) f = record { more = large o.more; appended = put f.filled; tail = tail f.filled }
+  length_appends (Err e) f = refusal_appends (all_back (Err e) f)

@@ -1,0 +1,154 @@
+-- Lemmas on bytes that are put one after another, to any output.
+use Rattle.std.proofs.Common.{◌≡◌, ℕ, ◌+◌, ◌-◌, ◌≤◌, inl, inr, Bool, IsTrue, Option, Some, None, IfSome, Ok, Err, List, [], ◌∷◌, ◌++◌, length, drop, refl, sym, ap, ◌∙◌, subst, arith, length-append, append-nil}
+use Rattle.std.specs.Option.{option_map}
+use Rattle.std.specs.Io.KnownBytes.{Appends}
+use Rattle.std.proofs.KnownBytes.{Appends-trans}
+use Rattle.std.proofs.lemmas.Bool.{false≢true}
+use Rattle.std.proofs.lemmas.List.{drop-drop}
+use Rattle.amqp_generation.specs.declared.error.GenError.{GenError}
+use Rattle.amqp_generation.specs.Outputs.{Seen, Writes, Puts, MakesRoom, HasFailed}
+use Rattle.amqp_generation.proofs.Rooms.{both_fit, both_left, both_too_many, still_fixed, rest_fits, any_room}
+
+-- some bytes were put, and a buffer won't refuse those behind them, n in all
+pub record PutSoFar (b : Bool) (n : ℕ) (done : List ℕ) (before after : Seen) : Type 0 where
+  pub written : Writes b (Unit {0}) done before (Ok tt) after
+  pub promise : IsTrue b → n ≤ after.promise + length done
+
+nothing_appended : (told more : Option (List ℕ)) → more ≡ told → Appends told more []
+nothing_appended None more same = tt
+nothing_appended (Some put) None same = absurd cc
+nothing_appended (Some put) (Some all) same =
+    let here : all ≡ put = cc in
+    here ∙ sym (append-nil put)
+
+no_less : (room : Option ℕ) → room ≡ option_map (λ n. n - 0) room
+no_less None = refl
+no_less (Some n) = ap Some (omega arith)
+
+none_fit : (room : Option ℕ) → IfSome room (λ n. 0 ≤ n)
+none_fit None = tt
+none_fit (Some n) = omega arith
+
+-- room was made, and nothing is put yet
+pub room_made : {b : Bool} {n m : ℕ} {s t : Seen} → n ≡ m → MakesRoom b n s (Ok tt) t → PutSoFar b m [] s t
+room_made {s = s} {t = t} same m = record {
+  written = record {
+    appended = nothing_appended s.told t.told m.told;
+    moved = m.at ∙ (omega arith);
+    tail = m.tail;
+    stayed = λ _. tt;
+    kept = λ _. tt;
+    room_kept = λ _. tt;
+    fits = tt;
+    room = none_fit s.room;
+    room_left = m.room ∙ no_less s.room;
+    succeeds = λ _. any_room _ s.room _ refl;
+    too_small = λ e. cc;
+    too_long = λ e _. cc;
+    failed = tt;
+    offset = λ e. cc;
+    memory = λ e. cc;
+    no_other = λ _. tt;
+    faults = m.faults;
+  };
+  promise = λ is. omega (arith, m.promise is);
+}
+
+-- room for the bytes was refused
+pub room_refused : {b : Bool} {n : ℕ} {s t : Seen} {e : GenError} (all : List ℕ) → n ≡ length all → MakesRoom b n s (Err e) t → Writes b (Unit {0}) all s (Err e) t
+room_refused {b = b} {n = n} {s = s} {t = t} {e = e} all count m =
+    let P : ℕ → Type 0 = λ k. MakesRoom b k s (Err e) t in
+    let r = subst P count m in
+    record {
+      appended = tt;
+      moved = tt;
+      tail = tt;
+      stayed = λ _. r.at;
+      kept = λ _. r.told;
+      room_kept = λ _. r.room;
+      fits = tt;
+      room = tt;
+      room_left = tt;
+      succeeds = λ _. r.succeeds;
+      too_small = r.too_small;
+      too_long = λ is _. r.too_long is;
+      failed = r.failed;
+      offset = r.offset;
+      memory = r.memory;
+      no_other = λ fixed. inl (r.no_other fixed);
+      faults = r.faults;
+    }
+
+-- more bytes were put
+pub put_more : {b : Bool} {n : ℕ} {done ys : List ℕ} {s t u : Seen} → PutSoFar b n done s t → Puts b ys t (Ok tt) u → PutSoFar b n (done ++ ys) s u
+put_more {done = xs} {ys = ys} {s = s} {t = t} {u = u} so_far new =
+    let p = so_far.written in
+    let q = new.written in
+    let sum = length-append xs ys in
+    record {
+      written = record {
+        appended = Appends-trans s.told t.told u.told xs ys p.appended q.appended;
+        moved = omega (arith, p.moved, q.moved);
+        tail = q.tail ∙ ap (drop (length ys)) p.tail ∙ drop-drop (length ys) (length xs) s.tail ∙ ap (λ n. drop n s.tail) (sym sum);
+        stayed = λ _. tt;
+        kept = λ _. tt;
+        room_kept = λ _. tt;
+        fits = tt;
+        room = both_fit s.room t.room _ _ _ sum p.room p.room_left q.room;
+        room_left = both_left s.room t.room u.room _ _ _ sum p.room_left q.room_left;
+        succeeds = λ _. any_room _ s.room _ refl;
+        too_small = λ e. cc;
+        too_long = λ e _. cc;
+        failed = tt;
+        offset = λ e. cc;
+        memory = λ e. cc;
+        no_other = λ _. tt;
+        faults = omega (arith, p.faults, q.faults);
+      };
+      promise = λ is. omega (arith, so_far.promise is, new.promise);
+    }
+
+-- a device that failed in a later call has failed since an earlier one
+failed_since : (s t u : Seen) → s.faults ≤ t.faults → HasFailed t u → HasFailed s u
+failed_since s t u before (inl more) = inl (omega arith)
+failed_since s t u before (inr most) = inr most
+
+-- more bytes were refused: then it is no buffer, since a buffer promised them
+pub refused_later : {b : Bool} {n : ℕ} {done ys : List ℕ} {s t u : Seen} {e : GenError} (all : List ℕ) → n ≡ length all → length done + length ys ≤ length all → PutSoFar b n done s t → Puts b ys t (Err e) u → Writes b (Unit {0}) all s (Err e) u
+refused_later {b = b} {n = n} {done = xs} {ys = ys} {s = s} {t = t} {u = u} {e = e} all count long so_far new =
+    let p = so_far.written in
+    let q = new.written in
+    let no_buffer : IsTrue b → ⊥ = λ is.
+    let kept : length ys ≤ t.promise = omega (arith, so_far.promise is) in
+    false≢true (new.promised kept) in
+    record {
+      appended = tt;
+      moved = tt;
+      tail = tt;
+      stayed = λ is. absurd (no_buffer is);
+      kept = λ is. absurd (no_buffer is);
+      room_kept = λ is. absurd (no_buffer is);
+      fits = tt;
+      room = tt;
+      room_left = tt;
+      succeeds = λ _. rest_fits _ s.room t.room _ _ _ long p.room_left (q.succeeds tt);
+      too_small = λ is. both_too_many s.room t.room _ _ _ long p.room p.room_left (q.too_small is);
+      too_long = λ is. q.too_long is;
+      failed = λ kind is. failed_since s t u p.faults (q.failed kind is);
+      offset = λ is. omega (arith, q.offset is, p.moved);
+      memory = λ is. q.memory is;
+      no_other = λ fixed. q.no_other (still_fixed s.room t.room _ p.room_left fixed);
+      faults = omega (arith, p.faults, q.faults);
+    }
+
+-- all bytes were put
+pub all_put : {b : Bool} {n : ℕ} {done : List ℕ} {s t : Seen} (all : List ℕ) → done ≡ all → PutSoFar b n done s t → Writes b (Unit {0}) all s (Ok tt) t
+all_put {b = b} {s = s} {t = t} all same so_far =
+    let P : List ℕ → Type 0 = λ l. Writes b (Unit {0}) l s (Ok tt) t in
+    subst P same so_far.written
+
+-- one byte more of all is left
+pub one_fits : (done rest behind all : List ℕ) (b : ℕ) → rest ≡ b ∷ behind → done ++ rest ≡ all → length done + 1 ≤ length all
+one_fits done rest behind all b is whole =
+    let long = ap length (ap (λ l. done ++ l) (sym is) ∙ whole) in
+    omega (arith, long, length-append done (b ∷ behind))

@@ -1,0 +1,34 @@
+-- A value that was read finds the room that its wire took.
+use Rattle.std.proofs.Common.{ℕ, ◌≢◌, ◌≤◌, Option, Some, None, IfSome, length, Result, true, arith}
+use Rattle.amqp_types.specs.declared.amqp_type.AMQPType.{AMQPType}
+use Rattle.amqp_types.specs.declared.amqp_type.AMQPType.TheVariants as amqp
+use Rattle.amqp_grammar.specs.Values.{Tree}
+use Rattle.amqp_grammar.specs.Texts.{text, payload, Fits}
+use Rattle.amqp_grammar.proofs.GrammarLaws.{bounded_wire, length_of_text, raw_bounds, what_raw_reads, length_of_payload}
+use Rattle.amqp_generation.specs.declared.error.GenError.{GenError}
+use Rattle.amqp_generation.specs.Outputs.{Seen, Writes}
+use Rattle.amqp_generation.specs.Written.{WritesWhatWasRead, WritesPayloadRead}
+
+-- what succeeds where n bytes fit does where more do
+in_more_room : (P : Type 0) (room : Option ℕ) (n m : ℕ) → n ≤ m → IfSome room (λ r. n ≤ r → P) → IfSome room (λ r. m ≤ r → P)
+in_more_room P None n m le h = tt
+in_more_room P (Some r) n m le h = λ fit. h (omega arith)
+
+-- what writes a value's text writes a value that was read
+pub writes_what_was_read : {v : Tree} {s t : Seen} {r : Result (Unit {0}) GenError} → Writes true (Fits v) (text v) s r t → WritesWhatWasRead v s r
+writes_what_was_read {v = v} {s = s} p = record {
+  never_too_long = λ w q e. p.too_long e (bounded_wire w v q).fits;
+  succeeds = λ w q.
+      let bound = bounded_wire w v q in
+      in_more_room _ s.room (length (text v)) (length w) (omega (arith, bound.size, length_of_text v)) (p.succeeds bound.fits);
+}
+
+-- and what writes a payload of the type, a payload that was read
+pub writes_payload_read : {type : AMQPType} {v : Tree} {s t : Seen} {r : Result (Unit {0}) GenError} → type ≢ amqp.ShortString
+    → Writes true (Fits v) (payload v) s r t → WritesPayloadRead type v s r
+writes_payload_read {type = type} {v = v} {s = s} other p = record {
+  never_too_long = λ b q e. p.too_long e (what_raw_reads type b v other q).0;
+  succeeds = λ b q.
+      let bound = raw_bounds type b v q in
+      in_more_room _ s.room (length (payload v)) (length b) (omega (arith, bound.0, length_of_payload v)) (p.succeeds (what_raw_reads type b v other q).0);
+}

@@ -1,0 +1,30 @@
+use Rattle.std.proofs.Common.{◌≡◌, true, Ok, take, replicate, ◌++◌}
+use Rattle.amqp_value_core.specs.View.{array_items, trees, table_entries}
+use Rattle.amqp_grammar.specs.Texts.{body, AllFit, AreValues}
+use Rattle.amqp_generation.specs.Outputs.{IsWhole, Writes}
+use Rattle.amqp_generation.specs.Contexts.{start_of, shown}
+use Rattle.amqp_generation.proofs.Tables.{HasPut}
+use Rattle.amqp_generation.proofs.values.+values.Given as goal
+
+abbrev pub invariant-gen_field_array-loop-v : goal.invariant-gen_field_array-loop-v
+invariant-gen_field_array-loop-v g l =
+    let seen = g.W.Output.seen in
+    let done = trees (take l.v-index l.v-items) in
+    record {
+      items : l.v-items ≡ array_items l.fn.a;
+      whole : IsWhole (shown seen l.fn.x);
+      place : l.at ≡ (shown seen l.fn.x).at;
+      written : Writes true (AllFit done) (replicate 4 0 ++ body done) (shown seen l.fn.x) (Ok tt) (shown seen l.x);
+      start : start_of l.x ≡ start_of l.fn.x;
+      values : AreValues done;
+    }
+
+abbrev pub invariant-gen_field_table-loop-k : goal.invariant-gen_field_table-loop-k
+invariant-gen_field_table-loop-k g l =
+    let seen = g.W.Output.seen in
+    record {
+      whole : IsWhole (shown seen l.fn.x);
+      place : l.at ≡ (shown seen l.fn.x).at;
+      start : start_of l.x ≡ start_of l.fn.x;
+      put : HasPut (table_entries l.fn.t) l.k-iterator (shown seen l.fn.x) (shown seen l.x);
+    }

@@ -1,0 +1,25 @@
+-- An output around a device.
+use Rattle.std.specs.Prelude.{ℕ, ◌≡◌, ◌+◌, ◌-◌, ◌^◌, ◌≤◌, ◌⊎◌, List, [], Option, None, Result, Err, OnOk, IfErr, min}
+use Rattle.std.specs.declared.io.ErrorKind.{ErrorKind}
+use Rattle.amqp_generation.specs.declared.error.GenError.{GenError}
+use Rattle.amqp_generation.specs.declared.error.GenError.TheVariants.{IoError, InvalidOffset}
+use Rattle.amqp_generation.specs.declared.device.IoOutput.{IoOutput}
+use Rattle.amqp_generation.specs.Outputs.{Seen}
+
+-- what a device's output shows, by what the device tells of the bytes that it holds
+abbrev pub seen_device : {W : Type 0} → (W → Option (List ℕ)) → IoOutput W → Seen
+seen_device contents s = record { told = contents s.device; at = s.at; room = None; promise = 0; faults = s.faults; tail = [] }
+
+-- the device
+abbrev pub device_of : {W : Type 0} → IoOutput W → W
+device_of s = s.device
+
+-- What a put of n bytes comes to at a device, beside what it is at every output.
+pub record PutsToDevice (n : ℕ) (before : Seen) (result : Result (Unit {0}) GenError) (after : Seen) : Type 0 where
+  -- it is refused before a byte goes out where the position would pass the greatest `u64`
+  pub offset : 2 ^ 64 ≤ before.at + n → (result ≡ Err InvalidOffset) × (after ≡ before)
+  -- else only the device's own failure refuses it
+  pub refused : IfErr result (λ e. (e ≡ InvalidOffset) ⊎ ((kind : ErrorKind) × (e ≡ IoError kind)))
+  -- the count of faults rises by one with each failure, up to the greatest `u64`, and with nothing else
+  pub counted : IfErr result (λ e. (kind : ErrorKind) → e ≡ IoError kind → after.faults ≡ min (before.faults + 1) (2 ^ 64 - 1))
+  pub worked : OnOk result (after.faults ≡ before.faults)

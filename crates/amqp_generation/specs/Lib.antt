@@ -1,0 +1,7 @@
+pub mod Outputs
+pub mod Slices
+pub mod Contexts
+pub mod Written
+pub mod Vectors
+pub mod Devices
+pub mod Lengths

@@ -1,0 +1,23 @@
+-- What a generator owes to a value that was read.
+use Rattle.std.specs.Prelude.{ℕ, ◌≤◌, List, length, Result, IsOk, IsErrOf}
+use Rattle.std.specs.Option.{IfSome}
+use Rattle.amqp_grammar.specs.Values.{Tree}
+use Rattle.amqp_types.specs.declared.amqp_type.AMQPType.{AMQPType}
+use Rattle.amqp_grammar.specs.Grammar.{Wire, Raw}
+use Rattle.amqp_generation.specs.declared.error.GenError.{GenError}
+use Rattle.amqp_generation.specs.declared.error.GenError.TheVariants.{LengthTooLong}
+use Rattle.amqp_generation.specs.Outputs.{Seen}
+
+-- Bytes that may be read, whichever, come to what is written: no length in it is refused, and fixed room for as many
+-- is enough.
+pub record WritesWhatIs (Is : List ℕ → Type 0) (before : Seen) (result : Result (Unit {0}) GenError) : Type 0 where
+  pub never_too_long : (w : List ℕ) → Is w → IsErrOf result LengthTooLong → ⊥
+  pub succeeds : (w : List ℕ) → Is w → IfSome before.room (λ room. length w ≤ room → IsOk result)
+
+-- so it is with a value's wires
+abbrev pub WritesWhatWasRead : Tree → Seen → Result (Unit {0}) GenError → Type 0
+WritesWhatWasRead v before result = WritesWhatIs (λ w. Wire w v) before result
+
+-- and with its payloads
+abbrev pub WritesPayloadRead : AMQPType → Tree → Seen → Result (Unit {0}) GenError → Type 0
+WritesPayloadRead type v before result = WritesWhatIs (λ b. Raw type b v) before result

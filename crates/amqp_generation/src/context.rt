@@ -1,0 +1,99 @@
+ghost use Rattle.std.specs.Prelude.{◌≡◌, ◌-◌, ◌+◌, ◌≤◌, true, ⊤, IfOk, length, replicate};
+ghost use Rattle.amqp_generation.specs.Outputs.{IsWhole, Puts, MakesRoom, Writes, answer_of, filled, GoesBack};
+ghost use Rattle.amqp_generation.specs.Contexts.{output_of, start_of, shown};
+
+use crate::{BackToTheBuffer, GenError, GenResult, Output};
+
+/// An output and the position that it had as this context was made. Each generator writes to one.
+#[derive(Drop)]
+pub struct WriteContext<W: Output> {
+    output: W,
+    start: u64,
+}
+
+impl<W: Output> From<W> for WriteContext<W> {
+    ghost use Rattle.std.specs.Prelude.{◌≡◌};
+    ghost use Rattle.amqp_generation.specs.Contexts.{output_of, start_of};
+
+    ghost from_gives = { λ w x. (output_of x ≡ w) × (start_of x ≡ (W.seen w).at) };
+
+    fn from(output: W) -> Self {
+        let start = output.position();
+        WriteContext { output, start }
+    }
+}
+
+impl<W: Output> WriteContext<W> {
+    /// How many bytes were put through this context.
+    pub fn position(&self) -> u64
+        ensures { result ≡ (shown W.seen self.now).at - start_of self.now }
+    {
+        self.output.position().saturating_sub(self.start)
+    }
+
+    /// Appends all of `bytes` to the output, or refuses.
+    pub fn put(&mut self, bytes: &[u8]) -> GenResult
+        ensures put { Puts W.is_buffer bytes.now
+            (shown W.seen self.old) result (shown W.seen self.new) }
+        ensures start { start_of self.new ≡ start_of self.old }
+    {
+        self.output.put(bytes)
+    }
+
+    // Makes room for `n` more bytes, so that a buffer won't refuse them, or refuses.
+    pub(crate) fn make_room(&mut self, n: usize) -> GenResult
+        ensures made { MakesRoom W.is_buffer n
+            (shown W.seen self.old) result (shown W.seen self.new) }
+        ensures start { start_of self.new ≡ start_of self.old }
+    {
+        self.output.make_room(n)
+    }
+
+    /// The output, and how many bytes were put through this context.
+    pub fn into_inner(self) -> (W, u64)
+        ensures output { result.0 ≡ output_of self }
+        ensures count { result.1 ≡ (shown W.seen self).at - start_of self }
+    {
+        let count = self.position();
+        (self.output, count)
+    }
+}
+
+impl<W: BackToTheBuffer> WriteContext<W> {
+    // The output's position.
+    pub(crate) fn at(&self) -> u64
+        ensures at { result ≡ (shown W.seen self.now).at }
+        ensures whole { IsWhole (shown W.seen self.now) }
+    {
+        self.output.position()
+    }
+
+    // Appends `n` bytes of 0 and answers the position before them, or refuses.
+    pub(crate) fn reserve(&mut self, n: usize) -> Result<u64, GenError>
+        ensures written { Writes true ⊤ (replicate n 0)
+            (shown W.seen self.old) (answer_of result) (shown W.seen self.new) }
+        ensures place { IfOk result (λ at. at ≡ (shown W.seen self.old).at) }
+        ensures start { start_of self.new ≡ start_of self.old }
+        ensures whole { IsWhole (shown W.seen self.old) }
+    {
+        self.output.reserve(n)
+    }
+
+    // Replaces the bytes from the output's position `at` on.
+    pub(crate) fn fill(&mut self, at: u64, bytes: &[u8])
+        requires { at + length bytes.now ≤ (shown W.seen self.old).at }
+        ensures filled { shown W.seen self.new ≡ filled (shown W.seen self.old) at bytes.now }
+        ensures start { start_of self.new ≡ start_of self.old }
+    {
+        self.output.fill(at, bytes);
+    }
+
+    // Takes back the bytes from the output's position `at` on.
+    pub(crate) fn back_to(&mut self, at: u64)
+        requires { at ≤ (shown W.seen self.old).at }
+        ensures back { GoesBack at (shown W.seen self.old) (shown W.seen self.new) }
+        ensures start { start_of self.new ≡ start_of self.old }
+    {
+        self.output.back_to(at);
+    }
+}

@@ -1,0 +1,86 @@
+ghost use Rattle.std.specs.Prelude.{◌≡◌, length, false, IsOk};
+ghost use Rattle.amqp_generation.specs.Outputs.{Puts, MakesRoom};
+ghost use Rattle.amqp_generation.specs.Devices.{seen_device, device_of, PutsToDevice};
+
+use crate::{GenError, GenResult, Output};
+use std::io::Write;
+
+/// A device as an output. It is no buffer: what a refused call had written by then stays written.
+///
+/// Its position counts the bytes of the puts that were answered `Ok`.
+#[derive(Drop)]
+pub struct IoOutput<W: Write> {
+    device: W,
+    at: u64,
+    faults: u64,
+}
+
+impl<W: Write> IoOutput<W> {
+    /// An output of the device, nothing put yet and no fault counted.
+    pub fn new(device: W) -> Self
+        ensures device { device_of result ≡ device }
+        ensures at { (seen_device W.contents result).at ≡ 0 }
+        ensures faults { (seen_device W.contents result).faults ≡ 0 }
+    {
+        IoOutput {
+            device,
+            at: 0,
+            faults: 0,
+        }
+    }
+
+    /// The device.
+    pub fn into_inner(self) -> W
+        ensures { result ≡ device_of self }
+    {
+        let IoOutput { device, .. } = self;
+        device
+    }
+}
+
+impl<W: Write> Output for IoOutput<W> {
+    ghost is_buffer = { false };
+
+    ghost seen = { seen_device W.contents };
+
+    /// Writes all of `bytes` to the device.
+    fn put(&mut self, bytes: &[u8]) -> GenResult
+        ensures put { Puts false bytes.now
+            (seen_device W.contents self.old) result (seen_device W.contents self.new) }
+        ensures device { PutsToDevice (length bytes.now)
+            (seen_device W.contents self.old) result (seen_device W.contents self.new) }
+    {
+        let Some(end) = self.at.checked_add(bytes.len() as u64) else {
+            return Err(GenError::InvalidOffset);
+        };
+        // no bytes are within every promise
+        if bytes.is_empty() {
+            return Ok(());
+        }
+        if let Err(e) = self.device.write_all(bytes) {
+            self.faults = self.faults.saturating_add(1);
+            return Err(GenError::IoError(e.kind()));
+        }
+        self.at = end;
+        Ok(())
+    }
+
+    /// Does nothing.
+    fn make_room(&mut self, n: usize) -> GenResult
+        ensures made { MakesRoom false n
+            (seen_device W.contents self.old) result (seen_device W.contents self.new) }
+        ensures ok { IsOk result }
+        ensures unchanged { self.new ≡ self.old }
+    {
+        // a device has no room to make
+        Ok(())
+    }
+
+    fn position(&self) -> u64 {
+        self.at
+    }
+
+    fn faults(&self) -> u64 {
+        self.faults
+    }
+}

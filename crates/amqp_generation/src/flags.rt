@@ -1,0 +1,27 @@
+//! The generator of flags.
+
+ghost use Rattle.std.specs.Prelude.{◌≡◌, ⊤};
+ghost use Rattle.amqp_generation.specs.Outputs.{Writes};
+ghost use Rattle.amqp_generation.specs.Contexts.{start_of, shown};
+ghost use Rattle.amqp_flags.specs.Flags.{flags_of, values_of, pack, AreFlagsReadBack};
+
+use crate::{GenResult, Output, WriteContext};
+use amqp_flags::{AMQPFlags, byte_of};
+
+/// Writes flags, eight to a byte, the first one's bit the lowest. Packs as it goes, and takes no
+/// memory of its own.
+///
+/// What is written is read back by the flags' names as the same flags, whatever follows.
+pub fn gen_flags<W: Output>(flags: &AMQPFlags, x: &mut WriteContext<W>) -> GenResult
+    ensures written { Writes W.is_buffer ⊤ (pack (values_of (flags_of flags.now)))
+        (shown W.seen x.old) result (shown W.seen x.new) }
+    ensures read_back { AreFlagsReadBack (flags_of flags.now) }
+    ensures start { start_of x.new ≡ start_of x.old }
+{
+    let all = flags.as_slice();
+    x.make_room(all.len().div_ceil(8))?;
+    for eight in all.chunks(8) {
+        x.put(&[byte_of(eight)])?;
+    }
+    Ok(())
+}

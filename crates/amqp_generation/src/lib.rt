@@ -1,0 +1,32 @@
+//! Writing values: outputs, and a generator for each type.
+//!
+//! A generator writes a value through a context over any output; one of a whole value needs a
+//! buffer. None of them asks for memory of its own.
+#![tactic(auto)]
+
+mod context;
+mod device;
+mod error;
+mod flags;
+mod output;
+mod scalars;
+mod slice;
+mod strings;
+mod values;
+mod vector;
+mod with_len;
+
+pub use context::WriteContext;
+pub use device::IoOutput;
+pub use error::{GenError, GenResult};
+pub use flags::gen_flags;
+pub use output::{BackToTheBuffer, Output};
+pub use scalars::{
+    gen_boolean, gen_decimal_value, gen_double, gen_float, gen_id, gen_long_int, gen_long_long_int,
+    gen_long_long_uint, gen_long_uint, gen_short_int, gen_short_short_int, gen_short_short_uint,
+    gen_short_uint, gen_timestamp, gen_type,
+};
+pub use slice::SliceOutput;
+pub use strings::{gen_byte_array, gen_long_string, gen_short_string};
+pub use values::{gen_field_array, gen_field_table, gen_raw_value, gen_value};
+pub use with_len::gen_with_len;

@@ -1,0 +1,100 @@
+ghost use Rattle.std.specs.Prelude.{◌≡◌, []};
+ghost use Rattle.amqp_generation.specs.Slices.{seen_slice};
+
+use crate::{BackToTheBuffer, GenError, GenResult, Output};
+use std::marker::Model;
+
+/// A slice as a buffer of fixed room, written from its front. Takes no memory.
+#[derive(Drop)]
+pub struct SliceOutput<'a> {
+    slice: &'a mut [u8],
+    at: usize,
+}
+
+impl<'a> Model for SliceOutput<'a> {
+    ghost use Rattle.std.specs.Prelude.{◌≤◌, take, drop, length};
+    ghost use Rattle.amqp_generation.specs.Slices.{Sliced};
+
+    ghost Value = { Sliced };
+
+    ghost view = { λ s. record { put = take s.at s.slice.now; tail = drop s.at s.slice.now } };
+
+    ghost invariant = { λ s. s.at ≤ length s.slice.now };
+}
+
+impl<'a> SliceOutput<'a> {
+    /// A buffer with the room of the slice, nothing put yet.
+    pub fn new(slice: &'a mut [u8]) -> Self
+        ensures { result ≡ record { put = []; tail = slice.old } }
+    {
+        SliceOutput { slice, at: 0 }
+    }
+
+    /// The bytes put.
+    pub fn written(&self) -> &[u8]
+        ensures { result.now ≡ self.now.put }
+    {
+        &self.slice[..self.at]
+    }
+}
+
+impl<'a> Output for SliceOutput<'a> {
+    ghost use Rattle.std.specs.Prelude.{true};
+
+    ghost is_buffer = { true };
+
+    ghost seen = { seen_slice };
+
+    fn put(&mut self, bytes: &[u8]) -> GenResult {
+        if bytes.len() > self.slice.len() - self.at {
+            return Err(GenError::BufferTooSmall);
+        }
+        let end = self.at + bytes.len();
+        self.slice[self.at..end].copy_from_slice(bytes);
+        self.at = end;
+        Ok(())
+    }
+
+    fn make_room(&mut self, n: usize) -> GenResult {
+        if n > self.slice.len() - self.at {
+            return Err(GenError::BufferTooSmall);
+        }
+        Ok(())
+    }
+
+    fn position(&self) -> u64 {
+        self.at as u64
+    }
+
+    fn faults(&self) -> u64 {
+        0
+    }
+}
+
+impl<'a> BackToTheBuffer for SliceOutput<'a> {
+    ghost use Rattle.std.specs.Prelude.{refl};
+
+    ghost is_one = { refl };
+
+    ghost whole = { λ s. record { told = refl; counted = refl; tail = refl } };
+
+    fn reserve(&mut self, n: usize) -> Result<u64, GenError> {
+        if n > self.slice.len() - self.at {
+            return Err(GenError::BufferTooSmall);
+        }
+        let at = self.at;
+        let end = at + n;
+        self.slice[at..end].fill(0);
+        self.at = end;
+        Ok(at as u64)
+    }
+
+    fn fill(&mut self, at: u64, bytes: &[u8]) {
+        let at = at as usize;
+        self.slice[at..at + bytes.len()].copy_from_slice(bytes);
+    }
+
+    fn back_to(&mut self, at: u64) {
+        self.at = at as usize;
+    }
+}

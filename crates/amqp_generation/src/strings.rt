@@ -1,0 +1,59 @@
+//! Generators of strings and byte arrays: a length, then the bytes.
+
+ghost use Rattle.std.specs.Prelude.{◌≡◌, ◌<◌, ◌≤◌, ◌^◌, length, Err};
+ghost use Rattle.amqp_grammar.specs.Grammar.{small, large};
+ghost use Rattle.amqp_types.specs.Bytes.{array_bytes};
+ghost use Rattle.amqp_generation.specs.Outputs.{Writes, RefusedAsLong};
+ghost use Rattle.amqp_generation.specs.Contexts.{start_of, shown};
+
+use crate::{GenError, GenResult, Output, WriteContext};
+use amqp_value_core::types::ByteArray;
+
+/// Writes a text of at most 255 bytes behind its length in one byte.
+///
+/// A longer text is refused as `LengthTooLong` before a byte is put, whatever the room.
+pub fn gen_short_string<W: Output>(s: &str, x: &mut WriteContext<W>) -> GenResult
+    ensures written { Writes W.is_buffer (length s.now ≤ 255) (small s.now)
+        (shown W.seen x.old) result (shown W.seen x.new) }
+    ensures too_long { 255 < length s.now
+        → RefusedAsLong (shown W.seen x.old) result (shown W.seen x.new) }
+    ensures start { start_of x.new ≡ start_of x.old }
+{
+    let Ok(n) = u8::try_from(s.len()) else {
+        return Err(GenError::LengthTooLong);
+    };
+    x.make_room(1 + s.len())?;
+    x.put(&[n])?;
+    x.put(s.as_bytes())
+}
+
+/// Writes at most 4294967295 bytes behind their number in four bytes.
+///
+/// More bytes are refused as `LengthTooLong` before a byte is put, whatever the room.
+pub fn gen_long_string<W: Output>(s: &[u8], x: &mut WriteContext<W>) -> GenResult
+    ensures written { Writes W.is_buffer (length s.now < 2 ^ 32) (large s.now)
+        (shown W.seen x.old) result (shown W.seen x.new) }
+    ensures too_long { 2 ^ 32 ≤ length s.now
+        → RefusedAsLong (shown W.seen x.old) result (shown W.seen x.new) }
+    ensures start { start_of x.new ≡ start_of x.old }
+{
+    let Ok(n) = u32::try_from(s.len()) else {
+        return Err(GenError::LengthTooLong);
+    };
+    x.make_room(4 + s.len())?;
+    x.put(&n.to_be_bytes())?;
+    x.put(s)
+}
+
+/// Writes at most 4294967295 bytes behind their number in four bytes.
+///
+/// More bytes are refused as `LengthTooLong` before a byte is put, whatever the room.
+pub fn gen_byte_array<W: Output>(a: &ByteArray, x: &mut WriteContext<W>) -> GenResult
+    ensures written { Writes W.is_buffer (length (array_bytes a.now) < 2 ^ 32) (large (array_bytes a.now))
+        (shown W.seen x.old) result (shown W.seen x.new) }
+    ensures too_long { 2 ^ 32 ≤ length (array_bytes a.now)
+        → RefusedAsLong (shown W.seen x.old) result (shown W.seen x.new) }
+    ensures start { start_of x.new ≡ start_of x.old }
+{
+    gen_long_string(a.as_slice(), x)
+}

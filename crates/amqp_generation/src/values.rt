@@ -1,0 +1,173 @@
+ghost use Rattle.std.specs.Prelude.{◌≡◌, ◌+◌, ◌≤◌, ℕ, List, ◌++◌, true, OnOk};
+ghost use Rattle.amqp_grammar.specs.Values.{array, table};
+ghost use Rattle.amqp_value_core.specs.View.{view, array_view, table_view};
+ghost use Rattle.amqp_types.specs.Strings.{IsShort};
+ghost use Rattle.amqp_grammar.specs.Grammar.{small};
+ghost use Rattle.amqp_grammar.specs.Texts.{text, payload, Fits, IsValue, read_back};
+ghost use Rattle.amqp_grammar.specs.Outcomes.{Outcome};
+ghost use Rattle.amqp_grammar.specs.Headline.{IsShortest, TellsApart, IsCanonical};
+ghost use Rattle.amqp_generation.specs.Outputs.{Writes, FillsLength};
+ghost use Rattle.amqp_generation.specs.Written.{WritesWhatWasRead, WritesPayloadRead};
+ghost use Rattle.amqp_generation.specs.Contexts.{start_of, shown};
+
+use crate::{
+    BackToTheBuffer, GenError, GenResult, WriteContext, gen_boolean, gen_byte_array,
+    gen_decimal_value, gen_long_int, gen_long_long_int, gen_long_long_uint, gen_long_string,
+    gen_long_uint, gen_short_int, gen_short_short_int, gen_short_short_uint, gen_short_string,
+    gen_short_uint, gen_timestamp, gen_type,
+};
+use amqp_value_core::types::{AMQPType, DecimalValue, FieldArray, FieldTable, ShortString};
+use amqp_value_core::value::AMQPValue;
+
+/// Writes a value: the id of its type, then its payload.
+///
+/// What is written is the value's one text: a shortest wire, which no other value has. Where the
+/// value was read, room for as many bytes as it was read from is enough.
+#[tactic(auto, using(amqp_grammar::proofs::GrammarLaws::reading_back, amqp_grammar::proofs::GrammarLaws::is_shortest, amqp_grammar::proofs::GrammarLaws::tells_apart, amqp_grammar::proofs::GrammarLaws::is_canonical, crate::proofs::WhatWasRead::writes_what_was_read))]
+pub fn gen_value<W: BackToTheBuffer>(v: &AMQPValue, x: &mut WriteContext<W>) -> GenResult
+    ensures written { Writes true (Fits (view v.now)) (text (view v.now))
+        (shown W.seen x.old) result (shown W.seen x.new) }
+    ensures start { start_of x.new ≡ start_of x.old }
+    ensures value { OnOk result (IsValue (view v.now)) }
+    ensures read_back { OnOk result ((rest : List ℕ) →
+        Outcome (text (view v.now) ++ rest) (read_back (view v.now) rest)) }
+    ensures of_a_wire { WritesWhatWasRead (view v.now) (shown W.seen x.old) result }
+    ensures shortest { IsShortest (view v.now) }
+    ensures tells_apart { TellsApart (view v.now) }
+    ensures canonical { OnOk result (IsCanonical (view v.now)) }
+{
+    write_value(v, x)
+}
+
+// Writes a value, for `gen_value` and for the containers that it stands in.
+#[cycle(values)]
+fn write_value<W: BackToTheBuffer>(v: &AMQPValue, x: &mut WriteContext<W>) -> GenResult
+    ensures written { Writes true (Fits (view v.now)) (text (view v.now))
+        (shown W.seen x.old) result (shown W.seen x.new) }
+    ensures start { start_of x.new ≡ start_of x.old }
+    ensures value { OnOk result (IsValue (view v.now)) }
+{
+    let at = x.at();
+    gen_type(v.get_type(), x)?;
+    if let Err(e) = gen_raw_value(v, x) {
+        x.back_to(at);
+        return Err(e);
+    }
+    Ok(())
+}
+
+/// Writes a value's payload, without the id of its type.
+#[cycle(values)]
+pub fn gen_raw_value<W: BackToTheBuffer>(v: &AMQPValue, x: &mut WriteContext<W>) -> GenResult
+    ensures written { Writes true (Fits (view v.now)) (payload (view v.now))
+        (shown W.seen x.old) result (shown W.seen x.new) }
+    ensures start { start_of x.new ≡ start_of x.old }
+    ensures value { OnOk result (IsValue (view v.now)) }
+{
+    match v {
+        AMQPValue::Boolean(b) => gen_boolean(*b, x),
+        AMQPValue::ShortShortInt(n) => gen_short_short_int(*n, x),
+        AMQPValue::ShortShortUInt(n) => gen_short_short_uint(*n, x),
+        AMQPValue::ShortInt(n) => gen_short_int(*n, x),
+        AMQPValue::ShortUInt(n) => gen_short_uint(*n, x),
+        AMQPValue::LongInt(n) => gen_long_int(*n, x),
+        AMQPValue::LongUInt(n) => gen_long_uint(*n, x),
+        AMQPValue::LongLongInt(n) => gen_long_long_int(*n, x),
+        AMQPValue::Float(f) => gen_long_uint(f.to_bits(), x),
+        AMQPValue::Double(f) => gen_long_long_uint(f.to_bits(), x),
+        AMQPValue::DecimalValue(d) => {
+            // each part read on its own shows its range
+            let DecimalValue { scale, value } = d;
+            let (scale, value) = (*scale, *value);
+            gen_decimal_value(DecimalValue { scale, value }, x)
+        }
+        AMQPValue::ShortString(s) => gen_short_string(s.as_str(), x),
+        AMQPValue::LongString(s) => gen_long_string(s.as_bytes(), x),
+        AMQPValue::FieldArray(a) => gen_field_array(a, x),
+        AMQPValue::Timestamp(n) => gen_timestamp(*n, x),
+        AMQPValue::FieldTable(t) => gen_field_table(t, x),
+        AMQPValue::ByteArray(a) => gen_byte_array(a, x),
+        AMQPValue::Void => Ok(()),
+    }
+}
+
+/// Writes an array's values, each with its id, behind the number of bytes that they take.
+#[cycle(values)]
+#[tactic(auto, using(crate::proofs::WhatWasRead::writes_payload_read))]
+pub fn gen_field_array<W: BackToTheBuffer>(a: &FieldArray, x: &mut WriteContext<W>) -> GenResult
+    ensures written { Writes true (Fits (array (array_view a.now)))
+        (payload (array (array_view a.now)))
+        (shown W.seen x.old) result (shown W.seen x.new) }
+    ensures start { start_of x.new ≡ start_of x.old }
+    ensures value { OnOk result (IsValue (array (array_view a.now))) }
+    ensures of_a_wire { WritesPayloadRead AMQPType.FieldArray (array (array_view a.now))
+        (shown W.seen x.old) result }
+{
+    let at = x.reserve(4)?;
+    for v in a.as_slice() {
+        if let Err(e) = write_value(v, x) {
+            x.back_to(at);
+            return Err(e);
+        }
+    }
+    fill_length(at, x)
+}
+
+/// Writes a table's entries, each its key as a short string and its value with its id, in the order
+/// of the keys' bytes, behind the number of bytes that they take.
+#[cycle(values)]
+#[tactic(auto, using(crate::proofs::WhatWasRead::writes_payload_read))]
+pub fn gen_field_table<W: BackToTheBuffer>(t: &FieldTable, x: &mut WriteContext<W>) -> GenResult
+    ensures written { Writes true (Fits (table (table_view t.now)))
+        (payload (table (table_view t.now)))
+        (shown W.seen x.old) result (shown W.seen x.new) }
+    ensures start { start_of x.new ≡ start_of x.old }
+    ensures value { OnOk result (IsValue (table (table_view t.now))) }
+    ensures of_a_wire { WritesPayloadRead AMQPType.FieldTable (table (table_view t.now))
+        (shown W.seen x.old) result }
+{
+    let at = x.reserve(4)?;
+    for (k, v) in t.inner().iter() {
+        if let Err(e) = gen_entry(k, v, x) {
+            x.back_to(at);
+            return Err(e);
+        }
+    }
+    fill_length(at, x)
+}
+
+// Writes an entry of a table: its key as a short string, then its value with its id.
+#[cycle(values)]
+fn gen_entry<W: BackToTheBuffer>(
+    k: &ShortString,
+    v: &AMQPValue,
+    x: &mut WriteContext<W>,
+) -> GenResult
+    ensures written { Writes true (Fits (view v.now)) (small k.now ++ text (view v.now))
+        (shown W.seen x.old) result (shown W.seen x.new) }
+    ensures start { start_of x.new ≡ start_of x.old }
+    ensures key { IsShort k.now }
+    ensures value { OnOk result (IsValue (view v.now)) }
+{
+    let at = x.at();
+    gen_short_string(k.as_str(), x)?;
+    if let Err(e) = write_value(v, x) {
+        x.back_to(at);
+        return Err(e);
+    }
+    Ok(())
+}
+
+// Fills in how many bytes stand behind the four from `at` on, or takes all from `at` on back.
+pub(super) fn fill_length<W: BackToTheBuffer>(at: u64, x: &mut WriteContext<W>) -> GenResult
+    requires { at + 4 ≤ (shown W.seen x.old).at }
+    ensures filled { FillsLength at (shown W.seen x.old) result (shown W.seen x.new) }
+    ensures start { start_of x.new ≡ start_of x.old }
+{
+    let Ok(n) = u32::try_from(x.at() - at - 4) else {
+        x.back_to(at);
+        return Err(GenError::LengthTooLong);
+    };
+    x.fill(at, &n.to_be_bytes());
+    Ok(())
+}

@@ -1,0 +1,122 @@
+-- Reading as a function and as a relation are the same.
+use Rattle.std.proofs.Common.{ℕ, suc, zero, ◌≡◌, ◌∙◌, ◌↔◌, sym, refl, subst, Option, Some, None, List, [], ◌∷◌, ◌++◌, length, arith, length-append}
+use Rattle.std.specs.Prelude.{MatchOption}
+use Rattle.amqp_types.specs.declared.amqp_type.AMQPType.{AMQPType}
+use Rattle.amqp_grammar.specs.Values.{Tree}
+use Rattle.amqp_types.specs.Ids.{kind}
+use Rattle.amqp_grammar.specs.Grammar.{Wire, Raw}
+use Rattle.amqp_grammar.specs.Nesting.{WireWithin, RawWithin, OutcomeWithin}
+use Rattle.amqp_input.specs.Inputs.{IsBytes}
+use Rattle.amqp_grammar.specs.Outcomes.{Reading, found, more, unknown, malformed, Unless, lack, FrontBy, Front, Outcome, RawOutcome}
+use Rattle.amqp_grammar.specs.Decode.{outcome_by, meaning, outcome, raw_outcome}
+use Rattle.amqp_grammar.proofs.Found.{found_wire, found_raw}
+use Rattle.amqp_grammar.proofs.Limited.{one_outcome_within}
+use Rattle.amqp_grammar.proofs.Nests.{nesting-le, raw_nesting-le}
+use Rattle.amqp_grammar.proofs.Sound.{Ends, WireEnds, unless_weaker, raw_ends, wire_ends, means_spelled}
+
+-- a wire at the front is the outcome
+outcome_at : (s w rest : List ℕ) (v : Tree) → Wire w v → s ≡ w ++ rest → outcome s ≡ found v rest
+outcome_at s w rest v p is =
+    subst (λ x. outcome x ≡ found v rest) (sym is) (found_wire (length (w ++ rest)) w rest v p (omega (arith, nesting-le w v p, length-append w rest)))
+
+-- so is a payload
+raw_outcome_at : (type : AMQPType) (s b rest : List ℕ) (v : Tree) → Raw type b v → s ≡ b ++ rest → raw_outcome type s ≡ found v rest
+raw_outcome_at type s b rest v p is =
+    subst (λ x. raw_outcome type x ≡ found v rest) (sym is) (found_raw (length (b ++ rest)) type b rest v p (omega (arith, raw_nesting-le type b v p, length-append b rest)))
+
+-- where each P at the front is the outcome, a refusal says that there is none
+front_by : (P Q : List ℕ → Tree → Type 0) (s : List ℕ) (o : Reading) → ((w rest : List ℕ) (v : Tree) → P w v → s ≡ w ++ rest → o ≡ found v rest)
+    → ((w : List ℕ) (v : Tree) → Q w v → P w v) → Ends Q s o → FrontBy P s o
+front_by P Q s (found v rest) finds forget (w, q, is) = (w, forget w v q, is)
+front_by P Q s malformed finds forget ends = λ w rest v p is. let e = finds w rest v p is in cc
+front_by P Q s (more n) finds forget ends = ends
+front_by P Q s unknown finds forget ends = ends
+
+-- two outcomes of one list are one, where each P at the front is the second
+same_front : (P : List ℕ → Tree → Type 0) (s : List ℕ) (o p : Reading) → ((w rest : List ℕ) (v : Tree) → P w v → s ≡ w ++ rest → p ≡ found v rest)
+    → FrontBy P s o → FrontBy P s p → o ≡ p
+same_front P s (found v rest) p finds (w, q, is) there = sym (finds w rest v q is)
+same_front P s malformed malformed finds none there = refl
+same_front P s malformed (found v rest) finds none (w, q, is) = absurd (none w rest v q is)
+same_front P s malformed (more n) finds none there = absurd there
+same_front P s malformed unknown finds none there = absurd there
+same_front P s (more n) p finds here there = absurd here
+same_front P s unknown p finds here there = absurd here
+
+-- two outcomes are one, if they are where no byte lacks
+same_unless : (n : ℕ) (P Q : Type 0) (o p : Reading) → (P → Q → o ≡ p) → Unless n P o → Unless n Q p → o ≡ p
+same_unless zero P Q o p same here there = same here there
+same_unless (suc n) P Q o p same here there = here ∙ sym there
+
+-- reading a payload comes to what the function says
+pub raw_outcome_holds : (type : AMQPType) (s : List ℕ) → IsBytes s → RawOutcome type s (raw_outcome type s)
+raw_outcome_holds type s bytes =
+    unless_weaker (lack type s) _ _ (raw_outcome type s)
+    (front_by (Raw type) (RawWithin (length s) type) s (raw_outcome type s) (raw_outcome_at type s) (λ b v q. q.0))
+    (raw_ends (length s) (meaning (length s)) (means_spelled (length s)) type s bytes)
+
+-- and to nothing else
+raw_outcome_only : (type : AMQPType) (s : List ℕ) (o : Reading) → IsBytes s → RawOutcome type s o → o ≡ raw_outcome type s
+raw_outcome_only type s o bytes here =
+    same_unless (lack type s) _ _ o (raw_outcome type s) (same_front (Raw type) s o (raw_outcome type s) (raw_outcome_at type s)) here (raw_outcome_holds type s bytes)
+
+-- reading that finds wires alone, and each wire at the front, comes to this outcome
+outcome_by_ends : (depth : ℕ) (s : List ℕ) (o : Reading) → ((w rest : List ℕ) (v : Tree) → Wire w v → s ≡ w ++ rest → o ≡ found v rest)
+    → WireEnds depth s o → Outcome s o
+outcome_by_ends depth [] o finds ends = ends
+outcome_by_ends depth (c ∷ b) o finds ends = at_kind (kind c) ends where
+  at_kind : (k : Option AMQPType) → MatchOption k (o ≡ unknown) (λ type. Unless (lack type b) (Ends (WireWithin depth) (c ∷ b) o) o)
+      → MatchOption k (o ≡ unknown) (λ type. Unless (lack type b) (Front (c ∷ b) o) o)
+  at_kind None is = is
+  at_kind (Some type) ends = unless_weaker (lack type b) _ _ o (front_by Wire (WireWithin depth) (c ∷ b) o finds (λ w v q. q.0)) ends
+
+-- two outcomes of one list are one, where each wire at the front is the second
+same_outcome : (s : List ℕ) (o p : Reading) → ((w rest : List ℕ) (v : Tree) → Wire w v → s ≡ w ++ rest → p ≡ found v rest)
+    → Outcome s o → Outcome s p → o ≡ p
+same_outcome [] o p finds here there = here ∙ sym there
+same_outcome (c ∷ b) o p finds here there = at_kind (kind c) here there where
+  at_kind : (k : Option AMQPType) → MatchOption k (o ≡ unknown) (λ type. Unless (lack type b) (Front (c ∷ b) o) o)
+      → MatchOption k (p ≡ unknown) (λ type. Unless (lack type b) (Front (c ∷ b) p) p) → o ≡ p
+  at_kind None here there = here ∙ sym there
+  at_kind (Some type) here there = same_unless (lack type b) _ _ o p (same_front Wire (c ∷ b) o p finds) here there
+
+-- reading a value comes to what the function says
+pub outcome_holds : (s : List ℕ) → IsBytes s → Outcome s (outcome s)
+outcome_holds s bytes =
+    outcome_by_ends (length s) s (outcome s) (outcome_at s) (wire_ends (length s) (meaning (length s)) (means_spelled (length s)) s bytes)
+
+-- and to nothing else
+outcome_only : (s : List ℕ) (o : Reading) → IsBytes s → Outcome s o → o ≡ outcome s
+outcome_only s o bytes here = same_outcome s o (outcome s) (outcome_at s) here (outcome_holds s bytes)
+
+-- the relation is the function
+pub outcome_is : (s : List ℕ) (o : Reading) → IsBytes s → Outcome s o ↔ (o ≡ outcome s)
+outcome_is s o bytes = (outcome_only s o bytes, λ is. subst (Outcome s) (sym is) (outcome_holds s bytes))
+
+-- of payloads too
+pub raw_outcome_is : (type : AMQPType) (s : List ℕ) (o : Reading) → IsBytes s → RawOutcome type s o ↔ (o ≡ raw_outcome type s)
+raw_outcome_is type s o bytes = (raw_outcome_only type s o bytes, λ is. subst (RawOutcome type s) (sym is) (raw_outcome_holds type s bytes))
+
+-- ---- within a depth
+
+-- the function finds each wire that nests no deeper
+within_at : (d : ℕ) (s w rest : List ℕ) (v : Tree) → WireWithin d w v → s ≡ w ++ rest → outcome_by (meaning d) s ≡ found v rest
+within_at d s w rest v p is = subst (λ x. outcome_by (meaning d) x ≡ found v rest) (sym is) (found_wire d w rest v p.0 p.1)
+
+within_by_ends : (d : ℕ) (s : List ℕ) (o : Reading) → ((w rest : List ℕ) (v : Tree) → WireWithin d w v → s ≡ w ++ rest → o ≡ found v rest)
+    → WireEnds d s o → OutcomeWithin d s o
+within_by_ends d [] o finds ends = ends
+within_by_ends d (c ∷ b) o finds ends = at_kind (kind c) ends where
+  at_kind : (k : Option AMQPType) → MatchOption k (o ≡ unknown) (λ type. Unless (lack type b) (Ends (WireWithin d) (c ∷ b) o) o)
+      → MatchOption k (o ≡ unknown) (λ type. Unless (lack type b) (FrontBy (WireWithin d) (c ∷ b) o) o)
+  at_kind None is = is
+  at_kind (Some type) ends = unless_weaker (lack type b) _ _ o (front_by (WireWithin d) (WireWithin d) (c ∷ b) o finds (λ w v q. q)) ends
+
+-- reading within a depth comes to what the function says, with containers at most so deep
+pub within_holds : (d : ℕ) (s : List ℕ) → IsBytes s → OutcomeWithin d s (outcome_by (meaning d) s)
+within_holds d s bytes = within_by_ends d s (outcome_by (meaning d) s) (within_at d s) (wire_ends d (meaning d) (means_spelled d) s bytes)
+
+-- and to nothing else
+pub within_is : (d : ℕ) (s : List ℕ) (o : Reading) → IsBytes s → OutcomeWithin d s o ↔ (o ≡ outcome_by (meaning d) s)
+within_is d s o bytes =
+    (λ x. one_outcome_within d s o (outcome_by (meaning d) s) x (within_holds d s bytes), λ is. subst (OutcomeWithin d s) (sym is) (within_holds d s bytes))

@@ -1,0 +1,140 @@
+-- Bounds: a wire has at least as many bytes as its value's text, one for each value in it, and five for each container.
+use Rattle.std.proofs.Common.{◌≡◌, ◌≤◌, ◌+◌, ◌*◌, ℕ, suc, max, List, ◌++◌, length, Option, Some, refl, subst, arith, length-append}
+use Rattle.std.specs.Option.{IfSome}
+use Rattle.std.specs.Ordering.{nat_cmp, match_ordering}
+use Rattle.std.specs.Cmp.Lexicographic.{slice_cmp}
+use Rattle.std.specs.declared.cmp.Ordering.{Ordering}
+use Rattle.std.specs.declared.cmp.Ordering.TheVariants.{Less, Equal, Greater}
+use Rattle.amqp_types.specs.declared.amqp_type.AMQPType.{AMQPType}
+use Rattle.amqp_types.specs.declared.amqp_type.AMQPType.TheVariants as amqp
+use Rattle.amqp_grammar.specs.Values.{Tree, Trees, Entries, no_entries, entry, scalar_type, put, onto, depth, greatest_depth, entries_depth, count, count_all, entries_count}
+use Rattle.amqp_grammar.specs.Layouts.{Layout, fixed, width_of}
+use Rattle.amqp_grammar.specs.Grammar.{Wire, wire, Raw, raw_fixed, raw_short, raw_long, raw_octets, raw_array, raw_table, Body, no_values, value, Pairs, no_pairs, pair}
+use Rattle.amqp_grammar.specs.Texts.{size, body_size, pairs_size}
+
+-- ---- entries that are put
+
+-- size, count and depth of some entries are at most these
+pub record Within (bytes values deep : ℕ) (es : Entries) : Type 0 where
+  pub size : pairs_size es ≤ bytes
+  pub count : entries_count es ≤ values
+  pub depth : entries_depth es ≤ deep
+
+-- entries grow by no more than is put
+put_within : (k : List ℕ) (v : Tree) (es : Entries)
+    → Within (1 + length k + (size v + pairs_size es)) (count v + entries_count es) (max (depth v) (entries_depth es)) (put k v es)
+put_within k v no_entries = record { size = omega arith; count = omega arith; depth = omega arith }
+put_within k v (entry j u es) = by (slice_cmp nat_cmp k j) (put_within k v es)
+  where
+    by : (o : Ordering)
+        → Within (1 + length k + (size v + pairs_size es)) (count v + entries_count es) (max (depth v) (entries_depth es)) (put k v es)
+        → Within (1 + length k + (size v + pairs_size (entry j u es))) (count v + entries_count (entry j u es)) (max (depth v) (entries_depth (entry j u es)))
+        (match_ordering o (entry k v (entry j u es)) (entry j v es) (entry j u (put k v es)))
+    by Less inner = record { size = omega arith; count = omega arith; depth = omega arith }
+    by Equal inner = record { size = omega arith; count = omega arith; depth = omega arith }
+    by Greater inner = record { size = omega arith; count = omega arith; depth = omega arith }
+
+-- so they do where pairs are put one after another
+pub onto_within : (ps es : Entries)
+    → Within (pairs_size ps + pairs_size es) (entries_count ps + entries_count es) (max (entries_depth ps) (entries_depth es)) (onto es ps)
+onto_within no_entries es = record { size = omega arith; count = omega arith; depth = omega arith }
+onto_within (entry k v ps) es =
+    let first = put_within k v es in
+    let all = onto_within ps (put k v es) in
+    record { size = omega (arith, first.size, all.size); count = omega (arith, first.count, all.count); depth = omega (arith, first.depth, all.depth) }
+
+-- ---- values of fixed width
+
+-- each row's width is that of what its bytes mean
+abbrev IsWide : Option Layout → Type 0
+IsWide o = IfSome o (λ f. (b : List ℕ) → width_of (scalar_type (f.meaning b)) ≡ f.width)
+
+rows_wide : (type : AMQPType) → IsWide (fixed type)
+rows_wide amqp.ShortString = tt
+rows_wide amqp.LongString = tt
+rows_wide amqp.ByteArray = tt
+rows_wide amqp.FieldArray = tt
+rows_wide amqp.FieldTable = tt
+rows_wide _ = λ b. refl
+
+row_wide : (type : AMQPType) (f : Layout) (b : List ℕ) → fixed type ≡ Some f → width_of (scalar_type (f.meaning b)) ≡ f.width
+row_wide type f b row = subst IsWide row (rows_wide type) b
+
+-- ---- wires
+
+-- a size, a count and five times a depth are at most n
+record Bounded (n bytes values deep : ℕ) : Type 0 where
+  pub size : bytes ≤ n
+  pub count : values ≤ n
+  pub depth : 5 * deep ≤ n
+
+mutual
+  -- a wire is as long as its value is large
+  wire_bounded : (w : List ℕ) (v : Tree) → Wire w v → Bounded (length w) (size v) (count v) (depth v)
+  wire_bounded _ _ (wire c type b v k p) = raw_bounded type b v p
+
+  -- and a payload one byte less
+  raw_bounded : (type : AMQPType) (b : List ℕ) (v : Tree) → Raw type b v → Bounded (suc (length b)) (size v) (count v) (depth v)
+  raw_bounded _ _ _ (raw_fixed type f b row len) =
+      record { size = omega (arith, row_wide type f b row); count = omega arith; depth = omega arith }
+  raw_bounded _ _ _ (raw_short s is) = record { size = omega arith; count = omega arith; depth = omega arith }
+  raw_bounded _ _ _ (raw_long s fits) = record { size = omega arith; count = omega arith; depth = omega arith }
+  raw_bounded _ _ _ (raw_octets s fits) = record { size = omega arith; count = omega arith; depth = omega arith }
+  raw_bounded _ _ _ (raw_array body vs fits all) =
+      let inner = body_bounded body vs all in
+      record { size = omega (arith, inner.size); count = omega (arith, inner.count); depth = omega (arith, inner.depth) }
+  raw_bounded _ _ _ (raw_table body ps fits all) =
+      let inner = pairs_bounded body ps all in
+      let kept = onto_within ps no_entries in
+      record {
+        size = omega (arith, inner.size, kept.size);
+        count = omega (arith, inner.count, kept.count);
+        depth = omega (arith, inner.depth, kept.depth);
+      }
+
+  -- an array's body is as long as its values are large
+  body_bounded : (body : List ℕ) (vs : Trees) → Body body vs → Bounded (length body) (body_size vs) (count_all vs) (greatest_depth vs)
+  body_bounded _ _ no_values = record { size = omega arith; count = omega arith; depth = omega arith }
+  body_bounded _ _ (value w more v vs p all) =
+      let first = wire_bounded w v p in
+      let others = body_bounded more vs all in
+      let long = length-append w more in
+      record {
+        size = omega (arith, long, first.size, others.size);
+        count = omega (arith, long, first.count, others.count);
+        depth = omega (arith, long, first.depth, others.depth);
+      }
+
+  -- and a table's is as long as its pairs are
+  pairs_bounded : (body : List ℕ) (ps : Entries) → Pairs body ps → Bounded (length body) (pairs_size ps) (entries_count ps) (entries_depth ps)
+  pairs_bounded _ _ no_pairs = record { size = omega arith; count = omega arith; depth = omega arith }
+  pairs_bounded _ _ (pair k w more v ps is p all) =
+      let first = wire_bounded w v p in
+      let others = pairs_bounded more ps all in
+      let key = length-append k (w ++ more) in
+      let long = length-append w more in
+      record {
+        size = omega (arith, key, long, first.size, others.size);
+        count = omega (arith, key, long, first.count, others.count);
+        depth = omega (arith, key, long, first.depth, others.depth);
+      }
+
+-- what a table holds is no larger than the pairs that it was read from
+pub table_size : (body : List ℕ) (ps : Entries) → Pairs body ps → pairs_size (onto no_entries ps) ≤ length body
+table_size body ps all = omega (arith, (onto_within ps no_entries).size, (pairs_bounded body ps all).size)
+
+pub array_size : (body : List ℕ) (vs : Trees) → Body body vs → body_size vs ≤ length body
+array_size body vs all = (body_bounded body vs all).size
+
+-- the bounds of a wire
+pub bounds : (w : List ℕ) (v : Tree) → Wire w v → (size v ≤ length w) × (count v ≤ length w) × (5 * depth v ≤ length w)
+bounds w v p =
+    let b = wire_bounded w v p in
+    (b.size, b.count, b.depth)
+
+-- and of a payload, which has no id
+pub raw_bounds : (type : AMQPType) (b : List ℕ) (v : Tree) → Raw type b v
+    → (size v ≤ length b + 1) × (count v ≤ length b + 1) × (5 * depth v ≤ length b + 1)
+raw_bounds type b v p =
+    let r = raw_bounded type b v p in
+    (omega (arith, r.size), omega (arith, r.count), omega (arith, r.depth))

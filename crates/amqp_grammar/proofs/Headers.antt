@@ -1,0 +1,142 @@
+-- Headers: how many bytes a payload has is known from its type or its length field alone.
+use Rattle.std.proofs.Common.{◌≡◌, ℕ, ◌+◌, ◌-◌, ◌^◌, ◌<◌, ◌≤◌, List, ◌++◌, length, Option, Some, None, refl, sym, ap, ◌∙◌, arith, inl, inr, length-append}
+use Rattle.std.specs.Int.{Width, w8, w32, byte_len}
+use Rattle.std.specs.Option.{IfSome}
+use Rattle.std.proofs.lemmas.Bool.{cases_lt, lt-ltb, le-ltb}
+use Rattle.std.proofs.lemmas.List.{take-append-le}
+use Rattle.std.proofs.lemmas.Nat.{from_be_bytes-to_be_bytes_4}
+use Rattle.amqp_types.specs.declared.amqp_type.AMQPType.{AMQPType}
+use Rattle.amqp_types.specs.declared.amqp_type.AMQPType.TheVariants as amqp
+use Rattle.amqp_grammar.specs.Values.{Tree}
+use Rattle.amqp_grammar.specs.Layouts.{Layout, fixed}
+use Rattle.amqp_types.specs.Strings.{IsShort}
+use Rattle.amqp_grammar.specs.Grammar.{small, large, Raw, raw_fixed, raw_short, raw_long, raw_octets, raw_array, raw_table}
+use Rattle.amqp_grammar.specs.Outcomes.{length_field, counted, frame_lack, fields_lack, lack_of, lack}
+
+-- how many bytes a payload of the layout has, or one with a length field
+abbrev pub extent_of : Option Layout → Width → List ℕ → ℕ
+extent_of (Some f) w b = f.width
+extent_of None w b = byte_len w + counted w b
+
+-- how many bytes a payload of the type has, by the header alone
+abbrev pub extent : AMQPType → List ℕ → ℕ
+extent type b = extent_of (fixed type) (length_field type) b
+
+-- the first field of a layout is within it
+abbrev FirstWithin : Option Layout → Type 0
+FirstWithin o = IfSome o (λ f. f.first ≤ f.width)
+
+-- so it is in every row of the table
+first_within : (type : AMQPType) → FirstWithin (fixed type)
+first_within amqp.ShortString = tt
+first_within amqp.LongString = tt
+first_within amqp.ByteArray = tt
+first_within amqp.FieldArray = tt
+first_within amqp.FieldTable = tt
+first_within _ = omega arith
+
+-- what a first field lacks that is cut short
+fields_lack_cut : (f : Layout) (b : List ℕ) → length b < f.first → fields_lack f b ≡ f.first - length b
+fields_lack_cut f b lt = rw (lt-ltb (length b) f.first lt) refl
+
+-- what the fields lack whose first one is whole
+fields_lack_known : (f : Layout) (b : List ℕ) → f.first ≤ length b → fields_lack f b ≡ f.width - length b
+fields_lack_known f b le = rw (le-ltb (length b) f.first le) refl
+
+-- what a length field lacks that is cut short
+frame_lack_cut : (w : Width) (b : List ℕ) → length b < byte_len w → frame_lack w b ≡ byte_len w - length b
+frame_lack_cut w b lt = rw (lt-ltb (length b) (byte_len w) lt) refl
+
+-- what a frame lacks whose length field is whole
+frame_lack_known : (w : Width) (b : List ℕ) → byte_len w ≤ length b → frame_lack w b ≡ byte_len w + counted w b - length b
+frame_lack_known w b le = rw (le-ltb (length b) (byte_len w) le) refl
+
+-- bytes behind a whole length field don't change its number
+counted-append : (w : Width) (b t : List ℕ) → byte_len w ≤ length b → counted w (b ++ t) ≡ counted w b
+counted-append w b t le = rw (take-append-le (byte_len w) b t le) refl
+
+-- a frame that lacks nothing reaches its extent
+extent_of-whole : (o : Option Layout) (w : Width) (b : List ℕ) → lack_of o w b ≡ 0 → extent_of o w b ≤ length b
+extent_of-whole (Some f) w b e = elim (cases_lt (length b) f.first) [
+  | inl cut ↦ absurd (omega (arith, fields_lack_cut f b cut))
+  | inr known ↦ omega (arith, fields_lack_known f b known)
+]
+extent_of-whole None w b e = elim (cases_lt (length b) (byte_len w)) [
+  | inl cut ↦ absurd (omega (arith, frame_lack_cut w b cut))
+  | inr known ↦ omega (arith, frame_lack_known w b known)
+]
+
+-- a frame that reaches its extent lacks nothing
+lack_of-none : (o : Option Layout) (w : Width) (b : List ℕ) → FirstWithin o → extent_of o w b ≤ length b → lack_of o w b ≡ 0
+lack_of-none (Some f) w b within le = omega (arith, fields_lack_known f b (omega arith))
+lack_of-none None w b within le = omega (arith, frame_lack_known w b (omega arith))
+
+-- more bytes behind a whole frame don't change its extent
+extent_of-append : (o : Option Layout) (w : Width) (b t : List ℕ) → lack_of o w b ≡ 0 → extent_of o w (b ++ t) ≡ extent_of o w b
+extent_of-append (Some f) w b t e = refl
+extent_of-append None w b t e = ap (λ n. byte_len w + n) (counted-append w b t (omega (arith, extent_of-whole None w b e)))
+
+-- fewer bytes than a field lacks are what it lacks less
+lack_of-append : (o : Option Layout) (w : Width) (b t : List ℕ) → length t < lack_of o w b → lack_of o w (b ++ t) ≡ lack_of o w b - length t
+lack_of-append (Some f) w b t lt = elim (cases_lt (length b) f.first) [
+  | inl cut ↦
+      let first = fields_lack_cut f b cut in
+      omega (arith, first, length-append b t, fields_lack_cut f (b ++ t) (omega (arith, first, length-append b t)))
+  | inr known ↦
+      omega (arith, length-append b t, fields_lack_known f b known, fields_lack_known f (b ++ t) (omega (arith, length-append b t)))
+]
+lack_of-append None w b t lt = elim (cases_lt (length b) (byte_len w)) [
+  | inl cut ↦
+      let whole = frame_lack_cut w b cut in
+      omega (arith, whole, length-append b t, frame_lack_cut w (b ++ t) (omega (arith, whole, length-append b t)))
+  | inr known ↦
+      omega (arith, length-append b t, counted-append w b t known, frame_lack_known w b known, frame_lack_known w (b ++ t) (omega (arith, length-append b t)))
+]
+
+-- a whole frame reaches its extent
+pub extent-whole : (type : AMQPType) (b : List ℕ) → lack type b ≡ 0 → extent type b ≤ length b
+extent-whole type b e = extent_of-whole (fixed type) (length_field type) b e
+
+-- a frame that reaches its extent is whole
+pub lack-none : (type : AMQPType) (b : List ℕ) → extent type b ≤ length b → lack type b ≡ 0
+lack-none type b le = lack_of-none (fixed type) (length_field type) b (first_within type) le
+
+-- more bytes behind a whole frame don't change its extent
+pub extent-append : (type : AMQPType) (b t : List ℕ) → lack type b ≡ 0 → extent type (b ++ t) ≡ extent type b
+extent-append type b t e = extent_of-append (fixed type) (length_field type) b t e
+
+-- a whole frame stays whole
+pub lack-whole : (type : AMQPType) (b t : List ℕ) → lack type b ≡ 0 → lack type (b ++ t) ≡ 0
+lack-whole type b t e =
+    lack-none type (b ++ t) (omega (arith, extent-append type b t e, extent-whole type b e, length-append b t))
+
+-- fewer bytes than lack leave the others lacking
+pub lack-append : (type : AMQPType) (b t : List ℕ) → length t < lack type b → lack type (b ++ t) ≡ lack type b - length t
+lack-append type b t lt = lack_of-append (fixed type) (length_field type) b t lt
+
+-- the number before counted bytes is how many they are
+pub counted-large : (s rest : List ℕ) → length s < 2 ^ 32 → counted w32 (large s ++ rest) ≡ length s
+counted-large s rest fits = from_be_bytes-to_be_bytes_4 (length s) fits
+
+pub counted-small : (s rest : List ℕ) → IsShort s → counted w8 (small s ++ rest) ≡ length s
+counted-small s rest is = omega (arith, is.few)
+
+-- bytes behind their length are a whole frame
+pub lack_of-large : (s rest : List ℕ) → length s < 2 ^ 32 → lack_of None w32 (large s ++ rest) ≡ 0
+lack_of-large s rest fits = lack_of-none None w32 (large s ++ rest) tt (omega (arith, counted-large s rest fits, length-append s rest))
+
+pub lack_of-small : (s rest : List ℕ) → IsShort s → lack_of None w8 (small s ++ rest) ≡ 0
+lack_of-small s rest is = lack_of-none None w8 (small s ++ rest) tt (omega (arith, counted-small s rest is, length-append s rest))
+
+-- the extent of a payload is its length, whatever follows
+pub extent-raw : (type : AMQPType) (b rest : List ℕ) (v : Tree) → Raw type b v → extent type (b ++ rest) ≡ length b
+extent-raw _ _ rest _ (raw_fixed type f b row len) = ap (λ (o : Option Layout). extent_of o (length_field type) (b ++ rest)) row ∙ sym len
+extent-raw _ _ rest _ (raw_short s is) = omega (arith, counted-small s rest is)
+extent-raw _ _ rest _ (raw_long s fits) = omega (arith, counted-large s rest fits)
+extent-raw _ _ rest _ (raw_octets s fits) = omega (arith, counted-large s rest fits)
+extent-raw _ _ rest _ (raw_array body vs fits all) = omega (arith, counted-large body rest fits)
+extent-raw _ _ rest _ (raw_table body ps fits all) = omega (arith, counted-large body rest fits)
+
+-- the frame of a payload is whole, whatever follows
+pub lack-raw : (type : AMQPType) (b rest : List ℕ) (v : Tree) → Raw type b v → lack type (b ++ rest) ≡ 0
+lack-raw type b rest v p = lack-none type (b ++ rest) (omega (arith, extent-raw type b rest v p, length-append b rest))

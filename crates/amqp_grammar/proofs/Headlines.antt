@@ -1,0 +1,47 @@
+-- Headlines: what was read keeps to its wire's length, and what is written is a shortest wire that tells its value.
+use Rattle.std.proofs.Common.{◌≡◌, ◌-◌, ℕ, zero, suc, List, [], ◌∷◌, length, Option, Some, None, MatchOption, ap, subst, arith, length-append}
+use Rattle.amqp_types.specs.declared.amqp_type.AMQPType.{AMQPType}
+use Rattle.amqp_grammar.specs.Values.{Tree}
+use Rattle.amqp_types.specs.Ids.{kind}
+use Rattle.amqp_grammar.specs.Grammar.{Wire}
+use Rattle.amqp_grammar.specs.Outcomes.{found, unknown, lack, Unless, Front, Outcome}
+use Rattle.amqp_grammar.specs.Texts.{text}
+use Rattle.amqp_grammar.specs.Headline.{IsBounded, IsShortest, TellsApart}
+use Rattle.amqp_grammar.proofs.Bounds.{bounds}
+use Rattle.amqp_grammar.proofs.Shortest.{what_is_read, shortest, same_text_same_value}
+
+-- what is found has a wire at the front
+pub found_front : (s rest : List ℕ) (v : Tree) → Outcome s (found v rest) → Front s (found v rest)
+found_front [] rest v x = absurd cc
+found_front (c ∷ b) rest v x = by (kind c) x
+  where
+    decided : (n : ℕ) → Unless n (Front (c ∷ b) (found v rest)) (found v rest) → Front (c ∷ b) (found v rest)
+    decided zero f = f
+    decided (suc n) e = absurd cc
+
+    by : (k : Option AMQPType) → MatchOption k (found v rest ≡ unknown) (λ type. Unless (lack type b) (Front (c ∷ b) (found v rest)) (found v rest))
+        → Front (c ∷ b) (found v rest)
+    by None e = absurd cc
+    by (Some type) f = decided (lack type b) f
+
+-- a value that was read is bounded by its wire
+pub bounded_wire : (w : List ℕ) (v : Tree) → Wire w v → IsBounded (length w) v
+bounded_wire w v p =
+    let bound = bounds w v p in
+    let read = what_is_read w v p in
+    record { fits = read.0; readable = read.1; size = bound.0; count = bound.1; depth = bound.2 }
+
+-- so by the bytes that reading it took
+pub bounded_found : (s rest : List ℕ) (v : Tree) → Outcome s (found v rest) → IsBounded (length s - length rest) v
+bounded_found s rest v x =
+    let front = found_front s rest v x in
+    let taken : length front.0 ≡ length s - length rest = omega (arith, ap length front.2, length-append front.0 rest) in
+    subst (λ (n : ℕ). IsBounded n v) taken (bounded_wire front.0 v front.1)
+
+-- the text is a shortest wire
+pub is_shortest : (v : Tree) → IsShortest v
+is_shortest v w bytes p = shortest w v bytes p
+
+-- and is the text of no other value
+pub tells_apart : (v : Tree) → TellsApart v
+tells_apart v u w x bytes_w bytes_x p q = (λ e. same_text_same_value w x v u p q bytes_w bytes_x e, λ e. ap text e)

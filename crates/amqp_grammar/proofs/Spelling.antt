@@ -1,0 +1,150 @@
+-- Spelling: the text of a value has the value's size, and is a wire of it.
+use Rattle.std.proofs.Common.{◌≡◌, ◌<◌, ◌+◌, ◌^◌, ℕ, zero, suc, List, ◌∷◌, ◌++◌, length, true, false, Some, refl, ap, ap₂, subst, arith, length-append, IsTrue}
+use Rattle.std.specs.Int.{w8, from_be_bytes, bytes_high_first}
+use Rattle.std.proofs.lemmas.Bool.{and_parts}
+use Rattle.std.proofs.lemmas.Nat.{from_be_bytes-to_be_bytes_2, from_be_bytes-to_be_bytes_4, from_be_bytes-to_be_bytes_8}
+use Rattle.amqp_types.specs.declared.amqp_type.AMQPType.{AMQPType}
+use Rattle.amqp_types.specs.declared.amqp_type.AMQPType.TheVariants as amqp
+use Rattle.amqp_grammar.specs.Values.{Scalar, boolean, number, decimal, void, Tree, scalar, short, long, octets, array, table, Trees, no_trees, tree, Entries, no_entries, entry, scalar_type, type_of, readable, all_readable, entries_readable}
+use Rattle.amqp_types.specs.Ids.{kind, id_of}
+use Rattle.amqp_grammar.specs.Layouts.{Layout, fixed, width_of, spelled}
+use Rattle.amqp_grammar.specs.Grammar.{large, Wire, wire, Raw, raw_fixed, raw_long, raw_octets, raw_array, raw_table, Body, no_values, value, Pairs, no_pairs, pair}
+use Rattle.amqp_grammar.specs.Texts.{text, body, pairs, payload, size, body_size, pairs_size, Fits, AllFit, EntriesFit, IsNumber, IsScalar, IsValue, AreValues, AreEntries}
+use Rattle.amqp_grammar.proofs.Tables.{onto-rising}
+
+-- ---- size
+
+-- the bytes of a number are as many as were asked for
+length-bytes_high_first : (k n : ℕ) → length (bytes_high_first k n) ≡ k
+length-bytes_high_first zero n = refl
+length-bytes_high_first (suc k) n = ap suc (length-bytes_high_first k n)
+
+-- a scalar is spelled in as many bytes as its type has
+length-spelled : (x : Scalar) → length (spelled x) ≡ width_of (scalar_type x)
+length-spelled (boolean true) = refl
+length-spelled (boolean false) = refl
+length-spelled (number type n) = length-bytes_high_first (width_of type) n
+length-spelled (decimal scale n) = refl
+length-spelled void = refl
+
+mutual
+  -- the text of a value has the value's size
+  pub length_of_text : (v : Tree) → length (text v) ≡ size v
+  length_of_text (scalar x) = omega (arith, length-spelled x)
+  length_of_text (short s) = omega arith
+  length_of_text (long s) = omega arith
+  length_of_text (octets s) = omega arith
+  length_of_text (array vs) = omega (arith, length_of_body vs)
+  length_of_text (table es) = omega (arith, length_of_pairs es)
+
+  -- and so have texts that are joined
+  pub length_of_body : (vs : Trees) → length (body vs) ≡ body_size vs
+  length_of_body no_trees = refl
+  length_of_body (tree v vs) = omega (arith, length-append (text v) (body vs), length_of_text v, length_of_body vs)
+
+  -- with keys before them too
+  pub length_of_pairs : (es : Entries) → length (pairs es) ≡ pairs_size es
+  length_of_pairs no_entries = refl
+  length_of_pairs (entry k v es) = omega (arith, length-append k (text v ++ pairs es), length-append (text v) (pairs es), length_of_text v, length_of_pairs es)
+
+-- the text is the id and the payload
+pub text-payload : (v : Tree) → text v ≡ id_of (type_of v) ∷ payload v
+text-payload (scalar x) = refl
+text-payload (short s) = refl
+text-payload (long s) = refl
+text-payload (octets s) = refl
+text-payload (array vs) = refl
+text-payload (table es) = refl
+
+-- the payload is one byte shorter than the text
+pub length_of_payload : (v : Tree) → length (payload v) + 1 ≡ size v
+length_of_payload v = omega (arith, length_of_text v, ap length (text-payload v))
+
+-- ---- values of fixed width
+
+-- x has the layout of its type, is what its spelling means, and has an id that is read
+pub record IsSpelled (x : Scalar) : Type 0 where
+  pub layout : Layout
+  pub row : fixed (scalar_type x) ≡ Some layout
+  pub width : length (spelled x) ≡ layout.width
+  pub means : layout.meaning (spelled x) ≡ x
+  pub id : kind (id_of (scalar_type x)) ≡ Some (scalar_type x)
+
+-- the number that one byte spells
+one_byte : (n : ℕ) → n < 2 ^ 8 → from_be_bytes w8 (bytes_high_first 1 n) ≡ n
+one_byte n lt = omega arith
+
+-- the table of numbers
+number_spelled : (type : AMQPType) (n : ℕ) → IsNumber type n → IsSpelled (number type n)
+number_spelled amqp.ShortShortInt n lt = record { layout = _; row = refl; width = refl; means = ap (number amqp.ShortShortInt) (one_byte n lt); id = refl }
+number_spelled amqp.ShortShortUInt n lt = record { layout = _; row = refl; width = refl; means = ap (number amqp.ShortShortUInt) (one_byte n lt); id = refl }
+number_spelled amqp.ShortInt n lt = record { layout = _; row = refl; width = refl; means = ap (number amqp.ShortInt) (from_be_bytes-to_be_bytes_2 n lt); id = refl }
+number_spelled amqp.ShortUInt n lt = record { layout = _; row = refl; width = refl; means = ap (number amqp.ShortUInt) (from_be_bytes-to_be_bytes_2 n lt); id = refl }
+number_spelled amqp.LongInt n lt = record { layout = _; row = refl; width = refl; means = ap (number amqp.LongInt) (from_be_bytes-to_be_bytes_4 n lt); id = refl }
+number_spelled amqp.LongUInt n lt = record { layout = _; row = refl; width = refl; means = ap (number amqp.LongUInt) (from_be_bytes-to_be_bytes_4 n lt); id = refl }
+number_spelled amqp.LongLongInt n lt = record { layout = _; row = refl; width = refl; means = ap (number amqp.LongLongInt) (from_be_bytes-to_be_bytes_8 n lt); id = refl }
+number_spelled amqp.Float n lt = record { layout = _; row = refl; width = refl; means = ap (number amqp.Float) (from_be_bytes-to_be_bytes_4 n lt); id = refl }
+number_spelled amqp.Double n lt = record { layout = _; row = refl; width = refl; means = ap (number amqp.Double) (from_be_bytes-to_be_bytes_8 n lt); id = refl }
+number_spelled amqp.Timestamp n lt = record { layout = _; row = refl; width = refl; means = ap (number amqp.Timestamp) (from_be_bytes-to_be_bytes_8 n lt); id = refl }
+number_spelled _ n none = absurd none
+
+-- the table of scalars
+pub scalar_spelled : (x : Scalar) → IsScalar x → IsSpelled x
+scalar_spelled (boolean true) _ = record { layout = _; row = refl; width = refl; means = refl; id = refl }
+scalar_spelled (boolean false) _ = record { layout = _; row = refl; width = refl; means = refl; id = refl }
+scalar_spelled (number type n) is = number_spelled type n is
+scalar_spelled (decimal scale n) is =
+    record { layout = _; row = refl; width = refl; means = ap₂ decimal (one_byte scale is.0) (from_be_bytes-to_be_bytes_4 n is.1); id = refl }
+scalar_spelled void _ = record { layout = _; row = refl; width = refl; means = refl; id = refl }
+
+-- what is spelled for a scalar is a payload of it
+pub scalar_raw : (x : Scalar) → IsScalar x → Raw (scalar_type x) (spelled x) (scalar x)
+scalar_raw x is =
+    let s = scalar_spelled x is in
+    subst (λ (y : Scalar). Raw (scalar_type x) (spelled x) (scalar y)) s.means
+    (raw_fixed (scalar_type x) s.layout (spelled x) s.row s.width)
+
+-- ---- all values
+
+-- pairs whose keys rise are the payload of a table that has them for entries
+rising_raw : (b : List ℕ) (es : Entries) → AreEntries es → length b < 2 ^ 32 → Pairs b es → Raw amqp.FieldTable (large b) (table es)
+rising_raw b es are fits all =
+    subst (λ (fs : Entries). Raw amqp.FieldTable (large b) (table fs)) (onto-rising es are) (raw_table b es fits all)
+
+mutual
+  -- the text of a value is a wire of it
+  pub text_is_wire : (v : Tree) → IsValue v → Fits v → IsTrue (readable v) → Wire (text v) v
+  text_is_wire (scalar x) is fits r =
+      wire (id_of (scalar_type x)) (scalar_type x) (spelled x) (scalar x) (scalar_spelled x is).id (scalar_raw x is)
+  text_is_wire (short s) is fits r = absurd cc
+  text_is_wire (long s) is fits r = wire (id_of amqp.LongString) amqp.LongString (large s) (long s) refl (raw_long s fits)
+  text_is_wire (octets s) is fits r = wire (id_of amqp.ByteArray) amqp.ByteArray (large s) (octets s) refl (raw_octets s fits)
+  text_is_wire (array vs) is fits r =
+      wire (id_of amqp.FieldArray) amqp.FieldArray (large (body vs)) (array vs) refl
+      (raw_array (body vs) vs (omega (arith, fits.0, length_of_body vs)) (texts_are_body vs is fits.1 r))
+  text_is_wire (table es) is fits r =
+      wire (id_of amqp.FieldTable) amqp.FieldTable (large (pairs es)) (table es) refl
+      (rising_raw (pairs es) es is (omega (arith, fits.0, length_of_pairs es)) (texts_are_pairs es is fits.1 r))
+
+  -- texts that are joined are an array's body
+  pub texts_are_body : (vs : Trees) → AreValues vs → AllFit vs → IsTrue (all_readable vs) → Body (body vs) vs
+  texts_are_body no_trees is fits r = no_values
+  texts_are_body (tree v vs) is fits r =
+      let both = and_parts (readable v) (all_readable vs) r in
+      value (text v) (body vs) v vs (text_is_wire v is.0 fits.0 both.0) (texts_are_body vs is.1 fits.1 both.1)
+
+  -- with keys before them they are a table's pairs
+  pub texts_are_pairs : (es : Entries) → AreEntries es → EntriesFit es → IsTrue (entries_readable es) → Pairs (pairs es) es
+  texts_are_pairs no_entries are fits r = no_pairs
+  texts_are_pairs (entry k v es) are fits r =
+      let both = and_parts (readable v) (entries_readable es) r in
+      pair k (text v) (pairs es) v es are.0 (text_is_wire v are.1 fits.0 both.0) (texts_are_pairs es are.3 fits.1 both.1)
+
+-- the payload of a value is one of its type
+pub payload_is_raw : (v : Tree) → IsValue v → Fits v → IsTrue (readable v) → Raw (type_of v) (payload v) v
+payload_is_raw (scalar x) is fits r = scalar_raw x is
+payload_is_raw (short s) is fits r = absurd cc
+payload_is_raw (long s) is fits r = raw_long s fits
+payload_is_raw (octets s) is fits r = raw_octets s fits
+payload_is_raw (array vs) is fits r = raw_array (body vs) vs (omega (arith, fits.0, length_of_body vs)) (texts_are_body vs is fits.1 r)
+payload_is_raw (table es) is fits r = rising_raw (pairs es) es is (omega (arith, fits.0, length_of_pairs es)) (texts_are_pairs es is fits.1 r)

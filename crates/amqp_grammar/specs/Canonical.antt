@@ -1,0 +1,40 @@
+-- Canonical wires: those that are told by their bytes alone as the ones that are written. No second spelling of an
+-- id, a boolean's byte is 0 or 1, and each key of a table stands above the one before it.
+use Rattle.std.specs.Prelude.{ℕ, ◌^◌, ◌<◌, ◌≡◌, ◌≢◌, Some, List, [], ◌∷◌, ◌++◌, length}
+use Rattle.amqp_types.specs.declared.amqp_type.AMQPType.{AMQPType}
+use Rattle.amqp_types.specs.declared.amqp_type.AMQPType.TheVariants as amqp
+use Rattle.amqp_grammar.specs.Values.{Tree, scalar, long, octets, array, table, Trees, no_trees, tree, Entries, no_entries, entry}
+use Rattle.amqp_types.specs.Ids.{kind}
+use Rattle.amqp_grammar.specs.Layouts.{Layout, fixed}
+use Rattle.amqp_types.specs.Strings.{IsShort}
+use Rattle.amqp_grammar.specs.Grammar.{small, large}
+use Rattle.amqp_grammar.specs.Texts.{ComesBefore}
+
+-- the byte of a boolean is 0 or 1
+abbrev pub IsStrict : AMQPType → List ℕ → Type 0
+IsStrict amqp.Boolean (c ∷ b) = c < 2
+IsStrict _ b = Unit {0}
+
+mutual
+  -- w is the canonical wire of v
+  pub data Canon : List ℕ → Tree → Type 0 where
+    canon : (c : ℕ) → (type : AMQPType) → (b : List ℕ) → (v : Tree) → kind c ≡ Some type → c ≢ 85 → c ≢ 76 → CanonRaw type b v → Canon (c ∷ b) v
+
+  -- b is the payload in a canonical wire
+  pub data CanonRaw : AMQPType → List ℕ → Tree → Type 0 where
+    canon_fixed : (type : AMQPType) → (f : Layout) → (b : List ℕ) → fixed type ≡ Some f → length b ≡ f.width → IsStrict type b → CanonRaw type b (scalar (f.meaning b))
+    canon_long : (s : List ℕ) → length s < 2 ^ 32 → CanonRaw amqp.LongString (large s) (long s)
+    canon_octets : (s : List ℕ) → length s < 2 ^ 32 → CanonRaw amqp.ByteArray (large s) (octets s)
+    canon_array : (body : List ℕ) → (vs : Trees) → length body < 2 ^ 32 → CanonBody body vs → CanonRaw amqp.FieldArray (large body) (array vs)
+    -- the keys rise, so the entries are the pairs that are written
+    canon_table : (body : List ℕ) → (es : Entries) → length body < 2 ^ 32 → CanonPairs body es → CanonRaw amqp.FieldTable (large body) (table es)
+
+  -- canonical wires of these values, one after another
+  pub data CanonBody : List ℕ → Trees → Type 0 where
+    no_canon_values : CanonBody [] no_trees
+    canon_value : (w : List ℕ) → (more : List ℕ) → (v : Tree) → (vs : Trees) → Canon w v → CanonBody more vs → CanonBody (w ++ more) (tree v vs)
+
+  -- these pairs one after another, each key above the one before it
+  pub data CanonPairs : List ℕ → Entries → Type 0 where
+    no_canon_pairs : CanonPairs [] no_entries
+    canon_pair : (k : List ℕ) → (w : List ℕ) → (more : List ℕ) → (v : Tree) → (es : Entries) → IsShort k → Canon w v → ComesBefore k es → CanonPairs more es → CanonPairs (small k ++ (w ++ more)) (entry k v es)

@@ -1,0 +1,74 @@
+-- The outcome as a function: what reading computes to, for any list of bytes.
+use Rattle.std.specs.Prelude.{ℕ, suc, zero, Bool, ◌&&◌, nat_le, Option, Some, None, option_map, List, [], ◌∷◌, length, take, drop, if◌then◌else◌}
+use Rattle.std.specs.Int.{Width, byte_len}
+use Rattle.std.specs.Str.{is_utf8}
+use Rattle.amqp_types.specs.declared.amqp_type.AMQPType.{AMQPType}
+use Rattle.amqp_types.specs.declared.amqp_type.AMQPType.TheVariants as amqp
+use Rattle.amqp_grammar.specs.Values.{Tree, scalar, short, long, octets, array, table, Trees, no_trees, tree, Entries, no_entries, put}
+use Rattle.amqp_types.specs.Ids.{kind}
+use Rattle.amqp_grammar.specs.Layouts.{fixed}
+use Rattle.amqp_grammar.specs.Outcomes.{Reading, found, more, unknown, malformed, length_field, counted, lack}
+
+-- the value that the bytes behind a length field mean, if they mean one
+abbrev pub Meaning : Type 0
+Meaning = AMQPType → List ℕ → Option Tree
+
+-- reading a length field, and as many bytes as it counts
+abbrev pub framed : Width → (List ℕ → Option Tree) → List ℕ → Reading
+framed w mean b =
+    let n = counted w b in
+    let s = drop (byte_len w) b in
+    elim (mean (take n s)) [ Some v ↦ found v (drop n s) | None ↦ malformed ]
+
+-- reading a payload of the type
+abbrev pub raw_outcome_by : Meaning → AMQPType → List ℕ → Reading
+raw_outcome_by mean type b = elim (lack type b) [
+  | suc n ↦ more (suc n)
+  | zero ↦ elim (fixed type) [
+    | Some f ↦ found (scalar (f.meaning (take f.width b))) (drop f.width b)
+    | None ↦ framed (length_field type) (mean type) b
+  ]
+]
+
+-- reading an id and a payload of its type
+abbrev pub outcome_by : Meaning → List ℕ → Reading
+outcome_by mean [] = more 1
+outcome_by mean (c ∷ b) = elim (kind c) [ None ↦ unknown | Some type ↦ raw_outcome_by mean type b ]
+
+-- the values that bytes spell one after another, at most n of them
+abbrev pub values : (List ℕ → Reading) → ℕ → List ℕ → Option Trees
+values read n [] = Some no_trees
+values read zero (c ∷ b) = None
+values read (suc n) (c ∷ b) = elim (read (c ∷ b)) [ found v rest ↦ option_map (tree v) (values read n rest) | _ ↦ None ]
+
+-- whether some bytes are a short string
+abbrev pub is_short : List ℕ → Bool
+is_short s = nat_le (length s) 255 && is_utf8 s
+
+-- whether the first n bytes are there, and are a key
+abbrev pub is_key : ℕ → List ℕ → Bool
+is_key n s = nat_le n (length s) && is_short (take n s)
+
+-- the pairs that bytes spell one after another, at most n of them, put onto es
+abbrev pub pairs_onto : (List ℕ → Reading) → ℕ → Entries → List ℕ → Option Entries
+pairs_onto read n es [] = Some es
+pairs_onto read zero es (k ∷ s) = None
+pairs_onto read (suc n) es (k ∷ s) =
+    if is_key k s then elim (read (drop k s)) [ found v rest ↦ pairs_onto read n (put (take k s) v es) rest | _ ↦ None ] else None
+
+-- the meaning where containers nest at most `depth` deep
+abbrev pub meaning : ℕ → Meaning
+meaning depth amqp.ShortString s = if is_short s then Some (short s) else None
+meaning depth amqp.LongString s = Some (long s)
+meaning depth amqp.ByteArray s = Some (octets s)
+meaning (suc depth) amqp.FieldArray s = option_map array (values (outcome_by (meaning depth)) (length s) s)
+meaning (suc depth) amqp.FieldTable s = option_map table (pairs_onto (outcome_by (meaning depth)) (length s) no_entries s)
+meaning _ _ s = None
+
+-- the outcome of reading a value: no value nests as deep as it has bytes
+abbrev pub outcome : List ℕ → Reading
+outcome s = outcome_by (meaning (length s)) s
+
+-- the outcome of reading a payload of the type
+abbrev pub raw_outcome : AMQPType → List ℕ → Reading
+raw_outcome type b = raw_outcome_by (meaning (length b)) type b

@@ -1,0 +1,30 @@
+-- A table is a finite map: what is found at a key.
+use Rattle.std.specs.Prelude.{ℕ, Bool, false, ◌||◌, Option, Some, None, List, nat_eq, if◌then◌else◌}
+use Rattle.std.specs.Option.{option_or}
+use Rattle.std.specs.Cmp.Lexicographic.{pointwise}
+use Rattle.amqp_grammar.specs.Values.{Tree, Entries, no_entries, entry}
+use Rattle.amqp_grammar.specs.Texts.{ComesBefore}
+
+-- whether two keys are the same bytes
+abbrev pub same_bytes : List ℕ → List ℕ → Bool
+same_bytes = pointwise nat_eq
+
+-- whether there is a value at a key
+abbrev pub has_key : List ℕ → Entries → Bool
+has_key k no_entries = false
+has_key k (entry j v es) = same_bytes k j || has_key k es
+
+-- the value at a key
+abbrev pub value_at : List ℕ → Entries → Option Tree
+value_at k no_entries = None
+value_at k (entry j v es) = if same_bytes k j then Some v else value_at k es
+
+-- the value of the last pair with the key, if a pair has it
+abbrev pub last_at : List ℕ → Entries → Option Tree
+last_at k no_entries = None
+last_at k (entry j v ps) = option_or (last_at k ps) (if same_bytes k j then Some v else None)
+
+-- the keys rise by their bytes, so no two are equal
+abbrev pub IsRising : Entries → Type 0
+IsRising no_entries = Unit {0}
+IsRising (entry k v es) = ComesBefore k es × IsRising es

@@ -1,0 +1,136 @@
+-- Values: what an `AMQPValue` is, without where it lies in memory.
+-- AMQP 0-9-1, section 4.2.5.5 (field tables), in the reading of RabbitMQ's errata, section 3.
+use Rattle.std.specs.Prelude.{ℕ, suc, ◌+◌, ◌≡◌, max, Bool, true, false, ◌&&◌, List, [], ◌∷◌}
+use Rattle.std.specs.Ordering.{nat_cmp, match_ordering}
+use Rattle.std.specs.Cmp.Lexicographic.{slice_cmp}
+use Rattle.amqp_types.specs.declared.amqp_type.AMQPType.{AMQPType}
+use Rattle.amqp_types.specs.declared.amqp_type.AMQPType.TheVariants as amqp
+
+-- a value of fixed width: a truth value, a number as its type and its bits (a signed one in two's
+-- complement, a Float and a Double as they are), a decimal as its scale and its number, or nothing
+pub data Scalar : Type 0 where
+  boolean : Bool → Scalar
+  number : AMQPType → ℕ → Scalar
+  decimal : ℕ → ℕ → Scalar
+  void : Scalar
+
+-- a value is a tree, and equal values are equal trees
+mutual
+  pub data Tree : Type 0 where
+    scalar : Scalar → Tree
+    -- a short string, a long string and a byte array: their bytes
+    short : List ℕ → Tree
+    long : List ℕ → Tree
+    octets : List ℕ → Tree
+    array : Trees → Tree
+    table : Entries → Tree
+
+  -- the values of an array, in order
+  pub data Trees : Type 0 where
+    no_trees : Trees
+    tree : Tree → Trees → Trees
+
+  -- the entries of a table, each a key and a value: in the order of the keys' bytes
+  pub data Entries : Type 0 where
+    no_entries : Entries
+    entry : List ℕ → Tree → Entries → Entries
+
+-- the type of a value of fixed width
+abbrev pub scalar_type : Scalar → AMQPType
+scalar_type (boolean b) = amqp.Boolean
+scalar_type (number type n) = type
+scalar_type (decimal scale n) = amqp.DecimalValue
+scalar_type void = amqp.Void
+
+-- the type of a value
+abbrev pub type_of : Tree → AMQPType
+type_of (scalar x) = scalar_type x
+type_of (short s) = amqp.ShortString
+type_of (long s) = amqp.LongString
+type_of (octets s) = amqp.ByteArray
+type_of (array vs) = amqp.FieldArray
+type_of (table es) = amqp.FieldTable
+
+-- the values of a list, as the values of an array
+abbrev pub trees_of : List Tree → Trees
+trees_of [] = no_trees
+trees_of (v ∷ vs) = tree v (trees_of vs)
+
+-- the pairs of a list, as the entries of a table
+abbrev pub entries_of : List (List ℕ × Tree) → Entries
+entries_of [] = no_entries
+entries_of (e ∷ es) = entry e.0 e.1 (entries_of es)
+
+-- the entries, with v at k: an equal key takes the value, and a new one goes to its place in the order
+abbrev pub put : List ℕ → Tree → Entries → Entries
+put k v no_entries = entry k v no_entries
+put k v (entry j u es) = match_ordering (slice_cmp nat_cmp k j) (entry k v (entry j u es)) (entry j v es) (entry j u (put k v es))
+
+-- the entries, with pairs put one after another: of equal keys the last pair's value stays
+abbrev pub onto : Entries → Entries → Entries
+onto es no_entries = es
+onto es (entry k v ps) = onto (put k v es) ps
+
+-- how deep containers nest: an empty one counts 1, all that is no container 0
+abbrev mutual
+  pub depth : Tree → ℕ
+  depth (scalar x) = 0
+  depth (short s) = 0
+  depth (long s) = 0
+  depth (octets s) = 0
+  depth (array vs) = suc (greatest_depth vs)
+  depth (table es) = suc (entries_depth es)
+
+  pub greatest_depth : Trees → ℕ
+  greatest_depth no_trees = 0
+  greatest_depth (tree v vs) = max (depth v) (greatest_depth vs)
+
+  pub entries_depth : Entries → ℕ
+  entries_depth no_entries = 0
+  entries_depth (entry k v es) = max (depth v) (entries_depth es)
+
+-- how many values stand in the tree, itself included
+abbrev mutual
+  pub count : Tree → ℕ
+  count (scalar x) = 1
+  count (short s) = 1
+  count (long s) = 1
+  count (octets s) = 1
+  count (array vs) = suc (count_all vs)
+  count (table es) = suc (entries_count es)
+
+  pub count_all : Trees → ℕ
+  count_all no_trees = 0
+  count_all (tree v vs) = count v + count_all vs
+
+  pub entries_count : Entries → ℕ
+  entries_count no_entries = 0
+  entries_count (entry k v es) = count v + entries_count es
+
+-- whether a value that is written can be read: each value in it has an id that is read, so none is a short
+-- string; keys don't count
+abbrev mutual
+  pub readable : Tree → Bool
+  readable (scalar x) = true
+  readable (short s) = false
+  readable (long s) = true
+  readable (octets s) = true
+  readable (array vs) = all_readable vs
+  readable (table es) = entries_readable es
+
+  pub all_readable : Trees → Bool
+  all_readable no_trees = true
+  all_readable (tree v vs) = readable v && all_readable vs
+
+  pub entries_readable : Entries → Bool
+  entries_readable no_entries = true
+  entries_readable (entry k v es) = readable v && entries_readable es
+
+-- v is kept with no memory of its own: it has a fixed width, or it is empty
+abbrev pub IsLight : Tree → Type 0
+IsLight (scalar x) = Unit {0}
+IsLight (short s) = s ≡ []
+IsLight (long s) = s ≡ []
+IsLight (octets s) = s ≡ []
+IsLight (array vs) = vs ≡ no_trees
+IsLight (table es) = es ≡ no_entries

@@ -1,0 +1,208 @@
+//! The laws of the grammar: what its definitions imply, for every list of bytes and every value.
+//!
+//! Each function is a law. It does nothing, and its contract says what holds.
+
+ghost use Rattle.std.specs.Prelude.{◌≡◌, ◌↔◌, ◌+◌, ℕ, List, ◌∷◌, ◌++◌, length, IsTrue, Some, ◌≢◌, ◌≤◌, ◌*◌, is_some, ◌-◌};
+ghost use Rattle.amqp_types.specs.declared.amqp_type.AMQPType.{AMQPType};
+ghost use Rattle.amqp_grammar.specs.Values.{Tree, type_of, readable, Entries, no_entries, table, put, onto, depth, count};
+ghost use Rattle.amqp_grammar.specs.Grammar.{Wire, Raw};
+ghost use Rattle.amqp_grammar.specs.Texts.{text, payload, size, Fits, IsValue, read_back};
+ghost use Rattle.amqp_types.specs.Ids.{kind};
+ghost use Rattle.amqp_input.specs.Inputs.{IsBytes};
+ghost use Rattle.amqp_grammar.specs.Outcomes.{Reading, Outcome, RawOutcome, Heavy, RawHeavy, StillWaits, with_more, found, malformed, Front};
+ghost use Rattle.amqp_grammar.specs.Decode.{outcome, raw_outcome};
+ghost use Rattle.amqp_grammar.specs.Canonical.{Canon};
+ghost use Rattle.amqp_grammar.specs.Headline.{IsCanonical, IsBounded, IsShortest, TellsApart};
+ghost use Rattle.amqp_grammar.specs.Maps.{has_key, value_at, last_at, IsRising};
+ghost use Rattle.amqp_types.specs.declared.amqp_type.AMQPType.TheVariants as amqp;
+
+/// A list begins with at most one wire, and that wire has one meaning. So no wire is a proper front
+/// of another.
+#[tactic(auto, using(crate::proofs::GrammarLaws::one_reading))]
+pub fn one_reading()
+    ensures { (w u x y : List ℕ) (v z : Tree) → Wire w v → Wire u z → w ++ x ≡ u ++ y
+        → (w ≡ u) × (v ≡ z) × (x ≡ y) }
+{}
+
+/// A list begins with at most one payload of a given type, and that payload has one meaning.
+#[tactic(auto, using(crate::proofs::GrammarLaws::one_raw_reading))]
+pub fn one_raw_reading()
+    ensures { (type : AMQPType) (b c x y : List ℕ) (v z : Tree) → Raw type b v → Raw type c z
+        → b ++ x ≡ c ++ y → (b ≡ c) × (v ≡ z) × (x ≡ y) }
+{}
+
+/// The size of a value is the number of bytes of its text. The payload is the text without its
+/// first byte, the id.
+#[tactic(auto, using(crate::proofs::GrammarLaws::length_of_text, crate::proofs::GrammarLaws::length_of_payload))]
+pub fn length_of_text()
+    ensures text { (v : Tree) → length (text v) ≡ size v }
+    ensures payload { (v : Tree) → length (payload v) + 1 ≡ size v }
+{}
+
+/// The text of a value is a wire of it, and the payload is one of its type: of every value in
+/// memory whose lengths fit their fields, and in which every value has an id that is read.
+#[tactic(auto, using(crate::proofs::GrammarLaws::text_is_wire, crate::proofs::GrammarLaws::payload_is_raw))]
+pub fn text_is_wire()
+    ensures text { (v : Tree) → IsValue v → Fits v → IsTrue (readable v) → Wire (text v) v }
+    ensures payload { (v : Tree) → IsValue v → Fits v → IsTrue (readable v)
+        → Raw (type_of v) (payload v) v }
+{}
+
+/// Whatever follows it, the text of a value is read as that value, and what follows is left. Where
+/// the value is not readable, the text is refused.
+#[tactic(auto, using(crate::proofs::GrammarLaws::reading_back))]
+pub fn reading_back()
+    ensures { (v : Tree) (rest : List ℕ) → IsValue v → Fits v
+        → Outcome (text v ++ rest) (read_back v rest) }
+{}
+
+/// What more bytes change of an outcome: they join the rest behind a value, and fewer of them than
+/// lack are that many less that lack. A refusal stays.
+#[tactic(auto, using(crate::proofs::GrammarLaws::more_bytes, crate::proofs::GrammarLaws::more_raw_bytes))]
+pub fn more_bytes()
+    ensures value { (s t : List ℕ) (o : Reading) → Outcome s o → StillWaits o t
+        → Outcome (s ++ t) (with_more o t) }
+    ensures payload { (type : AMQPType) (s t : List ℕ) (o : Reading) → RawOutcome type s o
+        → StillWaits o t → RawOutcome type (s ++ t) (with_more o t) }
+{}
+
+/// Reading a list comes to at most one outcome.
+#[tactic(auto, using(crate::proofs::GrammarLaws::one_outcome, crate::proofs::GrammarLaws::one_raw_outcome))]
+pub fn one_outcome()
+    ensures value { (s : List ℕ) (o p : Reading) → Outcome s o → Outcome s p → o ≡ p }
+    ensures payload { (type : AMQPType) (s : List ℕ) (o p : Reading) → RawOutcome type s o
+        → RawOutcome type s p → o ≡ p }
+{}
+
+/// Reading a value is reading the payload of the type that its first byte stands for, and takes
+/// memory where that does.
+#[tactic(auto, using(crate::proofs::GrammarLaws::raw_to_value, crate::proofs::GrammarLaws::raw_to_heavy))]
+pub fn value_from_payload()
+    ensures outcome { (c : ℕ) (type : AMQPType) (b : List ℕ) (o : Reading) → kind c ≡ Some type
+        → RawOutcome type b o → Outcome (c ∷ b) o }
+    ensures heavy { (c : ℕ) (type : AMQPType) (b : List ℕ) → kind c ≡ Some type
+        → RawHeavy type b → Heavy (c ∷ b) }
+{}
+
+/// A table is a finite map: a value is found at the key where it was put, every other key keeps its
+/// value, and there is a value where there is a key.
+#[tactic(auto, using(crate::proofs::GrammarLaws::put_found, crate::proofs::GrammarLaws::put_other, crate::proofs::GrammarLaws::key_has_value))]
+pub fn table_is_a_map()
+    ensures put { (k : List ℕ) (v : Tree) (es : Entries) → value_at k (put k v es) ≡ Some v }
+    ensures others { (j k : List ℕ) (v : Tree) (es : Entries) → j ≢ k
+        → value_at j (put k v es) ≡ value_at j es }
+    ensures keys { (k : List ℕ) (es : Entries) → has_key k es ≡ is_some (value_at k es) }
+{}
+
+/// What the pairs of a wire mean: at each key the value of the last pair with it, under keys that
+/// rise. Where the pairs' own keys rise they are the table's entries as they stand.
+#[tactic(auto, using(crate::proofs::GrammarLaws::last_stays, crate::proofs::GrammarLaws::pairs_rise, crate::proofs::GrammarLaws::rising_pairs))]
+pub fn last_pair_stays()
+    ensures values { (k : List ℕ) (ps : Entries) → value_at k (onto no_entries ps) ≡ last_at k ps }
+    ensures keys { (ps : Entries) → IsRising (onto no_entries ps) }
+    ensures rising { (ps : Entries) → IsRising ps → onto no_entries ps ≡ ps }
+{}
+
+/// Tables are equal where they have the same value at each key. The keys of every table in memory
+/// rise.
+#[tactic(auto, using(crate::proofs::GrammarLaws::same_tables, crate::proofs::GrammarLaws::entries_rise))]
+pub fn same_tables()
+    ensures equal { (es fs : Entries) → IsRising es → IsRising fs
+        → ((k : List ℕ) → value_at k es ≡ value_at k fs) → es ≡ fs }
+    ensures rising { (es : Entries) → IsValue (table es) → IsRising es }
+{}
+
+/// What is in a wire takes bytes: as many as the text of its value has, one for each value in it, and
+/// five for each container down to the deepest. A payload has one byte less, since it has no id.
+#[tactic(auto, using(crate::proofs::GrammarLaws::bounds, crate::proofs::GrammarLaws::raw_bounds))]
+pub fn bounds()
+    ensures value { (w : List ℕ) (v : Tree) → Wire w v
+        → (size v ≤ length w) × (count v ≤ length w) × (5 * depth v ≤ length w) }
+    ensures payload { (type : AMQPType) (b : List ℕ) (v : Tree) → Raw type b v
+        → (size v ≤ length b + 1) × (count v ≤ length b + 1) × (5 * depth v ≤ length b + 1) }
+{}
+
+/// What a wire means can be written and read again: its lengths fit their fields, and each value in
+/// it has an id that is read. Where the wire is bytes, it is a value. The same holds of a payload,
+/// but a short string's, which no id stands for.
+#[tactic(auto, using(crate::proofs::GrammarLaws::what_is_read, crate::proofs::GrammarLaws::what_raw_reads, crate::proofs::GrammarLaws::read_is_value, crate::proofs::GrammarLaws::raw_value))]
+pub fn what_is_read()
+    ensures fits { (w : List ℕ) (v : Tree) → Wire w v → Fits v × IsTrue (readable v) }
+    ensures value { (w : List ℕ) (v : Tree) → IsBytes w → Wire w v → IsValue v }
+    ensures payload_fits { (type : AMQPType) (b : List ℕ) (v : Tree) → type ≢ amqp.ShortString
+        → Raw type b v → Fits v × IsTrue (readable v) }
+    ensures payload_value { (type : AMQPType) (b : List ℕ) (v : Tree) → IsBytes b → Raw type b v
+        → IsValue v }
+{}
+
+/// Of all wires of a value that are bytes, its text is a shortest one.
+#[tactic(auto, using(crate::proofs::GrammarLaws::shortest))]
+pub fn shortest()
+    ensures { (w : List ℕ) (v : Tree) → IsBytes w → Wire w v
+        → Wire (text v) v × (length (text v) ≤ length w) }
+{}
+
+/// Values that are read from bytes have the same text only where they are equal.
+#[tactic(auto, using(crate::proofs::GrammarLaws::same_text_same_value))]
+pub fn same_text_same_value()
+    ensures { (w u : List ℕ) (v z : Tree) → Wire w v → Wire u z → IsBytes w → IsBytes u
+        → text v ≡ text z → v ≡ z }
+{}
+
+/// A canonical wire is told by its bytes alone: no second spelling of an id, no boolean but 0 or 1,
+/// and keys that rise. Bytes are such a wire of a value in memory, whose lengths fit their fields,
+/// exactly where each value in it has an id that is read and they are its text.
+#[tactic(auto, using(crate::proofs::GrammarLaws::is_canonical))]
+pub fn canonical()
+    ensures { (v : Tree) → IsValue v → Fits v → IsCanonical v }
+{}
+
+/// A canonical wire of any value is a wire, its value fits its fields and is readable, and where it
+/// is bytes, it is the text.
+#[tactic(auto, using(crate::proofs::GrammarLaws::canon_is_wire, crate::proofs::GrammarLaws::canon_fits, crate::proofs::GrammarLaws::canon_is_text))]
+pub fn canonical_wire()
+    ensures { (w : List ℕ) (v : Tree) → Canon w v → IsBytes w
+        → Wire w v × Fits v × IsTrue (readable v) × (w ≡ text v) }
+{}
+
+/// What reading finds has a wire at the front, and keeps to the number of bytes that were taken.
+#[tactic(auto, using(crate::proofs::GrammarLaws::found_front, crate::proofs::GrammarLaws::bounded_found))]
+pub fn what_is_found()
+    ensures front { (s rest : List ℕ) (v : Tree) → Outcome s (found v rest) → Front s (found v rest) }
+    ensures bounded { (s rest : List ℕ) (v : Tree) → Outcome s (found v rest)
+        → IsBounded (length s - length rest) v }
+{}
+
+/// The text of each value is a shortest wire of it, if it has a wire, and among values that have
+/// wires it is the text of that value alone.
+#[tactic(auto, using(crate::proofs::GrammarLaws::is_shortest, crate::proofs::GrammarLaws::tells_apart))]
+pub fn what_a_text_is()
+    ensures shortest { (v : Tree) → IsShortest v }
+    ensures tells_apart { (v : Tree) → TellsApart v }
+{}
+
+/// Reading a value from any bytes has an outcome, it has no other, and the function `outcome`
+/// computes it.
+#[tactic(auto, using(crate::proofs::Agreement::outcome_holds, crate::proofs::Agreement::outcome_is))]
+pub fn outcome_computes()
+    ensures holds { (s : List ℕ) → IsBytes s → Outcome s (outcome s) }
+    ensures only { (s : List ℕ) (o : Reading) → IsBytes s → Outcome s o ↔ (o ≡ outcome s) }
+{}
+
+/// The same of reading a payload, for each type.
+#[tactic(auto, using(crate::proofs::Agreement::raw_outcome_holds, crate::proofs::Agreement::raw_outcome_is))]
+pub fn raw_outcome_computes()
+    ensures holds { (type : AMQPType) (s : List ℕ) → IsBytes s
+        → RawOutcome type s (raw_outcome type s) }
+    ensures only { (type : AMQPType) (s : List ℕ) (o : Reading) → IsBytes s
+        → RawOutcome type s o ↔ (o ≡ raw_outcome type s) }
+{}
+
+/// A payload of fixed width, a long string and a byte array are never malformed: once all of the bytes
+/// are there, they have a value.
+#[tactic(auto, using(crate::proofs::Whole::never_malformed))]
+pub fn never_malformed()
+    ensures { (type : AMQPType) (s : List ℕ) → IsBytes s
+        → type ≢ amqp.ShortString → type ≢ amqp.FieldArray → type ≢ amqp.FieldTable
+        → RawOutcome type s malformed → ⊥ }
+{}

@@ -1,0 +1,71 @@
+-- What was read within limits is read again within them.
+use Rattle.std.proofs.Common.{◌≡◌, ◌≤◌, ◌-◌, ℕ, suc, List, ◌++◌, length, Option, Some, None, Result, Ok, Err, MatchResult, IfOk, ap, ◌∙◌, subst, arith, length-append}
+use Rattle.std.specs.Int.{Width, byte_len}
+use Rattle.std.proofs.lemmas.Bool.{le-ltb}
+use Rattle.amqp_value_core.specs.declared.value.AMQPValue.{AMQPValue}
+use Rattle.amqp_value_core.specs.View.{view}
+use Rattle.amqp_grammar.specs.Values.{Tree, depth}
+use Rattle.amqp_grammar.specs.Layouts.{Layout, fixed}
+use Rattle.amqp_grammar.specs.Grammar.{Wire, wire}
+use Rattle.amqp_grammar.specs.Headline.{IsBounded}
+use Rattle.amqp_grammar.specs.Texts.{text}
+use Rattle.amqp_input.specs.Inputs.{IsBytes}
+use Rattle.amqp_grammar.specs.Outcomes.{found, length_field}
+use Rattle.amqp_grammar.proofs.GrammarLaws.{front_within, bounded_wire, wire_found_within, text_within, text_again, depth_within, bounds, length_of_text, tells_apart, extent-raw, header_extent_of, bytes_front}
+use Rattle.amqp_parsing.specs.declared.limits.Limits.{Limits}
+use Rattle.amqp_parsing.specs.Refusals.{Refusal}
+use Rattle.amqp_parsing.specs.Headers.{extent_of, raw_extent, extent_at, extent}
+use Rattle.amqp_parsing.specs.Limits.{Within, RefusesWithin, IsReadAgain, ReadsBack, IsShortestWithin, TellsApartWithin}
+
+-- where the length field is whole, a payload's least extent is its extent
+whole_extent : (o : Option Layout) (w : Width) (b : List ℕ) (n : ℕ) → header_extent_of o w b ≡ n → n ≤ length b → extent_of o w b ≡ n
+whole_extent (Some f) w b n e le = e
+whole_extent None w b n e le = rw (le-ltb (length b) (byte_len w) (omega arith)) e
+
+-- the least extent of what begins with a wire is the wire's length
+pub wire_extent : (w t : List ℕ) (v : Tree) → Wire w v → extent (w ++ t) ≡ length w
+wire_extent _ t _ (wire c type b v k p) =
+    let raw : raw_extent type (b ++ t) ≡ length b = whole_extent (fixed type) (length_field type) (b ++ t) (length b) (extent-raw type b t v p) (omega (arith, length-append b t)) in
+    ap (λ o. extent_at o (b ++ t)) k ∙ ap suc raw
+
+-- a text that keeps to the limits is read within them
+pub reads_back : (l : Limits) → ReadsBack l
+reads_back l v is fits readable deep small = λ t.
+    let p = text_within v is fits readable in
+    (omega (arith, small, wire_extent (text v) t v p.0, length_of_text v), wire_found_within l.depth (text v) t v p.0 (omega (arith, p.1, deep)))
+
+-- the text is a shortest wire of its value within a depth, and of no other value
+pub shortest_within : (d : ℕ) (v : Tree) → IsShortestWithin d v
+shortest_within d v = λ w bytes p. (text_again d w v bytes p, omega (arith, length_of_text v, (bounds w v p.0).0))
+
+pub tells_apart_within : (d : ℕ) (v : Tree) → TellsApartWithin d v
+tells_apart_within d v = λ u w x bytes_w bytes_x p q. tells_apart v u w x bytes_w bytes_x p.0 q.0
+
+-- what was read within limits is read again within them
+read_again : (l : Limits) (s rest : List ℕ) (v : Tree) → IsBytes s → Within l s (found v rest) → IsReadAgain l v
+read_again l s rest v bytes (few, x) = λ t.
+    let f = front_within l.depth s rest v x in
+    let w = f.0 in
+    let again = text_again l.depth w v (bytes_front w rest (subst IsBytes f.2 bytes)) f.1 in
+    let small : extent s ≡ length w = ap extent f.2 ∙ wire_extent w rest v f.1.0 in
+    (omega (arith, few, small, wire_extent (text v) t v again.0, length_of_text v, (bounds w v f.1.0).0), wire_found_within l.depth (text v) t v again.0 again.1)
+
+-- so of what a parser answers
+module _ {I : Type 0} (bytes : I → List ℕ) (l : Limits) (s : List ℕ) where
+  pub again_answer : (r : Result (I × AMQPValue) Refusal) → MatchResult r (λ x. Within l s (found (view x.1) (bytes x.0))) (RefusesWithin l s)
+      → IsBytes s → IfOk r (λ x. IsReadAgain l (view x.1))
+  again_answer (Ok x) p is = read_again l s (bytes x.0) (view x.1) is p
+  again_answer (Err e) p is = tt
+
+  pub depth_answer : (r : Result (I × AMQPValue) Refusal) → MatchResult r (λ x. Within l s (found (view x.1) (bytes x.0))) (RefusesWithin l s)
+      → IfOk r (λ x. depth (view x.1) ≤ l.depth)
+  depth_answer (Ok x) p = let f = front_within l.depth s (bytes x.0) (view x.1) p.1 in depth_within l.depth f.0 (view x.1) f.1
+  depth_answer (Err e) p = tt
+
+  pub bounded_within : (r : Result (I × AMQPValue) Refusal) → MatchResult r (λ x. Within l s (found (view x.1) (bytes x.0))) (RefusesWithin l s)
+      → IfOk r (λ x. IsBounded (length s - length (bytes x.0)) (view x.1))
+  bounded_within (Ok x) p =
+      let f = front_within l.depth s (bytes x.0) (view x.1) p.1 in
+      let taken : length f.0 ≡ length s - length (bytes x.0) = omega (arith, ap length f.2, length-append f.0 (bytes x.0)) in
+      subst (λ (n : ℕ). IsBounded n (view x.1)) taken (bounded_wire f.0 (view x.1) f.1.0)
+  bounded_within (Err e) p = tt

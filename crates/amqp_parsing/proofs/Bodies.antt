@@ -1,0 +1,104 @@
+-- The body of an array, as it is read: the values so far, and what is left.
+use Rattle.std.proofs.Common.{◌≡◌, ◌<◌, ◌≤◌, ℕ, List, [], ◌∷◌, ◌++◌, length, refl, sym, ap, subst, arith, length-append}
+use Rattle.std.proofs.lemmas.List.{nil_from_length}
+use Rattle.amqp_grammar.specs.Values.{Tree, Trees, no_trees, tree, trees_of}
+use Rattle.amqp_grammar.specs.Grammar.{Wire, wire, Body, no_values, value}
+use Rattle.amqp_grammar.specs.Nesting.{body_nesting, BodyWithin, OutcomeWithin}
+use Rattle.amqp_grammar.specs.Outcomes.{Reading, found, more, unknown, malformed, Heavy}
+use Rattle.amqp_grammar.proofs.GrammarLaws.{one_reading, one_outcome_within, wire_found_within, front_within}
+use Rattle.amqp_parsing.specs.declared.errors.Err.TheVariants.{Incomplete, Error, Failure}
+use Rattle.amqp_parsing.specs.declared.errors.Needed.TheVariants.{Unknown, Size}
+use Rattle.amqp_parsing.specs.declared.errors.ErrorKind.TheVariants.{MapOpt, MapRes, Eof, OutOfMemory, TooLarge}
+use Rattle.amqp_parsing.specs.Refusals.{Refusal, inside}
+use Rattle.amqp_parsing.specs.Answers.{Refuses, IsNoBody}
+
+-- the values of a list, and others behind them
+abbrev pub behind : List Tree → Trees → Trees
+behind [] vs = vs
+behind (x ∷ xs) vs = tree x (behind xs vs)
+
+-- values xs are read of the body s, and `rest` is left
+pub record Goes (d : ℕ) (s : List ℕ) (xs : List Tree) (rest : List ℕ) : Type 0 where
+  -- the values of what is left, behind those, are the values of the body
+  pub whole : (vs : Trees) → BodyWithin d rest vs → BodyWithin d s (behind xs vs)
+  -- what is left has values if the body has
+  pub only : (vs : Trees) → BodyWithin d s vs → (more : Trees) × BodyWithin d rest more
+  pub shorter : length rest ≤ length s
+
+-- one value more
+behind-push : (xs : List Tree) (v : Tree) (vs : Trees) → behind (xs ++ v ∷ []) vs ≡ behind xs (tree v vs)
+behind-push [] v vs = refl
+behind-push (x ∷ xs) v vs = ap (tree x) (behind-push xs v vs)
+
+-- no value more
+behind-nothing : (xs : List Tree) → behind xs no_trees ≡ trees_of xs
+behind-nothing [] = refl
+behind-nothing (x ∷ xs) = ap (tree x) (behind-nothing xs)
+
+-- a wire has at least one byte
+length-wire : (w : List ℕ) (v : Tree) → Wire w v → 0 < length w
+length-wire _ _ (wire c type b v k p) = omega arith
+
+-- a body that isn't empty begins with a value
+body_found : (d : ℕ) (s : List ℕ) (vs : Trees) (p : Body s vs) → body_nesting s vs p ≤ d → 0 < length s → (v : Tree) × (rest : List ℕ) × OutcomeWithin d s (found v rest)
+body_found d _ _ no_values within h = absurd (omega arith)
+body_found d _ _ (value w left v vs p all) within h = (v, left, wire_found_within d w left v p (omega arith))
+
+-- what else a body comes to that isn't empty has no values
+no_body : (d : ℕ) (s : List ℕ) (vs : Trees) (o : Reading) → OutcomeWithin d s o → ((v : Tree) (rest : List ℕ) → o ≡ found v rest → ⊥) → 0 < length s → BodyWithin d s vs → ⊥
+no_body d s vs o x other h p =
+    let f = body_found d s vs p.0 p.1 h in
+    other f.0 f.1 (one_outcome_within d s o (found f.0 f.1) x f.2)
+
+-- behind the first value of a body stands a body
+body_behind : (d : ℕ) (s w rest : List ℕ) (v : Tree) (vs : Trees) → s ≡ w ++ rest → Wire w v → (q : Body s vs) → body_nesting s vs q ≤ d → (more : Trees) × BodyWithin d rest more
+body_behind d _ w rest v _ e p no_values within = let h = length-wire w v p in absurd (omega (arith, ap length e, length-append w rest))
+body_behind d _ w rest v _ e p (value u left z vs q all) within =
+    let same = one_reading u w left rest z v q p e in
+    (vs, subst (λ (t : List ℕ). BodyWithin d t vs) same.2 (all, omega arith))
+
+-- what is left behind a value is shorter
+pub rest_shorter : (d : ℕ) (s : List ℕ) (v : Tree) (rest : List ℕ) → OutcomeWithin d s (found v rest) → length rest < length s
+rest_shorter d s v rest x =
+    let f = front_within d s rest v x in
+    omega (arith, ap length f.2, length-append f.0 rest, length-wire f.0 v f.1.0)
+
+-- before the first value
+pub Goes-start : (d : ℕ) (s : List ℕ) → Goes d s [] s
+Goes-start d s = record { whole = λ vs p. p; only = λ vs p. (vs, p); shorter = omega arith }
+
+-- behind one value more
+pub Goes-step : (d : ℕ) (s : List ℕ) (xs : List Tree) (left : List ℕ) (v : Tree) (rest : List ℕ) → Goes d s xs left → OutcomeWithin d left (found v rest)
+    → Goes d s (xs ++ v ∷ []) rest
+Goes-step d s xs left v rest g x =
+    let f = front_within d left rest v x in
+    record {
+      whole = λ vs p.
+          subst (BodyWithin d s) (sym (behind-push xs v vs))
+          (g.whole (tree v vs) (subst (λ (t : List ℕ). BodyWithin d t (tree v vs)) (sym f.2) (value f.0 rest v vs f.1.0 p.0, omega (arith, f.1.1, p.1))));
+      only = λ vs p. let m = g.only vs p in body_behind d left f.0 rest v m.0 f.2 f.1.0 m.1.0 m.1.1;
+      shorter = omega (arith, g.shorter, rest_shorter d left v rest x);
+    }
+
+-- behind the last value
+pub Goes-end : (d : ℕ) (s : List ℕ) (xs : List Tree) (rest : List ℕ) → Goes d s xs rest → length rest ≡ 0 → BodyWithin d s (trees_of xs)
+Goes-end d s xs rest g e =
+    subst (BodyWithin d s) (behind-nothing xs)
+    (g.whole no_trees (subst (λ (t : List ℕ). BodyWithin d t no_trees) (sym (nil_from_length rest e)) (no_values, omega arith)))
+
+-- where a value can't be read there are no values
+Goes-stuck : (d : ℕ) (s : List ℕ) (xs : List Tree) (rest : List ℕ) (o : Reading) → Goes d s xs rest → 0 < length rest → OutcomeWithin d rest o
+    → ((v : Tree) (left : List ℕ) → o ≡ found v left → ⊥) → IsNoBody d s malformed
+Goes-stuck d s xs rest o g h x other = λ vs p. let m = g.only vs p in no_body d rest m.0 o x other h m.1
+
+-- the refusal of a value, for the array round it
+pub Goes-refused : (d : ℕ) (s : List ℕ) (xs : List Tree) (rest : List ℕ) (e : Refusal) → Goes d s xs rest → 0 < length rest
+    → Refuses (OutcomeWithin d rest) (Heavy rest) e → Refuses (IsNoBody d s) (0 < length s) (inside e)
+Goes-refused d s xs rest (Incomplete Unknown) g h x = absurd x
+Goes-refused d s xs rest (Incomplete (Size n)) g h x = Goes-stuck d s xs rest (more n) g h x (λ v left e. cc)
+Goes-refused d s xs rest (Error MapOpt) g h x = Goes-stuck d s xs rest unknown g h x (λ v left e. cc)
+Goes-refused d s xs rest (Error Eof) g h x = Goes-stuck d s xs rest malformed g h x (λ v left e. cc)
+Goes-refused d s xs rest (Error MapRes) g h x = absurd x
+Goes-refused d s xs rest (Error OutOfMemory) g h x = absurd x
+Goes-refused d s xs rest (Error TooLarge) g h x = absurd x
+Goes-refused d s xs rest (Failure k) g h x = (x.0, omega (arith, g.shorter))

@@ -1,0 +1,141 @@
+-- Frames: a length, and as many bytes behind it.
+use Rattle.std.proofs.Common.{◌≡◌, ◌+◌, ◌-◌, ◌%◌, ◌<◌, ◌≤◌, ℕ, List, ◌++◌, ◌∷◌, length, take, drop, None, refl, sym, ap, ap₂, ◌∙◌, subst, arith, take-append-drop}
+use Rattle.std.specs.Int.{w8, w32}
+use Rattle.std.specs.Str.{IsUtf8}
+use Rattle.std.proofs.lemmas.Bool.{le-ltb}
+use Rattle.std.proofs.lemmas.List.{length-take-le}
+use Rattle.amqp_types.specs.declared.amqp_type.AMQPType.{AMQPType}
+use Rattle.amqp_types.specs.declared.amqp_type.AMQPType.TheVariants as amqp
+use Rattle.amqp_grammar.specs.Values.{Tree, Trees, Entries, no_entries, onto, short, long, octets, array, table}
+use Rattle.amqp_grammar.specs.Layouts.{fixed}
+use Rattle.amqp_types.specs.Strings.{IsShort}
+use Rattle.amqp_grammar.specs.Grammar.{small, large, Raw, raw_short, raw_long, raw_octets, raw_array, raw_table}
+use Rattle.amqp_grammar.specs.Nesting.{RawWithin, BodyWithin, RawOutcomeWithin}
+use Rattle.amqp_grammar.specs.Outcomes.{Reading, found, more, unknown, malformed, length_field, counted, frame_lack, lack_of, lack, FrontBy, RawFront, RawOutcome, RawHeavy}
+use Rattle.amqp_grammar.proofs.GrammarLaws.{array_body_within, table_body_within, raw_found_within, raw_whole_within, short_bytes, counted-large, lack_of-large, raw_found, raw_whole}
+use Rattle.amqp_parsing.specs.Refusals.{Refusal}
+use Rattle.amqp_parsing.specs.Answers.{Refuses, IsFrame, IsNumberRead, IsNoBody, IsTable, IsNoTable}
+use Rattle.amqp_parsing.proofs.Refused.{Refuses-weaker}
+
+-- ---- a length in four bytes
+
+-- s is a payload of the type, and `rest` behind it: `body` behind its length
+module _ (type : AMQPType) (s body rest : List ℕ) (row : fixed type ≡ None) (field : length_field type ≡ w32) (f : IsFrame s body rest) where
+  -- the frame is whole
+  frame_whole : lack type s ≡ 0
+  frame_whole =
+      ap₂ (λ o w. lack_of o w s) row field ∙ (ap (lack_of None w32) f.framed ∙ lack_of-large body rest f.fits)
+
+  -- what the frame means is found
+  pub frame_found : (v : Tree) → Raw type (large body) v → RawOutcome type s (found v rest)
+  frame_found v p = rw f.framed (raw_found type (large body) rest v p)
+
+  -- it takes memory where its body has a byte
+  frame_heavy : 0 < length body → RawHeavy type s
+  frame_heavy h =
+      (row, frame_whole, omega (arith, ap₂ counted field f.framed, counted-large body rest f.fits))
+
+  -- what decides about the body decides about the frame
+  pub frame_refused : (Is : Reading → Type 0) → ((o : Reading) → Is o → RawFront type s o) → (r : Refusal) → Refuses Is (0 < length body) r
+      → Refuses (RawOutcome type s) (RawHeavy type s) r
+  frame_refused Is front r x =
+      Refuses-weaker Is (RawOutcome type s) (0 < length body) (RawHeavy type s) r
+      (λ o y. raw_whole type s o frame_whole (front o y)) frame_heavy x
+
+  -- the same, where containers nest at most d deep
+  pub frame_found_within : (d : ℕ) (v : Tree) → RawWithin d type (large body) v → RawOutcomeWithin d type s (found v rest)
+  frame_found_within d v p = rw f.framed (raw_found_within d type (large body) rest v p)
+
+  pub frame_refused_within : (d : ℕ) (Is : Reading → Type 0) → ((o : Reading) → Is o → FrontBy (RawWithin d type) s o) → (r : Refusal) → Refuses Is (0 < length body) r
+      → Refuses (RawOutcomeWithin d type s) (RawHeavy type s) r
+  frame_refused_within d Is front r x =
+      Refuses-weaker Is (RawOutcomeWithin d type s) (0 < length body) (RawHeavy type s) r
+      (λ o y. raw_whole_within d type s o frame_whole (front o y)) frame_heavy x
+
+  -- a whole frame that no front decides is malformed
+  pub frame_malformed : (d : ℕ) → FrontBy (RawWithin d type) s malformed → RawOutcomeWithin d type s malformed
+  frame_malformed d none = raw_whole_within d type s malformed frame_whole none
+
+module _ (s body rest : List ℕ) (f : IsFrame s body rest) where
+  -- a long string and a byte array are read
+  pub long_found : RawOutcome amqp.LongString s (found (long body) rest)
+  long_found = frame_found amqp.LongString s body rest refl refl f (long body) (raw_long body f.fits)
+
+  pub octets_found : RawOutcome amqp.ByteArray s (found (octets body) rest)
+  octets_found = frame_found amqp.ByteArray s body rest refl refl f (octets body) (raw_octets body f.fits)
+
+-- containers, where they nest at most d deep
+module _ (d : ℕ) (s body rest : List ℕ) (f : IsFrame s body rest) where
+  -- an array is read where the body is values that nest one less
+  pub array_found : (vs : Trees) → 0 < d → BodyWithin (d - 1) body vs → RawOutcomeWithin d amqp.FieldArray s (found (array vs) rest)
+  array_found vs some p = frame_found_within amqp.FieldArray s body rest refl refl f d (array vs) (raw_array body vs f.fits p.0, omega (arith, p.1))
+
+  -- where the body is none, no front is an array
+  no_array : (o : Reading) → IsNoBody (d - 1) body o → FrontBy (RawWithin d amqp.FieldArray) s o
+  no_array malformed none = λ b left v p e. let r = array_body_within d body rest b left v f.fits p.0 p.1 (sym f.framed ∙ e) in none r.0 (r.1, omega (arith, r.2))
+  no_array (found v left) none = absurd none
+  no_array (more m) none = absurd none
+  no_array unknown none = absurd none
+
+  -- the refusal of the body is the array's
+  pub array_refused : (r : Refusal) → Refuses (IsNoBody (d - 1) body) (0 < length body) r → Refuses (RawOutcomeWithin d amqp.FieldArray s) (RawHeavy amqp.FieldArray s) r
+  array_refused r x = frame_refused_within amqp.FieldArray s body rest refl refl f d (IsNoBody (d - 1) body) no_array r x
+
+  -- where no container may stand, there is no array
+  pub array_too_deep : d ≡ 0 → RawOutcomeWithin d amqp.FieldArray s malformed
+  array_too_deep none =
+      frame_malformed amqp.FieldArray s body rest refl refl f d
+      (λ b left v p e. let r = array_body_within d body rest b left v f.fits p.0 p.1 (sym f.framed ∙ e) in absurd (omega (arith, r.2)))
+
+  -- a table is read where the body is pairs that nest one less
+  pub table_found : (es : Entries) → 0 < d → IsTable (d - 1) body es → RawOutcomeWithin d amqp.FieldTable s (found (table es) rest)
+  table_found es some p =
+      subst (λ (t : Entries). RawOutcomeWithin d amqp.FieldTable s (found (table t) rest)) (sym p.2)
+      (frame_found_within amqp.FieldTable s body rest refl refl f d (table (onto no_entries p.0)) (raw_table body p.0 f.fits p.1.0, omega (arith, p.1.1)))
+
+  -- where the body is none, no front is a table
+  no_table : (o : Reading) → IsNoTable (d - 1) body o → FrontBy (RawWithin d amqp.FieldTable) s o
+  no_table malformed none = λ b left v p e. let r = table_body_within d body rest b left v f.fits p.0 p.1 (sym f.framed ∙ e) in none r.0 (r.1, omega (arith, r.2))
+  no_table (found v left) none = absurd none
+  no_table (more m) none = absurd none
+  no_table unknown none = absurd none
+
+  -- the refusal of the body is the table's
+  pub table_refused : (r : Refusal) → Refuses (IsNoTable (d - 1) body) (0 < length body) r → Refuses (RawOutcomeWithin d amqp.FieldTable s) (RawHeavy amqp.FieldTable s) r
+  table_refused r x = frame_refused_within amqp.FieldTable s body rest refl refl f d (IsNoTable (d - 1) body) no_table r x
+
+  pub table_too_deep : d ≡ 0 → RawOutcomeWithin d amqp.FieldTable s malformed
+  table_too_deep none =
+      frame_malformed amqp.FieldTable s body rest refl refl f d
+      (λ b left v p e. let r = table_body_within d body rest b left v f.fits p.0 p.1 (sym f.framed ∙ e) in absurd (omega (arith, r.2)))
+
+-- ---- a length in one byte
+
+-- n is the length in the first byte of s, and so many bytes or more are left behind it
+module _ (s left : List ℕ) (n : ℕ) (few : n < 256) (e : IsNumberRead w8 s n left) (there : n ≤ length left) where
+  -- they are n bytes behind their length, and the others
+  split_small : s ≡ small (take n left) ++ drop n left
+  split_small =
+      let size : n ≡ length (take n left) = sym (length-take-le n left there) in
+      let low : n % 256 ≡ length (take n left) = omega arith in
+      e ∙ ap₂ (λ (k : ℕ) (t : List ℕ). k ∷ t) low (sym (take-append-drop n left))
+
+  -- the frame is whole
+  small_whole : lack amqp.ShortString s ≡ 0
+  small_whole =
+      let size : length s ≡ 1 + length left = ap length e ∙ omega arith in
+      let known : frame_lack w8 s ≡ 1 + counted w8 s - length s = rw (le-ltb (length s) 1 (omega arith)) refl in
+      let count : counted w8 s ≡ n = ap (counted w8) e ∙ omega arith in
+      omega arith
+
+  -- a short string is read where they are UTF-8
+  pub short_found : IsUtf8 (take n left) → RawOutcome amqp.ShortString s (found (short (take n left)) (drop n left))
+  short_found utf8 =
+      let is : IsShort (take n left) = record { few = omega (arith, length-take-le n left there); utf8 = utf8 } in
+      rw split_small (raw_found amqp.ShortString (small (take n left)) (drop n left) (short (take n left)) (raw_short (take n left) is))
+
+  -- where they aren't, no front is a short string
+  pub short_refused : (IsUtf8 (take n left) → ⊥) → RawOutcome amqp.ShortString s malformed
+  short_refused none =
+      raw_whole amqp.ShortString s malformed small_whole
+      (λ b rest v p d. none (short_bytes (take n left) (drop n left) b rest v p (sym split_small ∙ d)).utf8)

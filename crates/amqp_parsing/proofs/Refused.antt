@@ -1,0 +1,52 @@
+-- Refusals: what is right of a part is right of the whole.
+use Rattle.std.proofs.Common.{◌≡◌, ℕ, zero, suc, List, sym}
+use Rattle.amqp_types.specs.declared.amqp_type.AMQPType.{AMQPType}
+use Rattle.amqp_grammar.specs.Outcomes.{Reading, more, unknown, malformed, lack, Unless, RawFront, RawOutcome, RawHeavy}
+use Rattle.amqp_parsing.specs.declared.errors.Err.TheVariants.{Incomplete, Error, Failure}
+use Rattle.amqp_parsing.specs.declared.errors.Needed.TheVariants.{Unknown, Size}
+use Rattle.amqp_parsing.specs.declared.errors.ErrorKind.{ErrorKind}
+use Rattle.amqp_parsing.specs.declared.errors.ErrorKind.TheVariants.{MapOpt, MapRes, Eof, OutOfMemory, TooLarge}
+use Rattle.amqp_parsing.specs.Refusals.{Refusal}
+use Rattle.amqp_parsing.specs.Answers.{RightKind, Refuses, OnlyLacks, bad_kind, RawRefuses}
+
+-- a kind stays right where what is read stays right
+RightKind-weaker : (Is Now : Reading → Type 0) (k : ErrorKind) → ((o : Reading) → Is o → Now o) → RightKind Is k → RightKind Now k
+RightKind-weaker Is Now MapOpt f x = f unknown x
+RightKind-weaker Is Now Eof f x = f malformed x
+RightKind-weaker Is Now MapRes f x = x
+RightKind-weaker Is Now OutOfMemory f x = x
+RightKind-weaker Is Now TooLarge f x = x
+
+-- a refusal stays right where what is read and what takes memory stay right
+pub Refuses-weaker : (Is Now : Reading → Type 0) (heavy now : Type 0) (e : Refusal) → ((o : Reading) → Is o → Now o) → (heavy → now)
+    → Refuses Is heavy e → Refuses Now now e
+Refuses-weaker Is Now heavy now (Incomplete Unknown) f h x = x
+Refuses-weaker Is Now heavy now (Incomplete (Size n)) f h x = f (more n) x
+Refuses-weaker Is Now heavy now (Error k) f h x = RightKind-weaker Is Now k f x
+Refuses-weaker Is Now heavy now (Failure k) f h x = (x.0, h x.1)
+
+-- a payload is never of an unknown type
+no_unknown : (type : AMQPType) (s : List ℕ) → RawOutcome type s unknown → ⊥
+no_unknown type s x = by (lack type s) x
+  where
+    by : (n : ℕ) → Unless n (RawFront type s unknown) unknown → ⊥
+    by zero f = f
+    by (suc n) e = absurd cc
+
+-- the refusal of a payload, where it is no short string, and what takes memory takes it
+pub raw_refused : (type : AMQPType) (s : List ℕ) (heavy : Type 0) (e : Refusal) → bad_kind type ≡ Eof → (heavy → RawHeavy type s)
+    → Refuses (RawOutcome type s) heavy e → RawRefuses type s e
+raw_refused type s heavy (Incomplete Unknown) kind f x = absurd x
+raw_refused type s heavy (Incomplete (Size n)) kind f x = x
+raw_refused type s heavy (Error MapOpt) kind f x = absurd (no_unknown type s x)
+raw_refused type s heavy (Error Eof) kind f x = (sym kind, x)
+raw_refused type s heavy (Error MapRes) kind f x = absurd x
+raw_refused type s heavy (Error OutOfMemory) kind f x = absurd x
+raw_refused type s heavy (Error TooLarge) kind f x = absurd x
+raw_refused type s heavy (Failure k) kind f x = (x.0, f x.1)
+
+-- a refusal that comes only where bytes lack is a refusal
+pub OnlyLacks-refuses : (Is : Reading → Type 0) (heavy : Type 0) (e : Refusal) → OnlyLacks Is heavy e → Refuses Is heavy e
+OnlyLacks-refuses Is heavy (Incomplete lack) x = x
+OnlyLacks-refuses Is heavy (Error kind) x = absurd x
+OnlyLacks-refuses Is heavy (Failure kind) x = x

@@ -1,0 +1,132 @@
+-- The body of a table, as it is read: the entries so far, and what is left.
+use Rattle.std.proofs.Common.{◌≡◌, ◌<◌, ◌≤◌, ℕ, zero, suc, List, ◌++◌, length, refl, sym, ◌∙◌, ap, subst, arith, length-append}
+use Rattle.std.proofs.lemmas.List.{nil_from_length}
+use Rattle.amqp_types.specs.declared.amqp_type.AMQPType.TheVariants as amqp
+use Rattle.amqp_grammar.specs.Values.{Tree, short, Entries, no_entries, entry, put, onto}
+use Rattle.amqp_types.specs.Strings.{IsShort}
+use Rattle.amqp_grammar.specs.Grammar.{small, Wire, Raw, raw_short, Pairs, no_pairs, pair}
+use Rattle.amqp_grammar.specs.Nesting.{pairs_nesting, PairsWithin, OutcomeWithin}
+use Rattle.amqp_grammar.specs.Outcomes.{Reading, found, more, unknown, malformed, lack, Unless, RawFront, RawOutcome, Heavy}
+use Rattle.amqp_grammar.proofs.GrammarLaws.{one_reading, one_raw_reading, one_outcome_within, one_raw_outcome, raw_found, wire_found_within, front_within}
+use Rattle.amqp_parsing.specs.declared.errors.Err.TheVariants.{Incomplete, Error, Failure}
+use Rattle.amqp_parsing.specs.declared.errors.Needed.TheVariants.{Unknown, Size}
+use Rattle.amqp_parsing.specs.declared.errors.ErrorKind.TheVariants.{MapOpt, MapRes, Eof, OutOfMemory, TooLarge}
+use Rattle.amqp_parsing.specs.Refusals.{Refusal, inside}
+use Rattle.amqp_parsing.specs.Answers.{Refuses, RawRefuses, IsTable, IsNoTable}
+use Rattle.amqp_parsing.proofs.Bodies.{rest_shorter}
+
+-- es are the entries of what was read of the body s, and `rest` is left
+pub record Walks (d : ℕ) (s : List ℕ) (es : Entries) (rest : List ℕ) : Type 0 where
+  -- the pairs of what is left, put onto those entries, are what the pairs of the body come to
+  pub whole : (ps : Entries) → PairsWithin d rest ps → (qs : Entries) × PairsWithin d s qs × (onto es ps ≡ onto no_entries qs)
+  -- what is left has pairs if the body has
+  pub only : (qs : Entries) → PairsWithin d s qs → (ps : Entries) × PairsWithin d rest ps
+  pub shorter : length rest ≤ length s
+
+-- a key that is read stands at the front
+key_of : (b k : List ℕ) → Raw amqp.ShortString b (short k) → (b ≡ small k) × IsShort k
+key_of _ _ (raw_short s is) = (refl, is)
+
+key_front : (s k rest : List ℕ) → RawOutcome amqp.ShortString s (found (short k) rest) → (s ≡ small k ++ rest) × IsShort k
+key_front s k rest x =
+    let f = by (lack amqp.ShortString s) x in
+    let key = key_of f.0 k f.1 in
+    (f.2 ∙ ap (λ (b : List ℕ). b ++ rest) key.0, key.1)
+  where
+    by : (n : ℕ) → Unless n (RawFront amqp.ShortString s (found (short k) rest)) (found (short k) rest)
+        → RawFront amqp.ShortString s (found (short k) rest)
+    by zero f = f
+    by (suc n) e = absurd cc
+
+-- what is left behind a key is shorter
+pub key_shorter : (s k rest : List ℕ) → RawOutcome amqp.ShortString s (found (short k) rest) → length rest < length s
+key_shorter s k rest x =
+    let f = key_front s k rest x in
+    omega (arith, ap length f.0, length-append k rest)
+
+-- one key is read of a list, and one rest
+one_key : (k j x y : List ℕ) → IsShort k → IsShort j → small k ++ x ≡ small j ++ y → x ≡ y
+one_key k j x y p q e =
+    (one_raw_reading amqp.ShortString (small k) (small j) x y (short k) (short j) (raw_short k p) (raw_short j q) e).2
+
+-- pairs that aren't empty begin with a key that is read
+no_key : (s : List ℕ) (ps : Entries) (o : Reading) → RawOutcome amqp.ShortString s o → ((v : Tree) (rest : List ℕ) → o ≡ found v rest → ⊥)
+    → 0 < length s → Pairs s ps → ⊥
+no_key _ _ o x other h no_pairs = absurd (omega arith)
+no_key _ _ o x other h (pair k w left v ps is p all) =
+    other (short k) (w ++ left)
+    (one_raw_outcome amqp.ShortString (small k ++ (w ++ left)) o (found (short k) (w ++ left)) x
+    (raw_found amqp.ShortString (small k) (w ++ left) (short k) (raw_short k is)))
+
+-- and behind it a value that is read
+no_value : (d : ℕ) (s k behind : List ℕ) (ps : Entries) (o : Reading) → IsShort k → s ≡ small k ++ behind → OutcomeWithin d behind o
+    → ((v : Tree) (rest : List ℕ) → o ≡ found v rest → ⊥) → (q : Pairs s ps) → pairs_nesting s ps q ≤ d → ⊥
+no_value d _ k behind _ o is e x other no_pairs within = absurd cc
+no_value d _ k behind _ o is e x other (pair j w left v ps at p all) within =
+    let rest : behind ≡ w ++ left = one_key k j behind (w ++ left) is at (sym e) in
+    other v left (one_outcome_within d behind o (found v left) x (subst (λ (t : List ℕ). OutcomeWithin d t (found v left)) (sym rest) (wire_found_within d w left v p (omega arith))))
+
+-- behind the first pair stand pairs
+pairs_behind : (d : ℕ) (s k w rest : List ℕ) (v : Tree) (ps : Entries) → IsShort k → Wire w v → s ≡ small k ++ (w ++ rest) → (q : Pairs s ps) → pairs_nesting s ps q ≤ d
+    → (qs : Entries) × PairsWithin d rest qs
+pairs_behind d _ k w rest v _ is p e no_pairs within = absurd cc
+pairs_behind d _ k w rest v _ is p e (pair j u left z ps at q all) within =
+    let behind : w ++ rest ≡ u ++ left = one_key k j (w ++ rest) (u ++ left) is at (sym e) in
+    let same = one_reading w u rest left v z p q behind in
+    (ps, subst (λ (t : List ℕ). PairsWithin d t ps) (sym same.2) (all, omega arith))
+
+-- before the first pair
+pub Walks-start : (d : ℕ) (s : List ℕ) → Walks d s no_entries s
+Walks-start d s = record { whole = λ ps p. (ps, p, refl); only = λ qs p. (qs, p); shorter = omega arith }
+
+-- behind one pair more
+pub Walks-step : (d : ℕ) (s : List ℕ) (es : Entries) (left k behind : List ℕ) (v : Tree) (rest : List ℕ) → Walks d s es left
+    → RawOutcome amqp.ShortString left (found (short k) behind) → OutcomeWithin d behind (found v rest) → Walks d s (put k v es) rest
+Walks-step d s es left k behind v rest g x y =
+    let key = key_front left k behind x in
+    let f = front_within d behind rest v y in
+    let all : left ≡ small k ++ (f.0 ++ rest) = key.0 ∙ ap (λ (t : List ℕ). small k ++ t) f.2 in
+    record {
+      whole = λ ps p. g.whole (entry k v ps) (subst (λ (t : List ℕ). PairsWithin d t (entry k v ps)) (sym all) (pair k f.0 rest v ps key.1 f.1.0 p.0, omega (arith, f.1.1, p.1)));
+      only = λ qs p. let m = g.only qs p in pairs_behind d left k f.0 rest v m.0 key.1 f.1.0 all m.1.0 m.1.1;
+      shorter = omega (arith, g.shorter, key_shorter left k behind x, rest_shorter d behind v rest y);
+    }
+
+-- behind the last pair
+pub Walks-end : (d : ℕ) (s : List ℕ) (es : Entries) (rest : List ℕ) → Walks d s es rest → length rest ≡ 0 → IsTable d s es
+Walks-end d s es rest g e = g.whole no_entries (subst (λ (t : List ℕ). PairsWithin d t no_entries) (sym (nil_from_length rest e)) (no_pairs, omega arith))
+
+-- where a key can't be read there are no pairs
+stuck_at_key : (d : ℕ) (s : List ℕ) (es : Entries) (rest : List ℕ) (o : Reading) → Walks d s es rest → 0 < length rest → RawOutcome amqp.ShortString rest o
+    → ((v : Tree) (left : List ℕ) → o ≡ found v left → ⊥) → IsNoTable d s malformed
+stuck_at_key d s es rest o g h x other = λ qs p. let m = g.only qs p in no_key rest m.0 o x other h m.1.0
+
+-- the refusal of a key, for the table round it
+pub Walks-bad_key : (d : ℕ) (s : List ℕ) (es : Entries) (rest : List ℕ) (e : Refusal) → Walks d s es rest → 0 < length rest
+    → RawRefuses amqp.ShortString rest e → Refuses (IsNoTable d s) (0 < length s) (inside e)
+Walks-bad_key d s es rest (Incomplete Unknown) g h x = absurd x
+Walks-bad_key d s es rest (Incomplete (Size n)) g h x = stuck_at_key d s es rest (more n) g h x (λ v left e. cc)
+Walks-bad_key d s es rest (Error k) g h x = stuck_at_key d s es rest malformed g h x.1 (λ v left e. cc)
+Walks-bad_key d s es rest (Failure k) g h x = (x.0, omega (arith, g.shorter))
+
+-- where a value can't be read behind its key there are no pairs
+stuck_at_value : (d : ℕ) (s : List ℕ) (es : Entries) (rest k behind : List ℕ) (o : Reading) → Walks d s es rest
+    → RawOutcome amqp.ShortString rest (found (short k) behind) → OutcomeWithin d behind o
+    → ((v : Tree) (left : List ℕ) → o ≡ found v left → ⊥) → IsNoTable d s malformed
+stuck_at_value d s es rest k behind o g x y other = λ qs p.
+    let m = g.only qs p in
+    let key = key_front rest k behind x in
+    no_value d rest k behind m.0 o key.1 key.0 y other m.1.0 m.1.1
+
+-- the refusal of a value, for the table round it
+pub Walks-bad_value : (d : ℕ) (s : List ℕ) (es : Entries) (rest k behind : List ℕ) (e : Refusal) → Walks d s es rest
+    → RawOutcome amqp.ShortString rest (found (short k) behind) → Refuses (OutcomeWithin d behind) (Heavy behind) e
+    → Refuses (IsNoTable d s) (0 < length s) (inside e)
+Walks-bad_value d s es rest k behind (Incomplete Unknown) g x y = absurd y
+Walks-bad_value d s es rest k behind (Incomplete (Size n)) g x y = stuck_at_value d s es rest k behind (more n) g x y (λ v left e. cc)
+Walks-bad_value d s es rest k behind (Error MapOpt) g x y = stuck_at_value d s es rest k behind unknown g x y (λ v left e. cc)
+Walks-bad_value d s es rest k behind (Error Eof) g x y = stuck_at_value d s es rest k behind malformed g x y (λ v left e. cc)
+Walks-bad_value d s es rest k behind (Error MapRes) g x y = absurd y
+Walks-bad_value d s es rest k behind (Error OutOfMemory) g x y = absurd y
+Walks-bad_value d s es rest k behind (Error TooLarge) g x y = absurd y
+Walks-bad_value d s es rest k behind (Failure f) g x y = (y.0, omega (arith, g.shorter, key_shorter rest k behind x))

@@ -1,0 +1,66 @@
+-- A value behind its id.
+use Rattle.std.proofs.Common.{◌-◌, arith, length, IfOk, ◌≡◌, ℕ, Bool, true, false, cond, List, [], ◌∷◌, Some, Result, Ok, Err, MatchResult, nat_eq, sym, subst, rules}
+use Rattle.std.specs.Map.{lookup}
+use Rattle.amqp_types.specs.declared.amqp_type.AMQPType.{AMQPType}
+use Rattle.amqp_value_core.specs.declared.value.AMQPValue.{AMQPValue}
+use Rattle.amqp_types.specs.Ids.{letters, kind}
+use Rattle.amqp_value_core.specs.View.{view}
+use Rattle.amqp_grammar.specs.Outcomes.{Reading, found, Outcome, RawHeavy, Heavy}
+use Rattle.amqp_grammar.specs.Nesting.{OutcomeWithin, RawOutcomeWithin}
+use Rattle.amqp_grammar.specs.Headline.{IsBounded}
+use Rattle.amqp_grammar.proofs.GrammarLaws.{raw_to_value_within, raw_to_heavy, bounded_found, unlimited}
+use Rattle.amqp_parsing.specs.declared.errors.ErrorKind.TheVariants.{Eof}
+use Rattle.amqp_parsing.specs.Refusals.{Refusal}
+use Rattle.amqp_parsing.specs.Answers.{IsType, Refuses, bad_kind}
+use Rattle.amqp_parsing.proofs.Refused.{Refuses-weaker}
+
+-- none of the types that are read is a short string
+abbrev AreEof : List (ℕ × AMQPType) → Type 0
+AreEof [] = Unit {0}
+AreEof (x ∷ xs) = (bad_kind x.1 ≡ Eof) × AreEof xs
+
+eof_of : (test : ℕ → Bool) (xs : List (ℕ × AMQPType)) (type : AMQPType) → AreEof xs → lookup test xs ≡ Some type → bad_kind type ≡ Eof
+eof_of test [] type all e = absurd cc
+eof_of test (x ∷ xs) type all e = by (test x.0) (eof_of test xs type all.1) e
+  where
+    by : (b : Bool) → (lookup test xs ≡ Some type → bad_kind type ≡ Eof) → cond b (Some x.1) (lookup test xs) ≡ Some type → bad_kind type ≡ Eof
+    by true later d =
+        let same : x.1 ≡ type = cc in
+        subst (λ (t : AMQPType). bad_kind t ≡ Eof) same all.0
+    by false later d = later d
+
+eof_of_kind : (c : ℕ) (type : AMQPType) → kind c ≡ Some type → bad_kind type ≡ Eof
+eof_of_kind c type e = eof_of (nat_eq c) letters type (search rules) e
+
+-- the id of the type is read from s, and `rest` is left
+module _ (d : ℕ) (s rest : List ℕ) (type : AMQPType) (p : IsType s type rest) where
+  -- what reading the payload comes to, reading the value does
+  typed_outcome : (o : Reading) → RawOutcomeWithin d type rest o → OutcomeWithin d s o
+  typed_outcome o x = subst (λ (t : List ℕ). OutcomeWithin d t o) (sym p.1) (raw_to_value_within d p.0 type rest o p.2 x)
+
+  -- the value takes memory where the payload does
+  typed_heavy : RawHeavy type rest → Heavy s
+  typed_heavy x = subst Heavy (sym p.1) (raw_to_heavy p.0 type rest p.2 x)
+
+  -- what the parser of the payload answers, over an input that shows `bytes`, is right of the value
+  pub typed_answer : {I : Type 0} (bytes : I → List ℕ) (r : Result (I × AMQPValue) Refusal)
+      → MatchResult r (λ x. RawOutcomeWithin d type rest (found (view x.1) (bytes x.0))) (Refuses (RawOutcomeWithin d type rest) (RawHeavy type rest))
+      → MatchResult r (λ x. OutcomeWithin d s (found (view x.1) (bytes x.0))) (Refuses (OutcomeWithin d s) (Heavy s))
+  typed_answer bytes (Ok x) p = typed_outcome (found (view x.1) (bytes x.0)) p
+  typed_answer bytes (Err e) p =
+      Refuses-weaker (RawOutcomeWithin d type rest) (OutcomeWithin d s) (RawHeavy type rest) (Heavy s) e typed_outcome typed_heavy p
+
+-- a depth that the bytes can't pass limits no answer
+pub unlimited_answer : {I : Type 0} (bytes : I → List ℕ) (d : ℕ) (s : List ℕ) (r : Result (I × AMQPValue) Refusal) → d ≡ length s
+    → MatchResult r (λ x. OutcomeWithin d s (found (view x.1) (bytes x.0))) (Refuses (OutcomeWithin d s) (Heavy s))
+    → MatchResult r (λ x. Outcome s (found (view x.1) (bytes x.0))) (Refuses (Outcome s) (Heavy s))
+unlimited_answer bytes d s (Ok x) e p = unlimited d s (found (view x.1) (bytes x.0)) (omega arith) p
+unlimited_answer bytes d s (Err r) e p =
+    Refuses-weaker (OutcomeWithin d s) (Outcome s) (Heavy s) (Heavy s) r (λ o x. unlimited d s o (omega arith) x) (λ h. h) p
+
+-- what was read keeps to the number of bytes that it was read from
+pub bounded_answer : {I : Type 0} (bytes : I → List ℕ) (s : List ℕ) (r : Result (I × AMQPValue) Refusal)
+    → MatchResult r (λ x. Outcome s (found (view x.1) (bytes x.0))) (Refuses (Outcome s) (Heavy s))
+    → IfOk r (λ x. IsBounded (length s - length (bytes x.0)) (view x.1))
+bounded_answer bytes s (Ok x) p = bounded_found s (bytes x.0) (view x.1) p
+bounded_answer bytes s (Err e) p = tt

@@ -1,0 +1,191 @@
+-- What lacks of a value that hasn't all come, as more of it comes.
+use Rattle.std.proofs.Common.{◌≡◌, ◌<◌, ◌≤◌, ◌+◌, ◌-◌, ℕ, zero, suc, List, [], ◌∷◌, ◌++◌, length, take, Option, Some, None, MatchOption, refl, ap, ap₂, ◌∙◌, subst, arith, inl, inr, length-append}
+use Rattle.std.specs.Option.{IfSome}
+use Rattle.amqp_types.specs.declared.amqp_type.AMQPType.TheVariants as amqp
+use Rattle.std.specs.Int.{Width, byte_len}
+use Rattle.std.proofs.lemmas.Bool.{cases_lt, lt-ltb, le-ltb}
+use Rattle.std.proofs.lemmas.List.{take-append-le, take_at, drop_at, nil_from_length, length-take-le, append-nil}
+use Rattle.amqp_types.specs.declared.amqp_type.AMQPType.{AMQPType}
+use Rattle.amqp_grammar.specs.Values.{Tree}
+use Rattle.amqp_types.specs.Ids.{kind}
+use Rattle.amqp_grammar.specs.Layouts.{Layout, fixed}
+use Rattle.amqp_grammar.specs.Grammar.{Wire}
+use Rattle.amqp_grammar.specs.Nesting.{OutcomeWithin}
+use Rattle.amqp_grammar.specs.Outcomes.{found, more, unknown, length_field, counted, frame_lack, fields_lack, lack_of, lack, Unless, FrontBy, Front, OutcomeBy, Outcome}
+use Rattle.amqp_grammar.proofs.GrammarLaws.{more_bytes, wire_found, front_within}
+use Rattle.amqp_parsing.specs.Headers.{extent_of, extent_at, extent, wanted_at, wanted, IsWaiting}
+use lib.Seq.{take-add}
+
+-- ---- what lacks, and the outcome
+
+-- where bytes lack, that many are asked for
+pub more_wanted : (P : List ℕ → Tree → Type 0) (s : List ℕ) → 0 < wanted s → OutcomeBy P s (more (wanted s))
+more_wanted P [] h = refl
+more_wanted P (c ∷ b) h = by (kind c) h
+  where
+    at : (n : ℕ) (Q : Type 0) → 0 < n → Unless n Q (more n)
+    at zero Q lt = absurd (omega arith)
+    at (suc n) Q lt = refl
+
+    by : (k : Option AMQPType) → 0 < wanted_at k b
+        → MatchOption k (more (wanted_at k b) ≡ unknown) (λ type. Unless (lack type b) (FrontBy P (c ∷ b) (more (wanted_at k b))) (more (wanted_at k b)))
+    by None lt = absurd (omega arith)
+    by (Some type) lt = at (lack type b) _ lt
+
+-- what is asked for lacks
+pub wanted_more : (P : List ℕ → Tree → Type 0) (s : List ℕ) (n : ℕ) → OutcomeBy P s (more n) → wanted s ≡ n
+wanted_more P [] n x = cc
+wanted_more P (c ∷ b) n x = by (kind c) x
+  where
+    at : (m : ℕ) → Unless m (FrontBy P (c ∷ b) (more n)) (more n) → m ≡ n
+    at zero none = absurd none
+    at (suc m) is = cc
+
+    by : (k : Option AMQPType) → MatchOption k (more n ≡ unknown) (λ type. Unless (lack type b) (FrontBy P (c ∷ b) (more n)) (more n))
+        → wanted_at k b ≡ n
+    by None is = absurd cc
+    by (Some type) y = at (lack type b) y
+
+-- where a value is found, nothing lacks
+pub wanted_found : (s : List ℕ) (v : Tree) (rest : List ℕ) → Outcome s (found v rest) → wanted s ≡ 0
+wanted_found [] v rest x = absurd cc
+wanted_found (c ∷ b) v rest x = by (kind c) x
+  where
+    at : (m : ℕ) → Unless m (Front (c ∷ b) (found v rest)) (found v rest) → m ≡ 0
+    at zero front = refl
+    at (suc m) is = absurd cc
+
+    by : (k : Option AMQPType) → MatchOption k (found v rest ≡ unknown) (λ type. Unless (lack type b) (Front (c ∷ b) (found v rest)) (found v rest))
+        → wanted_at k b ≡ 0
+    by None is = refl
+    by (Some type) y = at (lack type b) y
+
+-- fewer bytes than lack leave the others lacking
+pub wanted-append : (s m : List ℕ) → length m < wanted s → wanted (s ++ m) ≡ wanted s - length m
+wanted-append s m lt = wanted_more Wire (s ++ m) (wanted s - length m) (more_bytes s m (more (wanted s)) (more_wanted Wire s (omega arith)) lt)
+
+-- ---- the least extent
+
+-- fewer bytes than a payload lacks don't change its extent
+extent_of-append : (o : Option Layout) (w : Width) (b m : List ℕ) → length m < lack_of o w b → extent_of o w (b ++ m) ≡ extent_of o w b
+extent_of-append (Some f) w b m lt = refl
+extent_of-append None w b m lt = elim (cases_lt (length b) (byte_len w)) [
+  | inl cut ↦
+      let here = lt-ltb (length b) (byte_len w) cut in
+      let lacks : frame_lack w b ≡ byte_len w - length b = rw here refl in
+      let there = lt-ltb (length (b ++ m)) (byte_len w) (omega (arith, lacks, length-append b m)) in
+      rw (here, there) refl
+  | inr known ↦
+      let here = le-ltb (length b) (byte_len w) known in
+      let there = le-ltb (length (b ++ m)) (byte_len w) (omega (arith, length-append b m)) in
+      let same : counted w (b ++ m) ≡ counted w b = rw (take-append-le (byte_len w) b m known) refl in
+      rw (here, there, same) refl
+]
+
+-- nor that of a value
+pub extent-append : (s m : List ℕ) → length m < wanted s → extent (s ++ m) ≡ extent s
+extent-append [] m lt = ap extent (nil_from_length m (omega arith))
+extent-append (c ∷ b) m lt = by (kind c) lt
+  where
+    by : (k : Option AMQPType) → length m < wanted_at k b
+        → extent_at k (b ++ m) ≡ extent_at k b
+    by None lt = refl
+    by (Some type) lt = ap suc (extent_of-append (fixed type) (length_field type) b m lt)
+
+-- ---- waiting
+
+-- the first n bytes of two lists, where n reaches the second
+take_behind : (s m : List ℕ) (n : ℕ) → length s ≤ n → take n (s ++ m) ≡ s ++ take (n - length s) m
+take_behind s m n le =
+    let j = n - length s in
+    let all : n ≡ length s + j = omega arith in
+    ap (λ (k : ℕ). take k (s ++ m)) all ∙ take-add (length s) j (s ++ m)
+    ∙ ap₂ (λ (a b : List ℕ). a ++ take j b) (take_at s m (length s) refl) (drop_at s m (length s) refl)
+
+-- nothing waits
+pub waits_start : (frame : ℕ) → IsWaiting frame []
+waits_start frame n lt = absurd (omega arith)
+
+-- as many bytes as lack, or fewer
+pub waits_more : (frame : ℕ) (s m : List ℕ) → IsWaiting frame s → extent s ≤ frame → length m ≤ wanted s → IsWaiting frame (s ++ m)
+waits_more frame s m waits within few n lt = elim (cases_lt n (length s)) [
+  | inl inside ↦
+      rw (take-append-le n s m (omega arith)) (waits n inside)
+  | inr behind ↦
+      let j = n - length s in
+      let part = take j m in
+      let len : length part ≡ j = length-take-le j m (omega (arith, length-append s m)) in
+      let front : take n (s ++ m) ≡ s ++ part = take_behind s m n behind in
+      rw front (omega (arith, len, wanted-append s part (omega (arith, len, length-append s m)), length-append s m), omega (arith, extent-append s part (omega (arith, len, length-append s m))))
+]
+
+-- a value that is found where all has waited is all that came
+pub nothing_behind : (frame d : ℕ) (s : List ℕ) (v : Tree) (rest : List ℕ) → IsWaiting frame s → OutcomeWithin d s (found v rest) → rest ≡ []
+nothing_behind frame d s v rest waits x =
+    let f = front_within d s rest v x in
+    let w = f.0 in
+    let len = ap length f.2 ∙ length-append w rest in
+    elim (cases_lt (length w) (length s)) [
+      | inl less ↦
+          let front : take (length w) s ≡ w = ap (take (length w)) f.2 ∙ take_at w rest (length w) refl in
+          let lacks : 0 < wanted w = subst (λ (t : List ℕ). 0 < wanted t) front (waits (length w) less).0 in
+          let none : wanted (w ++ []) ≡ 0 = wanted_found (w ++ []) v [] (wire_found w [] v f.1.0) in
+          absurd (omega (arith, ap wanted (append-nil w)))
+      | inr whole ↦ nil_from_length rest (omega arith)
+    ]
+
+-- ---- the frame
+
+-- the first field of a type is within all of its fields
+first_fits : (type : AMQPType) → IfSome (fixed type) (λ f. f.first ≤ f.width)
+first_fits amqp.ShortString = tt
+first_fits amqp.LongString = tt
+first_fits amqp.ByteArray = tt
+first_fits amqp.FieldArray = tt
+first_fits amqp.FieldTable = tt
+first_fits _ = omega arith
+
+-- what a payload lacks is within its extent
+lack_within : (o : Option Layout) (w : Width) (b : List ℕ) → IfSome o (λ f. f.first ≤ f.width) → 0 < lack_of o w b → length b + lack_of o w b ≤ extent_of o w b
+lack_within (Some f) w b fits lt = elim (cases_lt (length b) f.first) [
+  | inl cut ↦
+      let is : fields_lack f b ≡ f.first - length b = rw (lt-ltb (length b) f.first cut) refl in
+      omega (arith, is)
+  | inr known ↦
+      let is : fields_lack f b ≡ f.width - length b = rw (le-ltb (length b) f.first known) refl in
+      omega (arith, is)
+]
+lack_within None w b fits lt = elim (cases_lt (length b) (byte_len w)) [
+  | inl cut ↦
+      let here = lt-ltb (length b) (byte_len w) cut in
+      let is : frame_lack w b ≡ byte_len w - length b = rw here refl in
+      let all : extent_of None w b ≡ byte_len w = rw here refl in
+      omega (arith, is, all)
+  | inr known ↦
+      let here = le-ltb (length b) (byte_len w) known in
+      let is : frame_lack w b ≡ byte_len w + counted w b - length b = rw here refl in
+      let all : extent_of None w b ≡ byte_len w + counted w b = rw here refl in
+      omega (arith, is, all)
+]
+
+-- so it is of a value whose id has come
+wanted_within : (s : List ℕ) → 0 < length s → 0 < wanted s → length s + wanted s ≤ extent s
+wanted_within [] some lt = absurd (omega arith)
+wanted_within (c ∷ b) some lt = by (kind c) lt
+  where
+    by : (k : Option AMQPType) → 0 < wanted_at k b
+        → suc (length b) + wanted_at k b ≤ extent_at k b
+    by None lt = absurd (omega arith)
+    by (Some type) lt = omega (arith, lack_within (fixed type) (length_field type) b (first_fits type) lt)
+
+-- what has waited is within the frame
+pub kept_within : (frame : ℕ) (s : List ℕ) → 0 < frame → IsWaiting frame s → length s ≤ frame
+kept_within frame s some waits = elim (cases_lt 1 (length s)) [
+  | inl many ↦
+      let n = length s - 1 in
+      let a = take n s in
+      let len : length a ≡ n = length-take-le n s (omega arith) in
+      let at = waits n (omega arith) in
+      omega (arith, len, at.1, wanted_within a (omega (arith, len)) at.0, at.0)
+  | inr few ↦ omega arith
+]

@@ -1,0 +1,8 @@
+use Rattle.std.proofs.Common.{arith}
+use Rattle.amqp_parsing.proofs.Payloads.{ReadsBack-8, boolean_found}
+use Rattle.amqp_parsing.proofs.scalars.parse_boolean.Goals as goal
+
+pub returns : goal.returns
+returns g c =
+    let n = c.in_ok-i.byte in
+    boolean_found (g.I.ParsableInput.bytes c.args.i) (g.I.ParsableInput.bytes c.in_ok-i.i) n (ReadsBack-8 n (omega arith)) c.in_ok-i.ensures.number

@@ -1,0 +1,10 @@
+use Rattle.std.proofs.Common.{arith}
+use Rattle.amqp_parsing.proofs.Payloads.{ReadsBack-8, ReadsBack-32, decimal_found}
+use Rattle.amqp_parsing.proofs.scalars.parse_decimal_value.Goals as goal
+
+pub returns : goal.returns
+returns g c =
+    let scale = c.in_ok-i.scale in
+    let n = c.in_ok-i-2.value in
+    decimal_found (g.I.ParsableInput.bytes c.args.i) (g.I.ParsableInput.bytes c.in_ok-i.i) (g.I.ParsableInput.bytes c.in_ok-i-2.i) scale n
+    (ReadsBack-8 scale (omega arith)) (ReadsBack-32 n (omega arith)) c.in_ok-i.ensures.number c.in_ok-i-2.ensures.number

@@ -1,0 +1,11 @@
+use Rattle.std.proofs.Common.{refl, arith}
+use Rattle.std.specs.Int.{w64}
+use Rattle.amqp_types.specs.declared.amqp_type.AMQPType.TheVariants as amqp
+use Rattle.amqp_parsing.proofs.Payloads.{ReadsBack-64, number_found}
+use Rattle.amqp_parsing.proofs.scalars.parse_double.Goals as goal
+
+pub returns : goal.returns
+returns g c =
+    let n = c.in_ok-i.bits in
+    rw c.from_bits.ensures
+    (number_found amqp.Double w64 (g.I.ParsableInput.bytes c.args.i) (g.I.ParsableInput.bytes c.in_ok-i.i) n refl (ReadsBack-64 n (omega arith)) c.in_ok-i.ensures)

@@ -1,0 +1,14 @@
+use Rattle.std.proofs.Common.{refl, arith, rules}
+use Rattle.std.specs.Int.{w16}
+use Rattle.amqp_types.specs.declared.amqp_type.AMQPType.TheVariants as amqp
+use Rattle.amqp_parsing.specs.Answers.{IsNumberRead}
+use Rattle.amqp_parsing.proofs.Payloads.{ReadsBack-16, number_found}
+use Rattle.amqp_parsing.proofs.scalars.parse_short_uint.Goals as goal
+
+pub returns-clause-payload : goal.returns-clause-payload
+returns-clause-payload g c =
+    let s = g.I.ParsableInput.bytes c.args.i in
+    let rest = g.I.ParsableInput.bytes c.take_from.result in
+    let n = c.from_be_bytes-n.result in
+    let read : IsNumberRead w16 s n rest = search rules in
+    number_found amqp.ShortUInt w16 s rest n refl (ReadsBack-16 n (omega arith)) read

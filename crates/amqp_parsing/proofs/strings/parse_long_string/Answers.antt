@@ -1,0 +1,7 @@
+use Rattle.amqp_parsing.proofs.Frames.{long_found}
+use Rattle.amqp_parsing.proofs.strings.parse_long_string.Goals as goal
+
+pub returns : goal.returns
+returns g c =
+    rw (c.from.ensures, c.in-Ok.ensures.ok)
+    (long_found (g.I.ParsableInput.bytes c.args.i) (g.I.ParsableInput.bytes c.in_ok-i.body) (g.I.ParsableInput.bytes c.in_ok-i.i) c.in_ok-i.ensures)

@@ -1,0 +1,278 @@
+use Rattle.std.proofs.Common.{◌≡◌, [], ◌∷◌, ◌++◌, sym, ap, subst, rules, arith, map}
+use Rattle.std.specs.Int.{w8, w16, w32, w64, cast_signed, cast_unsigned}
+use Rattle.std.proofs.lemmas.List.{map_push}
+use Rattle.std.proofs.lemmas.Result.{err_from_is_err_and}
+use Rattle.amqp_types.specs.declared.amqp_type.AMQPType.TheVariants as amqp
+use Rattle.amqp_value_core.specs.declared.value.AMQPValue.{the_lemmas}
+use Rattle.amqp_value_core.specs.declared.value.AMQPValue.TheVariants.{FieldArray, FieldTable}
+use Rattle.amqp_value_core.specs.declared.value.AMQPValue.TheVariants as value
+use Rattle.amqp_grammar.specs.Values.{Tree, scalar, void, array, table, no_entries, put}
+use Rattle.amqp_value_core.specs.View.{view, array_items, array_view, entries, table_view}
+use Rattle.amqp_grammar.specs.Outcomes.{found, RawOutcome}
+use Rattle.amqp_parsing.specs.Gathering.{kept}
+use Rattle.amqp_parsing.proofs.Bodies.{Goes-start, Goes-step, Goes-end, Goes-refused, rest_shorter}
+use Rattle.amqp_parsing.proofs.TableBodies.{Walks-start, Walks-step, Walks-end, Walks-bad_key, Walks-bad_value, key_shorter}
+use Rattle.amqp_parsing.proofs.Frames.{array_found, array_refused, array_too_deep, table_found, table_refused, table_too_deep}
+use Rattle.amqp_grammar.specs.Nesting.{RawOutcomeWithin}
+use Rattle.amqp_parsing.proofs.Plain.{plain_found, unsigned_refuses}
+use Rattle.amqp_parsing.proofs.Payloads.{unsigned_outcome, void_found}
+use Rattle.amqp_parsing.proofs.Typed.{typed_answer}
+use Rattle.amqp_parsing.proofs.Views.{view-Void}
+use Rattle.amqp_parsing.proofs.values.+parser.Goals as goal
+
+pub parse_body-returns-in-Err : goal.parse_body-returns-in-Err
+parse_body-returns-in-Err g t c =
+    rw c.inside.ensures
+    (Goes-refused c.args.depth _ _ (g.I.ParsableInput.bytes c.entries.rest) c.in-Err.e c.entries.invariant (omega arith) c.in-Err.ensures)
+
+pub parse_body-entries-smaller : goal.parse_body-entries-smaller
+parse_body-entries-smaller g t c =
+    rest_shorter c.args.depth (g.I.ParsableInput.bytes c.entries.rest) (view c.in-Ok.read.1) (g.I.ParsableInput.bytes c.in-Ok.read.0) c.in-Ok.ensures
+
+pub parse_body-entries-preserved : goal.parse_body-entries-preserved
+parse_body-entries-preserved g t c =
+    let grown : array_items c.push.new.self ≡ array_items c.entries.array ++ c.in-Ok.read.1 ∷ [] = search rules in
+    rw (grown, map_push)
+    (Goes-step c.args.depth _ _ (g.I.ParsableInput.bytes c.entries.rest) (view c.in-Ok.read.1) _ c.entries.invariant c.in-Ok.ensures)
+
+pub parse_body-returns : goal.parse_body-returns
+parse_body-returns g t c =
+    Goes-end c.args.depth (g.I.ParsableInput.bytes c.args.body) (map view (array_items c.entries.array)) (g.I.ParsableInput.bytes c.entries.rest) c.entries.invariant (omega arith)
+
+pub parse_pairs-returns-in-Err : goal.parse_pairs-returns-in-Err
+parse_pairs-returns-in-Err g t c =
+    rw c.inside.ensures
+    (Walks-bad_key c.args.depth _ (kept c.has_many_pairs-many.result c.pairs.table c.pairs.pairs.items) (g.I.ParsableInput.bytes c.pairs.rest) c.in-Err.e c.pairs.invariant (omega arith) c.in-Err.ensures)
+
+pub parse_pairs-returns-in-Err-value_within : goal.parse_pairs-returns-in-Err-value_within
+parse_pairs-returns-in-Err-value_within g t c =
+    rw c.inside-in-Err-value_within.ensures
+    (Walks-bad_value c.args.depth _ (kept c.has_many_pairs-many.result c.pairs.table c.pairs.pairs.items) (g.I.ParsableInput.bytes c.pairs.rest) c.in-Ok.read.1 (g.I.ParsableInput.bytes c.in-Ok.read.0) c.in-Err-value_within.e
+    c.pairs.invariant c.in-Ok.ensures c.in-Err-value_within.ensures)
+
+pub parse_pairs-pairs-smaller : goal.parse_pairs-pairs-smaller
+parse_pairs-pairs-smaller g t c =
+    let rest = g.I.ParsableInput.bytes c.pairs.rest in
+    let behind = g.I.ParsableInput.bytes c.in-Ok.read.0 in
+    let after = g.I.ParsableInput.bytes c.in-Ok-value_within.read.0 in
+    omega (arith, key_shorter rest c.in-Ok.read.1 behind c.in-Ok.ensures, rest_shorter c.args.depth behind (view c.in-Ok-value_within.read.1) after c.in-Ok-value_within.ensures)
+
+pub parse_pairs-pairs-preserved : goal.parse_pairs-pairs-preserved
+parse_pairs-pairs-preserved g t c =
+    let grown : kept c.has_many_pairs-many.result c.keep.new.table c.keep.new.pairs.items ≡ put c.in-Ok.read.1 (view c.in-Ok-value_within.read.1) (kept c.has_many_pairs-many.result c.pairs.table c.pairs.pairs.items) = search rules in
+    rw grown
+    (Walks-step c.args.depth _ (kept c.has_many_pairs-many.result c.pairs.table c.pairs.pairs.items) (g.I.ParsableInput.bytes c.pairs.rest) c.in-Ok.read.1 (g.I.ParsableInput.bytes c.in-Ok.read.0)
+    (view c.in-Ok-value_within.read.1) _ c.pairs.invariant c.in-Ok.ensures c.in-Ok-value_within.ensures)
+
+pub parse_pairs-returns-in-Ok-table_of : goal.parse_pairs-returns-in-Ok-table_of
+parse_pairs-returns-in-Ok-table_of g t c =
+    rw c.in-Ok-table_of.ensures
+    (Walks-end c.args.depth (g.I.ParsableInput.bytes c.args.body) (kept c.has_many_pairs-many.result c.pairs.table c.pairs.pairs.items) (g.I.ParsableInput.bytes c.pairs.rest) c.pairs.invariant (omega arith))
+
+pub parse_pairs-returns-then-input_len-eq0 : goal.parse_pairs-returns-then-input_len-eq0
+parse_pairs-returns-then-input_len-eq0 g t c =
+    let s = g.I.ParsableInput.bytes c.args.body in
+    let none : table_view c.new_in.result ≡ no_entries = ap entries c.new_in.ensures in
+    rw none (Walks-end c.args.depth s no_entries s (Walks-start c.args.depth s) (omega arith))
+
+pub array_within-returns-in_err-array : goal.array_within-returns-in_err-array
+array_within-returns-in_err-array g t c =
+    let p = err_from_is_err_and c.from_residual-in_err-array.result c.from_residual-in_err-array.ensures.1 in
+    rw (p.1, p.2)
+    (array_refused c.args.depth (g.I.ParsableInput.bytes c.args.i) (g.I.ParsableInput.bytes c.in_ok-i.body) (g.I.ParsableInput.bytes c.in_ok-i.i) c.in_ok-i.ensures
+    c.in_err-array.field-0.0 c.in_err-array.ensures)
+
+pub array_within-returns : goal.array_within-returns
+array_within-returns g t c =
+    array_found c.args.depth (g.I.ParsableInput.bytes c.args.i) (g.I.ParsableInput.bytes c.in_ok-i.body) (g.I.ParsableInput.bytes c.in_ok-i.i) c.in_ok-i.ensures
+    (array_view c.in_ok-array.array) (omega arith) c.in_ok-array.ensures
+
+pub table_within-returns-in_err-table : goal.table_within-returns-in_err-table
+table_within-returns-in_err-table g t c =
+    let p = err_from_is_err_and c.from_residual-in_err-table.result c.from_residual-in_err-table.ensures.1 in
+    rw (p.1, p.2)
+    (table_refused c.args.depth (g.I.ParsableInput.bytes c.args.i) (g.I.ParsableInput.bytes c.in_ok-i.body) (g.I.ParsableInput.bytes c.in_ok-i.i) c.in_ok-i.ensures
+    c.in_err-table.field-0.0 c.in_err-table.ensures)
+
+pub table_within-returns : goal.table_within-returns
+table_within-returns g t c =
+    table_found c.args.depth (g.I.ParsableInput.bytes c.args.i) (g.I.ParsableInput.bytes c.in_ok-i.body) (g.I.ParsableInput.bytes c.in_ok-i.i) c.in_ok-i.ensures
+    (table_view c.in_ok-table.table) (omega arith) c.in_ok-table.ensures
+
+pub value_within-returns : goal.value_within-returns
+value_within-returns g t c =
+    typed_answer c.args.depth (g.I.ParsableInput.bytes c.args.i) (g.I.ParsableInput.bytes c.in_ok-i.i) c.in_ok-i.amqp_type c.in_ok-i.ensures.id
+    g.I.ParsableInput.bytes c.payload_within.result c.payload_within.ensures
+
+pub array_within-returns-then-depth-eq0 : goal.array_within-returns-then-depth-eq0
+array_within-returns-then-depth-eq0 g t c =
+    rw c.refused.ensures
+    (array_too_deep c.args.depth (g.I.ParsableInput.bytes c.args.i) (g.I.ParsableInput.bytes c.in_ok-i.body) (g.I.ParsableInput.bytes c.in_ok-i.i) c.in_ok-i.ensures c.if-depth-eq0.true)
+
+pub table_within-returns-then-depth-eq0 : goal.table_within-returns-then-depth-eq0
+table_within-returns-then-depth-eq0 g t c =
+    rw c.refused.ensures
+    (table_too_deep c.args.depth (g.I.ParsableInput.bytes c.args.i) (g.I.ParsableInput.bytes c.in_ok-i.body) (g.I.ParsableInput.bytes c.in_ok-i.i) c.in_ok-i.ensures c.if-depth-eq0.true)
+
+pub parse_body-entries-init : goal.parse_body-entries-init
+parse_body-entries-init g t c = rw c.new_in-array.ensures (Goes-start c.args.depth (g.I.ParsableInput.bytes c.args.body))
+
+pub payload_within-returns-in_ok-i-in-FieldArray : goal.payload_within-returns-in_ok-i-in-FieldArray
+payload_within-returns-in_ok-i-in-FieldArray g t c =
+    let a = c.in_ok-i-in-FieldArray.array in
+    let shown : view (FieldArray a) ≡ array (array_view a) = search (rules, the_lemmas) in
+    rw (c.in-FieldArray.is, shown) c.in_ok-i-in-FieldArray.ensures
+
+pub payload_within-returns-in_ok-i-in-FieldTable : goal.payload_within-returns-in_ok-i-in-FieldTable
+payload_within-returns-in_ok-i-in-FieldTable g t c =
+    let a = c.in_ok-i-in-FieldTable.table in
+    let shown : view (FieldTable a) ≡ table (table_view a) = search (rules, the_lemmas) in
+    rw (c.in-FieldTable.is, shown) c.in_ok-i-in-FieldTable.ensures
+
+pub payload_within-returns-in_ok-i-in-Boolean : goal.payload_within-returns-in_ok-i-in-Boolean
+payload_within-returns-in_ok-i-in-Boolean g t c =
+    let a = c.in_ok-i-in-Boolean in
+    let s = g.I.ParsableInput.bytes c.args.i in
+    let v = view (value.Boolean a.b) in
+    let rest = g.I.ParsableInput.bytes a.i in
+    let x : RawOutcome amqp.Boolean s (found v rest) = search (rules, the_lemmas) in
+    rw c.in-Boolean.is (plain_found c.args.depth amqp.Boolean s rest v tt x)
+
+pub payload_within-returns-in_ok-i-in-ShortShortInt : goal.payload_within-returns-in_ok-i-in-ShortShortInt
+payload_within-returns-in_ok-i-in-ShortShortInt g t c =
+    let a = c.in_ok-i-in-ShortShortInt in
+    let s = g.I.ParsableInput.bytes c.args.i in
+    let v = view (value.ShortShortInt (cast_signed w8 (cast_unsigned w8 a.n))) in
+    let rest = g.I.ParsableInput.bytes a.i in
+    let x : RawOutcome amqp.ShortShortInt s (found v rest) = search (rules, the_lemmas) in
+    rw c.in-ShortShortInt.is (plain_found c.args.depth amqp.ShortShortInt s rest v tt x)
+
+pub payload_within-returns-in_ok-i-in-ShortShortUInt : goal.payload_within-returns-in_ok-i-in-ShortShortUInt
+payload_within-returns-in_ok-i-in-ShortShortUInt g t c =
+    let a = c.in_ok-i-in-ShortShortUInt in
+    let s = g.I.ParsableInput.bytes c.args.i in
+    let v = view (value.ShortShortUInt a.n) in
+    let rest = g.I.ParsableInput.bytes a.i in
+    let x : RawOutcome amqp.ShortShortUInt s (found v rest) = search (rules, the_lemmas) in
+    rw c.in-ShortShortUInt.is (plain_found c.args.depth amqp.ShortShortUInt s rest v tt x)
+
+pub payload_within-returns-in_ok-i-in-ShortInt : goal.payload_within-returns-in_ok-i-in-ShortInt
+payload_within-returns-in_ok-i-in-ShortInt g t c =
+    let a = c.in_ok-i-in-ShortInt in
+    let s = g.I.ParsableInput.bytes c.args.i in
+    let v = view (value.ShortInt (cast_signed w16 (cast_unsigned w16 a.n))) in
+    let rest = g.I.ParsableInput.bytes a.i in
+    let x : RawOutcome amqp.ShortInt s (found v rest) = search (rules, the_lemmas) in
+    rw c.in-ShortInt.is (plain_found c.args.depth amqp.ShortInt s rest v tt x)
+
+pub payload_within-returns-in_ok-i-in-ShortUInt : goal.payload_within-returns-in_ok-i-in-ShortUInt
+payload_within-returns-in_ok-i-in-ShortUInt g t c =
+    let a = c.in_ok-i-in-ShortUInt in
+    let s = g.I.ParsableInput.bytes c.args.i in
+    let v = view (value.ShortUInt a.n) in
+    let rest = g.I.ParsableInput.bytes a.i in
+    let x : RawOutcome amqp.ShortUInt s (found v rest) = search (rules, the_lemmas) in
+    rw c.in-ShortUInt.is (plain_found c.args.depth amqp.ShortUInt s rest v tt x)
+
+pub payload_within-returns-in_ok-i-in-LongInt : goal.payload_within-returns-in_ok-i-in-LongInt
+payload_within-returns-in_ok-i-in-LongInt g t c =
+    let a = c.in_ok-i-in-LongInt in
+    let s = g.I.ParsableInput.bytes c.args.i in
+    let v = view (value.LongInt (cast_signed w32 (cast_unsigned w32 a.n))) in
+    let rest = g.I.ParsableInput.bytes a.i in
+    let x : RawOutcome amqp.LongInt s (found v rest) = search (rules, the_lemmas) in
+    rw c.in-LongInt.is (plain_found c.args.depth amqp.LongInt s rest v tt x)
+
+pub payload_within-returns-in_ok-i-in-LongUInt : goal.payload_within-returns-in_ok-i-in-LongUInt
+payload_within-returns-in_ok-i-in-LongUInt g t c =
+    let a = c.in_ok-i-in-LongUInt in
+    let s = g.I.ParsableInput.bytes c.args.i in
+    let v = view (value.LongUInt a.n) in
+    let rest = g.I.ParsableInput.bytes a.i in
+    let x : RawOutcome amqp.LongUInt s (found v rest) = search (rules, the_lemmas) in
+    rw c.in-LongUInt.is (plain_found c.args.depth amqp.LongUInt s rest v tt x)
+
+pub payload_within-returns-in_ok-i-in-LongLongInt : goal.payload_within-returns-in_ok-i-in-LongLongInt
+payload_within-returns-in_ok-i-in-LongLongInt g t c =
+    let a = c.in_ok-i-in-LongLongInt in
+    let s = g.I.ParsableInput.bytes c.args.i in
+    let v = view (value.LongLongInt (cast_signed w64 (cast_unsigned w64 a.n))) in
+    let rest = g.I.ParsableInput.bytes a.i in
+    let x : RawOutcome amqp.LongLongInt s (found v rest) = search (rules, the_lemmas) in
+    rw c.in-LongLongInt.is (plain_found c.args.depth amqp.LongLongInt s rest v tt x)
+
+pub payload_within-returns-in_ok-i-in-Float : goal.payload_within-returns-in_ok-i-in-Float
+payload_within-returns-in_ok-i-in-Float g t c =
+    let a = c.in_ok-i-in-Float in
+    let s = g.I.ParsableInput.bytes c.args.i in
+    let v = view (value.Float a.f) in
+    let rest = g.I.ParsableInput.bytes a.i in
+    let x : RawOutcome amqp.Float s (found v rest) = search (rules, the_lemmas) in
+    rw c.in-Float.is (plain_found c.args.depth amqp.Float s rest v tt x)
+
+pub payload_within-returns-in_ok-i-in-Double : goal.payload_within-returns-in_ok-i-in-Double
+payload_within-returns-in_ok-i-in-Double g t c =
+    let a = c.in_ok-i-in-Double in
+    let s = g.I.ParsableInput.bytes c.args.i in
+    let v = view (value.Double a.f) in
+    let rest = g.I.ParsableInput.bytes a.i in
+    let x : RawOutcome amqp.Double s (found v rest) = search (rules, the_lemmas) in
+    rw c.in-Double.is (plain_found c.args.depth amqp.Double s rest v tt x)
+
+pub payload_within-returns-in_ok-i-in-DecimalValue : goal.payload_within-returns-in_ok-i-in-DecimalValue
+payload_within-returns-in_ok-i-in-DecimalValue g t c =
+    let a = c.in_ok-i-in-DecimalValue in
+    let s = g.I.ParsableInput.bytes c.args.i in
+    let v = view (value.DecimalValue a.d) in
+    let rest = g.I.ParsableInput.bytes a.i in
+    let x : RawOutcome amqp.DecimalValue s (found v rest) = search (rules, the_lemmas) in
+    rw c.in-DecimalValue.is (plain_found c.args.depth amqp.DecimalValue s rest v tt x)
+
+pub payload_within-returns-in_ok-i-in-LongString : goal.payload_within-returns-in_ok-i-in-LongString
+payload_within-returns-in_ok-i-in-LongString g t c =
+    let a = c.in_ok-i-in-LongString in
+    let s = g.I.ParsableInput.bytes c.args.i in
+    let v = view (value.LongString a.s) in
+    let rest = g.I.ParsableInput.bytes a.i in
+    let x : RawOutcome amqp.LongString s (found v rest) = search (rules, the_lemmas) in
+    rw c.in-LongString.is (plain_found c.args.depth amqp.LongString s rest v tt x)
+
+pub payload_within-returns-in_ok-i-in-Timestamp : goal.payload_within-returns-in_ok-i-in-Timestamp
+payload_within-returns-in_ok-i-in-Timestamp g t c =
+    let a = c.in_ok-i-in-Timestamp in
+    let s = g.I.ParsableInput.bytes c.args.i in
+    let v = view (value.Timestamp a.n) in
+    let rest = g.I.ParsableInput.bytes a.i in
+    let x : RawOutcome amqp.Timestamp s (found v rest) = search (rules, the_lemmas) in
+    rw c.in-Timestamp.is (plain_found c.args.depth amqp.Timestamp s rest v tt x)
+
+pub payload_within-returns-in_ok-i-in-ByteArray : goal.payload_within-returns-in_ok-i-in-ByteArray
+payload_within-returns-in_ok-i-in-ByteArray g t c =
+    let a = c.in_ok-i-in-ByteArray in
+    let s = g.I.ParsableInput.bytes c.args.i in
+    let v = view (value.ByteArray a.bytes) in
+    let rest = g.I.ParsableInput.bytes a.i in
+    let x : RawOutcome amqp.ByteArray s (found v rest) = search (rules, the_lemmas) in
+    rw c.in-ByteArray.is (plain_found c.args.depth amqp.ByteArray s rest v tt x)
+
+pub payload_within-returns-in_err-i-in-LongLongUInt : goal.payload_within-returns-in_err-i-in-LongLongUInt
+payload_within-returns-in_err-i-in-LongLongUInt g t c =
+    let s = g.I.ParsableInput.bytes c.args.i in
+    let p = err_from_is_err_and c.from_residual-in_err-i-in-LongLongUInt.result c.from_residual-in_err-i-in-LongLongUInt.ensures.1 in
+    rw (p.1, p.2, c.in-LongLongUInt.is)
+    (unsigned_refuses c.args.depth s c.in_err-i-in-LongLongUInt.field-0.0 c.in_err-i-in-LongLongUInt.ensures)
+
+pub payload_within-returns-in_ok-i-in-LongLongUInt : goal.payload_within-returns-in_ok-i-in-LongLongUInt
+payload_within-returns-in_ok-i-in-LongLongUInt g t c =
+    let a = c.in_ok-i-in-LongLongUInt in
+    let s = g.I.ParsableInput.bytes c.args.i in
+    let v = view (value.LongLongInt (cast_signed w64 (cast_unsigned w64 a.n))) in
+    let rest = g.I.ParsableInput.bytes a.i in
+    let x : RawOutcome amqp.LongLongInt s (found v rest) = search (rules, the_lemmas) in
+    rw c.in-LongLongUInt.is (plain_found c.args.depth amqp.LongLongUInt s rest v tt (unsigned_outcome s (found v rest) x))
+
+pub payload_within-returns-in-Void : goal.payload_within-returns-in-Void
+payload_within-returns-in-Void g t c =
+    let s = g.I.ParsableInput.bytes c.args.i in
+    rw c.in-Void.is
+    (subst (λ (v : Tree). RawOutcomeWithin c.args.depth amqp.Void s (found v s)) (sym view-Void) (plain_found c.args.depth amqp.Void s s (scalar void) tt (void_found s)))

@@ -1,0 +1,39 @@
+use Rattle.std.proofs.Common.{length, map, ◌+◌, ◌*◌}
+use Rattle.amqp_value_core.specs.View.{view, array_items}
+use Rattle.amqp_parsing.specs.Gathering.{kept}
+use Rattle.amqp_parsing.proofs.Bodies.{Goes}
+use Rattle.amqp_parsing.proofs.TableBodies.{Walks}
+use Rattle.amqp_parsing.proofs.values.+parser.Given as goal
+
+-- a call has a shorter input than its caller, or as long a one and less to do
+abbrev pub decreases-value_within : goal.decreases-value_within
+decreases-value_within g l = 4 * length (g.I.ParsableInput.bytes l.i)
+
+abbrev pub decreases-payload_within : goal.decreases-payload_within
+decreases-payload_within g l = 4 * length (g.I.ParsableInput.bytes l.i) + 2
+
+abbrev pub decreases-array_within : goal.decreases-array_within
+decreases-array_within g l = 4 * length (g.I.ParsableInput.bytes l.i) + 1
+
+abbrev pub decreases-parse_body : goal.decreases-parse_body
+decreases-parse_body g l = 4 * length (g.I.ParsableInput.bytes l.body) + 1
+
+abbrev pub invariant-parse_body-entries : goal.invariant-parse_body-entries
+invariant-parse_body-entries g l =
+    Goes l.fn.depth (g.I.ParsableInput.bytes l.fn.body) (map view (array_items l.array)) (g.I.ParsableInput.bytes l.rest)
+
+abbrev pub decreases-parse_body-entries : goal.decreases-parse_body-entries
+decreases-parse_body-entries g l = length (g.I.ParsableInput.bytes l.rest)
+
+abbrev pub decreases-table_within : goal.decreases-table_within
+decreases-table_within g l = 4 * length (g.I.ParsableInput.bytes l.i) + 1
+
+abbrev pub decreases-parse_pairs : goal.decreases-parse_pairs
+decreases-parse_pairs g l = 4 * length (g.I.ParsableInput.bytes l.body) + 1
+
+abbrev pub invariant-parse_pairs-pairs : goal.invariant-parse_pairs-pairs
+invariant-parse_pairs-pairs g l =
+    Walks l.fn.depth (g.I.ParsableInput.bytes l.fn.body) (kept l.many l.table l.pairs.items) (g.I.ParsableInput.bytes l.rest)
+
+abbrev pub decreases-parse_pairs-pairs : goal.decreases-parse_pairs-pairs
+decreases-parse_pairs-pairs g l = length (g.I.ParsableInput.bytes l.rest)

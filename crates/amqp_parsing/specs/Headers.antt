@@ -1,0 +1,49 @@
+-- What the id and the length field of a value tell, whatever has come behind them.
+use Rattle.std.specs.Prelude.{ℕ, suc, ◌+◌, ◌<◌, ◌≤◌, ◌≡◌, Option, Some, None, List, [], ◌∷◌, length, take, nat_lt, if◌then◌else◌}
+use Rattle.std.specs.Int.{Width, byte_len}
+use Rattle.amqp_types.specs.declared.amqp_type.AMQPType.{AMQPType}
+use Rattle.amqp_types.specs.Ids.{kind}
+use Rattle.amqp_grammar.specs.Layouts.{Layout, fixed}
+use Rattle.amqp_grammar.specs.Outcomes.{length_field, counted, lack}
+
+-- how many bytes a payload has at least: those of its fields, or of its length field until that is whole, and then what it
+-- counts too
+abbrev pub extent_of : Option Layout → Width → List ℕ → ℕ
+extent_of (Some f) w b = f.width
+extent_of None w b = if nat_lt (length b) (byte_len w) then byte_len w else byte_len w + counted w b
+
+abbrev pub raw_extent : AMQPType → List ℕ → ℕ
+raw_extent type b = extent_of (fixed type) (length_field type) b
+
+-- and a value, by what its id stands for
+abbrev pub extent_at : Option AMQPType → List ℕ → ℕ
+extent_at None b = 0
+extent_at (Some type) b = suc (raw_extent type b)
+
+-- how many bytes the value at the front has at least; 0 where no id tells
+abbrev pub extent : List ℕ → ℕ
+extent [] = 0
+extent (c ∷ b) = extent_at (kind c) b
+
+-- what is lacking behind an id
+abbrev pub wanted_at : Option AMQPType → List ℕ → ℕ
+wanted_at None b = 0
+wanted_at (Some type) b = lack type b
+
+-- how many bytes the field that is being read lacks; 0 where the frame is whole, or no id tells
+abbrev pub wanted : List ℕ → ℕ
+wanted [] = 1
+wanted (c ∷ b) = wanted_at (kind c) b
+
+-- the first byte is an id, and the frame is whole
+abbrev pub IsWhole : List ℕ → Type 0
+IsWhole s = (wanted s ≡ 0) × (0 < extent s)
+
+-- how many bytes the first field of a payload has
+abbrev pub first_of : Option Layout → Width → ℕ
+first_of (Some f) w = f.first
+first_of None w = byte_len w
+
+-- every shorter front of s asks for more, and is of a value that is within the frame
+abbrev pub IsWaiting : ℕ → List ℕ → Type 0
+IsWaiting frame s = (n : ℕ) → n < length s → (0 < wanted (take n s)) × (extent (take n s) ≤ frame)

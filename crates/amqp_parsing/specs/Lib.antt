@@ -1,0 +1,5 @@
+pub mod Refusals
+pub mod Answers
+pub mod Gathering
+pub mod Headers
+pub mod Limits

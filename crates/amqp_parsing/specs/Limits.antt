@@ -1,0 +1,65 @@
+-- Reading within limits on frame and depth.
+use Rattle.std.specs.Prelude.{ℕ, ◌<◌, ◌≤◌, ◌≡◌, ◌/◌, ◌↔◌, IsTrue, List, ◌++◌, length}
+use Rattle.amqp_grammar.specs.Values.{Tree, readable, depth}
+use Rattle.amqp_grammar.specs.Grammar.{Wire}
+use Rattle.amqp_grammar.specs.Nesting.{WireWithin, OutcomeWithin}
+use Rattle.amqp_input.specs.Inputs.{IsBytes}
+use Rattle.amqp_grammar.specs.Outcomes.{Reading, found, unknown, Outcome, Heavy, StillWaits, with_more}
+use Rattle.amqp_grammar.specs.Texts.{text, size, Fits, IsValue}
+use Rattle.amqp_parsing.specs.declared.errors.Err.TheVariants.{Error}
+use Rattle.amqp_parsing.specs.declared.errors.ErrorKind.TheVariants.{TooLarge}
+use Rattle.amqp_parsing.specs.declared.header.Header.{Header}
+use Rattle.amqp_parsing.specs.declared.header.Header.TheVariants as header
+use Rattle.amqp_parsing.specs.declared.limits.Limits.{Limits}
+use Rattle.amqp_parsing.specs.Refusals.{Refusal}
+use Rattle.amqp_parsing.specs.Answers.{Refuses}
+use Rattle.amqp_parsing.specs.Headers.{extent, wanted, IsWhole}
+
+-- reading s within limits comes to o: the value has no more bytes than the frame allows, by what has come of it, and
+-- containers nest within the depth
+abbrev pub Within : Limits → List ℕ → Reading → Type 0
+Within l s o = (extent s ≤ l.frame) × OutcomeWithin l.depth s o
+
+-- a refusal to read s within limits is right
+abbrev pub RefusesWithin : Limits → List ℕ → Refusal → Type 0
+RefusesWithin l s (Error TooLarge) = l.frame < extent s
+RefusesWithin l s e = (extent s ≤ l.frame) × Refuses (OutcomeWithin l.depth s) (Heavy s) e
+
+-- reading s within limits comes to exactly one outcome, and to none where the value is too large
+abbrev pub HasOneOutcomeWithin : Limits → List ℕ → Type 0
+HasOneOutcomeWithin l s =
+    (extent s ≤ l.frame → (o : Reading) × Within l s o × ((p : Reading) → Within l s p → p ≡ o))
+    × ((o : Reading) → l.frame < extent s → Within l s o → ⊥)
+
+-- more bytes join the rest behind a value, are so many fewer that lack, and leave a refusal as it is
+abbrev pub KeepsOutcomeWithin : Limits → List ℕ → Type 0
+KeepsOutcomeWithin l s =
+    ((o : Reading) (t : List ℕ) → Within l s o → StillWaits o t → Within l (s ++ t) (with_more o t))
+    × ((t : List ℕ) → l.frame < extent s → l.frame < extent (s ++ t))
+
+-- the text of v is read as v within the limits, whatever follows
+abbrev pub IsReadAgain : Limits → Tree → Type 0
+IsReadAgain l v = (t : List ℕ) → Within l (text v ++ t) (found v t)
+
+-- so it is of each value that can be written and read, and keeps to the limits
+abbrev pub ReadsBack : Limits → Type 0
+ReadsBack l = (v : Tree) → IsValue v → Fits v → IsTrue (readable v) → depth v ≤ l.depth → size v ≤ l.frame → IsReadAgain l v
+
+-- of the wires of v within a depth none is shorter than its text, which is one
+abbrev pub IsShortestWithin : ℕ → Tree → Type 0
+IsShortestWithin d v = (w : List ℕ) → IsBytes w → WireWithin d w v → WireWithin d (text v) v × (length (text v) ≤ length w)
+
+-- among values that have wires within a depth the text of v is that of v alone
+abbrev pub TellsApartWithin : ℕ → Tree → Type 0
+TellsApartWithin d v = (u : Tree) (w x : List ℕ) → IsBytes w → IsBytes x → WireWithin d w v → WireWithin d x u → (text v ≡ text u) ↔ (v ≡ u)
+
+-- a wire is one that nests within each depth from a fifth of its length on
+abbrev pub IsDeepEnough : Type 0
+IsDeepEnough = (w : List ℕ) (v : Tree) → Wire w v ↔ ((d : ℕ) → length w / 5 ≤ d → WireWithin d w v)
+
+-- what a header tells, where none may have more than `frame` bytes
+abbrev pub IsHeader : ℕ → List ℕ → Header → Type 0
+IsHeader frame s header.Unknown = Outcome s unknown × (extent s ≤ frame)
+IsHeader frame s header.TooLarge = frame < extent s
+IsHeader frame s (header.Lacks n) = (extent s ≤ frame) × (0 < n) × (n ≡ wanted s)
+IsHeader frame s header.Whole = (extent s ≤ frame) × IsWhole s

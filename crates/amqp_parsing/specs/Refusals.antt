@@ -1,0 +1,37 @@
+-- The refusals of parsers. A `ParserErrors` is seen as its kind.
+use Rattle.std.specs.Prelude.{ℕ, List, codes}
+use Rattle.amqp_parsing.specs.declared.errors.Err.{Err}
+use Rattle.amqp_parsing.specs.declared.errors.Err.TheVariants.{Incomplete, Error, Failure}
+use Rattle.amqp_parsing.specs.declared.errors.Needed.TheVariants.{Size}
+use Rattle.amqp_parsing.specs.declared.errors.ErrorKind.{ErrorKind}
+use Rattle.amqp_parsing.specs.declared.errors.ErrorKind.TheVariants.{MapOpt, MapRes, Eof, OutOfMemory, TooLarge}
+
+-- a refusal or a number of bytes that lack, as the alias `ParserError`
+abbrev pub Refusal : Type 0
+Refusal = Err ErrorKind
+
+-- the text of a refusal
+abbrev pub printed : ErrorKind → List ℕ
+printed MapOpt = codes "Parser error: Nom(MapOpt)"
+printed MapRes = codes "Parser error: Nom(MapRes)"
+printed Eof = codes "Parser error: Nom(Eof)"
+printed OutOfMemory = codes "Parser error: OutOfMemory"
+printed TooLarge = codes "Parser error: Nom(TooLarge)"
+
+-- the field that is being read lacks n bytes
+abbrev pub lacks : ℕ → Refusal
+lacks n = Incomplete (Size n)
+
+-- the input isn't what the parser reads
+abbrev pub refused : ErrorKind → Refusal
+refused kind = Error kind
+
+-- a request for memory was refused
+abbrev pub out_of_memory : Refusal
+out_of_memory = Failure OutOfMemory
+
+-- what the refusal of an entry means for the container round it, whose body is whole: want of memory stays,
+-- and whatever else keeps the entry from being read keeps the body from being a concatenation of entries
+abbrev pub inside : Refusal → Refusal
+inside (Failure kind) = Failure kind
+inside _ = Error Eof

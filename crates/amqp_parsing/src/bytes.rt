@@ -1,0 +1,50 @@
+//! Copies of an input's bytes.
+
+ghost use Rattle.std.specs.Prelude.{◌≡◌, ◌<◌, IfOk, OnErr, length};
+
+use super::traits::ParsableInput;
+use std::alloc::{AllocError, Global};
+
+// A copy of all bytes of the input. Takes no memory where there is no byte.
+#[inline(always)]
+#[tactic(auto, using(crate::proofs::Copies::whole_front))]
+pub(crate) fn copy_of<I: ParsableInput>(alloc: Global, input: I) -> Result<Vec<u8>, AllocError>
+    ensures ok { IfOk result (λ bytes. bytes.items ≡ I.bytes input) }
+    ensures err { OnErr result (0 < length (I.bytes input)) }
+{
+    if input.input_len() == 0 {
+        return Ok(Vec::new(alloc));
+    }
+    let chunk = input.chunk();
+    if chunk.len() == input.input_len() {
+        let mut bytes = Vec::with_capacity(alloc, chunk.len())?;
+        bytes.extend_from_slice(chunk)?;
+        return Ok(bytes);
+    }
+    copy_by_chunks(alloc, input)
+}
+
+// A copy of all bytes of the input, by its chunks, and byte by byte where there is none.
+pub(crate) fn copy_by_chunks<I: ParsableInput>(
+    alloc: Global,
+    input: I,
+) -> Result<Vec<u8>, AllocError>
+    ensures ok { IfOk result (λ bytes. bytes.items ≡ I.bytes input) }
+    ensures err { OnErr result (0 < length (I.bytes input)) }
+{
+    let mut bytes = Vec::new(alloc);
+    bytes.reserve(input.input_len())?;
+    let mut rest = input;
+    'chunks: while rest.input_len() > 0 {
+        let chunk = rest.chunk();
+        let n = chunk.len();
+        if n > 0 {
+            bytes.extend_from_slice(chunk)?;
+            rest = rest.take_from(n);
+        } else {
+            bytes.push(rest.byte_at(0)).map_err(AllocError::from)?;
+            rest = rest.take_from(1);
+        }
+    }
+    Ok(bytes)
+}

@@ -1,0 +1,132 @@
+//! What parsers answer where they give no value.
+
+ghost use Rattle.std.specs.Prelude.{◌≡◌, Some};
+ghost use Rattle.amqp_parsing.specs.Refusals.{lacks, refused, out_of_memory, inside};
+
+use std::error::Error;
+use std::fmt;
+use std::marker::Model;
+
+/// Why a parser gave no value.
+#[derive(Clone, Debug, PartialEq, Drop)]
+pub enum Err<E> {
+    /// The input is too short to tell. More bytes may follow, and the call be made again.
+    Incomplete(Needed),
+    /// The input isn't what the parser reads, whatever follows.
+    Error(E),
+    /// The parser gave up for want of memory, whatever the input is.
+    Failure(E),
+}
+
+/// How many bytes lack.
+#[derive(Clone, Copy, Debug, PartialEq, Eq)]
+pub enum Needed {
+    /// A number that isn't known. No parser of this crate answers it.
+    Unknown,
+    /// So many bytes, at least 1, of the field that is being read.
+    Size(usize),
+}
+
+/// What a refusal is.
+#[derive(Clone, Copy, Debug, PartialEq, Eq)]
+pub enum ErrorKind {
+    /// The byte that stands for the type of a value is no known id.
+    MapOpt,
+    /// A short string is whole, and isn't UTF-8.
+    MapRes,
+    /// A container is whole, and its body isn't a concatenation of entries.
+    Eof,
+    /// A request for memory was refused.
+    OutOfMemory,
+    /// A value is longer than the limit on frames, by what its first bytes tell.
+    TooLarge,
+}
+
+/// The refusal of a parser.
+#[derive(Clone, Debug, PartialEq, Drop)]
+pub struct ParserErrors {
+    kind: ErrorKind,
+}
+
+impl Model for ParserErrors {
+    ghost use Rattle.amqp_parsing.specs.declared.errors.ErrorKind.{ErrorKind};
+
+    ghost Value = { ErrorKind };
+
+    ghost view = { λ e. e.kind };
+
+    ghost inverse = { λ k. record { kind = k } };
+}
+
+impl ParserErrors {
+    /// What the refusal is.
+    pub fn kind(&self) -> ErrorKind
+        ensures { result ≡ self.now }
+    {
+        self.kind
+    }
+}
+
+impl fmt::Display for ParserErrors {
+    ghost use Rattle.amqp_parsing.specs.Refusals.{printed};
+
+    ghost output = { λ e. Some (printed e) };
+
+    fn fmt<W: fmt::Write>(&self, f: &mut fmt::Formatter<W>) -> fmt::Result {
+        f.write_str(match self.kind {
+            ErrorKind::MapOpt => "Parser error: Nom(MapOpt)",
+            ErrorKind::MapRes => "Parser error: Nom(MapRes)",
+            ErrorKind::Eof => "Parser error: Nom(Eof)",
+            ErrorKind::OutOfMemory => "Parser error: OutOfMemory",
+            ErrorKind::TooLarge => "Parser error: Nom(TooLarge)",
+        })
+    }
+}
+
+impl Error for ParserErrors {}
+
+/// A refusal or a number of bytes that lack.
+pub type ParserError = Err<ParserErrors>;
+
+/// What a parser answers: what is left of its input, and a value; or why there is none.
+pub type ParserResult<I, T> = Result<(I, T), ParserError>;
+
+/// The field that is being read lacks `n` bytes.
+pub fn lacks(n: usize) -> ParserError
+    ensures { result ≡ lacks n }
+{
+    Err::Incomplete(Needed::Size(n))
+}
+
+/// The refusal of that kind.
+pub fn refusal(kind: ErrorKind) -> ParserErrors
+    ensures { result ≡ kind }
+{
+    ParserErrors { kind }
+}
+
+/// The input isn't what the parser reads.
+pub fn refused(kind: ErrorKind) -> ParserError
+    ensures { result ≡ refused kind }
+{
+    Err::Error(ParserErrors { kind })
+}
+
+/// A request for memory was refused.
+pub fn out_of_memory() -> ParserError
+    ensures { result ≡ out_of_memory }
+{
+    Err::Failure(ParserErrors {
+        kind: ErrorKind::OutOfMemory,
+    })
+}
+
+// what the refusal of an entry means for the container round it, whose body is whole
+pub(crate) fn inside(e: ParserError) -> ParserError
+    ensures { result ≡ inside e }
+{
+    match e {
+        Err::Failure(e) => Err::Failure(e),
+        Err::Incomplete(_) | Err::Error(_) => refused(ErrorKind::Eof),
+    }
+}

@@ -1,0 +1,34 @@
+//! The parser of flags.
+
+ghost use Rattle.std.specs.Prelude.{MatchResult, map, length};
+ghost use Rattle.amqp_parsing.specs.Answers.{Refuses};
+ghost use Rattle.amqp_flags.specs.Flags.{flags_of, AreFlagsRead, AreFlagsCut, AreFlagsHeavy};
+
+use super::errors::{ParserResult, lacks, out_of_memory};
+use super::traits::ParsableInput;
+use amqp_flags::AMQPFlags;
+use std::alloc::Global;
+
+/// Reads a flag for each name: as many bytes as the names need, eight to a byte, the lowest bit of
+/// a byte first. Bits that no name is left for are ignored.
+///
+/// Memory is taken only where there is a name and the bytes are all there.
+pub fn parse_flags<I: ParsableInput>(
+    alloc: Global,
+    i: I,
+    names: &[&str],
+) -> ParserResult<I, AMQPFlags>
+    ensures { MatchResult result
+        (λ x. AreFlagsRead (map (λ n. n.now) names.now) (I.bytes i) (flags_of x.1) (I.bytes x.0))
+        (Refuses (AreFlagsCut (length names.now) (I.bytes i)) (AreFlagsHeavy (length names.now) (I.bytes i))) }
+{
+    let len = names.len().div_ceil(8);
+    let there = i.input_len();
+    if there < len {
+        return Err(lacks(len - there));
+    }
+    let Ok(flags) = AMQPFlags::from_bytes(alloc, names, i.take(len)) else {
+        return Err(out_of_memory());
+    };
+    Ok((i.take_from(len), flags))
+}

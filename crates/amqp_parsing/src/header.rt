@@ -1,0 +1,86 @@
+//! What the id and the length of a value tell.
+
+ghost use Rattle.std.specs.Prelude.{◌≡◌, ◌≢◌, ◌<◌, ◌≤◌, ◌+◌, option_map};
+ghost use Rattle.amqp_grammar.specs.Layouts.{fixed};
+ghost use Rattle.amqp_input.specs.Inputs.{IsBytes};
+ghost use Rattle.amqp_grammar.specs.Outcomes.{length_field};
+ghost use Rattle.amqp_parsing.specs.Headers.{raw_extent, first_of};
+ghost use Rattle.amqp_parsing.specs.Limits.{IsHeader};
+
+use super::scalars::{parse_long_uint, parse_type};
+use super::traits::ParsableInput;
+use amqp_value_core::types::AMQPType;
+
+/// What the id and the length of a value tell, whatever has come behind them.
+#[derive(Clone, Copy, Debug)]
+pub enum Header {
+    /// The first byte is no id.
+    Unknown,
+    /// The value is longer than the limit.
+    TooLarge,
+    /// The field that is being read lacks so many bytes.
+    Lacks(usize),
+    /// All of the value's frame is there.
+    Whole,
+}
+
+// How many bytes the first field of a type of fixed width has, and all of them.
+fn fields_of(amqp_type: AMQPType) -> Option<(usize, usize)>
+    ensures { result ≡ option_map (λ f. (f.first, f.width)) (fixed amqp_type) }
+{
+    match amqp_type {
+        AMQPType::Void => Some((0, 0)),
+        AMQPType::Boolean | AMQPType::ShortShortInt | AMQPType::ShortShortUInt => Some((1, 1)),
+        AMQPType::ShortInt | AMQPType::ShortUInt => Some((2, 2)),
+        AMQPType::LongInt | AMQPType::LongUInt | AMQPType::Float => Some((4, 4)),
+        AMQPType::LongLongInt | AMQPType::LongLongUInt | AMQPType::Double | AMQPType::Timestamp =>
+            Some((8, 8)),
+        AMQPType::DecimalValue => Some((1, 5)),
+        AMQPType::ShortString
+        | AMQPType::LongString
+        | AMQPType::ByteArray
+        | AMQPType::FieldArray
+        | AMQPType::FieldTable => None,
+    }
+}
+
+// How many bytes the first field of a payload has, and the payload at least.
+fn payload_of<I: ParsableInput>(amqp_type: AMQPType, i: I) -> (usize, usize)
+    requires { amqp_type ≢ AMQPType.ShortString }
+    ensures first { result.0 ≡ first_of (fixed amqp_type) (length_field amqp_type) }
+    ensures extent { result.1 ≡ raw_extent amqp_type (I.bytes i) }
+    ensures small { result.1 ≤ 4294967299 }
+{
+    if let Some(fields) = fields_of(amqp_type) {
+        return fields;
+    }
+    match parse_long_uint(i) {
+        Ok((_, len)) => (4, 4 + len as usize),
+        Err(_) => (4, 4),
+    }
+}
+
+/// What the header of a value tells, where none may have more than `frame` bytes.
+pub fn header_of<I: ParsableInput>(i: I, frame: u32) -> Header
+    ensures header { IsHeader frame (I.bytes i) result }
+    ensures bytes { IsBytes (I.bytes i) }
+{
+    if i.input_len() == 0 {
+        return Header::Lacks(1);
+    }
+    let Ok((rest, amqp_type)) = parse_type(i) else {
+        return Header::Unknown;
+    };
+    let (first, extent) = payload_of(amqp_type, rest);
+    if extent >= frame as usize {
+        return Header::TooLarge;
+    }
+    let there = rest.input_len();
+    if there < first {
+        Header::Lacks(first - there)
+    } else if there < extent {
+        Header::Lacks(extent - there)
+    } else {
+        Header::Whole
+    }
+}

@@ -1,0 +1,27 @@
+//! Parsers of values, and of what values are made of.
+#![tactic(auto)]
+
+mod bytes;
+pub mod errors;
+mod flags;
+pub mod header;
+mod limits;
+mod pairs;
+mod scalars;
+mod strings;
+pub mod traits;
+pub mod values;
+mod within;
+
+pub use amqp_input::{SliceInput, SplitInput};
+pub use errors::{Err, ErrorKind, Needed, ParserError, ParserErrors, ParserResult};
+pub use flags::parse_flags;
+pub use limits::Limits;
+pub use scalars::{
+    parse_boolean, parse_decimal_value, parse_double, parse_float, parse_id, parse_long_int,
+    parse_long_long_int, parse_long_long_uint, parse_long_uint, parse_short_int,
+    parse_short_short_int, parse_short_short_uint, parse_short_uint, parse_timestamp, parse_type,
+};
+pub use strings::{parse_byte_array, parse_long_string, parse_short_string};
+pub use values::{parse_field_array, parse_field_table, parse_raw_value, parse_value};
+pub use within::parse_value_within;

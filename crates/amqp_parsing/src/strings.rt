@@ -1,0 +1,113 @@
+//! Parsers of strings and byte arrays: a length, then as many bytes.
+
+ghost use Rattle.std.specs.Prelude.{◌≡◌, ◌<◌, true, length, MatchResult, IfOk, OnErr, if◌then◌else◌};
+ghost use Rattle.amqp_grammar.specs.Values.{short, long, octets};
+ghost use Rattle.amqp_types.specs.Bytes.{long_bytes, array_bytes};
+ghost use Rattle.amqp_grammar.specs.Outcomes.{RawOutcome, RawHeavy, found};
+ghost use Rattle.amqp_parsing.specs.Answers.{Refuses, OnlyLacks, RawRefuses, IsFrame, IsCutFrame};
+
+use super::bytes::{copy_by_chunks, copy_of};
+use super::errors::{ErrorKind, ParserResult, lacks, out_of_memory, refused};
+use super::scalars::{parse_long_uint, parse_short_short_uint};
+use super::traits::ParsableInput;
+use amqp_value_core::types::{AMQPType, ByteArray, LongString, ShortString};
+use std::alloc::{AllocError, Global};
+
+/// Reads a short string: its length in one byte, then its bytes, which are UTF-8.
+///
+/// The bytes are looked at once all of them are there, and copied where they are a text. Memory is
+/// taken only for a string that isn't empty.
+pub fn parse_short_string<I: ParsableInput>(alloc: Global, i: I) -> ParserResult<I, ShortString>
+    ensures { MatchResult result
+        (λ x. RawOutcome AMQPType.ShortString (I.bytes i) (found (short x.1) (I.bytes x.0)))
+        (RawRefuses AMQPType.ShortString (I.bytes i)) }
+{
+    let (i, len) = parse_short_short_uint(i)?;
+    let len = usize::from(len);
+    let there = i.input_len();
+    if there < len {
+        return Err(lacks(len - there));
+    }
+    let body = i.take(len);
+    let chunk = body.chunk();
+    // bytes that don't lie in one piece are put together first
+    let in_pieces = chunk.len() < len;
+    let Ok(joined) = joined(alloc, body, in_pieces) else {
+        return Err(out_of_memory());
+    };
+    let Ok(text) = str::from_utf8(whole(in_pieces, joined.as_slice(), chunk)) else {
+        return Err(refused(ErrorKind::MapRes));
+    };
+    let Ok(text) = ShortString::try_copy(alloc, text) else {
+        return Err(out_of_memory());
+    };
+    Ok((i.take_from(len), text))
+}
+
+// A copy of an input's bytes where they lie in pieces, and no byte where they don't.
+#[inline(always)]
+fn joined<I: ParsableInput>(alloc: Global, input: I, in_pieces: bool) -> Result<Vec<u8>, AllocError>
+    ensures ok { IfOk result (λ bytes. in_pieces ≡ true → bytes.items ≡ I.bytes input) }
+    ensures err { OnErr result (0 < length (I.bytes input)) }
+{
+    if in_pieces {
+        copy_by_chunks(alloc, input)
+    } else {
+        Ok(Vec::new(alloc))
+    }
+}
+
+// The bytes that were joined, where they lie in pieces, or else the chunk that has all of them.
+#[inline(always)]
+fn whole<'a>(in_pieces: bool, joined: &'a [u8], chunk: &'a [u8]) -> &'a [u8]
+    ensures { result.now ≡ if in_pieces then joined.now else chunk.now }
+{
+    if in_pieces { joined } else { chunk }
+}
+
+/// Reads a long string: its length in four bytes, then its bytes, of any kind.
+///
+/// Memory is taken only for a string that isn't empty and whose bytes are all there.
+#[inline(always)]
+pub fn parse_long_string<I: ParsableInput>(alloc: Global, i: I) -> ParserResult<I, LongString>
+    ensures { MatchResult result
+        (λ x. RawOutcome AMQPType.LongString (I.bytes i) (found (long (long_bytes x.1)) (I.bytes x.0)))
+        (OnlyLacks (RawOutcome AMQPType.LongString (I.bytes i)) (RawHeavy AMQPType.LongString (I.bytes i))) }
+{
+    let (i, body) = parse_frame(i)?;
+    let Ok(bytes) = copy_of(alloc, body) else {
+        return Err(out_of_memory());
+    };
+    Ok((i, LongString::from(bytes)))
+}
+
+/// Reads a byte array: its length in four bytes, then its bytes.
+///
+/// Memory is taken only for an array that isn't empty and whose bytes are all there.
+pub fn parse_byte_array<I: ParsableInput>(alloc: Global, i: I) -> ParserResult<I, ByteArray>
+    ensures { MatchResult result
+        (λ x. RawOutcome AMQPType.ByteArray (I.bytes i) (found (octets (array_bytes x.1)) (I.bytes x.0)))
+        (OnlyLacks (RawOutcome AMQPType.ByteArray (I.bytes i)) (RawHeavy AMQPType.ByteArray (I.bytes i))) }
+{
+    let (i, body) = parse_frame(i)?;
+    let Ok(bytes) = copy_of(alloc, body) else {
+        return Err(out_of_memory());
+    };
+    Ok((i, ByteArray::from(bytes)))
+}
+
+// Reads a length in four bytes, and takes as many bytes, once all of them are there.
+#[inline(always)]
+pub(crate) fn parse_frame<I: ParsableInput>(i: I) -> ParserResult<I, I>
+    ensures { MatchResult result
+        (λ x. IsFrame (I.bytes i) (I.bytes x.1) (I.bytes x.0))
+        (Refuses (IsCutFrame (I.bytes i)) ⊥) }
+{
+    let (i, len) = parse_long_uint(i)?;
+    let len = len as usize;
+    let there = i.input_len();
+    if there < len {
+        return Err(lacks(len - there));
+    }
+    Ok((i.take_from(len), i.take(len)))
+}

@@ -1,0 +1,290 @@
+//! Parsers of values and of containers.
+
+ghost use Rattle.std.specs.Prelude.{◌≡◌, ◌≢◌, ◌<◌, ◌-◌, MatchResult, IfOk, length};
+ghost use Rattle.amqp_grammar.specs.Values.{array, table};
+ghost use Rattle.amqp_grammar.specs.Nesting.{BodyWithin, OutcomeWithin, RawOutcomeWithin};
+ghost use Rattle.amqp_grammar.specs.Outcomes.{Outcome, RawOutcome, Heavy, RawHeavy, found};
+ghost use Rattle.amqp_value_core.specs.View.{view, array_view, table_view};
+ghost use Rattle.amqp_grammar.specs.Headline.{IsBounded};
+ghost use Rattle.amqp_parsing.specs.Answers.{Refuses, RawRefuses, HasOneOutcome, KeepsOutcome, IsNoBody, IsTable, IsNoTable};
+
+use super::errors::{ErrorKind, ParserError, ParserResult, inside, out_of_memory, refused};
+use super::pairs::{has_many_pairs, keep, table_of};
+use super::scalars::{
+    parse_boolean, parse_decimal_value, parse_double, parse_float, parse_long_int,
+    parse_long_long_int, parse_long_uint, parse_short_int, parse_short_short_int,
+    parse_short_short_uint, parse_short_uint, parse_timestamp, parse_type,
+};
+use super::strings::{parse_byte_array, parse_frame, parse_long_string, parse_short_string};
+use super::traits::ParsableInput;
+use amqp_value_core::types::{AMQPType, FieldArray, FieldTable};
+use amqp_value_core::value::AMQPValue;
+use std::alloc::Global;
+
+/// Reads a value: the id of its type, then its payload.
+///
+/// What is read can be written again, in no more bytes than it was read from. It recurses as deep as
+/// containers nest, which the input's length alone bounds. Memory is taken only for strings, byte
+/// arrays and containers whose bytes are all there.
+#[inline(always)]
+#[tactic(auto, using(crate::proofs::Appends::has_one_outcome, amqp_grammar::proofs::GrammarLaws::more_bytes))]
+pub fn parse_value<I: ParsableInput>(alloc: Global, i: I) -> ParserResult<I, AMQPValue>
+    ensures outcome { MatchResult result
+        (λ x. Outcome (I.bytes i) (found (view x.1) (I.bytes x.0)))
+        (Refuses (Outcome (I.bytes i)) (Heavy (I.bytes i))) }
+    ensures one { HasOneOutcome (I.bytes i) }
+    ensures more_bytes { KeepsOutcome (I.bytes i) }
+    ensures bounded { IfOk result (λ x.
+        IsBounded (length (I.bytes i) - length (I.bytes x.0)) (view x.1)) }
+{
+    value_within(alloc, i, i.input_len())
+}
+
+/// Reads a value in which containers nest at most `depth` deep.
+#[cycle(parser)]
+#[inline(always)]
+pub fn value_within<I: ParsableInput>(
+    alloc: Global,
+    i: I,
+    depth: usize,
+) -> ParserResult<I, AMQPValue>
+    ensures { MatchResult result
+        (λ x. OutcomeWithin depth (I.bytes i) (found (view x.1) (I.bytes x.0)))
+        (Refuses (OutcomeWithin depth (I.bytes i)) (Heavy (I.bytes i))) }
+{
+    let (i, amqp_type) = parse_type(i)?;
+    payload_within(alloc, amqp_type, i, depth)
+}
+
+/// Reads the payload of a value of the type.
+///
+/// A `LongLongUInt` is given as the `LongLongInt` of the same bits.
+pub fn parse_raw_value<I: ParsableInput>(
+    alloc: Global,
+    amqp_type: AMQPType,
+    i: I,
+) -> ParserResult<I, AMQPValue>
+    ensures { MatchResult result
+        (λ x. RawOutcome amqp_type (I.bytes i) (found (view x.1) (I.bytes x.0)))
+        (RawRefuses amqp_type (I.bytes i)) }
+{
+    match amqp_type {
+        AMQPType::ShortString => {
+            let (i, s) = parse_short_string(alloc, i)?;
+            Ok((i, AMQPValue::ShortString(s)))
+        }
+        _ => payload_within(alloc, amqp_type, i, i.input_len()),
+    }
+}
+
+// Reads the payload of a value of the type, which isn't `ShortString`: no id stands for that one.
+#[cycle(parser)]
+#[inline(always)]
+#[tactic(auto, using(crate::proofs::Plain::plain_lacks))]
+fn payload_within<I: ParsableInput>(
+    alloc: Global,
+    amqp_type: AMQPType,
+    i: I,
+    depth: usize,
+) -> ParserResult<I, AMQPValue>
+    requires { amqp_type ≢ AMQPType.ShortString }
+    ensures { MatchResult result
+        (λ x. RawOutcomeWithin depth amqp_type (I.bytes i) (found (view x.1) (I.bytes x.0)))
+        (Refuses (RawOutcomeWithin depth amqp_type (I.bytes i)) (RawHeavy amqp_type (I.bytes i))) }
+{
+    match amqp_type {
+        AMQPType::Boolean => {
+            let (i, b) = parse_boolean(i)?;
+            Ok((i, AMQPValue::Boolean(b)))
+        }
+        AMQPType::ShortShortInt => {
+            let (i, n) = parse_short_short_int(i)?;
+            Ok((i, AMQPValue::ShortShortInt(n)))
+        }
+        AMQPType::ShortShortUInt => {
+            let (i, n) = parse_short_short_uint(i)?;
+            Ok((i, AMQPValue::ShortShortUInt(n)))
+        }
+        AMQPType::ShortInt => {
+            let (i, n) = parse_short_int(i)?;
+            Ok((i, AMQPValue::ShortInt(n)))
+        }
+        AMQPType::ShortUInt => {
+            let (i, n) = parse_short_uint(i)?;
+            Ok((i, AMQPValue::ShortUInt(n)))
+        }
+        AMQPType::LongInt => {
+            let (i, n) = parse_long_int(i)?;
+            Ok((i, AMQPValue::LongInt(n)))
+        }
+        AMQPType::LongUInt => {
+            let (i, n) = parse_long_uint(i)?;
+            Ok((i, AMQPValue::LongUInt(n)))
+        }
+        AMQPType::LongLongInt => {
+            let (i, n) = parse_long_long_int(i)?;
+            Ok((i, AMQPValue::LongLongInt(n)))
+        }
+        AMQPType::LongLongUInt => {
+            let (i, n) = parse_long_long_int(i)?;
+            Ok((i, AMQPValue::LongLongInt(n)))
+        }
+        AMQPType::Float => {
+            let (i, f) = parse_float(i)?;
+            Ok((i, AMQPValue::Float(f)))
+        }
+        AMQPType::Double => {
+            let (i, f) = parse_double(i)?;
+            Ok((i, AMQPValue::Double(f)))
+        }
+        AMQPType::DecimalValue => {
+            let (i, d) = parse_decimal_value(i)?;
+            Ok((i, AMQPValue::DecimalValue(d)))
+        }
+        AMQPType::ShortString => unreachable!(),
+        AMQPType::FieldArray => {
+            let (i, array) = array_within(alloc, i, depth)?;
+            Ok((i, AMQPValue::FieldArray(array)))
+        }
+        AMQPType::FieldTable => {
+            let (i, table) = table_within(alloc, i, depth)?;
+            Ok((i, AMQPValue::FieldTable(table)))
+        }
+        AMQPType::LongString => {
+            let (i, s) = parse_long_string(alloc, i)?;
+            Ok((i, AMQPValue::LongString(s)))
+        }
+        AMQPType::Timestamp => {
+            let (i, n) = parse_timestamp(i)?;
+            Ok((i, AMQPValue::Timestamp(n)))
+        }
+        AMQPType::ByteArray => {
+            let (i, bytes) = parse_byte_array(alloc, i)?;
+            Ok((i, AMQPValue::ByteArray(bytes)))
+        }
+        AMQPType::Void => Ok((i, AMQPValue::Void)),
+    }
+}
+
+/// Reads an array: the length of its body in bytes, in four bytes, then its values, each with its id.
+///
+/// The body is taken whole before a value of it is looked at.
+#[inline(always)]
+pub fn parse_field_array<I: ParsableInput>(alloc: Global, i: I) -> ParserResult<I, FieldArray>
+    ensures { MatchResult result
+        (λ x. RawOutcome AMQPType.FieldArray (I.bytes i) (found (array (array_view x.1)) (I.bytes x.0)))
+        (Refuses (RawOutcome AMQPType.FieldArray (I.bytes i)) (RawHeavy AMQPType.FieldArray (I.bytes i))) }
+{
+    array_within(alloc, i, i.input_len())
+}
+
+// Reads an array in which containers nest at most `depth` deep, itself included.
+#[cycle(parser)]
+#[inline(always)]
+fn array_within<I: ParsableInput>(alloc: Global, i: I, depth: usize) -> ParserResult<I, FieldArray>
+    ensures { MatchResult result
+        (λ x. RawOutcomeWithin depth AMQPType.FieldArray (I.bytes i) (found (array (array_view x.1)) (I.bytes x.0)))
+        (Refuses (RawOutcomeWithin depth AMQPType.FieldArray (I.bytes i)) (RawHeavy AMQPType.FieldArray (I.bytes i))) }
+{
+    let (i, body) = parse_frame(i)?;
+    if depth == 0 {
+        return Err(refused(ErrorKind::Eof));
+    }
+    let array = parse_body(alloc, body, depth - 1)?;
+    Ok((i, array))
+}
+
+// Reads values one after another to the end of the body.
+#[cycle(parser)]
+#[inline(never)]
+fn parse_body<I: ParsableInput>(
+    alloc: Global,
+    body: I,
+    depth: usize,
+) -> Result<FieldArray, ParserError>
+    ensures { MatchResult result
+        (λ array. BodyWithin depth (I.bytes body) (array_view array))
+        (Refuses (IsNoBody depth (I.bytes body)) (0 < length (I.bytes body))) }
+{
+    let mut array = FieldArray::new_in(alloc);
+    let mut rest = body;
+    'entries: while rest.input_len() > 0 {
+        let (after, value) = match value_within(alloc, rest, depth) {
+            Ok(read) => read,
+            Err(e) => return Err(inside(e)),
+        };
+        if array.push(value).is_err() {
+            return Err(out_of_memory());
+        }
+        rest = after;
+    }
+    Ok(array)
+}
+
+/// Reads a table: the length of its body in bytes, in four bytes, then its entries, each a key as a
+/// short string and a value with its id. Of equal keys the last one's value stays.
+///
+/// The body is taken whole before an entry of it is looked at.
+#[inline(always)]
+pub fn parse_field_table<I: ParsableInput>(alloc: Global, i: I) -> ParserResult<I, FieldTable>
+    ensures { MatchResult result
+        (λ x. RawOutcome AMQPType.FieldTable (I.bytes i) (found (table (table_view x.1)) (I.bytes x.0)))
+        (Refuses (RawOutcome AMQPType.FieldTable (I.bytes i)) (RawHeavy AMQPType.FieldTable (I.bytes i))) }
+{
+    table_within(alloc, i, i.input_len())
+}
+
+// Reads a table in which containers nest at most `depth` deep, itself included.
+#[cycle(parser)]
+#[inline(always)]
+fn table_within<I: ParsableInput>(alloc: Global, i: I, depth: usize) -> ParserResult<I, FieldTable>
+    ensures { MatchResult result
+        (λ x. RawOutcomeWithin depth AMQPType.FieldTable (I.bytes i) (found (table (table_view x.1)) (I.bytes x.0)))
+        (Refuses (RawOutcomeWithin depth AMQPType.FieldTable (I.bytes i)) (RawHeavy AMQPType.FieldTable (I.bytes i))) }
+{
+    let (i, body) = parse_frame(i)?;
+    if depth == 0 {
+        return Err(refused(ErrorKind::Eof));
+    }
+    let table = parse_pairs(alloc, body, depth - 1)?;
+    Ok((i, table))
+}
+
+// Reads keys, each with a value, one after another to the end of the body.
+#[cycle(parser)]
+#[inline(never)]
+fn parse_pairs<I: ParsableInput>(
+    alloc: Global,
+    body: I,
+    depth: usize,
+) -> Result<FieldTable, ParserError>
+    ensures { MatchResult result
+        (λ table. IsTable depth (I.bytes body) (table_view table))
+        (Refuses (IsNoTable depth (I.bytes body)) (0 < length (I.bytes body))) }
+{
+    if body.input_len() == 0 {
+        return Ok(FieldTable::new_in(alloc));
+    }
+    let many = has_many_pairs(body);
+    let mut table = FieldTable::new_in(alloc);
+    let mut pairs = Vec::new(alloc);
+    let mut rest = body;
+    'pairs: while rest.input_len() > 0 {
+        let (behind_key, key) = match parse_short_string(alloc, rest) {
+            Ok(read) => read,
+            Err(e) => return Err(inside(e)),
+        };
+        let (after, value) = match value_within(alloc, behind_key, depth) {
+            Ok(read) => read,
+            Err(e) => return Err(inside(e)),
+        };
+        if keep(many, &mut table, &mut pairs, key, value).is_err() {
+            return Err(out_of_memory());
+        }
+        rest = after;
+    }
+    match table_of(alloc, many, table, pairs) {
+        Ok(table) => Ok(table),
+        Err(_) => Err(out_of_memory()),
+    }
+}

@@ -1,0 +1,27 @@
+use Rattle.std.proofs.Common.{rules, refl}
+use Rattle.amqp_stream.specs.Readers.{kept, has_failed}
+use Rattle.amqp_stream.proofs.Comes.{filled_waits, joined, answered}
+use Rattle.amqp_stream.proofs.values.Values.read_value.Goals as goal
+
+pub invariant_of-self-in-Lacks-clause-waiting : goal.invariant_of-self-in-Lacks-clause-waiting
+invariant_of-self-in-Lacks-clause-waiting g c =
+    let r = c.reads.self in
+    let h = c.in-Lacks.ensures in
+    filled_waits r.limits.frame (kept r) c.fill_from.new.self c.in-Lacks.n c.fill_from.result _ _ _ r.waiting (search rules) (search rules) c.fill_from.ensures.ok c.fill_from.ensures.err
+
+pub returns-then-branch-eq0-clause-answer : goal.returns-then-branch-eq0-clause-answer
+returns-then-branch-eq0-clause-answer g c =
+    let rem = g.R.Read.remaining in
+    let (x, came, is) = c.reads.invariant.0 in
+    let (more, len, few, all, comes) = c.in_ok-fill_from-in-Lacks.ensures.ok in
+    let j = joined (rem c.args.reader.now) (rem c.reads.reader) (rem c.fill_from.new.reader) (kept c.args.self.now) (kept c.reads.self) c.fill_from.new.self x more came is comes all in
+    let last = c.fill_from.new.reader in
+    answered rem c.ended.result _ c.args.self.now.limits c.args.reader.now last last (kept c.args.self.now) c.fill_from.new.self (kept c.ended.new.self) (has_failed c.ended.new.self)
+    c.reads.invariant.2 refl j (c.ended.ensures.answer (rem last) (c.in_ok-fill_from-in-Lacks.ensures.end c.if-branch-eq0.true))
+
+pub returns-in-Whole-clause-answer : goal.returns-in-Whole-clause-answer
+returns-in-Whole-clause-answer g c =
+    let rem = g.R.Read.remaining in
+    let last = c.reads.reader in
+    answered rem c.whole.result _ c.args.self.now.limits c.args.reader.now last last (kept c.args.self.now) (kept c.reads.self) (kept c.whole.new.self) (has_failed c.whole.new.self)
+    c.reads.invariant.2 refl c.reads.invariant.0 (c.whole.ensures.answer (rem last))

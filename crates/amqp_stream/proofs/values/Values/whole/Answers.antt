@@ -1,0 +1,21 @@
+use Rattle.std.proofs.Common.{◌≡◌, ◌++◌, ◌∙◌, List, ℕ, [], ap, sym, subst, append-nil, rules}
+use Rattle.amqp_value_core.specs.View.{view}
+use Rattle.amqp_grammar.specs.Nesting.{WireWithin, OutcomeWithin}
+use Rattle.amqp_grammar.specs.Outcomes.{found}
+use Rattle.amqp_input.specs.Inputs.{slice_bytes}
+use Rattle.amqp_grammar.proofs.GrammarLaws.{front_within}
+use Rattle.amqp_stream.specs.Readers.{kept}
+use Rattle.amqp_parsing.proofs.Waits.{nothing_behind, kept_within}
+use Rattle.amqp_stream.proofs.values.Values.whole.Goals as goal
+
+pub returns-in-Ok-clause-answer : goal.returns-in-Ok-clause-answer
+returns-in-Ok-clause-answer c = λ left.
+    let r = c.args.self.now in
+    let s = kept r in
+    let rest = slice_bytes c.in-Ok.field-0-0 in
+    let d = r.limits.depth in
+    let x : OutcomeWithin d s (found (view c.in-Ok.value) rest) = search (rules, c.in-Ok.ensures) in
+    let none : rest ≡ [] = nothing_behind r.limits.frame d s (view c.in-Ok.value) rest r.waiting x in
+    let f = front_within d s rest (view c.in-Ok.value) x in
+    let all : f.0 ≡ s = sym (f.2 ∙ ap (λ (t : List ℕ). f.0 ++ t) none ∙ append-nil f.0) in
+    (subst (λ (t : List ℕ). WireWithin d t (view c.in-Ok.value)) all f.1, kept_within r.limits.frame s r.some r.waiting, search rules, c.requires.goes_on)

@@ -1,0 +1,62 @@
+-- What readers of values keep and answer.
+use Rattle.std.specs.Prelude.{ℕ, ◌<◌, ◌≤◌, ◌≡◌, Bool, true, false, Option, Some, None, Result, Ok, Err, List, [], length}
+use Rattle.std.specs.Io.KnownBytes.{IsAtEnd}
+use Rattle.amqp_value_core.specs.declared.value.AMQPValue.{AMQPValue}
+use Rattle.amqp_grammar.specs.Nesting.{WireWithin}
+use Rattle.amqp_value_core.specs.View.{view}
+use Rattle.amqp_grammar.specs.Outcomes.{found, more}
+use Rattle.amqp_parsing.specs.declared.errors.Err.TheVariants.{Error}
+use Rattle.amqp_stream.specs.declared.error.StreamError.{StreamError}
+use Rattle.amqp_stream.specs.declared.error.StreamError.TheVariants as stream
+use Rattle.amqp_parsing.specs.declared.limits.Limits.{Limits}
+use Rattle.amqp_stream.specs.declared.reader.ValueReader.{ValueReader}
+use Rattle.amqp_stream.specs.declared.values.Values.{Values}
+use Rattle.amqp_parsing.specs.Headers.{IsWaiting}
+use Rattle.amqp_parsing.specs.Limits.{Within, RefusesWithin}
+
+-- the bytes that are kept of a value that hasn't all come
+abbrev pub kept : Values → List ℕ
+kept r = r.pending
+
+abbrev pub has_failed : Values → Bool
+has_failed r = r.failed
+
+abbrev pub limits_of : Values → Limits
+limits_of r = r.limits
+
+-- a `ValueReader` is the state between two values, and a reader
+abbrev pub values_of : {R : Type 0} → ValueReader R → Values
+values_of r = r.values
+
+abbrev pub reader_of : {R : Type 0} → ValueReader R → R
+reader_of r = r.reader
+
+-- a call for the next value may answer this, where s is what was kept and then what came, `left` is what the reader has left,
+-- `now` is kept afterwards, and `failed` says whether it gives none from then on:
+-- a value, whose wire s is; none, where nothing was kept or came, and the reader is at its end; a refusal, which no shorter
+-- front met; that s is cut, where the reader is at its end; a fault, where all of s is kept
+abbrev pub Answers : Limits → List ℕ → Option (List ℕ) → List ℕ → Bool → Result (Option AMQPValue) StreamError → Type 0
+Answers l s left now failed (Ok (Some v)) = WireWithin l.depth s (view v) × (length s ≤ l.frame) × (now ≡ []) × (failed ≡ false)
+Answers l s left now failed (Ok None) = (s ≡ []) × (now ≡ []) × (failed ≡ false) × IsAtEnd left
+Answers l s left now failed (Err (stream.Refused kind)) = RefusesWithin l s (Error kind) × IsWaiting l.frame s × (failed ≡ true)
+Answers l s left now failed (Err stream.Truncated) = (0 < length s) × ((n : ℕ) × Within l s (more n)) × (failed ≡ true) × IsAtEnd left
+Answers l s left now failed (Err (stream.Read kind)) = (now ≡ s) × (failed ≡ false)
+Answers l s left now failed (Err stream.OutOfMemory) = (now ≡ s) × (failed ≡ false)
+Answers l s left now failed (Err stream.Failed) = ⊥
+
+-- the answer is that an earlier call failed for good
+abbrev pub IsFailed : Result (Option AMQPValue) StreamError → Type 0
+IsFailed (Err stream.Failed) = Unit {0}
+IsFailed _ = ⊥
+
+-- a call for the next value may answer this, where the reader tells its bytes, s is what was kept and then all that the reader
+-- held, and `left` is what it has left: what reading s within the limits comes to, however the reader cuts its bytes, and with
+-- all behind the value unread
+abbrev pub AnswersAll : Limits → List ℕ → Option (List ℕ) → Result (Option AMQPValue) StreamError → Type 0
+AnswersAll l s left (Ok (Some v)) = (rest : List ℕ) × Within l s (found (view v) rest) × (left ≡ Some rest)
+AnswersAll l s left (Ok None) = (s ≡ []) × (left ≡ Some [])
+AnswersAll l s left (Err (stream.Refused kind)) = RefusesWithin l s (Error kind)
+AnswersAll l s left (Err stream.Truncated) = (0 < length s) × ((n : ℕ) × Within l s (more n)) × (left ≡ Some [])
+AnswersAll l s left (Err (stream.Read kind)) = Unit {0}
+AnswersAll l s left (Err stream.OutOfMemory) = Unit {0}
+AnswersAll l s left (Err stream.Failed) = ⊥

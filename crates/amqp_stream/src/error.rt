@@ -1,0 +1,24 @@
+use amqp_parsing::ParserErrors;
+use std::io;
+use thiserror::Error;
+
+/// Why a reader of values gave none.
+#[derive(Clone, Debug, PartialEq, Drop, Error)]
+pub enum StreamError {
+    /// What came begins with no value within the limits. The reader of values has failed for good.
+    #[error(transparent)]
+    Refused(ParserErrors),
+    /// The reader ended inside a value. The reader of values has failed for good.
+    #[error("truncated")]
+    Truncated,
+    /// The reader failed in this way, `Interrupted` too. Nothing that came is lost, and the next
+    /// call goes on.
+    #[error("read failed")]
+    Read(io::ErrorKind),
+    /// A request for memory was refused. Nothing that came is lost, and the next call goes on.
+    #[error("out of memory")]
+    OutOfMemory,
+    /// An earlier call answered `Refused` or `Truncated`. Nothing was read.
+    #[error("failed before")]
+    Failed,
+}

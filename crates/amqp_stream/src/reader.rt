@@ -1,0 +1,64 @@
+//! A reader of values.
+
+ghost use Rattle.std.specs.Prelude.{◌≡◌, ◌<◌, ◌≤◌, ◌++◌, List, ℕ, length, IfSome, true, false, []};
+ghost use Rattle.std.specs.Io.KnownBytes.{Consumes};
+ghost use Rattle.amqp_parsing.specs.Headers.{IsWaiting};
+ghost use Rattle.amqp_stream.specs.Readers.{values_of, reader_of, kept, has_failed, limits_of, Answers, AnswersAll, IsFailed};
+
+use super::error::StreamError;
+use super::values::Values;
+use amqp_parsing::Limits;
+use amqp_value_core::value::AMQPValue;
+use std::alloc::Global;
+use std::io::Read;
+
+/// Reads values from a reader, one after another, each within limits.
+///
+/// It reads no byte behind the value that it gives, asks for no more bytes than the field being read
+/// lacks, and keeps at most as many as a value may have.
+#[derive(Drop)]
+pub struct ValueReader<R> {
+    values: Values,
+    reader: R,
+}
+
+impl<R: Read> ValueReader<R> {
+    /// A reader of values that has read nothing yet. It takes no memory.
+    pub fn new(alloc: Global, reader: R, limits: Limits) -> Self
+        requires { 0 < limits.frame }
+        ensures reader { reader_of result ≡ reader }
+        ensures limits { limits_of (values_of result) ≡ limits }
+        ensures kept { kept (values_of result) ≡ [] }
+        ensures goes_on { has_failed (values_of result) ≡ false }
+    {
+        ValueReader {
+            values: Values::new(alloc, limits),
+            reader,
+        }
+    }
+
+    /// The next value, or `None` where the reader ended behind the value before. After `None` a later
+    /// call asks the reader again.
+    pub fn next(&mut self) -> Result<Option<AMQPValue>, StreamError>
+        ensures answer { has_failed (values_of self.old) ≡ false → (x : List ℕ)
+            × Consumes (R.remaining (reader_of self.old)) (R.remaining (reader_of self.new)) x
+            × Answers (limits_of (values_of self.old)) (kept (values_of self.old) ++ x) (R.remaining (reader_of self.new))
+            (kept (values_of self.new)) (has_failed (values_of self.new)) result }
+        ensures told { has_failed (values_of self.old) ≡ false → IfSome (R.remaining (reader_of self.old))
+            (λ z. AnswersAll (limits_of (values_of self.old)) (kept (values_of self.old) ++ z) (R.remaining (reader_of self.new)) result) }
+        ensures failed { has_failed (values_of self.old) ≡ true → IsFailed result × (self.new ≡ self.old) }
+        ensures limits { limits_of (values_of self.new) ≡ limits_of (values_of self.old) }
+        ensures bounded { length (kept (values_of self.new)) ≤ (limits_of (values_of self.new)).frame }
+        ensures waiting { IsWaiting (limits_of (values_of self.new)).frame (kept (values_of self.new)) }
+    {
+        self.values.next_from(&mut self.reader)
+    }
+
+    /// The reader. What is kept of a value that hasn't all come is dropped.
+    pub fn into_inner(self) -> R
+        ensures { result ≡ reader_of self }
+    {
+        let ValueReader { reader, .. } = self;
+        reader
+    }
+}

@@ -1,0 +1,136 @@
+//! Values that come from a reader, one after another.
+
+ghost use Rattle.std.specs.Prelude.{◌≡◌, ◌<◌, ◌≤◌, ◌++◌, List, ℕ, Option, length, IfSome, true, false, []};
+ghost use Rattle.std.specs.Io.KnownBytes.{Consumes, IsAtEnd};
+ghost use Rattle.std.proofs.Props.{props};
+ghost use Rattle.amqp_parsing.specs.Headers.{IsWaiting, IsWhole, extent, wanted};
+
+use super::error::StreamError;
+use super::pending::Pending;
+use amqp_parsing::errors::refusal;
+use amqp_parsing::header::{Header, header_of};
+use amqp_parsing::values::value_within;
+use amqp_parsing::{Err, ErrorKind, Limits, SliceInput};
+use amqp_value_core::value::AMQPValue;
+use std::alloc::Global;
+use std::io::Read;
+
+/// What a reader of values keeps between its calls, each of which is handed the reader: where a
+/// `ValueReader` would borrow it for the whole stream.
+#[derive(Drop)]
+pub struct Values {
+    alloc: Global,
+    limits: Limits,
+    pending: Pending,
+    failed: bool,
+    ghost some: { 0 < limits.frame },
+    ghost waiting: { IsWaiting limits.frame pending } by { Prim.hlevel props },
+}
+
+impl Values {
+    ghost use Rattle.amqp_stream.specs.Readers.{kept, has_failed, limits_of, Answers, AnswersAll, IsFailed};
+
+    /// Nothing is kept yet. It takes no memory.
+    pub fn new(alloc: Global, limits: Limits) -> Self
+        requires { 0 < limits.frame }
+        ensures limits { limits_of result ≡ limits }
+        ensures kept { kept result ≡ [] }
+        ensures goes_on { has_failed result ≡ false }
+    {
+        Values {
+            alloc,
+            limits,
+            pending: Pending::new_in(alloc),
+            failed: false,
+        }
+    }
+
+    /// The next value, or `None` where the reader ended behind the value before. The reader may be
+    /// another one each time: what is kept of a value is read on in it.
+    #[tactic(auto, using(amqp_parsing::proofs::Waits::kept_within))]
+    pub fn next_from<R: Read>(&mut self, reader: &mut R) -> Result<Option<AMQPValue>, StreamError>
+        ensures answer { has_failed self.old ≡ false → (x : List ℕ)
+            × Consumes (R.remaining reader.old) (R.remaining reader.new) x
+            × Answers (limits_of self.old) (kept self.old ++ x) (R.remaining reader.new) (kept self.new) (has_failed self.new) result }
+        ensures told { has_failed self.old ≡ false → IfSome (R.remaining reader.old)
+            (λ z. AnswersAll (limits_of self.old) (kept self.old ++ z) (R.remaining reader.new) result) }
+        ensures failed { has_failed self.old ≡ true → IsFailed result × (self.new ≡ self.old) × (reader.new ≡ reader.old) }
+        ensures limits { limits_of self.new ≡ limits_of self.old }
+        ensures bounded { length (kept self.new) ≤ (limits_of self.new).frame }
+        ensures waiting { IsWaiting (limits_of self.new).frame (kept self.new) }
+    {
+        if self.failed {
+            return Err(StreamError::Failed);
+        }
+        self.read_value(reader)
+    }
+
+    // Reads until the value is whole, or is none.
+    fn read_value<R: Read>(&mut self, reader: &mut R) -> Result<Option<AMQPValue>, StreamError>
+        requires goes_on { has_failed self.old ≡ false }
+        ensures answer { (x : List ℕ)
+            × Consumes (R.remaining reader.old) (R.remaining reader.new) x
+            × Answers (limits_of self.old) (kept self.old ++ x) (R.remaining reader.new) (kept self.new) (has_failed self.new) result }
+        ensures limits { limits_of self.new ≡ limits_of self.old }
+    {
+        'reads: loop {
+            match header_of(SliceInput::new(self.pending.as_slice()), self.limits.frame) {
+                Header::Unknown => {
+                    self.failed = true;
+                    return Err(StreamError::Refused(refusal(ErrorKind::MapOpt)));
+                }
+                Header::TooLarge => {
+                    self.failed = true;
+                    return Err(StreamError::Refused(refusal(ErrorKind::TooLarge)));
+                }
+                Header::Whole => return self.whole(),
+                Header::Lacks(n) => {
+                    if self.pending.fill_from(reader, n)? == 0 {
+                        return self.ended();
+                    }
+                }
+            }
+        }
+    }
+
+    // The value that is kept whole.
+    fn whole(&mut self) -> Result<Option<AMQPValue>, StreamError>
+        requires goes_on { has_failed self.old ≡ false }
+        requires whole { IsWhole (kept self.old) }
+        requires within { extent (kept self.old) ≤ self.old.limits.frame }
+        ensures answer { (left : Option (List ℕ)) → Answers (limits_of self.old) (kept self.old) left (kept self.new) (has_failed self.new) result }
+        ensures limits { limits_of self.new ≡ limits_of self.old }
+    {
+        match value_within(
+            self.alloc,
+            SliceInput::new(self.pending.as_slice()),
+            self.limits.depth as usize,
+        ) {
+            Ok((_, value)) => {
+                self.pending.clear();
+                Ok(Some(value))
+            }
+            Err(Err::Incomplete(_)) => unreachable!(),
+            Err(Err::Error(error)) => {
+                self.failed = true;
+                Err(StreamError::Refused(error))
+            }
+            Err(Err::Failure(_)) => Err(StreamError::OutOfMemory),
+        }
+    }
+
+    // What is answered where the reader ended.
+    fn ended(&mut self) -> Result<Option<AMQPValue>, StreamError>
+        requires goes_on { has_failed self.old ≡ false }
+        requires wants { 0 < wanted (kept self.old) }
+        requires within { extent (kept self.old) ≤ self.old.limits.frame }
+        ensures answer { (left : Option (List ℕ)) → IsAtEnd left → Answers (limits_of self.old) (kept self.old) left (kept self.new) (has_failed self.new) result }
+        ensures limits { limits_of self.new ≡ limits_of self.old }
+    {
+        if self.pending.as_slice().is_empty() {
+            return Ok(None);
+        }
+        self.failed = true;
+        Err(StreamError::Truncated)
+    }
+}

@@ -1,0 +1,85 @@
+-- Ids: the byte that stands before a value, as a letter of ASCII.
+-- AMQP 0-9-1, section 4.2.1 (`field-value`), with the letters of RabbitMQ's errata, section 3.
+use Rattle.std.specs.Prelude.{ℕ, List, [], ◌∷◌, nat_eq, codes}
+use Rattle.std.specs.Prelude.{Option, Some, None}
+use Rattle.std.specs.Map.{lookup}
+use Rattle.amqp_types.specs.declared.amqp_type.AMQPType.{AMQPType}
+use Rattle.amqp_types.specs.declared.amqp_type.AMQPType.TheVariants as amqp
+
+-- the letters that are read, each with its type; `U` and `L` are second spellings
+abbrev pub letters : List (ℕ × AMQPType)
+letters =
+    (116, amqp.Boolean)  -- t
+    ∷ (98, amqp.ShortShortInt)  -- b
+    ∷ (66, amqp.ShortShortUInt)  -- B
+    ∷ (115, amqp.ShortInt)  -- s
+    ∷ (85, amqp.ShortInt)  -- U
+    ∷ (117, amqp.ShortUInt)  -- u
+    ∷ (73, amqp.LongInt)  -- I
+    ∷ (105, amqp.LongUInt)  -- i
+    ∷ (108, amqp.LongLongInt)  -- l
+    ∷ (76, amqp.LongLongInt)  -- L
+    ∷ (102, amqp.Float)  -- f
+    ∷ (100, amqp.Double)  -- d
+    ∷ (68, amqp.DecimalValue)  -- D
+    ∷ (83, amqp.LongString)  -- S
+    ∷ (65, amqp.FieldArray)  -- A
+    ∷ (84, amqp.Timestamp)  -- T
+    ∷ (70, amqp.FieldTable)  -- F
+    ∷ (120, amqp.ByteArray)  -- x
+    ∷ (86, amqp.Void)  -- V
+    ∷ []
+
+-- the type that a byte stands for; every byte that is no letter of the table has none
+abbrev pub kind : ℕ → Option AMQPType
+kind c = lookup (nat_eq c) letters
+
+-- the letter that is written for a type
+abbrev pub id_of : AMQPType → ℕ
+id_of amqp.Boolean = 116
+id_of amqp.ShortShortInt = 98
+id_of amqp.ShortShortUInt = 66
+id_of amqp.ShortInt = 115
+id_of amqp.ShortUInt = 117
+id_of amqp.LongInt = 73
+id_of amqp.LongUInt = 105
+id_of amqp.LongLongInt = 108
+id_of amqp.LongLongUInt = 108
+id_of amqp.Float = 102
+id_of amqp.Double = 100
+id_of amqp.DecimalValue = 68
+id_of amqp.ShortString = 95
+id_of amqp.LongString = 83
+id_of amqp.FieldArray = 65
+id_of amqp.Timestamp = 84
+id_of amqp.FieldTable = 70
+id_of amqp.ByteArray = 120
+id_of amqp.Void = 86
+
+-- the type that is read where the letter of a type was written: a short string's is no letter that is read
+abbrev pub read_as : AMQPType → Option AMQPType
+read_as amqp.LongLongUInt = Some amqp.LongLongInt
+read_as amqp.ShortString = None
+read_as type = Some type
+
+-- the name of a type
+abbrev pub name_of : AMQPType → List ℕ
+name_of amqp.Boolean = codes "Boolean"
+name_of amqp.ShortShortInt = codes "ShortShortInt"
+name_of amqp.ShortShortUInt = codes "ShortShortUInt"
+name_of amqp.ShortInt = codes "ShortInt"
+name_of amqp.ShortUInt = codes "ShortUInt"
+name_of amqp.LongInt = codes "LongInt"
+name_of amqp.LongUInt = codes "LongUInt"
+name_of amqp.LongLongInt = codes "LongLongInt"
+name_of amqp.LongLongUInt = codes "LongLongUInt"
+name_of amqp.Float = codes "Float"
+name_of amqp.Double = codes "Double"
+name_of amqp.DecimalValue = codes "DecimalValue"
+name_of amqp.ShortString = codes "ShortString"
+name_of amqp.LongString = codes "LongString"
+name_of amqp.FieldArray = codes "FieldArray"
+name_of amqp.Timestamp = codes "Timestamp"
+name_of amqp.FieldTable = codes "FieldTable"
+name_of amqp.ByteArray = codes "ByteArray"
+name_of amqp.Void = codes "Void"

@@ -1,0 +1,142 @@
+//! The type of an AMQP value, and the id that stands for it.
+
+ghost use Rattle.std.specs.Prelude.{◌≡◌, Some, IfSome};
+ghost use Rattle.amqp_types.specs.Ids.{kind, id_of, read_as};
+
+use serde::{Deserialize, Serialize};
+use std::fmt;
+
+/// The type of an AMQP value.
+#[derive(Clone, Copy, Debug, PartialEq, Eq, Serialize, Deserialize)]
+pub enum AMQPType {
+    /// A truth value, a `bool`.
+    Boolean,
+    /// A signed number of 8 bits, an `i8`.
+    ShortShortInt,
+    /// An unsigned number of 8 bits, a `u8`.
+    ShortShortUInt,
+    /// A signed number of 16 bits, an `i16`.
+    ShortInt,
+    /// An unsigned number of 16 bits, a `u16`.
+    ShortUInt,
+    /// A signed number of 32 bits, an `i32`.
+    LongInt,
+    /// An unsigned number of 32 bits, a `u32`.
+    LongUInt,
+    /// A signed number of 64 bits, an `i64`.
+    LongLongInt,
+    /// An unsigned number of 64 bits, a `u64`. No id stands for it: where its id is written, a
+    /// `LongLongInt` of the same bits is read.
+    LongLongUInt,
+    /// A floating-point number of 32 bits.
+    Float,
+    /// A floating-point number of 64 bits.
+    Double,
+    /// A decimal number: a scale and an unsigned number of 32 bits.
+    DecimalValue,
+    /// A text of at most 255 bytes. No id stands for it: it is a key of a table, and where it is
+    /// written as a value no reader takes it.
+    ShortString,
+    /// Bytes of any kind, a text for most peers.
+    LongString,
+    /// A list of values, each with its type.
+    FieldArray,
+    /// A time, an unsigned number of 64 bits.
+    Timestamp,
+    /// A map from short strings to values, each with its type.
+    FieldTable,
+    /// Bytes of any kind.
+    ByteArray,
+    /// Nothing: a type with one value.
+    Void,
+}
+
+impl AMQPType {
+    /// The type that an id stands for: the letters of RabbitMQ's errata. Two are second spellings:
+    /// `U` is read as `s` is, and `L` as `l`.
+    #[inline(always)]
+    #[tactic(auto, using(crate::proofs::Ids::kind_read))]
+    pub fn from_id(id: char) -> Option<AMQPType>
+        ensures kind { result ≡ kind id }
+        ensures read_back { IfSome result (λ t. read_as t ≡ Some t) }
+    {
+        match id {
+            't' => Some(AMQPType::Boolean),
+            'b' => Some(AMQPType::ShortShortInt),
+            'B' => Some(AMQPType::ShortShortUInt),
+            's' | 'U' => Some(AMQPType::ShortInt),
+            'u' => Some(AMQPType::ShortUInt),
+            'I' => Some(AMQPType::LongInt),
+            'i' => Some(AMQPType::LongUInt),
+            'l' | 'L' => Some(AMQPType::LongLongInt),
+            'f' => Some(AMQPType::Float),
+            'd' => Some(AMQPType::Double),
+            'D' => Some(AMQPType::DecimalValue),
+            'S' => Some(AMQPType::LongString),
+            'A' => Some(AMQPType::FieldArray),
+            'T' => Some(AMQPType::Timestamp),
+            'F' => Some(AMQPType::FieldTable),
+            'x' => Some(AMQPType::ByteArray),
+            'V' => Some(AMQPType::Void),
+            _ => None,
+        }
+    }
+
+    /// The id that is written for the type, a letter of ASCII or `_`.
+    pub fn get_id(self) -> char
+        ensures id { result ≡ id_of self }
+        ensures read_back { kind result ≡ read_as self }
+    {
+        match self {
+            AMQPType::Boolean => 't',
+            AMQPType::ShortShortInt => 'b',
+            AMQPType::ShortShortUInt => 'B',
+            AMQPType::ShortInt => 's',
+            AMQPType::ShortUInt => 'u',
+            AMQPType::LongInt => 'I',
+            AMQPType::LongUInt => 'i',
+            AMQPType::LongLongInt => 'l',
+            AMQPType::LongLongUInt => 'l',
+            AMQPType::Float => 'f',
+            AMQPType::Double => 'd',
+            AMQPType::DecimalValue => 'D',
+            AMQPType::ShortString => '_',
+            AMQPType::LongString => 'S',
+            AMQPType::FieldArray => 'A',
+            AMQPType::Timestamp => 'T',
+            AMQPType::FieldTable => 'F',
+            AMQPType::ByteArray => 'x',
+            AMQPType::Void => 'V',
+        }
+    }
+}
+
+impl fmt::Display for AMQPType {
+    ghost use Rattle.amqp_types.specs.Ids.{name_of};
+
+    ghost output = { λ t. Some (name_of t) };
+
+    fn fmt<W: fmt::Write>(&self, f: &mut fmt::Formatter<W>) -> fmt::Result {
+        f.write_str(match self {
+            AMQPType::Boolean => "Boolean",
+            AMQPType::ShortShortInt => "ShortShortInt",
+            AMQPType::ShortShortUInt => "ShortShortUInt",
+            AMQPType::ShortInt => "ShortInt",
+            AMQPType::ShortUInt => "ShortUInt",
+            AMQPType::LongInt => "LongInt",
+            AMQPType::LongUInt => "LongUInt",
+            AMQPType::LongLongInt => "LongLongInt",
+            AMQPType::LongLongUInt => "LongLongUInt",
+            AMQPType::Float => "Float",
+            AMQPType::Double => "Double",
+            AMQPType::DecimalValue => "DecimalValue",
+            AMQPType::ShortString => "ShortString",
+            AMQPType::LongString => "LongString",
+            AMQPType::FieldArray => "FieldArray",
+            AMQPType::Timestamp => "Timestamp",
+            AMQPType::FieldTable => "FieldTable",
+            AMQPType::ByteArray => "ByteArray",
+            AMQPType::Void => "Void",
+        })
+    }
+}

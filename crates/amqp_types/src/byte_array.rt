@@ -1,0 +1,77 @@
+ghost use Rattle.std.specs.Prelude.{◌≡◌, [], length, nat_eq, IfOk, IsOk};
+ghost use Rattle.amqp_types.specs.Bytes.{array_bytes};
+
+use serde::{Deserialize, Serialize};
+use std::alloc::{AllocError, Global};
+
+/// Bytes of any kind, at most 4294967295 of which can be written.
+///
+/// Equality and hash are those of its bytes.
+#[derive(Debug, PartialEq, Eq, Hash, Serialize, Deserialize, Drop)]
+#[serde(transparent)]
+pub struct ByteArray {
+    bytes: Vec<u8>,
+}
+
+impl ByteArray {
+    /// The array with no bytes. Takes no memory.
+    pub fn new_in(alloc: Global) -> Self
+        ensures { array_bytes result ≡ [] }
+    {
+        ByteArray {
+            bytes: Vec::new(alloc),
+        }
+    }
+
+    /// A copy of the bytes. No bytes take no memory.
+    pub fn from_slice(alloc: Global, bytes: &[u8]) -> Result<ByteArray, AllocError>
+        ensures bytes { IfOk result (λ a. array_bytes a ≡ bytes.now) }
+        ensures empty { bytes.now ≡ [] → IsOk result }
+    {
+        if bytes.is_empty() {
+            return Ok(ByteArray::new_in(alloc));
+        }
+        Ok(ByteArray {
+            bytes: Vec::from_slice(alloc, bytes)?,
+        })
+    }
+
+    /// The bytes.
+    pub fn as_slice(&self) -> &[u8]
+        ensures { result.now ≡ array_bytes self.now }
+    {
+        self.bytes.as_slice()
+    }
+
+    /// How many bytes there are.
+    pub fn len(&self) -> usize
+        ensures { result ≡ length (array_bytes self.now) }
+    {
+        self.bytes.len()
+    }
+
+    /// Whether there is no byte.
+    pub fn is_empty(&self) -> bool
+        ensures { result ≡ nat_eq (length (array_bytes self.now)) 0 }
+    {
+        self.bytes.is_empty()
+    }
+
+    /// A copy of the bytes. No bytes take no memory.
+    pub fn clone(&self, alloc: Global) -> Result<ByteArray, AllocError>
+        ensures same { IfOk result (λ a. array_bytes a ≡ array_bytes self.now) }
+        ensures empty { array_bytes self.now ≡ [] → IsOk result }
+    {
+        ByteArray::from_slice(alloc, self.as_slice())
+    }
+}
+
+impl From<Vec<u8>> for ByteArray {
+    ghost use Rattle.amqp_types.specs.Bytes.{array_bytes};
+
+    ghost from_gives = { λ v a. array_bytes a ≡ v.items };
+
+    fn from(bytes: Vec<u8>) -> Self {
+        ByteArray { bytes }
+    }
+}

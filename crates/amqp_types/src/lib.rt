@@ -1,0 +1,24 @@
+//! The types of AMQP 0-9-1 values, their names, and the values that hold no others.
+#![tactic(auto)]
+
+mod amqp_type;
+mod byte_array;
+mod decimal_value;
+mod double;
+mod float;
+mod long_string;
+mod names;
+mod short_string;
+
+pub use amqp_type::AMQPType;
+pub use byte_array::ByteArray;
+pub use decimal_value::DecimalValue;
+pub use double::Double;
+pub use float::Float;
+pub use long_string::LongString;
+pub use names::{
+    Boolean, ChannelId, ChunkSize, ConsumerCount, DeliveryTag, FrameSize, Heartbeat, Identifier,
+    LongInt, LongLongInt, LongLongUInt, LongUInt, MAX_SHORT_STRING_LENGTH, MessageCount,
+    PayloadSize, ReplyCode, ShortInt, ShortShortInt, ShortShortUInt, ShortUInt, Timestamp, Void,
+};
+pub use short_string::{ShortString, ShortStringError, TryCopyError};
