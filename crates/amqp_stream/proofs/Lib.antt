@@ -1,2 +1,3 @@
 pub mod Comes
 pub mod Told
+pub mod Fillings

@@ -1,6 +1,6 @@
 //! The bytes of a value that hasn't all come.
 
-ghost use Rattle.std.specs.Prelude.{◌≡◌, ◌<◌, ◌≤◌, ◌+◌, ◌++◌, ℕ, List, [], length, vec_len, vec_capacity, IfOk, OnErr, IfErr};
+ghost use Rattle.std.specs.Prelude.{◌≡◌, ◌<◌, ◌≤◌, ◌+◌, ◌++◌, ℕ, List, [], length, take, drop, vec_len, IfOk, OnErr, IfErr};
 ghost use Rattle.std.specs.Io.KnownBytes.{Consumes, Keeps, IsAtEnd};
 ghost use Rattle.amqp_stream.specs.Passing.{IsPassing};
 
@@ -10,56 +10,78 @@ use std::io;
 use std::io::Read;
 use std::marker::Model;
 
-// So many bytes are read at once, at most, and the first room is for as many.
+// The first room is for so many bytes.
 const BLOCK: usize = 8192;
 
-// The bytes, and a block that they come by: what isn't filled yet can't be read into.
+// The first bytes of a buffer, as many as `count` says. What is behind them is room that is filled
+// already, since what isn't filled yet can't be read into.
 #[derive(Drop)]
 pub(super) struct Pending {
-    bytes: Vec<u8>,
-    block: [u8; BLOCK],
+    buffer: Vec<u8>,
+    count: usize,
 }
 
 impl Model for Pending {
     ghost Value = { List ℕ };
 
-    ghost view = { λ p. p.bytes.items };
+    ghost view = { λ p. take p.count p.buffer.items };
+
+    ghost invariant = { λ p. p.count ≤ vec_len p.buffer };
 }
 
 // Makes room for some of `most` bytes, where there is none: as much again as there is, whatever a length
 // claims. Answers for how many there is room.
-fn make_room(bytes: &mut Vec<u8>, most: usize) -> Result<usize, AllocError>
-    requires { 0 < most }
-    ensures same { bytes.new.items ≡ bytes.old.items }
-    ensures room { IfOk result (λ n. (0 < n) × (n ≤ most) × (vec_len bytes.new + n ≤ vec_capacity bytes.new)) }
+fn make_room(buffer: &mut Vec<u8>, count: usize, most: usize) -> Result<usize, AllocError>
+    requires some { 0 < most }
+    requires within { count ≤ vec_len buffer.old }
+    ensures same { take count buffer.new.items ≡ take count buffer.old.items }
+    ensures within { count ≤ vec_len buffer.new }
+    ensures room { IfOk result (λ n. (0 < n) × (n ≤ most) × (count + n ≤ vec_len buffer.new)) }
 {
-    let len = bytes.len();
-    if len == bytes.capacity() {
-        bytes.reserve_exact(most.min(len).max(BLOCK))?;
+    if count == buffer.len() {
+        let more = most.min(count).max(BLOCK);
+        buffer.reserve_exact(more)?;
+        buffer.resize(count + more, 0)?;
     }
-    Ok(most.min(bytes.capacity() - len))
+    Ok(most.min(buffer.len() - count))
 }
 
-// Asks the reader once for at most `most` bytes, for which there is room, and appends those that it
-// gives.
-fn read_block<R: Read>(
-    bytes: &mut Vec<u8>,
-    block: &mut [u8],
+// Asks the reader once for at most `room` bytes, and puts those that it gives behind the first `count`.
+fn read_behind<R: Read>(
+    bytes: &mut [u8],
+    count: usize,
     reader: &mut R,
-    most: usize,
+    room: usize,
 ) -> io::Result<usize>
-    requires block { 0 < length block.old }
-    requires some { 0 < most }
-    requires room { vec_len bytes.old + most ≤ vec_capacity bytes.old }
-    ensures ok { IfOk result (λ n. (more : List ℕ) × (length more ≡ n) × (n ≤ most) × (bytes.new.items ≡ bytes.old.items ++ more)
-        × Consumes (R.remaining reader.old) (R.remaining reader.new) more) }
+    requires some { 0 < room }
+    requires within { count + room ≤ length bytes.old }
+    ensures front { take count bytes.new ≡ take count bytes.old }
+    ensures fits { IfOk result (λ n. n ≤ room) }
+    ensures ok { IfOk result (λ n. Consumes (R.remaining reader.old) (R.remaining reader.new) (take n (drop count bytes.new))) }
     ensures end { IfOk result (λ n. n ≡ 0 → IsAtEnd (R.remaining reader.new)) }
-    ensures err { OnErr result ((bytes.new.items ≡ bytes.old.items) × Keeps (R.remaining reader.old) (R.remaining reader.new)) }
+    ensures err { OnErr result (Keeps (R.remaining reader.old) (R.remaining reader.new)) }
+    ensures length { length bytes.new ≡ length bytes.old }
 {
-    let most = most.min(block.len());
-    let n = reader.read(&mut block[..most])?;
-    bytes.extend_from_slice(&block[..n]).unwrap();
-    Ok(n)
+    reader.read(&mut bytes[count..count + room])
+}
+
+// The same with the bytes of a vector.
+fn read_into<R: Read>(
+    buffer: &mut Vec<u8>,
+    count: usize,
+    reader: &mut R,
+    room: usize,
+) -> io::Result<usize>
+    requires some { 0 < room }
+    requires within { count + room ≤ vec_len buffer.old }
+    ensures front { take count buffer.new.items ≡ take count buffer.old.items }
+    ensures fits { IfOk result (λ n. n ≤ room) }
+    ensures ok { IfOk result (λ n. Consumes (R.remaining reader.old) (R.remaining reader.new) (take n (drop count buffer.new.items))) }
+    ensures end { IfOk result (λ n. n ≡ 0 → IsAtEnd (R.remaining reader.new)) }
+    ensures err { OnErr result (Keeps (R.remaining reader.old) (R.remaining reader.new)) }
+    ensures length { vec_len buffer.new ≡ vec_len buffer.old }
+{
+    read_behind(buffer.as_mut_slice(), count, reader, room)
 }
 
 impl Pending {
@@ -67,22 +89,22 @@ impl Pending {
         ensures { result ≡ [] }
     {
         Pending {
-            bytes: Vec::new(alloc),
-            block: [0; BLOCK],
+            buffer: Vec::new(alloc),
+            count: 0,
         }
     }
 
     pub(super) fn as_slice(&self) -> &[u8]
         ensures { result.now ≡ self.now }
     {
-        self.bytes.as_slice()
+        &self.buffer[..self.count]
     }
 
     // Keeps no byte. The room stays.
     pub(super) fn clear(&mut self)
         ensures { self.new ≡ [] }
     {
-        self.bytes.clear();
+        self.count = 0;
     }
 
     // Asks the reader once for at most `most` bytes, and keeps those that it gives.
@@ -98,11 +120,14 @@ impl Pending {
         ensures err { IfErr result (λ e. IsPassing e × (self.new ≡ self.old)
             × Keeps (R.remaining reader.old) (R.remaining reader.new)) }
     {
-        let Ok(room) = make_room(&mut self.bytes, most) else {
+        let Ok(room) = make_room(&mut self.buffer, self.count, most) else {
             return Err(StreamError::OutOfMemory);
         };
-        match read_block(&mut self.bytes, &mut self.block, reader, room) {
-            Ok(n) => Ok(n),
+        match read_into(&mut self.buffer, self.count, reader, room) {
+            Ok(n) => {
+                self.count += n;
+                Ok(n)
+            }
             Err(e) => Err(StreamError::Read(e.kind())),
         }
     }
