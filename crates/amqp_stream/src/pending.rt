@@ -13,6 +13,10 @@ use std::marker::Model;
 // The first room is for so many bytes.
 const BLOCK: usize = 8192;
 
+// So many bytes of new room are filled at once, at most: they are still in the processor's cache when
+// the reader writes over them.
+const FILLED: usize = 65_536;
+
 // The first bytes of a buffer, as many as `count` says. What is behind them is room that is filled
 // already, since what isn't filled yet can't be read into.
 #[derive(Drop)]
@@ -39,8 +43,10 @@ fn make_room(buffer: &mut Vec<u8>, count: usize, most: usize) -> Result<usize, A
     ensures room { IfOk result (λ n. (0 < n) × (n ≤ most) × (count + n ≤ vec_len buffer.new)) }
 {
     if count == buffer.len() {
-        let more = most.min(count).max(BLOCK);
-        buffer.reserve_exact(more)?;
+        if count == buffer.capacity() {
+            buffer.reserve_exact(most.min(count).max(BLOCK))?;
+        }
+        let more = most.min(buffer.capacity() - count).min(FILLED);
         buffer.resize(count + more, 0)?;
     }
     Ok(most.min(buffer.len() - count))
