@@ -1,1 +1,1 @@
-pub mod Written
+mod Written

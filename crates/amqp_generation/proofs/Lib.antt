@@ -1,9 +1,9 @@
-pub mod Rooms
-pub mod Slices
-pub mod Steps
-pub mod Texts
-pub mod Arrays
-pub mod WhatWasRead
-pub mod Tables
+mod Rooms
+mod Slices
+mod Steps
+mod Texts
+mod Arrays
+mod WhatWasRead
+mod Tables
 pub mod Lengths
-pub mod Puts
+mod Puts

@@ -2,12 +2,11 @@
 use Rattle.std.proofs.Common.{◌≡◌, ℕ, ◌+◌, ◌-◌, ◌≤◌, inl, inr, Bool, IsTrue, Option, Some, None, IfSome, Ok, Err, List, [], ◌∷◌, ◌++◌, length, drop, refl, sym, ap, ◌∙◌, subst, arith, length-append, append-nil}
 use Rattle.std.specs.Option.{option_map}
 use Rattle.std.specs.Io.KnownBytes.{Appends}
-use Rattle.std.proofs.KnownBytes.{Appends-trans}
 use Rattle.std.proofs.lemmas.Bool.{false≢true}
-use Rattle.std.proofs.lemmas.List.{drop-drop}
 use Rattle.amqp_generation.specs.declared.error.GenError.{GenError}
 use Rattle.amqp_generation.specs.Outputs.{Seen, Writes, Puts, MakesRoom, HasFailed}
-use Rattle.amqp_generation.proofs.Rooms.{both_fit, both_left, both_too_many, still_fixed, rest_fits, any_room}
+use Rattle.amqp_generation.proofs.Rooms.{both_too_many, still_fixed, rest_fits, any_room}
+use Rattle.amqp_generation.proofs.Steps.{both_put, failed_since}
 
 -- some bytes were put, and a buffer won't refuse those behind them, n in all
 pub record PutSoFar (b : Bool) (n : ℕ) (done : List ℕ) (before after : Seen) : Type 0 where
@@ -81,37 +80,10 @@ room_refused {b = b} {n = n} {s = s} {t = t} {e = e} all count m =
 
 -- more bytes were put
 pub put_more : {b : Bool} {n : ℕ} {done ys : List ℕ} {s t u : Seen} → PutSoFar b n done s t → Puts b ys t (Ok tt) u → PutSoFar b n (done ++ ys) s u
-put_more {done = xs} {ys = ys} {s = s} {t = t} {u = u} so_far new =
-    let p = so_far.written in
-    let q = new.written in
-    let sum = length-append xs ys in
-    record {
-      written = record {
-        appended = Appends-trans s.told t.told u.told xs ys p.appended q.appended;
-        moved = omega (arith, p.moved, q.moved);
-        tail = q.tail ∙ ap (drop (length ys)) p.tail ∙ drop-drop (length ys) (length xs) s.tail ∙ ap (λ n. drop n s.tail) (sym sum);
-        stayed = λ _. tt;
-        kept = λ _. tt;
-        room_kept = λ _. tt;
-        fits = tt;
-        room = both_fit s.room t.room _ _ _ sum p.room p.room_left q.room;
-        room_left = both_left s.room t.room u.room _ _ _ sum p.room_left q.room_left;
-        succeeds = λ _. any_room _ s.room _ refl;
-        too_small = λ e. cc;
-        too_long = λ e _. cc;
-        failed = tt;
-        offset = λ e. cc;
-        memory = λ e. cc;
-        no_other = λ _. tt;
-        faults = omega (arith, p.faults, q.faults);
-      };
-      promise = λ is. omega (arith, so_far.promise is, new.promise);
-    }
-
--- a device that failed in a later call has failed since an earlier one
-failed_since : (s t u : Seen) → s.faults ≤ t.faults → HasFailed t u → HasFailed s u
-failed_since s t u before (inl more) = inl (omega arith)
-failed_since s t u before (inr most) = inr most
+put_more {done = xs} {ys = ys} so_far new = record {
+  written = both_put (Unit {0}) (xs ++ ys) refl (λ _ _. tt) so_far.written new.written;
+  promise = λ is. omega (arith, so_far.promise is, new.promise, length-append xs ys);
+}
 
 -- more bytes were refused: then it is no buffer, since a buffer promised them
 pub refused_later : {b : Bool} {n : ℕ} {done ys : List ℕ} {s t u : Seen} {e : GenError} (all : List ℕ) → n ≡ length all → length done + length ys ≤ length all → PutSoFar b n done s t → Puts b ys t (Err e) u → Writes b (Unit {0}) all s (Err e) u
@@ -134,7 +106,7 @@ refused_later {b = b} {n = n} {done = xs} {ys = ys} {s = s} {t = t} {u = u} {e =
       succeeds = λ _. rest_fits _ s.room t.room _ _ _ long p.room_left (q.succeeds tt);
       too_small = λ is. both_too_many s.room t.room _ _ _ long p.room p.room_left (q.too_small is);
       too_long = λ is. q.too_long is;
-      failed = λ kind is. failed_since s t u p.faults (q.failed kind is);
+      failed = λ kind is. failed_since s t u u p.faults refl (q.failed kind is);
       offset = λ is. omega (arith, q.offset is, p.moved);
       memory = λ is. q.memory is;
       no_other = λ fixed. q.no_other (still_fixed s.room t.room _ p.room_left fixed);

@@ -1,4 +1,4 @@
--- Lemmas on writes to a buffer that follow one another.
+-- Lemmas on writes that follow one another, most of them to a buffer.
 use Rattle.std.proofs.Common.{◌≡◌, ℕ, ◌+◌, ◌-◌, ◌^◌, ◌<◌, ◌≤◌, inl, inr, Bool, true, IfSome, Result, Ok, Err, List, [], ◌++◌, length, take, drop, replicate, refl, sym, ap, ◌∙◌, subst, arith, length-append}
 use Rattle.std.specs.Option.{option_map}
 use Rattle.std.specs.Io.KnownBytes.{Appends}
@@ -12,7 +12,7 @@ use Rattle.amqp_generation.specs.Outputs.{Seen, IsWhole, Writes, GoesBack, Fills
 use Rattle.amqp_generation.proofs.Rooms.{both_fit, both_left, room_back, both_too_many, still_fixed, rest_fits, told_back, front_overwritten, any_room}
 
 -- xs were put, and then ys: so both were
-pub both_put : {A B : Type 0} {xs ys : List ℕ} {s t u : Seen} (C : Type 0) (zs : List ℕ) → zs ≡ xs ++ ys → (A → B → C) → Writes true A xs s (Ok tt) t → Writes true B ys t (Ok tt) u → Writes true C zs s (Ok tt) u
+pub both_put : {b : Bool} {A B : Type 0} {xs ys : List ℕ} {s t u : Seen} (C : Type 0) (zs : List ℕ) → zs ≡ xs ++ ys → (A → B → C) → Writes b A xs s (Ok tt) t → Writes b B ys t (Ok tt) u → Writes b C zs s (Ok tt) u
 both_put {xs = xs} {ys = ys} {s = s} {t = t} {u = u} C zs both lengths p q =
     let sum : length zs ≡ length xs + length ys = ap length both ∙ length-append xs ys in
     let P : List ℕ → Type 0 = λ l. Appends s.told u.told l in
@@ -37,7 +37,7 @@ both_put {xs = xs} {ys = ys} {s = s} {t = t} {u = u} C zs both lengths p q =
     }
 
 -- a device that failed in a later call has failed since an earlier one
-failed_since : (s t u w : Seen) → s.faults ≤ t.faults → w.faults ≡ u.faults → HasFailed t u → HasFailed s w
+pub failed_since : (s t u w : Seen) → s.faults ≤ t.faults → w.faults ≡ u.faults → HasFailed t u → HasFailed s w
 failed_since s t u w before after (inl more) = inl (omega arith)
 failed_since s t u w before after (inr most) = inr (after ∙ most)
 

@@ -13,7 +13,7 @@ pub use Rattle.amqp_grammar.proofs.Outcomes.{one_outcome, one_raw_outcome}
 pub use Rattle.amqp_grammar.proofs.Whole.{never_malformed}
 pub use Rattle.amqp_grammar.proofs.Agreement.{outcome_holds, outcome_is, raw_outcome_holds, raw_outcome_is}
 -- tables as finite maps, and what pairs mean
-pub use Rattle.amqp_grammar.proofs.Tables.{put_found, put_other, key_has_value, last_stays, pairs_rise, rising_pairs, same_tables, entries_rise}
+pub use Rattle.amqp_grammar.proofs.Tables.{put_found, put_other, key_has_value, last_stays, option_or-none, pairs_rise, rising_pairs, same_tables, entries_rise}
 -- what a wire bounds, what is read from it, and that the text is a shortest wire
 pub use Rattle.amqp_grammar.proofs.Bounds.{bounds, raw_bounds}
 pub use Rattle.amqp_grammar.proofs.Shortest.{what_is_read, what_raw_reads, read_is_value, raw_value, shortest, same_text_same_value}

@@ -1,22 +1,22 @@
-pub mod Fronts
-pub mod Headers
-pub mod Unique
-pub mod Tables
-pub mod Spelling
-pub mod Outcomes
-pub mod Reading
-pub mod MoreBytes
-pub mod Bounds
-pub mod Shortest
-pub mod Canons
-pub mod TextCanon
-pub mod Found
-pub mod Nests
-pub mod Limited
-pub mod TextDepth
-pub mod Sound
-pub mod OnLiterals
-pub mod Agreement
-pub mod Whole
-pub mod Headlines
+mod Fronts
+mod Headers
+mod Unique
+mod Tables
+mod Spelling
+mod Outcomes
+mod Reading
+mod MoreBytes
+mod Bounds
+mod Shortest
+mod Canons
+mod TextCanon
+mod Found
+mod Nests
+mod Limited
+mod TextDepth
+mod Sound
+mod OnLiterals
+mod Agreement
+mod Whole
+mod Headlines
 pub mod GrammarLaws

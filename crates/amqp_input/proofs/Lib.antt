@@ -1,2 +1,2 @@
-pub mod Splits
+mod Splits
 pub mod Bytes

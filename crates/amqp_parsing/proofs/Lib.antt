@@ -1,13 +1,14 @@
-pub mod Refused
-pub mod Payloads
-pub mod Frames
-pub mod Bodies
-pub mod TableBodies
-pub mod Typed
-pub mod Views
-pub mod Copies
-pub mod Gathered
-pub mod Waits
-pub mod Plain
-pub mod Again
-pub mod Appends
+mod Refused
+mod Payloads
+mod Frames
+mod Bodies
+mod TableBodies
+mod Typed
+mod Views
+mod Copies
+mod Gathered
+mod Waits
+mod Plain
+mod Again
+mod Appends
+pub mod ParsingLaws

@@ -8,7 +8,7 @@ use Rattle.amqp_value_core.specs.declared.value.AMQPValue.{AMQPValue}
 use Rattle.amqp_parsing.specs.declared.limits.Limits.{Limits}
 use Rattle.amqp_stream.specs.Readers.{Answers}
 use Rattle.amqp_parsing.specs.Headers.{extent, wanted, IsWaiting}
-use Rattle.amqp_parsing.proofs.Waits.{waits_more}
+use Rattle.amqp_parsing.proofs.ParsingLaws.{waits_more}
 
 -- one read of at most as many bytes as lack leaves all waiting
 pub filled_waits : (frame : ℕ) (s now : List ℕ) (most : ℕ) (r : Result ℕ StreamError) (C : List ℕ → Type 0) (E : StreamError → Type 0) (K : Type 0)

@@ -1,3 +1,3 @@
-pub mod Comes
-pub mod Told
-pub mod Fillings
+mod Comes
+mod Told
+mod Fillings

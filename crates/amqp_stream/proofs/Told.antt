@@ -13,8 +13,7 @@ use Rattle.amqp_stream.specs.declared.error.StreamError.TheVariants as stream
 use Rattle.amqp_parsing.specs.declared.limits.Limits.{Limits}
 use Rattle.amqp_parsing.specs.Limits.{Within}
 use Rattle.amqp_stream.specs.Readers.{Answers, AnswersAll}
-use Rattle.amqp_parsing.proofs.Again.{wire_extent}
-use Rattle.amqp_parsing.proofs.Appends.{refused_append}
+use Rattle.amqp_parsing.proofs.ParsingLaws.{wire_extent, refused_append}
 
 -- a value whose wire came is read of that and more
 wire_told : (l : Limits) (s t : List ℕ) (v : Tree) → WireWithin l.depth s v → length s ≤ l.frame → Within l (s ++ t) (found v t)

@@ -47,7 +47,7 @@ impl Values {
 
     /// The next value, or `None` where the reader ended behind the value before. The reader may be
     /// another one each time: what is kept of a value is read on in it.
-    #[tactic(auto, using(amqp_parsing::proofs::Waits::kept_within))]
+    #[tactic(auto, using(amqp_parsing::proofs::ParsingLaws::kept_within))]
     pub fn next_from<R: Read>(&mut self, reader: &mut R) -> Result<Option<AMQPValue>, StreamError>
         ensures answer { has_failed self.old ≡ false → (x : List ℕ)
             × Consumes (R.remaining reader.old) (R.remaining reader.new) x

@@ -11,7 +11,7 @@ use Rattle.amqp_grammar.specs.Values.{Tree, no_entries, onto}
 use Rattle.amqp_grammar.specs.Maps.{same_bytes, value_at, last_at, IsRising}
 use Rattle.amqp_grammar.specs.Texts.{ComesBefore}
 use Rattle.amqp_value_core.specs.View.{view, entries}
-use Rattle.amqp_grammar.proofs.Tables.{same_tables, pairs_rise, last_stays, option_or-none}
+use Rattle.amqp_grammar.proofs.GrammarLaws.{same_tables, pairs_rise, last_stays, option_or-none}
 use Rattle.amqp_value_core.proofs.Copies.{Pair}
 
 abbrev order : List ℕ → List ℕ → Ordering

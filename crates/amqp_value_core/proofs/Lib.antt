@@ -1,2 +1,2 @@
-pub mod Copies
-pub mod Gathered
+mod Copies
+mod Gathered

@@ -1,4 +1,4 @@
-pub mod Outcomes
-pub mod Fronts
-pub mod Rooms
-pub mod Streams
+mod Outcomes
+mod Fronts
+mod Rooms
+mod Streams

@@ -19,7 +19,7 @@ use Rattle.amqp_parsing.specs.declared.limits.Limits.{Limits}
 use Rattle.amqp_parsing.specs.Headers.{extent}
 use Rattle.amqp_parsing.specs.Limits.{Within}
 use Rattle.amqp_stream.specs.Readers.{AnswersAll}
-use Rattle.amqp_parsing.proofs.Again.{wire_extent}
+use Rattle.amqp_parsing.proofs.ParsingLaws.{wire_extent}
 use Rattle.amqp_wire.specs.Lines.{read_within, AppendsFront}
 use Rattle.amqp_wire.specs.Refusals.{kind_name}
 use Rattle.amqp_wire.specs.Streams.{value_line, last_line, stream_step, stream_text, BeginsWith, BeginsNone, AreValues, value_lines, HasLines, Leaves, IsLine}

@@ -2,7 +2,7 @@ use Rattle.std.proofs.Common.{rules}
 use Rattle.amqp_grammar.specs.Nesting.{WireWithin}
 use Rattle.amqp_parsing.specs.Headers.{wanted}
 use Rattle.amqp_stream.specs.Readers.{kept}
-use Rattle.amqp_parsing.proofs.Waits.{more_wanted}
+use Rattle.amqp_parsing.proofs.ParsingLaws.{more_wanted}
 use Rattle.amqp_stream.proofs.values.Values.ended.Goals as goal
 
 pub returns-clause-answer : goal.returns-clause-answer

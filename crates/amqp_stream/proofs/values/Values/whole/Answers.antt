@@ -5,7 +5,7 @@ use Rattle.amqp_grammar.specs.Outcomes.{found}
 use Rattle.amqp_input.specs.Inputs.{slice_bytes}
 use Rattle.amqp_grammar.proofs.GrammarLaws.{front_within}
 use Rattle.amqp_stream.specs.Readers.{kept}
-use Rattle.amqp_parsing.proofs.Waits.{nothing_behind, kept_within}
+use Rattle.amqp_parsing.proofs.ParsingLaws.{nothing_behind, kept_within}
 use Rattle.amqp_stream.proofs.values.Values.whole.Goals as goal
 
 pub returns-in-Ok-clause-answer : goal.returns-in-Ok-clause-answer
