@@ -9,7 +9,7 @@ ghost use Rattle.amqp_grammar.specs.Headline.{IsBounded};
 ghost use Rattle.amqp_parsing.specs.Answers.{Refuses, RawRefuses, HasOneOutcome, KeepsOutcome, IsNoBody, IsTable, IsNoTable};
 
 use super::errors::{ErrorKind, ParserError, ParserResult, inside, out_of_memory, refused};
-use super::pairs::{has_many_pairs, keep, table_of};
+use super::pairs::PairsSoFar;
 use super::scalars::{
     parse_boolean, parse_decimal_value, parse_double, parse_float, parse_long_int,
     parse_long_long_int, parse_long_uint, parse_short_int, parse_short_short_int,
@@ -265,9 +265,7 @@ fn parse_pairs<I: ParsableInput>(
     if body.input_len() == 0 {
         return Ok(FieldTable::new_in(alloc));
     }
-    let many = has_many_pairs(body);
-    let mut table = FieldTable::new_in(alloc);
-    let mut pairs = Vec::new(alloc);
+    let mut pairs = PairsSoFar::none_of(alloc, body);
     let mut rest = body;
     'pairs: while rest.input_len() > 0 {
         let (behind_key, key) = match parse_short_string(alloc, rest) {
@@ -278,12 +276,12 @@ fn parse_pairs<I: ParsableInput>(
             Ok(read) => read,
             Err(e) => return Err(inside(e)),
         };
-        if keep(many, &mut table, &mut pairs, key, value).is_err() {
+        if pairs.keep(key, value).is_err() {
             return Err(out_of_memory());
         }
         rest = after;
     }
-    match table_of(alloc, many, table, pairs) {
+    match pairs.into_table(alloc) {
         Ok(table) => Ok(table),
         Err(_) => Err(out_of_memory()),
     }
