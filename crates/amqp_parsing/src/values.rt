@@ -23,9 +23,9 @@ use std::alloc::Global;
 
 /// Reads a value: the id of its type, then its payload.
 ///
-/// What is read can be written again, in no more bytes than it was read from. It recurses as deep as
-/// containers nest, which the input's length alone bounds. Memory is taken only for strings, byte
-/// arrays and containers whose bytes are all there.
+/// What is read can be written again, in no more bytes than it was read from. It recurses as deep
+/// as containers nest, which the input's length alone bounds. Memory is taken only for strings,
+/// byte arrays and containers whose bytes are all there.
 #[inline(always)]
 #[tactic(auto, using(crate::proofs::Appends::has_one_outcome, amqp_grammar::proofs::GrammarLaws::more_bytes))]
 pub fn parse_value<I: ParsableInput>(alloc: Global, i: I) -> ParserResult<I, AMQPValue>
@@ -166,7 +166,8 @@ fn payload_within<I: ParsableInput>(
     }
 }
 
-/// Reads an array: the length of its body in bytes, in four bytes, then its values, each with its id.
+/// Reads an array: the length of its body in bytes, in four bytes, then its values, each with its
+/// id.
 ///
 /// The body is taken whole before a value of it is looked at.
 #[inline(always)]
