@@ -49,8 +49,8 @@ fn read(alloc: Global, bytes: &[u8]) -> Result<(usize, AMQPValue), Fault>
     }
 }
 
-/// Writes a value `times` times, and answers how many bytes were written the last time, 0 where it is
-/// written no time.
+/// Writes a value `times` times, and answers how many bytes were written the last time, 0 where it
+/// is written no time.
 fn write_often(value: &AMQPValue, out: &mut [u8], times: u64) -> Result<usize, Fault>
     requires { Fits (view value.now) }
     ensures none { IfOk result (λ n. times ≡ 0 → n ≡ 0) }

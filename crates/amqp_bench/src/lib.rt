@@ -1,8 +1,8 @@
 //! The codec as a C library: what goes in and out are bytes and numbers.
 //!
-//! Each call answers a number of bytes, or -1 where more bytes are asked for, -2 where the bytes begin
-//! with no value, -3 where a request for memory was refused, and -4 where the text of the value doesn't
-//! fit. It is for benchmarks: nothing of a value is handed out.
+//! Each call answers a number of bytes, or -1 where more bytes are asked for, -2 where the bytes
+//! begin with no value, -3 where a request for memory was refused, and -4 where the text of the
+//! value doesn't fit. It is for benchmarks: nothing of a value is handed out.
 #![tactic(auto)]
 
 ghost use Rattle.std.specs.Prelude.{length};
@@ -17,8 +17,8 @@ use calls::{decode, encode};
 use fault::answer;
 use std::alloc::Global;
 
-/// Reads a value from the front of `bytes` to a tree of its own, drops it, and answers how many bytes
-/// it took.
+/// Reads a value from the front of `bytes` to a tree of its own, drops it, and answers how many
+/// bytes it took.
 #[unsafe(no_mangle)]
 pub extern "C" fn amqp_bench_decode(alloc: Global, bytes: &[u8]) -> i64
     ensures { Answers bytes.now (IsTaken bytes.now) ⊥ result }

@@ -23,8 +23,8 @@ pub fn unpacked_flags()
     ensures no_bytes { unpack ((97 ∷ []) ∷ []) [] ≡ [] }
 {}
 
-/// Flag number n is bit n % 8, counted from the lowest, of byte n / 8. The bits left over are 0, and
-/// there are no more bytes than the flags need.
+/// Flag number n is bit n % 8, counted from the lowest, of byte n / 8. The bits left over are 0,
+/// and there are no more bytes than the flags need.
 #[tactic(auto, using(crate::proofs::FlagBits::flag_is_bit, crate::proofs::FlagBits::left_over, crate::proofs::FlagBits::length_pack))]
 pub fn flags_are_bits()
     ensures bit { (bs : List Bool) (n : ℕ) → n < length bs

@@ -61,8 +61,8 @@ taken_back {s = s} {t = t} {u = u} {w = w} at place whole p o back =
     (Appends-trans s.told t.told u.told (replicate 4 0) o.more p.appended o.appended)
     (back.told ∙ ap (λ n. option_map (take n) u.told) place)
 
--- a call appended behind four reserved bytes, which were then filled with the number of what it appended, or were taken
--- back with that
+-- a call appended behind four reserved bytes, which were then filled with the number of what it
+-- appended, or were taken back with that
 module _ {W : Type 0} (seen : W → Seen) (may : WriteContext W → Result (Unit {0}) GenError → WriteContext W → Type 0) (old before after new : WriteContext W) (at : ℕ) (place : at ≡ (shown seen old).at) (whole : IsWhole (shown seen old)) (end : IsWhole (shown seen after)) (reserved : Reserved seen old before) (appends : (x y : WriteContext W) (r : Result (Unit {0}) GenError) → may x r y → OnlyAppends (shown seen x) r (shown seen y)) (called : may before (Ok tt) after) where
   abbrev s : Seen
   s = shown seen old

@@ -125,7 +125,8 @@ by_buffer {A = A} {xs = xs} {s = s} {t = t} e p =
 pub refused_inside : {A B : Type 0} (some all : List ℕ) {ys : List ℕ} {s t u w : Seen} {e : GenError} (C : Type 0) (at : ℕ) → at ≡ s.at → IsWhole s → length some + length ys ≤ length all → (C → B) → Writes true A (replicate 4 0 ++ some) s (Ok tt) t → Writes true B ys t (Err e) u → GoesBack at u w → Writes true C (large all) s (Err e) w
 refused_inside some all C at place whole long lengths p q back = refused C (large all) at place whole (omega arith) lengths p q back
 
--- behind four reserved bytes all were put; their number was filled in, or doesn't fit and all are taken back
+-- behind four reserved bytes all were put; their number was filled in, or doesn't fit and all are
+-- taken back
 pub length_put : {A : Type 0} (all : List ℕ) {s t w : Seen} (r : Result (Unit {0}) GenError) (C : Type 0) (at : ℕ) → at ≡ s.at → IsWhole s → (2 ^ 32 ≤ length all → C → ⊥) → (length all < 2 ^ 32 → A → C) → Writes true A (replicate 4 0 ++ all) s (Ok tt) t → FillsLength at t r w → Writes true C (large all) s r w
 length_put all {s = s} {t = t} {w = w} (Ok _) C at place whole long short p f =
     let count : t.at - at - 4 ≡ length all = omega (arith, p.moved) in

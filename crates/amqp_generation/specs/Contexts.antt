@@ -1,6 +1,7 @@
--- What a `WriteContext` shows.
-use Rattle.std.specs.Prelude.{ℕ}
-use Rattle.amqp_generation.specs.Outputs.{Seen}
+-- What a `WriteContext` shows, and what calls do to it.
+use Rattle.std.specs.Prelude.{ℕ, ◌≡◌, Bool, List, Result}
+use Rattle.amqp_generation.specs.declared.error.GenError.{GenError}
+use Rattle.amqp_generation.specs.Outputs.{Seen, Puts}
 use Rattle.amqp_generation.specs.declared.context.WriteContext.{WriteContext}
 
 -- the output in it
@@ -14,3 +15,11 @@ start_of x = x.start
 -- what its output shows, by what an output of the type shows
 abbrev pub shown : {W : Type 0} → (W → Seen) → WriteContext W → Seen
 shown seen x = seen x.output
+
+-- a call put one piece of bytes through the context whole, or was refused
+abbrev pub PutsThrough : {W : Type 0} → Bool → (W → Seen) → List ℕ → WriteContext W → Result (Unit {0}) GenError → WriteContext W → Type 0
+PutsThrough is_buffer seen bytes old result new = Puts is_buffer bytes (shown seen old) result (shown seen new)
+
+-- the count of the context goes on from where it began
+abbrev pub KeepsStart : {W : Type 0} → WriteContext W → WriteContext W → Type 0
+KeepsStart old new = start_of new ≡ start_of old

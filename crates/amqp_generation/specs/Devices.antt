@@ -20,6 +20,7 @@ pub record PutsToDevice (n : ℕ) (before : Seen) (result : Result (Unit {0}) Ge
   pub offset : 2 ^ 64 ≤ before.at + n → (result ≡ Err InvalidOffset) × (after ≡ before)
   -- else only the device's own failure refuses it
   pub refused : IfErr result (λ e. (e ≡ InvalidOffset) ⊎ ((kind : ErrorKind) × (e ≡ IoError kind)))
-  -- the count of faults rises by one with each failure, up to the greatest `u64`, and with nothing else
+  -- the count of faults rises by one with each failure, up to the greatest `u64`, and with nothing
+  -- else
   pub counted : IfErr result (λ e. (kind : ErrorKind) → e ≡ IoError kind → after.faults ≡ min (before.faults + 1) (2 ^ 64 - 1))
   pub worked : OnOk result (after.faults ≡ before.faults)

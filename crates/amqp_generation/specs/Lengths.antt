@@ -22,8 +22,8 @@ pub record Reserved {W : Type 0} (seen : W → Seen) (old before : WriteContext 
   pub zeros : Writes true ⊤ (replicate 4 0) (shown seen old) (Ok tt) (shown seen before)
   pub start : start_of before ≡ start_of old
 
--- Bytes were put behind the length of what they are, in four bytes. They are what a call appended, of those that `may`
--- says: from which context, with which answer, to which.
+-- Bytes were put behind the length of what they are, in four bytes. They are what a call appended,
+-- of those that `may` says: from which context, with which answer, to which.
 pub record PutsWithLength {W : Type 0} (seen : W → Seen) (may : WriteContext W → Result (Unit {0}) GenError → WriteContext W → Type 0) (old new : WriteContext W) : Type 0 where
   -- the context before the call and that after it
   pub before : WriteContext W
@@ -49,7 +49,8 @@ pub record MayRefuse {W : Type 0} (seen : W → Seen) (may : WriteContext W → 
   pub called : may before (Err e) after
   pub start : start_of new ≡ start_of after
 
--- a call may append more than four bytes count; the count of the context begins where the call left it
+-- a call may append more than four bytes count; the count of the context begins where the call left
+-- it
 pub record MayPassLength {W : Type 0} (seen : W → Seen) (may : WriteContext W → Result (Unit {0}) GenError → WriteContext W → Type 0) (old new : WriteContext W) : Type 0 where
   pub before : WriteContext W
   pub after : WriteContext W
@@ -60,7 +61,8 @@ pub record MayPassLength {W : Type 0} (seen : W → Seen) (may : WriteContext W 
   pub long : 2 ^ 32 ≤ length more
   pub start : start_of new ≡ start_of after
 
--- Why no length was put: the four bytes for it were refused, or the call was, or what it appended is too long.
+-- Why no length was put: the four bytes for it were refused, or the call was, or what it appended
+-- is too long.
 abbrev pub RefusesWithLength : {W : Type 0} → (W → Seen) → (WriteContext W → Result (Unit {0}) GenError → WriteContext W → Type 0) → WriteContext W → WriteContext W → GenError → Type 0
 RefusesWithLength seen may old new e =
     (Writes true ⊤ (replicate 4 0) (shown seen old) (Err e) (shown seen new) × (start_of new ≡ start_of old))

@@ -22,7 +22,8 @@ pub record Seen : Type 0 where
   -- the bytes behind the position, where the room is fixed
   pub tail : List ℕ
 
--- what a buffer shows: its bytes, as many as its position says, and behind them as many as it has room
+-- what a buffer shows: its bytes, as many as its position says, and behind them as many as it has
+-- room
 pub record IsWhole (s : Seen) : Type 0 where
   pub told : IsSome s.told
   pub counted : IfSome s.told (λ put. length put ≡ s.at)
@@ -37,7 +38,8 @@ answer_of (Err e) = Err e
 abbrev pub HasFailed : Seen → Seen → Type 0
 HasFailed before after = (before.faults < after.faults) ⊎ (after.faults ≡ 2 ^ 64 - 1)
 
--- A call appended `bytes`, or was refused. `lengths` says that each length in what it writes fits its field.
+-- A call appended `bytes`, or was refused. `lengths` says that each length in what it writes fits
+-- its field.
 pub record Writes (is_buffer : Bool) (lengths : Type 0) (bytes : List ℕ) (before : Seen) (result : Result (Unit {0}) GenError) (after : Seen) : Type 0 where
   -- the bytes were put, and they alone
   pub appended : OnOk result (Appends before.told after.told bytes)
@@ -117,8 +119,8 @@ pub record GoesBack (at : ℕ) (before : Seen) (after : Seen) : Type 0 where
   pub room : after.room ≡ option_map (λ room. room + (before.at - at)) before.room
   pub faults : after.faults ≡ before.faults
 
--- The number of the bytes put behind the four from `at` on was filled in there, the highest byte first; where it
--- doesn't fit, all from `at` on was taken back.
+-- The number of the bytes put behind the four from `at` on was filled in there, the highest byte
+-- first; where it doesn't fit, all from `at` on was taken back.
 pub record FillsLength (at : ℕ) (before : Seen) (result : Result (Unit {0}) GenError) (after : Seen) : Type 0 where
   pub fits : OnOk result (before.at - at - 4 < 2 ^ 32)
   pub filled : OnOk result (after ≡ filled before at (to_be_bytes w32 (before.at - at - 4)))

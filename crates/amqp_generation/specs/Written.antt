@@ -8,8 +8,8 @@ use Rattle.amqp_generation.specs.declared.error.GenError.{GenError}
 use Rattle.amqp_generation.specs.declared.error.GenError.TheVariants.{LengthTooLong}
 use Rattle.amqp_generation.specs.Outputs.{Seen}
 
--- Bytes that may be read, whichever, come to what is written: no length in it is refused, and fixed room for as many
--- is enough.
+-- Bytes that may be read, whichever, come to what is written: no length in it is refused, and fixed
+-- room for as many is enough.
 pub record WritesWhatIs (Is : List ℕ → Type 0) (before : Seen) (result : Result (Unit {0}) GenError) : Type 0 where
   pub never_too_long : (w : List ℕ) → Is w → IsErrOf result LengthTooLong → ⊥
   pub succeeds : (w : List ℕ) → Is w → IfSome before.room (λ room. length w ≤ room → IsOk result)

@@ -1,8 +1,8 @@
 //! The generator of flags.
 
-ghost use Rattle.std.specs.Prelude.{◌≡◌, ⊤};
+ghost use Rattle.std.specs.Prelude.{⊤};
 ghost use Rattle.amqp_generation.specs.Outputs.{Writes};
-ghost use Rattle.amqp_generation.specs.Contexts.{start_of, shown};
+ghost use Rattle.amqp_generation.specs.Contexts.{shown, KeepsStart};
 ghost use Rattle.amqp_flags.specs.Flags.{flags_of, values_of, pack, AreFlagsReadBack};
 
 use crate::{GenResult, Output, WriteContext};
@@ -16,7 +16,7 @@ pub fn gen_flags<W: Output>(flags: &AMQPFlags, x: &mut WriteContext<W>) -> GenRe
     ensures written { Writes W.is_buffer ⊤ (pack (values_of (flags_of flags.now)))
         (shown W.seen x.old) result (shown W.seen x.new) }
     ensures read_back { AreFlagsReadBack (flags_of flags.now) }
-    ensures start { start_of x.new ≡ start_of x.old }
+    ensures start { KeepsStart x.old x.new }
 {
     let all = flags.as_slice();
     x.make_room(all.len().div_ceil(8))?;

@@ -1,10 +1,10 @@
 //! Generators of strings and byte arrays: a length, then the bytes.
 
-ghost use Rattle.std.specs.Prelude.{◌≡◌, ◌<◌, ◌≤◌, ◌^◌, length, Err};
+ghost use Rattle.std.specs.Prelude.{◌<◌, ◌≤◌, ◌^◌, length};
 ghost use Rattle.amqp_grammar.specs.Grammar.{small, large};
 ghost use Rattle.amqp_types.specs.Bytes.{array_bytes};
 ghost use Rattle.amqp_generation.specs.Outputs.{Writes, RefusedAsLong};
-ghost use Rattle.amqp_generation.specs.Contexts.{start_of, shown};
+ghost use Rattle.amqp_generation.specs.Contexts.{shown, KeepsStart};
 
 use crate::{GenError, GenResult, Output, WriteContext};
 use amqp_value_core::types::ByteArray;
@@ -17,7 +17,7 @@ pub fn gen_short_string<W: Output>(s: &str, x: &mut WriteContext<W>) -> GenResul
         (shown W.seen x.old) result (shown W.seen x.new) }
     ensures too_long { 255 < length s.now
         → RefusedAsLong (shown W.seen x.old) result (shown W.seen x.new) }
-    ensures start { start_of x.new ≡ start_of x.old }
+    ensures start { KeepsStart x.old x.new }
 {
     let Ok(n) = u8::try_from(s.len()) else {
         return Err(GenError::LengthTooLong);
@@ -35,7 +35,7 @@ pub fn gen_long_string<W: Output>(s: &[u8], x: &mut WriteContext<W>) -> GenResul
         (shown W.seen x.old) result (shown W.seen x.new) }
     ensures too_long { 2 ^ 32 ≤ length s.now
         → RefusedAsLong (shown W.seen x.old) result (shown W.seen x.new) }
-    ensures start { start_of x.new ≡ start_of x.old }
+    ensures start { KeepsStart x.old x.new }
 {
     let Ok(n) = u32::try_from(s.len()) else {
         return Err(GenError::LengthTooLong);
@@ -53,7 +53,7 @@ pub fn gen_byte_array<W: Output>(a: &ByteArray, x: &mut WriteContext<W>) -> GenR
         (shown W.seen x.old) result (shown W.seen x.new) }
     ensures too_long { 2 ^ 32 ≤ length (array_bytes a.now)
         → RefusedAsLong (shown W.seen x.old) result (shown W.seen x.new) }
-    ensures start { start_of x.new ≡ start_of x.old }
+    ensures start { KeepsStart x.old x.new }
 {
     gen_long_string(a.as_slice(), x)
 }

@@ -1,4 +1,4 @@
-ghost use Rattle.std.specs.Prelude.{◌≡◌, ◌+◌, ◌≤◌, ℕ, List, ◌++◌, true, OnOk};
+ghost use Rattle.std.specs.Prelude.{◌+◌, ◌≤◌, ℕ, List, ◌++◌, true, OnOk};
 ghost use Rattle.amqp_grammar.specs.Values.{array, table};
 ghost use Rattle.amqp_value_core.specs.View.{view, array_view, table_view};
 ghost use Rattle.amqp_types.specs.Strings.{IsShort};
@@ -8,7 +8,7 @@ ghost use Rattle.amqp_grammar.specs.Outcomes.{Outcome};
 ghost use Rattle.amqp_grammar.specs.Headline.{IsShortest, TellsApart, IsCanonical};
 ghost use Rattle.amqp_generation.specs.Outputs.{Writes, FillsLength};
 ghost use Rattle.amqp_generation.specs.Written.{WritesWhatWasRead, WritesPayloadRead};
-ghost use Rattle.amqp_generation.specs.Contexts.{start_of, shown};
+ghost use Rattle.amqp_generation.specs.Contexts.{shown, KeepsStart};
 
 use crate::{
     BackToTheBuffer, GenError, GenResult, WriteContext, gen_boolean, gen_byte_array,
@@ -27,7 +27,7 @@ use amqp_value_core::value::AMQPValue;
 pub fn gen_value<W: BackToTheBuffer>(v: &AMQPValue, x: &mut WriteContext<W>) -> GenResult
     ensures written { Writes true (Fits (view v.now)) (text (view v.now))
         (shown W.seen x.old) result (shown W.seen x.new) }
-    ensures start { start_of x.new ≡ start_of x.old }
+    ensures start { KeepsStart x.old x.new }
     ensures value { OnOk result (IsValue (view v.now)) }
     ensures read_back { OnOk result ((rest : List ℕ) →
         Outcome (text (view v.now) ++ rest) (read_back (view v.now) rest)) }
@@ -44,7 +44,7 @@ pub fn gen_value<W: BackToTheBuffer>(v: &AMQPValue, x: &mut WriteContext<W>) -> 
 fn write_value<W: BackToTheBuffer>(v: &AMQPValue, x: &mut WriteContext<W>) -> GenResult
     ensures written { Writes true (Fits (view v.now)) (text (view v.now))
         (shown W.seen x.old) result (shown W.seen x.new) }
-    ensures start { start_of x.new ≡ start_of x.old }
+    ensures start { KeepsStart x.old x.new }
     ensures value { OnOk result (IsValue (view v.now)) }
 {
     let at = x.at();
@@ -61,7 +61,7 @@ fn write_value<W: BackToTheBuffer>(v: &AMQPValue, x: &mut WriteContext<W>) -> Ge
 pub fn gen_raw_value<W: BackToTheBuffer>(v: &AMQPValue, x: &mut WriteContext<W>) -> GenResult
     ensures written { Writes true (Fits (view v.now)) (payload (view v.now))
         (shown W.seen x.old) result (shown W.seen x.new) }
-    ensures start { start_of x.new ≡ start_of x.old }
+    ensures start { KeepsStart x.old x.new }
     ensures value { OnOk result (IsValue (view v.now)) }
 {
     match v {
@@ -98,7 +98,7 @@ pub fn gen_field_array<W: BackToTheBuffer>(a: &FieldArray, x: &mut WriteContext<
     ensures written { Writes true (Fits (array (array_view a.now)))
         (payload (array (array_view a.now)))
         (shown W.seen x.old) result (shown W.seen x.new) }
-    ensures start { start_of x.new ≡ start_of x.old }
+    ensures start { KeepsStart x.old x.new }
     ensures value { OnOk result (IsValue (array (array_view a.now))) }
     ensures of_a_wire { WritesPayloadRead AMQPType.FieldArray (array (array_view a.now))
         (shown W.seen x.old) result }
@@ -121,7 +121,7 @@ pub fn gen_field_table<W: BackToTheBuffer>(t: &FieldTable, x: &mut WriteContext<
     ensures written { Writes true (Fits (table (table_view t.now)))
         (payload (table (table_view t.now)))
         (shown W.seen x.old) result (shown W.seen x.new) }
-    ensures start { start_of x.new ≡ start_of x.old }
+    ensures start { KeepsStart x.old x.new }
     ensures value { OnOk result (IsValue (table (table_view t.now))) }
     ensures of_a_wire { WritesPayloadRead AMQPType.FieldTable (table (table_view t.now))
         (shown W.seen x.old) result }
@@ -145,7 +145,7 @@ fn gen_entry<W: BackToTheBuffer>(
 ) -> GenResult
     ensures written { Writes true (Fits (view v.now)) (small k.now ++ text (view v.now))
         (shown W.seen x.old) result (shown W.seen x.new) }
-    ensures start { start_of x.new ≡ start_of x.old }
+    ensures start { KeepsStart x.old x.new }
     ensures key { IsShort k.now }
     ensures value { OnOk result (IsValue (view v.now)) }
 {
@@ -162,7 +162,7 @@ fn gen_entry<W: BackToTheBuffer>(
 pub(super) fn fill_length<W: BackToTheBuffer>(at: u64, x: &mut WriteContext<W>) -> GenResult
     requires { at + 4 ≤ (shown W.seen x.old).at }
     ensures filled { FillsLength at (shown W.seen x.old) result (shown W.seen x.new) }
-    ensures start { start_of x.new ≡ start_of x.old }
+    ensures start { KeepsStart x.old x.new }
 {
     let Ok(n) = u32::try_from(x.at() - at - 4) else {
         x.back_to(at);

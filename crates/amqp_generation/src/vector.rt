@@ -14,8 +14,8 @@ impl From<AllocError> for GenError {
     }
 }
 
-/// A vector as a buffer of open room, written at its end. Its position is its length, and it refuses
-/// only for want of memory.
+/// A vector as a buffer of open room, written at its end. Its position is its length, and it
+/// refuses only for want of memory.
 impl Output for Vec<u8> {
     ghost is_buffer = { true };
 

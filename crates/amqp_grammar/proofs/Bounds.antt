@@ -1,4 +1,5 @@
--- Bounds: a wire has at least as many bytes as its value's text, one for each value in it, and five for each container.
+-- Bounds: a wire has at least as many bytes as its value's text, one for each value in it, and five
+-- for each container.
 use Rattle.std.proofs.Common.{◌≡◌, ◌≤◌, ◌+◌, ◌*◌, ℕ, suc, max, List, ◌++◌, length, Option, Some, refl, subst, arith, length-append}
 use Rattle.std.specs.Option.{IfSome}
 use Rattle.std.specs.Ordering.{nat_cmp, match_ordering}

@@ -1,4 +1,5 @@
--- What has a wire is found: reading as a function finds each value of the grammar, whatever stands behind its wire.
+-- What has a wire is found: reading as a function finds each value of the grammar, whatever stands
+-- behind its wire.
 use Rattle.std.proofs.Common.{ℕ, suc, zero, ◌+◌, ◌-◌, ◌≤◌, ◌≡◌, ◌∙◌, ap, sym, refl, subst, Bool, true, ◌&&◌, Option, Some, None, option_map, List, [], ◌∷◌, ◌++◌, length, take, drop, arith, append_assoc, length-append}
 use Rattle.std.proofs.Math.Seq.{take-append_seam, drop-append_seam}
 use Rattle.std.proofs.lemmas.Bool.{le-ltb, le-leb}

@@ -1,4 +1,5 @@
--- The laws of the grammar, for proofs to cite. `src/laws.rt` states each but those of the last three groups.
+-- The laws of the grammar, for proofs to cite. `src/laws.rt` states each but those of the last
+-- three groups.
 
 -- one reading for each list
 pub use Rattle.amqp_grammar.proofs.Unique.{one_reading, one_raw_reading}
@@ -22,12 +23,13 @@ pub use Rattle.amqp_grammar.proofs.Canons.{canon_is_wire, canon_fits, canon_is_t
 pub use Rattle.amqp_grammar.proofs.TextCanon.{text_is_canon, is_canonical}
 -- the words of the headline
 pub use Rattle.amqp_grammar.proofs.Headlines.{found_front, bounded_wire, bounded_found, is_shortest, tells_apart}
--- from a payload of the type that a first byte stands for to the value: the outcome, and that it takes memory
+-- from a payload of the type that a first byte stands for to the value: the outcome, and that it
+-- takes memory
 pub use Rattle.amqp_grammar.proofs.Outcomes.{raw_to_value, value_to_raw, raw_to_heavy}
 -- from what stands at the front to the outcome
 pub use Rattle.amqp_grammar.proofs.Outcomes.{raw_whole, raw_found, wire_found}
--- bytes behind their length: the number is theirs, the frame is whole, and as a payload they are an array's body, a table's pairs
--- or a short string
+-- bytes behind their length: the number is theirs, the frame is whole, and as a payload they are an
+-- array's body, a table's pairs or a short string
 pub use Rattle.amqp_grammar.proofs.Headers.{counted-large, lack_of-large}
 pub use Rattle.amqp_grammar.proofs.Headers.{counted-small, lack_of-small}
 pub use Rattle.amqp_grammar.proofs.Reading.{array_body}

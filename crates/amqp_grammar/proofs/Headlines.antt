@@ -1,4 +1,5 @@
--- Headlines: what was read keeps to its wire's length, and what is written is a shortest wire that tells its value.
+-- Headlines: what was read keeps to its wire's length, and what is written is a shortest wire that
+-- tells its value.
 use Rattle.std.proofs.Common.{◌≡◌, ◌-◌, ℕ, zero, suc, List, [], ◌∷◌, length, Option, Some, None, MatchOption, ap, subst, arith, length-append}
 use Rattle.amqp_types.specs.declared.amqp_type.AMQPType.{AMQPType}
 use Rattle.amqp_grammar.specs.Values.{Tree}

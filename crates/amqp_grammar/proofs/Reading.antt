@@ -139,7 +139,8 @@ unreadable (array vs) rest is fits r =
 unreadable (table es) rest is fits r =
     malformed_frame amqp.FieldTable (pairs es) rest refl (lack_of-large (pairs es) rest (omega (arith, fits.0, length_of_pairs es))) (no_table es rest is fits r)
 
--- the text of a value, with `rest` behind it, is read as that value, or refused where it is not readable
+-- the text of a value, with `rest` behind it, is read as that value, or refused where it is not
+-- readable
 pub reading_back : (v : Tree) (rest : List ℕ) → IsValue v → Fits v → Outcome (text v ++ rest) (read_back v rest)
 reading_back v rest is fits = by (readable v) refl
   where

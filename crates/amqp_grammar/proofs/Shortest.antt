@@ -1,4 +1,5 @@
--- Shortest: what is read is a value that can be written again, and no wire of it is shorter than its text.
+-- Shortest: what is read is a value that can be written again, and no wire of it is shorter than
+-- its text.
 use Rattle.std.proofs.Common.{◌≡◌, ◌≢◌, ◌≤◌, ℕ, Bool, true, false, cond, nat_eq, List, [], ◌∷◌, ◌++◌, length, take, drop, Option, Some, None, IsTrue, refl, sym, ap, ◌∙◌, subst, arith}
 use Rattle.std.specs.Map.{lookup}
 use Rattle.std.specs.List.{AllByRecursion}

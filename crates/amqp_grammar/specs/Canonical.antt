@@ -1,5 +1,6 @@
--- Canonical wires: those that are told by their bytes alone as the ones that are written. No second spelling of an
--- id, a boolean's byte is 0 or 1, and each key of a table stands above the one before it.
+-- Canonical wires: those that are told by their bytes alone as the ones that are written. No second
+-- spelling of an id, a boolean's byte is 0 or 1, and each key of a table stands above the one
+-- before it.
 use Rattle.std.specs.Prelude.{ℕ, ◌^◌, ◌<◌, ◌≡◌, ◌≢◌, Some, List, [], ◌∷◌, ◌++◌, length}
 use Rattle.amqp_types.specs.declared.amqp_type.AMQPType.{AMQPType}
 use Rattle.amqp_types.specs.declared.amqp_type.AMQPType.TheVariants as amqp

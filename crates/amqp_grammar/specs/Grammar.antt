@@ -1,5 +1,5 @@
--- The grammar: which bytes are a value's wire. It says what the bytes are, and not how they are read.
--- AMQP 0-9-1, section 4.2.5.5; the length of a container is that of its body in bytes.
+-- The grammar: which bytes are a value's wire. It says what the bytes are, and not how they are
+-- read. AMQP 0-9-1, section 4.2.5.5; the length of a container is that of its body in bytes.
 use Rattle.std.specs.Prelude.{ℕ, ◌^◌, ◌<◌, ◌≡◌, Some, List, [], ◌∷◌, ◌++◌, length}
 use Rattle.std.specs.Int.{w32, to_be_bytes}
 use Rattle.amqp_types.specs.declared.amqp_type.AMQPType.{AMQPType}
@@ -40,7 +40,8 @@ mutual
     no_values : Body [] no_trees
     value : (w : List ℕ) → (more : List ℕ) → (v : Tree) → (vs : Trees) → Wire w v → Body more vs → Body (w ++ more) (tree v vs)
 
-  -- the bytes are these pairs, one after another, and nothing else: each a key behind its length, and a wire
+  -- the bytes are these pairs, one after another, and nothing else: each a key behind its length,
+  -- and a wire
   pub data Pairs : List ℕ → Entries → Type 0 where
     no_pairs : Pairs [] no_entries
     pair : (k : List ℕ) → (w : List ℕ) → (more : List ℕ) → (v : Tree) → (ps : Entries) → IsShort k → Wire w v → Pairs more ps → Pairs (small k ++ (w ++ more)) (entry k v ps)

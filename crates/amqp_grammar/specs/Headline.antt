@@ -6,7 +6,8 @@ use Rattle.amqp_input.specs.Inputs.{IsBytes}
 use Rattle.amqp_grammar.specs.Texts.{text, size, Fits}
 use Rattle.amqp_grammar.specs.Canonical.{Canon}
 
--- what v is that was read from a wire of n bytes: it can be written again, and is no larger than that
+-- what v is that was read from a wire of n bytes: it can be written again, and is no larger than
+-- that
 pub record IsBounded (n : ℕ) (v : Tree) : Type 0 where
   -- each length in it fits its field, and each value in it has an id that is read
   pub fits : Fits v

@@ -1,5 +1,5 @@
--- The definitions of the format, in reading order. Before them come two of `amqp_types`: *Ids*, which
--- letter stands for which type, and *Strings*, which bytes a short string may have.
+-- The definitions of the format, in reading order. Before them come two of `amqp_types`: *Ids*,
+-- which letter stands for which type, and *Strings*, which bytes a short string may have.
 
 -- what a value is, without where it lies in memory
 pub mod Values

@@ -43,7 +43,8 @@ abbrev pub lack_of : Option Layout → Width → List ℕ → ℕ
 lack_of (Some f) w b = fields_lack f b
 lack_of None w b = frame_lack w b
 
--- how many bytes the field that is being read lacks, by the header alone; 0 where the frame is whole
+-- how many bytes the field that is being read lacks, by the header alone; 0 where the frame is
+-- whole
 abbrev pub lack : AMQPType → List ℕ → ℕ
 lack type b = lack_of (fixed type) (length_field type) b
 
@@ -62,8 +63,9 @@ FrontBy P s _ = ⊥
 abbrev pub RawOutcomeBy : (List ℕ → Tree → Type 0) → AMQPType → List ℕ → Reading → Type 0
 RawOutcomeBy P type s o = Unless (lack type s) (FrontBy P s o) o
 
--- reading a value from s comes to o, by the first of these that holds: there is no byte, and one lacks;
--- the first byte is no id; the frame lacks bytes; P holds of a front and a value; it holds of none
+-- reading a value from s comes to o, by the first of these that holds: there is no byte, and one
+-- lacks; the first byte is no id; the frame lacks bytes; P holds of a front and a value; it holds
+-- of none
 abbrev pub OutcomeBy : (List ℕ → Tree → Type 0) → List ℕ → Reading → Type 0
 OutcomeBy P [] o = o ≡ more 1
 OutcomeBy P (c ∷ b) o = MatchOption (kind c) (o ≡ unknown) (λ type. Unless (lack type b) (FrontBy P (c ∷ b) o) o)

@@ -12,8 +12,8 @@ use Rattle.amqp_types.specs.Strings.{IsShort}
 use Rattle.amqp_grammar.specs.Grammar.{small, large}
 use Rattle.amqp_grammar.specs.Outcomes.{Reading, found, unknown, malformed}
 
--- an id and the payload; a container's payload joins the texts of its entries, behind their length: in an
--- array's order, and in the order of a table's keys, each key before its value
+-- an id and the payload; a container's payload joins the texts of its entries, behind their length:
+-- in an array's order, and in the order of a table's keys, each key before its value
 abbrev mutual
   pub text : Tree → List ℕ
   text (scalar x) = id_of (scalar_type x) ∷ spelled x
@@ -101,8 +101,8 @@ abbrev pub ComesBefore : List ℕ → Entries → Type 0
 ComesBefore k no_entries = Unit {0}
 ComesBefore k (entry j u es) = slice_cmp nat_cmp k j ≡ Less
 
--- what every value in memory is: each number is in its type's range, each short string and each key is one,
--- and a table's keys rise by their bytes
+-- what every value in memory is: each number is in its type's range, each short string and each key
+-- is one, and a table's keys rise by their bytes
 abbrev mutual
   pub IsValue : Tree → Type 0
   IsValue (scalar x) = IsScalar x
@@ -120,8 +120,8 @@ abbrev mutual
   AreEntries no_entries = Unit {0}
   AreEntries (entry k v es) = IsShort k × IsValue v × ComesBefore k es × AreEntries es
 
--- what a value is refused as that isn't readable: a short string's id is none that is read, and a container
--- that has one inside is no container
+-- what a value is refused as that isn't readable: a short string's id is none that is read, and a
+-- container that has one inside is no container
 abbrev pub unread : Tree → Reading
 unread (short s) = unknown
 unread _ = malformed

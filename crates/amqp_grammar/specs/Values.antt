@@ -61,7 +61,8 @@ abbrev pub entries_of : List (List ℕ × Tree) → Entries
 entries_of [] = no_entries
 entries_of (e ∷ es) = entry e.0 e.1 (entries_of es)
 
--- the entries, with v at k: an equal key takes the value, and a new one goes to its place in the order
+-- the entries, with v at k: an equal key takes the value, and a new one goes to its place in the
+-- order
 abbrev pub put : List ℕ → Tree → Entries → Entries
 put k v no_entries = entry k v no_entries
 put k v (entry j u es) = match_ordering (slice_cmp nat_cmp k j) (entry k v (entry j u es)) (entry j v es) (entry j u (put k v es))
@@ -107,8 +108,8 @@ abbrev mutual
   entries_count no_entries = 0
   entries_count (entry k v es) = count v + entries_count es
 
--- whether a value that is written can be read: each value in it has an id that is read, so none is a short
--- string; keys don't count
+-- whether a value that is written can be read: each value in it has an id that is read, so none is
+-- a short string; keys don't count
 abbrev mutual
   pub readable : Tree → Bool
   readable (scalar x) = true

@@ -112,8 +112,9 @@ pub fn same_tables()
     ensures rising { (es : Entries) → IsValue (table es) → IsRising es }
 {}
 
-/// What is in a wire takes bytes: as many as the text of its value has, one for each value in it, and
-/// five for each container down to the deepest. A payload has one byte less, since it has no id.
+/// What is in a wire takes bytes: as many as the text of its value has, one for each value in it,
+/// and five for each container down to the deepest. A payload has one byte less, since it has no
+/// id.
 #[tactic(auto, using(crate::proofs::GrammarLaws::bounds, crate::proofs::GrammarLaws::raw_bounds))]
 pub fn bounds()
     ensures value { (w : List ℕ) (v : Tree) → Wire w v
@@ -198,8 +199,8 @@ pub fn raw_outcome_computes()
         → RawOutcome type s o ↔ (o ≡ raw_outcome type s) }
 {}
 
-/// A payload of fixed width, a long string and a byte array are never malformed: once all of the bytes
-/// are there, they have a value.
+/// A payload of fixed width, a long string and a byte array are never malformed: once all of the
+/// bytes are there, they have a value.
 #[tactic(auto, using(crate::proofs::Whole::never_malformed))]
 pub fn never_malformed()
     ensures { (type : AMQPType) (s : List ℕ) → IsBytes s

@@ -1,9 +1,9 @@
-//! The grammar of AMQP 0-9-1 field tables: which bytes are the encoding of which value, what reading any
-//! bytes comes to, and what a value is written as.
+//! The grammar of AMQP 0-9-1 field tables: which bytes are the encoding of which value, what
+//! reading any bytes comes to, and what a value is written as.
 //!
-//! The definitions lie in `specs`. The functions here do nothing when they run: the contracts of `laws`
-//! say what follows from the definitions for every list of bytes and every value, and those of `rows`
-//! what they come to for some.
+//! The definitions lie in `specs`. The functions here do nothing when they run: the contracts of
+//! `laws` say what follows from the definitions for every list of bytes and every value, and those
+//! of `rows` what they come to for some.
 #![tactic(auto)]
 
 pub mod laws;

@@ -1,6 +1,7 @@
 //! Rows: what the definitions say of some bytes and of some values.
 //!
-//! Nothing here does anything when it runs: the contracts are the rows, and they hold by computation.
+//! Nothing here does anything when it runs: the contracts are the rows, and they hold by
+//! computation.
 
 ghost use Rattle.std.specs.Prelude.{◌≡◌, List, [], ◌∷◌, ◌++◌, true, false, negsuc, Some, None};
 ghost use Rattle.std.specs.Int.{w8, w16, w32, w64, cast_unsigned};
@@ -67,8 +68,8 @@ pub fn second_spellings()
     ensures writes_eight { text (scalar (number AMQPType.LongLongInt (cast_unsigned w64 (negsuc 0)))) ≡ 108 ∷ 255 ∷ 255 ∷ 255 ∷ 255 ∷ 255 ∷ 255 ∷ 255 ∷ 255 ∷ [] }
 {}
 
-/// A Float is its four bytes, and a Double its eight: one that is no number is written as it was read, and
-/// the two zeros differ.
+/// A Float is its four bytes, and a Double its eight: one that is no number is written as it was
+/// read, and the two zeros differ.
 pub fn floats()
     ensures no_number { outcome (102 ∷ 127 ∷ 192 ∷ 0 ∷ 1 ∷ []) ≡ found (scalar (number AMQPType.Float 2143289345)) [] }
     ensures writes { text (scalar (number AMQPType.Float 2143289345)) ≡ 102 ∷ 127 ∷ 192 ∷ 0 ∷ 1 ∷ [] }
@@ -106,8 +107,8 @@ pub fn byte_arrays()
     ensures writes { text (octets (42 ∷ 1 ∷ 2 ∷ 3 ∷ [])) ≡ 120 ∷ 0 ∷ 0 ∷ 0 ∷ 4 ∷ 42 ∷ 1 ∷ 2 ∷ 3 ∷ [] }
 {}
 
-/// A short string is written with a letter that is not read, so that it is refused alone, and inside an array
-/// as that array.
+/// A short string is written with a letter that is not read, so that it is refused alone, and
+/// inside an array as that array.
 pub fn short_strings_written()
     ensures writes { text (short (120 ∷ [])) ≡ 95 ∷ 1 ∷ 120 ∷ [] }
     ensures alone { outcome (95 ∷ 1 ∷ 120 ∷ []) ≡ unknown }
@@ -116,7 +117,8 @@ pub fn short_strings_written()
     ensures not_readable { readable (array (trees_of (short (120 ∷ []) ∷ []))) ≡ false }
 {}
 
-/// A short string is read as a payload alone: at most 255 bytes of UTF-8 behind one byte that counts them.
+/// A short string is read as a payload alone: at most 255 bytes of UTF-8 behind one byte that
+/// counts them.
 #[tactic(auto, using(crate::proofs::OnLiterals::empty_text, crate::proofs::OnLiterals::word_test, crate::proofs::OnLiterals::e_acute))]
 pub fn short_strings_read()
     ensures empty { raw_outcome AMQPType.ShortString (0 ∷ 7 ∷ []) ≡ found (short []) (7 ∷ []) }
@@ -124,8 +126,8 @@ pub fn short_strings_read()
     ensures two_bytes { raw_outcome AMQPType.ShortString (2 ∷ 195 ∷ 169 ∷ []) ≡ found (short (195 ∷ 169 ∷ [])) [] }
 {}
 
-/// Bytes that aren't UTF-8 are refused once they have come: a byte that stands in no text, a letter that is
-/// cut, a number that is written too long, half of a character.
+/// Bytes that aren't UTF-8 are refused once they have come: a byte that stands in no text, a letter
+/// that is cut, a number that is written too long, half of a character.
 #[tactic(auto, using(crate::proofs::OnLiterals::byte_255, crate::proofs::OnLiterals::cut_letter, crate::proofs::OnLiterals::overlong, crate::proofs::OnLiterals::surrogate))]
 pub fn short_strings_refused()
     ensures no_text { raw_outcome AMQPType.ShortString (1 ∷ 255 ∷ []) ≡ malformed }
@@ -142,8 +144,8 @@ pub fn an_array()
     ensures writes { text (array (trees_of (scalar (boolean true) ∷ scalar void ∷ []))) ≡ 65 ∷ 0 ∷ 0 ∷ 0 ∷ 3 ∷ 116 ∷ 1 ∷ 86 ∷ [] }
 {}
 
-/// An array that holds the array of false; its frame ends before the last three bytes. With a frame that is two
-/// bytes longer the number -1 stands in the array too.
+/// An array that holds the array of false; its frame ends before the last three bytes. With a frame
+/// that is two bytes longer the number -1 stands in the array too.
 pub fn a_nested_array()
     ensures ends_before { outcome (65 ∷ 0 ∷ 0 ∷ 0 ∷ 7 ∷ 65 ∷ 0 ∷ 0 ∷ 0 ∷ 2 ∷ 116 ∷ 0 ∷ 98 ∷ 255 ∷ 1 ∷ []) ≡ found (array (trees_of (array (trees_of (scalar (boolean false) ∷ [])) ∷ []))) (98 ∷ 255 ∷ 1 ∷ []) }
     ensures longer { outcome (65 ∷ 0 ∷ 0 ∷ 0 ∷ 9 ∷ 65 ∷ 0 ∷ 0 ∷ 0 ∷ 2 ∷ 116 ∷ 0 ∷ 98 ∷ 255 ∷ 1 ∷ []) ≡ found (array (trees_of (array (trees_of (scalar (boolean false) ∷ [])) ∷ scalar (number AMQPType.ShortShortInt 255) ∷ []))) (1 ∷ []) }
@@ -181,7 +183,8 @@ pub fn keys_in_order()
     ensures writes { text (table (entries_of ((97 ∷ [], scalar void) ∷ (98 ∷ [], scalar void) ∷ []))) ≡ 70 ∷ 0 ∷ 0 ∷ 0 ∷ 6 ∷ 1 ∷ 97 ∷ 86 ∷ 1 ∷ 98 ∷ 86 ∷ [] }
 {}
 
-/// A table of seventeen keys, with a value of nearly every type, in 199 bytes: it is written so, and read back.
+/// A table of seventeen keys, with a value of nearly every type, in 199 bytes: it is written so,
+/// and read back.
 pub fn a_large_table()
     ensures { let bytes =
         70 ∷ 0 ∷ 0 ∷ 0 ∷ 194
@@ -254,7 +257,8 @@ pub fn keys_refused()
     ensures lacks { outcome (70 ∷ 0 ∷ 0 ∷ 0 ∷ 3 ∷ 1 ∷ 255 ∷ []) ≡ more 1 }
 {}
 
-/// A new key goes to its place in the order of bytes, in which a front comes first; an equal key takes the value.
+/// A new key goes to its place in the order of bytes, in which a front comes first; an equal key
+/// takes the value.
 pub fn keys_put()
     ensures first { put (97 ∷ []) (scalar void) (entries_of ((97 ∷ 97 ∷ [], scalar void) ∷ [])) ≡ entries_of ((97 ∷ [], scalar void) ∷ (97 ∷ 97 ∷ [], scalar void) ∷ []) }
     ensures between { put (97 ∷ 122 ∷ []) (scalar void) (entries_of ((97 ∷ [], scalar void) ∷ (98 ∷ [], scalar void) ∷ [])) ≡ entries_of ((97 ∷ [], scalar void) ∷ (97 ∷ 122 ∷ [], scalar void) ∷ (98 ∷ [], scalar void) ∷ []) }
@@ -278,8 +282,8 @@ pub fn cut_headers()
     ensures table { outcome (70 ∷ []) ≡ more 4 }
 {}
 
-/// A number that is cut lacks the rest of its width. A decimal has two, which are read one after the other: first
-/// one byte lacks, then four.
+/// A number that is cut lacks the rest of its width. A decimal has two, which are read one after
+/// the other: first one byte lacks, then four.
 pub fn a_cut_number()
     ensures four_bytes { outcome (73 ∷ 0 ∷ 0 ∷ []) ≡ more 2 }
     ensures eight_bytes { outcome (84 ∷ 1 ∷ []) ≡ more 7 }
@@ -333,8 +337,8 @@ pub fn reading_back()
     ensures table { outcome (text (table (entries_of ((97 ∷ [], octets (1 ∷ 2 ∷ [])) ∷ []))) ++ 33 ∷ []) ≡ found (table (entries_of ((97 ∷ [], octets (1 ∷ 2 ∷ [])) ∷ []))) (33 ∷ []) }
 {}
 
-/// The array of an empty array nests two deep, and has two values and ten bytes; one of three times nothing nests
-/// one deep, and has four values and eight bytes.
+/// The array of an empty array nests two deep, and has two values and ten bytes; one of three times
+/// nothing nests one deep, and has four values and eight bytes.
 pub fn measures_of_arrays()
     ensures deep { depth (array (trees_of (array no_trees ∷ []))) ≡ 2 }
     ensures values { count (array (trees_of (array no_trees ∷ []))) ≡ 2 }
@@ -345,7 +349,8 @@ pub fn measures_of_arrays()
     ensures writes_flat { text (array (trees_of (scalar void ∷ scalar void ∷ scalar void ∷ []))) ≡ 65 ∷ 0 ∷ 0 ∷ 0 ∷ 3 ∷ 86 ∷ 86 ∷ 86 ∷ [] }
 {}
 
-/// An empty table at one key and a long string at another: two deep, three values; keys count as bytes alone.
+/// An empty table at one key and a long string at another: two deep, three values; keys count as
+/// bytes alone.
 pub fn measures_of_a_table()
     ensures deep { depth (table (entries_of ((97 ∷ [], table no_entries) ∷ (98 ∷ 98 ∷ [], long (99 ∷ 99 ∷ [])) ∷ []))) ≡ 2 }
     ensures values { count (table (entries_of ((97 ∷ [], table no_entries) ∷ (98 ∷ 98 ∷ [], long (99 ∷ 99 ∷ [])) ∷ []))) ≡ 3 }
@@ -365,14 +370,16 @@ pub fn payloads()
     ensures refused { raw_outcome AMQPType.FieldArray (0 ∷ 0 ∷ 0 ∷ 1 ∷ 122 ∷ []) ≡ malformed }
 {}
 
-/// An unsigned number of eight bytes is a payload alone, and means the signed number of the same bits.
+/// An unsigned number of eight bytes is a payload alone, and means the signed number of the same
+/// bits.
 pub fn unsigned_numbers_of_eight_bytes()
     ensures unsigned { raw_outcome AMQPType.LongLongUInt (42 ∷ 42 ∷ 42 ∷ 42 ∷ 42 ∷ 42 ∷ 42 ∷ 42 ∷ []) ≡ found (scalar (number AMQPType.LongLongInt 3038287259199220266)) [] }
     ensures greatest { raw_outcome AMQPType.LongLongUInt (255 ∷ 255 ∷ 255 ∷ 255 ∷ 255 ∷ 255 ∷ 255 ∷ 255 ∷ []) ≡ found (scalar (number AMQPType.LongLongInt (cast_unsigned w64 (negsuc 0)))) [] }
     ensures timestamp { raw_outcome AMQPType.Timestamp (42 ∷ 42 ∷ 42 ∷ 42 ∷ 42 ∷ 42 ∷ 42 ∷ 42 ∷ []) ≡ found (scalar (number AMQPType.Timestamp 3038287259199220266)) [] }
 {}
 
-/// The nineteen letters that are read, and the types that they stand for; `_`, `z`, 0 and 200 stand for none.
+/// The nineteen letters that are read, and the types that they stand for; `_`, `z`, 0 and 200 stand
+/// for none.
 pub fn ids()
     ensures boolean { kind 116 ≡ Some AMQPType.Boolean }
     ensures short_short_int { kind 98 ≡ Some AMQPType.ShortShortInt }
@@ -422,8 +429,8 @@ pub fn ids_written()
     ensures void { id_of AMQPType.Void ≡ 86 }
 {}
 
-/// The type that is read where a type's letter was written: a signed number of eight bytes for an unsigned one, none
-/// for a short string, and the type itself for every other.
+/// The type that is read where a type's letter was written: a signed number of eight bytes for an
+/// unsigned one, none for a short string, and the type itself for every other.
 pub fn types_read_back()
     ensures long_long_uint { read_as AMQPType.LongLongUInt ≡ Some AMQPType.LongLongInt }
     ensures short_string { read_as AMQPType.ShortString ≡ None }

@@ -62,8 +62,8 @@ fn answer<I: ParsableInput>(alloc: Global, input: I) -> io::Result<String> {
     }
 }
 
-/// Prints what reading some bytes comes to. Where it differs for the same bytes in two slices, cut in
-/// the middle, prints that too.
+/// Prints what reading some bytes comes to. Where it differs for the same bytes in two slices, cut
+/// in the middle, prints that too.
 pub fn tell<P: Print>(rt: &P, alloc: Global, name: &str, bytes: &[u8]) -> io::Result<()> {
     let whole = answer(alloc, SliceInput::new(bytes))?;
     let (first, second) = bytes.split_at(bytes.len() / 2);

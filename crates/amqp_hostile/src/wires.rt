@@ -20,8 +20,8 @@ fn arrays(alloc: Global, body: &[u8]) -> io::Result<Vec<u8>> {
     Ok(bytes)
 }
 
-/// Tables in one another, the innermost empty. Each other has Void at the empty key and then the next
-/// table at the same key: three bytes and the id beside what the next one holds.
+/// Tables in one another, the innermost empty. Each other has Void at the empty key and then the
+/// next table at the same key: three bytes and the id beside what the next one holds.
 fn tables(alloc: Global) -> io::Result<Vec<u8>> {
     let mut bytes = Vec::new(alloc);
     for inside in (0..DEPTH).rev() {

@@ -1,4 +1,5 @@
--- Bytes: parts of some bytes are bytes, and the numbers that they spell are as small as their width.
+-- Bytes: parts of some bytes are bytes, and the numbers that they spell are as small as their
+-- width.
 use Rattle.std.proofs.Common.{ℕ, suc, zero, ◌<◌, ◌^◌, sym, subst, List, [], ◌∷◌, ◌++◌, get_or, take, drop, arith}
 use Rattle.std.proofs.lemmas.List.{take-append-drop}
 use Rattle.std.specs.Int.{w8, w16, w32, w64, from_be_bytes}

@@ -37,7 +37,8 @@ pub trait ParsableInput: Copy {
         ensures { bytes result ≡ drop n (bytes self.now) };
 
     /// Some of the first bytes, as a slice: as many as lie there, maybe none. What copies bytes
-    /// copies them by chunks, and one by one where a chunk is empty. An implementor may leave it out.
+    /// copies them by chunks, and one by one where a chunk is empty. An implementor may leave it
+    /// out.
     fn chunk(&self) -> &[u8]
         ensures { IsFront result.now (bytes self.now) }
     {

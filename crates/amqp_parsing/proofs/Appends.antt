@@ -91,7 +91,8 @@ unknown_extent d (c ∷ b) t x = by (kind c) x
     by None e = refl
     by (Some type) y = absurd (decided (lack type b) y)
 
--- more bytes join the rest behind a value, are so many fewer that lack, and leave a refusal as it is
+-- more bytes join the rest behind a value, are so many fewer that lack, and leave a refusal as it
+-- is
 pub within_append : (l : Limits) (s t : List ℕ) (o : Reading) → Within l s o → StillWaits o t → Within l (s ++ t) (with_more o t)
 within_append l s t (found v rest) (few, x) waits =
     let f = front_within l.depth s rest v x in

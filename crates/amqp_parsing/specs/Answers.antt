@@ -20,8 +20,8 @@ RightKind Is MapOpt = Is unknown
 RightKind Is Eof = Is malformed
 RightKind Is _ = ⊥
 
--- a refusal is right, where `Is` says what reading the input comes to, and memory may be wanted only where
--- `heavy` holds
+-- a refusal is right, where `Is` says what reading the input comes to, and memory may be wanted
+-- only where `heavy` holds
 abbrev pub Refuses : (Reading → Type 0) → Type 0 → Refusal → Type 0
 Refuses Is heavy (Incomplete Unknown) = ⊥
 Refuses Is heavy (Incomplete (Size n)) = Is (more n)
@@ -33,8 +33,8 @@ abbrev pub OnlyLacks : (Reading → Type 0) → Type 0 → Refusal → Type 0
 OnlyLacks Is heavy (Error kind) = ⊥
 OnlyLacks Is heavy e = Refuses Is heavy e
 
--- the kind of refusal where a frame is whole and is no payload of the type: a short string's bytes aren't
--- UTF-8, and a container's aren't entries
+-- the kind of refusal where a frame is whole and is no payload of the type: a short string's bytes
+-- aren't UTF-8, and a container's aren't entries
 abbrev pub bad_kind : AMQPType → ErrorKind
 bad_kind amqp.ShortString = MapRes
 bad_kind _ = Eof
@@ -77,8 +77,8 @@ abbrev pub IsNoBody : ℕ → List ℕ → Reading → Type 0
 IsNoBody depth s malformed = (vs : Trees) → BodyWithin depth s vs → ⊥
 IsNoBody depth s _ = ⊥
 
--- the bytes are pairs one after another, and the entries are what they come to: of equal keys the last pair's
--- value stays
+-- the bytes are pairs one after another, and the entries are what they come to: of equal keys the
+-- last pair's value stays
 abbrev pub IsTable : ℕ → List ℕ → Entries → Type 0
 IsTable depth s es = (ps : Entries) × PairsWithin depth s ps × (es ≡ onto no_entries ps)
 
@@ -91,6 +91,7 @@ IsNoTable depth s _ = ⊥
 abbrev pub HasOneOutcome : List ℕ → Type 0
 HasOneOutcome s = (o : Reading) × Outcome s o × ((p : Reading) → Outcome s p → p ≡ o)
 
--- more bytes join the rest behind a value, are so many fewer that lack, and leave a refusal as it is
+-- more bytes join the rest behind a value, are so many fewer that lack, and leave a refusal as it
+-- is
 abbrev pub KeepsOutcome : List ℕ → Type 0
 KeepsOutcome s = (o : Reading) (t : List ℕ) → Outcome s o → StillWaits o t → Outcome (s ++ t) (with_more o t)

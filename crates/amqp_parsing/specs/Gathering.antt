@@ -1,10 +1,10 @@
 -- Pairs on their way into a table.
-use Rattle.std.specs.Prelude.{ℕ, Bool, List, if◌then◌else◌}
-use Rattle.amqp_value_core.specs.declared.types.field_table.FieldTable.{FieldTable}
-use Rattle.amqp_value_core.specs.declared.value.AMQPValue.{AMQPValue}
 use Rattle.amqp_grammar.specs.Values.{Entries, no_entries, onto}
 use Rattle.amqp_value_core.specs.View.{entries, table_view}
+use Rattle.amqp_parsing.specs.declared.pairs.PairsSoFar.{PairsSoFar}
+use Rattle.amqp_parsing.specs.declared.pairs.PairsSoFar.TheVariants.{Few, Many}
 
--- what the pairs so far come to: those that were gathered, or those that are in the table
-abbrev pub kept : Bool → FieldTable → List (List ℕ × AMQPValue) → Entries
-kept many t ps = if many then onto no_entries (entries ps) else table_view t
+-- what the pairs so far come to: those that are in the table, or those that were gathered
+abbrev pub kept : PairsSoFar → Entries
+kept (Few table) = table_view table
+kept (Many pairs) = onto no_entries (entries pairs.items)

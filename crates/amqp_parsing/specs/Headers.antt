@@ -6,8 +6,8 @@ use Rattle.amqp_types.specs.Ids.{kind}
 use Rattle.amqp_grammar.specs.Layouts.{Layout, fixed}
 use Rattle.amqp_grammar.specs.Outcomes.{length_field, counted, lack}
 
--- how many bytes a payload has at least: those of its fields, or of its length field until that is whole, and then what it
--- counts too
+-- how many bytes a payload has at least: those of its fields, or of its length field until that is
+-- whole, and then what it counts too
 abbrev pub extent_of : Option Layout → Width → List ℕ → ℕ
 extent_of (Some f) w b = f.width
 extent_of None w b = if nat_lt (length b) (byte_len w) then byte_len w else byte_len w + counted w b

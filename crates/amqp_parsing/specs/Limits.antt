@@ -15,8 +15,8 @@ use Rattle.amqp_parsing.specs.Refusals.{Refusal}
 use Rattle.amqp_parsing.specs.Answers.{Refuses}
 use Rattle.amqp_parsing.specs.Headers.{extent, wanted, IsWhole}
 
--- reading s within limits comes to o: the value has no more bytes than the frame allows, by what has come of it, and
--- containers nest within the depth
+-- reading s within limits comes to o: the value has no more bytes than the frame allows, by what
+-- has come of it, and containers nest within the depth
 abbrev pub Within : Limits → List ℕ → Reading → Type 0
 Within l s o = (extent s ≤ l.frame) × OutcomeWithin l.depth s o
 
@@ -31,7 +31,8 @@ HasOneOutcomeWithin l s =
     (extent s ≤ l.frame → (o : Reading) × Within l s o × ((p : Reading) → Within l s p → p ≡ o))
     × ((o : Reading) → l.frame < extent s → Within l s o → ⊥)
 
--- more bytes join the rest behind a value, are so many fewer that lack, and leave a refusal as it is
+-- more bytes join the rest behind a value, are so many fewer that lack, and leave a refusal as it
+-- is
 abbrev pub KeepsOutcomeWithin : Limits → List ℕ → Type 0
 KeepsOutcomeWithin l s =
     ((o : Reading) (t : List ℕ) → Within l s o → StillWaits o t → Within l (s ++ t) (with_more o t))

@@ -30,8 +30,9 @@ refused kind = Error kind
 abbrev pub out_of_memory : Refusal
 out_of_memory = Failure OutOfMemory
 
--- what the refusal of an entry means for the container round it, whose body is whole: want of memory stays,
--- and whatever else keeps the entry from being read keeps the body from being a concatenation of entries
+-- what the refusal of an entry means for the container round it, whose body is whole: want of
+-- memory stays, and whatever else keeps the entry from being read keeps the body from being a
+-- concatenation of entries
 abbrev pub inside : Refusal → Refusal
 inside (Failure kind) = Failure kind
 inside _ = Error Eof

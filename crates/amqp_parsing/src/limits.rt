@@ -6,7 +6,7 @@
 pub struct Limits {
     /// How many bytes a value's encoding may have, its id and lengths among them.
     pub frame: u32,
-    /// How deep containers may nest in it: 0 for none, 1 for those of plain values alone. Each entry
-    /// that is written counts, also where its key comes again.
+    /// How deep containers may nest in it: 0 for none, 1 for those of plain values alone. Each
+    /// entry that is written counts, also where its key comes again.
     pub depth: u32,
 }

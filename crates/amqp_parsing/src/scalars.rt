@@ -3,10 +3,10 @@
 ghost use Rattle.std.specs.Prelude.{◌≡◌, Some, IfOk, MatchResult};
 ghost use Rattle.std.specs.Int.{w8, w16, w32, w64, cast_unsigned};
 ghost use Rattle.amqp_types.specs.Ids.{read_as};
-ghost use Rattle.amqp_grammar.specs.Values.{scalar, boolean, number, decimal};
 ghost use Rattle.amqp_types.specs.Numbers.{float_bits, double_bits};
-ghost use Rattle.amqp_grammar.specs.Outcomes.{RawOutcome, found};
-ghost use Rattle.amqp_parsing.specs.Answers.{Refuses, OnlyLacks, IsType, IsNoType, IsNumberRead, IsCut};
+ghost use Rattle.amqp_grammar.specs.Values.{boolean, decimal};
+ghost use Rattle.amqp_parsing.specs.Answers.{Refuses, IsType, IsNoType};
+ghost use Rattle.amqp_parsing.specs.Scalars.{ReadsUnsigned, ReadsScalar, ReadsNumber};
 
 use super::errors::{ErrorKind, ParserResult, lacks, refused};
 use super::traits::ParsableInput;
@@ -33,9 +33,7 @@ pub fn parse_type<I: ParsableInput>(i: I) -> ParserResult<I, AMQPType>
 /// Reads the number of a class or of a method, two bytes.
 #[inline(always)]
 pub fn parse_id<I: ParsableInput>(i: I) -> ParserResult<I, Identifier>
-    ensures { MatchResult result
-        (λ x. IsNumberRead w16 (I.bytes i) x.1 (I.bytes x.0))
-        (Refuses (IsCut w16 (I.bytes i)) ⊥) }
+    ensures { ReadsUnsigned w16 I.bytes i result }
 {
     parse_short_uint(i)
 }
@@ -43,9 +41,7 @@ pub fn parse_id<I: ParsableInput>(i: I) -> ParserResult<I, Identifier>
 /// Reads a truth value, one byte: 0 is false, every other byte true.
 #[inline(always)]
 pub fn parse_boolean<I: ParsableInput>(i: I) -> ParserResult<I, Boolean>
-    ensures { MatchResult result
-        (λ x. RawOutcome AMQPType.Boolean (I.bytes i) (found (scalar (boolean x.1)) (I.bytes x.0)))
-        (OnlyLacks (RawOutcome AMQPType.Boolean (I.bytes i)) ⊥) }
+    ensures { ReadsScalar AMQPType.Boolean boolean I.bytes i result }
 {
     let (i, byte) = parse_short_short_uint(i)?;
     Ok((i, byte != 0))
@@ -54,12 +50,8 @@ pub fn parse_boolean<I: ParsableInput>(i: I) -> ParserResult<I, Boolean>
 /// Reads an unsigned number of 8 bits.
 #[inline(always)]
 pub fn parse_short_short_uint<I: ParsableInput>(i: I) -> ParserResult<I, ShortShortUInt>
-    ensures number { MatchResult result
-        (λ x. IsNumberRead w8 (I.bytes i) x.1 (I.bytes x.0))
-        (Refuses (IsCut w8 (I.bytes i)) ⊥) }
-    ensures payload { MatchResult result
-        (λ x. RawOutcome AMQPType.ShortShortUInt (I.bytes i) (found (scalar (number AMQPType.ShortShortUInt x.1)) (I.bytes x.0)))
-        (OnlyLacks (RawOutcome AMQPType.ShortShortUInt (I.bytes i)) ⊥) }
+    ensures number { ReadsUnsigned w8 I.bytes i result }
+    ensures payload { ReadsNumber AMQPType.ShortShortUInt (λ n. n) I.bytes i result }
 {
     if i.input_len() == 0 {
         return Err(lacks(1));
@@ -70,12 +62,8 @@ pub fn parse_short_short_uint<I: ParsableInput>(i: I) -> ParserResult<I, ShortSh
 /// Reads an unsigned number of 16 bits.
 #[inline(always)]
 pub fn parse_short_uint<I: ParsableInput>(i: I) -> ParserResult<I, ShortUInt>
-    ensures number { MatchResult result
-        (λ x. IsNumberRead w16 (I.bytes i) x.1 (I.bytes x.0))
-        (Refuses (IsCut w16 (I.bytes i)) ⊥) }
-    ensures payload { MatchResult result
-        (λ x. RawOutcome AMQPType.ShortUInt (I.bytes i) (found (scalar (number AMQPType.ShortUInt x.1)) (I.bytes x.0)))
-        (OnlyLacks (RawOutcome AMQPType.ShortUInt (I.bytes i)) ⊥) }
+    ensures number { ReadsUnsigned w16 I.bytes i result }
+    ensures payload { ReadsNumber AMQPType.ShortUInt (λ n. n) I.bytes i result }
 {
     let there = i.input_len();
     if there < 2 {
@@ -88,12 +76,8 @@ pub fn parse_short_uint<I: ParsableInput>(i: I) -> ParserResult<I, ShortUInt>
 /// Reads an unsigned number of 32 bits.
 #[inline(always)]
 pub fn parse_long_uint<I: ParsableInput>(i: I) -> ParserResult<I, LongUInt>
-    ensures number { MatchResult result
-        (λ x. IsNumberRead w32 (I.bytes i) x.1 (I.bytes x.0))
-        (Refuses (IsCut w32 (I.bytes i)) ⊥) }
-    ensures payload { MatchResult result
-        (λ x. RawOutcome AMQPType.LongUInt (I.bytes i) (found (scalar (number AMQPType.LongUInt x.1)) (I.bytes x.0)))
-        (OnlyLacks (RawOutcome AMQPType.LongUInt (I.bytes i)) ⊥) }
+    ensures number { ReadsUnsigned w32 I.bytes i result }
+    ensures payload { ReadsNumber AMQPType.LongUInt (λ n. n) I.bytes i result }
 {
     let there = i.input_len();
     if there < 4 {
@@ -107,9 +91,7 @@ pub fn parse_long_uint<I: ParsableInput>(i: I) -> ParserResult<I, LongUInt>
 /// the same bits for it.
 #[inline(always)]
 pub fn parse_long_long_uint<I: ParsableInput>(i: I) -> ParserResult<I, LongLongUInt>
-    ensures { MatchResult result
-        (λ x. IsNumberRead w64 (I.bytes i) x.1 (I.bytes x.0))
-        (Refuses (IsCut w64 (I.bytes i)) ⊥) }
+    ensures { ReadsUnsigned w64 I.bytes i result }
 {
     let there = i.input_len();
     if there < 8 {
@@ -131,10 +113,7 @@ pub fn parse_long_long_uint<I: ParsableInput>(i: I) -> ParserResult<I, LongLongU
 /// Reads a signed number of 8 bits.
 #[inline(always)]
 pub fn parse_short_short_int<I: ParsableInput>(i: I) -> ParserResult<I, ShortShortInt>
-    ensures { MatchResult result
-        (λ x. RawOutcome AMQPType.ShortShortInt (I.bytes i)
-        (found (scalar (number AMQPType.ShortShortInt (cast_unsigned w8 x.1))) (I.bytes x.0)))
-        (OnlyLacks (RawOutcome AMQPType.ShortShortInt (I.bytes i)) ⊥) }
+    ensures { ReadsNumber AMQPType.ShortShortInt (cast_unsigned w8) I.bytes i result }
 {
     let (i, n) = parse_short_short_uint(i)?;
     Ok((i, n.cast_signed()))
@@ -143,10 +122,7 @@ pub fn parse_short_short_int<I: ParsableInput>(i: I) -> ParserResult<I, ShortSho
 /// Reads a signed number of 16 bits.
 #[inline(always)]
 pub fn parse_short_int<I: ParsableInput>(i: I) -> ParserResult<I, ShortInt>
-    ensures { MatchResult result
-        (λ x. RawOutcome AMQPType.ShortInt (I.bytes i)
-        (found (scalar (number AMQPType.ShortInt (cast_unsigned w16 x.1))) (I.bytes x.0)))
-        (OnlyLacks (RawOutcome AMQPType.ShortInt (I.bytes i)) ⊥) }
+    ensures { ReadsNumber AMQPType.ShortInt (cast_unsigned w16) I.bytes i result }
 {
     let (i, n) = parse_short_uint(i)?;
     Ok((i, n.cast_signed()))
@@ -155,10 +131,7 @@ pub fn parse_short_int<I: ParsableInput>(i: I) -> ParserResult<I, ShortInt>
 /// Reads a signed number of 32 bits.
 #[inline(always)]
 pub fn parse_long_int<I: ParsableInput>(i: I) -> ParserResult<I, LongInt>
-    ensures { MatchResult result
-        (λ x. RawOutcome AMQPType.LongInt (I.bytes i)
-        (found (scalar (number AMQPType.LongInt (cast_unsigned w32 x.1))) (I.bytes x.0)))
-        (OnlyLacks (RawOutcome AMQPType.LongInt (I.bytes i)) ⊥) }
+    ensures { ReadsNumber AMQPType.LongInt (cast_unsigned w32) I.bytes i result }
 {
     let (i, n) = parse_long_uint(i)?;
     Ok((i, n.cast_signed()))
@@ -167,10 +140,7 @@ pub fn parse_long_int<I: ParsableInput>(i: I) -> ParserResult<I, LongInt>
 /// Reads a signed number of 64 bits.
 #[inline(always)]
 pub fn parse_long_long_int<I: ParsableInput>(i: I) -> ParserResult<I, LongLongInt>
-    ensures { MatchResult result
-        (λ x. RawOutcome AMQPType.LongLongInt (I.bytes i)
-        (found (scalar (number AMQPType.LongLongInt (cast_unsigned w64 x.1))) (I.bytes x.0)))
-        (OnlyLacks (RawOutcome AMQPType.LongLongInt (I.bytes i)) ⊥) }
+    ensures { ReadsNumber AMQPType.LongLongInt (cast_unsigned w64) I.bytes i result }
 {
     let (i, n) = parse_long_long_uint(i)?;
     Ok((i, n.cast_signed()))
@@ -179,10 +149,7 @@ pub fn parse_long_long_int<I: ParsableInput>(i: I) -> ParserResult<I, LongLongIn
 /// Reads the bits of a floating-point number of 32 bits.
 #[inline(always)]
 pub fn parse_float<I: ParsableInput>(i: I) -> ParserResult<I, Float>
-    ensures { MatchResult result
-        (λ x. RawOutcome AMQPType.Float (I.bytes i)
-        (found (scalar (number AMQPType.Float (float_bits x.1))) (I.bytes x.0)))
-        (OnlyLacks (RawOutcome AMQPType.Float (I.bytes i)) ⊥) }
+    ensures { ReadsNumber AMQPType.Float float_bits I.bytes i result }
 {
     let (i, bits) = parse_long_uint(i)?;
     Ok((i, Float::from_bits(bits)))
@@ -191,10 +158,7 @@ pub fn parse_float<I: ParsableInput>(i: I) -> ParserResult<I, Float>
 /// Reads the bits of a floating-point number of 64 bits.
 #[inline(always)]
 pub fn parse_double<I: ParsableInput>(i: I) -> ParserResult<I, Double>
-    ensures { MatchResult result
-        (λ x. RawOutcome AMQPType.Double (I.bytes i)
-        (found (scalar (number AMQPType.Double (double_bits x.1))) (I.bytes x.0)))
-        (OnlyLacks (RawOutcome AMQPType.Double (I.bytes i)) ⊥) }
+    ensures { ReadsNumber AMQPType.Double double_bits I.bytes i result }
 {
     let (i, bits) = parse_long_long_uint(i)?;
     Ok((i, Double::from_bits(bits)))
@@ -203,10 +167,7 @@ pub fn parse_double<I: ParsableInput>(i: I) -> ParserResult<I, Double>
 /// Reads a time, an unsigned number of 64 bits.
 #[inline(always)]
 pub fn parse_timestamp<I: ParsableInput>(i: I) -> ParserResult<I, Timestamp>
-    ensures { MatchResult result
-        (λ x. RawOutcome AMQPType.Timestamp (I.bytes i)
-        (found (scalar (number AMQPType.Timestamp x.1)) (I.bytes x.0)))
-        (OnlyLacks (RawOutcome AMQPType.Timestamp (I.bytes i)) ⊥) }
+    ensures { ReadsNumber AMQPType.Timestamp (λ n. n) I.bytes i result }
 {
     let (i, seconds) = parse_long_long_uint(i)?;
     Ok((i, seconds))
@@ -215,10 +176,7 @@ pub fn parse_timestamp<I: ParsableInput>(i: I) -> ParserResult<I, Timestamp>
 /// Reads a decimal number: its scale in one byte, then its digits as an unsigned number of 32 bits.
 #[inline(always)]
 pub fn parse_decimal_value<I: ParsableInput>(i: I) -> ParserResult<I, DecimalValue>
-    ensures { MatchResult result
-        (λ x. RawOutcome AMQPType.DecimalValue (I.bytes i)
-        (found (scalar (decimal x.1.scale x.1.value)) (I.bytes x.0)))
-        (OnlyLacks (RawOutcome AMQPType.DecimalValue (I.bytes i)) ⊥) }
+    ensures { ReadsScalar AMQPType.DecimalValue (λ d. decimal d.scale d.value) I.bytes i result }
 {
     let (i, scale) = parse_short_short_uint(i)?;
     let (i, value) = parse_long_uint(i)?;

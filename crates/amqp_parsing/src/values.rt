@@ -9,7 +9,7 @@ ghost use Rattle.amqp_grammar.specs.Headline.{IsBounded};
 ghost use Rattle.amqp_parsing.specs.Answers.{Refuses, RawRefuses, HasOneOutcome, KeepsOutcome, IsNoBody, IsTable, IsNoTable};
 
 use super::errors::{ErrorKind, ParserError, ParserResult, inside, out_of_memory, refused};
-use super::pairs::{has_many_pairs, keep, table_of};
+use super::pairs::PairsSoFar;
 use super::scalars::{
     parse_boolean, parse_decimal_value, parse_double, parse_float, parse_long_int,
     parse_long_long_int, parse_long_uint, parse_short_int, parse_short_short_int,
@@ -23,9 +23,9 @@ use std::alloc::Global;
 
 /// Reads a value: the id of its type, then its payload.
 ///
-/// What is read can be written again, in no more bytes than it was read from. It recurses as deep as
-/// containers nest, which the input's length alone bounds. Memory is taken only for strings, byte
-/// arrays and containers whose bytes are all there.
+/// What is read can be written again, in no more bytes than it was read from. It recurses as deep
+/// as containers nest, which the input's length alone bounds. Memory is taken only for strings,
+/// byte arrays and containers whose bytes are all there.
 #[inline(always)]
 #[tactic(auto, using(crate::proofs::Appends::has_one_outcome, amqp_grammar::proofs::GrammarLaws::more_bytes))]
 pub fn parse_value<I: ParsableInput>(alloc: Global, i: I) -> ParserResult<I, AMQPValue>
@@ -166,7 +166,8 @@ fn payload_within<I: ParsableInput>(
     }
 }
 
-/// Reads an array: the length of its body in bytes, in four bytes, then its values, each with its id.
+/// Reads an array: the length of its body in bytes, in four bytes, then its values, each with its
+/// id.
 ///
 /// The body is taken whole before a value of it is looked at.
 #[inline(always)]
@@ -265,9 +266,7 @@ fn parse_pairs<I: ParsableInput>(
     if body.input_len() == 0 {
         return Ok(FieldTable::new_in(alloc));
     }
-    let many = has_many_pairs(body);
-    let mut table = FieldTable::new_in(alloc);
-    let mut pairs = Vec::new(alloc);
+    let mut pairs = PairsSoFar::none_of(alloc, body);
     let mut rest = body;
     'pairs: while rest.input_len() > 0 {
         let (behind_key, key) = match parse_short_string(alloc, rest) {
@@ -278,12 +277,12 @@ fn parse_pairs<I: ParsableInput>(
             Ok(read) => read,
             Err(e) => return Err(inside(e)),
         };
-        if keep(many, &mut table, &mut pairs, key, value).is_err() {
+        if pairs.keep(key, value).is_err() {
             return Err(out_of_memory());
         }
         rest = after;
     }
-    match table_of(alloc, many, table, pairs) {
+    match pairs.into_table(alloc) {
         Ok(table) => Ok(table),
         Err(_) => Err(out_of_memory()),
     }

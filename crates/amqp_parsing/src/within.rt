@@ -16,12 +16,13 @@ use super::values::value_within;
 use amqp_value_core::value::AMQPValue;
 use std::alloc::Global;
 
-/// Reads a value as `parse_value` does, where it has at most `limits.frame` bytes and its containers
-/// nest at most `limits.depth` deep.
+/// Reads a value as `parse_value` does, where it has at most `limits.frame` bytes and its
+/// containers nest at most `limits.depth` deep.
 ///
-/// A longer value is refused as `TooLarge` as soon as its first bytes tell, before any memory is asked
-/// for. One that nests deeper is refused as `Eof`, like any other frame that is no value; each entry
-/// that is written counts, also where its key comes again. It recurses at most `limits.depth` deep.
+/// A longer value is refused as `TooLarge` as soon as its first bytes tell, before any memory is
+/// asked for. One that nests deeper is refused as `Eof`, like any other frame that is no value;
+/// each entry that is written counts, also where its key comes again. It recurses at most
+/// `limits.depth` deep.
 #[tactic(auto, using(amqp_grammar::proofs::GrammarLaws::deep_enough))]
 pub fn parse_value_within<I: ParsableInput>(
     alloc: Global,

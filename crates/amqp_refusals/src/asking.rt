@@ -39,8 +39,8 @@ pub fn tell<R: Print>(rt: &R, alloc: Global, answer: &Result<Thing, Refusal>) ->
     Ok(answer.is_ok())
 }
 
-/// Makes a call, says where its requests for memory begin and end, and tells what it answered. Answers
-/// whether that was Ok.
+/// Makes a call, says where its requests for memory begin and end, and tells what it answered.
+/// Answers whether that was Ok.
 pub fn ask<R: Print + Eprint, C: Call>(rt: &R, alloc: Global, call: &mut C) -> io::Result<bool> {
     // Where nothing can be said, whoever counts requests finds none.
     let _ = eprintln!(rt; "begin");

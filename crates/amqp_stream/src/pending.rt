@@ -13,8 +13,8 @@ use std::marker::Model;
 // The first room is for so many bytes.
 const BLOCK: usize = 8192;
 
-// So many bytes of new room are filled at once, at most: they are still in the processor's cache when
-// the reader writes over them.
+// So many bytes of new room are filled at once, at most: they are still in the processor's cache
+// when the reader writes over them.
 const FILLED: usize = 65_536;
 
 // The first bytes of a buffer, as many as `count` says. What is behind them is room that is filled
@@ -33,8 +33,8 @@ impl Model for Pending {
     ghost invariant = { λ p. p.count ≤ vec_len p.buffer };
 }
 
-// Makes room for some of `most` bytes, where there is none: as much again as there is, whatever a length
-// claims. Answers for how many there is room.
+// Makes room for some of `most` bytes, where there is none: as much again as there is, whatever a
+// length claims. Answers for how many there is room.
 fn make_room(buffer: &mut Vec<u8>, count: usize, most: usize) -> Result<usize, AllocError>
     requires some { 0 < most }
     requires within { count ≤ vec_len buffer.old }
@@ -52,7 +52,8 @@ fn make_room(buffer: &mut Vec<u8>, count: usize, most: usize) -> Result<usize, A
     Ok(most.min(buffer.len() - count))
 }
 
-// Asks the reader once for at most `room` bytes, and puts those that it gives behind the first `count`.
+// Asks the reader once for at most `room` bytes, and puts those that it gives behind the first
+// `count`.
 fn read_behind<R: Read>(
     bytes: &mut [u8],
     count: usize,

@@ -138,8 +138,8 @@ struct Row<'a> {
     left: &'a [u8],
 }
 
-// A reader of values, and values of a reader that is the caller's, answer as the row says, and leave
-// what it says, where the reader gives at most so many bytes at a time.
+// A reader of values, and values of a reader that is the caller's, answer as the row says, and
+// leave what it says, where the reader gives at most so many bytes at a time.
 fn holds_for(rt: &impl Abort, alloc: Global, row: Row<'_>, most: usize) {
     assert!(rt; 0 < row.limits.frame);
     let mut owner = ValueReader::new(alloc, Script::new(row.events, most), row.limits);

@@ -1,4 +1,5 @@
-//! What no clause says: that calls which take memory succeed where there is memory, and printed texts.
+//! What no clause says: that calls which take memory succeed where there is memory, and printed
+//! texts.
 
 use amqp_value_core::types::{
     AMQPType, ByteArray, DecimalValue, Double, FieldArray, FieldTable, Float, LongString,

@@ -56,7 +56,8 @@ id_of amqp.FieldTable = 70
 id_of amqp.ByteArray = 120
 id_of amqp.Void = 86
 
--- the type that is read where the letter of a type was written: a short string's is no letter that is read
+-- the type that is read where the letter of a type was written: a short string's is no letter that
+-- is read
 abbrev pub read_as : AMQPType → Option AMQPType
 read_as amqp.LongLongUInt = Some amqp.LongLongInt
 read_as amqp.ShortString = None

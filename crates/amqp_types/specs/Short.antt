@@ -13,8 +13,8 @@ refused_length e = e.length
 abbrev pub IsTooLong : List ℕ → ShortStringError → Type 0
 IsTooLong s e = (255 < length s) × (refused_length e ≡ length s)
 
--- a copy is refused for the text's length, or for want of memory where the text has at most 255 bytes and isn't
--- empty
+-- a copy is refused for the text's length, or for want of memory where the text has at most 255
+-- bytes and isn't empty
 abbrev pub IsCopyRefused : List ℕ → TryCopyError → Type 0
 IsCopyRefused s (TooLong e) = IsTooLong s e
 IsCopyRefused s OutOfMemory = (0 < length s) × (length s ≤ 255)

@@ -44,8 +44,8 @@ impl ShortString {
         }
     }
 
-    /// The text as a short string, where it has at most 255 bytes. Takes no memory; a refused text is
-    /// dropped.
+    /// The text as a short string, where it has at most 255 bytes. Takes no memory; a refused text
+    /// is dropped.
     pub fn try_new(s: String) -> Result<ShortString, ShortStringError>
         ensures ok { IfOk result (λ short. short ≡ string_bytes s) }
         ensures fits { OnOk result (length (string_bytes s) ≤ 255) }

@@ -1,4 +1,5 @@
--- Pairs that are gathered: the map that is made of them at once is the one that they come to, put one after another.
+-- Pairs that are gathered: the map that is made of them at once is the one that they come to, put
+-- one after another.
 use Rattle.std.proofs.Common.{◌≡◌, ℕ, List, [], ◌∷◌, Bool, true, false, cond, Option, Some, None, if◌then◌else◌, Ordering, refl, sym, ap, ◌∙◌}
 use Rattle.std.specs.Option.{option_or, option_map}
 use Rattle.std.specs.Ordering.{nat_cmp, eq_by_cmp}

@@ -1,6 +1,7 @@
 //! Rows: what the definitions say of some values in memory.
 //!
-//! Nothing here does anything when it runs: the contracts are the rows, and they hold by computation.
+//! Nothing here does anything when it runs: the contracts are the rows, and they hold by
+//! computation.
 
 ghost use Rattle.std.specs.Prelude.{◌≡◌, negsuc};
 ghost use Rattle.amqp_grammar.specs.Values.{number, scalar};

@@ -25,7 +25,8 @@ last_line s (Some malformed) = codes "refused Eof\n"
 last_line s (Some (more n)) = cut_line s
 last_line s (Some (found v rest)) = []
 
--- by what reading s comes to: the line of a value, and the lines of what is left behind it, or a last line
+-- by what reading s comes to: the line of a value, and the lines of what is left behind it, or a
+-- last line
 abbrev pub stream_step : (List ℕ → List ℕ) → List ℕ → Option Reading → List ℕ
 stream_step others s (Some (found v rest)) = value_line v ++ others rest
 stream_step others s o = last_line s o
@@ -37,7 +38,8 @@ stream_text l (suc n) s = stream_step (stream_text l n) s (read_within l s)
 
 -- ---- the same as a relation
 
--- s begins with wires of these values, one behind another, each within the limits, and `left` is left
+-- s begins with wires of these values, one behind another, each within the limits, and `left` is
+-- left
 abbrev pub BeginsWith : Limits → List ℕ → List Tree → List ℕ → Type 0
 BeginsWith l s [] left = s ≡ left
 BeginsWith l s (v ∷ vs) left = (w : List ℕ) × (rest : List ℕ) × (s ≡ w ++ rest) × WireWithin l.depth w v × (length w ≤ l.frame) × BeginsWith l rest vs left
@@ -55,7 +57,8 @@ abbrev pub value_lines : List Tree → List ℕ
 value_lines [] = []
 value_lines (v ∷ vs) = value_line v ++ value_lines vs
 
--- the lines of a stream are those of its first values, or where there are fewer those of all and a last line
+-- the lines of a stream are those of its first values, or where there are fewer those of all and a
+-- last line
 abbrev pub AreLines : Limits → ℕ → List ℕ → Type 0
 AreLines l most s = (vs : List Tree) (left : List ℕ) → AreValues l s vs left
     → (most ≤ length vs → stream_text l most s ≡ value_lines (take most vs))
@@ -71,7 +74,8 @@ Leaves l n s now = (vs : List Tree) (left : List ℕ) → BeginsWith l s vs left
 
 -- ---- one line
 
--- a line of the stream s, and whether it is a value's, behind which `left` is left; or else it is the last line
+-- a line of the stream s, and whether it is a value's, behind which `left` is left; or else it is
+-- the last line
 abbrev pub IsLine : Limits → List ℕ → Option (List ℕ) → List ℕ → Bool → Type 0
 IsLine l s left line true = (v : Tree) × (rest : List ℕ) × IsBytes rest × (read_within l s ≡ Some (found v rest)) × BeginsWith l s (v ∷ []) rest × (line ≡ value_line v) × (left ≡ Some rest)
 IsLine l s left line false = (line ≡ last_line s (read_within l s)) × BeginsNone l s

@@ -44,8 +44,8 @@ fn hex_of(alloc: Global, value: &AMQPValue, room: usize) -> Result<String, Alloc
     hex::encode(alloc, output.written())
 }
 
-/// What is said of a value that was read from `count` bytes, of which `rest` is left behind it. Its text
-/// gets as much room as its wire took.
+/// What is said of a value that was read from `count` bytes, of which `rest` is left behind it. Its
+/// text gets as much room as its wire took.
 fn value_answer<I: ParsableInput>(
     alloc: Global,
     value: &AMQPValue,

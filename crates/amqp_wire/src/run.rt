@@ -1,8 +1,8 @@
 //! All lines, from a reader to a writer.
 
-ghost use Rattle.std.specs.Prelude.{◌<◌, OnOk, OnErr, IfSome, length};
+ghost use Rattle.std.specs.Prelude.{◌<◌, OnOk, OnErr, length};
 ghost use Rattle.std.specs.Io.KnownBytes.{Appends, IsAtEnd};
-ghost use Rattle.amqp_wire.specs.Lines.{output, output_by, output_within, said_in, AppendsFront};
+ghost use Rattle.amqp_wire.specs.Lines.{output, output_by, output_within, said_in, AppendsFront, Answers, AnswersFront};
 
 use crate::fault::WireFault;
 use crate::line::{Form, ended_answer_to};
@@ -18,10 +18,10 @@ pub fn run<R: Read, W: Write>(
     reader: &mut R,
     writer: &mut W,
 ) -> Result<(), WireFault>
-    ensures ok { OnOk result (IfSome (R.remaining reader.old)
-        (λ xs. Appends (W.contents writer.old) (W.contents writer.new) (output xs))) }
-    ensures err { OnErr result (IfSome (R.remaining reader.old)
-        (λ xs. AppendsFront (W.contents writer.old) (W.contents writer.new) (output xs))) }
+    ensures ok { OnOk result (Answers output
+        (R.remaining reader.old) (W.contents writer.old) (W.contents writer.new)) }
+    ensures err { OnErr result (AnswersFront output
+        (R.remaining reader.old) (W.contents writer.old) (W.contents writer.new)) }
     ensures end { OnOk result (IsAtEnd (R.remaining reader.new)) }
 {
     run_in_form(alloc, reader, writer, Form::Whole)
@@ -35,10 +35,10 @@ pub fn run_split<R: Read, W: Write>(
     writer: &mut W,
     at: usize,
 ) -> Result<(), WireFault>
-    ensures ok { OnOk result (IfSome (R.remaining reader.old)
-        (λ xs. Appends (W.contents writer.old) (W.contents writer.new) (output xs))) }
-    ensures err { OnErr result (IfSome (R.remaining reader.old)
-        (λ xs. AppendsFront (W.contents writer.old) (W.contents writer.new) (output xs))) }
+    ensures ok { OnOk result (Answers output
+        (R.remaining reader.old) (W.contents writer.old) (W.contents writer.new)) }
+    ensures err { OnErr result (AnswersFront output
+        (R.remaining reader.old) (W.contents writer.old) (W.contents writer.new)) }
     ensures end { OnOk result (IsAtEnd (R.remaining reader.new)) }
 {
     run_in_form(alloc, reader, writer, Form::Split(at))
@@ -52,10 +52,10 @@ pub fn run_within<R: Read, W: Write>(
     writer: &mut W,
     limits: Limits,
 ) -> Result<(), WireFault>
-    ensures ok { OnOk result (IfSome (R.remaining reader.old)
-        (λ xs. Appends (W.contents writer.old) (W.contents writer.new) (output_within limits xs))) }
-    ensures err { OnErr result (IfSome (R.remaining reader.old)
-        (λ xs. AppendsFront (W.contents writer.old) (W.contents writer.new) (output_within limits xs))) }
+    ensures ok { OnOk result (Answers (output_within limits)
+        (R.remaining reader.old) (W.contents writer.old) (W.contents writer.new)) }
+    ensures err { OnErr result (AnswersFront (output_within limits)
+        (R.remaining reader.old) (W.contents writer.old) (W.contents writer.new)) }
     ensures end { OnOk result (IsAtEnd (R.remaining reader.new)) }
 {
     run_in_form(alloc, reader, writer, Form::Within(limits))
@@ -68,10 +68,10 @@ fn run_in_form<R: Read, W: Write>(
     writer: &mut W,
     form: Form,
 ) -> Result<(), WireFault>
-    ensures ok { OnOk result (IfSome (R.remaining reader.old)
-        (λ xs. Appends (W.contents writer.old) (W.contents writer.new) (output_by (said_in form) xs))) }
-    ensures err { OnErr result (IfSome (R.remaining reader.old)
-        (λ xs. AppendsFront (W.contents writer.old) (W.contents writer.new) (output_by (said_in form) xs))) }
+    ensures ok { OnOk result (Answers (output_by (said_in form))
+        (R.remaining reader.old) (W.contents writer.old) (W.contents writer.new)) }
+    ensures err { OnErr result (AnswersFront (output_by (said_in form))
+        (R.remaining reader.old) (W.contents writer.old) (W.contents writer.new)) }
     ensures end { OnOk result (IsAtEnd (R.remaining reader.new)) }
 {
     let mut input = Vec::new(alloc);

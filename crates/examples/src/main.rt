@@ -1,5 +1,5 @@
-//! What a client does with the codec: a queue's arguments, a message's headers, values of a stream, and
-//! a value of a JSON text. Prints what comes of each.
+//! What a client does with the codec: a queue's arguments, a message's headers, values of a stream,
+//! and a value of a JSON text. Prints what comes of each.
 #![tactic(auto)]
 
 mod arguments;

@@ -4,7 +4,8 @@ use super::*;
 use std::alloc::AllocError;
 use std::test::Fail;
 
-/// A table with an entry of nearly every type: its id, its length, and an entry a line, keys in order.
+/// A table with an entry of nearly every type: its id, its length, and an entry a line, keys in
+/// order.
 const TABLE: &[u8] = &[
     70, 0, 0, 0, 194, //
     4, 97, 97, 97, 97, 98, 42, // aaaa: ShortShortInt

@@ -55,7 +55,8 @@ const CASES: &[(u32, u32, &[u8], Outcome<'static>)] = &[
     (20, 2, DEEP_FIRST, Refused(ErrorKind::Eof)),
     (20, 3, DEEP_LAST, Value(KEPT, 0)),
     (20, 2, DEEP_LAST, Refused(ErrorKind::Eof)),
-    // what lacks is told before what is wrong inside, and a frame that's too large before what lacks
+    // what lacks is told before what is wrong inside, and a frame that's too large before what
+    // lacks
     (10, 1, &[65], Needs(4)),
     (10, 0, &[65, 0, 0, 0, 5, 122], Needs(4)),
     (9, 0, &[65, 0, 0, 0, 5, 122], Refused(ErrorKind::TooLarge)),

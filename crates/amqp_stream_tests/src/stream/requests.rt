@@ -90,8 +90,8 @@ fn are_modest(requests: &[Request]) -> bool {
         .all(|request| 0 < request.most && request.most <= request.lack)
 }
 
-// Requests for the values of these bytes, which are so many, and for what is no value behind them are
-// modest, where at most so many bytes come at a time.
+// Requests for the values of these bytes, which are so many, and for what is no value behind them
+// are modest, where at most so many bytes come at a time.
 fn asks_modestly_for(
     rt: &impl Abort,
     alloc: Global,

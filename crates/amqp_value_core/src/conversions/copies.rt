@@ -33,8 +33,8 @@ impl FieldTable {
 }
 
 impl AMQPValue {
-    /// A copy of the value, and of each value in it. A number, a truth value, Void and what is empty
-    /// take no memory.
+    /// A copy of the value, and of each value in it. A number, a truth value, Void and what is
+    /// empty take no memory.
     pub fn clone(&self, alloc: Global) -> Result<AMQPValue, AllocError>
         ensures same { IfOk result (λ v. view v ≡ view self.now) }
         ensures light { IsLight (view self.now) → IsOk result }

@@ -16,9 +16,9 @@ impl AMQPValue {
     ///
     /// A number gives a value of a type that holds it, and to `LongLongUInt` the `LongLongInt` of
     /// the same bits. A text gives a `LongString`, and a `ShortString` where it has at most 255
-    /// bytes; `true` and `false` give a `Boolean`, and `null` gives `Void`. Nothing gives a `Float`,
-    /// a `Double`, a `DecimalValue`, a `ByteArray`, an array or a table. Only a text that isn't
-    /// empty takes memory.
+    /// bytes; `true` and `false` give a `Boolean`, and `null` gives `Void`. Nothing gives a
+    /// `Float`, a `Double`, a `DecimalValue`, a `ByteArray`, an array or a table. Only a text that
+    /// isn't empty takes memory.
     pub fn try_from(
         alloc: Global,
         value: &Value,

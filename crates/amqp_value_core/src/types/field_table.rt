@@ -10,7 +10,8 @@ use crate::value::AMQPValue;
 use std::alloc::{AllocError, Global};
 use std::collections::{BTreeMap, btree_map};
 
-/// A map from short strings to values, each with its type. Its keys are in the order of their bytes.
+/// A map from short strings to values, each with its type. Its keys are in the order of their
+/// bytes.
 #[cycle(values)]
 #[derive(Debug, Drop)]
 pub struct FieldTable {
@@ -72,9 +73,9 @@ impl FieldTable {
         Ok(())
     }
 
-    /// The table of the pairs, put one after another: of equal keys the last one's value stays. It is
-    /// faster than to put each from some hundred pairs on, and takes more memory meanwhile. No pairs
-    /// take none.
+    /// The table of the pairs, put one after another: of equal keys the last one's value stays. It
+    /// is faster than to put each from some hundred pairs on, and takes more memory meanwhile. No
+    /// pairs take none.
     #[inline(never)]
     #[tactic(auto, using(crate::proofs::Gathered::made_of))]
     pub fn from_pairs(

@@ -42,12 +42,12 @@ parse_body-returns g t c =
 pub parse_pairs-returns-in-Err : goal.parse_pairs-returns-in-Err
 parse_pairs-returns-in-Err g t c =
     rw c.inside.ensures
-    (Walks-bad_key c.args.depth _ (kept c.has_many_pairs-many.result c.pairs.table c.pairs.pairs.items) (g.I.ParsableInput.bytes c.pairs.rest) c.in-Err.e c.pairs.invariant (omega arith) c.in-Err.ensures)
+    (Walks-bad_key c.args.depth _ (kept c.pairs.pairs) (g.I.ParsableInput.bytes c.pairs.rest) c.in-Err.e c.pairs.invariant (omega arith) c.in-Err.ensures)
 
 pub parse_pairs-returns-in-Err-value_within : goal.parse_pairs-returns-in-Err-value_within
 parse_pairs-returns-in-Err-value_within g t c =
     rw c.inside-in-Err-value_within.ensures
-    (Walks-bad_value c.args.depth _ (kept c.has_many_pairs-many.result c.pairs.table c.pairs.pairs.items) (g.I.ParsableInput.bytes c.pairs.rest) c.in-Ok.read.1 (g.I.ParsableInput.bytes c.in-Ok.read.0) c.in-Err-value_within.e
+    (Walks-bad_value c.args.depth _ (kept c.pairs.pairs) (g.I.ParsableInput.bytes c.pairs.rest) c.in-Ok.read.1 (g.I.ParsableInput.bytes c.in-Ok.read.0) c.in-Err-value_within.e
     c.pairs.invariant c.in-Ok.ensures c.in-Err-value_within.ensures)
 
 pub parse_pairs-pairs-smaller : goal.parse_pairs-pairs-smaller
@@ -59,15 +59,15 @@ parse_pairs-pairs-smaller g t c =
 
 pub parse_pairs-pairs-preserved : goal.parse_pairs-pairs-preserved
 parse_pairs-pairs-preserved g t c =
-    let grown : kept c.has_many_pairs-many.result c.keep.new.table c.keep.new.pairs.items ≡ put c.in-Ok.read.1 (view c.in-Ok-value_within.read.1) (kept c.has_many_pairs-many.result c.pairs.table c.pairs.pairs.items) = search rules in
+    let grown : kept c.keep.new.self ≡ put c.in-Ok.read.1 (view c.in-Ok-value_within.read.1) (kept c.pairs.pairs) = search rules in
     rw grown
-    (Walks-step c.args.depth _ (kept c.has_many_pairs-many.result c.pairs.table c.pairs.pairs.items) (g.I.ParsableInput.bytes c.pairs.rest) c.in-Ok.read.1 (g.I.ParsableInput.bytes c.in-Ok.read.0)
+    (Walks-step c.args.depth _ (kept c.pairs.pairs) (g.I.ParsableInput.bytes c.pairs.rest) c.in-Ok.read.1 (g.I.ParsableInput.bytes c.in-Ok.read.0)
     (view c.in-Ok-value_within.read.1) _ c.pairs.invariant c.in-Ok.ensures c.in-Ok-value_within.ensures)
 
-pub parse_pairs-returns-in-Ok-table_of : goal.parse_pairs-returns-in-Ok-table_of
-parse_pairs-returns-in-Ok-table_of g t c =
-    rw c.in-Ok-table_of.ensures
-    (Walks-end c.args.depth (g.I.ParsableInput.bytes c.args.body) (kept c.has_many_pairs-many.result c.pairs.table c.pairs.pairs.items) (g.I.ParsableInput.bytes c.pairs.rest) c.pairs.invariant (omega arith))
+pub parse_pairs-returns-in-Ok-into_table : goal.parse_pairs-returns-in-Ok-into_table
+parse_pairs-returns-in-Ok-into_table g t c =
+    rw c.in-Ok-into_table.ensures
+    (Walks-end c.args.depth (g.I.ParsableInput.bytes c.args.body) (kept c.pairs.pairs) (g.I.ParsableInput.bytes c.pairs.rest) c.pairs.invariant (omega arith))
 
 pub parse_pairs-returns-then-input_len-eq0 : goal.parse_pairs-returns-then-input_len-eq0
 parse_pairs-returns-then-input_len-eq0 g t c =

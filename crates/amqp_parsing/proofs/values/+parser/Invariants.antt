@@ -33,7 +33,7 @@ decreases-parse_pairs g l = 4 * length (g.I.ParsableInput.bytes l.body) + 1
 
 abbrev pub invariant-parse_pairs-pairs : goal.invariant-parse_pairs-pairs
 invariant-parse_pairs-pairs g l =
-    Walks l.fn.depth (g.I.ParsableInput.bytes l.fn.body) (kept l.many l.table l.pairs.items) (g.I.ParsableInput.bytes l.rest)
+    Walks l.fn.depth (g.I.ParsableInput.bytes l.fn.body) (kept l.pairs) (g.I.ParsableInput.bytes l.rest)
 
 abbrev pub decreases-parse_pairs-pairs : goal.decreases-parse_pairs-pairs
 decreases-parse_pairs-pairs g l = length (g.I.ParsableInput.bytes l.rest)

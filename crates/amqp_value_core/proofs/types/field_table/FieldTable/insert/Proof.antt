@@ -1,4 +1,5 @@
--- `insert` hands on what `lend` lent, out of its struct: at each result its clauses are those of `lend`.
+-- `insert` hands on what `lend` lent, out of its struct: at each result its clauses are those of
+-- `lend`.
 use Rattle.std.proofs.Common.{◌≡◌, List, [], ◌∷◌, refl, sym, subst, Ok, Err}
 use Rattle.std.proofs.raw_atomic.Walks.{proved_at, leaves}
 use seplogic.Ra.Ura.{Ura}
