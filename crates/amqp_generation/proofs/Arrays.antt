@@ -4,11 +4,13 @@ use Rattle.std.proofs.lemmas.List.{take_all}
 use Rattle.amqp_value_core.specs.declared.value.AMQPValue.{AMQPValue}
 use Rattle.amqp_grammar.specs.Values.{array}
 use Rattle.amqp_grammar.specs.Grammar.{large}
-use Rattle.amqp_value_core.specs.View.{view, trees}
+use Rattle.amqp_value_core.specs.View.{view}
+use Rattle.amqp_value_core.specs.Containers.{trees}
 use Rattle.amqp_grammar.specs.Texts.{text, body, Fits, AllFit}
 use Rattle.amqp_grammar.proofs.GrammarLaws.{length_of_text}
 use Rattle.amqp_generation.specs.declared.error.GenError.{GenError}
-use Rattle.amqp_generation.specs.Outputs.{Seen, IsWhole, Writes, GoesBack, FillsLength}
+use Rattle.amqp_generation.specs.Outputs.{Seen, Writes}
+use Rattle.amqp_generation.specs.Buffers.{IsWhole, GoesBack, FillsLength}
 use Rattle.amqp_generation.proofs.Texts.{fits_of, within_of}
 use Rattle.amqp_generation.proofs.Steps.{refused_inside, length_put}
 

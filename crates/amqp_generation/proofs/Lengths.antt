@@ -8,7 +8,8 @@ use Rattle.std.proofs.KnownBytes.{Appends-trans}
 use Rattle.std.proofs.lemmas.List.{drop-drop, append-nil}
 use Rattle.amqp_grammar.specs.Grammar.{large}
 use Rattle.amqp_generation.specs.declared.error.GenError.{GenError}
-use Rattle.amqp_generation.specs.Outputs.{Seen, IsWhole, Writes, GoesBack, FillsLength, filled}
+use Rattle.amqp_generation.specs.Outputs.{Seen, Writes}
+use Rattle.amqp_generation.specs.Buffers.{IsWhole, GoesBack, FillsLength, filled}
 use Rattle.amqp_generation.specs.Lengths.{OnlyAppends, Reserved, PutsWithLength, RefusesWithLength}
 use Rattle.amqp_generation.specs.Contexts.{start_of, shown}
 use Rattle.amqp_generation.specs.declared.context.WriteContext.{WriteContext}

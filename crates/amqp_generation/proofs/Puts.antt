@@ -4,7 +4,8 @@ use Rattle.std.specs.Option.{option_map}
 use Rattle.std.specs.Io.KnownBytes.{Appends}
 use Rattle.std.proofs.lemmas.Bool.{false≢true}
 use Rattle.amqp_generation.specs.declared.error.GenError.{GenError}
-use Rattle.amqp_generation.specs.Outputs.{Seen, Writes, Puts, MakesRoom, HasFailed}
+use Rattle.amqp_generation.specs.Outputs.{Seen, Writes, HasFailed}
+use Rattle.amqp_generation.specs.Buffers.{Puts, MakesRoom}
 use Rattle.amqp_generation.proofs.Rooms.{both_too_many, still_fixed, rest_fits, any_room}
 use Rattle.amqp_generation.proofs.Steps.{both_put, failed_since}
 

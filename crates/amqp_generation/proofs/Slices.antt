@@ -1,10 +1,9 @@
 -- Lemmas on slices that are written from their front.
-use Rattle.std.proofs.Common.{◌≡◌, ℕ, ◌+◌, ◌-◌, ◌≤◌, true, Some, Ok, List, ◌++◌, length, take, drop, refl, sym, ap, ◌∙◌, subst, arith, rules}
-use Rattle.std.proofs.Common.{length-append, length-drop}
+use Rattle.std.proofs.Common.{◌≡◌, ℕ, ◌+◌, ◌-◌, ◌≤◌, true, Some, Ok, List, ◌++◌, length, take, drop, refl, sym, ap, ◌∙◌, subst, arith, rules, length-append, length-drop}
 use Rattle.std.proofs.lemmas.Slice.{take-put_mid, drop-put_mid}
 use Rattle.std.proofs.lemmas.List.{drop-drop, length-take-le, same_lists, places}
 use borrow.Rule.Slice.PartMut.{put_mid}
-use Rattle.amqp_generation.specs.Outputs.{Puts, filled, overwrite}
+use Rattle.amqp_generation.specs.Buffers.{Puts, filled, overwrite}
 use Rattle.amqp_generation.specs.Slices.{Sliced, seen_slice}
 
 -- a slice's bytes before a place, and those from there on

@@ -8,7 +8,8 @@ use Rattle.std.specs.Int.{w32, to_be_bytes}
 use Rattle.amqp_grammar.specs.Grammar.{large}
 use Rattle.amqp_generation.specs.declared.error.GenError.{GenError}
 use Rattle.amqp_generation.specs.declared.error.GenError.TheVariants.{LengthTooLong}
-use Rattle.amqp_generation.specs.Outputs.{Seen, IsWhole, Writes, GoesBack, FillsLength, HasFailed, filled}
+use Rattle.amqp_generation.specs.Outputs.{Seen, Writes, HasFailed}
+use Rattle.amqp_generation.specs.Buffers.{IsWhole, GoesBack, FillsLength, filled}
 use Rattle.amqp_generation.proofs.Rooms.{both_fit, both_left, room_back, both_too_many, still_fixed, rest_fits, told_back, front_overwritten, any_room}
 
 -- xs were put, and then ys: so both were

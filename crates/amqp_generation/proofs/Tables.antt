@@ -8,11 +8,14 @@ use Rattle.amqp_value_core.specs.declared.value.AMQPValue.{AMQPValue}
 use Rattle.amqp_grammar.specs.Values.{Tree, table}
 use Rattle.amqp_types.specs.Strings.{IsShort}
 use Rattle.amqp_grammar.specs.Grammar.{small, large}
-use Rattle.amqp_value_core.specs.View.{view, entries}
-use Rattle.amqp_grammar.specs.Texts.{text, pairs, Fits, EntriesFit, IsValue, AreEntries}
+use Rattle.amqp_value_core.specs.View.{view}
+use Rattle.amqp_value_core.specs.Containers.{entries}
+use Rattle.amqp_grammar.specs.Texts.{text, pairs, Fits, EntriesFit}
+use Rattle.amqp_grammar.specs.InMemory.{IsValue, AreEntries}
 use Rattle.amqp_grammar.proofs.GrammarLaws.{length_of_text}
 use Rattle.amqp_generation.specs.declared.error.GenError.{GenError}
-use Rattle.amqp_generation.specs.Outputs.{Seen, IsWhole, Writes, GoesBack, FillsLength}
+use Rattle.amqp_generation.specs.Outputs.{Seen, Writes}
+use Rattle.amqp_generation.specs.Buffers.{IsWhole, GoesBack, FillsLength}
 use Rattle.amqp_generation.proofs.Steps.{both_put, refused, refused_inside, length_put}
 
 -- the entries of a table, with their values in memory

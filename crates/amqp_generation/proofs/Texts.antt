@@ -3,12 +3,15 @@ use Rattle.std.proofs.Common.{◌≡◌, ℕ, zero, suc, ◌+◌, ◌<◌, ◌�
 use Rattle.amqp_value_core.specs.declared.value.AMQPValue.{AMQPValue}
 use Rattle.std.proofs.lemmas.List.{take_more}
 use Rattle.amqp_types.specs.declared.amqp_type.AMQPType.{AMQPType}
-use Rattle.amqp_grammar.specs.Values.{Tree, scalar, short, long, octets, array, table, type_of}
+use Rattle.amqp_grammar.specs.Values.{Tree, scalar, short, long, octets, array, table}
+use Rattle.amqp_grammar.specs.Payloads.{type_of, payload}
 use Rattle.amqp_types.specs.Ids.{id_of}
 use Rattle.amqp_grammar.specs.Layouts.{spelled}
 use Rattle.amqp_grammar.specs.Grammar.{small, large}
-use Rattle.amqp_value_core.specs.View.{view, trees}
-use Rattle.amqp_grammar.specs.Texts.{text, body, pairs, payload, Fits, AllFit, IsValue, AreValues}
+use Rattle.amqp_value_core.specs.View.{view}
+use Rattle.amqp_value_core.specs.Containers.{trees}
+use Rattle.amqp_grammar.specs.Texts.{text, body, pairs, Fits, AllFit}
+use Rattle.amqp_grammar.specs.InMemory.{IsValue, AreValues}
 
 -- an id and the payload are the text
 pub text_of : (v : Tree) (type : AMQPType) → type ≡ type_of v → text v ≡ id_of type ∷ [] ++ payload v

@@ -1,7 +1,8 @@
 -- What a `WriteContext` shows, and what calls do to it.
 use Rattle.std.specs.Prelude.{ℕ, ◌≡◌, Bool, List, Result}
 use Rattle.amqp_generation.specs.declared.error.GenError.{GenError}
-use Rattle.amqp_generation.specs.Outputs.{Seen, Puts}
+use Rattle.amqp_generation.specs.Outputs.{Seen}
+use Rattle.amqp_generation.specs.Buffers.{Puts}
 use Rattle.amqp_generation.specs.declared.context.WriteContext.{WriteContext}
 
 -- the output in it

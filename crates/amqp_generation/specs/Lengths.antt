@@ -7,7 +7,8 @@ use Rattle.amqp_generation.specs.declared.context.WriteContext.{WriteContext}
 use Rattle.amqp_generation.specs.declared.error.GenError.{GenError}
 use Rattle.amqp_generation.specs.declared.error.GenError.TheVariants.{LengthTooLong}
 use Rattle.amqp_generation.specs.Contexts.{start_of, shown}
-use Rattle.amqp_generation.specs.Outputs.{Seen, Writes, filled}
+use Rattle.amqp_generation.specs.Outputs.{Seen, Writes}
+use Rattle.amqp_generation.specs.Buffers.{filled}
 
 -- A call only appends, whatever it answers: the bytes put before it are a front of those after it.
 pub record OnlyAppends (before : Seen) (result : Result (Unit {0}) GenError) (after : Seen) : Type 0 where

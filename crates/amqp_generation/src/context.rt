@@ -1,5 +1,6 @@
 ghost use Rattle.std.specs.Prelude.{◌≡◌, ◌-◌, ◌+◌, ◌≤◌, true, ⊤, IfOk, length, replicate};
-ghost use Rattle.amqp_generation.specs.Outputs.{IsWhole, Puts, MakesRoom, Writes, answer_of, filled, GoesBack};
+ghost use Rattle.amqp_generation.specs.Buffers.{IsWhole, Puts, MakesRoom, answer_of, filled, GoesBack};
+ghost use Rattle.amqp_generation.specs.Outputs.{Writes};
 ghost use Rattle.amqp_generation.specs.Contexts.{output_of, start_of, shown};
 
 use crate::{BackToTheBuffer, GenError, GenResult, Output};

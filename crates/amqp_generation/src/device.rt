@@ -1,5 +1,5 @@
 ghost use Rattle.std.specs.Prelude.{◌≡◌, length, false, IsOk};
-ghost use Rattle.amqp_generation.specs.Outputs.{Puts, MakesRoom};
+ghost use Rattle.amqp_generation.specs.Buffers.{Puts, MakesRoom};
 ghost use Rattle.amqp_generation.specs.Devices.{seen_device, device_of, PutsToDevice};
 
 use crate::{GenError, GenResult, Output};

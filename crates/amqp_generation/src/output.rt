@@ -1,5 +1,6 @@
 ghost use Rattle.std.specs.Prelude.{◌≡◌, ◌+◌, ◌≤◌, Bool, true, ⊤, IfOk, length, replicate};
-ghost use Rattle.amqp_generation.specs.Outputs.{Seen, IsWhole, Puts, MakesRoom, Writes, answer_of, filled, GoesBack};
+ghost use Rattle.amqp_generation.specs.Outputs.{Seen, Writes};
+ghost use Rattle.amqp_generation.specs.Buffers.{IsWhole, Puts, MakesRoom, answer_of, filled, GoesBack};
 
 use crate::{GenError, GenResult};
 

@@ -5,7 +5,7 @@ ghost use Rattle.std.specs.Int.{w8, w16, w32, w64, to_be_bytes, cast_unsigned};
 ghost use Rattle.amqp_grammar.specs.Values.{boolean, decimal};
 ghost use Rattle.amqp_types.specs.Ids.{id_of};
 ghost use Rattle.amqp_grammar.specs.Layouts.{spelled};
-ghost use Rattle.amqp_types.specs.Numbers.{float_bits, double_bits};
+ghost use Rattle.amqp_types.specs.Shown.{float_bits, double_bits};
 ghost use Rattle.amqp_generation.specs.Contexts.{PutsThrough, KeepsStart};
 
 use crate::{GenResult, Output, WriteContext};

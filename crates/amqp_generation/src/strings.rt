@@ -2,8 +2,9 @@
 
 ghost use Rattle.std.specs.Prelude.{◌<◌, ◌≤◌, ◌^◌, length};
 ghost use Rattle.amqp_grammar.specs.Grammar.{small, large};
-ghost use Rattle.amqp_types.specs.Bytes.{array_bytes};
-ghost use Rattle.amqp_generation.specs.Outputs.{Writes, RefusedAsLong};
+ghost use Rattle.amqp_types.specs.Shown.{octets_of};
+ghost use Rattle.amqp_generation.specs.Outputs.{Writes};
+ghost use Rattle.amqp_generation.specs.Buffers.{RefusedAsLong};
 ghost use Rattle.amqp_generation.specs.Contexts.{shown, KeepsStart};
 
 use crate::{GenError, GenResult, Output, WriteContext};
@@ -49,9 +50,9 @@ pub fn gen_long_string<W: Output>(s: &[u8], x: &mut WriteContext<W>) -> GenResul
 ///
 /// More bytes are refused as `LengthTooLong` before a byte is put, whatever the room.
 pub fn gen_byte_array<W: Output>(a: &ByteArray, x: &mut WriteContext<W>) -> GenResult
-    ensures written { Writes W.is_buffer (length (array_bytes a.now) < 2 ^ 32) (large (array_bytes a.now))
+    ensures written { Writes W.is_buffer (length (octets_of a.now) < 2 ^ 32) (large (octets_of a.now))
         (shown W.seen x.old) result (shown W.seen x.new) }
-    ensures too_long { 2 ^ 32 ≤ length (array_bytes a.now)
+    ensures too_long { 2 ^ 32 ≤ length (octets_of a.now)
         → RefusedAsLong (shown W.seen x.old) result (shown W.seen x.new) }
     ensures start { KeepsStart x.old x.new }
 {

@@ -1,12 +1,17 @@
 ghost use Rattle.std.specs.Prelude.{◌+◌, ◌≤◌, ℕ, List, ◌++◌, true, OnOk};
 ghost use Rattle.amqp_grammar.specs.Values.{array, table};
-ghost use Rattle.amqp_value_core.specs.View.{view, array_view, table_view};
+ghost use Rattle.amqp_value_core.specs.View.{view};
+ghost use Rattle.amqp_value_core.specs.Containers.{array_view, table_view};
 ghost use Rattle.amqp_types.specs.Strings.{IsShort};
 ghost use Rattle.amqp_grammar.specs.Grammar.{small};
-ghost use Rattle.amqp_grammar.specs.Texts.{text, payload, Fits, IsValue, read_back};
+ghost use Rattle.amqp_grammar.specs.Texts.{text, Fits};
+ghost use Rattle.amqp_grammar.specs.Payloads.{payload};
+ghost use Rattle.amqp_grammar.specs.InMemory.{IsValue};
+ghost use Rattle.amqp_grammar.specs.Readings.{read_back};
 ghost use Rattle.amqp_grammar.specs.Outcomes.{Outcome};
 ghost use Rattle.amqp_grammar.specs.Headline.{IsShortest, TellsApart, IsCanonical};
-ghost use Rattle.amqp_generation.specs.Outputs.{Writes, FillsLength};
+ghost use Rattle.amqp_generation.specs.Outputs.{Writes};
+ghost use Rattle.amqp_generation.specs.Buffers.{FillsLength};
 ghost use Rattle.amqp_generation.specs.Written.{WritesWhatWasRead, WritesPayloadRead};
 ghost use Rattle.amqp_generation.specs.Contexts.{shown, KeepsStart};
 

@@ -1,5 +1,6 @@
 ghost use Rattle.std.specs.Prelude.{◌≡◌, ◌+◌, ⊤, true, IfOk, IfErr, length, replicate};
-ghost use Rattle.amqp_generation.specs.Outputs.{Puts, MakesRoom, Writes, answer_of};
+ghost use Rattle.amqp_generation.specs.Buffers.{Puts, MakesRoom, answer_of};
+ghost use Rattle.amqp_generation.specs.Outputs.{Writes};
 ghost use Rattle.amqp_generation.specs.Vectors.{seen_vector};
 ghost use Rattle.amqp_generation.specs.declared.error.GenError.TheVariants.{OutOfMemory};
 

@@ -5,7 +5,8 @@ use Rattle.amqp_types.specs.declared.amqp_type.AMQPType.{AMQPType}
 use Rattle.amqp_grammar.specs.Values.{Tree}
 use Rattle.amqp_types.specs.Ids.{kind}
 use Rattle.amqp_grammar.specs.Grammar.{Wire}
-use Rattle.amqp_grammar.specs.Outcomes.{found, unknown, lack, Unless, Front, Outcome}
+use Rattle.amqp_grammar.specs.Outcomes.{found, unknown, lack, LacksOr, Outcome}
+use Rattle.amqp_grammar.specs.Readings.{Front}
 use Rattle.amqp_grammar.specs.Texts.{text}
 use Rattle.amqp_grammar.specs.Headline.{IsBounded, IsShortest, TellsApart}
 use Rattle.amqp_grammar.proofs.Bounds.{bounds}
@@ -16,11 +17,11 @@ pub found_front : (s rest : List ℕ) (v : Tree) → Outcome s (found v rest) �
 found_front [] rest v x = absurd cc
 found_front (c ∷ b) rest v x = by (kind c) x
   where
-    decided : (n : ℕ) → Unless n (Front (c ∷ b) (found v rest)) (found v rest) → Front (c ∷ b) (found v rest)
+    decided : (n : ℕ) → LacksOr n (Front (c ∷ b) (found v rest)) (found v rest) → Front (c ∷ b) (found v rest)
     decided zero f = f
     decided (suc n) e = absurd cc
 
-    by : (k : Option AMQPType) → MatchOption k (found v rest ≡ unknown) (λ type. Unless (lack type b) (Front (c ∷ b) (found v rest)) (found v rest))
+    by : (k : Option AMQPType) → MatchOption k (found v rest ≡ unknown) (λ type. LacksOr (lack type b) (Front (c ∷ b) (found v rest)) (found v rest))
         → Front (c ∷ b) (found v rest)
     by None e = absurd cc
     by (Some type) f = decided (lack type b) f

@@ -9,8 +9,11 @@ use Rattle.amqp_types.specs.Ids.{kind, id_of}
 use Rattle.amqp_types.specs.Strings.{IsShort}
 use Rattle.amqp_grammar.specs.Grammar.{small, large, Wire, wire, Raw, raw_fixed, raw_short, raw_array, raw_table, Body, no_values, value, Pairs, no_pairs, pair}
 use Rattle.amqp_grammar.specs.Nesting.{raw_nesting, body_nesting, pairs_nesting}
-use Rattle.amqp_grammar.specs.Texts.{text, body, pairs, Fits, AllFit, EntriesFit, IsValue, AreValues, AreEntries, unread, read_back}
-use Rattle.amqp_grammar.specs.Outcomes.{counted, found, malformed, lack, RawFront, Outcome}
+use Rattle.amqp_grammar.specs.Texts.{text, body, pairs, Fits, AllFit, EntriesFit}
+use Rattle.amqp_grammar.specs.InMemory.{IsValue, AreValues, AreEntries}
+use Rattle.amqp_grammar.specs.Readings.{unread, read_back}
+use Rattle.amqp_grammar.specs.Outcomes.{counted, found, malformed, lack, Outcome}
+use Rattle.amqp_grammar.specs.Payloads.{RawFront}
 use Rattle.amqp_grammar.proofs.Fronts.{same_fronts}
 use Rattle.amqp_grammar.proofs.Headers.{counted-large, lack_of-large}
 use Rattle.amqp_grammar.proofs.Unique.{one_front, one_key}

@@ -9,12 +9,14 @@ use Rattle.std.proofs.lemmas.Bool.{and_from}
 use Rattle.amqp_types.specs.declared.amqp_type.AMQPType.{AMQPType}
 use Rattle.amqp_types.specs.declared.amqp_type.AMQPType.TheVariants as amqp
 use Rattle.amqp_grammar.specs.Values.{Tree, Trees, Entries, no_entries, entry, onto, readable, all_readable, entries_readable}
-use Rattle.amqp_types.specs.Ids.{kind, read_as}
+use Rattle.amqp_types.specs.Ids.{kind}
+use Rattle.amqp_types.specs.Names.{read_as}
 use Rattle.amqp_types.proofs.Ids.{kind_read}
 use Rattle.amqp_grammar.specs.Layouts.{Layout, fixed}
 use Rattle.amqp_types.specs.Strings.{IsShort}
 use Rattle.amqp_grammar.specs.Grammar.{small, Wire, wire, Raw, raw_fixed, raw_short, raw_long, raw_octets, raw_array, raw_table, Body, no_values, value, Pairs, no_pairs, pair}
-use Rattle.amqp_grammar.specs.Texts.{text, Fits, AllFit, EntriesFit, IsScalar, IsValue, AreValues, AreEntries}
+use Rattle.amqp_grammar.specs.Texts.{text, Fits, AllFit, EntriesFit}
+use Rattle.amqp_grammar.specs.InMemory.{IsScalar, IsValue, AreValues, AreEntries}
 use Rattle.amqp_input.specs.Inputs.{IsBytes}
 use Rattle.amqp_grammar.specs.Maps.{IsRising}
 use Rattle.amqp_input.proofs.Bytes.{bytes_front, bytes_behind, bytes_take, bytes_drop, below_1, below_2, below_4, below_8}

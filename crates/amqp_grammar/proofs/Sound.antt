@@ -17,7 +17,7 @@ use Rattle.amqp_types.specs.Strings.{IsShort}
 use Rattle.amqp_grammar.specs.Grammar.{small, large, wire, raw_fixed, raw_short, raw_long, raw_octets, raw_array, raw_table, no_values, value, no_pairs, pair}
 use Rattle.amqp_grammar.specs.Nesting.{WireWithin, RawWithin, BodyWithin, PairsWithin}
 use Rattle.amqp_input.specs.Inputs.{IsBytes}
-use Rattle.amqp_grammar.specs.Outcomes.{Reading, found, more, unknown, malformed, Unless, length_field, counted, lack, lack_of, frame_lack}
+use Rattle.amqp_grammar.specs.Outcomes.{Reading, found, more, unknown, malformed, LacksOr, length_field, counted, lack, lack_of, frame_lack}
 use Rattle.amqp_grammar.specs.Decode.{Meaning, framed, raw_outcome_by, outcome_by, values, is_short, is_key, pairs_onto, meaning}
 use Rattle.amqp_grammar.proofs.Found.{by_kind, by_layout, by_lack, by_meaning, and_others, and_pairs, and_key}
 
@@ -55,12 +55,12 @@ IfFound P s _ = Unit {0}
 
 -- reading a payload says what lacks, or else finds a payload or refuses
 abbrev pub RawEnds : ℕ → AMQPType → List ℕ → Reading → Type 0
-RawEnds depth type b o = Unless (lack type b) (Ends (RawWithin depth type) b o) o
+RawEnds depth type b o = LacksOr (lack type b) (Ends (RawWithin depth type) b o) o
 
 -- reading a value says what lacks, or that there is no id, or else finds a wire or refuses
 abbrev pub WireEnds : ℕ → List ℕ → Reading → Type 0
 WireEnds depth [] o = o ≡ more 1
-WireEnds depth (c ∷ b) o = MatchOption (kind c) (o ≡ unknown) (λ type. Unless (lack type b) (Ends (WireWithin depth) (c ∷ b) o) o)
+WireEnds depth (c ∷ b) o = MatchOption (kind c) (o ≡ unknown) (λ type. LacksOr (lack type b) (Ends (WireWithin depth) (c ∷ b) o) o)
 
 -- what some bytes mean has them for a payload, behind each length field that counts them
 abbrev pub Means : ℕ → Meaning → Type 0
@@ -115,7 +115,7 @@ by_layout_ends depth mean type b means bytes (Some f) is whole =
 -- reading a payload
 pub raw_ends : (depth : ℕ) (mean : Meaning) → Means depth mean → (type : AMQPType) (b : List ℕ) → IsBytes b → RawEnds depth type b (raw_outcome_by mean type b)
 raw_ends depth mean means type b bytes = at_lack (lack type b) refl where
-  at_lack : (n : ℕ) → lack type b ≡ n → Unless n (Ends (RawWithin depth type) b (by_lack n mean type b)) (by_lack n mean type b)
+  at_lack : (n : ℕ) → lack type b ≡ n → LacksOr n (Ends (RawWithin depth type) b (by_lack n mean type b)) (by_lack n mean type b)
   at_lack (suc n) is = refl
   at_lack zero is = by_layout_ends depth mean type b means bytes (fixed type) refl is
 
@@ -127,7 +127,7 @@ id_before depth c type b (more n) is ends = ends
 id_before depth c type b unknown is ends = ends
 
 -- more is true where no byte lacks
-pub unless_weaker : (n : ℕ) (P Q : Type 0) (o : Reading) → (P → Q) → Unless n P o → Unless n Q o
+pub unless_weaker : (n : ℕ) (P Q : Type 0) (o : Reading) → (P → Q) → LacksOr n P o → LacksOr n Q o
 unless_weaker zero P Q o weaker here = weaker here
 unless_weaker (suc n) P Q o weaker here = here
 
@@ -136,7 +136,7 @@ pub wire_ends : (depth : ℕ) (mean : Meaning) → Means depth mean → (s : Lis
 wire_ends depth mean means [] bytes = refl
 wire_ends depth mean means (c ∷ b) bytes = at_kind (kind c) refl where
   at_kind : (k : Option AMQPType) → kind c ≡ k
-      → MatchOption k (by_kind k mean b ≡ unknown) (λ type. Unless (lack type b) (Ends (WireWithin depth) (c ∷ b) (by_kind k mean b)) (by_kind k mean b))
+      → MatchOption k (by_kind k mean b ≡ unknown) (λ type. LacksOr (lack type b) (Ends (WireWithin depth) (c ∷ b) (by_kind k mean b)) (by_kind k mean b))
   at_kind None is = refl
   at_kind (Some type) is =
       unless_weaker (lack type b) (Ends (RawWithin depth type) b (raw_outcome_by mean type b)) (Ends (WireWithin depth) (c ∷ b) (raw_outcome_by mean type b))
@@ -153,11 +153,11 @@ if_found P s malformed ends = tt
 wire_found : (depth : ℕ) (s : List ℕ) (o : Reading) → WireEnds depth s o → IfFound (WireWithin depth) s o
 wire_found depth [] o ends = subst (IfFound (WireWithin depth) []) (sym ends) tt
 wire_found depth (c ∷ b) o ends = at_kind (kind c) ends where
-  at_lack : (n : ℕ) → Unless n (Ends (WireWithin depth) (c ∷ b) o) o → IfFound (WireWithin depth) (c ∷ b) o
+  at_lack : (n : ℕ) → LacksOr n (Ends (WireWithin depth) (c ∷ b) o) o → IfFound (WireWithin depth) (c ∷ b) o
   at_lack (suc n) is = subst (IfFound (WireWithin depth) (c ∷ b)) (sym is) tt
   at_lack zero ends = if_found (WireWithin depth) (c ∷ b) o ends
 
-  at_kind : (k : Option AMQPType) → MatchOption k (o ≡ unknown) (λ type. Unless (lack type b) (Ends (WireWithin depth) (c ∷ b) o) o) → IfFound (WireWithin depth) (c ∷ b) o
+  at_kind : (k : Option AMQPType) → MatchOption k (o ≡ unknown) (λ type. LacksOr (lack type b) (Ends (WireWithin depth) (c ∷ b) o) o) → IfFound (WireWithin depth) (c ∷ b) o
   at_kind None is = subst (IfFound (WireWithin depth) (c ∷ b)) (sym is) tt
   at_kind (Some type) ends = at_lack (lack type b) ends
 

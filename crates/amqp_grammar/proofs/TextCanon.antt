@@ -8,7 +8,8 @@ use Rattle.amqp_grammar.specs.Values.{Scalar, boolean, number, decimal, void, Tr
 use Rattle.amqp_types.specs.Ids.{id_of}
 use Rattle.amqp_grammar.specs.Layouts.{width_of, spelled}
 use Rattle.amqp_grammar.specs.Grammar.{large}
-use Rattle.amqp_grammar.specs.Texts.{text, body, pairs, Fits, AllFit, EntriesFit, IsNumber, IsScalar, IsValue, AreValues, AreEntries}
+use Rattle.amqp_grammar.specs.Texts.{text, body, pairs, Fits, AllFit, EntriesFit}
+use Rattle.amqp_grammar.specs.InMemory.{IsNumber, IsScalar, IsValue, AreValues, AreEntries}
 use Rattle.amqp_grammar.specs.Canonical.{IsStrict, Canon, canon, CanonRaw, canon_fixed, canon_long, canon_octets, canon_array, canon_table, CanonBody, no_canon_values, canon_value, CanonPairs, no_canon_pairs, canon_pair}
 use Rattle.amqp_grammar.specs.Headline.{IsCanonical}
 use Rattle.amqp_grammar.proofs.Spelling.{length_of_body, length_of_pairs, scalar_spelled}

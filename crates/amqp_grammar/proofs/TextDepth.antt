@@ -10,7 +10,8 @@ use Rattle.amqp_grammar.specs.Grammar.{large, Wire, wire, Raw, raw_fixed, raw_sh
 use Rattle.amqp_grammar.specs.Nesting.{nesting, raw_nesting, body_nesting, pairs_nesting, WireWithin, BodyWithin, PairsWithin}
 use Rattle.amqp_input.specs.Inputs.{IsBytes}
 use Rattle.amqp_grammar.proofs.Shortest.{what_is_read, read_is_value}
-use Rattle.amqp_grammar.specs.Texts.{text, body, pairs, Fits, AllFit, EntriesFit, IsValue, AreValues, AreEntries}
+use Rattle.amqp_grammar.specs.Texts.{text, body, pairs, Fits, AllFit, EntriesFit}
+use Rattle.amqp_grammar.specs.InMemory.{IsValue, AreValues, AreEntries}
 use Rattle.amqp_grammar.proofs.Bounds.{onto_within}
 use Rattle.amqp_grammar.proofs.Tables.{onto-rising}
 use Rattle.amqp_grammar.proofs.Spelling.{length_of_body, length_of_pairs, scalar_spelled, scalar_raw}

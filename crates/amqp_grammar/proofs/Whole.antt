@@ -4,7 +4,8 @@ use Rattle.amqp_types.specs.declared.amqp_type.AMQPType.{AMQPType}
 use Rattle.amqp_types.specs.declared.amqp_type.AMQPType.TheVariants as amqp
 use Rattle.amqp_grammar.specs.Layouts.{fixed}
 use Rattle.amqp_input.specs.Inputs.{IsBytes}
-use Rattle.amqp_grammar.specs.Outcomes.{Reading, malformed, lack, RawOutcome}
+use Rattle.amqp_grammar.specs.Outcomes.{Reading, malformed, lack}
+use Rattle.amqp_grammar.specs.Payloads.{RawOutcome}
 use Rattle.amqp_grammar.specs.Decode.{meaning, raw_outcome}
 use Rattle.amqp_grammar.proofs.Agreement.{raw_outcome_is}
 use Rattle.amqp_grammar.proofs.Found.{by_layout, by_lack}

@@ -4,12 +4,11 @@
 use Rattle.std.specs.Prelude.{ℕ, ◌^◌, ◌<◌, ◌≡◌, ◌≢◌, Some, List, [], ◌∷◌, ◌++◌, length}
 use Rattle.amqp_types.specs.declared.amqp_type.AMQPType.{AMQPType}
 use Rattle.amqp_types.specs.declared.amqp_type.AMQPType.TheVariants as amqp
-use Rattle.amqp_grammar.specs.Values.{Tree, scalar, long, octets, array, table, Trees, no_trees, tree, Entries, no_entries, entry}
+use Rattle.amqp_grammar.specs.Values.{Tree, scalar, long, octets, array, table, Trees, no_trees, tree, Entries, no_entries, entry, ComesBefore}
 use Rattle.amqp_types.specs.Ids.{kind}
 use Rattle.amqp_grammar.specs.Layouts.{Layout, fixed}
 use Rattle.amqp_types.specs.Strings.{IsShort}
 use Rattle.amqp_grammar.specs.Grammar.{small, large}
-use Rattle.amqp_grammar.specs.Texts.{ComesBefore}
 
 -- the byte of a boolean is 0 or 1
 abbrev pub IsStrict : AMQPType → List ℕ → Type 0
@@ -33,9 +32,9 @@ mutual
   -- canonical wires of these values, one after another
   pub data CanonBody : List ℕ → Trees → Type 0 where
     no_canon_values : CanonBody [] no_trees
-    canon_value : (w : List ℕ) → (more : List ℕ) → (v : Tree) → (vs : Trees) → Canon w v → CanonBody more vs → CanonBody (w ++ more) (tree v vs)
+    canon_value : (w : List ℕ) → (rest : List ℕ) → (v : Tree) → (vs : Trees) → Canon w v → CanonBody rest vs → CanonBody (w ++ rest) (tree v vs)
 
   -- these pairs one after another, each key above the one before it
   pub data CanonPairs : List ℕ → Entries → Type 0 where
     no_canon_pairs : CanonPairs [] no_entries
-    canon_pair : (k : List ℕ) → (w : List ℕ) → (more : List ℕ) → (v : Tree) → (es : Entries) → IsShort k → Canon w v → ComesBefore k es → CanonPairs more es → CanonPairs (small k ++ (w ++ more)) (entry k v es)
+    canon_pair : (k : List ℕ) → (w : List ℕ) → (rest : List ℕ) → (v : Tree) → (es : Entries) → IsShort k → Canon w v → ComesBefore k es → CanonPairs rest es → CanonPairs (small k ++ (w ++ rest)) (entry k v es)

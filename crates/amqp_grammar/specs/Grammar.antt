@@ -38,10 +38,10 @@ mutual
   -- the bytes are wires of these values, one after another, and nothing else
   pub data Body : List ℕ → Trees → Type 0 where
     no_values : Body [] no_trees
-    value : (w : List ℕ) → (more : List ℕ) → (v : Tree) → (vs : Trees) → Wire w v → Body more vs → Body (w ++ more) (tree v vs)
+    value : (w : List ℕ) → (rest : List ℕ) → (v : Tree) → (vs : Trees) → Wire w v → Body rest vs → Body (w ++ rest) (tree v vs)
 
   -- the bytes are these pairs, one after another, and nothing else: each a key behind its length,
   -- and a wire
   pub data Pairs : List ℕ → Entries → Type 0 where
     no_pairs : Pairs [] no_entries
-    pair : (k : List ℕ) → (w : List ℕ) → (more : List ℕ) → (v : Tree) → (ps : Entries) → IsShort k → Wire w v → Pairs more ps → Pairs (small k ++ (w ++ more)) (entry k v ps)
+    pair : (k : List ℕ) → (w : List ℕ) → (rest : List ℕ) → (v : Tree) → (ps : Entries) → IsShort k → Wire w v → Pairs rest ps → Pairs (small k ++ (w ++ rest)) (entry k v ps)

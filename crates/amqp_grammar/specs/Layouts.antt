@@ -39,22 +39,14 @@ fixed amqp.DecimalValue = Some (record { first = 1; width = 5; meaning = λ b. d
 fixed amqp.Void = Some (record { first = 0; width = 0; meaning = λ b. void })
 fixed _ = None
 
+-- the bytes of a layout, 0 where there is none
+abbrev pub width_in : Option Layout → ℕ
+width_in (Some f) = f.width
+width_in None = 0
+
 -- the bytes of a type of fixed width, 0 for any other
 abbrev pub width_of : AMQPType → ℕ
-width_of amqp.Boolean = 1
-width_of amqp.ShortShortInt = 1
-width_of amqp.ShortShortUInt = 1
-width_of amqp.ShortInt = 2
-width_of amqp.ShortUInt = 2
-width_of amqp.LongInt = 4
-width_of amqp.LongUInt = 4
-width_of amqp.LongLongInt = 8
-width_of amqp.LongLongUInt = 8
-width_of amqp.Float = 4
-width_of amqp.Double = 8
-width_of amqp.Timestamp = 8
-width_of amqp.DecimalValue = 5
-width_of _ = 0
+width_of type = width_in (fixed type)
 
 -- the bytes that are written for it: true is 1
 abbrev pub spelled : Scalar → List ℕ

@@ -1,23 +1,33 @@
--- The definitions of the format, in reading order. Before them come two of `amqp_types`: *Ids*,
--- which letter stands for which type, and *Strings*, which bytes a short string may have.
+-- The definitions of the format. The first seven are those of the headline, in reading order.
+-- Two of `amqp_types` come before them: *Ids*, which byte stands for which type, and *Strings*,
+-- which bytes a short string may have.
 
 -- what a value is, without where it lies in memory
 pub mod Values
--- a table as a finite map: what is found at a key
-pub mod Maps
 -- payloads of fixed width
 pub mod Layouts
--- which bytes are a wire of which value
+-- which bytes are an encoding of which value
 pub mod Grammar
--- the same where containers nest at most so deep
-pub mod Nesting
--- what reading any bytes comes to: a value, bytes that lack, or a refusal
+-- what reading any bytes comes to: a value, more bytes that are needed, or a refusal
 pub mod Outcomes
--- the same as a function
-pub mod Decode
 -- what a value is written as
 pub mod Texts
--- which wire is the canonical one, told by its bytes alone
+-- which encoding is the canonical one, told by its bytes alone
 pub mod Canonical
 -- the words of the headline that speak of sizes and of what is written
 pub mod Headline
+
+-- what every value in memory is
+pub mod InMemory
+-- what reading comes to where more bytes follow, and of what was written
+pub mod Readings
+-- the same outcomes as a function
+pub mod Decode
+-- encodings in which containers nest at most so deep
+pub mod Nesting
+-- a table as a finite map: what is found at a key
+pub mod Maps
+-- a value's type and its payload apart: what is written, and what reading a payload comes to
+pub mod Payloads
+-- values that are kept with no memory of their own
+pub mod Light

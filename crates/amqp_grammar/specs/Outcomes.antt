@@ -1,13 +1,12 @@
 -- What reading some bytes comes to: a value, a number of bytes that lack, or a refusal.
 use Rattle.std.specs.Prelude.{ℕ, suc, zero, ◌+◌, ◌-◌, ◌<◌, ◌≡◌, Option, Some, None, MatchOption, List, [], ◌∷◌, ◌++◌, length, take, nat_lt, if◌then◌else◌}
 use Rattle.std.specs.Int.{Width, w8, w32, byte_len, from_be_bytes}
-use Rattle.std.specs.List.{AllByRecursion}
 use Rattle.amqp_types.specs.declared.amqp_type.AMQPType.{AMQPType}
 use Rattle.amqp_types.specs.declared.amqp_type.AMQPType.TheVariants as amqp
 use Rattle.amqp_grammar.specs.Values.{Tree}
 use Rattle.amqp_types.specs.Ids.{kind}
 use Rattle.amqp_grammar.specs.Layouts.{Layout, fixed}
-use Rattle.amqp_grammar.specs.Grammar.{Wire, Raw}
+use Rattle.amqp_grammar.specs.Grammar.{Wire}
 
 pub data Reading : Type 0 where
   -- a value, and the bytes behind its wire
@@ -49,9 +48,9 @@ abbrev pub lack : AMQPType → List ℕ → ℕ
 lack type b = lack_of (fixed type) (length_field type) b
 
 -- n bytes lack, or else P decides
-abbrev pub Unless : ℕ → Type 0 → Reading → Type 0
-Unless zero P o = P
-Unless (suc n) P o = o ≡ more (suc n)
+abbrev pub LacksOr : ℕ → Type 0 → Reading → Type 0
+LacksOr zero P o = P
+LacksOr (suc n) P o = o ≡ more (suc n)
 
 -- P holds of a front of s and what is found, or of no front and no value
 abbrev pub FrontBy : (List ℕ → Tree → Type 0) → List ℕ → Reading → Type 0
@@ -61,26 +60,14 @@ FrontBy P s _ = ⊥
 
 -- reading a payload of the type from s comes to o, where P says what its payloads are
 abbrev pub RawOutcomeBy : (List ℕ → Tree → Type 0) → AMQPType → List ℕ → Reading → Type 0
-RawOutcomeBy P type s o = Unless (lack type s) (FrontBy P s o) o
+RawOutcomeBy P type s o = LacksOr (lack type s) (FrontBy P s o) o
 
 -- reading a value from s comes to o, by the first of these that holds: there is no byte, and one
 -- lacks; the first byte is no id; the frame lacks bytes; P holds of a front and a value; it holds
 -- of none
 abbrev pub OutcomeBy : (List ℕ → Tree → Type 0) → List ℕ → Reading → Type 0
 OutcomeBy P [] o = o ≡ more 1
-OutcomeBy P (c ∷ b) o = MatchOption (kind c) (o ≡ unknown) (λ type. Unless (lack type b) (FrontBy P (c ∷ b) o) o)
-
--- a front of s is a payload of the type, or none is
-abbrev pub RawFront : AMQPType → List ℕ → Reading → Type 0
-RawFront type s o = FrontBy (Raw type) s o
-
--- a front of s is a wire, or none is
-abbrev pub Front : List ℕ → Reading → Type 0
-Front s o = FrontBy Wire s o
-
--- reading a payload of the type from s comes to o
-abbrev pub RawOutcome : AMQPType → List ℕ → Reading → Type 0
-RawOutcome type s o = RawOutcomeBy (Raw type) type s o
+OutcomeBy P (c ∷ b) o = MatchOption (kind c) (o ≡ unknown) (λ type. LacksOr (lack type b) (FrontBy P (c ∷ b) o) o)
 
 -- reading a value from s comes to o
 abbrev pub Outcome : List ℕ → Reading → Type 0
@@ -94,15 +81,3 @@ RawHeavy type s = (fixed type ≡ None) × (lack type s ≡ 0) × (0 < counted (
 abbrev pub Heavy : List ℕ → Type 0
 Heavy [] = ⊥
 Heavy (c ∷ b) = MatchOption (kind c) ⊥ (λ type. RawHeavy type b)
-
--- the outcome where t follows
-abbrev pub with_more : Reading → List ℕ → Reading
-with_more (found v rest) t = found v (rest ++ t)
-with_more (more n) t = more (n - length t)
-with_more unknown t = unknown
-with_more malformed t = malformed
-
--- t is less than what an outcome still waits for
-abbrev pub StillWaits : Reading → List ℕ → Type 0
-StillWaits (more n) t = length t < n
-StillWaits _ t = Unit {0}

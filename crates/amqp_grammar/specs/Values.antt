@@ -5,6 +5,7 @@ use Rattle.std.specs.Ordering.{nat_cmp, match_ordering}
 use Rattle.std.specs.Cmp.Lexicographic.{slice_cmp}
 use Rattle.amqp_types.specs.declared.amqp_type.AMQPType.{AMQPType}
 use Rattle.amqp_types.specs.declared.amqp_type.AMQPType.TheVariants as amqp
+use Rattle.std.specs.declared.cmp.Ordering.TheVariants.{Less}
 
 -- a value of fixed width: a truth value, a number as its type and its bits (a signed one in two's
 -- complement, a Float and a Double as they are), a decimal as its scale and its number, or nothing
@@ -42,15 +43,6 @@ scalar_type (number type n) = type
 scalar_type (decimal scale n) = amqp.DecimalValue
 scalar_type void = amqp.Void
 
--- the type of a value
-abbrev pub type_of : Tree → AMQPType
-type_of (scalar x) = scalar_type x
-type_of (short s) = amqp.ShortString
-type_of (long s) = amqp.LongString
-type_of (octets s) = amqp.ByteArray
-type_of (array vs) = amqp.FieldArray
-type_of (table es) = amqp.FieldTable
-
 -- the values of a list, as the values of an array
 abbrev pub trees_of : List Tree → Trees
 trees_of [] = no_trees
@@ -75,12 +67,9 @@ onto es (entry k v ps) = onto (put k v es) ps
 -- how deep containers nest: an empty one counts 1, all that is no container 0
 abbrev mutual
   pub depth : Tree → ℕ
-  depth (scalar x) = 0
-  depth (short s) = 0
-  depth (long s) = 0
-  depth (octets s) = 0
   depth (array vs) = suc (greatest_depth vs)
   depth (table es) = suc (entries_depth es)
+  depth _ = 0
 
   pub greatest_depth : Trees → ℕ
   greatest_depth no_trees = 0
@@ -93,12 +82,9 @@ abbrev mutual
 -- how many values stand in the tree, itself included
 abbrev mutual
   pub count : Tree → ℕ
-  count (scalar x) = 1
-  count (short s) = 1
-  count (long s) = 1
-  count (octets s) = 1
   count (array vs) = suc (count_all vs)
   count (table es) = suc (entries_count es)
+  count _ = 1
 
   pub count_all : Trees → ℕ
   count_all no_trees = 0
@@ -112,12 +98,10 @@ abbrev mutual
 -- a short string; keys don't count
 abbrev mutual
   pub readable : Tree → Bool
-  readable (scalar x) = true
   readable (short s) = false
-  readable (long s) = true
-  readable (octets s) = true
   readable (array vs) = all_readable vs
   readable (table es) = entries_readable es
+  readable _ = true
 
   pub all_readable : Trees → Bool
   all_readable no_trees = true
@@ -127,11 +111,7 @@ abbrev mutual
   entries_readable no_entries = true
   entries_readable (entry k v es) = readable v && entries_readable es
 
--- v is kept with no memory of its own: it has a fixed width, or it is empty
-abbrev pub IsLight : Tree → Type 0
-IsLight (scalar x) = Unit {0}
-IsLight (short s) = s ≡ []
-IsLight (long s) = s ≡ []
-IsLight (octets s) = s ≡ []
-IsLight (array vs) = vs ≡ no_trees
-IsLight (table es) = es ≡ no_entries
+-- the key comes before each key of the entries, where their keys rise
+abbrev pub ComesBefore : List ℕ → Entries → Type 0
+ComesBefore k no_entries = Unit {0}
+ComesBefore k (entry j u es) = slice_cmp nat_cmp k j ≡ Less

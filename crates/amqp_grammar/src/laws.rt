@@ -4,12 +4,15 @@
 
 ghost use Rattle.std.specs.Prelude.{◌≡◌, ◌↔◌, ◌+◌, ℕ, List, ◌∷◌, ◌++◌, length, IsTrue, Some, ◌≢◌, ◌≤◌, ◌*◌, is_some, ◌-◌};
 ghost use Rattle.amqp_types.specs.declared.amqp_type.AMQPType.{AMQPType};
-ghost use Rattle.amqp_grammar.specs.Values.{Tree, type_of, readable, Entries, no_entries, table, put, onto, depth, count};
+ghost use Rattle.amqp_grammar.specs.Values.{Tree, readable, Entries, no_entries, table, put, onto, depth, count};
+ghost use Rattle.amqp_grammar.specs.Payloads.{type_of, payload, RawOutcome};
 ghost use Rattle.amqp_grammar.specs.Grammar.{Wire, Raw};
-ghost use Rattle.amqp_grammar.specs.Texts.{text, payload, size, Fits, IsValue, read_back};
+ghost use Rattle.amqp_grammar.specs.Texts.{text, size, Fits};
+ghost use Rattle.amqp_grammar.specs.InMemory.{IsValue};
+ghost use Rattle.amqp_grammar.specs.Readings.{read_back, StillWaits, with_more, Front};
 ghost use Rattle.amqp_types.specs.Ids.{kind};
 ghost use Rattle.amqp_input.specs.Inputs.{IsBytes};
-ghost use Rattle.amqp_grammar.specs.Outcomes.{Reading, Outcome, RawOutcome, Heavy, RawHeavy, StillWaits, with_more, found, malformed, Front};
+ghost use Rattle.amqp_grammar.specs.Outcomes.{Reading, Outcome, Heavy, RawHeavy, found, malformed};
 ghost use Rattle.amqp_grammar.specs.Decode.{outcome, raw_outcome};
 ghost use Rattle.amqp_grammar.specs.Canonical.{Canon};
 ghost use Rattle.amqp_grammar.specs.Headline.{IsCanonical, IsBounded, IsShortest, TellsApart};

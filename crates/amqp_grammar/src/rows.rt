@@ -7,8 +7,10 @@ ghost use Rattle.std.specs.Prelude.{◌≡◌, List, [], ◌∷◌, ◌++◌, tr
 ghost use Rattle.std.specs.Int.{w8, w16, w32, w64, cast_unsigned};
 ghost use Rattle.amqp_grammar.specs.Values.{boolean, number, decimal, void, scalar, short, long, octets, array, trees_of, no_trees, table, entries_of, no_entries, put, depth, count, readable};
 ghost use Rattle.amqp_grammar.specs.Maps.{has_key, value_at};
-ghost use Rattle.amqp_types.specs.Ids.{kind, id_of, read_as};
-ghost use Rattle.amqp_grammar.specs.Outcomes.{found, more, unknown, malformed, Outcome, RawOutcome, Heavy, RawHeavy};
+ghost use Rattle.amqp_types.specs.Ids.{kind, id_of};
+ghost use Rattle.amqp_types.specs.Names.{read_as};
+ghost use Rattle.amqp_grammar.specs.Outcomes.{found, more, unknown, malformed, Outcome, Heavy, RawHeavy};
+ghost use Rattle.amqp_grammar.specs.Payloads.{RawOutcome};
 ghost use Rattle.amqp_grammar.specs.Decode.{outcome, raw_outcome};
 ghost use Rattle.amqp_grammar.specs.Texts.{text, size};
 

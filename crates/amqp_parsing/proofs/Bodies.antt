@@ -10,7 +10,8 @@ use Rattle.amqp_parsing.specs.declared.errors.Err.TheVariants.{Incomplete, Error
 use Rattle.amqp_parsing.specs.declared.errors.Needed.TheVariants.{Unknown, Size}
 use Rattle.amqp_parsing.specs.declared.errors.ErrorKind.TheVariants.{MapOpt, MapRes, Eof, OutOfMemory, TooLarge}
 use Rattle.amqp_parsing.specs.Refusals.{Refusal, inside}
-use Rattle.amqp_parsing.specs.Answers.{Refuses, IsNoBody}
+use Rattle.amqp_parsing.specs.Answers.{Refuses}
+use Rattle.amqp_parsing.specs.Bodies.{IsNoBody}
 
 -- the values of a list, and others behind them
 abbrev pub behind : List Tree → Trees → Trees

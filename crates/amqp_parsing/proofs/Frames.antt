@@ -11,10 +11,13 @@ use Rattle.amqp_grammar.specs.Layouts.{fixed}
 use Rattle.amqp_types.specs.Strings.{IsShort}
 use Rattle.amqp_grammar.specs.Grammar.{small, large, Raw, raw_short, raw_long, raw_octets, raw_array, raw_table}
 use Rattle.amqp_grammar.specs.Nesting.{RawWithin, BodyWithin, RawOutcomeWithin}
-use Rattle.amqp_grammar.specs.Outcomes.{Reading, found, more, unknown, malformed, length_field, counted, frame_lack, lack_of, lack, FrontBy, RawFront, RawOutcome, RawHeavy}
+use Rattle.amqp_grammar.specs.Outcomes.{Reading, found, more, unknown, malformed, length_field, counted, frame_lack, lack_of, lack, FrontBy, RawHeavy}
+use Rattle.amqp_grammar.specs.Payloads.{RawFront, RawOutcome}
 use Rattle.amqp_grammar.proofs.GrammarLaws.{array_body_within, table_body_within, raw_found_within, raw_whole_within, short_bytes, counted-large, lack_of-large, raw_found, raw_whole}
 use Rattle.amqp_parsing.specs.Refusals.{Refusal}
-use Rattle.amqp_parsing.specs.Answers.{Refuses, IsFrame, IsNumberRead, IsNoBody, IsTable, IsNoTable}
+use Rattle.amqp_parsing.specs.Answers.{Refuses}
+use Rattle.amqp_parsing.specs.Bodies.{IsFrame, IsNoBody, IsTable, IsNoTable}
+use Rattle.amqp_parsing.specs.Typed.{IsNumberRead}
 use Rattle.amqp_parsing.proofs.Refused.{Refuses-weaker}
 
 -- ---- a length in four bytes

@@ -2,7 +2,8 @@
 use Rattle.std.proofs.Common.{◌≡◌, ℕ, List, [], ◌∷◌, ◌++◌, refl}
 use Rattle.amqp_value_core.specs.declared.value.AMQPValue.{AMQPValue}
 use Rattle.amqp_grammar.specs.Values.{Entries, put, onto}
-use Rattle.amqp_value_core.specs.View.{view, entries}
+use Rattle.amqp_value_core.specs.View.{view}
+use Rattle.amqp_value_core.specs.Containers.{entries}
 
 -- one pair more is put onto what the others come to
 pub one_more : (ps : List (List ℕ × AMQPValue)) (es : Entries) (k : List ℕ) (v : AMQPValue) → onto es (entries (ps ++ (k, v) ∷ [])) ≡ put k (view v) (onto es (entries ps))

@@ -7,11 +7,13 @@ use Rattle.amqp_grammar.specs.Values.{Tree}
 use Rattle.amqp_grammar.specs.Grammar.{Raw, raw_fixed, raw_short, raw_long, raw_octets, raw_array, raw_table}
 use Rattle.amqp_grammar.specs.Nesting.{raw_nesting, RawWithin, RawOutcomeWithin}
 use Rattle.amqp_value_core.specs.View.{view}
-use Rattle.amqp_grammar.specs.Outcomes.{Reading, found, RawOutcome, RawHeavy}
+use Rattle.amqp_grammar.specs.Outcomes.{Reading, found, RawHeavy}
+use Rattle.amqp_grammar.specs.Payloads.{RawOutcome}
 use Rattle.amqp_grammar.proofs.GrammarLaws.{raw_outcome_same, raw_unlimited}
 use Rattle.amqp_parsing.specs.declared.errors.ErrorKind.TheVariants.{Eof}
 use Rattle.amqp_parsing.specs.Refusals.{Refusal}
-use Rattle.amqp_parsing.specs.Answers.{Refuses, OnlyLacks, bad_kind, RawRefuses}
+use Rattle.amqp_parsing.specs.Answers.{Refuses}
+use Rattle.amqp_parsing.specs.Typed.{OnlyLacks, bad_kind, RawRefuses}
 use Rattle.amqp_parsing.proofs.Payloads.{unsigned_outcome}
 use Rattle.amqp_parsing.proofs.Refused.{Refuses-weaker, OnlyLacks-refuses, raw_refused}
 

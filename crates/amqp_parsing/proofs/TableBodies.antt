@@ -6,13 +6,16 @@ use Rattle.amqp_grammar.specs.Values.{Tree, short, Entries, no_entries, entry, p
 use Rattle.amqp_types.specs.Strings.{IsShort}
 use Rattle.amqp_grammar.specs.Grammar.{small, Wire, Raw, raw_short, Pairs, no_pairs, pair}
 use Rattle.amqp_grammar.specs.Nesting.{pairs_nesting, PairsWithin, OutcomeWithin}
-use Rattle.amqp_grammar.specs.Outcomes.{Reading, found, more, unknown, malformed, lack, Unless, RawFront, RawOutcome, Heavy}
+use Rattle.amqp_grammar.specs.Outcomes.{Reading, found, more, unknown, malformed, lack, LacksOr, Heavy}
+use Rattle.amqp_grammar.specs.Payloads.{RawFront, RawOutcome}
 use Rattle.amqp_grammar.proofs.GrammarLaws.{one_reading, one_raw_reading, one_outcome_within, one_raw_outcome, raw_found, wire_found_within, front_within}
 use Rattle.amqp_parsing.specs.declared.errors.Err.TheVariants.{Incomplete, Error, Failure}
 use Rattle.amqp_parsing.specs.declared.errors.Needed.TheVariants.{Unknown, Size}
 use Rattle.amqp_parsing.specs.declared.errors.ErrorKind.TheVariants.{MapOpt, MapRes, Eof, OutOfMemory, TooLarge}
 use Rattle.amqp_parsing.specs.Refusals.{Refusal, inside}
-use Rattle.amqp_parsing.specs.Answers.{Refuses, RawRefuses, IsTable, IsNoTable}
+use Rattle.amqp_parsing.specs.Answers.{Refuses}
+use Rattle.amqp_parsing.specs.Typed.{RawRefuses}
+use Rattle.amqp_parsing.specs.Bodies.{IsTable, IsNoTable}
 use Rattle.amqp_parsing.proofs.Bodies.{rest_shorter}
 
 -- es are the entries of what was read of the body s, and `rest` is left
@@ -33,7 +36,7 @@ key_front s k rest x =
     let key = key_of f.0 k f.1 in
     (f.2 ∙ ap (λ (b : List ℕ). b ++ rest) key.0, key.1)
   where
-    by : (n : ℕ) → Unless n (RawFront amqp.ShortString s (found (short k) rest)) (found (short k) rest)
+    by : (n : ℕ) → LacksOr n (RawFront amqp.ShortString s (found (short k) rest)) (found (short k) rest)
         → RawFront amqp.ShortString s (found (short k) rest)
     by zero f = f
     by (suc n) e = absurd cc

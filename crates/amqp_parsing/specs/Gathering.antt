@@ -1,6 +1,6 @@
 -- Pairs on their way into a table.
 use Rattle.amqp_grammar.specs.Values.{Entries, no_entries, onto}
-use Rattle.amqp_value_core.specs.View.{entries, table_view}
+use Rattle.amqp_value_core.specs.Containers.{entries, table_view}
 use Rattle.amqp_parsing.specs.declared.pairs.PairsSoFar.{PairsSoFar}
 use Rattle.amqp_parsing.specs.declared.pairs.PairsSoFar.TheVariants.{Few, Many}
 

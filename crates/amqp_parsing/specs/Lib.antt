@@ -1,6 +1,14 @@
+-- the refusals of parsers
 pub mod Refusals
+-- what `parse_value` answers: the headline's words on reading
 pub mod Answers
-pub mod Scalars
+-- what the parsers of one type answer
+pub mod Typed
+-- what the steps of reading a container answer
+pub mod Bodies
+-- pairs on their way into a table
 pub mod Gathering
+-- what the first bytes of a value tell
 pub mod Headers
+-- what reading within limits comes to
 pub mod Limits

@@ -4,8 +4,10 @@ use Rattle.amqp_grammar.specs.Values.{Tree, readable, depth}
 use Rattle.amqp_grammar.specs.Grammar.{Wire}
 use Rattle.amqp_grammar.specs.Nesting.{WireWithin, OutcomeWithin}
 use Rattle.amqp_input.specs.Inputs.{IsBytes}
-use Rattle.amqp_grammar.specs.Outcomes.{Reading, found, unknown, Outcome, Heavy, StillWaits, with_more}
-use Rattle.amqp_grammar.specs.Texts.{text, size, Fits, IsValue}
+use Rattle.amqp_grammar.specs.Outcomes.{Reading, found, unknown, Outcome, Heavy}
+use Rattle.amqp_grammar.specs.Readings.{StillWaits, with_more}
+use Rattle.amqp_grammar.specs.Texts.{text, size, Fits}
+use Rattle.amqp_grammar.specs.InMemory.{IsValue}
 use Rattle.amqp_parsing.specs.declared.errors.Err.TheVariants.{Error}
 use Rattle.amqp_parsing.specs.declared.errors.ErrorKind.TheVariants.{TooLarge}
 use Rattle.amqp_parsing.specs.declared.header.Header.{Header}

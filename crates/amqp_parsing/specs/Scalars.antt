@@ -3,9 +3,11 @@ use Rattle.std.specs.Prelude.{ℕ, List, Result, MatchResult}
 use Rattle.std.specs.Int.{Width}
 use Rattle.amqp_types.specs.declared.amqp_type.AMQPType.{AMQPType}
 use Rattle.amqp_grammar.specs.Values.{Scalar, scalar, number}
-use Rattle.amqp_grammar.specs.Outcomes.{RawOutcome, found}
+use Rattle.amqp_grammar.specs.Payloads.{RawOutcome}
+use Rattle.amqp_grammar.specs.Outcomes.{found}
 use Rattle.amqp_parsing.specs.Refusals.{Refusal}
-use Rattle.amqp_parsing.specs.Answers.{Refuses, OnlyLacks, IsNumberRead, IsCut}
+use Rattle.amqp_parsing.specs.Answers.{Refuses}
+use Rattle.amqp_parsing.specs.Typed.{OnlyLacks, IsNumberRead, IsCut}
 
 -- the answer is the unsigned number of the first bytes, the highest first, and what is left behind
 -- them; or bytes lack, and it says how many

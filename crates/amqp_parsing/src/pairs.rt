@@ -2,7 +2,8 @@
 
 ghost use Rattle.std.specs.Prelude.{◌≡◌, ◌≤◌, IfOk, OnOk, length};
 ghost use Rattle.amqp_grammar.specs.Values.{no_entries, put};
-ghost use Rattle.amqp_value_core.specs.View.{view, table_view};
+ghost use Rattle.amqp_value_core.specs.View.{view};
+ghost use Rattle.amqp_value_core.specs.Containers.{table_view};
 ghost use Rattle.amqp_parsing.specs.Gathering.{kept};
 
 use super::scalars::parse_long_uint;

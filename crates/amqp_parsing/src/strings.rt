@@ -2,9 +2,12 @@
 
 ghost use Rattle.std.specs.Prelude.{◌≡◌, ◌<◌, true, length, MatchResult, IfOk, OnErr, if◌then◌else◌};
 ghost use Rattle.amqp_grammar.specs.Values.{short, long, octets};
-ghost use Rattle.amqp_types.specs.Bytes.{long_bytes, array_bytes};
-ghost use Rattle.amqp_grammar.specs.Outcomes.{RawOutcome, RawHeavy, found};
-ghost use Rattle.amqp_parsing.specs.Answers.{Refuses, OnlyLacks, RawRefuses, IsFrame, IsCutFrame};
+ghost use Rattle.amqp_types.specs.Shown.{long_bytes, octets_of};
+ghost use Rattle.amqp_grammar.specs.Payloads.{RawOutcome};
+ghost use Rattle.amqp_grammar.specs.Outcomes.{RawHeavy, found};
+ghost use Rattle.amqp_parsing.specs.Answers.{Refuses};
+ghost use Rattle.amqp_parsing.specs.Typed.{OnlyLacks, RawRefuses};
+ghost use Rattle.amqp_parsing.specs.Bodies.{IsFrame, IsCutFrame};
 
 use super::bytes::{copy_by_chunks, copy_of};
 use super::errors::{ErrorKind, ParserResult, lacks, out_of_memory, refused};
@@ -86,7 +89,7 @@ pub fn parse_long_string<I: ParsableInput>(alloc: Global, i: I) -> ParserResult<
 /// Memory is taken only for an array that isn't empty and whose bytes are all there.
 pub fn parse_byte_array<I: ParsableInput>(alloc: Global, i: I) -> ParserResult<I, ByteArray>
     ensures { MatchResult result
-        (λ x. RawOutcome AMQPType.ByteArray (I.bytes i) (found (octets (array_bytes x.1)) (I.bytes x.0)))
+        (λ x. RawOutcome AMQPType.ByteArray (I.bytes i) (found (octets (octets_of x.1)) (I.bytes x.0)))
         (OnlyLacks (RawOutcome AMQPType.ByteArray (I.bytes i)) (RawHeavy AMQPType.ByteArray (I.bytes i))) }
 {
     let (i, body) = parse_frame(i)?;

@@ -3,10 +3,14 @@
 ghost use Rattle.std.specs.Prelude.{◌≡◌, ◌≢◌, ◌<◌, ◌-◌, MatchResult, IfOk, length};
 ghost use Rattle.amqp_grammar.specs.Values.{array, table};
 ghost use Rattle.amqp_grammar.specs.Nesting.{BodyWithin, OutcomeWithin, RawOutcomeWithin};
-ghost use Rattle.amqp_grammar.specs.Outcomes.{Outcome, RawOutcome, Heavy, RawHeavy, found};
-ghost use Rattle.amqp_value_core.specs.View.{view, array_view, table_view};
+ghost use Rattle.amqp_grammar.specs.Outcomes.{Outcome, Heavy, RawHeavy, found};
+ghost use Rattle.amqp_grammar.specs.Payloads.{RawOutcome};
+ghost use Rattle.amqp_value_core.specs.View.{view};
+ghost use Rattle.amqp_value_core.specs.Containers.{array_view, table_view};
 ghost use Rattle.amqp_grammar.specs.Headline.{IsBounded};
-ghost use Rattle.amqp_parsing.specs.Answers.{Refuses, RawRefuses, HasOneOutcome, KeepsOutcome, IsNoBody, IsTable, IsNoTable};
+ghost use Rattle.amqp_parsing.specs.Answers.{Refuses, HasOneOutcome, KeepsOutcome};
+ghost use Rattle.amqp_parsing.specs.Typed.{RawRefuses};
+ghost use Rattle.amqp_parsing.specs.Bodies.{IsNoBody, IsTable, IsNoTable};
 
 use super::errors::{ErrorKind, ParserError, ParserResult, inside, out_of_memory, refused};
 use super::pairs::PairsSoFar;

@@ -1,7 +1,6 @@
 -- Ids: the byte that stands before a value, as a letter of ASCII.
 -- AMQP 0-9-1, section 4.2.1 (`field-value`), with the letters of RabbitMQ's errata, section 3.
-use Rattle.std.specs.Prelude.{ℕ, List, [], ◌∷◌, nat_eq, codes}
-use Rattle.std.specs.Prelude.{Option, Some, None}
+use Rattle.std.specs.Prelude.{ℕ, List, [], ◌∷◌, nat_eq, Option}
 use Rattle.std.specs.Map.{lookup}
 use Rattle.amqp_types.specs.declared.amqp_type.AMQPType.{AMQPType}
 use Rattle.amqp_types.specs.declared.amqp_type.AMQPType.TheVariants as amqp
@@ -55,32 +54,3 @@ id_of amqp.Timestamp = 84
 id_of amqp.FieldTable = 70
 id_of amqp.ByteArray = 120
 id_of amqp.Void = 86
-
--- the type that is read where the letter of a type was written: a short string's is no letter that
--- is read
-abbrev pub read_as : AMQPType → Option AMQPType
-read_as amqp.LongLongUInt = Some amqp.LongLongInt
-read_as amqp.ShortString = None
-read_as type = Some type
-
--- the name of a type
-abbrev pub name_of : AMQPType → List ℕ
-name_of amqp.Boolean = codes "Boolean"
-name_of amqp.ShortShortInt = codes "ShortShortInt"
-name_of amqp.ShortShortUInt = codes "ShortShortUInt"
-name_of amqp.ShortInt = codes "ShortInt"
-name_of amqp.ShortUInt = codes "ShortUInt"
-name_of amqp.LongInt = codes "LongInt"
-name_of amqp.LongUInt = codes "LongUInt"
-name_of amqp.LongLongInt = codes "LongLongInt"
-name_of amqp.LongLongUInt = codes "LongLongUInt"
-name_of amqp.Float = codes "Float"
-name_of amqp.Double = codes "Double"
-name_of amqp.DecimalValue = codes "DecimalValue"
-name_of amqp.ShortString = codes "ShortString"
-name_of amqp.LongString = codes "LongString"
-name_of amqp.FieldArray = codes "FieldArray"
-name_of amqp.Timestamp = codes "Timestamp"
-name_of amqp.FieldTable = codes "FieldTable"
-name_of amqp.ByteArray = codes "ByteArray"
-name_of amqp.Void = codes "Void"

@@ -1,5 +1,10 @@
+-- which byte stands for which type
 pub mod Ids
+-- which bytes a short string may have
 pub mod Strings
+-- what types are called
+pub mod Names
+-- what numbers, long strings and byte arrays are viewed as
+pub mod Shown
+-- the refusals of a text that is too long
 pub mod Short
-pub mod Numbers
-pub mod Bytes

@@ -1,7 +1,8 @@
 //! The type of an AMQP value, and the id that stands for it.
 
 ghost use Rattle.std.specs.Prelude.{◌≡◌, Some, IfSome};
-ghost use Rattle.amqp_types.specs.Ids.{kind, id_of, read_as};
+ghost use Rattle.amqp_types.specs.Ids.{kind, id_of};
+ghost use Rattle.amqp_types.specs.Names.{read_as};
 
 use serde::{Deserialize, Serialize};
 use std::fmt;
@@ -112,7 +113,7 @@ impl AMQPType {
 }
 
 impl fmt::Display for AMQPType {
-    ghost use Rattle.amqp_types.specs.Ids.{name_of};
+    ghost use Rattle.amqp_types.specs.Names.{name_of};
 
     ghost output = { λ t. Some (name_of t) };
 

@@ -1,5 +1,5 @@
 ghost use Rattle.std.specs.Prelude.{◌≡◌, [], length, nat_eq, IfOk, IsOk};
-ghost use Rattle.amqp_types.specs.Bytes.{array_bytes};
+ghost use Rattle.amqp_types.specs.Shown.{octets_of};
 
 use serde::{Deserialize, Serialize};
 use std::alloc::{AllocError, Global};
@@ -16,7 +16,7 @@ pub struct ByteArray {
 impl ByteArray {
     /// The array with no bytes. Takes no memory.
     pub fn new_in(alloc: Global) -> Self
-        ensures { array_bytes result ≡ [] }
+        ensures { octets_of result ≡ [] }
     {
         ByteArray {
             bytes: Vec::new(alloc),
@@ -25,7 +25,7 @@ impl ByteArray {
 
     /// A copy of the bytes. No bytes take no memory.
     pub fn from_slice(alloc: Global, bytes: &[u8]) -> Result<ByteArray, AllocError>
-        ensures bytes { IfOk result (λ a. array_bytes a ≡ bytes.now) }
+        ensures bytes { IfOk result (λ a. octets_of a ≡ bytes.now) }
         ensures empty { bytes.now ≡ [] → IsOk result }
     {
         if bytes.is_empty() {
@@ -38,38 +38,38 @@ impl ByteArray {
 
     /// The bytes.
     pub fn as_slice(&self) -> &[u8]
-        ensures { result.now ≡ array_bytes self.now }
+        ensures { result.now ≡ octets_of self.now }
     {
         self.bytes.as_slice()
     }
 
     /// How many bytes there are.
     pub fn len(&self) -> usize
-        ensures { result ≡ length (array_bytes self.now) }
+        ensures { result ≡ length (octets_of self.now) }
     {
         self.bytes.len()
     }
 
     /// Whether there is no byte.
     pub fn is_empty(&self) -> bool
-        ensures { result ≡ nat_eq (length (array_bytes self.now)) 0 }
+        ensures { result ≡ nat_eq (length (octets_of self.now)) 0 }
     {
         self.bytes.is_empty()
     }
 
     /// A copy of the bytes. No bytes take no memory.
     pub fn clone(&self, alloc: Global) -> Result<ByteArray, AllocError>
-        ensures same { IfOk result (λ a. array_bytes a ≡ array_bytes self.now) }
-        ensures empty { array_bytes self.now ≡ [] → IsOk result }
+        ensures same { IfOk result (λ a. octets_of a ≡ octets_of self.now) }
+        ensures empty { octets_of self.now ≡ [] → IsOk result }
     {
         ByteArray::from_slice(alloc, self.as_slice())
     }
 }
 
 impl From<Vec<u8>> for ByteArray {
-    ghost use Rattle.amqp_types.specs.Bytes.{array_bytes};
+    ghost use Rattle.amqp_types.specs.Shown.{octets_of};
 
-    ghost from_gives = { λ v a. array_bytes a ≡ v.items };
+    ghost from_gives = { λ v a. octets_of a ≡ v.items };
 
     fn from(bytes: Vec<u8>) -> Self {
         ByteArray { bytes }

@@ -1,5 +1,5 @@
 ghost use Rattle.std.specs.Prelude.{◌≡◌};
-ghost use Rattle.amqp_types.specs.Numbers.{double_bits};
+ghost use Rattle.amqp_types.specs.Shown.{double_bits};
 
 /// A floating-point number of 64 bits, carried as its bits (IEEE 754, `binary64`).
 ///

@@ -4,7 +4,7 @@ use Rattle.std.specs.Borrow.{Fml, MutBor, RestsIfErr}
 use Rattle.amqp_value_core.specs.declared.types.field_table.FieldTable.{FieldTable}
 use Rattle.amqp_value_core.specs.declared.types.field_table.Lent.{Lent}
 use Rattle.amqp_value_core.specs.contracts.types.field_table.FieldTable.{the_row}
-use Rattle.amqp_value_core.specs.View.{table_view}
+use Rattle.amqp_value_core.specs.Containers.{table_view}
 
 module _ (s : MutBor FieldTable) {E : Type 0} where
   -- s is lent in r; at `Err` it keeps its entries

@@ -1,4 +1,5 @@
 pub mod View
+pub mod Containers
 pub mod Lending
 pub mod Equality
 pub mod Decided

@@ -1,5 +1,5 @@
 -- The tree that an `AMQPValue` stands for.
-use Rattle.std.specs.Prelude.{ℕ, List, map}
+use Rattle.std.specs.Prelude.{map}
 use Rattle.std.specs.Int.{w8, w16, w32, w64, cast_unsigned}
 use Rattle.amqp_types.specs.declared.amqp_type.AMQPType.TheVariants as amqp
 use Rattle.amqp_value_core.specs.declared.types.field_array.FieldArray.{FieldArray}
@@ -7,8 +7,7 @@ use Rattle.amqp_value_core.specs.declared.types.field_table.FieldTable.{FieldTab
 use Rattle.amqp_value_core.specs.declared.value.AMQPValue.{AMQPValue, fold-AMQPValue}
 use Rattle.amqp_value_core.specs.declared.value.AMQPValue.TheOpen.{AMQPValue-F, FieldArray-F, FieldTable-F}
 use Rattle.amqp_grammar.specs.Values.{boolean, number, decimal, void, Tree, scalar, short, long, octets, array, table, Trees, trees_of, Entries, entries_of}
-use Rattle.amqp_types.specs.Numbers.{float_bits, double_bits}
-use Rattle.amqp_types.specs.Bytes.{long_bytes, array_bytes}
+use Rattle.amqp_types.specs.Shown.{float_bits, double_bits, long_bytes, octets_of}
 
 -- one level, with each value inside already seen as its tree
 abbrev pub view_step : AMQPValue-F Tree Trees Entries → Tree
@@ -28,7 +27,7 @@ view_step (AMQPValue-F.LongString s) = long (long_bytes s)
 view_step (AMQPValue-F.FieldArray vs) = array vs
 view_step (AMQPValue-F.Timestamp n) = scalar (number amqp.Timestamp n)
 view_step (AMQPValue-F.FieldTable es) = table es
-view_step (AMQPValue-F.ByteArray s) = octets (array_bytes s)
+view_step (AMQPValue-F.ByteArray s) = octets (octets_of s)
 view_step AMQPValue-F.Void = scalar void
 
 abbrev pub array_step : FieldArray-F Tree Trees Entries → Trees
@@ -40,27 +39,3 @@ table_step t = entries_of t.map.entries
 -- the tree of a value
 abbrev pub view : AMQPValue → Tree
 view = fold-AMQPValue Tree Trees Entries view_step array_step table_step
-
--- the values of an array, in order
-abbrev pub array_items : FieldArray → List AMQPValue
-array_items a = a.items.items
-
--- the trees of some values
-abbrev pub trees : List AMQPValue → Trees
-trees vs = trees_of (map view vs)
-
--- the trees of an array's values
-abbrev pub array_view : FieldArray → Trees
-array_view a = trees (array_items a)
-
--- the entries of a table: keys and values, in the order of the keys' bytes
-abbrev pub table_entries : FieldTable → List (List ℕ × AMQPValue)
-table_entries t = t.map.entries
-
--- the trees of some entries' values, with their keys
-abbrev pub entries : List (List ℕ × AMQPValue) → Entries
-entries es = entries_of (map (λ e. (e.0, view e.1)) es)
-
--- the trees of a table's values, with their keys
-abbrev pub table_view : FieldTable → Entries
-table_view t = entries (table_entries t)

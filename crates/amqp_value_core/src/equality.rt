@@ -1,7 +1,8 @@
 //! `==` on values, arrays and tables: equality of their trees.
 
 ghost use Rattle.std.specs.Prelude.{◌≡◌, ◌↔◌, IsTrue};
-ghost use Rattle.amqp_value_core.specs.View.{view, array_view, table_view, trees, entries};
+ghost use Rattle.amqp_value_core.specs.View.{view};
+ghost use Rattle.amqp_value_core.specs.Containers.{array_view, table_view, trees, entries};
 ghost use Rattle.amqp_value_core.specs.Equality.{same_tree, same_trees, same_entries};
 ghost use Rattle.amqp_value_core.specs.Decided.{same_tree_laws, same_trees_laws, same_entries_laws};
 

@@ -4,8 +4,9 @@
 //! entries takes no memory.
 
 ghost use Rattle.std.specs.Prelude.{◌≡◌, [], IfOk, IsOk};
-ghost use Rattle.amqp_grammar.specs.Values.{IsLight};
-ghost use Rattle.amqp_value_core.specs.View.{view, trees, entries, array_items, array_view, table_entries, table_view};
+ghost use Rattle.amqp_grammar.specs.Light.{IsLight};
+ghost use Rattle.amqp_value_core.specs.View.{view};
+ghost use Rattle.amqp_value_core.specs.Containers.{trees, entries, array_items, array_view, table_entries, table_view};
 
 use crate::types::{FieldArray, FieldTable, ShortString};
 use crate::value::AMQPValue;

@@ -116,7 +116,7 @@ impl From<Float> for AMQPValue {
     ghost use Rattle.std.specs.Prelude.{◌≡◌};
     ghost use Rattle.amqp_types.specs.declared.amqp_type.AMQPType.TheVariants as amqp;
     ghost use Rattle.amqp_grammar.specs.Values.{number, scalar};
-    ghost use Rattle.amqp_types.specs.Numbers.{float_bits};
+    ghost use Rattle.amqp_types.specs.Shown.{float_bits};
     ghost use Rattle.amqp_value_core.specs.View.{view};
 
     ghost from_gives = { λ f value. view value ≡ scalar (number amqp.Float (float_bits f)) };
@@ -130,7 +130,7 @@ impl From<Double> for AMQPValue {
     ghost use Rattle.std.specs.Prelude.{◌≡◌};
     ghost use Rattle.amqp_types.specs.declared.amqp_type.AMQPType.TheVariants as amqp;
     ghost use Rattle.amqp_grammar.specs.Values.{number, scalar};
-    ghost use Rattle.amqp_types.specs.Numbers.{double_bits};
+    ghost use Rattle.amqp_types.specs.Shown.{double_bits};
     ghost use Rattle.amqp_value_core.specs.View.{view};
 
     ghost from_gives = { λ f value. view value ≡ scalar (number amqp.Double (double_bits f)) };
@@ -167,7 +167,7 @@ impl From<ShortString> for AMQPValue {
 impl From<LongString> for AMQPValue {
     ghost use Rattle.std.specs.Prelude.{◌≡◌};
     ghost use Rattle.amqp_grammar.specs.Values.{long};
-    ghost use Rattle.amqp_types.specs.Bytes.{long_bytes};
+    ghost use Rattle.amqp_types.specs.Shown.{long_bytes};
     ghost use Rattle.amqp_value_core.specs.View.{view};
 
     ghost from_gives = { λ s value. view value ≡ long (long_bytes s) };
@@ -180,7 +180,8 @@ impl From<LongString> for AMQPValue {
 impl From<FieldArray> for AMQPValue {
     ghost use Rattle.std.specs.Prelude.{◌≡◌};
     ghost use Rattle.amqp_grammar.specs.Values.{array};
-    ghost use Rattle.amqp_value_core.specs.View.{view, array_view};
+    ghost use Rattle.amqp_value_core.specs.View.{view};
+    ghost use Rattle.amqp_value_core.specs.Containers.{array_view};
 
     ghost from_gives = { λ a value. view value ≡ array (array_view a) };
 
@@ -205,7 +206,8 @@ impl From<u64> for AMQPValue {
 impl From<FieldTable> for AMQPValue {
     ghost use Rattle.std.specs.Prelude.{◌≡◌};
     ghost use Rattle.amqp_grammar.specs.Values.{table};
-    ghost use Rattle.amqp_value_core.specs.View.{view, table_view};
+    ghost use Rattle.amqp_value_core.specs.View.{view};
+    ghost use Rattle.amqp_value_core.specs.Containers.{table_view};
 
     ghost from_gives = { λ t value. view value ≡ table (table_view t) };
 
@@ -217,10 +219,10 @@ impl From<FieldTable> for AMQPValue {
 impl From<ByteArray> for AMQPValue {
     ghost use Rattle.std.specs.Prelude.{◌≡◌};
     ghost use Rattle.amqp_grammar.specs.Values.{octets};
-    ghost use Rattle.amqp_types.specs.Bytes.{array_bytes};
+    ghost use Rattle.amqp_types.specs.Shown.{octets_of};
     ghost use Rattle.amqp_value_core.specs.View.{view};
 
-    ghost from_gives = { λ a value. view value ≡ octets (array_bytes a) };
+    ghost from_gives = { λ a value. view value ≡ octets (octets_of a) };
 
     fn from(field: ByteArray) -> AMQPValue {
         AMQPValue::ByteArray(field)

@@ -12,9 +12,10 @@ impl AMQPValue {
     ghost use Rattle.std.specs.Prelude.{◌≡◌, option_map, is_some};
     ghost use Rattle.std.specs.Int.{w8, w16, w32, w64, cast_unsigned};
     ghost use Rattle.amqp_types.specs.declared.amqp_type.AMQPType.TheVariants as amqp;
-    ghost use Rattle.amqp_types.specs.Numbers.{float_bits, double_bits};
-    ghost use Rattle.amqp_types.specs.Bytes.{long_bytes, array_bytes};
-    ghost use Rattle.amqp_value_core.specs.View.{view, array_view, table_view};
+    ghost use Rattle.amqp_types.specs.Shown.{float_bits, double_bits};
+    ghost use Rattle.amqp_types.specs.Shown.{long_bytes, octets_of};
+    ghost use Rattle.amqp_value_core.specs.View.{view};
+    ghost use Rattle.amqp_value_core.specs.Containers.{array_view, table_view};
     ghost use Rattle.amqp_value_core.specs.Getters.{truth_in, number_in, decimal_in, short_in, long_in, octets_in, array_in, table_in, is_void};
 
     /// The truth value, of a `Boolean`.
@@ -183,7 +184,7 @@ impl AMQPValue {
 
     /// The bytes, of a `ByteArray`.
     pub fn as_byte_array(&self) -> Option<&ByteArray>
-        ensures { option_map (λ a. array_bytes a.now) result ≡ octets_in (view self.now) }
+        ensures { option_map (λ a. octets_of a.now) result ≡ octets_in (view self.now) }
     {
         match self {
             AMQPValue::ByteArray(a) => Some(a),

@@ -1,5 +1,5 @@
 ghost use Rattle.std.specs.Prelude.{◌≡◌, [], ◌∷◌, ◌++◌, OnOk, OnErr};
-ghost use Rattle.amqp_value_core.specs.View.{array_items};
+ghost use Rattle.amqp_value_core.specs.Containers.{array_items};
 
 use crate::value::AMQPValue;
 use std::alloc::{AllocError, Global};
@@ -39,7 +39,7 @@ impl FieldArray {
 }
 
 impl From<Vec<AMQPValue>> for FieldArray {
-    ghost use Rattle.amqp_value_core.specs.View.{array_items};
+    ghost use Rattle.amqp_value_core.specs.Containers.{array_items};
 
     ghost from_gives = { λ v a. array_items a ≡ v.items };
 

@@ -2,7 +2,8 @@ ghost use Rattle.std.specs.Prelude.{◌≡◌, [], OnOk, OnErr, IfOk, IsOk};
 ghost use Rattle.std.specs.Borrow.{sem};
 ghost use Rattle.amqp_grammar.specs.Values.{no_entries, put, onto};
 ghost use Rattle.amqp_grammar.specs.Maps.{has_key};
-ghost use Rattle.amqp_value_core.specs.View.{view, entries, table_entries, table_view};
+ghost use Rattle.amqp_value_core.specs.View.{view};
+ghost use Rattle.amqp_value_core.specs.Containers.{entries, table_entries, table_view};
 ghost use Rattle.amqp_value_core.specs.Lending.{Rests, RestsIn, bare_of};
 
 use crate::types::ShortString;
@@ -113,7 +114,7 @@ impl FieldTable {
 }
 
 impl From<BTreeMap<ShortString, AMQPValue>> for FieldTable {
-    ghost use Rattle.amqp_value_core.specs.View.{table_entries};
+    ghost use Rattle.amqp_value_core.specs.Containers.{table_entries};
 
     ghost from_gives = { λ m t. table_entries t ≡ m.entries };
 

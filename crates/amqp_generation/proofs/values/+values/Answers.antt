@@ -1,5 +1,6 @@
 use Rattle.std.proofs.Common.{◌∙◌, arith}
-use Rattle.amqp_value_core.specs.View.{view, array_items}
+use Rattle.amqp_value_core.specs.View.{view}
+use Rattle.amqp_value_core.specs.Containers.{array_items}
 use Rattle.amqp_grammar.specs.Texts.{text, Fits}
 use Rattle.amqp_generation.proofs.Arrays.{value_refused, array_closed}
 use Rattle.amqp_generation.proofs.Tables.{none_put, one_more_put, key_taken_back, entry_refused, table_closed, table_value}

@@ -1,7 +1,9 @@
 use Rattle.std.proofs.Common.{◌≡◌, true, Ok, take, replicate, ◌++◌}
-use Rattle.amqp_value_core.specs.View.{array_items, trees, table_entries}
-use Rattle.amqp_grammar.specs.Texts.{body, AllFit, AreValues}
-use Rattle.amqp_generation.specs.Outputs.{IsWhole, Writes}
+use Rattle.amqp_value_core.specs.Containers.{array_items, trees, table_entries}
+use Rattle.amqp_grammar.specs.Texts.{body, AllFit}
+use Rattle.amqp_grammar.specs.InMemory.{AreValues}
+use Rattle.amqp_generation.specs.Buffers.{IsWhole}
+use Rattle.amqp_generation.specs.Outputs.{Writes}
 use Rattle.amqp_generation.specs.Contexts.{start_of, shown}
 use Rattle.amqp_generation.proofs.Tables.{HasPut}
 use Rattle.amqp_generation.proofs.values.+values.Given as goal

@@ -7,8 +7,10 @@ use Rattle.amqp_value_core.specs.declared.value.AMQPValue.{the_lemmas}
 use Rattle.amqp_value_core.specs.declared.value.AMQPValue.TheVariants.{FieldArray, FieldTable}
 use Rattle.amqp_value_core.specs.declared.value.AMQPValue.TheVariants as value
 use Rattle.amqp_grammar.specs.Values.{Tree, scalar, void, array, table, no_entries, put}
-use Rattle.amqp_value_core.specs.View.{view, array_items, array_view, entries, table_view}
-use Rattle.amqp_grammar.specs.Outcomes.{found, RawOutcome}
+use Rattle.amqp_value_core.specs.View.{view}
+use Rattle.amqp_value_core.specs.Containers.{array_items, array_view, entries, table_view}
+use Rattle.amqp_grammar.specs.Outcomes.{found}
+use Rattle.amqp_grammar.specs.Payloads.{RawOutcome}
 use Rattle.amqp_parsing.specs.Gathering.{kept}
 use Rattle.amqp_parsing.proofs.Bodies.{Goes-start, Goes-step, Goes-end, Goes-refused, rest_shorter}
 use Rattle.amqp_parsing.proofs.TableBodies.{Walks-start, Walks-step, Walks-end, Walks-bad_key, Walks-bad_value, key_shorter}

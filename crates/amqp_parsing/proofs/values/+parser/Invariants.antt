@@ -1,5 +1,6 @@
 use Rattle.std.proofs.Common.{length, map, ◌+◌, ◌*◌}
-use Rattle.amqp_value_core.specs.View.{view, array_items}
+use Rattle.amqp_value_core.specs.View.{view}
+use Rattle.amqp_value_core.specs.Containers.{array_items}
 use Rattle.amqp_parsing.specs.Gathering.{kept}
 use Rattle.amqp_parsing.proofs.Bodies.{Goes}
 use Rattle.amqp_parsing.proofs.TableBodies.{Walks}

@@ -1,6 +1,6 @@
 use Rattle.amqp_types.specs.declared.amqp_type.AMQPType.TheVariants as amqp
 use Rattle.amqp_grammar.specs.Values.{array}
-use Rattle.amqp_value_core.specs.View.{array_view}
+use Rattle.amqp_value_core.specs.Containers.{array_view}
 use Rattle.amqp_parsing.proofs.Plain.{raw_unlimited_answer}
 use Rattle.amqp_parsing.proofs.values.parse_field_array.Goals as goal
 

@@ -1,6 +1,6 @@
 use Rattle.amqp_types.specs.declared.amqp_type.AMQPType.TheVariants as amqp
 use Rattle.amqp_grammar.specs.Values.{table}
-use Rattle.amqp_value_core.specs.View.{table_view}
+use Rattle.amqp_value_core.specs.Containers.{table_view}
 use Rattle.amqp_parsing.proofs.Plain.{raw_unlimited_answer}
 use Rattle.amqp_parsing.proofs.values.parse_field_table.Goals as goal
 

@@ -6,7 +6,8 @@ use Rattle.amqp_value_core.specs.declared.value.AMQPValue.{AMQPValue, the_lemmas
 use Rattle.amqp_value_core.specs.declared.value.AMQPValue.TheVariants as value
 use Rattle.amqp_grammar.specs.Values.{table}
 use Rattle.amqp_grammar.specs.Maps.{same_bytes}
-use Rattle.amqp_value_core.specs.View.{view, trees, entries, table_entries, table_view}
+use Rattle.amqp_value_core.specs.View.{view}
+use Rattle.amqp_value_core.specs.Containers.{trees, entries, table_entries, table_view}
 use Rattle.amqp_value_core.specs.Equality.{same_tree, same_trees, same_entries}
 use Rattle.amqp_value_core.proofs.equality.+same.Goals as goal
 use Rattle.amqp_value_core.proofs.equality.+same.Goals.{same_pairs-then-ne-via-then-ne, same_pairs-then-ne-via-else-ne+then-not-same}

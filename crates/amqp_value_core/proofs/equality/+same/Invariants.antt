@@ -1,5 +1,5 @@
 use Rattle.std.proofs.Common.{◌≡◌, ◌+◌, length, drop}
-use Rattle.amqp_value_core.specs.View.{trees, entries}
+use Rattle.amqp_value_core.specs.Containers.{trees, entries}
 use Rattle.amqp_value_core.specs.Equality.{same_trees, same_entries}
 use Rattle.amqp_value_core.proofs.equality.+same.Given as goal
 

@@ -1,5 +1,6 @@
 use Rattle.std.proofs.Common.{◌≡◌, List, ◌++◌, take, map}
-use Rattle.amqp_value_core.specs.View.{view, array_items, entries, table_view}
+use Rattle.amqp_value_core.specs.View.{view}
+use Rattle.amqp_value_core.specs.Containers.{array_items, entries, table_view}
 use Rattle.amqp_value_core.proofs.Copies.{Pair}
 use Rattle.amqp_value_core.proofs.conversions.copies.+copies.Given as goal
 

@@ -1,5 +1,5 @@
 use Rattle.std.proofs.Common.{◌≡◌, sym, ◌∙◌, rules}
-use Rattle.amqp_value_core.specs.View.{array_view}
+use Rattle.amqp_value_core.specs.Containers.{array_view}
 use Rattle.amqp_value_core.specs.Equality.{same_trees}
 use Rattle.amqp_value_core.specs.Decided.{trees_decide}
 use Rattle.amqp_value_core.proofs.equality.FieldArrayPartialEq.eq.Goals as goal

@@ -1,5 +1,5 @@
 use Rattle.std.proofs.Common.{◌≡◌, sym, ◌∙◌, rules}
-use Rattle.amqp_value_core.specs.View.{table_view}
+use Rattle.amqp_value_core.specs.Containers.{table_view}
 use Rattle.amqp_value_core.specs.Equality.{same_entries}
 use Rattle.amqp_value_core.specs.Decided.{entries_decide}
 use Rattle.amqp_value_core.proofs.equality.FieldTablePartialEq.eq.Goals as goal

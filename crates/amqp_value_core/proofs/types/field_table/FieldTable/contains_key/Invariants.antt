@@ -1,6 +1,6 @@
 use Rattle.std.proofs.Common.{◌≡◌}
 use Rattle.amqp_grammar.specs.Maps.{has_key}
-use Rattle.amqp_value_core.specs.View.{entries}
+use Rattle.amqp_value_core.specs.Containers.{entries}
 use Rattle.amqp_value_core.proofs.types.field_table.FieldTable.contains_key.Given as goal
 
 -- what is left decides

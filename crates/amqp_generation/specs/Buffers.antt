@@ -1,0 +1,80 @@
+-- What a buffer's calls do to it: bytes, room, going back, and a length that is filled in.
+use Rattle.std.specs.Prelude.{ℕ, ◌≡◌, ◌+◌, ◌-◌, ◌^◌, ◌<◌, ◌≤◌, ⊤, Bool, IsTrue, Some, IsSome, IfSome, Result, Ok, Err, IsOk, IfErr, OnOk, OnErr, IsErrOf, List, ◌++◌, length, take, drop}
+use Rattle.std.specs.Option.{option_map}
+use Rattle.std.specs.Int.{w32, to_be_bytes}
+use Rattle.std.specs.declared.io.ErrorKind.{ErrorKind}
+use Rattle.amqp_generation.specs.declared.error.GenError.{GenError}
+use Rattle.amqp_generation.specs.declared.error.GenError.TheVariants.{BufferTooSmall, LengthTooLong, IoError, InvalidOffset, OutOfMemory}
+use Rattle.amqp_generation.specs.Outputs.{Seen, HasFailed, Writes}
+
+-- the answer of a call that writes, without what it hands out
+abbrev pub answer_of : {T : Type 0} → Result T GenError → Result (Unit {0}) GenError
+answer_of (Ok _) = Ok tt
+answer_of (Err e) = Err e
+
+-- what a buffer shows: its bytes, as many as its position says, and behind them as many as it has
+-- room
+pub record IsWhole (s : Seen) : Type 0 where
+  pub told : IsSome s.told
+  pub counted : IfSome s.told (λ put. length put ≡ s.at)
+  pub tail : IfSome s.room (λ room. length s.tail ≡ room)
+
+-- One piece of bytes was put whole, or refused.
+pub record Puts (is_buffer : Bool) (bytes : List ℕ) (before : Seen) (result : Result (Unit {0}) GenError) (after : Seen) : Type 0 where
+  pub written : Writes is_buffer ⊤ bytes before result after
+  -- a refusal leaves the position as it was
+  pub stayed : OnErr result (after.at ≡ before.at)
+  -- it isn't refused within what was promised, and takes no more of that than its length
+  pub promised : length bytes ≤ before.promise → IsOk result
+  pub promise : OnOk result (before.promise ≤ after.promise + length bytes)
+
+-- A length doesn't fit its field: the call is refused for that, and nothing was put.
+pub record RefusedAsLong (before : Seen) (result : Result (Unit {0}) GenError) (after : Seen) : Type 0 where
+  pub is : result ≡ Err LengthTooLong
+  pub unchanged : after ≡ before
+
+-- Room was made for n more bytes, or refused; nothing else changed.
+pub record MakesRoom (is_buffer : Bool) (n : ℕ) (before : Seen) (result : Result (Unit {0}) GenError) (after : Seen) : Type 0 where
+  pub told : after.told ≡ before.told
+  pub at : after.at ≡ before.at
+  pub room : after.room ≡ before.room
+  pub tail : after.tail ≡ before.tail
+  -- a buffer now promises so many
+  pub promise : IsTrue is_buffer → OnOk result (n ≤ after.promise)
+  -- with fixed room it succeeds exactly where they fit
+  pub fits : OnOk result (IfSome before.room (λ room. n ≤ room))
+  pub succeeds : IfSome before.room (λ room. n ≤ room → IsOk result)
+  -- the refusals: where each may come
+  pub too_small : IsErrOf result BufferTooSmall → (room : ℕ) × (before.room ≡ Some room) × (room < n)
+  pub too_long : IsErrOf result LengthTooLong → ⊥
+  pub failed : IfErr result (λ e. (kind : ErrorKind) → e ≡ IoError kind → HasFailed before after)
+  pub offset : IsErrOf result InvalidOffset → 2 ^ 64 ≤ before.at + n
+  -- memory is wanted by a buffer alone; by `no_other` its room is open
+  pub memory : IsErrOf result OutOfMemory → IsTrue is_buffer
+  pub no_other : IsSome before.room → IfErr result (λ e. e ≡ BufferTooSmall)
+  -- faults are never taken back
+  pub faults : before.faults ≤ after.faults
+
+-- the bytes from `at` on replaced by `bytes`, as many as these are
+abbrev pub overwrite : List ℕ → ℕ → List ℕ → List ℕ
+overwrite put at bytes = take at put ++ (bytes ++ drop (at + length bytes) put)
+
+-- what is shown where bytes that were put are replaced
+abbrev pub filled : Seen → ℕ → List ℕ → Seen
+filled s at bytes = record s { told = option_map (λ put. overwrite put at bytes) s.told }
+
+-- The bytes put were cut to the first `at`, and the room grew by what was cut.
+pub record GoesBack (at : ℕ) (before : Seen) (after : Seen) : Type 0 where
+  pub told : after.told ≡ option_map (take at) before.told
+  pub position : after.at ≡ at
+  pub room : after.room ≡ option_map (λ room. room + (before.at - at)) before.room
+  pub faults : after.faults ≡ before.faults
+
+-- The number of the bytes put behind the four from `at` on was filled in there, the highest byte
+-- first; where it doesn't fit, all from `at` on was taken back.
+pub record FillsLength (at : ℕ) (before : Seen) (result : Result (Unit {0}) GenError) (after : Seen) : Type 0 where
+  pub fits : OnOk result (before.at - at - 4 < 2 ^ 32)
+  pub filled : OnOk result (after ≡ filled before at (to_be_bytes w32 (before.at - at - 4)))
+  pub too_long : OnErr result (2 ^ 32 ≤ before.at - at - 4)
+  pub refused : IfErr result (λ e. e ≡ LengthTooLong)
+  pub back : OnErr result (GoesBack at before after)

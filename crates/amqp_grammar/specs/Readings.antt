@@ -1,0 +1,31 @@
+-- What reading comes to where more bytes follow, and of what was written.
+use Rattle.std.specs.Prelude.{ℕ, ◌-◌, ◌<◌, List, ◌++◌, length, if◌then◌else◌}
+use Rattle.amqp_grammar.specs.Values.{Tree, short, readable}
+use Rattle.amqp_grammar.specs.Grammar.{Wire}
+use Rattle.amqp_grammar.specs.Outcomes.{Reading, found, unknown, malformed, more, FrontBy}
+
+-- the outcome where t follows
+abbrev pub with_more : Reading → List ℕ → Reading
+with_more (found v rest) t = found v (rest ++ t)
+with_more (more n) t = more (n - length t)
+with_more unknown t = unknown
+with_more malformed t = malformed
+
+-- t is less than what an outcome still waits for
+abbrev pub StillWaits : Reading → List ℕ → Type 0
+StillWaits (more n) t = length t < n
+StillWaits _ t = Unit {0}
+
+-- what a value is refused as that isn't readable: a short string's id is none that is read, and a
+-- container that has one inside is no container
+abbrev pub unread : Tree → Reading
+unread (short s) = unknown
+unread _ = malformed
+
+-- what reading the text of v, with `rest` behind it, comes to: v again where v is readable
+abbrev pub read_back : Tree → List ℕ → Reading
+read_back v rest = if readable v then found v rest else unread v
+
+-- a front of s is a wire, or none is
+abbrev pub Front : List ℕ → Reading → Type 0
+Front s o = FrontBy Wire s o

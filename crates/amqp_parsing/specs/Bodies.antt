@@ -1,0 +1,31 @@
+-- What reading a container answers on its way: a length-prefixed field, and its body's entries.
+use Rattle.std.specs.Prelude.{ℕ, ◌<◌, ◌^◌, ◌≡◌, List, ◌++◌, length}
+use Rattle.std.specs.Int.{w32}
+use Rattle.amqp_grammar.specs.Values.{Trees, Entries, no_entries, onto}
+use Rattle.amqp_grammar.specs.Grammar.{large}
+use Rattle.amqp_grammar.specs.Nesting.{BodyWithin, PairsWithin}
+use Rattle.amqp_grammar.specs.Outcomes.{Reading, more, malformed, frame_lack}
+
+-- bytes behind their length in four bytes are read from s, and `rest` is left
+pub record IsFrame (s body rest : List ℕ) : Type 0 where
+  pub framed : s ≡ large body ++ rest
+  pub fits : length body < 2 ^ 32
+
+-- the frame isn't all there, and lacks so many bytes: of its length, or of what that counts
+abbrev pub IsCutFrame : List ℕ → Reading → Type 0
+IsCutFrame s o = (0 < frame_lack w32 s) × (o ≡ more (frame_lack w32 s))
+
+-- the bytes are no values one after another, with containers at most `depth` deep in each
+abbrev pub IsNoBody : ℕ → List ℕ → Reading → Type 0
+IsNoBody depth s malformed = (vs : Trees) → BodyWithin depth s vs → ⊥
+IsNoBody depth s _ = ⊥
+
+-- the bytes are pairs one after another, and the entries are what they come to: of equal keys the
+-- last pair's value stays
+abbrev pub IsTable : ℕ → List ℕ → Entries → Type 0
+IsTable depth s es = (ps : Entries) × PairsWithin depth s ps × (es ≡ onto no_entries ps)
+
+-- the bytes are no pairs one after another
+abbrev pub IsNoTable : ℕ → List ℕ → Reading → Type 0
+IsNoTable depth s malformed = (ps : Entries) → PairsWithin depth s ps → ⊥
+IsNoTable depth s _ = ⊥

@@ -1,0 +1,49 @@
+-- What the parsers of one type answer.
+use Rattle.std.specs.Prelude.{ℕ, ◌<◌, ◌-◌, ◌≡◌, Some, None, List, [], ◌∷◌, ◌++◌, length}
+use Rattle.std.specs.Int.{Width, byte_len, to_be_bytes}
+use Rattle.amqp_types.specs.declared.amqp_type.AMQPType.{AMQPType}
+use Rattle.amqp_types.specs.declared.amqp_type.AMQPType.TheVariants as amqp
+use Rattle.amqp_types.specs.Ids.{kind}
+use Rattle.amqp_grammar.specs.Outcomes.{Reading, more, unknown, malformed, RawHeavy}
+use Rattle.amqp_grammar.specs.Payloads.{RawOutcome}
+use Rattle.amqp_parsing.specs.declared.errors.Err.TheVariants.{Incomplete, Error, Failure}
+use Rattle.amqp_parsing.specs.declared.errors.Needed.TheVariants.{Unknown, Size}
+use Rattle.amqp_parsing.specs.declared.errors.ErrorKind.{ErrorKind}
+use Rattle.amqp_parsing.specs.declared.errors.ErrorKind.TheVariants.{MapRes, Eof, OutOfMemory}
+use Rattle.amqp_parsing.specs.Refusals.{Refusal}
+use Rattle.amqp_parsing.specs.Answers.{Refuses}
+
+-- a refusal is right that comes only where bytes lack, or where memory is wanted
+abbrev pub OnlyLacks : (Reading → Type 0) → Type 0 → Refusal → Type 0
+OnlyLacks Is heavy (Error kind) = ⊥
+OnlyLacks Is heavy e = Refuses Is heavy e
+
+-- the kind of refusal where a frame is whole and is no payload of the type: a short string's bytes
+-- aren't UTF-8, and a container's aren't entries
+abbrev pub bad_kind : AMQPType → ErrorKind
+bad_kind amqp.ShortString = MapRes
+bad_kind _ = Eof
+
+-- a refusal to read a payload of the type from s is right
+abbrev pub RawRefuses : AMQPType → List ℕ → Refusal → Type 0
+RawRefuses type s (Incomplete Unknown) = ⊥
+RawRefuses type s (Incomplete (Size n)) = RawOutcome type s (more n)
+RawRefuses type s (Error kind) = (kind ≡ bad_kind type) × RawOutcome type s malformed
+RawRefuses type s (Failure kind) = (kind ≡ OutOfMemory) × RawHeavy type s
+
+-- a type is read from s, and `rest` is left: the first byte is an id of it
+abbrev pub IsType : List ℕ → AMQPType → List ℕ → Type 0
+IsType s type rest = (c : ℕ) × (s ≡ c ∷ rest) × (kind c ≡ Some type)
+
+-- no type is read from s: there is no byte, or the first is no id
+abbrev pub IsNoType : List ℕ → Reading → Type 0
+IsNoType [] o = o ≡ more 1
+IsNoType (c ∷ b) o = (o ≡ unknown) × (kind c ≡ None)
+
+-- n is read from s, and `rest` is left: the first bytes are those of n, the highest first
+abbrev pub IsNumberRead : Width → List ℕ → ℕ → List ℕ → Type 0
+IsNumberRead w s n rest = s ≡ to_be_bytes w n ++ rest
+
+-- a number of the width isn't all there, and lacks so many bytes
+abbrev pub IsCut : Width → List ℕ → Reading → Type 0
+IsCut w s o = (length s < byte_len w) × (o ≡ more (byte_len w - length s))

@@ -1,0 +1,31 @@
+-- What arrays and tables are viewed as.
+use Rattle.std.specs.Prelude.{ℕ, List, map}
+use Rattle.amqp_value_core.specs.declared.types.field_array.FieldArray.{FieldArray}
+use Rattle.amqp_value_core.specs.declared.types.field_table.FieldTable.{FieldTable}
+use Rattle.amqp_value_core.specs.declared.value.AMQPValue.{AMQPValue}
+use Rattle.amqp_grammar.specs.Values.{Trees, trees_of, Entries, entries_of}
+use Rattle.amqp_value_core.specs.View.{view}
+
+-- the values of an array, in order
+abbrev pub array_items : FieldArray → List AMQPValue
+array_items a = a.items.items
+
+-- the trees of some values
+abbrev pub trees : List AMQPValue → Trees
+trees vs = trees_of (map view vs)
+
+-- the trees of an array's values
+abbrev pub array_view : FieldArray → Trees
+array_view a = trees (array_items a)
+
+-- the entries of a table: keys and values, in the order of the keys' bytes
+abbrev pub table_entries : FieldTable → List (List ℕ × AMQPValue)
+table_entries t = t.map.entries
+
+-- the trees of some entries' values, with their keys
+abbrev pub entries : List (List ℕ × AMQPValue) → Entries
+entries es = entries_of (map (λ e. (e.0, view e.1)) es)
+
+-- the trees of a table's values, with their keys
+abbrev pub table_view : FieldTable → Entries
+table_view t = entries (table_entries t)
