@@ -21,3 +21,5 @@ pub mod Texts
 pub mod Canonical
 -- the words of the headline that speak of sizes and of what is written
 pub mod Headline
+-- for the worked examples alone: bytes as a person writes them
+pub mod Hexadecimal
