@@ -13,11 +13,6 @@ pub letter_a : is_utf8 (97 ∷ []) ≡ true
 unfolding is_utf8 chars encode
 letter_a = refl
 
--- b
-pub letter_b : is_utf8 (98 ∷ []) ≡ true
-unfolding is_utf8 chars encode
-letter_b = refl
-
 -- test
 pub word_test : is_utf8 (116 ∷ 101 ∷ 115 ∷ 116 ∷ []) ≡ true
 unfolding is_utf8 chars encode

@@ -31,3 +31,5 @@ pub mod Maps
 pub mod Payloads
 -- values that are kept with no memory of their own
 pub mod Light
+-- for the worked examples alone: bytes as a person writes them
+pub mod Hexadecimal
