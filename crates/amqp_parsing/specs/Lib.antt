@@ -4,6 +4,8 @@ pub mod Refusals
 pub mod Answers
 -- what the parsers of one type answer
 pub mod Typed
+-- what those of types of fixed width answer
+pub mod Scalars
 -- what the steps of reading a container answer
 pub mod Bodies
 -- pairs on their way into a table

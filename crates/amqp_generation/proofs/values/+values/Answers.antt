@@ -1,6 +1,7 @@
-use Rattle.std.proofs.Common.{◌∙◌, arith}
+use Rattle.std.proofs.Common.{◌++◌, sym, ap, ◌∙◌, arith}
 use Rattle.amqp_value_core.specs.View.{view}
 use Rattle.amqp_value_core.specs.Containers.{array_items}
+use Rattle.amqp_grammar.specs.Grammar.{small}
 use Rattle.amqp_grammar.specs.Texts.{text, Fits}
 use Rattle.amqp_generation.proofs.Arrays.{value_refused, array_closed}
 use Rattle.amqp_generation.proofs.Tables.{none_put, one_more_put, key_taken_back, entry_refused, table_closed, table_value}
@@ -18,6 +19,11 @@ pub write_value-returns-in-Err-clause-written : goal.write_value-returns-in-Err-
 write_value-returns-in-Err-clause-written g t c =
     let v = view c.args.v.now in
     refused (Fits v) (text v) _ c.at-at.ensures.at c.at-at.ensures.whole (longer_by_id v) (λ fit. fit) (by_buffer g.met.W.BackToTheBuffer.is_one c.in_ok-gen_type.ensures.put.written) c.in-Err.ensures.written c.back_to.ensures.back
+
+pub gen_entry-returns-clause-written : goal.gen_entry-returns-clause-written
+gen_entry-returns-clause-written g t c =
+    let v = view c.args.v.now in
+    both_put (Fits v) (small c.args.k.now ++ text v) (ap (λ s. small s ++ text v) (sym c.as_str.ensures.text)) (λ _ fit. fit) (by_buffer g.met.W.BackToTheBuffer.is_one c.in_ok-gen_short_string.ensures.written) c.in_default.ensures.written
 
 pub gen_field_array-loop-v-preserved : goal.gen_field_array-loop-v-preserved
 gen_field_array-loop-v-preserved g t c =
