@@ -8,7 +8,7 @@ pub mod Values
 pub mod Layouts
 -- which bytes are an encoding of which value
 pub mod Grammar
--- what reading any bytes comes to: a value, more bytes that are needed, or a refusal
+-- what reading any bytes comes to: a value, more bytes that are needed, or an error
 pub mod Outcomes
 -- what a value is written as
 pub mod Texts
@@ -16,7 +16,6 @@ pub mod Texts
 pub mod Canonical
 -- the words of the headline that speak of sizes and of what is written
 pub mod Headline
-
 -- what every value in memory is
 pub mod InMemory
 -- what reading comes to where more bytes follow, and of what was written
