@@ -1,3 +1,3 @@
-//! Flags: truth values under names, which travel eight to a byte.
+//! Flags: booleans under names, which travel eight to a byte.
 
 pub use amqp_flags::AMQPFlags;

@@ -1,7 +1,7 @@
 //! Writing values: outputs, and a generator for each type.
 //!
 //! A generator writes a value through a context over any output; one of a whole value needs a
-//! buffer. None of them asks for memory of its own.
+//! buffer. None of them allocates memory of its own.
 
 pub use amqp_generation::{
     BackToTheBuffer, GenError, GenResult, IoOutput, Output, SliceOutput, WriteContext, gen_boolean,

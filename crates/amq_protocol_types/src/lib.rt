@@ -1,4 +1,4 @@
-//! The types and the wire codec of AMQP 0-9-1 field tables.
+//! The types and the codec of AMQP 0-9-1 field tables.
 #![tactic(auto)]
 
 pub mod flags;

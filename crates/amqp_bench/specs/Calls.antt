@@ -13,8 +13,8 @@ code_of Refused = negsuc 1
 code_of OutOfMemory = negsuc 2
 code_of TooSmall = negsuc 3
 
--- why no number of bytes is answered for s: bytes lack, s is refused, memory was wanted where the
--- value takes some, or there is no room
+-- why no number of bytes is answered for s: more bytes are needed, s is rejected, an allocation
+-- failed where the value takes memory, or there is no room
 abbrev pub IsFault : List ℕ → Type 0 → Fault → Type 0
 IsFault s no_room Incomplete = (n : ℕ) × Outcome s (more n)
 IsFault s no_room Refused = Outcome s unknown ⊎ Outcome s malformed
@@ -39,15 +39,15 @@ abbrev pub IsTaken : List ℕ → ℕ → Type 0
 IsTaken s n = (v : Tree) × IsRead s n v
 
 -- a value is read from s and written so many times to room for so many bytes: n is 0 where that is
--- no time, and else the length of its text, and no more than there is room
+-- no time, and else the length of its canonical encoding, and no more than there is room
 abbrev pub IsWritten : ℕ → List ℕ → ℕ → ℕ → Type 0
 IsWritten times s room n =
     (v : Tree) × (rest : List ℕ) × Outcome s (found v rest) × (times ≡ 0 → n ≡ 0) × (0 < times → n ≡ length (text v)) × (n ≤ room)
 
--- the text of the value that is read from s has more than n bytes
+-- the canonical encoding of the value that is read from s has more than n bytes
 abbrev pub HasNoRoom : List ℕ → ℕ → Type 0
 HasNoRoom s n = (v : Tree) × (rest : List ℕ) × Outcome s (found v rest) × (n < length (text v))
 
--- n bytes are no room for the text of v, and the fault says so
+-- n bytes are no room for the canonical encoding of v, and the fault says so
 abbrev pub IsTooSmall : ℕ → Tree → Fault → Type 0
 IsTooSmall n v f = (f ≡ TooSmall) × (n < length (text v))

@@ -65,7 +65,7 @@ fn write_often(value: &AMQPValue, out: &mut [u8], times: u64) -> Result<usize, F
     Ok(written)
 }
 
-/// Writes a value from the front of `out`, and answers how many bytes were written.
+/// Writes a value from the start of `out`, and answers how many bytes were written.
 fn write(value: &AMQPValue, out: &mut [u8]) -> Result<usize, Fault>
     requires { Fits (view value.now) }
     ensures ok { IfOk result (λ n. n ≡ length (text (view value.now))) }

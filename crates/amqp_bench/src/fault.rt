@@ -10,9 +10,9 @@ pub enum Fault {
     Incomplete,
     /// The bytes begin with no value.
     Refused,
-    /// A request for memory was refused.
+    /// An allocation failed.
     OutOfMemory,
-    /// The value's text doesn't fit the room.
+    /// The value's canonical encoding doesn't fit the room.
     TooSmall,
 }
 

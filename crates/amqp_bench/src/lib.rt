@@ -1,8 +1,8 @@
 //! The codec as a C library: what goes in and out are bytes and numbers.
 //!
-//! Each call answers a number of bytes, or -1 where more bytes are asked for, -2 where the bytes
-//! begin with no value, -3 where a request for memory was refused, and -4 where the text of the
-//! value doesn't fit. It is for benchmarks: nothing of a value is handed out.
+//! Each call answers a number of bytes, or -1 where more bytes are needed, -2 where the bytes begin
+//! with no value, -3 where an allocation failed, and -4 where the canonical encoding of the value
+//! doesn't fit. It is for benchmarks: nothing of a value is handed out.
 #![tactic(auto)]
 
 ghost use Rattle.std.specs.Prelude.{length};
@@ -17,7 +17,7 @@ use calls::{decode, encode};
 use fault::answer;
 use std::alloc::Global;
 
-/// Reads a value from the front of `bytes` to a tree of its own, drops it, and answers how many
+/// Reads a value from the start of `bytes` to a tree of its own, drops it, and answers how many
 /// bytes it took.
 #[unsafe(no_mangle)]
 pub extern "C" fn amqp_bench_decode(alloc: Global, bytes: &[u8]) -> i64
@@ -26,7 +26,7 @@ pub extern "C" fn amqp_bench_decode(alloc: Global, bytes: &[u8]) -> i64
     answer(decode(alloc, bytes))
 }
 
-/// Reads a value from the front of `bytes`, writes it from the front of `out`, and answers how many
+/// Reads a value from the start of `bytes`, writes it from the start of `out`, and answers how many
 /// bytes were written.
 #[unsafe(no_mangle)]
 pub extern "C" fn amqp_bench_roundtrip(alloc: Global, bytes: &[u8], out: &mut [u8]) -> i64
@@ -35,7 +35,7 @@ pub extern "C" fn amqp_bench_roundtrip(alloc: Global, bytes: &[u8], out: &mut [u
     answer(encode(alloc, bytes, out, 1))
 }
 
-/// Reads a value from the front of `bytes`, writes it `times` times from the front of `out`, and
+/// Reads a value from the start of `bytes`, writes it `times` times from the start of `out`, and
 /// answers how many bytes were written the last time, 0 where it is written no time.
 #[unsafe(no_mangle)]
 pub extern "C" fn amqp_bench_encode_n(

@@ -66,7 +66,7 @@ fn fills_its_room(rt: &impl Abort, piece: Piece<'_>, bytes: &[u8]) {
     room_holds(rt, piece, less, Err(GenError::BufferTooSmall), &[]);
 }
 
-// So do those of a value, and those of its payload behind its id.
+// So do those of a value, and those of its payload after its id.
 fn value_fills_its_room(rt: &impl Abort, value: &AMQPValue, bytes: &[u8]) {
     fills_its_room(rt, Value(value), bytes);
     fills_its_room(rt, Payload(value), bytes.split_at(bytes.len().min(1)).1);

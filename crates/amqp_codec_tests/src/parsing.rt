@@ -21,7 +21,7 @@ fn reads<I: ParsableInput, T: Copy + PartialEq>(
     }
 }
 
-// whether so many bytes lack
+// whether so many more bytes are needed
 fn needs<I: ParsableInput, T: Drop>(answer: ParserResult<I, T>, n: usize) -> bool {
     match answer {
         Err(Err::Incomplete(Needed::Size(lack))) => lack == n,
@@ -30,7 +30,7 @@ fn needs<I: ParsableInput, T: Drop>(answer: ParserResult<I, T>, n: usize) -> boo
     }
 }
 
-// whether the input is refused, and why
+// whether the input is rejected, and why
 fn refuses<I: ParsableInput, T: Drop>(answer: ParserResult<I, T>, kind: ErrorKind) -> bool {
     match answer {
         Err(Err::Error(e)) => e.kind() == kind,

@@ -1,4 +1,4 @@
--- Flags: names with truth values, and the bits that stand for these.
+-- Flags: names with booleans, and the bits that stand for these.
 use Rattle.std.specs.Prelude.{ℕ, zero, suc, ◌+◌, ◌*◌, ◌/◌, ◌%◌, ◌<◌, ◌≤◌, ◌-◌, ◌==◌, ◌≡◌, Bool, Option, Some, None, String, string_bytes, List, [], ◌∷◌, ◌++◌, length, take, drop, map, if◌then◌else◌}
 use Rattle.std.specs.declared.alloc.Global.{Global}
 use Rattle.std.specs.List.{zip}
@@ -10,7 +10,7 @@ use Rattle.amqp_flags.specs.declared.flags.AMQPFlags.{AMQPFlags}
 abbrev pub Flag : Type 0
 Flag = List ℕ × Bool
 
--- flags as they stand in memory, listed as names with truth values
+-- flags as they stand in memory, listed as names with booleans
 abbrev pub listed : List (String Global × Bool) → List Flag
 listed = map (λ f. (string_bytes f.0, f.1))
 
@@ -18,14 +18,14 @@ listed = map (λ f. (string_bytes f.0, f.1))
 abbrev pub flags_of : AMQPFlags → List Flag
 flags_of a = listed a.flags.items
 
--- their names, and their truth values
+-- their names, and their booleans
 abbrev pub names_of : List Flag → List (List ℕ)
 names_of = map (λ f. f.0)
 
 abbrev pub values_of : List Flag → List Bool
 values_of = map (λ f. f.1)
 
--- the truth value of the first flag of the name
+-- the boolean of the first flag of the name
 abbrev pub flag_named : List ℕ → List Flag → Option Bool
 flag_named name [] = None
 flag_named name (f ∷ fs) = if same_bytes f.0 name then Some f.1 else flag_named name fs
@@ -39,12 +39,12 @@ abbrev pub number_of : List Bool → ℕ
 number_of [] = 0
 number_of (b ∷ bs) = (if b then 1 else 0) + 2 * number_of bs
 
--- the next n bytes, each the number of the next eight truth values
+-- the next n bytes, each the number of the next eight booleans
 abbrev pub packed : ℕ → List Bool → List ℕ
 packed zero bs = []
 packed (suc n) bs = number_of (take 8 bs) ∷ packed n (drop 8 bs)
 
--- the bytes of truth values: that of number 8k + i is bit i of byte k, and the bits left over are 0
+-- the bytes of booleans: that of number 8k + i is bit i of byte k, and the bits left over are 0
 abbrev pub pack : List Bool → List ℕ
 pack bs = packed (bytes_for (length bs)) bs
 
@@ -68,11 +68,11 @@ pub record AreFlagsRead (names : List (List ℕ)) (s : List ℕ) (fs : List Flag
   pub flags : fs ≡ unpack names (take (bytes_for (length names)) s)
   pub left : rest ≡ drop (bytes_for (length names)) s
 
--- the bytes of so many flags aren't all there, and so many lack
+-- the bytes of so many flags aren't all there: so many more are needed
 abbrev pub AreFlagsCut : ℕ → List ℕ → Reading → Type 0
 AreFlagsCut n s o = (length s < bytes_for n) × (o ≡ more (bytes_for n - length s))
 
--- memory may be wanted: there is a flag, and its bytes are all there
+-- reading may need memory: there is a flag, and its bytes are all there
 abbrev pub AreFlagsHeavy : ℕ → List ℕ → Type 0
 AreFlagsHeavy n s = (0 < n) × (bytes_for n ≤ length s)
 

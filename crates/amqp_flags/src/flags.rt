@@ -1,4 +1,4 @@
-//! Flags: truth values under names, which travel eight to a byte.
+//! Flags: booleans under names, which travel eight to a byte.
 
 ghost use Rattle.std.specs.Prelude.{◌≡◌, ◌<◌, ◌≤◌, ◌++◌, ◌∷◌, [], map, length, string_bytes, IfOk, OnOk, OnErr};
 ghost use Rattle.amqp_flags.specs.Flags.{listed, flags_of, values_of, flag_named, number_of, pack, unpack};
@@ -8,7 +8,7 @@ use amqp_types::Boolean;
 use serde::{Deserialize, Serialize};
 use std::alloc::{AllocError, Global};
 
-/// Truth values under names, in the order in which they were added. A name may come again.
+/// Booleans under names, in the order in which they were added. A name may come again.
 #[derive(Debug, PartialEq, Serialize, Deserialize, Drop)]
 pub struct AMQPFlags {
     flags: Vec<(String, Boolean)>,
@@ -24,8 +24,8 @@ impl AMQPFlags {
         }
     }
 
-    /// Appends a flag, also where there is one of that name. Where memory is refused the flags are
-    /// as before, and the name is dropped.
+    /// Appends a flag, also where there is one of that name. Where an allocation fails the flags
+    /// are as before, and the name is dropped.
     pub fn add_flag(&mut self, name: String, flag: Boolean) -> Result<(), AllocError>
         ensures ok { OnOk result
             (flags_of self.new ≡ flags_of self.old ++ (string_bytes name, flag) ∷ []) }
@@ -35,7 +35,7 @@ impl AMQPFlags {
         Ok(())
     }
 
-    /// The truth value of the first flag of that name.
+    /// The boolean of the first flag of that name.
     pub fn get_flag(&self, name: &str) -> Option<Boolean>
         ensures { result ≡ flag_named name.now (flags_of self.now) }
     {

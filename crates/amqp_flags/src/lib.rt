@@ -1,4 +1,4 @@
-//! Flags: truth values under names, which travel eight to a byte.
+//! Flags: booleans under names, which travel eight to a byte.
 #![tactic(auto)]
 
 mod flags;

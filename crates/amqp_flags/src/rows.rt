@@ -1,6 +1,6 @@
-//! Rows and laws: what the definitions say of some flags, and of all.
+//! Worked examples and laws: what the definitions say of some flags, and of all.
 //!
-//! Nothing here does anything when it runs: the contracts are the rows and the laws.
+//! Nothing here does anything when it runs: the contracts are the examples and the laws.
 
 ghost use Rattle.std.specs.Prelude.{◌≡◌, ◌==◌, ◌<◌, ◌≤◌, ◌+◌, ◌/◌, ◌%◌, Bool, true, false, ℕ, List, [], ◌∷◌, length, slice_index, slice_index_or};
 ghost use Rattle.std.specs.Int.{bit_at};

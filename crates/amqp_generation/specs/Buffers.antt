@@ -12,8 +12,8 @@ abbrev pub answer_of : {T : Type 0} → Result T GenError → Result (Unit {0}) 
 answer_of (Ok _) = Ok tt
 answer_of (Err e) = Err e
 
--- what a buffer shows: its bytes, as many as its position says, and behind them as many as it has
--- room
+-- what a buffer is viewed as: its bytes, as many as its position says, and after them as many as it
+-- has room
 pub record IsWhole (s : Seen) : Type 0 where
   pub told : IsSome s.told
   pub counted : IfSome s.told (λ put. length put ≡ s.at)
@@ -44,12 +44,12 @@ pub record MakesRoom (is_buffer : Bool) (n : ℕ) (before : Seen) (result : Resu
   -- with fixed room it succeeds exactly where they fit
   pub fits : OnOk result (IfSome before.room (λ room. n ≤ room))
   pub succeeds : IfSome before.room (λ room. n ≤ room → IsOk result)
-  -- the refusals: where each may come
+  -- the errors: where each may come
   pub too_small : IsErrOf result BufferTooSmall → (room : ℕ) × (before.room ≡ Some room) × (room < n)
   pub too_long : IsErrOf result LengthTooLong → ⊥
   pub failed : IfErr result (λ e. (kind : ErrorKind) → e ≡ IoError kind → HasFailed before after)
   pub offset : IsErrOf result InvalidOffset → 2 ^ 64 ≤ before.at + n
-  -- memory is wanted by a buffer alone; by `no_other` its room is open
+  -- a buffer alone may run out of memory; by `no_other` its room is open
   pub memory : IsErrOf result OutOfMemory → IsTrue is_buffer
   pub no_other : IsSome before.room → IfErr result (λ e. e ≡ BufferTooSmall)
   -- faults are never taken back
@@ -59,7 +59,7 @@ pub record MakesRoom (is_buffer : Bool) (n : ℕ) (before : Seen) (result : Resu
 abbrev pub overwrite : List ℕ → ℕ → List ℕ → List ℕ
 overwrite put at bytes = take at put ++ (bytes ++ drop (at + length bytes) put)
 
--- what is shown where bytes that were put are replaced
+-- what an output is viewed as once bytes that were put are replaced
 abbrev pub filled : Seen → ℕ → List ℕ → Seen
 filled s at bytes = record s { told = option_map (λ put. overwrite put at bytes) s.told }
 
@@ -70,8 +70,8 @@ pub record GoesBack (at : ℕ) (before : Seen) (after : Seen) : Type 0 where
   pub room : after.room ≡ option_map (λ room. room + (before.at - at)) before.room
   pub faults : after.faults ≡ before.faults
 
--- The number of the bytes put behind the four from `at` on was filled in there, the highest byte
--- first; where it doesn't fit, all from `at` on was taken back.
+-- The number of the bytes put after the four from `at` on was filled in there, big-endian; where it
+-- doesn't fit, all from `at` on was taken back.
 pub record FillsLength (at : ℕ) (before : Seen) (result : Result (Unit {0}) GenError) (after : Seen) : Type 0 where
   pub fits : OnOk result (before.at - at - 4 < 2 ^ 32)
   pub filled : OnOk result (after ≡ filled before at (to_be_bytes w32 (before.at - at - 4)))

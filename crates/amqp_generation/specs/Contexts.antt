@@ -1,4 +1,4 @@
--- What a `WriteContext` shows, and what calls do to it.
+-- What a `WriteContext` is viewed as, and what calls do to it.
 use Rattle.std.specs.Prelude.{ℕ, ◌≡◌, Bool, List, Result}
 use Rattle.amqp_generation.specs.declared.error.GenError.{GenError}
 use Rattle.amqp_generation.specs.Outputs.{Seen}
@@ -13,7 +13,7 @@ output_of x = x.output
 abbrev pub start_of : {W : Type 0} → WriteContext W → ℕ
 start_of x = x.start
 
--- what its output shows, by what an output of the type shows
+-- what its output is viewed as, by how outputs of the type are viewed
 abbrev pub shown : {W : Type 0} → (W → Seen) → WriteContext W → Seen
 shown seen x = seen x.output
 

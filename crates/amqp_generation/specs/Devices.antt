@@ -6,7 +6,7 @@ use Rattle.amqp_generation.specs.declared.error.GenError.TheVariants.{IoError, I
 use Rattle.amqp_generation.specs.declared.device.IoOutput.{IoOutput}
 use Rattle.amqp_generation.specs.Outputs.{Seen}
 
--- what a device's output shows, by what the device tells of the bytes that it holds
+-- what a device's output is viewed as, by what the device tells of the bytes that it holds
 abbrev pub seen_device : {W : Type 0} → (W → Option (List ℕ)) → IoOutput W → Seen
 seen_device contents s = record { told = contents s.device; at = s.at; room = None; promise = 0; faults = s.faults; tail = [] }
 

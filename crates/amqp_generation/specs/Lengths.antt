@@ -10,12 +10,12 @@ use Rattle.amqp_generation.specs.Contexts.{start_of, shown}
 use Rattle.amqp_generation.specs.Outputs.{Seen, Writes}
 use Rattle.amqp_generation.specs.Buffers.{filled}
 
--- A call only appends, whatever it answers: the bytes put before it are a front of those after it.
+-- A call only appends, whatever it answers: the bytes put before it are a prefix of those after it.
 pub record OnlyAppends (before : Seen) (result : Result (Unit {0}) GenError) (after : Seen) : Type 0 where
-  -- what comes behind them
+  -- what comes after them
   pub more : List ℕ
   pub appended : Appends before.told after.told more
-  -- where it answers Ok, what stood behind the position is cut by as many
+  -- where it answers Ok, what stood after the position is cut by as many
   pub tail : OnOk result (after.tail ≡ drop (length more) before.tail)
 
 -- Four bytes of 0 were put to `old`, and `before` is the context then.
@@ -23,8 +23,8 @@ pub record Reserved {W : Type 0} (seen : W → Seen) (old before : WriteContext 
   pub zeros : Writes true ⊤ (replicate 4 0) (shown seen old) (Ok tt) (shown seen before)
   pub start : start_of before ≡ start_of old
 
--- Bytes were put behind the length of what they are, in four bytes. They are what a call appended,
--- of those that `may` says: from which context, with which answer, to which.
+-- Bytes were put after their length in four bytes. They are what a call appended, of those that
+-- `may` says: from which context, with which answer, to which.
 pub record PutsWithLength {W : Type 0} (seen : W → Seen) (may : WriteContext W → Result (Unit {0}) GenError → WriteContext W → Type 0) (old new : WriteContext W) : Type 0 where
   -- the context before the call and that after it
   pub before : WriteContext W
@@ -42,7 +42,7 @@ pub record PutsWithLength {W : Type 0} (seen : W → Seen) (may : WriteContext W
   pub filled : shown seen new ≡ filled (shown seen after) (shown seen old).at (to_be_bytes w32 (length more))
   pub start : start_of new ≡ start_of after
 
--- a call may answer the refusal; the count of the context begins where the call left it
+-- a call may answer the error; the count of the context begins where the call left it
 pub record MayRefuse {W : Type 0} (seen : W → Seen) (may : WriteContext W → Result (Unit {0}) GenError → WriteContext W → Type 0) (old new : WriteContext W) (e : GenError) : Type 0 where
   pub before : WriteContext W
   pub after : WriteContext W

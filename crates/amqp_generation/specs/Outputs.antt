@@ -1,4 +1,4 @@
--- Outputs: what they show of themselves, and what each call does to that.
+-- Outputs: what they are viewed as, and what each call does to that.
 use Rattle.std.specs.Prelude.{ℕ, ◌≡◌, ◌+◌, ◌-◌, ◌^◌, ◌<◌, ◌≤◌, ◌⊎◌, Bool, IsTrue, Option, Some, IsSome, IfSome, Result, IsOk, IfErr, OnOk, OnErr, IsErrOf, List, length, drop}
 use Rattle.std.specs.Option.{option_map}
 use Rattle.std.specs.declared.io.ErrorKind.{ErrorKind}
@@ -6,7 +6,7 @@ use Rattle.std.specs.Io.KnownBytes.{Appends}
 use Rattle.amqp_generation.specs.declared.error.GenError.{GenError}
 use Rattle.amqp_generation.specs.declared.error.GenError.TheVariants.{BufferTooSmall, LengthTooLong, IoError, InvalidOffset, OutOfMemory}
 
--- what an output shows
+-- what an output is viewed as
 pub record Seen : Type 0 where
   -- the bytes put so far, where the output tells them
   pub told : Option (List ℕ)
@@ -18,7 +18,7 @@ pub record Seen : Type 0 where
   pub promise : ℕ
   -- how often its device failed
   pub faults : ℕ
-  -- the bytes behind the position, where the room is fixed
+  -- the bytes after the position, where the room is fixed
   pub tail : List ℕ
 
 -- a device failed during a call, or its faults are no longer counted
@@ -32,7 +32,7 @@ pub record Writes (is_buffer : Bool) (lengths : Type 0) (bytes : List ℕ) (befo
   pub appended : OnOk result (Appends before.told after.told bytes)
   -- the position rose by their number
   pub moved : OnOk result (after.at ≡ before.at + length bytes)
-  -- what stood behind the position is cut by as many
+  -- what stood after the position is cut by as many
   pub tail : OnOk result (after.tail ≡ drop (length bytes) before.tail)
   -- a refusal leaves a buffer's position, bytes and room as they were
   pub stayed : IsTrue is_buffer → OnErr result (after.at ≡ before.at)
@@ -44,12 +44,12 @@ pub record Writes (is_buffer : Bool) (lengths : Type 0) (bytes : List ℕ) (befo
   pub room_left : OnOk result (after.room ≡ option_map (λ room. room - length bytes) before.room)
   -- with fixed room it succeeds wherever they do
   pub succeeds : lengths → IfSome before.room (λ room. length bytes ≤ room → IsOk result)
-  -- the refusals: where each may come
+  -- the errors: where each may come
   pub too_small : IsErrOf result BufferTooSmall → (room : ℕ) × (before.room ≡ Some room) × (room < length bytes)
   pub too_long : IsErrOf result LengthTooLong → lengths → ⊥
   pub failed : IfErr result (λ e. (kind : ErrorKind) → e ≡ IoError kind → HasFailed before after)
   pub offset : IsErrOf result InvalidOffset → 2 ^ 64 ≤ before.at + length bytes
-  -- memory is wanted by a buffer alone; by `no_other` its room is open
+  -- a buffer alone may run out of memory; by `no_other` its room is open
   pub memory : IsErrOf result OutOfMemory → IsTrue is_buffer
   pub no_other : IsSome before.room → IfErr result (λ e. (e ≡ BufferTooSmall) ⊎ (e ≡ LengthTooLong))
   -- faults are never taken back

@@ -1,12 +1,13 @@
--- A slice that is written from its front.
+-- A slice that is written from its start.
 use Rattle.std.specs.Prelude.{ℕ, List, Some, length}
 use Rattle.amqp_generation.specs.Outputs.{Seen}
 
--- the bytes that were written, and those behind them
+-- the bytes that were written, and those after them
 pub record Sliced : Type 0 where
   pub put : List ℕ
   pub tail : List ℕ
 
--- what it shows as an output: the room left is fixed and can't be refused, and there is no device
+-- the output that it is viewed as: the room left is fixed and can't be refused, and there is no
+-- device
 abbrev pub seen_slice : Sliced → Seen
 seen_slice s = record { told = Some s.put; at = length s.put; room = Some (length s.tail); promise = length s.tail; faults = 0; tail = s.tail }

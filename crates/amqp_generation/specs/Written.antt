@@ -8,13 +8,13 @@ use Rattle.amqp_generation.specs.declared.error.GenError.{GenError}
 use Rattle.amqp_generation.specs.declared.error.GenError.TheVariants.{LengthTooLong}
 use Rattle.amqp_generation.specs.Outputs.{Seen}
 
--- Bytes that may be read, whichever, come to what is written: no length in it is refused, and fixed
--- room for as many is enough.
+-- Where some bytes are as `Is` says, no length in what is written is refused, and fixed room for as
+-- many bytes is enough.
 pub record WritesWhatIs (Is : List ℕ → Type 0) (before : Seen) (result : Result (Unit {0}) GenError) : Type 0 where
   pub never_too_long : (w : List ℕ) → Is w → IsErrOf result LengthTooLong → ⊥
   pub succeeds : (w : List ℕ) → Is w → IfSome before.room (λ room. length w ≤ room → IsOk result)
 
--- so it is with a value's wires
+-- so it is with a value's encodings
 abbrev pub WritesWhatWasRead : Tree → Seen → Result (Unit {0}) GenError → Type 0
 WritesWhatWasRead v before result = WritesWhatIs (λ w. Wire w v) before result
 

@@ -10,7 +10,7 @@ pub enum GenError {
     /// A length doesn't fit the field that is written for it.
     #[error("length too long")]
     LengthTooLong,
-    /// A request for memory was refused.
+    /// An allocation failed.
     #[error("out of memory")]
     OutOfMemory,
     /// The device failed, in this way.

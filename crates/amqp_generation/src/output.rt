@@ -6,10 +6,10 @@ use crate::{GenError, GenResult};
 
 /// Where generators write to: bytes are put at its end.
 ///
-/// It is seen as the bytes put, a position, a room that is fixed or open, a promise of how many
+/// It is viewed as the bytes put, a position, a room that is fixed or open, a promise of how many
 /// further bytes it won't refuse, and a count of its device's faults. It is a buffer where it tells
 /// its bytes and where a refused call leaves them as they were. Only a buffer of open room may
-/// answer `OutOfMemory`: fixed room asks for none, and what a device wants is the device's own
+/// answer `OutOfMemory`: fixed room needs no memory, and what a device needs is the device's own
 /// failure.
 pub trait Output {
     ghost is_buffer: { Bool };

@@ -22,7 +22,7 @@ pub fn gen_type<W: Output>(t: AMQPType, x: &mut WriteContext<W>) -> GenResult
     x.put(&[t.get_id() as u8])
 }
 
-/// Writes the number of a class or of a method in two bytes, the highest first.
+/// Writes the number of a class or of a method in two bytes, big-endian.
 pub fn gen_id<W: Output>(n: Identifier, x: &mut WriteContext<W>) -> GenResult
     ensures put { PutsThrough W.is_buffer W.seen (to_be_bytes w16 n) x.old result x.new }
     ensures start { KeepsStart x.old x.new }
@@ -30,7 +30,7 @@ pub fn gen_id<W: Output>(n: Identifier, x: &mut WriteContext<W>) -> GenResult
     gen_short_uint(n, x)
 }
 
-/// Writes a truth value in one byte, true as 1.
+/// Writes a boolean in one byte, true as 1.
 pub fn gen_boolean<W: Output>(b: Boolean, x: &mut WriteContext<W>) -> GenResult
     ensures put { PutsThrough W.is_buffer W.seen (spelled (boolean b)) x.old result x.new }
     ensures start { KeepsStart x.old x.new }
@@ -54,7 +54,7 @@ pub fn gen_short_short_uint<W: Output>(n: ShortShortUInt, x: &mut WriteContext<W
     x.put(&u8::to_be_bytes(n))
 }
 
-/// Writes a signed number in two bytes, the highest first.
+/// Writes a signed number in two bytes, big-endian.
 pub fn gen_short_int<W: Output>(n: ShortInt, x: &mut WriteContext<W>) -> GenResult
     ensures put { PutsThrough W.is_buffer W.seen (to_be_bytes w16 (cast_unsigned w16 n)) x.old result x.new }
     ensures start { KeepsStart x.old x.new }
@@ -62,7 +62,7 @@ pub fn gen_short_int<W: Output>(n: ShortInt, x: &mut WriteContext<W>) -> GenResu
     x.put(&i16::to_be_bytes(n))
 }
 
-/// Writes a number in two bytes, the highest first.
+/// Writes a number in two bytes, big-endian.
 pub fn gen_short_uint<W: Output>(n: ShortUInt, x: &mut WriteContext<W>) -> GenResult
     ensures put { PutsThrough W.is_buffer W.seen (to_be_bytes w16 n) x.old result x.new }
     ensures start { KeepsStart x.old x.new }
@@ -70,7 +70,7 @@ pub fn gen_short_uint<W: Output>(n: ShortUInt, x: &mut WriteContext<W>) -> GenRe
     x.put(&u16::to_be_bytes(n))
 }
 
-/// Writes a signed number in four bytes, the highest first.
+/// Writes a signed number in four bytes, big-endian.
 pub fn gen_long_int<W: Output>(n: LongInt, x: &mut WriteContext<W>) -> GenResult
     ensures put { PutsThrough W.is_buffer W.seen (to_be_bytes w32 (cast_unsigned w32 n)) x.old result x.new }
     ensures start { KeepsStart x.old x.new }
@@ -78,7 +78,7 @@ pub fn gen_long_int<W: Output>(n: LongInt, x: &mut WriteContext<W>) -> GenResult
     x.put(&i32::to_be_bytes(n))
 }
 
-/// Writes a number in four bytes, the highest first.
+/// Writes a number in four bytes, big-endian.
 pub fn gen_long_uint<W: Output>(n: LongUInt, x: &mut WriteContext<W>) -> GenResult
     ensures put { PutsThrough W.is_buffer W.seen (to_be_bytes w32 n) x.old result x.new }
     ensures start { KeepsStart x.old x.new }
@@ -86,7 +86,7 @@ pub fn gen_long_uint<W: Output>(n: LongUInt, x: &mut WriteContext<W>) -> GenResu
     x.put(&u32::to_be_bytes(n))
 }
 
-/// Writes a signed number in eight bytes, the highest first.
+/// Writes a signed number in eight bytes, big-endian.
 pub fn gen_long_long_int<W: Output>(n: LongLongInt, x: &mut WriteContext<W>) -> GenResult
     ensures put { PutsThrough W.is_buffer W.seen (to_be_bytes w64 (cast_unsigned w64 n)) x.old result x.new }
     ensures start { KeepsStart x.old x.new }
@@ -94,7 +94,7 @@ pub fn gen_long_long_int<W: Output>(n: LongLongInt, x: &mut WriteContext<W>) -> 
     x.put(&i64::to_be_bytes(n))
 }
 
-/// Writes a number in eight bytes, the highest first.
+/// Writes a number in eight bytes, big-endian.
 pub fn gen_long_long_uint<W: Output>(n: LongLongUInt, x: &mut WriteContext<W>) -> GenResult
     ensures put { PutsThrough W.is_buffer W.seen (to_be_bytes w64 n) x.old result x.new }
     ensures start { KeepsStart x.old x.new }
@@ -102,7 +102,7 @@ pub fn gen_long_long_uint<W: Output>(n: LongLongUInt, x: &mut WriteContext<W>) -
     x.put(&u64::to_be_bytes(n))
 }
 
-/// Writes the bits of a floating-point number in four bytes, the highest first.
+/// Writes the bits of a floating-point number in four bytes, big-endian.
 pub fn gen_float<W: Output>(f: Float, x: &mut WriteContext<W>) -> GenResult
     ensures put { PutsThrough W.is_buffer W.seen (to_be_bytes w32 (float_bits f)) x.old result x.new }
     ensures start { KeepsStart x.old x.new }
@@ -110,7 +110,7 @@ pub fn gen_float<W: Output>(f: Float, x: &mut WriteContext<W>) -> GenResult
     gen_long_uint(f.to_bits(), x)
 }
 
-/// Writes the bits of a floating-point number in eight bytes, the highest first.
+/// Writes the bits of a floating-point number in eight bytes, big-endian.
 pub fn gen_double<W: Output>(f: Double, x: &mut WriteContext<W>) -> GenResult
     ensures put { PutsThrough W.is_buffer W.seen (to_be_bytes w64 (double_bits f)) x.old result x.new }
     ensures start { KeepsStart x.old x.new }
@@ -118,7 +118,7 @@ pub fn gen_double<W: Output>(f: Double, x: &mut WriteContext<W>) -> GenResult
     gen_long_long_uint(f.to_bits(), x)
 }
 
-/// Writes a time in eight bytes, the highest first.
+/// Writes a time in eight bytes, big-endian.
 pub fn gen_timestamp<W: Output>(n: Timestamp, x: &mut WriteContext<W>) -> GenResult
     ensures put { PutsThrough W.is_buffer W.seen (to_be_bytes w64 n) x.old result x.new }
     ensures start { KeepsStart x.old x.new }

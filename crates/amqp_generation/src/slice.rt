@@ -4,7 +4,7 @@ ghost use Rattle.amqp_generation.specs.Slices.{seen_slice};
 use crate::{BackToTheBuffer, GenError, GenResult, Output};
 use std::marker::Model;
 
-/// A slice as a buffer of fixed room, written from its front. Takes no memory.
+/// A slice as a buffer of fixed room, written from its start. Takes no memory.
 #[derive(Drop)]
 pub struct SliceOutput<'a> {
     slice: &'a mut [u8],

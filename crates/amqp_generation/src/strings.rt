@@ -10,7 +10,7 @@ ghost use Rattle.amqp_generation.specs.Contexts.{shown, KeepsStart};
 use crate::{GenError, GenResult, Output, WriteContext};
 use amqp_value_core::types::ByteArray;
 
-/// Writes a text of at most 255 bytes behind its length in one byte.
+/// Writes a text of at most 255 bytes after its length in one byte.
 ///
 /// A longer text is refused as `LengthTooLong` before a byte is put, whatever the room.
 pub fn gen_short_string<W: Output>(s: &str, x: &mut WriteContext<W>) -> GenResult
@@ -28,7 +28,7 @@ pub fn gen_short_string<W: Output>(s: &str, x: &mut WriteContext<W>) -> GenResul
     x.put(s.as_bytes())
 }
 
-/// Writes at most 4294967295 bytes behind their number in four bytes.
+/// Writes at most 4294967295 bytes after their number in four bytes.
 ///
 /// More bytes are refused as `LengthTooLong` before a byte is put, whatever the room.
 pub fn gen_long_string<W: Output>(s: &[u8], x: &mut WriteContext<W>) -> GenResult
@@ -46,7 +46,7 @@ pub fn gen_long_string<W: Output>(s: &[u8], x: &mut WriteContext<W>) -> GenResul
     x.put(s)
 }
 
-/// Writes at most 4294967295 bytes behind their number in four bytes.
+/// Writes at most 4294967295 bytes after their number in four bytes.
 ///
 /// More bytes are refused as `LengthTooLong` before a byte is put, whatever the room.
 pub fn gen_byte_array<W: Output>(a: &ByteArray, x: &mut WriteContext<W>) -> GenResult

@@ -26,8 +26,8 @@ use amqp_value_core::value::AMQPValue;
 
 /// Writes a value: the id of its type, then its payload.
 ///
-/// What is written is the value's one text: a shortest wire, which no other value has. Where the
-/// value was read, room for as many bytes as it was read from is enough.
+/// What is written is the value's canonical encoding: a shortest one, which no other value has.
+/// Where the value was read, room for as many bytes as it was read from is enough.
 #[tactic(auto, using(amqp_grammar::proofs::GrammarLaws::reading_back, amqp_grammar::proofs::GrammarLaws::is_shortest, amqp_grammar::proofs::GrammarLaws::tells_apart, amqp_grammar::proofs::GrammarLaws::is_canonical, crate::proofs::WhatWasRead::writes_what_was_read))]
 pub fn gen_value<W: BackToTheBuffer>(v: &AMQPValue, x: &mut WriteContext<W>) -> GenResult
     ensures written { Writes true (Fits (view v.now)) (text (view v.now))
@@ -81,7 +81,7 @@ pub fn gen_raw_value<W: BackToTheBuffer>(v: &AMQPValue, x: &mut WriteContext<W>)
         AMQPValue::Float(f) => gen_long_uint(f.to_bits(), x),
         AMQPValue::Double(f) => gen_long_long_uint(f.to_bits(), x),
         AMQPValue::DecimalValue(d) => {
-            // each part read on its own shows its range
+            // each part read on its own is known to be in its range
             let DecimalValue { scale, value } = d;
             let (scale, value) = (*scale, *value);
             gen_decimal_value(DecimalValue { scale, value }, x)
@@ -96,7 +96,7 @@ pub fn gen_raw_value<W: BackToTheBuffer>(v: &AMQPValue, x: &mut WriteContext<W>)
     }
 }
 
-/// Writes an array's values, each with its id, behind the number of bytes that they take.
+/// Writes an array's values, each with its id, after the number of bytes that they take.
 #[cycle(values)]
 #[tactic(auto, using(crate::proofs::WhatWasRead::writes_payload_read))]
 pub fn gen_field_array<W: BackToTheBuffer>(a: &FieldArray, x: &mut WriteContext<W>) -> GenResult
@@ -119,7 +119,7 @@ pub fn gen_field_array<W: BackToTheBuffer>(a: &FieldArray, x: &mut WriteContext<
 }
 
 /// Writes a table's entries, each its key as a short string and its value with its id, in the order
-/// of the keys' bytes, behind the number of bytes that they take.
+/// of the keys' bytes, after the number of bytes that they take.
 #[cycle(values)]
 #[tactic(auto, using(crate::proofs::WhatWasRead::writes_payload_read))]
 pub fn gen_field_table<W: BackToTheBuffer>(t: &FieldTable, x: &mut WriteContext<W>) -> GenResult
@@ -163,7 +163,7 @@ fn gen_entry<W: BackToTheBuffer>(
     Ok(())
 }
 
-// Fills in how many bytes stand behind the four from `at` on, or takes all from `at` on back.
+// Fills in how many bytes stand after the four from `at` on, or takes all from `at` on back.
 pub(super) fn fill_length<W: BackToTheBuffer>(at: u64, x: &mut WriteContext<W>) -> GenResult
     requires { at + 4 ≤ (shown W.seen x.old).at }
     ensures filled { FillsLength at (shown W.seen x.old) result (shown W.seen x.new) }

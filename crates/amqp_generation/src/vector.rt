@@ -16,7 +16,7 @@ impl From<AllocError> for GenError {
 }
 
 /// A vector as a buffer of open room, written at its end. Its position is its length, and it
-/// refuses only for want of memory.
+/// refuses only where an allocation fails.
 impl Output for Vec<u8> {
     ghost is_buffer = { true };
 

@@ -10,7 +10,7 @@ use crate::{BackToTheBuffer, GenResult, WriteContext};
 
 /// Writes the length of what `f` appends in four bytes, then that.
 ///
-/// The caller owes that `f` only appends, whatever it answers. Where `f` answers a refusal, that is
+/// The caller owes that `f` only appends, whatever it answers. Where `f` answers an error, that is
 /// answered, and where it appends more than 4294967295 bytes, `LengthTooLong`. Then the position
 /// and the bytes before it are as before.
 pub fn gen_with_len<W: BackToTheBuffer, F: FnOnce(&mut WriteContext<W>) -> GenResult>(

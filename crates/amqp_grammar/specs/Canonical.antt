@@ -1,6 +1,6 @@
--- Canonical wires: those that are told by their bytes alone as the ones that are written. No second
--- spelling of an id, a boolean's byte is 0 or 1, and each key of a table stands above the one
--- before it.
+-- Canonical encodings: those that are told by their bytes alone as the ones that are written. No
+-- second spelling of a type tag, a boolean's byte is 0 or 1, and each key of a table stands above
+-- the one before it.
 use Rattle.std.specs.Prelude.{ℕ, ◌^◌, ◌<◌, ◌≡◌, ◌≢◌, Some, List, [], ◌∷◌, ◌++◌, length}
 use Rattle.amqp_types.specs.declared.amqp_type.AMQPType.{AMQPType}
 use Rattle.amqp_types.specs.declared.amqp_type.AMQPType.TheVariants as amqp
@@ -16,11 +16,11 @@ IsStrict amqp.Boolean (c ∷ b) = c < 2
 IsStrict _ b = Unit {0}
 
 mutual
-  -- w is the canonical wire of v
+  -- w is the canonical encoding of v
   pub data Canon : List ℕ → Tree → Type 0 where
     canon : (c : ℕ) → (type : AMQPType) → (b : List ℕ) → (v : Tree) → kind c ≡ Some type → c ≢ 85 → c ≢ 76 → CanonRaw type b v → Canon (c ∷ b) v
 
-  -- b is the payload in a canonical wire
+  -- b is the payload in a canonical encoding
   pub data CanonRaw : AMQPType → List ℕ → Tree → Type 0 where
     canon_fixed : (type : AMQPType) → (f : Layout) → (b : List ℕ) → fixed type ≡ Some f → length b ≡ f.width → IsStrict type b → CanonRaw type b (scalar (f.meaning b))
     canon_long : (s : List ℕ) → length s < 2 ^ 32 → CanonRaw amqp.LongString (large s) (long s)
@@ -29,7 +29,7 @@ mutual
     -- the keys rise, so the entries are the pairs that are written
     canon_table : (body : List ℕ) → (es : Entries) → length body < 2 ^ 32 → CanonPairs body es → CanonRaw amqp.FieldTable (large body) (table es)
 
-  -- canonical wires of these values, one after another
+  -- canonical encodings of these values, one after another
   pub data CanonBody : List ℕ → Trees → Type 0 where
     no_canon_values : CanonBody [] no_trees
     canon_value : (w : List ℕ) → (rest : List ℕ) → (v : Tree) → (vs : Trees) → Canon w v → CanonBody rest vs → CanonBody (w ++ rest) (tree v vs)

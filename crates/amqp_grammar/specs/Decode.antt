@@ -9,7 +9,7 @@ use Rattle.amqp_types.specs.Ids.{kind}
 use Rattle.amqp_grammar.specs.Layouts.{fixed}
 use Rattle.amqp_grammar.specs.Outcomes.{Reading, found, more, unknown, malformed, length_field, counted, lack}
 
--- the value that the bytes behind a length field mean, if they mean one
+-- the value that the bytes after a length field mean, if they mean one
 abbrev pub Meaning : Type 0
 Meaning = AMQPType → List ℕ → Option Tree
 

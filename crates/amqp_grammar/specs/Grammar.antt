@@ -1,4 +1,4 @@
--- The grammar: which bytes are a value's wire. It says what the bytes are, and not how they are
+-- The grammar: which bytes are a value's encoding. It says what the bytes are, and not how they are
 -- read. AMQP 0-9-1, section 4.2.5.5; the length of a container is that of its body in bytes.
 use Rattle.std.specs.Prelude.{ℕ, ◌^◌, ◌<◌, ◌≡◌, Some, List, [], ◌∷◌, ◌++◌, length}
 use Rattle.std.specs.Int.{w32, to_be_bytes}
@@ -9,16 +9,16 @@ use Rattle.amqp_types.specs.Ids.{kind}
 use Rattle.amqp_grammar.specs.Layouts.{Layout, fixed}
 use Rattle.amqp_types.specs.Strings.{IsShort}
 
--- bytes behind their length in one byte
+-- bytes after their length in one byte
 abbrev pub small : List ℕ → List ℕ
 small s = length s ∷ s
 
--- bytes behind their length in four bytes
+-- bytes after their length in four bytes
 abbrev pub large : List ℕ → List ℕ
 large s = to_be_bytes w32 (length s) ++ s
 
 mutual
-  -- w is a wire of v: an id, and a payload of its type
+  -- w is an encoding of v: a type tag (id), and a payload of its type
   pub data Wire : List ℕ → Tree → Type 0 where
     wire : (c : ℕ) → (type : AMQPType) → (b : List ℕ) → (v : Tree) → kind c ≡ Some type → Raw type b v → Wire (c ∷ b) v
 
@@ -26,22 +26,22 @@ mutual
   pub data Raw : AMQPType → List ℕ → Tree → Type 0 where
     -- of a type of fixed width: that many bytes, with the meaning of the type
     raw_fixed : (type : AMQPType) → (f : Layout) → (b : List ℕ) → fixed type ≡ Some f → length b ≡ f.width → Raw type b (scalar (f.meaning b))
-    -- of a string or byte array: its bytes behind their length
+    -- of a string or byte array: its bytes after their length
     raw_short : (s : List ℕ) → IsShort s → Raw amqp.ShortString (small s) (short s)
     raw_long : (s : List ℕ) → length s < 2 ^ 32 → Raw amqp.LongString (large s) (long s)
     raw_octets : (s : List ℕ) → length s < 2 ^ 32 → Raw amqp.ByteArray (large s) (octets s)
-    -- of an array: its body behind the body's length
+    -- of an array: its body after the body's length
     raw_array : (body : List ℕ) → (vs : Trees) → length body < 2 ^ 32 → Body body vs → Raw amqp.FieldArray (large body) (array vs)
-    -- of a table: its body behind the body's length; of equal keys the last pair's value stays
+    -- of a table: its body after the body's length; of equal keys the last pair's value stays
     raw_table : (body : List ℕ) → (ps : Entries) → length body < 2 ^ 32 → Pairs body ps → Raw amqp.FieldTable (large body) (table (onto no_entries ps))
 
-  -- the bytes are wires of these values, one after another, and nothing else
+  -- the bytes are encodings of these values, one after another, and nothing else
   pub data Body : List ℕ → Trees → Type 0 where
     no_values : Body [] no_trees
     value : (w : List ℕ) → (rest : List ℕ) → (v : Tree) → (vs : Trees) → Wire w v → Body rest vs → Body (w ++ rest) (tree v vs)
 
-  -- the bytes are these pairs, one after another, and nothing else: each a key behind its length,
-  -- and a wire
+  -- the bytes are these pairs, one after another, and nothing else: each a key after its length,
+  -- and an encoding of a value
   pub data Pairs : List ℕ → Entries → Type 0 where
     no_pairs : Pairs [] no_entries
     pair : (k : List ℕ) → (w : List ℕ) → (rest : List ℕ) → (v : Tree) → (ps : Entries) → IsShort k → Wire w v → Pairs rest ps → Pairs (small k ++ (w ++ rest)) (entry k v ps)

@@ -6,26 +6,26 @@ use Rattle.amqp_input.specs.Inputs.{IsBytes}
 use Rattle.amqp_grammar.specs.Texts.{text, size, Fits}
 use Rattle.amqp_grammar.specs.Canonical.{Canon}
 
--- what v is that was read from a wire of n bytes: it can be written again, and is no larger than
--- that
+-- what v is that was read from an encoding of n bytes: it can be written again, and is no larger
+-- than that
 pub record IsBounded (n : ℕ) (v : Tree) : Type 0 where
   -- each length in it fits its field, and each value in it has an id that is read
   pub fits : Fits v
   pub readable : IsTrue (readable v)
-  -- its text has at most n bytes, and at most n values stand in it
+  -- its canonical encoding has at most n bytes, and at most n values stand in it
   pub size : size v ≤ n
   pub count : count v ≤ n
   -- it nests at most as deep as a fifth of n, rounded down
   pub depth : 5 * depth v ≤ n
 
--- the text of v is a wire of it, and none is shorter, if v has a wire
+-- the canonical encoding of v is an encoding of it, and none is shorter, if v has any
 abbrev pub IsShortest : Tree → Type 0
 IsShortest v = (w : List ℕ) → IsBytes w → Wire w v → Wire (text v) v × (length (text v) ≤ length w)
 
--- among values that have wires the text of v is that of v alone
+-- among values that have encodings the canonical one of v is that of v alone
 abbrev pub TellsApart : Tree → Type 0
 TellsApart v = (u : Tree) (w x : List ℕ) → IsBytes w → IsBytes x → Wire w v → Wire x u → (text v ≡ text u) ↔ (v ≡ u)
 
--- a list is a canonical wire of v exactly where it is the text, and v is readable
+-- w is canonical for v by its bytes (`Canon`) exactly where it is `text v`, and v is readable
 abbrev pub IsCanonical : Tree → Type 0
 IsCanonical v = (w : List ℕ) → IsBytes w → Canon w v ↔ (IsTrue (readable v) × (w ≡ text v))

@@ -1,4 +1,4 @@
--- Layouts: the payloads of fixed width, numbers with their highest byte first.
+-- Layouts: the payloads of fixed width, with numbers big-endian.
 -- AMQP 0-9-1, section 4.2.5.1 (integers), 4.2.5.2 (bits), 4.2.5.5 (decimals).
 use Rattle.std.specs.Prelude.{ℕ, List, [], ◌∷◌, ◌++◌, take, drop, Bool, true, false, Option, Some, None, ◌==◌, if◌then◌else◌}
 use Rattle.std.specs.Int.{Width, w8, w16, w32, w64, byte_len, from_be_bytes, bytes_high_first}

@@ -8,7 +8,7 @@ pub mod Values
 pub mod Layouts
 -- which bytes are an encoding of which value
 pub mod Grammar
--- what reading any bytes comes to: a value, more bytes that are needed, or a refusal
+-- what reading any bytes comes to: a value, more bytes that are needed, or an error
 pub mod Outcomes
 -- what a value is written as
 pub mod Texts

@@ -1,4 +1,4 @@
--- Nesting: how deep containers nest in a wire, with every entry that is written.
+-- Nesting: how deep containers nest in an encoding, with every entry that is written.
 use Rattle.std.specs.Prelude.{ℕ, suc, max, ◌≤◌, List}
 use Rattle.amqp_types.specs.declared.amqp_type.AMQPType.{AMQPType}
 use Rattle.amqp_grammar.specs.Values.{Tree, Trees, Entries}
@@ -26,7 +26,7 @@ abbrev mutual
   pairs_nesting _ _ no_pairs = 0
   pairs_nesting _ _ (pair k w rest v ps key first others) = max (nesting w v first) (pairs_nesting rest ps others)
 
--- w is a wire of v in which containers nest at most `depth` deep
+-- w is an encoding of v in which containers nest at most `depth` deep
 abbrev pub WireWithin : ℕ → List ℕ → Tree → Type 0
 WireWithin depth w v = (p : Wire w v) × (nesting w v p ≤ depth)
 
@@ -34,7 +34,7 @@ WireWithin depth w v = (p : Wire w v) × (nesting w v p ≤ depth)
 abbrev pub RawWithin : ℕ → AMQPType → List ℕ → Tree → Type 0
 RawWithin depth type b v = (p : Raw type b v) × (raw_nesting type b v p ≤ depth)
 
--- the bytes are wires of these values, and containers nest at most `depth` deep in each
+-- the bytes are encodings of these values, and containers nest at most `depth` deep in each
 abbrev pub BodyWithin : ℕ → List ℕ → Trees → Type 0
 BodyWithin depth body vs = (p : Body body vs) × (body_nesting body vs p ≤ depth)
 

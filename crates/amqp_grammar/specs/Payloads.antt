@@ -17,7 +17,7 @@ type_of (octets s) = amqp.ByteArray
 type_of (array vs) = amqp.FieldArray
 type_of (table es) = amqp.FieldTable
 
--- the text without its id
+-- the canonical encoding without its id
 abbrev pub payload : Tree → List ℕ
 payload (scalar x) = spelled x
 payload (short s) = small s
@@ -26,7 +26,7 @@ payload (octets s) = large s
 payload (array vs) = large (body vs)
 payload (table es) = large (pairs es)
 
--- a front of s is a payload of the type, or none is
+-- a prefix of s is a payload of the type, or none is
 abbrev pub RawFront : AMQPType → List ℕ → Reading → Type 0
 RawFront type s o = FrontBy (Raw type) s o
 

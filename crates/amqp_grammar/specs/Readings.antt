@@ -16,16 +16,16 @@ abbrev pub StillWaits : Reading → List ℕ → Type 0
 StillWaits (more n) t = length t < n
 StillWaits _ t = Unit {0}
 
--- what a value is refused as that isn't readable: a short string's id is none that is read, and a
+-- what a value is rejected as that isn't readable: a short string's id is none that is read, and a
 -- container that has one inside is no container
 abbrev pub unread : Tree → Reading
 unread (short s) = unknown
 unread _ = malformed
 
--- what reading the text of v, with `rest` behind it, comes to: v again where v is readable
+-- what reading v's canonical encoding with `rest` after it comes to: v again where v is readable
 abbrev pub read_back : Tree → List ℕ → Reading
 read_back v rest = if readable v then found v rest else unread v
 
--- a front of s is a wire, or none is
+-- a prefix of s is an encoding, or none is
 abbrev pub Front : List ℕ → Reading → Type 0
 Front s o = FrontBy Wire s o

@@ -1,4 +1,4 @@
--- The text of a value: the one wire that is written for it.
+-- The canonical encoding of a value: the one that is written for it.
 use Rattle.std.specs.Prelude.{ℕ, ◌+◌, ◌^◌, ◌<◌, List, [], ◌∷◌, ◌++◌, length}
 use Rattle.amqp_types.specs.declared.amqp_type.AMQPType.TheVariants as amqp
 use Rattle.amqp_grammar.specs.Values.{Tree, scalar, short, long, octets, array, table, Trees, no_trees, tree, Entries, no_entries, entry, scalar_type}
@@ -6,8 +6,8 @@ use Rattle.amqp_types.specs.Ids.{id_of}
 use Rattle.amqp_grammar.specs.Layouts.{width_of, spelled}
 use Rattle.amqp_grammar.specs.Grammar.{small, large}
 
--- an id and the payload; a container's payload joins the texts of its entries, behind their length:
--- in an array's order, and in the order of a table's keys, each key before its value
+-- an id and the payload; a container's payload joins the canonical encodings of its entries, after
+-- their length: in an array's order, and in the order of a table's keys, each key before its value
 abbrev mutual
   pub text : Tree → List ℕ
   text (scalar x) = id_of (scalar_type x) ∷ spelled x
@@ -25,7 +25,7 @@ abbrev mutual
   pairs no_entries = []
   pairs (entry k v es) = small k ++ (text v ++ pairs es)
 
--- how long the text is
+-- how long the canonical encoding is
 abbrev mutual
   pub size : Tree → ℕ
   size (scalar x) = 1 + width_of (scalar_type x)

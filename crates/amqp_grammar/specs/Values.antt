@@ -7,7 +7,7 @@ use Rattle.amqp_types.specs.declared.amqp_type.AMQPType.{AMQPType}
 use Rattle.amqp_types.specs.declared.amqp_type.AMQPType.TheVariants as amqp
 use Rattle.std.specs.declared.cmp.Ordering.TheVariants.{Less}
 
--- a value of fixed width: a truth value, a number as its type and its bits (a signed one in two's
+-- a value of fixed width: a boolean, a number as its type and its bits (a signed one in two's
 -- complement, a Float and a Double as they are), a decimal as its scale and its number, or nothing
 pub data Scalar : Type 0 where
   boolean : Bool → Scalar

@@ -19,8 +19,8 @@ ghost use Rattle.amqp_grammar.specs.Headline.{IsCanonical, IsBounded, IsShortest
 ghost use Rattle.amqp_grammar.specs.Maps.{has_key, value_at, last_at, IsRising};
 ghost use Rattle.amqp_types.specs.declared.amqp_type.AMQPType.TheVariants as amqp;
 
-/// A list begins with at most one wire, and that wire has one meaning. So no wire is a proper front
-/// of another.
+/// A list begins with at most one encoding, and that encoding has one meaning. So no encoding is a
+/// proper prefix of another.
 #[tactic(auto, using(crate::proofs::GrammarLaws::one_reading))]
 pub fn one_reading()
     ensures { (w u x y : List ℕ) (v z : Tree) → Wire w v → Wire u z → w ++ x ≡ u ++ y
@@ -34,16 +34,17 @@ pub fn one_raw_reading()
         → b ++ x ≡ c ++ y → (b ≡ c) × (v ≡ z) × (x ≡ y) }
 {}
 
-/// The size of a value is the number of bytes of its text. The payload is the text without its
-/// first byte, the id.
+/// The size of a value is the number of bytes of its canonical encoding. The payload is that
+/// encoding without its first byte, the id.
 #[tactic(auto, using(crate::proofs::GrammarLaws::length_of_text, crate::proofs::GrammarLaws::length_of_payload))]
 pub fn length_of_text()
     ensures text { (v : Tree) → length (text v) ≡ size v }
     ensures payload { (v : Tree) → length (payload v) + 1 ≡ size v }
 {}
 
-/// The text of a value is a wire of it, and the payload is one of its type: of every value in
-/// memory whose lengths fit their fields, and in which every value has an id that is read.
+/// The canonical encoding of a value is an encoding of it, and the payload is one of its type: of
+/// every value in memory whose lengths fit their fields, and in which every value has an id that is
+/// read.
 #[tactic(auto, using(crate::proofs::GrammarLaws::text_is_wire, crate::proofs::GrammarLaws::payload_is_raw))]
 pub fn text_is_wire()
     ensures text { (v : Tree) → IsValue v → Fits v → IsTrue (readable v) → Wire (text v) v }
@@ -51,16 +52,16 @@ pub fn text_is_wire()
         → Raw (type_of v) (payload v) v }
 {}
 
-/// Whatever follows it, the text of a value is read as that value, and what follows is left. Where
-/// the value is not readable, the text is refused.
+/// Whatever follows it, the canonical encoding of a value is read as that value, and what follows
+/// is left. Where the value is not readable, its encoding is rejected.
 #[tactic(auto, using(crate::proofs::GrammarLaws::reading_back))]
 pub fn reading_back()
     ensures { (v : Tree) (rest : List ℕ) → IsValue v → Fits v
         → Outcome (text v ++ rest) (read_back v rest) }
 {}
 
-/// What more bytes change of an outcome: they join the rest behind a value, and fewer of them than
-/// lack are that many less that lack. A refusal stays.
+/// What more bytes change of an outcome: they join the rest after a value, and fewer of them than
+/// are needed are that many less that are needed. An error stays.
 #[tactic(auto, using(crate::proofs::GrammarLaws::more_bytes, crate::proofs::GrammarLaws::more_raw_bytes))]
 pub fn more_bytes()
     ensures value { (s t : List ℕ) (o : Reading) → Outcome s o → StillWaits o t
@@ -97,8 +98,8 @@ pub fn table_is_a_map()
     ensures keys { (k : List ℕ) (es : Entries) → has_key k es ≡ is_some (value_at k es) }
 {}
 
-/// What the pairs of a wire mean: at each key the value of the last pair with it, under keys that
-/// rise. Where the pairs' own keys rise they are the table's entries as they stand.
+/// What the pairs of an encoding mean: at each key the value of the last pair with it, under keys
+/// that rise. Where the pairs' own keys rise they are the table's entries as they stand.
 #[tactic(auto, using(crate::proofs::GrammarLaws::last_stays, crate::proofs::GrammarLaws::pairs_rise, crate::proofs::GrammarLaws::rising_pairs))]
 pub fn last_pair_stays()
     ensures values { (k : List ℕ) (ps : Entries) → value_at k (onto no_entries ps) ≡ last_at k ps }
@@ -115,9 +116,9 @@ pub fn same_tables()
     ensures rising { (es : Entries) → IsValue (table es) → IsRising es }
 {}
 
-/// What is in a wire takes bytes: as many as the text of its value has, one for each value in it,
-/// and five for each container down to the deepest. A payload has one byte less, since it has no
-/// id.
+/// What is in an encoding takes bytes: as many as the canonical encoding of its value has, one for
+/// each value in it, and five for each container down to the deepest. A payload has one byte less,
+/// since it has no id.
 #[tactic(auto, using(crate::proofs::GrammarLaws::bounds, crate::proofs::GrammarLaws::raw_bounds))]
 pub fn bounds()
     ensures value { (w : List ℕ) (v : Tree) → Wire w v
@@ -126,9 +127,9 @@ pub fn bounds()
         → (size v ≤ length b + 1) × (count v ≤ length b + 1) × (5 * depth v ≤ length b + 1) }
 {}
 
-/// What a wire means can be written and read again: its lengths fit their fields, and each value in
-/// it has an id that is read. Where the wire is bytes, it is a value. The same holds of a payload,
-/// but a short string's, which no id stands for.
+/// What an encoding means can be written and read again: its lengths fit their fields, and each
+/// value in it has an id that is read. Where the encoding is bytes, what it means is a value. The
+/// same holds of a payload, but a short string's, which no id stands for.
 #[tactic(auto, using(crate::proofs::GrammarLaws::what_is_read, crate::proofs::GrammarLaws::what_raw_reads, crate::proofs::GrammarLaws::read_is_value, crate::proofs::GrammarLaws::raw_value))]
 pub fn what_is_read()
     ensures fits { (w : List ℕ) (v : Tree) → Wire w v → Fits v × IsTrue (readable v) }
@@ -139,37 +140,38 @@ pub fn what_is_read()
         → IsValue v }
 {}
 
-/// Of all wires of a value that are bytes, its text is a shortest one.
+/// Of all encodings of a value that are bytes, its canonical one is a shortest.
 #[tactic(auto, using(crate::proofs::GrammarLaws::shortest))]
 pub fn shortest()
     ensures { (w : List ℕ) (v : Tree) → IsBytes w → Wire w v
         → Wire (text v) v × (length (text v) ≤ length w) }
 {}
 
-/// Values that are read from bytes have the same text only where they are equal.
+/// Values that are read from bytes have the same canonical encoding only where they are equal.
 #[tactic(auto, using(crate::proofs::GrammarLaws::same_text_same_value))]
 pub fn same_text_same_value()
     ensures { (w u : List ℕ) (v z : Tree) → Wire w v → Wire u z → IsBytes w → IsBytes u
         → text v ≡ text z → v ≡ z }
 {}
 
-/// A canonical wire is told by its bytes alone: no second spelling of an id, no boolean but 0 or 1,
-/// and keys that rise. Bytes are such a wire of a value in memory, whose lengths fit their fields,
-/// exactly where each value in it has an id that is read and they are its text.
+/// A canonical encoding is told by its bytes alone: no second spelling of an id, no boolean but 0
+/// or 1, and keys that rise. Bytes are such an encoding of a value in memory, whose lengths fit
+/// their fields, exactly where each value in it has an id that is read and they are what is written
+/// for it.
 #[tactic(auto, using(crate::proofs::GrammarLaws::is_canonical))]
 pub fn canonical()
     ensures { (v : Tree) → IsValue v → Fits v → IsCanonical v }
 {}
 
-/// A canonical wire of any value is a wire, its value fits its fields and is readable, and where it
-/// is bytes, it is the text.
+/// A canonical encoding of any value is an encoding, its value fits its fields and is readable, and
+/// where it is bytes, it is what is written for the value.
 #[tactic(auto, using(crate::proofs::GrammarLaws::canon_is_wire, crate::proofs::GrammarLaws::canon_fits, crate::proofs::GrammarLaws::canon_is_text))]
 pub fn canonical_wire()
     ensures { (w : List ℕ) (v : Tree) → Canon w v → IsBytes w
         → Wire w v × Fits v × IsTrue (readable v) × (w ≡ text v) }
 {}
 
-/// What reading finds has a wire at the front, and keeps to the number of bytes that were taken.
+/// What reading finds has an encoding at the start, and keeps to the number of bytes taken.
 #[tactic(auto, using(crate::proofs::GrammarLaws::found_front, crate::proofs::GrammarLaws::bounded_found))]
 pub fn what_is_found()
     ensures front { (s rest : List ℕ) (v : Tree) → Outcome s (found v rest) → Front s (found v rest) }
@@ -177,8 +179,8 @@ pub fn what_is_found()
         → IsBounded (length s - length rest) v }
 {}
 
-/// The text of each value is a shortest wire of it, if it has a wire, and among values that have
-/// wires it is the text of that value alone.
+/// The canonical encoding of each value is a shortest one, if it has any, and among values that
+/// have encodings it is that of that value alone.
 #[tactic(auto, using(crate::proofs::GrammarLaws::is_shortest, crate::proofs::GrammarLaws::tells_apart))]
 pub fn what_a_text_is()
     ensures shortest { (v : Tree) → IsShortest v }

@@ -3,7 +3,7 @@
 //!
 //! The definitions lie in `specs`. The functions here do nothing when they run: the contracts of
 //! `laws` say what follows from the definitions for every list of bytes and every value, and those
-//! of `rows` what they come to for some.
+//! of `rows`, worked examples, what they come to for some.
 #![tactic(auto)]
 
 pub mod laws;

@@ -1,6 +1,6 @@
-//! Rows: what the definitions say of some bytes and of some values.
+//! Worked examples: what the definitions say of some bytes and of some values.
 //!
-//! Nothing here does anything when it runs: the contracts are the rows, and they hold by
+//! Nothing here does anything when it runs: the contracts are the examples, and they hold by
 //! computation.
 //!
 //! Bytes stand as `hex` reads them: two digits a byte, type tags and texts between quotes.
@@ -29,7 +29,7 @@ pub fn booleans()
     ensures writes_false { text (scalar (boolean false)) ≡ hex "'t' 00" }
 {}
 
-/// Numbers of one byte and of two, the highest first: where each byte is 255 a signed number is -1.
+/// Numbers of one byte and of two, big-endian: where each byte is 255 a signed number is -1.
 pub fn numbers_of_few_bytes()
     ensures byte { outcome (hex "'b' ff")
         ≡ found (scalar (number AMQPType.ShortShortInt (cast_unsigned w8 (negsuc 0)))) [] }
@@ -76,7 +76,7 @@ pub fn a_timestamp()
     ensures writes { text (scalar (number AMQPType.Timestamp 1234567890)) ≡ hex "'T' 00000000499602d2" }
 {}
 
-/// Two types have a second letter, which is read and never written.
+/// Two types have a second type tag, which is read and never written.
 pub fn second_spellings()
     ensures two_bytes { outcome (hex "'U' 0005") ≡ found (scalar (number AMQPType.ShortInt 5)) [] }
     ensures writes_two { text (scalar (number AMQPType.ShortInt 5)) ≡ hex "'s' 0005" }
@@ -107,13 +107,13 @@ pub fn a_decimal()
     ensures writes { text (scalar (decimal 2 42)) ≡ hex "'D' 02 0000002a" }
 {}
 
-/// Nothing has no payload, and what stands behind it is left.
+/// Nothing has no payload, and what stands after it is left.
 pub fn nothing()
     ensures alone { outcome (hex "'V'") ≡ found (scalar void) [] }
     ensures with_rest { outcome (hex "'V' 0a") ≡ found (scalar void) (hex "0a") }
 {}
 
-/// A long string is any bytes behind their length.
+/// A long string is any bytes after their length.
 pub fn long_strings()
     ensures word { outcome (hex "'S' 00000004 'test'") ≡ found (long (codes "test")) [] }
     ensures empty { outcome (hex "'S' 00000000 09") ≡ found (long []) (hex "09") }
@@ -127,7 +127,7 @@ pub fn byte_arrays()
     ensures writes { text (octets (hex "2a010203")) ≡ hex "'x' 00000004 2a010203" }
 {}
 
-/// A short string is written with a letter that is not read, so that it is refused alone, and
+/// A short string is written with a type tag that is not read, so that it is rejected alone, and
 /// inside an array as that array.
 pub fn short_strings_written()
     ensures writes { text (short (codes "x")) ≡ hex "'_' 01 'x'" }
@@ -137,8 +137,7 @@ pub fn short_strings_written()
     ensures not_readable { readable (array (trees_of (short (codes "x") ∷ []))) ≡ false }
 {}
 
-/// A short string is read as a payload alone: at most 255 bytes of UTF-8 behind one byte that
-/// counts them.
+/// A short string is read as a payload alone: at most 255 bytes of UTF-8 after their length.
 #[tactic(auto, using(crate::proofs::OnLiterals::empty_text, crate::proofs::OnLiterals::word_test, crate::proofs::OnLiterals::e_acute))]
 pub fn short_strings_read()
     ensures empty { raw_outcome AMQPType.ShortString (hex "00 07") ≡ found (short []) (hex "07") }
@@ -146,8 +145,8 @@ pub fn short_strings_read()
     ensures two_bytes { raw_outcome AMQPType.ShortString (hex "02 c3a9") ≡ found (short (hex "c3a9")) [] }
 {}
 
-/// Bytes that aren't UTF-8 are refused once they have come: a byte that stands in no text, a letter
-/// that is cut, a number that is written too long, half of a character.
+/// Bytes that aren't UTF-8 are rejected once they have come: a byte that stands in no text, a
+/// character that is cut, an overlong form, a surrogate.
 #[tactic(auto, using(crate::proofs::OnLiterals::byte_255, crate::proofs::OnLiterals::cut_letter, crate::proofs::OnLiterals::overlong, crate::proofs::OnLiterals::surrogate))]
 pub fn short_strings_refused()
     ensures no_text { raw_outcome AMQPType.ShortString (hex "01 ff") ≡ malformed }
@@ -166,7 +165,7 @@ pub fn an_array()
         ≡ hex "'A' 00000003 't' 01 'V'" }
 {}
 
-/// An array that holds the array of false; its frame ends before the last three bytes. With a frame
+/// An array that holds the array of false; its body ends before the last three bytes. With a body
 /// that is two bytes longer the number -1 stands in the array too.
 pub fn a_nested_array()
     ensures ends_before { outcome (hex "'A' 00000007 'A' 00000002 't' 00 'b' ff 01")
@@ -270,7 +269,7 @@ pub fn a_table_in_a_table()
         ≡ hex "'F' 0000000e 01 'a' 'F' 00000007 01 'b' 'A' 00000000" }
 {}
 
-/// A key may be empty, and may have letters of more than one byte.
+/// A key may be empty, and may have characters of more than one byte.
 #[tactic(auto, using(crate::proofs::OnLiterals::empty_text, crate::proofs::OnLiterals::e_acute))]
 pub fn other_keys()
     ensures empty { outcome (hex "'F' 00000002 00 'V'")
@@ -289,7 +288,7 @@ pub fn keys_refused()
     ensures lacks { outcome (hex "'F' 00000003 01 ff") ≡ more 1 }
 {}
 
-/// A new key goes to its place in the order of bytes, in which a front comes first; an equal key
+/// A new key goes to its place in the order of bytes, in which a prefix comes first; an equal key
 /// takes the value.
 pub fn keys_put()
     ensures first { put (codes "a") (scalar void) (entries_of ((codes "aa", scalar void) ∷ []))
@@ -312,7 +311,7 @@ pub fn keys_looked_up()
     ensures has { has_key (codes "a") (entries_of ((codes "a", scalar void) ∷ [])) ≡ true }
 {}
 
-/// Where there is no byte one lacks, and of a length of four bytes those that haven't come.
+/// Where there is no byte one is needed, and of a length of four bytes those that haven't come.
 pub fn cut_headers()
     ensures no_byte { outcome [] ≡ more 1 }
     ensures array { outcome (hex "'A' 00") ≡ more 3 }
@@ -320,8 +319,8 @@ pub fn cut_headers()
     ensures table { outcome (hex "'F'") ≡ more 4 }
 {}
 
-/// A number that is cut lacks the rest of its width. A decimal has two, which are read one after
-/// the other: first one byte lacks, then four.
+/// A number that is cut needs the rest of its width. A decimal has two, which are read one after
+/// the other: first one byte is needed, then four.
 pub fn a_cut_number()
     ensures four_bytes { outcome (hex "'I' 0000") ≡ more 2 }
     ensures eight_bytes { outcome (hex "'T' 01") ≡ more 7 }
@@ -330,13 +329,13 @@ pub fn a_cut_number()
     ensures number { outcome (hex "'D' 02 00") ≡ more 3 }
 {}
 
-/// Nine bytes of the body lack, and the unknown id in what has come isn't looked at.
+/// Nine more bytes of the body are needed, and the unknown id in what has come isn't looked at.
 pub fn a_cut_body()
     ensures lacks { outcome (hex "'A' 0000000a 'z'") ≡ more 9 }
     ensures a_byte_more { outcome (hex "'A' 0000000a 'z' 'V'") ≡ more 8 }
 {}
 
-/// A frame may lack as many bytes as a length can count, and takes no memory for them.
+/// As many bytes may be needed as a length can count, and no memory is taken for them.
 pub fn the_longest_frame()
     ensures array { outcome (hex "'A' ffffffff") ≡ more 0xffffffff }
     ensures string { outcome (hex "'S' ffffffff") ≡ more 0xffffffff }
@@ -361,13 +360,13 @@ pub fn a_cut_value_inside()
     ensures with_rest { outcome (hex "'A' 00000002 'I' 00 00002a") ≡ malformed }
 {}
 
-/// An inner frame that ends behind the outer one is malformed, though its bytes have come.
+/// An inner length-prefixed field that ends after the outer one is malformed, though it is whole.
 pub fn a_frame_past_its_body()
     ensures array { outcome (hex "'A' 00000006 'A' 00000002 't' 00") ≡ malformed }
     ensures string { outcome (hex "'A' 00000006 'S' 00000002 't' 00") ≡ malformed }
 {}
 
-/// What is written is read back, whatever stands behind it.
+/// What is written is read back, whatever stands after it.
 #[tactic(auto, using(crate::proofs::OnLiterals::letter_a))]
 pub fn reading_back()
     ensures number { outcome (text (scalar (number AMQPType.LongInt 70000)) ++ hex "21")
@@ -429,8 +428,8 @@ pub fn unsigned_numbers_of_eight_bytes()
         ≡ found (scalar (number AMQPType.Timestamp 0x2a2a2a2a2a2a2a2a)) [] }
 {}
 
-/// The nineteen letters that are read, and the types that they stand for; `_`, `z`, 0 and 200 stand
-/// for none.
+/// The nineteen type tags that are read, and the types that they stand for; `_`, `z`, 0 and 200
+/// stand for none.
 pub fn ids()
     ensures boolean { kind (byte "t") ≡ Some AMQPType.Boolean }
     ensures short_short_int { kind (byte "b") ≡ Some AMQPType.ShortShortInt }
@@ -457,7 +456,7 @@ pub fn ids()
     ensures beyond_ascii { kind 200 ≡ None }
 {}
 
-/// The letter that is written for each type.
+/// The type tag that is written for each type.
 pub fn ids_written()
     ensures boolean { id_of AMQPType.Boolean ≡ byte "t" }
     ensures short_short_int { id_of AMQPType.ShortShortInt ≡ byte "b" }
@@ -480,15 +479,15 @@ pub fn ids_written()
     ensures void { id_of AMQPType.Void ≡ byte "V" }
 {}
 
-/// The type that is read where a type's letter was written: a signed number of eight bytes for an
-/// unsigned one, none for a short string, and the type itself for every other.
+/// The type that is read where the type tag of a type was written: a signed number of eight bytes
+/// for an unsigned one, none for a short string, and the type itself for every other.
 pub fn types_read_back()
     ensures long_long_uint { read_as AMQPType.LongLongUInt ≡ Some AMQPType.LongLongInt }
     ensures short_string { read_as AMQPType.ShortString ≡ None }
     ensures other { read_as AMQPType.DecimalValue ≡ Some AMQPType.DecimalValue }
 {}
 
-/// Memory is taken only for a whole frame that counts at least one byte, whatever the bytes are.
+/// Memory is taken only for a whole length-prefixed field of at least one byte, whatever it holds.
 pub fn memory()
     ensures body { Heavy (hex "'A' 00000001 'z'") }
     ensures string { Heavy (hex "'S' 00000001 'z'") }
@@ -510,7 +509,8 @@ pub fn memory_of_payloads()
     ensures decimal { ¬ RawHeavy AMQPType.DecimalValue (hex "02 0000002a") }
 {}
 
-/// The grammar says the same: what is found has a wire, and no front of what is malformed is one.
+/// The grammar says the same: what is found has an encoding, and what is malformed has no prefix
+/// that is one.
 pub fn by_the_grammar()
     ensures array { Outcome (hex "'A' 00000003 't' 07 'V'") (found (array (trees_of (scalar (boolean true) ∷ scalar void ∷ []))) []) }
     ensures table { Outcome (hex "'F' 00000008 01 'a' 't' 01 01 'a' 't' 00") (found (table (entries_of ((codes "a", scalar (boolean false)) ∷ []))) []) }

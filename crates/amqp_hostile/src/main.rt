@@ -1,8 +1,8 @@
 //! What hostile input, small rooms and failing devices come to, a line for each.
 //!
 //! Standard input has a line of hexadecimal, the encoding of a value. What is made of it here: each
-//! beginning of it, each of its bytes replaced, each room that is too small for it, and each call
-//! of a device that writes it failed.
+//! prefix of it, each of its bytes replaced, each room that is too small for it, and each call of a
+//! device that writes it failed.
 #![tactic(auto)]
 
 mod devices;

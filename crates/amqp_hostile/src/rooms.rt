@@ -13,8 +13,8 @@ fn said(alloc: Global, answer: GenResult) -> io::Result<String> {
     Ok(format!(in alloc; "{answer:?}")?)
 }
 
-/// Prints what writing a value comes to in room for so many bytes, each 170, behind those that were
-/// put before. Where the value is written, prints how many bytes behind it are still so.
+/// Prints what writing a value comes to in room for so many bytes, each 170, after those that were
+/// put before. Where the value is written, prints how many bytes after it are still so.
 fn in_room<P: Print>(
     rt: &P,
     alloc: Global,

@@ -23,7 +23,7 @@ pub fn bytes(alloc: Global, bytes: &[u8]) -> io::Result<String> {
     Ok(format!(in alloc; "{} bytes {hash}", bytes.len())?)
 }
 
-/// Whether the bytes are an encoding of the value, and no byte is left behind it.
+/// Whether the bytes are an encoding of the value, and no byte is left after it.
 fn are_read_as(alloc: Global, bytes: &[u8], value: &AMQPValue) -> bool {
     match parse_value(alloc, SliceInput::new(bytes)) {
         Ok((rest, read)) => rest.as_slice().is_empty() && read == *value,

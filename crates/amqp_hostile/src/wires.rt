@@ -76,7 +76,7 @@ pub fn built<P: Print>(rt: &P, alloc: Global) -> io::Result<()> {
     tell(rt, alloc, "the greatest length inside", inside.as_slice())
 }
 
-/// Prints what each beginning of some bytes comes to.
+/// Prints what each prefix of some bytes comes to.
 pub fn fronts<P: Print>(rt: &P, alloc: Global, bytes: &[u8]) -> io::Result<()> {
     for n in 0..bytes.len() {
         let name = format!(in alloc; "the first {n} bytes")?;

@@ -1,6 +1,6 @@
--- Fronts of lists.
+-- Prefixes of lists.
 use Rattle.std.specs.Prelude.{ℕ, ◌≡◌, List, ◌++◌}
 
--- s begins with a
+-- a is a prefix of s
 abbrev pub IsFront : List ℕ → List ℕ → Type 0
 IsFront a s = (rest : List ℕ) × (s ≡ a ++ rest)

@@ -1,4 +1,4 @@
--- What an input of two slices shows.
+-- What an input of two slices is viewed as.
 use Rattle.std.specs.Prelude.{ℕ, List}
 use Rattle.amqp_input.specs.declared.input.split.SplitInput.{SplitInput}
 

@@ -8,10 +8,10 @@ mod split;
 
 pub use split::SplitInput;
 
-/// Bytes that a parser reads. It is seen as a list of bytes, each below 256, and its calls take no
-/// memory and copy no byte.
+/// Bytes that a parser reads. It is viewed as a list of bytes, each below 256, and its calls take
+/// no memory and copy no byte.
 ///
-/// Whoever implements it owes the clauses below, and that copies of an input show the same bytes.
+/// Whoever implements it owes the clauses below, and that copies of an input have the same bytes.
 /// Each parser of this project works over every implementor.
 pub trait ParsableInput: Copy {
     ghost bytes: { Self → List ℕ };

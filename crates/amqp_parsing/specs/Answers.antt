@@ -14,19 +14,19 @@ RightKind Is MapOpt = Is unknown
 RightKind Is Eof = Is malformed
 RightKind Is _ = ⊥
 
--- a refusal is right, where `Is` says what reading the input comes to, and memory may be wanted
--- only where `heavy` holds
+-- an error is right, where `Is` says what reading the input comes to, and memory may run out only
+-- where `heavy` holds
 abbrev pub Refuses : (Reading → Type 0) → Type 0 → Refusal → Type 0
 Refuses Is heavy (Incomplete Unknown) = ⊥
 Refuses Is heavy (Incomplete (Size n)) = Is (more n)
 Refuses Is heavy (Error kind) = RightKind Is kind
 Refuses Is heavy (Failure kind) = (kind ≡ OutOfMemory) × heavy
 
--- reading s comes to exactly one outcome: the value, the rest and the refusal are determined
+-- reading s comes to exactly one outcome: the value, the rest and the error are determined
 abbrev pub HasOneOutcome : List ℕ → Type 0
 HasOneOutcome s = (o : Reading) × Outcome s o × ((p : Reading) → Outcome s p → p ≡ o)
 
--- more bytes join the rest behind a value, are so many fewer that lack, and leave a refusal as it
--- is
+-- more bytes join the rest after a value, are so many fewer that are needed, and leave an error as
+-- it is
 abbrev pub KeepsOutcome : List ℕ → Type 0
 KeepsOutcome s = (o : Reading) (t : List ℕ) → Outcome s o → StillWaits o t → Outcome (s ++ t) (with_more o t)

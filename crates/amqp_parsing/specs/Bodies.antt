@@ -6,12 +6,13 @@ use Rattle.amqp_grammar.specs.Grammar.{large}
 use Rattle.amqp_grammar.specs.Nesting.{BodyWithin, PairsWithin}
 use Rattle.amqp_grammar.specs.Outcomes.{Reading, more, malformed, frame_lack}
 
--- bytes behind their length in four bytes are read from s, and `rest` is left
+-- bytes after their length in four bytes are read from s, and `rest` is left
 pub record IsFrame (s body rest : List ℕ) : Type 0 where
   pub framed : s ≡ large body ++ rest
   pub fits : length body < 2 ^ 32
 
--- the frame isn't all there, and lacks so many bytes: of its length, or of what that counts
+-- the length-prefixed field isn't all there, and so many more bytes are needed: of its length, or
+-- of what that counts
 abbrev pub IsCutFrame : List ℕ → Reading → Type 0
 IsCutFrame s o = (0 < frame_lack w32 s) × (o ≡ more (frame_lack w32 s))
 

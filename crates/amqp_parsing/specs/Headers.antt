@@ -1,4 +1,4 @@
--- What the id and the length field of a value tell, whatever has come behind them.
+-- What the id and the length field of a value tell, whatever has come after them.
 use Rattle.std.specs.Prelude.{ℕ, suc, ◌+◌, ◌<◌, ◌≤◌, ◌≡◌, Option, Some, None, List, [], ◌∷◌, length, take, nat_lt, if◌then◌else◌}
 use Rattle.std.specs.Int.{Width, byte_len}
 use Rattle.amqp_types.specs.declared.amqp_type.AMQPType.{AMQPType}
@@ -20,22 +20,23 @@ abbrev pub extent_at : Option AMQPType → List ℕ → ℕ
 extent_at None b = 0
 extent_at (Some type) b = suc (raw_extent type b)
 
--- how many bytes the value at the front has at least; 0 where no id tells
+-- how many bytes the value at the start has at least; 0 where no id tells
 abbrev pub extent : List ℕ → ℕ
 extent [] = 0
 extent (c ∷ b) = extent_at (kind c) b
 
--- what is lacking behind an id
+-- how many more bytes are needed after an id
 abbrev pub wanted_at : Option AMQPType → List ℕ → ℕ
 wanted_at None b = 0
 wanted_at (Some type) b = lack type b
 
--- how many bytes the field that is being read lacks; 0 where the frame is whole, or no id tells
+-- how many more bytes are needed for the field that is being read; 0 where the bytes of the payload
+-- are all there, or no id tells
 abbrev pub wanted : List ℕ → ℕ
 wanted [] = 1
 wanted (c ∷ b) = wanted_at (kind c) b
 
--- the first byte is an id, and the frame is whole
+-- the first byte is an id, and the bytes of its payload are all there
 abbrev pub IsWhole : List ℕ → Type 0
 IsWhole s = (wanted s ≡ 0) × (0 < extent s)
 
@@ -44,6 +45,6 @@ abbrev pub first_of : Option Layout → Width → ℕ
 first_of (Some f) w = f.first
 first_of None w = byte_len w
 
--- every shorter front of s asks for more, and is of a value that is within the frame
+-- every shorter prefix of s asks for more, and is of a value that is within the limit `frame`
 abbrev pub IsWaiting : ℕ → List ℕ → Type 0
 IsWaiting frame s = (n : ℕ) → n < length s → (0 < wanted (take n s)) × (extent (take n s) ≤ frame)

@@ -1,4 +1,4 @@
--- the refusals of parsers
+-- the errors of parsers
 pub mod Refusals
 -- what `parse_value` answers: the headline's words on reading
 pub mod Answers

@@ -1,4 +1,4 @@
--- Reading within limits on frame and depth.
+-- Reading within the limits `frame` and `depth`.
 use Rattle.std.specs.Prelude.{ℕ, ◌<◌, ◌≤◌, ◌≡◌, ◌/◌, ◌↔◌, IsTrue, List, ◌++◌, length}
 use Rattle.amqp_grammar.specs.Values.{Tree, readable, depth}
 use Rattle.amqp_grammar.specs.Grammar.{Wire}
@@ -17,12 +17,12 @@ use Rattle.amqp_parsing.specs.Refusals.{Refusal}
 use Rattle.amqp_parsing.specs.Answers.{Refuses}
 use Rattle.amqp_parsing.specs.Headers.{extent, wanted, IsWhole}
 
--- reading s within limits comes to o: the value has no more bytes than the frame allows, by what
--- has come of it, and containers nest within the depth
+-- reading s within limits comes to o: the value has no more bytes than the limit `frame` allows, by
+-- what has come of it, and containers nest within the depth
 abbrev pub Within : Limits → List ℕ → Reading → Type 0
 Within l s o = (extent s ≤ l.frame) × OutcomeWithin l.depth s o
 
--- a refusal to read s within limits is right
+-- an error of reading s within limits is right
 abbrev pub RefusesWithin : Limits → List ℕ → Refusal → Type 0
 RefusesWithin l s (Error TooLarge) = l.frame < extent s
 RefusesWithin l s e = (extent s ≤ l.frame) × Refuses (OutcomeWithin l.depth s) (Heavy s) e
@@ -33,14 +33,14 @@ HasOneOutcomeWithin l s =
     (extent s ≤ l.frame → (o : Reading) × Within l s o × ((p : Reading) → Within l s p → p ≡ o))
     × ((o : Reading) → l.frame < extent s → Within l s o → ⊥)
 
--- more bytes join the rest behind a value, are so many fewer that lack, and leave a refusal as it
--- is
+-- more bytes join the rest after a value, are so many fewer that are needed, and leave an error as
+-- it is
 abbrev pub KeepsOutcomeWithin : Limits → List ℕ → Type 0
 KeepsOutcomeWithin l s =
     ((o : Reading) (t : List ℕ) → Within l s o → StillWaits o t → Within l (s ++ t) (with_more o t))
     × ((t : List ℕ) → l.frame < extent s → l.frame < extent (s ++ t))
 
--- the text of v is read as v within the limits, whatever follows
+-- the canonical encoding of v is read as v within the limits, whatever follows
 abbrev pub IsReadAgain : Limits → Tree → Type 0
 IsReadAgain l v = (t : List ℕ) → Within l (text v ++ t) (found v t)
 
@@ -48,15 +48,16 @@ IsReadAgain l v = (t : List ℕ) → Within l (text v ++ t) (found v t)
 abbrev pub ReadsBack : Limits → Type 0
 ReadsBack l = (v : Tree) → IsValue v → Fits v → IsTrue (readable v) → depth v ≤ l.depth → size v ≤ l.frame → IsReadAgain l v
 
--- of the wires of v within a depth none is shorter than its text, which is one
+-- of the encodings of v within a depth none is shorter than its canonical one, which is among them
 abbrev pub IsShortestWithin : ℕ → Tree → Type 0
 IsShortestWithin d v = (w : List ℕ) → IsBytes w → WireWithin d w v → WireWithin d (text v) v × (length (text v) ≤ length w)
 
--- among values that have wires within a depth the text of v is that of v alone
+-- among values that have encodings within a depth the canonical one of v is that of v alone
 abbrev pub TellsApartWithin : ℕ → Tree → Type 0
 TellsApartWithin d v = (u : Tree) (w x : List ℕ) → IsBytes w → IsBytes x → WireWithin d w v → WireWithin d x u → (text v ≡ text u) ↔ (v ≡ u)
 
--- a wire is one that nests within each depth from a fifth of its length on
+-- bytes are an encoding exactly where they are one within each depth from a fifth of their length
+-- on
 abbrev pub IsDeepEnough : Type 0
 IsDeepEnough = (w : List ℕ) (v : Tree) → Wire w v ↔ ((d : ℕ) → length w / 5 ≤ d → WireWithin d w v)
 

@@ -1,4 +1,4 @@
--- The refusals of parsers. A `ParserErrors` is seen as its kind.
+-- The errors of parsers. A `ParserErrors` is viewed as its kind.
 use Rattle.std.specs.Prelude.{ℕ, List, codes}
 use Rattle.amqp_parsing.specs.declared.errors.Err.{Err}
 use Rattle.amqp_parsing.specs.declared.errors.Err.TheVariants.{Incomplete, Error, Failure}
@@ -6,11 +6,11 @@ use Rattle.amqp_parsing.specs.declared.errors.Needed.TheVariants.{Size}
 use Rattle.amqp_parsing.specs.declared.errors.ErrorKind.{ErrorKind}
 use Rattle.amqp_parsing.specs.declared.errors.ErrorKind.TheVariants.{MapOpt, MapRes, Eof, OutOfMemory, TooLarge}
 
--- a refusal or a number of bytes that lack, as the alias `ParserError`
+-- an error or a number of bytes that are needed, as the alias `ParserError`
 abbrev pub Refusal : Type 0
 Refusal = Err ErrorKind
 
--- the text of a refusal
+-- what an error of the kind is printed as
 abbrev pub printed : ErrorKind → List ℕ
 printed MapOpt = codes "Parser error: Nom(MapOpt)"
 printed MapRes = codes "Parser error: Nom(MapRes)"
@@ -18,7 +18,7 @@ printed Eof = codes "Parser error: Nom(Eof)"
 printed OutOfMemory = codes "Parser error: OutOfMemory"
 printed TooLarge = codes "Parser error: Nom(TooLarge)"
 
--- the field that is being read lacks n bytes
+-- n more bytes are needed for the field that is being read
 abbrev pub lacks : ℕ → Refusal
 lacks n = Incomplete (Size n)
 
@@ -26,13 +26,13 @@ lacks n = Incomplete (Size n)
 abbrev pub refused : ErrorKind → Refusal
 refused kind = Error kind
 
--- a request for memory was refused
+-- an allocation failed
 abbrev pub out_of_memory : Refusal
 out_of_memory = Failure OutOfMemory
 
--- what the refusal of an entry means for the container round it, whose body is whole: want of
--- memory stays, and whatever else keeps the entry from being read keeps the body from being a
--- concatenation of entries
+-- what the error of an entry means for the container round it, whose body is whole: a failed
+-- allocation stays one, and whatever else keeps the entry from being read keeps the body from being
+-- a concatenation of entries
 abbrev pub inside : Refusal → Refusal
 inside (Failure kind) = Failure kind
 inside _ = Error Eof

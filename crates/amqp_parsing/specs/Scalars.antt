@@ -9,20 +9,20 @@ use Rattle.amqp_parsing.specs.Refusals.{Refusal}
 use Rattle.amqp_parsing.specs.Answers.{Refuses}
 use Rattle.amqp_parsing.specs.Typed.{OnlyLacks, IsNumberRead, IsCut}
 
--- the answer is the unsigned number of the first bytes, the highest first, and what is left behind
--- them; or bytes lack, and it says how many
+-- the answer is the unsigned number of the first bytes, big-endian, and what is left after them; or
+-- more bytes are needed, and it says how many
 abbrev pub ReadsUnsigned : {I : Type 0} → Width → (I → List ℕ) → I → Result (I × ℕ) Refusal → Type 0
 ReadsUnsigned w bytes i result = MatchResult result
     (λ x. IsNumberRead w (bytes i) x.1 (bytes x.0))
     (Refuses (IsCut w (bytes i)) ⊥)
 
--- the answer is what a payload of the type at the front means, as `shown` sees it, and what is left
--- behind it; or bytes lack, and it says how many
+-- the answer is what a payload of the type at the start means, as viewed by `shown`, and what is
+-- left after it; or more bytes are needed, and it says how many
 abbrev pub ReadsScalar : {I T : Type 0} → AMQPType → (T → Scalar) → (I → List ℕ) → I → Result (I × T) Refusal → Type 0
 ReadsScalar type shown bytes i result = MatchResult result
     (λ x. RawOutcome type (bytes i) (found (scalar (shown x.1)) (bytes x.0)))
     (OnlyLacks (RawOutcome type (bytes i)) ⊥)
 
--- so it is with a number, which is seen as its bits
+-- so it is with a number, which is viewed as its bits
 abbrev pub ReadsNumber : {I T : Type 0} → AMQPType → (T → ℕ) → (I → List ℕ) → I → Result (I × T) Refusal → Type 0
 ReadsNumber type bits bytes i result = ReadsScalar type (λ n. number type (bits n)) bytes i result

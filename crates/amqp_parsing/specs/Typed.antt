@@ -13,18 +13,18 @@ use Rattle.amqp_parsing.specs.declared.errors.ErrorKind.TheVariants.{MapRes, Eof
 use Rattle.amqp_parsing.specs.Refusals.{Refusal}
 use Rattle.amqp_parsing.specs.Answers.{Refuses}
 
--- a refusal is right that comes only where bytes lack, or where memory is wanted
+-- an error is right that comes only where more bytes are needed, or where an allocation failed
 abbrev pub OnlyLacks : (Reading → Type 0) → Type 0 → Refusal → Type 0
 OnlyLacks Is heavy (Error kind) = ⊥
 OnlyLacks Is heavy e = Refuses Is heavy e
 
--- the kind of refusal where a frame is whole and is no payload of the type: a short string's bytes
--- aren't UTF-8, and a container's aren't entries
+-- the kind of error where a length-prefixed field is whole and is no payload of the type: a short
+-- string's bytes aren't UTF-8, and a container's aren't entries
 abbrev pub bad_kind : AMQPType → ErrorKind
 bad_kind amqp.ShortString = MapRes
 bad_kind _ = Eof
 
--- a refusal to read a payload of the type from s is right
+-- an error of reading a payload of the type from s is right
 abbrev pub RawRefuses : AMQPType → List ℕ → Refusal → Type 0
 RawRefuses type s (Incomplete Unknown) = ⊥
 RawRefuses type s (Incomplete (Size n)) = RawOutcome type s (more n)
@@ -40,10 +40,10 @@ abbrev pub IsNoType : List ℕ → Reading → Type 0
 IsNoType [] o = o ≡ more 1
 IsNoType (c ∷ b) o = (o ≡ unknown) × (kind c ≡ None)
 
--- n is read from s, and `rest` is left: the first bytes are those of n, the highest first
+-- n is read from s, and `rest` is left: the first bytes are those of n, big-endian
 abbrev pub IsNumberRead : Width → List ℕ → ℕ → List ℕ → Type 0
 IsNumberRead w s n rest = s ≡ to_be_bytes w n ++ rest
 
--- a number of the width isn't all there, and lacks so many bytes
+-- a number of the width isn't all there, and so many more bytes are needed
 abbrev pub IsCut : Width → List ℕ → Reading → Type 0
 IsCut w s o = (length s < byte_len w) × (o ≡ more (byte_len w - length s))

@@ -14,11 +14,11 @@ pub enum Err<E> {
     Incomplete(Needed),
     /// The input isn't what the parser reads, whatever follows.
     Error(E),
-    /// The parser gave up for want of memory, whatever the input is.
+    /// The parser ran out of memory, whatever the input is.
     Failure(E),
 }
 
-/// How many bytes lack.
+/// How many more bytes are needed.
 #[derive(Clone, Copy, Debug, PartialEq, Eq)]
 pub enum Needed {
     /// A number that isn't known. No parser of this crate answers it.
@@ -27,7 +27,7 @@ pub enum Needed {
     Size(usize),
 }
 
-/// What a refusal is.
+/// The kind of an error.
 #[derive(Clone, Copy, Debug, PartialEq, Eq)]
 pub enum ErrorKind {
     /// The byte that stands for the type of a value is no known id.
@@ -36,13 +36,13 @@ pub enum ErrorKind {
     MapRes,
     /// A container is whole, and its body isn't a concatenation of entries.
     Eof,
-    /// A request for memory was refused.
+    /// An allocation failed.
     OutOfMemory,
-    /// A value is longer than the limit on frames, by what its first bytes tell.
+    /// A value is longer than the limit `frame`, by what its first bytes tell.
     TooLarge,
 }
 
-/// The refusal of a parser.
+/// The error of a parser.
 #[derive(Clone, Debug, PartialEq, Drop)]
 pub struct ParserErrors {
     kind: ErrorKind,
@@ -59,7 +59,7 @@ impl Model for ParserErrors {
 }
 
 impl ParserErrors {
-    /// What the refusal is.
+    /// The kind of the error.
     pub fn kind(&self) -> ErrorKind
         ensures { result ≡ self.now }
     {
@@ -85,20 +85,20 @@ impl fmt::Display for ParserErrors {
 
 impl Error for ParserErrors {}
 
-/// A refusal or a number of bytes that lack.
+/// An error, or a number of bytes that are needed.
 pub type ParserError = Err<ParserErrors>;
 
 /// What a parser answers: what is left of its input, and a value; or why there is none.
 pub type ParserResult<I, T> = Result<(I, T), ParserError>;
 
-/// The field that is being read lacks `n` bytes.
+/// `n` more bytes are needed for the field that is being read.
 pub fn lacks(n: usize) -> ParserError
     ensures { result ≡ lacks n }
 {
     Err::Incomplete(Needed::Size(n))
 }
 
-/// The refusal of that kind.
+/// The error of that kind.
 pub fn refusal(kind: ErrorKind) -> ParserErrors
     ensures { result ≡ kind }
 {
@@ -112,7 +112,7 @@ pub fn refused(kind: ErrorKind) -> ParserError
     Err::Error(ParserErrors { kind })
 }
 
-/// A request for memory was refused.
+/// An allocation failed.
 pub fn out_of_memory() -> ParserError
     ensures { result ≡ out_of_memory }
 {
@@ -121,7 +121,7 @@ pub fn out_of_memory() -> ParserError
     })
 }
 
-// what the refusal of an entry means for the container round it, whose body is whole
+// what the error of an entry means for the container round it, whose body is whole
 pub(crate) fn inside(e: ParserError) -> ParserError
     ensures { result ≡ inside e }
 {

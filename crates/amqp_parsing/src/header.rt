@@ -11,16 +11,16 @@ use super::scalars::{parse_long_uint, parse_type};
 use super::traits::ParsableInput;
 use amqp_value_core::types::AMQPType;
 
-/// What the id and the length of a value tell, whatever has come behind them.
+/// What the id and the length of a value tell, whatever has come after them.
 #[derive(Clone, Copy, Debug)]
 pub enum Header {
     /// The first byte is no id.
     Unknown,
     /// The value is longer than the limit.
     TooLarge,
-    /// The field that is being read lacks so many bytes.
+    /// So many more bytes are needed for the field that is being read.
     Lacks(usize),
-    /// All of the value's frame is there.
+    /// All bytes of the value are there, by its header.
     Whole,
 }
 

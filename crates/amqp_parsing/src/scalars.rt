@@ -39,7 +39,7 @@ pub fn parse_id<I: ParsableInput>(i: I) -> ParserResult<I, Identifier>
     parse_short_uint(i)
 }
 
-/// Reads a truth value, one byte: 0 is false, every other byte true.
+/// Reads a boolean, one byte: 0 is false, every other byte true.
 #[inline(always)]
 pub fn parse_boolean<I: ParsableInput>(i: I) -> ParserResult<I, Boolean>
     ensures { ReadsScalar AMQPType.Boolean boolean I.bytes i result }

@@ -19,9 +19,9 @@ use std::alloc::Global;
 /// Reads a value as `parse_value` does, where it has at most `limits.frame` bytes and its
 /// containers nest at most `limits.depth` deep.
 ///
-/// A longer value is refused as `TooLarge` as soon as its first bytes tell, before any memory is
-/// asked for. One that nests deeper is refused as `Eof`, like any other frame that is no value;
-/// each entry that is written counts, also where its key comes again. It recurses at most
+/// A longer value is rejected as `TooLarge` as soon as its first bytes tell, before any allocation.
+/// One that nests deeper is rejected as `Eof`, like any other length-prefixed field that is no
+/// value; each entry that is written counts, also where its key comes again. It recurses at most
 /// `limits.depth` deep.
 #[tactic(auto, using(amqp_grammar::proofs::GrammarLaws::deep_enough))]
 pub fn parse_value_within<I: ParsableInput>(
@@ -46,7 +46,7 @@ pub fn parse_value_within<I: ParsableInput>(
     read_within(alloc, i, limits)
 }
 
-// Reads a value once its header tells that it is whole, and within the frame.
+// Reads a value once its header tells that it is whole, and within the limit `frame`.
 fn read_within<I: ParsableInput>(alloc: Global, i: I, limits: Limits) -> ParserResult<I, AMQPValue>
     ensures within { MatchResult result
         (λ x. Within limits (I.bytes i) (found (view x.1) (I.bytes x.0)))

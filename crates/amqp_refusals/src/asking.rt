@@ -16,7 +16,7 @@ pub trait Call {
         Ok(())
     }
 
-    /// Makes the call. Nothing else in here asks for memory.
+    /// Makes the call. Nothing else in here allocates memory.
     fn answer(&mut self, alloc: Global) -> Result<Thing, Refusal>;
 }
 
@@ -39,18 +39,18 @@ pub fn tell<R: Print>(rt: &R, alloc: Global, answer: &Result<Thing, Refusal>) ->
     Ok(answer.is_ok())
 }
 
-/// Makes a call, says where its requests for memory begin and end, and tells what it answered.
+/// Makes a call, says where its allocations begin and end, and tells what it answered.
 /// Answers whether that was Ok.
 pub fn ask<R: Print + Eprint, C: Call>(rt: &R, alloc: Global, call: &mut C) -> io::Result<bool> {
-    // Where nothing can be said, whoever counts requests finds none.
+    // Where nothing can be said, whoever counts allocations finds none.
     let _ = eprintln!(rt; "begin");
     let answer = call.answer(alloc);
     let _ = eprintln!(rt; "end");
     tell(rt, alloc, &answer)
 }
 
-/// Makes a call that is to be refused for want of memory alone. Where it is, tells what was there
-/// before the call and is there after it, and makes it once more.
+/// Makes a call that is to fail only where it runs out of memory. Where it does, tells what was
+/// there before the call and is there after it, and makes it once more.
 pub fn insist<R: Print + Eprint, C: Call>(rt: &R, alloc: Global, call: &mut C) -> io::Result<()> {
     for _ in 0..2 {
         call.make_ready(alloc)?;

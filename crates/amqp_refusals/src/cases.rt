@@ -674,7 +674,7 @@ fn of_streams<R: Print + Eprint>(rt: &R, alloc: Global, name: &str) -> io::Resul
     Ok(true)
 }
 
-/// No flags, bytes that lack, and what is looked for.
+/// No flags, too few bytes, and what is looked for.
 fn flags_without<R: Print + Eprint>(rt: &R, alloc: Global) -> io::Result<()> {
     flags::pack(rt, alloc, &[])?;
     copies::all(rt, alloc, &[Plan::Flags(&[])])?;
@@ -699,7 +699,7 @@ fn to_slices<R: Print + Eprint>(rt: &R, alloc: Global) -> io::Result<()> {
     generation::to_slice(rt, alloc, &MANY, 40)
 }
 
-/// Things that are written one behind the other. For the last there is no room.
+/// Things that are written one after the other. For the last there is no room.
 const MANY: [Plan; 3] = [
     Plan::Flags(&NAMES),
     Plan::Bytes(&[7; 20]),
@@ -786,7 +786,7 @@ const TYPES: [AMQPType; 19] = [
     AMQPType::Void,
 ];
 
-/// Wires of values that are cut, refused, empty or hold no memory.
+/// Encodings of values that are cut, rejected, empty or hold no memory.
 const VALUES: [&[u8]; 28] = [
     &[],
     &[122],

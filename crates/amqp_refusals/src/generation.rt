@@ -12,7 +12,7 @@ use amq_protocol_types::generation::{
 use std::alloc::Global;
 use std::{io, mem};
 
-/// Calls the generator of a thing. A payload is a value without its id. Bytes are put behind their
+/// Calls the generator of a thing. A payload is a value without its id. Bytes are put after their
 /// length.
 pub fn generate<W: BackToTheBuffer>(
     thing: &Thing,
@@ -64,7 +64,7 @@ impl Call for Writing {
     }
 }
 
-/// The thing of a plan, to be written behind the byte 9 of a vector.
+/// The thing of a plan, to be written after the byte 9 of a vector.
 fn make_writing(alloc: Global, plan: Plan, is_payload: bool) -> io::Result<Writing> {
     let thing = made::thing(alloc, plan)?;
     let vector = Vec::from_slice(alloc, &[9])?;
@@ -116,7 +116,7 @@ impl Call for ToSlice<'_> {
     }
 }
 
-/// The things of plans are written one behind the other. Answers what was written.
+/// The things of plans are written one after the other. Answers what was written.
 fn all_to_slice<R: Print + Eprint>(
     rt: &R,
     alloc: Global,

@@ -1,4 +1,4 @@
-//! What the cases are made of. Where memory is refused here, the case ends without a judgement.
+//! What the cases are made of. Where an allocation fails here, the case ends without a judgement.
 
 use crate::things::Thing;
 use amq_protocol_types::flags::AMQPFlags;
@@ -35,14 +35,14 @@ pub const TABLE: [u8; 199] = [
 /// The names of ten flags.
 pub const NAMES: [&str; 10] = ["a", "b", "c", "d", "e", "f", "g", "h", "i", "j"];
 
-/// A piece of a wire.
+/// A piece of an input.
 #[derive(Clone, Copy)]
 pub enum Piece {
     /// These bytes.
     Bytes(&'static [u8]),
     /// The same bytes so many times.
     Times(usize, &'static [u8]),
-    /// Pairs of 100 keys with a truth value each.
+    /// Pairs of 100 keys with a boolean each.
     Pairs,
 }
 
@@ -64,7 +64,7 @@ pub enum Kind {
 /// What a thing is made of.
 #[derive(Clone, Copy)]
 pub enum Plan {
-    /// A value of this wire.
+    /// A value of this encoding.
     Wire(&'static [u8]),
     /// That, so long.
     Of(Kind, usize),
@@ -85,7 +85,7 @@ pub fn unmade<E: Drop>(_: E) -> io::Error {
     io::Error::from(ErrorKind::OutOfMemory)
 }
 
-/// A wire of these pieces.
+/// The bytes of these pieces, joined.
 pub fn wire(alloc: Global, pieces: &[Piece]) -> Result<Vec<u8>, AllocError> {
     let mut all = Vec::new(alloc);
     for piece in pieces {
@@ -142,7 +142,7 @@ fn in_a_value(thing: Thing) -> Thing {
     }
 }
 
-/// The value of a wire.
+/// The value of an encoding.
 pub fn value(alloc: Global, wire: &[u8]) -> io::Result<AMQPValue> {
     let (_, value) = parse_value(alloc, SliceInput::new(wire)).map_err(unmade)?;
     Ok(value)

@@ -1,8 +1,8 @@
-//! Calls that may want memory, and calls that never do, each as a case of its own, to be run with
-//! one request for memory refused. The argument names the case; with none all cases are run.
+//! Calls that may need memory, and calls that never do, each as a case of its own, to be run with
+//! one allocation failing. The argument names the case; with none all cases are run.
 //!
-//! Around each call two lines go to standard error, `begin` and `end`, so that whoever refuses
-//! requests knows which of them are the call's.
+//! Around each call two lines go to standard error, `begin` and `end`, so that whoever makes
+//! allocations fail knows which of them are the call's.
 #![tactic(auto)]
 
 mod asking;

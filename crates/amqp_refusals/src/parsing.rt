@@ -24,7 +24,7 @@ use std::io;
 pub enum Parser {
     /// `parse_value`.
     Value,
-    /// `parse_value`, where the input begins with no value: it answers what it is refused as.
+    /// `parse_value`, where the input begins with no value: it answers what it is rejected as.
     NoValue,
     /// `parse_value_within` these limits.
     Within(Limits),
@@ -99,7 +99,7 @@ impl<I: ParsableInput> Call for Reading<I> {
     }
 }
 
-/// What an input that begins with no value is refused as.
+/// What an input that begins with no value is rejected as.
 fn kind_of<I: ParsableInput>(answer: ParserResult<I, AMQPValue>) -> Result<Thing, Refusal> {
     match answer {
         Ok((_rest, _value)) => Ok(Thing::Kind(None)),
@@ -158,7 +158,7 @@ fn read_number<I: ParsableInput>(kind: Number, i: I) -> Result<Thing, Refusal> {
     }
 }
 
-/// A wire is read from one slice.
+/// An input is read from one slice.
 pub fn in_one<R: Print + Eprint>(
     rt: &R,
     alloc: Global,
@@ -170,7 +170,7 @@ pub fn in_one<R: Print + Eprint>(
     insist(rt, alloc, &mut Reading { parser, input })
 }
 
-/// A wire is read from two slices, cut there.
+/// An input is read from two slices, cut there.
 pub fn in_two<R: Print + Eprint>(
     rt: &R,
     alloc: Global,
@@ -184,7 +184,7 @@ pub fn in_two<R: Print + Eprint>(
     insist(rt, alloc, &mut Reading { parser, input })
 }
 
-/// Each wire is read by each parser, once.
+/// Each input is read by each parser, once.
 pub fn once<R: Print + Eprint>(
     rt: &R,
     alloc: Global,
@@ -214,7 +214,7 @@ pub fn lengths<R: Print + Eprint>(rt: &R, alloc: Global, parsers: &[Parser]) -> 
     Ok(())
 }
 
-/// Each wire is read as a value once, and once more from two slices, cut in the middle.
+/// Each input is read as a value once, and once more from two slices, cut in the middle.
 pub fn whole_and_in_two<R: Print + Eprint>(
     rt: &R,
     alloc: Global,

@@ -47,7 +47,7 @@ impl Call for Asking {
 }
 
 /// The table from a reader that gives at most so many bytes at a time, and then its end: the call
-/// after a refusal goes on.
+/// after a failed allocation goes on.
 pub fn run<R: Print + Eprint>(rt: &R, alloc: Global, most: usize) -> io::Result<()> {
     let bytes = made::TABLE.as_slice();
     let values = ValueReader::new(alloc, Slow { bytes, most }, LIMITS);

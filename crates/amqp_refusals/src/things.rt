@@ -42,11 +42,11 @@ pub enum Thing {
     Flags(AMQPFlags),
     /// Bytes.
     Bytes(Vec<u8>),
-    /// What an input that begins with no value is refused as.
+    /// What an input that begins with no value is rejected as.
     Kind(Option<ErrorKind>),
     /// A type.
     Type(AMQPType),
-    /// A truth value.
+    /// A boolean.
     Truth(bool),
     /// A number.
     Number(i128),
@@ -57,7 +57,7 @@ pub enum Thing {
 pub enum Refusal {
     /// That of a parser.
     Parser(ParserError),
-    /// That of a request for memory.
+    /// That of an allocation.
     Memory(AllocError),
     /// That of a generator.
     Generator(GenError),
@@ -125,7 +125,7 @@ impl fmt::Display for Thing {
     }
 }
 
-/// The refusal alone, as the call gave it.
+/// The error alone, as the call gave it.
 impl fmt::Debug for Refusal {
     fn fmt<W: fmt::Write>(&self, f: &mut fmt::Formatter<W>) -> fmt::Result {
         match self {

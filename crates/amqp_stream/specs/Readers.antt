@@ -33,9 +33,9 @@ reader_of r = r.reader
 
 -- a call for the next value may answer this, where s is what was kept and then what came, `left` is
 -- what the reader has left, `now` is kept afterwards, and `failed` says whether it gives none from
--- then on: a value, whose wire s is; none, where nothing was kept or came, and the reader is at its
--- end; a refusal, which no shorter front met; that s is cut, where the reader is at its end; a
--- fault, where all of s is kept
+-- then on: a value, which s encodes; none, where nothing was kept or came, and the reader is at its
+-- end; that s is rejected, as no shorter prefix is; that s is cut, where the reader is at its end;
+-- a fault, where all of s is kept
 abbrev pub Answers : Limits → List ℕ → Option (List ℕ) → List ℕ → Bool → Result (Option AMQPValue) StreamError → Type 0
 Answers l s left now failed (Ok (Some v)) = WireWithin l.depth s (view v) × (length s ≤ l.frame) × (now ≡ []) × (failed ≡ false)
 Answers l s left now failed (Ok None) = (s ≡ []) × (now ≡ []) × (failed ≡ false) × IsAtEnd left
@@ -52,7 +52,7 @@ IsFailed _ = ⊥
 
 -- a call for the next value may answer this, where the reader tells its bytes, s is what was kept
 -- and then all that the reader held, and `left` is what it has left: what reading s within the
--- limits comes to, however the reader cuts its bytes, and with all behind the value unread
+-- limits comes to, however the reader cuts its bytes, and with all after the value unread
 abbrev pub AnswersAll : Limits → List ℕ → Option (List ℕ) → Result (Option AMQPValue) StreamError → Type 0
 AnswersAll l s left (Ok (Some v)) = (rest : List ℕ) × Within l s (found (view v) rest) × (left ≡ Some rest)
 AnswersAll l s left (Ok None) = (s ≡ []) × (left ≡ Some [])

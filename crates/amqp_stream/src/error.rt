@@ -15,7 +15,7 @@ pub enum StreamError {
     /// call goes on.
     #[error("read failed")]
     Read(io::ErrorKind),
-    /// A request for memory was refused. Nothing that came is lost, and the next call goes on.
+    /// An allocation failed. Nothing that came is lost, and the next call goes on.
     #[error("out of memory")]
     OutOfMemory,
     /// An earlier call answered `Refused` or `Truncated`. Nothing was read.

@@ -17,7 +17,7 @@ const BLOCK: usize = 8192;
 // when the reader writes over them.
 const FILLED: usize = 65_536;
 
-// The first bytes of a buffer, as many as `count` says. What is behind them is room that is filled
+// The first bytes of a buffer, as many as `count` says. What is after them is room that is filled
 // already, since what isn't filled yet can't be read into.
 #[derive(Drop)]
 pub(super) struct Pending {
@@ -52,7 +52,7 @@ fn make_room(buffer: &mut Vec<u8>, count: usize, most: usize) -> Result<usize, A
     Ok(most.min(buffer.len() - count))
 }
 
-// Asks the reader once for at most `room` bytes, and puts those that it gives behind the first
+// Asks the reader once for at most `room` bytes, and puts those that it gives after the first
 // `count`.
 fn read_behind<R: Read>(
     bytes: &mut [u8],

@@ -14,8 +14,8 @@ use std::io::Read;
 
 /// Reads values from a reader, one after another, each within limits.
 ///
-/// It reads no byte behind the value that it gives, asks for no more bytes than the field being
-/// read lacks, and keeps at most as many as a value may have.
+/// It reads no byte after the value that it gives, asks for no more bytes than are needed for the
+/// field being read, and keeps at most as many as a value may have.
 #[derive(Drop)]
 pub struct ValueReader<R> {
     values: Values,
@@ -37,7 +37,7 @@ impl<R: Read> ValueReader<R> {
         }
     }
 
-    /// The next value, or `None` where the reader ended behind the value before. After `None` a
+    /// The next value, or `None` where the reader ended after the value before. After `None` a
     /// later call asks the reader again.
     pub fn next(&mut self) -> Result<Option<AMQPValue>, StreamError>
         ensures answer { has_failed (values_of self.old) ≡ false → (x : List ℕ)

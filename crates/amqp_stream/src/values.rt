@@ -45,7 +45,7 @@ impl Values {
         }
     }
 
-    /// The next value, or `None` where the reader ended behind the value before. The reader may be
+    /// The next value, or `None` where the reader ended after the value before. The reader may be
     /// another one each time: what is kept of a value is read on in it.
     #[tactic(auto, using(amqp_parsing::proofs::ParsingLaws::kept_within))]
     pub fn next_from<R: Read>(&mut self, reader: &mut R) -> Result<Option<AMQPValue>, StreamError>

@@ -90,7 +90,7 @@ impl Read for Script<'_> {
 /// What a call answers.
 #[derive(Clone, Copy)]
 enum Answer<'a> {
-    /// The value of this wire.
+    /// The value of this encoding.
     Value(&'a [u8]),
     /// No value, since the reader ended.
     End,
@@ -100,7 +100,7 @@ enum Answer<'a> {
     Failed,
 }
 
-// whether the bytes are a wire of the value
+// whether the bytes are an encoding of the value
 fn is_wire_of(alloc: Global, bytes: &[u8], value: &AMQPValue) -> bool {
     match parse_value(alloc, SliceInput::new(bytes)) {
         Ok((rest, read)) => rest.as_slice().is_empty() && read == *value,
@@ -138,7 +138,7 @@ struct Row<'a> {
     left: &'a [u8],
 }
 
-// A reader of values, and values of a reader that is the caller's, answer as the row says, and
+// A reader of values, and values of a reader that is the caller's, answer as the case says, and
 // leave what it says, where the reader gives at most so many bytes at a time.
 fn holds_for(rt: &impl Abort, alloc: Global, row: Row<'_>, most: usize) {
     assert!(rt; 0 < row.limits.frame);
@@ -158,7 +158,7 @@ fn holds_for(rt: &impl Abort, alloc: Global, row: Row<'_>, most: usize) {
     assert_eq!(rt; reader.left(), row.left, "{}", row.says);
 }
 
-// Both answer as the row says, however the reader cuts what it gives.
+// Both answer as the case says, however the reader cuts what it gives.
 fn holds(rt: &impl Abort, alloc: Global, row: Row<'_>) {
     for most in [1, 2, 3, 7, 4096] {
         holds_for(rt, alloc, row, most);

@@ -1,4 +1,4 @@
-//! The letters of the types, and the getters of their fields.
+//! The type tags of the types, and the getters of their fields.
 
 use amqp_value_core::types::{
     AMQPType, ByteArray, DecimalValue, Double, FieldArray, FieldTable, Float, LongString,
@@ -7,7 +7,7 @@ use amqp_value_core::types::{
 use amqp_value_core::value::AMQPValue;
 use std::test::Fail;
 
-/// The letters of the types.
+/// The type tags of the types.
 const IDS: &[(char, AMQPType)] = &[
     ('t', AMQPType::Boolean),
     ('b', AMQPType::ShortShortInt),

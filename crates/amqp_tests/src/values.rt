@@ -106,7 +106,7 @@ fn placed(alloc: Global) -> Result<FieldTable, Fail> {
     Ok(table)
 }
 
-// the keys of a table, one behind another
+// the keys of a table, one after another
 fn keys_of(alloc: Global, table: &FieldTable) -> Result<String, AllocError> {
     let mut keys = String::new(alloc);
     for (k, _) in table {
@@ -223,7 +223,7 @@ fn large_strings_are_made_and_copied(rt: HostRuntime) -> Result<(), Fail> {
     Ok(())
 }
 
-// the numbers below 2000, and a byte array behind them
+// the numbers below 2000, and a byte array after them
 fn large_array(alloc: Global) -> Result<FieldArray, Fail> {
     let mut array = FieldArray::new_in(alloc);
     for n in 0..2000u32 {

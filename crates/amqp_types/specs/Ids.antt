@@ -1,11 +1,11 @@
--- Ids: the byte that stands before a value, as a letter of ASCII.
--- AMQP 0-9-1, section 4.2.1 (`field-value`), with the letters of RabbitMQ's errata, section 3.
+-- Type tags (ids): the byte that stands before a value, as an ASCII character.
+-- AMQP 0-9-1, section 4.2.1 (`field-value`), with the type tags of RabbitMQ's errata, section 3.
 use Rattle.std.specs.Prelude.{ℕ, List, [], ◌∷◌, nat_eq, Option}
 use Rattle.std.specs.Map.{lookup}
 use Rattle.amqp_types.specs.declared.amqp_type.AMQPType.{AMQPType}
 use Rattle.amqp_types.specs.declared.amqp_type.AMQPType.TheVariants as amqp
 
--- the letters that are read, each with its type; `U` and `L` are second spellings
+-- the type tags that are read, each with its type; `U` and `L` are second spellings
 abbrev pub letters : List (ℕ × AMQPType)
 letters =
     (116, amqp.Boolean)  -- t
@@ -29,11 +29,11 @@ letters =
     ∷ (86, amqp.Void)  -- V
     ∷ []
 
--- the type that a byte stands for; every byte that is no letter of the table has none
+-- the type that a byte stands for; every byte that isn't in the table has none
 abbrev pub kind : ℕ → Option AMQPType
 kind c = lookup (nat_eq c) letters
 
--- the letter that is written for a type
+-- the type tag that is written for a type
 abbrev pub id_of : AMQPType → ℕ
 id_of amqp.Boolean = 116
 id_of amqp.ShortShortInt = 98

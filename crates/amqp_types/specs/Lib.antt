@@ -6,5 +6,5 @@ pub mod Strings
 pub mod Names
 -- what numbers, long strings and byte arrays are viewed as
 pub mod Shown
--- the refusals of a text that is too long
+-- the errors for a text that is too long
 pub mod Short

@@ -9,16 +9,16 @@ use Rattle.amqp_types.specs.declared.short_string.TryCopyError.TheVariants.{TooL
 abbrev pub refused_length : ShortStringError → ℕ
 refused_length e = e.length
 
--- a text is refused for its length, which the refusal tells
+-- a text is refused for its length, which the error tells
 abbrev pub IsTooLong : List ℕ → ShortStringError → Type 0
 IsTooLong s e = (255 < length s) × (refused_length e ≡ length s)
 
--- a copy is refused for the text's length, or for want of memory where the text has at most 255
--- bytes and isn't empty
+-- a copy is refused for the text's length, or for a failed allocation where the text has at most
+-- 255 bytes and isn't empty
 abbrev pub IsCopyRefused : List ℕ → TryCopyError → Type 0
 IsCopyRefused s (TooLong e) = IsTooLong s e
 IsCopyRefused s OutOfMemory = (0 < length s) × (length s ≤ 255)
 
--- what a refusal prints
+-- what the error prints
 abbrev pub too_long_text : ShortStringError → List ℕ
 too_long_text e = codes "ShortString exceeds maximum length of 255 bytes (got " ++ (decimal (refused_length e) ++ codes ")")

@@ -10,7 +10,7 @@ use std::fmt;
 /// The type of an AMQP value.
 #[derive(Clone, Copy, Debug, PartialEq, Eq, Serialize, Deserialize)]
 pub enum AMQPType {
-    /// A truth value, a `bool`.
+    /// A boolean, a `bool`.
     Boolean,
     /// A signed number of 8 bits, an `i8`.
     ShortShortInt,
@@ -53,8 +53,8 @@ pub enum AMQPType {
 }
 
 impl AMQPType {
-    /// The type that an id stands for: the letters of RabbitMQ's errata. Two are second spellings:
-    /// `U` is read as `s` is, and `L` as `l`.
+    /// The type that an id stands for: the type tags of RabbitMQ's errata. Two are second
+    /// spellings: `U` is read as `s` is, and `L` as `l`.
     #[inline(always)]
     #[tactic(auto, using(crate::proofs::Ids::kind_read))]
     pub fn from_id(id: char) -> Option<AMQPType>
@@ -83,7 +83,7 @@ impl AMQPType {
         }
     }
 
-    /// The id that is written for the type, a letter of ASCII or `_`.
+    /// The type tag (id) that is written for the type, an ASCII letter or `_`.
     pub fn get_id(self) -> char
         ensures id { result ≡ id_of self }
         ensures read_back { kind result ≡ read_as self }

@@ -5,7 +5,7 @@ use serde::{Deserialize, Serialize};
 /// isn't computed here.
 #[derive(Clone, Copy, Debug, PartialEq, Eq, Hash, Serialize, Deserialize)]
 pub struct DecimalValue {
-    /// How many digits stand behind the point.
+    /// How many digits stand after the point.
     pub scale: ShortShortUInt,
     /// The digits, as a number.
     pub value: LongUInt,

@@ -1,6 +1,6 @@
 //! Names of AMQP for types of Rust.
 
-/// A truth value.
+/// A boolean.
 pub type Boolean = bool;
 /// A signed number of 8 bits.
 pub type ShortShortInt = i8;

@@ -58,8 +58,8 @@ impl ShortString {
         Ok(ShortString { text: s })
     }
 
-    /// A copy of the text, where it has at most 255 bytes. A longer one is refused before memory is
-    /// asked for, and an empty one takes none.
+    /// A copy of the text, where it has at most 255 bytes. A longer one is refused before any
+    /// allocation, and an empty one takes no memory.
     pub fn try_copy(alloc: Global, s: &str) -> Result<ShortString, TryCopyError>
         ensures ok { IfOk result (λ short. short ≡ s.now) }
         ensures fits { OnOk result (length s.now ≤ 255) }
@@ -212,7 +212,7 @@ pub enum TryCopyError {
     /// It has more than 255 bytes.
     #[error(transparent)]
     TooLong(ShortStringError),
-    /// A request for memory was refused.
+    /// An allocation failed.
     #[error("out of memory")]
     OutOfMemory,
 }

@@ -4,7 +4,7 @@ use Rattle.amqp_types.specs.declared.amqp_type.AMQPType.{AMQPType}
 use Rattle.amqp_grammar.specs.Values.{boolean, number, decimal, void, Tree, scalar, short, long, octets, array, table, Trees, Entries}
 use Rattle.amqp_value_core.specs.Equality.{place_of}
 
--- the truth value
+-- the boolean
 abbrev pub truth_in : Tree → Option Bool
 truth_in (scalar (boolean b)) = Some b
 truth_in _ = None

@@ -9,7 +9,7 @@ use Rattle.amqp_value_core.specs.declared.value.AMQPValue.TheOpen.{AMQPValue-F, 
 use Rattle.amqp_grammar.specs.Values.{boolean, number, decimal, void, Tree, scalar, short, long, octets, array, table, Trees, trees_of, Entries, entries_of}
 use Rattle.amqp_types.specs.Shown.{float_bits, double_bits, long_bytes, octets_of}
 
--- one level, with each value inside already seen as its tree
+-- one level, with each value inside already viewed as its tree
 abbrev pub view_step : AMQPValue-F Tree Trees Entries → Tree
 view_step (AMQPValue-F.Boolean b) = scalar (boolean b)
 view_step (AMQPValue-F.ShortShortInt z) = scalar (number amqp.ShortShortInt (cast_unsigned w8 z))

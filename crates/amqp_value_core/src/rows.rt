@@ -1,6 +1,6 @@
-//! Rows: what the definitions say of some values in memory.
+//! Worked examples: what the definitions say of some values in memory.
 //!
-//! Nothing here does anything when it runs: the contracts are the rows, and they hold by
+//! Nothing here does anything when it runs: the contracts are the examples, and they hold by
 //! computation.
 
 ghost use Rattle.std.specs.Prelude.{◌≡◌, negsuc};

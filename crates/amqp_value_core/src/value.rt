@@ -10,7 +10,7 @@ use crate::types::{
 #[cycle(values)]
 #[derive(Debug, Drop)]
 pub enum AMQPValue {
-    /// A truth value.
+    /// A boolean.
     Boolean(Boolean),
     /// A signed number of 8 bits.
     ShortShortInt(ShortShortInt),

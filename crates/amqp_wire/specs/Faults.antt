@@ -5,7 +5,7 @@ use Rattle.std.specs.declared.io.ErrorKind.TheVariants as kind
 use Rattle.amqp_wire.specs.declared.fault.WireFault.{WireFault}
 use Rattle.amqp_wire.specs.declared.fault.WireFault.TheVariants.{OutOfMemory, Io}
 
--- want of memory where the kind says so, and a failure of input or output for any other kind
+-- out of memory where the kind says so, and a failure of input or output for any other kind
 abbrev pub fault_of : ErrorKind → WireFault
 fault_of kind.OutOfMemory = OutOfMemory
 fault_of _ = Io

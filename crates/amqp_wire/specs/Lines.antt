@@ -14,7 +14,7 @@ use Rattle.amqp_parsing.specs.declared.limits.Limits.{Limits}
 use Rattle.amqp_wire.specs.declared.line.Form.{Form}
 use Rattle.amqp_wire.specs.declared.line.Form.TheVariants as form
 
--- what is said of a value, behind which n bytes are left: its text in hexadecimal, and n
+-- what is said of a value after which n bytes are left: its canonical encoding in hexadecimal, n
 abbrev pub said_of_value : Tree → ℕ → List ℕ
 said_of_value v n = codes "value " ++ (encode_lower (text v) ++ (codes " rest " ++ decimal n))
 
@@ -65,7 +65,7 @@ output xs = output_by (λ s. said (outcome s)) xs
 abbrev pub output_within : Limits → List ℕ → List ℕ
 output_within l xs = output_by (λ s. said_within (read_within l s)) xs
 
--- known bytes grow by a front of the text
+-- known bytes grow by a prefix of the text
 abbrev pub AppendsFront : Option (List ℕ) → Option (List ℕ) → List ℕ → Type 0
 AppendsFront old new text = (front : List ℕ) × (rest : List ℕ) × (text ≡ front ++ rest) × Appends old new front
 
@@ -73,6 +73,6 @@ AppendsFront old new text = (front : List ℕ) × (rest : List ℕ) × (text ≡
 abbrev pub Answers : (List ℕ → List ℕ) → Option (List ℕ) → Option (List ℕ) → Option (List ℕ) → Type 0
 Answers answer input old new = IfSome input (λ xs. Appends old new (answer xs))
 
--- or by a front of it
+-- or by a prefix of it
 abbrev pub AnswersFront : (List ℕ → List ℕ) → Option (List ℕ) → Option (List ℕ) → Option (List ℕ) → Type 0
 AnswersFront answer input old new = IfSome input (λ xs. AppendsFront old new (answer xs))

@@ -13,7 +13,7 @@ use Rattle.amqp_wire.specs.Lines.{read_within}
 abbrev pub value_line : Tree → List ℕ
 value_line v = codes "value " ++ (encode_lower (text v) ++ 10 ∷ [])
 
--- the last line, where no value begins: nothing is left, or a value is cut, or it is refused
+-- the last line, where no value begins: nothing is left, or a value is cut, or it is rejected
 abbrev pub cut_line : List ℕ → List ℕ
 cut_line [] = codes "end\n"
 cut_line (c ∷ s) = codes "truncated\n"
@@ -25,7 +25,7 @@ last_line s (Some malformed) = codes "refused Eof\n"
 last_line s (Some (more n)) = cut_line s
 last_line s (Some (found v rest)) = []
 
--- by what reading s comes to: the line of a value, and the lines of what is left behind it, or a
+-- by what reading s comes to: the line of a value, and the lines of what is left after it, or a
 -- last line
 abbrev pub stream_step : (List ℕ → List ℕ) → List ℕ → Option Reading → List ℕ
 stream_step others s (Some (found v rest)) = value_line v ++ others rest
@@ -38,7 +38,7 @@ stream_text l (suc n) s = stream_step (stream_text l n) s (read_within l s)
 
 -- ---- the same as a relation
 
--- s begins with wires of these values, one behind another, each within the limits, and `left` is
+-- s begins with encodings of these values, one after another, each within the limits, and `left` is
 -- left
 abbrev pub BeginsWith : Limits → List ℕ → List Tree → List ℕ → Type 0
 BeginsWith l s [] left = s ≡ left
@@ -48,7 +48,7 @@ BeginsWith l s (v ∷ vs) left = (w : List ℕ) × (rest : List ℕ) × (s ≡ w
 abbrev pub BeginsNone : Limits → List ℕ → Type 0
 BeginsNone l s = (w rest : List ℕ) (v : Tree) → s ≡ w ++ rest → WireWithin l.depth w v → length w ≤ l.frame → ⊥
 
--- the values of a stream, as many as stand one behind another, and what is left behind them
+-- the values of a stream, as many as stand one after another, and what is left after them
 abbrev pub AreValues : Limits → List ℕ → List Tree → List ℕ → Type 0
 AreValues l s vs left = BeginsWith l s vs left × BeginsNone l left
 
@@ -68,13 +68,13 @@ AreLines l most s = (vs : List Tree) (left : List ℕ) → AreValues l s vs left
 abbrev pub HasLines : Limits → ℕ → Type 0
 HasLines l most = (s : List ℕ) → IsBytes s → ((vs : List Tree) × (left : List ℕ) × AreValues l s vs left) × AreLines l most s
 
--- where s begins with n values, all behind them is left
+-- where s begins with n values, all after them is left
 abbrev pub Leaves : Limits → ℕ → List ℕ → Option (List ℕ) → Type 0
 Leaves l n s now = (vs : List Tree) (left : List ℕ) → BeginsWith l s vs left → length vs ≡ n → now ≡ Some left
 
 -- ---- one line
 
--- a line of the stream s, and whether it is a value's, behind which `left` is left; or else it is
+-- a line of the stream s, and whether it is a value's, after which `left` is left; or else it is
 -- the last line
 abbrev pub IsLine : Limits → List ℕ → Option (List ℕ) → List ℕ → Bool → Type 0
 IsLine l s left line true = (v : Tree) × (rest : List ℕ) × IsBytes rest × (read_within l s ≡ Some (found v rest)) × BeginsWith l s (v ∷ []) rest × (line ≡ value_line v) × (left ≡ Some rest)

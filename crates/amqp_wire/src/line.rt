@@ -31,7 +31,8 @@ pub enum Form {
     Within(Limits),
 }
 
-/// The text of a value in hexadecimal. It is written to `room` bytes first, which hold it.
+/// The canonical encoding of a value in hexadecimal. It is written to `room` bytes first, which
+/// hold it.
 fn hex_of(alloc: Global, value: &AMQPValue, room: usize) -> Result<String, AllocError>
     requires fits { Fits (view value.now) }
     requires room { size (view value.now) ≤ room }
@@ -44,8 +45,8 @@ fn hex_of(alloc: Global, value: &AMQPValue, room: usize) -> Result<String, Alloc
     hex::encode(alloc, output.written())
 }
 
-/// What is said of a value that was read from `count` bytes, of which `rest` is left behind it. Its
-/// text gets as much room as its wire took.
+/// What is said of a value that was read from `count` bytes, of which `rest` is left after it. It
+/// is written to as much room as it was read from.
 fn value_answer<I: ParsableInput>(
     alloc: Global,
     value: &AMQPValue,
@@ -73,7 +74,7 @@ pub fn name_of(kind: ErrorKind) -> &'static str
     }
 }
 
-/// What is said of a refusal.
+/// What is said of an error.
 fn refusal_answer(alloc: Global, error: ParserError) -> Result<String, WireFault>
     requires { IsTold error }
     ensures { IfOk result (λ answer. IsSaid error (string_bytes answer)) }

@@ -1,5 +1,5 @@
 //! Reads lines of hexadecimal text from standard input, and answers each with a line that says what
-//! its bytes are read as: a value, a number of bytes that lack, or a refusal.
+//! its bytes are read as: a value, how many more bytes are needed, or an error.
 #![tactic(auto)]
 
 mod fault;

@@ -45,7 +45,7 @@ pub fn run_split<R: Read, W: Write>(
 }
 
 /// Does what `run` does, and reads each value within the limits: one that has more bytes, or nests
-/// deeper, is refused.
+/// deeper, is rejected.
 pub fn run_within<R: Read, W: Write>(
     alloc: Global,
     reader: &mut R,

@@ -33,7 +33,7 @@ fn line_of(alloc: Global, value: &AMQPValue) -> Result<Vec<u8>, WireFault>
     Ok(format!(in alloc; "value {hex}\n")?.into_bytes())
 }
 
-/// The last line where a value is refused.
+/// The last line where a value is rejected.
 fn refused_line(alloc: Global, kind: ErrorKind) -> Result<Vec<u8>, AllocError>
     ensures { IfOk result (λ line. line.items ≡ codes "refused " ++ (kind_name kind ++ 10 ∷ [])) }
 {
@@ -74,7 +74,7 @@ fn next_line<R: Read>(
 
 /// Reads values from the reader within the limits until there are `most`, and writes a line for
 /// each. Where there are fewer a last line says why: the reader ended, or ended inside a value, or
-/// what came is refused. No byte behind the last value is read.
+/// what came is rejected. No byte after the last value is read.
 pub fn run_stream<R: Read, W: Write>(
     alloc: Global,
     reader: &mut R,

@@ -19,7 +19,7 @@ enum Program {
     Lines,
     /// Lines whose bytes are cut after so many.
     Split(usize),
-    /// Lines within a longest frame and a greatest depth.
+    /// Lines within the limits `frame` and `depth`.
     Within(u32, u32),
     /// A stream within those, of so many values at most.
     Stream(u32, u32, usize),

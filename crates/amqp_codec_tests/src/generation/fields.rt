@@ -96,7 +96,7 @@ fn fields_fill_their_room(rt: HostRuntime) {
     }
 }
 
-// Writes all fields, one behind another.
+// Writes all fields, one after another.
 pub(super) fn put_all<W: Output>(rt: &impl Abort, x: &mut WriteContext<W>) {
     for (field, _) in WRITTEN {
         assert_eq!(rt; put(*field, x), Ok(()));

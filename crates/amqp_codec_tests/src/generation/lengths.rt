@@ -7,12 +7,12 @@ use amq_protocol_types::AMQPType;
 use amq_protocol_types::generation::*;
 use std::test::Fail;
 
-// Puts one byte behind two lengths.
+// Puts one byte after two lengths.
 fn put_behind_two_lengths<W: BackToTheBuffer>(x: &mut WriteContext<W>) -> GenResult {
     gen_with_len(|y| gen_with_len(|z| z.put(&[7]), y), x)
 }
 
-// Puts two numbers behind their length.
+// Puts two numbers after their length.
 fn put_two_numbers<W: BackToTheBuffer>(x: &mut WriteContext<W>) -> GenResult {
     gen_with_len(
         |y: &mut WriteContext<W>| -> GenResult

@@ -7,7 +7,7 @@ use amqp_value_core::value::AMQPValue;
 use std::alloc::{AllocError, Global};
 use std::test::Fail;
 
-// whether the bytes are a table of one key, with a truth value
+// whether the bytes are a table of one key, with a boolean
 fn reads_entry(alloc: Global, bytes: &[u8], key: &str, truth: bool) -> bool {
     match parse_value(alloc, SliceInput::new(bytes)) {
         Ok((_rest, AMQPValue::FieldTable(table))) => is_entry(&table, key, truth),
@@ -16,7 +16,7 @@ fn reads_entry(alloc: Global, bytes: &[u8], key: &str, truth: bool) -> bool {
     }
 }
 
-// whether a table has one key, with a truth value
+// whether a table has one key, with a boolean
 fn is_entry(table: &FieldTable, key: &str, truth: bool) -> bool {
     match table.inner().iter().next() {
         Some((k, AMQPValue::Boolean(b))) => {
@@ -93,7 +93,7 @@ fn tells_why_there_is_no_container(rt: HostRuntime) {
     assert!(rt; refuses(table, ErrorKind::Eof));
 }
 
-// so many pairs with the key `k` and true, and one more with false, behind their length
+// so many pairs with the key `k` and true, and one more with false, after their length
 fn many_pairs(alloc: Global) -> Result<Vec<u8>, AllocError> {
     let mut bytes = Vec::from_slice(alloc, &[70, 0, 0, 70, 84])?;
     for _ in 0..4500 {

@@ -12,7 +12,7 @@ const ONES: &[u8] = &[255, 255, 255, 255, 255, 255, 255, 255];
 
 const MIXED: &[u8] = &[64, 73, 15, 219, 0, 0, 0, 0];
 
-/// What each field is read of, and how many bytes are left behind it.
+/// What each field is read of, and how many bytes are left after it.
 const READ: &[(Field, &[u8], usize)] = &[
     (Boolean(false), ZEROS, 7),
     (Boolean(true), ONES, 7),

@@ -1,4 +1,4 @@
-//! Wires that stand one behind another.
+//! Encodings that stand one after another.
 
 use super::*;
 use std::alloc::AllocError;
@@ -29,7 +29,7 @@ const TABLE: &[u8] = &[
     3, 102, 111, 111, 68, 55, 0, 0, 3, 231, // its foo: DecimalValue
 ];
 
-/// The wires.
+/// The encodings.
 const WIRES: &[&[u8]] = &[
     TABLE,
     &[116, 7],
@@ -56,7 +56,7 @@ const ANSWERS: &[Answer<'static>] = &[
     Answer::End,
 ];
 
-/// All wires in one.
+/// All encodings in one.
 pub(super) fn joined(alloc: Global) -> Result<Vec<u8>, AllocError> {
     let mut bytes = Vec::new(alloc);
     for wire in WIRES {
@@ -65,7 +65,7 @@ pub(super) fn joined(alloc: Global) -> Result<Vec<u8>, AllocError> {
     Ok(bytes)
 }
 
-// Within frames of so many bytes they are answered so, and this is left.
+// Within a limit `frame` of so many bytes they are answered so, and this is left.
 fn are_answered(
     rt: &impl Abort,
     alloc: Global,
@@ -95,7 +95,7 @@ fn are_read_one_by_one(rt: HostRuntime) -> Result<(), Fail> {
     Ok(())
 }
 
-/// Each value is the one that is read of its wire alone.
+/// Each value is the one that is read of its encoding alone.
 #[test]
 fn are_read_as_alone(rt: HostRuntime) -> Result<(), Fail> {
     let bytes = joined(rt.alloc())?;

@@ -1,4 +1,4 @@
-//! A large frame.
+//! A large value.
 
 use super::*;
 use std::alloc::AllocError;
@@ -21,7 +21,7 @@ fn is_text_of_sevens(answer: Result<Option<AMQPValue>, StreamError>, length: usi
     }
 }
 
-// The reader gives the long string and nothing behind it.
+// The reader gives the long string and nothing after it.
 fn gives_it(rt: &impl Abort, alloc: Global, reader: impl Read + Drop) {
     let limits = Limits {
         frame: 1048576,

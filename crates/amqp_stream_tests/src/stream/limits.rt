@@ -30,13 +30,13 @@ const TEXT: &[u8] = &[83, 0, 0, 0, 1, 97];
 /// What an input comes to.
 #[derive(Clone, Copy)]
 pub(super) enum Outcome<'a> {
-    /// The value of this wire, and so many bytes as rest.
+    /// The value of this encoding, and so many bytes as rest.
     Value(&'a [u8], usize),
     Needs(usize),
     Refused(ErrorKind),
 }
 
-/// What an input comes to: the longest frame, the greatest depth, the input and the outcome.
+/// What an input comes to: the limits `frame` and `depth`, the input and the outcome.
 const CASES: &[(u32, u32, &[u8], Outcome<'static>)] = &[
     // a value keeps both limits
     (10, 2, NESTED, Value(NESTED, 0)),
@@ -55,8 +55,8 @@ const CASES: &[(u32, u32, &[u8], Outcome<'static>)] = &[
     (20, 2, DEEP_FIRST, Refused(ErrorKind::Eof)),
     (20, 3, DEEP_LAST, Value(KEPT, 0)),
     (20, 2, DEEP_LAST, Refused(ErrorKind::Eof)),
-    // what lacks is told before what is wrong inside, and a frame that's too large before what
-    // lacks
+    // how many bytes are needed is told before what is wrong inside, and that a value is too large
+    // before how many are needed
     (10, 1, &[65], Needs(4)),
     (10, 0, &[65, 0, 0, 0, 5, 122], Needs(4)),
     (9, 0, &[65, 0, 0, 0, 5, 122], Refused(ErrorKind::TooLarge)),
@@ -69,7 +69,7 @@ const CASES: &[(u32, u32, &[u8], Outcome<'static>)] = &[
     (6, 0, &[68], Needs(1)),
     (6, 0, &[68, 2, 0], Needs(3)),
     (1, 0, &[116], Refused(ErrorKind::TooLarge)),
-    // what is behind a value is the rest
+    // what is after a value is the rest
     (1, 0, &[86, 122], Value(&[86], 1)),
     (2, 0, &[116, 7, 65, 0], Value(&[116, 1], 2)),
 ];

@@ -1,4 +1,4 @@
-//! Requests for memory that are refused. Each run of these tests may have one of them refused.
+//! Allocations that fail. Each run of these tests may have one of them fail.
 
 use super::*;
 use amq_protocol_types::parsing::Err;
@@ -21,7 +21,7 @@ fn is_table_of(value: &AMQPValue, key: &str, text: &[u8]) -> bool {
     }
 }
 
-// What a call answers, made again once if it gave up for want of memory.
+// What a call answers, made again once if it ran out of memory.
 fn patient_next(
     values: &mut Values,
     reader: &mut Script<'_>,
@@ -32,7 +32,7 @@ fn patient_next(
     }
 }
 
-/// The call after one that gave up for want of memory gives the value.
+/// The call after one that ran out of memory gives the value.
 #[test]
 fn want_of_memory_loses_nothing(rt: HostRuntime) {
     let events = [Event::Gives(BYTES)];
@@ -57,7 +57,7 @@ fn want_of_memory_loses_nothing(rt: HostRuntime) {
     assert!(rt; matches!(patient_next(&mut values, &mut reader), Ok(None)));
 }
 
-/// A frame past the limit is refused with no request for memory.
+/// A value past the limit is rejected with no allocation.
 #[test]
 fn a_refusal_takes_no_memory(rt: HostRuntime) {
     let limits = Limits { frame: 9, depth: 2 };

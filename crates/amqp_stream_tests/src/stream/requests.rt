@@ -4,8 +4,8 @@ use super::joined::joined;
 use super::*;
 use std::test::Fail;
 
-/// How many bytes the field lacks that's being read, once these have come of a value. It is 0 where
-/// the value is whole, and where no more bytes would help.
+/// How many more bytes are needed for the field that's being read, once these have come of a value.
+/// It is 0 where the value is whole, and where no more bytes would help.
 fn lack(bytes: &[u8]) -> usize {
     let wanted = match bytes {
         [] | [b'V', ..] => 1,
@@ -40,7 +40,7 @@ fn lack_is_by_fields(rt: HostRuntime) {
     }
 }
 
-/// A request: how many bytes it is for, and how many the field lacked then.
+/// A request: how many bytes it is for, and how many the field still needed then.
 #[derive(Clone, Copy)]
 struct Request {
     most: usize,
@@ -83,14 +83,14 @@ impl Read for Noting<'_> {
     }
 }
 
-// whether each request is for a byte at least, and for no more than what lacks
+// whether each request is for a byte at least, and for no more than are needed
 fn are_modest(requests: &[Request]) -> bool {
     requests
         .iter()
         .all(|request| 0 < request.most && request.most <= request.lack)
 }
 
-// Requests for the values of these bytes, which are so many, and for what is no value behind them
+// Requests for the values of these bytes, which are so many, and for what is no value after them
 // are modest, where at most so many bytes come at a time.
 fn asks_modestly_for(
     rt: &impl Abort,
@@ -127,7 +127,7 @@ const REPEATED: &[u8] = &[
     70, 0, 0, 0, 15, 1, 97, 65, 0, 0, 0, 5, 65, 0, 0, 0, 0, 1, 97, 86,
 ];
 
-/// The longest frame, the greatest depth, the bytes and how many values they begin with.
+/// The limits `frame` and `depth`, the bytes and how many values they begin with.
 const ROWS: &[(u32, u32, &[u8], usize)] = &[
     (
         9,

@@ -1,7 +1,7 @@
 //! `clone`: a copy in memory of its own. It goes as deep as the value nests.
 //!
-//! Where memory is refused, what was copied so far is dropped. What has no bytes, no values and no
-//! entries takes no memory.
+//! Where an allocation fails, what was copied so far is dropped. What has no bytes, no values and
+//! no entries takes no memory.
 
 ghost use Rattle.std.specs.Prelude.{◌≡◌, [], IfOk, IsOk};
 ghost use Rattle.amqp_grammar.specs.Light.{IsLight};
@@ -34,8 +34,8 @@ impl FieldTable {
 }
 
 impl AMQPValue {
-    /// A copy of the value, and of each value in it. A number, a truth value, Void and what is
-    /// empty take no memory.
+    /// A copy of the value, and of each value in it. A number, a boolean, Void and what is empty
+    /// take no memory.
     pub fn clone(&self, alloc: Global) -> Result<AMQPValue, AllocError>
         ensures same { IfOk result (λ v. view v ≡ view self.now) }
         ensures light { IsLight (view self.now) → IsOk result }

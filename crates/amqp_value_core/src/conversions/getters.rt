@@ -18,7 +18,7 @@ impl AMQPValue {
     ghost use Rattle.amqp_value_core.specs.Containers.{array_view, table_view};
     ghost use Rattle.amqp_value_core.specs.Getters.{truth_in, number_in, decimal_in, short_in, long_in, octets_in, array_in, table_in, is_void};
 
-    /// The truth value, of a `Boolean`.
+    /// The boolean, of a `Boolean`.
     pub fn as_bool(&self) -> Option<Boolean>
         ensures { result ≡ truth_in (view self.now) }
     {

@@ -28,7 +28,7 @@ impl FieldArray {
         self.items.as_slice()
     }
 
-    /// Appends a value. Where memory is refused the array is as before, and the value is dropped.
+    /// Appends a value. Where an allocation fails the array is as before, and the value is dropped.
     pub fn push(&mut self, v: AMQPValue) -> Result<(), AllocError>
         ensures ok { OnOk result (array_items self.new ≡ array_items self.old ++ v ∷ []) }
         ensures err { OnErr result (array_items self.new ≡ array_items self.old) }

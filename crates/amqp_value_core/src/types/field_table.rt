@@ -46,7 +46,7 @@ impl FieldTable {
     }
 
     /// Puts a value at a key, in the place of the one that was there, and hands back the table.
-    /// Where memory is refused the table is as before, and the key and the value are dropped.
+    /// Where an allocation fails the table is as before, and the key and the value are dropped.
     pub fn insert(&mut self, k: ShortString, v: AMQPValue) -> Result<&mut FieldTable, AllocError>
         ensures* unchanged_at_err { sem 𝓛 (Rests self.entry result) }
         ensures same { IfOk result (λ r. r.ghost_name ≡ self.entry.ghost_name) }

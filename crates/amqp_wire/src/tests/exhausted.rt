@@ -20,7 +20,7 @@ const LARGEST: usize = 1 << 44;
 
 const SIZES: usize = 41;
 
-/// Takes blocks of this size until one is refused.
+/// Takes blocks of this size until an allocation fails.
 fn take_blocks(alloc: Global, blocks: &mut Vec<Vec<u8>>, size: usize) {
     for _ in 0..BLOCKS {
         let Ok(block) = Vec::with_capacity(alloc, size) else {

@@ -108,7 +108,7 @@ const READERS: &[(Program, &[u8], ErrorKind, Result<(), WireFault>, &str)] = &[
         Err(WireFault::OutOfMemory),
         "value 56\n",
     ),
-    // a reader that fails behind the last value isn't asked
+    // a reader that fails after the last value isn't asked
     (
         Stream(9, 2, 2),
         &[86, 86],
