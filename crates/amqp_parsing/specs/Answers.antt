@@ -14,13 +14,17 @@ RightKind Is MapOpt = Is unknown
 RightKind Is Eof = Is malformed
 RightKind Is _ = ⊥
 
--- an error is right, where `Is` says what reading the input comes to, and memory may run out only
--- where `heavy` holds
+-- an error is right, where `IsError` says which kinds of `Error` are, `Is` what reading the input
+-- comes to, and memory may run out only where `heavy` holds
+abbrev pub RefusesAs : (ErrorKind → Type 0) → (Reading → Type 0) → Type 0 → Refusal → Type 0
+RefusesAs IsError Is heavy (Incomplete Unknown) = ⊥
+RefusesAs IsError Is heavy (Incomplete (Size n)) = Is (more n)
+RefusesAs IsError Is heavy (Error kind) = IsError kind
+RefusesAs IsError Is heavy (Failure kind) = (kind ≡ OutOfMemory) × heavy
+
+-- an error of reading a value is right
 abbrev pub Refuses : (Reading → Type 0) → Type 0 → Refusal → Type 0
-Refuses Is heavy (Incomplete Unknown) = ⊥
-Refuses Is heavy (Incomplete (Size n)) = Is (more n)
-Refuses Is heavy (Error kind) = RightKind Is kind
-Refuses Is heavy (Failure kind) = (kind ≡ OutOfMemory) × heavy
+Refuses Is heavy e = RefusesAs (RightKind Is) Is heavy e
 
 -- reading s comes to exactly one outcome: the value, the rest and the error are determined
 abbrev pub HasOneOutcome : List ℕ → Type 0

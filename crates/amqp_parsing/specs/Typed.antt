@@ -6,17 +6,14 @@ use Rattle.amqp_types.specs.declared.amqp_type.AMQPType.TheVariants as amqp
 use Rattle.amqp_types.specs.Ids.{kind}
 use Rattle.amqp_grammar.specs.Outcomes.{Reading, more, unknown, malformed, RawHeavy}
 use Rattle.amqp_grammar.specs.Payloads.{RawOutcome}
-use Rattle.amqp_parsing.specs.declared.errors.Err.TheVariants.{Incomplete, Error, Failure}
-use Rattle.amqp_parsing.specs.declared.errors.Needed.TheVariants.{Unknown, Size}
 use Rattle.amqp_parsing.specs.declared.errors.ErrorKind.{ErrorKind}
-use Rattle.amqp_parsing.specs.declared.errors.ErrorKind.TheVariants.{MapRes, Eof, OutOfMemory}
+use Rattle.amqp_parsing.specs.declared.errors.ErrorKind.TheVariants.{MapRes, Eof}
 use Rattle.amqp_parsing.specs.Refusals.{Refusal}
-use Rattle.amqp_parsing.specs.Answers.{Refuses}
+use Rattle.amqp_parsing.specs.Answers.{RefusesAs}
 
 -- an error is right that comes only where more bytes are needed, or where an allocation failed
 abbrev pub OnlyLacks : (Reading → Type 0) → Type 0 → Refusal → Type 0
-OnlyLacks Is heavy (Error kind) = ⊥
-OnlyLacks Is heavy e = Refuses Is heavy e
+OnlyLacks Is heavy e = RefusesAs (λ _. ⊥) Is heavy e
 
 -- the kind of error where a length-prefixed field is whole and is no payload of the type: a short
 -- string's bytes aren't UTF-8, and a container's aren't entries
@@ -26,10 +23,7 @@ bad_kind _ = Eof
 
 -- an error of reading a payload of the type from s is right
 abbrev pub RawRefuses : AMQPType → List ℕ → Refusal → Type 0
-RawRefuses type s (Incomplete Unknown) = ⊥
-RawRefuses type s (Incomplete (Size n)) = RawOutcome type s (more n)
-RawRefuses type s (Error kind) = (kind ≡ bad_kind type) × RawOutcome type s malformed
-RawRefuses type s (Failure kind) = (kind ≡ OutOfMemory) × RawHeavy type s
+RawRefuses type s e = RefusesAs (λ kind. (kind ≡ bad_kind type) × RawOutcome type s malformed) (RawOutcome type s) (RawHeavy type s) e
 
 -- a type is read from s, and `rest` is left: the first byte is an id of it
 abbrev pub IsType : List ℕ → AMQPType → List ℕ → Type 0
