@@ -1,0 +1,11 @@
+//! Reading in place: a value where its bytes lie, with no memory and no copy.
+#![tactic(auto)]
+
+mod getters;
+mod head;
+mod read;
+mod refs;
+mod steps;
+
+pub use read::read_in_place;
+pub use refs::{ArrayRef, TableRef, ValueRef};
