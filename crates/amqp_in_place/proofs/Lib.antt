@@ -1,3 +1,6 @@
 pub mod HeadLemmas
 pub mod Reading
 pub mod Stepping
+pub mod Lookups
+pub mod Owning
+pub mod OneValue

@@ -3,3 +3,4 @@ pub mod Refs
 pub mod Heads
 pub mod Walks
 pub mod Answers
+pub mod Left

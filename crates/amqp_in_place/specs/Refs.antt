@@ -1,5 +1,5 @@
 -- Values in place: what they stand for.
-use Rattle.std.specs.Prelude.{ℕ, ◌≡◌, List, Option, Some, None}
+use Rattle.std.specs.Prelude.{ℕ, ◌≡◌, ◌<◌, List, length, Option, Some, None}
 use Rattle.std.specs.Int.{w8, w16, w32, w64, cast_unsigned}
 use Rattle.amqp_types.specs.declared.amqp_type.AMQPType.TheVariants as amqp
 use Rattle.amqp_types.specs.Numbers.{float_bits, double_bits}
@@ -43,6 +43,10 @@ Stands (at.FieldArray a) v = (vs : Trees) × Body (array_body a) vs × (v ≡ ar
 Stands (at.FieldTable t) v = (es : Entries) × HasEntries (table_body t) es × (v ≡ table es)
 Stands r v = v ≡ plain_tree r
 
+-- it is one value
+abbrev pub IsOneValue : ValueRef → Type 0
+IsOneValue r = (u v : Tree) → Stands r u → Stands r v → u ≡ v
+
 -- an array of these values, or a table of these entries, is referred to, if there is one
 abbrev pub ArrayIs : Option Trees → Option ArrayRef → Type 0
 ArrayIs None None = Unit {0}
@@ -53,3 +57,11 @@ abbrev pub TableIs : Option Entries → Option TableRef → Type 0
 TableIs None None = Unit {0}
 TableIs (Some es) (Some t) = HasEntries (table_body t) es
 TableIs _ _ = ⊥
+
+-- a string, a byte array or the body of a container has at least one byte
+abbrev pub HasBytes : ValueRef → Type 0
+HasBytes (at.LongString s) = 0 < length s.now
+HasBytes (at.ByteArray s) = 0 < length s.now
+HasBytes (at.FieldArray a) = 0 < length (array_body a)
+HasBytes (at.FieldTable t) = 0 < length (table_body t)
+HasBytes _ = ⊥

@@ -1,5 +1,5 @@
 -- Stepping through bodies in place.
-use Rattle.std.specs.Prelude.{ℕ, ◌≡◌, ◌<◌, List, length, Option, Some, None}
+use Rattle.std.specs.Prelude.{ℕ, zero, suc, ◌≡◌, ◌<◌, List, length, Option, Some, None}
 use Rattle.std.specs.Borrow.{Bor}
 use Rattle.amqp_grammar.specs.Values.{Tree, Trees, no_trees, tree, Entries, no_entries, entry}
 use Rattle.amqp_grammar.specs.Grammar.{Pairs, Body}
@@ -48,3 +48,9 @@ abbrev pub FoundIs : Option Tree → Option ValueRef → Type 0
 FoundIs None None = Unit {0}
 FoundIs (Some v) (Some r) = Stands r v
 FoundIs _ _ = ⊥
+
+-- the value at a place of an array, counted from 0
+abbrev pub tree_at : ℕ → Trees → Option Tree
+tree_at n no_trees = None
+tree_at zero (tree v vs) = Some v
+tree_at (suc n) (tree v vs) = tree_at n vs

@@ -3,9 +3,13 @@
 
 mod getters;
 mod head;
+mod iter;
+mod lookup;
+mod owned;
 mod read;
 mod refs;
 mod steps;
 
+pub use iter::{ArrayValues, TablePairs};
 pub use read::read_in_place;
 pub use refs::{ArrayRef, TableRef, ValueRef};

@@ -1,13 +1,13 @@
 //! Reading a value in place.
 
-ghost use Rattle.std.specs.Prelude.{◌≡◌, true, false, length, MatchResult, IfErr};
+ghost use Rattle.std.specs.Prelude.{◌≡◌, true, false, length, MatchResult, IfErr, IfOk};
 ghost use Rattle.amqp_grammar.specs.Values.{Tree, Trees, Entries};
 ghost use Rattle.amqp_grammar.specs.Nesting.{BodyWithin, PairsWithin, OutcomeWithin};
 ghost use Rattle.amqp_grammar.specs.Outcomes.{found, malformed};
 ghost use Rattle.amqp_input.specs.Inputs.{slice_bytes};
 ghost use Rattle.amqp_parsing.specs.Answers.{Refuses, IsNoBody, IsTable, IsNoTable};
 ghost use Rattle.amqp_parsing.specs.Limits.{Within, RefusesWithin};
-ghost use Rattle.amqp_in_place.specs.Refs.{Stands};
+ghost use Rattle.amqp_in_place.specs.Refs.{Stands, IsOneValue};
 ghost use Rattle.amqp_in_place.specs.Answers.{NeedsNoMemory};
 
 use super::head::{Head, read_head, read_key};
@@ -23,11 +23,13 @@ use std::str;
 ///
 /// All of the value is checked, keys' UTF-8 too. Nothing is copied, and no memory is taken. It recurses
 /// at most `limits.depth` deep.
+#[tactic(auto, using(crate::proofs::OneValue::one_value))]
 pub fn read_in_place(bytes: &[u8], limits: Limits) -> Result<(ValueRef<'_>, &[u8]), ParserError>
     ensures within { MatchResult result
         (λ x. (v : Tree) × Stands x.0 v × Within limits bytes.now (found v x.1.now))
         (RefusesWithin limits bytes.now) }
     ensures no_memory { IfErr result NeedsNoMemory }
+    ensures one { IfOk result (λ x. IsOneValue x.0) }
 {
     let i = SliceInput::new(bytes);
     match header_of(i, limits.frame) {
