@@ -1,14 +1,15 @@
 //! Reading in place: a value where its bytes lie, with no memory and no copy.
 #![tactic(auto)]
 
+mod arrays;
 mod getters;
 mod head;
 mod iter;
-mod lookup;
 mod owned;
 mod read;
 mod refs;
 mod steps;
+mod tables;
 
 pub use iter::{ArrayValues, TablePairs};
 pub use read::read_in_place;

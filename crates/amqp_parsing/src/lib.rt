@@ -14,6 +14,7 @@ pub mod values;
 mod within;
 
 pub use amqp_input::{SliceInput, SplitInput};
+pub use bytes::copy_of;
 pub use errors::{Err, ErrorKind, Needed, ParserError, ParserErrors, ParserResult};
 pub use flags::parse_flags;
 pub use limits::Limits;

@@ -1,16 +1,20 @@
-//! What stands in a container.
+//! What stands in a table.
 
-ghost use Rattle.std.specs.Prelude.{◌≡◌, ◌↔◌, IsTrue};
-ghost use Rattle.amqp_grammar.specs.Values.{Trees, Entries, no_trees, no_entries};
+ghost use Rattle.std.specs.Prelude.{◌≡◌, ◌<◌, ◌↔◌, IsTrue, length, MatchResult};
+ghost use Rattle.amqp_grammar.specs.Values.{Entries, no_entries};
 ghost use Rattle.amqp_grammar.specs.Maps.{has_key, value_at};
-ghost use Rattle.amqp_grammar.specs.Grammar.{Body, Pairs};
+ghost use Rattle.amqp_grammar.specs.Grammar.{Pairs};
+ghost use Rattle.amqp_value_core.specs.View.{table_view};
 ghost use Rattle.amqp_in_place.specs.Bodies.{HasEntries};
-ghost use Rattle.amqp_in_place.specs.Refs.{array_body, table_body};
-ghost use Rattle.amqp_in_place.specs.Walks.{FoundIs, tree_at};
+ghost use Rattle.amqp_in_place.specs.Refs.{table_body};
+ghost use Rattle.amqp_in_place.specs.Walks.{FoundIs};
 
-use super::refs::{ArrayRef, TableRef, ValueRef};
-use super::steps::{next_pair, next_value};
+use super::refs::{TableRef, ValueRef};
+use super::steps::next_pair;
 use amqp_input::ParsableInput;
+use amqp_parsing::values::parse_pairs;
+use amqp_value_core::types::FieldTable;
+use std::alloc::{AllocError, Global};
 
 impl<'a> TableRef<'a> {
     /// Whether there is no entry.
@@ -42,29 +46,18 @@ impl<'a> TableRef<'a> {
     {
         self.get(key).is_some()
     }
-}
 
-impl<'a> ArrayRef<'a> {
-    /// Whether there is no value.
-    pub fn is_empty(self) -> bool
-        ensures { (vs : Trees) → Body (array_body self.entry) vs → IsTrue result ↔ (vs ≡ no_trees) }
+    /// The table in memory of its own, which `parse_value` gives. No entries take no memory.
+    #[tactic(auto, using(crate::proofs::Owning::entries_of_table))]
+    pub fn to_owned(self, alloc: Global) -> Result<FieldTable, AllocError>
+        ensures { MatchResult result
+            (λ t. HasEntries (table_body self.entry) (table_view t))
+            (λ _. 0 < length (table_body self.entry)) }
     {
-        self.body().input_len() == 0
-    }
-
-    /// The value at `index`, counted from 0. Walks the values before it.
-    pub fn get(self, index: usize) -> Option<ValueRef<'a>>
-        ensures { (vs : Trees) → Body (array_body self.entry) vs → FoundIs (tree_at index vs) result }
-    {
-        let mut left = index;
-        let mut rest = self.body();
-        'values: while let Some((value, behind)) = next_value(rest) {
-            if left == 0 {
-                return Some(value);
-            }
-            left -= 1;
-            rest = behind;
+        let body = self.body();
+        match parse_pairs(alloc, body, body.input_len()) {
+            Ok(table) => Ok(table),
+            Err(_) => Err(AllocError),
         }
-        None
     }
 }
