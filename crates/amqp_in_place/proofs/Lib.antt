@@ -4,3 +4,4 @@ pub mod Stepping
 pub mod Lookups
 pub mod Owning
 pub mod OneValue
+pub mod Skipping

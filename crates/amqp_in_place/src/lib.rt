@@ -8,9 +8,11 @@ mod iter;
 mod owned;
 mod read;
 mod refs;
+mod skip;
 mod steps;
 mod tables;
 
 pub use iter::{ArrayValues, TablePairs};
 pub use read::read_in_place;
 pub use refs::{ArrayRef, TableRef, ValueRef};
+pub use skip::skip_value;
