@@ -3,6 +3,7 @@
 
 pub mod flags;
 pub mod generation;
+pub mod in_place;
 pub mod parsing;
 pub mod stream;
 

@@ -5,10 +5,10 @@ ghost use Rattle.std.specs.Prelude.{◌≡◌, ◌<◌, IfOk, OnErr, length};
 use super::traits::ParsableInput;
 use std::alloc::{AllocError, Global};
 
-// A copy of all bytes of the input. Takes no memory where there is no byte.
+/// A copy of all bytes of the input. Takes no memory where there is no byte.
 #[inline(always)]
 #[tactic(auto, using(crate::proofs::Copies::whole_front))]
-pub(crate) fn copy_of<I: ParsableInput>(alloc: Global, input: I) -> Result<Vec<u8>, AllocError>
+pub fn copy_of<I: ParsableInput>(alloc: Global, input: I) -> Result<Vec<u8>, AllocError>
     ensures ok { IfOk result (λ bytes. bytes.items ≡ I.bytes input) }
     ensures err { OnErr result (0 < length (I.bytes input)) }
 {

@@ -99,9 +99,9 @@ pub fn parse_byte_array<I: ParsableInput>(alloc: Global, i: I) -> ParserResult<I
     Ok((i, ByteArray::from(bytes)))
 }
 
-// Reads a length in four bytes, and takes as many bytes, once all of them are there.
+/// Reads a length in four bytes, and takes as many bytes, once all of them are there.
 #[inline(always)]
-pub(crate) fn parse_frame<I: ParsableInput>(i: I) -> ParserResult<I, I>
+pub fn parse_frame<I: ParsableInput>(i: I) -> ParserResult<I, I>
     ensures { MatchResult result
         (λ x. IsFrame (I.bytes i) (I.bytes x.1) (I.bytes x.0))
         (Refuses (IsCutFrame (I.bytes i)) ⊥) }

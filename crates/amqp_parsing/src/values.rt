@@ -199,10 +199,10 @@ fn array_within<I: ParsableInput>(alloc: Global, i: I, depth: usize) -> ParserRe
     Ok((i, array))
 }
 
-// Reads values one after another to the end of the body.
+/// Reads the body of an array: values one after another, to its end.
 #[cycle(parser)]
 #[inline(never)]
-fn parse_body<I: ParsableInput>(
+pub fn parse_body<I: ParsableInput>(
     alloc: Global,
     body: I,
     depth: usize,
@@ -255,10 +255,10 @@ fn table_within<I: ParsableInput>(alloc: Global, i: I, depth: usize) -> ParserRe
     Ok((i, table))
 }
 
-// Reads keys, each with a value, one after another to the end of the body.
+/// Reads the body of a table: keys, each with a value, one after another, to its end.
 #[cycle(parser)]
 #[inline(never)]
-fn parse_pairs<I: ParsableInput>(
+pub fn parse_pairs<I: ParsableInput>(
     alloc: Global,
     body: I,
     depth: usize,

@@ -1,0 +1,6 @@
+//! Values where their bytes lie: they are read, walked and looked up with no memory and no copy.
+
+pub use amqp_in_place::{
+    ArrayRef, ArrayValues, TablePairs, TableRef, ValueRef, read_in_place, skip_value,
+};
+pub use amqp_parsing::Limits;

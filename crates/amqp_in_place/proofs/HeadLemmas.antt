@@ -1,0 +1,166 @@
+-- What stands behind an id, one level deep.
+use Rattle.std.proofs.Common.{◌≡◌, ◌<◌, ◌-◌, ◌+◌, ℕ, zero, suc, List, ◌++◌, length, MatchResult, Result, Ok, Err, refl, sym, ap, ◌∙◌, subst, arith, length-append}
+use Rattle.std.specs.Int.{w8}
+use Rattle.std.specs.Str.{IsUtf8}
+use Rattle.std.proofs.lemmas.Bool.{le-ltb}
+use Rattle.amqp_types.specs.Strings.{IsShort}
+use Rattle.amqp_types.specs.declared.amqp_type.AMQPType.{AMQPType}
+use Rattle.amqp_types.specs.declared.amqp_type.AMQPType.TheVariants as amqp
+use Rattle.amqp_grammar.specs.Values.{Tree, Trees, Entries, no_entries, onto, short, array, table}
+use Rattle.amqp_grammar.specs.Grammar.{small, large, Wire, raw_short, raw_array, raw_table}
+use Rattle.amqp_grammar.specs.Nesting.{nesting, RawWithin, BodyWithin, OutcomeWithin, RawOutcomeWithin}
+use Rattle.amqp_grammar.specs.Outcomes.{Reading, found, more, malformed, lack, frame_lack, counted, LacksOr, FrontBy, Outcome}
+use Rattle.amqp_grammar.specs.Payloads.{RawFront, RawOutcome}
+use Rattle.amqp_grammar.proofs.GrammarLaws.{one_outcome_within, one_raw_reading, value_to_raw, raw_to_value_within, raw_whole, raw_found, wire_found, wire_found_within, array_body, table_body, short_bytes}
+use Rattle.amqp_input.specs.Inputs.{slice_bytes}
+use Rattle.amqp_input.specs.declared.input.SliceInput.{SliceInput}
+use Rattle.amqp_parsing.specs.declared.errors.Err.TheVariants.{Incomplete, Error, Failure}
+use Rattle.amqp_parsing.specs.declared.errors.Needed.TheVariants.{Unknown, Size}
+use Rattle.amqp_parsing.specs.declared.errors.ErrorKind.TheVariants.{Eof}
+use Rattle.amqp_parsing.specs.Refusals.{Refusal}
+use Rattle.amqp_parsing.specs.Typed.{IsType, OnlyLacks}
+use Rattle.amqp_parsing.specs.Bodies.{IsFrame, IsTable, IsNoBody, IsNoTable}
+use Rattle.amqp_parsing.specs.Answers.{Refuses}
+use Rattle.amqp_parsing.proofs.Payloads.{unsigned_outcome}
+use Rattle.amqp_parsing.proofs.Frames.{array_found, array_refused, array_too_deep, table_found, table_refused, table_too_deep}
+use Rattle.amqp_parsing.proofs.Plain as plain_types
+use Rattle.amqp_in_place.specs.declared.head.Head.{Head}
+use Rattle.amqp_in_place.specs.declared.head.Head.TheVariants as head
+use Rattle.amqp_in_place.specs.declared.refs.ValueRef.{ValueRef}
+use Rattle.amqp_in_place.specs.declared.refs.ValueRef.TheVariants as at
+use Rattle.amqp_in_place.specs.Refs.{plain_tree, Stands}
+use Rattle.amqp_in_place.specs.Heads.{IsPlain, IsPlainType, RawHeadIs, IsHead, AtAnyDepth, Means, IsKeyFrame}
+
+-- a plain value stands for its tree
+pub plain_stands : (r : ValueRef) → IsPlain r → Stands r (plain_tree r)
+plain_stands (at.FieldArray a) p = absurd p
+plain_stands (at.FieldTable t) p = absurd p
+plain_stands _ p = refl
+
+plain_type : (type : AMQPType) → IsPlainType type → plain_types.IsPlain type
+plain_type amqp.FieldArray p = absurd p
+plain_type amqp.FieldTable p = absurd p
+plain_type _ p = tt
+
+-- the id of the type is read from s, and `mid` is left
+module _ (s mid : List ℕ) (type : AMQPType) (p : IsType s type mid) where
+  -- what reading the payload comes to, reading the value does
+  typed : (d : ℕ) (o : Reading) → RawOutcomeWithin d type mid o → OutcomeWithin d s o
+  typed d o x = subst (λ (t : List ℕ). OutcomeWithin d t o) (sym p.1) (raw_to_value_within d p.0 type mid o p.2 x)
+
+  -- bytes that lack of the payload lack of the value
+  typed_lack : (n : ℕ) → RawOutcome type mid (more n) → AtAnyDepth s (more n)
+  typed_lack n x = λ d. typed d (more n) (by d (lack type mid) x)
+    where
+      by : (d k : ℕ) → LacksOr k (RawFront type mid (more n)) (more n) → LacksOr k (FrontBy (RawWithin d type) mid (more n)) (more n)
+      by d zero f = absurd f
+      by d (suc k) e = e
+
+  -- the answer for the payload is the value's
+  pub head_answer : (r : Result (SliceInput × Head) Refusal) → MatchResult r (λ x. RawHeadIs type mid x.1 (slice_bytes x.0)) (OnlyLacks (RawOutcome type mid) ⊥)
+      → MatchResult r (λ x. IsHead s x.1 (slice_bytes x.0)) (Refuses (AtAnyDepth s) ⊥)
+  head_answer (Ok x) q = (type, mid, p, q)
+  head_answer (Err (Incomplete Unknown)) q = absurd q
+  head_answer (Err (Incomplete (Size n))) q = typed_lack n q
+  head_answer (Err (Error k)) q = absurd q
+  head_answer (Err (Failure k)) q = q
+
+  -- what stands at the front of the value, where a wire does
+  payload_front : (w left : List ℕ) (v : Tree) → Wire w v → s ≡ w ++ left → RawFront type mid (found v left)
+  payload_front w left v q e =
+      let x : Outcome s (found v left) = subst (λ (t : List ℕ). Outcome t (found v left)) (sym e) (wire_found w left v q) in
+      by (lack type mid) (value_to_raw p.0 type mid (found v left) p.2 (subst (λ (t : List ℕ). Outcome t (found v left)) p.1 x))
+    where
+      by : (n : ℕ) → LacksOr n (RawFront type mid (found v left)) (found v left) → RawFront type mid (found v left)
+      by zero f = f
+      by (suc n) f = absurd cc
+
+-- bytes that lack of a LongLongInt lack of a LongLongUInt
+pub unsigned_lacks : (s : List ℕ) (e : Refusal) → OnlyLacks (RawOutcome amqp.LongLongInt s) ⊥ e → OnlyLacks (RawOutcome amqp.LongLongUInt s) ⊥ e
+unsigned_lacks s (Incomplete Unknown) x = x
+unsigned_lacks s (Incomplete (Size n)) x = unsigned_outcome s (more n) x
+unsigned_lacks s (Error k) x = x
+unsigned_lacks s (Failure k) x = x
+
+-- ---- what a head is found to mean
+
+-- a plain value is found, whatever the limit on depth
+pub plain_read : (s : List ℕ) (r : ValueRef) (rest : List ℕ) → IsHead s (head.Plain r) rest → AtAnyDepth s (found (plain_tree r) rest)
+plain_read s r rest (type, mid, p, q) = λ d.
+    typed s mid type p d (found (plain_tree r) rest) (plain_types.plain_found d type mid rest (plain_tree r) (plain_type type q.1) q.2)
+
+pub plain_meant : (s : List ℕ) (r : ValueRef) (rest : List ℕ) → IsHead s (head.Plain r) rest → Stands r (plain_tree r)
+plain_meant s r rest (type, mid, p, q) = plain_stands r q.0
+
+-- an array is what its body is
+module _ (d : ℕ) (s : List ℕ) (i : SliceInput) (rest : List ℕ) where
+  as_array : (h : IsHead s (head.FieldArray i) rest) (o : Reading) → ((mid : List ℕ) → IsFrame mid (slice_bytes i) rest → RawOutcomeWithin d amqp.FieldArray mid o) → OutcomeWithin d s o
+  as_array (type, mid, p, q) o x =
+      typed s mid type p d o (subst (λ (t : AMQPType). RawOutcomeWithin d t mid o) (sym q.0) (x mid q.1))
+
+  pub array_read : IsHead s (head.FieldArray i) rest → (vs : Trees) → 0 < d → BodyWithin (d - 1) (slice_bytes i) vs → OutcomeWithin d s (found (array vs) rest)
+  array_read h vs some x = as_array h (found (array vs) rest) (λ mid f. array_found d mid (slice_bytes i) rest f vs some x)
+
+  pub array_bad : IsHead s (head.FieldArray i) rest → IsNoBody (d - 1) (slice_bytes i) malformed → OutcomeWithin d s malformed
+  array_bad h x = as_array h malformed (λ mid f. array_refused d mid (slice_bytes i) rest f (Error Eof) x)
+
+  pub array_deep : IsHead s (head.FieldArray i) rest → d ≡ 0 → OutcomeWithin d s malformed
+  array_deep h none = as_array h malformed (λ mid f. array_too_deep d mid (slice_bytes i) rest f none)
+
+  -- and so is a table
+  as_table : (h : IsHead s (head.FieldTable i) rest) (o : Reading) → ((mid : List ℕ) → IsFrame mid (slice_bytes i) rest → RawOutcomeWithin d amqp.FieldTable mid o) → OutcomeWithin d s o
+  as_table (type, mid, p, q) o x =
+      typed s mid type p d o (subst (λ (t : AMQPType). RawOutcomeWithin d t mid o) (sym q.0) (x mid q.1))
+
+  pub table_read : IsHead s (head.FieldTable i) rest → (es : Entries) → 0 < d → IsTable (d - 1) (slice_bytes i) es → OutcomeWithin d s (found (table es) rest)
+  table_read h es some x = as_table h (found (table es) rest) (λ mid f. table_found d mid (slice_bytes i) rest f es some x)
+
+  pub table_bad : IsHead s (head.FieldTable i) rest → IsNoTable (d - 1) (slice_bytes i) malformed → OutcomeWithin d s malformed
+  table_bad h x = as_table h malformed (λ mid f. table_refused d mid (slice_bytes i) rest f (Error Eof) x)
+
+  pub table_deep : IsHead s (head.FieldTable i) rest → d ≡ 0 → OutcomeWithin d s malformed
+  table_deep h none = as_table h malformed (λ mid f. table_too_deep d mid (slice_bytes i) rest f none)
+
+-- what stands at the front is what the head means, and no more
+pub only : (s : List ℕ) (h : Head) (rest w left : List ℕ) (v : Tree) → IsHead s h rest → Wire w v → s ≡ w ++ left → Means h v × (left ≡ rest)
+only s (head.Plain r) rest w left v (type, mid, p, q) x e =
+    let d = nesting w v x in
+    let here : OutcomeWithin d s (found v left) = subst (λ (t : List ℕ). OutcomeWithin d t (found v left)) (sym e) (wire_found_within d w left v x (omega arith)) in
+    let same : found (plain_tree r) rest ≡ found v left = one_outcome_within d s _ _ (plain_read s r rest (type, mid, p, q) d) here in
+    let one : plain_tree r ≡ v = cc in
+    (subst (Stands r) one (plain_stands r q.0), cc)
+only s (head.FieldArray i) rest w left v (type, mid, p, q) x e =
+    let f = q.1 in
+    let raw : RawFront amqp.FieldArray mid (found v left) = subst (λ (t : AMQPType). RawFront t mid (found v left)) q.0 (payload_front s mid type p w left v x e) in
+    let b = array_body (slice_bytes i) rest raw.0 left v f.fits raw.1 (sym f.framed ∙ raw.2) in
+    let same = one_raw_reading amqp.FieldArray raw.0 (large (slice_bytes i)) left rest v (array b.0) raw.1 (raw_array (slice_bytes i) b.0 f.fits b.1) (sym raw.2 ∙ f.framed) in
+    ((b.0, b.1, same.1), same.2)
+only s (head.FieldTable i) rest w left v (type, mid, p, q) x e =
+    let f = q.1 in
+    let raw : RawFront amqp.FieldTable mid (found v left) = subst (λ (t : AMQPType). RawFront t mid (found v left)) q.0 (payload_front s mid type p w left v x e) in
+    let b = table_body (slice_bytes i) rest raw.0 left v f.fits raw.1 (sym f.framed ∙ raw.2) in
+    let es = onto no_entries b.0 in
+    let same = one_raw_reading amqp.FieldTable raw.0 (large (slice_bytes i)) left rest v (table es) raw.1 (raw_table (slice_bytes i) b.0 f.fits b.1) (sym raw.2 ∙ f.framed) in
+    ((es, (b.0, b.1, refl), same.1), same.2)
+
+-- ---- keys
+
+module _ (s body rest : List ℕ) (f : IsKeyFrame s body rest) where
+  key_whole : lack amqp.ShortString s ≡ 0
+  key_whole =
+      let size : length s ≡ 1 + length body + length rest = ap length f.framed ∙ omega (arith, length-append body rest) in
+      let known : frame_lack w8 s ≡ 1 + counted w8 s - length s = rw (le-ltb (length s) 1 (omega arith)) refl in
+      let count : counted w8 s ≡ length body = ap (counted w8) f.framed ∙ omega (arith, f.few) in
+      omega arith
+
+  -- a key whose bytes are no text is refused
+  pub key_refused : (IsUtf8 body → ⊥) → RawOutcome amqp.ShortString s malformed
+  key_refused none =
+      let front : RawFront amqp.ShortString s malformed = λ b left v p d. none (short_bytes body rest b left v p (sym f.framed ∙ d)).utf8 in
+      raw_whole amqp.ShortString s malformed key_whole front
+
+  -- a key whose bytes are text is found
+  pub key_found : IsUtf8 body → RawOutcome amqp.ShortString s (found (short body) rest)
+  key_found utf8 =
+      let is : IsShort body = record { few = f.few; utf8 = utf8 } in
+      rw f.framed (raw_found amqp.ShortString (small body) rest (short body) (raw_short body is))

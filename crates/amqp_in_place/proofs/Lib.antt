@@ -1,0 +1,7 @@
+pub mod HeadLemmas
+pub mod Reading
+pub mod Stepping
+pub mod Lookups
+pub mod Owning
+pub mod OneValue
+pub mod Skipping

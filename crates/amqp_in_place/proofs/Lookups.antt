@@ -1,0 +1,131 @@
+-- Looking up what stands in a container.
+use Rattle.std.proofs.Common.{◌≡◌, ◌<◌, ◌↔◌, ℕ, suc, Bool, true, false, cond, List, length, Option, Some, None, refl, sym, ap, ◌∙◌, subst, arith, length-append}
+use Rattle.std.specs.Option.{option_or, is_some}
+use Rattle.std.specs.Borrow.{Bor}
+use Rattle.amqp_grammar.specs.Values.{Tree, Trees, no_trees, tree, Entries, no_entries, entry}
+use Rattle.amqp_grammar.specs.Maps.{same_bytes, last_at, value_at, has_key}
+use Rattle.amqp_grammar.specs.Grammar.{Wire, wire, Body, no_values, value, Pairs, no_pairs, pair}
+use Rattle.amqp_grammar.proofs.GrammarLaws.{last_stays, key_has_value}
+use Rattle.amqp_input.specs.Inputs.{slice_bytes}
+use Rattle.amqp_input.specs.declared.input.SliceInput.{SliceInput}
+use Rattle.amqp_in_place.specs.Bodies.{HasEntries}
+use Rattle.amqp_in_place.specs.declared.refs.ValueRef.{ValueRef}
+use Rattle.amqp_in_place.specs.Refs.{Stands}
+use Rattle.amqp_in_place.specs.Walks.{NextValueIs, NextPairIs, FoundIs, tree_at}
+
+-- ---- emptiness
+
+length-wire : (w : List ℕ) (v : Tree) → Wire w v → 0 < length w
+length-wire _ _ (wire c type b v k p) = omega arith
+
+-- no pairs are written in no bytes, and only there
+pub no_pairs_at : (s : List ℕ) (ps : Entries) → Pairs s ps → (length s ≡ 0) ↔ (ps ≡ no_entries)
+no_pairs_at _ _ no_pairs = (λ _. refl, λ _. refl)
+no_pairs_at _ _ (pair k w left v ps is p all) = (λ e. absurd (omega arith), λ e. absurd cc)
+
+-- and no values
+pub no_values_at : (s : List ℕ) (vs : Trees) → Body s vs → (length s ≡ 0) ↔ (vs ≡ no_trees)
+no_values_at _ _ no_values = (λ _. refl, λ _. refl)
+no_values_at _ _ (value w left v vs p all) = (λ e. absurd (omega (arith, length-append w left, length-wire w v p)), λ e. absurd cc)
+
+-- ---- tables
+
+-- what was found so far, of the pairs before those that are left
+abbrev pub Looks : List ℕ → List ℕ → List ℕ → Option ValueRef → Type 0
+Looks key s rest r = (ps : Entries) → Pairs s ps → (qs : Entries) × (seen : Option Tree) × Pairs rest qs × FoundIs seen r × (last_at key ps ≡ option_or (last_at key qs) seen)
+
+or_none : (o : Option Tree) → o ≡ option_or o None
+or_none None = refl
+or_none (Some v) = refl
+
+or_or : (a b c : Option Tree) → option_or (option_or a b) c ≡ option_or a (option_or b c)
+or_or None b c = refl
+or_or (Some v) b c = refl
+
+pub Looks-start : (key s : List ℕ) → Looks key s s None
+Looks-start key s = λ ps p. (ps, None, p, tt, or_none (last_at key ps))
+
+-- one pair more
+pub Looks-step : (key s rest : List ℕ) (old new : Option ValueRef) (x : Bor (List ℕ) × ValueRef × SliceInput) (b : Bool)
+    → Looks key s rest old → ((qs : Entries) → Pairs rest qs → NextPairIs qs (Some x)) → b ≡ same_bytes key x.0.now → new ≡ cond b (Some x.1) old
+    → Looks key s (slice_bytes x.2) new
+Looks-step key s rest old new x b before next is made = λ ps p.
+    let at = before ps p in
+    by at.0 at.1 at.2 (next at.0 at.2) at.3 at.4
+  where
+    pick : (c : Bool) (v : Tree) (seen : Option Tree) → Stands x.1 v → FoundIs seen old → FoundIs (option_or (cond c (Some v) None) seen) (cond c (Some x.1) old)
+    pick true v seen here there = here
+    pick false v seen here there = there
+
+    by : {o : Option Tree} (qs : Entries) (seen : Option Tree) → Pairs rest qs → NextPairIs qs (Some x) → FoundIs seen old → o ≡ option_or (last_at key qs) seen
+        → (rs : Entries) × (now : Option Tree) × Pairs (slice_bytes x.2) rs × FoundIs now new × (o ≡ option_or (last_at key rs) now)
+    by no_entries seen q given there e = absurd given
+    by (entry k v rs) seen q given there e =
+        let c = same_bytes key k in
+        let same : b ≡ c = is ∙ ap (same_bytes key) given.0 in
+        let now = option_or (cond c (Some v) None) seen in
+        let stands : FoundIs now new = subst (FoundIs now) (sym (made ∙ ap (λ d. cond d (Some x.1) old) same)) (pick c v seen given.1 there) in
+        (rs, now, given.2, stands, e ∙ or_or (last_at key rs) (cond c (Some v) None) seen)
+
+-- no pair more
+pub Looks-end : (key s rest : List ℕ) (r : Option ValueRef) → Looks key s rest r → ((qs : Entries) → Pairs rest qs → NextPairIs qs None)
+    → (es : Entries) → HasEntries s es → FoundIs (value_at key es) r
+Looks-end key s rest r looks next es (ps, p, is) =
+    let at = looks ps p in
+    let last : last_at key ps ≡ at.1 = at.4 ∙ by at.0 at.1 (next at.0 at.2) in
+    subst (λ (o : Option Tree). FoundIs o r) (sym (ap (value_at key) is ∙ last_stays key ps ∙ last)) at.3
+  where
+    by : (qs : Entries) (seen : Option Tree) → NextPairIs qs None → option_or (last_at key qs) seen ≡ seen
+    by no_entries seen given = refl
+    by (entry k v qs) seen given = absurd given
+
+-- whether something is found is whether the key is there
+pub found_has_key : (key : List ℕ) (es : Entries) (r : Option ValueRef) → FoundIs (value_at key es) r → is_some r ≡ has_key key es
+found_has_key key es r f = by (value_at key es) r f ∙ sym (key_has_value key es)
+  where
+    by : (o : Option Tree) (r : Option ValueRef) → FoundIs o r → is_some r ≡ is_some o
+    by None None f = refl
+    by (Some v) (Some r) f = refl
+    by None (Some r) f = absurd f
+    by (Some v) None f = absurd f
+
+-- ---- arrays
+
+-- what is asked for stands among the values that are left
+abbrev pub Counts : ℕ → List ℕ → List ℕ → ℕ → Type 0
+Counts n s rest left = (vs : Trees) → Body s vs → (us : Trees) × Body rest us × (tree_at n vs ≡ tree_at left us)
+
+pub Counts-start : (n : ℕ) (s : List ℕ) → Counts n s s n
+Counts-start n s = λ vs p. (vs, p, refl)
+
+pub Counts-step : (n : ℕ) (s rest : List ℕ) (left : ℕ) (x : ValueRef × SliceInput) → Counts n s rest (suc left) → ((us : Trees) → Body rest us → NextValueIs us (Some x))
+    → Counts n s (slice_bytes x.1) left
+Counts-step n s rest left x before next = λ vs p.
+    let at = before vs p in
+    by at.0 (next at.0 at.1) at.2
+  where
+    by : {o : Option Tree} (us : Trees) → NextValueIs us (Some x) → o ≡ tree_at (suc left) us → (rs : Trees) × Body (slice_bytes x.1) rs × (o ≡ tree_at left rs)
+    by no_trees given e = absurd given
+    by (tree v us) given e = (us, given.1, e)
+
+-- it is the first of them
+pub Counts-here : (n : ℕ) (s rest : List ℕ) (x : ValueRef × SliceInput) → Counts n s rest 0 → ((us : Trees) → Body rest us → NextValueIs us (Some x))
+    → (vs : Trees) → Body s vs → FoundIs (tree_at n vs) (Some x.0)
+Counts-here n s rest x counts next vs p =
+    let at = counts vs p in
+    by at.0 (next at.0 at.1) at.2
+  where
+    by : {o : Option Tree} (us : Trees) → NextValueIs us (Some x) → o ≡ tree_at 0 us → FoundIs o (Some x.0)
+    by no_trees given e = absurd given
+    by (tree v us) given e = subst (λ (o : Option Tree). FoundIs o (Some x.0)) (sym e) given.0
+
+-- or there is none
+pub Counts-end : (n : ℕ) (s rest : List ℕ) (left : ℕ) → Counts n s rest left → ((us : Trees) → Body rest us → NextValueIs us None)
+    → (vs : Trees) → Body s vs → FoundIs (tree_at n vs) None
+Counts-end n s rest left counts next vs p =
+    let at = counts vs p in
+    by at.0 (next at.0 at.1) at.2
+  where
+    by : {o : Option Tree} (us : Trees) → NextValueIs us None → o ≡ tree_at left us → FoundIs o None
+    by no_trees given e = subst (λ (o : Option Tree). FoundIs o None) (sym e) tt
+    by (tree v us) given e = absurd given

@@ -1,0 +1,43 @@
+-- Reading again what was checked.
+use Rattle.std.proofs.Common.{◌<◌, ◌≤◌, ℕ, List, length, arith}
+use Rattle.std.proofs.Math.Logic.{∥∥₁_elim}
+use Rattle.amqp_grammar.specs.Values.{Entries}
+use Rattle.amqp_grammar.proofs.Nests.{body_nesting-le, pairs_nesting-le}
+use Rattle.amqp_parsing.specs.declared.errors.Err.TheVariants.{Incomplete, Error, Failure}
+use Rattle.amqp_parsing.specs.declared.errors.Needed.TheVariants.{Unknown, Size}
+use Rattle.amqp_parsing.specs.declared.errors.ErrorKind.TheVariants.{MapOpt, MapRes, Eof, OutOfMemory, TooLarge}
+use Rattle.amqp_parsing.specs.Refusals.{Refusal}
+use Rattle.amqp_parsing.specs.Answers.{Refuses}
+use Rattle.amqp_parsing.specs.Bodies.{IsNoBody, IsTable, IsNoTable}
+use Rattle.amqp_in_place.specs.Bodies.{HasValues, HasPairs, HasEntries}
+
+no_prop : IsProp ⊥
+no_prop x y = absurd x
+
+-- where bytes are values, only memory can lack
+pub values_need : (d : ℕ) (s : List ℕ) (e : Refusal) → length s ≤ d → ∥ HasValues s ∥₁ → Refuses (IsNoBody d s) (0 < length s) e → 0 < length s
+values_need d s (Incomplete Unknown) deep has x = absurd x
+values_need d s (Incomplete (Size n)) deep has x = absurd x
+values_need d s (Error MapOpt) deep has x = absurd x
+values_need d s (Error Eof) deep has x =
+    absurd (∥∥₁_elim has no_prop (λ (p : HasValues s). x p.0 (p.1, omega (arith, body_nesting-le s p.0 p.1))))
+values_need d s (Error MapRes) deep has x = absurd x
+values_need d s (Error OutOfMemory) deep has x = absurd x
+values_need d s (Error TooLarge) deep has x = absurd x
+values_need d s (Failure k) deep has x = x.1
+
+-- and where they are pairs
+pub pairs_need : (d : ℕ) (s : List ℕ) (e : Refusal) → length s ≤ d → ∥ HasPairs s ∥₁ → Refuses (IsNoTable d s) (0 < length s) e → 0 < length s
+pairs_need d s (Incomplete Unknown) deep has x = absurd x
+pairs_need d s (Incomplete (Size n)) deep has x = absurd x
+pairs_need d s (Error MapOpt) deep has x = absurd x
+pairs_need d s (Error Eof) deep has x =
+    absurd (∥∥₁_elim has no_prop (λ (p : HasPairs s). x p.0 (p.1, omega (arith, pairs_nesting-le s p.0 p.1))))
+pairs_need d s (Error MapRes) deep has x = absurd x
+pairs_need d s (Error OutOfMemory) deep has x = absurd x
+pairs_need d s (Error TooLarge) deep has x = absurd x
+pairs_need d s (Failure k) deep has x = x.1
+
+-- what is read at some depth is an entry
+pub entries_of_table : (d : ℕ) (s : List ℕ) (es : Entries) → IsTable d s es → HasEntries s es
+entries_of_table d s es x = (x.0, x.1.0, x.2)

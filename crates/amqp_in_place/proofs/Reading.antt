@@ -1,0 +1,58 @@
+-- Checking bodies in place.
+use Rattle.std.proofs.Common.{◌<◌, ℕ, zero, suc, List, length, refl}
+use Rattle.amqp_types.specs.declared.amqp_type.AMQPType.TheVariants as amqp
+use Rattle.amqp_grammar.specs.Values.{Tree, Entries, short}
+use Rattle.amqp_grammar.specs.Nesting.{OutcomeWithin}
+use Rattle.amqp_grammar.specs.Outcomes.{Reading, found, unknown, malformed, lack, LacksOr, Heavy}
+use Rattle.amqp_grammar.specs.Payloads.{RawFront, RawOutcome}
+use Rattle.amqp_parsing.specs.declared.errors.Err.TheVariants.{Incomplete, Error, Failure}
+use Rattle.amqp_parsing.specs.declared.errors.Needed.TheVariants.{Unknown, Size}
+use Rattle.amqp_parsing.specs.declared.errors.ErrorKind.TheVariants.{MapOpt, MapRes, Eof, OutOfMemory, TooLarge}
+use Rattle.amqp_parsing.specs.Refusals.{Refusal, inside}
+use Rattle.amqp_parsing.specs.Answers.{Refuses}
+use Rattle.amqp_parsing.specs.Bodies.{IsNoBody, IsNoTable}
+use Rattle.amqp_parsing.proofs.Refused.{Refuses-weaker}
+use Rattle.amqp_parsing.proofs.Bodies.{Goes, Goes-refused}
+use Rattle.amqp_parsing.proofs.TableBodies.{Walks, Walks-bad_key, Walks-bad_value}
+
+-- what isn't there for want of memory isn't there
+no_heavy : (Is : Reading → Type 0) (heavy : Type 0) (e : Refusal) → Refuses Is ⊥ e → Refuses Is heavy e
+no_heavy Is heavy e x = Refuses-weaker Is Is ⊥ heavy e (λ o y. y) (λ h. absurd h) x
+
+-- the refusal of what stands in a body, where memory is never wanted: the body is none
+told : (Is Now : Reading → Type 0) (heavy : Type 0) (e : Refusal) → Refuses Is ⊥ e → Refuses Now heavy (inside e) → Now malformed
+told Is Now heavy (Incomplete m) x y = y
+told Is Now heavy (Error k) x y = y
+told Is Now heavy (Failure k) x y = absurd x.1
+
+pub bad_value : (d : ℕ) (s : List ℕ) (xs : List Tree) (rest : List ℕ) (e : Refusal) → Goes d s xs rest → 0 < length rest
+    → Refuses (OutcomeWithin d rest) ⊥ e → IsNoBody d s malformed
+bad_value d s xs rest e g h x =
+    told (OutcomeWithin d rest) (IsNoBody d s) (0 < length s) e x (Goes-refused d s xs rest e g h (no_heavy (OutcomeWithin d rest) (Heavy rest) e x))
+
+pub bad_pair : (d : ℕ) (s : List ℕ) (es : Entries) (rest k behind : List ℕ) (e : Refusal) → Walks d s es rest
+    → RawOutcome amqp.ShortString rest (found (short k) behind) → Refuses (OutcomeWithin d behind) ⊥ e → IsNoTable d s malformed
+bad_pair d s es rest k behind e g x y =
+    told (OutcomeWithin d behind) (IsNoTable d s) (0 < length s) e y (Walks-bad_value d s es rest k behind e g x (no_heavy (OutcomeWithin d behind) (Heavy behind) e y))
+
+-- a key that isn't read
+pub no_key_there : (d : ℕ) (s : List ℕ) (es : Entries) (rest : List ℕ) → Walks d s es rest → 0 < length rest → RawOutcome amqp.ShortString rest malformed → IsNoTable d s malformed
+no_key_there d s es rest g h x = Walks-bad_key d s es rest (Error MapRes) g h (refl, x)
+
+no_unknown : (s : List ℕ) → RawOutcome amqp.ShortString s unknown → ⊥
+no_unknown s x = by (lack amqp.ShortString s) x
+  where
+    by : (n : ℕ) → LacksOr n (RawFront amqp.ShortString s unknown) unknown → ⊥
+    by zero f = f
+    by (suc n) e = absurd cc
+
+pub bad_key : (d : ℕ) (s : List ℕ) (es : Entries) (rest : List ℕ) (e : Refusal) → Walks d s es rest → 0 < length rest
+    → Refuses (RawOutcome amqp.ShortString rest) ⊥ e → IsNoTable d s malformed
+bad_key d s es rest (Incomplete Unknown) g h x = absurd x
+bad_key d s es rest (Incomplete (Size n)) g h x = Walks-bad_key d s es rest (Incomplete (Size n)) g h x
+bad_key d s es rest (Error Eof) g h x = no_key_there d s es rest g h x
+bad_key d s es rest (Error MapOpt) g h x = absurd (no_unknown rest x)
+bad_key d s es rest (Error MapRes) g h x = absurd x
+bad_key d s es rest (Error OutOfMemory) g h x = absurd x
+bad_key d s es rest (Error TooLarge) g h x = absurd x
+bad_key d s es rest (Failure k) g h x = absurd x.1

@@ -1,0 +1,50 @@
+-- How many bytes a value takes, by its head.
+use Rattle.std.proofs.Common.{◌≡◌, ◌+◌, ℕ, suc, List, ◌∷◌, ◌++◌, length, Some, None, refl, ap, ◌∙◌, arith, length-append}
+use Rattle.std.specs.Int.{w32}
+use Rattle.amqp_types.specs.declared.amqp_type.AMQPType.{AMQPType}
+use Rattle.amqp_types.specs.declared.amqp_type.AMQPType.TheVariants as amqp
+use Rattle.amqp_grammar.specs.Values.{long}
+use Rattle.amqp_grammar.specs.Grammar.{large, wire, raw_long}
+use Rattle.amqp_grammar.specs.Outcomes.{Outcome}
+use Rattle.amqp_grammar.proofs.GrammarLaws.{found_front, front_within, unlimited}
+use Rattle.amqp_input.specs.Inputs.{slice_bytes}
+use Rattle.amqp_parsing.specs.Refusals.{Refusal}
+use Rattle.amqp_parsing.specs.Typed.{IsType}
+use Rattle.amqp_parsing.specs.Bodies.{IsFrame}
+use Rattle.amqp_parsing.specs.Answers.{Refuses}
+use Rattle.amqp_parsing.specs.Headers.{extent_of, extent_at, extent}
+use Rattle.amqp_parsing.proofs.Again.{wire_extent}
+use Rattle.amqp_parsing.proofs.Refused.{Refuses-weaker}
+use Rattle.amqp_in_place.specs.Answers.{IsWidthOfFound}
+use Rattle.amqp_in_place.specs.declared.head.Head.{Head}
+use Rattle.amqp_in_place.specs.declared.head.Head.TheVariants as head
+use Rattle.amqp_in_place.specs.Refs.{plain_tree}
+use Rattle.amqp_in_place.specs.Heads.{IsHead, AtAnyDepth}
+use Rattle.amqp_in_place.proofs.HeadLemmas.{plain_read}
+
+-- the extent of a frame is that of a long string with the same bytes
+frame_extent : (s mid body rest : List ℕ) (type : AMQPType) → IsType s type mid → IsFrame mid body rest → extent_at (Some type) mid ≡ suc (extent_of None w32 mid)
+    → extent s + length rest ≡ length s
+frame_extent s mid body rest type p f is =
+    let string = wire_extent (83 ∷ large body) rest (long body) (wire 83 amqp.LongString (large body) (long body) refl (raw_long body f.fits)) in
+    let here : extent s ≡ suc (extent_of None w32 mid) = ap extent p.1 ∙ (ap (λ o. extent_at o mid) p.2 ∙ is) in
+    let there : extent_of None w32 mid ≡ extent_of None w32 (large body ++ rest) = ap (extent_of None w32) f.framed in
+    let whole : suc (extent_of None w32 (large body ++ rest)) ≡ suc (length (large body)) = string in
+    omega (arith, here, there, whole, ap length p.1, ap length f.framed, length-append (large body) rest)
+
+pub skipped : (s : List ℕ) (h : Head) (rest : List ℕ) → IsHead s h rest → extent s + length rest ≡ length s
+skipped s (head.Plain r) rest is =
+    let f = front_within 0 s rest (plain_tree r) (plain_read s r rest is 0) in
+    omega (arith, ap extent f.2, wire_extent f.0 rest (plain_tree r) f.1.0, ap length f.2, length-append f.0 rest)
+skipped s (head.FieldArray i) rest (type, mid, p, q) = frame_extent s mid (slice_bytes i) rest type p q.1 (ap (λ t. extent_at (Some t) mid) q.0)
+skipped s (head.FieldTable i) rest (type, mid, p, q) = frame_extent s mid (slice_bytes i) rest type p q.1 (ap (λ t. extent_at (Some t) mid) q.0)
+
+-- where a value is found it takes so many
+pub width_of_found : (s : List ℕ) (n : ℕ) → n ≡ extent s → IsWidthOfFound s n
+width_of_found s n e v rest x =
+    let f = found_front s rest v x in
+    omega (arith, e, ap extent f.2, wire_extent f.0 rest v f.1, ap length f.2, length-append f.0 rest)
+
+-- what is refused whatever the limit on depth is refused with none
+pub refused_so : (s : List ℕ) (e : Refusal) → Refuses (AtAnyDepth s) ⊥ e → Refuses (Outcome s) ⊥ e
+refused_so s e x = Refuses-weaker (AtAnyDepth s) (Outcome s) ⊥ ⊥ e (λ o y. unlimited (length s) s o (omega arith) (y (length s))) (λ h. h) x

@@ -1,0 +1,208 @@
+-- Stepping through bodies that are known to be values or pairs.
+use Rattle.std.proofs.Common.{◌≡◌, ◌<◌, ℕ, List, ◌++◌, length, Some, None, refl, sym, ap, subst, arith, length-append}
+use Rattle.std.proofs.Math.Logic.{∥∥₁_elim, ∥∥₁_map}
+use Rattle.std.proofs.Math.Bool.{Bool-set}
+use Rattle.std.proofs.lemmas.Str.{IsUtf8-from_is_utf8, is_utf8-from_IsUtf8}
+use Rattle.std.specs.Coded.{le_prop}
+use Rattle.std.specs.Str.{IsUtf8}
+use Rattle.std.specs.Borrow.{Bor}
+use Rattle.amqp_types.specs.Strings.{IsShort}
+use Rattle.amqp_types.specs.declared.amqp_type.AMQPType.TheVariants as amqp
+use Rattle.amqp_grammar.specs.Values.{Tree, Trees, tree, Entries, entry, short}
+use Rattle.amqp_grammar.specs.Grammar.{small, Wire, wire, raw_short, Body, no_values, value, Pairs, no_pairs, pair}
+use Rattle.amqp_grammar.specs.Nesting.{nesting, OutcomeWithin}
+use Rattle.amqp_grammar.specs.Outcomes.{Reading, found, more, unknown, malformed}
+use Rattle.amqp_grammar.specs.Payloads.{RawOutcome}
+use Rattle.amqp_grammar.proofs.GrammarLaws.{one_outcome_within, one_raw_reading, one_raw_outcome, raw_found, wire_found_within, short_bytes}
+use Rattle.amqp_input.specs.Inputs.{slice_bytes}
+use Rattle.amqp_input.specs.declared.input.SliceInput.{SliceInput}
+use Rattle.amqp_parsing.specs.declared.errors.Err.TheVariants.{Incomplete, Error, Failure}
+use Rattle.amqp_parsing.specs.declared.errors.Needed.TheVariants.{Unknown, Size}
+use Rattle.amqp_parsing.specs.declared.errors.ErrorKind.TheVariants.{MapOpt, MapRes, Eof, OutOfMemory, TooLarge}
+use Rattle.amqp_parsing.specs.Refusals.{Refusal}
+use Rattle.amqp_parsing.specs.Answers.{Refuses}
+use Rattle.amqp_in_place.specs.Bodies.{HasValues, HasPairs}
+use Rattle.amqp_in_place.specs.declared.head.Head.{Head}
+use Rattle.amqp_in_place.specs.declared.head.Head.TheVariants as head
+use Rattle.amqp_in_place.specs.declared.refs.ValueRef.{ValueRef}
+use Rattle.amqp_in_place.specs.Refs.{Stands}
+use Rattle.amqp_in_place.specs.Heads.{IsHead, AtAnyDepth, Means, IsMeant, IsKeyFrame}
+use Rattle.amqp_in_place.specs.Walks.{NextValueIs, NextPairIs}
+use Rattle.amqp_in_place.proofs.HeadLemmas.{only}
+
+-- what can't be has one proof at most
+no_prop : IsProp ⊥
+no_prop x y = absurd x
+
+-- where reading finds something it isn't refused
+refusal_of_none : (Is : Reading → Type 0) → ((o : Reading) → Is o → ((v : Tree) (left : List ℕ) → o ≡ found v left → ⊥) → ⊥) → (e : Refusal) → Refuses Is ⊥ e → ⊥
+refusal_of_none Is f (Incomplete Unknown) x = x
+refusal_of_none Is f (Incomplete (Size n)) x = f (more n) x (λ v left e. cc)
+refusal_of_none Is f (Error MapOpt) x = f unknown x (λ v left e. cc)
+refusal_of_none Is f (Error Eof) x = f malformed x (λ v left e. cc)
+refusal_of_none Is f (Error MapRes) x = x
+refusal_of_none Is f (Error OutOfMemory) x = x
+refusal_of_none Is f (Error TooLarge) x = x
+refusal_of_none Is f (Failure k) x = x.1
+
+-- a value stands at the front of s, and `left` behind it
+record AtFront (s : List ℕ) : Type 0 where
+  pub value_there : Tree
+  pub bytes : List ℕ
+  pub left : List ℕ
+  pub is_wire : Wire bytes value_there
+  pub front : s ≡ bytes ++ left
+
+-- so its head is read
+never_refused : (s : List ℕ) (e : Refusal) → AtFront s → Refuses (AtAnyDepth s) ⊥ e → ⊥
+never_refused s e a x =
+    let d = nesting a.bytes a.value_there a.is_wire in
+    let here : OutcomeWithin d s (found a.value_there a.left) =
+    subst (λ (t : List ℕ). OutcomeWithin d t (found a.value_there a.left)) (sym a.front) (wire_found_within d a.bytes a.left a.value_there a.is_wire (omega arith)) in
+    refusal_of_none (AtAnyDepth s) (λ o y other. other a.value_there a.left (one_outcome_within d s o (found a.value_there a.left) (y d) here)) e x
+
+-- and means it
+meant : (s : List ℕ) (h : Head) (rest : List ℕ) → IsHead s h rest → (a : AtFront s) → Means h a.value_there × (a.left ≡ rest)
+meant s h rest is a = only s h rest a.bytes a.left a.value_there is a.is_wire a.front
+
+-- the bodies of heads that mean something
+pub meant_values : (h : Head) (i : SliceInput) → h ≡ head.FieldArray i → ∥ IsMeant h ∥₁ → ∥ HasValues (slice_bytes i) ∥₁
+meant_values h i is m = ∥∥₁_map (subst (λ (k : Head). ∥ IsMeant k ∥₁) is m) (λ (x : IsMeant (head.FieldArray i)). (x.1.0, x.1.1))
+
+pub meant_pairs : (h : Head) (i : SliceInput) → h ≡ head.FieldTable i → ∥ IsMeant h ∥₁ → ∥ HasPairs (slice_bytes i) ∥₁
+meant_pairs h i is m = ∥∥₁_map (subst (λ (k : Head). ∥ IsMeant k ∥₁) is m) (λ (x : IsMeant (head.FieldTable i)). (x.1.1.0, x.1.1.1))
+
+-- a wire has at least one byte
+length-wire : (w : List ℕ) (v : Tree) → Wire w v → 0 < length w
+length-wire _ _ (wire c type b v k p) = omega arith
+
+-- ---- values
+
+-- the first of some values
+record FirstValue (s : List ℕ) (vs : Trees) : Type 0 where
+  pub at : AtFront s
+  pub others : Trees
+  pub are : vs ≡ tree at.value_there others
+  pub more_values : Body at.left others
+
+first_value : (s : List ℕ) (vs : Trees) → 0 < length s → Body s vs → FirstValue s vs
+first_value _ _ some no_values = absurd (omega arith)
+first_value _ _ some (value w left v vs p all) =
+    record { at = record { value_there = v; bytes = w; left = left; is_wire = p; front = refl }; others = vs; are = refl; more_values = all }
+
+-- a head is read
+pub value_there : (s : List ℕ) (e : Refusal) → 0 < length s → ∥ HasValues s ∥₁ → Refuses (AtAnyDepth s) ⊥ e → ⊥
+value_there s e some has x = ∥∥₁_elim has no_prop (λ (p : HasValues s). never_refused s e (first_value s p.0 some p.1).at x)
+
+module _ (s : List ℕ) (h : Head) (rest : List ℕ) (some : 0 < length s) (is : IsHead s h rest) where
+  -- it means something
+  pub value_meant : ∥ HasValues s ∥₁ → ∥ IsMeant h ∥₁
+  value_meant has =
+      ∥∥₁_map has (λ (p : HasValues s).
+      let a = (first_value s p.0 some p.1).at in
+      (a.value_there, (meant s h rest is a).0))
+
+  -- values stand behind it
+  pub values_behind : ∥ HasValues s ∥₁ → (length rest < length s) × ∥ HasValues rest ∥₁
+  values_behind has = (
+    ∥∥₁_elim has le_prop (λ (p : HasValues s).
+        let a = (first_value s p.0 some p.1).at in
+        omega (arith, ap length (meant s h rest is a).1, ap length a.front, length-append a.bytes a.left, length-wire a.bytes a.value_there a.is_wire)),
+    ∥∥₁_map has (λ (p : HasValues s).
+        let first = first_value s p.0 some p.1 in
+        (first.others, subst (λ (t : List ℕ). Body t first.others) (meant s h rest is first.at).1 first.more_values)),
+  )
+
+-- the value that is given is the first
+pub value_given : (s : List ℕ) (h : Head) (vs : Trees) (x : ValueRef × SliceInput) → 0 < length s → IsHead s h (slice_bytes x.1)
+    → ((v : Tree) → Means h v → Stands x.0 v) → Body s vs → NextValueIs vs (Some x)
+value_given s h vs x some is stands p =
+    let first = first_value s vs some p in
+    let m = meant s h (slice_bytes x.1) is first.at in
+    let given : NextValueIs (tree first.at.value_there first.others) (Some x) =
+    (stands first.at.value_there m.0, subst (λ (t : List ℕ). Body t first.others) m.1 first.more_values) in
+    subst (λ (us : Trees). NextValueIs us (Some x)) (sym first.are) given
+
+-- where no byte is left no value is
+pub no_value_given : (s : List ℕ) (vs : Trees) → length s ≡ 0 → Body s vs → NextValueIs vs None
+no_value_given _ _ e no_values = tt
+no_value_given _ _ e (value w left v vs p all) = absurd (omega (arith, length-append w left, length-wire w v p))
+
+-- ---- pairs
+
+-- where pairs stand, and not none, a key is read
+pub key_there : (s : List ℕ) (e : Refusal) → 0 < length s → ∥ HasPairs s ∥₁ → Refuses (RawOutcome amqp.ShortString s) ⊥ e → ⊥
+key_there s e some has x =
+    ∥∥₁_elim has no_prop (λ (p : HasPairs s). refusal_of_none (RawOutcome amqp.ShortString s) (λ o y other. by s p.0 o some p.1 y other) e x)
+  where
+    by : (s : List ℕ) (ps : Entries) (o : Reading) → 0 < length s → Pairs s ps → RawOutcome amqp.ShortString s o → ((v : Tree) (left : List ℕ) → o ≡ found v left → ⊥) → ⊥
+    by _ _ o some no_pairs y other = absurd (omega arith)
+    by _ _ o some (pair k w left v ps is p all) y other =
+        other (short k) (w ++ left)
+        (one_raw_outcome amqp.ShortString (small k ++ (w ++ left)) o (found (short k) (w ++ left)) y
+        (raw_found amqp.ShortString (small k) (w ++ left) (short k) (raw_short k is)))
+
+-- the first of some pairs, whose key was read: its value stands at the front of what is behind the key
+record FirstPair (s key behind : List ℕ) (ps : Entries) : Type 0 where
+  pub at : AtFront behind
+  pub others : Entries
+  pub are : ps ≡ entry key at.value_there others
+  pub short_key : IsShort key
+  pub more_pairs : Pairs at.left others
+
+first_pair : (s key behind : List ℕ) (ps : Entries) → IsKeyFrame s key behind → Pairs s ps → FirstPair s key behind ps
+first_pair _ key behind _ f no_pairs = let e = f.framed in absurd cc
+first_pair _ key behind _ f (pair k w left v ps is p all) =
+    let here = short_bytes key behind (small k) (w ++ left) (short k) (raw_short k is) (sym f.framed) in
+    let same = one_raw_reading amqp.ShortString (small k) (small key) (w ++ left) behind (short k) (short key) (raw_short k is) (raw_short key here) f.framed in
+    let one : k ≡ key = cc in
+    record {
+      at = record { value_there = v; bytes = w; left = left; is_wire = p; front = sym same.2 };
+      others = ps;
+      are = ap (λ j. entry j v ps) one;
+      short_key = here;
+      more_pairs = all;
+    }
+
+module _ (s key behind : List ℕ) (f : IsKeyFrame s key behind) where
+  -- the key is text
+  pub key_utf8 : ∥ HasPairs s ∥₁ → IsUtf8 key
+  key_utf8 has =
+      IsUtf8-from_is_utf8 key (∥∥₁_elim has (Bool-set _ _) (λ (p : HasPairs s). is_utf8-from_IsUtf8 key (first_pair s key behind p.0 f p.1).short_key.utf8))
+
+  -- a head is read behind it
+  pub pair_there : (e : Refusal) → ∥ HasPairs s ∥₁ → Refuses (AtAnyDepth behind) ⊥ e → ⊥
+  pair_there e has x = ∥∥₁_elim has no_prop (λ (p : HasPairs s). never_refused behind e (first_pair s key behind p.0 f p.1).at x)
+
+  -- it means something
+  pub pair_meant : (h : Head) (rest : List ℕ) → IsHead behind h rest → ∥ HasPairs s ∥₁ → ∥ IsMeant h ∥₁
+  pair_meant h rest is has =
+      ∥∥₁_map has (λ (p : HasPairs s).
+      let a = (first_pair s key behind p.0 f p.1).at in
+      (a.value_there, (meant behind h rest is a).0))
+
+  -- pairs stand behind it
+  pub pairs_behind : (h : Head) (rest : List ℕ) → IsHead behind h rest → ∥ HasPairs s ∥₁ → (length rest < length s) × ∥ HasPairs rest ∥₁
+  pairs_behind h rest is has = (
+    ∥∥₁_elim has le_prop (λ (p : HasPairs s).
+        let a = (first_pair s key behind p.0 f p.1).at in
+        omega (arith, ap length (meant behind h rest is a).1, ap length a.front, length-append a.bytes a.left, ap length f.framed, length-append key behind)),
+    ∥∥₁_map has (λ (p : HasPairs s).
+        let first = first_pair s key behind p.0 f p.1 in
+        (first.others, subst (λ (t : List ℕ). Pairs t first.others) (meant behind h rest is first.at).1 first.more_pairs)),
+  )
+
+-- the pair that is given is the first
+pub pair_given : (s : List ℕ) (h : Head) (ps : Entries) (behind : List ℕ) (x : Bor (List ℕ) × ValueRef × SliceInput) → IsKeyFrame s x.0.now behind
+    → IsHead behind h (slice_bytes x.2) → ((v : Tree) → Means h v → Stands x.1 v) → Pairs s ps → NextPairIs ps (Some x)
+pair_given s h ps behind x f is stands p =
+    let first = first_pair s x.0.now behind ps f p in
+    let m = meant behind h (slice_bytes x.2) is first.at in
+    let given : NextPairIs (entry x.0.now first.at.value_there first.others) (Some x) =
+    (refl, stands first.at.value_there m.0, subst (λ (t : List ℕ). Pairs t first.others) m.1 first.more_pairs) in
+    subst (λ (qs : Entries). NextPairIs qs (Some x)) (sym first.are) given
+
+-- where no byte is left no pair is
+pub no_pair_given : (s : List ℕ) (ps : Entries) → length s ≡ 0 → Pairs s ps → NextPairIs ps None
+no_pair_given _ _ e no_pairs = tt
+no_pair_given _ _ e (pair k w left v ps is p all) = absurd (omega arith)

@@ -1,0 +1,28 @@
+use Rattle.std.proofs.Common.{List, length, ◌+◌, ◌*◌}
+use Rattle.amqp_grammar.specs.Values.{Tree, Entries}
+use Rattle.amqp_input.specs.Inputs.{slice_bytes}
+use Rattle.amqp_parsing.proofs.Bodies.{Goes}
+use Rattle.amqp_parsing.proofs.TableBodies.{Walks}
+use Rattle.amqp_in_place.proofs.read.+reader.Given as goal
+
+-- a call has a shorter input than its caller, or as long a one and less to do
+abbrev pub decreases-value_within : goal.decreases-value_within
+decreases-value_within l = 2 * length (slice_bytes l.i)
+
+abbrev pub decreases-are_values : goal.decreases-are_values
+decreases-are_values l = 2 * length (slice_bytes l.body) + 1
+
+abbrev pub decreases-are_pairs : goal.decreases-are_pairs
+decreases-are_pairs l = 2 * length (slice_bytes l.body) + 1
+
+abbrev pub invariant-are_values-values : goal.invariant-are_values-values
+invariant-are_values-values l = (xs : List Tree) × Goes l.fn.depth (slice_bytes l.fn.body) xs (slice_bytes l.rest)
+
+abbrev pub decreases-are_values-values : goal.decreases-are_values-values
+decreases-are_values-values l = length (slice_bytes l.rest)
+
+abbrev pub invariant-are_pairs-pairs : goal.invariant-are_pairs-pairs
+invariant-are_pairs-pairs l = (es : Entries) × Walks l.fn.depth (slice_bytes l.fn.body) es (slice_bytes l.rest)
+
+abbrev pub decreases-are_pairs-pairs : goal.decreases-are_pairs-pairs
+decreases-are_pairs-pairs l = length (slice_bytes l.rest)

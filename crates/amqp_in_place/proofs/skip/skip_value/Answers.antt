@@ -1,0 +1,15 @@
+use Rattle.std.proofs.Common.{◌≡◌, ◌+◌, ◌-◌, ℕ, List, length, subst, arith}
+use Rattle.amqp_input.specs.Inputs.{slice_bytes}
+use Rattle.amqp_parsing.specs.Headers.{extent}
+use Rattle.amqp_in_place.proofs.Skipping.{skipped, width_of_found}
+use Rattle.amqp_in_place.proofs.skip.skip_value.Goals as goal
+
+pub returns-clause-extent : goal.returns-clause-extent
+returns-clause-extent c =
+    let left = slice_bytes c.in_ok-rest.rest in
+    let all : extent c.args.bytes.now + length left ≡ length c.args.bytes.now =
+    subst (λ (s : List ℕ). extent s + length left ≡ length s) c.new.ensures (skipped (slice_bytes c.new.result) c.in_ok-rest.field-0-1 left c.in_ok-rest.ensures) in
+    omega (arith, all)
+
+pub returns-clause-value : goal.returns-clause-value
+returns-clause-value c = width_of_found c.args.bytes.now (length c.args.bytes.now - c.input_len.result) (returns-clause-extent c)

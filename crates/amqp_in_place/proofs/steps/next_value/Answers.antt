@@ -1,0 +1,17 @@
+use Rattle.std.proofs.Common.{arith}
+use Rattle.amqp_input.specs.Inputs.{slice_bytes}
+use Rattle.amqp_in_place.proofs.Stepping.{value_there, value_meant, value_given, values_behind}
+use Rattle.amqp_in_place.proofs.steps.next_value.Goals as goal
+
+pub unreachable-requires : goal.unreachable-requires
+unreachable-requires c = value_there (slice_bytes c.args.bytes) c.in_default.field-0 (omega arith) c.requires c.in_default.ensures
+
+pub value_of-requires : goal.value_of-requires
+value_of-requires c = value_meant (slice_bytes c.args.bytes) c.in-Ok.head (slice_bytes c.in-Ok.rest) (omega arith) c.in-Ok.ensures c.requires
+
+pub returns-clause-value : goal.returns-clause-value
+returns-clause-value c = λ vs p.
+    value_given (slice_bytes c.args.bytes) c.in-Ok.head vs (c.value_of.result, c.in-Ok.rest) (omega arith) c.in-Ok.ensures c.value_of.ensures p
+
+pub returns-clause-more : goal.returns-clause-more
+returns-clause-more c = values_behind (slice_bytes c.args.bytes) c.in-Ok.head (slice_bytes c.in-Ok.rest) (omega arith) c.in-Ok.ensures c.requires

@@ -1,0 +1,59 @@
+-- What stands behind an id, one level deep.
+use Rattle.std.specs.Prelude.{ℕ, ◌≤◌, ◌≡◌, List, length, ◌++◌}
+use Rattle.amqp_types.specs.declared.amqp_type.AMQPType.{AMQPType}
+use Rattle.amqp_types.specs.declared.amqp_type.AMQPType.TheVariants as amqp
+use Rattle.amqp_grammar.specs.Values.{Tree, Trees, Entries, array, table}
+use Rattle.amqp_grammar.specs.Grammar.{Body, small}
+use Rattle.amqp_grammar.specs.Outcomes.{Reading, found}
+use Rattle.amqp_grammar.specs.Payloads.{RawOutcome}
+use Rattle.amqp_grammar.specs.Nesting.{OutcomeWithin}
+use Rattle.amqp_input.specs.Inputs.{slice_bytes}
+use Rattle.amqp_parsing.specs.Typed.{IsType}
+use Rattle.amqp_parsing.specs.Bodies.{IsFrame}
+use Rattle.amqp_in_place.specs.declared.head.Head.{Head}
+use Rattle.amqp_in_place.specs.declared.head.Head.TheVariants as head
+use Rattle.amqp_in_place.specs.declared.refs.ValueRef.{ValueRef}
+use Rattle.amqp_in_place.specs.declared.refs.ValueRef.TheVariants as at
+use Rattle.amqp_in_place.specs.Refs.{plain_tree, Stands}
+use Rattle.amqp_in_place.specs.Bodies.{HasEntries}
+
+-- the value is no container
+abbrev pub IsPlain : ValueRef → Type 0
+IsPlain (at.FieldArray a) = ⊥
+IsPlain (at.FieldTable t) = ⊥
+IsPlain _ = Unit {0}
+
+-- the type is none of a container
+abbrev pub IsPlainType : AMQPType → Type 0
+IsPlainType amqp.FieldArray = ⊥
+IsPlainType amqp.FieldTable = ⊥
+IsPlainType _ = Unit {0}
+
+-- the head of a payload of the type: a plain value, or the body of a container
+abbrev pub RawHeadIs : AMQPType → List ℕ → Head → List ℕ → Type 0
+RawHeadIs type s (head.Plain r) rest = IsPlain r × IsPlainType type × RawOutcome type s (found (plain_tree r) rest)
+RawHeadIs type s (head.FieldArray i) rest = (type ≡ amqp.FieldArray) × IsFrame s (slice_bytes i) rest
+RawHeadIs type s (head.FieldTable i) rest = (type ≡ amqp.FieldTable) × IsFrame s (slice_bytes i) rest
+
+-- the head of a value: that of the payload behind its id
+abbrev pub IsHead : List ℕ → Head → List ℕ → Type 0
+IsHead s h rest = (type : AMQPType) × (mid : List ℕ) × IsType s type mid × RawHeadIs type mid h rest
+
+-- whatever the limit on depth is, reading s comes to o
+abbrev pub AtAnyDepth : List ℕ → Reading → Type 0
+AtAnyDepth s o = (d : ℕ) → OutcomeWithin d s o
+
+-- v is what the head means
+abbrev pub Means : Head → Tree → Type 0
+Means (head.Plain r) v = Stands r v
+Means (head.FieldArray i) v = (vs : Trees) × Body (slice_bytes i) vs × (v ≡ array vs)
+Means (head.FieldTable i) v = (es : Entries) × HasEntries (slice_bytes i) es × (v ≡ table es)
+
+-- the head means something
+abbrev pub IsMeant : Head → Type 0
+IsMeant h = (v : Tree) × Means h v
+
+-- `body` stands behind its length in one byte, and `rest` behind it
+pub record IsKeyFrame (s body rest : List ℕ) : Type 0 where
+  pub framed : s ≡ small body ++ rest
+  pub few : length body ≤ 255

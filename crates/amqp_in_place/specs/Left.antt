@@ -1,0 +1,11 @@
+-- What iterators have left.
+use Rattle.std.specs.Prelude.{ℕ, List}
+use Rattle.amqp_input.specs.Inputs.{slice_bytes}
+use Rattle.amqp_in_place.specs.declared.iter.ArrayValues.{ArrayValues}
+use Rattle.amqp_in_place.specs.declared.iter.TablePairs.{TablePairs}
+
+abbrev pub values_left : ArrayValues → List ℕ
+values_left s = slice_bytes s.rest
+
+abbrev pub pairs_left : TablePairs → List ℕ
+pairs_left s = slice_bytes s.rest

@@ -1,0 +1,6 @@
+pub mod Bodies
+pub mod Refs
+pub mod Heads
+pub mod Walks
+pub mod Answers
+pub mod Left

@@ -1,0 +1,56 @@
+-- Stepping through bodies in place.
+use Rattle.std.specs.Prelude.{ℕ, zero, suc, ◌≡◌, ◌<◌, List, length, Option, Some, None}
+use Rattle.std.specs.Borrow.{Bor}
+use Rattle.amqp_grammar.specs.Values.{Tree, Trees, no_trees, tree, Entries, no_entries, entry}
+use Rattle.amqp_grammar.specs.Grammar.{Pairs, Body}
+use Rattle.amqp_input.specs.Inputs.{slice_bytes}
+use Rattle.amqp_input.specs.declared.input.SliceInput.{SliceInput}
+use Rattle.amqp_in_place.specs.declared.refs.ValueRef.{ValueRef}
+use Rattle.amqp_in_place.specs.Refs.{Stands}
+use Rattle.amqp_in_place.specs.Bodies.{HasValues, HasPairs}
+
+-- the first of the values is given, and the bytes of the others
+abbrev pub NextValueIs : Trees → Option (ValueRef × SliceInput) → Type 0
+NextValueIs no_trees None = Unit {0}
+NextValueIs (tree v vs) (Some x) = Stands x.0 v × Body (slice_bytes x.1) vs
+NextValueIs _ _ = ⊥
+
+-- behind the value that is given stand fewer bytes than n, which are values
+abbrev pub MoreValues : ℕ → Option (ValueRef × SliceInput) → Type 0
+MoreValues n None = Unit {0}
+MoreValues n (Some x) = (length (slice_bytes x.1) < n) × ∥ HasValues (slice_bytes x.1) ∥₁
+
+-- the first of the pairs is given, and the bytes of the others
+abbrev pub NextPairIs : Entries → Option (Bor (List ℕ) × ValueRef × SliceInput) → Type 0
+NextPairIs no_entries None = Unit {0}
+NextPairIs (entry k v ps) (Some x) = (x.0.now ≡ k) × Stands x.1 v × Pairs (slice_bytes x.2) ps
+NextPairIs _ _ = ⊥
+
+-- behind the pair that is given stand fewer bytes than n, which are pairs
+abbrev pub MorePairs : ℕ → Option (Bor (List ℕ) × ValueRef × SliceInput) → Type 0
+MorePairs n None = Unit {0}
+MorePairs n (Some x) = (length (slice_bytes x.2) < n) × ∥ HasPairs (slice_bytes x.2) ∥₁
+
+-- a step gives the first of the values, and leaves the others
+abbrev pub ValueStep : Trees → Option ValueRef → List ℕ → Type 0
+ValueStep no_trees None left = Body left no_trees
+ValueStep (tree v vs) (Some r) left = Stands r v × Body left vs
+ValueStep _ _ left = ⊥
+
+-- a step gives the first of the pairs, and leaves the others
+abbrev pub PairStep : Entries → Option (Bor (List ℕ) × ValueRef) → List ℕ → Type 0
+PairStep no_entries None left = Pairs left no_entries
+PairStep (entry k v ps) (Some x) left = (x.0.now ≡ k) × Stands x.1 v × Pairs left ps
+PairStep _ _ left = ⊥
+
+-- what is found stands for the tree, if there is one
+abbrev pub FoundIs : Option Tree → Option ValueRef → Type 0
+FoundIs None None = Unit {0}
+FoundIs (Some v) (Some r) = Stands r v
+FoundIs _ _ = ⊥
+
+-- the value at a place of an array, counted from 0
+abbrev pub tree_at : ℕ → Trees → Option Tree
+tree_at n no_trees = None
+tree_at zero (tree v vs) = Some v
+tree_at (suc n) (tree v vs) = tree_at n vs

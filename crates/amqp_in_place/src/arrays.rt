@@ -1,0 +1,53 @@
+//! What stands in an array.
+
+ghost use Rattle.std.specs.Prelude.{◌≡◌, ◌<◌, ◌↔◌, IsTrue, length, MatchResult};
+ghost use Rattle.amqp_grammar.specs.Values.{Trees, no_trees};
+ghost use Rattle.amqp_grammar.specs.Grammar.{Body};
+ghost use Rattle.amqp_value_core.specs.Containers.{array_view};
+ghost use Rattle.amqp_in_place.specs.Refs.{array_body};
+ghost use Rattle.amqp_in_place.specs.Walks.{FoundIs, tree_at};
+
+use super::refs::{ArrayRef, ValueRef};
+use super::steps::next_value;
+use amqp_input::ParsableInput;
+use amqp_parsing::values::parse_body;
+use amqp_value_core::types::FieldArray;
+use std::alloc::{AllocError, Global};
+
+impl<'a> ArrayRef<'a> {
+    /// Whether there is no value.
+    pub fn is_empty(self) -> bool
+        ensures { (vs : Trees) → Body (array_body self.entry) vs → IsTrue result ↔ (vs ≡ no_trees) }
+    {
+        self.body().input_len() == 0
+    }
+
+    /// The value at `index`, counted from 0. Walks the values before it.
+    pub fn get(self, index: usize) -> Option<ValueRef<'a>>
+        ensures { (vs : Trees) → Body (array_body self.entry) vs → FoundIs (tree_at index vs) result }
+    {
+        let mut left = index;
+        let mut rest = self.body();
+        'values: while let Some((value, behind)) = next_value(rest) {
+            if left == 0 {
+                return Some(value);
+            }
+            left -= 1;
+            rest = behind;
+        }
+        None
+    }
+
+    /// The array in memory of its own, which `parse_value` gives. No values take no memory.
+    pub fn to_owned(self, alloc: Global) -> Result<FieldArray, AllocError>
+        ensures { MatchResult result
+            (λ a. Body (array_body self.entry) (array_view a))
+            (λ _. 0 < length (array_body self.entry)) }
+    {
+        let body = self.body();
+        match parse_body(alloc, body, body.input_len()) {
+            Ok(array) => Ok(array),
+            Err(_) => Err(AllocError),
+        }
+    }
+}

@@ -1,0 +1,140 @@
+//! What stands behind an id, one level deep.
+
+ghost use Rattle.std.specs.Prelude.{◌≡◌, ◌≢◌, MatchResult};
+ghost use Rattle.amqp_grammar.specs.Payloads.{RawOutcome};
+ghost use Rattle.amqp_input.specs.Inputs.{slice_bytes};
+ghost use Rattle.amqp_parsing.specs.Typed.{OnlyLacks};
+ghost use Rattle.amqp_parsing.specs.Answers.{Refuses};
+ghost use Rattle.amqp_in_place.specs.Heads.{RawHeadIs, IsHead, IsKeyFrame, AtAnyDepth};
+
+use super::refs::ValueRef;
+use amqp_input::{ParsableInput, SliceInput};
+use amqp_parsing::errors::lacks;
+use amqp_parsing::{
+    ParserResult, parse_boolean, parse_decimal_value, parse_double, parse_float, parse_frame,
+    parse_long_int, parse_long_long_int, parse_long_uint, parse_short_int, parse_short_short_int,
+    parse_short_short_uint, parse_short_uint, parse_timestamp, parse_type,
+};
+use amqp_types::AMQPType;
+
+// A value that is no container, or the body of a container, which isn't looked at.
+#[derive(Clone, Copy)]
+pub(crate) enum Head<'a> {
+    Plain(ValueRef<'a>),
+    FieldArray(SliceInput<'a>),
+    FieldTable(SliceInput<'a>),
+}
+
+// Reads an id and what stands behind it, one level deep.
+#[inline(always)]
+#[tactic(auto, using(crate::proofs::HeadLemmas::head_answer))]
+pub(crate) fn read_head<'a>(i: SliceInput<'a>) -> ParserResult<SliceInput<'a>, Head<'a>>
+    ensures { MatchResult result
+        (λ x. IsHead (slice_bytes i.entry) x.1 (slice_bytes x.0))
+        (Refuses (AtAnyDepth (slice_bytes i.entry)) ⊥) }
+{
+    let (i, amqp_type) = parse_type(i)?;
+    read_payload_head(amqp_type, i)
+}
+
+// Reads what stands behind an id.
+#[inline(always)]
+#[tactic(auto, using(amqp_parsing::proofs::Frames::long_found, amqp_parsing::proofs::Frames::octets_found, amqp_parsing::proofs::Payloads::void_found, amqp_parsing::proofs::Payloads::unsigned_outcome, crate::proofs::HeadLemmas::unsigned_lacks))]
+fn read_payload_head<'a>(
+    amqp_type: AMQPType,
+    i: SliceInput<'a>,
+) -> ParserResult<SliceInput<'a>, Head<'a>>
+    requires { amqp_type ≢ AMQPType.ShortString }
+    ensures { MatchResult result
+        (λ x. RawHeadIs amqp_type (slice_bytes i.entry) x.1 (slice_bytes x.0))
+        (OnlyLacks (RawOutcome amqp_type (slice_bytes i.entry)) ⊥) }
+{
+    match amqp_type {
+        AMQPType::Boolean => {
+            let (i, b) = parse_boolean(i)?;
+            Ok((i, Head::Plain(ValueRef::Boolean(b))))
+        }
+        AMQPType::ShortShortInt => {
+            let (i, n) = parse_short_short_int(i)?;
+            Ok((i, Head::Plain(ValueRef::ShortShortInt(n))))
+        }
+        AMQPType::ShortShortUInt => {
+            let (i, n) = parse_short_short_uint(i)?;
+            Ok((i, Head::Plain(ValueRef::ShortShortUInt(n))))
+        }
+        AMQPType::ShortInt => {
+            let (i, n) = parse_short_int(i)?;
+            Ok((i, Head::Plain(ValueRef::ShortInt(n))))
+        }
+        AMQPType::ShortUInt => {
+            let (i, n) = parse_short_uint(i)?;
+            Ok((i, Head::Plain(ValueRef::ShortUInt(n))))
+        }
+        AMQPType::LongInt => {
+            let (i, n) = parse_long_int(i)?;
+            Ok((i, Head::Plain(ValueRef::LongInt(n))))
+        }
+        AMQPType::LongUInt => {
+            let (i, n) = parse_long_uint(i)?;
+            Ok((i, Head::Plain(ValueRef::LongUInt(n))))
+        }
+        AMQPType::LongLongInt => {
+            let (i, n) = parse_long_long_int(i)?;
+            Ok((i, Head::Plain(ValueRef::LongLongInt(n))))
+        }
+        AMQPType::LongLongUInt => {
+            let (i, n) = parse_long_long_int(i)?;
+            Ok((i, Head::Plain(ValueRef::LongLongInt(n))))
+        }
+        AMQPType::Float => {
+            let (i, f) = parse_float(i)?;
+            Ok((i, Head::Plain(ValueRef::Float(f))))
+        }
+        AMQPType::Double => {
+            let (i, f) = parse_double(i)?;
+            Ok((i, Head::Plain(ValueRef::Double(f))))
+        }
+        AMQPType::DecimalValue => {
+            let (i, d) = parse_decimal_value(i)?;
+            Ok((i, Head::Plain(ValueRef::DecimalValue(d))))
+        }
+        AMQPType::ShortString => unreachable!(),
+        AMQPType::FieldArray => {
+            let (i, body) = parse_frame(i)?;
+            Ok((i, Head::FieldArray(body)))
+        }
+        AMQPType::FieldTable => {
+            let (i, body) = parse_frame(i)?;
+            Ok((i, Head::FieldTable(body)))
+        }
+        AMQPType::LongString => {
+            let (i, body) = parse_frame(i)?;
+            Ok((i, Head::Plain(ValueRef::LongString(body.as_slice()))))
+        }
+        AMQPType::Timestamp => {
+            let (i, n) = parse_timestamp(i)?;
+            Ok((i, Head::Plain(ValueRef::Timestamp(n))))
+        }
+        AMQPType::ByteArray => {
+            let (i, body) = parse_frame(i)?;
+            Ok((i, Head::Plain(ValueRef::ByteArray(body.as_slice()))))
+        }
+        AMQPType::Void => Ok((i, Head::Plain(ValueRef::Void))),
+    }
+}
+
+// Reads the frame of a key: its length in one byte, and as many bytes, which aren't looked at.
+#[inline(always)]
+pub(crate) fn read_key<'a>(i: SliceInput<'a>) -> ParserResult<SliceInput<'a>, SliceInput<'a>>
+    ensures { MatchResult result
+        (λ x. IsKeyFrame (slice_bytes i.entry) (slice_bytes x.1) (slice_bytes x.0))
+        (Refuses (RawOutcome AMQPType.ShortString (slice_bytes i.entry)) ⊥) }
+{
+    let (i, len) = parse_short_short_uint(i)?;
+    let len = usize::from(len);
+    let there = i.input_len();
+    if there < len {
+        return Err(lacks(len - there));
+    }
+    Ok((i.take_from(len), i.take(len)))
+}

@@ -1,0 +1,91 @@
+//! The values of an array and the pairs of a table, one after another.
+
+ghost use Rattle.amqp_input.specs.Inputs.{slice_bytes};
+ghost use Rattle.amqp_in_place.specs.Bodies.{HasValues, HasPairs};
+
+use super::refs::{ArrayRef, TableRef, ValueRef};
+use super::steps::{next_pair, next_value};
+use amqp_input::SliceInput;
+
+/// The values of an array that are left, in order.
+#[derive(Drop)]
+pub struct ArrayValues<'a> {
+    rest: SliceInput<'a>,
+    ghost well_formed: { ∥ HasValues (slice_bytes rest) ∥₁ },
+}
+
+/// The pairs of a table that are left, in the order in which they are written. A key may come more than
+/// once: the last pair's value is the one that counts.
+#[derive(Drop)]
+pub struct TablePairs<'a> {
+    rest: SliceInput<'a>,
+    ghost well_formed: { ∥ HasPairs (slice_bytes rest) ∥₁ },
+}
+
+impl<'a> ArrayRef<'a> {
+    ghost use Rattle.std.specs.Prelude.{◌≡◌};
+    ghost use Rattle.amqp_in_place.specs.Refs.{array_body};
+    ghost use Rattle.amqp_in_place.specs.Left.{values_left};
+
+    /// The values, in order.
+    pub fn iter(self) -> ArrayValues<'a>
+        ensures { values_left result ≡ array_body self.entry }
+    {
+        ArrayValues { rest: self.body() }
+    }
+}
+
+impl<'a> TableRef<'a> {
+    ghost use Rattle.std.specs.Prelude.{◌≡◌};
+    ghost use Rattle.amqp_in_place.specs.Refs.{table_body};
+    ghost use Rattle.amqp_in_place.specs.Left.{pairs_left};
+
+    /// The pairs, in the order in which they are written; a key may come more than once.
+    pub fn iter(self) -> TablePairs<'a>
+        ensures { pairs_left result ≡ table_body self.entry }
+    {
+        TablePairs { rest: self.body() }
+    }
+}
+
+impl<'a> Iterator for ArrayValues<'a> {
+    ghost use Rattle.std.specs.Prelude.{length};
+    ghost use Rattle.std.specs.Iterator.{at_most};
+    ghost use Rattle.amqp_grammar.specs.Values.{Trees};
+    ghost use Rattle.amqp_grammar.specs.Grammar.{Body};
+    ghost use Rattle.amqp_in_place.specs.Left.{values_left};
+    ghost use Rattle.amqp_in_place.specs.Walks.{ValueStep};
+
+    type Item = ValueRef<'a>;
+
+    ghost next_gives = { λ s r t. (vs : Trees) → Body (values_left s) vs → ValueStep vs r (values_left t) };
+
+    ghost remaining = { λ s. at_most (length (values_left s)) };
+
+    fn next(&mut self) -> Option<ValueRef<'a>> {
+        let (value, rest) = next_value(self.rest)?;
+        self.rest = rest;
+        Some(value)
+    }
+}
+
+impl<'a> Iterator for TablePairs<'a> {
+    ghost use Rattle.std.specs.Prelude.{length};
+    ghost use Rattle.std.specs.Iterator.{at_most};
+    ghost use Rattle.amqp_grammar.specs.Values.{Entries};
+    ghost use Rattle.amqp_grammar.specs.Grammar.{Pairs};
+    ghost use Rattle.amqp_in_place.specs.Left.{pairs_left};
+    ghost use Rattle.amqp_in_place.specs.Walks.{PairStep};
+
+    type Item = (&'a str, ValueRef<'a>);
+
+    ghost next_gives = { λ s r t. (ps : Entries) → Pairs (pairs_left s) ps → PairStep ps r (pairs_left t) };
+
+    ghost remaining = { λ s. at_most (length (pairs_left s)) };
+
+    fn next(&mut self) -> Option<(&'a str, ValueRef<'a>)> {
+        let (key, value, rest) = next_pair(self.rest)?;
+        self.rest = rest;
+        Some((key, value))
+    }
+}

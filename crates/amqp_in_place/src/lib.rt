@@ -1,0 +1,18 @@
+//! Reading in place: a value where its bytes lie, with no memory and no copy.
+#![tactic(auto)]
+
+mod arrays;
+mod getters;
+mod head;
+mod iter;
+mod owned;
+mod read;
+mod refs;
+mod skip;
+mod steps;
+mod tables;
+
+pub use iter::{ArrayValues, TablePairs};
+pub use read::read_in_place;
+pub use refs::{ArrayRef, TableRef, ValueRef};
+pub use skip::skip_value;

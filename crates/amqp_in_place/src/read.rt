@@ -1,0 +1,118 @@
+//! Reading a value in place.
+
+ghost use Rattle.std.specs.Prelude.{◌≡◌, true, false, length, MatchResult, IfErr, IfOk};
+ghost use Rattle.amqp_grammar.specs.Values.{Tree, Trees, Entries};
+ghost use Rattle.amqp_grammar.specs.Nesting.{BodyWithin, PairsWithin, OutcomeWithin};
+ghost use Rattle.amqp_grammar.specs.Outcomes.{found, malformed};
+ghost use Rattle.amqp_input.specs.Inputs.{slice_bytes};
+ghost use Rattle.amqp_parsing.specs.Answers.{Refuses};
+ghost use Rattle.amqp_parsing.specs.Bodies.{IsNoBody, IsTable, IsNoTable};
+ghost use Rattle.amqp_parsing.specs.Limits.{Within, RefusesWithin};
+ghost use Rattle.amqp_in_place.specs.Refs.{Stands, IsOneValue};
+ghost use Rattle.amqp_in_place.specs.Answers.{NeedsNoMemory};
+
+use super::head::{Head, read_head, read_key};
+use super::refs::{ArrayRef, TableRef, ValueRef};
+use amqp_input::{ParsableInput, SliceInput};
+use amqp_parsing::errors::{lacks, refused};
+use amqp_parsing::header::{Header, header_of};
+use amqp_parsing::{ErrorKind, Limits, ParserError, ParserResult};
+use std::str;
+
+/// Reads a value where its bytes lie: answers what `parse_value_within` does within the same limits,
+/// but for want of memory, which never comes.
+///
+/// All of the value is checked, keys' UTF-8 too. Nothing is copied, and no memory is taken. It recurses
+/// at most `limits.depth` deep.
+#[tactic(auto, using(crate::proofs::OneValue::one_value))]
+pub fn read_in_place(bytes: &[u8], limits: Limits) -> Result<(ValueRef<'_>, &[u8]), ParserError>
+    ensures within { MatchResult result
+        (λ x. (v : Tree) × Stands x.0 v × Within limits bytes.now (found v x.1.now))
+        (RefusesWithin limits bytes.now) }
+    ensures no_memory { IfErr result NeedsNoMemory }
+    ensures one { IfOk result (λ x. IsOneValue x.0) }
+{
+    let i = SliceInput::new(bytes);
+    match header_of(i, limits.frame) {
+        Header::Unknown => Err(refused(ErrorKind::MapOpt)),
+        Header::TooLarge => Err(refused(ErrorKind::TooLarge)),
+        Header::Lacks(n) => Err(lacks(n)),
+        Header::Whole => {
+            let (rest, value) = value_within(i, limits.depth as usize)?;
+            Ok((value, rest.as_slice()))
+        }
+    }
+}
+
+// Reads a value in which containers nest at most `depth` deep.
+#[cycle(reader)]
+#[inline(always)]
+fn value_within<'a>(i: SliceInput<'a>, depth: usize) -> ParserResult<SliceInput<'a>, ValueRef<'a>>
+    ensures { MatchResult result
+        (λ x. (v : Tree) × Stands x.1 v × OutcomeWithin depth (slice_bytes i.entry) (found v (slice_bytes x.0)))
+        (Refuses (OutcomeWithin depth (slice_bytes i.entry)) ⊥) }
+{
+    let (rest, head) = read_head(i)?;
+    match head {
+        Head::Plain(value) => Ok((rest, value)),
+        Head::FieldArray(body) => {
+            if depth == 0 {
+                return Err(refused(ErrorKind::Eof));
+            }
+            if !are_values(body, depth - 1) {
+                return Err(refused(ErrorKind::Eof));
+            }
+            Ok((rest, ValueRef::FieldArray(ArrayRef::of(body))))
+        }
+        Head::FieldTable(body) => {
+            if depth == 0 {
+                return Err(refused(ErrorKind::Eof));
+            }
+            if !are_pairs(body, depth - 1) {
+                return Err(refused(ErrorKind::Eof));
+            }
+            Ok((rest, ValueRef::FieldTable(TableRef::of(body))))
+        }
+    }
+}
+
+// Whether a body is values one after another, in each of which containers nest at most `depth` deep.
+#[cycle(reader)]
+#[inline(never)]
+fn are_values<'a>(body: SliceInput<'a>, depth: usize) -> bool
+    ensures yes { result ≡ true → (vs : Trees) × BodyWithin depth (slice_bytes body.entry) vs }
+    ensures no { result ≡ false → IsNoBody depth (slice_bytes body.entry) malformed }
+{
+    let mut rest = body;
+    'values: while rest.input_len() > 0 {
+        let Ok((after, _)) = value_within(rest, depth) else {
+            return false;
+        };
+        rest = after;
+    }
+    true
+}
+
+// Whether a body is keys, each with a value, one after another, and containers nest at most `depth`
+// deep in each value.
+#[cycle(reader)]
+#[inline(never)]
+fn are_pairs<'a>(body: SliceInput<'a>, depth: usize) -> bool
+    ensures yes { result ≡ true → (es : Entries) × IsTable depth (slice_bytes body.entry) es }
+    ensures no { result ≡ false → IsNoTable depth (slice_bytes body.entry) malformed }
+{
+    let mut rest = body;
+    'pairs: while rest.input_len() > 0 {
+        let Ok((behind, key)) = read_key(rest) else {
+            return false;
+        };
+        let Ok(_) = str::from_utf8(key.as_slice()) else {
+            return false;
+        };
+        let Ok((after, _)) = value_within(behind, depth) else {
+            return false;
+        };
+        rest = after;
+    }
+    true
+}

@@ -1,0 +1,24 @@
+//! How many bytes a value takes.
+
+ghost use Rattle.std.specs.Prelude.{◌≡◌, IfOk, MatchResult};
+ghost use Rattle.amqp_grammar.specs.Outcomes.{Outcome};
+ghost use Rattle.amqp_parsing.specs.Answers.{Refuses};
+ghost use Rattle.amqp_parsing.specs.Headers.{extent};
+ghost use Rattle.amqp_in_place.specs.Answers.{IsWidthOfFound};
+
+use super::head::read_head;
+use amqp_input::{ParsableInput, SliceInput};
+use amqp_parsing::ParserError;
+
+/// How many bytes the value at the front takes, by its type tag and its length alone: in constant time,
+/// and whether or not the body of a container holds entries.
+///
+/// It refuses what `parse_value` refuses for its type tag, and asks for more bytes where that does.
+#[tactic(auto, using(crate::proofs::Skipping::skipped, crate::proofs::Skipping::width_of_found, crate::proofs::Skipping::refused_so))]
+pub fn skip_value(bytes: &[u8]) -> Result<usize, ParserError>
+    ensures extent { MatchResult result (λ n. n ≡ extent bytes.now) (Refuses (Outcome bytes.now) ⊥) }
+    ensures value { IfOk result (λ n. IsWidthOfFound bytes.now n) }
+{
+    let (rest, _) = read_head(SliceInput::new(bytes))?;
+    Ok(bytes.len() - rest.input_len())
+}

@@ -1,0 +1,211 @@
+//! Values where their bytes lie, by worked bytes.
+
+use amq_protocol_types::AMQPValue;
+use amq_protocol_types::in_place::{Limits, TableRef, ValueRef, read_in_place, skip_value};
+use amq_protocol_types::parsing::{Err, ErrorKind, Needed, SliceInput, parse_value};
+use std::alloc::Global;
+use std::test::Fail;
+
+const LIMITS: Limits = Limits {
+    frame: 131_072,
+    depth: 64,
+};
+
+/// What a broker writes on a message that it dead-lettered once, of a queue `q`.
+const X_DEATH: &[u8] = b"F\0\0\0\x40\x07x-deathA\0\0\0\x33F\0\0\0\x2e\
+    \x05countl\0\0\0\0\0\0\0\x01\x06reasonS\0\0\0\x07expired\x05queueS\0\0\0\x01q";
+
+/// The key `a` with true, `b` with Void, and `a` again with the number 7.
+const EQUAL_KEYS: &[u8] = b"F\0\0\0\x0b\x01at\x01\x01bV\x01aB\x07";
+
+/// A table in a table.
+const NESTED: &[u8] = b"F\0\0\0\x07\x01aF\0\0\0\0";
+
+/// The key of two nested arrays comes again, with Void.
+const DEEP_FIRST: &[u8] = b"F\0\0\0\x0f\x01aA\0\0\0\x05A\0\0\0\0\x01aV";
+
+// the table that the bytes are
+fn table(bytes: &[u8]) -> Option<TableRef<'_>> {
+    let (value, _) = read_in_place(bytes, LIMITS).ok()?;
+    value.as_field_table()
+}
+
+// the first table of the array at the key
+fn first_at<'a>(table: TableRef<'a>, key: &str) -> Option<TableRef<'a>> {
+    table.get(key)?.as_array()?.get(0)?.as_field_table()
+}
+
+fn number_at(table: TableRef<'_>, key: &str) -> Option<i64> {
+    table.get(key)?.as_long_long_int()
+}
+
+fn string_at<'a>(table: TableRef<'a>, key: &str) -> Option<&'a [u8]> {
+    table.get(key)?.as_long_string()
+}
+
+// whether the pairs have these keys, in this order
+fn keys_are(table: TableRef<'_>, want: &[&str]) -> bool {
+    let mut pairs = table.iter();
+    for key in want {
+        match pairs.next() {
+            Some((k, _)) if k == *key => {}
+            _ => return false,
+        }
+    }
+    pairs.next().is_none()
+}
+
+// why the bytes are refused
+fn refusal(bytes: &[u8], limits: Limits) -> Option<ErrorKind> {
+    match read_in_place(bytes, limits) {
+        Err(Err::Error(e)) => Some(e.kind()),
+        _ => None,
+    }
+}
+
+// how many bytes more are needed
+fn needs(bytes: &[u8]) -> Option<usize> {
+    match read_in_place(bytes, LIMITS) {
+        Err(Err::Incomplete(Needed::Size(n))) => Some(n),
+        _ => None,
+    }
+}
+
+// whether the copy of a value in place is what `parse_value` gives
+fn is_copied(alloc: Global, bytes: &[u8]) -> Result<bool, Fail> {
+    let Ok((value, _)) = read_in_place(bytes, LIMITS) else {
+        return Ok(false);
+    };
+    let copy = value.to_owned(alloc)?;
+    match parse_value(alloc, SliceInput::new(bytes)) {
+        Ok((_, parsed)) => Ok(copy == parsed),
+        Err(_e) => Ok(false),
+    }
+}
+
+#[test]
+fn a_header_is_looked_up(rt: HostRuntime) {
+    let Some(headers) = table(X_DEATH) else {
+        panic!(&rt; "no table")
+    };
+    assert!(rt; keys_are(headers, &["x-death"]));
+    let Some(death) = first_at(headers, "x-death") else {
+        panic!(&rt; "no death")
+    };
+    assert!(rt; keys_are(death, &["count", "reason", "queue"]));
+    assert_eq!(rt; number_at(death, "count"), Some(1));
+    assert!(rt; string_at(death, "reason") == Some(b"expired"));
+    assert!(rt; string_at(death, "queue") == Some(b"q"));
+    assert!(rt; !death.contains_key("que"));
+}
+
+#[test]
+fn of_equal_keys_the_last_value_stays(rt: HostRuntime) {
+    let Some(table) = table(EQUAL_KEYS) else {
+        panic!(&rt; "no table")
+    };
+    assert!(rt; keys_are(table, &["a", "b", "a"]));
+    assert!(rt; matches!(table.get("a"), Some(ValueRef::ShortShortUInt(7))));
+    assert!(rt; matches!(table.get("b"), Some(ValueRef::Void)));
+    assert!(rt; table.get("").is_none());
+    assert!(rt; table.get("ab").is_none());
+    assert!(rt; !table.is_empty());
+}
+
+#[test]
+fn limits_are_kept(rt: HostRuntime) {
+    assert_eq!(rt;
+        refusal(
+            NESTED,
+            Limits {
+                frame: 12,
+                depth: 2
+            }
+        ),
+        None
+    );
+    assert_eq!(rt;
+        refusal(
+            NESTED,
+            Limits {
+                frame: 12,
+                depth: 1
+            }
+        ),
+        Some(ErrorKind::Eof)
+    );
+    assert_eq!(rt;
+        refusal(
+            NESTED,
+            Limits {
+                frame: 11,
+                depth: 2
+            }
+        ),
+        Some(ErrorKind::TooLarge)
+    );
+    assert_eq!(rt;
+        refusal(
+            DEEP_FIRST,
+            Limits {
+                frame: 20,
+                depth: 3
+            }
+        ),
+        None
+    );
+    assert_eq!(rt;
+        refusal(
+            DEEP_FIRST,
+            Limits {
+                frame: 20,
+                depth: 2
+            }
+        ),
+        Some(ErrorKind::Eof)
+    );
+}
+
+#[test]
+fn what_is_cut_asks_for_more(rt: HostRuntime) {
+    assert_eq!(rt; needs(&[]), Some(1));
+    assert_eq!(rt; needs(b"F\0\0"), Some(2));
+    assert_eq!(rt; needs(b"F\0\0\0\x07"), Some(7));
+    assert_eq!(rt; needs(b"F\0\0\0\x07\x01aF\0\0\0"), Some(1));
+}
+
+#[test]
+fn what_is_no_value_is_refused(rt: HostRuntime) {
+    assert_eq!(rt; refusal(b"z", LIMITS), Some(ErrorKind::MapOpt));
+    // a key that isn't UTF-8, an unknown type tag in a table, and a cut value in an array
+    assert_eq!(rt;
+        refusal(b"F\0\0\0\x03\x01\xffV", LIMITS),
+        Some(ErrorKind::Eof)
+    );
+    assert_eq!(rt; refusal(b"F\0\0\0\x03\x01az", LIMITS), Some(ErrorKind::Eof));
+    assert_eq!(rt; refusal(b"A\0\0\0\x01tV", LIMITS), Some(ErrorKind::Eof));
+}
+
+#[test]
+fn a_value_is_skipped_by_its_header(rt: HostRuntime) {
+    assert!(rt; matches!(skip_value(X_DEATH), Ok(69)));
+    // what is in the body isn't looked at, nor what is behind it
+    assert!(rt; matches!(skip_value(b"A\0\0\0\x01zV"), Ok(6)));
+    assert!(rt; matches!(skip_value(b"S\0"), Err(Err::Incomplete(Needed::Size(3)))));
+}
+
+#[test]
+fn copies_are_what_is_parsed(rt: HostRuntime) -> Result<(), Fail> {
+    for bytes in [
+        X_DEATH,
+        EQUAL_KEYS,
+        NESTED,
+        DEEP_FIRST,
+        b"V",
+        b"x\0\0\0\x02ab",
+        b"S\0\0\0\0",
+    ] {
+        assert!(rt; is_copied(rt.alloc(), bytes)?);
+    }
+    Ok(())
+}
