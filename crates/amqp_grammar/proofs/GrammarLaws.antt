@@ -2,7 +2,7 @@
 -- three groups.
 
 -- one reading for each list
-pub use Rattle.amqp_grammar.proofs.Unique.{one_reading, one_raw_reading}
+pub use Rattle.amqp_grammar.proofs.Unique.{one_reading, one_raw_reading, one_body_meaning, one_pairs_meaning}
 -- texts: their length, and that they are wires
 pub use Rattle.amqp_grammar.proofs.Spelling.{length_of_text, length_of_payload, text_is_wire, payload_is_raw}
 -- outcomes: of a text, with more bytes, and that there is one
@@ -42,3 +42,4 @@ pub use Rattle.amqp_grammar.proofs.Agreement.{within_holds, within_is}
 pub use Rattle.amqp_grammar.proofs.Headers.{extent-raw, extent_of as header_extent_of}
 pub use Rattle.amqp_grammar.proofs.Sound.{IsBytes-front as bytes_front}
 pub use Rattle.amqp_grammar.proofs.Limited.{malformed_append, unknown_append}
+pub use Rattle.amqp_grammar.proofs.Nests.{body_nesting-le, pairs_nesting-le}

@@ -21,9 +21,7 @@ use Rattle.amqp_parsing.specs.Refusals.{Refusal}
 use Rattle.amqp_parsing.specs.Typed.{IsType, OnlyLacks}
 use Rattle.amqp_parsing.specs.Bodies.{IsFrame, IsTable, IsNoBody, IsNoTable}
 use Rattle.amqp_parsing.specs.Answers.{Refuses}
-use Rattle.amqp_parsing.proofs.Payloads.{unsigned_outcome}
-use Rattle.amqp_parsing.proofs.Frames.{array_found, array_refused, array_too_deep, table_found, table_refused, table_too_deep}
-use Rattle.amqp_parsing.proofs.Plain as plain_types
+use Rattle.amqp_parsing.proofs.ParsingLaws.{unsigned_outcome, IsPlainPayload, plain_found, array_found, array_refused, array_too_deep, table_found, table_refused, table_too_deep}
 use Rattle.amqp_in_place.specs.declared.head.Head.{Head}
 use Rattle.amqp_in_place.specs.declared.head.Head.TheVariants as head
 use Rattle.amqp_in_place.specs.declared.refs.ValueRef.{ValueRef}
@@ -37,7 +35,7 @@ plain_stands (at.FieldArray a) p = absurd p
 plain_stands (at.FieldTable t) p = absurd p
 plain_stands _ p = refl
 
-plain_type : (type : AMQPType) → IsPlainType type → plain_types.IsPlain type
+plain_type : (type : AMQPType) → IsPlainType type → IsPlainPayload type
 plain_type amqp.FieldArray p = absurd p
 plain_type amqp.FieldTable p = absurd p
 plain_type _ p = tt
@@ -87,7 +85,7 @@ unsigned_lacks s (Failure k) x = x
 -- a plain value is found, whatever the limit on depth
 pub plain_read : (s : List ℕ) (r : ValueRef) (rest : List ℕ) → IsHead s (head.Plain r) rest → AtAnyDepth s (found (plain_tree r) rest)
 plain_read s r rest (type, mid, p, q) = λ d.
-    typed s mid type p d (found (plain_tree r) rest) (plain_types.plain_found d type mid rest (plain_tree r) (plain_type type q.1) q.2)
+    typed s mid type p d (found (plain_tree r) rest) (plain_found d type mid rest (plain_tree r) (plain_type type q.1) q.2)
 
 pub plain_meant : (s : List ℕ) (r : ValueRef) (rest : List ℕ) → IsHead s (head.Plain r) rest → Stands r (plain_tree r)
 plain_meant s r rest (type, mid, p, q) = plain_stands r q.0

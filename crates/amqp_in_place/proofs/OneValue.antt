@@ -1,7 +1,7 @@
 -- What is referred to is one value.
 use Rattle.std.proofs.Common.{◌∙◌, refl, sym, ap}
 use Rattle.amqp_grammar.specs.Values.{array, table, no_entries, onto}
-use Rattle.amqp_grammar.proofs.Unique.{one_body_meaning, one_pairs_meaning}
+use Rattle.amqp_grammar.proofs.GrammarLaws.{one_body_meaning, one_pairs_meaning}
 use Rattle.amqp_in_place.specs.declared.refs.ValueRef.{ValueRef}
 use Rattle.amqp_in_place.specs.declared.refs.ValueRef.TheVariants as at
 use Rattle.amqp_in_place.specs.Refs.{array_body, table_body, IsOneValue}

@@ -11,9 +11,7 @@ use Rattle.amqp_parsing.specs.declared.errors.ErrorKind.TheVariants.{MapOpt, Map
 use Rattle.amqp_parsing.specs.Refusals.{Refusal, inside}
 use Rattle.amqp_parsing.specs.Answers.{Refuses}
 use Rattle.amqp_parsing.specs.Bodies.{IsNoBody, IsNoTable}
-use Rattle.amqp_parsing.proofs.Refused.{Refuses-weaker}
-use Rattle.amqp_parsing.proofs.Bodies.{Goes, Goes-refused}
-use Rattle.amqp_parsing.proofs.TableBodies.{Walks, Walks-bad_key, Walks-bad_value}
+use Rattle.amqp_parsing.proofs.ParsingLaws.{Refuses-weaker, Goes, Goes-refused, Walks, Walks-bad_key, Walks-bad_value}
 
 -- what isn't there for want of memory isn't there
 no_heavy : (Is : Reading → Type 0) (heavy : Type 0) (e : Refusal) → Refuses Is ⊥ e → Refuses Is heavy e

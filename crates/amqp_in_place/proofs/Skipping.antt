@@ -13,8 +13,7 @@ use Rattle.amqp_parsing.specs.Typed.{IsType}
 use Rattle.amqp_parsing.specs.Bodies.{IsFrame}
 use Rattle.amqp_parsing.specs.Answers.{Refuses}
 use Rattle.amqp_parsing.specs.Headers.{extent_of, extent_at, extent}
-use Rattle.amqp_parsing.proofs.Again.{wire_extent}
-use Rattle.amqp_parsing.proofs.Refused.{Refuses-weaker}
+use Rattle.amqp_parsing.proofs.ParsingLaws.{wire_extent, Refuses-weaker}
 use Rattle.amqp_in_place.specs.Answers.{IsWidthOfFound}
 use Rattle.amqp_in_place.specs.declared.head.Head.{Head}
 use Rattle.amqp_in_place.specs.declared.head.Head.TheVariants as head

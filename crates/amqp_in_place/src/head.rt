@@ -39,7 +39,7 @@ pub(crate) fn read_head<'a>(i: SliceInput<'a>) -> ParserResult<SliceInput<'a>, H
 
 // Reads what stands behind an id.
 #[inline(always)]
-#[tactic(auto, using(amqp_parsing::proofs::Frames::long_found, amqp_parsing::proofs::Frames::octets_found, amqp_parsing::proofs::Payloads::void_found, amqp_parsing::proofs::Payloads::unsigned_outcome, crate::proofs::HeadLemmas::unsigned_lacks))]
+#[tactic(auto, using(amqp_parsing::proofs::ParsingLaws::long_found, amqp_parsing::proofs::ParsingLaws::octets_found, amqp_parsing::proofs::ParsingLaws::void_found, amqp_parsing::proofs::ParsingLaws::unsigned_outcome, crate::proofs::HeadLemmas::unsigned_lacks))]
 fn read_payload_head<'a>(
     amqp_type: AMQPType,
     i: SliceInput<'a>,

@@ -6,3 +6,12 @@ pub use Rattle.amqp_parsing.proofs.Waits.{more_wanted, waits_more, nothing_behin
 pub use Rattle.amqp_parsing.proofs.Again.{wire_extent}
 -- what is refused stays refused, whatever follows
 pub use Rattle.amqp_parsing.proofs.Appends.{refused_append}
+-- what an error of one reading says of another
+pub use Rattle.amqp_parsing.proofs.Refused.{Refuses-weaker}
+-- payloads: of types of fixed width, and of a container once its body is read
+pub use Rattle.amqp_parsing.proofs.Payloads.{unsigned_outcome, void_found}
+pub use Rattle.amqp_parsing.proofs.Frames.{long_found, octets_found, array_found, array_refused, array_too_deep, table_found, table_refused, table_too_deep}
+pub use Rattle.amqp_parsing.proofs.Plain.{IsPlain as IsPlainPayload, plain_found}
+-- the bodies of containers, a value or a pair at a time
+pub use Rattle.amqp_parsing.proofs.Bodies.{Goes, Goes-step, Goes-end, Goes-refused, rest_shorter}
+pub use Rattle.amqp_parsing.proofs.TableBodies.{Walks, Walks-start, Walks-step, Walks-end, Walks-bad_key, Walks-bad_value, key_shorter}

@@ -2,8 +2,7 @@ use Rattle.std.proofs.Common.{[], ◌∷◌, ◌++◌, refl, sym, subst, rules, 
 use Rattle.std.specs.Str.{IsUtf8}
 use Rattle.amqp_grammar.specs.Values.{no_entries, put, array, table, trees_of}
 use Rattle.amqp_input.specs.Inputs.{slice_bytes}
-use Rattle.amqp_parsing.proofs.Bodies.{Goes-step, Goes-end, rest_shorter}
-use Rattle.amqp_parsing.proofs.TableBodies.{Walks-start, Walks-step, Walks-end, key_shorter}
+use Rattle.amqp_parsing.proofs.ParsingLaws.{Goes-step, Goes-end, rest_shorter, Walks-start, Walks-step, Walks-end, key_shorter}
 use Rattle.amqp_in_place.specs.Heads.{IsHead}
 use Rattle.amqp_in_place.specs.declared.head.Head.{Head}
 use Rattle.amqp_in_place.specs.Refs.{plain_tree}
