@@ -1,10 +1,12 @@
 -- Checking bodies in place.
-use Rattle.std.proofs.Common.{◌<◌, ℕ, zero, suc, List, length, refl}
+use Rattle.std.proofs.Common.{◌≡◌, ◌<◌, ℕ, zero, suc, List, length, refl, arith}
 use Rattle.amqp_types.specs.declared.amqp_type.AMQPType.TheVariants as amqp
 use Rattle.amqp_grammar.specs.Values.{Tree, Entries, short}
 use Rattle.amqp_grammar.specs.Nesting.{OutcomeWithin}
 use Rattle.amqp_grammar.specs.Outcomes.{Reading, found, unknown, malformed, lack, LacksOr, Heavy}
 use Rattle.amqp_grammar.specs.Payloads.{RawFront, RawOutcome}
+use Rattle.amqp_grammar.specs.Outcomes.{Outcome}
+use Rattle.amqp_grammar.proofs.GrammarLaws.{unlimited}
 use Rattle.amqp_parsing.specs.declared.errors.Err.TheVariants.{Incomplete, Error, Failure}
 use Rattle.amqp_parsing.specs.declared.errors.Needed.TheVariants.{Unknown, Size}
 use Rattle.amqp_parsing.specs.declared.errors.ErrorKind.TheVariants.{MapOpt, MapRes, Eof, OutOfMemory, TooLarge}
@@ -54,3 +56,7 @@ bad_key d s es rest (Error MapRes) g h x = absurd x
 bad_key d s es rest (Error OutOfMemory) g h x = absurd x
 bad_key d s es rest (Error TooLarge) g h x = absurd x
 bad_key d s es rest (Failure k) g h x = absurd x.1
+
+-- a depth that the bytes can't pass limits no refusal
+pub unlimited_refused : (d : ℕ) (s : List ℕ) (e : Refusal) → d ≡ length s → Refuses (OutcomeWithin d s) ⊥ e → Refuses (Outcome s) ⊥ e
+unlimited_refused d s e is x = Refuses-weaker (OutcomeWithin d s) (Outcome s) ⊥ ⊥ e (λ o y. unlimited d s o (omega arith) y) (λ h. h) x

@@ -13,6 +13,6 @@ mod steps;
 mod tables;
 
 pub use iter::{ArrayValues, TablePairs};
-pub use read::read_in_place;
+pub use read::{read_in_place, read_in_place_unlimited};
 pub use refs::{ArrayRef, TableRef, ValueRef};
 pub use skip::skip_value;

@@ -3,7 +3,7 @@
 ghost use Rattle.std.specs.Prelude.{◌≡◌, true, false, length, MatchResult, IfErr, IfOk};
 ghost use Rattle.amqp_grammar.specs.Values.{Tree, Trees, Entries};
 ghost use Rattle.amqp_grammar.specs.Nesting.{BodyWithin, PairsWithin, OutcomeWithin};
-ghost use Rattle.amqp_grammar.specs.Outcomes.{found, malformed};
+ghost use Rattle.amqp_grammar.specs.Outcomes.{Outcome, found, malformed};
 ghost use Rattle.amqp_input.specs.Inputs.{slice_bytes};
 ghost use Rattle.amqp_parsing.specs.Answers.{Refuses};
 ghost use Rattle.amqp_parsing.specs.Bodies.{IsNoBody, IsTable, IsNoTable};
@@ -42,6 +42,19 @@ pub fn read_in_place(bytes: &[u8], limits: Limits) -> Result<(ValueRef<'_>, &[u8
             Ok((value, rest.as_slice()))
         }
     }
+}
+
+/// Reads a value where its bytes lie, without limits: answers what `parse_value` does, but for want of
+/// memory, which never comes.
+///
+/// It recurses as deep as containers nest, which the input's length alone bounds.
+pub fn read_in_place_unlimited(bytes: &[u8]) -> Result<(ValueRef<'_>, &[u8]), ParserError>
+    ensures { MatchResult result
+        (λ x. (v : Tree) × Stands x.0 v × Outcome bytes.now (found v x.1.now))
+        (Refuses (Outcome bytes.now) ⊥) }
+{
+    let (rest, value) = value_within(SliceInput::new(bytes), bytes.len())?;
+    Ok((value, rest.as_slice()))
 }
 
 // Reads a value in which containers nest at most `depth` deep.
