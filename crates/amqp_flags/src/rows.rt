@@ -2,25 +2,28 @@
 //!
 //! Nothing here does anything when it runs: the contracts are the examples and the laws.
 
-ghost use Rattle.std.specs.Prelude.{◌≡◌, ◌==◌, ◌<◌, ◌≤◌, ◌+◌, ◌/◌, ◌%◌, Bool, true, false, ℕ, List, [], ◌∷◌, length, slice_index, slice_index_or};
+ghost use Rattle.std.specs.Prelude.{◌≡◌, ◌==◌, ◌<◌, ◌≤◌, ◌+◌, ◌/◌, ◌%◌, Bool, true, false, ℕ, List, [], ◌∷◌, length, slice_index, slice_index_or, codes};
 ghost use Rattle.std.specs.Int.{bit_at};
+ghost use Rattle.amqp_grammar.specs.Hexadecimal.{hex};
 ghost use Rattle.amqp_flags.specs.Flags.{Flag, names_of, values_of, pack, unpack};
 
 /// Flags stand eight to a byte, the first one's bit the lowest, and the bits left over are 0.
 pub fn packed_flags()
-    ensures five { pack (true ∷ false ∷ false ∷ true ∷ true ∷ []) ≡ 25 ∷ [] }
-    ensures ten { pack (true ∷ false ∷ false ∷ true ∷ true ∷ true ∷ false ∷ false ∷ true ∷ true ∷ []) ≡ 57 ∷ 3 ∷ [] }
-    ensures ninth { pack (false ∷ false ∷ false ∷ false ∷ false ∷ false ∷ false ∷ false ∷ true ∷ []) ≡ 0 ∷ 1 ∷ [] }
+    ensures five { pack (true ∷ false ∷ false ∷ true ∷ true ∷ []) ≡ hex "19" }
+    ensures ten { pack (true ∷ false ∷ false ∷ true ∷ true ∷ true ∷ false ∷ false ∷ true ∷ true ∷ []) ≡ hex "3903" }
+    ensures ninth { pack (false ∷ false ∷ false ∷ false ∷ false ∷ false ∷ false ∷ false ∷ true ∷ []) ≡ hex "0001" }
     ensures none { pack [] ≡ [] }
 {}
 
 /// Names are paired with bits as long as both last: a, b, c and so on with the lowest bits first.
 #[tactic(auto, unfolding(crate::specs::Flags::low_bits))]
 pub fn unpacked_flags()
-    ensures ten { unpack ((97 ∷ []) ∷ (98 ∷ []) ∷ (99 ∷ []) ∷ (100 ∷ []) ∷ (101 ∷ []) ∷ (102 ∷ []) ∷ (103 ∷ []) ∷ (104 ∷ []) ∷ (105 ∷ []) ∷ (106 ∷ []) ∷ []) (221 ∷ 2 ∷ [])
-        ≡ (97 ∷ [], true) ∷ (98 ∷ [], false) ∷ (99 ∷ [], true) ∷ (100 ∷ [], true) ∷ (101 ∷ [], true) ∷ (102 ∷ [], false) ∷ (103 ∷ [], true) ∷ (104 ∷ [], true) ∷ (105 ∷ [], false) ∷ (106 ∷ [], true) ∷ [] }
-    ensures few_names { unpack ((97 ∷ []) ∷ (98 ∷ []) ∷ []) (254 ∷ 7 ∷ []) ≡ (97 ∷ [], false) ∷ (98 ∷ [], true) ∷ [] }
-    ensures no_bytes { unpack ((97 ∷ []) ∷ []) [] ≡ [] }
+    ensures ten { unpack
+        (codes "a" ∷ codes "b" ∷ codes "c" ∷ codes "d" ∷ codes "e" ∷ codes "f" ∷ codes "g" ∷ codes "h" ∷ codes "i" ∷ codes "j" ∷ [])
+        (hex "dd02")
+        ≡ (codes "a", true) ∷ (codes "b", false) ∷ (codes "c", true) ∷ (codes "d", true) ∷ (codes "e", true) ∷ (codes "f", false) ∷ (codes "g", true) ∷ (codes "h", true) ∷ (codes "i", false) ∷ (codes "j", true) ∷ [] }
+    ensures few_names { unpack (codes "a" ∷ codes "b" ∷ []) (hex "fe07") ≡ (codes "a", false) ∷ (codes "b", true) ∷ [] }
+    ensures no_bytes { unpack (codes "a" ∷ []) [] ≡ [] }
 {}
 
 /// Flag number n is bit n % 8, counted from the lowest, of byte n / 8. The bits left over are 0,

@@ -21,6 +21,6 @@ shown seen x = seen x.output
 abbrev pub PutsThrough : {W : Type 0} → Bool → (W → Seen) → List ℕ → WriteContext W → Result (Unit {0}) GenError → WriteContext W → Type 0
 PutsThrough is_buffer seen bytes old result new = Puts is_buffer bytes (shown seen old) result (shown seen new)
 
--- the count of the context goes on from where it began
+-- the count of the context begins where it did
 abbrev pub KeepsStart : {W : Type 0} → WriteContext W → WriteContext W → Type 0
 KeepsStart old new = start_of new ≡ start_of old

@@ -15,8 +15,8 @@ use std::alloc::{AllocError, Global};
 // The least number of bytes of a body whose pairs may be gathered.
 const LEAST_BYTES: usize = 16384;
 
-// The least number of pairs that are worth being gathered: values as long as the first one would
-// have to be so many to fill the body.
+// The least number of pairs that are worth being gathered, as many as the body would have if each
+// value had the length of the first one.
 const LEAST_PAIRS: usize = 512;
 
 // The pairs of a body that have been read so far.

@@ -12,5 +12,5 @@ use crate::value::AMQPValue;
 
 /// A number below 0 stands as its two's complement: -2 in four bytes.
 pub fn a_negative_number()
-    ensures { view (AMQPValue.LongInt (negsuc 1)) ≡ scalar (number AMQPType.LongInt 4294967294) }
+    ensures { view (AMQPValue.LongInt (negsuc 1)) ≡ scalar (number AMQPType.LongInt 0xfffffffe) }
 {}
