@@ -1,15 +1,21 @@
 //! The cases.
 
+mod rows;
+
+use self::rows::{
+    EMPTY, LACKING, MANY, NUMBERS, PAYLOADS, SCALAR_PAYLOADS, SCALARS, TYPES, VALUES, WITHOUT,
+};
 use crate::conversions::Document;
 use crate::generation::Filler;
 use crate::growing::Growth;
 use crate::made::Piece::{Bytes, Pairs, Times};
-use crate::made::{Kind, NAMES, Plan, TABLE};
+use crate::made::{Kind, NAMES, Plan};
 use crate::making::Maker;
-use crate::parsing::{Number, Parser};
+use crate::parsing::Parser;
 use crate::stream::{LIMITS, NARROW};
 use crate::{conversions, copies, flags, generation, growing, making, parsing, stream};
 use amq_protocol_types::AMQPType;
+use amqp_samples::TABLE;
 use std::alloc::Global;
 use std::io;
 
@@ -46,14 +52,8 @@ pub const VALUES_READ: [&str; 11] = [
 
 fn of_values<R: Print + Eprint>(rt: &R, alloc: Global, name: &str) -> io::Result<bool> {
     let answer = match name {
-        "value_of_a_table" => parsing::in_one(rt, alloc, Parser::Value, &[Bytes(&TABLE)]),
-        "value_of_a_table_in_two" => parsing::in_two(
-            rt,
-            alloc,
-            Parser::Value,
-            &[Bytes(&TABLE)],
-            99,
-        ),
+        "value_of_a_table" => parsing::in_one(rt, alloc, Parser::Value, &[Bytes(TABLE)]),
+        "value_of_a_table_in_two" => parsing::in_two(rt, alloc, Parser::Value, &[Bytes(TABLE)], 99),
         "value_of_many_keys" => parsing::in_one(
             rt,
             alloc,
@@ -489,7 +489,7 @@ fn of_copies<R: Print + Eprint>(rt: &R, alloc: Global, name: &str) -> io::Result
                 Plan::ValueOf(Kind::FieldTable, 100),
             ],
         ),
-        "clone_of_a_nested_value" => copies::all(rt, alloc, &[Plan::Wire(&TABLE)]),
+        "clone_of_a_nested_value" => copies::all(rt, alloc, &[Plan::Wire(TABLE)]),
         "clones_without_memory" => copies::all(rt, alloc, &SCALARS),
         "clones_of_what_is_empty" => copies::all(rt, alloc, &EMPTY),
         _ => return Ok(false),
@@ -557,13 +557,13 @@ fn of_generators<R: Print + Eprint>(rt: &R, alloc: Global, name: &str) -> io::Re
         "gen_value" => generation::to_vectors(
             rt,
             alloc,
-            &[Plan::Wire(&TABLE), Plan::ValueOf(Kind::LongString, 70_000)],
+            &[Plan::Wire(TABLE), Plan::ValueOf(Kind::LongString, 70_000)],
             false,
         ),
         "gen_raw_value" => generation::to_vectors(
             rt,
             alloc,
-            &[Plan::Wire(&TABLE), Plan::ValueOf(Kind::LongString, 70_000)],
+            &[Plan::Wire(TABLE), Plan::ValueOf(Kind::LongString, 70_000)],
             true,
         ),
         "gen_field_array" => generation::to_vectors(
@@ -660,12 +660,12 @@ fn of_streams<R: Print + Eprint>(rt: &R, alloc: Global, name: &str) -> io::Resul
             rt,
             alloc,
             Parser::Within(LIMITS),
-            &[Bytes(&TABLE)],
+            &[Bytes(TABLE)],
         ),
         "next_value" => stream::run(rt, alloc, usize::MAX),
         "next_value_byte_by_byte" => stream::run(rt, alloc, 1),
         "streams_without_memory" => {
-            parsing::once(rt, alloc, &[Parser::Within(NARROW)], &[&TABLE])?;
+            parsing::once(rt, alloc, &[Parser::Within(NARROW)], &[TABLE])?;
             stream::failed(rt, alloc)
         }
         _ => return Ok(false),
@@ -687,7 +687,7 @@ fn flags_without<R: Print + Eprint>(rt: &R, alloc: Global) -> io::Result<()> {
 /// Into slices, where there is room and where there is none.
 fn to_slices<R: Print + Eprint>(rt: &R, alloc: Global) -> io::Result<()> {
     for room in [199, 198] {
-        generation::to_slice(rt, alloc, &[Plan::Wire(&TABLE)], room)?;
+        generation::to_slice(rt, alloc, &[Plan::Wire(TABLE)], room)?;
     }
     generation::to_slice(
         rt,
@@ -698,159 +698,3 @@ fn to_slices<R: Print + Eprint>(rt: &R, alloc: Global) -> io::Result<()> {
     generation::to_slice(rt, alloc, &[Plan::Text("x")], 3)?;
     generation::to_slice(rt, alloc, &MANY, 40)
 }
-
-/// Things that are written one after the other. For the last there is no room.
-const MANY: [Plan; 3] = [
-    Plan::Flags(&NAMES),
-    Plan::Bytes(&[7; 20]),
-    Plan::Of(Kind::LongString, 11),
-];
-
-/// Parsers of flags for which a byte is too many, or too few.
-const LACKING: [Parser; 3] = [
-    Parser::FromBytes(&[]),
-    Parser::Flags(&[]),
-    Parser::Flags(&NAMES),
-];
-
-/// What is too long, and what is empty.
-const WITHOUT: [(Maker, usize); 6] = [
-    (Maker::TryCopy, 256),
-    (Maker::TryNew, 256),
-    (Maker::TryCopy, 0),
-    (Maker::FromText, 0),
-    (Maker::LongString, 0),
-    (Maker::ByteArray, 0),
-];
-
-/// The parsers of payloads that begin with their length.
-const PAYLOADS: [Parser; 5] = [
-    Parser::Raw(AMQPType::ShortString),
-    Parser::Raw(AMQPType::LongString),
-    Parser::Raw(AMQPType::ByteArray),
-    Parser::Raw(AMQPType::FieldArray),
-    Parser::Raw(AMQPType::FieldTable),
-];
-
-/// Values of each type that holds no memory.
-const SCALARS: [Plan; 13] = [
-    Plan::Wire(&[116, 1]),
-    Plan::Wire(&[98, 1]),
-    Plan::Wire(&[66, 1]),
-    Plan::Wire(&[115, 0, 1]),
-    Plan::Wire(&[117, 0, 1]),
-    Plan::Wire(&[73, 0, 0, 0, 1]),
-    Plan::Wire(&[105, 0, 0, 0, 1]),
-    Plan::Wire(&[108, 0, 0, 0, 0, 0, 0, 0, 1]),
-    Plan::Wire(&[102, 127, 192, 0, 1]),
-    Plan::Wire(&[100, 64, 69, 53, 194, 143, 92, 40, 246]),
-    Plan::Wire(&[68, 55, 0, 0, 3, 231]),
-    Plan::Wire(&[84, 42, 42, 42, 42, 42, 42, 42, 42]),
-    Plan::Wire(&[86]),
-];
-
-/// What is empty, and a value of each.
-const EMPTY: [Plan; 10] = [
-    Plan::Of(Kind::ShortString, 0),
-    Plan::Of(Kind::LongString, 0),
-    Plan::Of(Kind::ByteArray, 0),
-    Plan::Of(Kind::FieldArray, 0),
-    Plan::Of(Kind::FieldTable, 0),
-    Plan::ValueOf(Kind::ShortString, 0),
-    Plan::ValueOf(Kind::LongString, 0),
-    Plan::ValueOf(Kind::ByteArray, 0),
-    Plan::ValueOf(Kind::FieldArray, 0),
-    Plan::ValueOf(Kind::FieldTable, 0),
-];
-
-/// Each type.
-const TYPES: [AMQPType; 19] = [
-    AMQPType::Boolean,
-    AMQPType::ShortShortInt,
-    AMQPType::ShortShortUInt,
-    AMQPType::ShortInt,
-    AMQPType::ShortUInt,
-    AMQPType::LongInt,
-    AMQPType::LongUInt,
-    AMQPType::LongLongInt,
-    AMQPType::LongLongUInt,
-    AMQPType::Float,
-    AMQPType::Double,
-    AMQPType::DecimalValue,
-    AMQPType::ShortString,
-    AMQPType::LongString,
-    AMQPType::FieldArray,
-    AMQPType::Timestamp,
-    AMQPType::FieldTable,
-    AMQPType::ByteArray,
-    AMQPType::Void,
-];
-
-/// Encodings of values that are cut, rejected, empty or hold no memory.
-const VALUES: [&[u8]; 28] = [
-    &[],
-    &[122],
-    &[68],
-    &[65, 0],
-    &[65, 0, 0, 0, 0],
-    &[65, 0, 0, 0, 10, 122],
-    &[65, 255, 255, 255, 255],
-    &[70, 0, 0, 0, 0],
-    &[70, 255, 255, 255, 255],
-    &[83, 0, 0, 0, 0],
-    &[83, 255, 255, 255, 255],
-    &[120, 0, 0, 0, 0],
-    &[120, 255, 255, 255, 255],
-    &[116, 7],
-    &[98, 1],
-    &[66, 1],
-    &[115, 0, 1],
-    &[85, 0, 5],
-    &[117, 0, 1],
-    &[73, 0, 0, 0, 1],
-    &[105, 0, 0, 0, 1],
-    &[108, 0, 0, 0, 0, 0, 0, 0, 1],
-    &[76, 255, 255, 255, 255, 255, 255, 255, 255],
-    &[102, 127, 192, 0, 1],
-    &[100, 64, 69, 53, 194, 143, 92, 40, 246],
-    &[68, 55, 0, 0, 3, 231],
-    &[84, 42, 42, 42, 42, 42, 42, 42, 42],
-    &[86],
-];
-
-/// The parsers of payloads that hold no memory.
-const SCALAR_PAYLOADS: [Parser; 14] = [
-    Parser::Raw(AMQPType::Boolean),
-    Parser::Raw(AMQPType::ShortShortInt),
-    Parser::Raw(AMQPType::ShortShortUInt),
-    Parser::Raw(AMQPType::ShortInt),
-    Parser::Raw(AMQPType::ShortUInt),
-    Parser::Raw(AMQPType::LongInt),
-    Parser::Raw(AMQPType::LongUInt),
-    Parser::Raw(AMQPType::LongLongInt),
-    Parser::Raw(AMQPType::LongLongUInt),
-    Parser::Raw(AMQPType::Float),
-    Parser::Raw(AMQPType::Double),
-    Parser::Raw(AMQPType::DecimalValue),
-    Parser::Raw(AMQPType::Timestamp),
-    Parser::Raw(AMQPType::Void),
-];
-
-/// The parsers of numbers, and of what is read as one.
-const NUMBERS: [Parser; 15] = [
-    Parser::Number(Number::Type),
-    Parser::Number(Number::Id),
-    Parser::Number(Number::Boolean),
-    Parser::Number(Number::ShortShortInt),
-    Parser::Number(Number::ShortShortUInt),
-    Parser::Number(Number::ShortInt),
-    Parser::Number(Number::ShortUInt),
-    Parser::Number(Number::LongInt),
-    Parser::Number(Number::LongUInt),
-    Parser::Number(Number::LongLongInt),
-    Parser::Number(Number::LongLongUInt),
-    Parser::Number(Number::Timestamp),
-    Parser::Number(Number::Float),
-    Parser::Number(Number::Double),
-    Parser::Number(Number::Decimal),
-];

@@ -7,6 +7,7 @@ use amq_protocol_types::{
     AMQPType, AMQPValue, ByteArray, FieldArray, FieldTable, LongString, ShortString,
     ShortStringError,
 };
+use amqp_samples::TABLE;
 use std::alloc::Global;
 use std::{io, mem};
 
@@ -154,7 +155,7 @@ pub fn of_pairs<R: Print + Eprint>(rt: &R, alloc: Global, count: usize) -> io::R
 
 /// What is handed over whole, and what is only looked at.
 fn make_looking(alloc: Global) -> io::Result<Looking> {
-    let value = made::value(alloc, &made::TABLE)?;
+    let value = made::value(alloc, TABLE)?;
     let text = String::from_str(alloc, "test")?;
     let letters = made::letters(alloc, 3)?;
     Ok(Looking {

@@ -1,9 +1,9 @@
 //! Calls of readers of values.
 
 use crate::asking::{Call, ask, insist, tell};
-use crate::made;
 use crate::things::{Refusal, Thing};
 use amq_protocol_types::stream::{Limits, ValueReader};
+use amqp_samples::TABLE;
 use std::alloc::Global;
 use std::io;
 use std::io::Read;
@@ -49,7 +49,7 @@ impl Call for Asking {
 /// The table from a reader that gives at most so many bytes at a time, and then its end: the call
 /// after a failed allocation goes on.
 pub fn run<R: Print + Eprint>(rt: &R, alloc: Global, most: usize) -> io::Result<()> {
-    let bytes = made::TABLE.as_slice();
+    let bytes = TABLE;
     let values = ValueReader::new(alloc, Slow { bytes, most }, LIMITS);
     let mut asking = Asking { values };
     insist(rt, alloc, &mut asking)?;
