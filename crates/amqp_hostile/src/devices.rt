@@ -9,31 +9,9 @@ use amq_protocol_types::generation::{
     gen_short_string, gen_short_uint, gen_timestamp, gen_type,
 };
 use amq_protocol_types::{AMQPType, ByteArray, DecimalValue, Double, Float};
+use amqp_samples::OneByte;
 use std::alloc::Global;
 use std::io;
-use std::io::{ErrorKind, Write};
-
-/// Takes one byte a call, and fails a call once so many have been made.
-#[derive(Drop)]
-struct Failing {
-    taken: Vec<u8>,
-    calls: usize,
-}
-
-impl Write for Failing {
-    fn write(&mut self, buf: &[u8]) -> io::Result<usize> {
-        if self.calls == 0 {
-            return Err(io::Error::from(ErrorKind::BrokenPipe));
-        }
-        self.calls -= 1;
-        let most = buf.len().min(1);
-        self.taken.write(&buf[..most])
-    }
-
-    fn flush(&mut self) -> io::Result<()> {
-        Ok(())
-    }
-}
 
 /// The generators that write to any output.
 const GENERATORS: [&str; 19] = [
@@ -99,7 +77,7 @@ fn fails<P: Print>(
     made: &Made,
     calls: usize,
 ) -> io::Result<bool> {
-    let device = Failing {
+    let device = OneByte {
         taken: Vec::new(alloc),
         calls,
     };
