@@ -55,6 +55,19 @@ fn has_its_flags(rt: &impl Abort, flags: &AMQPFlags, values: &[Boolean]) {
 }
 
 #[test]
+fn shows_flags_in_order(rt: HostRuntime) -> Result<(), Fail> {
+    let flags = flags_of(rt.alloc(), FOUR)?;
+    let mut shown = Vec::new(rt.alloc());
+    for (name, value) in flags.as_slice() {
+        shown.push((name.as_str(), *value))?;
+    }
+    let expected = [("a", true), ("b", false), ("c", true), ("d", true)];
+    assert_eq!(rt; shown.as_slice(), expected.as_slice());
+    assert!(rt; AMQPFlags::new_in(rt.alloc()).as_slice().is_empty());
+    Ok(())
+}
+
+#[test]
 fn tells_flags(rt: HostRuntime) -> Result<(), Fail> {
     let five = flags_of(rt.alloc(), FIVE)?;
     let ten = flags_of(rt.alloc(), OTHERS)?;

@@ -4,9 +4,9 @@ use super::fields::{WRITTEN, put_all};
 use amq_protocol_types::flags::AMQPFlags;
 use amq_protocol_types::generation::*;
 use amq_protocol_types::{AMQPValue, ByteArray, FieldArray, FieldTable, ShortString};
+use amqp_samples::OneByte;
 use std::alloc::Global;
-use std::io;
-use std::io::{ErrorKind, Write};
+use std::io::ErrorKind;
 use std::test::Fail;
 
 #[test]
@@ -38,35 +38,13 @@ fn a_device_is_handed_what_is_put(rt: HostRuntime) -> Result<(), Fail> {
     Ok(())
 }
 
-// Takes one byte a call, so many calls, and fails then.
-#[derive(Drop)]
-struct Slow {
-    taken: Vec<u8>,
-    calls: usize,
-}
-
-impl Write for Slow {
-    fn write(&mut self, buf: &[u8]) -> io::Result<usize> {
-        if self.calls == 0 {
-            return Err(io::Error::from(ErrorKind::BrokenPipe));
-        }
-        self.calls -= 1;
-        let most = buf.len().min(1);
-        self.taken.write(&buf[..most])
-    }
-
-    fn flush(&mut self) -> io::Result<()> {
-        Ok(())
-    }
-}
-
 #[test]
 fn a_device_may_take_byte_by_byte(rt: HostRuntime) -> Result<(), Fail> {
     let mut bytes = Vec::new(rt.alloc());
     for (_, written) in WRITTEN {
         bytes.extend_from_slice(written)?;
     }
-    let mut x = WriteContext::from(IoOutput::new(Slow {
+    let mut x = WriteContext::from(IoOutput::new(OneByte {
         taken: Vec::new(rt.alloc()),
         calls: 255,
     }));
@@ -79,7 +57,7 @@ fn a_device_may_take_byte_by_byte(rt: HostRuntime) -> Result<(), Fail> {
 #[test]
 fn a_device_may_take_strings_byte_by_byte(rt: HostRuntime) -> Result<(), Fail> {
     let bytes = ByteArray::from_slice(rt.alloc(), &[7])?;
-    let mut x = WriteContext::from(IoOutput::new(Slow {
+    let mut x = WriteContext::from(IoOutput::new(OneByte {
         taken: Vec::new(rt.alloc()),
         calls: 100,
     }));
@@ -96,7 +74,7 @@ fn a_device_may_take_strings_byte_by_byte(rt: HostRuntime) -> Result<(), Fail> {
 
 #[test]
 fn a_fault_is_counted(rt: HostRuntime) -> Result<(), Fail> {
-    let mut x = WriteContext::from(IoOutput::new(Slow {
+    let mut x = WriteContext::from(IoOutput::new(OneByte {
         taken: Vec::new(rt.alloc()),
         calls: 3,
     }));

@@ -1,33 +1,9 @@
 //! Encodings that stand one after another.
 
 use super::*;
+use amqp_samples::TABLE;
 use std::alloc::AllocError;
 use std::test::Fail;
-
-/// A table with an entry of nearly every type: its id, its length, and an entry a line, keys in
-/// order.
-const TABLE: &[u8] = &[
-    70, 0, 0, 0, 194, //
-    4, 97, 97, 97, 97, 98, 42, // aaaa: ShortShortInt
-    3, 98, 97, 114, 70, 0, 0, 0, 0, // bar: the empty table
-    4, 98, 98, 98, 98, 66, 64, // bbbb: ShortShortUInt
-    4, 98, 108, 97, 104, 116, 0, // blah: false
-    4, 99, 99, 99, 99, 115, 0, 32, // cccc: ShortInt
-    4, 100, 100, 100, 100, 117, 0, 132, // dddd: ShortUInt
-    4, 101, 101, 101, 101, 73, 255, 255, 255, 203, // eeee: LongInt
-    4, 102, 102, 102, 102, 105, 0, 1, 4, 106, // ffff: LongUInt
-    3, 102, 111, 111, 65, 0, 0, 0, 3, 116, 1, 86, // foo: true and Void
-    4, 103, 103, 103, 103, 108, 255, 255, 255, 255, 255, 255, 216, 241, // gggg: LongLongInt
-    4, 104, 104, 104, 104, 120, 0, 0, 0, 4, 42, 1, 2, 3, // hhhh: ByteArray
-    4, 105, 105, 105, 105, 102, 66, 41, 174, 20, // iiii: Float
-    4, 106, 106, 106, 106, 100, 64, 69, 53, 194, 143, 92, 40, 246, // jjjj: Double
-    4, 107, 107, 107, 107, 84, 0, 0, 0, 0, 73, 150, 2, 210, // kkkk: Timestamp
-    4, 108, 108, 108, 108, 86, // llll: Void
-    3, 111, 111, 102, 65, 0, 0, 0, 0, // oof: the empty array
-    4, 116, 97, 98, 108, 70, 0, 0, 0, 25, // tabl: a table of two
-    3, 98, 97, 122, 83, 0, 0, 0, 6, 98, 108, 97, 104, 52, 50, // its baz: LongString
-    3, 102, 111, 111, 68, 55, 0, 0, 3, 231, // its foo: DecimalValue
-];
 
 /// The encodings.
 const WIRES: &[&[u8]] = &[
