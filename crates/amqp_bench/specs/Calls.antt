@@ -1,6 +1,7 @@
 -- What the calls from C answer: a number of bytes, or a negative number.
-use Rattle.std.specs.Prelude.{ℕ, ◌≡◌, ◌+◌, ◌<◌, ◌≤◌, ◌⊎◌, ℤ, pos, negsuc, List, length, Result, Ok, Err, MatchResult}
-use Rattle.amqp_grammar.specs.Values.{Tree}
+use Rattle.std.specs.Prelude.{ℕ, ◌≡◌, ◌+◌, ◌<◌, ◌≤◌, ◌⊎◌, ℤ, pos, negsuc, Bool, false, if◌then◌else◌, List, length, Result, Ok, Err, MatchResult}
+use Rattle.amqp_grammar.specs.Values.{Tree, table}
+use Rattle.amqp_grammar.specs.Maps.{has_key}
 use Rattle.amqp_grammar.specs.Outcomes.{Outcome, Heavy, found, more, unknown, malformed}
 use Rattle.amqp_grammar.specs.Texts.{text}
 use Rattle.amqp_bench.specs.declared.fault.Fault.{Fault}
@@ -37,6 +38,15 @@ IsRead s n v = (rest : List ℕ) × Outcome s (found v rest) × (n + length rest
 -- a value is read from the first n bytes of s
 abbrev pub IsTaken : List ℕ → ℕ → Type 0
 IsTaken s n = (v : Tree) × IsRead s n v
+
+-- whether v is a table with a value at the key
+abbrev pub is_keyed : List ℕ → Tree → Bool
+is_keyed key (table es) = has_key key es
+is_keyed key _ = false
+
+-- a value is read from the first n bytes of s; or it is a table with a value at the key, and n is 0
+abbrev pub IsLookedUp : List ℕ → List ℕ → ℕ → Type 0
+IsLookedUp key s n = (v : Tree) × (taken : ℕ) × IsRead s taken v × (n ≡ if is_keyed key v then 0 else taken)
 
 -- a value is read from s and written so many times to room for so many bytes: n is 0 where that is
 -- no time, and else the length of its canonical encoding, and no more than there is room

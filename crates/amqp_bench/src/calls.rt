@@ -3,11 +3,14 @@
 ghost use Rattle.std.specs.Prelude.{◌≡◌, ◌<◌, ◌≤◌, length, MatchResult, IfOk, IfErr};
 ghost use Rattle.amqp_grammar.specs.Texts.{text, Fits};
 ghost use Rattle.amqp_value_core.specs.View.{view};
-ghost use Rattle.amqp_bench.specs.Calls.{IsFault, IsTooSmall, IsRead, IsTaken, IsWritten, HasNoRoom};
+ghost use Rattle.amqp_bench.specs.Calls.{IsFault, IsTooSmall, IsRead, IsTaken, IsLookedUp, IsWritten, HasNoRoom, is_keyed};
+ghost use Rattle.amqp_grammar.specs.Values.{Tree};
+ghost use Rattle.amqp_in_place.specs.Refs.{Stands};
 
 use crate::fault::Fault;
 use amq_protocol_types::AMQPValue;
 use amq_protocol_types::generation::{SliceOutput, WriteContext, gen_value};
+use amq_protocol_types::in_place::{ValueRef, read_in_place_unlimited};
 use amq_protocol_types::parsing::traits::ParsableInput;
 use amq_protocol_types::parsing::{Err, SliceInput, parse_value};
 use std::alloc::Global;
@@ -46,6 +49,52 @@ fn read(alloc: Global, bytes: &[u8]) -> Result<(usize, AMQPValue), Fault>
         Err(Err::Incomplete(_)) => Err(Fault::Incomplete),
         Err(Err::Error(_)) => Err(Fault::Refused),
         Err(Err::Failure(_)) => Err(Fault::OutOfMemory),
+    }
+}
+
+/// Reads a value where its bytes lie, and answers how many bytes it took.
+pub fn scan(bytes: &[u8]) -> Result<usize, Fault>
+    ensures taken { MatchResult result (IsTaken bytes.now) (IsFault bytes.now ⊥) }
+    ensures small { IfOk result (λ n. n ≤ length bytes.now) }
+{
+    let (taken, _) = read_in_place(bytes)?;
+    Ok(taken)
+}
+
+/// Reads a value where its bytes lie, and answers how many bytes it took, or 0 where it is a table with
+/// a value at the key.
+pub fn find(bytes: &[u8], key: &str) -> Result<usize, Fault>
+    ensures taken { MatchResult result (IsLookedUp key.now bytes.now) (IsFault bytes.now ⊥) }
+    ensures small { IfOk result (λ n. n ≤ length bytes.now) }
+{
+    let (taken, value) = read_in_place(bytes)?;
+    if has_key(value, key) {
+        return Ok(0);
+    }
+    Ok(taken)
+}
+
+/// Whether the value is a table with a value at the key.
+fn has_key(value: ValueRef<'_>, key: &str) -> bool
+    ensures { (v : Tree) → Stands value.entry v → result ≡ is_keyed key.now v }
+{
+    match value {
+        ValueRef::FieldTable(table) => table.contains_key(key),
+        _ => false,
+    }
+}
+
+/// Reads a value where its bytes lie, and answers how many bytes it took.
+fn read_in_place(bytes: &[u8]) -> Result<(usize, ValueRef<'_>), Fault>
+    ensures read { MatchResult result
+        (λ x. (v : Tree) × Stands x.1 v × IsRead bytes.now x.0 v)
+        (IsFault bytes.now ⊥) }
+    ensures small { IfOk result (λ x. x.0 ≤ length bytes.now) }
+{
+    match read_in_place_unlimited(bytes) {
+        Ok((value, rest)) => Ok((bytes.len() - rest.len(), value)),
+        Err(Err::Incomplete(_)) => Err(Fault::Incomplete),
+        Err(_) => Err(Fault::Refused),
     }
 }
 

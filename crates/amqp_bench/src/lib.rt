@@ -5,15 +5,15 @@
 //! doesn't fit. It is for benchmarks: nothing of a value is handed out.
 #![tactic(auto)]
 
-ghost use Rattle.std.specs.Prelude.{length};
-ghost use Rattle.amqp_bench.specs.Calls.{Answers, IsTaken, IsWritten, HasNoRoom};
+ghost use Rattle.std.specs.Prelude.{length, codes};
+ghost use Rattle.amqp_bench.specs.Calls.{Answers, IsTaken, IsLookedUp, IsWritten, HasNoRoom};
 
 mod calls;
 mod fault;
 #[cfg(test)]
 mod tests;
 
-use calls::{decode, encode};
+use calls::{decode, encode, find, scan};
 use fault::answer;
 use std::alloc::Global;
 
@@ -24,6 +24,23 @@ pub extern "C" fn amqp_bench_decode(alloc: Global, bytes: &[u8]) -> i64
     ensures { Answers bytes.now (IsTaken bytes.now) ⊥ result }
 {
     answer(decode(alloc, bytes))
+}
+
+/// Reads a value where its bytes lie, and answers how many bytes it took.
+#[unsafe(no_mangle)]
+pub extern "C" fn amqp_bench_scan(bytes: &[u8]) -> i64
+    ensures { Answers bytes.now (IsTaken bytes.now) ⊥ result }
+{
+    answer(scan(bytes))
+}
+
+/// Reads a value where its bytes lie, looks the key `-` up in it, and answers how many bytes it
+/// took, or 0 where it is a table with a value at that key.
+#[unsafe(no_mangle)]
+pub extern "C" fn amqp_bench_find(bytes: &[u8]) -> i64
+    ensures { Answers bytes.now (IsLookedUp (codes "-") bytes.now) ⊥ result }
+{
+    answer(find(bytes, "-"))
 }
 
 /// Reads a value from the start of `bytes`, writes it from the start of `out`, and answers how many
