@@ -6,7 +6,7 @@ use amq_protocol_types::{AMQPValue, FieldTable};
 use std::alloc::Global;
 
 /// Headers as RabbitMQ writes them: `retry`, which is true, and `x-death` with one entry.
-const HEADERS: &[u8] = b"F\0\0\0\x5a\x05retryt\x01\x07x-deathA\0\0\0\x45F\0\0\0\x40\
+pub(crate) const HEADERS: &[u8] = b"F\0\0\0\x5a\x05retryt\x01\x07x-deathA\0\0\0\x45F\0\0\0\x40\
     \x05countl\0\0\0\0\0\0\0\x03\x08exchangeS\0\0\0\0\x05queueS\0\0\0\x04work\
     \x06reasonS\0\0\0\x08rejected";
 

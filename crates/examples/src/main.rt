@@ -5,6 +5,7 @@
 mod arguments;
 mod fault;
 mod headers;
+mod in_place;
 mod json;
 mod stream;
 
@@ -27,6 +28,7 @@ fn main(rt: HostRuntime) -> ExitCode {
 fn run<P: Print>(rt: &P, alloc: Global) -> Result<(), Fault> {
     arguments::run(rt, alloc)?;
     headers::run(rt, alloc)?;
+    in_place::run(rt)?;
     stream::run(rt, alloc)?;
     json::run(rt, alloc)
 }

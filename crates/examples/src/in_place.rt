@@ -1,0 +1,29 @@
+//! A message's headers looked up where their bytes lie: nothing is copied, and no memory is taken.
+
+use crate::fault::Fault;
+use crate::headers::HEADERS;
+use amq_protocol_types::in_place::{Limits, TableRef, read_in_place};
+
+/// How often the message was dead-lettered for the first reason that is told.
+fn deaths(headers: TableRef<'_>) -> Option<i64> {
+    let first = headers.get("x-death")?.as_array()?.get(0)?;
+    first.as_field_table()?.get("count")?.as_long_long_int()
+}
+
+/// Prints how often, and whether the message is to be tried again.
+pub fn run<P: Print>(rt: &P) -> Result<(), Fault> {
+    let limits = Limits {
+        frame: 131_072,
+        depth: 64,
+    };
+    let (value, _rest) = read_in_place(HEADERS, limits)?;
+    let Some(headers) = value.as_field_table() else {
+        return Err(Fault::Read);
+    };
+    if let Some(count) = deaths(headers) {
+        println!(rt; "in place: dead-lettered {count} times")?;
+    }
+    let retry = headers.get("retry").and_then(|value| value.as_bool());
+    println!(rt; "in place: retry is {retry:?}")?;
+    Ok(())
+}
