@@ -1,5 +1,6 @@
 //! Reading a value in place.
 
+ghost use Rattle.std.specs.Str.{IsUtf8};
 ghost use Rattle.std.specs.Prelude.{◌≡◌, true, false, length, MatchResult, IfErr, IfOk};
 ghost use Rattle.amqp_grammar.specs.Values.{Tree, Trees, Entries};
 ghost use Rattle.amqp_grammar.specs.Nesting.{BodyWithin, PairsWithin, OutcomeWithin};
@@ -17,7 +18,7 @@ use amqp_input::{ParsableInput, SliceInput};
 use amqp_parsing::errors::{lacks, refused};
 use amqp_parsing::header::{Header, header_of};
 use amqp_parsing::{ErrorKind, Limits, ParserError, ParserResult};
-use std::str;
+use simdutf8::basic::Utf8Error;
 
 /// Reads a value where its bytes lie: answers what `parse_value_within` does within the same limits,
 /// but for want of memory, which never comes.
@@ -119,7 +120,7 @@ fn are_pairs<'a>(body: SliceInput<'a>, depth: usize) -> bool
         let Ok((behind, key)) = read_key(rest) else {
             return false;
         };
-        let Ok(_) = str::from_utf8(key.as_slice()) else {
+        let Ok(()) = check_utf8(key.as_slice()) else {
             return false;
         };
         let Ok((after, _)) = value_within(behind, depth) else {
@@ -128,4 +129,17 @@ fn are_pairs<'a>(body: SliceInput<'a>, depth: usize) -> bool
         rest = after;
     }
     true
+}
+
+// Checks that bytes are UTF-8. Most keys are ASCII. The standard library's check is left to
+// `parse_value`, which has it in line as long as nothing else calls it.
+#[tactic(auto, using(crate::proofs::Reading::ascii_is_utf8))]
+fn check_utf8(bytes: &[u8]) -> Result<(), Utf8Error>
+    ensures { MatchResult result (λ _. IsUtf8 bytes.now) (λ _. IsUtf8 bytes.now → ⊥) }
+{
+    if bytes.iter().all(|byte| *byte < 128) || simdutf8::is_utf8(bytes) {
+        Ok(())
+    } else {
+        Err(Utf8Error)
+    }
 }

@@ -18,13 +18,13 @@ are_pairs-returns-in_default-clause-no t c = λ _.
     let at = c.pairs.invariant in
     bad_key c.args.depth (slice_bytes c.args.body) at.0 (slice_bytes c.pairs.rest) c.in_default.field-0 at.1 (omega arith) c.in_default.ensures
 
-pub are_pairs-returns-in_default-from_utf8-clause-no : goal.are_pairs-returns-in_default-from_utf8-clause-no
-are_pairs-returns-in_default-from_utf8-clause-no t c = λ _.
+pub are_pairs-returns-in_default-check_utf8-clause-no : goal.are_pairs-returns-in_default-check_utf8-clause-no
+are_pairs-returns-in_default-check_utf8-clause-no t c = λ _.
     let at = c.pairs.invariant in
     let s = slice_bytes c.pairs.rest in
     no_key_there c.args.depth (slice_bytes c.args.body) at.0 s at.1 (omega arith)
     (key_refused s (slice_bytes c.in-Ok.key) (slice_bytes c.in-Ok.behind) c.in-Ok.ensures
-    (λ utf8. c.in_default-from_utf8.ensures.cases.0 (subst IsUtf8 (sym c.as_slice.ensures) utf8)))
+    (λ utf8. c.in_default-check_utf8.ensures (subst IsUtf8 (sym c.as_slice.ensures) utf8)))
 
 pub are_pairs-returns-in_default-value_within-clause-no : goal.are_pairs-returns-in_default-value_within-clause-no
 are_pairs-returns-in_default-value_within-clause-no t c = λ _.
@@ -33,7 +33,7 @@ are_pairs-returns-in_default-value_within-clause-no t c = λ _.
     let k = slice_bytes c.in-Ok.key in
     let behind = slice_bytes c.in-Ok.behind in
     bad_pair c.args.depth (slice_bytes c.args.body) at.0 s k behind c.in_default-value_within.field-0 at.1
-    (key_found s k behind c.in-Ok.ensures (subst IsUtf8 c.as_slice.ensures c.in-Ok-from_utf8.ensures.cases.1)) c.in_default-value_within.ensures
+    (key_found s k behind c.in-Ok.ensures (subst IsUtf8 c.as_slice.ensures c.in-Ok-check_utf8.ensures)) c.in_default-value_within.ensures
 
 pub are_pairs-pairs-smaller : goal.are_pairs-pairs-smaller
 are_pairs-pairs-smaller t c =
@@ -41,7 +41,7 @@ are_pairs-pairs-smaller t c =
     let k = slice_bytes c.in-Ok.key in
     let behind = slice_bytes c.in-Ok.behind in
     let x = c.in-Ok-value_within.ensures in
-    omega (arith, key_shorter s k behind (key_found s k behind c.in-Ok.ensures (subst IsUtf8 c.as_slice.ensures c.in-Ok-from_utf8.ensures.cases.1)), rest_shorter c.args.depth behind x.0 (slice_bytes c.in-Ok-value_within.after) x.2)
+    omega (arith, key_shorter s k behind (key_found s k behind c.in-Ok.ensures (subst IsUtf8 c.as_slice.ensures c.in-Ok-check_utf8.ensures)), rest_shorter c.args.depth behind x.0 (slice_bytes c.in-Ok-value_within.after) x.2)
 
 pub are_pairs-pairs-preserved : goal.are_pairs-pairs-preserved
 are_pairs-pairs-preserved t c =
@@ -50,7 +50,7 @@ are_pairs-pairs-preserved t c =
     let k = slice_bytes c.in-Ok.key in
     let behind = slice_bytes c.in-Ok.behind in
     let x = c.in-Ok-value_within.ensures in
-    (put k x.0 at.0, Walks-step c.args.depth (slice_bytes c.args.body) at.0 s k behind x.0 (slice_bytes c.in-Ok-value_within.after) at.1 (key_found s k behind c.in-Ok.ensures (subst IsUtf8 c.as_slice.ensures c.in-Ok-from_utf8.ensures.cases.1)) x.2)
+    (put k x.0 at.0, Walks-step c.args.depth (slice_bytes c.args.body) at.0 s k behind x.0 (slice_bytes c.in-Ok-value_within.after) at.1 (key_found s k behind c.in-Ok.ensures (subst IsUtf8 c.as_slice.ensures c.in-Ok-check_utf8.ensures)) x.2)
 
 pub are_pairs-returns-clause-yes : goal.are_pairs-returns-clause-yes
 are_pairs-returns-clause-yes t c = λ _.
