@@ -61,8 +61,8 @@ pub fn scan(bytes: &[u8]) -> Result<usize, Fault>
     Ok(taken)
 }
 
-/// Reads a value where its bytes lie, and answers how many bytes it took, or 0 where it is a table with
-/// a value at the key.
+/// Reads a value where its bytes lie, and answers how many bytes it took, or 0 where it is a table
+/// with a value at the key.
 pub fn find(bytes: &[u8], key: &str) -> Result<usize, Fault>
     ensures taken { MatchResult result (IsLookedUp key.now bytes.now) (IsFault bytes.now ⊥) }
     ensures small { IfOk result (λ n. n ≤ length bytes.now) }

@@ -45,7 +45,7 @@ refusal_of_none Is f (Error OutOfMemory) x = x
 refusal_of_none Is f (Error TooLarge) x = x
 refusal_of_none Is f (Failure k) x = x.1
 
--- a value stands at the front of s, and `left` behind it
+-- a value stands at the beginning of s, and `left` after it
 record AtFront (s : List ℕ) : Type 0 where
   pub value_there : Tree
   pub bytes : List ℕ
@@ -102,7 +102,7 @@ module _ (s : List ℕ) (h : Head) (rest : List ℕ) (some : 0 < length s) (is :
       let a = (first_value s p.0 some p.1).at in
       (a.value_there, (meant s h rest is a).0))
 
-  -- values stand behind it
+  -- values stand after it
   pub values_behind : ∥ HasValues s ∥₁ → (length rest < length s) × ∥ HasValues rest ∥₁
   values_behind has = (
     ∥∥₁_elim has le_prop (λ (p : HasValues s).
@@ -142,7 +142,8 @@ key_there s e some has x =
         (one_raw_outcome amqp.ShortString (small k ++ (w ++ left)) o (found (short k) (w ++ left)) y
         (raw_found amqp.ShortString (small k) (w ++ left) (short k) (raw_short k is)))
 
--- the first of some pairs, whose key was read: its value stands at the front of what is behind the key
+-- the first of some pairs, whose key was read: its value stands at the beginning of what is after
+-- the key
 record FirstPair (s key behind : List ℕ) (ps : Entries) : Type 0 where
   pub at : AtFront behind
   pub others : Entries
@@ -170,7 +171,7 @@ module _ (s key behind : List ℕ) (f : IsKeyFrame s key behind) where
   key_utf8 has =
       IsUtf8-from_is_utf8 key (∥∥₁_elim has (Bool-set _ _) (λ (p : HasPairs s). is_utf8-from_IsUtf8 key (first_pair s key behind p.0 f p.1).short_key.utf8))
 
-  -- a head is read behind it
+  -- a head is read after it
   pub pair_there : (e : Refusal) → ∥ HasPairs s ∥₁ → Refuses (AtAnyDepth behind) ⊥ e → ⊥
   pair_there e has x = ∥∥₁_elim has no_prop (λ (p : HasPairs s). never_refused behind e (first_pair s key behind p.0 f p.1).at x)
 
@@ -181,7 +182,7 @@ module _ (s key behind : List ℕ) (f : IsKeyFrame s key behind) where
       let a = (first_pair s key behind p.0 f p.1).at in
       (a.value_there, (meant behind h rest is a).0))
 
-  -- pairs stand behind it
+  -- pairs stand after it
   pub pairs_behind : (h : Head) (rest : List ℕ) → IsHead behind h rest → ∥ HasPairs s ∥₁ → (length rest < length s) × ∥ HasPairs rest ∥₁
   pairs_behind h rest is has = (
     ∥∥₁_elim has le_prop (λ (p : HasPairs s).

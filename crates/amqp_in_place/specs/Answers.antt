@@ -5,11 +5,11 @@ use Rattle.amqp_grammar.specs.Outcomes.{found, Outcome}
 use Rattle.amqp_parsing.specs.declared.errors.Err.TheVariants.{Failure}
 use Rattle.amqp_parsing.specs.Refusals.{Refusal}
 
--- a refusal tells of the input, and of no memory
+-- an error tells of the input, and of no memory
 abbrev pub NeedsNoMemory : Refusal → Type 0
 NeedsNoMemory (Failure kind) = ⊥
 NeedsNoMemory _ = Unit {0}
 
--- n bytes stand before what is left behind the value at the front, where there is one
+-- n bytes stand before what is left after the value at the beginning, where there is one
 abbrev pub IsWidthOfFound : List ℕ → ℕ → Type 0
 IsWidthOfFound s n = (v : Tree) (rest : List ℕ) → Outcome s (found v rest) → length s ≡ n + length rest

@@ -1,4 +1,4 @@
--- What stands behind an id, one level deep.
+-- What stands after a type tag (id), one level deep.
 use Rattle.std.specs.Prelude.{ℕ, ◌≤◌, ◌≡◌, List, length, ◌++◌}
 use Rattle.amqp_types.specs.declared.amqp_type.AMQPType.{AMQPType}
 use Rattle.amqp_types.specs.declared.amqp_type.AMQPType.TheVariants as amqp
@@ -35,7 +35,7 @@ RawHeadIs type s (head.Plain r) rest = IsPlain r × IsPlainType type × RawOutco
 RawHeadIs type s (head.FieldArray i) rest = (type ≡ amqp.FieldArray) × IsFrame s (slice_bytes i) rest
 RawHeadIs type s (head.FieldTable i) rest = (type ≡ amqp.FieldTable) × IsFrame s (slice_bytes i) rest
 
--- the head of a value: that of the payload behind its id
+-- the head of a value: that of the payload after its id
 abbrev pub IsHead : List ℕ → Head → List ℕ → Type 0
 IsHead s h rest = (type : AMQPType) × (mid : List ℕ) × IsType s type mid × RawHeadIs type mid h rest
 
@@ -53,7 +53,7 @@ Means (head.FieldTable i) v = (es : Entries) × HasEntries (slice_bytes i) es ×
 abbrev pub IsMeant : Head → Type 0
 IsMeant h = (v : Tree) × Means h v
 
--- `body` stands behind its length in one byte, and `rest` behind it
+-- `body` stands after its length in one byte, and `rest` after it
 pub record IsKeyFrame (s body rest : List ℕ) : Type 0 where
   pub framed : s ≡ small body ++ rest
   pub few : length body ≤ 255

@@ -15,7 +15,7 @@ NextValueIs no_trees None = Unit {0}
 NextValueIs (tree v vs) (Some x) = Stands x.0 v × Body (slice_bytes x.1) vs
 NextValueIs _ _ = ⊥
 
--- behind the value that is given stand fewer bytes than n, which are values
+-- after the value that is given stand fewer bytes than n, which are values
 abbrev pub MoreValues : ℕ → Option (ValueRef × SliceInput) → Type 0
 MoreValues n None = Unit {0}
 MoreValues n (Some x) = (length (slice_bytes x.1) < n) × ∥ HasValues (slice_bytes x.1) ∥₁
@@ -26,7 +26,7 @@ NextPairIs no_entries None = Unit {0}
 NextPairIs (entry k v ps) (Some x) = (x.0.now ≡ k) × Stands x.1 v × Pairs (slice_bytes x.2) ps
 NextPairIs _ _ = ⊥
 
--- behind the pair that is given stand fewer bytes than n, which are pairs
+-- after the pair that is given stand fewer bytes than n, which are pairs
 abbrev pub MorePairs : ℕ → Option (Bor (List ℕ) × ValueRef × SliceInput) → Type 0
 MorePairs n None = Unit {0}
 MorePairs n (Some x) = (length (slice_bytes x.2) < n) × ∥ HasPairs (slice_bytes x.2) ∥₁

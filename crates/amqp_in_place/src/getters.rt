@@ -42,7 +42,7 @@ impl<'a> ValueRef<'a> {
         }
     }
 
-    /// The truth value, of a `Boolean`.
+    /// The boolean, of a `Boolean`.
     pub fn as_bool(self) -> Option<Boolean>
         ensures { (v : Tree) → Stands self.entry v → result ≡ truth_in v }
     {

@@ -1,4 +1,4 @@
-//! What stands behind an id, one level deep.
+//! What stands after a type tag (id), one level deep.
 
 ghost use Rattle.std.specs.Prelude.{◌≡◌, ◌≢◌, MatchResult};
 ghost use Rattle.amqp_grammar.specs.Payloads.{RawOutcome};
@@ -25,7 +25,7 @@ pub(crate) enum Head<'a> {
     FieldTable(SliceInput<'a>),
 }
 
-// Reads an id and what stands behind it, one level deep.
+// Reads an id and what stands after it, one level deep.
 #[inline(always)]
 #[tactic(auto, using(crate::proofs::HeadLemmas::head_answer))]
 pub(crate) fn read_head<'a>(i: SliceInput<'a>) -> ParserResult<SliceInput<'a>, Head<'a>>
@@ -37,7 +37,7 @@ pub(crate) fn read_head<'a>(i: SliceInput<'a>) -> ParserResult<SliceInput<'a>, H
     read_payload_head(amqp_type, i)
 }
 
-// Reads what stands behind an id.
+// Reads what stands after a type tag (id).
 #[inline(always)]
 #[tactic(auto, using(amqp_parsing::proofs::ParsingLaws::long_found, amqp_parsing::proofs::ParsingLaws::octets_found, amqp_parsing::proofs::ParsingLaws::void_found, amqp_parsing::proofs::ParsingLaws::unsigned_outcome, crate::proofs::HeadLemmas::unsigned_lacks))]
 fn read_payload_head<'a>(
@@ -123,7 +123,7 @@ fn read_payload_head<'a>(
     }
 }
 
-// Reads the frame of a key: its length in one byte, and as many bytes, which aren't looked at.
+// Reads the field of a key: its length in one byte, and as many bytes, which aren't looked at.
 #[inline(always)]
 pub(crate) fn read_key<'a>(i: SliceInput<'a>) -> ParserResult<SliceInput<'a>, SliceInput<'a>>
     ensures { MatchResult result

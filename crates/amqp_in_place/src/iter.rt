@@ -14,8 +14,8 @@ pub struct ArrayValues<'a> {
     ghost well_formed: { ∥ HasValues (slice_bytes rest) ∥₁ },
 }
 
-/// The pairs of a table that are left, in the order in which they are written. A key may come more than
-/// once: the last pair's value is the one that counts.
+/// The pairs of a table that are left, in the order in which they are written. A key may come more
+/// than once: the last pair's value is the one that counts.
 #[derive(Drop)]
 pub struct TablePairs<'a> {
     rest: SliceInput<'a>,

@@ -12,8 +12,8 @@ use amqp_value_core::value::AMQPValue;
 use std::alloc::{AllocError, Global};
 
 impl<'a> ValueRef<'a> {
-    /// The value in memory of its own, which `parse_value` gives. A number, a truth value, Void and what
-    /// is empty take no memory.
+    /// The value in memory of its own, which `parse_value` gives. A number, a boolean, Void and
+    /// what is empty take no memory.
     pub fn to_owned(self, alloc: Global) -> Result<AMQPValue, AllocError>
         ensures { MatchResult result (λ v. Stands self.entry (view v)) (λ _. HasBytes self.entry) }
     {

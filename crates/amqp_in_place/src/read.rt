@@ -20,11 +20,11 @@ use amqp_parsing::header::{Header, header_of};
 use amqp_parsing::{ErrorKind, Limits, ParserError, ParserResult};
 use simdutf8::basic::Utf8Error;
 
-/// Reads a value where its bytes lie: answers what `parse_value_within` does within the same limits,
-/// but for want of memory, which never comes.
+/// Reads a value where its bytes lie: answers what `parse_value_within` does within the same
+/// limits, but that it never runs out of memory.
 ///
-/// All of the value is checked, keys' UTF-8 too. Nothing is copied, and no memory is taken. It recurses
-/// at most `limits.depth` deep.
+/// All of the value is checked, keys' UTF-8 too. Nothing is copied, and no memory is taken. It
+/// recurses at most `limits.depth` deep.
 #[tactic(auto, using(crate::proofs::OneValue::one_value))]
 pub fn read_in_place(bytes: &[u8], limits: Limits) -> Result<(ValueRef<'_>, &[u8]), ParserError>
     ensures within { MatchResult result
@@ -45,8 +45,8 @@ pub fn read_in_place(bytes: &[u8], limits: Limits) -> Result<(ValueRef<'_>, &[u8
     }
 }
 
-/// Reads a value where its bytes lie, without limits: answers what `parse_value` does, but for want of
-/// memory, which never comes.
+/// Reads a value where its bytes lie, without limits: answers what `parse_value` does, but that it
+/// never runs out of memory.
 ///
 /// It recurses as deep as containers nest, which the input's length alone bounds.
 pub fn read_in_place_unlimited(bytes: &[u8]) -> Result<(ValueRef<'_>, &[u8]), ParserError>
@@ -90,7 +90,8 @@ fn value_within<'a>(i: SliceInput<'a>, depth: usize) -> ParserResult<SliceInput<
     }
 }
 
-// Whether a body is values one after another, in each of which containers nest at most `depth` deep.
+// Whether a body is values one after another, in each of which containers nest at most `depth`
+// deep.
 #[cycle(reader)]
 #[inline(never)]
 fn are_values<'a>(body: SliceInput<'a>, depth: usize) -> bool

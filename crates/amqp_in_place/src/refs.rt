@@ -26,7 +26,7 @@ pub struct TableRef<'a> {
 /// A value where its bytes lie, with its type. There is no short string: no id stands for it.
 #[derive(Clone, Copy)]
 pub enum ValueRef<'a> {
-    /// A truth value.
+    /// A boolean.
     Boolean(Boolean),
     /// A signed number of 8 bits.
     ShortShortInt(ShortShortInt),

@@ -10,10 +10,10 @@ use super::head::read_head;
 use amqp_input::{ParsableInput, SliceInput};
 use amqp_parsing::ParserError;
 
-/// How many bytes the value at the front takes, by its type tag and its length alone: in constant time,
-/// and whether or not the body of a container holds entries.
+/// How many bytes the value at the beginning takes, by its type tag and its length alone: in
+/// constant time, and whether or not the body of a container holds entries.
 ///
-/// It refuses what `parse_value` refuses for its type tag, and asks for more bytes where that does.
+/// It rejects what `parse_value` rejects for its type tag, and asks for more bytes where that does.
 #[tactic(auto, using(crate::proofs::Skipping::skipped, crate::proofs::Skipping::width_of_found, crate::proofs::Skipping::refused_so))]
 pub fn skip_value(bytes: &[u8]) -> Result<usize, ParserError>
     ensures extent { MatchResult result (λ n. n ≡ extent bytes.now) (Refuses (Outcome bytes.now) ⊥) }

@@ -27,7 +27,7 @@ fn value_of<'a>(head: Head<'a>) -> ValueRef<'a>
     }
 }
 
-// Takes the first value off bytes that are values, and gives those behind it.
+// Takes the first value off bytes that are values, and gives those after it.
 #[inline(always)]
 pub(crate) fn next_value<'a>(bytes: SliceInput<'a>) -> Option<(ValueRef<'a>, SliceInput<'a>)>
     requires { ∥ HasValues (slice_bytes bytes) ∥₁ }
@@ -43,7 +43,7 @@ pub(crate) fn next_value<'a>(bytes: SliceInput<'a>) -> Option<(ValueRef<'a>, Sli
     Some((value_of(head), rest))
 }
 
-// Takes the first pair off bytes that are pairs, and gives those behind it.
+// Takes the first pair off bytes that are pairs, and gives those after it.
 #[inline(always)]
 pub(crate) fn next_pair<'a>(
     bytes: SliceInput<'a>,

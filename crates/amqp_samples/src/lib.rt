@@ -4,8 +4,8 @@
 use std::io;
 use std::io::{ErrorKind, Write};
 
-/// The canonical encoding of a table with an entry of nearly every type: its type tag (id), its length of
-/// 194 bytes, and an entry a line, keys in order.
+/// The canonical encoding of a table with an entry of nearly every type: its type tag (id), its
+/// length of 194 bytes, and an entry a line, keys in order.
 pub const TABLE: &[u8] = &[
     70, 0, 0, 0, 194, //
     4, 97, 97, 97, 97, 98, 42, // aaaa: ShortShortInt

@@ -55,7 +55,7 @@ fn keys_are(table: TableRef<'_>, want: &[&str]) -> bool {
     pairs.next().is_none()
 }
 
-// why the bytes are refused
+// why the bytes are rejected
 fn refusal(bytes: &[u8], limits: Limits) -> Option<ErrorKind> {
     match read_in_place(bytes, limits) {
         Err(Err::Error(e)) => Some(e.kind()),
@@ -189,7 +189,7 @@ fn what_is_no_value_is_refused(rt: HostRuntime) {
 #[test]
 fn a_value_is_skipped_by_its_header(rt: HostRuntime) {
     assert!(rt; matches!(skip_value(X_DEATH), Ok(69)));
-    // what is in the body isn't looked at, nor what is behind it
+    // what is in the body isn't looked at, nor what is after it
     assert!(rt; matches!(skip_value(b"A\0\0\0\x01zV"), Ok(6)));
     assert!(rt; matches!(skip_value(b"S\0"), Err(Err::Incomplete(Needed::Size(3)))));
 }
