@@ -11,6 +11,7 @@ ghost use Rattle.amqp_parsing.specs.Bodies.{IsNoBody, IsTable, IsNoTable};
 ghost use Rattle.amqp_parsing.specs.Limits.{Within, RefusesWithin};
 ghost use Rattle.amqp_in_place.specs.Refs.{Stands, IsOneValue};
 ghost use Rattle.amqp_in_place.specs.Answers.{IsLeft, NeedsNoMemory};
+ghost use Rattle.amqp_in_place.specs.Places.{LiesIn};
 
 use super::head::{Head, read_head, read_key};
 use super::refs::{ArrayRef, TableRef, ValueRef};
@@ -33,6 +34,7 @@ pub fn read_in_place(bytes: &[u8], limits: Limits) -> Result<(ValueRef<'_>, &[u8
     ensures no_memory { IfErr result NeedsNoMemory }
     ensures one { IfOk result (λ x. IsOneValue x.0) }
     ensures rest { IfOk result (λ x. IsLeft bytes.now x.1.now) }
+    ensures lies { IfOk result (λ x. LiesIn bytes.now x.0 x.1.now) }
 {
     let i = SliceInput::new(bytes);
     match header_of(i, limits.frame) {
@@ -57,6 +59,7 @@ pub fn read_in_place_unlimited(bytes: &[u8]) -> Result<(ValueRef<'_>, &[u8]), Pa
         (Refuses (Outcome bytes.now) ⊥) }
     ensures one { IfOk result (λ x. IsOneValue x.0) }
     ensures rest { IfOk result (λ x. IsLeft bytes.now x.1.now) }
+    ensures lies { IfOk result (λ x. LiesIn bytes.now x.0 x.1.now) }
 {
     let (rest, value) = value_within(SliceInput::new(bytes), bytes.len())?;
     Ok((value, rest.as_slice()))
@@ -67,9 +70,10 @@ pub fn read_in_place_unlimited(bytes: &[u8]) -> Result<(ValueRef<'_>, &[u8]), Pa
 #[inline(always)]
 #[tactic(auto, using(crate::proofs::HeadLemmas::head_within))]
 fn value_within<'a>(i: SliceInput<'a>, depth: usize) -> ParserResult<SliceInput<'a>, ValueRef<'a>>
-    ensures { MatchResult result
+    ensures outcome { MatchResult result
         (λ x. (v : Tree) × Stands x.1 v × OutcomeWithin depth (slice_bytes i.entry) (found v (slice_bytes x.0)))
         (Refuses (OutcomeWithin depth (slice_bytes i.entry)) ⊥) }
+    ensures lies { IfOk result (λ x. LiesIn (slice_bytes i.entry) x.1 (slice_bytes x.0)) }
 {
     let (rest, head) = read_head(i)?;
     match head {

@@ -13,10 +13,10 @@ returns-in_err-rest-clause-outcome c =
     let e = c.in_err-rest.field-0.0 in
     rw (p.1, p.2)
     (subst (λ (s : List ℕ). Refuses (Outcome s) ⊥ e) c.new.ensures
-    (unlimited_refused (length c.args.bytes.now) (slice_bytes c.new.result) e (ap length (sym c.new.ensures)) c.in_err-rest.ensures))
+    (unlimited_refused (length c.args.bytes.now) (slice_bytes c.new.result) e (ap length (sym c.new.ensures)) c.in_err-rest.ensures.outcome))
 
 pub returns-clause-outcome : goal.returns-clause-outcome
 returns-clause-outcome c =
-    let x = c.in_ok-rest.ensures in
+    let x = c.in_ok-rest.ensures.outcome in
     let read = unlimited (length c.args.bytes.now) (slice_bytes c.new.result) (found x.0 (slice_bytes c.in_ok-rest.rest)) (omega (arith, ap length c.new.ensures)) x.2 in
     (x.0, x.1, rw c.as_slice.ensures (subst (λ (s : List ℕ). Outcome s (found x.0 (slice_bytes c.in_ok-rest.rest))) c.new.ensures read))
