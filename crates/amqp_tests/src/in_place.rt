@@ -35,10 +35,7 @@ const EACH: [(&[u8], AMQPType); 18] = [
     (b"u\xff\xfe", AMQPType::ShortUInt),
     (b"I\xff\xff\xff\xfe", AMQPType::LongInt),
     (b"i\xff\xff\xff\xfe", AMQPType::LongUInt),
-    (
-        b"l\xff\xff\xff\xff\xff\xff\xff\xfe",
-        AMQPType::LongLongInt,
-    ),
+    (b"l\xff\xff\xff\xff\xff\xff\xff\xfe", AMQPType::LongLongInt),
     (b"L\0\0\0\0\0\0\0\x02", AMQPType::LongLongInt),
     (b"f\x3f\x80\0\0", AMQPType::Float),
     (b"d\x3f\xf0\0\0\0\0\0\0", AMQPType::Double),
@@ -131,11 +128,26 @@ fn each_type_is_told(rt: HostRuntime) {
 #[test]
 fn numbers_are_got(rt: HostRuntime) {
     assert_eq!(rt; value(b"t\x01").and_then(|v| v.as_bool()), Some(true));
-    assert_eq!(rt; value(b"b\xfe").and_then(|v| v.as_short_short_int()), Some(-2));
-    assert_eq!(rt; value(b"B\xfe").and_then(|v| v.as_short_short_uint()), Some(254));
-    assert_eq!(rt; value(b"s\xff\xfe").and_then(|v| v.as_short_int()), Some(-2));
-    assert_eq!(rt; value(b"u\xff\xfe").and_then(|v| v.as_short_uint()), Some(65_534));
-    assert_eq!(rt; value(b"I\xff\xff\xff\xfe").and_then(|v| v.as_long_int()), Some(-2));
+    assert_eq!(rt;
+        value(b"b\xfe").and_then(|v| v.as_short_short_int()),
+        Some(-2)
+    );
+    assert_eq!(rt;
+        value(b"B\xfe").and_then(|v| v.as_short_short_uint()),
+        Some(254)
+    );
+    assert_eq!(rt;
+        value(b"s\xff\xfe").and_then(|v| v.as_short_int()),
+        Some(-2)
+    );
+    assert_eq!(rt;
+        value(b"u\xff\xfe").and_then(|v| v.as_short_uint()),
+        Some(65_534)
+    );
+    assert_eq!(rt;
+        value(b"I\xff\xff\xff\xfe").and_then(|v| v.as_long_int()),
+        Some(-2)
+    );
     assert_eq!(rt;
         value(b"i\xff\xff\xff\xfe").and_then(|v| v.as_long_uint()),
         Some(4_294_967_294)
@@ -144,14 +156,24 @@ fn numbers_are_got(rt: HostRuntime) {
         value(b"l\xff\xff\xff\xff\xff\xff\xff\xfe").and_then(|v| v.as_long_long_int()),
         Some(-2)
     );
-    assert_eq!(rt; value(b"L\0\0\0\0\0\0\0\x02").and_then(|v| v.as_long_long_int()), Some(2));
-    assert_eq!(rt; value(b"T\0\0\0\0\0\0\0\x09").and_then(|v| v.as_timestamp()), Some(9));
+    assert_eq!(rt;
+        value(b"L\0\0\0\0\0\0\0\x02").and_then(|v| v.as_long_long_int()),
+        Some(2)
+    );
+    assert_eq!(rt;
+        value(b"T\0\0\0\0\0\0\0\x09").and_then(|v| v.as_timestamp()),
+        Some(9)
+    );
 }
 
 #[test]
 fn others_are_got(rt: HostRuntime) {
     assert!(rt; value(b"f\x3f\x80\0\0").and_then(|v| v.as_float()).is_some());
-    assert!(rt; value(b"d\x3f\xf0\0\0\0\0\0\0").and_then(|v| v.as_double()).is_some());
+    assert!(rt;
+        value(b"d\x3f\xf0\0\0\0\0\0\0")
+            .and_then(|v| v.as_double())
+            .is_some()
+    );
     let Some(decimal) = value(b"D\x02\0\0\0\x07").and_then(|v| v.as_decimal_value()) else {
         panic!(&rt; "no decimal")
     };
@@ -328,4 +350,32 @@ fn large_values_are_copied(rt: HostRuntime) -> Result<(), Fail> {
         assert!(rt; is_copied(rt.alloc(), &bytes)?);
     }
     Ok(())
+}
+
+#[test]
+fn strings_are_cut_out_of_the_input(rt: HostRuntime) {
+    let Some(headers) = table(X_DEATH) else {
+        panic!(&rt; "no table")
+    };
+    // after the type tag and the length of the table, the body
+    assert!(rt; headers.as_bytes() == &X_DEATH[5..]);
+    let Some(deaths) = headers.get("x-death").and_then(|v| v.as_array()) else {
+        panic!(&rt; "no deaths")
+    };
+    assert!(rt; deaths.as_bytes() == &X_DEATH[18..]);
+    let Some(death) = deaths.get(0).and_then(|v| v.as_field_table()) else {
+        panic!(&rt; "no death")
+    };
+    let mut pairs = death.iter();
+    assert!(rt; pairs.as_bytes() == death.as_bytes());
+    let _ = pairs.next();
+    let _ = pairs.next();
+    // 15 bytes of `count` and 19 of `reason` before the last pair
+    assert!(rt; pairs.as_bytes() == b"\x05queueS\0\0\0\x01q".as_slice());
+    let _ = pairs.next();
+    assert!(rt; pairs.as_bytes().is_empty());
+    let mut values = deaths.iter();
+    assert!(rt; values.as_bytes() == deaths.as_bytes());
+    let _ = values.next();
+    assert!(rt; values.as_bytes().is_empty());
 }
