@@ -5,3 +5,4 @@ pub mod Lookups
 pub mod Owning
 pub mod OneValue
 pub mod Skipping
+pub mod Canonicals

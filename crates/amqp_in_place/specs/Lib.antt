@@ -4,3 +4,4 @@ pub mod Heads
 pub mod Walks
 pub mod Answers
 pub mod Left
+pub mod Canonicals
