@@ -1,8 +1,10 @@
 //! Values where their bytes lie, by worked bytes.
 
-use amq_protocol_types::AMQPValue;
-use amq_protocol_types::in_place::{Limits, TableRef, ValueRef, read_in_place, skip_value};
+use amq_protocol_types::in_place::{
+    Limits, TableRef, ValueRef, read_in_place, read_in_place_unlimited, skip_value,
+};
 use amq_protocol_types::parsing::{Err, ErrorKind, Needed, SliceInput, parse_value};
+use amq_protocol_types::{AMQPType, AMQPValue};
 use std::alloc::Global;
 use std::test::Fail;
 
@@ -23,6 +25,39 @@ const NESTED: &[u8] = b"F\0\0\0\x07\x01aF\0\0\0\0";
 
 /// The key of two nested arrays comes again, with Void.
 const DEEP_FIRST: &[u8] = b"F\0\0\0\x0f\x01aA\0\0\0\x05A\0\0\0\0\x01aV";
+
+/// A value of each type, by its type tag and its payload.
+const EACH: [(&[u8], AMQPType); 18] = [
+    (b"t\x01", AMQPType::Boolean),
+    (b"b\xfe", AMQPType::ShortShortInt),
+    (b"B\xfe", AMQPType::ShortShortUInt),
+    (b"s\xff\xfe", AMQPType::ShortInt),
+    (b"u\xff\xfe", AMQPType::ShortUInt),
+    (b"I\xff\xff\xff\xfe", AMQPType::LongInt),
+    (b"i\xff\xff\xff\xfe", AMQPType::LongUInt),
+    (
+        b"l\xff\xff\xff\xff\xff\xff\xff\xfe",
+        AMQPType::LongLongInt,
+    ),
+    (b"L\0\0\0\0\0\0\0\x02", AMQPType::LongLongInt),
+    (b"f\x3f\x80\0\0", AMQPType::Float),
+    (b"d\x3f\xf0\0\0\0\0\0\0", AMQPType::Double),
+    (b"D\x02\0\0\0\x07", AMQPType::DecimalValue),
+    (b"S\0\0\0\x02hi", AMQPType::LongString),
+    (b"A\0\0\0\x02VV", AMQPType::FieldArray),
+    (b"T\0\0\0\0\0\0\0\x09", AMQPType::Timestamp),
+    (b"F\0\0\0\x03\x01aV", AMQPType::FieldTable),
+    (b"x\0\0\0\x02\xff\0", AMQPType::ByteArray),
+    (b"V", AMQPType::Void),
+];
+
+// the value that the bytes are, and nothing behind it
+fn value(bytes: &[u8]) -> Option<ValueRef<'_>> {
+    match read_in_place_unlimited(bytes) {
+        Ok((value, &[])) => Some(value),
+        _ => None,
+    }
+}
 
 // the table that the bytes are
 fn table(bytes: &[u8]) -> Option<TableRef<'_>> {
@@ -81,6 +116,83 @@ fn is_copied(alloc: Global, bytes: &[u8]) -> Result<bool, Fail> {
         Ok((_, parsed)) => Ok(copy == parsed),
         Err(_e) => Ok(false),
     }
+}
+
+#[test]
+fn each_type_is_told(rt: HostRuntime) {
+    for (bytes, amqp_type) in EACH {
+        let Some(value) = value(bytes) else {
+            panic!(&rt; "no value")
+        };
+        assert_eq!(rt; value.get_type(), amqp_type);
+    }
+}
+
+#[test]
+fn numbers_are_got(rt: HostRuntime) {
+    assert_eq!(rt; value(b"t\x01").and_then(|v| v.as_bool()), Some(true));
+    assert_eq!(rt; value(b"b\xfe").and_then(|v| v.as_short_short_int()), Some(-2));
+    assert_eq!(rt; value(b"B\xfe").and_then(|v| v.as_short_short_uint()), Some(254));
+    assert_eq!(rt; value(b"s\xff\xfe").and_then(|v| v.as_short_int()), Some(-2));
+    assert_eq!(rt; value(b"u\xff\xfe").and_then(|v| v.as_short_uint()), Some(65_534));
+    assert_eq!(rt; value(b"I\xff\xff\xff\xfe").and_then(|v| v.as_long_int()), Some(-2));
+    assert_eq!(rt;
+        value(b"i\xff\xff\xff\xfe").and_then(|v| v.as_long_uint()),
+        Some(4_294_967_294)
+    );
+    assert_eq!(rt;
+        value(b"l\xff\xff\xff\xff\xff\xff\xff\xfe").and_then(|v| v.as_long_long_int()),
+        Some(-2)
+    );
+    assert_eq!(rt; value(b"L\0\0\0\0\0\0\0\x02").and_then(|v| v.as_long_long_int()), Some(2));
+    assert_eq!(rt; value(b"T\0\0\0\0\0\0\0\x09").and_then(|v| v.as_timestamp()), Some(9));
+}
+
+#[test]
+fn others_are_got(rt: HostRuntime) {
+    assert!(rt; value(b"f\x3f\x80\0\0").and_then(|v| v.as_float()).is_some());
+    assert!(rt; value(b"d\x3f\xf0\0\0\0\0\0\0").and_then(|v| v.as_double()).is_some());
+    let Some(decimal) = value(b"D\x02\0\0\0\x07").and_then(|v| v.as_decimal_value()) else {
+        panic!(&rt; "no decimal")
+    };
+    assert_eq!(rt; (decimal.scale, decimal.value), (2, 7));
+    assert!(rt; value(b"S\0\0\0\x02hi").and_then(|v| v.as_long_string()) == Some(b"hi"));
+    assert!(rt; value(b"x\0\0\0\x02\xff\0").and_then(|v| v.as_byte_array()) == Some(b"\xff\0"));
+    assert!(rt; value(b"V").and_then(|v| v.as_void()).is_some());
+    assert!(rt; value(b"t\x01").and_then(|v| v.as_void()).is_none());
+    assert!(rt; value(b"V").and_then(|v| v.as_bool()).is_none());
+}
+
+#[test]
+fn arrays_are_walked(rt: HostRuntime) {
+    let Some(array) = value(b"A\0\0\0\x05B\x07VB\x08").and_then(|v| v.as_array()) else {
+        panic!(&rt; "no array")
+    };
+    assert!(rt; !array.is_empty());
+    let mut values = array.iter();
+    assert!(rt; matches!(values.next(), Some(ValueRef::ShortShortUInt(7))));
+    assert!(rt; matches!(values.next(), Some(ValueRef::Void)));
+    assert!(rt; matches!(values.next(), Some(ValueRef::ShortShortUInt(8))));
+    assert!(rt; values.next().is_none());
+    assert!(rt; matches!(array.get(0), Some(ValueRef::ShortShortUInt(7))));
+    assert!(rt; matches!(array.get(2), Some(ValueRef::ShortShortUInt(8))));
+    assert!(rt; array.get(3).is_none());
+}
+
+#[test]
+fn what_is_empty_is_walked(rt: HostRuntime) {
+    let Some(array) = value(b"A\0\0\0\0").and_then(|v| v.as_array()) else {
+        panic!(&rt; "no array")
+    };
+    assert!(rt; array.is_empty());
+    assert!(rt; array.iter().next().is_none());
+    assert!(rt; array.get(0).is_none());
+    let Some(table) = table(b"F\0\0\0\0") else {
+        panic!(&rt; "no table")
+    };
+    assert!(rt; table.is_empty());
+    assert!(rt; table.iter().next().is_none());
+    assert!(rt; table.get("").is_none());
 }
 
 #[test]
@@ -192,20 +304,28 @@ fn a_value_is_skipped_by_its_header(rt: HostRuntime) {
     // what is in the body isn't looked at, nor what is after it
     assert!(rt; matches!(skip_value(b"A\0\0\0\x01zV"), Ok(6)));
     assert!(rt; matches!(skip_value(b"S\0"), Err(Err::Incomplete(Needed::Size(3)))));
+    assert!(rt; matches!(skip_value(&[]), Err(Err::Incomplete(Needed::Size(1)))));
+    assert!(rt; matches!(skip_value(b"z"), Err(Err::Error(e)) if e.kind() == ErrorKind::MapOpt));
 }
 
 #[test]
 fn copies_are_what_is_parsed(rt: HostRuntime) -> Result<(), Fail> {
-    for bytes in [
-        X_DEATH,
-        EQUAL_KEYS,
-        NESTED,
-        DEEP_FIRST,
-        b"V",
-        b"x\0\0\0\x02ab",
-        b"S\0\0\0\0",
-    ] {
+    for bytes in [X_DEATH, EQUAL_KEYS, NESTED, DEEP_FIRST, b"S\0\0\0\0"] {
         assert!(rt; is_copied(rt.alloc(), bytes)?);
+    }
+    for (bytes, _) in EACH {
+        assert!(rt; is_copied(rt.alloc(), bytes)?);
+    }
+    Ok(())
+}
+
+#[test]
+fn large_values_are_copied(rt: HostRuntime) -> Result<(), Fail> {
+    // 100,000 bytes of a string, and as many values Void
+    for (id, byte) in [(b'S', b'a'), (b'A', b'V')] {
+        let mut bytes = vec![in rt.alloc(); byte; 100_005]?;
+        bytes[..5].copy_from_slice(&[id, 0, 1, 134, 160]);
+        assert!(rt; is_copied(rt.alloc(), &bytes)?);
     }
     Ok(())
 }
