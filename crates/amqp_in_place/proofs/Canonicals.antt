@@ -3,6 +3,7 @@ use Rattle.std.proofs.Common.{◌≡◌, ◌<◌, ◌≤◌, ◌+◌, ◌-◌, �
 use Rattle.std.specs.Map.{lookup}
 use Rattle.std.specs.List.{AllByRecursion}
 use Rattle.std.specs.Option.{IfSome, option_eq}
+use Rattle.std.specs.Bool.{then_some}
 use Rattle.std.specs.Borrow.{Bor}
 use Rattle.std.specs.Ordering.{nat_cmp, is_lt, is_some_and}
 use Rattle.std.specs.Cmp.Lexicographic.{slice_cmp, slice_partial_cmp, lists_agrees}
@@ -212,6 +213,17 @@ module _ (d : ℕ) (s : List ℕ) (i : SliceInput) (rest : List ℕ) where
 -- a canonical encoding stands there, so a value does
 pub canon_at : (d : ℕ) (s left : List ℕ) → CanonFront d s left → AtFront s
 canon_at d s left (w, v, x, deep, e) = record { value_there = v; bytes = w; left = left; is_wire = canon_is_wire w v x; front = e }
+
+-- the rest is answered where a test holds
+pub some_rest : (d : ℕ) (s : List ℕ) (i : SliceInput) (b : Bool) (r : Option SliceInput) → r ≡ then_some b i → (b ≡ true → CanonFront d s (slice_bytes i))
+    → IfSome r (λ (rest : SliceInput). CanonFront d s (slice_bytes rest))
+some_rest d s i true r is f = subst (λ (o : Option SliceInput). IfSome o (λ (rest : SliceInput). CanonFront d s (slice_bytes rest))) (sym is) (f refl)
+some_rest d s i false r is f = subst (λ (o : Option SliceInput). IfSome o (λ (rest : SliceInput). CanonFront d s (slice_bytes rest))) (sym is) tt
+
+pub no_rest : (d : ℕ) (s : List ℕ) (i : SliceInput) (b : Bool) (r : Option SliceInput) → r ≡ then_some b i → (b ≡ false → (left : List ℕ) → CanonFront d s left → ⊥)
+    → r ≡ None → (left : List ℕ) → CanonFront d s left → ⊥
+no_rest d s i true r is f none = absurd (let e : Some i ≡ None = sym is ∙ none in cc)
+no_rest d s i false r is f none = f refl
 
 -- ---- bodies
 

@@ -56,23 +56,9 @@ fn after_canonical<'a>(i: SliceInput<'a>, depth: usize) -> Option<SliceInput<'a>
     match head {
         Head::Plain(_) => Some(rest),
         Head::FieldArray(body) => {
-            if depth == 0 {
-                return None;
-            }
-            if !are_canonical_values(body, depth - 1) {
-                return None;
-            }
-            Some(rest)
+            are_canonical_values(body, depth.checked_sub(1)?).then_some(rest)
         }
-        Head::FieldTable(body) => {
-            if depth == 0 {
-                return None;
-            }
-            if !are_canonical_pairs(body, depth - 1) {
-                return None;
-            }
-            Some(rest)
-        }
+        Head::FieldTable(body) => are_canonical_pairs(body, depth.checked_sub(1)?).then_some(rest),
     }
 }
 

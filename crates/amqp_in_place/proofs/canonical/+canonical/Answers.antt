@@ -1,11 +1,11 @@
-use Rattle.std.proofs.Common.{sym, subst, rules, arith}
+use Rattle.std.proofs.Common.{ℕ, None, sym, subst, rules, arith}
 use Rattle.std.specs.Str.{IsUtf8}
 use Rattle.amqp_input.specs.Inputs.{slice_bytes}
-use Rattle.amqp_in_place.specs.Canonicals.{IsAbove, IsFirstSpelling}
+use Rattle.amqp_in_place.specs.Canonicals.{CanonValues, CanonEntries, IsAbove, IsFirstSpelling}
 use Rattle.amqp_in_place.specs.Heads.{IsHead}
 use Rattle.amqp_in_place.specs.declared.head.Head.{Head}
 use Rattle.amqp_in_place.proofs.Stepping.{never_refused}
-use Rattle.amqp_in_place.proofs.Canonicals.{front_spelling, plain_front, array_front, array_inside, table_front, table_inside, canon_at, rest_shorter, no_values, first_value, values_after, values_before, no_pairs, key_there, key_utf8, key_above, value_behind, pairs_after, pairs_before, pair_shorter}
+use Rattle.amqp_in_place.proofs.Canonicals.{some_rest, no_rest, front_spelling, plain_front, array_front, array_inside, table_front, table_inside, canon_at, rest_shorter, no_values, first_value, values_after, values_before, no_pairs, key_there, key_utf8, key_above, value_behind, pairs_after, pairs_before, pair_shorter}
 use Rattle.amqp_in_place.proofs.canonical.+canonical.Goals as goal
 
 pub after_canonical-returns-then-not-is_first_spelling-clause-none : goal.after_canonical-returns-then-not-is_first_spelling-clause-none
@@ -17,34 +17,6 @@ after_canonical-returns-in_default-clause-none t c = λ _ left x.
     let s = slice_bytes c.args.i in
     never_refused s c.in_default.field-0 (canon_at c.args.depth s left x) c.in_default.ensures
 
-pub after_canonical-returns-then-depth-eq0-clause-none : goal.after_canonical-returns-then-depth-eq0-clause-none
-after_canonical-returns-then-depth-eq0-clause-none t c = λ _ left x.
-    let s = slice_bytes c.args.i in
-    let rest = slice_bytes c.in-Ok.rest in
-    let h = subst (λ (h : Head). IsHead s h rest) c.in-FieldArray.is c.in-Ok.ensures in
-    omega (arith, c.if-depth-eq0.true, (array_inside c.args.depth s c.in-FieldArray.body rest left h x).0)
-
-pub after_canonical-returns-then-not-are_canonical_values-clause-none : goal.after_canonical-returns-then-not-are_canonical_values-clause-none
-after_canonical-returns-then-not-are_canonical_values-clause-none t c = λ _ left x.
-    let s = slice_bytes c.args.i in
-    let rest = slice_bytes c.in-Ok.rest in
-    let h = subst (λ (h : Head). IsHead s h rest) c.in-FieldArray.is c.in-Ok.ensures in
-    c.are_canonical_values.ensures.no (search rules) (array_inside c.args.depth s c.in-FieldArray.body rest left h x).1
-
-pub after_canonical-returns-then-depth-eq0-2-clause-none : goal.after_canonical-returns-then-depth-eq0-2-clause-none
-after_canonical-returns-then-depth-eq0-2-clause-none t c = λ _ left x.
-    let s = slice_bytes c.args.i in
-    let rest = slice_bytes c.in-Ok.rest in
-    let h = subst (λ (h : Head). IsHead s h rest) c.in-FieldTable.is c.in-Ok.ensures in
-    omega (arith, c.if-depth-eq0-2.true, (table_inside c.args.depth s c.in-FieldTable.body rest left h x).0)
-
-pub after_canonical-returns-then-not-are_canonical_pairs-clause-none : goal.after_canonical-returns-then-not-are_canonical_pairs-clause-none
-after_canonical-returns-then-not-are_canonical_pairs-clause-none t c = λ _ left x.
-    let s = slice_bytes c.args.i in
-    let rest = slice_bytes c.in-Ok.rest in
-    let h = subst (λ (h : Head). IsHead s h rest) c.in-FieldTable.is c.in-Ok.ensures in
-    c.are_canonical_pairs.ensures.no (search rules) (table_inside c.args.depth s c.in-FieldTable.body rest left h x).1
-
 pub after_canonical-returns-in-Plain-clause-rest : goal.after_canonical-returns-in-Plain-clause-rest
 after_canonical-returns-in-Plain-clause-rest t c =
     let s = slice_bytes c.args.i in
@@ -52,21 +24,63 @@ after_canonical-returns-in-Plain-clause-rest t c =
     let h = subst (λ (h : Head). IsHead s h rest) c.in-Plain.is c.in-Ok.ensures in
     plain_front c.args.depth s c.in-Plain.field-0 rest h (subst IsFirstSpelling c.as_slice.ensures (c.is_first_spelling.ensures.yes (search rules)))
 
-pub after_canonical-returns-else-not-are_canonical_values-clause-rest : goal.after_canonical-returns-else-not-are_canonical_values-clause-rest
-after_canonical-returns-else-not-are_canonical_values-clause-rest t c =
+pub after_canonical-returns-in_err-checked_sub-in-FieldArray-clause-none : goal.after_canonical-returns-in_err-checked_sub-in-FieldArray-clause-none
+after_canonical-returns-in_err-checked_sub-in-FieldArray-clause-none t c = λ _ left x.
     let s = slice_bytes c.args.i in
     let rest = slice_bytes c.in-Ok.rest in
+    let body = c.in-FieldArray.body in
     let h = subst (λ (h : Head). IsHead s h rest) c.in-FieldArray.is c.in-Ok.ensures in
-    let spelled = subst IsFirstSpelling c.as_slice.ensures (c.is_first_spelling.ensures.yes (search rules)) in
-    array_front c.args.depth s c.in-FieldArray.body rest h spelled (omega arith) (c.are_canonical_values.ensures.yes (search rules))
+    c.in_err-checked_sub-in-FieldArray.ensures (array_inside c.args.depth s body rest left h x).0
 
-pub after_canonical-returns-else-not-are_canonical_pairs-clause-rest : goal.after_canonical-returns-else-not-are_canonical_pairs-clause-rest
-after_canonical-returns-else-not-are_canonical_pairs-clause-rest t c =
+pub after_canonical-returns-in_ok-checked_sub-in-FieldArray-clause-rest : goal.after_canonical-returns-in_ok-checked_sub-in-FieldArray-clause-rest
+after_canonical-returns-in_ok-checked_sub-in-FieldArray-clause-rest t c =
     let s = slice_bytes c.args.i in
     let rest = slice_bytes c.in-Ok.rest in
-    let h = subst (λ (h : Head). IsHead s h rest) c.in-FieldTable.is c.in-Ok.ensures in
+    let body = c.in-FieldArray.body in
+    let h = subst (λ (h : Head). IsHead s h rest) c.in-FieldArray.is c.in-Ok.ensures in
+    let less = c.in_ok-checked_sub-in-FieldArray.ensures in
     let spelled = subst IsFirstSpelling c.as_slice.ensures (c.is_first_spelling.ensures.yes (search rules)) in
-    table_front c.args.depth s c.in-FieldTable.body rest h spelled (omega arith) (c.are_canonical_pairs.ensures.yes (search rules))
+    some_rest c.args.depth s c.in-Ok.rest c.are_canonical_values.result c.then_some.result c.then_some.ensures
+    (λ t. array_front c.args.depth s body rest h spelled less.0 (subst (λ (d : ℕ). CanonValues d (slice_bytes body)) less.1 (c.are_canonical_values.ensures.yes t)))
+
+pub after_canonical-returns-in_ok-checked_sub-in-FieldArray-clause-none : goal.after_canonical-returns-in_ok-checked_sub-in-FieldArray-clause-none
+after_canonical-returns-in_ok-checked_sub-in-FieldArray-clause-none t c =
+    let s = slice_bytes c.args.i in
+    let rest = slice_bytes c.in-Ok.rest in
+    let body = c.in-FieldArray.body in
+    let h = subst (λ (h : Head). IsHead s h rest) c.in-FieldArray.is c.in-Ok.ensures in
+    let less = c.in_ok-checked_sub-in-FieldArray.ensures in
+    no_rest c.args.depth s c.in-Ok.rest c.are_canonical_values.result c.then_some.result c.then_some.ensures
+    (λ f left x. c.are_canonical_values.ensures.no f (subst (λ (d : ℕ). CanonValues d (slice_bytes body)) (sym less.1) (array_inside c.args.depth s body rest left h x).1))
+
+pub after_canonical-returns-in_err-checked_sub-in-FieldTable-clause-none : goal.after_canonical-returns-in_err-checked_sub-in-FieldTable-clause-none
+after_canonical-returns-in_err-checked_sub-in-FieldTable-clause-none t c = λ _ left x.
+    let s = slice_bytes c.args.i in
+    let rest = slice_bytes c.in-Ok.rest in
+    let body = c.in-FieldTable.body in
+    let h = subst (λ (h : Head). IsHead s h rest) c.in-FieldTable.is c.in-Ok.ensures in
+    c.in_err-checked_sub-in-FieldTable.ensures (table_inside c.args.depth s body rest left h x).0
+
+pub after_canonical-returns-in_ok-checked_sub-in-FieldTable-clause-rest : goal.after_canonical-returns-in_ok-checked_sub-in-FieldTable-clause-rest
+after_canonical-returns-in_ok-checked_sub-in-FieldTable-clause-rest t c =
+    let s = slice_bytes c.args.i in
+    let rest = slice_bytes c.in-Ok.rest in
+    let body = c.in-FieldTable.body in
+    let h = subst (λ (h : Head). IsHead s h rest) c.in-FieldTable.is c.in-Ok.ensures in
+    let less = c.in_ok-checked_sub-in-FieldTable.ensures in
+    let spelled = subst IsFirstSpelling c.as_slice.ensures (c.is_first_spelling.ensures.yes (search rules)) in
+    some_rest c.args.depth s c.in-Ok.rest c.are_canonical_pairs.result c.then_some-in-FieldTable.result c.then_some-in-FieldTable.ensures
+    (λ t. table_front c.args.depth s body rest h spelled less.0 (subst (λ (d : ℕ). CanonEntries d None (slice_bytes body)) less.1 (c.are_canonical_pairs.ensures.yes t)))
+
+pub after_canonical-returns-in_ok-checked_sub-in-FieldTable-clause-none : goal.after_canonical-returns-in_ok-checked_sub-in-FieldTable-clause-none
+after_canonical-returns-in_ok-checked_sub-in-FieldTable-clause-none t c =
+    let s = slice_bytes c.args.i in
+    let rest = slice_bytes c.in-Ok.rest in
+    let body = c.in-FieldTable.body in
+    let h = subst (λ (h : Head). IsHead s h rest) c.in-FieldTable.is c.in-Ok.ensures in
+    let less = c.in_ok-checked_sub-in-FieldTable.ensures in
+    no_rest c.args.depth s c.in-Ok.rest c.are_canonical_pairs.result c.then_some-in-FieldTable.result c.then_some-in-FieldTable.ensures
+    (λ f left x. c.are_canonical_pairs.ensures.no f (subst (λ (d : ℕ). CanonEntries d None (slice_bytes body)) (sym less.1) (table_inside c.args.depth s body rest left h x).1))
 
 -- ---- values
 
