@@ -6,3 +6,4 @@ pub mod Owning
 pub mod OneValue
 pub mod Skipping
 pub mod Places
+pub mod Canonicals

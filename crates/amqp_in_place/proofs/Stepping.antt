@@ -36,7 +36,7 @@ no_prop : IsProp ⊥
 no_prop x y = absurd x
 
 -- where reading finds something it isn't refused
-refusal_of_none : (Is : Reading → Type 0) → ((o : Reading) → Is o → ((v : Tree) (left : List ℕ) → o ≡ found v left → ⊥) → ⊥) → (e : Refusal) → Refuses Is ⊥ e → ⊥
+pub refusal_of_none : (Is : Reading → Type 0) → ((o : Reading) → Is o → ((v : Tree) (left : List ℕ) → o ≡ found v left → ⊥) → ⊥) → (e : Refusal) → Refuses Is ⊥ e → ⊥
 refusal_of_none Is f (Incomplete Unknown) x = x
 refusal_of_none Is f (Incomplete (Size n)) x = f (more n) x (λ v left e. cc)
 refusal_of_none Is f (Error MapOpt) x = f unknown x (λ v left e. cc)
@@ -47,7 +47,7 @@ refusal_of_none Is f (Error TooLarge) x = x
 refusal_of_none Is f (Failure k) x = x.1
 
 -- a value stands at the beginning of s, and `left` after it
-record AtFront (s : List ℕ) : Type 0 where
+pub record AtFront (s : List ℕ) : Type 0 where
   pub value_there : Tree
   pub bytes : List ℕ
   pub left : List ℕ
@@ -55,7 +55,7 @@ record AtFront (s : List ℕ) : Type 0 where
   pub front : s ≡ bytes ++ left
 
 -- so its head is read
-never_refused : (s : List ℕ) (e : Refusal) → AtFront s → HeadRefuses (AtAnyDepth s) e → ⊥
+pub never_refused : (s : List ℕ) (e : Refusal) → AtFront s → HeadRefuses (AtAnyDepth s) e → ⊥
 never_refused s e a x =
     let d = nesting a.bytes a.value_there a.is_wire in
     let here : OutcomeWithin d s (found a.value_there a.left) =

@@ -5,3 +5,4 @@ pub mod Walks
 pub mod Answers
 pub mod Left
 pub mod Places
+pub mod Canonicals

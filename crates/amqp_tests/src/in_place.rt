@@ -1,7 +1,8 @@
 //! Values where their bytes lie, by worked bytes.
 
 use amq_protocol_types::in_place::{
-    Limits, TableRef, ValueRef, read_in_place, read_in_place_unlimited, skip_value,
+    Limits, TableRef, ValueRef, canonical_len, is_canonical, read_in_place,
+    read_in_place_unlimited, skip_value,
 };
 use amq_protocol_types::parsing::{Err, ErrorKind, Needed, SliceInput, parse_value};
 use amq_protocol_types::{AMQPType, AMQPValue};
@@ -298,6 +299,65 @@ fn limits_are_kept(rt: HostRuntime) {
         ),
         Some(ErrorKind::Eof)
     );
+}
+
+/// The key `a` with true, and `b` with Void.
+const SORTED: &[u8] = b"F\0\0\0\x07\x01at\x01\x01bV";
+
+#[test]
+fn canonical_encodings_are_told(rt: HostRuntime) {
+    assert!(rt; is_canonical(SORTED, LIMITS));
+    // the empty key, a key that begins another, a longer key before one above it, and UTF-8
+    assert!(rt; is_canonical(b"F\0\0\0\x05\0V\x01aV", LIMITS));
+    assert!(rt; is_canonical(b"F\0\0\0\x07\x01aV\x02abV", LIMITS));
+    assert!(rt; is_canonical(b"F\0\0\0\x07\x02aaV\x01bV", LIMITS));
+    assert!(rt; is_canonical(b"F\0\0\0\x07\x01zV\x02\xc3\xa9V", LIMITS));
+    // a table in a table in an array
+    assert!(rt; is_canonical(b"A\0\0\0\x0cF\0\0\0\x07\x01aF\0\0\0\0", LIMITS));
+    assert!(rt; is_canonical(b"A\0\0\0\0", LIMITS));
+    // each type tag that is written, and a boolean's two bytes
+    for (bytes, _) in EACH {
+        assert_eq!(rt; is_canonical(bytes, LIMITS), !bytes.starts_with(b"L"));
+    }
+    assert!(rt; is_canonical(b"t\0", LIMITS));
+}
+
+#[test]
+fn other_encodings_are_not_canonical(rt: HostRuntime) {
+    // keys that fall, as in a broker's own x-death, and equal keys
+    assert!(rt; !is_canonical(X_DEATH, LIMITS));
+    assert!(rt; !is_canonical(b"F\0\0\0\x07\x01bV\x01at\x01", LIMITS));
+    assert!(rt; !is_canonical(b"F\0\0\0\x06\x01aV\x01aV", LIMITS));
+    assert!(rt; !is_canonical(b"F\0\0\0\x04\0V\0V", LIMITS));
+    // the third key is above the first alone
+    assert!(rt; !is_canonical(b"F\0\0\0\x09\x01aV\x01cV\x01bV", LIMITS));
+    // second spellings, and a boolean's byte
+    assert!(rt; !is_canonical(b"L\0\0\0\0\0\0\0\x02", LIMITS));
+    assert!(rt; !is_canonical(b"U\0\x02", LIMITS));
+    assert!(rt; !is_canonical(b"t\x02", LIMITS));
+    // the same, nested
+    assert!(rt; !is_canonical(b"A\0\0\0\x03Vt\x02", LIMITS));
+    assert!(rt; !is_canonical(b"F\0\0\0\x05\x01aU\0\x02", LIMITS));
+    assert!(rt; !is_canonical(b"A\0\0\0\x0bF\0\0\0\x06\x01bV\x01aV", LIMITS));
+    assert!(rt; !is_canonical(b"F\0\0\0\x0d\x01aF\0\0\0\x06\x01bV\x01aV", LIMITS));
+    // no value: cut, of an unknown type tag, a key that isn't UTF-8, and no byte
+    assert!(rt; !is_canonical(b"F\0\0\0\x07\x01at\x01\x01b", LIMITS));
+    assert!(rt; !is_canonical(b"A\0\0\0\x02Vz", LIMITS));
+    assert!(rt; !is_canonical(b"F\0\0\0\x03\x01\xffV", LIMITS));
+    assert!(rt; !is_canonical(&[], LIMITS));
+}
+
+#[test]
+fn a_canonical_encoding_has_a_length(rt: HostRuntime) {
+    assert_eq!(rt; canonical_len(SORTED, LIMITS), Some(12));
+    // bytes behind it, whatever they are
+    assert_eq!(rt; canonical_len(b"t\x01t\x02", LIMITS), Some(2));
+    assert!(rt; !is_canonical(b"t\x01t\x02", LIMITS));
+    assert_eq!(rt; canonical_len(b"t\x02t\x01", LIMITS), None);
+    // within limits
+    for (frame, depth, len) in [(12, 2, Some(12)), (11, 2, None), (12, 1, None)] {
+        assert_eq!(rt; canonical_len(NESTED, Limits { frame, depth }), len);
+    }
 }
 
 #[test]
