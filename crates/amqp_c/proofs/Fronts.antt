@@ -140,12 +140,14 @@ pub content_entry : (s mid body rest : List ℕ) (type : AMQPType) → IsType s 
     → (v : Tree) (left : List ℕ) → Outcome s (found v left) → IsEntry s e v × (left ≡ rest)
 content_entry s mid body rest type p f h e at size from count tag v left x =
     let c = content_front type mid body rest f h v left (raw_front s mid type p v left x) in
-    let w : Wire (take e.value.length s) v = found_wire s left v e.value.length x (omega (arith, ap length c.2)) in
-    (record {
-      encoding = subst (λ (t : List ℕ). Wire t v) (sym (part_front s e.value at)) w;
-      tag = tag ∙ ap id_of (sym c.1);
-      says = says_content s e body v (part_content s mid body rest p.0 e.content p.1 f.framed from count) c.0;
-    }, c.2)
+    let w : Wire (take e.value.length s) v = found_wire s left v e.value.length x (omega (arith, ap length c.2)) in (
+      record {
+        encoding = subst (λ (t : List ℕ). Wire t v) (sym (part_front s e.value at)) w;
+        tag = tag ∙ ap id_of (sym c.1);
+        says = says_content s e body v (part_content s mid body rest p.0 e.content p.1 f.framed from count) c.0;
+      },
+      c.2,
+    )
 
 -- ---- values of fixed width
 
@@ -191,9 +193,11 @@ scalar_entry s mid rest type u p h r y e at size none tag bits scale v left x =
     let after : left ≡ rest = cc in
     let raw = raw_front s mid type p v left x in
     let is = scalar_front type raw.0 v h r raw.1 in
-    let w : Wire (take e.value.length s) v = found_wire s left v e.value.length x (omega (arith, ap length after)) in
-    (record {
-      encoding = subst (λ (t : List ℕ). Wire t v) (sym (part_front s e.value at)) w;
-      tag = tag ∙ sym is.tag;
-      says = says_scalar s e is.it v is.is (bits ∙ ap bits_in one) (scale ∙ ap scale_in one) none;
-    }, after)
+    let w : Wire (take e.value.length s) v = found_wire s left v e.value.length x (omega (arith, ap length after)) in (
+      record {
+        encoding = subst (λ (t : List ℕ). Wire t v) (sym (part_front s e.value at)) w;
+        tag = tag ∙ sym is.tag;
+        says = says_scalar s e is.it v is.is (bits ∙ ap bits_in one) (scale ∙ ap scale_in one) none;
+      },
+      after,
+    )

@@ -1,3 +1,5 @@
 mod Numbers
 mod Parts
 mod Fronts
+mod Stepping
+mod Finding

@@ -1,6 +1,6 @@
 -- The bytes of spans.
-use Rattle.std.proofs.Common.{◌≡◌, ◌+◌, ◌-◌, ◌≤◌, ℕ, List, ◌∷◌, ◌++◌, length, take, drop, refl, sym, ap, ◌∙◌, arith}
-use Rattle.std.proofs.lemmas.List.{take_at, take-take, drop-drop, drop-take}
+use Rattle.std.proofs.Common.{◌≡◌, ◌+◌, ◌-◌, ◌≤◌, ℕ, List, ◌∷◌, ◌++◌, length, take, drop, refl, sym, ap, ◌∙◌, arith, length-drop}
+use Rattle.std.proofs.lemmas.List.{take_at, take-take, drop-drop, drop-take, length-take-le}
 use Rattle.amqp_grammar.specs.Grammar.{large}
 use Rattle.amqp_c.specs.declared.span.Span.{Span}
 use Rattle.amqp_c.specs.Spans.{part, moved, behind}
@@ -37,3 +37,7 @@ part_after s p q n at lies =
     ∙ (sym (ap (take (p.length - n)) (drop-drop n p.offset s))
     ∙ (sym (drop-take n (p.length - n) (drop p.offset s))
     ∙ sym (ap (λ (k : ℕ). drop n (take k (drop p.offset s))) here))))
+
+-- how many bytes a part has
+pub part_length : (s : List ℕ) (p : Span) → p.offset + p.length ≤ length s → length (part s p) ≡ p.length
+part_length s p lies = length-take-le p.length (drop p.offset s) (omega (arith, length-drop p.offset s))

@@ -152,7 +152,9 @@ fn front_of(bytes: &[u8], left: Span, key: Span) -> Option<Entry>
         → IsFrontIn bytes.now left key v rest result }
     ensures lies { IfSome result (λ e. Lies (length bytes.now) e × EndsIn left e) }
 {
-    let entry = first(left.of(bytes)?).ok()?;
+    let Ok(entry) = first(left.of(bytes)?) else {
+        return None;
+    };
     Some(Entry {
         key,
         value: entry.value.moved(left.offset),

@@ -59,12 +59,7 @@ pub extern "C" fn amqp_next(bytes: &[u8], cursor: &mut Cursor, entry: &mut Entry
 /// Gives the entry at a key of the table, of those that the cursor has left: of equal keys the
 /// last. It walks all of them.
 #[unsafe(no_mangle)]
-pub extern "C" fn amqp_find(
-    bytes: &[u8],
-    cursor: &Cursor,
-    key: &[u8],
-    entry: &mut Entry,
-) -> i32
+pub extern "C" fn amqp_find(bytes: &[u8], cursor: &Cursor, key: &[u8], entry: &mut Entry) -> i32
     ensures { Finds bytes.now cursor.now key.now entry.old result entry.new }
 {
     answer_found(cursor.find(bytes, key), entry)

@@ -52,7 +52,7 @@ returns-in_err-value-clause-told c = λ v rest x.
     absurd (never_faulty c.args.bytes.now rest v (fault_of c.in_err-value.field-0.0) x (right_fault (Outcome c.args.bytes.now) c.in_err-value.field-0.0 c.in_err-value.ensures))
 
 pub returns-clause-lies : goal.returns-clause-lies
-returns-clause-lies c = 
+returns-clause-lies c =
     let x = c.in_ok-value.ensures in
     let less = found_shorter c.args.bytes.now c.in_ok-value.rest.now x.0 x.2 in
     record { key = omega arith; value = omega arith; content = omega arith; some = omega arith }
