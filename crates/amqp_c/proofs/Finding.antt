@@ -1,5 +1,5 @@
 -- Looking a key up, entry by entry.
-use Rattle.std.proofs.Common.{◌≡◌, ℕ, Bool, true, false, cond, List, length, Option, Some, None, Result, Ok, refl, sym, ap, ◌∙◌, subst}
+use Rattle.std.proofs.Common.{◌≡◌, ℕ, Bool, true, false, cond, List, Option, Some, None, Result, Ok, refl, sym, ap, ◌∙◌, subst}
 use Rattle.std.specs.Option.{option_or}
 use Rattle.amqp_grammar.specs.Values.{Tree, Entries, no_entries, entry}
 use Rattle.amqp_grammar.specs.Maps.{same_bytes, last_at, value_at}

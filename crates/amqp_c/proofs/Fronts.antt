@@ -1,15 +1,16 @@
 -- The entry of the value at the front.
-use Rattle.std.proofs.Common.{◌≡◌, ◌+◌, ◌<◌, ℕ, zero, suc, Bool, true, false, Option, Some, None, List, ◌∷◌, ◌++◌, length, take, refl, sym, ap, ◌∙◌, subst, arith, length-append}
+use Rattle.std.proofs.Common.{◌≡◌, ◌+◌, ◌-◌, ◌<◌, ◌≤◌, ℕ, zero, suc, nat_lt, if◌then◌else◌, Bool, true, false, Option, Some, None, List, ◌∷◌, ◌++◌, length, take, drop, refl, sym, ap, ◌∙◌, subst, arith, length-append}
 use Rattle.std.specs.Int.{w32}
-use Rattle.std.proofs.lemmas.List.{take_at}
+use borrow.Author.Tests.{ltb-true}
+use Rattle.std.proofs.lemmas.List.{take_at, length-take-le, take-append-drop}
 use Rattle.amqp_types.specs.declared.amqp_type.AMQPType.{AMQPType}
 use Rattle.amqp_types.specs.declared.amqp_type.AMQPType.TheVariants as amqp
-use Rattle.amqp_types.specs.Ids.{kind, id_of}
+use Rattle.amqp_types.specs.Ids.{id_of}
 use Rattle.amqp_types.specs.Names.{read_as}
 use Rattle.amqp_grammar.specs.Values.{Tree, scalar, short, long, octets, array, table, no_entries, onto, scalar_type, Scalar}
 use Rattle.amqp_grammar.specs.Layouts.{Layout, fixed}
 use Rattle.amqp_grammar.specs.Grammar.{large, Wire, wire, Raw, raw_fixed, raw_short, raw_long, raw_octets, raw_array, raw_table, Body}
-use Rattle.amqp_grammar.specs.Outcomes.{Reading, found, more, unknown, malformed, lack, frame_lack, LacksOr, Outcome}
+use Rattle.amqp_grammar.specs.Outcomes.{Reading, found, more, unknown, malformed, lack, lack_of, frame_lack, fields_lack, length_field, LacksOr, Outcome}
 use Rattle.amqp_grammar.specs.Payloads.{type_of, RawFront, RawOutcome}
 use Rattle.amqp_grammar.proofs.GrammarLaws.{found_front, one_outcome, one_raw_reading, raw_to_value, value_to_raw, array_body, table_body}
 use Rattle.amqp_parsing.specs.declared.errors.Err.TheVariants.{Incomplete, Error, Failure}
@@ -19,12 +20,13 @@ use Rattle.amqp_parsing.specs.Refusals.{Refusal}
 use Rattle.amqp_parsing.specs.Typed.{IsType}
 use Rattle.amqp_parsing.specs.Bodies.{IsFrame, IsCutFrame}
 use Rattle.amqp_parsing.specs.Answers.{Refuses}
-use Rattle.amqp_parsing.proofs.ParsingLaws.{Refuses-weaker}
+use Rattle.amqp_parsing.specs.Headers.{extent_of, extent_at, extent}
+use Rattle.amqp_parsing.proofs.ParsingLaws.{wire_extent}
 use Rattle.amqp_in_place.specs.Bodies.{HasEntries}
 use Rattle.amqp_c.specs.declared.entry.Entry.{Entry}
 use Rattle.amqp_c.specs.declared.fault.Fault.{Fault}
 use Rattle.amqp_c.specs.declared.fault.Fault.TheVariants.{More, UnknownTag, Malformed, TooLarge, Invalid}
-use Rattle.amqp_c.specs.Answers.{fault_of, Faults}
+use Rattle.amqp_c.specs.Answers.{fault_of, HeaderFaults}
 use Rattle.amqp_c.specs.Entries.{Says, IsEntry}
 use Rattle.amqp_c.specs.Heads.{has_content}
 use Rattle.amqp_c.specs.Scalars.{bits_in, scale_in}
@@ -50,23 +52,12 @@ found_wire s rest v n x e =
 -- ---- faults
 
 -- where a value is found no fault is right
-pub never_faulty : (s rest : List ℕ) (v : Tree) (f : Fault) → Outcome s (found v rest) → Faults (Outcome s) f → ⊥
+pub never_faulty : (s rest : List ℕ) (v : Tree) (f : Fault) → Outcome s (found v rest) → HeaderFaults (Outcome s) f → ⊥
 never_faulty s rest v (More n) x y = let e = one_outcome s (found v rest) (more n) x y in cc
 never_faulty s rest v UnknownTag x y = let e = one_outcome s (found v rest) unknown x y in cc
-never_faulty s rest v Malformed x y = let e = one_outcome s (found v rest) malformed x y in cc
+never_faulty s rest v Malformed x y = y
 never_faulty s rest v TooLarge x y = y
 never_faulty s rest v Invalid x y = y
-
--- a right error is told as a right fault
-pub right_fault : (Is : Reading → Type 0) (e : Refusal) → Refuses Is ⊥ e → Faults Is (fault_of e)
-right_fault Is (Incomplete Unknown) x = absurd x
-right_fault Is (Incomplete (Size n)) x = x
-right_fault Is (Error kind.MapOpt) x = x
-right_fault Is (Error kind.Eof) x = x
-right_fault Is (Error kind.MapRes) x = absurd x
-right_fault Is (Error kind.OutOfMemory) x = absurd x
-right_fault Is (Error kind.TooLarge) x = absurd x
-right_fault Is (Failure k) x = absurd x.1
 
 -- ---- strings, byte arrays and containers
 
@@ -86,9 +77,32 @@ cut s mid type p h o x =
     by zero e = absurd (omega (arith, x.0))
     by (suc k) e = x.1 ∙ ap more (sym e)
 
-pub cut_fault : (s mid : List ℕ) (type : AMQPType) → IsType s type mid → has_content type ≡ true → (e : Refusal) → Refuses (IsCutFrame mid) ⊥ e → Faults (Outcome s) (fault_of e)
-cut_fault s mid type p h e x =
-    right_fault (Outcome s) e (Refuses-weaker (IsCutFrame mid) (Outcome s) ⊥ ⊥ e (cut s mid type p h) (λ y. y) x)
+pub cut_fault : (s mid : List ℕ) (type : AMQPType) → IsType s type mid → has_content type ≡ true → (e : Refusal) → Refuses (IsCutFrame mid) ⊥ e → HeaderFaults (Outcome s) (fault_of e)
+cut_fault s mid type p h (Incomplete Unknown) x = absurd x
+cut_fault s mid type p h (Incomplete (Size n)) x = cut s mid type p h (more n) x
+cut_fault s mid type p h (Error kind.MapOpt) x = let e = x.1 in absurd cc
+cut_fault s mid type p h (Error kind.Eof) x = let e = x.1 in absurd cc
+cut_fault s mid type p h (Error kind.MapRes) x = absurd x
+cut_fault s mid type p h (Error kind.OutOfMemory) x = absurd x
+cut_fault s mid type p h (Error kind.TooLarge) x = absurd x
+cut_fault s mid type p h (Failure k) x = absurd x.1
+
+-- a field that is read has the extent of a long string with the same bytes
+pub frame_extent : (s mid body rest : List ℕ) (type : AMQPType) → IsType s type mid → IsFrame mid body rest → has_content type ≡ true → extent s + length rest ≡ length s
+frame_extent s mid body rest type p f h =
+    let string = wire_extent (83 ∷ large body) rest (long body) (wire 83 amqp.LongString (large body) (long body) refl (raw_long body f.fits)) in
+    let here : extent s ≡ extent_at (Some type) mid = ap extent p.1 ∙ ap (λ (o : Option AMQPType). extent_at o mid) p.2 in
+    let kept : extent_at (Some type) mid ≡ suc (extent_of None w32 mid) = by type h in
+    let there : extent_of None w32 mid ≡ extent_of None w32 (large body ++ rest) = ap (extent_of None w32) f.framed in
+    let whole : suc (extent_of None w32 (large body ++ rest)) ≡ suc (length (large body)) = string in
+    omega (arith, here, kept, there, whole, ap length p.1, ap length f.framed, length-append (large body) rest)
+  where
+    by : (type : AMQPType) → has_content type ≡ true → extent_at (Some type) mid ≡ suc (extent_of None w32 mid)
+    by amqp.LongString h = refl
+    by amqp.ByteArray h = refl
+    by amqp.FieldArray h = refl
+    by amqp.FieldTable h = refl
+    by _ h = absurd cc
 
 -- the bytes behind the length are what v is
 abbrev ContentIs : List ℕ → Tree → Type 0
@@ -178,6 +192,51 @@ scalar_front _ _ _ h r (raw_long k fits) = absurd cc
 scalar_front _ _ _ h r (raw_octets k fits) = absurd cc
 scalar_front _ _ _ h r (raw_array body vs fits p) = absurd cc
 scalar_front _ _ _ h r (raw_table body ps fits p) = absurd cc
+
+-- so its payload is never malformed
+fixed_layout : (type : AMQPType) → has_content type ≡ false → read_as type ≡ Some type → (f : Layout) × (fixed type ≡ Some f)
+fixed_layout amqp.ShortString h r = absurd cc
+fixed_layout amqp.LongString h r = absurd cc
+fixed_layout amqp.ByteArray h r = absurd cc
+fixed_layout amqp.FieldArray h r = absurd cc
+fixed_layout amqp.FieldTable h r = absurd cc
+fixed_layout _ h r = (_, refl)
+
+fields_there : (f : Layout) (b : List ℕ) → fields_lack f b ≡ 0 → f.width ≤ length b
+fields_there f b none = by (nat_lt (length b) f.first) refl none
+  where
+    by : (t : Bool) → nat_lt (length b) f.first ≡ t → (if t then f.first - length b else f.width - length b) ≡ 0 → f.width ≤ length b
+    by true is z = absurd (omega (arith, ltb-true (length b) f.first is))
+    by false is z = omega arith
+
+never_malformed : (mid : List ℕ) (type : AMQPType) → has_content type ≡ false → read_as type ≡ Some type → RawOutcome type mid malformed → ⊥
+never_malformed mid type h r x = by (lack type mid) refl x
+  where
+    by : (k : ℕ) → lack type mid ≡ k → LacksOr k (RawFront type mid malformed) malformed → ⊥
+    by zero is f =
+        let row = fixed_layout type h r in
+        let there = fields_there row.0 mid (sym (ap (λ (o : Option Layout). lack_of o (length_field type) mid) row.1) ∙ is) in
+        let b = take row.0.width mid in
+        f b (drop row.0.width mid) (scalar (row.0.meaning b)) (raw_fixed type row.0 b row.1 (length-take-le row.0.width mid there)) (sym (take-append-drop row.0.width mid))
+    by (suc k) is e = cc
+
+pub scalar_fault : (s mid : List ℕ) (type : AMQPType) → IsType s type mid → has_content type ≡ false → read_as type ≡ Some type → (e : Refusal) → Refuses (Outcome s) ⊥ e
+    → HeaderFaults (Outcome s) (fault_of e)
+scalar_fault s mid type p h r (Incomplete Unknown) x = absurd x
+scalar_fault s mid type p h r (Incomplete (Size n)) x = x
+scalar_fault s mid type p h r (Error kind.MapOpt) x = x
+scalar_fault s mid type p h r (Error kind.Eof) x =
+    absurd (never_malformed mid type h r (value_to_raw p.0 type mid malformed p.2 (subst (λ (t : List ℕ). Outcome t malformed) p.1 x)))
+scalar_fault s mid type p h r (Error kind.MapRes) x = absurd x
+scalar_fault s mid type p h r (Error kind.OutOfMemory) x = absurd x
+scalar_fault s mid type p h r (Error kind.TooLarge) x = absurd x
+scalar_fault s mid type p h r (Failure k) x = absurd x.1
+
+-- a value that is found has the extent that its header tells
+pub found_extent : (s rest : List ℕ) (v : Tree) → Outcome s (found v rest) → extent s + length rest ≡ length s
+found_extent s rest v x =
+    let f = found_front s rest v x in
+    omega (arith, ap extent f.2, wire_extent f.0 rest v f.1, ap length f.2, length-append f.0 rest)
 
 says_scalar : (s : List ℕ) (e : Entry) (x : Scalar) (v : Tree) → v ≡ scalar x → e.bits ≡ bits_in v → e.scale ≡ scale_in v → e.content.length ≡ 0 → Says s e v
 says_scalar s e x v is bits scale none =

@@ -1,6 +1,6 @@
 -- Numbers with a sign, and their bits.
-use Rattle.std.proofs.Common.{◌≡◌, ℕ, ℤ, ap}
-use Rattle.std.specs.Int.{Width, w64, cast_signed, cast_unsigned}
+use Rattle.std.proofs.Common.{◌≡◌, ℤ}
+use Rattle.std.specs.Int.{Width, cast_signed, cast_unsigned}
 use Rattle.std.specs.Int.RustNames.{FitsSigned}
 use Rattle.std.proofs.lemmas.Int.{to_z-of_z}
 

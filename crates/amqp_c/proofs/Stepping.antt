@@ -9,7 +9,7 @@ use Rattle.amqp_in_place.specs.Bodies.{HasEntries}
 use Rattle.amqp_c.specs.declared.entry.Entry.{Entry}
 use Rattle.amqp_c.specs.declared.span.Span.{Span}
 use Rattle.amqp_c.specs.Answers.{GivesFirst}
-use Rattle.amqp_c.specs.Entries.{Says, IsEntry, Lies}
+use Rattle.amqp_c.specs.Entries.{Says, Lies}
 use Rattle.amqp_c.specs.Spans.{part, moved, behind, LiesIn}
 use Rattle.amqp_c.specs.Steps.{IsFrontIn, IsValueIn, IsPairIn}
 use Rattle.amqp_c.proofs.Parts.{part_within, part_after, part_length}

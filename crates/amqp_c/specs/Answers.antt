@@ -1,7 +1,7 @@
 -- What the calls answer.
-use Rattle.std.specs.Prelude.{ℕ, ◌≡◌, ◌+◌, ◌<◌, ◌≤◌, ℤ, pos, negsuc, List, length, Option, Some, None, Result, Ok, Err, MatchResult}
+use Rattle.std.specs.Prelude.{ℕ, ◌≡◌, ◌+◌, ◌<◌, ◌≤◌, ℤ, pos, negsuc, List, length, Option, Some, None, Result, Ok, Err}
 use Rattle.amqp_grammar.specs.Values.{Tree}
-use Rattle.amqp_grammar.specs.Outcomes.{Reading, Outcome, found, more, unknown, malformed}
+use Rattle.amqp_grammar.specs.Outcomes.{Reading, found, more, unknown, malformed}
 use Rattle.amqp_grammar.specs.Nesting.{OutcomeWithin}
 use Rattle.amqp_parsing.specs.declared.errors.Err.TheVariants.{Incomplete, Error, Failure}
 use Rattle.amqp_parsing.specs.declared.errors.Needed.TheVariants.{Unknown, Size}
@@ -14,7 +14,7 @@ use Rattle.amqp_c.specs.declared.cursor.Cursor.{Cursor}
 use Rattle.amqp_c.specs.declared.entry.Entry.{Entry}
 use Rattle.amqp_c.specs.declared.fault.Fault.{Fault}
 use Rattle.amqp_c.specs.declared.fault.Fault.TheVariants.{More, UnknownTag, Malformed, TooLarge, Invalid}
-use Rattle.amqp_c.specs.Entries.{IsEntry, Lies}
+use Rattle.amqp_c.specs.Entries.{IsEntry}
 
 -- what a parser's error is told as
 abbrev pub fault_of : Refusal → Fault
@@ -39,6 +39,12 @@ Faults Is (More n) = Is (more n)
 Faults Is UnknownTag = Is unknown
 Faults Is Malformed = Is malformed
 Faults Is _ = ⊥
+
+-- a fault of the type tag and the length is right: more bytes are needed, or the tag is unknown
+abbrev pub HeaderFaults : (Reading → Type 0) → Fault → Type 0
+HeaderFaults Is (More n) = Is (more n)
+HeaderFaults Is UnknownTag = Is unknown
+HeaderFaults Is _ = ⊥
 
 -- and within limits
 abbrev pub FaultsWithin : Limits → List ℕ → Fault → Type 0

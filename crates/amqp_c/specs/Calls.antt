@@ -1,18 +1,19 @@
 -- What each call from C answers and leaves behind its pointers.
-use Rattle.std.specs.Prelude.{ℕ, ◌≡◌, ◌+◌, ◌<◌, ◌≤◌, ℤ, List, length, Option, Result, Ok, Err, IfOk, IfErr, IfSome, MatchResult}
+use Rattle.std.specs.Prelude.{ℕ, ◌≡◌, ℤ, List, length, Option, Result, IfOk, IfErr, IfSome, MatchResult}
 use Rattle.amqp_grammar.specs.Values.{Tree, Trees, Entries}
 use Rattle.amqp_grammar.specs.Maps.{value_at}
 use Rattle.amqp_grammar.specs.Grammar.{Body, Pairs}
 use Rattle.amqp_grammar.specs.Outcomes.{Outcome, found}
 use Rattle.amqp_in_place.specs.Bodies.{HasEntries}
 use Rattle.amqp_parsing.specs.declared.limits.Limits.{Limits}
+use Rattle.amqp_parsing.specs.Headers.{extent}
 use Rattle.amqp_c.specs.declared.cursor.Cursor.{Cursor}
 use Rattle.amqp_c.specs.declared.entry.Entry.{Entry}
 use Rattle.amqp_c.specs.declared.fault.Fault.{Fault}
 use Rattle.amqp_c.specs.Spans.{part, LiesIn}
 use Rattle.amqp_c.specs.Entries.{Lies}
 use Rattle.amqp_c.specs.Steps.{array_tag, table_tag, contents, IsOfContainer, IsOfTable, StepsIn, RefusedBy, GivesValue, GivesPair, GivesFound}
-use Rattle.amqp_c.specs.Answers.{IsTaken, Faults, FaultsWithin, GivesFirst, answer_of, answer_if_any, count_of, given_or, found_or, entry_or, cursor_or}
+use Rattle.amqp_c.specs.Answers.{IsTaken, HeaderFaults, FaultsWithin, GivesFirst, answer_of, answer_if_any, count_of, given_or, found_or, entry_or, cursor_or}
 
 -- the limits of these numbers
 abbrev pub limits : ℕ → ℕ → Limits
@@ -32,8 +33,9 @@ pub record Firsts (s : List ℕ) (old : Entry) (answer : ℤ) (new : Entry) : Ty
   pub answered : answer ≡ answer_of done
   pub entry : new ≡ given_or old done
   pub told : (v : Tree) (rest : List ℕ) → Outcome s (found v rest) → GivesFirst s v rest done
+  pub extent : IfOk done (λ e. (e.value.offset ≡ 0) × (e.value.length ≡ extent s))
   pub lies : IfOk done (Lies (length s))
-  pub refused : IfErr done (Faults (Outcome s))
+  pub refused : IfErr done (HeaderFaults (Outcome s))
 
 -- a container is entered exactly where the entry is of one, and its contents lie in s
 pub record Enters (s : List ℕ) (e : Entry) (old : Cursor) (answer : ℤ) (new : Cursor) : Type 0 where

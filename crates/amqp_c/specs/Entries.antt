@@ -1,5 +1,5 @@
 -- What an entry tells of the bytes that it was read from.
-use Rattle.std.specs.Prelude.{ℕ, ◌≡◌, ◌+◌, ◌<◌, ◌≤◌, List, length, Result, Ok, Err}
+use Rattle.std.specs.Prelude.{ℕ, ◌≡◌, ◌<◌, List}
 use Rattle.amqp_types.specs.Ids.{id_of}
 use Rattle.amqp_grammar.specs.Values.{Tree, scalar, short, long, octets, array, table}
 use Rattle.amqp_grammar.specs.Grammar.{Wire, Body}

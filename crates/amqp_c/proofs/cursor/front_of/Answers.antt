@@ -2,7 +2,6 @@ use Rattle.std.proofs.Common.{List, ℕ, length, Ok, subst, sym}
 use Rattle.amqp_grammar.specs.Outcomes.{Outcome, found}
 use Rattle.amqp_c.specs.Answers.{GivesFirst}
 use Rattle.amqp_c.specs.Entries.{Lies}
-use Rattle.amqp_c.specs.Spans.{part}
 use Rattle.amqp_c.proofs.Stepping.{front_given}
 use Rattle.amqp_c.proofs.cursor.front_of.Goals as goal
 

@@ -1,14 +1,11 @@
 use Rattle.std.proofs.Common.{◌≡◌, ◌+◌, ◌-◌, ℕ, List, length, refl, sym, ap, ◌∙◌, subst, arith, length-append}
 use Rattle.std.proofs.lemmas.Result.{err_from_is_err_and}
 use Rattle.amqp_input.specs.Inputs.{slice_bytes}
-use Rattle.amqp_grammar.specs.Values.{Tree}
-use Rattle.amqp_grammar.specs.Outcomes.{Outcome, found}
-use Rattle.amqp_parsing.specs.Answers.{Refuses}
 use Rattle.amqp_parsing.specs.Typed.{IsType}
 use Rattle.amqp_grammar.specs.Grammar.{large}
-use Rattle.amqp_c.specs.Answers.{Faults, fault_of}
+use Rattle.amqp_c.specs.Answers.{fault_of}
 use Rattle.amqp_c.specs.declared.entry.Entry.{Entry}
-use Rattle.amqp_c.proofs.Fronts.{never_faulty, right_fault, cut_fault, content_entry, scalar_entry, found_shorter}
+use Rattle.amqp_c.proofs.Fronts.{never_faulty, cut_fault, scalar_fault, frame_extent, found_extent, content_entry, scalar_entry, found_shorter}
 use Rattle.amqp_c.proofs.entry.first.Goals as goal
 
 pub returns-in_err-rest-clause-refused : goal.returns-in_err-rest-clause-refused
@@ -49,7 +46,34 @@ returns-then-has_content-clause-told c = λ v left x.
 
 pub returns-in_err-value-clause-told : goal.returns-in_err-value-clause-told
 returns-in_err-value-clause-told c = λ v rest x.
-    absurd (never_faulty c.args.bytes.now rest v (fault_of c.in_err-value.field-0.0) x (right_fault (Outcome c.args.bytes.now) c.in_err-value.field-0.0 c.in_err-value.ensures))
+    let s = c.args.bytes.now in
+    let mid = slice_bytes c.in_ok-payload.payload in
+    let p = subst (λ (t : List ℕ). IsType t c.in_ok-payload.amqp_type mid) c.new.ensures c.in_ok-payload.ensures.id in
+    absurd (never_faulty s rest v (fault_of c.in_err-value.field-0.0) x
+    (scalar_fault s mid c.in_ok-payload.amqp_type p (sym c.has_content.ensures ∙ c.if-has_content.false) c.in_ok-payload.ensures.read_back c.in_err-value.field-0.0 c.in_err-value.ensures))
+
+pub returns-in_err-value-clause-refused : goal.returns-in_err-value-clause-refused
+returns-in_err-value-clause-refused c =
+    let s = c.args.bytes.now in
+    let mid = slice_bytes c.in_ok-payload.payload in
+    let p = subst (λ (t : List ℕ). IsType t c.in_ok-payload.amqp_type mid) c.new.ensures c.in_ok-payload.ensures.id in
+    let r = err_from_is_err_and c.from_residual-in_err-value.result c.from_residual-in_err-value.ensures.1 in
+    rw (r.1, r.2)
+    (scalar_fault s mid c.in_ok-payload.amqp_type p (sym c.has_content.ensures ∙ c.if-has_content.false) c.in_ok-payload.ensures.read_back c.in_err-value.field-0.0 c.in_err-value.ensures)
+
+pub returns-then-has_content-clause-extent : goal.returns-then-has_content-clause-extent
+returns-then-has_content-clause-extent c =
+    let s = c.args.bytes.now in
+    let mid = slice_bytes c.in_ok-payload.payload in
+    let p = subst (λ (t : List ℕ). IsType t c.in_ok-payload.amqp_type mid) c.new.ensures c.in_ok-payload.ensures.id in
+    let e = frame_extent s mid (slice_bytes c.in_ok-rest.body) (slice_bytes c.in_ok-rest.rest) c.in_ok-payload.amqp_type p c.in_ok-rest.ensures (sym c.has_content.ensures ∙ c.if-has_content.true) in
+    (refl, omega (arith, c.input_len.ensures.count))
+
+pub returns-clause-extent : goal.returns-clause-extent
+returns-clause-extent c =
+    let x = c.in_ok-value.ensures in
+    let e = found_extent c.args.bytes.now c.in_ok-value.rest.now x.0 x.2 in
+    (refl, omega arith)
 
 pub returns-clause-lies : goal.returns-clause-lies
 returns-clause-lies c =

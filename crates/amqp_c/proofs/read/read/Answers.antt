@@ -1,4 +1,4 @@
-use Rattle.std.proofs.Common.{◌≡◌, ◌+◌, ◌-◌, length, ap, arith, length-append}
+use Rattle.std.proofs.Common.{length, ap, arith, length-append}
 use Rattle.amqp_grammar.proofs.GrammarLaws.{front_within}
 use Rattle.amqp_c.proofs.read.read.Goals as goal
 

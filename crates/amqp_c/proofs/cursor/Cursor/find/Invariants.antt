@@ -1,4 +1,4 @@
-use Rattle.std.proofs.Common.{◌≡◌, ◌↔◌, ℕ, length}
+use Rattle.std.proofs.Common.{◌≡◌, ◌↔◌, length}
 use Rattle.std.specs.Option.{IfSome}
 use Rattle.amqp_c.specs.Entries.{Lies}
 use Rattle.amqp_c.specs.Spans.{part, LiesIn}
