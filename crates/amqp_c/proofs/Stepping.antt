@@ -46,13 +46,13 @@ front_given s p key e in_s in_part v rest x (is, at, whole) =
     )
 
 -- the first of some values
-pub value_given : (s : List ℕ) (p key : Span) (r : Option Entry) → LiesIn (length s) p → 0 < p.length
+pub value_given : (s : List ℕ) (p key : Span) (r : Option Entry) → LiesIn (length s) p → 0 < p.length → key.length ≡ 0
     → ((v : Tree) (rest : List ℕ) → Outcome (part s p) (found v rest) → IsFrontIn s p key v rest r) → (vs : Trees) → Body (part s p) vs → IsValueIn s p vs r
-value_given s p key r in_s some f vs all = by (part s p) vs (omega (arith, part_length s p in_s)) f all
+value_given s p key r in_s some none f vs all = by (part s p) vs (omega (arith, part_length s p in_s)) f all
   where
     step : (v : Tree) (rest : List ℕ) (vs : Trees) (r : Option Entry) → Body rest vs → IsFrontIn s p key v rest r → IsValueIn s p (Trees.tree v vs) r
     step v rest vs None all x = x
-    step v rest vs (Some e) all x = (x.0, subst (λ (t : List ℕ). Body t vs) (sym x.2) all)
+    step v rest vs (Some e) all x = (ap (λ (k : Span). k.length) x.1 ∙ none, x.0, subst (λ (t : List ℕ). Body t vs) (sym x.2) all)
 
     by : (t : List ℕ) (vs : Trees) → 0 < length t → ((v : Tree) (rest : List ℕ) → Outcome t (found v rest) → IsFrontIn s p key v rest r) → Body t vs → IsValueIn s p vs r
     by _ _ some f no_values = absurd (omega arith)

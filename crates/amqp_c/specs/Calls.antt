@@ -6,12 +6,11 @@ use Rattle.amqp_grammar.specs.Grammar.{Body, Pairs}
 use Rattle.amqp_grammar.specs.Outcomes.{Outcome, found}
 use Rattle.amqp_in_place.specs.Bodies.{HasEntries}
 use Rattle.amqp_parsing.specs.declared.limits.Limits.{Limits}
-use Rattle.amqp_parsing.specs.Headers.{extent}
 use Rattle.amqp_c.specs.declared.cursor.Cursor.{Cursor}
 use Rattle.amqp_c.specs.declared.entry.Entry.{Entry}
 use Rattle.amqp_c.specs.declared.fault.Fault.{Fault}
 use Rattle.amqp_c.specs.Spans.{part, LiesIn}
-use Rattle.amqp_c.specs.Entries.{Lies}
+use Rattle.amqp_c.specs.Entries.{IsAtFront, Lies}
 use Rattle.amqp_c.specs.Steps.{array_tag, table_tag, contents, IsOfContainer, IsOfTable, StepsIn, RefusedBy, GivesValue, GivesPair, GivesFound}
 use Rattle.amqp_c.specs.Answers.{IsTaken, HeaderFaults, FaultsWithin, GivesFirst, answer_of, answer_if_any, count_of, given_or, found_or, entry_or, cursor_or}
 
@@ -33,7 +32,7 @@ pub record Firsts (s : List ℕ) (old : Entry) (answer : ℤ) (new : Entry) : Ty
   pub answered : answer ≡ answer_of done
   pub entry : new ≡ given_or old done
   pub told : (v : Tree) (rest : List ℕ) → Outcome s (found v rest) → GivesFirst s v rest done
-  pub extent : IfOk done (λ e. (e.value.offset ≡ 0) × (e.value.length ≡ extent s))
+  pub front : IfOk done (IsAtFront s)
   pub lies : IfOk done (Lies (length s))
   pub refused : IfErr done (HeaderFaults (Outcome s))
 

@@ -4,6 +4,7 @@ use Rattle.amqp_types.specs.Ids.{id_of}
 use Rattle.amqp_grammar.specs.Values.{Tree, scalar, short, long, octets, array, table}
 use Rattle.amqp_grammar.specs.Grammar.{Wire, Body}
 use Rattle.amqp_grammar.specs.Payloads.{type_of}
+use Rattle.amqp_parsing.specs.Headers.{extent}
 use Rattle.amqp_in_place.specs.Bodies.{HasEntries}
 use Rattle.amqp_c.specs.declared.entry.Entry.{Entry}
 use Rattle.amqp_c.specs.Scalars.{scalar_bits, scalar_scale}
@@ -25,6 +26,11 @@ pub record IsEntry (s : List ℕ) (e : Entry) (v : Tree) : Type 0 where
   pub encoding : Wire (part s e.value) v
   pub tag : e.tag ≡ id_of (type_of v)
   pub says : Says s e v
+
+-- the entry has no key, and its value begins at the front of s and reaches as far as its type tag
+-- and its length tell
+abbrev pub IsAtFront : List ℕ → Entry → Type 0
+IsAtFront s e = (e.key.length ≡ 0) × (e.value.offset ≡ 0) × (e.value.length ≡ extent s)
 
 -- what the entry names lies in n bytes, and its value has at least one
 pub record Lies (n : ℕ) (e : Entry) : Type 0 where

@@ -47,10 +47,10 @@ RefusedBy valid bad Invalid = valid → ⊥
 RefusedBy valid bad Malformed = bad
 RefusedBy valid bad _ = ⊥
 
--- a step gives the first of the values, and leaves the others
+-- a step gives the first of the values, with no key, and leaves the others
 abbrev pub GivesValue : List ℕ → Trees → Result (Option (Entry × Cursor)) Fault → Type 0
 GivesValue s no_trees (Ok None) = Unit {0}
-GivesValue s (tree v vs) (Ok (Some x)) = IsEntry s x.0 v × Body (part s x.1.left) vs
+GivesValue s (tree v vs) (Ok (Some x)) = (x.0.key.length ≡ 0) × IsEntry s x.0 v × Body (part s x.1.left) vs
 GivesValue s _ _ = ⊥
 
 -- a step gives the first of the pairs, and leaves the others
@@ -76,9 +76,9 @@ abbrev pub IsFrontIn : List ℕ → Span → Span → Tree → List ℕ → Opti
 IsFrontIn s p key v rest None = ⊥
 IsFrontIn s p key v rest (Some e) = IsEntry s e v × (e.key ≡ key) × (part s (behind p e.value) ≡ rest)
 
--- the entry of the first value is given, and the others are behind it in the span
+-- the entry of the first value is given, with no key, and the others are behind it in the span
 abbrev pub IsValueIn : List ℕ → Span → Trees → Option Entry → Type 0
-IsValueIn s p (tree v vs) (Some e) = IsEntry s e v × Body (part s (behind p e.value)) vs
+IsValueIn s p (tree v vs) (Some e) = (e.key.length ≡ 0) × IsEntry s e v × Body (part s (behind p e.value)) vs
 IsValueIn s p _ _ = ⊥
 
 -- the entry of the first pair is given, and the others are behind it in the span

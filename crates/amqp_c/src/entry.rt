@@ -3,10 +3,9 @@
 ghost use Rattle.std.specs.Prelude.{◌≡◌, ◌+◌, ◌<◌, ℕ, List, length, IfErr, IfOk};
 ghost use Rattle.amqp_grammar.specs.Values.{Tree};
 ghost use Rattle.amqp_grammar.specs.Outcomes.{Outcome, found};
-ghost use Rattle.amqp_parsing.specs.Headers.{extent};
 ghost use Rattle.amqp_in_place.specs.Refs.{Stands};
 ghost use Rattle.amqp_c.specs.Scalars.{bits_in, scale_in};
-ghost use Rattle.amqp_c.specs.Entries.{Lies};
+ghost use Rattle.amqp_c.specs.Entries.{IsAtFront, Lies};
 ghost use Rattle.amqp_c.specs.Answers.{GivesFirst, HeaderFaults};
 ghost use Rattle.amqp_c.specs.Heads.{has_content};
 
@@ -45,7 +44,7 @@ const NOWHERE: Span = Span {
 pub fn first(bytes: &[u8]) -> Result<Entry, Fault>
     ensures told { (v : Tree) (rest : List ℕ) → Outcome bytes.now (found v rest) → GivesFirst bytes.now v rest result }
     ensures lies { IfOk result (λ e. Lies (length bytes.now) e) }
-    ensures extent { IfOk result (λ e. (e.value.offset ≡ 0) × (e.value.length ≡ extent bytes.now)) }
+    ensures front { IfOk result (IsAtFront bytes.now) }
     ensures refused { IfErr result (HeaderFaults (Outcome bytes.now)) }
 {
     let (payload, amqp_type) = parse_type(SliceInput::new(bytes))?;

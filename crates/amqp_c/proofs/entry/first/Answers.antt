@@ -61,19 +61,19 @@ returns-in_err-value-clause-refused c =
     rw (r.1, r.2)
     (scalar_fault s mid c.in_ok-payload.amqp_type p (sym c.has_content.ensures ∙ c.if-has_content.false) c.in_ok-payload.ensures.read_back c.in_err-value.field-0.0 c.in_err-value.ensures)
 
-pub returns-then-has_content-clause-extent : goal.returns-then-has_content-clause-extent
-returns-then-has_content-clause-extent c =
+pub returns-then-has_content-clause-front : goal.returns-then-has_content-clause-front
+returns-then-has_content-clause-front c =
     let s = c.args.bytes.now in
     let mid = slice_bytes c.in_ok-payload.payload in
     let p = subst (λ (t : List ℕ). IsType t c.in_ok-payload.amqp_type mid) c.new.ensures c.in_ok-payload.ensures.id in
     let e = frame_extent s mid (slice_bytes c.in_ok-rest.body) (slice_bytes c.in_ok-rest.rest) c.in_ok-payload.amqp_type p c.in_ok-rest.ensures (sym c.has_content.ensures ∙ c.if-has_content.true) in
-    (refl, omega (arith, c.input_len.ensures.count))
+    (refl, refl, omega (arith, c.input_len.ensures.count))
 
-pub returns-clause-extent : goal.returns-clause-extent
-returns-clause-extent c =
+pub returns-clause-front : goal.returns-clause-front
+returns-clause-front c =
     let x = c.in_ok-value.ensures in
     let e = found_extent c.args.bytes.now c.in_ok-value.rest.now x.0 x.2 in
-    (refl, omega arith)
+    (refl, refl, omega arith)
 
 pub returns-clause-lies : goal.returns-clause-lies
 returns-clause-lies c =
