@@ -1,0 +1,246 @@
+/*
+ * Tries the calls of include/amqp.h with cursors and entries that were spoilt.
+ *
+ * The bytes lie against a page that can't be touched, once with their end and once with their
+ * front, so a byte that is read outside of them ends the program. Of each answer it checks what the
+ * header says: what goes out lies in the bytes, a step goes on, what isn't AMQP_OK leaves the entry
+ * and the cursor as they were, and nothing beside the structs is written.
+ *
+ * It tries every cursor of small numbers over small inputs, each prefix of them and each change of
+ * one byte to one of some, and then random cursors over random bytes. It prints how many calls it made.
+ */
+#define _DEFAULT_SOURCE
+#include "amqp.h"
+
+#include <inttypes.h>
+#include <stdio.h>
+#include <stdlib.h>
+#include <string.h>
+#include <sys/mman.h>
+#include <unistd.h>
+
+#define CHECK(condition)                                                      \
+    do {                                                                      \
+        if (!(condition)) {                                                   \
+            fprintf(stderr, "line %d: not so: %s\n", __LINE__, #condition);   \
+            abort();                                                          \
+        }                                                                     \
+    } while (0)
+
+static uint8_t *page;
+static size_t page_size;
+static uint64_t calls;
+
+static int lies(amqp_span span, size_t length) {
+    return span.offset <= length && span.length <= length - span.offset;
+}
+
+static void check_entry(const amqp_entry *entry, size_t length) {
+    CHECK(lies(entry->key, length));
+    CHECK(lies(entry->value, length));
+    CHECK(lies(entry->content, length));
+    CHECK(entry->value.length > 0);
+    CHECK(memchr("tbBsuIilfdDSxAFTV", entry->tag, 17) != NULL);
+}
+
+/* An entry and a cursor between bytes that no call may write. */
+typedef struct held {
+    uint64_t before;
+    amqp_entry entry;
+    uint64_t between;
+    amqp_cursor cursor;
+    uint64_t behind;
+} held;
+
+static held fresh(amqp_cursor cursor) {
+    held it;
+    memset(&it, 0x5a, sizeof it);
+    it.cursor = cursor;
+    return it;
+}
+
+static void check_rest(const held *new, const held *old, int32_t answer) {
+    CHECK(new->before == old->before && new->between == old->between && new->behind == old->behind);
+    if (answer != AMQP_OK) {
+        CHECK(memcmp(&new->entry, &old->entry, sizeof old->entry) == 0);
+        CHECK(memcmp(&new->cursor, &old->cursor, sizeof old->cursor) == 0);
+    }
+}
+
+/* Steps to the end by the cursor, and looks keys up. */
+static void walk(const uint8_t *bytes, size_t length, amqp_cursor cursor) {
+    int is_valid = lies(cursor.left, length) && (cursor.tag == AMQP_ARRAY || cursor.tag == AMQP_TABLE);
+    held it = fresh(cursor);
+    for (size_t steps = 0;; steps++) {
+        held old = it;
+        int32_t answer = amqp_next(bytes, length, &it.cursor, &it.entry);
+        calls++;
+        check_rest(&it, &old, answer);
+        CHECK(is_valid == (answer != AMQP_INVALID));
+        if (answer != AMQP_OK) {
+            CHECK(answer == AMQP_INVALID || answer == AMQP_MALFORMED || (answer == AMQP_NONE && it.cursor.left.length == 0));
+            break;
+        }
+        check_entry(&it.entry, length);
+        CHECK(steps < length && it.cursor.tag == old.cursor.tag && it.cursor.left.length < old.cursor.left.length);
+        CHECK(it.cursor.left.offset + it.cursor.left.length == old.cursor.left.offset + old.cursor.left.length);
+        CHECK(it.entry.value.offset + it.entry.value.length == it.cursor.left.offset);
+
+        held in = fresh(cursor);
+        held was = in;
+        answer = amqp_enter(bytes, length, &it.entry, &in.cursor);
+        calls++;
+        check_rest(&in, &was, answer);
+        CHECK((answer == AMQP_OK) == (it.entry.tag == AMQP_ARRAY || it.entry.tag == AMQP_TABLE));
+    }
+    for (size_t n = 0; n < 2; n++) {
+        held old = it = fresh(cursor);
+        int32_t answer = amqp_find(bytes, length, &it.cursor, (const uint8_t *)"a", n, &it.entry);
+        calls++;
+        check_rest(&it, &old, answer);
+        CHECK(memcmp(&it.cursor, &old.cursor, sizeof it.cursor) == 0);
+        CHECK((answer == AMQP_INVALID) == !(is_valid && cursor.tag == AMQP_TABLE));
+        if (answer == AMQP_OK) {
+            check_entry(&it.entry, length);
+            CHECK(it.entry.key.length == n && memcmp(bytes + it.entry.key.offset, "a", n) == 0);
+        }
+    }
+}
+
+/* Reads the value, and enters what a spoilt entry tells. */
+static void front(const uint8_t *bytes, size_t length, amqp_cursor cursor) {
+    size_t count = 77;
+    int32_t answer = amqp_read(bytes, length, 64, 3, &count);
+    calls++;
+    CHECK(answer != AMQP_OK || (0 < count && count <= length));
+    CHECK(answer != AMQP_MORE || count > 0);
+    CHECK(answer == AMQP_OK || answer == AMQP_MORE || count == 0);
+
+    held it = fresh(cursor);
+    held old = it;
+    int32_t first = amqp_first(bytes, length, &it.entry);
+    calls++;
+    check_rest(&it, &old, first);
+    CHECK(answer != AMQP_OK || first == AMQP_OK);
+    if (first == AMQP_OK) {
+        check_entry(&it.entry, length);
+        CHECK(it.entry.value.offset == 0 && (answer != AMQP_OK || it.entry.value.length == count));
+    } else {
+        CHECK(first == AMQP_MORE || first == AMQP_UNKNOWN_TAG);
+    }
+
+    amqp_entry spoilt = it.entry;
+    spoilt.content = cursor.left;
+    spoilt.tag = cursor.tag;
+    old = it;
+    answer = amqp_enter(bytes, length, &spoilt, &it.cursor);
+    calls++;
+    CHECK(it.before == old.before && it.between == old.between && it.behind == old.behind);
+    CHECK((answer == AMQP_OK) == (lies(cursor.left, length) && (cursor.tag == AMQP_ARRAY || cursor.tag == AMQP_TABLE)));
+}
+
+static const size_t far[] = {
+    SIZE_MAX, SIZE_MAX - 1, SIZE_MAX / 2, SIZE_MAX / 2 + 1, (size_t)1 << 32, ((size_t)1 << 32) - 1,
+};
+static const uint8_t tags[] = {AMQP_TABLE, AMQP_ARRAY, AMQP_LONG_STRING, 0, 255};
+
+static size_t number(size_t i, size_t length) {
+    return i <= length + 2 ? i : far[i - length - 3];
+}
+
+/* Tries every cursor of small numbers, and of some large ones. */
+static void all_cursors(const uint8_t *bytes, size_t length) {
+    size_t numbers = length + 3 + sizeof far / sizeof *far;
+    for (size_t t = 0; t < sizeof tags; t++) {
+        for (size_t i = 0; i < numbers; i++) {
+            for (size_t j = 0; j < numbers; j++) {
+                amqp_cursor cursor;
+                memset(&cursor, 0, sizeof cursor);
+                cursor.left.offset = number(i, length);
+                cursor.left.length = number(j, length);
+                cursor.tag = tags[t];
+                walk(bytes, length, cursor);
+                front(bytes, length, cursor);
+            }
+        }
+    }
+}
+
+/* Puts the bytes against the page's end, then against its front. */
+static void at_both_ends(const uint8_t *input, size_t length, void (*try)(const uint8_t *, size_t)) {
+    uint8_t *places[] = {page + page_size - length, page};
+    for (int i = 0; i < 2; i++) {
+        memcpy(places[i], input, length);
+        try(places[i], length);
+        CHECK(memcmp(places[i], input, length) == 0);
+    }
+}
+
+static uint64_t state = 88172645463325252u;
+
+/* Marsaglia's xorshift, from a fixed seed. */
+static uint64_t random_number(void) {
+    state ^= state << 13;
+    state ^= state >> 7;
+    state ^= state << 17;
+    return state;
+}
+
+static void random_cursors(const uint8_t *bytes, size_t length) {
+    for (int i = 0; i < 200; i++) {
+        amqp_cursor cursor;
+        memset(&cursor, 0, sizeof cursor);
+        cursor.left.offset = random_number() % 8 ? random_number() % (length + 1) : random_number();
+        cursor.left.length = random_number() % 8 ? random_number() % (length + 1) : random_number();
+        cursor.tag = tags[random_number() % 2];
+        walk(bytes, length, cursor);
+        front(bytes, length, cursor);
+    }
+}
+
+#define INPUT(text) {text, sizeof text - 1}
+
+static const struct {
+    const char *bytes;
+    size_t length;
+} inputs[] = {
+    INPUT("F\0\0\0\0"),
+    INPUT("F\0\0\0\3\1aV"),
+    INPUT("F\0\0\0\12\1bV\1at\7\1aV"),
+    INPUT("A\0\0\0\7t\1A\0\0\0\0"),
+    INPUT("F\0\0\0\10\1aS\0\0\0\1z"),
+    INPUT("x\0\0\0\2\0\1"),
+};
+static const uint8_t others[] = {0, 1, 2, 5, 'A', 'F', 'S', 'V', 't', 'z', 127, 128, 255};
+
+int main(void) {
+    page_size = (size_t)sysconf(_SC_PAGESIZE);
+    uint8_t *pages = mmap(NULL, 3 * page_size, PROT_NONE, MAP_PRIVATE | MAP_ANONYMOUS, -1, 0);
+    CHECK(pages != MAP_FAILED);
+    page = pages + page_size;
+    CHECK(mprotect(page, page_size, PROT_READ | PROT_WRITE) == 0);
+
+    uint8_t input[64];
+    for (size_t i = 0; i < sizeof inputs / sizeof *inputs; i++) {
+        size_t length = inputs[i].length;
+        for (size_t n = 0; n <= length; n++) {
+            at_both_ends((const uint8_t *)inputs[i].bytes, n, all_cursors);
+        }
+        for (size_t n = 0; n < length; n++) {
+            memcpy(input, inputs[i].bytes, length);
+            for (size_t k = 0; k < sizeof others; k++) {
+                input[n] = others[k];
+                at_both_ends(input, length, all_cursors);
+            }
+        }
+    }
+    for (int i = 0; i < 2000; i++) {
+        size_t length = random_number() % sizeof input;
+        for (size_t n = 0; n < length; n++) {
+            input[n] = random_number() % 2 ? others[random_number() % sizeof others] : (uint8_t)random_number();
+        }
+        at_both_ends(input, length, random_cursors);
+    }
+    printf("%" PRIu64 " calls\n", calls);
+    return 0;
+}

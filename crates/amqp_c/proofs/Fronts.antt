@@ -1,0 +1,262 @@
+-- The entry of the value at the front.
+use Rattle.std.proofs.Common.{◌≡◌, ◌+◌, ◌-◌, ◌<◌, ◌≤◌, ℕ, zero, suc, nat_lt, if◌then◌else◌, Bool, true, false, Option, Some, None, List, ◌∷◌, ◌++◌, length, take, drop, refl, sym, ap, ◌∙◌, subst, arith, length-append}
+use Rattle.std.specs.Int.{w32}
+use borrow.Author.Tests.{ltb-true}
+use Rattle.std.proofs.lemmas.List.{take_at, length-take-le, take-append-drop}
+use Rattle.amqp_types.specs.declared.amqp_type.AMQPType.{AMQPType}
+use Rattle.amqp_types.specs.declared.amqp_type.AMQPType.TheVariants as amqp
+use Rattle.amqp_types.specs.Ids.{id_of}
+use Rattle.amqp_types.specs.Names.{read_as}
+use Rattle.amqp_grammar.specs.Values.{Tree, scalar, short, long, octets, array, table, no_entries, onto, scalar_type, Scalar}
+use Rattle.amqp_grammar.specs.Layouts.{Layout, fixed}
+use Rattle.amqp_grammar.specs.Grammar.{large, Wire, wire, Raw, raw_fixed, raw_short, raw_long, raw_octets, raw_array, raw_table, Body}
+use Rattle.amqp_grammar.specs.Outcomes.{Reading, found, more, unknown, malformed, lack, lack_of, frame_lack, fields_lack, length_field, LacksOr, Outcome}
+use Rattle.amqp_grammar.specs.Payloads.{type_of, RawFront, RawOutcome}
+use Rattle.amqp_grammar.proofs.GrammarLaws.{found_front, one_outcome, one_raw_reading, raw_to_value, value_to_raw, array_body, table_body}
+use Rattle.amqp_parsing.specs.declared.errors.Err.TheVariants.{Incomplete, Error, Failure}
+use Rattle.amqp_parsing.specs.declared.errors.Needed.TheVariants.{Unknown, Size}
+use Rattle.amqp_parsing.specs.declared.errors.ErrorKind.TheVariants as kind
+use Rattle.amqp_parsing.specs.Refusals.{Refusal}
+use Rattle.amqp_parsing.specs.Typed.{IsType}
+use Rattle.amqp_parsing.specs.Bodies.{IsFrame, IsCutFrame}
+use Rattle.amqp_parsing.specs.Answers.{Refuses}
+use Rattle.amqp_parsing.specs.Headers.{extent_of, extent_at, extent}
+use Rattle.amqp_parsing.proofs.ParsingLaws.{wire_extent}
+use Rattle.amqp_in_place.specs.Bodies.{HasEntries}
+use Rattle.amqp_c.specs.declared.entry.Entry.{Entry}
+use Rattle.amqp_c.specs.declared.fault.Fault.{Fault}
+use Rattle.amqp_c.specs.declared.fault.Fault.TheVariants.{More, UnknownTag, Malformed, TooLarge, Invalid}
+use Rattle.amqp_c.specs.Answers.{fault_of, HeaderFaults}
+use Rattle.amqp_c.specs.Entries.{Says, IsEntry}
+use Rattle.amqp_c.specs.Heads.{has_content}
+use Rattle.amqp_c.specs.Scalars.{bits_in, scale_in}
+use Rattle.amqp_c.specs.Spans.{part}
+use Rattle.amqp_c.proofs.Parts.{part_front, part_content}
+
+length-wire : (w : List ℕ) (v : Tree) → Wire w v → 0 < length w
+length-wire _ _ (wire c type b v k p) = omega arith
+
+-- a value that is found has at least one byte
+pub found_shorter : (s rest : List ℕ) (v : Tree) → Outcome s (found v rest) → length rest < length s
+found_shorter s rest v x =
+    let f = found_front s rest v x in
+    omega (arith, ap length f.2, length-append f.0 rest, length-wire f.0 v f.1)
+
+-- its bytes are an encoding
+pub found_wire : (s rest : List ℕ) (v : Tree) (n : ℕ) → Outcome s (found v rest) → n + length rest ≡ length s → Wire (take n s) v
+found_wire s rest v n x e =
+    let f = found_front s rest v x in
+    let size : length f.0 ≡ n = omega (arith, ap length f.2, length-append f.0 rest) in
+    subst (λ (w : List ℕ). Wire w v) (sym (ap (take n) f.2 ∙ take_at f.0 rest n size)) f.1
+
+-- ---- faults
+
+-- where a value is found no fault is right
+pub never_faulty : (s rest : List ℕ) (v : Tree) (f : Fault) → Outcome s (found v rest) → HeaderFaults (Outcome s) f → ⊥
+never_faulty s rest v (More n) x y = let e = one_outcome s (found v rest) (more n) x y in cc
+never_faulty s rest v UnknownTag x y = let e = one_outcome s (found v rest) unknown x y in cc
+never_faulty s rest v Malformed x y = y
+never_faulty s rest v TooLarge x y = y
+never_faulty s rest v Invalid x y = y
+
+-- ---- strings, byte arrays and containers
+
+has_frame : (type : AMQPType) (mid : List ℕ) → has_content type ≡ true → lack type mid ≡ frame_lack w32 mid
+has_frame amqp.LongString mid h = refl
+has_frame amqp.ByteArray mid h = refl
+has_frame amqp.FieldArray mid h = refl
+has_frame amqp.FieldTable mid h = refl
+has_frame _ mid h = absurd cc
+
+-- where the field isn't whole more bytes are needed
+cut : (s mid : List ℕ) (type : AMQPType) → IsType s type mid → has_content type ≡ true → (o : Reading) → IsCutFrame mid o → Outcome s o
+cut s mid type p h o x =
+    subst (λ (t : List ℕ). Outcome t o) (sym p.1) (raw_to_value p.0 type mid o p.2 (by (lack type mid) (has_frame type mid h)))
+  where
+    by : (k : ℕ) → k ≡ frame_lack w32 mid → LacksOr k (RawFront type mid o) o
+    by zero e = absurd (omega (arith, x.0))
+    by (suc k) e = x.1 ∙ ap more (sym e)
+
+pub cut_fault : (s mid : List ℕ) (type : AMQPType) → IsType s type mid → has_content type ≡ true → (e : Refusal) → Refuses (IsCutFrame mid) ⊥ e → HeaderFaults (Outcome s) (fault_of e)
+cut_fault s mid type p h (Incomplete Unknown) x = absurd x
+cut_fault s mid type p h (Incomplete (Size n)) x = cut s mid type p h (more n) x
+cut_fault s mid type p h (Error kind.MapOpt) x = let e = x.1 in absurd cc
+cut_fault s mid type p h (Error kind.Eof) x = let e = x.1 in absurd cc
+cut_fault s mid type p h (Error kind.MapRes) x = absurd x
+cut_fault s mid type p h (Error kind.OutOfMemory) x = absurd x
+cut_fault s mid type p h (Error kind.TooLarge) x = absurd x
+cut_fault s mid type p h (Failure k) x = absurd x.1
+
+-- a field that is read has the extent of a long string with the same bytes
+pub frame_extent : (s mid body rest : List ℕ) (type : AMQPType) → IsType s type mid → IsFrame mid body rest → has_content type ≡ true → extent s + length rest ≡ length s
+frame_extent s mid body rest type p f h =
+    let string = wire_extent (83 ∷ large body) rest (long body) (wire 83 amqp.LongString (large body) (long body) refl (raw_long body f.fits)) in
+    let here : extent s ≡ extent_at (Some type) mid = ap extent p.1 ∙ ap (λ (o : Option AMQPType). extent_at o mid) p.2 in
+    let kept : extent_at (Some type) mid ≡ suc (extent_of None w32 mid) = by type h in
+    let there : extent_of None w32 mid ≡ extent_of None w32 (large body ++ rest) = ap (extent_of None w32) f.framed in
+    let whole : suc (extent_of None w32 (large body ++ rest)) ≡ suc (length (large body)) = string in
+    omega (arith, here, kept, there, whole, ap length p.1, ap length f.framed, length-append (large body) rest)
+  where
+    by : (type : AMQPType) → has_content type ≡ true → extent_at (Some type) mid ≡ suc (extent_of None w32 mid)
+    by amqp.LongString h = refl
+    by amqp.ByteArray h = refl
+    by amqp.FieldArray h = refl
+    by amqp.FieldTable h = refl
+    by _ h = absurd cc
+
+-- the bytes behind the length are what v is
+abbrev ContentIs : List ℕ → Tree → Type 0
+ContentIs body (long b) = b ≡ body
+ContentIs body (octets b) = b ≡ body
+ContentIs body (array vs) = Body body vs
+ContentIs body (table es) = HasEntries body es
+ContentIs body _ = ⊥
+
+content_front : (type : AMQPType) (mid body rest : List ℕ) → IsFrame mid body rest → has_content type ≡ true → (v : Tree) (left : List ℕ) → RawFront type mid (found v left)
+    → ContentIs body v × (type_of v ≡ type) × (left ≡ rest)
+content_front amqp.LongString mid body rest f h v left raw =
+    let same = one_raw_reading amqp.LongString raw.0 (large body) left rest v (long body) raw.1 (raw_long body f.fits) (sym raw.2 ∙ f.framed) in
+    (subst (ContentIs body) (sym same.1) refl, ap type_of same.1, same.2)
+content_front amqp.ByteArray mid body rest f h v left raw =
+    let same = one_raw_reading amqp.ByteArray raw.0 (large body) left rest v (octets body) raw.1 (raw_octets body f.fits) (sym raw.2 ∙ f.framed) in
+    (subst (ContentIs body) (sym same.1) refl, ap type_of same.1, same.2)
+content_front amqp.FieldArray mid body rest f h v left raw =
+    let b = array_body body rest raw.0 left v f.fits raw.1 (sym f.framed ∙ raw.2) in
+    let same = one_raw_reading amqp.FieldArray raw.0 (large body) left rest v (array b.0) raw.1 (raw_array body b.0 f.fits b.1) (sym raw.2 ∙ f.framed) in
+    (subst (ContentIs body) (sym same.1) b.1, ap type_of same.1, same.2)
+content_front amqp.FieldTable mid body rest f h v left raw =
+    let b = table_body body rest raw.0 left v f.fits raw.1 (sym f.framed ∙ raw.2) in
+    let es = onto no_entries b.0 in
+    let same = one_raw_reading amqp.FieldTable raw.0 (large body) left rest v (table es) raw.1 (raw_table body b.0 f.fits b.1) (sym raw.2 ∙ f.framed) in
+    (subst (ContentIs body) (sym same.1) (b.0, b.1, refl), ap type_of same.1, same.2)
+content_front _ mid body rest f h v left raw = absurd cc
+
+says_content : (s : List ℕ) (e : Entry) (body : List ℕ) (v : Tree) → part s e.content ≡ body → ContentIs body v → Says s e v
+says_content s e body (scalar y) at x = absurd x
+says_content s e body (short b) at x = x
+says_content s e body (long b) at x = at ∙ sym x
+says_content s e body (octets b) at x = at ∙ sym x
+says_content s e body (array vs) at x = subst (λ (t : List ℕ). Body t vs) (sym at) x
+says_content s e body (table es) at x = subst (λ (t : List ℕ). HasEntries t es) (sym at) x
+
+-- what is found of a value is its payload, of the type that was read
+raw_front : (s mid : List ℕ) (type : AMQPType) → IsType s type mid → (v : Tree) (left : List ℕ) → Outcome s (found v left) → RawFront type mid (found v left)
+raw_front s mid type p v left x =
+    by (lack type mid) (value_to_raw p.0 type mid (found v left) p.2 (subst (λ (t : List ℕ). Outcome t (found v left)) p.1 x))
+  where
+    by : (n : ℕ) → LacksOr n (RawFront type mid (found v left)) (found v left) → RawFront type mid (found v left)
+    by zero f = f
+    by (suc n) f = absurd cc
+
+-- the entry of a value whose field was read
+pub content_entry : (s mid body rest : List ℕ) (type : AMQPType) → IsType s type mid → IsFrame mid body rest → has_content type ≡ true
+    → (e : Entry) → e.value.offset ≡ 0 → e.value.length + length rest ≡ length s → e.content.offset ≡ 5 → e.content.length ≡ length body → e.tag ≡ id_of type
+    → (v : Tree) (left : List ℕ) → Outcome s (found v left) → IsEntry s e v × (left ≡ rest)
+content_entry s mid body rest type p f h e at size from count tag v left x =
+    let c = content_front type mid body rest f h v left (raw_front s mid type p v left x) in
+    let w : Wire (take e.value.length s) v = found_wire s left v e.value.length x (omega (arith, ap length c.2)) in (
+      record {
+        encoding = subst (λ (t : List ℕ). Wire t v) (sym (part_front s e.value at)) w;
+        tag = tag ∙ ap id_of (sym c.1);
+        says = says_content s e body v (part_content s mid body rest p.0 e.content p.1 f.framed from count) c.0;
+      },
+      c.2,
+    )
+
+-- ---- values of fixed width
+
+id_in : Option Layout → List ℕ → ℕ
+id_in (Some f) b = id_of (scalar_type (f.meaning b))
+id_in None b = 0
+
+-- the type tag of what a payload of fixed width means is that of its type
+fixed_tag : (type : AMQPType) (f : Layout) (b : List ℕ) → fixed type ≡ Some f → id_of (scalar_type (f.meaning b)) ≡ id_of type
+unfolding id_in
+fixed_tag amqp.LongString f b is = absurd cc
+fixed_tag amqp.ShortString f b is = absurd cc
+fixed_tag amqp.ByteArray f b is = absurd cc
+fixed_tag amqp.FieldArray f b is = absurd cc
+fixed_tag amqp.FieldTable f b is = absurd cc
+fixed_tag _ f b is = sym (ap (λ (o : Option Layout). id_in o b) is)
+
+-- a value of a type that has no bytes behind a length is of fixed width
+pub record IsScalar (type : AMQPType) (v : Tree) : Type 0 where
+  pub it : Scalar
+  pub is : v ≡ scalar it
+  pub tag : id_of (type_of v) ≡ id_of type
+
+scalar_front : (type : AMQPType) (b : List ℕ) (v : Tree) → has_content type ≡ false → read_as type ≡ Some type → Raw type b v → IsScalar type v
+scalar_front _ _ _ h r (raw_fixed type f b is size) = record { it = f.meaning b; is = refl; tag = fixed_tag type f b is }
+scalar_front _ _ _ h r (raw_short k is) = absurd cc
+scalar_front _ _ _ h r (raw_long k fits) = absurd cc
+scalar_front _ _ _ h r (raw_octets k fits) = absurd cc
+scalar_front _ _ _ h r (raw_array body vs fits p) = absurd cc
+scalar_front _ _ _ h r (raw_table body ps fits p) = absurd cc
+
+-- so its payload is never malformed
+fixed_layout : (type : AMQPType) → has_content type ≡ false → read_as type ≡ Some type → (f : Layout) × (fixed type ≡ Some f)
+fixed_layout amqp.ShortString h r = absurd cc
+fixed_layout amqp.LongString h r = absurd cc
+fixed_layout amqp.ByteArray h r = absurd cc
+fixed_layout amqp.FieldArray h r = absurd cc
+fixed_layout amqp.FieldTable h r = absurd cc
+fixed_layout _ h r = (_, refl)
+
+fields_there : (f : Layout) (b : List ℕ) → fields_lack f b ≡ 0 → f.width ≤ length b
+fields_there f b none = by (nat_lt (length b) f.first) refl none
+  where
+    by : (t : Bool) → nat_lt (length b) f.first ≡ t → (if t then f.first - length b else f.width - length b) ≡ 0 → f.width ≤ length b
+    by true is z = absurd (omega (arith, ltb-true (length b) f.first is))
+    by false is z = omega arith
+
+never_malformed : (mid : List ℕ) (type : AMQPType) → has_content type ≡ false → read_as type ≡ Some type → RawOutcome type mid malformed → ⊥
+never_malformed mid type h r x = by (lack type mid) refl x
+  where
+    by : (k : ℕ) → lack type mid ≡ k → LacksOr k (RawFront type mid malformed) malformed → ⊥
+    by zero is f =
+        let row = fixed_layout type h r in
+        let there = fields_there row.0 mid (sym (ap (λ (o : Option Layout). lack_of o (length_field type) mid) row.1) ∙ is) in
+        let b = take row.0.width mid in
+        f b (drop row.0.width mid) (scalar (row.0.meaning b)) (raw_fixed type row.0 b row.1 (length-take-le row.0.width mid there)) (sym (take-append-drop row.0.width mid))
+    by (suc k) is e = cc
+
+pub scalar_fault : (s mid : List ℕ) (type : AMQPType) → IsType s type mid → has_content type ≡ false → read_as type ≡ Some type → (e : Refusal) → Refuses (Outcome s) ⊥ e
+    → HeaderFaults (Outcome s) (fault_of e)
+scalar_fault s mid type p h r (Incomplete Unknown) x = absurd x
+scalar_fault s mid type p h r (Incomplete (Size n)) x = x
+scalar_fault s mid type p h r (Error kind.MapOpt) x = x
+scalar_fault s mid type p h r (Error kind.Eof) x =
+    absurd (never_malformed mid type h r (value_to_raw p.0 type mid malformed p.2 (subst (λ (t : List ℕ). Outcome t malformed) p.1 x)))
+scalar_fault s mid type p h r (Error kind.MapRes) x = absurd x
+scalar_fault s mid type p h r (Error kind.OutOfMemory) x = absurd x
+scalar_fault s mid type p h r (Error kind.TooLarge) x = absurd x
+scalar_fault s mid type p h r (Failure k) x = absurd x.1
+
+-- a value that is found has the extent that its header tells
+pub found_extent : (s rest : List ℕ) (v : Tree) → Outcome s (found v rest) → extent s + length rest ≡ length s
+found_extent s rest v x =
+    let f = found_front s rest v x in
+    omega (arith, ap extent f.2, wire_extent f.0 rest v f.1, ap length f.2, length-append f.0 rest)
+
+says_scalar : (s : List ℕ) (e : Entry) (x : Scalar) (v : Tree) → v ≡ scalar x → e.bits ≡ bits_in v → e.scale ≡ scale_in v → e.content.length ≡ 0 → Says s e v
+says_scalar s e x v is bits scale none =
+    subst (Says s e) (sym is) (bits ∙ ap bits_in is, scale ∙ ap scale_in is, none)
+
+-- the entry of a value that was read
+pub scalar_entry : (s mid rest : List ℕ) (type : AMQPType) (u : Tree) → IsType s type mid → has_content type ≡ false → read_as type ≡ Some type → Outcome s (found u rest)
+    → (e : Entry) → e.value.offset ≡ 0 → e.value.length + length rest ≡ length s → e.content.length ≡ 0 → e.tag ≡ id_of type → e.bits ≡ bits_in u → e.scale ≡ scale_in u
+    → (v : Tree) (left : List ℕ) → Outcome s (found v left) → IsEntry s e v × (left ≡ rest)
+scalar_entry s mid rest type u p h r y e at size none tag bits scale v left x =
+    let same = one_outcome s (found v left) (found u rest) x y in
+    let one : u ≡ v = cc in
+    let after : left ≡ rest = cc in
+    let raw = raw_front s mid type p v left x in
+    let is = scalar_front type raw.0 v h r raw.1 in
+    let w : Wire (take e.value.length s) v = found_wire s left v e.value.length x (omega (arith, ap length after)) in (
+      record {
+        encoding = subst (λ (t : List ℕ). Wire t v) (sym (part_front s e.value at)) w;
+        tag = tag ∙ sym is.tag;
+        says = says_scalar s e is.it v is.is (bits ∙ ap bits_in one) (scale ∙ ap scale_in one) none;
+      },
+      after,
+    )

@@ -1,0 +1,5 @@
+mod Numbers
+mod Parts
+mod Fronts
+mod Stepping
+mod Finding

@@ -1,0 +1,96 @@
+-- Entries in the body of a container.
+use Rattle.std.proofs.Common.{◌≡◌, ◌+◌, ◌-◌, ◌<◌, ◌≤◌, ℕ, suc, Option, Some, None, List, ◌++◌, Ok, length, take, drop, get_or, refl, sym, ap, ◌∙◌, subst, arith, length-append}
+use Rattle.std.proofs.lemmas.List.{take_at, drop_at}
+use Rattle.amqp_grammar.specs.Values.{Tree, scalar, short, long, octets, array, table, Trees, Entries}
+use Rattle.amqp_grammar.specs.Grammar.{Wire, Body, no_values, value, Pairs, no_pairs, pair}
+use Rattle.amqp_grammar.specs.Outcomes.{found, Outcome}
+use Rattle.amqp_grammar.proofs.GrammarLaws.{found_front, wire_found}
+use Rattle.amqp_in_place.specs.Bodies.{HasEntries}
+use Rattle.amqp_c.specs.declared.entry.Entry.{Entry}
+use Rattle.amqp_c.specs.declared.span.Span.{Span}
+use Rattle.amqp_c.specs.Answers.{GivesFirst}
+use Rattle.amqp_c.specs.Entries.{Says, Lies}
+use Rattle.amqp_c.specs.Spans.{part, moved, behind, LiesIn}
+use Rattle.amqp_c.specs.Steps.{IsFrontIn, IsValueIn, IsPairIn}
+use Rattle.amqp_c.proofs.Parts.{part_within, part_after, part_length}
+
+-- the entry, where the bytes that it was read from begin at the span
+abbrev pub placed : Span → Span → Entry → Entry
+placed p key e = record { key = key; value = moved p.offset e.value; content = moved p.offset e.content; bits = e.bits; tag = e.tag; scale = e.scale }
+
+says_placed : (s : List ℕ) (p key : Span) (e : Entry) (v : Tree) → part (part s p) e.content ≡ part s (moved p.offset e.content) → Says (part s p) e v → Says s (placed p key e) v
+says_placed s p key e (scalar x) at is = is
+says_placed s p key e (short b) at is = is
+says_placed s p key e (long b) at is = sym at ∙ is
+says_placed s p key e (octets b) at is = sym at ∙ is
+says_placed s p key e (array vs) at is = subst (λ (t : List ℕ). Body t vs) at is
+says_placed s p key e (table es) at is = subst (λ (t : List ℕ). HasEntries t es) at is
+
+-- what is read at the front of the span stands in the bytes
+pub front_given : (s : List ℕ) (p key : Span) (e : Entry) → LiesIn (length s) p → Lies (length (part s p)) e → (v : Tree) (rest : List ℕ) → Outcome (part s p) (found v rest)
+    → GivesFirst (part s p) v rest (Ok e) → IsFrontIn s p key v rest (Some (placed p key e))
+front_given s p key e in_s in_part v rest x (is, at, whole) =
+    let size = part_length s p in_s in
+    let here = part_within s p e.value (omega (arith, in_part.value)) in
+    let there = part_within s p e.content (omega (arith, in_part.content)) in
+    let f = found_front (part s p) rest v x in
+    let taken : length f.0 ≡ e.value.length = omega (arith, ap length f.2, length-append f.0 rest) in
+    let after = part_after s p (moved p.offset e.value) e.value.length (omega arith) (omega (arith, in_part.value)) in (
+      record {
+        encoding = subst (λ (t : List ℕ). Wire t v) here is.encoding;
+        tag = is.tag;
+        says = says_placed s p key e v there is.says;
+      },
+      refl,
+      after ∙ (ap (drop e.value.length) f.2 ∙ drop_at f.0 rest e.value.length taken),
+    )
+
+-- the first of some values
+pub value_given : (s : List ℕ) (p key : Span) (r : Option Entry) → LiesIn (length s) p → 0 < p.length → key.length ≡ 0
+    → ((v : Tree) (rest : List ℕ) → Outcome (part s p) (found v rest) → IsFrontIn s p key v rest r) → (vs : Trees) → Body (part s p) vs → IsValueIn s p vs r
+value_given s p key r in_s some none f vs all = by (part s p) vs (omega (arith, part_length s p in_s)) f all
+  where
+    step : (v : Tree) (rest : List ℕ) (vs : Trees) (r : Option Entry) → Body rest vs → IsFrontIn s p key v rest r → IsValueIn s p (Trees.tree v vs) r
+    step v rest vs None all x = x
+    step v rest vs (Some e) all x = (ap (λ (k : Span). k.length) x.1 ∙ none, x.0, subst (λ (t : List ℕ). Body t vs) (sym x.2) all)
+
+    by : (t : List ℕ) (vs : Trees) → 0 < length t → ((v : Tree) (rest : List ℕ) → Outcome t (found v rest) → IsFrontIn s p key v rest r) → Body t vs → IsValueIn s p vs r
+    by _ _ some f no_values = absurd (omega arith)
+    by _ _ some f (value w rest v vs q all) = step v rest vs r all (f v rest (wire_found w rest v q))
+
+-- a pair has all bytes of its key
+pub key_room : (t : List ℕ) (ps : Entries) → Pairs t ps → 0 < length t → get_or t 0 0 < length t
+key_room _ _ no_pairs some = absurd (omega arith)
+key_room _ _ (pair k w rest v ps is q all) some = omega (arith, length-append k (w ++ rest))
+
+-- the first of some pairs
+module _ (s : List ℕ) (p : Span) (n : ℕ) (r : Option Entry) (in_s : LiesIn (length s) p) (some : 0 < p.length) (is : n ≡ get_or (part s p) 0 0) where
+  abbrev key : Span
+  key = record { offset = p.offset + 1; length = n }
+
+  pub pair_given : ((v : Tree) (rest : List ℕ) → Outcome (part s (behind p key)) (found v rest) → IsFrontIn s (behind p key) key v rest r)
+      → (ps : Entries) → Pairs (part s p) ps → IsPairIn s p ps r
+  pair_given f ps all = by (part s p) ps refl all
+    where
+      step : (k : List ℕ) (v : Tree) (rest : List ℕ) (ps : Entries) (r : Option Entry) → suc n ≤ p.length → part s key ≡ k → Pairs rest ps → IsFrontIn s (behind p key) key v rest r
+          → IsPairIn s p (Entries.entry k v ps) r
+      step k v rest ps None room named all x = x
+      step k v rest ps (Some e) room named all x =
+          let ends : p.offset + p.length ≡ p.offset + 1 + n + (p.offset + p.length - (p.offset + 1 + n)) = omega arith in
+          let same : part s (behind p e.value) ≡ part s (behind (behind p key) e.value) =
+          ap (λ (m : ℕ). take (m - (e.value.offset + e.value.length)) (drop (e.value.offset + e.value.length) s)) ends in
+          (ap (part s) x.1 ∙ named, x.0, subst (λ (t : List ℕ). Pairs t ps) (sym (same ∙ x.2)) all)
+
+      by : (t : List ℕ) (ps : Entries) → part s p ≡ t → Pairs t ps → IsPairIn s p ps r
+      by _ _ e no_pairs = absurd (omega (arith, ap length e, part_length s p in_s))
+      by _ _ e (pair k w rest v ps fits q all) =
+          let size : n ≡ length k = is ∙ ap (λ (t : List ℕ). get_or t 0 0) e in
+          let room : suc n ≤ p.length = omega (arith, ap length e, part_length s p in_s, length-append k (w ++ rest)) in
+          let front : part s (behind p key) ≡ w ++ rest =
+          part_after s p key (suc n) (omega arith) room ∙ (ap (drop (suc n)) e ∙ drop_at k (w ++ rest) n (sym size)) in
+          let at : key.offset ≡ 1 + p.offset = omega arith in
+          let named : part s key ≡ k =
+          ap (λ (o : ℕ). take n (drop o s)) at
+          ∙ (sym (part_within s p (record { offset = 1; length = n }) (omega arith))
+          ∙ (ap (λ (t : List ℕ). take n (drop 1 t)) e ∙ take_at k (w ++ rest) n (sym size))) in
+          step k v rest ps r room named all (f v rest (subst (λ (t : List ℕ). Outcome t (found v rest)) (sym front) (wire_found w rest v q)))

@@ -1,0 +1,19 @@
+use Rattle.std.proofs.Common.{◌≡◌, get_or, arith}
+use Rattle.std.proofs.lemmas.Grind.{common_steps}
+use Rattle.amqp_c.specs.Spans.{part}
+use Rattle.amqp_c.proofs.Parts.{part_length}
+use Rattle.amqp_c.proofs.Stepping.{pair_given, key_room}
+use Rattle.amqp_c.proofs.cursor.first_pair.Goals as goal
+
+pub returns-then-left-length-clause-pair : goal.returns-then-left-length-clause-pair
+returns-then-left-length-clause-pair c = λ ps some all.
+    let s = c.args.bytes.now in
+    let whole = part_length s c.args.left c.requires.left in
+    let n : c.from-length.result ≡ get_or (part s c.args.left) 0 0 = grind (arith, common_steps) in
+    absurd (omega (arith, key_room (part s c.args.left) ps all (omega arith)))
+
+pub returns-clause-pair : goal.returns-clause-pair
+returns-clause-pair c = λ ps some all.
+    let s = c.args.bytes.now in
+    let n : c.from-length.result ≡ get_or (part s c.args.left) 0 0 = grind (arith, common_steps) in
+    pair_given s c.args.left c.from-length.result c.front_of.result c.requires.left some n (rw c.behind.ensures at c.front_of.ensures.told) ps all

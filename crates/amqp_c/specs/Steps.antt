@@ -1,0 +1,87 @@
+-- Stepping through the body of a container by a cursor.
+use Rattle.std.specs.Prelude.{ℕ, ◌≡◌, ◌+◌, ◌<◌, ◌≤◌, List, Option, Some, None, Result, Ok, ◌⊎◌}
+use Rattle.amqp_grammar.specs.Values.{Tree, Trees, no_trees, tree, Entries, no_entries, entry}
+use Rattle.amqp_grammar.specs.Grammar.{Body, Pairs}
+use Rattle.amqp_c.specs.declared.cursor.Cursor.{Cursor}
+use Rattle.amqp_c.specs.declared.entry.Entry.{Entry}
+use Rattle.amqp_c.specs.declared.fault.Fault.{Fault}
+use Rattle.amqp_c.specs.declared.fault.Fault.TheVariants.{Malformed, Invalid}
+use Rattle.amqp_c.specs.declared.span.Span.{Span}
+use Rattle.amqp_c.specs.Spans.{part, behind, LiesIn}
+use Rattle.amqp_c.specs.Entries.{IsEntry, Lies}
+
+-- the type tags of an array and of a table, `A` and `F`
+abbrev pub array_tag : ℕ
+array_tag = 65
+
+abbrev pub table_tag : ℕ
+table_tag = 70
+
+-- the cursor before the first entry of a container
+abbrev pub contents : Entry → Cursor
+contents e = record { left = e.content; tag = e.tag }
+
+-- the cursor lies in n bytes, and is of an array or a table
+abbrev pub IsOfContainer : ℕ → Cursor → Type 0
+IsOfContainer n c = LiesIn n c.left × ((c.tag ≡ array_tag) ⊎ (c.tag ≡ table_tag))
+
+-- it is of a table
+abbrev pub IsOfTable : ℕ → Cursor → Type 0
+IsOfTable n c = LiesIn n c.left × (c.tag ≡ table_tag)
+
+-- a step of the cursor c in n bytes gives an entry that lies in them, and a cursor of the same
+-- container which ends where c does and has less left; or nothing is left
+abbrev pub StepsIn : ℕ → Cursor → Option (Entry × Cursor) → Type 0
+StepsIn n c None = IsOfContainer n c × (c.left.length ≡ 0)
+StepsIn n c (Some x) =
+    IsOfContainer n c
+    × Lies n x.0
+    × LiesIn n x.1.left
+    × (x.1.tag ≡ c.tag)
+    × (x.1.left.length < c.left.length)
+    × (x.1.left.offset + x.1.left.length ≡ c.left.offset + c.left.length)
+
+-- a fault is right: what was handed in isn't `valid`, or bytes are malformed and it is so
+abbrev pub RefusedBy : Type 0 → Type 0 → Fault → Type 0
+RefusedBy valid bad Invalid = valid → ⊥
+RefusedBy valid bad Malformed = bad
+RefusedBy valid bad _ = ⊥
+
+-- a step gives the first of the values, with no key, and leaves the others
+abbrev pub GivesValue : List ℕ → Trees → Result (Option (Entry × Cursor)) Fault → Type 0
+GivesValue s no_trees (Ok None) = Unit {0}
+GivesValue s (tree v vs) (Ok (Some x)) = (x.0.key.length ≡ 0) × IsEntry s x.0 v × Body (part s x.1.left) vs
+GivesValue s _ _ = ⊥
+
+-- a step gives the first of the pairs, and leaves the others
+abbrev pub GivesPair : List ℕ → Entries → Result (Option (Entry × Cursor)) Fault → Type 0
+GivesPair s no_entries (Ok None) = Unit {0}
+GivesPair s (entry k v ps) (Ok (Some x)) = (part s x.0.key ≡ k) × IsEntry s x.0 v × Pairs (part s x.1.left) ps
+GivesPair s _ _ = ⊥
+
+-- what is found is the entry of the value, if there is one
+abbrev pub GivesFound : List ℕ → Option Tree → Result (Option Entry) Fault → Type 0
+GivesFound s None (Ok None) = Unit {0}
+GivesFound s (Some v) (Ok (Some e)) = IsEntry s e v
+GivesFound s _ _ = ⊥
+
+-- ---- on the way
+
+-- the entry ends in the span, which it begins in or behind its front
+abbrev pub EndsIn : Span → Entry → Type 0
+EndsIn p e = (p.offset ≤ e.value.offset) × (e.value.offset + e.value.length ≤ p.offset + p.length)
+
+-- the entry of v with the key is given, and `rest` is behind it in the span
+abbrev pub IsFrontIn : List ℕ → Span → Span → Tree → List ℕ → Option Entry → Type 0
+IsFrontIn s p key v rest None = ⊥
+IsFrontIn s p key v rest (Some e) = IsEntry s e v × (e.key ≡ key) × (part s (behind p e.value) ≡ rest)
+
+-- the entry of the first value is given, with no key, and the others are behind it in the span
+abbrev pub IsValueIn : List ℕ → Span → Trees → Option Entry → Type 0
+IsValueIn s p (tree v vs) (Some e) = (e.key.length ≡ 0) × IsEntry s e v × Body (part s (behind p e.value)) vs
+IsValueIn s p _ _ = ⊥
+
+-- the entry of the first pair is given, and the others are behind it in the span
+abbrev pub IsPairIn : List ℕ → Span → Entries → Option Entry → Type 0
+IsPairIn s p (entry k v ps) (Some e) = (part s e.key ≡ k) × IsEntry s e v × Pairs (part s (behind p e.value)) ps
+IsPairIn s p _ _ = ⊥

@@ -1,0 +1,97 @@
+//! What a call answers and leaves behind its pointers.
+
+ghost use Rattle.std.specs.Prelude.{◌≡◌};
+ghost use Rattle.amqp_c.specs.Answers.{answer_of, answer_if_any, count_of, given_or, found_or, entry_or, cursor_or};
+
+use crate::cursor::Cursor;
+use crate::entry::Entry;
+use crate::fault::Fault;
+
+/// Something is given.
+const OK: i32 = 0;
+/// No entry is left, or none has the key.
+const NONE: i32 = 1;
+
+/// Leaves a number of bytes that were taken or are needed, else 0.
+pub fn answer_count(done: Result<usize, Fault>, count: &mut usize) -> i32
+    ensures answer { result ≡ answer_of done }
+    ensures count { count.new ≡ count_of done }
+{
+    match done {
+        Ok(taken) => {
+            *count = taken;
+            OK
+        }
+        Err(fault) => {
+            *count = match fault {
+                Fault::More(needed) => needed,
+                _ => 0,
+            };
+            fault.code()
+        }
+    }
+}
+
+/// Leaves the entry that is given.
+pub fn answer_entry(done: Result<Entry, Fault>, entry: &mut Entry) -> i32
+    ensures answer { result ≡ answer_of done }
+    ensures entry { entry.new ≡ given_or entry.old done }
+{
+    match done {
+        Ok(given) => {
+            *entry = given;
+            OK
+        }
+        Err(fault) => fault.code(),
+    }
+}
+
+/// Leaves the cursor that is given.
+pub fn answer_cursor(done: Result<Cursor, Fault>, cursor: &mut Cursor) -> i32
+    ensures answer { result ≡ answer_of done }
+    ensures cursor { cursor.new ≡ given_or cursor.old done }
+{
+    match done {
+        Ok(given) => {
+            *cursor = given;
+            OK
+        }
+        Err(fault) => fault.code(),
+    }
+}
+
+/// Leaves the entry that is found.
+pub fn answer_found(done: Result<Option<Entry>, Fault>, entry: &mut Entry) -> i32
+    ensures answer { result ≡ answer_if_any done }
+    ensures entry { entry.new ≡ found_or entry.old done }
+{
+    match done {
+        Ok(Some(found)) => {
+            *entry = found;
+            OK
+        }
+        Ok(None) => NONE,
+        Err(fault) => fault.code(),
+    }
+}
+
+/// Leaves the entry and the cursor that a step gives.
+pub fn answer_step(
+    done: Result<Option<(Entry, Cursor)>, Fault>,
+    cursor: &mut Cursor,
+    entry: &mut Entry,
+) -> i32
+    ensures answer { result ≡ answer_if_any done }
+    ensures cursor { cursor.new ≡ cursor_or cursor.old done }
+    ensures entry { entry.new ≡ entry_or entry.old done }
+{
+    match done {
+        Ok(Some((next, rest))) => {
+            *entry = next;
+            *cursor = rest;
+            OK
+        }
+        Ok(None) => NONE,
+        Err(fault) => fault.code(),
+    }
+}

@@ -1,0 +1,164 @@
+//! Stepping through a container.
+
+ghost use Rattle.std.specs.Prelude.{◌≡◌, ◌+◌, ◌<◌, ◌≤◌, ℕ, List, length, IfErr, IfOk, IfSome, MatchOption};
+ghost use Rattle.amqp_grammar.specs.Values.{Tree, Trees, Entries};
+ghost use Rattle.amqp_grammar.specs.Maps.{same_bytes, value_at};
+ghost use Rattle.amqp_grammar.specs.Grammar.{Body, Pairs};
+ghost use Rattle.amqp_grammar.specs.Outcomes.{Outcome, found};
+ghost use Rattle.amqp_in_place.specs.Bodies.{HasEntries};
+ghost use Rattle.amqp_c.specs.Spans.{part, LiesIn};
+ghost use Rattle.amqp_c.specs.Entries.{IsEntry, Lies};
+ghost use Rattle.amqp_c.specs.Steps.{array_tag, table_tag, contents, IsOfContainer, IsOfTable, StepsIn, RefusedBy, IsFrontIn, IsValueIn, IsPairIn, EndsIn, GivesValue, GivesPair, GivesFound};
+
+use crate::entry::{Entry, first};
+use crate::fault::Fault;
+use crate::span::Span;
+
+/// What is left of an array or a table.
+#[repr(C)]
+#[derive(Clone, Copy)]
+pub struct Cursor {
+    /// The bytes of the body that are left.
+    pub left: Span,
+    /// The type tag: `A` of an array, `F` of a table.
+    pub tag: u8,
+}
+
+impl Entry {
+    /// A cursor before the first entry of the container.
+    pub fn enter(self, bytes: &[u8]) -> Result<Cursor, Fault>
+        ensures entered { IfOk result (λ c. (c ≡ contents self) × IsOfContainer (length bytes.now) c) }
+        ensures refused { IfErr result (RefusedBy (IsOfContainer (length bytes.now) (contents self)) ⊥) }
+    {
+        let cursor = Cursor {
+            left: self.content,
+            tag: self.tag,
+        };
+        match cursor.body(bytes) {
+            Some(_) => Ok(cursor),
+            None => Err(Fault::Invalid),
+        }
+    }
+}
+
+impl Cursor {
+    /// The bytes that are left, where they lie in `bytes` and are of a container.
+    fn body(self, bytes: &[u8]) -> Option<&[u8]>
+        ensures { MatchOption result
+            (IsOfContainer (length bytes.now) self → ⊥)
+            (λ body. IsOfContainer (length bytes.now) self × (body.now ≡ part bytes.now self.left)) }
+    {
+        if self.tag != b'A' && self.tag != b'F' {
+            return None;
+        }
+        self.left.of(bytes)
+    }
+
+    /// The next entry, and a cursor behind it. It looks at the key's length, the type tag and the
+    /// length after it alone, so it takes constant time.
+    pub fn next(self, bytes: &[u8]) -> Result<Option<(Entry, Cursor)>, Fault>
+        ensures values { (vs : Trees) → LiesIn (length bytes.now) self.left → self.tag ≡ array_tag
+            → Body (part bytes.now self.left) vs → GivesValue bytes.now vs result }
+        ensures pairs { (ps : Entries) → LiesIn (length bytes.now) self.left → self.tag ≡ table_tag
+            → Pairs (part bytes.now self.left) ps → GivesPair bytes.now ps result }
+        ensures steps { IfOk result (StepsIn (length bytes.now) self) }
+        ensures refused { IfErr result (RefusedBy (IsOfContainer (length bytes.now) self) (IsOfContainer (length bytes.now) self)) }
+    {
+        let Some(body) = self.body(bytes) else {
+            return Err(Fault::Invalid);
+        };
+        if body.is_empty() {
+            return Ok(None);
+        }
+        let next = if self.tag == b'F' {
+            first_pair(bytes, self.left)
+        } else {
+            first_value(bytes, self.left)
+        };
+        let Some(entry) = next else {
+            return Err(Fault::Malformed);
+        };
+        let rest = Cursor {
+            left: self.left.behind(entry.value),
+            tag: self.tag,
+        };
+        Ok(Some((entry, rest)))
+    }
+
+    /// The entry at the key: of equal keys the last. It walks all entries that are left.
+    pub fn find(self, bytes: &[u8], key: &[u8]) -> Result<Option<Entry>, Fault>
+        ensures found { (es : Entries) → IsOfTable (length bytes.now) self
+            → HasEntries (part bytes.now self.left) es → GivesFound bytes.now (value_at key.now es) result }
+        ensures lies { IfOk result (λ o. IfSome o (Lies (length bytes.now))) }
+        ensures refused { IfErr result (RefusedBy (IsOfTable (length bytes.now) self) (IsOfTable (length bytes.now) self)) }
+    {
+        if self.tag != b'F' {
+            return Err(Fault::Invalid);
+        }
+        let mut at = None;
+        let mut rest = self;
+        'pairs: while let Some((entry, behind)) = rest.next(bytes)? {
+            if is_key(bytes, entry.key, key) {
+                at = Some(entry);
+            }
+            rest = behind;
+        }
+        Ok(at)
+    }
+}
+
+/// Whether the bytes of the span are the key.
+fn is_key(bytes: &[u8], span: Span, key: &[u8]) -> bool
+    requires { LiesIn (length bytes.now) span }
+    ensures { result ≡ same_bytes key.now (part bytes.now span) }
+{
+    match span.of(bytes) {
+        Some(found) => key == found,
+        None => false,
+    }
+}
+
+/// The entry of the value at the front of the span.
+fn first_value(bytes: &[u8], left: Span) -> Option<Entry>
+    requires left { LiesIn (length bytes.now) left }
+    ensures value { (vs : Trees) → 0 < left.length → Body (part bytes.now left) vs → IsValueIn bytes.now left vs result }
+    ensures lies { IfSome result (λ e. Lies (length bytes.now) e × EndsIn left e) }
+{
+    front_of(bytes, left, Span::NONE)
+}
+
+/// The entry of the pair at the front of the span.
+fn first_pair(bytes: &[u8], left: Span) -> Option<Entry>
+    requires left { LiesIn (length bytes.now) left }
+    ensures pair { (ps : Entries) → 0 < left.length → Pairs (part bytes.now left) ps → IsPairIn bytes.now left ps result }
+    ensures lies { IfSome result (λ e. Lies (length bytes.now) e × EndsIn left e) }
+{
+    let length = usize::from(*left.of(bytes)?.first()?);
+    if left.length - 1 < length {
+        return None;
+    }
+    let key = Span {
+        offset: left.offset + 1,
+        length,
+    };
+    front_of(bytes, left.behind(key), key)
+}
+
+/// The entry of the value at the front of the span, with its key.
+fn front_of(bytes: &[u8], left: Span, key: Span) -> Option<Entry>
+    requires left { LiesIn (length bytes.now) left }
+    requires key { LiesIn (length bytes.now) key }
+    ensures told { (v : Tree) (rest : List ℕ) → Outcome (part bytes.now left) (found v rest)
+        → IsFrontIn bytes.now left key v rest result }
+    ensures lies { IfSome result (λ e. Lies (length bytes.now) e × EndsIn left e) }
+{
+    let Ok(entry) = first(left.of(bytes)?) else {
+        return None;
+    };
+    Some(Entry {
+        key,
+        value: entry.value.moved(left.offset),
+        content: entry.content.moved(left.offset),
+        ..entry
+    })
+}

@@ -1,0 +1,127 @@
+//! What stands at the front of some bytes, told by offsets.
+
+ghost use Rattle.std.specs.Prelude.{◌≡◌, ◌+◌, ◌<◌, ℕ, List, length, IfErr, IfOk};
+ghost use Rattle.amqp_grammar.specs.Values.{Tree};
+ghost use Rattle.amqp_grammar.specs.Outcomes.{Outcome, found};
+ghost use Rattle.amqp_in_place.specs.Refs.{Stands};
+ghost use Rattle.amqp_c.specs.Scalars.{bits_in, scale_in};
+ghost use Rattle.amqp_c.specs.Entries.{IsAtFront, Lies};
+ghost use Rattle.amqp_c.specs.Answers.{GivesFirst, HeaderFaults};
+ghost use Rattle.amqp_c.specs.Heads.{has_content};
+
+use crate::fault::Fault;
+use crate::span::Span;
+use amq_protocol_types::AMQPType;
+use amq_protocol_types::in_place::{ValueRef, read_in_place_unlimited};
+use amqp_input::{ParsableInput, SliceInput};
+use amqp_parsing::{parse_frame, parse_type};
+
+/// A value, and in a table its key, by where they lie.
+#[repr(C)]
+#[derive(Clone, Copy)]
+pub struct Entry {
+    /// The bytes of the key, without their length; none in an array, and of the value at the front.
+    pub key: Span,
+    /// The encoding of the value, its type tag included.
+    pub value: Span,
+    /// The bytes of a string or byte array, or the body of a container; none of any other value.
+    pub content: Span,
+    /// A boolean as 0 or 1, a number's bits, a signed one's in two's complement; else 0.
+    pub bits: u64,
+    /// The type tag that is written for the value's type.
+    pub tag: u8,
+    /// How many digits of a decimal stand behind the point; else 0.
+    pub scale: u8,
+}
+
+const NOWHERE: Span = Span {
+    offset: 0,
+    length: 0,
+};
+
+/// The entry of the value at the front of the bytes, by its type tag and its length alone: what
+/// stands in a container isn't looked at.
+pub fn first(bytes: &[u8]) -> Result<Entry, Fault>
+    ensures told { (v : Tree) (rest : List ℕ) → Outcome bytes.now (found v rest) → GivesFirst bytes.now v rest result }
+    ensures lies { IfOk result (λ e. Lies (length bytes.now) e) }
+    ensures front { IfOk result (IsAtFront bytes.now) }
+    ensures refused { IfErr result (HeaderFaults (Outcome bytes.now)) }
+{
+    let (payload, amqp_type) = parse_type(SliceInput::new(bytes))?;
+    let tag = amqp_type.get_id() as u8;
+    if has_content(amqp_type) {
+        let (rest, body) = parse_frame(payload)?;
+        return Ok(Entry {
+            key: NOWHERE,
+            value: Span {
+                offset: 0,
+                length: bytes.len() - rest.input_len(),
+            },
+            content: Span {
+                offset: 5,
+                length: body.input_len(),
+            },
+            bits: 0,
+            tag,
+            scale: 0,
+        });
+    }
+    let (value, rest) = read_in_place_unlimited(bytes)?;
+    Ok(Entry {
+        key: NOWHERE,
+        value: Span {
+            offset: 0,
+            length: bytes.len() - rest.len(),
+        },
+        content: NOWHERE,
+        bits: bits_in(value),
+        tag,
+        scale: scale_in(value),
+    })
+}
+
+/// Whether a value of the type has bytes after a length: a string, a byte array or a container.
+fn has_content(amqp_type: AMQPType) -> bool
+    ensures { result ≡ has_content amqp_type }
+{
+    matches!(
+        amqp_type,
+        AMQPType::LongString | AMQPType::ByteArray | AMQPType::FieldArray | AMQPType::FieldTable
+    )
+}
+
+/// The bits of a number, 0 or 1 of a boolean.
+#[tactic(auto, using(crate::proofs::Numbers::signed))]
+fn bits_in(value: ValueRef<'_>) -> u64
+    ensures { (v : Tree) → Stands value.entry v → result ≡ bits_in v }
+{
+    match value {
+        ValueRef::Boolean(b) => u64::from(b),
+        ValueRef::ShortShortInt(n) => i64::from(n).cast_unsigned(),
+        ValueRef::ShortShortUInt(n) => u64::from(n),
+        ValueRef::ShortInt(n) => i64::from(n).cast_unsigned(),
+        ValueRef::ShortUInt(n) => u64::from(n),
+        ValueRef::LongInt(n) => i64::from(n).cast_unsigned(),
+        ValueRef::LongUInt(n) => u64::from(n),
+        ValueRef::LongLongInt(n) => n.cast_unsigned(),
+        ValueRef::Float(x) => u64::from(x.to_bits()),
+        ValueRef::Double(x) => x.to_bits(),
+        ValueRef::DecimalValue(d) => u64::from(d.value),
+        ValueRef::Timestamp(n) => n,
+        ValueRef::LongString(_)
+        | ValueRef::ByteArray(_)
+        | ValueRef::FieldArray(_)
+        | ValueRef::FieldTable(_)
+        | ValueRef::Void => 0,
+    }
+}
+
+/// How many digits of a decimal stand behind the point.
+fn scale_in(value: ValueRef<'_>) -> u8
+    ensures { (v : Tree) → Stands value.entry v → result ≡ scale_in v }
+{
+    match value {
+        ValueRef::DecimalValue(d) => d.scale,
+        _ => 0,
+    }
+}

@@ -1,0 +1,16 @@
+//! Reading the value at the front.
+
+ghost use Rattle.std.specs.Prelude.{MatchResult};
+ghost use Rattle.amqp_c.specs.Answers.{IsTaken, FaultsWithin};
+
+use crate::fault::Fault;
+use amq_protocol_types::in_place::read_in_place;
+use amqp_parsing::Limits;
+
+/// Reads a value within limits, checks all of it, and answers how many bytes it takes.
+pub fn read(bytes: &[u8], limits: Limits) -> Result<usize, Fault>
+    ensures { MatchResult result (IsTaken limits bytes.now) (FaultsWithin limits bytes.now) }
+{
+    let (_, rest) = read_in_place(bytes, limits)?;
+    Ok(bytes.len() - rest.len())
+}

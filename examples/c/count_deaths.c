@@ -1,0 +1,35 @@
+/*
+ * How often a message was dead-lettered: the header `count` of the first table in the array `x-death` of
+ * its headers, which are given in hexadecimal on standard input.
+ */
+#include "amqp.h"
+#include "hexadecimal.h"
+
+#include <inttypes.h>
+
+/* The count of the first death, or -1 where the headers have none. `headers` is a table with its type tag. */
+static int64_t deaths(const uint8_t *headers, size_t length) {
+    size_t taken;
+    amqp_entry entry;
+    amqp_cursor cursor;
+    if (amqp_read(headers, length, 131072, 64, &taken) == AMQP_OK
+        && amqp_first(headers, length, &entry) == AMQP_OK
+        && amqp_enter(headers, length, &entry, &cursor) == AMQP_OK
+        && amqp_find(headers, length, &cursor, (const uint8_t *)"x-death", 7, &entry) == AMQP_OK
+        && amqp_enter(headers, length, &entry, &cursor) == AMQP_OK
+        && amqp_next(headers, length, &cursor, &entry) == AMQP_OK
+        && amqp_enter(headers, length, &entry, &cursor) == AMQP_OK
+        && amqp_find(headers, length, &cursor, (const uint8_t *)"count", 5, &entry) == AMQP_OK
+        && entry.tag == AMQP_LONG_LONG_INT) {
+        return (int64_t)entry.bits;
+    }
+    return -1;
+}
+
+static uint8_t bytes[131072];
+
+int main(void) {
+    size_t length = read_hexadecimal(stdin, bytes, sizeof bytes);
+    printf("%" PRId64 "\n", deaths(bytes, length));
+    return 0;
+}

@@ -1,0 +1,33 @@
+/* Reading bytes as a person writes them: hexadecimal digits, with spaces, and notes behind `#`. */
+#ifndef HEXADECIMAL_H
+#define HEXADECIMAL_H
+
+#include <ctype.h>
+#include <stdio.h>
+#include <stdlib.h>
+
+/* Reads at most `room` bytes from a file, and returns how many. It ends the program on anything else. */
+static size_t read_hexadecimal(FILE *file, unsigned char *bytes, size_t room) {
+    size_t digits = 0;
+    int c;
+    while ((c = getc(file)) != EOF) {
+        if (c == '#') {
+            while ((c = getc(file)) != EOF && c != '\n') {
+            }
+        } else if (isxdigit(c) && digits / 2 < room) {
+            unsigned digit = isdigit(c) ? (unsigned)(c - '0') : (unsigned)(tolower(c) - 'a' + 10);
+            unsigned char *byte = bytes + digits++ / 2;
+            *byte = (unsigned char)(digits % 2 ? digit << 4 : *byte | digit);
+        } else if (!isspace(c)) {
+            fprintf(stderr, "no hexadecimal digit, or too many: %c\n", c);
+            exit(2);
+        }
+    }
+    if (digits % 2) {
+        fprintf(stderr, "half a byte\n");
+        exit(2);
+    }
+    return digits / 2;
+}
+
+#endif

@@ -1,0 +1,82 @@
+/* Printing what an entry tells. */
+#ifndef SHOW_H
+#define SHOW_H
+
+#include "amqp.h"
+
+#include <ctype.h>
+#include <inttypes.h>
+#include <stdio.h>
+#include <string.h>
+
+/* Prints bytes in quotes, those that are no printable ASCII as `\xNN`. */
+static void show_text(const uint8_t *bytes, amqp_span span) {
+    putchar('"');
+    for (size_t i = 0; i < span.length; i++) {
+        uint8_t byte = bytes[span.offset + i];
+        if (byte < 128 && isprint(byte) && byte != '"' && byte != '\\') {
+            putchar(byte);
+        } else {
+            printf("\\x%02x", byte);
+        }
+    }
+    putchar('"');
+}
+
+static double float_of(uint64_t bits) {
+    uint32_t half = (uint32_t)bits;
+    float number;
+    memcpy(&number, &half, sizeof number);
+    return number;
+}
+
+static double double_of(uint64_t bits) {
+    double number;
+    memcpy(&number, &bits, sizeof number);
+    return number;
+}
+
+/* Prints the type and the value, of a container its type alone. */
+static void show_value(const uint8_t *bytes, const amqp_entry *entry) {
+    switch (entry->tag) {
+    case AMQP_BOOLEAN: printf("Boolean %s", entry->bits ? "true" : "false"); break;
+    case AMQP_SHORT_SHORT_INT: printf("ShortShortInt %" PRId64, (int64_t)entry->bits); break;
+    case AMQP_SHORT_SHORT_UINT: printf("ShortShortUInt %" PRIu64, entry->bits); break;
+    case AMQP_SHORT_INT: printf("ShortInt %" PRId64, (int64_t)entry->bits); break;
+    case AMQP_SHORT_UINT: printf("ShortUInt %" PRIu64, entry->bits); break;
+    case AMQP_LONG_INT: printf("LongInt %" PRId64, (int64_t)entry->bits); break;
+    case AMQP_LONG_UINT: printf("LongUInt %" PRIu64, entry->bits); break;
+    case AMQP_LONG_LONG_INT: printf("LongLongInt %" PRId64, (int64_t)entry->bits); break;
+    case AMQP_FLOAT: printf("Float %g", float_of(entry->bits)); break;
+    case AMQP_DOUBLE: printf("Double %g", double_of(entry->bits)); break;
+    case AMQP_DECIMAL: printf("DecimalValue %" PRIu64 "e-%u", entry->bits, (unsigned)entry->scale); break;
+    case AMQP_TIMESTAMP: printf("Timestamp %" PRIu64, entry->bits); break;
+    case AMQP_VOID: printf("Void"); break;
+    case AMQP_ARRAY: printf("FieldArray"); break;
+    case AMQP_TABLE: printf("FieldTable"); break;
+    case AMQP_LONG_STRING:
+        printf("LongString ");
+        show_text(bytes, entry->content);
+        break;
+    case AMQP_BYTE_ARRAY:
+        printf("ByteArray ");
+        show_text(bytes, entry->content);
+        break;
+    }
+    putchar('\n');
+}
+
+/* Says why nothing is given. */
+static const char *why(int32_t answer) {
+    switch (answer) {
+    case AMQP_OK: return "given";
+    case AMQP_NONE: return "none";
+    case AMQP_MORE: return "more bytes are needed";
+    case AMQP_UNKNOWN_TAG: return "unknown type tag";
+    case AMQP_MALFORMED: return "malformed";
+    case AMQP_TOO_LARGE: return "too large";
+    default: return "invalid";
+    }
+}
+
+#endif

@@ -1,0 +1,127 @@
+/*
+ * Values of AMQP 0-9-1 field tables, read where their bytes lie. C11, and C++.
+ *
+ * No call takes memory, keeps state, prints or ends the process, and calls in several threads don't
+ * meet. docs/C.md goes call by call, with an example; docs/GRAMMAR.md has the bytes.
+ *
+ * Every offset counts bytes from `bytes`. What is handed in is checked each time: whatever a cursor
+ * or an entry holds, no byte outside of the `length` bytes at `bytes` is read, and what goes out
+ * lies in them. The caller owes only this: no pointer is NULL, also where a length is 0; `length`
+ * bytes can be read at `bytes`, at most PTRDIFF_MAX, and `key_length` at `key`; and no struct that
+ * is written overlaps the bytes, the key or another struct of the call.
+ */
+#ifndef MAOLKINT_AMQP_H
+#define MAOLKINT_AMQP_H
+
+#include <stddef.h>
+#include <stdint.h>
+
+#ifdef __cplusplus
+extern "C" {
+#endif
+
+/* What a call answers. */
+enum {
+    AMQP_OK = 0,           /* it is done */
+    AMQP_NONE = 1,         /* no entry is left, or none has the key */
+    AMQP_MORE = -1,        /* the bytes end before the value does: more are needed */
+    AMQP_UNKNOWN_TAG = -2, /* the first byte is no type tag */
+    AMQP_MALFORMED = -3,   /* the bytes are there, and are no value; or an entry is cut */
+    AMQP_TOO_LARGE = -4,   /* the value has more bytes than `frame` */
+    AMQP_INVALID = -5      /* what was handed in doesn't lie in the bytes, or is of no container */
+};
+
+/* The type tags that an entry tells. Two are second spellings: `U` is told as `s`, `L` as `l`. */
+enum {
+    AMQP_BOOLEAN = 't',
+    AMQP_SHORT_SHORT_INT = 'b',
+    AMQP_SHORT_SHORT_UINT = 'B',
+    AMQP_SHORT_INT = 's',
+    AMQP_SHORT_UINT = 'u',
+    AMQP_LONG_INT = 'I',
+    AMQP_LONG_UINT = 'i',
+    AMQP_LONG_LONG_INT = 'l',
+    AMQP_FLOAT = 'f',
+    AMQP_DOUBLE = 'd',
+    AMQP_DECIMAL = 'D',
+    AMQP_LONG_STRING = 'S',
+    AMQP_BYTE_ARRAY = 'x',
+    AMQP_ARRAY = 'A',
+    AMQP_TABLE = 'F',
+    AMQP_TIMESTAMP = 'T',
+    AMQP_VOID = 'V'
+};
+
+/* Bytes, by where they lie. */
+typedef struct amqp_span {
+    size_t offset; /* how many bytes stand before them */
+    size_t length; /* how many there are */
+} amqp_span;
+
+/* A value, and in a table its key. */
+typedef struct amqp_entry {
+    amqp_span key;     /* the key's bytes, without their length; none in an array or at the front */
+    amqp_span value;   /* the whole encoding of the value, its type tag included */
+    amqp_span content; /* the bytes of a string or byte array, or the body of a container; else none */
+    uint64_t bits;     /* a boolean as 0 or 1; a number: a signed one as (int64_t)bits, the others as
+                          they are, of a Float 32 bits and of a Double 64; of a decimal its number;
+                          else 0 */
+    uint8_t tag;       /* the type tag, one of the above */
+    uint8_t scale;     /* how many digits of a decimal stand behind the point; else 0 */
+} amqp_entry;
+
+/* What is left of an array or a table. */
+typedef struct amqp_cursor {
+    amqp_span left; /* the bytes of the body that are left */
+    uint8_t tag;    /* AMQP_ARRAY or AMQP_TABLE */
+} amqp_cursor;
+
+/*
+ * Reads the value at the front within limits, and checks all of it: at most `frame` bytes, and
+ * containers nested at most `depth` deep. It recurses at most `depth` deep.
+ *
+ * `count` becomes how many bytes the value takes (AMQP_OK), or how many more are needed (AMQP_MORE),
+ * else 0. Also answers AMQP_UNKNOWN_TAG, AMQP_MALFORMED or AMQP_TOO_LARGE.
+ */
+int32_t amqp_read(const uint8_t *bytes, size_t length, uint32_t frame, uint32_t depth, size_t *count);
+
+/*
+ * Gives the entry of the value at the front, by its type tag and its length alone.
+ *
+ * Answers AMQP_OK, AMQP_MORE or AMQP_UNKNOWN_TAG. Takes constant time.
+ */
+int32_t amqp_first(const uint8_t *bytes, size_t length, amqp_entry *entry);
+
+/*
+ * Gives a cursor before the first entry of the array or the table that `entry` tells.
+ *
+ * Answers AMQP_OK or AMQP_INVALID. Takes constant time.
+ */
+int32_t amqp_enter(const uint8_t *bytes, size_t length, const amqp_entry *entry, amqp_cursor *cursor);
+
+/*
+ * Gives the next entry, and sets the cursor behind it.
+ *
+ * Answers AMQP_OK, AMQP_NONE at the end, AMQP_MALFORMED or AMQP_INVALID. Where the value was read
+ * with AMQP_OK, and the cursor comes from it, only the first two. Takes constant time: it looks at
+ * the key's length and at the value's type tag and length. Whether the key is UTF-8 and what stands
+ * in a container isn't looked at: amqp_read checks that.
+ */
+int32_t amqp_next(const uint8_t *bytes, size_t length, amqp_cursor *cursor, amqp_entry *entry);
+
+/*
+ * Gives the entry at the key, of those that the cursor has left in a table: of equal keys the last.
+ *
+ * Answers AMQP_OK, AMQP_NONE where none has the key, AMQP_MALFORMED or AMQP_INVALID. It walks all of
+ * the entries that are left, and the cursor stays.
+ */
+int32_t amqp_find(const uint8_t *bytes, size_t length, const amqp_cursor *cursor, const uint8_t *key,
+                  size_t key_length, amqp_entry *entry);
+
+/* Where a call answers anything but AMQP_OK, the entry and the cursor stay as they are. */
+
+#ifdef __cplusplus
+}
+#endif
+
+#endif
