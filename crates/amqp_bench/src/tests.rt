@@ -41,3 +41,20 @@ fn writes_often(rt: HostRuntime) {
     );
     assert_eq!(rt; room, [b't', 1, 9, 9]);
 }
+
+#[test]
+fn scans_a_value(rt: HostRuntime) {
+    assert_eq!(rt; amqp_bench_scan(&[b'F', 0, 0, 0, 0]), 5);
+    assert_eq!(rt; amqp_bench_scan(&[b'S', 0, 0, 0, 1, 65, 99]), 6);
+    assert_eq!(rt; amqp_bench_scan(&[b'S', 0, 0, 0, 3, 1]), -1);
+    assert_eq!(rt; amqp_bench_scan(&[b'z']), -2);
+}
+
+#[test]
+fn finds_a_key(rt: HostRuntime) {
+    assert_eq!(rt; amqp_bench_find(b"F\0\0\0\x03\x01-V"), 0);
+    assert_eq!(rt; amqp_bench_find(b"F\0\0\0\x03\x01aV"), 8);
+    assert_eq!(rt; amqp_bench_find(b"V"), 1);
+    assert_eq!(rt; amqp_bench_find(&[]), -1);
+    assert_eq!(rt; amqp_bench_find(b"z"), -2);
+}

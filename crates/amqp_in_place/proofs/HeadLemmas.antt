@@ -1,5 +1,5 @@
 -- What stands behind an id, one level deep.
-use Rattle.std.proofs.Common.{◌≡◌, ◌<◌, ◌-◌, ◌+◌, ℕ, zero, suc, List, ◌++◌, length, MatchResult, Result, Ok, Err, refl, sym, ap, ◌∙◌, subst, arith, length-append}
+use Rattle.std.proofs.Common.{◌≡◌, ◌<◌, ◌-◌, ◌+◌, ℕ, zero, suc, List, [], ◌∷◌, ◌++◌, length, MatchResult, Result, Ok, Err, refl, sym, ap, ◌∙◌, subst, arith, length-append}
 use Rattle.std.specs.Int.{w8}
 use Rattle.std.specs.Str.{IsUtf8}
 use Rattle.std.proofs.lemmas.Bool.{le-ltb}
@@ -9,24 +9,25 @@ use Rattle.amqp_types.specs.declared.amqp_type.AMQPType.TheVariants as amqp
 use Rattle.amqp_grammar.specs.Values.{Tree, Trees, Entries, no_entries, onto, short, array, table}
 use Rattle.amqp_grammar.specs.Grammar.{small, large, Wire, raw_short, raw_array, raw_table}
 use Rattle.amqp_grammar.specs.Nesting.{nesting, RawWithin, BodyWithin, OutcomeWithin, RawOutcomeWithin}
-use Rattle.amqp_grammar.specs.Outcomes.{Reading, found, more, malformed, lack, frame_lack, counted, LacksOr, FrontBy, Outcome}
+use Rattle.amqp_grammar.specs.Outcomes.{Reading, found, more, unknown, malformed, lack, frame_lack, counted, LacksOr, FrontBy, Outcome}
 use Rattle.amqp_grammar.specs.Payloads.{RawFront, RawOutcome}
 use Rattle.amqp_grammar.proofs.GrammarLaws.{one_outcome_within, one_raw_reading, value_to_raw, raw_to_value_within, raw_whole, raw_found, wire_found, wire_found_within, array_body, table_body, short_bytes}
 use Rattle.amqp_input.specs.Inputs.{slice_bytes}
 use Rattle.amqp_input.specs.declared.input.SliceInput.{SliceInput}
 use Rattle.amqp_parsing.specs.declared.errors.Err.TheVariants.{Incomplete, Error, Failure}
 use Rattle.amqp_parsing.specs.declared.errors.Needed.TheVariants.{Unknown, Size}
-use Rattle.amqp_parsing.specs.declared.errors.ErrorKind.TheVariants.{Eof}
+use Rattle.amqp_parsing.specs.declared.errors.ErrorKind.TheVariants.{MapOpt, MapRes, Eof, OutOfMemory, TooLarge}
 use Rattle.amqp_parsing.specs.Refusals.{Refusal}
-use Rattle.amqp_parsing.specs.Typed.{IsType, OnlyLacks}
+use Rattle.amqp_parsing.specs.Typed.{IsType, IsNoType, OnlyLacks}
 use Rattle.amqp_parsing.specs.Bodies.{IsFrame, IsTable, IsNoBody, IsNoTable}
 use Rattle.amqp_parsing.specs.Answers.{Refuses}
-use Rattle.amqp_parsing.proofs.ParsingLaws.{unsigned_outcome, IsPlainPayload, plain_found, array_found, array_refused, array_too_deep, table_found, table_refused, table_too_deep}
+use Rattle.amqp_parsing.proofs.ParsingLaws.{Refuses-weaker, unsigned_outcome, IsPlainPayload, plain_found, array_found, array_refused, array_too_deep, table_found, table_refused, table_too_deep}
 use Rattle.amqp_in_place.specs.declared.head.Head.{Head}
 use Rattle.amqp_in_place.specs.declared.head.Head.TheVariants as head
 use Rattle.amqp_in_place.specs.declared.refs.ValueRef.{ValueRef}
 use Rattle.amqp_in_place.specs.declared.refs.ValueRef.TheVariants as at
 use Rattle.amqp_in_place.specs.Refs.{plain_tree, Stands}
+use Rattle.amqp_in_place.specs.Answers.{HeadRefuses}
 use Rattle.amqp_in_place.specs.Heads.{IsPlain, IsPlainType, RawHeadIs, IsHead, AtAnyDepth, Means, IsKeyFrame}
 
 -- a plain value stands for its tree
@@ -56,7 +57,7 @@ module _ (s mid : List ℕ) (type : AMQPType) (p : IsType s type mid) where
 
   -- the answer for the payload is the value's
   pub head_answer : (r : Result (SliceInput × Head) Refusal) → MatchResult r (λ x. RawHeadIs type mid x.1 (slice_bytes x.0)) (OnlyLacks (RawOutcome type mid) ⊥)
-      → MatchResult r (λ x. IsHead s x.1 (slice_bytes x.0)) (Refuses (AtAnyDepth s) ⊥)
+      → MatchResult r (λ x. IsHead s x.1 (slice_bytes x.0)) (HeadRefuses (AtAnyDepth s))
   head_answer (Ok x) q = (type, mid, p, q)
   head_answer (Err (Incomplete Unknown)) q = absurd q
   head_answer (Err (Incomplete (Size n))) q = typed_lack n q
@@ -79,6 +80,41 @@ unsigned_lacks s (Incomplete Unknown) x = x
 unsigned_lacks s (Incomplete (Size n)) x = unsigned_outcome s (more n) x
 unsigned_lacks s (Error k) x = x
 unsigned_lacks s (Failure k) x = x
+
+-- where no type is read, no value is
+none_there : (s : List ℕ) (o : Reading) → IsNoType s o → AtAnyDepth s o
+none_there [] o x = λ d. x
+none_there (c ∷ b) o x = λ d. rw x.1 x.0
+
+pub no_head : (s : List ℕ) (e : Refusal) → Refuses (IsNoType s) ⊥ e → HeadRefuses (AtAnyDepth s) e
+no_head s (Incomplete Unknown) x = x
+no_head s (Incomplete (Size n)) x = none_there s (more n) x
+no_head s (Error MapOpt) x = (refl, none_there s unknown x)
+no_head s (Error Eof) x = by s x
+  where
+    by : (s : List ℕ) → IsNoType s malformed → HeadRefuses (AtAnyDepth s) (Error Eof)
+    by [] y = absurd cc
+    by (c ∷ b) y = absurd (let e = y.0 in cc)
+no_head s (Error MapRes) x = absurd x
+no_head s (Error OutOfMemory) x = absurd x
+no_head s (Error TooLarge) x = absurd x
+no_head s (Failure k) x = x
+
+-- an error of the head is one of reading, whatever is wanted of it
+pub head_refuses : (Is : Reading → Type 0) (e : Refusal) → HeadRefuses Is e → Refuses Is ⊥ e
+head_refuses Is (Incomplete Unknown) x = x
+head_refuses Is (Incomplete (Size n)) x = x
+head_refuses Is (Error MapOpt) x = x.1
+head_refuses Is (Error MapRes) x = absurd (let e = x.0 in cc)
+head_refuses Is (Error Eof) x = absurd (let e = x.0 in cc)
+head_refuses Is (Error OutOfMemory) x = absurd (let e = x.0 in cc)
+head_refuses Is (Error TooLarge) x = absurd (let e = x.0 in cc)
+head_refuses Is (Failure k) x = x
+
+-- and so it is within each depth
+pub head_within : (d : ℕ) (s : List ℕ) (e : Refusal) → HeadRefuses (AtAnyDepth s) e → Refuses (OutcomeWithin d s) ⊥ e
+head_within d s e x =
+    Refuses-weaker (AtAnyDepth s) (OutcomeWithin d s) ⊥ ⊥ e (λ o y. y d) (λ h. h) (head_refuses (AtAnyDepth s) e x)
 
 -- ---- what a head is found to mean
 

@@ -5,3 +5,5 @@ pub mod Lookups
 pub mod Owning
 pub mod OneValue
 pub mod Skipping
+pub mod Places
+pub mod Canonicals

@@ -6,7 +6,8 @@ use Rattle.amqp_grammar.specs.Nesting.{OutcomeWithin}
 use Rattle.amqp_grammar.specs.Outcomes.{Reading, found, unknown, malformed, lack, LacksOr, Heavy}
 use Rattle.amqp_grammar.specs.Payloads.{RawFront, RawOutcome}
 use Rattle.amqp_grammar.specs.Outcomes.{Outcome}
-use Rattle.amqp_grammar.proofs.GrammarLaws.{unlimited}
+use Rattle.amqp_grammar.proofs.GrammarLaws.{unlimited, front_within}
+use Rattle.amqp_in_place.specs.Answers.{IsLeft}
 use Rattle.amqp_parsing.specs.declared.errors.Err.TheVariants.{Incomplete, Error, Failure}
 use Rattle.amqp_parsing.specs.declared.errors.Needed.TheVariants.{Unknown, Size}
 use Rattle.amqp_parsing.specs.declared.errors.ErrorKind.TheVariants.{MapOpt, MapRes, Eof, OutOfMemory, TooLarge}
@@ -67,3 +68,7 @@ bad_key d s es rest (Failure k) g h x = absurd x.1
 -- a depth that the bytes can't pass limits no refusal
 pub unlimited_refused : (d : ℕ) (s : List ℕ) (e : Refusal) → d ≡ length s → Refuses (OutcomeWithin d s) ⊥ e → Refuses (Outcome s) ⊥ e
 unlimited_refused d s e is x = Refuses-weaker (OutcomeWithin d s) (Outcome s) ⊥ ⊥ e (λ o y. unlimited d s o (omega arith) y) (λ h. h) x
+
+-- what is found leaves the rest of the input
+pub left_behind : (d : ℕ) (s : List ℕ) (v : Tree) (rest : List ℕ) → OutcomeWithin d s (found v rest) → IsLeft s rest
+left_behind d s v rest x = let f = front_within d s rest v x in (f.0, f.2)

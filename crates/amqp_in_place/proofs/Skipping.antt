@@ -5,16 +5,17 @@ use Rattle.amqp_types.specs.declared.amqp_type.AMQPType.{AMQPType}
 use Rattle.amqp_types.specs.declared.amqp_type.AMQPType.TheVariants as amqp
 use Rattle.amqp_grammar.specs.Values.{long}
 use Rattle.amqp_grammar.specs.Grammar.{large, wire, raw_long}
-use Rattle.amqp_grammar.specs.Outcomes.{Outcome}
+use Rattle.amqp_grammar.specs.Outcomes.{Reading, more, unknown, Outcome}
 use Rattle.amqp_grammar.proofs.GrammarLaws.{found_front, front_within, unlimited}
 use Rattle.amqp_input.specs.Inputs.{slice_bytes}
 use Rattle.amqp_parsing.specs.Refusals.{Refusal}
 use Rattle.amqp_parsing.specs.Typed.{IsType}
 use Rattle.amqp_parsing.specs.Bodies.{IsFrame}
-use Rattle.amqp_parsing.specs.Answers.{Refuses}
+use Rattle.amqp_parsing.specs.declared.errors.Err.TheVariants.{Incomplete, Error, Failure}
+use Rattle.amqp_parsing.specs.declared.errors.Needed.TheVariants.{Unknown, Size}
 use Rattle.amqp_parsing.specs.Headers.{extent_of, extent_at, extent}
-use Rattle.amqp_parsing.proofs.ParsingLaws.{wire_extent, Refuses-weaker}
-use Rattle.amqp_in_place.specs.Answers.{IsWidthOfFound}
+use Rattle.amqp_parsing.proofs.ParsingLaws.{wire_extent}
+use Rattle.amqp_in_place.specs.Answers.{IsWidthOfFound, HeadRefuses}
 use Rattle.amqp_in_place.specs.declared.head.Head.{Head}
 use Rattle.amqp_in_place.specs.declared.head.Head.TheVariants as head
 use Rattle.amqp_in_place.specs.Refs.{plain_tree}
@@ -45,5 +46,11 @@ width_of_found s n e v rest x =
     omega (arith, e, ap extent f.2, wire_extent f.0 rest v f.1, ap length f.2, length-append f.0 rest)
 
 -- what is refused whatever the limit on depth is refused with none
-pub refused_so : (s : List ℕ) (e : Refusal) → Refuses (AtAnyDepth s) ⊥ e → Refuses (Outcome s) ⊥ e
-refused_so s e x = Refuses-weaker (AtAnyDepth s) (Outcome s) ⊥ ⊥ e (λ o y. unlimited (length s) s o (omega arith) (y (length s))) (λ h. h) x
+at_no_depth : (s : List ℕ) (o : Reading) → AtAnyDepth s o → Outcome s o
+at_no_depth s o y = unlimited (length s) s o (omega arith) (y (length s))
+
+pub refused_so : (s : List ℕ) (e : Refusal) → HeadRefuses (AtAnyDepth s) e → HeadRefuses (Outcome s) e
+refused_so s (Incomplete Unknown) x = x
+refused_so s (Incomplete (Size n)) x = at_no_depth s (more n) x
+refused_so s (Error k) x = (x.0, at_no_depth s unknown x.1)
+refused_so s (Failure k) x = x

@@ -26,16 +26,17 @@ use Rattle.amqp_in_place.specs.declared.head.Head.{Head}
 use Rattle.amqp_in_place.specs.declared.head.Head.TheVariants as head
 use Rattle.amqp_in_place.specs.declared.refs.ValueRef.{ValueRef}
 use Rattle.amqp_in_place.specs.Refs.{Stands}
+use Rattle.amqp_in_place.specs.Answers.{HeadRefuses}
 use Rattle.amqp_in_place.specs.Heads.{IsHead, AtAnyDepth, Means, IsMeant, IsKeyFrame}
 use Rattle.amqp_in_place.specs.Walks.{NextValueIs, NextPairIs}
-use Rattle.amqp_in_place.proofs.HeadLemmas.{only}
+use Rattle.amqp_in_place.proofs.HeadLemmas.{only, head_refuses}
 
 -- what can't be has one proof at most
 no_prop : IsProp ⊥
 no_prop x y = absurd x
 
 -- where reading finds something it isn't refused
-refusal_of_none : (Is : Reading → Type 0) → ((o : Reading) → Is o → ((v : Tree) (left : List ℕ) → o ≡ found v left → ⊥) → ⊥) → (e : Refusal) → Refuses Is ⊥ e → ⊥
+pub refusal_of_none : (Is : Reading → Type 0) → ((o : Reading) → Is o → ((v : Tree) (left : List ℕ) → o ≡ found v left → ⊥) → ⊥) → (e : Refusal) → Refuses Is ⊥ e → ⊥
 refusal_of_none Is f (Incomplete Unknown) x = x
 refusal_of_none Is f (Incomplete (Size n)) x = f (more n) x (λ v left e. cc)
 refusal_of_none Is f (Error MapOpt) x = f unknown x (λ v left e. cc)
@@ -46,7 +47,7 @@ refusal_of_none Is f (Error TooLarge) x = x
 refusal_of_none Is f (Failure k) x = x.1
 
 -- a value stands at the beginning of s, and `left` after it
-record AtFront (s : List ℕ) : Type 0 where
+pub record AtFront (s : List ℕ) : Type 0 where
   pub value_there : Tree
   pub bytes : List ℕ
   pub left : List ℕ
@@ -54,12 +55,12 @@ record AtFront (s : List ℕ) : Type 0 where
   pub front : s ≡ bytes ++ left
 
 -- so its head is read
-never_refused : (s : List ℕ) (e : Refusal) → AtFront s → Refuses (AtAnyDepth s) ⊥ e → ⊥
+pub never_refused : (s : List ℕ) (e : Refusal) → AtFront s → HeadRefuses (AtAnyDepth s) e → ⊥
 never_refused s e a x =
     let d = nesting a.bytes a.value_there a.is_wire in
     let here : OutcomeWithin d s (found a.value_there a.left) =
     subst (λ (t : List ℕ). OutcomeWithin d t (found a.value_there a.left)) (sym a.front) (wire_found_within d a.bytes a.left a.value_there a.is_wire (omega arith)) in
-    refusal_of_none (AtAnyDepth s) (λ o y other. other a.value_there a.left (one_outcome_within d s o (found a.value_there a.left) (y d) here)) e x
+    refusal_of_none (AtAnyDepth s) (λ o y other. other a.value_there a.left (one_outcome_within d s o (found a.value_there a.left) (y d) here)) e (head_refuses (AtAnyDepth s) e x)
 
 -- and means it
 meant : (s : List ℕ) (h : Head) (rest : List ℕ) → IsHead s h rest → (a : AtFront s) → Means h a.value_there × (a.left ≡ rest)
@@ -91,7 +92,7 @@ first_value _ _ some (value w left v vs p all) =
     record { at = record { value_there = v; bytes = w; left = left; is_wire = p; front = refl }; others = vs; are = refl; more_values = all }
 
 -- a head is read
-pub value_there : (s : List ℕ) (e : Refusal) → 0 < length s → ∥ HasValues s ∥₁ → Refuses (AtAnyDepth s) ⊥ e → ⊥
+pub value_there : (s : List ℕ) (e : Refusal) → 0 < length s → ∥ HasValues s ∥₁ → HeadRefuses (AtAnyDepth s) e → ⊥
 value_there s e some has x = ∥∥₁_elim has no_prop (λ (p : HasValues s). never_refused s e (first_value s p.0 some p.1).at x)
 
 module _ (s : List ℕ) (h : Head) (rest : List ℕ) (some : 0 < length s) (is : IsHead s h rest) where
@@ -172,7 +173,7 @@ module _ (s key behind : List ℕ) (f : IsKeyFrame s key behind) where
       IsUtf8-from_is_utf8 key (∥∥₁_elim has (Bool-set _ _) (λ (p : HasPairs s). is_utf8-from_IsUtf8 key (first_pair s key behind p.0 f p.1).short_key.utf8))
 
   -- a head is read after it
-  pub pair_there : (e : Refusal) → ∥ HasPairs s ∥₁ → Refuses (AtAnyDepth behind) ⊥ e → ⊥
+  pub pair_there : (e : Refusal) → ∥ HasPairs s ∥₁ → HeadRefuses (AtAnyDepth behind) e → ⊥
   pair_there e has x = ∥∥₁_elim has no_prop (λ (p : HasPairs s). never_refused behind e (first_pair s key behind p.0 f p.1).at x)
 
   -- it means something

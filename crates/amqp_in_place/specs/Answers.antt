@@ -1,14 +1,25 @@
 -- What reading in place answers.
-use Rattle.std.specs.Prelude.{ℕ, ◌≡◌, ◌+◌, List, length}
+use Rattle.std.specs.Prelude.{ℕ, ◌≡◌, ◌+◌, List, ◌++◌, length}
 use Rattle.amqp_grammar.specs.Values.{Tree}
-use Rattle.amqp_grammar.specs.Outcomes.{found, Outcome}
+use Rattle.amqp_grammar.specs.Outcomes.{Reading, found, unknown, Outcome}
 use Rattle.amqp_parsing.specs.declared.errors.Err.TheVariants.{Failure}
+use Rattle.amqp_parsing.specs.declared.errors.ErrorKind.TheVariants.{MapOpt}
+use Rattle.amqp_parsing.specs.Answers.{RefusesAs}
 use Rattle.amqp_parsing.specs.Refusals.{Refusal}
 
 -- an error tells of the input, and of no memory
 abbrev pub NeedsNoMemory : Refusal → Type 0
 NeedsNoMemory (Failure kind) = ⊥
 NeedsNoMemory _ = Unit {0}
+
+-- an error of reading a type tag and a length is right: where enough bytes are there, the type tag
+-- stands for no type
+abbrev pub HeadRefuses : (Reading → Type 0) → Refusal → Type 0
+HeadRefuses Is e = RefusesAs (λ kind. (kind ≡ MapOpt) × Is unknown) Is ⊥ e
+
+-- the rest is what is left of s after the bytes before it
+abbrev pub IsLeft : List ℕ → List ℕ → Type 0
+IsLeft s rest = (w : List ℕ) × (s ≡ w ++ rest)
 
 -- n bytes stand before what is left after the value at the beginning, where there is one
 abbrev pub IsWidthOfFound : List ℕ → ℕ → Type 0

@@ -14,7 +14,7 @@ use Rattle.amqp_in_place.specs.declared.head.Head.{Head}
 use Rattle.amqp_in_place.specs.declared.head.Head.TheVariants as head
 use Rattle.amqp_in_place.specs.declared.refs.ValueRef.{ValueRef}
 use Rattle.amqp_in_place.specs.declared.refs.ValueRef.TheVariants as at
-use Rattle.amqp_in_place.specs.Refs.{plain_tree, Stands}
+use Rattle.amqp_in_place.specs.Refs.{array_body, table_body, plain_tree, Stands}
 use Rattle.amqp_in_place.specs.Bodies.{HasEntries}
 
 -- the value is no container
@@ -52,6 +52,13 @@ Means (head.FieldTable i) v = (es : Entries) × HasEntries (slice_bytes i) es ×
 -- the head means something
 abbrev pub IsMeant : Head → Type 0
 IsMeant h = (v : Tree) × Means h v
+
+-- the value is what stands in the head
+abbrev pub RefersTo : Head → ValueRef → Type 0
+RefersTo (head.Plain r) q = q ≡ r
+RefersTo (head.FieldArray i) (at.FieldArray a) = array_body a ≡ slice_bytes i
+RefersTo (head.FieldTable i) (at.FieldTable t) = table_body t ≡ slice_bytes i
+RefersTo _ _ = ⊥
 
 -- `body` stands after its length in one byte, and `rest` after it
 pub record IsKeyFrame (s body rest : List ℕ) : Type 0 where

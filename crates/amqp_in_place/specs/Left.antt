@@ -5,7 +5,7 @@ use Rattle.amqp_in_place.specs.declared.iter.ArrayValues.{ArrayValues}
 use Rattle.amqp_in_place.specs.declared.iter.TablePairs.{TablePairs}
 
 abbrev pub values_left : ArrayValues → List ℕ
-values_left s = slice_bytes s.rest
+values_left s = slice_bytes s.values
 
 abbrev pub pairs_left : TablePairs → List ℕ
-pairs_left s = slice_bytes s.rest
+pairs_left s = slice_bytes s.pairs

@@ -4,3 +4,5 @@ pub mod Heads
 pub mod Walks
 pub mod Answers
 pub mod Left
+pub mod Places
+pub mod Canonicals

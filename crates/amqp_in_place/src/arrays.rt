@@ -1,11 +1,12 @@
 //! What stands in an array.
 
-ghost use Rattle.std.specs.Prelude.{◌≡◌, ◌<◌, ◌↔◌, IsTrue, length, MatchResult};
+ghost use Rattle.std.specs.Prelude.{◌≡◌, ◌<◌, ◌↔◌, IsTrue, IfSome, length, MatchResult};
 ghost use Rattle.amqp_grammar.specs.Values.{Trees, no_trees};
 ghost use Rattle.amqp_grammar.specs.Grammar.{Body};
 ghost use Rattle.amqp_value_core.specs.Containers.{array_view};
 ghost use Rattle.amqp_in_place.specs.Refs.{array_body};
 ghost use Rattle.amqp_in_place.specs.Walks.{FoundIs, tree_at};
+ghost use Rattle.amqp_in_place.specs.Places.{LiesWithin};
 
 use super::refs::{ArrayRef, ValueRef};
 use super::steps::next_value;
@@ -15,6 +16,13 @@ use amqp_value_core::types::FieldArray;
 use std::alloc::{AllocError, Global};
 
 impl<'a> ArrayRef<'a> {
+    /// The bytes of its body: those after its length.
+    pub fn as_bytes(self) -> &'a [u8]
+        ensures { result.now ≡ array_body self.entry }
+    {
+        self.body().as_slice()
+    }
+
     /// Whether there is no value.
     pub fn is_empty(self) -> bool
         ensures { (vs : Trees) → Body (array_body self.entry) vs → IsTrue result ↔ (vs ≡ no_trees) }
@@ -24,7 +32,8 @@ impl<'a> ArrayRef<'a> {
 
     /// The value at `index`, counted from 0. Walks the values before it.
     pub fn get(self, index: usize) -> Option<ValueRef<'a>>
-        ensures { (vs : Trees) → Body (array_body self.entry) vs → FoundIs (tree_at index vs) result }
+        ensures value { (vs : Trees) → Body (array_body self.entry) vs → FoundIs (tree_at index vs) result }
+        ensures lies { IfSome result (λ r. LiesWithin (array_body self.entry) r) }
     {
         let mut left = index;
         let mut rest = self.body();

@@ -5,6 +5,7 @@ ghost use Rattle.amqp_grammar.specs.Payloads.{RawOutcome};
 ghost use Rattle.amqp_input.specs.Inputs.{slice_bytes};
 ghost use Rattle.amqp_parsing.specs.Typed.{OnlyLacks};
 ghost use Rattle.amqp_parsing.specs.Answers.{Refuses};
+ghost use Rattle.amqp_in_place.specs.Answers.{HeadRefuses};
 ghost use Rattle.amqp_in_place.specs.Heads.{RawHeadIs, IsHead, IsKeyFrame, AtAnyDepth};
 
 use super::refs::ValueRef;
@@ -27,11 +28,11 @@ pub(crate) enum Head<'a> {
 
 // Reads an id and what stands after it, one level deep.
 #[inline(always)]
-#[tactic(auto, using(crate::proofs::HeadLemmas::head_answer))]
+#[tactic(auto, using(crate::proofs::HeadLemmas::head_answer, crate::proofs::HeadLemmas::no_head))]
 pub(crate) fn read_head<'a>(i: SliceInput<'a>) -> ParserResult<SliceInput<'a>, Head<'a>>
     ensures { MatchResult result
         (λ x. IsHead (slice_bytes i.entry) x.1 (slice_bytes x.0))
-        (Refuses (AtAnyDepth (slice_bytes i.entry)) ⊥) }
+        (HeadRefuses (AtAnyDepth (slice_bytes i.entry))) }
 {
     let (i, amqp_type) = parse_type(i)?;
     read_payload_head(amqp_type, i)

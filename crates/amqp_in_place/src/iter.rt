@@ -10,16 +10,16 @@ use amqp_input::SliceInput;
 /// The values of an array that are left, in order.
 #[derive(Drop)]
 pub struct ArrayValues<'a> {
-    rest: SliceInput<'a>,
-    ghost well_formed: { ∥ HasValues (slice_bytes rest) ∥₁ },
+    values: SliceInput<'a>,
+    ghost well_formed: { ∥ HasValues (slice_bytes values) ∥₁ },
 }
 
 /// The pairs of a table that are left, in the order in which they are written. A key may come more
 /// than once: the last pair's value is the one that counts.
 #[derive(Drop)]
 pub struct TablePairs<'a> {
-    rest: SliceInput<'a>,
-    ghost well_formed: { ∥ HasPairs (slice_bytes rest) ∥₁ },
+    pairs: SliceInput<'a>,
+    ghost well_formed: { ∥ HasPairs (slice_bytes pairs) ∥₁ },
 }
 
 impl<'a> ArrayRef<'a> {
@@ -31,7 +31,9 @@ impl<'a> ArrayRef<'a> {
     pub fn iter(self) -> ArrayValues<'a>
         ensures { values_left result ≡ array_body self.entry }
     {
-        ArrayValues { rest: self.body() }
+        ArrayValues {
+            values: self.body(),
+        }
     }
 }
 
@@ -44,48 +46,78 @@ impl<'a> TableRef<'a> {
     pub fn iter(self) -> TablePairs<'a>
         ensures { pairs_left result ≡ table_body self.entry }
     {
-        TablePairs { rest: self.body() }
+        TablePairs { pairs: self.body() }
     }
 }
 
 impl<'a> Iterator for ArrayValues<'a> {
-    ghost use Rattle.std.specs.Prelude.{length};
+    ghost use Rattle.std.specs.Prelude.{length, IfSome};
     ghost use Rattle.std.specs.Iterator.{at_most};
     ghost use Rattle.amqp_grammar.specs.Values.{Trees};
     ghost use Rattle.amqp_grammar.specs.Grammar.{Body};
     ghost use Rattle.amqp_in_place.specs.Left.{values_left};
     ghost use Rattle.amqp_in_place.specs.Walks.{ValueStep};
+    ghost use Rattle.amqp_in_place.specs.Places.{LiesIn};
 
     type Item = ValueRef<'a>;
 
-    ghost next_gives = { λ s r t. (vs : Trees) → Body (values_left s) vs → ValueStep vs r (values_left t) };
+    ghost next_gives = { λ s r t.
+        ((vs : Trees) → Body (values_left s) vs → ValueStep vs r (values_left t))
+        × IfSome r (λ x. LiesIn (values_left s) x (values_left t)) };
 
     ghost remaining = { λ s. at_most (length (values_left s)) };
 
     fn next(&mut self) -> Option<ValueRef<'a>> {
-        let (value, rest) = next_value(self.rest)?;
-        self.rest = rest;
+        let (value, rest) = next_value(self.values)?;
+        self.values = rest;
         Some(value)
     }
 }
 
 impl<'a> Iterator for TablePairs<'a> {
-    ghost use Rattle.std.specs.Prelude.{length};
+    ghost use Rattle.std.specs.Prelude.{length, IfSome};
     ghost use Rattle.std.specs.Iterator.{at_most};
     ghost use Rattle.amqp_grammar.specs.Values.{Entries};
     ghost use Rattle.amqp_grammar.specs.Grammar.{Pairs};
     ghost use Rattle.amqp_in_place.specs.Left.{pairs_left};
     ghost use Rattle.amqp_in_place.specs.Walks.{PairStep};
+    ghost use Rattle.amqp_in_place.specs.Places.{PairLiesIn};
 
     type Item = (&'a str, ValueRef<'a>);
 
-    ghost next_gives = { λ s r t. (ps : Entries) → Pairs (pairs_left s) ps → PairStep ps r (pairs_left t) };
+    ghost next_gives = { λ s r t.
+        ((ps : Entries) → Pairs (pairs_left s) ps → PairStep ps r (pairs_left t))
+        × IfSome r (λ x. PairLiesIn (pairs_left s) x.0.now x.1 (pairs_left t)) };
 
     ghost remaining = { λ s. at_most (length (pairs_left s)) };
 
     fn next(&mut self) -> Option<(&'a str, ValueRef<'a>)> {
-        let (key, value, rest) = next_pair(self.rest)?;
-        self.rest = rest;
+        let (key, value, rest) = next_pair(self.pairs)?;
+        self.pairs = rest;
         Some((key, value))
+    }
+}
+
+impl<'a> ArrayValues<'a> {
+    ghost use Rattle.std.specs.Prelude.{◌≡◌};
+    ghost use Rattle.amqp_in_place.specs.Left.{values_left};
+
+    /// The bytes of the values that are left: those of the array from the next value on.
+    pub fn as_bytes(&self) -> &'a [u8]
+        ensures { result.now ≡ values_left self.now }
+    {
+        self.values.as_slice()
+    }
+}
+
+impl<'a> TablePairs<'a> {
+    ghost use Rattle.std.specs.Prelude.{◌≡◌};
+    ghost use Rattle.amqp_in_place.specs.Left.{pairs_left};
+
+    /// The bytes of the pairs that are left: those of the table from the next key's length on.
+    pub fn as_bytes(&self) -> &'a [u8]
+        ensures { result.now ≡ pairs_left self.now }
+    {
+        self.pairs.as_slice()
     }
 }

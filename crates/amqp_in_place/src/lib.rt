@@ -2,6 +2,7 @@
 #![tactic(auto)]
 
 mod arrays;
+mod canonical;
 mod getters;
 mod head;
 mod iter;
@@ -12,6 +13,7 @@ mod skip;
 mod steps;
 mod tables;
 
+pub use canonical::{canonical_len, is_canonical};
 pub use iter::{ArrayValues, TablePairs};
 pub use read::{read_in_place, read_in_place_unlimited};
 pub use refs::{ArrayRef, TableRef, ValueRef};

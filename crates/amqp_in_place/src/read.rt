@@ -10,7 +10,8 @@ ghost use Rattle.amqp_parsing.specs.Answers.{Refuses};
 ghost use Rattle.amqp_parsing.specs.Bodies.{IsNoBody, IsTable, IsNoTable};
 ghost use Rattle.amqp_parsing.specs.Limits.{Within, RefusesWithin};
 ghost use Rattle.amqp_in_place.specs.Refs.{Stands, IsOneValue};
-ghost use Rattle.amqp_in_place.specs.Answers.{NeedsNoMemory};
+ghost use Rattle.amqp_in_place.specs.Answers.{IsLeft, NeedsNoMemory};
+ghost use Rattle.amqp_in_place.specs.Places.{LiesIn};
 
 use super::head::{Head, read_head, read_key};
 use super::refs::{ArrayRef, TableRef, ValueRef};
@@ -25,13 +26,15 @@ use simdutf8::basic::Utf8Error;
 ///
 /// All of the value is checked, keys' UTF-8 too. Nothing is copied, and no memory is taken. It
 /// recurses at most `limits.depth` deep.
-#[tactic(auto, using(crate::proofs::OneValue::one_value))]
+#[tactic(auto, using(crate::proofs::OneValue::one_value, crate::proofs::Reading::left_behind))]
 pub fn read_in_place(bytes: &[u8], limits: Limits) -> Result<(ValueRef<'_>, &[u8]), ParserError>
     ensures within { MatchResult result
         (λ x. (v : Tree) × Stands x.0 v × Within limits bytes.now (found v x.1.now))
         (RefusesWithin limits bytes.now) }
     ensures no_memory { IfErr result NeedsNoMemory }
     ensures one { IfOk result (λ x. IsOneValue x.0) }
+    ensures rest { IfOk result (λ x. IsLeft bytes.now x.1.now) }
+    ensures lies { IfOk result (λ x. LiesIn bytes.now x.0 x.1.now) }
 {
     let i = SliceInput::new(bytes);
     match header_of(i, limits.frame) {
@@ -49,10 +52,14 @@ pub fn read_in_place(bytes: &[u8], limits: Limits) -> Result<(ValueRef<'_>, &[u8
 /// never runs out of memory.
 ///
 /// It recurses as deep as containers nest, which the input's length alone bounds.
+#[tactic(auto, using(crate::proofs::OneValue::one_value, crate::proofs::Reading::left_behind))]
 pub fn read_in_place_unlimited(bytes: &[u8]) -> Result<(ValueRef<'_>, &[u8]), ParserError>
-    ensures { MatchResult result
+    ensures outcome { MatchResult result
         (λ x. (v : Tree) × Stands x.0 v × Outcome bytes.now (found v x.1.now))
         (Refuses (Outcome bytes.now) ⊥) }
+    ensures one { IfOk result (λ x. IsOneValue x.0) }
+    ensures rest { IfOk result (λ x. IsLeft bytes.now x.1.now) }
+    ensures lies { IfOk result (λ x. LiesIn bytes.now x.0 x.1.now) }
 {
     let (rest, value) = value_within(SliceInput::new(bytes), bytes.len())?;
     Ok((value, rest.as_slice()))
@@ -61,10 +68,12 @@ pub fn read_in_place_unlimited(bytes: &[u8]) -> Result<(ValueRef<'_>, &[u8]), Pa
 // Reads a value in which containers nest at most `depth` deep.
 #[cycle(reader)]
 #[inline(always)]
+#[tactic(auto, using(crate::proofs::HeadLemmas::head_within))]
 fn value_within<'a>(i: SliceInput<'a>, depth: usize) -> ParserResult<SliceInput<'a>, ValueRef<'a>>
-    ensures { MatchResult result
+    ensures outcome { MatchResult result
         (λ x. (v : Tree) × Stands x.1 v × OutcomeWithin depth (slice_bytes i.entry) (found v (slice_bytes x.0)))
         (Refuses (OutcomeWithin depth (slice_bytes i.entry)) ⊥) }
+    ensures lies { IfOk result (λ x. LiesIn (slice_bytes i.entry) x.1 (slice_bytes x.0)) }
 {
     let (rest, head) = read_head(i)?;
     match head {
@@ -135,7 +144,7 @@ fn are_pairs<'a>(body: SliceInput<'a>, depth: usize) -> bool
 // Checks that bytes are UTF-8. Most keys are ASCII. The standard library's check is left to
 // `parse_value`, which has it in line as long as nothing else calls it.
 #[tactic(auto, using(crate::proofs::Reading::ascii_is_utf8))]
-fn check_utf8(bytes: &[u8]) -> Result<(), Utf8Error>
+pub(crate) fn check_utf8(bytes: &[u8]) -> Result<(), Utf8Error>
     ensures { MatchResult result (λ _. IsUtf8 bytes.now) (λ _. IsUtf8 bytes.now → ⊥) }
 {
     if bytes.iter().all(|byte| *byte < 128) || simdutf8::is_utf8(bytes) {

@@ -1,10 +1,9 @@
 //! How many bytes a value takes.
 
-ghost use Rattle.std.specs.Prelude.{◌≡◌, IfOk, MatchResult};
+ghost use Rattle.std.specs.Prelude.{◌≡◌, ◌<◌, ◌≤◌, length, IfErr, IfOk};
 ghost use Rattle.amqp_grammar.specs.Outcomes.{Outcome};
-ghost use Rattle.amqp_parsing.specs.Answers.{Refuses};
 ghost use Rattle.amqp_parsing.specs.Headers.{extent};
-ghost use Rattle.amqp_in_place.specs.Answers.{IsWidthOfFound};
+ghost use Rattle.amqp_in_place.specs.Answers.{IsWidthOfFound, HeadRefuses};
 
 use super::head::read_head;
 use amqp_input::{ParsableInput, SliceInput};
@@ -16,7 +15,9 @@ use amqp_parsing::ParserError;
 /// It rejects what `parse_value` rejects for its type tag, and asks for more bytes where that does.
 #[tactic(auto, using(crate::proofs::Skipping::skipped, crate::proofs::Skipping::width_of_found, crate::proofs::Skipping::refused_so))]
 pub fn skip_value(bytes: &[u8]) -> Result<usize, ParserError>
-    ensures extent { MatchResult result (λ n. n ≡ extent bytes.now) (Refuses (Outcome bytes.now) ⊥) }
+    ensures extent { IfOk result (λ n. n ≡ extent bytes.now) }
+    ensures whole { IfOk result (λ n. (0 < n) × (n ≤ length bytes.now)) }
+    ensures err { IfErr result (HeadRefuses (Outcome bytes.now)) }
     ensures value { IfOk result (λ n. IsWidthOfFound bytes.now n) }
 {
     let (rest, _) = read_head(SliceInput::new(bytes))?;

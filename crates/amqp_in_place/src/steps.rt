@@ -1,12 +1,13 @@
 //! Stepping through bodies that were checked.
 
-ghost use Rattle.std.specs.Prelude.{length};
+ghost use Rattle.std.specs.Prelude.{length, IfSome};
 ghost use Rattle.amqp_grammar.specs.Values.{Tree, Trees, Entries};
 ghost use Rattle.amqp_grammar.specs.Grammar.{Body, Pairs};
 ghost use Rattle.amqp_input.specs.Inputs.{slice_bytes};
 ghost use Rattle.amqp_in_place.specs.Bodies.{HasValues, HasPairs};
 ghost use Rattle.amqp_in_place.specs.Refs.{Stands};
-ghost use Rattle.amqp_in_place.specs.Heads.{IsMeant, Means};
+ghost use Rattle.amqp_in_place.specs.Heads.{IsMeant, Means, RefersTo};
+ghost use Rattle.amqp_in_place.specs.Places.{LiesIn, PairLiesIn};
 ghost use Rattle.amqp_in_place.specs.Walks.{NextValueIs, MoreValues, NextPairIs, MorePairs};
 
 use super::head::{Head, read_head, read_key};
@@ -18,7 +19,8 @@ use std::str;
 #[inline(always)]
 fn value_of<'a>(head: Head<'a>) -> ValueRef<'a>
     requires { ∥ IsMeant head ∥₁ }
-    ensures { (v : Tree) → Means head.entry v → Stands result v }
+    ensures means { (v : Tree) → Means head.entry v → Stands result v }
+    ensures refers { RefersTo head.entry result }
 {
     match head {
         Head::Plain(value) => value,
@@ -33,6 +35,7 @@ pub(crate) fn next_value<'a>(bytes: SliceInput<'a>) -> Option<(ValueRef<'a>, Sli
     requires { ∥ HasValues (slice_bytes bytes) ∥₁ }
     ensures value { (vs : Trees) → Body (slice_bytes bytes.entry) vs → NextValueIs vs result }
     ensures more { MoreValues (length (slice_bytes bytes.entry)) result }
+    ensures lies { IfSome result (λ x. LiesIn (slice_bytes bytes.entry) x.0 (slice_bytes x.1)) }
 {
     if bytes.input_len() == 0 {
         return None;
@@ -51,6 +54,7 @@ pub(crate) fn next_pair<'a>(
     requires { ∥ HasPairs (slice_bytes bytes) ∥₁ }
     ensures pair { (ps : Entries) → Pairs (slice_bytes bytes.entry) ps → NextPairIs ps result }
     ensures more { MorePairs (length (slice_bytes bytes.entry)) result }
+    ensures lies { IfSome result (λ x. PairLiesIn (slice_bytes bytes.entry) x.0.now x.1 (slice_bytes x.2)) }
 {
     if bytes.input_len() == 0 {
         return None;

@@ -1,6 +1,6 @@
 //! What stands in a table.
 
-ghost use Rattle.std.specs.Prelude.{◌≡◌, ◌<◌, ◌↔◌, IsTrue, length, MatchResult};
+ghost use Rattle.std.specs.Prelude.{◌≡◌, ◌<◌, ◌↔◌, IsTrue, IfSome, length, MatchResult};
 ghost use Rattle.amqp_grammar.specs.Values.{Entries, no_entries};
 ghost use Rattle.amqp_grammar.specs.Maps.{has_key, value_at};
 ghost use Rattle.amqp_grammar.specs.Grammar.{Pairs};
@@ -8,6 +8,7 @@ ghost use Rattle.amqp_value_core.specs.Containers.{table_view};
 ghost use Rattle.amqp_in_place.specs.Bodies.{HasEntries};
 ghost use Rattle.amqp_in_place.specs.Refs.{table_body};
 ghost use Rattle.amqp_in_place.specs.Walks.{FoundIs};
+ghost use Rattle.amqp_in_place.specs.Places.{LiesWithin};
 
 use super::refs::{TableRef, ValueRef};
 use super::steps::next_pair;
@@ -17,6 +18,13 @@ use amqp_value_core::types::FieldTable;
 use std::alloc::{AllocError, Global};
 
 impl<'a> TableRef<'a> {
+    /// The bytes of its body: those after its length.
+    pub fn as_bytes(self) -> &'a [u8]
+        ensures { result.now ≡ table_body self.entry }
+    {
+        self.body().as_slice()
+    }
+
     /// Whether there is no entry.
     #[tactic(auto, using(crate::proofs::Lookups::no_pairs_at))]
     pub fn is_empty(self) -> bool
@@ -27,7 +35,8 @@ impl<'a> TableRef<'a> {
 
     /// The value at the key: of equal keys the last pair's. Walks all pairs.
     pub fn get(self, key: &str) -> Option<ValueRef<'a>>
-        ensures { (es : Entries) → HasEntries (table_body self.entry) es → FoundIs (value_at key.now es) result }
+        ensures value { (es : Entries) → HasEntries (table_body self.entry) es → FoundIs (value_at key.now es) result }
+        ensures lies { IfSome result (λ r. LiesWithin (table_body self.entry) r) }
     {
         let mut at = None;
         let mut rest = self.body();

@@ -3,7 +3,8 @@
 mod rows;
 
 use self::rows::{
-    EMPTY, LACKING, MANY, NUMBERS, PAYLOADS, SCALAR_PAYLOADS, SCALARS, TYPES, VALUES, WITHOUT,
+    COPIED, EMPTY, LACKING, LIGHT, MANY, NUMBERS, PAYLOADS, SCALAR_PAYLOADS, SCALARS, TYPES,
+    VALUES, WITHOUT,
 };
 use crate::conversions::Document;
 use crate::generation::Filler;
@@ -13,7 +14,7 @@ use crate::made::{Kind, NAMES, Plan};
 use crate::making::Maker;
 use crate::parsing::Parser;
 use crate::stream::{LIMITS, NARROW};
-use crate::{conversions, copies, flags, generation, growing, making, parsing, stream};
+use crate::{conversions, copies, flags, generation, growing, in_place, making, parsing, stream};
 use amq_protocol_types::AMQPType;
 use amqp_samples::TABLE;
 use std::alloc::Global;
@@ -31,7 +32,8 @@ pub fn run<R: Print + Eprint>(rt: &R, alloc: Global, name: &str) -> io::Result<b
             || of_copies(rt, alloc, name)?
             || of_conversions(rt, alloc, name)?
             || of_generators(rt, alloc, name)?
-            || of_streams(rt, alloc, name)?,
+            || of_streams(rt, alloc, name)?
+            || of_values_in_place(rt, alloc, name)?,
     )
 }
 
@@ -668,6 +670,19 @@ fn of_streams<R: Print + Eprint>(rt: &R, alloc: Global, name: &str) -> io::Resul
             parsing::once(rt, alloc, &[Parser::Within(NARROW)], &[TABLE])?;
             stream::failed(rt, alloc)
         }
+        _ => return Ok(false),
+    };
+    answer?;
+    Ok(true)
+}
+
+/// Cases of values where their bytes lie.
+pub const IN_PLACE: [&str; 2] = ["value_in_place_to_owned", "in_place_without_memory"];
+
+fn of_values_in_place<R: Print + Eprint>(rt: &R, alloc: Global, name: &str) -> io::Result<bool> {
+    let answer = match name {
+        "value_in_place_to_owned" => in_place::copied(rt, alloc, &COPIED),
+        "in_place_without_memory" => in_place::without(rt, alloc, TABLE, &LIGHT),
         _ => return Ok(false),
     };
     answer?;

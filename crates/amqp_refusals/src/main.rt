@@ -12,6 +12,7 @@ mod copies;
 mod flags;
 mod generation;
 mod growing;
+mod in_place;
 mod made;
 mod making;
 mod parsing;
@@ -59,6 +60,7 @@ fn run_all<R: Print + Eprint>(rt: &R, alloc: Global) -> io::Result<bool> {
         cases::CONVERSIONS.as_slice(),
         cases::GENERATORS.as_slice(),
         cases::STREAMS.as_slice(),
+        cases::IN_PLACE.as_slice(),
     ] {
         for name in names {
             are_found = run_case(rt, alloc, name)? && are_found;

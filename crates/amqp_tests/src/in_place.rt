@@ -1,8 +1,11 @@
 //! Values where their bytes lie, by worked bytes.
 
-use amq_protocol_types::AMQPValue;
-use amq_protocol_types::in_place::{Limits, TableRef, ValueRef, read_in_place, skip_value};
+use amq_protocol_types::in_place::{
+    Limits, TableRef, ValueRef, canonical_len, is_canonical, read_in_place,
+    read_in_place_unlimited, skip_value,
+};
 use amq_protocol_types::parsing::{Err, ErrorKind, Needed, SliceInput, parse_value};
+use amq_protocol_types::{AMQPType, AMQPValue};
 use std::alloc::Global;
 use std::test::Fail;
 
@@ -23,6 +26,36 @@ const NESTED: &[u8] = b"F\0\0\0\x07\x01aF\0\0\0\0";
 
 /// The key of two nested arrays comes again, with Void.
 const DEEP_FIRST: &[u8] = b"F\0\0\0\x0f\x01aA\0\0\0\x05A\0\0\0\0\x01aV";
+
+/// A value of each type, by its type tag and its payload.
+const EACH: [(&[u8], AMQPType); 18] = [
+    (b"t\x01", AMQPType::Boolean),
+    (b"b\xfe", AMQPType::ShortShortInt),
+    (b"B\xfe", AMQPType::ShortShortUInt),
+    (b"s\xff\xfe", AMQPType::ShortInt),
+    (b"u\xff\xfe", AMQPType::ShortUInt),
+    (b"I\xff\xff\xff\xfe", AMQPType::LongInt),
+    (b"i\xff\xff\xff\xfe", AMQPType::LongUInt),
+    (b"l\xff\xff\xff\xff\xff\xff\xff\xfe", AMQPType::LongLongInt),
+    (b"L\0\0\0\0\0\0\0\x02", AMQPType::LongLongInt),
+    (b"f\x3f\x80\0\0", AMQPType::Float),
+    (b"d\x3f\xf0\0\0\0\0\0\0", AMQPType::Double),
+    (b"D\x02\0\0\0\x07", AMQPType::DecimalValue),
+    (b"S\0\0\0\x02hi", AMQPType::LongString),
+    (b"A\0\0\0\x02VV", AMQPType::FieldArray),
+    (b"T\0\0\0\0\0\0\0\x09", AMQPType::Timestamp),
+    (b"F\0\0\0\x03\x01aV", AMQPType::FieldTable),
+    (b"x\0\0\0\x02\xff\0", AMQPType::ByteArray),
+    (b"V", AMQPType::Void),
+];
+
+// the value that the bytes are, and nothing behind it
+fn value(bytes: &[u8]) -> Option<ValueRef<'_>> {
+    match read_in_place_unlimited(bytes) {
+        Ok((value, &[])) => Some(value),
+        _ => None,
+    }
+}
 
 // the table that the bytes are
 fn table(bytes: &[u8]) -> Option<TableRef<'_>> {
@@ -81,6 +114,108 @@ fn is_copied(alloc: Global, bytes: &[u8]) -> Result<bool, Fail> {
         Ok((_, parsed)) => Ok(copy == parsed),
         Err(_e) => Ok(false),
     }
+}
+
+#[test]
+fn each_type_is_told(rt: HostRuntime) {
+    for (bytes, amqp_type) in EACH {
+        let Some(value) = value(bytes) else {
+            panic!(&rt; "no value")
+        };
+        assert_eq!(rt; value.get_type(), amqp_type);
+    }
+}
+
+#[test]
+fn numbers_are_got(rt: HostRuntime) {
+    assert_eq!(rt; value(b"t\x01").and_then(|v| v.as_bool()), Some(true));
+    assert_eq!(rt;
+        value(b"b\xfe").and_then(|v| v.as_short_short_int()),
+        Some(-2)
+    );
+    assert_eq!(rt;
+        value(b"B\xfe").and_then(|v| v.as_short_short_uint()),
+        Some(254)
+    );
+    assert_eq!(rt;
+        value(b"s\xff\xfe").and_then(|v| v.as_short_int()),
+        Some(-2)
+    );
+    assert_eq!(rt;
+        value(b"u\xff\xfe").and_then(|v| v.as_short_uint()),
+        Some(65_534)
+    );
+    assert_eq!(rt;
+        value(b"I\xff\xff\xff\xfe").and_then(|v| v.as_long_int()),
+        Some(-2)
+    );
+    assert_eq!(rt;
+        value(b"i\xff\xff\xff\xfe").and_then(|v| v.as_long_uint()),
+        Some(4_294_967_294)
+    );
+    assert_eq!(rt;
+        value(b"l\xff\xff\xff\xff\xff\xff\xff\xfe").and_then(|v| v.as_long_long_int()),
+        Some(-2)
+    );
+    assert_eq!(rt;
+        value(b"L\0\0\0\0\0\0\0\x02").and_then(|v| v.as_long_long_int()),
+        Some(2)
+    );
+    assert_eq!(rt;
+        value(b"T\0\0\0\0\0\0\0\x09").and_then(|v| v.as_timestamp()),
+        Some(9)
+    );
+}
+
+#[test]
+fn others_are_got(rt: HostRuntime) {
+    assert!(rt; value(b"f\x3f\x80\0\0").and_then(|v| v.as_float()).is_some());
+    assert!(rt;
+        value(b"d\x3f\xf0\0\0\0\0\0\0")
+            .and_then(|v| v.as_double())
+            .is_some()
+    );
+    let Some(decimal) = value(b"D\x02\0\0\0\x07").and_then(|v| v.as_decimal_value()) else {
+        panic!(&rt; "no decimal")
+    };
+    assert_eq!(rt; (decimal.scale, decimal.value), (2, 7));
+    assert!(rt; value(b"S\0\0\0\x02hi").and_then(|v| v.as_long_string()) == Some(b"hi"));
+    assert!(rt; value(b"x\0\0\0\x02\xff\0").and_then(|v| v.as_byte_array()) == Some(b"\xff\0"));
+    assert!(rt; value(b"V").and_then(|v| v.as_void()).is_some());
+    assert!(rt; value(b"t\x01").and_then(|v| v.as_void()).is_none());
+    assert!(rt; value(b"V").and_then(|v| v.as_bool()).is_none());
+}
+
+#[test]
+fn arrays_are_walked(rt: HostRuntime) {
+    let Some(array) = value(b"A\0\0\0\x05B\x07VB\x08").and_then(|v| v.as_array()) else {
+        panic!(&rt; "no array")
+    };
+    assert!(rt; !array.is_empty());
+    let mut values = array.iter();
+    assert!(rt; matches!(values.next(), Some(ValueRef::ShortShortUInt(7))));
+    assert!(rt; matches!(values.next(), Some(ValueRef::Void)));
+    assert!(rt; matches!(values.next(), Some(ValueRef::ShortShortUInt(8))));
+    assert!(rt; values.next().is_none());
+    assert!(rt; matches!(array.get(0), Some(ValueRef::ShortShortUInt(7))));
+    assert!(rt; matches!(array.get(2), Some(ValueRef::ShortShortUInt(8))));
+    assert!(rt; array.get(3).is_none());
+}
+
+#[test]
+fn what_is_empty_is_walked(rt: HostRuntime) {
+    let Some(array) = value(b"A\0\0\0\0").and_then(|v| v.as_array()) else {
+        panic!(&rt; "no array")
+    };
+    assert!(rt; array.is_empty());
+    assert!(rt; array.iter().next().is_none());
+    assert!(rt; array.get(0).is_none());
+    let Some(table) = table(b"F\0\0\0\0") else {
+        panic!(&rt; "no table")
+    };
+    assert!(rt; table.is_empty());
+    assert!(rt; table.iter().next().is_none());
+    assert!(rt; table.get("").is_none());
 }
 
 #[test]
@@ -166,6 +301,65 @@ fn limits_are_kept(rt: HostRuntime) {
     );
 }
 
+/// The key `a` with true, and `b` with Void.
+const SORTED: &[u8] = b"F\0\0\0\x07\x01at\x01\x01bV";
+
+#[test]
+fn canonical_encodings_are_told(rt: HostRuntime) {
+    assert!(rt; is_canonical(SORTED, LIMITS));
+    // the empty key, a key that begins another, a longer key before one above it, and UTF-8
+    assert!(rt; is_canonical(b"F\0\0\0\x05\0V\x01aV", LIMITS));
+    assert!(rt; is_canonical(b"F\0\0\0\x07\x01aV\x02abV", LIMITS));
+    assert!(rt; is_canonical(b"F\0\0\0\x07\x02aaV\x01bV", LIMITS));
+    assert!(rt; is_canonical(b"F\0\0\0\x07\x01zV\x02\xc3\xa9V", LIMITS));
+    // a table in a table in an array
+    assert!(rt; is_canonical(b"A\0\0\0\x0cF\0\0\0\x07\x01aF\0\0\0\0", LIMITS));
+    assert!(rt; is_canonical(b"A\0\0\0\0", LIMITS));
+    // each type tag that is written, and a boolean's two bytes
+    for (bytes, _) in EACH {
+        assert_eq!(rt; is_canonical(bytes, LIMITS), !bytes.starts_with(b"L"));
+    }
+    assert!(rt; is_canonical(b"t\0", LIMITS));
+}
+
+#[test]
+fn other_encodings_are_not_canonical(rt: HostRuntime) {
+    // keys that fall, as in a broker's own x-death, and equal keys
+    assert!(rt; !is_canonical(X_DEATH, LIMITS));
+    assert!(rt; !is_canonical(b"F\0\0\0\x07\x01bV\x01at\x01", LIMITS));
+    assert!(rt; !is_canonical(b"F\0\0\0\x06\x01aV\x01aV", LIMITS));
+    assert!(rt; !is_canonical(b"F\0\0\0\x04\0V\0V", LIMITS));
+    // the third key is above the first alone
+    assert!(rt; !is_canonical(b"F\0\0\0\x09\x01aV\x01cV\x01bV", LIMITS));
+    // second spellings, and a boolean's byte
+    assert!(rt; !is_canonical(b"L\0\0\0\0\0\0\0\x02", LIMITS));
+    assert!(rt; !is_canonical(b"U\0\x02", LIMITS));
+    assert!(rt; !is_canonical(b"t\x02", LIMITS));
+    // the same, nested
+    assert!(rt; !is_canonical(b"A\0\0\0\x03Vt\x02", LIMITS));
+    assert!(rt; !is_canonical(b"F\0\0\0\x05\x01aU\0\x02", LIMITS));
+    assert!(rt; !is_canonical(b"A\0\0\0\x0bF\0\0\0\x06\x01bV\x01aV", LIMITS));
+    assert!(rt; !is_canonical(b"F\0\0\0\x0d\x01aF\0\0\0\x06\x01bV\x01aV", LIMITS));
+    // no value: cut, of an unknown type tag, a key that isn't UTF-8, and no byte
+    assert!(rt; !is_canonical(b"F\0\0\0\x07\x01at\x01\x01b", LIMITS));
+    assert!(rt; !is_canonical(b"A\0\0\0\x02Vz", LIMITS));
+    assert!(rt; !is_canonical(b"F\0\0\0\x03\x01\xffV", LIMITS));
+    assert!(rt; !is_canonical(&[], LIMITS));
+}
+
+#[test]
+fn a_canonical_encoding_has_a_length(rt: HostRuntime) {
+    assert_eq!(rt; canonical_len(SORTED, LIMITS), Some(12));
+    // bytes behind it, whatever they are
+    assert_eq!(rt; canonical_len(b"t\x01t\x02", LIMITS), Some(2));
+    assert!(rt; !is_canonical(b"t\x01t\x02", LIMITS));
+    assert_eq!(rt; canonical_len(b"t\x02t\x01", LIMITS), None);
+    // within limits
+    for (frame, depth, len) in [(12, 2, Some(12)), (11, 2, None), (12, 1, None)] {
+        assert_eq!(rt; canonical_len(NESTED, Limits { frame, depth }), len);
+    }
+}
+
 #[test]
 fn what_is_cut_asks_for_more(rt: HostRuntime) {
     assert_eq!(rt; needs(&[]), Some(1));
@@ -192,20 +386,56 @@ fn a_value_is_skipped_by_its_header(rt: HostRuntime) {
     // what is in the body isn't looked at, nor what is after it
     assert!(rt; matches!(skip_value(b"A\0\0\0\x01zV"), Ok(6)));
     assert!(rt; matches!(skip_value(b"S\0"), Err(Err::Incomplete(Needed::Size(3)))));
+    assert!(rt; matches!(skip_value(&[]), Err(Err::Incomplete(Needed::Size(1)))));
+    assert!(rt; matches!(skip_value(b"z"), Err(Err::Error(e)) if e.kind() == ErrorKind::MapOpt));
 }
 
 #[test]
 fn copies_are_what_is_parsed(rt: HostRuntime) -> Result<(), Fail> {
-    for bytes in [
-        X_DEATH,
-        EQUAL_KEYS,
-        NESTED,
-        DEEP_FIRST,
-        b"V",
-        b"x\0\0\0\x02ab",
-        b"S\0\0\0\0",
-    ] {
+    for bytes in [X_DEATH, EQUAL_KEYS, NESTED, DEEP_FIRST, b"S\0\0\0\0"] {
+        assert!(rt; is_copied(rt.alloc(), bytes)?);
+    }
+    for (bytes, _) in EACH {
         assert!(rt; is_copied(rt.alloc(), bytes)?);
     }
     Ok(())
+}
+
+#[test]
+fn large_values_are_copied(rt: HostRuntime) -> Result<(), Fail> {
+    // 100,000 bytes of a string, and as many values Void
+    for (id, byte) in [(b'S', b'a'), (b'A', b'V')] {
+        let mut bytes = vec![in rt.alloc(); byte; 100_005]?;
+        bytes[..5].copy_from_slice(&[id, 0, 1, 134, 160]);
+        assert!(rt; is_copied(rt.alloc(), &bytes)?);
+    }
+    Ok(())
+}
+
+#[test]
+fn strings_are_cut_out_of_the_input(rt: HostRuntime) {
+    let Some(headers) = table(X_DEATH) else {
+        panic!(&rt; "no table")
+    };
+    // after the type tag and the length of the table, the body
+    assert!(rt; headers.as_bytes() == &X_DEATH[5..]);
+    let Some(deaths) = headers.get("x-death").and_then(|v| v.as_array()) else {
+        panic!(&rt; "no deaths")
+    };
+    assert!(rt; deaths.as_bytes() == &X_DEATH[18..]);
+    let Some(death) = deaths.get(0).and_then(|v| v.as_field_table()) else {
+        panic!(&rt; "no death")
+    };
+    let mut pairs = death.iter();
+    assert!(rt; pairs.as_bytes() == death.as_bytes());
+    let _ = pairs.next();
+    let _ = pairs.next();
+    // 15 bytes of `count` and 19 of `reason` before the last pair
+    assert!(rt; pairs.as_bytes() == b"\x05queueS\0\0\0\x01q".as_slice());
+    let _ = pairs.next();
+    assert!(rt; pairs.as_bytes().is_empty());
+    let mut values = deaths.iter();
+    assert!(rt; values.as_bytes() == deaths.as_bytes());
+    let _ = values.next();
+    assert!(rt; values.as_bytes().is_empty());
 }

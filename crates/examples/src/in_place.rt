@@ -2,7 +2,7 @@
 
 use crate::fault::Fault;
 use crate::headers::HEADERS;
-use amq_protocol_types::in_place::{Limits, TableRef, read_in_place};
+use amq_protocol_types::in_place::{Limits, TableRef, is_canonical, read_in_place};
 
 /// How often the message was dead-lettered for the first reason that is told.
 fn deaths(headers: TableRef<'_>) -> Option<i64> {
@@ -10,7 +10,8 @@ fn deaths(headers: TableRef<'_>) -> Option<i64> {
     first.as_field_table()?.get("count")?.as_long_long_int()
 }
 
-/// Prints how often, and whether the message is to be tried again.
+/// Prints how often, whether the message is to be tried again, and whether its headers can be
+/// compared by their bytes: they are in their canonical encoding.
 pub fn run<P: Print>(rt: &P) -> Result<(), Fault> {
     let limits = Limits {
         frame: 131_072,
@@ -25,5 +26,7 @@ pub fn run<P: Print>(rt: &P) -> Result<(), Fault> {
     }
     let retry = headers.get("retry").and_then(|value| value.as_bool());
     println!(rt; "in place: retry is {retry:?}")?;
+    let canonical = is_canonical(HEADERS, limits);
+    println!(rt; "in place: in canonical encoding: {canonical}")?;
     Ok(())
 }

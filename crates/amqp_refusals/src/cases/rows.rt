@@ -4,6 +4,7 @@ use crate::made::{Kind, NAMES, Plan};
 use crate::making::Maker;
 use crate::parsing::{Number, Parser};
 use amq_protocol_types::AMQPType;
+use amqp_samples::TABLE;
 
 /// Things that are written one after the other. For the last there is no room.
 pub(super) const MANY: [Plan; 3] = [
@@ -160,3 +161,9 @@ pub(super) const NUMBERS: [Parser; 15] = [
     Parser::Number(Number::Double),
     Parser::Number(Number::Decimal),
 ];
+
+/// Values of each kind that takes memory: a table, a long string and a byte array.
+pub(super) const COPIED: [&[u8]; 3] = [TABLE, b"S\0\0\0\x02hi", b"x\0\0\0\x02\xff\0"];
+
+/// Values that take none: a boolean, what is empty, and Void.
+pub(super) const LIGHT: [&[u8]; 5] = [b"t\x01", b"S\0\0\0\0", b"A\0\0\0\0", b"F\0\0\0\0", b"V"];

@@ -1,4 +1,4 @@
-use Rattle.std.proofs.Common.{[], ◌∷◌, ◌++◌, refl, sym, subst, rules, arith}
+use Rattle.std.proofs.Common.{ℕ, List, [], ◌∷◌, ◌++◌, refl, sym, subst, rules, arith}
 use Rattle.std.specs.Str.{IsUtf8}
 use Rattle.amqp_grammar.specs.Values.{no_entries, put, array, table, trees_of}
 use Rattle.amqp_input.specs.Inputs.{slice_bytes}
@@ -8,6 +8,8 @@ use Rattle.amqp_in_place.specs.declared.head.Head.{Head}
 use Rattle.amqp_in_place.specs.Refs.{plain_tree}
 use Rattle.amqp_in_place.proofs.HeadLemmas.{key_found, key_refused, plain_read, plain_meant, array_read, array_bad, array_deep, table_read, table_bad, table_deep}
 use Rattle.amqp_in_place.proofs.Reading.{bad_value, bad_pair, bad_key, no_key_there}
+use Rattle.amqp_in_place.specs.Places.{IsFramed}
+use Rattle.amqp_in_place.proofs.Places.{plain_lies, array_lies, table_lies}
 use Rattle.amqp_in_place.proofs.read.+reader.Goals as goal
 
 pub are_pairs-pairs-init : goal.are_pairs-pairs-init
@@ -33,14 +35,14 @@ are_pairs-returns-in_default-value_within-clause-no t c = λ _.
     let k = slice_bytes c.in-Ok.key in
     let behind = slice_bytes c.in-Ok.behind in
     bad_pair c.args.depth (slice_bytes c.args.body) at.0 s k behind c.in_default-value_within.field-0 at.1
-    (key_found s k behind c.in-Ok.ensures (subst IsUtf8 c.as_slice.ensures c.in-Ok-check_utf8.ensures)) c.in_default-value_within.ensures
+    (key_found s k behind c.in-Ok.ensures (subst IsUtf8 c.as_slice.ensures c.in-Ok-check_utf8.ensures)) c.in_default-value_within.ensures.outcome
 
 pub are_pairs-pairs-smaller : goal.are_pairs-pairs-smaller
 are_pairs-pairs-smaller t c =
     let s = slice_bytes c.pairs.rest in
     let k = slice_bytes c.in-Ok.key in
     let behind = slice_bytes c.in-Ok.behind in
-    let x = c.in-Ok-value_within.ensures in
+    let x = c.in-Ok-value_within.ensures.outcome in
     omega (arith, key_shorter s k behind (key_found s k behind c.in-Ok.ensures (subst IsUtf8 c.as_slice.ensures c.in-Ok-check_utf8.ensures)), rest_shorter c.args.depth behind x.0 (slice_bytes c.in-Ok-value_within.after) x.2)
 
 pub are_pairs-pairs-preserved : goal.are_pairs-pairs-preserved
@@ -49,7 +51,7 @@ are_pairs-pairs-preserved t c =
     let s = slice_bytes c.pairs.rest in
     let k = slice_bytes c.in-Ok.key in
     let behind = slice_bytes c.in-Ok.behind in
-    let x = c.in-Ok-value_within.ensures in
+    let x = c.in-Ok-value_within.ensures.outcome in
     (put k x.0 at.0, Walks-step c.args.depth (slice_bytes c.args.body) at.0 s k behind x.0 (slice_bytes c.in-Ok-value_within.after) at.1 (key_found s k behind c.in-Ok.ensures (subst IsUtf8 c.as_slice.ensures c.in-Ok-check_utf8.ensures)) x.2)
 
 pub are_pairs-returns-clause-yes : goal.are_pairs-returns-clause-yes
@@ -60,17 +62,17 @@ are_pairs-returns-clause-yes t c = λ _.
 pub are_values-returns-in_default-clause-no : goal.are_values-returns-in_default-clause-no
 are_values-returns-in_default-clause-no t c = λ _.
     let at = c.values.invariant in
-    bad_value c.args.depth (slice_bytes c.args.body) at.0 (slice_bytes c.values.rest) c.in_default.field-0 at.1 (omega arith) c.in_default.ensures
+    bad_value c.args.depth (slice_bytes c.args.body) at.0 (slice_bytes c.values.rest) c.in_default.field-0 at.1 (omega arith) c.in_default.ensures.outcome
 
 pub are_values-values-smaller : goal.are_values-values-smaller
 are_values-values-smaller t c =
-    let x = c.in-Ok.ensures in
+    let x = c.in-Ok.ensures.outcome in
     rest_shorter c.args.depth (slice_bytes c.values.rest) x.0 (slice_bytes c.in-Ok.after) x.2
 
 pub are_values-values-preserved : goal.are_values-values-preserved
 are_values-values-preserved t c =
     let at = c.values.invariant in
-    let x = c.in-Ok.ensures in
+    let x = c.in-Ok.ensures.outcome in
     (at.0 ++ x.0 ∷ [], Goes-step c.args.depth (slice_bytes c.args.body) at.0 (slice_bytes c.values.rest) x.0 (slice_bytes c.in-Ok.after) at.1 x.2)
 
 pub are_values-returns-clause-yes : goal.are_values-returns-clause-yes
@@ -78,53 +80,73 @@ are_values-returns-clause-yes t c = λ _.
     let at = c.values.invariant in
     (trees_of at.0, Goes-end c.args.depth (slice_bytes c.args.body) at.0 (slice_bytes c.values.rest) at.1 (omega arith))
 
-pub value_within-returns-then-depth-eq0 : goal.value_within-returns-then-depth-eq0
-value_within-returns-then-depth-eq0 t c =
+pub value_within-returns-then-depth-eq0-clause-outcome : goal.value_within-returns-then-depth-eq0-clause-outcome
+value_within-returns-then-depth-eq0-clause-outcome t c =
     let s = slice_bytes c.args.i in
     let rest = slice_bytes c.in_ok-rest.rest in
     let h = subst (λ (h : Head). IsHead s h rest) c.in-FieldArray.is c.in_ok-rest.ensures in
     rw c.refused.ensures (array_deep c.args.depth s c.in-FieldArray.body rest h c.if-depth-eq0.true)
 
-pub value_within-returns-then-not-are_values : goal.value_within-returns-then-not-are_values
-value_within-returns-then-not-are_values t c =
+pub value_within-returns-then-not-are_values-clause-outcome : goal.value_within-returns-then-not-are_values-clause-outcome
+value_within-returns-then-not-are_values-clause-outcome t c =
     let s = slice_bytes c.args.i in
     let rest = slice_bytes c.in_ok-rest.rest in
     let h = subst (λ (h : Head). IsHead s h rest) c.in-FieldArray.is c.in_ok-rest.ensures in
     rw c.refused-then-not-are_values.ensures (array_bad c.args.depth s c.in-FieldArray.body rest h (c.are_values.ensures.no (search rules)))
 
-pub value_within-returns-then-depth-eq0-2 : goal.value_within-returns-then-depth-eq0-2
-value_within-returns-then-depth-eq0-2 t c =
+pub value_within-returns-then-depth-eq0-2-clause-outcome : goal.value_within-returns-then-depth-eq0-2-clause-outcome
+value_within-returns-then-depth-eq0-2-clause-outcome t c =
     let s = slice_bytes c.args.i in
     let rest = slice_bytes c.in_ok-rest.rest in
     let h = subst (λ (h : Head). IsHead s h rest) c.in-FieldTable.is c.in_ok-rest.ensures in
     rw c.refused-then-depth-eq0-2.ensures (table_deep c.args.depth s c.in-FieldTable.body rest h c.if-depth-eq0-2.true)
 
-pub value_within-returns-then-not-are_pairs : goal.value_within-returns-then-not-are_pairs
-value_within-returns-then-not-are_pairs t c =
+pub value_within-returns-then-not-are_pairs-clause-outcome : goal.value_within-returns-then-not-are_pairs-clause-outcome
+value_within-returns-then-not-are_pairs-clause-outcome t c =
     let s = slice_bytes c.args.i in
     let rest = slice_bytes c.in_ok-rest.rest in
     let h = subst (λ (h : Head). IsHead s h rest) c.in-FieldTable.is c.in_ok-rest.ensures in
     rw c.refused-then-not-are_pairs.ensures (table_bad c.args.depth s c.in-FieldTable.body rest h (c.are_pairs.ensures.no (search rules)))
 
-pub value_within-returns-in-Plain : goal.value_within-returns-in-Plain
-value_within-returns-in-Plain t c =
+pub value_within-returns-in-Plain-clause-outcome : goal.value_within-returns-in-Plain-clause-outcome
+value_within-returns-in-Plain-clause-outcome t c =
     let s = slice_bytes c.args.i in
     let rest = slice_bytes c.in_ok-rest.rest in
     let h = subst (λ (h : Head). IsHead s h rest) c.in-Plain.is c.in_ok-rest.ensures in
     (plain_tree c.in-Plain.value, plain_meant s c.in-Plain.value rest h, plain_read s c.in-Plain.value rest h c.args.depth)
 
-pub value_within-returns-else-not-are_values : goal.value_within-returns-else-not-are_values
-value_within-returns-else-not-are_values t c =
+pub value_within-returns-else-not-are_values-clause-outcome : goal.value_within-returns-else-not-are_values-clause-outcome
+value_within-returns-else-not-are_values-clause-outcome t c =
     let s = slice_bytes c.args.i in
     let rest = slice_bytes c.in_ok-rest.rest in
     let h = subst (λ (h : Head). IsHead s h rest) c.in-FieldArray.is c.in_ok-rest.ensures in
     let x = c.are_values.ensures.yes (search rules) in
     (array x.0, (x.0, rw c.of.ensures x.1.0, refl), array_read c.args.depth s c.in-FieldArray.body rest h x.0 (omega arith) x.1)
 
-pub value_within-returns-else-not-are_pairs : goal.value_within-returns-else-not-are_pairs
-value_within-returns-else-not-are_pairs t c =
+pub value_within-returns-else-not-are_pairs-clause-outcome : goal.value_within-returns-else-not-are_pairs-clause-outcome
+value_within-returns-else-not-are_pairs-clause-outcome t c =
     let s = slice_bytes c.args.i in
     let rest = slice_bytes c.in_ok-rest.rest in
     let h = subst (λ (h : Head). IsHead s h rest) c.in-FieldTable.is c.in_ok-rest.ensures in
     let x = c.are_pairs.ensures.yes (search rules) in
     (table x.0, (x.0, (x.1.0, rw c.of-in-FieldTable.ensures x.1.1.0, x.1.2), refl), table_read c.args.depth s c.in-FieldTable.body rest h x.0 (omega arith) x.1)
+
+pub value_within-returns-in-Plain-clause-lies : goal.value_within-returns-in-Plain-clause-lies
+value_within-returns-in-Plain-clause-lies t c =
+    let s = slice_bytes c.args.i in
+    let rest = slice_bytes c.in_ok-rest.rest in
+    plain_lies s c.in-Plain.value rest (subst (λ (h : Head). IsHead s h rest) c.in-Plain.is c.in_ok-rest.ensures)
+
+pub value_within-returns-else-not-are_values-clause-lies : goal.value_within-returns-else-not-are_values-clause-lies
+value_within-returns-else-not-are_values-clause-lies t c =
+    let s = slice_bytes c.args.i in
+    let rest = slice_bytes c.in_ok-rest.rest in
+    let h = subst (λ (h : Head). IsHead s h rest) c.in-FieldArray.is c.in_ok-rest.ensures in
+    subst (λ (b : List ℕ). IsFramed s b rest) (sym c.of.ensures) (array_lies s c.in-FieldArray.body rest h)
+
+pub value_within-returns-else-not-are_pairs-clause-lies : goal.value_within-returns-else-not-are_pairs-clause-lies
+value_within-returns-else-not-are_pairs-clause-lies t c =
+    let s = slice_bytes c.args.i in
+    let rest = slice_bytes c.in_ok-rest.rest in
+    let h = subst (λ (h : Head). IsHead s h rest) c.in-FieldTable.is c.in_ok-rest.ensures in
+    subst (λ (b : List ℕ). IsFramed s b rest) (sym c.of-in-FieldTable.ensures) (table_lies s c.in-FieldTable.body rest h)

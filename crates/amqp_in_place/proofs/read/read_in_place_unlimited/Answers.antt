@@ -7,16 +7,16 @@ use Rattle.amqp_parsing.specs.Answers.{Refuses}
 use Rattle.amqp_in_place.proofs.Reading.{unlimited_refused}
 use Rattle.amqp_in_place.proofs.read.read_in_place_unlimited.Goals as goal
 
-pub returns-in_err-rest : goal.returns-in_err-rest
-returns-in_err-rest c =
+pub returns-in_err-rest-clause-outcome : goal.returns-in_err-rest-clause-outcome
+returns-in_err-rest-clause-outcome c =
     let p = err_from_is_err_and c.from_residual.result c.from_residual.ensures.1 in
     let e = c.in_err-rest.field-0.0 in
     rw (p.1, p.2)
     (subst (λ (s : List ℕ). Refuses (Outcome s) ⊥ e) c.new.ensures
-    (unlimited_refused (length c.args.bytes.now) (slice_bytes c.new.result) e (ap length (sym c.new.ensures)) c.in_err-rest.ensures))
+    (unlimited_refused (length c.args.bytes.now) (slice_bytes c.new.result) e (ap length (sym c.new.ensures)) c.in_err-rest.ensures.outcome))
 
-pub returns : goal.returns
-returns c =
-    let x = c.in_ok-rest.ensures in
+pub returns-clause-outcome : goal.returns-clause-outcome
+returns-clause-outcome c =
+    let x = c.in_ok-rest.ensures.outcome in
     let read = unlimited (length c.args.bytes.now) (slice_bytes c.new.result) (found x.0 (slice_bytes c.in_ok-rest.rest)) (omega (arith, ap length c.new.ensures)) x.2 in
     (x.0, x.1, rw c.as_slice.ensures (subst (λ (s : List ℕ). Outcome s (found x.0 (slice_bytes c.in_ok-rest.rest))) c.new.ensures read))

@@ -2,8 +2,8 @@ use Rattle.std.proofs.Common.{◌≡◌, ◌+◌, ◌-◌, ℕ, List, length, su
 use Rattle.amqp_input.specs.Inputs.{slice_bytes}
 use Rattle.std.proofs.lemmas.Result.{err_from_is_err_and}
 use Rattle.amqp_grammar.specs.Outcomes.{Outcome}
-use Rattle.amqp_parsing.specs.Answers.{Refuses}
 use Rattle.amqp_parsing.specs.Headers.{extent}
+use Rattle.amqp_in_place.specs.Answers.{HeadRefuses}
 use Rattle.amqp_in_place.proofs.Skipping.{skipped, width_of_found, refused_so}
 use Rattle.amqp_in_place.proofs.skip.skip_value.Goals as goal
 
@@ -24,9 +24,9 @@ overflow_sub-result c =
     subst (λ (s : List ℕ). extent s + length left ≡ length s) c.new.ensures (skipped (slice_bytes c.new.result) c.in_ok-rest.field-0-1 left c.in_ok-rest.ensures) in
     omega (arith, all)
 
-pub returns-in_err-rest-clause-extent : goal.returns-in_err-rest-clause-extent
-returns-in_err-rest-clause-extent c =
+pub returns-in_err-rest-clause-err : goal.returns-in_err-rest-clause-err
+returns-in_err-rest-clause-err c =
     let p = err_from_is_err_and c.from_residual.result c.from_residual.ensures.1 in
     let e = c.in_err-rest.field-0.0 in
     rw (p.1, p.2)
-    (subst (λ (s : List ℕ). Refuses (Outcome s) ⊥ e) c.new.ensures (refused_so (slice_bytes c.new.result) e c.in_err-rest.ensures))
+    (subst (λ (s : List ℕ). HeadRefuses (Outcome s) e) c.new.ensures (refused_so (slice_bytes c.new.result) e c.in_err-rest.ensures))

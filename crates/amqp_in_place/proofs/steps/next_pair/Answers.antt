@@ -3,6 +3,7 @@ use Rattle.std.specs.Str.{IsUtf8}
 use Rattle.amqp_input.specs.Inputs.{slice_bytes}
 use Rattle.amqp_in_place.specs.Heads.{IsKeyFrame}
 use Rattle.amqp_in_place.proofs.Stepping.{key_there, key_utf8, pair_there, pair_meant, pair_given, pairs_behind}
+use Rattle.amqp_in_place.proofs.Places.{lies}
 use Rattle.amqp_in_place.proofs.steps.next_pair.Goals as goal
 
 pub unreachable-requires : goal.unreachable-requires
@@ -26,8 +27,16 @@ returns-clause-pair c = λ ps p.
     let behind = slice_bytes c.in-Ok.behind in
     let text : c.from_utf8_unchecked-key.result.now ≡ slice_bytes c.in-Ok.key = c.from_utf8_unchecked-key.ensures ∙ c.as_slice.ensures in
     let f = subst (λ (k : List ℕ). IsKeyFrame s k behind) (sym text) c.in-Ok.ensures in
-    pair_given s c.in-Ok-read_head.head ps behind (c.from_utf8_unchecked-key.result, c.value_of.result, c.in-Ok-read_head.rest) f c.in-Ok-read_head.ensures c.value_of.ensures p
+    pair_given s c.in-Ok-read_head.head ps behind (c.from_utf8_unchecked-key.result, c.value_of.result, c.in-Ok-read_head.rest) f c.in-Ok-read_head.ensures c.value_of.ensures.means p
 
 pub returns-clause-more : goal.returns-clause-more
 returns-clause-more c =
     pairs_behind (slice_bytes c.args.bytes) (slice_bytes c.in-Ok.key) (slice_bytes c.in-Ok.behind) c.in-Ok.ensures c.in-Ok-read_head.head (slice_bytes c.in-Ok-read_head.rest) c.in-Ok-read_head.ensures c.requires
+
+pub returns-clause-lies : goal.returns-clause-lies
+returns-clause-lies c =
+    let s = slice_bytes c.args.bytes in
+    let behind = slice_bytes c.in-Ok.behind in
+    let text : c.from_utf8_unchecked-key.result.now ≡ slice_bytes c.in-Ok.key = c.from_utf8_unchecked-key.ensures ∙ c.as_slice.ensures in
+    let f = subst (λ (k : List ℕ). IsKeyFrame s k behind) (sym text) c.in-Ok.ensures in
+    (behind, f.framed, lies behind c.in-Ok-read_head.head c.value_of.result (slice_bytes c.in-Ok-read_head.rest) c.in-Ok-read_head.ensures c.value_of.ensures.refers)

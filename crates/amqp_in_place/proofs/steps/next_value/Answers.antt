@@ -1,6 +1,7 @@
 use Rattle.std.proofs.Common.{arith}
 use Rattle.amqp_input.specs.Inputs.{slice_bytes}
 use Rattle.amqp_in_place.proofs.Stepping.{value_there, value_meant, value_given, values_behind}
+use Rattle.amqp_in_place.proofs.Places.{lies}
 use Rattle.amqp_in_place.proofs.steps.next_value.Goals as goal
 
 pub unreachable-requires : goal.unreachable-requires
@@ -11,7 +12,10 @@ value_of-requires c = value_meant (slice_bytes c.args.bytes) c.in-Ok.head (slice
 
 pub returns-clause-value : goal.returns-clause-value
 returns-clause-value c = λ vs p.
-    value_given (slice_bytes c.args.bytes) c.in-Ok.head vs (c.value_of.result, c.in-Ok.rest) (omega arith) c.in-Ok.ensures c.value_of.ensures p
+    value_given (slice_bytes c.args.bytes) c.in-Ok.head vs (c.value_of.result, c.in-Ok.rest) (omega arith) c.in-Ok.ensures c.value_of.ensures.means p
 
 pub returns-clause-more : goal.returns-clause-more
 returns-clause-more c = values_behind (slice_bytes c.args.bytes) c.in-Ok.head (slice_bytes c.in-Ok.rest) (omega arith) c.in-Ok.ensures c.requires
+
+pub returns-clause-lies : goal.returns-clause-lies
+returns-clause-lies c = lies (slice_bytes c.args.bytes) c.in-Ok.head c.value_of.result (slice_bytes c.in-Ok.rest) c.in-Ok.ensures c.value_of.ensures.refers

@@ -2,6 +2,7 @@ use Rattle.std.proofs.Common.{length}
 use Rattle.amqp_input.specs.Inputs.{slice_bytes}
 use Rattle.amqp_in_place.specs.Bodies.{HasValues}
 use Rattle.amqp_in_place.specs.Refs.{array_body}
+use Rattle.amqp_in_place.specs.Answers.{IsLeft}
 use Rattle.amqp_in_place.proofs.Lookups.{Counts}
 use Rattle.amqp_in_place.proofs.refs.ArrayRef.get.Given as goal
 
@@ -10,6 +11,7 @@ abbrev pub invariant-values : goal.invariant-values
 invariant-values l = record {
   values : ∥ HasValues (slice_bytes l.rest) ∥₁;
   counts : Counts l.fn.index (array_body l.fn.self) (slice_bytes l.rest) l.left;
+  left : IsLeft (array_body l.fn.self) (slice_bytes l.rest);
 }
 
 abbrev pub decreases-values : goal.decreases-values

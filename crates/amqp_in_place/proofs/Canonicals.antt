@@ -1,0 +1,451 @@
+-- Canonical encodings at the front of bytes.
+use Rattle.std.proofs.Common.{◌≡◌, ◌<◌, ◌≤◌, ◌+◌, ◌-◌, ◌^◌, ℕ, zero, suc, Bool, true, false, cond, nat_eq, eqb, List, [], ◌∷◌, ◌++◌, length, drop, get_or, Fits, w8, Option, Some, None, refl, sym, ap, ◌∙◌, subst, arith, length-append, eq-eqb}
+use Rattle.std.specs.Map.{lookup}
+use Rattle.std.specs.List.{AllByRecursion}
+use Rattle.std.specs.Option.{IfSome, option_eq}
+use Rattle.std.specs.Bool.{then_some}
+use Rattle.std.specs.Borrow.{Bor}
+use Rattle.std.specs.Ordering.{nat_cmp, is_lt, is_some_and}
+use Rattle.std.specs.Cmp.Lexicographic.{slice_cmp, slice_partial_cmp, lists_agrees}
+use Rattle.std.specs.declared.cmp.Ordering.{Ordering}
+use Rattle.std.specs.declared.cmp.Ordering.TheVariants.{Less, Equal, Greater}
+use Rattle.std.specs.Str.{IsUtf8}
+use Rattle.std.proofs.lemmas.Bool.{eqb-true, false≢true}
+use Rattle.std.proofs.lemmas.List.{nil_from_length, append-nil}
+use Rattle.std.proofs.lemmas.Option.{same_Some}
+use Rattle.amqp_types.specs.Ids.{letters, kind}
+use Rattle.amqp_types.specs.Strings.{IsShort}
+use Rattle.amqp_types.specs.declared.amqp_type.AMQPType.{AMQPType}
+use Rattle.amqp_types.specs.declared.amqp_type.AMQPType.TheVariants as amqp
+use Rattle.amqp_types.proofs.Ids.{row_holds, kind_read}
+use Rattle.amqp_grammar.specs.Values.{Tree, short, long, array, table, Trees, no_trees, tree, Entries, no_entries, entry, ComesBefore, depth, greatest_depth, entries_depth}
+use Rattle.amqp_grammar.specs.Layouts.{Layout, fixed}
+use Rattle.amqp_grammar.specs.Grammar.{small, large, Wire, Raw, raw_fixed, raw_short, raw_long, raw_octets, raw_array, raw_table}
+use Rattle.amqp_grammar.specs.Nesting.{WireWithin, OutcomeWithin}
+use Rattle.amqp_grammar.specs.Outcomes.{found, more, unknown, lack, LacksOr, Outcome}
+use Rattle.amqp_grammar.specs.Payloads.{RawFront, RawOutcome}
+use Rattle.amqp_grammar.specs.Canonical.{IsStrict, Canon, canon, CanonRaw, canon_fixed, canon_long, canon_octets, canon_array, canon_table, CanonBody, no_canon_values, canon_value, CanonPairs, no_canon_pairs, canon_pair}
+use Rattle.amqp_grammar.proofs.GrammarLaws.{one_reading, one_raw_reading, one_raw_outcome, raw_found, wire_found, wire_found_within, front_within, depth_within, text_within, text_is_canon, what_is_read, read_is_value, canon_is_wire, canon_fits, canon_is_text, short_bytes, one_outcome, bytes_front}
+use Rattle.amqp_input.specs.Inputs.{IsBytes, slice_bytes}
+use Rattle.amqp_input.specs.declared.input.SliceInput.{SliceInput}
+use Rattle.amqp_parsing.specs.declared.limits.Limits.{Limits}
+use Rattle.amqp_parsing.specs.Headers.{extent, wanted}
+use Rattle.amqp_parsing.specs.Limits.{Within, IsHeader}
+use Rattle.amqp_parsing.specs.declared.header.Header.{Header}
+use Rattle.amqp_parsing.specs.declared.header.Header.TheVariants as header
+use Rattle.amqp_parsing.proofs.ParsingLaws.{more_wanted}
+use Rattle.amqp_parsing.specs.Typed.{IsType}
+use Rattle.amqp_parsing.specs.Refusals.{Refusal}
+use Rattle.amqp_parsing.specs.Answers.{Refuses}
+use Rattle.amqp_in_place.specs.declared.head.Head.TheVariants as head
+use Rattle.amqp_in_place.specs.declared.refs.ValueRef.{ValueRef}
+use Rattle.amqp_in_place.specs.Refs.{plain_tree}
+use Rattle.amqp_in_place.specs.Heads.{IsPlainType, IsHead, IsKeyFrame}
+use Rattle.amqp_in_place.specs.Canonicals.{IsCanonicalLen, IsCanonicalWithin, IsReadAsWritten, CanonFront, CanonValues, IsAbove, AreAbove, CanonEntries, IsFirstSpelling}
+use Rattle.amqp_in_place.proofs.Stepping.{AtFront, refusal_of_none}
+
+-- ---- type tags and booleans
+
+-- only `t` stands for a boolean
+abbrev is_boolean : AMQPType → Bool
+is_boolean amqp.Boolean = true
+is_boolean _ = false
+
+abbrev other_letters : List (ℕ × AMQPType)
+other_letters = drop 1 letters
+
+rows_no_boolean : AllByRecursion (λ (r : ℕ × AMQPType). is_boolean r.1 ≡ false) other_letters
+rows_no_boolean = (refl, (refl, (refl, (refl, (refl, (refl, (refl, (refl, (refl, (refl, (refl, (refl, (refl, (refl, (refl, (refl, (refl, (refl, tt))))))))))))))))))
+
+boolean_letter : (c : ℕ) → kind c ≡ Some amqp.Boolean → c ≡ 116
+boolean_letter c k = by (nat_eq c 116) refl (row_holds (λ type. is_boolean type ≡ false) (nat_eq c) other_letters rows_no_boolean) k
+  where
+    by : (t : Bool) → nat_eq c 116 ≡ t → IfSome (lookup (nat_eq c) other_letters) (λ type. is_boolean type ≡ false)
+        → cond t (Some amqp.Boolean) (lookup (nat_eq c) other_letters) ≡ Some amqp.Boolean → c ≡ 116
+    by true is none held = eqb-true c 116 is
+    by false is none held = absurd (let no : true ≡ false = subst (λ (o : Option AMQPType). IfSome o (λ type. is_boolean type ≡ false)) held none in cc)
+
+-- no type tag stands for a short string
+no_short_letter : (c : ℕ) → kind c ≡ Some amqp.ShortString → ⊥
+no_short_letter c k = let r = kind_read c amqp.ShortString k in absurd cc
+
+-- a boolean's byte is 0 or 1, whatever stands after it
+strict_front : (b rest : List ℕ) → IsStrict amqp.Boolean (b ++ rest) → IsStrict amqp.Boolean b
+strict_front [] rest x = tt
+strict_front (c ∷ b) rest x = x
+
+strict_by : (type : AMQPType) (b : List ℕ) → (type ≡ amqp.Boolean → IsStrict amqp.Boolean b) → IsStrict type b
+strict_by amqp.Boolean b f = f refl
+strict_by _ b f = tt
+
+strict_append : (b rest : List ℕ) → length b ≡ 1 → IsStrict amqp.Boolean b → IsStrict amqp.Boolean (b ++ rest)
+strict_append [] rest one x = absurd (omega arith)
+strict_append (c ∷ b) rest one x = x
+
+-- in the canonical payload of a boolean it is
+strict_payload : (type : AMQPType) (b : List ℕ) (v : Tree) → CanonRaw type b v → type ≡ amqp.Boolean → (rest : List ℕ) → IsStrict amqp.Boolean (b ++ rest)
+strict_payload _ _ _ (canon_fixed type f b row len strict) e rest =
+    let wide : f.width ≡ 1 = subst (λ (o : Option Layout). IfSome o (λ g. g.width ≡ 1)) (ap fixed (sym e) ∙ row) refl in
+    strict_append b rest (len ∙ wide) (subst (λ (t : AMQPType). IsStrict t b) e strict)
+strict_payload _ _ _ (canon_long s fits) e rest = absurd cc
+strict_payload _ _ _ (canon_octets s fits) e rest = absurd cc
+strict_payload _ _ _ (canon_array body vs fits all) e rest = absurd cc
+strict_payload _ _ _ (canon_table body es fits all) e rest = absurd cc
+
+-- a canonical encoding is spelled so
+canon_spelling : (w rest : List ℕ) (v : Tree) → Canon w v → IsFirstSpelling (w ++ rest)
+canon_spelling _ rest _ (canon c type b v k not_U not_L p) =
+    (not_U, not_L, λ is. strict_payload type b v p (same_Some type amqp.Boolean (sym k ∙ ap kind is)) rest)
+
+pub front_spelling : (d : ℕ) (s rest : List ℕ) → CanonFront d s rest → IsFirstSpelling s
+front_spelling d s rest (w, v, x, deep, e) = subst IsFirstSpelling (sym e) (canon_spelling w rest v x)
+
+-- ---- plain values
+
+-- a payload of a plain type is canonical where a boolean's byte is 0 or 1
+plain_payload : (type : AMQPType) (b : List ℕ) (v : Tree) → Raw type b v → IsPlainType type → (type ≡ amqp.ShortString → ⊥) → IsStrict type b → CanonRaw type b v × (depth v ≡ 0)
+plain_payload _ _ _ (raw_fixed type f b row len) plain none strict = (canon_fixed type f b row len strict, refl)
+plain_payload _ _ _ (raw_short s is) plain none strict = absurd (none refl)
+plain_payload _ _ _ (raw_long s fits) plain none strict = (canon_long s fits, refl)
+plain_payload _ _ _ (raw_octets s fits) plain none strict = (canon_octets s fits, refl)
+plain_payload _ _ _ (raw_array body vs fits all) plain none strict = absurd plain
+plain_payload _ _ _ (raw_table body ps fits all) plain none strict = absurd plain
+
+-- what is found after the type tag stands there
+raw_front : (type : AMQPType) (s : List ℕ) (v : Tree) (rest : List ℕ) → RawOutcome type s (found v rest) → RawFront type s (found v rest)
+raw_front type s v rest x = by (lack type s) x
+  where
+    by : (n : ℕ) → LacksOr n (RawFront type s (found v rest)) (found v rest) → RawFront type s (found v rest)
+    by zero f = f
+    by (suc n) e = absurd cc
+
+-- so a plain value in its first spelling is canonical
+pub plain_front : (d : ℕ) (s : List ℕ) (r : ValueRef) (rest : List ℕ) → IsHead s (head.Plain r) rest → IsFirstSpelling s → CanonFront d s rest
+plain_front d s r rest (type, mid, (c, here, k), q) spelled =
+    let f = raw_front type mid (plain_tree r) rest q.2 in
+    let first = subst IsFirstSpelling here spelled in
+    let strict : IsStrict type f.0 =
+    strict_by type f.0 (λ e. strict_front f.0 rest (subst (λ (t : List ℕ). IsStrict amqp.Boolean t) f.2 (first.2 (boolean_letter c (k ∙ ap Some e))))) in
+    let p = plain_payload type f.0 (plain_tree r) f.1 q.1 (λ e. no_short_letter c (k ∙ ap Some e)) strict in
+    (c ∷ f.0, plain_tree r, canon c type f.0 (plain_tree r) k first.0 first.1 p.0, omega (arith, p.1), here ∙ ap (λ (t : List ℕ). c ∷ t) f.2)
+
+-- ---- containers
+
+-- two bodies after their lengths at the front of bytes are one
+one_large : (a b x y : List ℕ) → length a < 2 ^ 32 → length b < 2 ^ 32 → large a ++ x ≡ large b ++ y → a ≡ b
+one_large a b x y few less e =
+    let same = one_raw_reading amqp.LongString (large a) (large b) x y (long a) (long b) (raw_long a few) (raw_long b less) e in
+    cc
+
+-- the payload of a canonical array
+record CanonArray (body : List ℕ) (v : Tree) : Type 0 where
+  pub values : Trees
+  pub all : CanonBody body values
+  pub is : v ≡ array values
+
+canon_array_body : (type : AMQPType) (b : List ℕ) (v : Tree) → CanonRaw type b v → type ≡ amqp.FieldArray → (body rest left : List ℕ) → length body < 2 ^ 32
+    → b ++ left ≡ large body ++ rest → CanonArray body v
+canon_array_body _ _ _ (canon_fixed type f b row len strict) t body rest left few e = absurd (let none = ap fixed (sym t) ∙ row in cc)
+canon_array_body _ _ _ (canon_long s fits) t body rest left few e = absurd cc
+canon_array_body _ _ _ (canon_octets s fits) t body rest left few e = absurd cc
+canon_array_body _ _ _ (canon_array a vs fits all) t body rest left few e =
+    record { values = vs; all = subst (λ (b : List ℕ). CanonBody b vs) (one_large a body left rest fits few e) all; is = refl }
+canon_array_body _ _ _ (canon_table a es fits all) t body rest left few e = absurd cc
+
+-- and of a canonical table
+record CanonTable (body : List ℕ) (v : Tree) : Type 0 where
+  pub entries : Entries
+  pub all : CanonPairs body entries
+  pub is : v ≡ table entries
+
+canon_table_body : (type : AMQPType) (b : List ℕ) (v : Tree) → CanonRaw type b v → type ≡ amqp.FieldTable → (body rest left : List ℕ) → length body < 2 ^ 32
+    → b ++ left ≡ large body ++ rest → CanonTable body v
+canon_table_body _ _ _ (canon_fixed type f b row len strict) t body rest left few e = absurd (let none = ap fixed (sym t) ∙ row in cc)
+canon_table_body _ _ _ (canon_long s fits) t body rest left few e = absurd cc
+canon_table_body _ _ _ (canon_octets s fits) t body rest left few e = absurd cc
+canon_table_body _ _ _ (canon_array a vs fits all) t body rest left few e = absurd cc
+canon_table_body _ _ _ (canon_table a es fits all) t body rest left few e =
+    record { entries = es; all = subst (λ (b : List ℕ). CanonPairs b es) (one_large a body left rest fits few e) all; is = refl }
+
+-- the type tag that stands first, and the canonical payload after it
+record CanonTyped (type : AMQPType) (mid left : List ℕ) (v : Tree) : Type 0 where
+  pub payload : List ℕ
+  pub is_canon : CanonRaw type payload v
+  pub front : mid ≡ payload ++ left
+
+canon_typed : (s mid : List ℕ) (type : AMQPType) (w left : List ℕ) (v : Tree) → IsType s type mid → Canon w v → s ≡ w ++ left → CanonTyped type mid left v
+canon_typed s mid type _ left _ (c, here, k) (canon d type2 b v k2 not_U not_L p) e =
+    let both : c ∷ mid ≡ d ∷ (b ++ left) = sym here ∙ e in
+    let head : c ≡ d = cc in
+    let same : type2 ≡ type = same_Some type2 type (sym k2 ∙ (ap kind (sym head) ∙ k)) in
+    record { payload = b; is_canon = subst (λ (t : AMQPType). CanonRaw t b v) same p; front = cc }
+
+module _ (d : ℕ) (s : List ℕ) (i : SliceInput) (rest : List ℕ) where
+  -- an array in its first spelling is canonical where its body is
+  pub array_front : IsHead s (head.FieldArray i) rest → IsFirstSpelling s → 0 < d → CanonValues (d - 1) (slice_bytes i) → CanonFront d s rest
+  array_front (type, mid, (c, here, k), q) spelled some (vs, all, deep) =
+      let body = slice_bytes i in
+      let first = subst IsFirstSpelling here spelled in
+      (c ∷ large body, array vs, canon c amqp.FieldArray (large body) (array vs) (k ∙ ap Some q.0) first.0 first.1 (canon_array body vs q.1.fits all), omega arith, here ∙ ap (λ (t : List ℕ). c ∷ t) q.1.framed)
+
+  -- and only there
+  pub array_inside : (left : List ℕ) → IsHead s (head.FieldArray i) rest → CanonFront d s left → (0 < d) × CanonValues (d - 1) (slice_bytes i)
+  array_inside left (type, mid, p, q) (w, v, x, deep, e) =
+      let t = canon_typed s mid type w left v p x e in
+      let b = canon_array_body type t.payload v t.is_canon q.0 (slice_bytes i) rest left q.1.fits (sym t.front ∙ q.1.framed) in
+      let size : depth v ≡ suc (greatest_depth b.values) = ap depth b.is in
+      (omega (arith, size), (b.values, b.all, omega (arith, size)))
+
+  -- and so it is of a table
+  pub table_front : IsHead s (head.FieldTable i) rest → IsFirstSpelling s → 0 < d → CanonEntries (d - 1) None (slice_bytes i) → CanonFront d s rest
+  table_front (type, mid, (c, here, k), q) spelled some (es, all, first_of, deep) =
+      let body = slice_bytes i in
+      let first = subst IsFirstSpelling here spelled in
+      (c ∷ large body, table es, canon c amqp.FieldTable (large body) (table es) (k ∙ ap Some q.0) first.0 first.1 (canon_table body es q.1.fits all), omega arith, here ∙ ap (λ (t : List ℕ). c ∷ t) q.1.framed)
+
+  pub table_inside : (left : List ℕ) → IsHead s (head.FieldTable i) rest → CanonFront d s left → (0 < d) × CanonEntries (d - 1) None (slice_bytes i)
+  table_inside left (type, mid, p, q) (w, v, x, deep, e) =
+      let t = canon_typed s mid type w left v p x e in
+      let b = canon_table_body type t.payload v t.is_canon q.0 (slice_bytes i) rest left q.1.fits (sym t.front ∙ q.1.framed) in
+      let size : depth v ≡ suc (entries_depth b.entries) = ap depth b.is in
+      (omega (arith, size), (b.entries, b.all, tt, omega (arith, size)))
+
+-- a canonical encoding stands there, so a value does
+pub canon_at : (d : ℕ) (s left : List ℕ) → CanonFront d s left → AtFront s
+canon_at d s left (w, v, x, deep, e) = record { value_there = v; bytes = w; left = left; is_wire = canon_is_wire w v x; front = e }
+
+-- the rest is answered where a test holds
+pub some_rest : (d : ℕ) (s : List ℕ) (i : SliceInput) (b : Bool) (r : Option SliceInput) → r ≡ then_some b i → (b ≡ true → CanonFront d s (slice_bytes i))
+    → IfSome r (λ (rest : SliceInput). CanonFront d s (slice_bytes rest))
+some_rest d s i true r is f = subst (λ (o : Option SliceInput). IfSome o (λ (rest : SliceInput). CanonFront d s (slice_bytes rest))) (sym is) (f refl)
+some_rest d s i false r is f = subst (λ (o : Option SliceInput). IfSome o (λ (rest : SliceInput). CanonFront d s (slice_bytes rest))) (sym is) tt
+
+pub no_rest : (d : ℕ) (s : List ℕ) (i : SliceInput) (b : Bool) (r : Option SliceInput) → r ≡ then_some b i → (b ≡ false → (left : List ℕ) → CanonFront d s left → ⊥)
+    → r ≡ None → (left : List ℕ) → CanonFront d s left → ⊥
+no_rest d s i true r is f none = absurd (let e : Some i ≡ None = sym is ∙ none in cc)
+no_rest d s i false r is f none = f refl
+
+-- ---- bodies
+
+-- and takes at least one byte
+pub rest_shorter : (d : ℕ) (s rest : List ℕ) → CanonFront d s rest → length rest < length s
+rest_shorter d s rest (_, _, canon c type b v k not_U not_L p, deep, e) = omega (arith, ap length e, length-append b rest)
+
+-- where no byte is left no value is
+pub no_values : (d : ℕ) (s : List ℕ) → length s ≡ 0 → CanonValues d s
+no_values d s none = subst (CanonValues d) (sym (nil_from_length s none)) (no_trees, no_canon_values, omega arith)
+
+-- otherwise the first of them stands at the front
+pub first_value : (d : ℕ) (s : List ℕ) → 0 < length s → CanonValues d s → (left : List ℕ) × CanonFront d s left × CanonValues d left
+first_value d _ some (_, no_canon_values, deep) = absurd (omega arith)
+first_value d _ some (_, canon_value w left v vs x all, deep) = (left, (w, v, x, omega arith, refl), (vs, all, omega arith))
+
+-- what stands after one canonical encoding stands after each
+one_rest : (d : ℕ) (s x y : List ℕ) → CanonFront d s x → CanonFront d s y → x ≡ y
+one_rest d s x y (w, v, p, deep, e) (u, z, q, deep2, f) = (one_reading w u x y v z (canon_is_wire w v p) (canon_is_wire u z q) (sym e ∙ f)).2
+
+module _ (d : ℕ) (s after : List ℕ) (front : CanonFront d s after) where
+  -- after the first value the others are values, where all of them are
+  pub values_after : CanonValues d s → CanonValues d after
+  values_after all =
+      let first = first_value d s (omega (arith, rest_shorter d s after front)) all in
+      subst (CanonValues d) (one_rest d s first.0 after first.1 front) first.2
+
+  -- and all of them are, where they are
+  pub values_before : CanonValues d after → CanonValues d s
+  values_before (vs, all, deep) = by front
+    where
+      by : CanonFront d s after → CanonValues d s
+      by (w, v, x, less, e) = (tree v vs, subst (λ (t : List ℕ). CanonBody t (tree v vs)) (sym e) (canon_value w after v vs x all), omega arith)
+
+-- ---- keys
+
+-- `<` of two slices tells whether the first comes before the second
+pub told_less : (x y : List ℕ) (b : Bool) → b ≡ is_some_and is_lt (slice_partial_cmp (λ (i j : ℕ). Some (nat_cmp i j)) x y)
+    → (b ≡ true → slice_cmp nat_cmp x y ≡ Less) × (b ≡ false → slice_cmp nat_cmp x y ≡ Less → ⊥)
+told_less x y b is = by (slice_cmp nat_cmp x y) (is ∙ ap (is_some_and is_lt) (lists_agrees {C = λ (i j : ℕ). Some (nat_cmp i j)} (λ i j. refl) x y))
+  where
+    by : (o : Ordering) → b ≡ is_lt o → (b ≡ true → o ≡ Less) × (b ≡ false → o ≡ Less → ⊥)
+    by Less e = (λ t. refl, λ f g. absurd (false≢true (sym f ∙ e)))
+    by Equal e = (λ t. absurd (false≢true (sym e ∙ t)), λ f g. absurd cc)
+    by Greater e = (λ t. absurd (false≢true (sym e ∙ t)), λ f g. absurd cc)
+
+-- ---- pairs
+
+-- where no byte is left no pair is
+pub no_pairs : (d : ℕ) (j : Option (Bor (List ℕ))) (s : List ℕ) → length s ≡ 0 → CanonEntries d j s
+no_pairs d j s none = subst (CanonEntries d j) (sym (nil_from_length s none)) (no_entries, no_canon_pairs, by j, omega arith)
+  where
+    by : (j : Option (Bor (List ℕ))) → AreAbove j no_entries
+    by None = tt
+    by (Some k) = tt
+
+-- the first of some pairs: its key, above the one before it, its value and the others
+record FirstPair (d : ℕ) (j : Option (Bor (List ℕ))) (s : List ℕ) : Type 0 where
+  pub key : List ℕ
+  pub behind : List ℕ
+  pub left : List ℕ
+  pub framed : s ≡ small key ++ behind
+  pub short_key : IsShort key
+  pub above : IsAbove j key
+  pub front : CanonFront d behind left
+  pub others : (k : Bor (List ℕ)) → k.now ≡ key → CanonEntries d (Some k) left
+
+first_pair : (d : ℕ) (j : Option (Bor (List ℕ))) (s : List ℕ) → 0 < length s → CanonEntries d j s → FirstPair d j s
+first_pair d j _ some (_, no_canon_pairs, above, deep) = absurd (omega arith)
+first_pair d j _ some (_, canon_pair k w left v es is x before all, above, deep) =
+    record {
+      key = k;
+      behind = w ++ left;
+      left = left;
+      framed = refl;
+      short_key = is;
+      above = by j above;
+      front = (w, v, x, omega arith, refl);
+      others = λ j e. (es, all, rw e before, omega arith);
+    }
+  where
+    by : (j : Option (Bor (List ℕ))) → AreAbove j (entry k v es) → IsAbove j k
+    by None y = tt
+    by (Some i) y = y
+
+-- where pairs stand, and not none, a key is read
+pub key_there : (d : ℕ) (j : Option (Bor (List ℕ))) (s : List ℕ) (e : Refusal) → 0 < length s → CanonEntries d j s → Refuses (RawOutcome amqp.ShortString s) ⊥ e → ⊥
+key_there d j s e some all x =
+    let p = first_pair d j s some all in
+    let here : RawOutcome amqp.ShortString s (found (short p.key) p.behind) =
+    subst (λ (t : List ℕ). RawOutcome amqp.ShortString t (found (short p.key) p.behind)) (sym p.framed) (raw_found amqp.ShortString (small p.key) p.behind (short p.key) (raw_short p.key p.short_key)) in
+    refusal_of_none (RawOutcome amqp.ShortString s) (λ o y other. other (short p.key) p.behind (one_raw_outcome amqp.ShortString s o (found (short p.key) p.behind) y here)) e x
+
+-- a key that stands at the front is the first pair's
+module _ (d : ℕ) (j : Option (Bor (List ℕ))) (s key behind : List ℕ) (f : IsKeyFrame s key behind) where
+  same_key : (p : FirstPair d j s) → (p.key ≡ key) × (p.behind ≡ behind)
+  same_key p =
+      let here = short_bytes key behind (small p.key) p.behind (short p.key) (raw_short p.key p.short_key) (sym f.framed ∙ p.framed) in
+      let same = one_raw_reading amqp.ShortString (small p.key) (small key) p.behind behind (short p.key) (short key) (raw_short p.key p.short_key) (raw_short key here) (sym p.framed ∙ f.framed) in
+      (cc, same.2)
+
+  there : 0 < length s
+  there = omega (arith, ap length f.framed)
+
+  -- it is UTF-8
+  pub key_utf8 : CanonEntries d j s → IsUtf8 key
+  key_utf8 all =
+      let p = first_pair d j s there all in
+      subst IsUtf8 (same_key p).0 p.short_key.utf8
+
+  -- it stands above the one before it
+  pub key_above : CanonEntries d j s → IsAbove j key
+  key_above all =
+      let p = first_pair d j s there all in
+      subst (IsAbove j) (same_key p).0 p.above
+
+  -- a canonical encoding stands after it
+  pub value_behind : CanonEntries d j s → (left : List ℕ) × CanonFront d behind left
+  value_behind all =
+      let p = first_pair d j s there all in
+      (p.left, subst (λ (t : List ℕ). CanonFront d t p.left) (same_key p).1 p.front)
+
+  module _ (after : List ℕ) (front : CanonFront d behind after) where
+    -- after the first pair the others are pairs, where all of them are
+    pub pairs_after : (k : Bor (List ℕ)) → k.now ≡ key → CanonEntries d j s → CanonEntries d (Some k) after
+    pairs_after k e all =
+        let p = first_pair d j s there all in
+        let same = same_key p in
+        let here : CanonFront d behind p.left = subst (λ (t : List ℕ). CanonFront d t p.left) same.1 p.front in
+        subst (CanonEntries d (Some k)) (one_rest d behind p.left after here front) (p.others k (e ∙ sym same.0))
+
+    -- and all of them are, where they are
+    pub pairs_before : (k : Bor (List ℕ)) → k.now ≡ key → IsUtf8 key → IsAbove j key → CanonEntries d (Some k) after → CanonEntries d j s
+    pairs_before k e utf8 above (es, all, before, deep) = by front
+      where
+        over : (j : Option (Bor (List ℕ))) (v : Tree) → IsAbove j key → AreAbove j (entry key v es)
+        over None v y = tt
+        over (Some i) v y = y
+
+        by : CanonFront d behind after → CanonEntries d j s
+        by (w, v, x, less, g) =
+            let is : IsShort key = record { few = f.few; utf8 = utf8 } in
+            let pairs = canon_pair key w after v es is x (subst (λ (t : List ℕ). ComesBefore t es) e before) all in
+            (entry key v es, subst (λ (t : List ℕ). CanonPairs t (entry key v es)) (sym (f.framed ∙ ap (λ (t : List ℕ). small key ++ t) g)) pairs, over j v above, omega arith)
+
+    -- what stands after the pair is shorter
+    pub pair_shorter : length after < length s
+    pair_shorter = omega (arith, ap length f.framed, length-append key behind, rest_shorter d behind after front)
+
+-- ---- limits
+
+-- what lies in a slice of bytes is bytes
+pub bytes_all : (s : List ℕ) → ((i : ℕ) → Fits w8 (get_or s i 0)) → IsBytes s
+bytes_all [] at = tt
+bytes_all (c ∷ s) at = (omega (arith, at 0), bytes_all s (λ i. at (suc i)))
+
+-- the value of a canonical encoding of bytes is read within its depth
+canon_found : (d : ℕ) (w rest : List ℕ) (v : Tree) → IsBytes w → Canon w v → depth v ≤ d → OutcomeWithin d (w ++ rest) (found v rest)
+canon_found d w rest v bytes x deep =
+    let wire = canon_is_wire w v x in
+    let fits = canon_fits w v x in
+    let p : WireWithin (depth v) w v =
+    subst (λ (t : List ℕ). WireWithin (depth v) t v) (sym (canon_is_text w v bytes x)) (text_within v (read_is_value w v bytes wire) fits.0 fits.1) in
+    wire_found_within d w rest v p.0 (omega (arith, p.1, deep))
+
+module _ (l : Limits) (s : List ℕ) where
+  -- a canonical encoding at the front, as deep as the limits allow
+  pub canon_len : (rest : List ℕ) (n : ℕ) → IsBytes s → extent s ≤ l.frame → CanonFront l.depth s rest → length s ≡ n + length rest → IsCanonicalLen l s n
+  canon_len rest n bytes fits (w, v, x, deep, e) size =
+      let front : IsBytes w = bytes_front w rest (subst IsBytes e bytes) in
+      (w, rest, v, e, omega (arith, size, ap length e, length-append w rest), x, (fits, subst (λ (t : List ℕ). OutcomeWithin l.depth t (found v rest)) (sym e) (canon_found l.depth w rest v front x deep)))
+
+  pub len_front : (n : ℕ) → IsCanonicalLen l s n → (rest : List ℕ) × CanonFront l.depth s rest
+  len_front n (w, rest, v, e, size, x, within) =
+      let f = front_within l.depth s rest v within.1 in
+      (rest, (w, v, x, depth_within l.depth f.0 v f.1, e))
+
+  -- its header tells that it is there
+  pub len_header : (h : Header) (n : ℕ) → IsHeader l.frame s h → IsCanonicalLen l s n → h ≡ header.Whole
+  len_header h n is (w, rest, v, e, size, x, within) =
+      by h is (subst (λ (t : List ℕ). Outcome t (found v rest)) (sym e) (wire_found w rest v (canon_is_wire w v x)))
+    where
+      by : (h : Header) → IsHeader l.frame s h → Outcome s (found v rest) → h ≡ header.Whole
+      by header.Unknown is there = absurd (let same = one_outcome s unknown (found v rest) is.0 there in cc)
+      by header.TooLarge is there = absurd (omega (arith, is, within.0))
+      by (header.Lacks k) is there =
+          let lacks = more_wanted Wire s (omega (arith, is.1)) in
+          absurd (let same = one_outcome s (more (wanted s)) (found v rest) lacks there in cc)
+      by header.Whole is there = refl
+
+  -- one canonical encoding at most stands at the front
+  pub one_len : (n m : ℕ) → IsCanonicalLen l s n → IsCanonicalLen l s m → n ≡ m
+  one_len n m (w, rest, v, e, size, x, within) (u, left, z, f, count, y, inside) =
+      let same = (one_reading w u rest left v z (canon_is_wire w v x) (canon_is_wire u z y) (sym e ∙ f)).0 in
+      sym size ∙ (ap length same ∙ count)
+
+  -- all of the bytes
+  pub len_all : IsCanonicalLen l s (length s) → IsCanonicalWithin l s
+  len_all (w, rest, v, e, size, x, within) =
+      let none : rest ≡ [] = nil_from_length rest (omega (arith, size, ap length e, length-append w rest)) in
+      let same : w ≡ s = sym (append-nil w) ∙ (ap (λ (t : List ℕ). w ++ t) (sym none) ∙ sym e) in
+      (v, subst (λ (t : List ℕ). Canon t v) same x, subst (λ (t : List ℕ). Within l s (found v t)) none within)
+
+  pub all_len : IsCanonicalWithin l s → IsCanonicalLen l s (length s)
+  all_len (v, x, within) = (s, [], v, sym (append-nil s), refl, x, within)
+
+  -- they are canonical exactly where they are what is written for the value
+  pub as_written : IsBytes s → IsCanonicalWithin l s → IsReadAsWritten l s
+  as_written bytes (v, x, within) = (v, within, canon_is_text s v bytes x)
+
+  pub written_canon : IsBytes s → IsReadAsWritten l s → IsCanonicalWithin l s
+  written_canon bytes (v, within, e) =
+      let f = front_within l.depth s [] v within.1 in
+      let read = what_is_read f.0 v f.1.0 in
+      let is = read_is_value f.0 v (bytes_front f.0 [] (subst IsBytes f.2 bytes)) f.1.0 in
+      (v, subst (λ (t : List ℕ). Canon t v) (sym e) (text_is_canon v is read.0 read.1), within)
+
+  -- so a length tells, and its absence
+  pub told_by_len : (r : Option ℕ) (b : Bool) → b ≡ option_eq eqb r (Some (length s)) → IfSome r (λ n. IsCanonicalLen l s n) → (r ≡ None → (n : ℕ) → IsCanonicalLen l s n → ⊥)
+      → (b ≡ true → IsCanonicalWithin l s) × (b ≡ false → IsCanonicalWithin l s → ⊥)
+  told_by_len None b is some none = (λ t. absurd (false≢true (sym is ∙ t)), λ f x. none refl (length s) (all_len x))
+  told_by_len (Some n) b is some none = (
+    λ t. len_all (subst (IsCanonicalLen l s) (eqb-true n (length s) (sym is ∙ t)) some),
+    λ f x. absurd (false≢true (sym f ∙ (is ∙ eq-eqb n (length s) (one_len n (length s) some (all_len x))))),
+  )

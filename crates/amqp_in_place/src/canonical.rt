@@ -1,0 +1,132 @@
+//! Canonical encodings, told in place.
+
+ghost use Rattle.std.specs.Prelude.{◌≡◌, true, false, ℕ, List, length, None, IfSome};
+ghost use Rattle.amqp_input.specs.Inputs.{slice_bytes};
+ghost use Rattle.amqp_in_place.specs.Canonicals.{IsCanonicalLen, IsCanonicalWithin, IsReadAsWritten, CanonFront, CanonValues, CanonEntries, IsAbove, IsFirstSpelling};
+
+use super::head::{Head, read_head, read_key};
+use super::read::check_utf8;
+use amqp_input::{ParsableInput, SliceInput};
+use amqp_parsing::Limits;
+use amqp_parsing::header::{Header, header_of};
+
+/// Whether the bytes are the canonical encoding of a value, within the limits, and no byte stands
+/// behind it: told where they lie, with no memory.
+///
+/// The canonical encoding is the one that `gen_value` writes: no second spelling of a type tag (`U`
+/// or `L`), a boolean's byte 0 or 1, and the keys of each table strictly rising by their bytes.
+pub fn is_canonical(bytes: &[u8], limits: Limits) -> bool
+    ensures yes { result ≡ true → IsCanonicalWithin limits bytes.now }
+    ensures no { result ≡ false → IsCanonicalWithin limits bytes.now → ⊥ }
+    ensures written { result ≡ true → IsReadAsWritten limits bytes.now }
+    ensures not_written { result ≡ false → IsReadAsWritten limits bytes.now → ⊥ }
+{
+    canonical_len(bytes, limits) == Some(bytes.len())
+}
+
+/// How many bytes the canonical encoding at the front has; `None` where none stands there within
+/// the limits.
+///
+/// All of the value is checked, keys' UTF-8 too, in one pass. Nothing is copied, and no memory is
+/// taken. It recurses at most `limits.depth` deep. `read_in_place` tells why a value is rejected.
+pub fn canonical_len(bytes: &[u8], limits: Limits) -> Option<usize>
+    ensures len { IfSome result (λ n. IsCanonicalLen limits bytes.now n) }
+    ensures none { result ≡ None → (n : ℕ) → IsCanonicalLen limits bytes.now n → ⊥ }
+{
+    let i = SliceInput::new(bytes);
+    let Header::Whole = header_of(i, limits.frame) else {
+        return None;
+    };
+    let rest = after_canonical(i, limits.depth as usize)?;
+    Some(bytes.len() - rest.input_len())
+}
+
+// What stands after a canonical encoding in which containers nest at most `depth` deep.
+#[cycle(canonical)]
+fn after_canonical<'a>(i: SliceInput<'a>, depth: usize) -> Option<SliceInput<'a>>
+    ensures rest { IfSome result (λ rest. CanonFront depth (slice_bytes i.entry) (slice_bytes rest)) }
+    ensures none { result ≡ None → (rest : List ℕ) → CanonFront depth (slice_bytes i.entry) rest → ⊥ }
+{
+    if !is_first_spelling(i.as_slice()) {
+        return None;
+    }
+    let Ok((rest, head)) = read_head(i) else {
+        return None;
+    };
+    match head {
+        Head::Plain(_) => Some(rest),
+        Head::FieldArray(body) => {
+            are_canonical_values(body, depth.checked_sub(1)?).then_some(rest)
+        }
+        Head::FieldTable(body) => are_canonical_pairs(body, depth.checked_sub(1)?).then_some(rest),
+    }
+}
+
+// Whether a body is canonical encodings one after another, in each of which containers nest at most
+// `depth` deep.
+#[cycle(canonical)]
+fn are_canonical_values<'a>(body: SliceInput<'a>, depth: usize) -> bool
+    ensures yes { result ≡ true → CanonValues depth (slice_bytes body.entry) }
+    ensures no { result ≡ false → CanonValues depth (slice_bytes body.entry) → ⊥ }
+{
+    let mut rest = body;
+    'values: while rest.input_len() > 0 {
+        let Some(after) = after_canonical(rest, depth) else {
+            return false;
+        };
+        rest = after;
+    }
+    true
+}
+
+// Whether a body is pairs one after another, each key above the one before it, each value in its
+// canonical encoding, and containers nest at most `depth` deep in each value.
+#[cycle(canonical)]
+fn are_canonical_pairs<'a>(body: SliceInput<'a>, depth: usize) -> bool
+    ensures yes { result ≡ true → CanonEntries depth None (slice_bytes body.entry) }
+    ensures no { result ≡ false → CanonEntries depth None (slice_bytes body.entry) → ⊥ }
+{
+    let mut rest = body;
+    let mut previous: Option<&[u8]> = None;
+    'pairs: while rest.input_len() > 0 {
+        let Ok((behind, key)) = read_key(rest) else {
+            return false;
+        };
+        let key = key.as_slice();
+        if !is_above(previous, key) {
+            return false;
+        }
+        let Ok(()) = check_utf8(key) else {
+            return false;
+        };
+        let Some(after) = after_canonical(behind, depth) else {
+            return false;
+        };
+        rest = after;
+        previous = Some(key);
+    }
+    true
+}
+
+// Whether a key stands above the one before it.
+fn is_above(previous: Option<&[u8]>, key: &[u8]) -> bool
+    ensures yes { result ≡ true → IsAbove previous.entry key.now }
+    ensures no { result ≡ false → IsAbove previous.entry key.now → ⊥ }
+{
+    match previous {
+        Some(previous) => previous < key,
+        None => true,
+    }
+}
+
+// Whether no second spelling of a type tag stands first, and after a boolean's 0 or 1.
+fn is_first_spelling(bytes: &[u8]) -> bool
+    ensures yes { result ≡ true → IsFirstSpelling bytes.now }
+    ensures no { result ≡ false → IsFirstSpelling bytes.now → ⊥ }
+{
+    match bytes {
+        [b'U' | b'L', ..] => false,
+        [b't', truth, ..] => *truth < 2,
+        _ => true,
+    }
+}
