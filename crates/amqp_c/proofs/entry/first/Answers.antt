@@ -50,7 +50,7 @@ returns-in_err-value-clause-told c = λ v rest x.
     let mid = slice_bytes c.in_ok-payload.payload in
     let p = subst (λ (t : List ℕ). IsType t c.in_ok-payload.amqp_type mid) c.new.ensures c.in_ok-payload.ensures.id in
     absurd (never_faulty s rest v (fault_of c.in_err-value.field-0.0) x
-    (scalar_fault s mid c.in_ok-payload.amqp_type p (sym c.has_content.ensures ∙ c.if-has_content.false) c.in_ok-payload.ensures.read_back c.in_err-value.field-0.0 c.in_err-value.ensures))
+    (scalar_fault s mid c.in_ok-payload.amqp_type p (sym c.has_content.ensures ∙ c.if-has_content.false) c.in_ok-payload.ensures.read_back c.in_err-value.field-0.0 c.in_err-value.ensures.outcome))
 
 pub returns-in_err-value-clause-refused : goal.returns-in_err-value-clause-refused
 returns-in_err-value-clause-refused c =
@@ -59,7 +59,7 @@ returns-in_err-value-clause-refused c =
     let p = subst (λ (t : List ℕ). IsType t c.in_ok-payload.amqp_type mid) c.new.ensures c.in_ok-payload.ensures.id in
     let r = err_from_is_err_and c.from_residual-in_err-value.result c.from_residual-in_err-value.ensures.1 in
     rw (r.1, r.2)
-    (scalar_fault s mid c.in_ok-payload.amqp_type p (sym c.has_content.ensures ∙ c.if-has_content.false) c.in_ok-payload.ensures.read_back c.in_err-value.field-0.0 c.in_err-value.ensures)
+    (scalar_fault s mid c.in_ok-payload.amqp_type p (sym c.has_content.ensures ∙ c.if-has_content.false) c.in_ok-payload.ensures.read_back c.in_err-value.field-0.0 c.in_err-value.ensures.outcome)
 
 pub returns-then-has_content-clause-front : goal.returns-then-has_content-clause-front
 returns-then-has_content-clause-front c =
@@ -71,13 +71,13 @@ returns-then-has_content-clause-front c =
 
 pub returns-clause-front : goal.returns-clause-front
 returns-clause-front c =
-    let x = c.in_ok-value.ensures in
+    let x = c.in_ok-value.ensures.outcome in
     let e = found_extent c.args.bytes.now c.in_ok-value.rest.now x.0 x.2 in
     (refl, refl, omega arith)
 
 pub returns-clause-lies : goal.returns-clause-lies
 returns-clause-lies c =
-    let x = c.in_ok-value.ensures in
+    let x = c.in_ok-value.ensures.outcome in
     let less = found_shorter c.args.bytes.now c.in_ok-value.rest.now x.0 x.2 in
     record { key = omega arith; value = omega arith; content = omega arith; some = omega arith }
 
@@ -87,7 +87,7 @@ returns-clause-told c = λ v left x.
     let mid = slice_bytes c.in_ok-payload.payload in
     let rest = c.in_ok-value.rest.now in
     let p = subst (λ (t : List ℕ). IsType t c.in_ok-payload.amqp_type mid) c.new.ensures c.in_ok-payload.ensures.id in
-    let y = c.in_ok-value.ensures in
+    let y = c.in_ok-value.ensures.outcome in
     let less = found_shorter s rest y.0 y.2 in
     let whole : length s - length rest + length rest ≡ length s = omega arith in
     let e : Entry = record {
