@@ -1,0 +1,23 @@
+-- What every value in memory is.
+use Rattle.amqp_types.specs.Strings.{IsShort}
+use Rattle.hex.specs.Hex.{IsBytes}
+use Rattle.amqp_grammar.specs.InMemory.{IsScalar}
+use Rattle.amqp_grammar.specs.Values.{Tree, scalar, short, long, octets, array, table, Trees, no_trees, tree, Entries, no_entries, entry}
+
+-- each number is in its type's range, each short string and each key is one, and all else is bytes
+abbrev mutual
+  pub IsStored : Tree → Type 0
+  IsStored (scalar x) = IsScalar x
+  IsStored (short s) = IsShort s
+  IsStored (long s) = IsBytes s
+  IsStored (octets s) = IsBytes s
+  IsStored (array vs) = AreStored vs
+  IsStored (table es) = EntriesStored es
+
+  pub AreStored : Trees → Type 0
+  AreStored no_trees = Unit {0}
+  AreStored (tree v vs) = IsStored v × AreStored vs
+
+  pub EntriesStored : Entries → Type 0
+  EntriesStored no_entries = Unit {0}
+  EntriesStored (entry k v es) = IsShort k × IsStored v × EntriesStored es
