@@ -1,2 +1,4 @@
 mod Walks
 mod Bytes
+mod Odd
+mod ReadWalks

@@ -4,7 +4,7 @@ use Rattle.std.specs.List.{list_any}
 use Rattle.std.specs.Result.{result_ok}
 use Rattle.std.specs.Int.{w32, w64, cast_unsigned, from_be_bytes}
 use Rattle.std.specs.Str.{is_utf8, bytes_eq}
-use Rattle.hex.specs.Hex.{decode_of}
+use Rattle.hex.specs.Hex.{decode_of, decode_sized}
 use Rattle.serde_json.specs.Data.{Num, unsigned, negative, Data, null, boolean, number, string, array, object, Items, no_items, item, Members, no_members, member}
 use Rattle.serde_json.specs.Find.{as_str}
 use Rattle.amqp_types.specs.declared.amqp_type.AMQPType.{AMQPType}
@@ -25,19 +25,17 @@ long_long _ = None
 abbrev pub is_capital : ℕ → Bool
 is_capital c = nat_le 65 c && nat_le c 90
 
+-- the text, where it has no capital letter
+abbrev pub small : Data → Option (List ℕ)
+small d = option_and_then (λ s. if list_any is_capital s then None else Some s) (as_str d)
+
 -- the bytes of a text of hexadecimal digits in lower case
-abbrev pub bytes_of : List ℕ → Option (List ℕ)
-bytes_of s = if list_any is_capital s then None else result_ok (decode_of s)
-
--- the bytes that a JSON text of such digits stands for
 abbrev pub bytes_in : Data → Option (List ℕ)
-bytes_in d = option_and_then bytes_of (as_str d)
+bytes_in d = option_and_then (λ s. result_ok (decode_of s)) (small d)
 
-abbrev pub float_of : List ℕ → Option Tree
-float_of b = if length b == 4 then Some (scalar (values.number amqp.Float (from_be_bytes w32 b))) else None
-
-abbrev pub double_of : List ℕ → Option Tree
-double_of b = if length b == 8 then Some (scalar (values.number amqp.Double (from_be_bytes w64 b))) else None
+-- n such bytes, where it is a text of twice as many digits
+abbrev pub sized_in : ℕ → Data → Option (List ℕ)
+sized_in n d = option_and_then (λ s. result_ok (decode_sized s n)) (small d)
 
 -- bytes that are no text
 abbrev pub long_of : List ℕ → Option Tree
@@ -70,8 +68,8 @@ value_under amqp.LongInt d = plain_in amqp.LongInt d
 value_under amqp.LongUInt d = plain_in amqp.LongUInt d
 value_under amqp.Timestamp d = plain_in amqp.Timestamp d
 value_under amqp.ShortString d = plain_in amqp.ShortString d
-value_under amqp.Float d = option_and_then float_of (bytes_in d)
-value_under amqp.Double d = option_and_then double_of (bytes_in d)
+value_under amqp.Float d = option_map (λ b. scalar (values.number amqp.Float (from_be_bytes w32 b))) (sized_in 4 d)
+value_under amqp.Double d = option_map (λ b. scalar (values.number amqp.Double (from_be_bytes w64 b))) (sized_in 8 d)
 value_under amqp.DecimalValue d = decimal_in d
 value_under amqp.LongString d = option_and_then long_of (bytes_in d)
 value_under amqp.ByteArray d = option_map octets (bytes_in d)
