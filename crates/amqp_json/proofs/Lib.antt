@@ -2,3 +2,5 @@ mod Walks
 mod Bytes
 mod Odd
 mod ReadWalks
+mod Back
+mod NoFloat

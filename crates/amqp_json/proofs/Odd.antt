@@ -1,9 +1,8 @@
 -- Which numbers no `Value` holds.
-use Rattle.std.proofs.Common.{◌≡◌, ℕ, Bool, true, false, pos, negsuc, refl, arith, rules}
+use Rattle.std.proofs.Common.{◌≡◌, true, false, pos, negsuc, refl, arith, rules}
 use Rattle.std.proofs.lemmas.Int.{ints}
 use Rattle.serde_json.specs.declared.value.Value.{Value, out-Value, the_lemmas}
 use Rattle.serde_json.specs.declared.value.Value.TheOpen.{Value-F}
-use Rattle.serde_json.specs.declared.number.Number.{Number}
 use Rattle.serde_json.specs.declared.number.N.{N}
 use Rattle.serde_json.specs.declared.number.N.TheVariants.{PosInt, NegInt, Float}
 use Rattle.serde_json.specs.Number.{num_of, is_valid}

@@ -1,5 +1,5 @@
 -- Walks over JSON's items and members: what was read so far, and one more.
-use Rattle.std.proofs.Common.{◌≡◌, ℕ, zero, suc, ◌+◌, ◌<◌, ◌≤◌, List, [], ◌∷◌, ◌++◌, length, take, get_or, nat_le, Bool, true, false, Option, Some, None, string_bytes, string_cmp, nat_cmp, Less, Greater, refl, sym, ap, ◌∙◌, subst, arith}
+use Rattle.std.proofs.Common.{◌≡◌, ℕ, zero, suc, ◌+◌, ◌<◌, ◌≤◌, List, [], ◌∷◌, ◌++◌, length, take, get_or, nat_le, Bool, true, false, Option, Some, None, string_bytes, string_cmp, nat_cmp, Less, Greater, refl, sym, ap, ◌∙◌, arith}
 use Rattle.std.proofs.lemmas.Cmp.{nat_list_cmp_total}
 use Rattle.std.proofs.lemmas.List.{take_more}
 use Rattle.std.specs.Option.{option_map, option_and_then}
@@ -82,10 +82,10 @@ record Parts (k : List ℕ) (o : Option Tree) (os : Option Entries) (es : Entrie
   others : os ≡ Some rest
   whole : es ≡ entry k first rest
 
-with_short : (k : List ℕ) (o : Option Tree) (os : Option Entries) → nat_le (length k) 255 ≡ true → with_entry k o os ≡ option_and_then (λ x. option_map (entry k x) os) o
+pub with_short : (k : List ℕ) (o : Option Tree) (os : Option Entries) → nat_le (length k) 255 ≡ true → with_entry k o os ≡ option_and_then (λ x. option_map (entry k x) os) o
 with_short k o os s = rw s refl
 
-without_short : (k : List ℕ) (o : Option Tree) (os : Option Entries) → nat_le (length k) 255 ≡ false → with_entry k o os ≡ None
+pub without_short : (k : List ℕ) (o : Option Tree) (os : Option Entries) → nat_le (length k) 255 ≡ false → with_entry k o os ≡ None
 without_short k o os s = rw s refl
 
 parts : (k : List ℕ) (b : Bool) (o : Option Tree) (os : Option Entries) (es : Entries) → nat_le (length k) 255 ≡ b → with_entry k o os ≡ Some es → Parts k o os es

@@ -6,3 +6,5 @@ pub mod Json
 pub mod InMemory
 -- the same read backwards, as a function: which value a JSON value is that of
 pub mod Reading
+-- what an error says of a text
+pub mod Texts

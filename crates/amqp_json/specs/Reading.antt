@@ -1,5 +1,5 @@
 -- Which value a JSON value is the JSON of, as a function of it: for private clauses.
-use Rattle.std.specs.Prelude.{ℕ, ◌^◌, pos, negsuc, List, length, codes, Bool, true, false, ◌&&◌, ◌==◌, nat_lt, nat_le, if◌then◌else◌, Option, Some, None, option_map, option_and_then}
+use Rattle.std.specs.Prelude.{ℕ, ◌^◌, pos, negsuc, List, length, codes, Bool, true, false, ◌&&◌, nat_lt, nat_le, if◌then◌else◌, Option, Some, None, option_map, option_and_then}
 use Rattle.std.specs.List.{list_any}
 use Rattle.std.specs.Result.{result_ok}
 use Rattle.std.specs.Int.{w32, w64, cast_unsigned, from_be_bytes}

@@ -22,3 +22,17 @@ impl From<AllocError> for ValueError {
         ValueError::OutOfMemory
     }
 }
+
+/// Why no value is read from a text.
+#[derive(Debug, Drop, Error)]
+pub enum JsonError {
+    /// An allocation failed.
+    #[error("out of memory")]
+    OutOfMemory,
+    /// The text is no JSON, or its arrays and objects nest deeper than 127.
+    #[error("{0}")]
+    Syntax(serde_json::Error),
+    /// It is the JSON of no value.
+    #[error("the JSON of no AMQP value")]
+    NotAValue,
+}

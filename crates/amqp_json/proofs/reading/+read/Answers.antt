@@ -1,4 +1,4 @@
-use Rattle.std.proofs.Common.{Some, List, [], ◌∷◌, ◌++◌, ◌≡◌, refl, sym, ap, ◌∙◌, subst, append_assoc, length, ◌<◌, ◌≤◌, None, rules}
+use Rattle.std.proofs.Common.{Some, [], ◌∷◌, ◌++◌, ◌≡◌, sym, ap, ◌∙◌, subst, append_assoc, length, ◌<◌, ◌≤◌, None, rules}
 use Rattle.amqp_json.specs.declared.error.ValueError.TheVariants.{NotAValue}
 use Rattle.amqp_json.specs.Reading.{entries_of}
 use Rattle.std.specs.List.Sorted.{IsStrictlySortedBy}
