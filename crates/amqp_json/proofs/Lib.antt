@@ -4,3 +4,5 @@ mod Odd
 mod ReadWalks
 mod Back
 mod NoFloat
+mod Only
+mod Ones

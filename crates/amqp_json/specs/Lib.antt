@@ -4,7 +4,7 @@ pub mod Names
 pub mod Json
 -- what every value in memory is, bytes and all
 pub mod InMemory
--- the same read backwards, as a function: which value a JSON value is that of
+-- what reading refuses
+pub mod Refusals
+-- for private clauses: reading as a function
 pub mod Reading
--- what an error says of a text
-pub mod Texts

@@ -1,14 +1,14 @@
 //! The JSON text of a value, and back.
 
-ghost use Rattle.std.specs.Prelude.{◌≡◌, ◌≤◌, Some, IfOk, IfErr, string_bytes, option_and_then};
+ghost use Rattle.std.specs.Prelude.{◌≡◌, ◌≤◌, Some, IfOk, IfErr, string_bytes};
 ghost use Rattle.serde_json.specs.Data.{depth};
 ghost use Rattle.serde_json.specs.Read.{read, max_depth};
 ghost use Rattle.serde_json.specs.Written.{compact_text};
+ghost use Rattle.amqp_grammar.specs.Values.{Tree};
 ghost use Rattle.amqp_value_core.specs.View.{view};
 ghost use Rattle.amqp_json.specs.Json.{json};
 ghost use Rattle.amqp_json.specs.InMemory.{IsStored};
-ghost use Rattle.amqp_json.specs.Reading.{value_of};
-ghost use Rattle.amqp_json.specs.Texts.{Tells};
+ghost use Rattle.amqp_json.specs.Refusals.{Tells};
 
 use crate::error::{JsonError, ValueError};
 use crate::reading::from_value;
@@ -21,19 +21,20 @@ use std::alloc::{AllocError, Global};
 #[tactic(auto, using(crate::proofs::NoFloat::no_float))]
 pub fn to_json(alloc: Global, value: &AMQPValue) -> Result<String, AllocError>
     ensures text { IfOk result (λ s. string_bytes s ≡ compact_text (json (view value.now))) }
-    ensures reads { IfOk result (λ s. depth (json (view value.now)) ≤ max_depth
-        → read (string_bytes s) ≡ Some (json (view value.now))) }
     ensures read_back { IfOk result (λ s. depth (json (view value.now)) ≤ max_depth
-        → option_and_then value_of (read (string_bytes s)) ≡ Some (view value.now)) }
+        → read (string_bytes s) ≡ Some (json (view value.now))) }
 {
     to_value(alloc, value)?.to_string(alloc)
 }
 
 /// The value whose JSON the text is. Of a key that comes twice in one object the last one's value
 /// stays.
+#[tactic(auto, using(crate::proofs::Ones::only_in))]
 pub fn from_json(alloc: Global, text: &str) -> Result<AMQPValue, JsonError>
-    ensures ok { IfOk result (λ v. option_and_then value_of (read text.now) ≡ Some (view v)) }
-    ensures err { IfErr result (λ e. Tells e (read text.now)) }
+    ensures json { IfOk result (λ v. read text.now ≡ Some (json (view v))) }
+    ensures only { IfOk result (λ v. (u : Tree) → IsStored u → read text.now ≡ Some (json u)
+        → u ≡ view v) }
+    ensures refused { IfErr result (λ e. Tells e (read text.now)) }
 {
     let json = match Value::from_str(alloc, text) {
         Ok(json) => json,

