@@ -23,8 +23,9 @@ use hex::{FromHex, FromHexError};
 use serde_json::{Map, Number, Value};
 use std::alloc::Global;
 
-/// The value whose JSON it is, in memory of its own. Nothing else is read: not `{"LongLongInt": 5}`,
-/// since a `LongLongInt` is plain, and not a `LongString` of digits that stand for UTF-8.
+/// The value whose JSON it is, in memory of its own. Nothing else is read: not
+/// `{"LongLongInt": 5}`, since a `LongLongInt` is plain, and not a `LongString` of digits that
+/// stand for UTF-8. It goes as deep as the JSON nests.
 #[tactic(auto, using(crate::proofs::Ones::its_json, crate::proofs::Ones::of_none))]
 pub fn from_value(alloc: Global, value: &Value) -> Result<AMQPValue, ValueError>
     ensures json { IfOk result (λ v. json (view v) ≡ document value.now) }
@@ -55,7 +56,8 @@ fn has_capital(text: &[u8]) -> bool
 // the bytes of a text of hexadecimal digits in lower case
 fn bytes(alloc: Global, value: &Value) -> Result<Vec<u8>, ValueError>
     ensures ok { IfOk result (λ b. bytes_in (document value.now) ≡ Some b.items) }
-    ensures err { IfErr result (λ e. e ≡ ValueError.NotAValue → bytes_in (document value.now) ≡ None) }
+    ensures err { IfErr result (λ e. e ≡ ValueError.NotAValue
+        → bytes_in (document value.now) ≡ None) }
 {
     let Some(text) = small(value) else {
         return Err(ValueError::NotAValue);
@@ -77,7 +79,8 @@ fn sized<const N: usize>(value: &Value) -> Option<[u8; N]>
 
 // a scale and a number
 fn decimal(value: &Value) -> Option<DecimalValue>
-    ensures { option_map (λ d. scalar (decimal_tree d.scale d.value)) result ≡ decimal_in (document value.now) }
+    ensures { option_map (λ d. scalar (decimal_tree d.scale d.value)) result
+        ≡ decimal_in (document value.now) }
 {
     let mut members = value.as_object()?.iter();
     match (members.next(), members.next(), members.next()) {
@@ -118,7 +121,8 @@ fn double(value: &Value) -> Option<AMQPValue>
 #[tactic(auto, using(crate::proofs::Odd::is_even))]
 fn plain(alloc: Global, amqp_type: AMQPType, value: &Value) -> Result<AMQPValue, ValueError>
     ensures ok { IfOk result (λ v. plain_in amqp_type (document value.now) ≡ Some (view v)) }
-    ensures err { IfErr result (λ e. e ≡ ValueError.NotAValue → plain_in amqp_type (document value.now) ≡ None) }
+    ensures err { IfErr result (λ e. e ≡ ValueError.NotAValue
+        → plain_in amqp_type (document value.now) ≡ None) }
 {
     match AMQPValue::try_from(alloc, value, amqp_type)? {
         Some(v) => Ok(v),
@@ -129,8 +133,10 @@ fn plain(alloc: Global, amqp_type: AMQPType, value: &Value) -> Result<AMQPValue,
 // bytes that are no text
 #[tactic(auto, using(crate::proofs::Bytes::utf8))]
 fn long_bytes(alloc: Global, value: &Value) -> Result<AMQPValue, ValueError>
-    ensures ok { IfOk result (λ v. value_under amqp.LongString (document value.now) ≡ Some (view v)) }
-    ensures err { IfErr result (λ e. e ≡ ValueError.NotAValue → value_under amqp.LongString (document value.now) ≡ None) }
+    ensures ok { IfOk result (λ v. value_under amqp.LongString (document value.now)
+        ≡ Some (view v)) }
+    ensures err { IfErr result (λ e. e ≡ ValueError.NotAValue
+        → value_under amqp.LongString (document value.now) ≡ None) }
 {
     let bytes = bytes(alloc, value)?;
     match std::str::from_utf8(&bytes) {
@@ -142,7 +148,8 @@ fn long_bytes(alloc: Global, value: &Value) -> Result<AMQPValue, ValueError>
 // what stands under the name of a type, where that is no table
 fn under_type(alloc: Global, amqp_type: AMQPType, value: &Value) -> Result<AMQPValue, ValueError>
     ensures ok { IfOk result (λ v. value_under amqp_type (document value.now) ≡ Some (view v)) }
-    ensures err { IfErr result (λ e. e ≡ ValueError.NotAValue → value_under amqp_type (document value.now) ≡ None) }
+    ensures err { IfErr result (λ e. e ≡ ValueError.NotAValue
+        → value_under amqp_type (document value.now) ≡ None) }
 {
     match amqp_type {
         AMQPType::ShortShortInt
@@ -182,7 +189,8 @@ fn long_text(alloc: Global, text: &str) -> Result<AMQPValue, ValueError>
 #[cycle(read)]
 fn read(alloc: Global, value: &Value) -> Result<AMQPValue, ValueError>
     ensures ok { IfOk result (λ v. value_of (document value.now) ≡ Some (view v)) }
-    ensures err { IfErr result (λ e. e ≡ ValueError.NotAValue → value_of (document value.now) ≡ None) }
+    ensures err { IfErr result (λ e. e ≡ ValueError.NotAValue
+        → value_of (document value.now) ≡ None) }
 {
     match value {
         Value::Null => Ok(AMQPValue::Void),
@@ -198,7 +206,8 @@ fn read(alloc: Global, value: &Value) -> Result<AMQPValue, ValueError>
 #[tactic(auto, using(crate::proofs::ReadWalks::item_refused))]
 fn read_items(alloc: Global, items: &Vec<Value>) -> Result<FieldArray, ValueError>
     ensures ok { IfOk result (λ a. values_of (items_view items.now.items) ≡ Some (array_view a)) }
-    ensures err { IfErr result (λ e. e ≡ ValueError.NotAValue → values_of (items_view items.now.items) ≡ None) }
+    ensures err { IfErr result (λ e. e ≡ ValueError.NotAValue
+        → values_of (items_view items.now.items) ≡ None) }
 {
     let mut values = FieldArray::new_in(alloc);
     for item in items {
@@ -209,8 +218,10 @@ fn read_items(alloc: Global, items: &Vec<Value>) -> Result<FieldArray, ValueErro
 
 #[cycle(read)]
 fn read_object(alloc: Global, members: &Map<String, Value>) -> Result<AMQPValue, ValueError>
-    ensures ok { IfOk result (λ v. value_of (object (members_view members.now.entries)) ≡ Some (view v)) }
-    ensures err { IfErr result (λ e. e ≡ ValueError.NotAValue → value_of (object (members_view members.now.entries)) ≡ None) }
+    ensures ok { IfOk result (λ v. value_of (object (members_view members.now.entries))
+        ≡ Some (view v)) }
+    ensures err { IfErr result (λ e. e ≡ ValueError.NotAValue
+        → value_of (object (members_view members.now.entries)) ≡ None) }
 {
     let mut walk = members.iter();
     if let (Some((key, inner)), None) = (walk.next(), walk.next()) {
@@ -227,8 +238,10 @@ fn read_object(alloc: Global, members: &Map<String, Value>) -> Result<AMQPValue,
 
 #[cycle(read)]
 fn read_escaped(alloc: Global, members: &Map<String, Value>) -> Result<AMQPValue, ValueError>
-    ensures ok { IfOk result (λ v. escaped (object (members_view members.now.entries)) ≡ Some (view v)) }
-    ensures err { IfErr result (λ e. e ≡ ValueError.NotAValue → escaped (object (members_view members.now.entries)) ≡ None) }
+    ensures ok { IfOk result (λ v. escaped (object (members_view members.now.entries))
+        ≡ Some (view v)) }
+    ensures err { IfErr result (λ e. e ≡ ValueError.NotAValue
+        → escaped (object (members_view members.now.entries)) ≡ None) }
 {
     if sole_name(members).is_none() {
         return Err(ValueError::NotAValue);
@@ -249,8 +262,10 @@ fn sole_name(members: &Map<String, Value>) -> Option<AMQPType>
 
 #[cycle(read)]
 fn read_members(alloc: Global, members: &Map<String, Value>) -> Result<FieldTable, ValueError>
-    ensures ok { IfOk result (λ t. entries_of (members_view members.now.entries) ≡ Some (table_view t)) }
-    ensures err { IfErr result (λ e. e ≡ ValueError.NotAValue → entries_of (members_view members.now.entries) ≡ None) }
+    ensures ok { IfOk result (λ t. entries_of (members_view members.now.entries)
+        ≡ Some (table_view t)) }
+    ensures err { IfErr result (λ e. e ≡ ValueError.NotAValue
+        → entries_of (members_view members.now.entries) ≡ None) }
 {
     let mut table = FieldTable::new_in(alloc);
     for (key, member) in members.iter() {

@@ -62,7 +62,7 @@ fn decimal(alloc: Global, scale: u8, value: u32) -> Result<Value, AllocError>
     Ok(Value::Object(members))
 }
 
-// whether the entries' JSON would be taken for another type
+// whether the entries' JSON would be taken for a value of another type
 fn looks_named(map: &BTreeMap<ShortString, AMQPValue>) -> bool
     ensures { result ≡ is_some (sole_type (members_json (entries map.now.entries))) }
 {
@@ -147,7 +147,8 @@ fn written_items(alloc: Global, items: &[AMQPValue]) -> Result<Vec<Value>, Alloc
 
 #[cycle(written)]
 fn written_table(alloc: Global, map: &BTreeMap<ShortString, AMQPValue>) -> Result<Value, AllocError>
-    ensures json { IfOk result (λ r. document r ≡ table_json (members_json (entries map.now.entries))) }
+    ensures json { IfOk result (λ r. document r
+        ≡ table_json (members_json (entries map.now.entries))) }
     ensures stored { OnOk result (EntriesStored (entries map.now.entries)) }
 {
     let object = Value::Object(written_members(alloc, map)?);
@@ -162,7 +163,8 @@ fn written_members(
     alloc: Global,
     map: &BTreeMap<ShortString, AMQPValue>,
 ) -> Result<Map<String, Value>, AllocError>
-    ensures json { IfOk result (λ r. members_view r.entries ≡ members_json (entries map.now.entries)) }
+    ensures json { IfOk result (λ r. members_view r.entries
+        ≡ members_json (entries map.now.entries)) }
     ensures stored { OnOk result (EntriesStored (entries map.now.entries)) }
 {
     let mut members = Map::new(alloc);
