@@ -9,6 +9,7 @@ ghost use Rattle.amqp_grammar.specs.Values.{scalar, decimal as decimal_tree};
 ghost use Rattle.amqp_value_core.specs.View.{view};
 ghost use Rattle.amqp_value_core.specs.Containers.{array_view, table_view};
 ghost use Rattle.amqp_json.specs.Json.{json, sole_type};
+ghost use Rattle.amqp_json.specs.InMemory.{IsSingle};
 ghost use Rattle.amqp_json.specs.Refusals.{IsOnly, IsOfNone};
 ghost use Rattle.amqp_json.specs.Reading.{is_capital, small as small_text, bytes_in, sized_in, decimal_in, plain_in, value_under, long_long, value_of, values_of, entries_of, escaped};
 
@@ -25,12 +26,14 @@ use std::alloc::Global;
 
 /// The value whose JSON it is, in memory of its own. Nothing else is read: not
 /// `{"LongLongInt": 5}`, since a `LongLongInt` is plain, and not a `LongString` of digits that
-/// stand for UTF-8. It goes as deep as the JSON nests.
-#[tactic(auto, using(crate::proofs::Ones::its_json, crate::proofs::Ones::of_none))]
+/// stand for UTF-8. Null, true, false and a number take no memory. It goes as deep as the JSON
+/// nests.
+#[tactic(auto, using(crate::proofs::Ones::its_json, crate::proofs::Ones::only_read, crate::proofs::Ones::of_none))]
 pub fn from_value(alloc: Global, value: &Value) -> Result<AMQPValue, ValueError>
     ensures json { IfOk result (λ v. json (view v) ≡ document value.now) }
     ensures only { IfOk result (λ v. IsOnly (view v) (document value.now)) }
     ensures refused { IfErr result (λ e. e ≡ ValueError.NotAValue → IsOfNone (document value.now)) }
+    ensures single { IfErr result (λ e. IsSingle (document value.now) → e ≡ ValueError.NotAValue) }
 {
     read(alloc, value)
 }
@@ -191,6 +194,7 @@ fn read(alloc: Global, value: &Value) -> Result<AMQPValue, ValueError>
     ensures ok { IfOk result (λ v. value_of (document value.now) ≡ Some (view v)) }
     ensures err { IfErr result (λ e. e ≡ ValueError.NotAValue
         → value_of (document value.now) ≡ None) }
+    ensures single { IfErr result (λ e. IsSingle (document value.now) → e ≡ ValueError.NotAValue) }
 {
     match value {
         Value::Null => Ok(AMQPValue::Void),

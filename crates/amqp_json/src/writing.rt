@@ -1,12 +1,12 @@
 //! From a value to its JSON.
 
-ghost use Rattle.std.specs.Prelude.{◌≡◌, IfOk, OnOk, is_some};
+ghost use Rattle.std.specs.Prelude.{◌≡◌, IfOk, OnOk, IsOk, is_some};
 ghost use Rattle.hex.specs.Hex.{IsBytes};
 ghost use Rattle.serde_json.specs.View.{view as document, items_view, members_view};
 ghost use Rattle.amqp_value_core.specs.View.{view};
 ghost use Rattle.amqp_value_core.specs.Containers.{trees, entries};
 ghost use Rattle.amqp_json.specs.Json.{json, items_json, members_json, under, table_json, long_json, decimal_json, hexadecimal, sole_type};
-ghost use Rattle.amqp_json.specs.InMemory.{IsStored, AreStored, EntriesStored};
+ghost use Rattle.amqp_json.specs.InMemory.{IsStored, IsPlain, AreStored, EntriesStored};
 
 use crate::names::{name, type_of_name};
 use amqp_value_core::types::{AMQPType, DecimalValue, ShortString};
@@ -15,10 +15,12 @@ use serde_json::{Map, Value};
 use std::alloc::{AllocError, Global};
 use std::collections::BTreeMap;
 
-/// The JSON of a value, in memory of its own. It goes as deep as the value nests.
+/// The JSON of a value, in memory of its own. Null, a boolean and an integer with no type's name
+/// take none. It goes as deep as the value nests.
 pub fn to_value(alloc: Global, value: &AMQPValue) -> Result<Value, AllocError>
     ensures json { IfOk result (λ r. document r ≡ json (view value.now)) }
     ensures stored { OnOk result (IsStored (view value.now)) }
+    ensures plain { IsPlain (view value.now) → IsOk result }
 {
     written(alloc, value)
 }
@@ -77,6 +79,7 @@ fn looks_named(map: &BTreeMap<ShortString, AMQPValue>) -> bool
 fn written(alloc: Global, value: &AMQPValue) -> Result<Value, AllocError>
     ensures json { IfOk result (λ r. document r ≡ json (view value.now)) }
     ensures stored { OnOk result (IsStored (view value.now)) }
+    ensures plain { IsPlain (view value.now) → IsOk result }
 {
     match value {
         AMQPValue::Boolean(b) => Ok(Value::from(*b)),

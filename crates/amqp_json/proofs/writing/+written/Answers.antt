@@ -7,7 +7,7 @@ use Rattle.serde_json.specs.View.{view as document, members_view}
 use Rattle.serde_json.proofs.Views.{members_view-insert_entry}
 use Rattle.amqp_grammar.specs.Values.{Tree}
 use Rattle.amqp_json.specs.Json.{json}
-use Rattle.amqp_json.specs.InMemory.{IsStored}
+use Rattle.amqp_json.specs.InMemory.{IsStored, IsPlain}
 use Rattle.amqp_json.proofs.Walks.{Pair, put_at_the_end, entries_stored, items_next, stored_next, table_is}
 use Rattle.amqp_json.proofs.writing.+written.Goals as goal
 
@@ -41,4 +41,5 @@ written-returns-in-FieldTable t c =
     record {
       json = subst (λ (v : Tree). IfOk c.written_table.result (λ r. document r ≡ json v)) is c.written_table.ensures.json;
       stored = subst (λ (v : Tree). OnOk c.written_table.result (IsStored v)) is c.written_table.ensures.stored;
+      plain = λ p. absurd (subst IsPlain (sym is) p);
     }
