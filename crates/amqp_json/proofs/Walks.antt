@@ -1,0 +1,84 @@
+-- Walks over values and entries: what was taken so far, and one more.
+use Rattle.std.proofs.Common.{◌≡◌, ℕ, ◌<◌, List, [], ◌∷◌, ◌++◌, ◌+◌, length, take, get_or, Less, Greater, refl, sym, ap, ◌∙◌, subst, rules}
+use Rattle.std.proofs.lemmas.List.{take_more}
+use Rattle.std.proofs.lemmas.Cmp.{nat_list_cmp_total}
+use Rattle.std.specs.Cmp.Lexicographic.{slice_cmp}
+use Rattle.std.specs.List.{AllByRecursion}
+use Rattle.std.specs.List.Sorted.{IsStrictlySortedBy}
+use Rattle.std.specs.Map.{keys_of}
+use Rattle.std.specs.Ordering.{nat_cmp, ordering_reverse}
+use Rattle.serde_json.specs.Data.{Data, Items, no_items, item, member, put}
+use Rattle.serde_json.specs.declared.value.Value.{Value}
+use Rattle.serde_json.specs.View.{view as document, items_view}
+use Rattle.amqp_value_core.specs.declared.types.field_table.FieldTable.{FieldTable}
+use Rattle.amqp_value_core.specs.declared.value.AMQPValue.{AMQPValue, the_lemmas}
+use Rattle.amqp_value_core.specs.declared.value.AMQPValue.TheVariants as value
+use Rattle.amqp_grammar.specs.Values.{table}
+use Rattle.amqp_types.specs.Strings.{IsShort}
+use Rattle.amqp_value_core.specs.View.{view}
+use Rattle.amqp_value_core.specs.Containers.{trees, entries, table_entries, table_view}
+use Rattle.amqp_json.specs.Json.{json, items_json, members_json}
+use Rattle.amqp_json.specs.InMemory.{IsStored, AreStored, EntriesStored}
+
+abbrev pub Pair : Type 0
+Pair = List ℕ × AMQPValue
+
+-- where keys rise, the first comes before a later one
+comes_before : (k : List ℕ) (es : List Pair) (e : Pair) (more : List Pair) → AllByRecursion (λ j. slice_cmp nat_cmp k j ≡ Less) (keys_of (es ++ e ∷ more)) → slice_cmp nat_cmp k e.0 ≡ Less
+comes_before k [] e more h = h.0
+comes_before k (x ∷ es) e more h = comes_before k es e more h.1
+
+-- a member whose key is behind all others is put at the end
+pub put_at_the_end : (done : List Pair) (e : Pair) (more : List Pair) → IsStrictlySortedBy (slice_cmp nat_cmp) (keys_of (done ++ e ∷ more))
+    → put e.0 (json (view e.1)) (members_json (entries done)) ≡ members_json (entries (done ++ e ∷ []))
+unfolding IsStrictlySortedBy
+put_at_the_end [] e more h = refl
+put_at_the_end (first ∷ done) e more h =
+    let behind : slice_cmp nat_cmp e.0 first.0 ≡ Greater =
+    nat_list_cmp_total.antisymm e.0 first.0 ∙ ap ordering_reverse (comes_before first.0 done e more h.0) in
+    rw behind (ap (member first.0 (json (view first.1))) (put_at_the_end done e more h.1))
+
+-- with one more, all are still stored
+pub entries_stored : (done : List Pair) (e : Pair) → EntriesStored (entries done) → IsShort e.0 → IsStored (view e.1) → EntriesStored (entries (done ++ e ∷ []))
+entries_stored [] e all short stored = (short, stored, tt)
+entries_stored (first ∷ done) e all short stored = (all.0, all.1, entries_stored done e all.2 short stored)
+
+pub trees_stored : (done : List AMQPValue) (v : AMQPValue) → AreStored (trees done) → IsStored (view v) → AreStored (trees (done ++ v ∷ []))
+trees_stored [] v all stored = (stored, tt)
+trees_stored (first ∷ done) v all stored = (all.0, trees_stored done v all.1 stored)
+
+-- an item behind others
+snoc : Items → Data → Items
+snoc no_items d = item d no_items
+snoc (item e es) d = item e (snoc es d)
+
+items_snoc : (vs : List Value) (r : Value) → items_view (vs ++ r ∷ []) ≡ snoc (items_view vs) (document r)
+unfolding snoc
+items_snoc [] r = refl
+items_snoc (v ∷ vs) r = ap (item (document v)) (items_snoc vs r)
+
+json_snoc : (vs : List AMQPValue) (v : AMQPValue) → items_json (trees (vs ++ v ∷ [])) ≡ snoc (items_json (trees vs)) (json (view v))
+unfolding snoc
+json_snoc [] v = refl
+json_snoc (u ∷ vs) v = ap (item (json (view u))) (json_snoc vs v)
+
+taken_more : (vs : List AMQPValue) (k : ℕ) (v : AMQPValue) → k < length vs → v ≡ get_or vs k v → take k vs ++ v ∷ [] ≡ take (k + 1) vs
+taken_more vs k v h e = ap (λ u. take k vs ++ u ∷ []) e ∙ sym (take_more vs k v h)
+
+-- one more value is written
+pub items_next : (vs : List AMQPValue) (k : ℕ) (v : AMQPValue) (rs ps : List Value) (r : Value) → k < length vs → v ≡ get_or vs k v → ps ≡ rs ++ r ∷ []
+    → items_view rs ≡ items_json (trees (take k vs)) → document r ≡ json (view v) → items_view ps ≡ items_json (trees (take (k + 1) vs))
+items_next vs k v rs ps r h e is p q =
+    ap items_view is ∙ items_snoc rs r ∙ rw (p, q) (sym (json_snoc (take k vs) v)) ∙ ap (λ us. items_json (trees us)) (taken_more vs k v h e)
+
+pub stored_next : (vs : List AMQPValue) (k : ℕ) (v : AMQPValue) → k < length vs → v ≡ get_or vs k v → AreStored (trees (take k vs)) → IsStored (view v) → AreStored (trees (take (k + 1) vs))
+stored_next vs k v h e p q =
+    let P : List AMQPValue → Type 0 = λ us. AreStored (trees us) in
+    subst P (taken_more vs k v h e) (trees_stored (take k vs) v p q)
+
+shown : (t : FieldTable) → view (value.FieldTable t) ≡ table (table_view t)
+shown t = search (rules, the_lemmas)
+
+-- a table is its entries
+pub table_is : (v : AMQPValue) (t : FieldTable) (es : List Pair) → v ≡ value.FieldTable t → es ≡ table_entries t → table (entries es) ≡ view v
+table_is v t es is inner = sym (ap view is ∙ shown t ∙ ap (λ (fs : List Pair). table (entries fs)) (sym inner))

@@ -1,0 +1,40 @@
+-- What every value in memory is, and what takes no memory as JSON.
+use Rattle.amqp_types.specs.Strings.{IsShort}
+use Rattle.serde_json.specs.Data as json
+use Rattle.serde_json.specs.Data.{Data}
+use Rattle.amqp_types.specs.declared.amqp_type.AMQPType.TheVariants as amqp
+use Rattle.hex.specs.Hex.{IsBytes}
+use Rattle.amqp_grammar.specs.InMemory.{IsScalar}
+use Rattle.amqp_grammar.specs.Values.{boolean, number, void, Tree, scalar, short, long, octets, array, table, Trees, no_trees, tree, Entries, no_entries, entry}
+
+-- each number is in its type's range, each short string and each key is one, and all else is bytes
+abbrev mutual
+  pub IsStored : Tree → Type 0
+  IsStored (scalar x) = IsScalar x
+  IsStored (short s) = IsShort s
+  IsStored (long s) = IsBytes s
+  IsStored (octets s) = IsBytes s
+  IsStored (array vs) = AreStored vs
+  IsStored (table es) = EntriesStored es
+
+  pub AreStored : Trees → Type 0
+  AreStored no_trees = Unit {0}
+  AreStored (tree v vs) = IsStored v × AreStored vs
+
+  pub EntriesStored : Entries → Type 0
+  EntriesStored no_entries = Unit {0}
+  EntriesStored (entry k v es) = IsShort k × IsStored v × EntriesStored es
+
+-- a value whose JSON takes no memory: null, true, false, or an integer with no type's name
+abbrev pub IsPlain : Tree → Type 0
+IsPlain (scalar (boolean b)) = Unit {0}
+IsPlain (scalar (number amqp.LongLongInt n)) = Unit {0}
+IsPlain (scalar void) = Unit {0}
+IsPlain _ = ⊥
+
+-- JSON that takes no memory to read: null, true, false, or a number
+abbrev pub IsSingle : Data → Type 0
+IsSingle json.null = Unit {0}
+IsSingle (json.boolean b) = Unit {0}
+IsSingle (json.number n) = Unit {0}
+IsSingle _ = ⊥

@@ -1,0 +1,10 @@
+-- which names are those of types
+pub mod Names
+-- the JSON of a value
+pub mod Json
+-- what every value in memory is, bytes and all
+pub mod InMemory
+-- what reading refuses
+pub mod Refusals
+-- for private clauses: reading as a function
+pub mod Reading

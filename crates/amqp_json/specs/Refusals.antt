@@ -1,0 +1,22 @@
+-- What a JSON value or a text is that reading refuses, and what one is that it accepts.
+use Rattle.std.specs.Prelude.{◌≡◌, ◌≢◌, Option, Some, None}
+use Rattle.serde_json.specs.Data.{Data}
+use Rattle.amqp_grammar.specs.Values.{Tree}
+use Rattle.amqp_json.specs.declared.error.JsonError.{JsonError}
+use Rattle.amqp_json.specs.declared.error.JsonError.TheVariants.{OutOfMemory, Syntax, NotAValue}
+use Rattle.amqp_json.specs.Json.{json}
+use Rattle.amqp_json.specs.InMemory.{IsStored}
+
+-- v is the only value whose JSON is d
+abbrev pub IsOnly : Tree → Data → Type 0
+IsOnly v d = (u : Tree) → IsStored u → json u ≡ d → u ≡ v
+
+-- d is the JSON of no value
+abbrev pub IsOfNone : Data → Type 0
+IsOfNone d = (u : Tree) → IsStored u → json u ≢ d
+
+-- what an error says of what a text was read as: the text is no JSON, or the JSON of no value
+abbrev pub Tells : JsonError → Option Data → Type 0
+Tells OutOfMemory read = Unit {0}
+Tells (Syntax e) read = read ≡ None
+Tells NotAValue read = (d : Data) × (read ≡ Some d) × IsOfNone d

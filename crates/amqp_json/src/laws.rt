@@ -1,0 +1,14 @@
+//! The law of the JSON of values: what its definition implies, for every value.
+//!
+//! The function is a law. It does nothing, and its contract says what holds.
+
+ghost use Rattle.std.specs.Prelude.{◌≡◌};
+ghost use Rattle.amqp_grammar.specs.Values.{Tree};
+ghost use Rattle.amqp_json.specs.Json.{json};
+ghost use Rattle.amqp_json.specs.InMemory.{IsStored};
+
+/// No two values have one JSON.
+#[tactic(auto, using(crate::proofs::Back::one_value))]
+pub fn one_value()
+    ensures { (v u : Tree) → IsStored v → IsStored u → json v ≡ json u → v ≡ u }
+{}

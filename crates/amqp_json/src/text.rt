@@ -1,0 +1,49 @@
+//! The JSON text of a value, and back.
+
+ghost use Rattle.std.specs.Prelude.{◌≡◌, ◌≤◌, Some, IfOk, IfErr, string_bytes};
+ghost use Rattle.serde_json.specs.Data.{depth};
+ghost use Rattle.serde_json.specs.Read.{read, max_depth};
+ghost use Rattle.serde_json.specs.Written.{compact_text};
+ghost use Rattle.amqp_grammar.specs.Values.{Tree};
+ghost use Rattle.amqp_value_core.specs.View.{view};
+ghost use Rattle.amqp_json.specs.Json.{json};
+ghost use Rattle.amqp_json.specs.InMemory.{IsStored};
+ghost use Rattle.amqp_json.specs.Refusals.{Tells};
+
+use crate::error::{JsonError, ValueError};
+use crate::reading::from_value;
+use crate::writing::to_value;
+use amqp_value_core::value::AMQPValue;
+use serde_json::Value;
+use std::alloc::{AllocError, Global};
+
+/// The JSON text of a value, with no spaces. A JSON value of all the value is made meanwhile.
+#[tactic(auto, using(crate::proofs::NoFloat::no_float))]
+pub fn to_json(alloc: Global, value: &AMQPValue) -> Result<String, AllocError>
+    ensures text { IfOk result (λ s. string_bytes s ≡ compact_text (json (view value.now))) }
+    ensures read_back { IfOk result (λ s. depth (json (view value.now)) ≤ max_depth
+        → read (string_bytes s) ≡ Some (json (view value.now))) }
+{
+    to_value(alloc, value)?.to_string(alloc)
+}
+
+/// The value whose JSON the text is. Of a key that comes twice in one object the last one's value
+/// stays.
+#[tactic(auto, using(crate::proofs::Ones::only_in))]
+pub fn from_json(alloc: Global, text: &str) -> Result<AMQPValue, JsonError>
+    ensures json { IfOk result (λ v. read text.now ≡ Some (json (view v))) }
+    ensures only { IfOk result (λ v. (u : Tree) → IsStored u → read text.now ≡ Some (json u)
+        → u ≡ view v) }
+    ensures refused { IfErr result (λ e. Tells e (read text.now)) }
+{
+    let json = match Value::from_str(alloc, text) {
+        Ok(json) => json,
+        Err(e) if e.is_memory() => return Err(JsonError::OutOfMemory),
+        Err(e) => return Err(JsonError::Syntax(e)),
+    };
+    match from_value(alloc, &json) {
+        Ok(value) => Ok(value),
+        Err(ValueError::OutOfMemory) => Err(JsonError::OutOfMemory),
+        Err(ValueError::NotAValue) => Err(JsonError::NotAValue),
+    }
+}

@@ -1,0 +1,5 @@
+//! Tests of the JSON of values, from outside.
+#![tactic(auto)]
+
+#[cfg(test)]
+mod texts;

@@ -1,0 +1,173 @@
+//! The JSON text of each type of value, written by hand, and texts that are refused.
+
+use amqp_json::{JsonError, from_json, to_json};
+use amqp_value_core::types::{
+    ByteArray, DecimalValue, Double, FieldArray, FieldTable, Float, LongString, ShortString,
+};
+use amqp_value_core::value::AMQPValue;
+use std::alloc::Global;
+use std::test::Fail;
+
+// written as this text, and read from it again
+fn goes_both_ways(alloc: Global, value: &AMQPValue, text: &str) -> Result<bool, Fail> {
+    let written = to_json(alloc, value)?;
+    let read = from_json(alloc, text)?;
+    Ok(written.as_str() == text && read == *value)
+}
+
+// whether the text is the JSON of no value
+fn is_refused(alloc: Global, text: &str) -> bool {
+    matches!(from_json(alloc, text), Err(JsonError::NotAValue))
+}
+
+// the table of one entry
+fn one_entry(alloc: Global, key: &str, value: AMQPValue) -> Result<FieldTable, Fail> {
+    let mut table = FieldTable::new_in(alloc);
+    table.place(ShortString::try_copy(alloc, key)?, value)?;
+    Ok(table)
+}
+
+#[test]
+fn plain_values(rt: HostRuntime) -> Result<(), Fail> {
+    let alloc = rt.alloc();
+    assert!(rt; goes_both_ways(alloc, &AMQPValue::Void, "null")?);
+    assert!(rt; goes_both_ways(alloc, &AMQPValue::Boolean(true), "true")?);
+    assert!(rt; goes_both_ways(alloc, &AMQPValue::LongLongInt(-5), "-5")?);
+    assert!(rt;
+        goes_both_ways(
+            alloc,
+            &AMQPValue::LongLongInt(i64::MAX),
+            "9223372036854775807"
+        )?
+    );
+    assert!(rt;
+        goes_both_ways(
+            alloc,
+            &AMQPValue::LongLongInt(i64::MIN),
+            "-9223372036854775808"
+        )?
+    );
+    let text = AMQPValue::LongString(LongString::from_text(alloc, "a \"quoted\" text")?);
+    assert!(rt; goes_both_ways(alloc, &text, "\"a \\\"quoted\\\" text\"")?);
+    let empty = AMQPValue::LongString(LongString::new_in(alloc));
+    assert!(rt; goes_both_ways(alloc, &empty, "\"\"")?);
+    Ok(())
+}
+
+#[test]
+fn integers_under_their_types(rt: HostRuntime) -> Result<(), Fail> {
+    let alloc = rt.alloc();
+    assert!(rt;
+        goes_both_ways(
+            alloc,
+            &AMQPValue::ShortShortInt(-128),
+            "{\"ShortShortInt\":-128}"
+        )?
+    );
+    assert!(rt;
+        goes_both_ways(
+            alloc,
+            &AMQPValue::ShortShortUInt(255),
+            "{\"ShortShortUInt\":255}"
+        )?
+    );
+    assert!(rt; goes_both_ways(alloc, &AMQPValue::ShortInt(-1), "{\"ShortInt\":-1}")?);
+    assert!(rt; goes_both_ways(alloc, &AMQPValue::ShortUInt(65535), "{\"ShortUInt\":65535}")?);
+    assert!(rt; goes_both_ways(alloc, &AMQPValue::LongInt(7), "{\"LongInt\":7}")?);
+    assert!(rt; goes_both_ways(alloc, &AMQPValue::LongUInt(0), "{\"LongUInt\":0}")?);
+    let time = AMQPValue::Timestamp(u64::MAX);
+    assert!(rt; goes_both_ways(alloc, &time, "{\"Timestamp\":18446744073709551615}")?);
+    Ok(())
+}
+
+#[test]
+fn other_values_under_their_types(rt: HostRuntime) -> Result<(), Fail> {
+    let alloc = rt.alloc();
+    let one = AMQPValue::Float(Float::from_bits(0x3f80_0000));
+    assert!(rt; goes_both_ways(alloc, &one, "{\"Float\":\"3f800000\"}")?);
+    let infinity = AMQPValue::Double(Double::from_bits(0x7ff0_0000_0000_0000));
+    assert!(rt; goes_both_ways(alloc, &infinity, "{\"Double\":\"7ff0000000000000\"}")?);
+    let no_number = AMQPValue::Double(Double::from_bits(0x7ff8_0000_0000_0001));
+    assert!(rt; goes_both_ways(alloc, &no_number, "{\"Double\":\"7ff8000000000001\"}")?);
+    let decimal = AMQPValue::DecimalValue(DecimalValue {
+        scale: 2,
+        value: 314,
+    });
+    assert!(rt;
+        goes_both_ways(
+            alloc,
+            &decimal,
+            "{\"DecimalValue\":{\"scale\":2,\"value\":314}}"
+        )?
+    );
+    let short = AMQPValue::ShortString(ShortString::try_copy(alloc, "key")?);
+    assert!(rt; goes_both_ways(alloc, &short, "{\"ShortString\":\"key\"}")?);
+    let bytes = AMQPValue::LongString(LongString::from_slice(alloc, &[104, 255])?);
+    assert!(rt; goes_both_ways(alloc, &bytes, "{\"LongString\":\"68ff\"}")?);
+    let octets = AMQPValue::ByteArray(ByteArray::from_slice(alloc, &[1, 171])?);
+    assert!(rt; goes_both_ways(alloc, &octets, "{\"ByteArray\":\"01ab\"}")?);
+    Ok(())
+}
+
+#[test]
+fn arrays_and_tables(rt: HostRuntime) -> Result<(), Fail> {
+    let alloc = rt.alloc();
+    let mut array = FieldArray::new_in(alloc);
+    array.push(AMQPValue::Void)?;
+    array.push(AMQPValue::FieldArray(FieldArray::new_in(alloc)))?;
+    assert!(rt; goes_both_ways(alloc, &AMQPValue::FieldArray(array), "[null,[]]")?);
+    let empty = AMQPValue::FieldTable(FieldTable::new_in(alloc));
+    assert!(rt; goes_both_ways(alloc, &empty, "{}")?);
+    let mut table = one_entry(alloc, "b", AMQPValue::LongLongInt(2))?;
+    table.place(
+        ShortString::try_copy(alloc, "ShortInt")?,
+        AMQPValue::LongLongInt(1),
+    )?;
+    let both = AMQPValue::FieldTable(table);
+    assert!(rt; goes_both_ways(alloc, &both, "{\"ShortInt\":1,\"b\":2}")?);
+    Ok(())
+}
+
+#[test]
+fn a_table_whose_only_key_is_the_name_of_a_type(rt: HostRuntime) -> Result<(), Fail> {
+    let alloc = rt.alloc();
+    let like = AMQPValue::FieldTable(one_entry(alloc, "ShortInt", AMQPValue::LongLongInt(5))?);
+    assert!(rt; goes_both_ways(alloc, &like, "{\"FieldTable\":{\"ShortInt\":5}}")?);
+    let again = AMQPValue::FieldTable(one_entry(alloc, "FieldTable", like)?);
+    assert!(rt;
+        goes_both_ways(
+            alloc,
+            &again,
+            "{\"FieldTable\":{\"FieldTable\":{\"FieldTable\":{\"ShortInt\":5}}}}"
+        )?
+    );
+    Ok(())
+}
+
+#[test]
+fn the_json_of_no_value(rt: HostRuntime) {
+    let alloc = rt.alloc();
+    assert!(rt; is_refused(alloc, "{\"ShortInt\":32768}"));
+    assert!(rt; is_refused(alloc, "{\"ShortUInt\":-1}"));
+    assert!(rt; is_refused(alloc, "9223372036854775808"));
+    assert!(rt; is_refused(alloc, "1.5"));
+    assert!(rt; is_refused(alloc, "-0"));
+    assert!(rt; is_refused(alloc, "{\"LongLongInt\":5}"));
+    assert!(rt; is_refused(alloc, "{\"FieldTable\":{\"a\":1}}"));
+    assert!(rt; is_refused(alloc, "{\"FieldTable\":[]}"));
+    assert!(rt; is_refused(alloc, "{\"LongString\":\"6869\"}"));
+    assert!(rt; is_refused(alloc, "{\"ByteArray\":\"AB\"}"));
+    assert!(rt; is_refused(alloc, "{\"ByteArray\":\"abc\"}"));
+    assert!(rt; is_refused(alloc, "{\"Float\":\"3f80\"}"));
+    assert!(rt; is_refused(alloc, "{\"DecimalValue\":{\"scale\":2}}"));
+    assert!(rt; is_refused(alloc, "[1,1e3]"));
+    assert!(rt; matches!(from_json(alloc, "[1,"), Err(JsonError::Syntax(_))));
+}
+
+#[test]
+fn the_last_value_of_a_key_stays(rt: HostRuntime) -> Result<(), Fail> {
+    let alloc = rt.alloc();
+    let read = from_json(alloc, " {\"b\": 0, \"a\": 1, \"a\": 2} ")?;
+    assert!(rt; to_json(alloc, &read)?.as_str() == "{\"a\":2,\"b\":0}");
+    Ok(())
+}
