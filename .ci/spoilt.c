@@ -7,7 +7,8 @@
  * and the cursor as they were, and nothing beside the structs is written.
  *
  * It tries every cursor of small numbers over small inputs, each prefix of them and each change of
- * one byte to one of some, and then random cursors over random bytes. It prints how many calls it made.
+ * one byte to one of some, and then random cursors over random bytes. It prints how many calls
+ * it made.
  */
 #define _DEFAULT_SOURCE
 #include "amqp.h"

@@ -80,8 +80,8 @@ typedef struct amqp_cursor {
  * Reads the value at the front within limits, and checks all of it: at most `frame` bytes, and
  * containers nested at most `depth` deep. It recurses at most `depth` deep.
  *
- * `count` becomes how many bytes the value takes (AMQP_OK), or how many more are needed (AMQP_MORE),
- * else 0. Also answers AMQP_UNKNOWN_TAG, AMQP_MALFORMED or AMQP_TOO_LARGE.
+ * `count` becomes how many bytes the value takes (AMQP_OK), or how many more are needed
+ * (AMQP_MORE), else 0. Also answers AMQP_UNKNOWN_TAG, AMQP_MALFORMED or AMQP_TOO_LARGE.
  */
 int32_t amqp_read(const uint8_t *bytes, size_t length, uint32_t frame, uint32_t depth, size_t *count);
 
@@ -112,8 +112,8 @@ int32_t amqp_next(const uint8_t *bytes, size_t length, amqp_cursor *cursor, amqp
 /*
  * Gives the entry at the key, of those that the cursor has left in a table: of equal keys the last.
  *
- * Answers AMQP_OK, AMQP_NONE where none has the key, AMQP_MALFORMED or AMQP_INVALID. It walks all of
- * the entries that are left, and the cursor stays.
+ * Answers AMQP_OK, AMQP_NONE where none has the key, AMQP_MALFORMED or AMQP_INVALID. It walks
+ * all of the entries that are left, and the cursor stays.
  */
 int32_t amqp_find(const uint8_t *bytes, size_t length, const amqp_cursor *cursor, const uint8_t *key,
                   size_t key_length, amqp_entry *entry);

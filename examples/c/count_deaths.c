@@ -1,6 +1,6 @@
 /*
- * How often a message was dead-lettered: the header `count` of the first table in the array `x-death` of
- * its headers, which are given in hexadecimal on standard input.
+ * How often a message was dead-lettered: the header `count` of the first table in the array
+ * `x-death` of its headers, which are given in hexadecimal on standard input.
  */
 #include "amqp.h"
 #include "hexadecimal.h"

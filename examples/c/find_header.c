@@ -1,6 +1,6 @@
 /*
- * Finds a header of a message: prints the value at a key of a table, which is given in hexadecimal on
- * standard input. The table's entries before and behind it aren't copied, and no memory is taken.
+ * Finds a header of a message: prints the value at a key of a table, which is given in hexadecimal
+ * on standard input. The entries before and behind it aren't copied, and no memory is taken.
  */
 #include "amqp.h"
 #include "hexadecimal.h"

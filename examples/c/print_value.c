@@ -1,6 +1,6 @@
 /*
- * Prints the value that stands at the front of some bytes, which are given in hexadecimal on standard
- * input: a line for each entry, deeper by two spaces in each container.
+ * Prints the value that stands at the front of some bytes, which are given in hexadecimal on
+ * standard input: a line for each entry, deeper by two spaces in each container.
  */
 #include "amqp.h"
 #include "hexadecimal.h"
