@@ -1,0 +1,4 @@
+mod Windows
+mod Parts
+mod Entries
+mod Escapes

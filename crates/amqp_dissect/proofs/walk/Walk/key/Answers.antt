@@ -1,0 +1,15 @@
+use Rattle.std.proofs.Common.{arith, rules}
+use Rattle.amqp_dissect.proofs.Entries.{short_key, no_text, key_read}
+use Rattle.amqp_dissect.proofs.walk.Walk.key.Goals as goal
+
+pub returns-then-bytes-len-clause-problem : goal.returns-then-bytes-len-clause-problem
+returns-then-bytes-len-clause-problem c =
+    short_key c.args.depth _ c.in-Some.len.now c.from-len.result c.in-Some.bytes.now c.args.self.now.at c.args.self.now.at c.in-Some.ensures.cases.0 (omega arith) (omega arith) (omega arith)
+
+pub returns-then-not-is_utf8-clause-problem : goal.returns-then-not-is_utf8-clause-problem
+returns-then-not-is_utf8-clause-problem c =
+    no_text c.args.depth _ c.in-Some.len.now c.from-len.result c.in-Some.bytes.now c.pass.new.self.at c.args.self.now.at c.in-Some.ensures.cases.0 (omega arith) (omega arith) (search rules) (omega (arith, c.in_ok-pass.ensures.at))
+
+pub returns-clause-key : goal.returns-clause-key
+returns-clause-key c =
+    key_read c.args.self.now.input.now c.args.self.now.at c.pass-2.new.self.at c.args.end c.in-Some.len.now c.from-len.result c.in-Some.bytes.now c.in-Some.ensures.cases.0 (omega arith) (omega arith) (omega arith) (search rules) (omega (arith, c.in_ok-pass.ensures.at, c.in_ok-pass-2.ensures.at)) (omega arith) c.requires.end

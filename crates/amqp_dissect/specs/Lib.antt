@@ -1,0 +1,10 @@
+-- parts, one after another
+pub mod Parts
+-- the first entry that is none
+pub mod Problems
+-- what a walk over an encoding answers
+pub mod Walks
+-- escaped text
+pub mod Texts
+-- what stands where a dissection ends
+pub mod Ends

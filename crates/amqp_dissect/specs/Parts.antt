@@ -1,0 +1,17 @@
+-- The parts of an encoding, one after another.
+use Rattle.std.specs.Prelude.{ℕ, ◌+◌, ◌≡◌, List, [], ◌∷◌, ◌++◌, length, map}
+use Rattle.amqp_dissect.specs.declared.part.Part.{Part}
+
+-- the bytes of all parts, in order
+abbrev pub joined : List Part → List ℕ
+joined [] = []
+joined (p ∷ ps) = p.bytes.now ++ joined ps
+
+-- where each part begins, the first one at n
+abbrev pub starts : ℕ → List Part → List ℕ
+starts n [] = []
+starts n (p ∷ ps) = n ∷ starts (n + length p.bytes.now) ps
+
+-- each part's offset is the number of bytes in the parts before it
+abbrev pub HaveOffsets : List Part → Type 0
+HaveOffsets ps = map (λ p. p.offset) ps ≡ starts 0 ps

@@ -1,0 +1,51 @@
+//! The dissection of an encoding.
+
+ghost use Rattle.std.specs.Prelude.{◌≡◌, ◌≤◌, IfOk, length, take};
+ghost use Rattle.amqp_dissect.specs.Parts.{joined, HaveOffsets};
+ghost use Rattle.amqp_dissect.specs.Ends.{Ends};
+
+use crate::part::Part;
+use crate::problem::Problem;
+use crate::walk::Walk;
+use amqp_parsing::Limits;
+use std::alloc::{AllocError, Global};
+
+/// What stands where a dissection ends.
+#[derive(Clone, Copy, Debug, PartialEq, Eq)]
+pub enum End {
+    /// The end of the value. Bytes may follow.
+    Value,
+    /// What is no value, nor a pair of a table, though it should be one.
+    Problem(Problem),
+    /// The beginning of a value that has more bytes than the limit `frame`.
+    TooLarge,
+}
+
+/// The parts of an encoding.
+#[derive(Drop)]
+pub struct Dissection<'a> {
+    /// The parts, in order and without a gap.
+    pub parts: Vec<Part<'a>>,
+    /// How many bytes stand before the end.
+    pub offset: usize,
+    /// What ends it.
+    pub end: End,
+}
+
+/// Takes the value at the beginning of the input apart, within the limits. It recurses at most
+/// `limits.depth` containers deep. Memory is taken for the parts alone: no byte is copied.
+pub fn dissect<'a>(
+    alloc: Global,
+    input: &'a [u8],
+    limits: Limits,
+) -> Result<Dissection<'a>, AllocError>
+    ensures joined { IfOk result (λ d. joined d.parts.items ≡ take d.offset input.entry.now) }
+    ensures offsets { IfOk result (λ d. HaveOffsets d.parts.items) }
+    ensures within { IfOk result (λ d. d.offset ≤ length input.entry.now) }
+    ensures end { IfOk result (λ d. Ends limits input.entry.now d.offset d.end) }
+{
+    let mut walk = Walk::new(alloc, input, limits.depth);
+    let end = walk.go(limits)?;
+    let (offset, parts) = walk.into_parts();
+    Ok(Dissection { parts, offset, end })
+}

@@ -1,0 +1,14 @@
+//! Dissecting an encoding: its parts, each with its offset, up to the end of the value or to where
+//! it fails; and text that is safe to print.
+#![tactic(auto)]
+
+mod dissection;
+mod part;
+mod problem;
+mod text;
+mod walk;
+
+pub use dissection::{Dissection, End, dissect};
+pub use part::{Field, Part};
+pub use problem::Problem;
+pub use text::escape;
