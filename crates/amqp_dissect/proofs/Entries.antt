@@ -26,6 +26,9 @@ use Rattle.amqp_dissect.specs.Problems.{IsContainer, NoValue, no_type_tag, unkno
 use Rattle.amqp_dissect.specs.declared.problem.Stop.{Stop}
 use Rattle.amqp_dissect.specs.declared.problem.Stop.TheVariants.{OutOfMemory, At}
 use Rattle.amqp_dissect.specs.Walks.{IsAt, IsValueThen, IsKeyThen, AreValues, ArePairs, HasFrame, IsHeader, IsFramed, IsString}
+use Rattle.amqp_parsing.specs.Answers.{Refuses}
+use Rattle.amqp_dissect.specs.Ends.{refusal_of}
+use Rattle.amqp_dissect.proofs.Refused.{value_refused}
 use Rattle.amqp_dissect.proofs.Windows.{window_size, window_front, window_back}
 
 -- a value of n bytes at the front of s
@@ -90,9 +93,10 @@ pub cut_frame : (d : ℕ) (s b : List ℕ) (type : AMQPType) (n : ℕ) → IsTyp
 cut_frame d s b type n is framed some e =
     subst (λ (t : List ℕ). NoValue d t 1 (Cut type n)) (sym is.1) (cut d is.0 type b n is.2 some (framed_lack type b framed ∙ sym e))
 
-pub deep : (d : ℕ) (s b : List ℕ) (type : AMQPType) → d ≡ 0 → IsType s type b → IsContainer type → NoValue d s 0 TooDeep
-deep d s b type none is container =
-    subst (λ k. NoValue k s 0 TooDeep) (sym none) (subst (λ (t : List ℕ). NoValue 0 t 0 TooDeep) (sym is.1) (too_deep is.0 type b is.2 container))
+pub deep : (d : ℕ) (s b : List ℕ) (type : AMQPType) (n : ℕ) → d ≡ 0 → IsType s type b → IsContainer type → HasFrame b n → NoValue d s 0 TooDeep
+deep d s b type n none is container (body, rest, f, e) =
+    let whole : s ≡ is.0 ∷ (large body ++ rest) = is.1 ∙ ap (λ t. is.0 ∷ t) f.framed in
+    subst (λ k. NoValue k s 0 TooDeep) (sym none) (subst (λ (t : List ℕ). NoValue 0 t 0 TooDeep) (sym whole) (too_deep is.0 type body rest is.2 container f.fits))
 
 pub header_of : (s b : List ℕ) (type : AMQPType) (at n : ℕ) → IsType s type b → HasFrame b n → IsHeader s type at (at + 5 + n)
 header_of s b type at n is (body, rest, f, e) =
@@ -378,7 +382,8 @@ ends_in_value l xs a n zero_is size h =
     let whole : xs ≡ y.0 ++ drop n xs = sym (whole_input xs) ∙ (y.3 ∙ ap (λ t. y.0 ++ t) (take_rest xs n)) in
     (y.1, (size, subst (λ (s : List ℕ). OutcomeWithin l.depth s (found y.1 (drop n xs))) (sym whole) (wire_found_within l.depth y.0 (drop n xs) y.1 y.2.0 y.2.1)))
 
-pub ends_in_problem : (l : Limits) (xs : List ℕ) (a n : ℕ) (p : Problem) → a ≡ 0 → extent xs ≤ l.frame → NoValue l.depth (slice_range xs a (length xs)) (n - a) p → (extent xs ≤ l.frame) × NoValue l.depth xs n p
+pub ends_in_problem : (l : Limits) (xs : List ℕ) (a n : ℕ) (p : Problem) → a ≡ 0 → extent xs ≤ l.frame → NoValue l.depth (slice_range xs a (length xs)) (n - a) p → (extent xs ≤ l.frame) × NoValue l.depth xs n p × Refuses (OutcomeWithin l.depth xs) ⊥ (refusal_of n p)
 ends_in_problem l xs a n p zero_is size x =
     let at : n - a ≡ n = omega arith in
-    (size, subst (λ (s : List ℕ). NoValue l.depth s n p) (ap (λ k. slice_range xs k (length xs)) zero_is ∙ whole_input xs) (subst (λ k. NoValue l.depth (slice_range xs a (length xs)) k p) at x))
+    let here = subst (λ (s : List ℕ). NoValue l.depth s n p) (ap (λ k. slice_range xs k (length xs)) zero_is ∙ whole_input xs) (subst (λ k. NoValue l.depth (slice_range xs a (length xs)) k p) at x) in
+    (size, here, value_refused l.depth xs n p here)

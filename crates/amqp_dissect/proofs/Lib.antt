@@ -1,4 +1,5 @@
 mod Windows
 mod Parts
+mod Refused
 mod Entries
 mod Escapes

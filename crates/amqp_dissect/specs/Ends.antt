@@ -1,17 +1,32 @@
 -- What stands where a dissection ends.
-use Rattle.std.specs.Prelude.{ℕ, ◌<◌, ◌≤◌, List, drop}
+use Rattle.std.specs.Prelude.{ℕ, zero, suc, ◌<◌, ◌≤◌, List, drop}
 use Rattle.amqp_grammar.specs.Values.{Tree}
 use Rattle.amqp_grammar.specs.Outcomes.{found}
+use Rattle.amqp_grammar.specs.Nesting.{OutcomeWithin}
+use Rattle.amqp_parsing.specs.declared.errors.ErrorKind.TheVariants.{MapOpt, Eof}
+use Rattle.amqp_parsing.specs.Refusals.{Refusal, lacks, refused}
+use Rattle.amqp_parsing.specs.Answers.{Refuses}
 use Rattle.amqp_parsing.specs.Headers.{extent}
 use Rattle.amqp_parsing.specs.Limits.{Within}
 use Rattle.amqp_parsing.specs.declared.limits.Limits.{Limits}
 use Rattle.amqp_dissect.specs.declared.dissection.End.{End}
 use Rattle.amqp_dissect.specs.declared.dissection.End.TheVariants as end
+use Rattle.amqp_dissect.specs.declared.problem.Problem.{Problem}
+use Rattle.amqp_dissect.specs.declared.problem.Problem.TheVariants.{NoTypeTag, UnknownTypeTag, Cut}
 use Rattle.amqp_dissect.specs.Problems.{NoValue}
 
+-- the error that reading answers where the first entry that is none stands at the offset: of the
+-- value itself what its type tag or payload lacks, or that its first byte is no type tag; for all that
+-- stands in a body that it isn't entries
+abbrev pub refusal_of : ℕ → Problem → Refusal
+refusal_of zero NoTypeTag = lacks 1
+refusal_of zero (UnknownTypeTag c) = refused MapOpt
+refusal_of (suc zero) (Cut type n) = lacks n
+refusal_of _ _ = refused Eof
+
 -- after n bytes of s its value ends, as reading within the limits has it; or there stands the first
--- entry that is none; or the value is too large
+-- entry that is none, and reading answers that error; or the value is too large
 abbrev pub Ends : Limits → List ℕ → ℕ → End → Type 0
 Ends l s n end.Value = (v : Tree) × Within l s (found v (drop n s))
-Ends l s n (end.Problem p) = (extent s ≤ l.frame) × NoValue l.depth s n p
+Ends l s n (end.Problem p) = (extent s ≤ l.frame) × NoValue l.depth s n p × Refuses (OutcomeWithin l.depth s) ⊥ (refusal_of n p)
 Ends l s n end.TooLarge = l.frame < extent s

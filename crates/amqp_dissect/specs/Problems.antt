@@ -28,8 +28,8 @@ mutual
     unknown_type_tag : (depth : ℕ) → (c : ℕ) → (b : List ℕ) → kind c ≡ None → NoValue depth (c ∷ b) 0 (UnknownTypeTag c)
     -- the payload isn't all there: of its field that is being read n more bytes are needed
     cut : (depth : ℕ) → (c : ℕ) → (type : AMQPType) → (b : List ℕ) → (n : ℕ) → kind c ≡ Some type → 0 < n → lack type b ≡ n → NoValue depth (c ∷ b) 1 (Cut type n)
-    -- a container stands where none may
-    too_deep : (c : ℕ) → (type : AMQPType) → (b : List ℕ) → kind c ≡ Some type → IsContainer type → NoValue 0 (c ∷ b) 0 TooDeep
+    -- a container that is all there stands where none may
+    too_deep : (c : ℕ) → (type : AMQPType) → (body : List ℕ) → (rest : List ℕ) → kind c ≡ Some type → IsContainer type → length body < 2 ^ 32 → NoValue 0 (c ∷ (large body ++ rest)) 0 TooDeep
     -- in the body of an array, or a table, an entry is none
     in_array : (depth : ℕ) → (c : ℕ) → (body : List ℕ) → (rest : List ℕ) → (offset : ℕ) → (p : Problem) → kind c ≡ Some amqp.FieldArray → length body < 2 ^ 32 → NoValues depth body offset p → NoValue (suc depth) (c ∷ (large body ++ rest)) (5 + offset) p
     in_table : (depth : ℕ) → (c : ℕ) → (body : List ℕ) → (rest : List ℕ) → (offset : ℕ) → (p : Problem) → kind c ≡ Some amqp.FieldTable → length body < 2 ^ 32 → NoPairs depth body offset p → NoValue (suc depth) (c ∷ (large body ++ rest)) (5 + offset) p

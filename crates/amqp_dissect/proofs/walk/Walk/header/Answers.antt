@@ -10,7 +10,7 @@ returns-in_ok-pass-in-Err-clause-problem c =
 pub returns-in-Ok-clause-problem : goal.returns-in-Ok-clause-problem
 returns-in-Ok-clause-problem c =
     offset_is c.args.depth _ 0 c.args.self.now.at c.args.self.now.at _
-    (deep c.args.depth _ c.args.payload.now c.args.amqp_type (omega arith) c.requires.tag (c.is_container.ensures.0 c.if-is_container.true)) (omega arith)
+    (deep c.args.depth _ c.args.payload.now c.args.amqp_type c.in-Ok.field-0 (omega arith) c.requires.tag (c.is_container.ensures.0 c.if-is_container.true) c.in-Ok.ensures.whole) (omega arith)
 
 pub returns-in_ok-pass-in-Ok-2-2-clause-end : goal.returns-in_ok-pass-in-Ok-2-2-clause-end
 returns-in_ok-pass-in-Ok-2-2-clause-end c =

@@ -1,0 +1,105 @@
+-- What reading comes to where the first entry that is none is known.
+use Rattle.std.proofs.Common.{◌≡◌, ◌≤◌, ◌<◌, ◌+◌, ◌-◌, ◌^◌, Some, ℕ, zero, suc, List, [], ◌∷◌, ◌++◌, length, refl, ◌∙◌, subst, arith, length-append}
+use Rattle.std.specs.Int.{w8}
+use Rattle.std.specs.Str.{IsUtf8}
+use Rattle.std.proofs.lemmas.Bool.{le-ltb}
+use Rattle.amqp_types.specs.Ids.{kind}
+use Rattle.amqp_types.specs.declared.amqp_type.AMQPType.{AMQPType}
+use Rattle.amqp_types.specs.declared.amqp_type.AMQPType.TheVariants as amqp
+use Rattle.amqp_grammar.specs.Values.{no_entries, short}
+use Rattle.amqp_grammar.specs.Grammar.{small, large, raw_short}
+use Rattle.amqp_grammar.specs.Nesting.{OutcomeWithin}
+use Rattle.amqp_grammar.specs.Outcomes.{more, malformed, lack, frame_lack, counted, LacksOr, Heavy}
+use Rattle.amqp_grammar.specs.Payloads.{RawFront, RawOutcome}
+use Rattle.amqp_grammar.proofs.GrammarLaws.{raw_to_value_within, raw_found, raw_whole, wire_found_within, short_bytes}
+use Rattle.amqp_parsing.specs.declared.errors.Err.TheVariants.{Incomplete, Error}
+use Rattle.amqp_parsing.specs.declared.errors.Needed.TheVariants.{Size}
+use Rattle.amqp_parsing.specs.declared.errors.ErrorKind.TheVariants.{MapRes, Eof}
+use Rattle.amqp_parsing.specs.Refusals.{Refusal, inside}
+use Rattle.amqp_parsing.specs.Answers.{Refuses}
+use Rattle.amqp_parsing.specs.Bodies.{IsNoBody, IsNoTable}
+use Rattle.amqp_parsing.proofs.ParsingLaws.{Refuses-weaker, Goes, Goes-step, Goes-refused, Walks-start, Walks-step, Walks-bad_key, Walks-bad_value, array_refused, array_too_deep, table_refused, table_too_deep}
+use Rattle.amqp_dissect.specs.declared.problem.Problem.{Problem}
+use Rattle.amqp_dissect.specs.declared.problem.Problem.TheVariants.{NoTypeTag, UnknownTypeTag, Cut}
+use Rattle.amqp_dissect.specs.Problems.{IsContainer, NoValue, no_type_tag, unknown_type_tag, cut, too_deep, in_array, in_table, NoValues, bad_value, after_value, NoPairs, cut_key, key_not_utf8, bad_pair, after_pair}
+use Rattle.amqp_dissect.specs.Ends.{refusal_of}
+
+goes_start : (d : ℕ) (s : List ℕ) → Goes d s [] s
+goes_start d s = record { whole = λ vs x. x; only = λ vs x. (vs, x); shorter = omega arith }
+
+deep_eof : (n : ℕ) (p : Problem) → 2 ≤ n → refusal_of n p ≡ Error Eof
+deep_eof zero p h = absurd (omega arith)
+deep_eof (suc zero) p h = absurd (omega arith)
+deep_eof (suc (suc n)) p h = refl
+
+inside_eof : (n : ℕ) (p : Problem) → inside (refusal_of n p) ≡ Error Eof
+inside_eof zero NoTypeTag = refl
+inside_eof zero (UnknownTypeTag c) = refl
+inside_eof zero _ = refl
+inside_eof (suc zero) (Cut type n) = refl
+inside_eof (suc zero) _ = refl
+inside_eof (suc (suc n)) p = refl
+
+lacks_or : (n : ℕ) (P : Type 0) → 0 < n → LacksOr n P (more n)
+lacks_or zero P h = absurd (omega arith)
+lacks_or (suc n) P h = refl
+
+heavy : (d : ℕ) (s : List ℕ) (e : Refusal) → Refuses (OutcomeWithin d s) ⊥ e → Refuses (OutcomeWithin d s) (Heavy s) e
+heavy d s e x = Refuses-weaker (OutcomeWithin d s) (OutcomeWithin d s) ⊥ (Heavy s) e (λ o y. y) (λ h. absurd h) x
+
+deep_container : (c : ℕ) (type : AMQPType) (body rest : List ℕ) → kind c ≡ Some type → IsContainer type → length body < 2 ^ 32 → OutcomeWithin 0 (c ∷ (large body ++ rest)) malformed
+deep_container c amqp.FieldArray body rest k is fits =
+    raw_to_value_within 0 c amqp.FieldArray (large body ++ rest) malformed k (array_too_deep 0 (large body ++ rest) body rest (record { framed = refl; fits = fits }) refl)
+deep_container c amqp.FieldTable body rest k is fits =
+    raw_to_value_within 0 c amqp.FieldTable (large body ++ rest) malformed k (table_too_deep 0 (large body ++ rest) body rest (record { framed = refl; fits = fits }) refl)
+deep_container c _ body rest k is fits = absurd is
+
+-- a key whose bytes are no text is refused, and one that is cut lacks what is missing
+short_lack : (n : ℕ) (s : List ℕ) → lack amqp.ShortString (n ∷ s) ≡ n - length s
+short_lack n s =
+    let known : frame_lack w8 (n ∷ s) ≡ 1 + counted w8 (n ∷ s) - length (n ∷ s) = rw (le-ltb (length (n ∷ s)) 1 (omega arith)) refl in
+    let count : counted w8 (n ∷ s) ≡ n = omega arith in
+    omega arith
+
+no_text_key : (k s : List ℕ) → (IsUtf8 k → ⊥) → RawOutcome amqp.ShortString (small k ++ s) malformed
+no_text_key k s none =
+    let whole : lack amqp.ShortString (small k ++ s) ≡ 0 = short_lack (length k) (k ++ s) ∙ omega (arith, length-append k s) in
+    let front : RawFront amqp.ShortString (small k ++ s) malformed = λ b left v p d. none (short_bytes k s b left v p d).utf8 in
+    raw_whole amqp.ShortString (small k ++ s) malformed whole front
+
+mutual
+  pub value_refused : (d : ℕ) (s : List ℕ) (o : ℕ) (p : Problem) → NoValue d s o p → Refuses (OutcomeWithin d s) ⊥ (refusal_of o p)
+  value_refused _ _ _ _ (no_type_tag d) = refl
+  value_refused _ _ _ _ (unknown_type_tag d c b none) = rw none refl
+  value_refused _ _ _ _ (cut d c type b n k some is) =
+      raw_to_value_within d c type b (more n) k (rw is (lacks_or n _ some))
+  value_refused _ _ _ _ (too_deep c type body rest k is fits) = deep_container c type body rest k is fits
+  value_refused _ _ _ _ (in_array d c body rest o p k fits x) =
+      rw (deep_eof (5 + o) p (omega arith))
+      (raw_to_value_within (suc d) c amqp.FieldArray (large body ++ rest) malformed k
+      (array_refused (suc d) (large body ++ rest) body rest (record { framed = refl; fits = fits }) (Error Eof) (subst (λ n. IsNoBody n body malformed) (let e : d ≡ suc d - 1 = omega arith in e) (values_refused d body o p x))))
+  value_refused _ _ _ _ (in_table d c body rest o p k fits x) =
+      rw (deep_eof (5 + o) p (omega arith))
+      (raw_to_value_within (suc d) c amqp.FieldTable (large body ++ rest) malformed k
+      (table_refused (suc d) (large body ++ rest) body rest (record { framed = refl; fits = fits }) (Error Eof) (subst (λ n. IsNoTable n body malformed) (let e : d ≡ suc d - 1 = omega arith in e) (pairs_refused d body o p x))))
+
+  values_refused : (d : ℕ) (s : List ℕ) (o : ℕ) (p : Problem) → NoValues d s o p → IsNoBody d s malformed
+  values_refused _ _ _ _ (bad_value d s o p some x) =
+      subst (Refuses (IsNoBody d s) (0 < length s)) (inside_eof o p)
+      (Goes-refused d s [] s (refusal_of o p) (goes_start d s) some (heavy d s (refusal_of o p) (value_refused d s o p x)))
+  values_refused _ _ _ _ (after_value d w v s o p y x) = λ vs q.
+      let m = (Goes-step d (w ++ s) [] (w ++ s) v s (goes_start d (w ++ s)) (wire_found_within d w s v y.0 y.1)).only vs q in
+      values_refused d s o p x m.0 m.1
+
+  pairs_refused : (d : ℕ) (s : List ℕ) (o : ℕ) (p : Problem) → NoPairs d s o p → IsNoTable d s malformed
+  pairs_refused _ _ _ _ (cut_key d n s h) =
+      Walks-bad_key d (n ∷ s) no_entries (n ∷ s) (Incomplete (Size (n - length s))) (Walks-start d (n ∷ s)) (omega arith)
+      (rw (short_lack n s) (lacks_or (n - length s) _ (omega arith)))
+  pairs_refused _ _ _ _ (key_not_utf8 d k s none) =
+      Walks-bad_key d (small k ++ s) no_entries (small k ++ s) (Error MapRes) (Walks-start d (small k ++ s)) (omega arith) (refl, no_text_key k s none)
+  pairs_refused _ _ _ _ (bad_pair d k s o p key x) =
+      subst (Refuses (IsNoTable d (small k ++ s)) (0 < length (small k ++ s))) (inside_eof o p)
+      (Walks-bad_value d (small k ++ s) no_entries (small k ++ s) k s (refusal_of o p) (Walks-start d (small k ++ s)) (raw_found amqp.ShortString (small k) s (short k) (raw_short k key)) (heavy d s (refusal_of o p) (value_refused d s o p x)))
+  pairs_refused _ _ _ _ (after_pair d k w v s o p key y x) = λ ps q.
+      let m = (Walks-step d (small k ++ (w ++ s)) no_entries (small k ++ (w ++ s)) k (w ++ s) v s (Walks-start d (small k ++ (w ++ s))) (raw_found amqp.ShortString (small k) (w ++ s) (short k) (raw_short k key)) (wire_found_within d w s v y.0 y.1)).only ps q in
+      pairs_refused d s o p x m.0 m.1
