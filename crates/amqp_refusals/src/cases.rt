@@ -3,8 +3,8 @@
 mod rows;
 
 use self::rows::{
-    COPIED, EMPTY, LACKING, LIGHT, MANY, NUMBERS, PAYLOADS, SCALAR_PAYLOADS, SCALARS, TYPES,
-    VALUES, WITHOUT,
+    COPIED, EMPTY, LACKING, LIGHT, MANY, NUMBERS, ONE_NUMBER, ONE_NUMBER_JSON, PAYLOADS,
+    SCALAR_PAYLOADS, SCALARS, TYPES, VALUES, VOIDS, VOIDS_JSON, WITHOUT,
 };
 use crate::conversions::Document;
 use crate::generation::Filler;
@@ -14,7 +14,9 @@ use crate::made::{Kind, NAMES, Plan};
 use crate::making::Maker;
 use crate::parsing::Parser;
 use crate::stream::{LIMITS, NARROW};
-use crate::{conversions, copies, flags, generation, growing, in_place, making, parsing, stream};
+use crate::{
+    conversions, copies, flags, generation, growing, in_place, making, parsing, stream, texts,
+};
 use amq_protocol_types::AMQPType;
 use amqp_samples::TABLE;
 use std::alloc::Global;
@@ -33,7 +35,8 @@ pub fn run<R: Print + Eprint>(rt: &R, alloc: Global, name: &str) -> io::Result<b
             || of_conversions(rt, alloc, name)?
             || of_generators(rt, alloc, name)?
             || of_streams(rt, alloc, name)?
-            || of_values_in_place(rt, alloc, name)?,
+            || of_values_in_place(rt, alloc, name)?
+            || of_texts(rt, alloc, name)?,
     )
 }
 
@@ -686,6 +689,42 @@ fn of_values_in_place<R: Print + Eprint>(rt: &R, alloc: Global, name: &str) -> i
         _ => return Ok(false),
     };
     answer?;
+    Ok(true)
+}
+
+/// Cases of JSON, and of taking an encoding apart.
+pub const TEXTS: [&str; 5] = [
+    "to_json",
+    "from_json",
+    "dissect",
+    "escape",
+    "texts_without_memory",
+];
+
+fn of_texts<R: Print + Eprint>(rt: &R, alloc: Global, name: &str) -> io::Result<bool> {
+    match name {
+        "to_json" => {
+            texts::written(rt, alloc, &[Bytes(ONE_NUMBER)])?;
+            texts::written(rt, alloc, &VOIDS)?;
+        }
+        "from_json" => {
+            texts::read(rt, alloc, &[Bytes(ONE_NUMBER_JSON)])?;
+            texts::read(rt, alloc, &VOIDS_JSON)?;
+        }
+        "dissect" => {
+            texts::taken_apart(rt, alloc, &[Bytes(ONE_NUMBER)])?;
+            texts::taken_apart(rt, alloc, &VOIDS)?;
+        }
+        "escape" => {
+            texts::escaped(rt, alloc, &[Bytes(b"a\0\"")])?;
+            texts::escaped(rt, alloc, &[Times(70_000, b"a")])?;
+        }
+        "texts_without_memory" => {
+            texts::taken_apart(rt, alloc, &[])?;
+            texts::escaped(rt, alloc, &[])?;
+        }
+        _ => return Ok(false),
+    }
     Ok(true)
 }
 

@@ -17,6 +17,7 @@ mod made;
 mod making;
 mod parsing;
 mod stream;
+mod texts;
 mod things;
 
 use std::alloc::Global;
@@ -61,6 +62,7 @@ fn run_all<R: Print + Eprint>(rt: &R, alloc: Global) -> io::Result<bool> {
         cases::GENERATORS.as_slice(),
         cases::STREAMS.as_slice(),
         cases::IN_PLACE.as_slice(),
+        cases::TEXTS.as_slice(),
     ] {
         for name in names {
             are_found = run_case(rt, alloc, name)? && are_found;

@@ -10,6 +10,7 @@ use amq_protocol_types::{
     AMQPType, AMQPValue, ByteArray, FieldArray, FieldTable, LongString, ShortString,
     ShortStringError, TryCopyError,
 };
+use amqp_json::JsonError;
 use std::alloc::{AllocError, Global};
 use std::{fmt, io};
 
@@ -67,6 +68,8 @@ pub enum Refusal {
     Copy(TryCopyError),
     /// That of a reader of values.
     Stream(StreamError),
+    /// That of a text that is to be the JSON of a value.
+    Json(JsonError),
     /// There is none of that name.
     Unknown(()),
 }
@@ -135,6 +138,7 @@ impl fmt::Debug for Refusal {
             Refusal::Length(e) => e.fmt(f),
             Refusal::Copy(e) => e.fmt(f),
             Refusal::Stream(e) => e.fmt(f),
+            Refusal::Json(e) => e.fmt(f),
             Refusal::Unknown(e) => e.fmt(f),
         }
     }
@@ -173,5 +177,11 @@ impl From<TryCopyError> for Refusal {
 impl From<StreamError> for Refusal {
     fn from(e: StreamError) -> Self {
         Refusal::Stream(e)
+    }
+}
+
+impl From<JsonError> for Refusal {
+    fn from(e: JsonError) -> Self {
+        Refusal::Json(e)
     }
 }

@@ -1,6 +1,7 @@
 //! Tables of the cases.
 
-use crate::made::{Kind, NAMES, Plan};
+use crate::made::Piece::{Bytes, Times};
+use crate::made::{Kind, NAMES, Piece, Plan};
 use crate::making::Maker;
 use crate::parsing::{Number, Parser};
 use amq_protocol_types::AMQPType;
@@ -167,3 +168,13 @@ pub(super) const COPIED: [&[u8]; 3] = [TABLE, b"S\0\0\0\x02hi", b"x\0\0\0\x02\xf
 
 /// Values that take none: a boolean, what is empty, and Void.
 pub(super) const LIGHT: [&[u8]; 5] = [b"t\x01", b"S\0\0\0\0", b"A\0\0\0\0", b"F\0\0\0\0", b"V"];
+
+/// A table with the LongLongInt 1 at `a`, and its JSON.
+pub(super) const ONE_NUMBER: &[u8] = b"F\0\0\0\x0b\x01al\0\0\0\0\0\0\0\x01";
+
+pub(super) const ONE_NUMBER_JSON: &[u8] = b"{\"a\":1}";
+
+/// An array of 4000 Voids, and its JSON.
+pub(super) const VOIDS: [Piece; 2] = [Bytes(b"A\0\0\x0f\xa0"), Times(4000, b"V")];
+
+pub(super) const VOIDS_JSON: [Piece; 3] = [Bytes(b"["), Times(3999, b"null,"), Bytes(b"null]")];
