@@ -31,11 +31,7 @@ impl Call for Looking {
         let Some(table) = value.as_field_table() else {
             return Ok(Thing::NoValue);
         };
-        let mut pairs = 0;
-        for _ in table.iter() {
-            pairs += 1;
-        }
-        Ok(Thing::Number(pairs))
+        Ok(Thing::Number(table.iter().count() as i128))
     }
 }
 
