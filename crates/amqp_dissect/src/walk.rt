@@ -53,7 +53,7 @@ impl<'a> Walk<'a> {
         }
     }
 
-    // The offset up to which the walk has come, and the parts before it.
+    /// The offset up to which the walk has come, and the parts before it.
     pub fn into_parts(self) -> (usize, Vec<Part<'a>>)
         ensures at { result.0 ≡ self.entry.at }
         ensures joined { joined result.1.items ≡ take result.0 self.entry.input.now }
@@ -62,7 +62,7 @@ impl<'a> Walk<'a> {
         (self.at, self.parts)
     }
 
-    // Goes over the value at the beginning, within the limits.
+    /// Goes over the value at the beginning, within the limits.
     pub fn go(&mut self, limits: Limits) -> Result<End, AllocError>
         requires { self.old.at ≡ 0 }
         ensures input { self.new.input ≡ self.old.input }
