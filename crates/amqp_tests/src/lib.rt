@@ -8,8 +8,6 @@ mod flags;
 #[cfg(test)]
 mod getters;
 #[cfg(test)]
-mod in_place;
-#[cfg(test)]
 mod json;
 #[cfg(test)]
 mod values;

@@ -1,0 +1,5 @@
+//! Tests of reading in place, from outside.
+#![tactic(auto)]
+
+#[cfg(test)]
+mod in_place;
