@@ -7,3 +7,4 @@ pub mod OneValue
 pub mod Skipping
 pub mod Places
 pub mod Canonicals
+pub mod RepeatedKeys

@@ -2,6 +2,7 @@ pub mod Bodies
 pub mod Refs
 pub mod Heads
 pub mod Walks
+pub mod Keys
 pub mod Answers
 pub mod Left
 pub mod Places

@@ -109,7 +109,7 @@ fn are_canonical_pairs<'a>(body: SliceInput<'a>, depth: usize) -> bool
 }
 
 // Whether a key stands above the one before it.
-fn is_above(previous: Option<&[u8]>, key: &[u8]) -> bool
+pub(crate) fn is_above(previous: Option<&[u8]>, key: &[u8]) -> bool
     ensures yes { result ≡ true → IsAbove previous.entry key.now }
     ensures no { result ≡ false → IsAbove previous.entry key.now → ⊥ }
 {

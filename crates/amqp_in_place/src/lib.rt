@@ -9,6 +9,7 @@ mod iter;
 mod owned;
 mod read;
 mod refs;
+mod repeated;
 mod skip;
 mod steps;
 mod tables;

@@ -1,0 +1,62 @@
+//! Keys that stand more than once in a table.
+
+ghost use Rattle.std.specs.Prelude.{◌≡◌, true, false, IfOk, OnErr};
+ghost use Rattle.amqp_grammar.specs.Values.{Entries};
+ghost use Rattle.amqp_grammar.specs.Grammar.{Pairs};
+ghost use Rattle.amqp_grammar.specs.Maps.{IsRising};
+ghost use Rattle.amqp_input.specs.Inputs.{slice_bytes};
+ghost use Rattle.amqp_in_place.specs.Bodies.{HasPairs};
+ghost use Rattle.amqp_in_place.specs.Refs.{table_body};
+ghost use Rattle.amqp_in_place.specs.Keys.{RepeatedIs};
+
+use super::canonical::is_above;
+use super::refs::TableRef;
+use super::steps::next_pair;
+use amqp_input::SliceInput;
+use std::alloc::{AllocError, Global};
+use std::collections::BTreeSet;
+
+impl<'a> TableRef<'a> {
+    /// A key that more than one pair has, so that readers may differ on its value; `None` where
+    /// each key stands once. Containers inside the table aren't looked into.
+    ///
+    /// Keys that rise by their bytes, as in a canonical encoding, take no memory. Others are kept
+    /// in a set, in at most some 40 bytes each, until one comes again: n log n comparisons for n
+    /// pairs, whoever picks the keys.
+    pub fn repeated_key(self, alloc: Global) -> Result<Option<&'a str>, AllocError>
+        ensures repeated { IfOk result (λ key. (ps : Entries) → Pairs (table_body self.entry) ps → RepeatedIs ps key) }
+        ensures err { OnErr result ((ps : Entries) → Pairs (table_body self.entry) ps → IsRising ps → ⊥) }
+    {
+        if keys_rise(self.body()) {
+            return Ok(None);
+        }
+        let mut seen = BTreeSet::new(alloc);
+        let mut rest = self.body();
+        'pairs: while let Some((key, _, behind)) = next_pair(rest) {
+            if !seen.insert(key)? {
+                return Ok(Some(key));
+            }
+            rest = behind;
+        }
+        Ok(None)
+    }
+}
+
+// Whether the keys of the pairs rise by their bytes.
+fn keys_rise<'a>(pairs: SliceInput<'a>) -> bool
+    requires { ∥ HasPairs (slice_bytes pairs) ∥₁ }
+    ensures yes { result ≡ true → (ps : Entries) → Pairs (slice_bytes pairs.entry) ps → IsRising ps }
+    ensures no { result ≡ false → (ps : Entries) → Pairs (slice_bytes pairs.entry) ps → IsRising ps → ⊥ }
+{
+    let mut rest = pairs;
+    let mut previous: Option<&[u8]> = None;
+    'pairs: while let Some((key, _, behind)) = next_pair(rest) {
+        let key = key.as_bytes();
+        if !is_above(previous, key) {
+            return false;
+        }
+        rest = behind;
+        previous = Some(key);
+    }
+    true
+}
