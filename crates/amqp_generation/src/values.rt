@@ -27,7 +27,9 @@ use amqp_value_core::value::AMQPValue;
 /// Writes a value: the id of its type, then its payload.
 ///
 /// What is written is the value's canonical encoding: a shortest one, which no other value has.
-/// Where the value was read, room for as many bytes as it was read from is enough.
+/// Where the value was read, room for as many bytes as it was read from is enough. A value in which
+/// a `ShortString` stands, not as a key, has no encoding: it is written with the byte `_` where a
+/// type tag would stand, and is refused when it is read.
 #[tactic(auto, using(amqp_grammar::proofs::GrammarLaws::reading_back, amqp_grammar::proofs::GrammarLaws::is_shortest, amqp_grammar::proofs::GrammarLaws::tells_apart, amqp_grammar::proofs::GrammarLaws::is_canonical, crate::proofs::WhatWasRead::writes_what_was_read))]
 pub fn gen_value<W: BackToTheBuffer>(v: &AMQPValue, x: &mut WriteContext<W>) -> GenResult
     ensures written { Writes true (Fits (view v.now)) (text (view v.now))

@@ -47,7 +47,8 @@ impl<'a> ArrayRef<'a> {
         None
     }
 
-    /// The array in memory of its own, which `parse_value` gives. No values take no memory.
+    /// The array in memory of its own, which `parse_value` gives. No values take no memory. It
+    /// recurses as deep as containers nest.
     pub fn to_owned(self, alloc: Global) -> Result<FieldArray, AllocError>
         ensures { MatchResult result
             (λ a. Body (array_body self.entry) (array_view a))

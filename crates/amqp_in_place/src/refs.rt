@@ -52,7 +52,7 @@ pub enum ValueRef<'a> {
     LongString(&'a [u8]),
     /// A list of values, each with its type.
     FieldArray(ArrayRef<'a>),
-    /// A time, an unsigned number of 64 bits.
+    /// A time, an unsigned number of 64 bits: by the specification, seconds since 1970.
     Timestamp(Timestamp),
     /// A map from short strings to values, each with its type.
     FieldTable(TableRef<'a>),

@@ -56,7 +56,8 @@ impl<'a> TableRef<'a> {
         self.get(key).is_some()
     }
 
-    /// The table in memory of its own, which `parse_value` gives. No entries take no memory.
+    /// The table in memory of its own, which `parse_value` gives. No entries take no memory. It
+    /// recurses as deep as containers nest.
     #[tactic(auto, using(crate::proofs::Owning::entries_of_table))]
     pub fn to_owned(self, alloc: Global) -> Result<FieldTable, AllocError>
         ensures { MatchResult result

@@ -34,7 +34,8 @@ pub enum ErrorKind {
     MapOpt,
     /// A short string is whole, and isn't UTF-8.
     MapRes,
-    /// A container is whole, and its body isn't a concatenation of entries.
+    /// A container is whole, and its body isn't a concatenation of entries; or, within limits,
+    /// containers nest deeper than `depth`.
     Eof,
     /// An allocation failed.
     OutOfMemory,

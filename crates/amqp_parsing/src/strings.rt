@@ -18,8 +18,8 @@ use std::alloc::{AllocError, Global};
 
 /// Reads a short string: its length in one byte, then its bytes, which are UTF-8.
 ///
-/// The bytes are looked at once all of them are there, and copied where they are a text. Memory is
-/// taken only for a string that isn't empty.
+/// The bytes are looked at once all of them are there, and copied where they are a text; where they
+/// aren't UTF-8 it is `MapRes`. Memory is taken only for a string that isn't empty.
 pub fn parse_short_string<I: ParsableInput>(alloc: Global, i: I) -> ParserResult<I, ShortString>
     ensures { MatchResult result
         (λ x. RawOutcome AMQPType.ShortString (I.bytes i) (found (short x.1) (I.bytes x.0)))

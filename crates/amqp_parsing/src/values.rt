@@ -27,6 +27,10 @@ use std::alloc::Global;
 
 /// Reads a value: the id of its type, then its payload.
 ///
+/// `Incomplete` says how many more bytes the field that is being read needs, `Error` that the first
+/// byte is no id (`MapOpt`) or that an array or table that is all there is malformed (`Eof`), and
+/// `Failure` that memory ran out.
+///
 /// What is read can be written again, in no more bytes than it was read from. It recurses as deep
 /// as containers nest, which the input's length alone bounds. Memory is taken only for strings,
 /// byte arrays and containers whose bytes are all there.

@@ -15,7 +15,8 @@ use std::io::Read;
 /// Reads values from a reader, one after another, each within limits.
 ///
 /// It reads no byte after the value that it gives, asks for no more bytes than are needed for the
-/// field being read, and keeps at most as many as a value may have.
+/// field being read, and keeps at most as many as a value may have. The room for them grows as they
+/// come, by 8 KiB at least, and stays until it is dropped.
 #[derive(Drop)]
 pub struct ValueReader<R> {
     values: Values,
@@ -23,7 +24,8 @@ pub struct ValueReader<R> {
 }
 
 impl<R: Read> ValueReader<R> {
-    /// A reader of values that has read nothing yet. It takes no memory.
+    /// A reader of values that has read nothing yet. It takes no memory. The caller owes that
+    /// `limits.frame` isn't 0.
     pub fn new(alloc: Global, reader: R, limits: Limits) -> Self
         requires { 0 < limits.frame }
         ensures reader { reader_of result ≡ reader }

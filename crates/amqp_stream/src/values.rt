@@ -30,7 +30,7 @@ pub struct Values {
 impl Values {
     ghost use Rattle.amqp_stream.specs.Readers.{kept, has_failed, limits_of, Answers, AnswersAll, IsFailed};
 
-    /// Nothing is kept yet. It takes no memory.
+    /// Nothing is kept yet. It takes no memory. The caller owes that `limits.frame` isn't 0.
     pub fn new(alloc: Global, limits: Limits) -> Self
         requires { 0 < limits.frame }
         ensures limits { limits_of result ≡ limits }

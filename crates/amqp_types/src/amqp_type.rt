@@ -36,7 +36,7 @@ pub enum AMQPType {
     /// A decimal number: a scale and an unsigned number of 32 bits.
     DecimalValue,
     /// A text of at most 255 bytes. No id stands for it: it is a key of a table, and where it is
-    /// written as a value no reader takes it.
+    /// written as a value it is refused by the parsers.
     ShortString,
     /// Bytes of any kind, a text for most peers.
     LongString,

@@ -32,7 +32,7 @@ pub enum AMQPValue {
     Double(Double),
     /// A decimal number.
     DecimalValue(DecimalValue),
-    /// A text of at most 255 bytes. It can be written, and no reader takes what is written.
+    /// A text of at most 255 bytes. It can be written, and the parsers refuse what is written.
     ShortString(ShortString),
     /// Bytes of any kind, a text for most peers.
     LongString(LongString),
