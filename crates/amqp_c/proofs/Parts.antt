@@ -3,7 +3,7 @@ use Rattle.std.proofs.Common.{◌≡◌, ◌+◌, ◌-◌, ◌≤◌, ℕ, List,
 use Rattle.std.proofs.lemmas.List.{take_at, take-take, drop-drop, drop-take, length-take-le}
 use Rattle.amqp_grammar.specs.Grammar.{large}
 use Rattle.amqp_c.specs.declared.span.Span.{Span}
-use Rattle.amqp_c.specs.Spans.{part, moved, behind}
+use Rattle.amqp_c.specs.Spans.{part, moved, behind, last}
 
 -- at the front
 pub part_front : (s : List ℕ) (p : Span) → p.offset ≡ 0 → part s p ≡ take p.length s
@@ -41,3 +41,12 @@ part_after s p q n at lies =
 -- how many bytes a part has
 pub part_length : (s : List ℕ) (p : Span) → p.offset + p.length ≤ length s → length (part s p) ≡ p.length
 part_length s p lies = length-take-le p.length (drop p.offset s) (omega (arith, length-drop p.offset s))
+
+-- the last n bytes of a part
+pub part_last : (s : List ℕ) (p : Span) (n : ℕ) → p.offset + p.length ≤ length s → n ≤ p.length → part s (last p n) ≡ drop (length (part s p) - n) (part s p)
+part_last s p n lies few =
+    let before = p.length - n in
+    let ends : n ≡ p.offset + p.length - (p.offset + before) = omega arith in
+    ap (λ (k : ℕ). take k (drop (p.offset + before) s)) ends
+    ∙ (part_after s p (record { offset = p.offset; length = before }) before (omega arith) (omega arith)
+    ∙ ap (λ (m : ℕ). drop (m - n) (part s p)) (sym (part_length s p lies)))

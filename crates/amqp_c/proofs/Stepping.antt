@@ -10,7 +10,7 @@ use Rattle.amqp_c.specs.declared.entry.Entry.{Entry}
 use Rattle.amqp_c.specs.declared.span.Span.{Span}
 use Rattle.amqp_c.specs.Answers.{GivesFirst}
 use Rattle.amqp_c.specs.Entries.{Says, Lies}
-use Rattle.amqp_c.specs.Spans.{part, moved, behind, LiesIn}
+use Rattle.amqp_c.specs.Spans.{part, moved, behind, SpanLies}
 use Rattle.amqp_c.specs.Steps.{IsFrontIn, IsValueIn, IsPairIn}
 use Rattle.amqp_c.proofs.Parts.{part_within, part_after, part_length}
 
@@ -27,7 +27,7 @@ says_placed s p key e (array vs) at is = subst (λ (t : List ℕ). Body t vs) at
 says_placed s p key e (table es) at is = subst (λ (t : List ℕ). HasEntries t es) at is
 
 -- what is read at the front of the span stands in the bytes
-pub front_given : (s : List ℕ) (p key : Span) (e : Entry) → LiesIn (length s) p → Lies (length (part s p)) e → (v : Tree) (rest : List ℕ) → Outcome (part s p) (found v rest)
+pub front_given : (s : List ℕ) (p key : Span) (e : Entry) → SpanLies (length s) p → Lies (length (part s p)) e → (v : Tree) (rest : List ℕ) → Outcome (part s p) (found v rest)
     → GivesFirst (part s p) v rest (Ok e) → IsFrontIn s p key v rest (Some (placed p key e))
 front_given s p key e in_s in_part v rest x (is, at, whole) =
     let size = part_length s p in_s in
@@ -46,7 +46,7 @@ front_given s p key e in_s in_part v rest x (is, at, whole) =
     )
 
 -- the first of some values
-pub value_given : (s : List ℕ) (p key : Span) (r : Option Entry) → LiesIn (length s) p → 0 < p.length → key.length ≡ 0
+pub value_given : (s : List ℕ) (p key : Span) (r : Option Entry) → SpanLies (length s) p → 0 < p.length → key.length ≡ 0
     → ((v : Tree) (rest : List ℕ) → Outcome (part s p) (found v rest) → IsFrontIn s p key v rest r) → (vs : Trees) → Body (part s p) vs → IsValueIn s p vs r
 value_given s p key r in_s some none f vs all = by (part s p) vs (omega (arith, part_length s p in_s)) f all
   where
@@ -64,7 +64,7 @@ key_room _ _ no_pairs some = absurd (omega arith)
 key_room _ _ (pair k w rest v ps is q all) some = omega (arith, length-append k (w ++ rest))
 
 -- the first of some pairs
-module _ (s : List ℕ) (p : Span) (n : ℕ) (r : Option Entry) (in_s : LiesIn (length s) p) (some : 0 < p.length) (is : n ≡ get_or (part s p) 0 0) where
+module _ (s : List ℕ) (p : Span) (n : ℕ) (r : Option Entry) (in_s : SpanLies (length s) p) (some : 0 < p.length) (is : n ≡ get_or (part s p) 0 0) where
   abbrev key : Span
   key = record { offset = p.offset + 1; length = n }
 

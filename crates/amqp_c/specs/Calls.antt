@@ -9,7 +9,7 @@ use Rattle.amqp_parsing.specs.declared.limits.Limits.{Limits}
 use Rattle.amqp_c.specs.declared.cursor.Cursor.{Cursor}
 use Rattle.amqp_c.specs.declared.entry.Entry.{Entry}
 use Rattle.amqp_c.specs.declared.fault.Fault.{Fault}
-use Rattle.amqp_c.specs.Spans.{part, LiesIn}
+use Rattle.amqp_c.specs.Spans.{part, SpanLies}
 use Rattle.amqp_c.specs.Entries.{IsAtFront, Lies}
 use Rattle.amqp_c.specs.Steps.{array_tag, table_tag, contents, IsOfContainer, IsOfTable, StepsIn, RefusedBy, GivesValue, GivesPair, GivesFound}
 use Rattle.amqp_c.specs.Answers.{IsTaken, HeaderFaults, FaultsWithin, GivesFirst, answer_of, answer_if_any, count_of, given_or, found_or, entry_or, cursor_or}
@@ -51,8 +51,8 @@ pub record Steps (s : List ℕ) (c : Cursor) (old : Entry) (answer : ℤ) (new :
   pub answered : answer ≡ answer_if_any done
   pub cursor : new ≡ cursor_or c done
   pub entry : e ≡ entry_or old done
-  pub values : (vs : Trees) → LiesIn (length s) c.left → c.tag ≡ array_tag → Body (part s c.left) vs → GivesValue s vs done
-  pub pairs : (ps : Entries) → LiesIn (length s) c.left → c.tag ≡ table_tag → Pairs (part s c.left) ps → GivesPair s ps done
+  pub values : (vs : Trees) → SpanLies (length s) c.left → c.tag ≡ array_tag → Body (part s c.left) vs → GivesValue s vs done
+  pub pairs : (ps : Entries) → SpanLies (length s) c.left → c.tag ≡ table_tag → Pairs (part s c.left) ps → GivesPair s ps done
   pub lies : IfOk done (StepsIn (length s) c)
   pub refused : IfErr done (RefusedBy (IsOfContainer (length s) c) (IsOfContainer (length s) c))
 

@@ -8,7 +8,7 @@ use Rattle.amqp_parsing.specs.Headers.{extent}
 use Rattle.amqp_in_place.specs.Bodies.{HasEntries}
 use Rattle.amqp_c.specs.declared.entry.Entry.{Entry}
 use Rattle.amqp_c.specs.Scalars.{scalar_bits, scalar_scale}
-use Rattle.amqp_c.specs.Spans.{part, LiesIn}
+use Rattle.amqp_c.specs.Spans.{part, SpanLies}
 
 -- the entry says what v is: a value of fixed width by its bits and its scale, and any other by
 -- where its bytes, or those of its body, lie
@@ -34,7 +34,7 @@ IsAtFront s e = (e.key.length ≡ 0) × (e.value.offset ≡ 0) × (e.value.lengt
 
 -- what the entry names lies in n bytes, and its value has at least one
 pub record Lies (n : ℕ) (e : Entry) : Type 0 where
-  pub key : LiesIn n e.key
-  pub value : LiesIn n e.value
-  pub content : LiesIn n e.content
+  pub key : SpanLies n e.key
+  pub value : SpanLies n e.value
+  pub content : SpanLies n e.content
   pub some : 0 < e.value.length

@@ -7,8 +7,8 @@ abbrev pub part : List ℕ → Span → List ℕ
 part s p = take p.length (drop p.offset s)
 
 -- the span lies in n bytes
-abbrev pub LiesIn : ℕ → Span → Type 0
-LiesIn n p = p.offset + p.length ≤ n
+abbrev pub SpanLies : ℕ → Span → Type 0
+SpanLies n p = p.offset + p.length ≤ n
 
 -- the same bytes, where n more stand before them
 abbrev pub moved : ℕ → Span → Span
@@ -17,3 +17,7 @@ moved n p = record { offset = p.offset + n; length = p.length }
 -- the bytes of p behind those of q
 abbrev pub behind : Span → Span → Span
 behind p q = record { offset = q.offset + q.length; length = p.offset + p.length - (q.offset + q.length) }
+
+-- the last n bytes of p
+abbrev pub last : Span → ℕ → Span
+last p n = record { offset = p.offset + (p.length - n); length = n }

@@ -1,5 +1,6 @@
 -- Stepping through the body of a container by a cursor.
-use Rattle.std.specs.Prelude.{ℕ, ◌≡◌, ◌+◌, ◌<◌, ◌≤◌, List, Option, Some, None, Result, Ok, ◌⊎◌}
+use Rattle.std.specs.Prelude.{ℕ, ◌≡◌, ◌+◌, ◌<◌, ◌≤◌, List, length, drop, Option, Some, None, Result, Ok, ◌⊎◌}
+use Rattle.std.specs.Borrow.{Bor}
 use Rattle.amqp_grammar.specs.Values.{Tree, Trees, no_trees, tree, Entries, no_entries, entry}
 use Rattle.amqp_grammar.specs.Grammar.{Body, Pairs}
 use Rattle.amqp_c.specs.declared.cursor.Cursor.{Cursor}
@@ -7,7 +8,7 @@ use Rattle.amqp_c.specs.declared.entry.Entry.{Entry}
 use Rattle.amqp_c.specs.declared.fault.Fault.{Fault}
 use Rattle.amqp_c.specs.declared.fault.Fault.TheVariants.{Malformed, Invalid}
 use Rattle.amqp_c.specs.declared.span.Span.{Span}
-use Rattle.amqp_c.specs.Spans.{part, behind, LiesIn}
+use Rattle.amqp_c.specs.Spans.{part, behind, SpanLies}
 use Rattle.amqp_c.specs.Entries.{IsEntry, Lies}
 
 -- the type tags of an array and of a table, `A` and `F`
@@ -23,11 +24,11 @@ contents e = record { left = e.content; tag = e.tag }
 
 -- the cursor lies in n bytes, and is of an array or a table
 abbrev pub IsOfContainer : ℕ → Cursor → Type 0
-IsOfContainer n c = LiesIn n c.left × ((c.tag ≡ array_tag) ⊎ (c.tag ≡ table_tag))
+IsOfContainer n c = SpanLies n c.left × ((c.tag ≡ array_tag) ⊎ (c.tag ≡ table_tag))
 
 -- it is of a table
 abbrev pub IsOfTable : ℕ → Cursor → Type 0
-IsOfTable n c = LiesIn n c.left × (c.tag ≡ table_tag)
+IsOfTable n c = SpanLies n c.left × (c.tag ≡ table_tag)
 
 -- a step of the cursor c in n bytes gives an entry that lies in them, and a cursor of the same
 -- container which ends where c does and has less left; or nothing is left
@@ -36,7 +37,7 @@ StepsIn n c None = IsOfContainer n c × (c.left.length ≡ 0)
 StepsIn n c (Some x) =
     IsOfContainer n c
     × Lies n x.0
-    × LiesIn n x.1.left
+    × SpanLies n x.1.left
     × (x.1.tag ≡ c.tag)
     × (x.1.left.length < c.left.length)
     × (x.1.left.offset + x.1.left.length ≡ c.left.offset + c.left.length)
@@ -85,3 +86,12 @@ IsValueIn s p _ _ = ⊥
 abbrev pub IsPairIn : List ℕ → Span → Entries → Option Entry → Type 0
 IsPairIn s p (entry k v ps) (Some e) = (part s e.key ≡ k) × IsEntry s e v × Pairs (part s (behind p e.value)) ps
 IsPairIn s p _ _ = ⊥
+
+-- the first pair's key is told, and the pairs behind it
+abbrev pub SplitsPair : Entries → Option (Bor (List ℕ) × Bor (List ℕ)) → Type 0
+SplitsPair (entry k v ps) (Some x) = (x.0.now ≡ k) × Pairs x.1.now ps
+SplitsPair _ _ = ⊥
+
+-- the bytes are what stands in s behind some of its bytes
+abbrev pub IsBehind : List ℕ → List ℕ → Type 0
+IsBehind s rest = (n : ℕ) × (0 < n) × (n ≤ length s) × (rest ≡ drop n s)

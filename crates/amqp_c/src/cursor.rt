@@ -2,17 +2,18 @@
 
 ghost use Rattle.std.specs.Prelude.{◌≡◌, ◌+◌, ◌<◌, ◌≤◌, ℕ, List, length, IfErr, IfOk, IfSome, MatchOption};
 ghost use Rattle.amqp_grammar.specs.Values.{Tree, Trees, Entries};
-ghost use Rattle.amqp_grammar.specs.Maps.{same_bytes, value_at};
+ghost use Rattle.amqp_grammar.specs.Maps.{value_at};
 ghost use Rattle.amqp_grammar.specs.Grammar.{Body, Pairs};
 ghost use Rattle.amqp_grammar.specs.Outcomes.{Outcome, found};
 ghost use Rattle.amqp_in_place.specs.Bodies.{HasEntries};
-ghost use Rattle.amqp_c.specs.Spans.{part, LiesIn};
+ghost use Rattle.amqp_c.specs.Spans.{part, SpanLies};
 ghost use Rattle.amqp_c.specs.Entries.{IsEntry, Lies};
-ghost use Rattle.amqp_c.specs.Steps.{array_tag, table_tag, contents, IsOfContainer, IsOfTable, StepsIn, RefusedBy, IsFrontIn, IsValueIn, IsPairIn, EndsIn, GivesValue, GivesPair, GivesFound};
+ghost use Rattle.amqp_c.specs.Steps.{array_tag, table_tag, contents, IsOfContainer, IsOfTable, StepsIn, RefusedBy, IsFrontIn, IsValueIn, IsPairIn, EndsIn, GivesValue, GivesPair, GivesFound, SplitsPair, IsBehind};
 
 use crate::entry::{Entry, first};
 use crate::fault::Fault;
 use crate::span::Span;
+use amq_protocol_types::in_place::skip_value;
 
 /// What is left of an array or a table.
 #[repr(C)]
@@ -57,9 +58,9 @@ impl Cursor {
     /// The next entry, and a cursor behind it. It looks at the key's length, the type tag and the
     /// length after it alone, so it takes constant time.
     pub fn next(self, bytes: &[u8]) -> Result<Option<(Entry, Cursor)>, Fault>
-        ensures values { (vs : Trees) → LiesIn (length bytes.now) self.left → self.tag ≡ array_tag
+        ensures values { (vs : Trees) → SpanLies (length bytes.now) self.left → self.tag ≡ array_tag
             → Body (part bytes.now self.left) vs → GivesValue bytes.now vs result }
-        ensures pairs { (ps : Entries) → LiesIn (length bytes.now) self.left → self.tag ≡ table_tag
+        ensures pairs { (ps : Entries) → SpanLies (length bytes.now) self.left → self.tag ≡ table_tag
             → Pairs (part bytes.now self.left) ps → GivesPair bytes.now ps result }
         ensures steps { IfOk result (StepsIn (length bytes.now) self) }
         ensures refused { IfErr result (RefusedBy (IsOfContainer (length bytes.now) self) (IsOfContainer (length bytes.now) self)) }
@@ -85,7 +86,8 @@ impl Cursor {
         Ok(Some((entry, rest)))
     }
 
-    /// The entry at the key: of equal keys the last. It walks all entries that are left.
+    /// The entry at the key: of equal keys the last. It walks all entries that are left, and tells
+    /// one.
     pub fn find(self, bytes: &[u8], key: &[u8]) -> Result<Option<Entry>, Fault>
         ensures found { (es : Entries) → IsOfTable (length bytes.now) self
             → HasEntries (part bytes.now self.left) es → GivesFound bytes.now (value_at key.now es) result }
@@ -95,32 +97,52 @@ impl Cursor {
         if self.tag != b'F' {
             return Err(Fault::Invalid);
         }
+        let Some(body) = self.left.of(bytes) else {
+            return Err(Fault::Invalid);
+        };
         let mut at = None;
-        let mut rest = self;
-        'pairs: while let Some((entry, behind)) = rest.next(bytes)? {
-            if is_key(bytes, entry.key, key) {
-                at = Some(entry);
+        let mut left = body;
+        'pairs: while !left.is_empty() {
+            let Some((name, behind)) = split_pair(left) else {
+                return Err(Fault::Malformed);
+            };
+            if key == name {
+                at = Some(left.len());
             }
-            rest = behind;
+            left = behind;
         }
-        Ok(at)
+        let Some(count) = at else {
+            return Ok(None);
+        };
+        match first_pair(bytes, self.left.last(count)) {
+            Some(entry) => Ok(Some(entry)),
+            None => Err(Fault::Malformed),
+        }
     }
 }
 
-/// Whether the bytes of the span are the key.
-fn is_key(bytes: &[u8], span: Span, key: &[u8]) -> bool
-    requires { LiesIn (length bytes.now) span }
-    ensures { result ≡ same_bytes key.now (part bytes.now span) }
+/// The key of the pair at the front, and what stands behind the pair: by the key's length and the
+/// value's header alone.
+fn split_pair(pairs: &[u8]) -> Option<(&[u8], &[u8])>
+    ensures pair { (ps : Entries) → 0 < length pairs.now → Pairs pairs.now ps → SplitsPair ps result }
+    ensures behind { IfSome result (λ x. IsBehind pairs.now x.1.now) }
 {
-    match span.of(bytes) {
-        Some(found) => key == found,
-        None => false,
+    let (length, named) = pairs.split_first()?;
+    let length = usize::from(*length);
+    if named.len() < length {
+        return None;
     }
+    let (key, value) = named.split_at(length);
+    let Ok(taken) = skip_value(value) else {
+        return None;
+    };
+    let (_, behind) = value.split_at(taken);
+    Some((key, behind))
 }
 
 /// The entry of the value at the front of the span.
 fn first_value(bytes: &[u8], left: Span) -> Option<Entry>
-    requires left { LiesIn (length bytes.now) left }
+    requires left { SpanLies (length bytes.now) left }
     ensures value { (vs : Trees) → 0 < left.length → Body (part bytes.now left) vs → IsValueIn bytes.now left vs result }
     ensures lies { IfSome result (λ e. Lies (length bytes.now) e × EndsIn left e) }
 {
@@ -129,7 +151,7 @@ fn first_value(bytes: &[u8], left: Span) -> Option<Entry>
 
 /// The entry of the pair at the front of the span.
 fn first_pair(bytes: &[u8], left: Span) -> Option<Entry>
-    requires left { LiesIn (length bytes.now) left }
+    requires left { SpanLies (length bytes.now) left }
     ensures pair { (ps : Entries) → 0 < left.length → Pairs (part bytes.now left) ps → IsPairIn bytes.now left ps result }
     ensures lies { IfSome result (λ e. Lies (length bytes.now) e × EndsIn left e) }
 {
@@ -146,8 +168,8 @@ fn first_pair(bytes: &[u8], left: Span) -> Option<Entry>
 
 /// The entry of the value at the front of the span, with its key.
 fn front_of(bytes: &[u8], left: Span, key: Span) -> Option<Entry>
-    requires left { LiesIn (length bytes.now) left }
-    requires key { LiesIn (length bytes.now) key }
+    requires left { SpanLies (length bytes.now) left }
+    requires key { SpanLies (length bytes.now) key }
     ensures told { (v : Tree) (rest : List ℕ) → Outcome (part bytes.now left) (found v rest)
         → IsFrontIn bytes.now left key v rest result }
     ensures lies { IfSome result (λ e. Lies (length bytes.now) e × EndsIn left e) }

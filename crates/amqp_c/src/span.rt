@@ -1,7 +1,7 @@
 //! Bytes by where they lie.
 
 ghost use Rattle.std.specs.Prelude.{◌≡◌, ◌+◌, ◌<◌, ◌≤◌, ◌^◌, length, MatchOption};
-ghost use Rattle.amqp_c.specs.Spans.{part, LiesIn, moved, behind};
+ghost use Rattle.amqp_c.specs.Spans.{part, SpanLies, moved, behind, last};
 
 /// Bytes, by how many stand before them and how many there are.
 #[repr(C)]
@@ -23,8 +23,8 @@ impl Span {
     /// The bytes of the span, where it lies in `bytes`.
     pub fn of(self, bytes: &[u8]) -> Option<&[u8]>
         ensures { MatchOption result
-            (LiesIn (length bytes.now) self → ⊥)
-            (λ found. LiesIn (length bytes.now) self × (found.now ≡ part bytes.now self)) }
+            (SpanLies (length bytes.now) self → ⊥)
+            (λ found. SpanLies (length bytes.now) self × (found.now ≡ part bytes.now self)) }
     {
         if self.offset > bytes.len() || self.length > bytes.len() - self.offset {
             return None;
@@ -53,6 +53,19 @@ impl Span {
         Span {
             offset,
             length: self.offset + self.length - offset,
+        }
+    }
+
+    /// So many of its last bytes.
+    pub fn last(self, count: usize) -> Span
+        requires count { count ≤ self.length }
+        requires fits { self.offset + self.length < 2 ^ 64 }
+        ensures { result ≡ last self count }
+    {
+        let before = self.length - count;
+        Span {
+            offset: self.offset + before,
+            length: count,
         }
     }
 }

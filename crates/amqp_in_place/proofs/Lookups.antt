@@ -34,11 +34,11 @@ no_values_at _ _ (value w left v vs p all) = (λ e. absurd (omega (arith, length
 abbrev pub Looks : List ℕ → List ℕ → List ℕ → Option ValueRef → Type 0
 Looks key s rest r = (ps : Entries) → Pairs s ps → (qs : Entries) × (seen : Option Tree) × Pairs rest qs × FoundIs seen r × (last_at key ps ≡ option_or (last_at key qs) seen)
 
-or_none : (o : Option Tree) → o ≡ option_or o None
+pub or_none : (o : Option Tree) → o ≡ option_or o None
 or_none None = refl
 or_none (Some v) = refl
 
-or_or : (a b c : Option Tree) → option_or (option_or a b) c ≡ option_or a (option_or b c)
+pub or_or : (a b c : Option Tree) → option_or (option_or a b) c ≡ option_or a (option_or b c)
 or_or None b c = refl
 or_or (Some v) b c = refl
 

@@ -1,9 +1,63 @@
+use Rattle.std.proofs.Common.{◌≡◌, ◌-◌, ℕ, Bool, cond, List, length, drop, Some, sym, ap, ◌∙◌, subst, arith}
+use Rattle.std.proofs.lemmas.Grind.{common_steps}
+use Rattle.amqp_grammar.specs.Grammar.{Pairs}
+use Rattle.amqp_c.specs.declared.span.Span.{Span}
 use Rattle.amqp_c.specs.Spans.{part}
-use Rattle.amqp_c.proofs.Finding.{looks_end}
+use Rattle.amqp_c.proofs.Parts.{part_length, part_last}
+use Rattle.amqp_c.proofs.Finding.{left_behind, looks_step, last_seen, found_none, found_some, never_none}
 use Rattle.amqp_c.proofs.cursor.Cursor.find.Goals as goal
 
-pub returns-clause-found : goal.returns-clause-found
-returns-clause-found c = λ es is all.
+pub pairs-preserved-then-eq : goal.pairs-preserved-then-eq
+pairs-preserved-then-eq c =
+    let all = part c.args.bytes.now c.args.self.left in
+    let i = c.pairs.invariant in
+    let x = c.in-Some-split_pair in
+    let left = left_behind all c.pairs.left.now x.behind.now i.behind i.fewer x.ensures.behind in record {
+      behind = left.0;
+      fewer = left.1;
+      at = omega (arith, i.fewer, part_length c.args.bytes.now c.args.self.left c.in-Some.ensures.0);
+      looks = looks_step c.args.key.now all c.pairs.left.now c.pairs.at (Some (length c.pairs.left.now)) (x.name, x.behind) c.eq.result (grind (arith, common_steps)) i.behind i.looks x.ensures.pair c.eq.ensures (ap (λ (b : Bool). cond b (Some (length c.pairs.left.now)) c.pairs.at) (sym c.if-eq.true));
+    }
+
+pub pairs-preserved : goal.pairs-preserved
+pairs-preserved c =
+    let all = part c.args.bytes.now c.args.self.left in
+    let i = c.pairs.invariant in
+    let x = c.in-Some-split_pair in
+    let left = left_behind all c.pairs.left.now x.behind.now i.behind i.fewer x.ensures.behind in record {
+      behind = left.0;
+      fewer = left.1;
+      at = i.at;
+      looks = looks_step c.args.key.now all c.pairs.left.now c.pairs.at c.pairs.at (x.name, x.behind) c.eq.result (grind (arith, common_steps)) i.behind i.looks x.ensures.pair c.eq.ensures (ap (λ (b : Bool). cond b (Some (length c.pairs.left.now)) c.pairs.at) (sym c.if-eq.false));
+    }
+
+pub returns-in_default-at-clause-found : goal.returns-in_default-at-clause-found
+returns-in_default-at-clause-found c = λ es valid is.
     let s = c.args.bytes.now in
-    looks_end s c.args.key.now (part s c.args.self.left) (part s c.pairs.rest.left) c.pairs.at c.pairs.invariant.looks
-    (λ qs q. rw c.in_default.is at (c.in_ok-entry.ensures.pairs qs (c.pairs.invariant.valid.1 is.0) c.pairs.invariant.of_table q)) es all
+    let all = part s c.args.self.left in
+    let seen = last_seen c.args.key.now all c.pairs.left.now c.pairs.at c.pairs.invariant.looks (grind (arith, common_steps)) es is in
+    found_none s all _ (rw c.in_default-at.is at seen)
+
+pub returns-in-Some-first_pair-clause-found : goal.returns-in-Some-first_pair-clause-found
+returns-in-Some-first_pair-clause-found c = λ es valid is.
+    let s = c.args.bytes.now in
+    let all = part s c.args.self.left in
+    let seen = last_seen c.args.key.now all c.pairs.left.now c.pairs.at c.pairs.invariant.looks (grind (arith, common_steps)) es is in
+    let size : c.last.result.length ≡ c.in-Some-at.count = ap (λ (p : Span). p.length) c.last.ensures in
+    let few = rw c.in-Some-at.is at c.pairs.invariant.at in
+    let same : part s c.last.result ≡ drop (length all - c.in-Some-at.count) all =
+    ap (part s) c.last.ensures ∙ part_last s c.args.self.left c.in-Some-at.count valid.0 (omega (arith, few)) in
+    found_some s all c.last.result c.in-Some-at.count c.in-Some-first_pair.entry _ (rw c.in-Some-at.is at seen)
+    (λ ps some q. c.in-Some-first_pair.ensures.pair ps (omega (arith, some, size)) (subst (λ (t : List ℕ). Pairs t ps) (sym same) q))
+
+pub returns-in-None-clause-found : goal.returns-in-None-clause-found
+returns-in-None-clause-found c = λ es valid is.
+    let s = c.args.bytes.now in
+    let all = part s c.args.self.left in
+    let seen = last_seen c.args.key.now all c.pairs.left.now c.pairs.at c.pairs.invariant.looks (grind (arith, common_steps)) es is in
+    let size : c.last.result.length ≡ c.in-Some-at.count = ap (λ (p : Span). p.length) c.last.ensures in
+    let few = rw c.in-Some-at.is at c.pairs.invariant.at in
+    let same : part s c.last.result ≡ drop (length all - c.in-Some-at.count) all =
+    ap (part s) c.last.ensures ∙ part_last s c.args.self.left c.in-Some-at.count valid.0 (omega (arith, few)) in
+    absurd (never_none s all c.last.result c.in-Some-at.count _ (rw c.in-Some-at.is at seen)
+    (λ ps some q. c.in-None.ensures.pair ps (omega (arith, some, size)) (subst (λ (t : List ℕ). Pairs t ps) (sym same) q)))

@@ -1,19 +1,17 @@
-use Rattle.std.proofs.Common.{◌≡◌, ◌↔◌, length}
+use Rattle.std.proofs.Common.{◌≡◌, ◌-◌, ◌≤◌, length, drop}
 use Rattle.std.specs.Option.{IfSome}
-use Rattle.amqp_c.specs.Entries.{Lies}
-use Rattle.amqp_c.specs.Spans.{part, LiesIn}
-use Rattle.amqp_c.specs.Steps.{table_tag}
+use Rattle.amqp_c.specs.Spans.{part}
 use Rattle.amqp_c.proofs.Finding.{Looks}
 use Rattle.amqp_c.proofs.cursor.Cursor.find.Given as goal
 
--- what was found is what the pairs before those that are left say
+-- what was seen is what the pairs before those that are left say
 abbrev pub invariant-pairs : goal.invariant-pairs
 invariant-pairs l = record {
-  of_table : l.rest.tag ≡ table_tag;
-  valid : LiesIn (length l.bytes) l.rest.left ↔ LiesIn (length l.bytes) l.fn.self.left;
-  lies : IfSome l.at (Lies (length l.bytes));
-  looks : Looks l.bytes l.key (part l.bytes l.fn.self.left) (part l.bytes l.rest.left) l.at;
+  behind : l.left ≡ drop (length (part l.bytes l.self.left) - length l.left) (part l.bytes l.self.left);
+  fewer : length l.left ≤ length (part l.bytes l.self.left);
+  at : IfSome l.at (λ n. n ≤ l.self.left.length);
+  looks : Looks l.key (part l.bytes l.self.left) l.left l.at;
 }
 
 abbrev pub decreases-pairs : goal.decreases-pairs
-decreases-pairs l = l.rest.left.length
+decreases-pairs l = length l.left
