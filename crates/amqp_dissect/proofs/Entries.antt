@@ -1,5 +1,6 @@
 -- Values and pairs one after another, and the first one that is none.
-use Rattle.std.proofs.Common.{◌≡◌, ◌≤◌, ◌<◌, ◌+◌, ◌-◌, ◌^◌, ℕ, Result, Ok, Err, OnOk, suc, List, ◌∷◌, ◌++◌, length, take, drop, slice_range, Option, Some, None, option_map, refl, sym, ap, ap₂, ◌∙◌, subst, arith, take-append-drop}
+use Rattle.std.proofs.Common.{◌≡◌, ◌≤◌, ◌<◌, ◌+◌, ◌-◌, ◌^◌, ℕ, Result, Ok, Err, suc, List, [], ◌∷◌, ◌++◌, length, take, drop, slice_range, Option, Some, None, option_map, refl, sym, ap, ap₂, ◌∙◌, subst, arith, take-append-drop, append_assoc, length-append}
+use Rattle.std.specs.Borrow.{Bor}
 use Rattle.std.specs.Int.{w32, to_be_bytes}
 use Rattle.std.specs.Str.{IsUtf8}
 use Rattle.std.proofs.lemmas.List.{length-take-le, nil_from_length, take_rest}
@@ -11,7 +12,7 @@ use Rattle.amqp_types.specs.Ids.{kind}
 use Rattle.amqp_grammar.specs.Values.{Tree, scalar, long, octets, array, table, no_trees, tree, no_entries, entry, onto}
 use Rattle.amqp_grammar.specs.Layouts.{Layout, fixed}
 use Rattle.amqp_grammar.specs.Grammar.{small, large, wire, raw_fixed, raw_long, raw_octets, raw_array, raw_table, no_values, value, no_pairs, pair}
-use Rattle.amqp_grammar.specs.Nesting.{OutcomeWithin, WireWithin, RawWithin, BodyWithin, PairsWithin}
+use Rattle.amqp_grammar.specs.Nesting.{OutcomeWithin, WireWithin, RawWithin}
 use Rattle.amqp_grammar.specs.Outcomes.{found, lack, lack_of, frame_lack, length_field}
 use Rattle.amqp_grammar.proofs.GrammarLaws.{wire_found_within}
 use Rattle.amqp_parsing.specs.Headers.{extent}
@@ -25,9 +26,11 @@ use Rattle.amqp_dissect.specs.declared.problem.Problem.TheVariants.{NoTypeTag, U
 use Rattle.amqp_dissect.specs.Problems.{IsContainer, NoValue, no_type_tag, unknown_type_tag, cut, too_deep, in_array, in_table, NoValues, bad_value, after_value, NoPairs, cut_key, key_not_utf8, bad_pair, after_pair}
 use Rattle.amqp_dissect.specs.declared.problem.Stop.{Stop}
 use Rattle.amqp_dissect.specs.declared.problem.Stop.TheVariants.{OutOfMemory, At}
-use Rattle.amqp_dissect.specs.Walks.{IsAt, IsValueThen, IsKeyThen, AreValues, ArePairs, HasFrame, IsHeader, IsFramed, IsString}
+use Rattle.amqp_dissect.specs.declared.walk.Walk.{Walk}
+use Rattle.amqp_dissect.specs.Walks.{IsAt, IsValueThen, IsKeyThen, AreValues, ArePairs, HasFrame, HasHeader, IsLengthPrefixed, IsString, ahead, CanReach, GoesOn, PassesValue, PassesEntries}
 use Rattle.amqp_parsing.specs.Answers.{Refuses}
 use Rattle.amqp_dissect.specs.Ends.{refusal_of}
+use Rattle.amqp_dissect.specs.Memory.{HasTypeTag, TakesMemory}
 use Rattle.amqp_dissect.proofs.Refused.{value_refused}
 use Rattle.amqp_dissect.proofs.Windows.{window_size, window_front, window_back}
 
@@ -82,14 +85,14 @@ module _ (d : ℕ) (s b : List ℕ) (type : AMQPType) (first width : ℕ) (is : 
 
 -- ---- a length in four bytes
 
-framed_lack : (type : AMQPType) (b : List ℕ) → IsFramed type → lack type b ≡ frame_lack w32 b
+framed_lack : (type : AMQPType) (b : List ℕ) → IsLengthPrefixed type → lack type b ≡ frame_lack w32 b
 framed_lack amqp.LongString b p = refl
 framed_lack amqp.ByteArray b p = refl
 framed_lack amqp.FieldArray b p = refl
 framed_lack amqp.FieldTable b p = refl
 framed_lack _ b p = absurd p
 
-pub cut_frame : (d : ℕ) (s b : List ℕ) (type : AMQPType) (n : ℕ) → IsType s type b → IsFramed type → 0 < n → n ≡ frame_lack w32 b → NoValue d s 1 (Cut type n)
+pub cut_frame : (d : ℕ) (s b : List ℕ) (type : AMQPType) (n : ℕ) → IsType s type b → IsLengthPrefixed type → 0 < n → n ≡ frame_lack w32 b → NoValue d s 1 (Cut type n)
 cut_frame d s b type n is framed some e =
     subst (λ (t : List ℕ). NoValue d t 1 (Cut type n)) (sym is.1) (cut d is.0 type b n is.2 some (framed_lack type b framed ∙ sym e))
 
@@ -98,7 +101,7 @@ deep d s b type n none is container (body, rest, f, e) =
     let whole : s ≡ is.0 ∷ (large body ++ rest) = is.1 ∙ ap (λ t. is.0 ∷ t) f.framed in
     subst (λ k. NoValue k s 0 TooDeep) (sym none) (subst (λ (t : List ℕ). NoValue 0 t 0 TooDeep) (sym whole) (too_deep is.0 type body rest is.2 container f.fits))
 
-pub header_of : (s b : List ℕ) (type : AMQPType) (at n : ℕ) → IsType s type b → HasFrame b n → IsHeader s type at (at + 5 + n)
+pub header_of : (s b : List ℕ) (type : AMQPType) (at n : ℕ) → IsType s type b → HasFrame b n → HasHeader s type at (at + 5 + n)
 header_of s b type at n is (body, rest, f, e) =
     (is.0, body, rest, is.2, is.1 ∙ ap (λ t. is.0 ∷ t) f.framed, f.fits, ap (λ k. at + 5 + k) e)
 
@@ -106,7 +109,7 @@ length_large : (body : List ℕ) → length (large body) ≡ 4 + length body
 length_large body = omega arith
 
 -- what a header counts is there
-pub header_fits : (xs : List ℕ) (a e : ℕ) (type : AMQPType) (behind : ℕ) → IsHeader (slice_range xs a e) type a behind → a ≤ e → e ≤ length xs → (a + 5 ≤ behind) × (behind ≤ e)
+pub header_fits : (xs : List ℕ) (a e : ℕ) (type : AMQPType) (behind : ℕ) → HasHeader (slice_range xs a e) type a behind → a ≤ e → e ≤ length xs → (a + 5 ≤ behind) × (behind ≤ e)
 header_fits xs a e type behind (c, body, rest, k, is, fits, b) le in_xs =
     let size = window_size xs a e (c ∷ large body) rest is le in_xs in
     (omega arith, omega (arith, size, length_large body))
@@ -116,109 +119,187 @@ string_raw d amqp.LongString body p fits = (long body, (raw_long body fits, omeg
 string_raw d amqp.ByteArray body p fits = (octets body, (raw_octets body fits, omega arith))
 string_raw d _ body p fits = absurd p
 
-pub string_read : (d : ℕ) (s : List ℕ) (type : AMQPType) (at behind : ℕ) → IsHeader s type at behind → IsString type → IsValueOf d s (behind - at)
+pub string_read : (d : ℕ) (s : List ℕ) (type : AMQPType) (at behind : ℕ) → HasHeader s type at behind → IsString type → IsValueOf d s (behind - at)
 string_read d s type at behind (c, body, rest, k, is, fits, b) string =
     let r = string_raw d type body string fits in
     (c ∷ large body, r.0, rest, (wire c type (large body) r.0 k r.1.0, r.1.1), is, omega (arith, length_large body))
 
--- ---- a container
-
-module _ (d : ℕ) (xs : List ℕ) (a e behind : ℕ) (le : a ≤ e) (in_xs : e ≤ length xs) where
-  -- the body of a container
-  body_window : (type : AMQPType) (h : IsHeader (slice_range xs a e) type a behind) → slice_range xs (a + 5) behind ≡ h.1
-  body_window type (c, body, rest, k, is, fits, b) =
-      let whole : slice_range xs (a + length (c ∷ large body)) e ≡ rest = window_back xs a e (c ∷ large body) rest is le in_xs in
-      let size = window_size xs a e (c ∷ large body) rest is le in_xs in
-      let count : a + length (c ∷ large body) ≡ behind = omega (arith, length_large body) in
-      let front : slice_range xs a behind ≡ c ∷ large body = subst (λ k. slice_range xs a k ≡ c ∷ large body) count (window_front xs a e (c ∷ large body) rest is) in
-      let tag : List ℕ = c ∷ to_be_bytes w32 (length body) in
-      let split : slice_range xs a behind ≡ tag ++ body = front in
-      let at : a + length tag ≡ a + 5 = omega arith in
-      subst (λ k. slice_range xs k behind ≡ body) at (window_back xs a behind tag body split (omega arith) (omega (arith, size)))
-
-  pub array_read : IsHeader (slice_range xs a e) amqp.FieldArray a behind → 0 < d → AreValues (d - 1) (slice_range xs (a + 5) behind) → IsValueOf d (slice_range xs a e) (behind - a)
-  array_read h some (vs, p) =
-      let q = subst (λ (s : List ℕ). BodyWithin (d - 1) s vs) (body_window amqp.FieldArray h) p in
-      (h.0 ∷ large h.1, array vs, h.2, (wire h.0 amqp.FieldArray (large h.1) (array vs) h.3 (raw_array h.1 vs h.5 q.0), omega (arith, q.1)), h.4, omega (arith, length_large h.1, h.6))
-
-  pub table_read : IsHeader (slice_range xs a e) amqp.FieldTable a behind → 0 < d → ArePairs (d - 1) (slice_range xs (a + 5) behind) → IsValueOf d (slice_range xs a e) (behind - a)
-  table_read h some (ps, p) =
-      let q = subst (λ (s : List ℕ). PairsWithin (d - 1) s ps) (body_window amqp.FieldTable h) p in
-      (h.0 ∷ large h.1, table (onto no_entries ps), h.2, (wire h.0 amqp.FieldTable (large h.1) (table (onto no_entries ps)) h.3 (raw_table h.1 ps h.5 q.0), omega (arith, q.1)), h.4, omega (arith, length_large h.1, h.6))
-
-  pub array_bad : (m : ℕ) (p : Problem) → IsHeader (slice_range xs a e) amqp.FieldArray a behind → 0 < d → a + 5 ≤ m → NoValues (d - 1) (slice_range xs (a + 5) behind) (m - (a + 5)) p → NoValue d (slice_range xs a e) (m - a) p
-  array_bad m p h some up x =
-      let q = subst (λ (s : List ℕ). NoValues (d - 1) s (m - (a + 5)) p) (body_window amqp.FieldArray h) x in
-      let made : NoValue (suc (d - 1)) (h.0 ∷ (large h.1 ++ h.2)) (5 + (m - (a + 5))) p = in_array (d - 1) h.0 h.1 h.2 (m - (a + 5)) p h.3 h.5 q in
-      let depth : suc (d - 1) ≡ d = omega arith in
-      let offset : 5 + (m - (a + 5)) ≡ m - a = omega arith in
-      subst (λ k. NoValue k (slice_range xs a e) (m - a) p) depth
-      (subst (λ k. NoValue (suc (d - 1)) (slice_range xs a e) k p) offset
-      (subst (λ (s : List ℕ). NoValue (suc (d - 1)) s (5 + (m - (a + 5))) p) (sym h.4) made))
-
-  pub table_bad : (m : ℕ) (p : Problem) → IsHeader (slice_range xs a e) amqp.FieldTable a behind → 0 < d → a + 5 ≤ m → NoPairs (d - 1) (slice_range xs (a + 5) behind) (m - (a + 5)) p → NoValue d (slice_range xs a e) (m - a) p
-  table_bad m p h some up x =
-      let q = subst (λ (s : List ℕ). NoPairs (d - 1) s (m - (a + 5)) p) (body_window amqp.FieldTable h) x in
-      let made : NoValue (suc (d - 1)) (h.0 ∷ (large h.1 ++ h.2)) (5 + (m - (a + 5))) p = in_table (d - 1) h.0 h.1 h.2 (m - (a + 5)) p h.3 h.5 q in
-      let depth : suc (d - 1) ≡ d = omega arith in
-      let offset : 5 + (m - (a + 5)) ≡ m - a = omega arith in
-      subst (λ k. NoValue k (slice_range xs a e) (m - a) p) depth
-      (subst (λ k. NoValue (suc (d - 1)) (slice_range xs a e) k p) offset
-      (subst (λ (s : List ℕ). NoValue (suc (d - 1)) s (5 + (m - (a + 5))) p) (sym h.4) made))
-
--- ---- entries one after another
-
--- the walk has come from `a` to m over whole values: what holds of the rest tells of all
-pub record Passed (d : ℕ) (xs : List ℕ) (a m e : ℕ) : Type 0 where
-  pub up : a ≤ m
-  pub within : m ≤ e
-  pub all : AreValues d (slice_range xs m e) → AreValues d (slice_range xs a e)
-  pub bad : (o : ℕ) (p : Problem) → NoValues d (slice_range xs m e) o p → NoValues d (slice_range xs a e) (m - a + o) p
-
-pub passed_none : (d : ℕ) (xs : List ℕ) (a e : ℕ) → a ≤ e → Passed d xs a a e
-passed_none d xs a e le = record {
-  up = omega arith;
-  within = le;
-  all = λ h. h;
-  bad = λ o p h. subst (λ k. NoValues d (slice_range xs a e) k p) (let z : o ≡ a - a + o = omega arith in z) h;
-}
-
-module _ (d : ℕ) (xs : List ℕ) (a m n e : ℕ) (in_xs : e ≤ length xs) where
-  value_size : (h : IsValueThen d (slice_range xs m e) (slice_range xs n e)) → m ≤ n → n ≤ e → length h.0 ≡ n - m
-  value_size (w, v, p, is) up le =
-      omega (arith, window_size xs m e w (slice_range xs n e) is (omega arith) in_xs, length-between xs n e in_xs)
-
-  pub passed_one : Passed d xs a m e → IsValueThen d (slice_range xs m e) (slice_range xs n e) → m ≤ n → n ≤ e → Passed d xs a n e
-  passed_one g h up le =
-      let size = value_size h up le in
-      record {
-        up = omega (arith, g.up);
-        within = le;
-        all = λ (vs, p).
-            g.all (subst (AreValues d) (sym h.3) (tree h.1 vs, (value h.0 (slice_range xs n e) h.1 vs h.2.0 p.0, omega (arith, h.2.1, p.1))));
-        bad = λ o p x.
-            let here = after_value d h.0 h.1 (slice_range xs n e) o p h.2 x in
-            let at : m - a + (length h.0 + o) ≡ n - a + o = omega (arith, g.up) in
-            subst (λ k. NoValues d (slice_range xs a e) k p) at (g.bad (length h.0 + o) p (subst (λ (s : List ℕ). NoValues d s (length h.0 + o) p) (sym h.3) here));
-      }
-
--- ---- offsets
+-- ---- a walk over a value
 
 pub offset_is : (d : ℕ) (s : List ℕ) (o m a : ℕ) (p : Problem) → NoValue d s o p → m ≡ a + o → NoValue d s (m - a) p
 offset_is d s o m a p x e = subst (λ k. NoValue d s k p) (let z : o ≡ m - a = omega arith in z) x
 
--- the first value of what is left that is none
-pub passed_bad : (d : ℕ) (xs : List ℕ) (a m n e : ℕ) (p : Problem) → Passed d xs a m e → m < e → e ≤ length xs → m ≤ n → NoValue d (slice_range xs m e) (n - m) p → NoValues d (slice_range xs a e) (n - a) p
-passed_bad d xs a m n e p g some in_xs up x =
-    let long : 0 < length (slice_range xs m e) = omega (arith, length-between xs m e in_xs) in
-    let at : m - a + (n - m) ≡ n - a = omega (arith, g.up) in
-    subst (λ k. NoValues d (slice_range xs a e) k p) at (g.bad (n - m) p (bad_value d (slice_range xs m e) (n - m) p long x))
+pub no_byte : (d : ℕ) (s : List ℕ) (a : ℕ) → length s ≡ 0 → NoValue d s (a - a) NoTypeTag
+no_byte d s a none =
+    offset_is d s 0 a a NoTypeTag (subst (λ (t : List ℕ). NoValue d t 0 NoTypeTag) (sym (nil_from_length s none)) (no_type_tag d)) (omega arith)
 
--- nothing is left
-pub passed_all : (d : ℕ) (xs : List ℕ) (a m e : ℕ) → Passed d xs a m e → e ≤ m → AreValues d (slice_range xs a e)
-passed_all d xs a m e g end =
-    let same : m ≡ e = omega (arith, g.within) in
-    g.all (subst (λ k. AreValues d (slice_range xs k e)) (sym same) (subst (AreValues d) (sym (between_none xs e)) (no_trees, (no_values, omega arith))))
+pub no_tag : (d : ℕ) (s : List ℕ) (a c : ℕ) (b : List ℕ) → s ≡ c ∷ b → kind c ≡ None → NoValue d s (a - a) (UnknownTypeTag c)
+no_tag d s a c b is none =
+    offset_is d s 0 a a (UnknownTypeTag c) (subst (λ (t : List ℕ). NoValue d t 0 (UnknownTypeTag c)) (sym is) (unknown_type_tag d c b none)) (omega arith)
+
+-- it goes over a type tag
+pub after_tag : (old new : Walk) (end : ℕ) (type : AMQPType) (b : List ℕ) → CanReach old end → IsType (ahead old end) type b → new.input ≡ old.input → new.at ≡ old.at + 1 → GoesOn old end new
+after_tag old new end type b can (c, is, k) same at =
+    let some : suc (length b) ≡ end - old.at = sym (ap length is) ∙ length-between old.input.now old.at end can.inside in
+    record { input = same; order = omega arith; within = omega (arith, can.at) }
+
+-- it goes over one
+pub passes : (d : ℕ) (old new : Walk) (end : ℕ) (u : Unit {0}) → CanReach old end → new.input ≡ old.input → old.at < new.at → IsValueOf d (ahead old end) (new.at - old.at) → PassesValue d old end (Ok u) new
+passes d old new end u can same up x =
+    let back : old.at ≤ new.at = omega arith in
+    let here = value_then d old.input.now old.at new.at end x back can.at can.inside in
+    record {
+      goes = record { input = same; order = back; within = value_within d old.input.now old.at new.at end x back can.at can.inside };
+      more = up;
+      value = subst (λ (i : Bor (List ℕ)). IsValueThen d (ahead old end) (slice_range i.now new.at end)) (sym same) here;
+      problem = tt;
+    }
+
+-- it stops
+pub stops : (d : ℕ) (old new : Walk) (end : ℕ) (s : Stop) → GoesOn old end new → IsAt (NoValue d (ahead old end) (new.at - old.at)) s → PassesValue d old end (Err s) new
+stops d old new end s goes x = record { goes = goes; more = tt; value = tt; problem = x }
+
+is_at_weaker : (P Q : Problem → Type 0) → ((p : Problem) → P p → Q p) → (s : Stop) → IsAt P s → IsAt Q s
+is_at_weaker P Q f OutOfMemory x = x
+is_at_weaker P Q f (At p) x = f p x
+
+-- ---- a container
+
+-- what such entries are as the body of a container: they make its payload, and one that is none
+-- stands 5 bytes later in the value
+pub record IsBodyOf (type : AMQPType) (Are : ℕ → List ℕ → Type 0) (Fail : ℕ → List ℕ → ℕ → Problem → Type 0) : Type 0 where
+  pub raw : (d : ℕ) (body : List ℕ) → length body < 2 ^ 32 → Are d body → (v : Tree) × RawWithin (suc d) type (large body) v
+  pub fail : (d c : ℕ) (body rest : List ℕ) (o : ℕ) (p : Problem) → kind c ≡ Some type → length body < 2 ^ 32 → Fail d body o p → NoValue (suc d) (c ∷ (large body ++ rest)) (5 + o) p
+
+pub of_array : IsBodyOf amqp.FieldArray AreValues NoValues
+of_array = record {
+  raw = λ d body fits (vs, p). (array vs, (raw_array body vs fits p.0, omega (arith, p.1)));
+  fail = in_array;
+}
+
+pub of_table : IsBodyOf amqp.FieldTable ArePairs NoPairs
+of_table = record {
+  raw = λ d body fits (ps, p). (table (onto no_entries ps), (raw_table body ps fits p.0, omega (arith, p.1)));
+  fail = in_table;
+}
+
+-- the body of a container
+body_window : (xs : List ℕ) (a e behind : ℕ) (type : AMQPType) (h : HasHeader (slice_range xs a e) type a behind) → a ≤ e → e ≤ length xs → slice_range xs (a + 5) behind ≡ h.1
+body_window xs a e behind type (c, body, rest, k, is, fits, b) le in_xs =
+    let size = window_size xs a e (c ∷ large body) rest is le in_xs in
+    let count : a + length (c ∷ large body) ≡ behind = omega (arith, length_large body) in
+    let front : slice_range xs a behind ≡ c ∷ large body = subst (λ k. slice_range xs a k ≡ c ∷ large body) count (window_front xs a e (c ∷ large body) rest is) in
+    let tag : List ℕ = c ∷ to_be_bytes w32 (length body) in
+    let split : slice_range xs a behind ≡ tag ++ body = front in
+    let at : a + length tag ≡ a + 5 = omega arith in
+    subst (λ k. slice_range xs k behind ≡ body) at (window_back xs a behind tag body split (omega arith) (omega (arith, size)))
+
+module _ (type : AMQPType) (Are : ℕ → List ℕ → Type 0) (Fail : ℕ → List ℕ → ℕ → Problem → Type 0) (of : IsBodyOf type Are Fail)
+    (d : ℕ) (old mid new : Walk) (end behind : ℕ) (can : CanReach old end) (same : mid.input ≡ old.input) (start : mid.at ≡ old.at + 5)
+    (within : behind ≤ end) (some : 0 < d) (h : HasHeader (ahead old end) type old.at behind) where
+  body_ahead : ahead mid behind ≡ h.1
+  body_ahead =
+      ap₂ (λ (i : Bor (List ℕ)) k. slice_range i.now k behind) same start ∙ body_window old.input.now old.at end behind type h can.at can.inside
+
+  -- a walk over the entries of a container goes over the container
+  pub container : (r : Result (Unit {0}) Stop) → PassesEntries (Are (d - 1)) (Fail (d - 1)) mid behind r new → PassesValue d old end r new
+  container (Ok u) es =
+      let v = of.raw (d - 1) h.1 h.5 (subst (Are (d - 1)) body_ahead es.entries) in
+      let whole = es.whole in
+      let count : length (h.0 ∷ large h.1) ≡ new.at - old.at = omega (arith, length_large h.1, h.6, whole) in
+      passes d old new end u can (es.goes.input ∙ same) (omega (arith, es.goes.order)) (h.0 ∷ large h.1, v.0, h.2, (wire h.0 type (large h.1) v.0 h.3 v.1.0, omega (arith, v.1.1)), h.4, count)
+  container (Err s) es =
+      let up = es.goes.order in
+      let depth : suc (d - 1) ≡ d = omega arith in
+      let offset : 5 + (new.at - mid.at) ≡ new.at - old.at = omega arith in
+      stops d old new end s (record { input = es.goes.input ∙ same; order = omega arith; within = omega (arith, es.goes.within) })
+      (is_at_weaker (Fail (d - 1) (ahead mid behind) (new.at - mid.at)) (NoValue d (ahead old end) (new.at - old.at))
+      (λ p y.
+      let made = of.fail (d - 1) h.0 h.1 h.2 (new.at - mid.at) p h.3 h.5 (subst (λ (s : List ℕ). Fail (d - 1) s (new.at - mid.at) p) body_ahead y) in
+      subst (λ k. NoValue k (ahead old end) (new.at - old.at) p) depth
+      (subst (λ k. NoValue (suc (d - 1)) (ahead old end) k p) offset
+      (subst (λ (s : List ℕ). NoValue (suc (d - 1)) s (5 + (new.at - mid.at)) p) (sym h.4) made)))
+      s es.problem)
+
+-- ---- entries one after another
+
+-- the walk has come from `old` to `now` over whole entries: what holds of the rest tells of all
+pub record Passed (Are : List ℕ → Type 0) (Fail : List ℕ → ℕ → Problem → Type 0) (old : Walk) (end : ℕ) (now : Walk) : Type 0 where
+  pub goes : GoesOn old end now
+  pub all : Are (ahead now end) → Are (ahead old end)
+  pub fail : (o : ℕ) (p : Problem) → Fail (ahead now end) o p → Fail (ahead old end) (now.at - old.at + o) p
+
+on_again : (old mid new : Walk) (end : ℕ) → GoesOn old end mid → GoesOn mid end new → GoesOn old end new
+on_again old mid new end g h = record { input = h.input ∙ g.input; order = omega (arith, g.order, h.order); within = h.within }
+
+-- how long what a walk went over is
+front_size : (now next : Walk) (end : ℕ) (w : List ℕ) → end ≤ length now.input.now → GoesOn now end next → ahead now end ≡ w ++ ahead next end → now.at + length w ≡ next.at
+front_size now next end w in_xs goes is =
+    let here : end ≤ length next.input.now = subst (λ (i : Bor (List ℕ)). end ≤ length i.now) (sym goes.input) in_xs in
+    omega (arith, goes.order, goes.within, window_size now.input.now now.at end w (ahead next end) is (omega (arith, goes.order, goes.within)) in_xs, length-between next.input.now next.at end here)
+
+module _ (Are : List ℕ → Type 0) (Fail : List ℕ → ℕ → Problem → Type 0) (old : Walk) (end : ℕ) where
+  pub passed_none : old.at ≤ end → Passed Are Fail old end old
+  passed_none le = record {
+    goes = record { input = refl; order = omega arith; within = le };
+    all = λ h. h;
+    fail = λ o p h. subst (λ k. Fail (ahead old end) k p) (let z : o ≡ old.at - old.at + o = omega arith in z) h;
+  }
+
+  module _ (now : Walk) (can : CanReach old end) (g : Passed Are Fail old end now) where
+    pub still : end ≤ length now.input.now
+    still = subst (λ (i : Bor (List ℕ)). end ≤ length i.now) (sym g.goes.input) can.inside
+
+    -- an entry w more
+    pub passed_one : (next : Walk) (w : List ℕ) → GoesOn now end next → ahead now end ≡ w ++ ahead next end → ((s : List ℕ) → Are s → Are (w ++ s))
+        → ((s : List ℕ) (o : ℕ) (p : Problem) → Fail s o p → Fail (w ++ s) (length w + o) p) → Passed Are Fail old end next
+    passed_one next w goes is more later =
+        let size = front_size now next end w still goes is in
+        record {
+          goes = on_again old now next end g.goes goes;
+          all = λ x. g.all (subst Are (sym is) (more (ahead next end) x));
+          fail = λ o p x.
+              let at : now.at - old.at + (length w + o) ≡ next.at - old.at + o = omega (arith, g.goes.order, size) in
+              subst (λ k. Fail (ahead old end) k p) at (g.fail (length w + o) p (subst (λ (s : List ℕ). Fail s (length w + o) p) (sym is) (later (ahead next end) o p x)));
+        }
+
+    -- nothing is left
+    pub entries_end : (u : Unit {0}) → end ≤ now.at → Are [] → PassesEntries Are Fail old end (Ok u) now
+    entries_end u none empty =
+        let whole : now.at ≡ end = omega (arith, g.goes.within) in
+        let is : ahead now end ≡ [] = ap (λ k. slice_range now.input.now k end) whole ∙ between_none now.input.now end in
+        record { goes = g.goes; whole = whole; entries = g.all (subst Are (sym is) empty); problem = tt }
+
+    -- the next entry is none
+    pub entries_stop : (next : Walk) (s : Stop) → GoesOn now end next → IsAt (Fail (ahead now end) (next.at - now.at)) s → PassesEntries Are Fail old end (Err s) next
+    entries_stop next s goes x =
+        let at : now.at - old.at + (next.at - now.at) ≡ next.at - old.at = omega (arith, g.goes.order, goes.order) in
+        record {
+          goes = on_again old now next end g.goes goes;
+          whole = tt;
+          entries = tt;
+          problem = is_at_weaker (Fail (ahead now end) (next.at - now.at)) (Fail (ahead old end) (next.at - old.at))
+              (λ p y. subst (λ k. Fail (ahead old end) k p) at (g.fail (next.at - now.at) p y)) s x;
+        }
+
+-- ---- values
+
+module _ (d : ℕ) (old now next : Walk) (end : ℕ) (can : CanReach old end) (g : Passed (AreValues d) (NoValues d) old end now) where
+  pub value_more : (u : Unit {0}) → PassesValue d now end (Ok u) next → Passed (AreValues d) (NoValues d) old end next
+  value_more u x =
+      let h = x.value in
+      passed_one (AreValues d) (NoValues d) old end now can g next h.0 x.goes h.3
+      (λ s (vs, p). (tree h.1 vs, (value h.0 s h.1 vs h.2.0 p.0, omega (arith, h.2.1, p.1))))
+      (λ s o p y. after_value d h.0 h.1 s o p h.2 y)
+
+  pub value_stop : (s : Stop) → now.at < end → PassesValue d now end (Err s) next → PassesEntries (AreValues d) (NoValues d) old end (Err s) next
+  value_stop s some x =
+      let long : 0 < length (ahead now end) = omega (arith, length-between now.input.now now.at end (still (AreValues d) (NoValues d) old end now can g)) in
+      entries_stop (AreValues d) (NoValues d) old end now can g next s x.goes
+      (is_at_weaker (NoValue d (ahead now end) (next.at - now.at)) (NoValues d (ahead now end) (next.at - now.at)) (λ p y. bad_value d (ahead now end) (next.at - now.at) p long y) s x.problem)
+
+pub values_end : (d : ℕ) (old now : Walk) (end : ℕ) (u : Unit {0}) → CanReach old end → Passed (AreValues d) (NoValues d) old end now → end ≤ now.at → PassesEntries (AreValues d) (NoValues d) old end (Ok u) now
+values_end d old now end u can g none = entries_end (AreValues d) (NoValues d) old end now can g u none (no_trees, (no_values, omega arith))
 
 -- ---- keys and pairs
 
@@ -244,126 +325,32 @@ key_read xs a m e l n bytes is same there few utf8 at le in_xs =
     let back : slice_range xs m e ≡ drop n bytes = subst (λ j. slice_range xs j e ≡ drop n bytes) count (window_back xs a e (small k) (drop n bytes) whole le in_xs) in
     (k, record { few = omega (arith, length-take-le n bytes there); utf8 = utf8 }, whole ∙ ap (λ t. small k ++ t) (sym back))
 
--- the walk has come from `a` to m over whole pairs
-pub record PassedPairs (d : ℕ) (xs : List ℕ) (a m e : ℕ) : Type 0 where
-  pub up : a ≤ m
-  pub within : m ≤ e
-  pub all : ArePairs d (slice_range xs m e) → ArePairs d (slice_range xs a e)
-  pub bad : (o : ℕ) (p : Problem) → NoPairs d (slice_range xs m e) o p → NoPairs d (slice_range xs a e) (m - a + o) p
+module _ (d : ℕ) (old now mid next : Walk) (end : ℕ) (can : CanReach old end) (g : Passed (ArePairs d) (NoPairs d) old end now) (goes : GoesOn now end mid) (key : IsKeyThen (ahead now end) (ahead mid end)) where
+  pub pair_more : (u : Unit {0}) → PassesValue d mid end (Ok u) next → Passed (ArePairs d) (NoPairs d) old end next
+  pair_more u x =
+      let h = x.value in
+      let k = small key.0 in
+      let is : ahead now end ≡ (k ++ h.0) ++ ahead next end = key.2 ∙ (ap (λ t. k ++ t) h.3 ∙ sym (append_assoc k h.0 (ahead next end))) in
+      passed_one (ArePairs d) (NoPairs d) old end now can g next (k ++ h.0) (on_again now mid next end goes x.goes) is
+      (λ s (ps, p). subst (ArePairs d) (sym (append_assoc k h.0 s)) (entry key.0 h.1 ps, (pair key.0 h.0 s h.1 ps key.1 h.2.0 p.0, omega (arith, h.2.1, p.1))))
+      (λ s o p y.
+      let at : length k + (length h.0 + o) ≡ length (k ++ h.0) + o = omega (arith, length-append k h.0) in
+      subst (λ (t : List ℕ). NoPairs d t (length (k ++ h.0) + o) p) (sym (append_assoc k h.0 s))
+      (subst (λ j. NoPairs d (k ++ (h.0 ++ s)) j p) at (after_pair d key.0 h.0 h.1 s o p key.1 h.2 y)))
 
-pub pairs_none : (d : ℕ) (xs : List ℕ) (a e : ℕ) → a ≤ e → PassedPairs d xs a a e
-pairs_none d xs a e le = record {
-  up = omega arith;
-  within = le;
-  all = λ h. h;
-  bad = λ o p h. subst (λ k. NoPairs d (slice_range xs a e) k p) (let z : o ≡ a - a + o = omega arith in z) h;
-}
+  pub pair_stop : (s : Stop) → PassesValue d mid end (Err s) next → PassesEntries (ArePairs d) (NoPairs d) old end (Err s) next
+  pair_stop s x =
+      let size = front_size now mid end (small key.0) (still (ArePairs d) (NoPairs d) old end now can g) goes key.2 in
+      let at : length (small key.0) + (next.at - mid.at) ≡ next.at - now.at = omega (arith, size, x.goes.order) in
+      entries_stop (ArePairs d) (NoPairs d) old end now can g next s (on_again now mid next end goes x.goes)
+      (is_at_weaker (NoValue d (ahead mid end) (next.at - mid.at)) (NoPairs d (ahead now end) (next.at - now.at))
+      (λ p y.
+      subst (λ (t : List ℕ). NoPairs d t (next.at - now.at) p) (sym key.2)
+      (subst (λ j. NoPairs d (small key.0 ++ ahead mid end) j p) at (bad_pair d key.0 (ahead mid end) (next.at - mid.at) p key.1 y)))
+      s x.problem)
 
-key_size : (xs : List ℕ) (m n e : ℕ) → e ≤ length xs → (h : IsKeyThen (slice_range xs m e) (slice_range xs n e)) → m ≤ n → n ≤ e → length (small h.0) ≡ n - m
-key_size xs m n e in_xs (k, short, is) up le =
-    omega (arith, window_size xs m e (small k) (slice_range xs n e) is (omega arith) in_xs, length-between xs n e in_xs)
-
-module _ (d : ℕ) (xs : List ℕ) (a m k n e : ℕ) (in_xs : e ≤ length xs) (key : IsKeyThen (slice_range xs m e) (slice_range xs k e)) (m_k : m ≤ k) (k_e : k ≤ e) where
-  pub pairs_one : PassedPairs d xs a m e → IsValueThen d (slice_range xs k e) (slice_range xs n e) → k ≤ n → n ≤ e → PassedPairs d xs a n e
-  pairs_one g h up le =
-      let key_len = key_size xs m k e in_xs key m_k k_e in
-      let size = value_size d xs a k n e in_xs h up le in
-      let whole : slice_range xs m e ≡ small key.0 ++ (h.0 ++ slice_range xs n e) = key.2 ∙ ap (λ t. small key.0 ++ t) h.3 in
-      record {
-        up = omega (arith, g.up);
-        within = le;
-        all = λ (ps, p).
-            g.all (subst (ArePairs d) (sym whole) (entry key.0 h.1 ps, (pair key.0 h.0 (slice_range xs n e) h.1 ps key.1 h.2.0 p.0, omega (arith, h.2.1, p.1))));
-        bad = λ o p x.
-            let here = after_pair d key.0 h.0 h.1 (slice_range xs n e) o p key.1 h.2 x in
-            let at : m - a + (length (small key.0) + (length h.0 + o)) ≡ n - a + o = omega (arith, g.up, key_len, size) in
-            subst (λ j. NoPairs d (slice_range xs a e) j p) at (g.bad (length (small key.0) + (length h.0 + o)) p (subst (λ (s : List ℕ). NoPairs d s (length (small key.0) + (length h.0 + o)) p) (sym whole) here));
-      }
-
-  pub pairs_bad_value : (p : Problem) → PassedPairs d xs a m e → k ≤ n → NoValue d (slice_range xs k e) (n - k) p → NoPairs d (slice_range xs a e) (n - a) p
-  pairs_bad_value p g up x =
-      let key_len = key_size xs m k e in_xs key m_k k_e in
-      let here = bad_pair d key.0 (slice_range xs k e) (n - k) p key.1 x in
-      let at : m - a + (length (small key.0) + (n - k)) ≡ n - a = omega (arith, g.up, key_len) in
-      subst (λ j. NoPairs d (slice_range xs a e) j p) at (g.bad (length (small key.0) + (n - k)) p (subst (λ (s : List ℕ). NoPairs d s (length (small key.0) + (n - k)) p) (sym key.2) here))
-
-pub pairs_bad_key : (d : ℕ) (xs : List ℕ) (a m n e : ℕ) (p : Problem) → PassedPairs d xs a m e → m ≤ n → NoPairs d (slice_range xs m e) (n - m) p → NoPairs d (slice_range xs a e) (n - a) p
-pairs_bad_key d xs a m n e p g up x =
-    subst (λ k. NoPairs d (slice_range xs a e) k p) (let z : m - a + (n - m) ≡ n - a = omega (arith, g.up) in z) (g.bad (n - m) p x)
-
-pub pairs_all : (d : ℕ) (xs : List ℕ) (a m e : ℕ) → PassedPairs d xs a m e → e ≤ m → ArePairs d (slice_range xs a e)
-pairs_all d xs a m e g end =
-    let same : m ≡ e = omega (arith, g.within) in
-    g.all (subst (λ k. ArePairs d (slice_range xs k e)) (sym same) (subst (ArePairs d) (sym (between_none xs e)) (no_entries, (no_pairs, omega arith))))
-
--- ---- as the code has it
-
--- a last call whose result is returned as it is
-pub ok_both : {T E P Q R : Type 0} (r : Result T E) → (P → Q → R) → OnOk r P → OnOk r Q → OnOk r R
-ok_both (Ok x) f p q = f p q
-ok_both (Err e) f p q = p
-
-pub is_at_weaker : (P Q : Problem → Type 0) → ((p : Problem) → P p → Q p) → (s : Stop) → IsAt P s → IsAt Q s
-is_at_weaker P Q f OutOfMemory x = x
-is_at_weaker P Q f (At p) x = f p x
-
-module _ (d : ℕ) (xs ys : List ℕ) (a at e behind : ℕ) (same : ys ≡ xs) (start : at ≡ a + 5) (le : a ≤ e) (in_xs : e ≤ length xs) (some : 0 < d) where
-  pub array_then : (n : ℕ) → IsHeader (slice_range xs a e) amqp.FieldArray a behind → n ≡ behind → behind ≤ e → a ≤ behind → AreValues (d - 1) (slice_range ys at behind) → IsValueThen d (slice_range xs a e) (slice_range xs n e)
-  array_then n h end within up are =
-      let here = subst (λ k. AreValues (d - 1) (slice_range xs k behind)) start (subst (λ (s : List ℕ). AreValues (d - 1) (slice_range s at behind)) same are) in
-      value_then d xs a n e (subst (λ k. IsValueOf d (slice_range xs a e) (k - a)) (sym end) (array_read d xs a e behind le in_xs h some here)) (omega arith) le in_xs
-
-  pub table_then : (n : ℕ) → IsHeader (slice_range xs a e) amqp.FieldTable a behind → n ≡ behind → behind ≤ e → a ≤ behind → ArePairs (d - 1) (slice_range ys at behind) → IsValueThen d (slice_range xs a e) (slice_range xs n e)
-  table_then n h end within up are =
-      let here = subst (λ k. ArePairs (d - 1) (slice_range xs k behind)) start (subst (λ (s : List ℕ). ArePairs (d - 1) (slice_range s at behind)) same are) in
-      value_then d xs a n e (subst (λ k. IsValueOf d (slice_range xs a e) (k - a)) (sym end) (table_read d xs a e behind le in_xs h some here)) (omega arith) le in_xs
-
-  pub array_problem : (m : ℕ) → IsHeader (slice_range xs a e) amqp.FieldArray a behind → at ≤ m → (s : Stop) → IsAt (NoValues (d - 1) (slice_range ys at behind) (m - at)) s → IsAt (NoValue d (slice_range xs a e) (m - a)) s
-  array_problem m h up s x =
-      is_at_weaker (NoValues (d - 1) (slice_range ys at behind) (m - at)) (NoValue d (slice_range xs a e) (m - a))
-      (λ p y. array_bad d xs a e behind le in_xs m p h some (omega arith)
-      (subst (λ k. NoValues (d - 1) (slice_range xs k behind) (m - k) p) start (subst (λ (z : List ℕ). NoValues (d - 1) (slice_range z at behind) (m - at) p) same y))) s x
-
-  pub table_problem : (m : ℕ) → IsHeader (slice_range xs a e) amqp.FieldTable a behind → at ≤ m → (s : Stop) → IsAt (NoPairs (d - 1) (slice_range ys at behind) (m - at)) s → IsAt (NoValue d (slice_range xs a e) (m - a)) s
-  table_problem m h up s x =
-      is_at_weaker (NoPairs (d - 1) (slice_range ys at behind) (m - at)) (NoValue d (slice_range xs a e) (m - a))
-      (λ p y. table_bad d xs a e behind le in_xs m p h some (omega arith)
-      (subst (λ k. NoPairs (d - 1) (slice_range xs k behind) (m - k) p) start (subst (λ (z : List ℕ). NoPairs (d - 1) (slice_range z at behind) (m - at) p) same y))) s x
-
-pub value_step : (d : ℕ) (xs ys : List ℕ) (a m n e : ℕ) → ys ≡ xs → e ≤ length xs → Passed d xs a m e → IsValueThen d (slice_range ys m e) (slice_range ys n e) → m ≤ n → n ≤ e → Passed d xs a n e
-value_step d xs ys a m n e same in_xs g h up le =
-    passed_one d xs a m n e in_xs g (subst (λ (s : List ℕ). IsValueThen d (slice_range s m e) (slice_range s n e)) same h) up le
-
-pub value_problem : (d : ℕ) (xs ys : List ℕ) (a m n e : ℕ) → ys ≡ xs → e ≤ length xs → Passed d xs a m e → m < e → m ≤ n → (s : Stop) → IsAt (NoValue d (slice_range ys m e) (n - m)) s → IsAt (NoValues d (slice_range xs a e) (n - a)) s
-value_problem d xs ys a m n e same in_xs g some up s x =
-    is_at_weaker (NoValue d (slice_range ys m e) (n - m)) (NoValues d (slice_range xs a e) (n - a))
-    (λ p y. passed_bad d xs a m n e p g some in_xs up (subst (λ (z : List ℕ). NoValue d (slice_range z m e) (n - m) p) same y)) s x
-
-module _ (d : ℕ) (xs ys zs : List ℕ) (a m k n e : ℕ) (same : ys ≡ xs) (same_too : zs ≡ xs) (in_xs : e ≤ length xs) (g : PassedPairs d xs a m e) (key : IsKeyThen (slice_range ys m e) (slice_range ys k e)) (m_k : m ≤ k) (k_e : k ≤ e) where
-  key_here : IsKeyThen (slice_range xs m e) (slice_range xs k e)
-  key_here = subst (λ (s : List ℕ). IsKeyThen (slice_range s m e) (slice_range s k e)) same key
-
-  pub pair_step : IsValueThen d (slice_range zs k e) (slice_range zs n e) → k ≤ n → n ≤ e → PassedPairs d xs a n e
-  pair_step h up le =
-      pairs_one d xs a m k n e in_xs key_here m_k k_e g (subst (λ (s : List ℕ). IsValueThen d (slice_range s k e) (slice_range s n e)) same_too h) up le
-
-  pub pair_problem : k ≤ n → (s : Stop) → IsAt (NoValue d (slice_range zs k e) (n - k)) s → IsAt (NoPairs d (slice_range xs a e) (n - a)) s
-  pair_problem up s x =
-      is_at_weaker (NoValue d (slice_range zs k e) (n - k)) (NoPairs d (slice_range xs a e) (n - a))
-      (λ p y. pairs_bad_value d xs a m k n e in_xs key_here m_k k_e p g up (subst (λ (z : List ℕ). NoValue d (slice_range z k e) (n - k) p) same_too y)) s x
-
-pub key_problem : (d : ℕ) (xs ys : List ℕ) (a m n e : ℕ) → ys ≡ xs → PassedPairs d xs a m e → m ≤ n → (s : Stop) → IsAt (NoPairs d (slice_range ys m e) (n - m)) s → IsAt (NoPairs d (slice_range xs a e) (n - a)) s
-key_problem d xs ys a m n e same g up s x =
-    is_at_weaker (NoPairs d (slice_range ys m e) (n - m)) (NoPairs d (slice_range xs a e) (n - a))
-    (λ p y. pairs_bad_key d xs a m n e p g up (subst (λ (z : List ℕ). NoPairs d (slice_range z m e) (n - m) p) same y)) s x
-
-pub no_byte : (d : ℕ) (s : List ℕ) (a : ℕ) → length s ≡ 0 → NoValue d s (a - a) NoTypeTag
-no_byte d s a none =
-    offset_is d s 0 a a NoTypeTag (subst (λ (t : List ℕ). NoValue d t 0 NoTypeTag) (sym (nil_from_length s none)) (no_type_tag d)) (omega arith)
-
-pub no_tag : (d : ℕ) (s : List ℕ) (a c : ℕ) (b : List ℕ) → s ≡ c ∷ b → kind c ≡ None → NoValue d s (a - a) (UnknownTypeTag c)
-no_tag d s a c b is none =
-    offset_is d s 0 a a (UnknownTypeTag c) (subst (λ (t : List ℕ). NoValue d t 0 (UnknownTypeTag c)) (sym is) (unknown_type_tag d c b none)) (omega arith)
+pub pairs_end : (d : ℕ) (old now : Walk) (end : ℕ) (u : Unit {0}) → CanReach old end → Passed (ArePairs d) (NoPairs d) old end now → end ≤ now.at → PassesEntries (ArePairs d) (NoPairs d) old end (Ok u) now
+pairs_end d old now end u can g none = entries_end (ArePairs d) (NoPairs d) old end now can g u none (no_entries, (no_pairs, omega arith))
 
 -- ---- the whole input
 
@@ -381,6 +368,9 @@ ends_in_value l xs a n zero_is size h =
     let y = subst (λ k. IsValueThen l.depth (slice_range xs k (length xs)) (slice_range xs n (length xs))) zero_is h in
     let whole : xs ≡ y.0 ++ drop n xs = sym (whole_input xs) ∙ (y.3 ∙ ap (λ t. y.0 ++ t) (take_rest xs n)) in
     (y.1, (size, subst (λ (s : List ℕ). OutcomeWithin l.depth s (found y.1 (drop n xs))) (sym whole) (wire_found_within l.depth y.0 (drop n xs) y.1 y.2.0 y.2.1)))
+
+pub takes_memory : (l : Limits) (xs : List ℕ) (a : ℕ) → a ≡ 0 → extent xs ≤ l.frame → HasTypeTag (slice_range xs a (length xs)) → TakesMemory l xs
+takes_memory l xs a zero_is size tag = (subst HasTypeTag (ap (λ k. slice_range xs k (length xs)) zero_is ∙ whole_input xs) tag, size)
 
 pub ends_in_problem : (l : Limits) (xs : List ℕ) (a n : ℕ) (p : Problem) → a ≡ 0 → extent xs ≤ l.frame → NoValue l.depth (slice_range xs a (length xs)) (n - a) p → (extent xs ≤ l.frame) × NoValue l.depth xs n p × Refuses (OutcomeWithin l.depth xs) ⊥ (refusal_of n p)
 ends_in_problem l xs a n p zero_is size x =

@@ -8,3 +8,5 @@ pub mod Walks
 pub mod Texts
 -- what stands where a dissection ends
 pub mod Ends
+-- where a dissection takes memory
+pub mod Memory

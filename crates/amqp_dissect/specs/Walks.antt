@@ -1,5 +1,5 @@
--- What a walk over an encoding answers.
-use Rattle.std.specs.Prelude.{ℕ, ◌+◌, ◌^◌, ◌<◌, ◌≡◌, List, ◌∷◌, ◌++◌, length, Some}
+-- What a walk over an encoding does.
+use Rattle.std.specs.Prelude.{ℕ, ◌+◌, ◌-◌, ◌^◌, ◌<◌, ◌≤◌, ◌≡◌, List, ◌∷◌, ◌++◌, length, slice_range, Some, Result, OnOk, IfErr}
 use Rattle.amqp_types.specs.declared.amqp_type.AMQPType.{AMQPType}
 use Rattle.amqp_types.specs.declared.amqp_type.AMQPType.TheVariants as amqp
 use Rattle.amqp_types.specs.Ids.{kind}
@@ -11,6 +11,8 @@ use Rattle.amqp_parsing.specs.Bodies.{IsFrame}
 use Rattle.amqp_dissect.specs.declared.problem.Problem.{Problem}
 use Rattle.amqp_dissect.specs.declared.problem.Stop.{Stop}
 use Rattle.amqp_dissect.specs.declared.problem.Stop.TheVariants.{OutOfMemory, At}
+use Rattle.amqp_dissect.specs.declared.walk.Walk.{Walk}
+use Rattle.amqp_dissect.specs.Problems.{NoValue}
 
 -- a value stands at the front of s, with containers at most `depth` deep in it, and then `rest`
 abbrev pub IsValueThen : ℕ → List ℕ → List ℕ → Type 0
@@ -36,20 +38,54 @@ IsAt P (At p) = P p
 abbrev pub HasFrame : List ℕ → ℕ → Type 0
 HasFrame s n = (body : List ℕ) × (rest : List ℕ) × IsFrame s body rest × (n ≡ length body)
 
--- the type is that of a string or byte array, or of these or a container
+-- the type is that of a string or byte array, or of these or a container: of a payload that is
+-- prefixed by its length in four bytes
 abbrev pub IsString : AMQPType → Type 0
 IsString amqp.LongString = Unit {0}
 IsString amqp.ByteArray = Unit {0}
 IsString _ = ⊥
 
-abbrev pub IsFramed : AMQPType → Type 0
-IsFramed amqp.LongString = Unit {0}
-IsFramed amqp.ByteArray = Unit {0}
-IsFramed amqp.FieldArray = Unit {0}
-IsFramed amqp.FieldTable = Unit {0}
-IsFramed _ = ⊥
+abbrev pub IsLengthPrefixed : AMQPType → Type 0
+IsLengthPrefixed amqp.LongString = Unit {0}
+IsLengthPrefixed amqp.ByteArray = Unit {0}
+IsLengthPrefixed amqp.FieldArray = Unit {0}
+IsLengthPrefixed amqp.FieldTable = Unit {0}
+IsLengthPrefixed _ = ⊥
 
 -- s begins with a type tag of the type and a length, and what that counts ends at `behind`, where s
 -- begins at `at`
-abbrev pub IsHeader : List ℕ → AMQPType → ℕ → ℕ → Type 0
-IsHeader s type at behind = (c : ℕ) × (body : List ℕ) × (rest : List ℕ) × (kind c ≡ Some type) × (s ≡ c ∷ (large body ++ rest)) × (length body < 2 ^ 32) × (behind ≡ at + 5 + length body)
+abbrev pub HasHeader : List ℕ → AMQPType → ℕ → ℕ → Type 0
+HasHeader s type at behind = (c : ℕ) × (body : List ℕ) × (rest : List ℕ) × (kind c ≡ Some type) × (s ≡ c ∷ (large body ++ rest)) × (length body < 2 ^ 32) × (behind ≡ at + 5 + length body)
+
+-- ---- walks
+
+-- the bytes before `end` that are still to be gone over
+abbrev pub ahead : Walk → ℕ → List ℕ
+ahead w end = slice_range w.input.now w.at end
+
+-- a walk may go on up to `end`, which lies in the input
+pub record CanReach (w : Walk) (end : ℕ) : Type 0 where
+  pub at : w.at ≤ end
+  pub inside : end ≤ length w.input.now
+
+-- a walk went on in its input, up to `end` at most
+pub record GoesOn (old : Walk) (end : ℕ) (new : Walk) : Type 0 where
+  pub input : new.input ≡ old.input
+  pub order : old.at ≤ new.at
+  pub within : new.at ≤ end
+
+-- A walk went over the value that stands before `end`, with containers at most `depth` deep in it,
+-- or stopped at the first entry that is none.
+pub record PassesValue (depth : ℕ) (old : Walk) (end : ℕ) (result : Result (Unit {0}) Stop) (new : Walk) : Type 0 where
+  pub goes : GoesOn old end new
+  pub more : OnOk result (old.at < new.at)
+  pub value : OnOk result (IsValueThen depth (ahead old end) (ahead new end))
+  pub problem : IfErr result (IsAt (NoValue depth (ahead old end) (new.at - old.at)))
+
+-- A walk went over the entries that stand before `end`, or stopped at the first that is none: `Are`
+-- says that bytes are such entries, and `Fail` where they aren't, and why.
+pub record PassesEntries (Are : List ℕ → Type 0) (Fail : List ℕ → ℕ → Problem → Type 0) (old : Walk) (end : ℕ) (result : Result (Unit {0}) Stop) (new : Walk) : Type 0 where
+  pub goes : GoesOn old end new
+  pub whole : OnOk result (new.at ≡ end)
+  pub entries : OnOk result (Are (ahead old end))
+  pub problem : IfErr result (IsAt (Fail (ahead old end) (new.at - old.at)))

@@ -1,8 +1,9 @@
 //! The dissection of an encoding.
 
-ghost use Rattle.std.specs.Prelude.{◌≡◌, ◌≤◌, IfOk, length, take};
+ghost use Rattle.std.specs.Prelude.{◌≡◌, ◌≤◌, IfOk, OnErr, length, take};
 ghost use Rattle.amqp_dissect.specs.Parts.{joined, HaveOffsets};
 ghost use Rattle.amqp_dissect.specs.Ends.{Ends};
+ghost use Rattle.amqp_dissect.specs.Memory.{TakesMemory};
 
 use crate::part::Part;
 use crate::problem::Problem;
@@ -43,6 +44,7 @@ pub fn dissect<'a>(
     ensures offsets { IfOk result (λ d. HaveOffsets d.parts.items) }
     ensures within { IfOk result (λ d. d.offset ≤ length input.entry.now) }
     ensures end { IfOk result (λ d. Ends limits input.entry.now d.offset d.end) }
+    ensures memory { OnErr result (TakesMemory limits input.entry.now) }
 {
     let mut walk = Walk::new(alloc, input, limits.depth);
     let end = walk.go(limits)?;

@@ -1,6 +1,6 @@
 //! Text that is safe to print.
 
-ghost use Rattle.std.specs.Prelude.{◌≡◌, ◌<◌, ◌++◌, IfOk, OnOk, string_bytes};
+ghost use Rattle.std.specs.Prelude.{◌≡◌, ◌<◌, ◌++◌, IfOk, OnOk, OnErr, length, string_bytes};
 ghost use Rattle.std.specs.List.{AllByRecursion};
 ghost use Rattle.std.specs.Char.{digit_char};
 ghost use Rattle.amqp_dissect.specs.Texts.{IsPrintable, escaped, escaped_byte};
@@ -12,6 +12,7 @@ use std::alloc::{AllocError, Global};
 pub fn escape(alloc: Global, bytes: &[u8]) -> Result<String, AllocError>
     ensures escaped { IfOk result (λ text. string_bytes text ≡ escaped bytes.now) }
     ensures printable { IfOk result (λ text. AllByRecursion IsPrintable (string_bytes text)) }
+    ensures memory { OnErr result (0 < length bytes.now) }
 {
     let mut text = String::new(alloc);
     for byte in bytes {

@@ -1,5 +1,7 @@
-use Rattle.std.proofs.Common.{◌≡◌, ◌-◌, ◌+◌, ◌*◌}
-use Rattle.amqp_dissect.proofs.Entries.{Passed, PassedPairs}
+use Rattle.std.proofs.Common.{◌-◌, ◌+◌, ◌*◌}
+use Rattle.amqp_dissect.specs.Walks.{AreValues, ArePairs}
+use Rattle.amqp_dissect.specs.Problems.{NoValues, NoPairs}
+use Rattle.amqp_dissect.proofs.Entries.{Passed}
 use Rattle.amqp_dissect.proofs.walk.Walk.+walk.Given as goal
 
 -- a call has fewer bytes than its caller, or as many and less to do
@@ -19,13 +21,13 @@ abbrev pub decreases-pairs : goal.decreases-pairs
 decreases-pairs l = 3 * (l.end - l.self.now.at) + 2
 
 abbrev pub invariant-values-values : goal.invariant-values-values
-invariant-values-values l = (l.self.input ≡ l.fn.self.input) × Passed l.fn.depth l.fn.self.input.now l.fn.self.at l.self.at l.fn.end
+invariant-values-values l = Passed (AreValues l.fn.depth) (NoValues l.fn.depth) l.fn.self l.fn.end l.self
 
 abbrev pub decreases-values-values : goal.decreases-values-values
 decreases-values-values l = l.fn.end - l.self.at
 
 abbrev pub invariant-pairs-pairs : goal.invariant-pairs-pairs
-invariant-pairs-pairs l = (l.self.input ≡ l.fn.self.input) × PassedPairs l.fn.depth l.fn.self.input.now l.fn.self.at l.self.at l.fn.end
+invariant-pairs-pairs l = Passed (ArePairs l.fn.depth) (NoPairs l.fn.depth) l.fn.self l.fn.end l.self
 
 abbrev pub decreases-pairs-pairs : goal.decreases-pairs-pairs
 decreases-pairs-pairs l = l.fn.end - l.self.at

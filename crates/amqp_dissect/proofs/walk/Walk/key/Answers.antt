@@ -1,4 +1,6 @@
-use Rattle.std.proofs.Common.{arith, rules}
+use Rattle.std.proofs.Common.{ℕ, List, slice_range, sym, ◌∙◌, subst, arith, rules}
+use Rattle.std.specs.Borrow.{Bor}
+use Rattle.amqp_dissect.specs.Walks.{ahead, IsKeyThen}
 use Rattle.amqp_dissect.proofs.Entries.{short_key, no_text, key_read}
 use Rattle.amqp_dissect.proofs.walk.Walk.key.Goals as goal
 
@@ -12,4 +14,6 @@ returns-then-not-is_utf8-clause-problem c =
 
 pub returns-clause-key : goal.returns-clause-key
 returns-clause-key c =
-    key_read c.args.self.now.input.now c.args.self.now.at c.pass-2.new.self.at c.args.end c.in-Some.len.now c.from-len.result c.in-Some.bytes.now c.in-Some.ensures.cases.0 (omega arith) (omega arith) (omega arith) (search rules) (omega (arith, c.in_ok-pass.ensures.at, c.in_ok-pass-2.ensures.at)) (omega arith) c.requires.end
+    let same = c.pass-2.ensures.input ∙ c.pass.ensures.input in
+    subst (λ (i : Bor (List ℕ)). IsKeyThen (ahead c.args.self.now c.args.end) (slice_range i.now c.pass-2.new.self.at c.args.end)) (sym same)
+    (key_read c.args.self.now.input.now c.args.self.now.at c.pass-2.new.self.at c.args.end c.in-Some.len.now c.from-len.result c.in-Some.bytes.now c.in-Some.ensures.cases.0 (omega arith) (omega arith) (omega arith) (search rules) (omega (arith, c.in_ok-pass.ensures.at, c.in_ok-pass-2.ensures.at)) (omega arith) c.requires.within.inside)

@@ -1,0 +1,14 @@
+-- Where a dissection takes memory: for its parts, the first of which is a type tag.
+use Rattle.std.specs.Prelude.{ℕ, ◌≤◌, List}
+use Rattle.amqp_types.specs.declared.amqp_type.AMQPType.{AMQPType}
+use Rattle.amqp_parsing.specs.Headers.{extent}
+use Rattle.amqp_parsing.specs.Typed.{IsType}
+use Rattle.amqp_parsing.specs.declared.limits.Limits.{Limits}
+
+-- s begins with a type tag
+abbrev pub HasTypeTag : List ℕ → Type 0
+HasTypeTag s = (type : AMQPType) × (rest : List ℕ) × IsType s type rest
+
+-- it does, and the value isn't too large
+abbrev pub TakesMemory : Limits → List ℕ → Type 0
+TakesMemory l s = HasTypeTag s × (extent s ≤ l.frame)

@@ -1,0 +1,254 @@
+//! Going over a value, and over what is in it.
+
+ghost use Rattle.std.specs.Prelude.{◌≡◌, ◌≤◌, ◌<◌, ◌+◌, ◌-◌, ◌↔◌, IsTrue, IsSome, Some, option_map, OnOk, OnErr, IfOk, IfErr};
+ghost use Rattle.std.specs.Int.{w32};
+ghost use Rattle.amqp_grammar.specs.Layouts.{fixed};
+ghost use Rattle.amqp_grammar.specs.Outcomes.{frame_lack};
+ghost use Rattle.amqp_parsing.specs.Typed.{IsType};
+ghost use Rattle.amqp_dissect.specs.Ends.{Ends};
+ghost use Rattle.amqp_dissect.specs.Memory.{HasTypeTag, TakesMemory};
+ghost use Rattle.amqp_dissect.specs.Problems.{IsContainer, NoValue, NoValues, NoPairs};
+ghost use Rattle.amqp_dissect.specs.Walks.{ahead, CanReach, GoesOn, PassesValue, PassesEntries, IsKeyThen, IsAt, AreValues, ArePairs, HasFrame, HasHeader, IsLengthPrefixed, IsString};
+
+use crate::dissection::End;
+use crate::part::Field;
+use crate::problem::{Problem, Stop};
+use crate::walk::Walk;
+use amqp_input::{ParsableInput, SliceInput};
+use amqp_parsing::header::{Header, header_of};
+use amqp_parsing::{Err, Limits, Needed, parse_frame};
+use amqp_types::AMQPType;
+use std::alloc::AllocError;
+use std::str;
+
+impl<'a> Walk<'a> {
+    /// Goes over the value at the beginning, within the limits.
+    pub fn go(&mut self, limits: Limits) -> Result<End, AllocError>
+        requires { self.old.at ≡ 0 }
+        ensures input { self.new.input ≡ self.old.input }
+        ensures end { IfOk result (Ends limits self.old.input.now self.new.at) }
+        ensures memory { OnErr result (TakesMemory limits self.old.input.now) }
+    {
+        if let Header::TooLarge = header_of(SliceInput::new(self.input), limits.frame) {
+            return Ok(End::TooLarge);
+        }
+        match self.value(self.input.len(), limits.depth) {
+            Ok(()) => Ok(End::Value),
+            Err(Stop::At(problem)) => Ok(End::Problem(problem)),
+            Err(Stop::OutOfMemory) => Err(AllocError),
+        }
+    }
+
+    /// Goes over a value that stands before `end`, with containers at most `depth` deep in it.
+    #[cycle(walk)]
+    pub fn value(&mut self, end: usize, depth: u32) -> Result<(), Stop>
+        requires within { CanReach self.old end }
+        ensures passes { PassesValue depth self.old end result self.new }
+        ensures memory { IfErr result (λ stop. stop ≡ Stop.OutOfMemory → HasTypeTag (ahead self.old end)) }
+    {
+        let Some((tag, payload)) = self.input[self.at..end].split_first() else {
+            return Err(Stop::At(Problem::NoTypeTag));
+        };
+        let Some(amqp_type) = AMQPType::from_id(char::from(*tag)) else {
+            return Err(Stop::At(Problem::UnknownTypeTag(*tag)));
+        };
+        match amqp_type {
+            AMQPType::FieldArray => self.array(payload, end, depth),
+            AMQPType::FieldTable => self.table(payload, end, depth),
+            AMQPType::LongString | AMQPType::ByteArray => self.string(
+                amqp_type, payload, end, depth,
+            ),
+            _ => self.number(amqp_type, payload, end, depth),
+        }
+    }
+
+    // Goes over a value of a type of fixed width.
+    fn number(
+        &mut self,
+        amqp_type: AMQPType,
+        payload: &[u8],
+        end: usize,
+        depth: u32,
+    ) -> Result<(), Stop>
+        requires within { CanReach self.old end }
+        requires tag { IsType (ahead self.old end) amqp_type payload.now }
+        requires fixed { IsSome (fixed amqp_type) }
+        ensures { PassesValue depth self.old end result self.new }
+    {
+        let (first, width) = fields_of(amqp_type);
+        let there = payload.len();
+        self.pass(1, Field::TypeTag(amqp_type), depth)?;
+        if there < first {
+            return Err(Stop::At(Problem::Cut(amqp_type, first - there)));
+        }
+        if there < width {
+            return Err(Stop::At(Problem::Cut(amqp_type, width - there)));
+        }
+        self.pass(width, Field::Payload(amqp_type), depth)?;
+        Ok(())
+    }
+
+    // Goes over the type tag and the length of a string, a byte array or a container, and gives
+    // the offset at which it ends.
+    fn header(
+        &mut self,
+        amqp_type: AMQPType,
+        payload: &[u8],
+        end: usize,
+        depth: u32,
+    ) -> Result<usize, Stop>
+        requires within { CanReach self.old end }
+        requires tag { IsType (ahead self.old end) amqp_type payload.now }
+        requires prefixed { IsLengthPrefixed amqp_type }
+        ensures goes { GoesOn self.old end self.new }
+        ensures header { IfOk result (HasHeader (ahead self.old end) amqp_type self.old.at) }
+        ensures at { OnOk result (self.new.at ≡ self.old.at + 5) }
+        ensures fits { IfOk result (λ behind. (self.new.at ≤ behind) × (behind ≤ end)) }
+        ensures deep { OnOk result (IsContainer amqp_type → 0 < depth) }
+        ensures problem { IfErr result (IsAt (NoValue depth (ahead self.old end) (self.new.at - self.old.at))) }
+    {
+        match body_len(payload) {
+            Err(lack) => {
+                self.pass(1, Field::TypeTag(amqp_type), depth)?;
+                Err(Stop::At(Problem::Cut(amqp_type, lack)))
+            }
+            Ok(_) if depth == 0 && is_container(amqp_type) => Err(Stop::At(Problem::TooDeep)),
+            Ok(len) => {
+                self.pass(1, Field::TypeTag(amqp_type), depth)?;
+                self.pass(4, Field::Length(amqp_type), depth)?;
+                Ok(self.at + len)
+            }
+        }
+    }
+
+    // Goes over a long string or a byte array.
+    fn string(
+        &mut self,
+        amqp_type: AMQPType,
+        payload: &[u8],
+        end: usize,
+        depth: u32,
+    ) -> Result<(), Stop>
+        requires within { CanReach self.old end }
+        requires tag { IsType (ahead self.old end) amqp_type payload.now }
+        requires string { IsString amqp_type }
+        ensures { PassesValue depth self.old end result self.new }
+    {
+        let behind = self.header(amqp_type, payload, end, depth)?;
+        self.pass(behind - self.at, Field::Payload(amqp_type), depth)?;
+        Ok(())
+    }
+
+    // Goes over an array.
+    #[cycle(walk)]
+    fn array(&mut self, payload: &[u8], end: usize, depth: u32) -> Result<(), Stop>
+        requires within { CanReach self.old end }
+        requires tag { IsType (ahead self.old end) AMQPType.FieldArray payload.now }
+        ensures { PassesValue depth self.old end result self.new }
+    {
+        let behind = self.header(AMQPType::FieldArray, payload, end, depth)?;
+        self.values(behind, depth - 1)
+    }
+
+    // Goes over a table.
+    #[cycle(walk)]
+    fn table(&mut self, payload: &[u8], end: usize, depth: u32) -> Result<(), Stop>
+        requires within { CanReach self.old end }
+        requires tag { IsType (ahead self.old end) AMQPType.FieldTable payload.now }
+        ensures { PassesValue depth self.old end result self.new }
+    {
+        let behind = self.header(AMQPType::FieldTable, payload, end, depth)?;
+        self.pairs(behind, depth - 1)
+    }
+
+    // Goes over the values of an array, up to `end`.
+    #[cycle(walk)]
+    fn values(&mut self, end: usize, depth: u32) -> Result<(), Stop>
+        requires within { CanReach self.old end }
+        ensures { PassesEntries (AreValues depth) (NoValues depth) self.old end result self.new }
+    {
+        'values: while self.at < end {
+            self.value(end, depth)?;
+        }
+        Ok(())
+    }
+
+    // Goes over the pairs of a table, up to `end`.
+    #[cycle(walk)]
+    fn pairs(&mut self, end: usize, depth: u32) -> Result<(), Stop>
+        requires within { CanReach self.old end }
+        ensures { PassesEntries (ArePairs depth) (NoPairs depth) self.old end result self.new }
+    {
+        'pairs: while self.at < end {
+            self.key(end, depth)?;
+            self.value(end, depth)?;
+        }
+        Ok(())
+    }
+
+    // Goes over a key.
+    fn key(&mut self, end: usize, depth: u32) -> Result<(), Stop>
+        requires within { CanReach self.old end }
+        requires some { self.old.at < end }
+        ensures goes { GoesOn self.old end self.new }
+        ensures key { OnOk result (IsKeyThen (ahead self.old end) (ahead self.new end)) }
+        ensures problem { IfErr result (IsAt (NoPairs depth (ahead self.old end) (self.new.at - self.old.at))) }
+    {
+        let Some((len, bytes)) = self.input[self.at..end].split_first() else {
+            unreachable!()
+        };
+        let len = usize::from(*len);
+        if bytes.len() < len {
+            return Err(Stop::At(Problem::KeyCut(len - bytes.len())));
+        }
+        let is_utf8 = str::from_utf8(&bytes[..len]).is_ok();
+        self.pass(1, Field::KeyLength, depth)?;
+        if !is_utf8 {
+            return Err(Stop::At(Problem::KeyNotUtf8));
+        }
+        self.pass(len, Field::Key, depth)?;
+        Ok(())
+    }
+}
+
+// Whether the type is that of a container.
+fn is_container(amqp_type: AMQPType) -> bool
+    ensures { IsTrue result ↔ IsContainer amqp_type }
+{
+    matches!(amqp_type, AMQPType::FieldArray | AMQPType::FieldTable)
+}
+
+// How many bytes the first field of a type of fixed width has, and all of them.
+fn fields_of(amqp_type: AMQPType) -> (usize, usize)
+    requires { IsSome (fixed amqp_type) }
+    ensures { option_map (λ f. (f.first, f.width)) (fixed amqp_type) ≡ Some result }
+{
+    match amqp_type {
+        AMQPType::Void => (0, 0),
+        AMQPType::Boolean | AMQPType::ShortShortInt | AMQPType::ShortShortUInt => (1, 1),
+        AMQPType::ShortInt | AMQPType::ShortUInt => (2, 2),
+        AMQPType::LongInt | AMQPType::LongUInt | AMQPType::Float => (4, 4),
+        AMQPType::LongLongInt | AMQPType::LongLongUInt | AMQPType::Double | AMQPType::Timestamp => (
+            8, 8,
+        ),
+        AMQPType::DecimalValue => (1, 5),
+        AMQPType::ShortString
+        | AMQPType::LongString
+        | AMQPType::ByteArray
+        | AMQPType::FieldArray
+        | AMQPType::FieldTable => unreachable!(),
+    }
+}
+
+// How many bytes stand after a length of four bytes as it counts, or how many more bytes are needed
+// of the two.
+fn body_len(payload: &[u8]) -> Result<usize, usize>
+    ensures whole { IfOk result (HasFrame payload.now) }
+    ensures cut { IfErr result (λ n. (0 < n) × (n ≡ frame_lack w32 payload.now)) }
+{
+    match parse_frame(SliceInput::new(payload)) {
+        Ok((_, body)) => Ok(body.input_len()),
+        Err(Err::Incomplete(Needed::Size(lack))) => Err(lack),
+        Err(_) => unreachable!(),
+    }
+}
