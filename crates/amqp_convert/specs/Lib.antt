@@ -1,0 +1,2 @@
+-- what converting says
+pub mod Converts

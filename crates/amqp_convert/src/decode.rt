@@ -1,0 +1,27 @@
+//! From an encoding to the JSON text.
+
+ghost use Rattle.std.specs.Prelude.{IfOk, IfErr, string_bytes};
+ghost use Rattle.amqp_convert.specs.Converts.{IsJsonOf, IsNotRead};
+
+use crate::error::DecodeError;
+use amqp_json::to_json;
+use amqp_parsing::{Err as Refusal, Limits, SliceInput, parse_value_within};
+use std::alloc::Global;
+
+/// The JSON text of the value at the front, with no spaces, and the bytes after the value. The
+/// value is read as `parse_value_within` reads it, and recurses as deep.
+pub fn json_of_encoding<'a>(
+    alloc: Global,
+    bytes: &'a [u8],
+    limits: Limits,
+) -> Result<(String, &'a [u8]), DecodeError>
+    ensures json { IfOk result (λ x.
+        IsJsonOf limits bytes.entry.now (string_bytes x.0) x.1.now) }
+    ensures refused { IfErr result (IsNotRead limits bytes.entry.now) }
+{
+    match parse_value_within(alloc, SliceInput::new(bytes), limits) {
+        Ok((rest, value)) => Ok((to_json(alloc, &value)?, rest.as_slice())),
+        Err(Refusal::Failure(_)) => Err(DecodeError::OutOfMemory),
+        Err(refusal) => Err(DecodeError::Refused(refusal)),
+    }
+}
