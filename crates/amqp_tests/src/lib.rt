@@ -12,4 +12,6 @@ mod in_place;
 #[cfg(test)]
 mod json;
 #[cfg(test)]
+mod repeated_keys;
+#[cfg(test)]
 mod values;
