@@ -10,4 +10,6 @@ mod getters;
 #[cfg(test)]
 mod json;
 #[cfg(test)]
+mod repeated_keys;
+#[cfg(test)]
 mod values;
