@@ -1,5 +1,5 @@
 -- What stands where a dissection ends.
-use Rattle.std.specs.Prelude.{ℕ, zero, suc, ◌<◌, ◌≤◌, List, drop}
+use Rattle.std.specs.Prelude.{ℕ, zero, suc, ◌≡◌, ◌<◌, ◌≤◌, List, drop}
 use Rattle.amqp_grammar.specs.Values.{Tree}
 use Rattle.amqp_grammar.specs.Outcomes.{found}
 use Rattle.amqp_grammar.specs.Nesting.{OutcomeWithin}
@@ -25,8 +25,8 @@ refusal_of (suc zero) (Cut type n) = lacks n
 refusal_of _ _ = refused Eof
 
 -- after n bytes of s its value ends, as reading within the limits has it; or there stands the first
--- entry that is none, and reading answers that error; or the value is too large
+-- entry that is none, and reading answers that error; or, where n is 0, the value is too large
 abbrev pub Ends : Limits → List ℕ → ℕ → End → Type 0
 Ends l s n end.Value = (v : Tree) × Within l s (found v (drop n s))
 Ends l s n (end.Problem p) = (extent s ≤ l.frame) × NoValue l.depth s n p × Refuses (OutcomeWithin l.depth s) ⊥ (refusal_of n p)
-Ends l s n end.TooLarge = l.frame < extent s
+Ends l s n end.TooLarge = (n ≡ 0) × (l.frame < extent s)

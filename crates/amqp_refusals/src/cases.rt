@@ -3,7 +3,7 @@
 mod rows;
 
 use self::rows::{
-    COPIED, EMPTY, LACKING, LIGHT, MANY, NUMBERS, ONE_NUMBER, ONE_NUMBER_JSON, PAYLOADS,
+    COPIED, EMPTY, FALLING, LACKING, LIGHT, MANY, NUMBERS, ONE_NUMBER, ONE_NUMBER_JSON, PAYLOADS,
     SCALAR_PAYLOADS, SCALARS, TYPES, VALUES, VOIDS, VOIDS_JSON, WITHOUT,
 };
 use crate::conversions::Document;
@@ -680,11 +680,16 @@ fn of_streams<R: Print + Eprint>(rt: &R, alloc: Global, name: &str) -> io::Resul
 }
 
 /// Cases of values where their bytes lie.
-pub const IN_PLACE: [&str; 2] = ["value_in_place_to_owned", "in_place_without_memory"];
+pub const IN_PLACE: [&str; 3] = [
+    "value_in_place_to_owned",
+    "repeated_key_in_place",
+    "in_place_without_memory",
+];
 
 fn of_values_in_place<R: Print + Eprint>(rt: &R, alloc: Global, name: &str) -> io::Result<bool> {
     let answer = match name {
         "value_in_place_to_owned" => in_place::copied(rt, alloc, &COPIED),
+        "repeated_key_in_place" => in_place::repeated(rt, alloc, &FALLING),
         "in_place_without_memory" => in_place::without(rt, alloc, TABLE, &LIGHT),
         _ => return Ok(false),
     };

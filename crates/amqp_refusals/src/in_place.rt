@@ -47,6 +47,26 @@ impl Call for Skipping {
     }
 }
 
+/// A table that is asked for a key that stands more than once.
+#[derive(Drop)]
+struct Repeating {
+    bytes: &'static [u8],
+}
+
+impl Call for Repeating {
+    // the number of the key's bytes
+    fn answer(&mut self, alloc: Global) -> Result<Thing, Refusal> {
+        let (value, _) = read_in_place(self.bytes, LIMITS)?;
+        let Some(table) = value.as_field_table() else {
+            return Ok(Thing::NoValue);
+        };
+        match table.repeated_key(alloc)? {
+            Some(key) => Ok(Thing::Number(key.len() as i128)),
+            None => Ok(Thing::NoValue),
+        }
+    }
+}
+
 /// The value of each of these is copied.
 pub fn copied<R: Print + Eprint>(rt: &R, alloc: Global, all: &[&'static [u8]]) -> io::Result<()> {
     for bytes in all {
@@ -57,7 +77,16 @@ pub fn copied<R: Print + Eprint>(rt: &R, alloc: Global, all: &[&'static [u8]]) -
     Ok(())
 }
 
-/// The pairs of a table are counted, it is skipped, and values that take no memory are copied.
+/// Each of these tables is asked for a key that stands more than once.
+pub fn repeated<R: Print + Eprint>(rt: &R, alloc: Global, all: &[&'static [u8]]) -> io::Result<()> {
+    for bytes in all {
+        insist(rt, alloc, &mut Repeating { bytes })?;
+    }
+    Ok(())
+}
+
+/// The pairs of a table are counted, it is skipped and asked for a key that stands more than once,
+/// and values that take no memory are copied.
 pub fn without<R: Print + Eprint>(
     rt: &R,
     alloc: Global,
@@ -66,5 +95,6 @@ pub fn without<R: Print + Eprint>(
 ) -> io::Result<()> {
     ask(rt, alloc, &mut Looking { bytes })?;
     ask(rt, alloc, &mut Skipping { bytes })?;
+    ask(rt, alloc, &mut Repeating { bytes })?;
     copied(rt, alloc, light)
 }

@@ -10,6 +10,4 @@ mod getters;
 #[cfg(test)]
 mod json;
 #[cfg(test)]
-mod repeated_keys;
-#[cfg(test)]
 mod values;

@@ -169,6 +169,13 @@ pub(super) const COPIED: [&[u8]; 3] = [TABLE, b"S\0\0\0\x02hi", b"x\0\0\0\x02\xf
 /// Values that take none: a boolean, what is empty, and Void.
 pub(super) const LIGHT: [&[u8]; 5] = [b"t\x01", b"S\0\0\0\0", b"A\0\0\0\0", b"F\0\0\0\0", b"V"];
 
+/// Tables whose keys fall: 17 keys and the first again, and two that differ.
+pub(super) const FALLING: [&[u8]; 2] = [
+    b"F\0\0\0\x36\x01qV\x01pV\x01oV\x01nV\x01mV\x01lV\x01kV\x01jV\x01iV\
+      \x01hV\x01gV\x01fV\x01eV\x01dV\x01cV\x01bV\x01aV\x01qV",
+    b"F\0\0\0\x06\x01bV\x01aV",
+];
+
 /// A table with the LongLongInt 1 at `a`, and its JSON.
 pub(super) const ONE_NUMBER: &[u8] = b"F\0\0\0\x0b\x01al\0\0\0\0\0\0\0\x01";
 
