@@ -1,5 +1,5 @@
 -- What was written of a value that was read.
-use Rattle.std.proofs.Common.{◌≡◌, ℕ, List, length, take, Result, Ok, Err, MatchResult, sym, ap, ◌∙◌, subst, ◌+◌, ◌≤◌, arith, length-append}
+use Rattle.std.proofs.Common.{◌≡◌, ℕ, List, length, take, Result, Ok, Err, MatchResult, sym, ap, ◌∙◌, subst, arith, length-append}
 use Rattle.std.proofs.lemmas.List.{take_at}
 use Rattle.amqp_grammar.specs.Values.{Tree}
 use Rattle.amqp_grammar.specs.Outcomes.{found}
