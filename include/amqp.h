@@ -1,14 +1,16 @@
 /*
  * Values of AMQP 0-9-1 field tables, read where their bytes lie. C11, and C++.
  *
- * No call takes memory, keeps state, prints or ends the process, and calls in several threads don't
- * meet. docs/C.md goes call by call, with an example; docs/GRAMMAR.md has the bytes.
+ * No call keeps state, prints or ends the process, and calls in several threads don't meet. None
+ * takes memory but amqp_canonical, which is in a library of its own. docs/C.md goes call by call,
+ * with an example; docs/GRAMMAR.md has the bytes.
  *
  * Every offset counts bytes from `bytes`. What is handed in is checked each time: whatever a cursor
  * or an entry holds, no byte outside of the `length` bytes at `bytes` is read, and what goes out
  * lies in them. The caller owes only this: no pointer is NULL, also where a length is 0; `length`
  * bytes can be read at `bytes`, at most PTRDIFF_MAX, and `key_length` at `key`; and no struct that
- * is written overlaps the bytes, the key or another struct of the call.
+ * is written overlaps the bytes, the key or another struct of the call. For the room that is written
+ * to the same holds as for a struct.
  */
 #ifndef MAOLKINT_AMQP_H
 #define MAOLKINT_AMQP_H
@@ -28,7 +30,9 @@ enum {
     AMQP_UNKNOWN_TAG = -2, /* the first byte is no type tag */
     AMQP_MALFORMED = -3,   /* the bytes are there, and are no value; or an entry is cut */
     AMQP_TOO_LARGE = -4,   /* the value has more bytes than `frame` */
-    AMQP_INVALID = -5      /* what was handed in doesn't lie in the bytes, or is of no container */
+    AMQP_INVALID = -5,     /* what was handed in doesn't lie in the bytes, or is of no container */
+    AMQP_NO_MEMORY = -6,   /* memory ran out */
+    AMQP_NO_ROOM = -7      /* the room is too small for what is to be written */
 };
 
 /* The type tags that an entry tells. Two are second spellings: `U` is told as `s`, `L` as `l`. */
@@ -113,12 +117,29 @@ int32_t amqp_next(const uint8_t *bytes, size_t length, amqp_cursor *cursor, amqp
  * Gives the entry at the key, of those that the cursor has left in a table: of equal keys the last.
  *
  * Answers AMQP_OK, AMQP_NONE where none has the key, AMQP_MALFORMED or AMQP_INVALID. It walks
- * all of the entries that are left, and the cursor stays.
+ * all of the entries that are left, by their keys and the headers of their values, and tells one.
+ * The cursor stays.
  */
 int32_t amqp_find(const uint8_t *bytes, size_t length, const amqp_cursor *cursor, const uint8_t *key,
                   size_t key_length, amqp_entry *entry);
 
-/* Where a call answers anything but AMQP_OK, the entry and the cursor stay as they are. */
+/*
+ * Writes the canonical encoding of the value at the front to the start of the room, within the
+ * limits of amqp_read: the bytes that are the same exactly for equal values. It has no second
+ * spelling of a type tag, a boolean is 0 or 1, and the keys of each table rise, each of them once,
+ * with the last of its values. It has no more bytes than the value was read from.
+ *
+ * `count` becomes how many bytes were written (AMQP_OK), how many more are needed of the value
+ * (AMQP_MORE), or how many the room has to have (AMQP_NO_ROOM), else 0. Also answers
+ * AMQP_UNKNOWN_TAG, AMQP_MALFORMED, AMQP_TOO_LARGE or AMQP_NO_MEMORY. Bytes that are canonical
+ * already are copied; for others it takes memory, by malloc, realloc and free, and gives it back.
+ *
+ * It is in libamqp_c_canonical.a, and the calls above are in libamqp_c.a: link what you use.
+ */
+int32_t amqp_canonical(const uint8_t *bytes, size_t length, uint32_t frame, uint32_t depth,
+                       uint8_t *room, size_t room_length, size_t *count);
+
+/* Where a call answers anything but AMQP_OK, the entry, the cursor and the room stay as they are. */
 
 #ifdef __cplusplus
 }

@@ -5,6 +5,7 @@
 #include "amqp.h"
 #include "hexadecimal.h"
 #include "show.h"
+#include "why.h"
 
 static uint8_t bytes[131072];
 

@@ -5,6 +5,7 @@
 #include "amqp.h"
 #include "hexadecimal.h"
 #include "show.h"
+#include "why.h"
 
 #define FRAME 131072
 #define DEPTH 64

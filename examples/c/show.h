@@ -66,17 +66,4 @@ static void show_value(const uint8_t *bytes, const amqp_entry *entry) {
     putchar('\n');
 }
 
-/* Says why nothing is given. */
-static const char *why(int32_t answer) {
-    switch (answer) {
-    case AMQP_OK: return "given";
-    case AMQP_NONE: return "none";
-    case AMQP_MORE: return "more bytes are needed";
-    case AMQP_UNKNOWN_TAG: return "unknown type tag";
-    case AMQP_MALFORMED: return "malformed";
-    case AMQP_TOO_LARGE: return "too large";
-    default: return "invalid";
-    }
-}
-
 #endif

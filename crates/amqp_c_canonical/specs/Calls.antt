@@ -1,0 +1,58 @@
+-- What the call from C answers, and leaves in the room.
+use Rattle.std.specs.Prelude.{ℕ, ◌≡◌, ◌+◌, ◌<◌, ◌≤◌, ℤ, List, ◌++◌, length, drop, Result, IfErr, MatchResult}
+use Rattle.amqp_grammar.specs.Values.{Tree}
+use Rattle.amqp_grammar.specs.Outcomes.{found, more, unknown, malformed}
+use Rattle.amqp_grammar.specs.Texts.{text}
+use Rattle.amqp_parsing.specs.declared.limits.Limits.{Limits}
+use Rattle.amqp_parsing.specs.Headers.{extent}
+use Rattle.amqp_parsing.specs.Limits.{Within}
+use Rattle.amqp_in_place.specs.Canonicals.{IsCanonicalLen}
+use Rattle.amqp_c_canonical.specs.declared.fault.Fault.{Fault}
+use Rattle.amqp_c_canonical.specs.declared.fault.Fault.TheVariants.{More, UnknownTag, Malformed, TooLarge, OutOfMemory, NoRoom}
+use Rattle.amqp_c_canonical.specs.Answers.{answer_of, count_of}
+
+-- the first n bytes of the room are now these, and behind them it is as it was
+abbrev pub IsPut : List ℕ → List ℕ → List ℕ → ℕ → Type 0
+IsPut bytes old new n = (n ≡ length bytes) × (n ≤ length old) × (new ≡ bytes ++ drop n old)
+
+-- room for so many bytes is too small for these, and the fault tells how many they are
+abbrev pub HasNoRoom : List ℕ → ℕ → Fault → Type 0
+HasNoRoom bytes room f = (f ≡ NoRoom (length bytes)) × (room < length bytes)
+
+-- v is read from the front of s within the limits, with `rest` behind it, and its canonical encoding
+-- has no more bytes than it was read from
+abbrev pub IsRead : Limits → List ℕ → Tree → List ℕ → Type 0
+IsRead l s v rest = Within l s (found v rest) × (length (text v) + length rest ≤ length s)
+
+-- a value is read from the front of s within the limits, and its canonical encoding is put into the
+-- room
+abbrev pub IsWritten : Limits → List ℕ → List ℕ → List ℕ → ℕ → Type 0
+IsWritten l s old new n = (v : Tree) × (rest : List ℕ) × IsRead l s v rest × IsPut (text v) old new n
+
+-- no canonical encoding of a value within the limits stands at the front of s
+abbrev pub IsNotCanonical : Limits → List ℕ → Type 0
+IsNotCanonical l s = (n : ℕ) → IsCanonicalLen l s n → ⊥
+
+-- a fault is right, for s and room for so many bytes: what reading s within the limits comes to;
+-- memory runs out only where the encoding that was read isn't canonical; and the canonical encoding
+-- of the value that is read has more bytes than the room, and as many as the fault tells
+abbrev pub IsFault : Limits → List ℕ → ℕ → Fault → Type 0
+IsFault l s room (More n) = Within l s (more n)
+IsFault l s room UnknownTag = Within l s unknown
+IsFault l s room Malformed = Within l s malformed
+IsFault l s room TooLarge = l.frame < extent s
+IsFault l s room OutOfMemory = IsNotCanonical l s
+IsFault l s room (NoRoom n) = (v : Tree) × (rest : List ℕ) × IsRead l s v rest × (n ≡ length (text v)) × (room < n)
+
+-- the limits of these numbers
+abbrev pub limits : ℕ → ℕ → Limits
+limits frame depth = record { frame = frame; depth = depth }
+
+-- the canonical encoding of the value that is read from s within the limits is put into the room; or
+-- the fault is right, and the room as it was
+pub record Canonicalizes (frame depth : ℕ) (s old : List ℕ) (answer : ℤ) (new : List ℕ) (count : ℕ) : Type 0 where
+  pub done : Result ℕ Fault
+  pub answered : answer ≡ answer_of done
+  pub counted : count ≡ count_of done
+  pub written : MatchResult done (IsWritten (limits frame depth) s old new) (IsFault (limits frame depth) s (length old))
+  pub kept : IfErr done (λ _. new ≡ old)

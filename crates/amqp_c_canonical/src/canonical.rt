@@ -1,0 +1,66 @@
+//! The canonical encoding of the value at the front.
+
+ghost use Rattle.std.specs.Prelude.{◌≡◌, length, IfErr, MatchResult};
+ghost use Rattle.amqp_grammar.specs.Texts.{text, Fits};
+ghost use Rattle.amqp_value_core.specs.View.{view};
+ghost use Rattle.amqp_c_canonical.specs.Calls.{IsWritten, IsFault, IsPut, HasNoRoom};
+ghost use Rattle.amqp_c_canonical.specs.declared.fault.Fault.TheVariants.{OutOfMemory};
+
+use crate::fault::Fault;
+use amq_protocol_types::AMQPValue;
+use amq_protocol_types::generation::{WriteContext, gen_value};
+use amq_protocol_types::in_place::canonical_len;
+use amqp_input::SliceInput;
+use amqp_parsing::{Limits, parse_value_within};
+use std::alloc::Global;
+
+/// Writes the canonical encoding of the value at the front from the start of `room`, and answers
+/// how many bytes it has.
+///
+/// Bytes that are canonical already are copied, with no memory.
+pub fn canonical(
+    alloc: Global,
+    bytes: &[u8],
+    limits: Limits,
+    room: &mut [u8],
+) -> Result<usize, Fault>
+    ensures written { MatchResult result
+        (IsWritten limits bytes.now room.old room.new)
+        (IsFault limits bytes.now (length room.old)) }
+    ensures kept { IfErr result (λ _. room.new ≡ room.old) }
+{
+    if let Some(count) = canonical_len(bytes, limits) {
+        return put(&bytes[..count], room);
+    }
+    let (_, value) = parse_value_within(alloc, SliceInput::new(bytes), limits)?;
+    let encoding = encode(alloc, &value)?;
+    put(&encoding, room)
+}
+
+/// The value's canonical encoding, in memory of its own.
+fn encode(alloc: Global, value: &AMQPValue) -> Result<Vec<u8>, Fault>
+    requires { Fits (view value.now) }
+    ensures { MatchResult result (λ bytes. bytes.items ≡ text (view value.now)) (λ fault. fault ≡ OutOfMemory) }
+{
+    let mut context = WriteContext::from(Vec::new(alloc));
+    if gen_value(value, &mut context).is_err() {
+        return Err(Fault::OutOfMemory);
+    }
+    let (bytes, _) = context.into_inner();
+    Ok(bytes)
+}
+
+/// Puts the bytes at the start of `room`, where there is room for them.
+fn put(bytes: &[u8], room: &mut [u8]) -> Result<usize, Fault>
+    ensures put { MatchResult result
+        (IsPut bytes.now room.old room.new)
+        (HasNoRoom bytes.now (length room.old)) }
+    ensures kept { IfErr result (λ _. room.new ≡ room.old) }
+{
+    let count = bytes.len();
+    if room.len() < count {
+        return Err(Fault::NoRoom(count));
+    }
+    room[..count].copy_from_slice(bytes);
+    Ok(count)
+}

@@ -1,0 +1,37 @@
+/*
+ * Prints the canonical encoding of the value that is given in hexadecimal on standard input, in
+ * hexadecimal. With a number as argument the room has so many bytes.
+ */
+#include "amqp.h"
+#include "hexadecimal.h"
+#include "why.h"
+
+#define FRAME 131072
+#define DEPTH 64
+
+/* Never more bytes than the value was read from, so this is room enough. */
+static uint8_t bytes[FRAME];
+static uint8_t room[FRAME];
+
+int main(int count, char **words) {
+    size_t room_length = count > 1 ? strtoul(words[1], NULL, 10) : sizeof room;
+    size_t length = read_hexadecimal(stdin, bytes, sizeof bytes);
+    size_t written;
+    if (room_length > sizeof room) {
+        return 2;
+    }
+    int32_t answer = amqp_canonical(bytes, length, FRAME, DEPTH, room, room_length, &written);
+    if (answer == AMQP_NO_ROOM) {
+        printf("room for %zu bytes is needed\n", written);
+        return 1;
+    }
+    if (answer != AMQP_OK) {
+        printf("%s\n", why(answer));
+        return 1;
+    }
+    for (size_t i = 0; i < written; i++) {
+        printf("%02x", room[i]);
+    }
+    putchar('\n');
+    return 0;
+}
