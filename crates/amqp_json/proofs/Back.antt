@@ -1,14 +1,15 @@
 -- The JSON of a value is read as that value.
-use Rattle.std.proofs.Common.{◌≡◌, ℕ, ℤ, pos, negsuc, suc, ◌-◌, ◌^◌, ◌<◌, ◌≤◌, nat_lt, nat_le, length, List, Bool, true, false, Option, Some, None, is_some, refl, sym, ap, ◌∙◌, inl, inr, arith}
-use Rattle.std.proofs.lemmas.Bool.{cases_lt, cases_Bool}
+use Rattle.std.proofs.Common.{◌≡◌, ℕ, ℤ, pos, negsuc, suc, ◌^◌, ◌<◌, ◌≤◌, nat_lt, nat_le, length, List, Bool, true, false, Option, Some, None, is_some, refl, sym, ap, ◌∙◌, inl, inr, arith}
+use Rattle.std.proofs.lemmas.Bool.{cases_Bool}
 use Rattle.std.specs.List.{list_any}
 use Rattle.std.specs.Prelude.{slice_index, zero, ◌/◌, ◌%◌, ◌∷◌, [], if◌then◌else◌}
 use Rattle.amqp_json.proofs.ReadWalks.{with_short, short_key}
 use Rattle.std.specs.Option.{option_map, option_and_then}
-use Rattle.std.specs.Int.{w8, w16, w32, w64, cast_signed, cast_unsigned, to_be_bytes, from_be_bytes, bytes_high_first, byte_at}
+use Rattle.std.specs.Int.{Width, w8, w16, w32, w64, cast_signed, cast_unsigned, to_be_bytes, from_be_bytes, bytes_high_first, byte_at}
 use Rattle.std.specs.Str.{is_utf8}
-use Rattle.std.proofs.lemmas.Int.{of_z-to_z, to_z_pos}
-use Rattle.std.proofs.Math.Facts.{to_z-neg}
+use mir.Val.{bits, hbits}
+use Rattle.std.proofs.lemmas.Int.{of_z-to_z}
+use Rattle.amqp_json.proofs.Signed.{is_in_range}
 use Rattle.std.proofs.lemmas.Nat.{from_be_bytes-to_be_bytes_4, from_be_bytes-to_be_bytes_8}
 use Rattle.hex.specs.Hex.{lower_digits, encode_with, encode_lower, IsBytes}
 use Rattle.hex.proofs.HexLemmas.{decode_of-encode_lower, decode_sized-encode_lower}
@@ -26,7 +27,7 @@ use Rattle.amqp_value_core.specs.Json.{is_within, signed_within, unsigned_below}
 use Rattle.amqp_json.specs.Names.{type_named}
 use Rattle.amqp_json.specs.Json.{under, natural, integer, hexadecimal, number_json, scalar_json, decimal_json, sole_type, table_json, long_json, json, items_json, members_json}
 use Rattle.amqp_json.specs.InMemory.{IsStored, AreStored, EntriesStored}
-use Rattle.amqp_json.specs.Reading.{long_long, small, long_of, bytes_in, sized_in, plain_in, value_named, escaped, value_of, values_of, entries_of, is_capital}
+use Rattle.amqp_json.specs.Reading.{long_long, text_without_capitals, long_of, bytes_in, sized_in, plain_in, value_named, ambiguous_table, value_of, values_of, entries_of, is_capital}
 
 -- a type is that of its name
 pub named : (type : AMQPType) → type_named (name_of type) ≡ Some type
@@ -51,7 +52,7 @@ named amqp.ByteArray = refl
 named amqp.Void = refl
 
 -- what stands under a type's name is read as of that type
-pub read_under : (type : AMQPType) (d : Data) → value_of (under type d) ≡ value_named type d (escaped d)
+pub read_under : (type : AMQPType) (d : Data) → value_of (under type d) ≡ value_named type d (ambiguous_table d)
 read_under type d = rw (named type) refl
 
 -- ---- integers
@@ -63,47 +64,14 @@ within_signed : (half : ℕ) (z : ℤ) → half ≤ 2 ^ 63 → is_within half z 
 within_signed half (pos n) h e = let f : nat_lt n (2 ^ 63) ≡ true = grind (arith) in rw (f, e) refl
 within_signed half (negsuc n) h e = rw e refl
 
-fits_8 : (n : ℕ) → n < 2 ^ 8 → is_within (2 ^ 7) (cast_signed w8 n) ≡ true
-fits_8 n h = elim (cases_lt n (2 ^ 7)) [
-  | inl low ↦ rw (to_z_pos w8 n low) (grind (arith))
-  | inr high ↦
-      let k = 2 ^ 8 - suc n in
-      let small : k < 2 ^ 7 = omega arith in
-      let is : n ≡ 2 ^ 8 - suc k = omega arith in
-      ap (λ m. is_within (2 ^ 7) (cast_signed w8 m)) is ∙ rw (to_z-neg w8 k small) (grind (arith))
-]
+-- a signed number of a type, whose bits are n
+signed_back : (type : AMQPType) (w : Width) (n : ℕ) → 2 ^ hbits w ≤ 2 ^ 63 → n < 2 ^ bits w
+    → option_map (λ z. scalar (values.number type (cast_unsigned w z))) (signed_within (2 ^ hbits w) (integer w n)) ≡ Some (scalar (values.number type n))
+signed_back type w n narrow h =
+    ap (option_map (λ z. scalar (values.number type (cast_unsigned w z)))) (within_signed (2 ^ hbits w) (cast_signed w n) narrow (is_in_range w n h))
+    ∙ ap (λ m. Some (scalar (values.number type m))) (of_z-to_z w n h)
 
-fits_16 : (n : ℕ) → n < 2 ^ 16 → is_within (2 ^ 15) (cast_signed w16 n) ≡ true
-fits_16 n h = elim (cases_lt n (2 ^ 15)) [
-  | inl low ↦ rw (to_z_pos w16 n low) (grind (arith))
-  | inr high ↦
-      let k = 2 ^ 16 - suc n in
-      let small : k < 2 ^ 15 = omega arith in
-      let is : n ≡ 2 ^ 16 - suc k = omega arith in
-      ap (λ m. is_within (2 ^ 15) (cast_signed w16 m)) is ∙ rw (to_z-neg w16 k small) (grind (arith))
-]
-
-fits_32 : (n : ℕ) → n < 2 ^ 32 → is_within (2 ^ 31) (cast_signed w32 n) ≡ true
-fits_32 n h = elim (cases_lt n (2 ^ 31)) [
-  | inl low ↦ rw (to_z_pos w32 n low) (grind (arith))
-  | inr high ↦
-      let k = 2 ^ 32 - suc n in
-      let small : k < 2 ^ 31 = omega arith in
-      let is : n ≡ 2 ^ 32 - suc k = omega arith in
-      ap (λ m. is_within (2 ^ 31) (cast_signed w32 m)) is ∙ rw (to_z-neg w32 k small) (grind (arith))
-]
-
-fits_64 : (n : ℕ) → n < 2 ^ 64 → is_within (2 ^ 63) (cast_signed w64 n) ≡ true
-fits_64 n h = elim (cases_lt n (2 ^ 63)) [
-  | inl low ↦ rw (to_z_pos w64 n low) (grind (arith))
-  | inr high ↦
-      let k = 2 ^ 64 - suc n in
-      let small : k < 2 ^ 63 = omega arith in
-      let is : n ≡ 2 ^ 64 - suc k = omega arith in
-      ap (λ m. is_within (2 ^ 63) (cast_signed w64 m)) is ∙ rw (to_z-neg w64 k small) (grind (arith))
-]
-
--- an integer is no number that no `Value` holds
+-- an integer is held in its own place
 plain : (type : AMQPType) (z : ℤ) → plain_in type (number (of_integer z)) ≡ core.json (number (of_integer z)) type
 plain type (pos n) = refl
 plain type (negsuc n) = refl
@@ -125,14 +93,14 @@ unfolding encode_with
 no_capital [] = refl
 no_capital (x ∷ b) = rw (no_capital_at lower_digits refl (x / 16), no_capital_at lower_digits refl (x % 16)) (no_capital b)
 
-small_digits : (b : List ℕ) → small (hexadecimal b) ≡ Some (encode_lower b)
-small_digits b = rw (no_capital b) refl
+no_capitals_in : (b : List ℕ) → text_without_capitals (hexadecimal b) ≡ Some (encode_lower b)
+no_capitals_in b = rw (no_capital b) refl
 
 digits_back : (b : List ℕ) → IsBytes b → bytes_in (hexadecimal b) ≡ Some b
-digits_back b h = rw (small_digits b, decode_of-encode_lower b h) refl
+digits_back b h = rw (no_capitals_in b, decode_of-encode_lower b h) refl
 
 sized_back : (n : ℕ) (b : List ℕ) → length b ≡ n → IsBytes b → sized_in n (hexadecimal b) ≡ Some b
-sized_back n b e h = rw (small_digits b, decode_sized-encode_lower b n e h) refl
+sized_back n b e h = rw (no_capitals_in b, decode_sized-encode_lower b n e h) refl
 
 bytes_behind : (x : ℕ) (xs : List ℕ) → x < 256 → IsBytes xs → IsBytes (x ∷ xs)
 bytes_behind x xs h hs zero = h
@@ -152,19 +120,13 @@ bytes_high (suc k) n = bytes_behind (byte_at k n) (bytes_high_first k n) (one_by
 -- ---- values
 
 number_back : (type : AMQPType) (n : ℕ) → IsNumber type n → value_of (number_json type n) ≡ Some (scalar (values.number type n))
-number_back amqp.LongLongInt n h = long_long_back (cast_signed w64 n) (fits_64 n h) ∙ ap (λ m. Some (scalar (values.number amqp.LongLongInt m))) (of_z-to_z w64 n h)
+number_back amqp.LongLongInt n h = long_long_back (cast_signed w64 n) (is_in_range w64 n h) ∙ ap (λ m. Some (scalar (values.number amqp.LongLongInt m))) (of_z-to_z w64 n h)
 number_back amqp.ShortShortInt n h =
-    read_under amqp.ShortShortInt (integer w8 n) ∙ plain amqp.ShortShortInt (cast_signed w8 n)
-    ∙ ap (option_map (λ z. scalar (values.number amqp.ShortShortInt (cast_unsigned w8 z)))) (within_signed (2 ^ 7) (cast_signed w8 n) (omega arith) (fits_8 n h))
-    ∙ ap (λ m. Some (scalar (values.number amqp.ShortShortInt m))) (of_z-to_z w8 n h)
+    read_under amqp.ShortShortInt (integer w8 n) ∙ plain amqp.ShortShortInt (cast_signed w8 n) ∙ signed_back amqp.ShortShortInt w8 n (omega arith) h
 number_back amqp.ShortInt n h =
-    read_under amqp.ShortInt (integer w16 n) ∙ plain amqp.ShortInt (cast_signed w16 n)
-    ∙ ap (option_map (λ z. scalar (values.number amqp.ShortInt (cast_unsigned w16 z)))) (within_signed (2 ^ 15) (cast_signed w16 n) (omega arith) (fits_16 n h))
-    ∙ ap (λ m. Some (scalar (values.number amqp.ShortInt m))) (of_z-to_z w16 n h)
+    read_under amqp.ShortInt (integer w16 n) ∙ plain amqp.ShortInt (cast_signed w16 n) ∙ signed_back amqp.ShortInt w16 n (omega arith) h
 number_back amqp.LongInt n h =
-    read_under amqp.LongInt (integer w32 n) ∙ plain amqp.LongInt (cast_signed w32 n)
-    ∙ ap (option_map (λ z. scalar (values.number amqp.LongInt (cast_unsigned w32 z)))) (within_signed (2 ^ 31) (cast_signed w32 n) (omega arith) (fits_32 n h))
-    ∙ ap (λ m. Some (scalar (values.number amqp.LongInt m))) (of_z-to_z w32 n h)
+    read_under amqp.LongInt (integer w32 n) ∙ plain amqp.LongInt (cast_signed w32 n) ∙ signed_back amqp.LongInt w32 n (omega arith) h
 number_back amqp.ShortShortUInt n h =
     read_under amqp.ShortShortUInt (natural n) ∙ ap (option_map (λ m. scalar (values.number amqp.ShortShortUInt m))) (below (2 ^ 8) n h)
 number_back amqp.ShortUInt n h =

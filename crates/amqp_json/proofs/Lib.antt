@@ -1,6 +1,7 @@
 mod Walks
 mod Bytes
-mod Odd
+mod Numbers
+mod Signed
 mod ReadWalks
 mod Back
 mod NoFloat

@@ -5,11 +5,12 @@ use Rattle.std.specs.List.{find, list_any}
 use Rattle.std.specs.Option.{option_map, option_and_then}
 use Rattle.std.specs.Result.{result_ok}
 use Rattle.std.specs.Prelude.{slice_index, codes, cond, if◌then◌else◌}
-use Rattle.std.specs.Int.{w8, w16, w32, w64, cast_signed, cast_unsigned, from_be_bytes}
+use Rattle.std.specs.Int.{Width, w8, w16, w32, w64, cast_unsigned, from_be_bytes}
 use Rattle.std.specs.Str.{is_utf8, bytes_eq}
 use Rattle.std.proofs.lemmas.Slice.Eq.{bytes_eq-Decides}
+use mir.Val.{hbits}
 use Rattle.std.proofs.lemmas.Int.{to_z_pos}
-use Rattle.std.proofs.Math.Facts.{to_z-neg}
+use Rattle.amqp_json.proofs.Signed.{from_its_bits}
 use Rattle.std.proofs.lemmas.Nat.{be_bytes_4, be_bytes_8}
 use Rattle.hex.specs.Hex.{lower_digits, encode_with, encode_lower, decode_of, decode_sized, decode_pairs, pair_value, value_at, digit_or_error, hex_digit_value, ◌>>=◌, IsBytes}
 use Rattle.hex.specs.declared.error.FromHexError.{FromHexError}
@@ -24,8 +25,8 @@ use Rattle.amqp_grammar.specs.Values.{decimal, void, Tree, scalar, short, long, 
 use Rattle.amqp_value_core.specs.Json as core
 use Rattle.amqp_value_core.specs.Json.{is_within, signed_within, unsigned_below, short_text}
 use Rattle.amqp_json.specs.Names.{types, type_named}
-use Rattle.amqp_json.specs.Json.{under, natural, hexadecimal, sole_type, table_json, long_json, json, items_json, members_json}
-use Rattle.amqp_json.specs.Reading.{is_capital, small, long_long, is_odd, plain_in, decimal_in, bytes_in, sized_in, long_of, value_under, value_named, value_in, escaped_in, escaped, first_escaped, value_of, values_of, entries_of}
+use Rattle.amqp_json.specs.Json.{under, natural, integer, hexadecimal, sole_type, table_json, long_json, json, items_json, members_json}
+use Rattle.amqp_json.specs.Reading.{is_capital, text_without_capitals, long_long, is_natural_as_negative, plain_in, decimal_in, bytes_in, sized_in, long_of, value_under, value_named, value_in, ambiguous_in, ambiguous_table, first_ambiguous, value_of, values_of, entries_of}
 
 -- ---- what a `Some` says
 
@@ -63,24 +64,24 @@ is_name k type h = found_name k types type h
 
 -- ---- integers
 
-signed_is : (half : ℕ) (d : Data) (z : ℤ) → is_odd d ≡ false → signed_within half d ≡ Some z → (number (of_integer z) ≡ d) × (is_within half z ≡ true)
-signed_is half (number (unsigned n)) z odd h =
+signed_is : (half : ℕ) (d : Data) (z : ℤ) → is_natural_as_negative d ≡ false → signed_within half d ≡ Some z → (number (of_integer z) ≡ d) × (is_within half z ≡ true)
+signed_is half (number (unsigned n)) z held h =
     let a = some_then _ _ z h in
     let b = if_some (nat_lt n (2 ^ 63)) (Some (pos n)) a.0 a.1 in
     let c = if_some (is_within half a.0) (Some a.0) z a.2 in
     let e : pos n ≡ z = inside (pos n) a.0 b.1 ∙ inside a.0 z c.1 in
     (ap (λ y. number (of_integer y)) (sym e), subst (λ y. is_within half y ≡ true) (inside a.0 z c.1) c.0)
-signed_is half (number (negative (pos n))) z odd h = absurd (cc odd)
-signed_is half (number (negative (negsuc n))) z odd h =
+signed_is half (number (negative (pos n))) z held h = absurd (cc held)
+signed_is half (number (negative (negsuc n))) z held h =
     let c = if_some (is_within half (negsuc n)) (Some (negsuc n)) z h in
     let e = inside (negsuc n) z c.1 in
     (ap (λ y. number (of_integer y)) (sym e), subst (λ y. is_within half y ≡ true) e c.0)
-signed_is half (number (float x)) z odd h = absurd (cc h)
-signed_is half null z odd h = absurd (cc h)
-signed_is half (boolean b) z odd h = absurd (cc h)
-signed_is half (string s) z odd h = absurd (cc h)
-signed_is half (array ds) z odd h = absurd (cc h)
-signed_is half (object ms) z odd h = absurd (cc h)
+signed_is half (number (float x)) z held h = absurd (cc h)
+signed_is half null z held h = absurd (cc h)
+signed_is half (boolean b) z held h = absurd (cc h)
+signed_is half (string s) z held h = absurd (cc h)
+signed_is half (array ds) z held h = absurd (cc h)
+signed_is half (object ms) z held h = absurd (cc h)
 
 below_is : (limit : ℕ) (d : Data) (n : ℕ) → unsigned_below limit d ≡ Some n → natural n ≡ d
 below_is limit (number (unsigned m)) n h = ap natural (sym (inside m n (if_some (nat_lt m limit) (Some m) n h).1))
@@ -100,22 +101,6 @@ text_is (boolean b) s h = absurd (cc h)
 text_is (array ds) s h = absurd (cc h)
 text_is (object ms) s h = absurd (cc h)
 
-cast_8 : (z : ℤ) → is_within (2 ^ 7) z ≡ true → cast_signed w8 (cast_unsigned w8 z) ≡ z
-cast_8 (pos n) h = let low : n < 2 ^ 7 = grind (arith) in to_z_pos w8 n low
-cast_8 (negsuc n) h = let low : n < 2 ^ 7 = grind (arith) in to_z-neg w8 n low
-
-cast_16 : (z : ℤ) → is_within (2 ^ 15) z ≡ true → cast_signed w16 (cast_unsigned w16 z) ≡ z
-cast_16 (pos n) h = let low : n < 2 ^ 15 = grind (arith) in to_z_pos w16 n low
-cast_16 (negsuc n) h = let low : n < 2 ^ 15 = grind (arith) in to_z-neg w16 n low
-
-cast_32 : (z : ℤ) → is_within (2 ^ 31) z ≡ true → cast_signed w32 (cast_unsigned w32 z) ≡ z
-cast_32 (pos n) h = let low : n < 2 ^ 31 = grind (arith) in to_z_pos w32 n low
-cast_32 (negsuc n) h = let low : n < 2 ^ 31 = grind (arith) in to_z-neg w32 n low
-
-cast_64 : (z : ℤ) → is_within (2 ^ 63) z ≡ true → cast_signed w64 (cast_unsigned w64 z) ≡ z
-cast_64 (pos n) h = let low : n < 2 ^ 63 = grind (arith) in to_z_pos w64 n low
-cast_64 (negsuc n) h = let low : n < 2 ^ 63 = grind (arith) in to_z-neg w64 n low
-
 -- a number with no type's name
 long_long_is : (x : Num) (t : Tree) → long_long x ≡ Some t → json t ≡ number x
 long_long_is (unsigned n) t h =
@@ -124,48 +109,9 @@ long_long_is (unsigned n) t h =
     ap json (sym (inside _ t c.1)) ∙ ap (λ z. number (of_integer z)) (to_z_pos w64 n low)
 long_long_is (negative (negsuc n)) t h =
     let c = if_some (nat_lt n (2 ^ 63)) (Some (scalar (values.number amqp.LongLongInt (cast_unsigned w64 (negsuc n))))) t h in
-    ap json (sym (inside _ t c.1)) ∙ ap (λ z. number (of_integer z)) (cast_64 (negsuc n) c.0)
+    ap json (sym (inside _ t c.1)) ∙ ap (λ z. number (of_integer z)) (from_its_bits w64 (negsuc n) c.0)
 long_long_is (negative (pos n)) t h = absurd (cc h)
 long_long_is (float x) t h = absurd (cc h)
-
-is_ShortShortInt : (d : Data) (t : Tree) → plain_in amqp.ShortShortInt d ≡ Some t → json t ≡ under amqp.ShortShortInt d
-is_ShortShortInt d t h =
-    let a = unless_some (is_odd d) (core.json d amqp.ShortShortInt) t h in
-    let c = some_map (λ z. scalar (values.number amqp.ShortShortInt (cast_unsigned w8 z))) (signed_within (2 ^ 7) d) t a.1 in
-    let e = signed_is (2 ^ 7) d c.0 a.0 c.1 in
-    ap json (sym c.2) ∙ ap (λ z. under amqp.ShortShortInt (number (of_integer z))) (cast_8 c.0 e.1) ∙ ap (under amqp.ShortShortInt) e.0
-
-is_ShortInt : (d : Data) (t : Tree) → plain_in amqp.ShortInt d ≡ Some t → json t ≡ under amqp.ShortInt d
-is_ShortInt d t h =
-    let a = unless_some (is_odd d) (core.json d amqp.ShortInt) t h in
-    let c = some_map (λ z. scalar (values.number amqp.ShortInt (cast_unsigned w16 z))) (signed_within (2 ^ 15) d) t a.1 in
-    let e = signed_is (2 ^ 15) d c.0 a.0 c.1 in
-    ap json (sym c.2) ∙ ap (λ z. under amqp.ShortInt (number (of_integer z))) (cast_16 c.0 e.1) ∙ ap (under amqp.ShortInt) e.0
-
-is_LongInt : (d : Data) (t : Tree) → plain_in amqp.LongInt d ≡ Some t → json t ≡ under amqp.LongInt d
-is_LongInt d t h =
-    let a = unless_some (is_odd d) (core.json d amqp.LongInt) t h in
-    let c = some_map (λ z. scalar (values.number amqp.LongInt (cast_unsigned w32 z))) (signed_within (2 ^ 31) d) t a.1 in
-    let e = signed_is (2 ^ 31) d c.0 a.0 c.1 in
-    ap json (sym c.2) ∙ ap (λ z. under amqp.LongInt (number (of_integer z))) (cast_32 c.0 e.1) ∙ ap (under amqp.LongInt) e.0
-
-is_ShortShortUInt : (d : Data) (t : Tree) → plain_in amqp.ShortShortUInt d ≡ Some t → json t ≡ under amqp.ShortShortUInt d
-is_ShortShortUInt d t h =
-    let a = unless_some (is_odd d) (core.json d amqp.ShortShortUInt) t h in
-    let c = some_map (λ n. scalar (values.number amqp.ShortShortUInt n)) (unsigned_below (2 ^ 8) d) t a.1 in
-    ap json (sym c.2) ∙ ap (under amqp.ShortShortUInt) (below_is (2 ^ 8) d c.0 c.1)
-
-is_ShortUInt : (d : Data) (t : Tree) → plain_in amqp.ShortUInt d ≡ Some t → json t ≡ under amqp.ShortUInt d
-is_ShortUInt d t h =
-    let a = unless_some (is_odd d) (core.json d amqp.ShortUInt) t h in
-    let c = some_map (λ n. scalar (values.number amqp.ShortUInt n)) (unsigned_below (2 ^ 16) d) t a.1 in
-    ap json (sym c.2) ∙ ap (under amqp.ShortUInt) (below_is (2 ^ 16) d c.0 c.1)
-
-is_LongUInt : (d : Data) (t : Tree) → plain_in amqp.LongUInt d ≡ Some t → json t ≡ under amqp.LongUInt d
-is_LongUInt d t h =
-    let a = unless_some (is_odd d) (core.json d amqp.LongUInt) t h in
-    let c = some_map (λ n. scalar (values.number amqp.LongUInt n)) (unsigned_below (2 ^ 32) d) t a.1 in
-    ap json (sym c.2) ∙ ap (under amqp.LongUInt) (below_is (2 ^ 32) d c.0 c.1)
 
 unsigned_is : (d : Data) (n : ℕ) → core.unsigned d ≡ Some n → natural n ≡ d
 unsigned_is (number (unsigned m)) n h = ap natural (sym (inside m n h))
@@ -177,15 +123,25 @@ unsigned_is (string s) n h = absurd (cc h)
 unsigned_is (array ds) n h = absurd (cc h)
 unsigned_is (object ms) n h = absurd (cc h)
 
-is_Timestamp : (d : Data) (t : Tree) → plain_in amqp.Timestamp d ≡ Some t → json t ≡ under amqp.Timestamp d
-is_Timestamp d t h =
-    let a = unless_some (is_odd d) (core.json d amqp.Timestamp) t h in
-    let c = some_map (λ n. scalar (values.number amqp.Timestamp n)) (core.unsigned d) t a.1 in
-    ap json (sym c.2) ∙ ap (under amqp.Timestamp) (unsigned_is d c.0 c.1)
+-- an integer under the name of a type: `how` it is read, and its JSON
+signed_under : (type : AMQPType) (w : Width) (d : Data) (t : Tree) → core.json d type ≡ option_map (λ z. scalar (values.number type (cast_unsigned w z))) (signed_within (2 ^ hbits w) d)
+    → ((n : ℕ) → json (scalar (values.number type n)) ≡ under type (integer w n)) → plain_in type d ≡ Some t → json t ≡ under type d
+signed_under type w d t how written h =
+    let a = unless_some (is_natural_as_negative d) (core.json d type) t h in
+    let c = some_map (λ z. scalar (values.number type (cast_unsigned w z))) (signed_within (2 ^ hbits w) d) t (sym how ∙ a.1) in
+    let e = signed_is (2 ^ hbits w) d c.0 a.0 c.1 in
+    ap json (sym c.2) ∙ written (cast_unsigned w c.0) ∙ ap (λ z. under type (number (of_integer z))) (from_its_bits w c.0 e.1) ∙ ap (under type) e.0
+
+unsigned_under : (type : AMQPType) (read : Data → Option ℕ) (d : Data) (t : Tree) → ((n : ℕ) → read d ≡ Some n → natural n ≡ d) → core.json d type ≡ option_map (λ n. scalar (values.number type n)) (read d)
+    → ((n : ℕ) → json (scalar (values.number type n)) ≡ under type (natural n)) → plain_in type d ≡ Some t → json t ≡ under type d
+unsigned_under type read d t is how written h =
+    let a = unless_some (is_natural_as_negative d) (core.json d type) t h in
+    let c = some_map (λ n. scalar (values.number type n)) (read d) t (sym how ∙ a.1) in
+    ap json (sym c.2) ∙ written c.0 ∙ ap (under type) (is c.0 c.1)
 
 is_ShortString : (d : Data) (t : Tree) → plain_in amqp.ShortString d ≡ Some t → json t ≡ under amqp.ShortString d
 is_ShortString d t h =
-    let a = unless_some (is_odd d) (core.json d amqp.ShortString) t h in
+    let a = unless_some (is_natural_as_negative d) (core.json d amqp.ShortString) t h in
     let c = some_map short (short_text d) t a.1 in
     let e = some_then (λ s. if nat_le (length s) 255 then Some s else None) (as_str d) c.0 c.1 in
     let f = if_some (nat_le (length e.0) 255) (Some e.0) c.0 e.2 in
@@ -256,8 +212,8 @@ pairs_are i (x ∷ y ∷ rest) b small h =
     ∙ ap (λ c. x ∷ c ∷ encode_lower p3.0) (ap (slice_index lower_digits) rest_of ∙ dy.1)
     ∙ ap (λ cs. x ∷ y ∷ cs) later
 
-small_is : (d : Data) (s : List ℕ) → small d ≡ Some s → (string s ≡ d) × (list_any is_capital s ≡ false)
-small_is d s h =
+text_without_capitals_is : (d : Data) (s : List ℕ) → text_without_capitals d ≡ Some s → (string s ≡ d) × (list_any is_capital s ≡ false)
+text_without_capitals_is d s h =
     let a = some_then (λ s. if list_any is_capital s then None else Some s) (as_str d) s h in
     let c = unless_some (list_any is_capital a.0) (Some a.0) s a.2 in
     let e = inside a.0 s c.1 in
@@ -269,8 +225,8 @@ ok_is (Err e) b h = absurd (cc h)
 
 bytes_are : (d : Data) (b : List ℕ) → bytes_in d ≡ Some b → hexadecimal b ≡ d
 bytes_are d b h =
-    let a = some_then (λ s. result_ok (decode_of s)) (small d) b h in
-    let e = small_is d a.0 a.1 in
+    let a = some_then (λ s. result_ok (decode_of s)) (text_without_capitals d) b h in
+    let e = text_without_capitals_is d a.0 a.1 in
     let decoded = ok_is (decode_of a.0) b a.2 in
     let even = decode_of-ok a.0 b decoded in
     ap string (pairs_are 0 a.0 b e.1 (sym (decode_of-even a.0 even.0) ∙ decoded)) ∙ e.0
@@ -278,8 +234,8 @@ bytes_are d b h =
 -- with as many bytes as are wanted
 sized_are : (n : ℕ) (d : Data) (b : List ℕ) → sized_in n d ≡ Some b → (hexadecimal b ≡ d) × (length b ≡ n) × IsBytes b
 sized_are n d b h =
-    let a = some_then (λ s. result_ok (decode_sized s n)) (small d) b h in
-    let e = small_is d a.0 a.1 in
+    let a = some_then (λ s. result_ok (decode_sized s n)) (text_without_capitals d) b h in
+    let e = text_without_capitals_is d a.0 a.1 in
     let sized = ok_is (decode_sized a.0 n) b a.2 in
     let twice = decode_sized-ok a.0 n b sized in
     let decoded = sym (decode_sized-twice a.0 n twice) ∙ sized in
@@ -337,13 +293,13 @@ is_decimal (string s) t h = absurd (cc h)
 is_decimal (array ds) t h = absurd (cc h)
 
 is_under : (type : AMQPType) (d : Data) (t : Tree) → value_under type d ≡ Some t → json t ≡ under type d
-is_under amqp.ShortShortInt d t h = is_ShortShortInt d t h
-is_under amqp.ShortShortUInt d t h = is_ShortShortUInt d t h
-is_under amqp.ShortInt d t h = is_ShortInt d t h
-is_under amqp.ShortUInt d t h = is_ShortUInt d t h
-is_under amqp.LongInt d t h = is_LongInt d t h
-is_under amqp.LongUInt d t h = is_LongUInt d t h
-is_under amqp.Timestamp d t h = is_Timestamp d t h
+is_under amqp.ShortShortInt d t h = signed_under amqp.ShortShortInt w8 d t refl (λ n. refl) h
+is_under amqp.ShortShortUInt d t h = unsigned_under amqp.ShortShortUInt (unsigned_below (2 ^ 8)) d t (below_is (2 ^ 8) d) refl (λ n. refl) h
+is_under amqp.ShortInt d t h = signed_under amqp.ShortInt w16 d t refl (λ n. refl) h
+is_under amqp.ShortUInt d t h = unsigned_under amqp.ShortUInt (unsigned_below (2 ^ 16)) d t (below_is (2 ^ 16) d) refl (λ n. refl) h
+is_under amqp.LongInt d t h = signed_under amqp.LongInt w32 d t refl (λ n. refl) h
+is_under amqp.LongUInt d t h = unsigned_under amqp.LongUInt (unsigned_below (2 ^ 32)) d t (below_is (2 ^ 32) d) refl (λ n. refl) h
+is_under amqp.Timestamp d t h = unsigned_under amqp.Timestamp core.unsigned d t (unsigned_is d) refl (λ n. refl) h
 is_under amqp.ShortString d t h = is_ShortString d t h
 is_under amqp.Float d t h = is_Float d t h
 is_under amqp.Double d t h = is_Double d t h
@@ -360,10 +316,10 @@ is_under amqp.Void d t h = absurd (cc h)
 -- ---- values
 
 -- what stands under a type's name, where an object that is a table is that table's
-abbrev Escaped : Data → Type 0
-Escaped d = (t : Tree) → escaped d ≡ Some t → json t ≡ under amqp.FieldTable d
+abbrev Ambiguous : Data → Type 0
+Ambiguous d = (t : Tree) → ambiguous_table d ≡ Some t → json t ≡ under amqp.FieldTable d
 
-is_named : (type : AMQPType) (d : Data) (t : Tree) → Escaped d → value_named type d (escaped d) ≡ Some t → json t ≡ under type d
+is_named : (type : AMQPType) (d : Data) (t : Tree) → Ambiguous d → value_named type d (ambiguous_table d) ≡ Some t → json t ≡ under type d
 is_named amqp.FieldTable d t inner h = inner t h
 is_named amqp.ShortShortInt d t inner h = is_under amqp.ShortShortInt d t h
 is_named amqp.ShortShortUInt d t inner h = is_under amqp.ShortShortUInt d t h
@@ -390,14 +346,14 @@ plain_table ms es t o later h =
     let c = some_map table es t h in
     ap json (sym c.2) ∙ ap table_json (later c.0 c.1) ∙ rw o refl
 
-named_table : (ms : Members) (es : Option Entries) (t : Tree) (o : Option AMQPType) → sole_type ms ≡ o → ((fs : Entries) → es ≡ Some fs → members_json fs ≡ ms) → escaped_in o es ≡ Some t → json t ≡ under amqp.FieldTable (object ms)
+named_table : (ms : Members) (es : Option Entries) (t : Tree) (o : Option AMQPType) → sole_type ms ≡ o → ((fs : Entries) → es ≡ Some fs → members_json fs ≡ ms) → ambiguous_in o es ≡ Some t → json t ≡ under amqp.FieldTable (object ms)
 named_table ms es t None o later h = absurd (cc h)
 named_table ms es t (Some type) o later h =
     let c = some_map table es t h in
     ap json (sym c.2) ∙ ap table_json (later c.0 c.1) ∙ rw o refl
 
 in_object : (ms : Members) (o : Option AMQPType) (t : Tree) → sole_type ms ≡ o → ((fs : Entries) → entries_of ms ≡ Some fs → members_json fs ≡ ms)
-    → ((k : List ℕ) (d : Data) (rest : Members) → ms ≡ member k d rest → Escaped d) → value_in o ms (entries_of ms) (first_escaped ms) ≡ Some t → json t ≡ object ms
+    → ((k : List ℕ) (d : Data) (rest : Members) → ms ≡ member k d rest → Ambiguous d) → value_in o ms (entries_of ms) (first_ambiguous ms) ≡ Some t → json t ≡ object ms
 in_object ms None t o later inner h = plain_table ms (entries_of ms) t o later h
 in_object (member k d no_members) (Some type) t o later inner h =
     is_named type d t (inner k d no_members refl) h ∙ ap (λ j. object (member j d no_members)) (sym (is_name k type o))
@@ -419,17 +375,17 @@ mutual
       ap json (sym c.2) ∙ ap array (only_items ds c.0 c.1)
   only_json (object ms) t h = in_object ms _ t refl (only_members ms) (only_inner ms) h
 
-  only_inner : (ms : Members) (k : List ℕ) (d : Data) (rest : Members) → ms ≡ member k d rest → Escaped d
+  only_inner : (ms : Members) (k : List ℕ) (d : Data) (rest : Members) → ms ≡ member k d rest → Ambiguous d
   only_inner no_members k d rest e = absurd (cc e)
-  only_inner (member j x ms) k d rest e = let same : x ≡ d = cc in subst Escaped same (only_escaped x)
+  only_inner (member j x ms) k d rest e = let same : x ≡ d = cc in subst Ambiguous same (only_ambiguous x)
 
-  only_escaped : (d : Data) → Escaped d
-  only_escaped (object ms) t h = named_table ms (entries_of ms) t _ refl (only_members ms) h
-  only_escaped null t h = absurd (cc h)
-  only_escaped (boolean b) t h = absurd (cc h)
-  only_escaped (number x) t h = absurd (cc h)
-  only_escaped (string s) t h = absurd (cc h)
-  only_escaped (array ds) t h = absurd (cc h)
+  only_ambiguous : (d : Data) → Ambiguous d
+  only_ambiguous (object ms) t h = named_table ms (entries_of ms) t _ refl (only_members ms) h
+  only_ambiguous null t h = absurd (cc h)
+  only_ambiguous (boolean b) t h = absurd (cc h)
+  only_ambiguous (number x) t h = absurd (cc h)
+  only_ambiguous (string s) t h = absurd (cc h)
+  only_ambiguous (array ds) t h = absurd (cc h)
 
   only_items : (ds : Items) (ts : Trees) → values_of ds ≡ Some ts → items_json ts ≡ ds
   only_items no_items ts h = ap items_json (sym (inside no_trees ts h))

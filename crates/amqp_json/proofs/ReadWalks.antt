@@ -1,10 +1,9 @@
 -- Walks over JSON's items and members: what was read so far, and one more.
 use Rattle.std.proofs.Common.{◌≡◌, ℕ, zero, suc, ◌+◌, ◌<◌, ◌≤◌, List, [], ◌∷◌, ◌++◌, length, take, get_or, nat_le, Bool, true, false, Option, Some, None, string_bytes, string_cmp, nat_cmp, Less, Greater, refl, sym, ap, ◌∙◌, arith}
 use Rattle.std.proofs.lemmas.Cmp.{nat_list_cmp_total}
-use Rattle.std.proofs.lemmas.List.{take_more}
+use Rattle.amqp_json.proofs.Walks.{taken_more, of_a_later_key}
 use Rattle.std.specs.Option.{option_map, option_and_then}
 use Rattle.std.specs.Cmp.Lexicographic.{slice_cmp}
-use Rattle.std.specs.List.{AllByRecursion}
 use Rattle.std.specs.List.Sorted.{IsStrictlySortedBy}
 use Rattle.std.specs.Map.{keys_of}
 use Rattle.std.specs.Ordering.{ordering_reverse}
@@ -50,9 +49,6 @@ values_snoc [] v = one (value_of (document v))
 values_snoc (d ∷ done) v =
     ap (λ os. option_and_then (λ x. option_map (tree x) os) (value_of (document d))) (values_snoc done v)
     ∙ both_first (value_of (document d)) (values_of (items_view done)) (value_of (document v))
-
-taken_more : (vs : List Value) (k : ℕ) (v : Value) → k < length vs → v ≡ get_or vs k v → take k vs ++ v ∷ [] ≡ take (k + 1) vs
-taken_more vs k v h e = ap (λ u. take k vs ++ u ∷ []) e ∙ sym (take_more vs k v h)
 
 -- one more item is read
 pub items_next : (vs : List Value) (k : ℕ) (v : Value) (ts us : List AMQPValue) (t : AMQPValue) → k < length vs → v ≡ get_or vs k v → us ≡ ts ++ t ∷ []
@@ -103,10 +99,6 @@ parts k false o os es s h =
     let e : None ≡ Some es = sym (without_short k o os s) ∙ h in
     absurd (cc e)
 
-below : (first : Entry) (es : List Entry) (e : Entry) (more : List Entry) → AllByRecursion (λ y. string_cmp first.0 y ≡ Less) (keys_of (es ++ e ∷ more)) → string_cmp first.0 e.0 ≡ Less
-below first [] e more h = h.0
-below first (x ∷ es) e more h = below first es e more h.1
-
 -- at most 255 bytes, as a test
 pub short_key : (k : List ℕ) → length k ≤ 255 → nat_le (length k) 255 ≡ true
 short_key k h = grind (arith)
@@ -125,7 +117,7 @@ member_next (first ∷ done) e more es x rising p q short =
     let j = string_bytes first.0 in
     let f = parts j _ (value_of (document first.1)) (entries_of (members_view done)) es refl p in
     let above : slice_cmp nat_cmp k j ≡ Greater =
-    nat_list_cmp_total.antisymm k j ∙ ap ordering_reverse (below first done e more rising.0) in
+    nat_list_cmp_total.antisymm k j ∙ ap ordering_reverse (of_a_later_key (λ y. string_cmp first.0 y ≡ Less) done e more rising.0) in
     let later = member_next done e more f.rest x rising.1 f.others q short in
     let behind : put k x (entry j f.first f.rest) ≡ entry j f.first (put k x f.rest) = rw above refl in
     ap (λ os. with_entry j (value_of (document first.1)) os) later

@@ -23,10 +23,10 @@ use Rattle.amqp_json.specs.InMemory.{IsStored, AreStored, EntriesStored}
 abbrev pub Pair : Type 0
 Pair = List ℕ × AMQPValue
 
--- where keys rise, the first comes before a later one
-comes_before : (k : List ℕ) (es : List Pair) (e : Pair) (more : List Pair) → AllByRecursion (λ j. slice_cmp nat_cmp k j ≡ Less) (keys_of (es ++ e ∷ more)) → slice_cmp nat_cmp k e.0 ≡ Less
-comes_before k [] e more h = h.0
-comes_before k (x ∷ es) e more h = comes_before k es e more h.1
+-- what holds of all keys holds of one in the middle
+pub of_a_later_key : {K V : Type 0} (P : K → Type 0) (es : List (K × V)) (e : K × V) (more : List (K × V)) → AllByRecursion P (keys_of (es ++ e ∷ more)) → P e.0
+of_a_later_key P [] e more h = h.0
+of_a_later_key P (x ∷ es) e more h = of_a_later_key P es e more h.1
 
 -- a member whose key is behind all others is put at the end
 pub put_at_the_end : (done : List Pair) (e : Pair) (more : List Pair) → IsStrictlySortedBy (slice_cmp nat_cmp) (keys_of (done ++ e ∷ more))
@@ -35,7 +35,7 @@ unfolding IsStrictlySortedBy
 put_at_the_end [] e more h = refl
 put_at_the_end (first ∷ done) e more h =
     let behind : slice_cmp nat_cmp e.0 first.0 ≡ Greater =
-    nat_list_cmp_total.antisymm e.0 first.0 ∙ ap ordering_reverse (comes_before first.0 done e more h.0) in
+    nat_list_cmp_total.antisymm e.0 first.0 ∙ ap ordering_reverse (of_a_later_key (λ j. slice_cmp nat_cmp first.0 j ≡ Less) done e more h.0) in
     rw behind (ap (member first.0 (json (view first.1))) (put_at_the_end done e more h.1))
 
 -- with one more, all are still stored
@@ -62,7 +62,7 @@ unfolding snoc
 json_snoc [] v = refl
 json_snoc (u ∷ vs) v = ap (item (json (view u))) (json_snoc vs v)
 
-taken_more : (vs : List AMQPValue) (k : ℕ) (v : AMQPValue) → k < length vs → v ≡ get_or vs k v → take k vs ++ v ∷ [] ≡ take (k + 1) vs
+pub taken_more : {A : Type 0} (vs : List A) (k : ℕ) (v : A) → k < length vs → v ≡ get_or vs k v → take k vs ++ v ∷ [] ≡ take (k + 1) vs
 taken_more vs k v h e = ap (λ u. take k vs ++ u ∷ []) e ∙ sym (take_more vs k v h)
 
 -- one more value is written

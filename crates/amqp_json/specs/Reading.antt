@@ -26,16 +26,16 @@ abbrev pub is_capital : ℕ → Bool
 is_capital c = nat_le 65 c && nat_le c 90
 
 -- the text, where it has no capital letter
-abbrev pub small : Data → Option (List ℕ)
-small d = option_and_then (λ s. if list_any is_capital s then None else Some s) (as_str d)
+abbrev pub text_without_capitals : Data → Option (List ℕ)
+text_without_capitals d = option_and_then (λ s. if list_any is_capital s then None else Some s) (as_str d)
 
 -- the bytes of a text of hexadecimal digits in lower case
 abbrev pub bytes_in : Data → Option (List ℕ)
-bytes_in d = option_and_then (λ s. result_ok (decode_of s)) (small d)
+bytes_in d = option_and_then (λ s. result_ok (decode_of s)) (text_without_capitals d)
 
 -- n such bytes, where it is a text of twice as many digits
 abbrev pub sized_in : ℕ → Data → Option (List ℕ)
-sized_in n d = option_and_then (λ s. result_ok (decode_sized s n)) (small d)
+sized_in n d = option_and_then (λ s. result_ok (decode_sized s n)) (text_without_capitals d)
 
 -- bytes that are no text
 abbrev pub long_of : List ℕ → Option Tree
@@ -49,14 +49,14 @@ decimal_in (object (member a x (member b y no_members))) =
     else None
 decimal_in _ = None
 
--- a number that no `Value` holds
-abbrev pub is_odd : Data → Bool
-is_odd (number (negative (pos n))) = true
-is_odd _ = false
+-- a natural number in the place of a negative one, as no `Value` holds it
+abbrev pub is_natural_as_negative : Data → Bool
+is_natural_as_negative (number (negative (pos n))) = true
+is_natural_as_negative _ = false
 
 -- the integer or the short string of a type
 abbrev pub plain_in : AMQPType → Data → Option Tree
-plain_in type d = if is_odd d then None else core.json d type
+plain_in type d = if is_natural_as_negative d then None else core.json d type
 
 -- what stands under a type's name, where that is no table
 abbrev pub value_under : AMQPType → Data → Option Tree
@@ -90,10 +90,10 @@ value_in None ms es inner = option_map table es
 value_in (Some type) (member k d no_members) es inner = value_named type d inner
 value_in (Some type) _ es inner = None
 
--- a table that would be taken for another type
-abbrev pub escaped_in : Option AMQPType → Option Entries → Option Tree
-escaped_in None es = None
-escaped_in (Some type) es = option_map table es
+-- the table of these entries, where the name of a type is its only key
+abbrev pub ambiguous_in : Option AMQPType → Option Entries → Option Tree
+ambiguous_in None es = None
+ambiguous_in (Some type) es = option_map table es
 
 abbrev mutual
   -- the value whose JSON it is
@@ -103,16 +103,16 @@ abbrev mutual
   value_of (number n) = long_long n
   value_of (string s) = if is_utf8 s then Some (long s) else None
   value_of (array ds) = option_map values.array (values_of ds)
-  value_of (object ms) = value_in (sole_type ms) ms (entries_of ms) (first_escaped ms)
+  value_of (object ms) = value_in (sole_type ms) ms (entries_of ms) (first_ambiguous ms)
 
-  -- the table that stands under the name of its type
-  pub escaped : Data → Option Tree
-  escaped (object ms) = escaped_in (sole_type ms) (entries_of ms)
-  escaped _ = None
+  -- the table that would be taken for a value of another type: it stands under the name of its own
+  pub ambiguous_table : Data → Option Tree
+  ambiguous_table (object ms) = ambiguous_in (sole_type ms) (entries_of ms)
+  ambiguous_table _ = None
 
-  pub first_escaped : Members → Option Tree
-  first_escaped no_members = None
-  first_escaped (member k d ms) = escaped d
+  pub first_ambiguous : Members → Option Tree
+  first_ambiguous no_members = None
+  first_ambiguous (member k d ms) = ambiguous_table d
 
   pub values_of : Items → Option Trees
   values_of no_items = Some no_trees

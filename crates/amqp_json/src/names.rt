@@ -1,37 +1,9 @@
-//! The names of types.
+//! Types by their names.
 
 ghost use Rattle.std.specs.Prelude.{◌≡◌};
-ghost use Rattle.amqp_types.specs.Names.{name_of};
 ghost use Rattle.amqp_json.specs.Names.{type_named};
 
 use amqp_value_core::types::AMQPType;
-
-/// The name of a type.
-pub(crate) fn name(amqp_type: AMQPType) -> &'static str
-    ensures { result.now ≡ name_of amqp_type }
-{
-    match amqp_type {
-        AMQPType::Boolean => "Boolean",
-        AMQPType::ShortShortInt => "ShortShortInt",
-        AMQPType::ShortShortUInt => "ShortShortUInt",
-        AMQPType::ShortInt => "ShortInt",
-        AMQPType::ShortUInt => "ShortUInt",
-        AMQPType::LongInt => "LongInt",
-        AMQPType::LongUInt => "LongUInt",
-        AMQPType::LongLongInt => "LongLongInt",
-        AMQPType::LongLongUInt => "LongLongUInt",
-        AMQPType::Float => "Float",
-        AMQPType::Double => "Double",
-        AMQPType::DecimalValue => "DecimalValue",
-        AMQPType::ShortString => "ShortString",
-        AMQPType::LongString => "LongString",
-        AMQPType::FieldArray => "FieldArray",
-        AMQPType::Timestamp => "Timestamp",
-        AMQPType::FieldTable => "FieldTable",
-        AMQPType::ByteArray => "ByteArray",
-        AMQPType::Void => "Void",
-    }
-}
 
 /// The type of a name, if there is one.
 pub(crate) fn type_of_name(name: &str) -> Option<AMQPType>

@@ -11,7 +11,7 @@ ghost use Rattle.amqp_value_core.specs.Containers.{array_view, table_view};
 ghost use Rattle.amqp_json.specs.Json.{json, sole_type};
 ghost use Rattle.amqp_json.specs.InMemory.{IsSingle};
 ghost use Rattle.amqp_json.specs.Refusals.{IsOnly, IsOfNone};
-ghost use Rattle.amqp_json.specs.Reading.{is_capital, small as small_text, bytes_in, sized_in, decimal_in, plain_in, value_under, long_long, value_of, values_of, entries_of, escaped};
+ghost use Rattle.amqp_json.specs.Reading.{is_capital, text_without_capitals, bytes_in, sized_in, decimal_in, plain_in, value_under, long_long, value_of, values_of, entries_of, ambiguous_table};
 
 use crate::error::ValueError;
 use crate::names::type_of_name;
@@ -39,8 +39,8 @@ pub fn from_value(alloc: Global, value: &Value) -> Result<AMQPValue, ValueError>
 }
 
 // the text, where it has no capital letter
-fn small(value: &Value) -> Option<&str>
-    ensures { option_map (λ s. s.now) result ≡ small_text (document value.now) }
+fn text_without_capitals(value: &Value) -> Option<&str>
+    ensures { option_map (λ s. s.now) result ≡ text_without_capitals (document value.now) }
 {
     let text = value.as_str()?;
     if has_capital(text.as_bytes()) {
@@ -62,7 +62,7 @@ fn bytes(alloc: Global, value: &Value) -> Result<Vec<u8>, ValueError>
     ensures err { IfErr result (λ e. e ≡ ValueError.NotAValue
         → bytes_in (document value.now) ≡ None) }
 {
-    let Some(text) = small(value) else {
+    let Some(text) = text_without_capitals(value) else {
         return Err(ValueError::NotAValue);
     };
     match hex::decode(alloc, text) {
@@ -76,7 +76,7 @@ fn bytes(alloc: Global, value: &Value) -> Result<Vec<u8>, ValueError>
 fn sized<const N: usize>(value: &Value) -> Option<[u8; N]>
     ensures { result ≡ sized_in N (document value.now) }
 {
-    let text = small(value)?;
+    let text = text_without_capitals(value)?;
     <[u8; N] as FromHex>::from_hex(text).ok()
 }
 
@@ -121,7 +121,7 @@ fn double(value: &Value) -> Option<AMQPValue>
 }
 
 // an integer or a short string
-#[tactic(auto, using(crate::proofs::Odd::is_even))]
+#[tactic(auto, using(crate::proofs::Numbers::never_natural_as_negative))]
 fn plain(alloc: Global, amqp_type: AMQPType, value: &Value) -> Result<AMQPValue, ValueError>
     ensures ok { IfOk result (λ v. plain_in amqp_type (document value.now) ≡ Some (view v)) }
     ensures err { IfErr result (λ e. e ≡ ValueError.NotAValue
@@ -231,7 +231,7 @@ fn read_object(alloc: Global, members: &Map<String, Value>) -> Result<AMQPValue,
     if let (Some((key, inner)), None) = (walk.next(), walk.next()) {
         match (type_of_name(key.as_str()), inner) {
             (Some(AMQPType::FieldTable), Value::Object(entries)) => {
-                return read_escaped(alloc, entries);
+                return read_ambiguous(alloc, entries);
             }
             (Some(amqp_type), _) => return under_type(alloc, amqp_type, inner),
             (None, _) => {}
@@ -241,11 +241,11 @@ fn read_object(alloc: Global, members: &Map<String, Value>) -> Result<AMQPValue,
 }
 
 #[cycle(read)]
-fn read_escaped(alloc: Global, members: &Map<String, Value>) -> Result<AMQPValue, ValueError>
-    ensures ok { IfOk result (λ v. escaped (object (members_view members.now.entries))
+fn read_ambiguous(alloc: Global, members: &Map<String, Value>) -> Result<AMQPValue, ValueError>
+    ensures ok { IfOk result (λ v. ambiguous_table (object (members_view members.now.entries))
         ≡ Some (view v)) }
     ensures err { IfErr result (λ e. e ≡ ValueError.NotAValue
-        → escaped (object (members_view members.now.entries)) ≡ None) }
+        → ambiguous_table (object (members_view members.now.entries)) ≡ None) }
 {
     if sole_name(members).is_none() {
         return Err(ValueError::NotAValue);

@@ -8,7 +8,7 @@ ghost use Rattle.amqp_value_core.specs.Containers.{trees, entries};
 ghost use Rattle.amqp_json.specs.Json.{json, items_json, members_json, under, table_json, long_json, decimal_json, hexadecimal, sole_type};
 ghost use Rattle.amqp_json.specs.InMemory.{IsStored, IsPlain, AreStored, EntriesStored};
 
-use crate::names::{name, type_of_name};
+use crate::names::type_of_name;
 use amqp_value_core::types::{AMQPType, DecimalValue, ShortString};
 use amqp_value_core::value::AMQPValue;
 use serde_json::{Map, Value};
@@ -30,7 +30,7 @@ fn under_type(alloc: Global, amqp_type: AMQPType, payload: Value) -> Result<Valu
     ensures { IfOk result (λ r. document r ≡ under amqp_type (document payload)) }
 {
     let mut members = Map::new(alloc);
-    drop(members.insert(String::from_str(alloc, name(amqp_type))?, payload)?);
+    drop(members.insert(amqp_type.to_string(alloc)?, payload)?);
     Ok(Value::Object(members))
 }
 
