@@ -9,7 +9,8 @@
  * or an entry holds, no byte outside of the `length` bytes at `bytes` is read, and what goes out
  * lies in them. The caller owes only this: no pointer is NULL, also where a length is 0; `length`
  * bytes can be read at `bytes`, at most PTRDIFF_MAX, and `key_length` at `key`; and no struct that
- * is written overlaps the bytes, the key or another struct of the call. For the room that is written
+ * is written overlaps the bytes, the key or another struct of the call, and no other thread writes
+ * any of these meanwhile. For the room that is written
  * to the same holds as for a struct.
  */
 #ifndef MAOLKINT_AMQP_H
@@ -28,7 +29,7 @@ enum {
     AMQP_NONE = 1,         /* no entry is left, or none has the key */
     AMQP_MORE = -1,        /* the bytes end before the value does: more are needed */
     AMQP_UNKNOWN_TAG = -2, /* the first byte is no type tag */
-    AMQP_MALFORMED = -3,   /* the bytes are there, and are no value; or an entry is cut */
+    AMQP_MALFORMED = -3,   /* the bytes are there, and are no value, or an entry isn't one */
     AMQP_TOO_LARGE = -4,   /* the value has more bytes than `frame` */
     AMQP_INVALID = -5,     /* what was handed in doesn't lie in the bytes, or is of no container */
     AMQP_NO_MEMORY = -6,   /* memory ran out */
@@ -84,15 +85,17 @@ typedef struct amqp_cursor {
  * Reads the value at the front within limits, and checks all of it: at most `frame` bytes, and
  * containers nested at most `depth` deep. It recurses at most `depth` deep.
  *
- * `count` becomes how many bytes the value takes (AMQP_OK), or how many more are needed
- * (AMQP_MORE), else 0. Also answers AMQP_UNKNOWN_TAG, AMQP_MALFORMED or AMQP_TOO_LARGE.
+ * `count` becomes how many bytes the value takes (AMQP_OK), or how many more the field that is
+ * being read needs (AMQP_MORE; with these it may ask for more again), else 0. Also answers
+ * AMQP_UNKNOWN_TAG, AMQP_MALFORMED or AMQP_TOO_LARGE.
  */
 int32_t amqp_read(const uint8_t *bytes, size_t length, uint32_t frame, uint32_t depth, size_t *count);
 
 /*
  * Gives the entry of the value at the front, by its type tag and its length alone.
  *
- * Answers AMQP_OK, AMQP_MORE or AMQP_UNKNOWN_TAG. Takes constant time.
+ * Answers AMQP_OK, AMQP_MORE or AMQP_UNKNOWN_TAG. Takes constant time. AMQP_OK doesn't say that
+ * what stands in an array or a table is well-formed: amqp_read checks that.
  */
 int32_t amqp_first(const uint8_t *bytes, size_t length, amqp_entry *entry);
 
@@ -116,9 +119,9 @@ int32_t amqp_next(const uint8_t *bytes, size_t length, amqp_cursor *cursor, amqp
 /*
  * Gives the entry at the key, of those that the cursor has left in a table: of equal keys the last.
  *
- * Answers AMQP_OK, AMQP_NONE where none has the key, AMQP_MALFORMED or AMQP_INVALID. It walks
- * all of the entries that are left, by their keys and the headers of their values, and tells one.
- * The cursor stays.
+ * Answers AMQP_OK, AMQP_NONE where none has the key, AMQP_MALFORMED or AMQP_INVALID, this also
+ * where the cursor is of an array. It walks all of the entries that are left, by their keys and the
+ * headers of their values, and tells one. The cursor stays.
  */
 int32_t amqp_find(const uint8_t *bytes, size_t length, const amqp_cursor *cursor, const uint8_t *key,
                   size_t key_length, amqp_entry *entry);

@@ -23,7 +23,8 @@ use read::read;
 /// Reads the value at the front within limits, and checks all of it. It recurses at most `depth`
 /// deep.
 ///
-/// `count` becomes how many bytes the value takes, or how many more are needed, or else 0.
+/// `count` becomes how many bytes the value takes, or how many more the field that is being read
+/// needs, or else 0.
 #[unsafe(no_mangle)]
 pub extern "C" fn amqp_read(bytes: &[u8], frame: u32, depth: u32, count: &mut usize) -> i32
     ensures { Reads frame depth bytes.now result count.new }

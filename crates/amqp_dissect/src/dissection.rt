@@ -18,7 +18,7 @@ pub enum End {
     Value,
     /// What is no value, nor a pair of a table, though it should be one.
     Problem(Problem),
-    /// The beginning of a value that has more bytes than the limit `frame`.
+    /// The value has more bytes than the limit `frame`, by what has come of it. No part is given.
     TooLarge,
 }
 
@@ -27,7 +27,9 @@ pub enum End {
 pub struct Dissection<'a> {
     /// The parts, in order and without a gap.
     pub parts: Vec<Part<'a>>,
-    /// How many bytes stand before the end.
+    /// How many bytes stand before the end. Of a problem that is where it is seen: behind the type
+    /// tag of a payload that is cut, behind the length of a key that isn't UTF-8, else where the
+    /// value or the pair begins.
     pub offset: usize,
     /// What ends it.
     pub end: End,

@@ -11,9 +11,10 @@ pub enum Field {
     Length(AMQPType),
     /// How many bytes a key has: one byte.
     KeyLength,
-    /// The bytes of a key.
+    /// The bytes of a key. An empty key has no such part.
     Key,
-    /// The bytes of a number, a string or a byte array.
+    /// The bytes of a boolean, a number (a decimal's scale too), a string or a byte array. Void and
+    /// what is empty have no such part.
     Payload(AMQPType),
 }
 

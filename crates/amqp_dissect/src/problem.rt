@@ -10,10 +10,10 @@ pub enum Problem {
     NoTypeTag,
     /// The byte is no type tag.
     UnknownTypeTag(u8),
-    /// So many more bytes are needed for the payload's field that is being read, before the input
-    /// or the body ends.
+    /// The input or the body ends inside the payload: so many more bytes are needed for its field
+    /// that is being read, a length or a scale before what stands after it.
     Cut(AMQPType, usize),
-    /// So many more bytes are needed for a key.
+    /// The body ends inside a key: so many more bytes are needed for it.
     KeyCut(usize),
     /// The bytes of a key aren't UTF-8.
     KeyNotUtf8,

@@ -26,8 +26,8 @@ use std::alloc::Global;
 
 /// The value whose JSON it is, in memory of its own. Nothing else is read: not
 /// `{"LongLongInt": 5}`, since a `LongLongInt` is plain, and not a `LongString` of digits that
-/// stand for UTF-8. Null, true, false and a number take no memory. It goes as deep as the JSON
-/// nests.
+/// stand for UTF-8. Null, true, false and a number never run out of memory. It recurses as deep
+/// as the JSON nests.
 #[tactic(auto, using(crate::proofs::Ones::its_json, crate::proofs::Ones::only_read, crate::proofs::Ones::of_none))]
 pub fn from_value(alloc: Global, value: &Value) -> Result<AMQPValue, ValueError>
     ensures json { IfOk result (λ v. json (view v) ≡ document value.now) }

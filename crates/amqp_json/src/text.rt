@@ -17,7 +17,9 @@ use amqp_value_core::value::AMQPValue;
 use serde_json::Value;
 use std::alloc::{AllocError, Global};
 
-/// The JSON text of a value, with no spaces. A JSON value of all the value is made meanwhile.
+/// The JSON text of a value, with no spaces between its parts. A JSON value of all the value is
+/// made meanwhile; an error comes where memory runs out. Where it nests more than 127 deep
+/// `from_json` refuses the text. It recurses as deep as the value nests.
 #[tactic(auto, using(crate::proofs::NoFloat::no_float))]
 pub fn to_json(alloc: Global, value: &AMQPValue) -> Result<String, AllocError>
     ensures text { IfOk result (λ s. string_bytes s ≡ compact_text (json (view value.now))) }
@@ -28,7 +30,8 @@ pub fn to_json(alloc: Global, value: &AMQPValue) -> Result<String, AllocError>
 }
 
 /// The value whose JSON the text is. Of a key that comes twice in one object the last one's value
-/// stays.
+/// stays. A JSON value of all the text is made meanwhile. It is `Syntax` where the text is no JSON
+/// or nests more than 127 deep, and `NotAValue` where it is the JSON of no value.
 #[tactic(auto, using(crate::proofs::Ones::only_in))]
 pub fn from_json(alloc: Global, text: &str) -> Result<AMQPValue, JsonError>
     ensures json { IfOk result (λ v. read text.now ≡ Some (json (view v))) }
