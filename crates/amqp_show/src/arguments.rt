@@ -13,37 +13,96 @@ const EXAMPLES: &str = "\
 Examples:
   echo 4600000007 0161 7401 0162 56 | amqp_show --hex
   echo 4600000007 0161 7401 0162 56 | amqp_show --hex --bytes
+  echo 4600000007 0161 7401 0162 56 | amqp_show --hex --json
+  echo '{\"a\":true,\"b\":null}' | amqp_show --encode
+  echo '{\"a\":true,\"b\":null}' | amqp_show --encode --raw | amqp_show
+  cat one.bin two.bin | amqp_show --stream --json
 
 Exit status: 0 where each value was read, 1 where one was refused or is truncated,
-2 for a mistake in the arguments, or where a file can't be read.";
+2 for a mistake in the arguments, or where a file or its hexadecimal can't be read.";
 
-/// How a value is shown, and within which limits it is read.
+/// What is done with each input.
+#[derive(Clone, Copy, Debug)]
+pub enum Task {
+    /// The value at its beginning is shown.
+    Show,
+    /// Its values are shown, each as it comes.
+    Stream,
+    /// It is the JSON of a value, which is encoded: as it is where it is wanted raw, and else in
+    /// hexadecimal.
+    Encode {
+        /// Whether it is wanted raw.
+        raw: bool,
+    },
+}
+
+/// How a value is shown.
+#[derive(Clone, Copy, Debug)]
+pub enum Form {
+    /// As text for people.
+    Text {
+        /// As a tree.
+        tree: bool,
+        /// Byte by byte.
+        bytes: bool,
+    },
+    /// As JSON, in a line.
+    Json {
+        /// With nothing but ASCII that prints.
+        ascii: bool,
+    },
+}
+
+/// What is done, how a value is shown, and within which limits it is read.
 #[derive(Clone, Copy, Debug)]
 pub struct Settings {
+    /// What is done.
+    pub task: Task,
     /// The input is hexadecimal text.
     pub hex: bool,
-    /// The value is shown as a tree.
-    pub tree: bool,
-    /// The value is shown byte by byte.
-    pub bytes: bool,
-    /// It is refused where it has more bytes, or nests deeper.
+    /// How a value is shown.
+    pub form: Form,
+    /// The output is a terminal that is to have colours.
+    pub colours: bool,
+    /// A value is refused where it has more bytes, or nests deeper.
     pub limits: Limits,
 }
 
 impl Settings {
-    /// What the arguments say. Without `--bytes` the value is shown as a tree.
-    pub fn from_matches(matches: &ArgMatches<'_>) -> Settings {
-        let bytes = matches.get_flag("bytes");
+    /// What the arguments say, where the output is a terminal or not, and has colours or not.
+    /// Without `--bytes` and `--json` a value is shown as a tree.
+    pub fn from_matches(matches: &ArgMatches<'_>, is_terminal: bool, colours: bool) -> Settings {
         Settings {
+            task: task_of(matches),
             hex: matches.get_flag("hex"),
-            tree: matches.get_flag("tree") || !bytes,
-            bytes,
+            form: form_of(matches, is_terminal),
+            colours,
             limits: Limits {
                 frame: matches.get_one::<u32>("frame").unwrap_or(FRAME),
                 depth: matches.get_one::<u32>("depth").unwrap_or(DEPTH),
             },
         }
     }
+}
+
+fn task_of(matches: &ArgMatches<'_>) -> Task {
+    if matches.get_flag("encode") {
+        let raw = matches.get_flag("raw");
+        Task::Encode { raw }
+    } else if matches.get_flag("stream") {
+        Task::Stream
+    } else {
+        Task::Show
+    }
+}
+
+fn form_of(matches: &ArgMatches<'_>, is_terminal: bool) -> Form {
+    if matches.get_flag("json") {
+        return Form::Json { ascii: is_terminal };
+    }
+    let bytes = matches.get_flag("bytes");
+    let tree = matches.get_flag("tree") || !bytes;
+    Form::Text { tree, bytes }
 }
 
 /// The command line.
@@ -59,13 +118,36 @@ pub fn command<'a>(alloc: Global) -> Result<Command<'a>, AllocError> {
         .arg(flag(
             alloc,
             "tree",
-            "Show the value as a tree, with types (the default)",
+            "Show a value as a tree, with types (the default)",
         ))?
         .arg(flag(
             alloc,
             "bytes",
             "Show each part of the encoding: offset, bytes, what they are",
         ))?
+        .arg(
+            flag(alloc, "json", "Show a value as JSON, in a line")
+                .conflicts_with("tree")?
+                .conflicts_with("bytes")?,
+        )?
+        .arg(flag(
+            alloc,
+            "stream",
+            "The input is values one after another: show each as it comes",
+        ))?
+        .arg(
+            flag(
+                alloc,
+                "encode",
+                "The input is JSON: write the encoding of its value, in hexadecimal",
+            )
+            .conflicts_with("hex")?
+            .conflicts_with("tree")?
+            .conflicts_with("bytes")?
+            .conflicts_with("json")?
+            .conflicts_with("stream")?,
+        )?
+        .arg(flag(alloc, "raw", "With --encode: write bytes as they are").requires_arg("encode")?)?
         .arg(number(
             alloc,
             "frame",
@@ -82,7 +164,7 @@ pub fn command<'a>(alloc: Global) -> Result<Command<'a>, AllocError> {
             Arg::new(alloc, "FILE")
                 .action(ArgAction::Append)
                 .num_args(0..)
-                .help("Files, each with a value; - or none is the standard input"),
+                .help("Files; - or none is the standard input"),
         )
 }
 

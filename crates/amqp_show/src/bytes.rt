@@ -1,8 +1,9 @@
 //! A value byte by byte.
 
+use crate::colours::{Colour, push_coloured, push_note};
 use crate::notes::Keys;
 use crate::texts::part_text;
-use amqp_dissect::Dissection;
+use amqp_dissect::{Dissection, Field};
 use std::alloc::{AllocError, Global};
 
 // How many bytes of a part are shown.
@@ -14,6 +15,7 @@ pub fn bytes_text(
     alloc: Global,
     input: &[u8],
     dissection: &Dissection<'_>,
+    has_colours: bool,
 ) -> Result<String, AllocError> {
     let parts = dissection.parts.as_slice();
     let mut keys = Keys::new(alloc);
@@ -26,11 +28,13 @@ pub fn bytes_text(
             text.push_str("  ")?;
         }
         let what = part_text(alloc, part, input)?;
-        text.push_str(what.as_str())?;
+        if part.field == Field::Key {
+            push_coloured(&mut text, what.as_str(), Colour::Key, has_colours)?;
+        } else {
+            text.push_str(what.as_str())?;
+        }
         if let Some(note) = keys.note(part, parts.get(index + 1))? {
-            text.push_str(" (not canonical: ")?;
-            text.push_str(note)?;
-            text.push(')')?;
+            push_note(alloc, &mut text, note, has_colours)?;
         }
         text.push('\n')?;
     }

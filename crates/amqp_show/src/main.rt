@@ -1,19 +1,26 @@
-//! Shows AMQP field-table values to people: as a tree, or byte by byte, up to where one fails.
+//! Shows AMQP field-table values to people and programs: as a tree, byte by byte up to where one
+//! fails, or as JSON, one or a stream of them; and encodes the values that JSON stands for.
 #![tactic(auto)]
 
 mod arguments;
 mod bytes;
+mod colours;
+mod digits;
+mod encode;
+mod input;
+mod json;
 mod notes;
+mod recorder;
 mod show;
+mod stream;
 mod texts;
 mod tree;
 
-use anyhow::{Context, Result};
-use arguments::Settings;
-use show::show;
-use std::io::Read;
+use anyhow::Result;
+use arguments::{Settings, Task};
+use std::env;
+use std::io::IsTerminal;
 use std::process::ExitCode;
-use std::{env, fs, io};
 
 // What the program ends with: 0 where each value was read, 1 where one wasn't, 2 for a mistake in
 // the arguments, a file that can't be read, text that is no hexadecimal, or want of memory.
@@ -42,35 +49,17 @@ fn run(rt: &HostRuntime) -> Result<ExitCode> {
             return Ok(ExitCode::from(if error.use_stderr() { MISTAKE } else { 0 }));
         }
     };
-    let settings = Settings::from_matches(&matches);
+    let is_terminal = rt.stdout().is_terminal();
+    let colours = is_terminal && colours::are_allowed(rt);
+    let settings = Settings::from_matches(&matches, is_terminal, colours);
     let mut all_read = true;
     for file in matches.get_strs("FILE").unwrap_or(&["-"]) {
-        let input = input_of(rt, *file, settings.hex)?;
-        let (text, is_read) = show(alloc, input.as_slice(), settings)?;
-        if *file != "-" {
-            let name = amqp_dissect::escape(alloc, file.as_bytes())?;
-            println!(rt; "{name}:")?;
-        }
-        print!(rt; "{text}")?;
+        let is_read = match settings.task {
+            Task::Show => show::show_file(rt, *file, settings)?,
+            Task::Stream => stream::show_file(rt, *file, settings)?,
+            Task::Encode { raw } => encode::encode_file(rt, *file, raw)?,
+        };
         all_read = all_read && is_read;
     }
     Ok(ExitCode::from(if all_read { 0 } else { REFUSED }))
-}
-
-// The bytes of a file, or of the standard input where it is called `-`.
-fn input_of(rt: &HostRuntime, file: &str, hex: bool) -> Result<Vec<u8>> {
-    let alloc = rt.alloc();
-    let mut input = Vec::new(alloc);
-    if file == "-" {
-        rt.stdin()
-            .read_to_end(&mut input)
-            .context("reading the standard input")?;
-    } else {
-        input = fs::read(rt, file).context("reading a file")?;
-    }
-    if !hex {
-        return Ok(input);
-    }
-    input.retain(|byte| !byte.is_ascii_whitespace());
-    hex::decode(alloc, input.as_slice()).context("the input isn't hexadecimal")
 }

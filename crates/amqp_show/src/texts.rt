@@ -2,8 +2,9 @@
 
 use amq_protocol_types::AMQPType;
 use amq_protocol_types::in_place::{ValueRef, read_in_place};
+use amq_protocol_types::parsing::{Err, ErrorKind, Needed, ParserError};
 use amq_protocol_types::stream::Limits;
-use amqp_dissect::{End, Field, Part, Problem, escape};
+use amqp_dissect::{Dissection, End, Field, Part, Problem, escape};
 use std::alloc::{AllocError, Global};
 
 /// What a part is.
@@ -68,8 +69,43 @@ pub fn quoted(alloc: Global, bytes: &[u8]) -> Result<String, AllocError> {
     format!(in alloc; "\"{text}\"")
 }
 
-/// What ends a dissection, and what should stand there.
-pub fn end_text(alloc: Global, end: End) -> Result<String, AllocError> {
+/// Where a value fails, and why.
+pub fn failure_text(alloc: Global, dissection: &Dissection<'_>) -> Result<String, AllocError> {
+    let why = end_text(alloc, dissection.end)?;
+    format!(in alloc; "offset {}: {why}", dissection.offset)
+}
+
+/// What the library answers about the value at the beginning of the input.
+pub fn outcome_text(alloc: Global, input: &[u8], limits: Limits) -> Result<String, AllocError> {
+    match read_in_place(input, limits) {
+        Ok((_, rest)) => {
+            let len = input.len().saturating_sub(rest.len());
+            format!(in alloc; "a value of {len} bytes, {} follow", rest.len())
+        }
+        Err(error) => refusal_text(alloc, error),
+    }
+}
+
+// What an error says.
+fn refusal_text(alloc: Global, error: ParserError) -> Result<String, AllocError> {
+    match error {
+        Err::Incomplete(Needed::Size(n)) => format!(in alloc; "truncated; more bytes needed: {n}"),
+        Err::Incomplete(Needed::Unknown) => format!(in alloc; "truncated"),
+        Err::Error(error) | Err::Failure(error) => {
+            let name = match error.kind() {
+                ErrorKind::MapOpt => "MapOpt",
+                ErrorKind::MapRes => "MapRes",
+                ErrorKind::Eof => "Eof",
+                ErrorKind::OutOfMemory => "OutOfMemory",
+                ErrorKind::TooLarge => "TooLarge",
+            };
+            format!(in alloc; "refused, {name}")
+        }
+    }
+}
+
+// What ends a dissection, and what should stand there.
+fn end_text(alloc: Global, end: End) -> Result<String, AllocError> {
     match end {
         End::Value => format!(in alloc; "the end of the value"),
         End::TooLarge => format!(in alloc; "the value has more bytes than --frame allows"),

@@ -1,5 +1,6 @@
 //! A value as a tree.
 
+use crate::colours::{Colour, push_coloured, push_note};
 use crate::notes::{Keys, key_of};
 use crate::texts::{quoted, value_text};
 use amqp_dissect::{Dissection, Field, Part};
@@ -11,6 +12,7 @@ pub fn tree_text(
     alloc: Global,
     input: &[u8],
     dissection: &Dissection<'_>,
+    has_colours: bool,
 ) -> Result<String, AllocError> {
     let parts = dissection.parts.as_slice();
     let mut keys = Keys::new(alloc);
@@ -23,7 +25,7 @@ pub fn tree_text(
                 begin_line(&mut text, part.level)?;
                 if let Some(key) = key_of(part.bytes, next) {
                     let key = quoted(alloc, key)?;
-                    text.push_str(key.as_str())?;
+                    push_coloured(&mut text, key.as_str(), Colour::Key, has_colours)?;
                 } else {
                     text.push('?')?;
                 }
@@ -47,9 +49,7 @@ pub fn tree_text(
             Field::Length(_) | Field::Key | Field::Payload(_) => {}
         }
         if let Some(note) = keys.note(part, next)? {
-            text.push_str(" (not canonical: ")?;
-            text.push_str(note)?;
-            text.push(')')?;
+            push_note(alloc, &mut text, note, has_colours)?;
         }
     }
     if !text.is_empty() {
