@@ -8,8 +8,8 @@ use amqp_value_core::value::AMQPValue;
 use std::alloc::Global;
 use std::test::Fail;
 
-// written as this text, and read from it again
-fn goes_both_ways(alloc: Global, value: &AMQPValue, text: &str) -> Result<bool, Fail> {
+/// Whether the value is written as this text, and read from it again.
+pub(crate) fn goes_both_ways(alloc: Global, value: &AMQPValue, text: &str) -> Result<bool, Fail> {
     let written = to_json(alloc, value)?;
     let read = from_json(alloc, text)?;
     Ok(written.as_str() == text && read == *value)
