@@ -1,9 +1,11 @@
 -- One part more.
-use Rattle.std.proofs.Common.{◌≡◌, ◌+◌, ◌≤◌, ◌-◌, ℕ, List, [], ◌∷◌, ◌++◌, length, take, drop, map, slice_range, refl, sym, ap, ap₂, ◌∙◌, arith, append_assoc, append-nil, length-append}
+use Rattle.std.proofs.Common.{◌≡◌, ◌+◌, ◌≤◌, ◌<◌, ◌-◌, ℕ, true, IsTrue, List, [], ◌∷◌, ◌++◌, length, take, drop, map, slice_range, refl, sym, ap, ap₂, ◌∙◌, arith, append_assoc, append-nil, length-append}
 use Rattle.std.proofs.lemmas.List.{length-take-le}
 use Rattle.std.proofs.Math.Seq.{take-add}
 use Rattle.amqp_dissect.specs.declared.part.Part.{Part}
-use Rattle.amqp_dissect.specs.Parts.{joined, starts, HaveOffsets}
+use Rattle.std.specs.List.{list_all}
+use Rattle.std.proofs.lemmas.List.Folds.{list_all-append}
+use Rattle.amqp_dissect.specs.Parts.{has_bytes, joined, starts, HaveOffsets}
 
 joined_last : (ps : List Part) (p : Part) → joined (ps ++ p ∷ []) ≡ joined ps ++ p.bytes.now
 joined_last [] p = append-nil p.bytes.now
@@ -30,3 +32,9 @@ pub offsets_more : (xs : List ℕ) (at : ℕ) (ps : List Part) (p : Part) → jo
 offsets_more xs at ps p so within is have =
     let long : length (joined ps) ≡ at = ap length so ∙ length-take-le at xs within in
     offsets_last ps p ∙ (ap₂ (λ s k. s ++ k ∷ []) have (is ∙ sym long) ∙ sym (starts_last 0 ps p ∙ ap (λ k. starts 0 ps ++ k ∷ []) (omega arith)))
+
+-- where it has a byte, still all have
+pub bytes_more : (ps : List Part) (p : Part) → IsTrue (list_all has_bytes ps) → 0 < length p.bytes.now → IsTrue (list_all has_bytes (ps ++ p ∷ []))
+bytes_more ps p all some =
+    let one : has_bytes p ≡ true = grind (arith) in
+    rw (list_all-append has_bytes ps (p ∷ []), all, one) refl

@@ -1,6 +1,10 @@
 -- The parts of an encoding, one after another.
-use Rattle.std.specs.Prelude.{ℕ, ◌+◌, ◌≡◌, List, [], ◌∷◌, ◌++◌, length, map}
+use Rattle.std.specs.Prelude.{ℕ, ◌+◌, ◌≡◌, nat_lt, Bool, List, [], ◌∷◌, ◌++◌, length, map}
 use Rattle.amqp_dissect.specs.declared.part.Part.{Part}
+
+-- whether a part has a byte
+abbrev pub has_bytes : Part → Bool
+has_bytes p = nat_lt 0 (length p.bytes.now)
 
 -- the bytes of all parts, in order
 abbrev pub joined : List Part → List ℕ

@@ -1,7 +1,8 @@
 //! The dissection of an encoding.
 
-ghost use Rattle.std.specs.Prelude.{◌≡◌, ◌≤◌, IfOk, OnErr, length, take};
-ghost use Rattle.amqp_dissect.specs.Parts.{joined, HaveOffsets};
+ghost use Rattle.std.specs.Prelude.{◌≡◌, ◌≤◌, IsTrue, IfOk, OnErr, length, take};
+ghost use Rattle.std.specs.List.{list_all};
+ghost use Rattle.amqp_dissect.specs.Parts.{has_bytes, joined, HaveOffsets};
 ghost use Rattle.amqp_dissect.specs.Ends.{Ends};
 ghost use Rattle.amqp_dissect.specs.Memory.{TakesMemory};
 
@@ -44,6 +45,7 @@ pub fn dissect<'a>(
 ) -> Result<Dissection<'a>, AllocError>
     ensures joined { IfOk result (λ d. joined d.parts.items ≡ take d.offset input.entry.now) }
     ensures offsets { IfOk result (λ d. HaveOffsets d.parts.items) }
+    ensures bytes { IfOk result (λ d. IsTrue (list_all has_bytes d.parts.items)) }
     ensures within { IfOk result (λ d. d.offset ≤ length input.entry.now) }
     ensures end { IfOk result (λ d. Ends limits input.entry.now d.offset d.end) }
     ensures memory { OnErr result (TakesMemory limits input.entry.now) }

@@ -2,8 +2,9 @@
 
 mod values;
 
-ghost use Rattle.std.specs.Prelude.{◌≡◌, ◌≤◌, ◌+◌, length, take, OnOk, OnErr};
-ghost use Rattle.amqp_dissect.specs.Parts.{joined, HaveOffsets};
+ghost use Rattle.std.specs.Prelude.{◌≡◌, ◌≤◌, ◌+◌, IsTrue, length, take, OnOk, OnErr};
+ghost use Rattle.std.specs.List.{list_all};
+ghost use Rattle.amqp_dissect.specs.Parts.{has_bytes, joined, HaveOffsets};
 
 use crate::part::{Field, Part};
 use std::alloc::{AllocError, Global};
@@ -19,6 +20,7 @@ pub(crate) struct Walk<'a> {
     ghost within: { at ≤ length input.now },
     ghost joined: { joined parts.items ≡ take at input.now },
     ghost offsets: { HaveOffsets parts.items },
+    ghost bytes: { IsTrue (list_all has_bytes parts.items) },
 }
 
 impl<'a> Walk<'a> {
@@ -41,6 +43,7 @@ impl<'a> Walk<'a> {
         ensures at { result.0 ≡ self.entry.at }
         ensures joined { joined result.1.items ≡ take result.0 self.entry.input.now }
         ensures offsets { HaveOffsets result.1.items }
+        ensures bytes { IsTrue (list_all has_bytes result.1.items) }
     {
         (self.at, self.parts)
     }
