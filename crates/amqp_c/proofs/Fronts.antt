@@ -9,7 +9,7 @@ use Rattle.amqp_types.specs.Ids.{id_of}
 use Rattle.amqp_types.specs.Names.{read_as}
 use Rattle.amqp_grammar.specs.Values.{Tree, scalar, short, long, octets, array, table, no_entries, onto, scalar_type, Scalar}
 use Rattle.amqp_grammar.specs.Layouts.{Layout, fixed}
-use Rattle.amqp_grammar.specs.Grammar.{large, Wire, wire, Raw, raw_fixed, raw_short, raw_long, raw_octets, raw_array, raw_table, Body}
+use Rattle.amqp_grammar.specs.Grammar.{long_field, Wire, wire, Raw, raw_fixed, raw_short, raw_long, raw_octets, raw_array, raw_table, Body}
 use Rattle.amqp_grammar.specs.Outcomes.{Reading, found, more, unknown, malformed, lack, lack_of, frame_lack, fields_lack, length_field, LacksOr, Outcome}
 use Rattle.amqp_grammar.specs.Payloads.{type_of, RawFront, RawOutcome}
 use Rattle.amqp_grammar.proofs.GrammarLaws.{found_front, one_outcome, one_raw_reading, raw_to_value, value_to_raw, array_body, table_body}
@@ -90,12 +90,12 @@ cut_fault s mid type p h (Failure k) x = absurd x.1
 -- a field that is read has the extent of a long string with the same bytes
 pub frame_extent : (s mid body rest : List ℕ) (type : AMQPType) → IsType s type mid → IsFrame mid body rest → has_content type ≡ true → extent s + length rest ≡ length s
 frame_extent s mid body rest type p f h =
-    let string = wire_extent (83 ∷ large body) rest (long body) (wire 83 amqp.LongString (large body) (long body) refl (raw_long body f.fits)) in
+    let string = wire_extent (83 ∷ long_field body) rest (long body) (wire 83 amqp.LongString (long_field body) (long body) refl (raw_long body f.fits)) in
     let here : extent s ≡ extent_at (Some type) mid = ap extent p.1 ∙ ap (λ (o : Option AMQPType). extent_at o mid) p.2 in
     let kept : extent_at (Some type) mid ≡ suc (extent_of None w32 mid) = by type h in
-    let there : extent_of None w32 mid ≡ extent_of None w32 (large body ++ rest) = ap (extent_of None w32) f.framed in
-    let whole : suc (extent_of None w32 (large body ++ rest)) ≡ suc (length (large body)) = string in
-    omega (arith, here, kept, there, whole, ap length p.1, ap length f.framed, length-append (large body) rest)
+    let there : extent_of None w32 mid ≡ extent_of None w32 (long_field body ++ rest) = ap (extent_of None w32) f.framed in
+    let whole : suc (extent_of None w32 (long_field body ++ rest)) ≡ suc (length (long_field body)) = string in
+    omega (arith, here, kept, there, whole, ap length p.1, ap length f.framed, length-append (long_field body) rest)
   where
     by : (type : AMQPType) → has_content type ≡ true → extent_at (Some type) mid ≡ suc (extent_of None w32 mid)
     by amqp.LongString h = refl
@@ -115,19 +115,19 @@ ContentIs body _ = ⊥
 content_front : (type : AMQPType) (mid body rest : List ℕ) → IsFrame mid body rest → has_content type ≡ true → (v : Tree) (left : List ℕ) → RawFront type mid (found v left)
     → ContentIs body v × (type_of v ≡ type) × (left ≡ rest)
 content_front amqp.LongString mid body rest f h v left raw =
-    let same = one_raw_reading amqp.LongString raw.0 (large body) left rest v (long body) raw.1 (raw_long body f.fits) (sym raw.2 ∙ f.framed) in
+    let same = one_raw_reading amqp.LongString raw.0 (long_field body) left rest v (long body) raw.1 (raw_long body f.fits) (sym raw.2 ∙ f.framed) in
     (subst (ContentIs body) (sym same.1) refl, ap type_of same.1, same.2)
 content_front amqp.ByteArray mid body rest f h v left raw =
-    let same = one_raw_reading amqp.ByteArray raw.0 (large body) left rest v (octets body) raw.1 (raw_octets body f.fits) (sym raw.2 ∙ f.framed) in
+    let same = one_raw_reading amqp.ByteArray raw.0 (long_field body) left rest v (octets body) raw.1 (raw_octets body f.fits) (sym raw.2 ∙ f.framed) in
     (subst (ContentIs body) (sym same.1) refl, ap type_of same.1, same.2)
 content_front amqp.FieldArray mid body rest f h v left raw =
     let b = array_body body rest raw.0 left v f.fits raw.1 (sym f.framed ∙ raw.2) in
-    let same = one_raw_reading amqp.FieldArray raw.0 (large body) left rest v (array b.0) raw.1 (raw_array body b.0 f.fits b.1) (sym raw.2 ∙ f.framed) in
+    let same = one_raw_reading amqp.FieldArray raw.0 (long_field body) left rest v (array b.0) raw.1 (raw_array body b.0 f.fits b.1) (sym raw.2 ∙ f.framed) in
     (subst (ContentIs body) (sym same.1) b.1, ap type_of same.1, same.2)
 content_front amqp.FieldTable mid body rest f h v left raw =
     let b = table_body body rest raw.0 left v f.fits raw.1 (sym f.framed ∙ raw.2) in
     let es = onto no_entries b.0 in
-    let same = one_raw_reading amqp.FieldTable raw.0 (large body) left rest v (table es) raw.1 (raw_table body b.0 f.fits b.1) (sym raw.2 ∙ f.framed) in
+    let same = one_raw_reading amqp.FieldTable raw.0 (long_field body) left rest v (table es) raw.1 (raw_table body b.0 f.fits b.1) (sym raw.2 ∙ f.framed) in
     (subst (ContentIs body) (sym same.1) (b.0, b.1, refl), ap type_of same.1, same.2)
 content_front _ mid body rest f h v left raw = absurd cc
 
@@ -166,11 +166,11 @@ content_entry s mid body rest type p f h e at size from count tag v left x =
 -- ---- values of fixed width
 
 id_in : Option Layout → List ℕ → ℕ
-id_in (Some f) b = id_of (scalar_type (f.meaning b))
+id_in (Some f) b = id_of (scalar_type (f.denotes b))
 id_in None b = 0
 
 -- the type tag of what a payload of fixed width means is that of its type
-fixed_tag : (type : AMQPType) (f : Layout) (b : List ℕ) → fixed type ≡ Some f → id_of (scalar_type (f.meaning b)) ≡ id_of type
+fixed_tag : (type : AMQPType) (f : Layout) (b : List ℕ) → fixed type ≡ Some f → id_of (scalar_type (f.denotes b)) ≡ id_of type
 unfolding id_in
 fixed_tag amqp.LongString f b is = absurd cc
 fixed_tag amqp.ShortString f b is = absurd cc
@@ -186,7 +186,7 @@ pub record IsScalar (type : AMQPType) (v : Tree) : Type 0 where
   pub tag : id_of (type_of v) ≡ id_of type
 
 scalar_front : (type : AMQPType) (b : List ℕ) (v : Tree) → has_content type ≡ false → read_as type ≡ Some type → Raw type b v → IsScalar type v
-scalar_front _ _ _ h r (raw_fixed type f b is size) = record { it = f.meaning b; is = refl; tag = fixed_tag type f b is }
+scalar_front _ _ _ h r (raw_fixed type f b is size) = record { it = f.denotes b; is = refl; tag = fixed_tag type f b is }
 scalar_front _ _ _ h r (raw_short k is) = absurd cc
 scalar_front _ _ _ h r (raw_long k fits) = absurd cc
 scalar_front _ _ _ h r (raw_octets k fits) = absurd cc
@@ -217,7 +217,7 @@ never_malformed mid type h r x = by (lack type mid) refl x
         let row = fixed_layout type h r in
         let there = fields_there row.0 mid (sym (ap (λ (o : Option Layout). lack_of o (length_field type) mid) row.1) ∙ is) in
         let b = take row.0.width mid in
-        f b (drop row.0.width mid) (scalar (row.0.meaning b)) (raw_fixed type row.0 b row.1 (length-take-le row.0.width mid there)) (sym (take-append-drop row.0.width mid))
+        f b (drop row.0.width mid) (scalar (row.0.denotes b)) (raw_fixed type row.0 b row.1 (length-take-le row.0.width mid there)) (sym (take-append-drop row.0.width mid))
     by (suc k) is e = cc
 
 pub scalar_fault : (s mid : List ℕ) (type : AMQPType) → IsType s type mid → has_content type ≡ false → read_as type ≡ Some type → (e : Refusal) → Refuses (Outcome s) ⊥ e

@@ -1,7 +1,7 @@
 -- The bytes of spans.
 use Rattle.std.proofs.Common.{◌≡◌, ◌+◌, ◌-◌, ◌≤◌, ℕ, List, ◌∷◌, ◌++◌, length, take, drop, sym, ap, ◌∙◌, arith, length-drop}
 use Rattle.std.proofs.lemmas.List.{take_at, take-take, drop-drop, drop-take, length-take-le}
-use Rattle.amqp_grammar.specs.Grammar.{large}
+use Rattle.amqp_grammar.specs.Grammar.{long_field}
 use Rattle.amqp_c.specs.declared.span.Span.{Span}
 use Rattle.amqp_c.specs.Spans.{part, moved, behind, last}
 
@@ -10,7 +10,7 @@ pub part_front : (s : List ℕ) (p : Span) → p.offset ≡ 0 → part s p ≡ t
 part_front s p e = ap (λ (o : ℕ). take p.length (drop o s)) e
 
 -- behind a type tag and a length
-pub part_content : (s mid body rest : List ℕ) (c : ℕ) (p : Span) → s ≡ c ∷ mid → mid ≡ large body ++ rest → p.offset ≡ 5 → p.length ≡ length body → part s p ≡ body
+pub part_content : (s mid body rest : List ℕ) (c : ℕ) (p : Span) → s ≡ c ∷ mid → mid ≡ long_field body ++ rest → p.offset ≡ 5 → p.length ≡ length body → part s p ≡ body
 part_content s mid body rest c p typed framed at size =
     ap (λ (o : ℕ). take p.length (drop o s)) at
     ∙ (ap (λ (t : List ℕ). take p.length (drop 5 t)) (typed ∙ ap (λ (t : List ℕ). c ∷ t) framed)

@@ -11,7 +11,7 @@ use Rattle.amqp_types.specs.declared.amqp_type.AMQPType.TheVariants as amqp
 use Rattle.amqp_types.specs.Ids.{kind}
 use Rattle.amqp_grammar.specs.Values.{Tree, scalar, long, octets, array, table, no_trees, tree, no_entries, entry, onto}
 use Rattle.amqp_grammar.specs.Layouts.{Layout, fixed}
-use Rattle.amqp_grammar.specs.Grammar.{small, large, wire, raw_fixed, raw_long, raw_octets, raw_array, raw_table, no_values, value, no_pairs, pair}
+use Rattle.amqp_grammar.specs.Grammar.{short_field, long_field, wire, raw_fixed, raw_long, raw_octets, raw_array, raw_table, no_values, value, no_pairs, pair}
 use Rattle.amqp_grammar.specs.Nesting.{OutcomeWithin, WireWithin, RawWithin}
 use Rattle.amqp_grammar.specs.Outcomes.{found, lack, lack_of, frame_lack, length_field}
 use Rattle.amqp_grammar.proofs.GrammarLaws.{wire_found_within}
@@ -76,9 +76,9 @@ module _ (d : ℕ) (s b : List ℕ) (type : AMQPType) (first width : ℕ) (is : 
       let count : length (take width b) ≡ f.0.width = length-take-le width b there ∙ sym f.3 in
       let raw = raw_fixed type f.0 (take width b) f.1 count in (
         is.0 ∷ take width b,
-        scalar (f.0.meaning (take width b)),
+        scalar (f.0.denotes (take width b)),
         drop width b,
-        (wire is.0 type (take width b) (scalar (f.0.meaning (take width b))) is.2 raw, omega arith),
+        (wire is.0 type (take width b) (scalar (f.0.denotes (take width b))) is.2 raw, omega arith),
         is.1 ∙ ap (λ t. is.0 ∷ t) (sym (take-append-drop width b)),
         ap suc (length-take-le width b there),
       )
@@ -98,23 +98,23 @@ cut_frame d s b type n is framed some e =
 
 pub deep : (d : ℕ) (s b : List ℕ) (type : AMQPType) (n : ℕ) → d ≡ 0 → IsType s type b → IsContainer type → HasFrame b n → NoValue d s 0 TooDeep
 deep d s b type n none is container (body, rest, f, e) =
-    let whole : s ≡ is.0 ∷ (large body ++ rest) = is.1 ∙ ap (λ t. is.0 ∷ t) f.framed in
+    let whole : s ≡ is.0 ∷ (long_field body ++ rest) = is.1 ∙ ap (λ t. is.0 ∷ t) f.framed in
     subst (λ k. NoValue k s 0 TooDeep) (sym none) (subst (λ (t : List ℕ). NoValue 0 t 0 TooDeep) (sym whole) (too_deep is.0 type body rest is.2 container f.fits))
 
 pub header_of : (s b : List ℕ) (type : AMQPType) (at n : ℕ) → IsType s type b → HasFrame b n → HasHeader s type at (at + 5 + n)
 header_of s b type at n is (body, rest, f, e) =
     (is.0, body, rest, is.2, is.1 ∙ ap (λ t. is.0 ∷ t) f.framed, f.fits, ap (λ k. at + 5 + k) e)
 
-length_large : (body : List ℕ) → length (large body) ≡ 4 + length body
+length_large : (body : List ℕ) → length (long_field body) ≡ 4 + length body
 length_large body = omega arith
 
 -- what a header counts is there
 pub header_fits : (xs : List ℕ) (a e : ℕ) (type : AMQPType) (behind : ℕ) → HasHeader (slice_range xs a e) type a behind → a ≤ e → e ≤ length xs → (a + 5 ≤ behind) × (behind ≤ e)
 header_fits xs a e type behind (c, body, rest, k, is, fits, b) le in_xs =
-    let size = window_size xs a e (c ∷ large body) rest is le in_xs in
+    let size = window_size xs a e (c ∷ long_field body) rest is le in_xs in
     (omega arith, omega (arith, size, length_large body))
 
-string_raw : (d : ℕ) (type : AMQPType) (body : List ℕ) → IsString type → length body < 2 ^ 32 → (v : Tree) × RawWithin d type (large body) v
+string_raw : (d : ℕ) (type : AMQPType) (body : List ℕ) → IsString type → length body < 2 ^ 32 → (v : Tree) × RawWithin d type (long_field body) v
 string_raw d amqp.LongString body p fits = (long body, (raw_long body fits, omega arith))
 string_raw d amqp.ByteArray body p fits = (octets body, (raw_octets body fits, omega arith))
 string_raw d _ body p fits = absurd p
@@ -122,7 +122,7 @@ string_raw d _ body p fits = absurd p
 pub string_read : (d : ℕ) (s : List ℕ) (type : AMQPType) (at behind : ℕ) → HasHeader s type at behind → IsString type → IsValueOf d s (behind - at)
 string_read d s type at behind (c, body, rest, k, is, fits, b) string =
     let r = string_raw d type body string fits in
-    (c ∷ large body, r.0, rest, (wire c type (large body) r.0 k r.1.0, r.1.1), is, omega (arith, length_large body))
+    (c ∷ long_field body, r.0, rest, (wire c type (long_field body) r.0 k r.1.0, r.1.1), is, omega (arith, length_large body))
 
 -- ---- a walk over a value
 
@@ -168,8 +168,8 @@ is_at_weaker P Q f (At p) x = f p x
 -- what such entries are as the body of a container: they make its payload, and one that is none
 -- stands 5 bytes later in the value
 pub record IsBodyOf (type : AMQPType) (Are : ℕ → List ℕ → Type 0) (Fail : ℕ → List ℕ → ℕ → Problem → Type 0) : Type 0 where
-  pub raw : (d : ℕ) (body : List ℕ) → length body < 2 ^ 32 → Are d body → (v : Tree) × RawWithin (suc d) type (large body) v
-  pub fail : (d c : ℕ) (body rest : List ℕ) (o : ℕ) (p : Problem) → kind c ≡ Some type → length body < 2 ^ 32 → Fail d body o p → NoValue (suc d) (c ∷ (large body ++ rest)) (5 + o) p
+  pub raw : (d : ℕ) (body : List ℕ) → length body < 2 ^ 32 → Are d body → (v : Tree) × RawWithin (suc d) type (long_field body) v
+  pub fail : (d c : ℕ) (body rest : List ℕ) (o : ℕ) (p : Problem) → kind c ≡ Some type → length body < 2 ^ 32 → Fail d body o p → NoValue (suc d) (c ∷ (long_field body ++ rest)) (5 + o) p
 
 pub of_array : IsBodyOf amqp.FieldArray AreValues NoValues
 of_array = record {
@@ -186,9 +186,9 @@ of_table = record {
 -- the body of a container
 body_window : (xs : List ℕ) (a e behind : ℕ) (type : AMQPType) (h : HasHeader (slice_range xs a e) type a behind) → a ≤ e → e ≤ length xs → slice_range xs (a + 5) behind ≡ h.1
 body_window xs a e behind type (c, body, rest, k, is, fits, b) le in_xs =
-    let size = window_size xs a e (c ∷ large body) rest is le in_xs in
-    let count : a + length (c ∷ large body) ≡ behind = omega (arith, length_large body) in
-    let front : slice_range xs a behind ≡ c ∷ large body = subst (λ k. slice_range xs a k ≡ c ∷ large body) count (window_front xs a e (c ∷ large body) rest is) in
+    let size = window_size xs a e (c ∷ long_field body) rest is le in_xs in
+    let count : a + length (c ∷ long_field body) ≡ behind = omega (arith, length_large body) in
+    let front : slice_range xs a behind ≡ c ∷ long_field body = subst (λ k. slice_range xs a k ≡ c ∷ long_field body) count (window_front xs a e (c ∷ long_field body) rest is) in
     let tag : List ℕ = c ∷ to_be_bytes w32 (length body) in
     let split : slice_range xs a behind ≡ tag ++ body = front in
     let at : a + length tag ≡ a + 5 = omega arith in
@@ -206,8 +206,8 @@ module _ (type : AMQPType) (Are : ℕ → List ℕ → Type 0) (Fail : ℕ → L
   container (Ok u) es =
       let v = of.raw (d - 1) h.1 h.5 (subst (Are (d - 1)) body_ahead es.entries) in
       let whole = es.whole in
-      let count : length (h.0 ∷ large h.1) ≡ new.at - old.at = omega (arith, length_large h.1, h.6, whole) in
-      passes d old new end u can (es.goes.input ∙ same) (omega (arith, es.goes.order)) (h.0 ∷ large h.1, v.0, h.2, (wire h.0 type (large h.1) v.0 h.3 v.1.0, omega (arith, v.1.1)), h.4, count)
+      let count : length (h.0 ∷ long_field h.1) ≡ new.at - old.at = omega (arith, length_large h.1, h.6, whole) in
+      passes d old new end u can (es.goes.input ∙ same) (omega (arith, es.goes.order)) (h.0 ∷ long_field h.1, v.0, h.2, (wire h.0 type (long_field h.1) v.0 h.3 v.1.0, omega (arith, v.1.1)), h.4, count)
   container (Err s) es =
       let up = es.goes.order in
       let depth : suc (d - 1) ≡ d = omega arith in
@@ -308,28 +308,28 @@ short_key d s l n bytes m a is e short at =
     subst (λ k. NoPairs d s k (KeyCut (n - length bytes))) (let z : 0 ≡ m - a = omega arith in z)
     (subst (λ (t : List ℕ). NoPairs d t 0 (KeyCut (n - length bytes))) (sym is) (subst (λ k. NoPairs d (k ∷ bytes) 0 (KeyCut (n - length bytes))) e (cut_key d n bytes short)))
 
-small_front : (n : ℕ) (bytes : List ℕ) → n ≤ length bytes → small (take n bytes) ++ drop n bytes ≡ n ∷ bytes
+small_front : (n : ℕ) (bytes : List ℕ) → n ≤ length bytes → short_field (take n bytes) ++ drop n bytes ≡ n ∷ bytes
 small_front n bytes there = ap₂ (λ k t. k ∷ t) (length-take-le n bytes there) (take-append-drop n bytes)
 
 pub no_text : (d : ℕ) (s : List ℕ) (l n : ℕ) (bytes : List ℕ) (m a : ℕ) → s ≡ l ∷ bytes → n ≡ l → n ≤ length bytes → (IsUtf8 (take n bytes) → ⊥) → m ≡ a + 1 → NoPairs d s (m - a) KeyNotUtf8
 no_text d s l n bytes m a is e there none at =
-    let whole : small (take n bytes) ++ drop n bytes ≡ s = small_front n bytes there ∙ (ap (λ k. k ∷ bytes) e ∙ sym is) in
+    let whole : short_field (take n bytes) ++ drop n bytes ≡ s = small_front n bytes there ∙ (ap (λ k. k ∷ bytes) e ∙ sym is) in
     subst (λ k. NoPairs d s k KeyNotUtf8) (let z : 1 ≡ m - a = omega arith in z)
     (subst (λ (t : List ℕ). NoPairs d t 1 KeyNotUtf8) whole (key_not_utf8 d (take n bytes) (drop n bytes) none))
 
 pub key_read : (xs : List ℕ) (a m e l n : ℕ) (bytes : List ℕ) → slice_range xs a e ≡ l ∷ bytes → n ≡ l → n ≤ length bytes → n ≤ 255 → IsUtf8 (take n bytes) → m ≡ a + 1 + n → a ≤ e → e ≤ length xs → IsKeyThen (slice_range xs a e) (slice_range xs m e)
 key_read xs a m e l n bytes is same there few utf8 at le in_xs =
     let k = take n bytes in
-    let whole : slice_range xs a e ≡ small k ++ drop n bytes = is ∙ (ap (λ j. j ∷ bytes) (sym same) ∙ sym (small_front n bytes there)) in
-    let count : a + length (small k) ≡ m = omega (arith, length-take-le n bytes there) in
-    let back : slice_range xs m e ≡ drop n bytes = subst (λ j. slice_range xs j e ≡ drop n bytes) count (window_back xs a e (small k) (drop n bytes) whole le in_xs) in
-    (k, record { few = omega (arith, length-take-le n bytes there); utf8 = utf8 }, whole ∙ ap (λ t. small k ++ t) (sym back))
+    let whole : slice_range xs a e ≡ short_field k ++ drop n bytes = is ∙ (ap (λ j. j ∷ bytes) (sym same) ∙ sym (small_front n bytes there)) in
+    let count : a + length (short_field k) ≡ m = omega (arith, length-take-le n bytes there) in
+    let back : slice_range xs m e ≡ drop n bytes = subst (λ j. slice_range xs j e ≡ drop n bytes) count (window_back xs a e (short_field k) (drop n bytes) whole le in_xs) in
+    (k, record { few = omega (arith, length-take-le n bytes there); utf8 = utf8 }, whole ∙ ap (λ t. short_field k ++ t) (sym back))
 
 module _ (d : ℕ) (old now mid next : Walk) (end : ℕ) (can : CanReach old end) (g : Passed (ArePairs d) (NoPairs d) old end now) (goes : GoesOn now end mid) (key : IsKeyThen (ahead now end) (ahead mid end)) where
   pub pair_more : (u : Unit {0}) → PassesValue d mid end (Ok u) next → Passed (ArePairs d) (NoPairs d) old end next
   pair_more u x =
       let h = x.value in
-      let k = small key.0 in
+      let k = short_field key.0 in
       let is : ahead now end ≡ (k ++ h.0) ++ ahead next end = key.2 ∙ (ap (λ t. k ++ t) h.3 ∙ sym (append_assoc k h.0 (ahead next end))) in
       passed_one (ArePairs d) (NoPairs d) old end now can g next (k ++ h.0) (on_again now mid next end goes x.goes) is
       (λ s (ps, p). subst (ArePairs d) (sym (append_assoc k h.0 s)) (entry key.0 h.1 ps, (pair key.0 h.0 s h.1 ps key.1 h.2.0 p.0, omega (arith, h.2.1, p.1))))
@@ -340,13 +340,13 @@ module _ (d : ℕ) (old now mid next : Walk) (end : ℕ) (can : CanReach old end
 
   pub pair_stop : (s : Stop) → PassesValue d mid end (Err s) next → PassesEntries (ArePairs d) (NoPairs d) old end (Err s) next
   pair_stop s x =
-      let size = front_size now mid end (small key.0) (still (ArePairs d) (NoPairs d) old end now can g) goes key.2 in
-      let at : length (small key.0) + (next.at - mid.at) ≡ next.at - now.at = omega (arith, size, x.goes.order) in
+      let size = front_size now mid end (short_field key.0) (still (ArePairs d) (NoPairs d) old end now can g) goes key.2 in
+      let at : length (short_field key.0) + (next.at - mid.at) ≡ next.at - now.at = omega (arith, size, x.goes.order) in
       entries_stop (ArePairs d) (NoPairs d) old end now can g next s (on_again now mid next end goes x.goes)
       (is_at_weaker (NoValue d (ahead mid end) (next.at - mid.at)) (NoPairs d (ahead now end) (next.at - now.at))
       (λ p y.
       subst (λ (t : List ℕ). NoPairs d t (next.at - now.at) p) (sym key.2)
-      (subst (λ j. NoPairs d (small key.0 ++ ahead mid end) j p) at (bad_pair d key.0 (ahead mid end) (next.at - mid.at) p key.1 y)))
+      (subst (λ j. NoPairs d (short_field key.0 ++ ahead mid end) j p) at (bad_pair d key.0 (ahead mid end) (next.at - mid.at) p key.1 y)))
       s x.problem)
 
 pub pairs_end : (d : ℕ) (old now : Walk) (end : ℕ) (u : Unit {0}) → CanReach old end → Passed (ArePairs d) (NoPairs d) old end now → end ≤ now.at → PassesEntries (ArePairs d) (NoPairs d) old end (Ok u) now

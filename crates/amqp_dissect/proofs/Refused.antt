@@ -7,7 +7,7 @@ use Rattle.amqp_types.specs.Ids.{kind}
 use Rattle.amqp_types.specs.declared.amqp_type.AMQPType.{AMQPType}
 use Rattle.amqp_types.specs.declared.amqp_type.AMQPType.TheVariants as amqp
 use Rattle.amqp_grammar.specs.Values.{no_entries, short}
-use Rattle.amqp_grammar.specs.Grammar.{small, large, raw_short}
+use Rattle.amqp_grammar.specs.Grammar.{short_field, long_field, raw_short}
 use Rattle.amqp_grammar.specs.Nesting.{OutcomeWithin}
 use Rattle.amqp_grammar.specs.Outcomes.{more, malformed, lack, frame_lack, counted, LacksOr, Heavy}
 use Rattle.amqp_grammar.specs.Payloads.{RawFront, RawOutcome}
@@ -47,11 +47,11 @@ lacks_or (suc n) P h = refl
 heavy : (d : ℕ) (s : List ℕ) (e : Refusal) → Refuses (OutcomeWithin d s) ⊥ e → Refuses (OutcomeWithin d s) (Heavy s) e
 heavy d s e x = Refuses-weaker (OutcomeWithin d s) (OutcomeWithin d s) ⊥ (Heavy s) e (λ o y. y) (λ h. absurd h) x
 
-deep_container : (c : ℕ) (type : AMQPType) (body rest : List ℕ) → kind c ≡ Some type → IsContainer type → length body < 2 ^ 32 → OutcomeWithin 0 (c ∷ (large body ++ rest)) malformed
+deep_container : (c : ℕ) (type : AMQPType) (body rest : List ℕ) → kind c ≡ Some type → IsContainer type → length body < 2 ^ 32 → OutcomeWithin 0 (c ∷ (long_field body ++ rest)) malformed
 deep_container c amqp.FieldArray body rest k is fits =
-    raw_to_value_within 0 c amqp.FieldArray (large body ++ rest) malformed k (array_too_deep 0 (large body ++ rest) body rest (record { framed = refl; fits = fits }) refl)
+    raw_to_value_within 0 c amqp.FieldArray (long_field body ++ rest) malformed k (array_too_deep 0 (long_field body ++ rest) body rest (record { framed = refl; fits = fits }) refl)
 deep_container c amqp.FieldTable body rest k is fits =
-    raw_to_value_within 0 c amqp.FieldTable (large body ++ rest) malformed k (table_too_deep 0 (large body ++ rest) body rest (record { framed = refl; fits = fits }) refl)
+    raw_to_value_within 0 c amqp.FieldTable (long_field body ++ rest) malformed k (table_too_deep 0 (long_field body ++ rest) body rest (record { framed = refl; fits = fits }) refl)
 deep_container c _ body rest k is fits = absurd is
 
 -- a key whose bytes are no text is refused, and one that is cut lacks what is missing
@@ -61,11 +61,11 @@ short_lack n s =
     let count : counted w8 (n ∷ s) ≡ n = omega arith in
     omega arith
 
-no_text_key : (k s : List ℕ) → (IsUtf8 k → ⊥) → RawOutcome amqp.ShortString (small k ++ s) malformed
+no_text_key : (k s : List ℕ) → (IsUtf8 k → ⊥) → RawOutcome amqp.ShortString (short_field k ++ s) malformed
 no_text_key k s none =
-    let whole : lack amqp.ShortString (small k ++ s) ≡ 0 = short_lack (length k) (k ++ s) ∙ omega (arith, length-append k s) in
-    let front : RawFront amqp.ShortString (small k ++ s) malformed = λ b left v p d. none (short_bytes k s b left v p d).utf8 in
-    raw_whole amqp.ShortString (small k ++ s) malformed whole front
+    let whole : lack amqp.ShortString (short_field k ++ s) ≡ 0 = short_lack (length k) (k ++ s) ∙ omega (arith, length-append k s) in
+    let front : RawFront amqp.ShortString (short_field k ++ s) malformed = λ b left v p d. none (short_bytes k s b left v p d).utf8 in
+    raw_whole amqp.ShortString (short_field k ++ s) malformed whole front
 
 mutual
   pub value_refused : (d : ℕ) (s : List ℕ) (o : ℕ) (p : Problem) → NoValue d s o p → Refuses (OutcomeWithin d s) ⊥ (refusal_of o p)
@@ -76,12 +76,12 @@ mutual
   value_refused _ _ _ _ (too_deep c type body rest k is fits) = deep_container c type body rest k is fits
   value_refused _ _ _ _ (in_array d c body rest o p k fits x) =
       rw (deep_eof (5 + o) p (omega arith))
-      (raw_to_value_within (suc d) c amqp.FieldArray (large body ++ rest) malformed k
-      (array_refused (suc d) (large body ++ rest) body rest (record { framed = refl; fits = fits }) (Error Eof) (subst (λ n. IsNoBody n body malformed) (let e : d ≡ suc d - 1 = omega arith in e) (values_refused d body o p x))))
+      (raw_to_value_within (suc d) c amqp.FieldArray (long_field body ++ rest) malformed k
+      (array_refused (suc d) (long_field body ++ rest) body rest (record { framed = refl; fits = fits }) (Error Eof) (subst (λ n. IsNoBody n body malformed) (let e : d ≡ suc d - 1 = omega arith in e) (values_refused d body o p x))))
   value_refused _ _ _ _ (in_table d c body rest o p k fits x) =
       rw (deep_eof (5 + o) p (omega arith))
-      (raw_to_value_within (suc d) c amqp.FieldTable (large body ++ rest) malformed k
-      (table_refused (suc d) (large body ++ rest) body rest (record { framed = refl; fits = fits }) (Error Eof) (subst (λ n. IsNoTable n body malformed) (let e : d ≡ suc d - 1 = omega arith in e) (pairs_refused d body o p x))))
+      (raw_to_value_within (suc d) c amqp.FieldTable (long_field body ++ rest) malformed k
+      (table_refused (suc d) (long_field body ++ rest) body rest (record { framed = refl; fits = fits }) (Error Eof) (subst (λ n. IsNoTable n body malformed) (let e : d ≡ suc d - 1 = omega arith in e) (pairs_refused d body o p x))))
 
   values_refused : (d : ℕ) (s : List ℕ) (o : ℕ) (p : Problem) → NoValues d s o p → IsNoBody d s malformed
   values_refused _ _ _ _ (bad_value d s o p some x) =
@@ -96,10 +96,10 @@ mutual
       Walks-bad_key d (n ∷ s) no_entries (n ∷ s) (Incomplete (Size (n - length s))) (Walks-start d (n ∷ s)) (omega arith)
       (rw (short_lack n s) (lacks_or (n - length s) _ (omega arith)))
   pairs_refused _ _ _ _ (key_not_utf8 d k s none) =
-      Walks-bad_key d (small k ++ s) no_entries (small k ++ s) (Error MapRes) (Walks-start d (small k ++ s)) (omega arith) (refl, no_text_key k s none)
+      Walks-bad_key d (short_field k ++ s) no_entries (short_field k ++ s) (Error MapRes) (Walks-start d (short_field k ++ s)) (omega arith) (refl, no_text_key k s none)
   pairs_refused _ _ _ _ (bad_pair d k s o p key x) =
-      subst (Refuses (IsNoTable d (small k ++ s)) (0 < length (small k ++ s))) (inside_eof o p)
-      (Walks-bad_value d (small k ++ s) no_entries (small k ++ s) k s (refusal_of o p) (Walks-start d (small k ++ s)) (raw_found amqp.ShortString (small k) s (short k) (raw_short k key)) (heavy d s (refusal_of o p) (value_refused d s o p x)))
+      subst (Refuses (IsNoTable d (short_field k ++ s)) (0 < length (short_field k ++ s))) (inside_eof o p)
+      (Walks-bad_value d (short_field k ++ s) no_entries (short_field k ++ s) k s (refusal_of o p) (Walks-start d (short_field k ++ s)) (raw_found amqp.ShortString (short_field k) s (short k) (raw_short k key)) (heavy d s (refusal_of o p) (value_refused d s o p x)))
   pairs_refused _ _ _ _ (after_pair d k w v s o p key y x) = λ ps q.
-      let m = (Walks-step d (small k ++ (w ++ s)) no_entries (small k ++ (w ++ s)) k (w ++ s) v s (Walks-start d (small k ++ (w ++ s))) (raw_found amqp.ShortString (small k) (w ++ s) (short k) (raw_short k key)) (wire_found_within d w s v y.0 y.1)).only ps q in
+      let m = (Walks-step d (short_field k ++ (w ++ s)) no_entries (short_field k ++ (w ++ s)) k (w ++ s) v s (Walks-start d (short_field k ++ (w ++ s))) (raw_found amqp.ShortString (short_field k) (w ++ s) (short k) (raw_short k key)) (wire_found_within d w s v y.0 y.1)).only ps q in
       pairs_refused d s o p x m.0 m.1

@@ -6,7 +6,7 @@ use Rattle.amqp_types.specs.declared.amqp_type.AMQPType.TheVariants as amqp
 use Rattle.amqp_types.specs.Ids.{kind}
 use Rattle.amqp_types.specs.Strings.{IsShort}
 use Rattle.amqp_grammar.specs.Values.{Tree}
-use Rattle.amqp_grammar.specs.Grammar.{small, large}
+use Rattle.amqp_grammar.specs.Grammar.{short_field, long_field}
 use Rattle.amqp_grammar.specs.Nesting.{WireWithin}
 use Rattle.amqp_grammar.specs.Outcomes.{lack}
 use Rattle.amqp_dissect.specs.declared.problem.Problem.{Problem}
@@ -29,10 +29,10 @@ mutual
     -- the payload isn't all there: of its field that is being read n more bytes are needed
     cut : (depth : ℕ) → (c : ℕ) → (type : AMQPType) → (b : List ℕ) → (n : ℕ) → kind c ≡ Some type → 0 < n → lack type b ≡ n → NoValue depth (c ∷ b) 1 (Cut type n)
     -- a container that is all there stands where none may
-    too_deep : (c : ℕ) → (type : AMQPType) → (body : List ℕ) → (rest : List ℕ) → kind c ≡ Some type → IsContainer type → length body < 2 ^ 32 → NoValue 0 (c ∷ (large body ++ rest)) 0 TooDeep
+    too_deep : (c : ℕ) → (type : AMQPType) → (body : List ℕ) → (rest : List ℕ) → kind c ≡ Some type → IsContainer type → length body < 2 ^ 32 → NoValue 0 (c ∷ (long_field body ++ rest)) 0 TooDeep
     -- in the body of an array, or a table, an entry is none
-    in_array : (depth : ℕ) → (c : ℕ) → (body : List ℕ) → (rest : List ℕ) → (offset : ℕ) → (p : Problem) → kind c ≡ Some amqp.FieldArray → length body < 2 ^ 32 → NoValues depth body offset p → NoValue (suc depth) (c ∷ (large body ++ rest)) (5 + offset) p
-    in_table : (depth : ℕ) → (c : ℕ) → (body : List ℕ) → (rest : List ℕ) → (offset : ℕ) → (p : Problem) → kind c ≡ Some amqp.FieldTable → length body < 2 ^ 32 → NoPairs depth body offset p → NoValue (suc depth) (c ∷ (large body ++ rest)) (5 + offset) p
+    in_array : (depth : ℕ) → (c : ℕ) → (body : List ℕ) → (rest : List ℕ) → (offset : ℕ) → (p : Problem) → kind c ≡ Some amqp.FieldArray → length body < 2 ^ 32 → NoValues depth body offset p → NoValue (suc depth) (c ∷ (long_field body ++ rest)) (5 + offset) p
+    in_table : (depth : ℕ) → (c : ℕ) → (body : List ℕ) → (rest : List ℕ) → (offset : ℕ) → (p : Problem) → kind c ≡ Some amqp.FieldTable → length body < 2 ^ 32 → NoPairs depth body offset p → NoValue (suc depth) (c ∷ (long_field body ++ rest)) (5 + offset) p
 
   -- the bytes are values one after another up to one that is none
   pub data NoValues : ℕ → List ℕ → ℕ → Problem → Type 0 where
@@ -43,6 +43,6 @@ mutual
   -- UTF-8, or no value stands after it
   pub data NoPairs : ℕ → List ℕ → ℕ → Problem → Type 0 where
     cut_key : (depth : ℕ) → (n : ℕ) → (s : List ℕ) → length s < n → NoPairs depth (n ∷ s) 0 (KeyCut (n - length s))
-    key_not_utf8 : (depth : ℕ) → (k : List ℕ) → (s : List ℕ) → (IsUtf8 k → ⊥) → NoPairs depth (small k ++ s) 1 KeyNotUtf8
-    bad_pair : (depth : ℕ) → (k : List ℕ) → (s : List ℕ) → (offset : ℕ) → (p : Problem) → IsShort k → NoValue depth s offset p → NoPairs depth (small k ++ s) (length (small k) + offset) p
-    after_pair : (depth : ℕ) → (k : List ℕ) → (w : List ℕ) → (v : Tree) → (s : List ℕ) → (offset : ℕ) → (p : Problem) → IsShort k → WireWithin depth w v → NoPairs depth s offset p → NoPairs depth (small k ++ (w ++ s)) (length (small k) + (length w + offset)) p
+    key_not_utf8 : (depth : ℕ) → (k : List ℕ) → (s : List ℕ) → (IsUtf8 k → ⊥) → NoPairs depth (short_field k ++ s) 1 KeyNotUtf8
+    bad_pair : (depth : ℕ) → (k : List ℕ) → (s : List ℕ) → (offset : ℕ) → (p : Problem) → IsShort k → NoValue depth s offset p → NoPairs depth (short_field k ++ s) (length (short_field k) + offset) p
+    after_pair : (depth : ℕ) → (k : List ℕ) → (w : List ℕ) → (v : Tree) → (s : List ℕ) → (offset : ℕ) → (p : Problem) → IsShort k → WireWithin depth w v → NoPairs depth s offset p → NoPairs depth (short_field k ++ (w ++ s)) (length (short_field k) + (length w + offset)) p

@@ -5,7 +5,7 @@ use Rattle.amqp_types.specs.declared.amqp_type.AMQPType.TheVariants as amqp
 use Rattle.amqp_types.specs.Ids.{kind}
 use Rattle.amqp_types.specs.Strings.{IsShort}
 use Rattle.amqp_grammar.specs.Values.{Tree, Trees, Entries}
-use Rattle.amqp_grammar.specs.Grammar.{small, large}
+use Rattle.amqp_grammar.specs.Grammar.{short_field, long_field}
 use Rattle.amqp_grammar.specs.Nesting.{WireWithin, BodyWithin, PairsWithin}
 use Rattle.amqp_parsing.specs.Bodies.{IsFrame}
 use Rattle.amqp_dissect.specs.declared.problem.Problem.{Problem}
@@ -20,7 +20,7 @@ IsValueThen depth s rest = (w : List ℕ) × (v : Tree) × WireWithin depth w v 
 
 -- a key stands at the front of s, and then `rest`
 abbrev pub IsKeyThen : List ℕ → List ℕ → Type 0
-IsKeyThen s rest = (k : List ℕ) × IsShort k × (s ≡ small k ++ rest)
+IsKeyThen s rest = (k : List ℕ) × IsShort k × (s ≡ short_field k ++ rest)
 
 -- the bytes are values, or pairs, one after another, with containers at most `depth` deep in each
 abbrev pub AreValues : ℕ → List ℕ → Type 0
@@ -55,7 +55,7 @@ IsLengthPrefixed _ = ⊥
 -- s begins with a type tag of the type and a length, and what that counts ends at `behind`, where s
 -- begins at `at`
 abbrev pub HasHeader : List ℕ → AMQPType → ℕ → ℕ → Type 0
-HasHeader s type at behind = (c : ℕ) × (body : List ℕ) × (rest : List ℕ) × (kind c ≡ Some type) × (s ≡ c ∷ (large body ++ rest)) × (length body < 2 ^ 32) × (behind ≡ at + 5 + length body)
+HasHeader s type at behind = (c : ℕ) × (body : List ℕ) × (rest : List ℕ) × (kind c ≡ Some type) × (s ≡ c ∷ (long_field body ++ rest)) × (length body < 2 ^ 32) × (behind ≡ at + 5 + length body)
 
 -- ---- walks
 

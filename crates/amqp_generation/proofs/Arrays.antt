@@ -3,7 +3,7 @@ use Rattle.std.proofs.Common.{◌≡◌, ℕ, ◌<◌, ◌≤◌, true, Result, 
 use Rattle.std.proofs.lemmas.List.{take_all}
 use Rattle.amqp_value_core.specs.declared.value.AMQPValue.{AMQPValue}
 use Rattle.amqp_grammar.specs.Values.{array}
-use Rattle.amqp_grammar.specs.Grammar.{large}
+use Rattle.amqp_grammar.specs.Grammar.{long_field}
 use Rattle.amqp_value_core.specs.View.{view}
 use Rattle.amqp_value_core.specs.Containers.{trees}
 use Rattle.amqp_grammar.specs.Texts.{text, body, Fits, AllFit}
@@ -20,7 +20,7 @@ HasPut vs k s t = Writes true (AllFit (trees (take k vs))) (replicate 4 0 ++ bod
 
 -- what an array's generator owes
 abbrev pub Owes : List AMQPValue → Seen → Result (Unit {0}) GenError → Seen → Type 0
-Owes vs s r t = Writes true (Fits (array (trees vs))) (large (body (trees vs))) s r t
+Owes vs s r t = Writes true (Fits (array (trees vs))) (long_field (body (trees vs))) s r t
 
 -- the next value was refused, and all was taken back
 pub value_refused : (vs items : List AMQPValue) (k : ℕ) (v : AMQPValue) (at : ℕ) {s t u w : Seen} {e : GenError} → vs ≡ items → k < length vs → v ≡ get_or vs k v → at ≡ s.at → IsWhole s → HasPut vs k s t → Writes true (Fits (view v)) (text (view v)) t (Err e) u → GoesBack at u w → Owes items s (Err e) w

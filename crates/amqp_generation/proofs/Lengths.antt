@@ -6,7 +6,7 @@ use Rattle.std.specs.Int.{w32, to_be_bytes}
 use Rattle.std.specs.Io.KnownBytes.{Appends}
 use Rattle.std.proofs.KnownBytes.{Appends-trans}
 use Rattle.std.proofs.lemmas.List.{drop-drop, append-nil}
-use Rattle.amqp_grammar.specs.Grammar.{large}
+use Rattle.amqp_grammar.specs.Grammar.{long_field}
 use Rattle.amqp_generation.specs.declared.error.GenError.{GenError}
 use Rattle.amqp_generation.specs.Outputs.{Seen, Writes}
 use Rattle.amqp_generation.specs.Buffers.{IsWhole, GoesBack, FillsLength, filled}
@@ -87,9 +87,9 @@ module _ {W : Type 0} (seen : W → Seen) (may : WriteContext W → Result (Unit
   size = let n = counted s.told u.told s.at u.at (replicate 4 0 ++ o.more) whole.told whole.counted end.told end.counted both in omega arith
 
   -- what stands behind the position
-  rest : u.tail ≡ drop (length (large o.more)) s.tail
+  rest : u.tail ≡ drop (length (long_field o.more)) s.tail
   rest =
-      let sum : 4 + length o.more ≡ length (large o.more) = omega arith in
+      let sum : 4 + length o.more ≡ length (long_field o.more) = omega arith in
       o.tail ∙ ap (drop (length o.more)) reserved.zeros.tail ∙ drop-drop (length o.more) 4 s.tail ∙ ap (λ n. drop n s.tail) sum
 
   module _ (e : w ≡ filled u at (to_be_bytes w32 (u.at - at - 4))) where
@@ -98,18 +98,18 @@ module _ {W : Type 0} (seen : W → Seen) (may : WriteContext W → Result (Unit
     number = e ∙ (λ i. filled u (place i) (to_be_bytes w32 (size i)))
 
     -- so that stands behind its length
-    put : Appends s.told w.told (large o.more)
-    put = subst (λ (x : Seen). Appends s.told x.told (large o.more)) (sym number) (front_overwritten s.told u.told s.at (replicate 4 0) (to_be_bytes w32 (length o.more)) o.more whole.counted refl both)
+    put : Appends s.told w.told (long_field o.more)
+    put = subst (λ (x : Seen). Appends s.told x.told (long_field o.more)) (sym number) (front_overwritten s.told u.told s.at (replicate 4 0) (to_be_bytes w32 (length o.more)) o.more whole.counted refl both)
 
     -- and is all that was put
-    moved : w.at ≡ s.at + length (large o.more)
+    moved : w.at ≡ s.at + length (long_field o.more)
     moved =
         let n = counted s.told u.told s.at u.at (replicate 4 0 ++ o.more) whole.told whole.counted end.told end.counted both in
         let same : w.at ≡ u.at = ap (λ (x : Seen). x.at) number in
         omega arith
 
     -- the tail was cut by as much
-    tail : w.tail ≡ drop (length (large o.more)) s.tail
+    tail : w.tail ≡ drop (length (long_field o.more)) s.tail
     tail = ap (λ (x : Seen). x.tail) number ∙ rest
 
   -- where the number fits, it is put before what was appended
@@ -153,5 +153,5 @@ module _ {W : Type 0} (seen : W → Seen) (may : WriteContext W → Result (Unit
 
   -- so it only appends
   pub length_appends : (r : Result (Unit {0}) GenError) → FillsLength at u r w → OnlyAppends s r w
-  length_appends (Ok _) f = record { more = large o.more; appended = put f.filled; tail = tail f.filled }
+  length_appends (Ok _) f = record { more = long_field o.more; appended = put f.filled; tail = tail f.filled }
   length_appends (Err e) f = refusal_appends (all_back (Err e) f)

@@ -5,7 +5,7 @@ use Rattle.std.specs.Io.KnownBytes.{Appends}
 use Rattle.std.proofs.KnownBytes.{Appends-trans}
 use Rattle.std.proofs.lemmas.List.{drop-drop}
 use Rattle.std.specs.Int.{w32, to_be_bytes}
-use Rattle.amqp_grammar.specs.Grammar.{large}
+use Rattle.amqp_grammar.specs.Grammar.{long_field}
 use Rattle.amqp_generation.specs.declared.error.GenError.{GenError}
 use Rattle.amqp_generation.specs.declared.error.GenError.TheVariants.{LengthTooLong}
 use Rattle.amqp_generation.specs.Outputs.{Seen, Writes, HasFailed}
@@ -123,19 +123,19 @@ by_buffer {A = A} {xs = xs} {s = s} {t = t} e p =
     subst P e p
 
 -- behind four reserved bytes some bytes of `all` were put, ys refused, and all taken back
-pub refused_inside : {A B : Type 0} (some all : List ℕ) {ys : List ℕ} {s t u w : Seen} {e : GenError} (C : Type 0) (at : ℕ) → at ≡ s.at → IsWhole s → length some + length ys ≤ length all → (C → B) → Writes true A (replicate 4 0 ++ some) s (Ok tt) t → Writes true B ys t (Err e) u → GoesBack at u w → Writes true C (large all) s (Err e) w
-refused_inside some all C at place whole long lengths p q back = refused C (large all) at place whole (omega arith) lengths p q back
+pub refused_inside : {A B : Type 0} (some all : List ℕ) {ys : List ℕ} {s t u w : Seen} {e : GenError} (C : Type 0) (at : ℕ) → at ≡ s.at → IsWhole s → length some + length ys ≤ length all → (C → B) → Writes true A (replicate 4 0 ++ some) s (Ok tt) t → Writes true B ys t (Err e) u → GoesBack at u w → Writes true C (long_field all) s (Err e) w
+refused_inside some all C at place whole long lengths p q back = refused C (long_field all) at place whole (omega arith) lengths p q back
 
 -- behind four reserved bytes all were put; their number was filled in, or doesn't fit and all are
 -- taken back
-pub length_put : {A : Type 0} (all : List ℕ) {s t w : Seen} (r : Result (Unit {0}) GenError) (C : Type 0) (at : ℕ) → at ≡ s.at → IsWhole s → (2 ^ 32 ≤ length all → C → ⊥) → (length all < 2 ^ 32 → A → C) → Writes true A (replicate 4 0 ++ all) s (Ok tt) t → FillsLength at t r w → Writes true C (large all) s r w
+pub length_put : {A : Type 0} (all : List ℕ) {s t w : Seen} (r : Result (Unit {0}) GenError) (C : Type 0) (at : ℕ) → at ≡ s.at → IsWhole s → (2 ^ 32 ≤ length all → C → ⊥) → (length all < 2 ^ 32 → A → C) → Writes true A (replicate 4 0 ++ all) s (Ok tt) t → FillsLength at t r w → Writes true C (long_field all) s r w
 length_put all {s = s} {t = t} {w = w} (Ok _) C at place whole long short p f =
     let count : t.at - at - 4 ≡ length all = omega (arith, p.moved) in
     let few : length all < 2 ^ 32 = omega (arith, f.fits) in
     let end : filled t s.at (to_be_bytes w32 (length all)) ≡ w = (λ i. filled t (sym place i) (to_be_bytes w32 (sym count i))) ∙ sym f.filled in
-    let P : Seen → Type 0 = λ u. Writes true C (large all) s (Ok tt) u in
+    let P : Seen → Type 0 = λ u. Writes true C (long_field all) s (Ok tt) u in
     subst P end (filled_in (replicate 4 0) all C (to_be_bytes w32 (length all)) whole refl (short few) p)
 length_put all {s = s} {t = t} {w = w} (Err e) C at place whole long short p f =
     let many : 2 ^ 32 ≤ length all = omega (arith, p.moved, f.too_long) in
-    let P : GenError → Type 0 = λ d. Writes true C (large all) s (Err d) w in
-    subst P (sym f.refused) (refused C (large all) at place whole (omega arith) (λ c. c) p (refused_as_long t C (long many)) f.back)
+    let P : GenError → Type 0 = λ d. Writes true C (long_field all) s (Err d) w in
+    subst P (sym f.refused) (refused C (long_field all) at place whole (omega arith) (λ c. c) p (refused_as_long t C (long many)) f.back)

@@ -7,7 +7,7 @@ use Rattle.std.specs.Map.{keys_of}
 use Rattle.amqp_value_core.specs.declared.value.AMQPValue.{AMQPValue}
 use Rattle.amqp_grammar.specs.Values.{Tree, table}
 use Rattle.amqp_types.specs.Strings.{IsShort}
-use Rattle.amqp_grammar.specs.Grammar.{small, large}
+use Rattle.amqp_grammar.specs.Grammar.{short_field, long_field}
 use Rattle.amqp_value_core.specs.View.{view}
 use Rattle.amqp_value_core.specs.Containers.{entries}
 use Rattle.amqp_grammar.specs.Texts.{text, pairs, Fits, EntriesFit}
@@ -28,9 +28,9 @@ Stored = List (List ℕ × AMQPValue)
 pairs-append : (es fs : Stored) → pairs (entries (es ++ fs)) ≡ pairs (entries es) ++ pairs (entries fs)
 pairs-append [] fs = refl
 pairs-append (e ∷ es) fs =
-    ap (λ l. small e.0 ++ (text (view e.1) ++ l)) (pairs-append es fs)
-    ∙ ap (λ l. small e.0 ++ l) (sym (append_assoc (text (view e.1)) (pairs (entries es)) (pairs (entries fs))))
-    ∙ sym (append_assoc (small e.0) (text (view e.1) ++ pairs (entries es)) (pairs (entries fs)))
+    ap (λ l. short_field e.0 ++ (text (view e.1) ++ l)) (pairs-append es fs)
+    ∙ ap (λ l. short_field e.0 ++ l) (sym (append_assoc (text (view e.1)) (pairs (entries es)) (pairs (entries fs))))
+    ∙ sym (append_assoc (short_field e.0) (text (view e.1) ++ pairs (entries es)) (pairs (entries fs)))
 
 -- where one more fits, all do
 fit_more : (es : Stored) (k : List ℕ) (v : AMQPValue) → EntriesFit (entries es) → Fits (view v) → EntriesFit (entries (es ++ (k, v) ∷ []))
@@ -74,11 +74,11 @@ pub none_put : (all left : Stored) {s t : Seen} → left ≡ all → Writes true
 none_put all left same p = record { done = []; split = same; written = p; stored = tt }
 
 -- one more entry was put
-pub one_more_put : {all left rest : Stored} (k : List ℕ) (v : AMQPValue) {s t u : Seen} → left ≡ (k, v) ∷ rest → IsShort k → IsValue (view v) → HasPut all left s t → Writes true (Fits (view v)) (small k ++ text (view v)) t (Ok tt) u → HasPut all rest s u
+pub one_more_put : {all left rest : Stored} (k : List ℕ) (v : AMQPValue) {s t u : Seen} → left ≡ (k, v) ∷ rest → IsShort k → IsValue (view v) → HasPut all left s t → Writes true (Fits (view v)) (short_field k ++ text (view v)) t (Ok tt) u → HasPut all rest s u
 one_more_put {rest = rest} k v here is value p q =
     let done = p.done ++ (k, v) ∷ [] in
-    let last : pairs (entries ((k, v) ∷ [])) ≡ small k ++ text (view v) = ap (λ l. small k ++ l) (append-nil (text (view v))) in
-    let bytes : replicate 4 0 ++ pairs (entries done) ≡ replicate 4 0 ++ pairs (entries p.done) ++ (small k ++ text (view v)) =
+    let last : pairs (entries ((k, v) ∷ [])) ≡ short_field k ++ text (view v) = ap (λ l. short_field k ++ l) (append-nil (text (view v))) in
+    let bytes : replicate 4 0 ++ pairs (entries done) ≡ replicate 4 0 ++ pairs (entries p.done) ++ (short_field k ++ text (view v)) =
     ap (λ l. replicate 4 0 ++ l) (pairs-append p.done ((k, v) ∷ []) ∙ ap (λ l. pairs (entries p.done) ++ l) last) in
     record {
       done = done;
@@ -88,20 +88,20 @@ one_more_put {rest = rest} k v here is value p q =
     }
 
 -- an entry's key was put and its value refused, and the key was taken back
-pub key_taken_back : {A : Type 0} (k name : List ℕ) (v : Tree) (at : ℕ) {s t u w : Seen} {e : GenError} → name ≡ k → at ≡ s.at → IsWhole s → Writes true A (small name) s (Ok tt) t → Writes true (Fits v) (text v) t (Err e) u → GoesBack at u w → Writes true (Fits v) (small k ++ text v) s (Err e) w
+pub key_taken_back : {A : Type 0} (k name : List ℕ) (v : Tree) (at : ℕ) {s t u w : Seen} {e : GenError} → name ≡ k → at ≡ s.at → IsWhole s → Writes true A (short_field name) s (Ok tt) t → Writes true (Fits v) (text v) t (Err e) u → GoesBack at u w → Writes true (Fits v) (short_field k ++ text v) s (Err e) w
 key_taken_back k name v at same place whole p q back =
-    refused (Fits v) (small k ++ text v) at place whole (omega (arith, length-append k (text v), ap length same)) (λ fit. fit) p q back
+    refused (Fits v) (short_field k ++ text v) at place whole (omega (arith, length-append k (text v), ap length same)) (λ fit. fit) p q back
 
 -- what a table's generator owes
 abbrev pub Owes : Stored → Seen → Result (Unit {0}) GenError → Seen → Type 0
-Owes all s r w = Writes true (Fits (table (entries all))) (large (pairs (entries all))) s r w
+Owes all s r w = Writes true (Fits (table (entries all))) (long_field (pairs (entries all))) s r w
 
 -- the next entry was refused, and all was taken back
-pub entry_refused : {all left rest : Stored} (k : List ℕ) (v : AMQPValue) (at : ℕ) {s t u w : Seen} {e : GenError} → left ≡ (k, v) ∷ rest → at ≡ s.at → IsWhole s → HasPut all left s t → Writes true (Fits (view v)) (small k ++ text (view v)) t (Err e) u → GoesBack at u w → Owes all s (Err e) w
+pub entry_refused : {all left rest : Stored} (k : List ℕ) (v : AMQPValue) (at : ℕ) {s t u w : Seen} {e : GenError} → left ≡ (k, v) ∷ rest → at ≡ s.at → IsWhole s → HasPut all left s t → Writes true (Fits (view v)) (short_field k ++ text (view v)) t (Err e) u → GoesBack at u w → Owes all s (Err e) w
 entry_refused {rest = rest} k v at {s = s} {w = w} {e = e} here place whole p q back =
     let split : p.done ++ (k, v) ∷ rest ≡ _ = ap (λ l. p.done ++ l) (sym here) ∙ p.split in
     let some = pairs (entries p.done) in
-    let long : length some + length (small k ++ text (view v)) ≤ length (pairs (entries (p.done ++ (k, v) ∷ rest))) =
+    let long : length some + length (short_field k ++ text (view v)) ≤ length (pairs (entries (p.done ++ (k, v) ∷ rest))) =
     omega (arith, ap length (pairs-append p.done ((k, v) ∷ rest)), length-append some (pairs (entries ((k, v) ∷ rest))), length-append k (text (view v)), length-append k (text (view v) ++ pairs (entries rest)), length-append (text (view v)) (pairs (entries rest))) in
     let P : Stored → Type 0 = λ es. Owes es s (Err e) w in
     subst P split (refused_inside some _ _ at place whole long (λ fit. fit_behind p.done k v rest fit.1) p.written q back)

@@ -7,7 +7,7 @@ use Rattle.amqp_grammar.specs.Values.{Tree, scalar, short, long, octets, array, 
 use Rattle.amqp_grammar.specs.Payloads.{type_of, payload}
 use Rattle.amqp_types.specs.Ids.{id_of}
 use Rattle.amqp_grammar.specs.Layouts.{spelled}
-use Rattle.amqp_grammar.specs.Grammar.{small, large}
+use Rattle.amqp_grammar.specs.Grammar.{short_field, long_field}
 use Rattle.amqp_value_core.specs.View.{view}
 use Rattle.amqp_value_core.specs.Containers.{trees}
 use Rattle.amqp_grammar.specs.Texts.{text, body, pairs, Fits, AllFit}
@@ -16,11 +16,11 @@ use Rattle.amqp_grammar.specs.InMemory.{IsValue, AreValues}
 -- an id and the payload are the text
 pub text_of : (v : Tree) (type : AMQPType) → type ≡ type_of v → text v ≡ id_of type ∷ [] ++ payload v
 text_of (scalar x) type e = ap (λ t. id_of t ∷ spelled x) (sym e)
-text_of (short s) type e = ap (λ t. id_of t ∷ small s) (sym e)
-text_of (long s) type e = ap (λ t. id_of t ∷ large s) (sym e)
-text_of (octets s) type e = ap (λ t. id_of t ∷ large s) (sym e)
-text_of (array vs) type e = ap (λ t. id_of t ∷ large (body vs)) (sym e)
-text_of (table es) type e = ap (λ t. id_of t ∷ large (pairs es)) (sym e)
+text_of (short s) type e = ap (λ t. id_of t ∷ short_field s) (sym e)
+text_of (long s) type e = ap (λ t. id_of t ∷ long_field s) (sym e)
+text_of (octets s) type e = ap (λ t. id_of t ∷ long_field s) (sym e)
+text_of (array vs) type e = ap (λ t. id_of t ∷ long_field (body vs)) (sym e)
+text_of (table es) type e = ap (λ t. id_of t ∷ long_field (pairs es)) (sym e)
 
 -- an id is one byte
 pub longer_by_id : (v : Tree) → 1 + length (payload v) ≤ length (text v)

@@ -2,7 +2,7 @@
 use Rattle.std.specs.Prelude.{ℕ, ◌≡◌, ◌+◌, ◌^◌, ◌<◌, ◌≤◌, ◌⊎◌, ⊤, true, List, length, drop, replicate, Result, Ok, Err, OnOk}
 use Rattle.std.specs.Int.{w32, to_be_bytes}
 use Rattle.std.specs.Io.KnownBytes.{Appends}
-use Rattle.amqp_grammar.specs.Grammar.{large}
+use Rattle.amqp_grammar.specs.Grammar.{long_field}
 use Rattle.amqp_generation.specs.declared.context.WriteContext.{WriteContext}
 use Rattle.amqp_generation.specs.declared.error.GenError.{GenError}
 use Rattle.amqp_generation.specs.declared.error.GenError.TheVariants.{LengthTooLong}
@@ -36,8 +36,8 @@ pub record PutsWithLength {W : Type 0} (seen : W → Seen) (may : WriteContext W
   pub appended : Appends (shown seen before).told (shown seen after).told more
   pub fits : length more < 2 ^ 32
   -- what is put is the length, then that
-  pub put : Appends (shown seen old).told (shown seen new).told (large more)
-  pub moved : (shown seen new).at ≡ (shown seen old).at + length (large more)
+  pub put : Appends (shown seen old).told (shown seen new).told (long_field more)
+  pub moved : (shown seen new).at ≡ (shown seen old).at + length (long_field more)
   -- only the four bytes differ from what the call left
   pub filled : shown seen new ≡ filled (shown seen after) (shown seen old).at (to_be_bytes w32 (length more))
   pub start : start_of new ≡ start_of after

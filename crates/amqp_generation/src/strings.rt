@@ -1,7 +1,7 @@
 //! Generators of strings and byte arrays: a length, then the bytes.
 
 ghost use Rattle.std.specs.Prelude.{◌<◌, ◌≤◌, ◌^◌, length};
-ghost use Rattle.amqp_grammar.specs.Grammar.{small, large};
+ghost use Rattle.amqp_grammar.specs.Grammar.{short_field, long_field};
 ghost use Rattle.amqp_types.specs.Shown.{octets_of};
 ghost use Rattle.amqp_generation.specs.Outputs.{Writes};
 ghost use Rattle.amqp_generation.specs.Buffers.{RefusedAsLong};
@@ -14,7 +14,7 @@ use amqp_value_core::types::ByteArray;
 ///
 /// A longer text is refused as `LengthTooLong` before a byte is put, whatever the room.
 pub fn gen_short_string<W: Output>(s: &str, x: &mut WriteContext<W>) -> GenResult
-    ensures written { Writes W.is_buffer (length s.now ≤ 255) (small s.now)
+    ensures written { Writes W.is_buffer (length s.now ≤ 255) (short_field s.now)
         (shown W.seen x.old) result (shown W.seen x.new) }
     ensures too_long { 255 < length s.now
         → RefusedAsLong (shown W.seen x.old) result (shown W.seen x.new) }
@@ -32,7 +32,7 @@ pub fn gen_short_string<W: Output>(s: &str, x: &mut WriteContext<W>) -> GenResul
 ///
 /// More bytes are refused as `LengthTooLong` before a byte is put, whatever the room.
 pub fn gen_long_string<W: Output>(s: &[u8], x: &mut WriteContext<W>) -> GenResult
-    ensures written { Writes W.is_buffer (length s.now < 2 ^ 32) (large s.now)
+    ensures written { Writes W.is_buffer (length s.now < 2 ^ 32) (long_field s.now)
         (shown W.seen x.old) result (shown W.seen x.new) }
     ensures too_long { 2 ^ 32 ≤ length s.now
         → RefusedAsLong (shown W.seen x.old) result (shown W.seen x.new) }
@@ -50,7 +50,7 @@ pub fn gen_long_string<W: Output>(s: &[u8], x: &mut WriteContext<W>) -> GenResul
 ///
 /// More bytes are refused as `LengthTooLong` before a byte is put, whatever the room.
 pub fn gen_byte_array<W: Output>(a: &ByteArray, x: &mut WriteContext<W>) -> GenResult
-    ensures written { Writes W.is_buffer (length (octets_of a.now) < 2 ^ 32) (large (octets_of a.now))
+    ensures written { Writes W.is_buffer (length (octets_of a.now) < 2 ^ 32) (long_field (octets_of a.now))
         (shown W.seen x.old) result (shown W.seen x.new) }
     ensures too_long { 2 ^ 32 ≤ length (octets_of a.now)
         → RefusedAsLong (shown W.seen x.old) result (shown W.seen x.new) }

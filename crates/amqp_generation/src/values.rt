@@ -3,7 +3,7 @@ ghost use Rattle.amqp_grammar.specs.Values.{array, table};
 ghost use Rattle.amqp_value_core.specs.View.{view};
 ghost use Rattle.amqp_value_core.specs.Containers.{array_view, table_view};
 ghost use Rattle.amqp_types.specs.Strings.{IsShort};
-ghost use Rattle.amqp_grammar.specs.Grammar.{small};
+ghost use Rattle.amqp_grammar.specs.Grammar.{short_field};
 ghost use Rattle.amqp_grammar.specs.Texts.{text, Fits};
 ghost use Rattle.amqp_grammar.specs.Payloads.{payload};
 ghost use Rattle.amqp_grammar.specs.InMemory.{IsValue};
@@ -150,7 +150,7 @@ fn gen_entry<W: BackToTheBuffer>(
     v: &AMQPValue,
     x: &mut WriteContext<W>,
 ) -> GenResult
-    ensures written { Writes true (Fits (view v.now)) (small k.now ++ text (view v.now))
+    ensures written { Writes true (Fits (view v.now)) (short_field k.now ++ text (view v.now))
         (shown W.seen x.old) result (shown W.seen x.new) }
     ensures start { KeepsStart x.old x.new }
     ensures key { IsShort k.now }

@@ -48,7 +48,7 @@ onto_within (entry k v ps) es =
 
 -- each row's width is that of what its bytes mean
 abbrev IsWide : Option Layout → Type 0
-IsWide o = IfSome o (λ f. (b : List ℕ) → width_of (scalar_type (f.meaning b)) ≡ f.width)
+IsWide o = IfSome o (λ f. (b : List ℕ) → width_of (scalar_type (f.denotes b)) ≡ f.width)
 
 rows_wide : (type : AMQPType) → IsWide (fixed type)
 rows_wide amqp.ShortString = tt
@@ -58,7 +58,7 @@ rows_wide amqp.FieldArray = tt
 rows_wide amqp.FieldTable = tt
 rows_wide _ = λ b. refl
 
-row_wide : (type : AMQPType) (f : Layout) (b : List ℕ) → fixed type ≡ Some f → width_of (scalar_type (f.meaning b)) ≡ f.width
+row_wide : (type : AMQPType) (f : Layout) (b : List ℕ) → fixed type ≡ Some f → width_of (scalar_type (f.denotes b)) ≡ f.width
 row_wide type f b row = subst IsWide row (rows_wide type) b
 
 -- ---- wires

@@ -14,7 +14,7 @@ use Rattle.amqp_grammar.specs.Payloads.{type_of, payload}
 use Rattle.amqp_types.specs.Ids.{letters, kind, id_of}
 use Rattle.amqp_types.specs.Names.{read_as}
 use Rattle.amqp_grammar.specs.Layouts.{Layout, fixed, truth, spelled}
-use Rattle.amqp_grammar.specs.Grammar.{small, large, Wire, wire, Raw, raw_fixed, raw_long, raw_octets, raw_array, raw_table, Body, no_values, value, Pairs, no_pairs, pair}
+use Rattle.amqp_grammar.specs.Grammar.{short_field, long_field, Wire, wire, Raw, raw_fixed, raw_long, raw_octets, raw_array, raw_table, Body, no_values, value, Pairs, no_pairs, pair}
 use Rattle.amqp_grammar.specs.Texts.{text, body, pairs, Fits}
 use Rattle.amqp_input.specs.Inputs.{IsBytes}
 use Rattle.amqp_grammar.specs.Maps.{IsRising}
@@ -44,7 +44,7 @@ mutual
   canon_is_raw _ _ _ (canon_octets s fits) = raw_octets s fits
   canon_is_raw _ _ _ (canon_array body vs fits all) = raw_array body vs fits (canon_is_body body vs all)
   canon_is_raw _ _ _ (canon_table body es fits all) =
-      subst (λ (fs : Entries). Raw amqp.FieldTable (large body) (table fs)) (rising_pairs es (canon_rises body es all))
+      subst (λ (fs : Entries). Raw amqp.FieldTable (long_field body) (table fs)) (rising_pairs es (canon_rises body es all))
       (raw_table body es fits (canon_is_pairs body es all))
 
   canon_is_body : (body : List ℕ) (vs : Trees) → CanonBody body vs → Body body vs
@@ -158,7 +158,7 @@ be_decimal (c ∷ b) five bytes =
 -- bytes of a row of the layouts are spelled for what they mean, and that has the row's type
 abbrev IsUndone : AMQPType → Option Layout → Type 0
 IsUndone type o = IfSome o (λ f. (b : List ℕ) → length b ≡ f.width → IsStrict type b → IsBytes b
-    → (type ≡ scalar_type (f.meaning b)) × (spelled (f.meaning b) ≡ b))
+    → (type ≡ scalar_type (f.denotes b)) × (spelled (f.denotes b) ≡ b))
 
 -- the table of layouts; a letter stands for no LongLongUInt
 rows_undone : (type : AMQPType) → read_as type ≡ Some type → IsUndone type (fixed type)
@@ -195,9 +195,9 @@ mutual
   canon_is_payload _ _ _ read bytes (canon_long s fits) = (refl, refl)
   canon_is_payload _ _ _ read bytes (canon_octets s fits) = (refl, refl)
   canon_is_payload _ _ _ read bytes (canon_array b vs fits all) =
-      (refl, ap large (canon_is_texts b vs (bytes_behind (to_be_bytes w32 (length b)) b bytes) all))
+      (refl, ap long_field (canon_is_texts b vs (bytes_behind (to_be_bytes w32 (length b)) b bytes) all))
   canon_is_payload _ _ _ read bytes (canon_table b es fits all) =
-      (refl, ap large (canon_is_keyed b es (bytes_behind (to_be_bytes w32 (length b)) b bytes) all))
+      (refl, ap long_field (canon_is_keyed b es (bytes_behind (to_be_bytes w32 (length b)) b bytes) all))
 
   -- canonical wires one after another are the texts, joined
   canon_is_texts : (b : List ℕ) (vs : Trees) → IsBytes b → CanonBody b vs → b ≡ body vs
@@ -209,6 +209,6 @@ mutual
   canon_is_keyed : (b : List ℕ) (es : Entries) → IsBytes b → CanonPairs b es → b ≡ pairs es
   canon_is_keyed _ _ bytes no_canon_pairs = refl
   canon_is_keyed _ _ bytes (canon_pair k w more v es key first before others) =
-      let behind = bytes_behind (small k) (w ++ more) bytes in
-      ap (λ (x : List ℕ). small k ++ x)
+      let behind = bytes_behind (short_field k) (w ++ more) bytes in
+      ap (λ (x : List ℕ). short_field k ++ x)
       (ap₂ ◌++◌ (canon_is_text w v (bytes_front w more behind) first) (canon_is_keyed more es (bytes_behind w more behind) others))

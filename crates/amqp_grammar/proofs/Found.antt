@@ -13,10 +13,10 @@ use Rattle.amqp_types.specs.declared.amqp_type.AMQPType.TheVariants as amqp
 use Rattle.amqp_grammar.specs.Values.{Tree, scalar, short, long, octets, array, table, Trees, tree, Entries, no_entries, put, onto}
 use Rattle.amqp_grammar.specs.Layouts.{Layout, fixed}
 use Rattle.amqp_types.specs.Strings.{IsShort}
-use Rattle.amqp_grammar.specs.Grammar.{Wire, Raw, Body, Pairs, small, wire, raw_fixed, raw_short, raw_long, raw_octets, raw_array, raw_table, no_values, value, no_pairs, pair}
+use Rattle.amqp_grammar.specs.Grammar.{Wire, Raw, Body, Pairs, short_field, wire, raw_fixed, raw_short, raw_long, raw_octets, raw_array, raw_table, no_values, value, no_pairs, pair}
 use Rattle.amqp_grammar.specs.Nesting.{nesting, raw_nesting, body_nesting, pairs_nesting}
 use Rattle.amqp_grammar.specs.Outcomes.{Reading, found, more, unknown, malformed, length_field, counted, lack_of, frame_lack}
-use Rattle.amqp_grammar.specs.Decode.{Meaning, framed, raw_outcome_by, outcome_by, values, is_short, is_key, pairs_onto, meaning}
+use Rattle.amqp_grammar.specs.Decode.{Meaning, framed, raw_outcome_by, outcome_by, values_by, is_short, is_key, pairs_onto, meaning}
 
 -- the cases of reading, under names: by what the id stands for
 abbrev pub by_kind : Option AMQPType → Meaning → List ℕ → Reading
@@ -25,7 +25,7 @@ by_kind k mean b = elim k [ None ↦ unknown | Some type ↦ raw_outcome_by mean
 -- by the payload's layout
 abbrev pub by_layout : Option Layout → Meaning → AMQPType → List ℕ → Reading
 by_layout f mean type b = elim f [
-  | Some f ↦ found (scalar (f.meaning (take f.width b))) (drop f.width b)
+  | Some f ↦ found (scalar (f.denotes (take f.width b))) (drop f.width b)
   | None ↦ framed (length_field type) (mean type) b
 ]
 
@@ -39,7 +39,7 @@ by_meaning v rest = elim v [ Some v ↦ found v rest | None ↦ malformed ]
 
 -- by what the first of some values is
 abbrev pub and_others : (List ℕ → Reading) → ℕ → Reading → Option Trees
-and_others read n o = elim o [ found v rest ↦ option_map (tree v) (values read n rest) | _ ↦ None ]
+and_others read n o = elim o [ found v rest ↦ option_map (tree v) (values_by read n rest) | _ ↦ None ]
 
 -- by what stands behind the first of some keys
 abbrev pub and_pairs : (List ℕ → Reading) → ℕ → Entries → List ℕ → Reading → Option Entries
@@ -82,13 +82,13 @@ frame_lack-whole w b field frame =
 
 -- a payload of fixed width is found
 fixed_found : (mean : Meaning) (type : AMQPType) (f : Layout) (b rest : List ℕ) → fixed type ≡ Some f → length b ≡ f.width
-    → raw_outcome_by mean type (b ++ rest) ≡ found (scalar (f.meaning b)) rest
+    → raw_outcome_by mean type (b ++ rest) ≡ found (scalar (f.denotes b)) rest
 fixed_found mean type f b rest is wide =
     let whole = fixed_lack-whole f (length_field type) (b ++ rest) (first-le type f is) (omega (arith, length-append b rest)) in
     let front : take f.width (b ++ rest) ≡ b = ap (λ n. take n (b ++ rest)) (sym wide) ∙ take-append_seam b rest in
     let behind : drop f.width (b ++ rest) ≡ rest = ap (λ n. drop n (b ++ rest)) (sym wide) ∙ drop-append_seam b rest in
     ap (λ n. by_lack n mean type (b ++ rest)) (ap (λ o. lack_of o (length_field type) (b ++ rest)) is ∙ whole)
-    ∙ (ap (λ o. by_layout o mean type (b ++ rest)) is ∙ λ i. found (scalar (f.meaning (front i))) (behind i))
+    ∙ (ap (λ o. by_layout o mean type (b ++ rest)) is ∙ λ i. found (scalar (f.denotes (front i))) (behind i))
 
 -- a payload with a length field is found, where the bytes that it counts have a meaning
 framed_found : (mean : Meaning) (type : AMQPType) (l s rest : List ℕ) (v : Tree) → fixed type ≡ None
@@ -125,19 +125,19 @@ wire_starts _ _ (wire c type b v is raw) = omega arith
 
 -- what starts with a value's wire is that value, and then the others
 value_first : (read : List ℕ → Reading) (n : ℕ) (w rest : List ℕ) (v : Tree) → Wire w v → length (w ++ rest) ≤ suc n
-    → read (w ++ rest) ≡ found v rest → values read (suc n) (w ++ rest) ≡ option_map (tree v) (values read n rest)
+    → read (w ++ rest) ≡ found v rest → values_by read (suc n) (w ++ rest) ≡ option_map (tree v) (values_by read n rest)
 value_first read n _ rest _ (wire c type b v is raw) room first = ap (and_others read n) first
 
 -- a body means the array of its values, where they are found one level further in
 array_means : (depth deep : ℕ) (body : List ℕ) (vs : Trees) → suc deep ≤ depth
-    → ((inner : ℕ) → deep ≤ inner → values (outcome_by (meaning inner)) (length body) body ≡ Some vs)
+    → ((inner : ℕ) → deep ≤ inner → values_by (outcome_by (meaning inner)) (length body) body ≡ Some vs)
     → meaning depth amqp.FieldArray body ≡ Some (array vs)
 array_means zero deep body vs within spelled = absurd (omega arith)
 array_means (suc depth) deep body vs within spelled = ap (option_map array) (spelled depth (omega arith))
 
 -- what starts with a key and a value's wire is that pair, and then the others
 pair_first : (read : List ℕ → Reading) (n : ℕ) (es : Entries) (k t rest : List ℕ) (v : Tree) → IsShort k → read t ≡ found v rest
-    → pairs_onto read (suc n) es (small k ++ t) ≡ pairs_onto read n (put k v es) rest
+    → pairs_onto read (suc n) es (short_field k ++ t) ≡ pairs_onto read n (put k v es) rest
 pair_first read n es k t rest v key first =
     (λ i. and_key (is_key-true k t key i) (and_pairs read n es (take-append_seam k t i) (read (drop-append_seam k t i))))
     ∙ ap (and_pairs read n es k) first
@@ -176,7 +176,7 @@ mutual
 
   -- and a body's values are those that it spells
   pub found_body : (depth n : ℕ) (body : List ℕ) (vs : Trees) (p : Body body vs) → body_nesting body vs p ≤ depth → length body ≤ n
-      → values (outcome_by (meaning depth)) n body ≡ Some vs
+      → values_by (outcome_by (meaning depth)) n body ≡ Some vs
   found_body depth n _ _ no_values within room = refl
   found_body depth zero _ _ (value w rest v vs first others) within room = absurd (omega (arith, length-append w rest, wire_starts w v first))
   found_body depth (suc n) _ _ (value w rest v vs first others) within room =

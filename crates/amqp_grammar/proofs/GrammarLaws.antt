@@ -30,8 +30,8 @@ pub use Rattle.amqp_grammar.proofs.Outcomes.{raw_to_value, value_to_raw, raw_to_
 pub use Rattle.amqp_grammar.proofs.Outcomes.{raw_whole, raw_found, wire_found}
 -- bytes behind their length: the number is theirs, the frame is whole, and as a payload they are an
 -- array's body, a table's pairs or a short string
-pub use Rattle.amqp_grammar.proofs.Headers.{counted-large, lack_of-large}
-pub use Rattle.amqp_grammar.proofs.Headers.{counted-small, lack_of-small}
+pub use Rattle.amqp_grammar.proofs.Headers.{counted-long_field, lack_of-long_field}
+pub use Rattle.amqp_grammar.proofs.Headers.{counted-short_field, lack_of-short_field}
 pub use Rattle.amqp_grammar.proofs.Reading.{array_body}
 pub use Rattle.amqp_grammar.proofs.Reading.{table_body, short_bytes}
 -- reading where containers nest at most so deep

@@ -10,7 +10,7 @@ use Rattle.amqp_types.specs.declared.amqp_type.AMQPType.TheVariants as amqp
 use Rattle.amqp_grammar.specs.Values.{Tree}
 use Rattle.amqp_grammar.specs.Layouts.{Layout, fixed}
 use Rattle.amqp_types.specs.Strings.{IsShort}
-use Rattle.amqp_grammar.specs.Grammar.{small, large, Raw, raw_fixed, raw_short, raw_long, raw_octets, raw_array, raw_table}
+use Rattle.amqp_grammar.specs.Grammar.{short_field, long_field, Raw, raw_fixed, raw_short, raw_long, raw_octets, raw_array, raw_table}
 use Rattle.amqp_grammar.specs.Outcomes.{length_field, counted, frame_lack, fields_lack, lack_of, lack}
 
 -- how many bytes a payload of the layout has, or one with a length field
@@ -115,27 +115,27 @@ pub lack-append : (type : AMQPType) (b t : List ℕ) → length t < lack type b 
 lack-append type b t lt = lack_of-append (fixed type) (length_field type) b t lt
 
 -- the number before counted bytes is how many they are
-pub counted-large : (s rest : List ℕ) → length s < 2 ^ 32 → counted w32 (large s ++ rest) ≡ length s
-counted-large s rest fits = from_be_bytes-to_be_bytes_4 (length s) fits
+pub counted-long_field : (s rest : List ℕ) → length s < 2 ^ 32 → counted w32 (long_field s ++ rest) ≡ length s
+counted-long_field s rest fits = from_be_bytes-to_be_bytes_4 (length s) fits
 
-pub counted-small : (s rest : List ℕ) → IsShort s → counted w8 (small s ++ rest) ≡ length s
-counted-small s rest is = omega (arith, is.few)
+pub counted-short_field : (s rest : List ℕ) → IsShort s → counted w8 (short_field s ++ rest) ≡ length s
+counted-short_field s rest is = omega (arith, is.few)
 
 -- bytes behind their length are a whole frame
-pub lack_of-large : (s rest : List ℕ) → length s < 2 ^ 32 → lack_of None w32 (large s ++ rest) ≡ 0
-lack_of-large s rest fits = lack_of-none None w32 (large s ++ rest) tt (omega (arith, counted-large s rest fits, length-append s rest))
+pub lack_of-long_field : (s rest : List ℕ) → length s < 2 ^ 32 → lack_of None w32 (long_field s ++ rest) ≡ 0
+lack_of-long_field s rest fits = lack_of-none None w32 (long_field s ++ rest) tt (omega (arith, counted-long_field s rest fits, length-append s rest))
 
-pub lack_of-small : (s rest : List ℕ) → IsShort s → lack_of None w8 (small s ++ rest) ≡ 0
-lack_of-small s rest is = lack_of-none None w8 (small s ++ rest) tt (omega (arith, counted-small s rest is, length-append s rest))
+pub lack_of-short_field : (s rest : List ℕ) → IsShort s → lack_of None w8 (short_field s ++ rest) ≡ 0
+lack_of-short_field s rest is = lack_of-none None w8 (short_field s ++ rest) tt (omega (arith, counted-short_field s rest is, length-append s rest))
 
 -- the extent of a payload is its length, whatever follows
 pub extent-raw : (type : AMQPType) (b rest : List ℕ) (v : Tree) → Raw type b v → extent type (b ++ rest) ≡ length b
 extent-raw _ _ rest _ (raw_fixed type f b row len) = ap (λ (o : Option Layout). extent_of o (length_field type) (b ++ rest)) row ∙ sym len
-extent-raw _ _ rest _ (raw_short s is) = omega (arith, counted-small s rest is)
-extent-raw _ _ rest _ (raw_long s fits) = omega (arith, counted-large s rest fits)
-extent-raw _ _ rest _ (raw_octets s fits) = omega (arith, counted-large s rest fits)
-extent-raw _ _ rest _ (raw_array body vs fits all) = omega (arith, counted-large body rest fits)
-extent-raw _ _ rest _ (raw_table body ps fits all) = omega (arith, counted-large body rest fits)
+extent-raw _ _ rest _ (raw_short s is) = omega (arith, counted-short_field s rest is)
+extent-raw _ _ rest _ (raw_long s fits) = omega (arith, counted-long_field s rest fits)
+extent-raw _ _ rest _ (raw_octets s fits) = omega (arith, counted-long_field s rest fits)
+extent-raw _ _ rest _ (raw_array body vs fits all) = omega (arith, counted-long_field body rest fits)
+extent-raw _ _ rest _ (raw_table body ps fits all) = omega (arith, counted-long_field body rest fits)
 
 -- the frame of a payload is whole, whatever follows
 pub lack-raw : (type : AMQPType) (b rest : List ℕ) (v : Tree) → Raw type b v → lack type (b ++ rest) ≡ 0

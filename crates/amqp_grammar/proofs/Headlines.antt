@@ -8,7 +8,7 @@ use Rattle.amqp_grammar.specs.Grammar.{Wire}
 use Rattle.amqp_grammar.specs.Outcomes.{found, unknown, lack, LacksOr, Outcome}
 use Rattle.amqp_grammar.specs.Readings.{Front}
 use Rattle.amqp_grammar.specs.Texts.{text}
-use Rattle.amqp_grammar.specs.Headline.{IsBounded, IsShortest, TellsApart}
+use Rattle.amqp_grammar.specs.Headline.{IsWritableIn, IsShortest, TellsApart}
 use Rattle.amqp_grammar.proofs.Bounds.{bounds}
 use Rattle.amqp_grammar.proofs.Shortest.{what_is_read, shortest, same_text_same_value}
 
@@ -27,18 +27,18 @@ found_front (c ∷ b) rest v x = by (kind c) x
     by (Some type) f = decided (lack type b) f
 
 -- a value that was read is bounded by its wire
-pub bounded_wire : (w : List ℕ) (v : Tree) → Wire w v → IsBounded (length w) v
+pub bounded_wire : (w : List ℕ) (v : Tree) → Wire w v → IsWritableIn (length w) v
 bounded_wire w v p =
     let bound = bounds w v p in
     let read = what_is_read w v p in
     record { fits = read.0; readable = read.1; size = bound.0; count = bound.1; depth = bound.2 }
 
 -- so by the bytes that reading it took
-pub bounded_found : (s rest : List ℕ) (v : Tree) → Outcome s (found v rest) → IsBounded (length s - length rest) v
+pub bounded_found : (s rest : List ℕ) (v : Tree) → Outcome s (found v rest) → IsWritableIn (length s - length rest) v
 bounded_found s rest v x =
     let front = found_front s rest v x in
     let taken : length front.0 ≡ length s - length rest = omega (arith, ap length front.2, length-append front.0 rest) in
-    subst (λ (n : ℕ). IsBounded n v) taken (bounded_wire front.0 v front.1)
+    subst (λ (n : ℕ). IsWritableIn n v) taken (bounded_wire front.0 v front.1)
 
 -- the text is a shortest wire
 pub is_shortest : (v : Tree) → IsShortest v

@@ -7,7 +7,7 @@ use Rattle.amqp_types.specs.declared.amqp_type.AMQPType.TheVariants as amqp
 use Rattle.amqp_grammar.specs.Values.{Tree, scalar, short, long, octets, array, table, Trees, no_trees, tree, Entries, no_entries, entry, readable, all_readable, entries_readable}
 use Rattle.amqp_types.specs.Ids.{kind, id_of}
 use Rattle.amqp_types.specs.Strings.{IsShort}
-use Rattle.amqp_grammar.specs.Grammar.{small, large, Wire, wire, Raw, raw_fixed, raw_short, raw_array, raw_table, Body, no_values, value, Pairs, no_pairs, pair}
+use Rattle.amqp_grammar.specs.Grammar.{short_field, long_field, Wire, wire, Raw, raw_fixed, raw_short, raw_array, raw_table, Body, no_values, value, Pairs, no_pairs, pair}
 use Rattle.amqp_grammar.specs.Nesting.{raw_nesting, body_nesting, pairs_nesting}
 use Rattle.amqp_grammar.specs.Texts.{text, body, pairs, Fits, AllFit, EntriesFit}
 use Rattle.amqp_grammar.specs.InMemory.{IsValue, AreValues, AreEntries}
@@ -15,19 +15,19 @@ use Rattle.amqp_grammar.specs.Readings.{unread, read_back}
 use Rattle.amqp_grammar.specs.Outcomes.{counted, found, malformed, lack, Outcome}
 use Rattle.amqp_grammar.specs.Payloads.{RawFront}
 use Rattle.amqp_grammar.proofs.Fronts.{same_fronts}
-use Rattle.amqp_grammar.proofs.Headers.{counted-large, lack_of-large}
+use Rattle.amqp_grammar.proofs.Headers.{counted-long_field, lack_of-long_field}
 use Rattle.amqp_grammar.proofs.Unique.{one_front, one_key}
 use Rattle.amqp_grammar.proofs.Outcomes.{raw_of_wire, raw_whole, raw_to_value, wire_found}
 use Rattle.amqp_grammar.proofs.Spelling.{length_of_body, length_of_pairs, text_is_wire}
 
 -- two lists behind their lengths, at the front of one list, are one
-one_large : (s t x y : List ℕ) → length s < 2 ^ 32 → length t < 2 ^ 32 → large s ++ x ≡ large t ++ y → (s ≡ t) × (x ≡ y)
+one_large : (s t x y : List ℕ) → length s < 2 ^ 32 → length t < 2 ^ 32 → long_field s ++ x ≡ long_field t ++ y → (s ≡ t) × (x ≡ y)
 one_large s t x y short_s short_t e =
-    let len : length s ≡ length t = sym (counted-large s x short_s) ∙ (ap (counted w32) e ∙ counted-large t y short_t) in
+    let len : length s ≡ length t = sym (counted-long_field s x short_s) ∙ (ap (counted w32) e ∙ counted-long_field t y short_t) in
     same_fronts s t x y len (ap (drop 4) e)
 
 -- the payload of an array is a body behind its length
-pub array_body : (s x b y : List ℕ) (z : Tree) → length s < 2 ^ 32 → Raw amqp.FieldArray b z → large s ++ x ≡ b ++ y → (us : Trees) × Body s us
+pub array_body : (s x b y : List ℕ) (z : Tree) → length s < 2 ^ 32 → Raw amqp.FieldArray b z → long_field s ++ x ≡ b ++ y → (us : Trees) × Body s us
 array_body s x _ y _ fits (raw_fixed type f b row len) e = absurd cc
 array_body s x _ y _ fits (raw_array c us room p) e =
     let same = one_large s c x y fits room e in
@@ -35,7 +35,7 @@ array_body s x _ y _ fits (raw_array c us room p) e =
 
 -- and one that nests no deeper than its payload, which counts one more
 pub array_body_within : (d : ℕ) (s x b y : List ℕ) (z : Tree) → length s < 2 ^ 32 → (p : Raw amqp.FieldArray b z) → raw_nesting amqp.FieldArray b z p ≤ d
-    → large s ++ x ≡ b ++ y → (us : Trees) × (q : Body s us) × (suc (body_nesting s us q) ≤ d)
+    → long_field s ++ x ≡ b ++ y → (us : Trees) × (q : Body s us) × (suc (body_nesting s us q) ≤ d)
 array_body_within d s x _ y _ fits (raw_fixed type f b row len) within e = absurd cc
 array_body_within d s x _ y _ fits (raw_array c us room p) within e =
     let same = one_large s c x y fits room e in
@@ -43,14 +43,14 @@ array_body_within d s x _ y _ fits (raw_array c us room p) within e =
     (us, at.0, at.1)
 
 -- the payload of a table is pairs behind their length
-pub table_body : (s x b y : List ℕ) (z : Tree) → length s < 2 ^ 32 → Raw amqp.FieldTable b z → large s ++ x ≡ b ++ y → (ps : Entries) × Pairs s ps
+pub table_body : (s x b y : List ℕ) (z : Tree) → length s < 2 ^ 32 → Raw amqp.FieldTable b z → long_field s ++ x ≡ b ++ y → (ps : Entries) × Pairs s ps
 table_body s x _ y _ fits (raw_fixed type f b row len) e = absurd cc
 table_body s x _ y _ fits (raw_table c ps room p) e =
     let same = one_large s c x y fits room e in
     (ps, rw same.0 p)
 
 pub table_body_within : (d : ℕ) (s x b y : List ℕ) (z : Tree) → length s < 2 ^ 32 → (p : Raw amqp.FieldTable b z) → raw_nesting amqp.FieldTable b z p ≤ d
-    → large s ++ x ≡ b ++ y → (ps : Entries) × (q : Pairs s ps) × (suc (pairs_nesting s ps q) ≤ d)
+    → long_field s ++ x ≡ b ++ y → (ps : Entries) × (q : Pairs s ps) × (suc (pairs_nesting s ps q) ≤ d)
 table_body_within d s x _ y _ fits (raw_fixed type f b row len) within e = absurd cc
 table_body_within d s x _ y _ fits (raw_table c ps room p) within e =
     let same = one_large s c x y fits room e in
@@ -58,7 +58,7 @@ table_body_within d s x _ y _ fits (raw_table c ps room p) within e =
     (ps, at.0, at.1)
 
 -- the payload of a short string is one behind its length
-pub short_bytes : (s x b y : List ℕ) (z : Tree) → Raw amqp.ShortString b z → small s ++ x ≡ b ++ y → IsShort s
+pub short_bytes : (s x b y : List ℕ) (z : Tree) → Raw amqp.ShortString b z → short_field s ++ x ≡ b ++ y → IsShort s
 short_bytes s x _ y _ (raw_fixed type f b row len) e = absurd cc
 short_bytes s x _ y _ (raw_short t is) e = rw (one_key s t x y e).0 is
 
@@ -82,15 +82,15 @@ mutual
   -- a value whose text is a wire, of whatever value, is readable
   pub text_readable : (v : Tree) (x w y : List ℕ) (z : Tree) → IsValue v → Fits v → Wire w z → text v ++ x ≡ w ++ y → IsTrue (readable v)
   text_readable (scalar s) x w y z is fits p e = refl
-  text_readable (short s) x w y z is fits p e = absurd (no_wire (id_of amqp.ShortString) (small s ++ x) w y z refl p e)
+  text_readable (short s) x w y z is fits p e = absurd (no_wire (id_of amqp.ShortString) (short_field s ++ x) w y z refl p e)
   text_readable (long s) x w y z is fits p e = refl
   text_readable (octets s) x w y z is fits p e = refl
   text_readable (array vs) x w y z is fits p e =
-      let r = raw_of_wire (id_of amqp.FieldArray) amqp.FieldArray (large (body vs) ++ x) w y z refl p e in
+      let r = raw_of_wire (id_of amqp.FieldArray) amqp.FieldArray (long_field (body vs) ++ x) w y z refl p e in
       let b = array_body (body vs) x r.0 y z (omega (arith, fits.0, length_of_body vs)) r.1 r.2 in
       body_readable vs (body vs) b.0 is fits.1 b.1 refl
   text_readable (table es) x w y z is fits p e =
-      let r = raw_of_wire (id_of amqp.FieldTable) amqp.FieldTable (large (pairs es) ++ x) w y z refl p e in
+      let r = raw_of_wire (id_of amqp.FieldTable) amqp.FieldTable (long_field (pairs es) ++ x) w y z refl p e in
       let b = table_body (pairs es) x r.0 y z (omega (arith, fits.0, length_of_pairs es)) r.1 r.2 in
       pairs_readable es (pairs es) b.0 is fits.1 b.1 refl
 
@@ -114,22 +114,22 @@ mutual
       and_from (readable v) (entries_readable es) r (pairs_readable es more ps are.3 fits.1 all same.1)
 
 -- where a value of an array is not readable, no front is a payload of an array
-no_array : (vs : Trees) (rest : List ℕ) → AreValues vs → Fits (array vs) → all_readable vs ≡ false → RawFront amqp.FieldArray (large (body vs) ++ rest) malformed
+no_array : (vs : Trees) (rest : List ℕ) → AreValues vs → Fits (array vs) → all_readable vs ≡ false → RawFront amqp.FieldArray (long_field (body vs) ++ rest) malformed
 no_array vs rest is fits r b y z p e =
     let found = array_body (body vs) rest b y z (omega (arith, fits.0, length_of_body vs)) p e in
     both_ways (all_readable vs) r (body_readable vs (body vs) found.0 is fits.1 found.1 refl)
 
 -- where a value of a table is not readable, no front is a payload of a table
-no_table : (es : Entries) (rest : List ℕ) → AreEntries es → Fits (table es) → entries_readable es ≡ false → RawFront amqp.FieldTable (large (pairs es) ++ rest) malformed
+no_table : (es : Entries) (rest : List ℕ) → AreEntries es → Fits (table es) → entries_readable es ≡ false → RawFront amqp.FieldTable (long_field (pairs es) ++ rest) malformed
 no_table es rest are fits r b y z p e =
     let found = table_body (pairs es) rest b y z (omega (arith, fits.0, length_of_pairs es)) p e in
     both_ways (entries_readable es) r (pairs_readable es (pairs es) found.0 are fits.1 found.1 refl)
 
 -- a whole frame behind an id is malformed, where no front of it is a payload
-malformed_frame : (type : AMQPType) (s rest : List ℕ) → kind (id_of type) ≡ Some type → lack type (large s ++ rest) ≡ 0
-    → RawFront type (large s ++ rest) malformed → Outcome (id_of type ∷ (large s ++ rest)) malformed
+malformed_frame : (type : AMQPType) (s rest : List ℕ) → kind (id_of type) ≡ Some type → lack type (long_field s ++ rest) ≡ 0
+    → RawFront type (long_field s ++ rest) malformed → Outcome (id_of type ∷ (long_field s ++ rest)) malformed
 malformed_frame type s rest k whole none =
-    raw_to_value (id_of type) type (large s ++ rest) malformed k (raw_whole type (large s ++ rest) malformed whole none)
+    raw_to_value (id_of type) type (long_field s ++ rest) malformed k (raw_whole type (long_field s ++ rest) malformed whole none)
 
 -- the text of a value that is not readable is refused
 unreadable : (v : Tree) (rest : List ℕ) → IsValue v → Fits v → readable v ≡ false → Outcome (text v ++ rest) (unread v)
@@ -138,9 +138,9 @@ unreadable (short s) rest is fits r = refl
 unreadable (long s) rest is fits r = absurd cc
 unreadable (octets s) rest is fits r = absurd cc
 unreadable (array vs) rest is fits r =
-    malformed_frame amqp.FieldArray (body vs) rest refl (lack_of-large (body vs) rest (omega (arith, fits.0, length_of_body vs))) (no_array vs rest is fits r)
+    malformed_frame amqp.FieldArray (body vs) rest refl (lack_of-long_field (body vs) rest (omega (arith, fits.0, length_of_body vs))) (no_array vs rest is fits r)
 unreadable (table es) rest is fits r =
-    malformed_frame amqp.FieldTable (pairs es) rest refl (lack_of-large (pairs es) rest (omega (arith, fits.0, length_of_pairs es))) (no_table es rest is fits r)
+    malformed_frame amqp.FieldTable (pairs es) rest refl (lack_of-long_field (pairs es) rest (omega (arith, fits.0, length_of_pairs es))) (no_table es rest is fits r)
 
 -- the text of a value, with `rest` behind it, is read as that value, or refused where it is not
 -- readable

@@ -14,7 +14,7 @@ use Rattle.amqp_types.specs.Names.{read_as}
 use Rattle.amqp_types.proofs.Ids.{kind_read}
 use Rattle.amqp_grammar.specs.Layouts.{Layout, fixed}
 use Rattle.amqp_types.specs.Strings.{IsShort}
-use Rattle.amqp_grammar.specs.Grammar.{small, Wire, wire, Raw, raw_fixed, raw_short, raw_long, raw_octets, raw_array, raw_table, Body, no_values, value, Pairs, no_pairs, pair}
+use Rattle.amqp_grammar.specs.Grammar.{short_field, Wire, wire, Raw, raw_fixed, raw_short, raw_long, raw_octets, raw_array, raw_table, Body, no_values, value, Pairs, no_pairs, pair}
 use Rattle.amqp_grammar.specs.Texts.{text, Fits, AllFit, EntriesFit}
 use Rattle.amqp_grammar.specs.InMemory.{IsScalar, IsValue, AreValues, AreEntries}
 use Rattle.amqp_input.specs.Inputs.{IsBytes}
@@ -83,7 +83,7 @@ mutual
 
 -- each row's bytes mean a scalar
 abbrev IsRanged : Option Layout → Type 0
-IsRanged o = IfSome o (λ f. (b : List ℕ) → IsBytes b → IsScalar (f.meaning b))
+IsRanged o = IfSome o (λ f. (b : List ℕ) → IsBytes b → IsScalar (f.denotes b))
 
 rows_ranged : (type : AMQPType) → IsRanged (fixed type)
 rows_ranged amqp.Boolean = λ b bytes. tt
@@ -130,7 +130,7 @@ mutual
   pairs_values : (body : List ℕ) (ps : Entries) → IsBytes body → Pairs body ps → Each (λ k v. IsShort k × IsValue v) ps
   pairs_values _ _ bytes no_pairs = tt
   pairs_values _ _ bytes (pair k w more v ps is p all) =
-      let behind = bytes_behind (small k) (w ++ more) bytes in
+      let behind = bytes_behind (short_field k) (w ++ more) bytes in
       ((is, wire_value w v (bytes_front w more behind) p), pairs_values more ps (bytes_behind w more behind) all)
 
 -- ---- the laws

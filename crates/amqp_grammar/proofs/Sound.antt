@@ -14,11 +14,11 @@ use Rattle.amqp_grammar.specs.Values.{Tree, short, long, octets, array, table, T
 use Rattle.amqp_types.specs.Ids.{kind}
 use Rattle.amqp_grammar.specs.Layouts.{Layout, fixed}
 use Rattle.amqp_types.specs.Strings.{IsShort}
-use Rattle.amqp_grammar.specs.Grammar.{small, large, wire, raw_fixed, raw_short, raw_long, raw_octets, raw_array, raw_table, no_values, value, no_pairs, pair}
+use Rattle.amqp_grammar.specs.Grammar.{short_field, long_field, wire, raw_fixed, raw_short, raw_long, raw_octets, raw_array, raw_table, no_values, value, no_pairs, pair}
 use Rattle.amqp_grammar.specs.Nesting.{WireWithin, RawWithin, BodyWithin, PairsWithin}
 use Rattle.amqp_input.specs.Inputs.{IsBytes}
 use Rattle.amqp_grammar.specs.Outcomes.{Reading, found, more, unknown, malformed, LacksOr, length_field, counted, lack, lack_of, frame_lack}
-use Rattle.amqp_grammar.specs.Decode.{Meaning, framed, raw_outcome_by, outcome_by, values, is_short, is_key, pairs_onto, meaning}
+use Rattle.amqp_grammar.specs.Decode.{Meaning, framed, raw_outcome_by, outcome_by, values_by, is_short, is_key, pairs_onto, meaning}
 use Rattle.amqp_grammar.proofs.Found.{by_kind, by_layout, by_lack, by_meaning, and_others, and_pairs, and_key}
 
 -- a part of some bytes is bytes
@@ -170,17 +170,17 @@ tree_ends depth s w rest v (Some vs) (p, within) is (q, all_within) =
 
 -- what the first value is, and what the others are
 others_end : (depth : ℕ) (read : List ℕ → Reading) (n : ℕ) (s : List ℕ) (o : Reading) → IsBytes s → IfFound (WireWithin depth) s o
-    → ((rest : List ℕ) → IsBytes rest → IfSome (values read n rest) (BodyWithin depth rest))
+    → ((rest : List ℕ) → IsBytes rest → IfSome (values_by read n rest) (BodyWithin depth rest))
     → IfSome (and_others read n o) (BodyWithin depth s)
 others_end depth read n s (found v rest) bytes (w, first, is) others =
-    tree_ends depth s w rest v (values read n rest) first is (others rest (IsBytes-behind w rest (subst IsBytes is bytes)))
+    tree_ends depth s w rest v (values_by read n rest) first is (others rest (IsBytes-behind w rest (subst IsBytes is bytes)))
 others_end depth read n s (more k) bytes ends others = tt
 others_end depth read n s unknown bytes ends others = tt
 others_end depth read n s malformed bytes ends others = tt
 
 -- values that are found one after another are a body
 values_end : (depth : ℕ) (read : List ℕ → Reading) → ((s : List ℕ) → IsBytes s → IfFound (WireWithin depth) s (read s))
-    → (n : ℕ) (s : List ℕ) → IsBytes s → IfSome (values read n s) (BodyWithin depth s)
+    → (n : ℕ) (s : List ℕ) → IsBytes s → IfSome (values_by read n s) (BodyWithin depth s)
 values_end depth read reads n [] bytes = (no_values, omega arith)
 values_end depth read reads zero (c ∷ b) bytes = tt
 values_end depth read reads (suc n) (c ∷ b) bytes =
@@ -198,15 +198,15 @@ PairsOnto depth es s fs = (ps : Entries) × PairsWithin depth s ps × (fs ≡ on
 
 -- a key and a value's wire, and the other pairs behind them
 pair_ends : (depth : ℕ) (es : Entries) (k t w rest : List ℕ) (v : Tree) (fs : Option Entries) → IsShort k → WireWithin depth w v → t ≡ w ++ rest
-    → IfSome fs (PairsOnto depth (put k v es) rest) → IfSome fs (PairsOnto depth es (small k ++ t))
+    → IfSome fs (PairsOnto depth (put k v es) rest) → IfSome fs (PairsOnto depth es (short_field k ++ t))
 pair_ends depth es k t w rest v None key first is others = tt
 pair_ends depth es k t w rest v (Some fs) key (p, within) is (ps, (q, all_within), onto_es) =
-    subst (λ x. PairsOnto depth es (small k ++ x) fs) (sym is) (entry k v ps, (pair k w rest v ps key p q, omega arith), onto_es)
+    subst (λ x. PairsOnto depth es (short_field k ++ x) fs) (sym is) (entry k v ps, (pair k w rest v ps key p q, omega arith), onto_es)
 
 -- what stands behind the first key, and what the other pairs are
 pairs_behind : (depth : ℕ) (read : List ℕ → Reading) (n : ℕ) (es : Entries) (k t : List ℕ) (o : Reading) → IsShort k → IsBytes t → IfFound (WireWithin depth) t o
     → ((fs : Entries) (rest : List ℕ) → IsBytes rest → IfSome (pairs_onto read n fs rest) (PairsOnto depth fs rest))
-    → IfSome (and_pairs read n es k o) (PairsOnto depth es (small k ++ t))
+    → IfSome (and_pairs read n es k o) (PairsOnto depth es (short_field k ++ t))
 pairs_behind depth read n es k t (found v rest) key bytes (w, first, is) others =
     pair_ends depth es k t w rest v (pairs_onto read n (put k v es) rest) key first is (others (put k v es) rest (IsBytes-behind w rest (subst IsBytes is bytes)))
 pairs_behind depth read n es k t (more m) key bytes ends others = tt
@@ -226,7 +226,7 @@ key_ends depth read reads n es c s bytes others = at_test (is_key c s) refl wher
       let enough = leb-true c (length s) both.0 in
       let k = take c s in
       let counts : length k ≡ c = length-take c s ∙ omega arith in
-      let whole : small k ++ drop c s ≡ c ∷ s = λ i. counts i ∷ take-append-drop c s i in
+      let whole : short_field k ++ drop c s ≡ c ∷ s = λ i. counts i ∷ take-append-drop c s i in
       subst (λ x. IfSome (and_pairs read n es k (read (drop c s))) (PairsOnto depth es x)) whole
       (pairs_behind depth read n es k (drop c s) (read (drop c s)) (is_short-holds k both.1) (IsBytes-drop c s bytes) (reads (drop c s) (IsBytes-drop c s bytes)) others)
 
@@ -238,13 +238,13 @@ pairs_end depth read reads zero es (c ∷ s) bytes = tt
 pairs_end depth read reads (suc n) es (c ∷ s) bytes = key_ends depth read reads n es c s bytes.1 (pairs_end depth read reads n)
 
 -- what holds of bytes behind their length in one byte holds behind each field that counts them
-small_end : (P : List ℕ → Type 0) (l s : List ℕ) → length l ≡ 1 → from_be_bytes w8 l ≡ length s → P (small s) → P (l ++ s)
+small_end : (P : List ℕ → Type 0) (l s : List ℕ) → length l ≡ 1 → from_be_bytes w8 l ≡ length s → P (short_field s) → P (l ++ s)
 small_end P [] s one counts here = absurd (omega arith)
 small_end P (c ∷ []) s one counts here = subst (λ n. P (n ∷ s)) (sym counts) here
 small_end P (c ∷ d ∷ l) s one counts here = absurd (omega arith)
 
 -- so it is of a length in four bytes, which fits its field
-large_end : (P : List ℕ → Type 0) (l s : List ℕ) → IsBytes l → length l ≡ 4 → from_be_bytes w32 l ≡ length s → (length s < 2 ^ 32 → P (large s)) → P (l ++ s)
+large_end : (P : List ℕ → Type 0) (l s : List ℕ) → IsBytes l → length l ≡ 4 → from_be_bytes w32 l ≡ length s → (length s < 2 ^ 32 → P (long_field s)) → P (l ++ s)
 large_end P l s bytes four counts here =
     let undone : to_be_bytes w32 (length s) ≡ l = be_bytes_4 l (length s) four (IsBytes-get l bytes) (sym counts) in
     let at = IsBytes-get l bytes in
@@ -281,7 +281,7 @@ means_spelled depth amqp.LongString l s field four counts bytes =
 means_spelled depth amqp.ByteArray l s field four counts bytes =
     large_end (λ b. RawWithin depth amqp.ByteArray b (octets s)) l s field four counts (λ fits. (raw_octets s fits, omega arith))
 means_spelled (suc depth) amqp.FieldArray l s field four counts bytes =
-    array_end depth l s field four counts (values (outcome_by (meaning depth)) (length s) s)
+    array_end depth l s field four counts (values_by (outcome_by (meaning depth)) (length s) s)
     (values_end depth (outcome_by (meaning depth)) (λ b bytes. wire_found depth b (outcome_by (meaning depth) b) (wire_ends depth (meaning depth) (means_spelled depth) b bytes)) (length s) s bytes)
 means_spelled (suc depth) amqp.FieldTable l s field four counts bytes =
     table_end depth l s field four counts (pairs_onto (outcome_by (meaning depth)) (length s) no_entries s)

@@ -9,7 +9,7 @@ use Rattle.amqp_grammar.specs.Values.{Scalar, boolean, number, decimal, void, Tr
 use Rattle.amqp_grammar.specs.Payloads.{type_of, payload}
 use Rattle.amqp_types.specs.Ids.{kind, id_of}
 use Rattle.amqp_grammar.specs.Layouts.{Layout, fixed, width_of, spelled}
-use Rattle.amqp_grammar.specs.Grammar.{large, Wire, wire, Raw, raw_fixed, raw_long, raw_octets, raw_array, raw_table, Body, no_values, value, Pairs, no_pairs, pair}
+use Rattle.amqp_grammar.specs.Grammar.{long_field, Wire, wire, Raw, raw_fixed, raw_long, raw_octets, raw_array, raw_table, Body, no_values, value, Pairs, no_pairs, pair}
 use Rattle.amqp_grammar.specs.Texts.{text, body, pairs, size, body_size, pairs_size, Fits, AllFit, EntriesFit}
 use Rattle.amqp_grammar.specs.InMemory.{IsNumber, IsScalar, IsValue, AreValues, AreEntries}
 use Rattle.amqp_grammar.proofs.Tables.{onto-rising}
@@ -69,7 +69,7 @@ pub record IsSpelled (x : Scalar) : Type 0 where
   pub layout : Layout
   pub row : fixed (scalar_type x) ≡ Some layout
   pub width : length (spelled x) ≡ layout.width
-  pub means : layout.meaning (spelled x) ≡ x
+  pub means : layout.denotes (spelled x) ≡ x
   pub id : kind (id_of (scalar_type x)) ≡ Some (scalar_type x)
 
 -- the number that one byte spells
@@ -109,9 +109,9 @@ scalar_raw x is =
 -- ---- all values
 
 -- pairs whose keys rise are the payload of a table that has them for entries
-rising_raw : (b : List ℕ) (es : Entries) → AreEntries es → length b < 2 ^ 32 → Pairs b es → Raw amqp.FieldTable (large b) (table es)
+rising_raw : (b : List ℕ) (es : Entries) → AreEntries es → length b < 2 ^ 32 → Pairs b es → Raw amqp.FieldTable (long_field b) (table es)
 rising_raw b es are fits all =
-    subst (λ (fs : Entries). Raw amqp.FieldTable (large b) (table fs)) (onto-rising es are) (raw_table b es fits all)
+    subst (λ (fs : Entries). Raw amqp.FieldTable (long_field b) (table fs)) (onto-rising es are) (raw_table b es fits all)
 
 mutual
   -- the text of a value is a wire of it
@@ -119,13 +119,13 @@ mutual
   text_is_wire (scalar x) is fits r =
       wire (id_of (scalar_type x)) (scalar_type x) (spelled x) (scalar x) (scalar_spelled x is).id (scalar_raw x is)
   text_is_wire (short s) is fits r = absurd cc
-  text_is_wire (long s) is fits r = wire (id_of amqp.LongString) amqp.LongString (large s) (long s) refl (raw_long s fits)
-  text_is_wire (octets s) is fits r = wire (id_of amqp.ByteArray) amqp.ByteArray (large s) (octets s) refl (raw_octets s fits)
+  text_is_wire (long s) is fits r = wire (id_of amqp.LongString) amqp.LongString (long_field s) (long s) refl (raw_long s fits)
+  text_is_wire (octets s) is fits r = wire (id_of amqp.ByteArray) amqp.ByteArray (long_field s) (octets s) refl (raw_octets s fits)
   text_is_wire (array vs) is fits r =
-      wire (id_of amqp.FieldArray) amqp.FieldArray (large (body vs)) (array vs) refl
+      wire (id_of amqp.FieldArray) amqp.FieldArray (long_field (body vs)) (array vs) refl
       (raw_array (body vs) vs (omega (arith, fits.0, length_of_body vs)) (texts_are_body vs is fits.1 r))
   text_is_wire (table es) is fits r =
-      wire (id_of amqp.FieldTable) amqp.FieldTable (large (pairs es)) (table es) refl
+      wire (id_of amqp.FieldTable) amqp.FieldTable (long_field (pairs es)) (table es) refl
       (rising_raw (pairs es) es is (omega (arith, fits.0, length_of_pairs es)) (texts_are_pairs es is fits.1 r))
 
   -- texts that are joined are an array's body

@@ -7,7 +7,7 @@ use Rattle.amqp_types.specs.declared.amqp_type.AMQPType.TheVariants as amqp
 use Rattle.amqp_grammar.specs.Values.{Scalar, boolean, number, decimal, void, Tree, scalar, short, long, octets, array, table, Trees, no_trees, tree, Entries, no_entries, entry, scalar_type, readable, all_readable, entries_readable}
 use Rattle.amqp_types.specs.Ids.{id_of}
 use Rattle.amqp_grammar.specs.Layouts.{width_of, spelled}
-use Rattle.amqp_grammar.specs.Grammar.{large}
+use Rattle.amqp_grammar.specs.Grammar.{long_field}
 use Rattle.amqp_grammar.specs.Texts.{text, body, pairs, Fits, AllFit, EntriesFit}
 use Rattle.amqp_grammar.specs.InMemory.{IsNumber, IsScalar, IsValue, AreValues, AreEntries}
 use Rattle.amqp_grammar.specs.Canonical.{IsStrict, Canon, canon, CanonRaw, canon_fixed, canon_long, canon_octets, canon_array, canon_table, CanonBody, no_canon_values, canon_value, CanonPairs, no_canon_pairs, canon_pair}
@@ -51,14 +51,14 @@ mutual
       canon (id_of (scalar_type x)) (scalar_type x) (spelled x) (scalar x) (scalar_spelled x is).id (not_U (scalar_type x)) (not_L (scalar_type x)) (spelled_canon x is)
   text_is_canon (short s) is fits r = absurd cc
   text_is_canon (long s) is fits r =
-      canon (id_of amqp.LongString) amqp.LongString (large s) (long s) refl (not_U amqp.LongString) (not_L amqp.LongString) (canon_long s fits)
+      canon (id_of amqp.LongString) amqp.LongString (long_field s) (long s) refl (not_U amqp.LongString) (not_L amqp.LongString) (canon_long s fits)
   text_is_canon (octets s) is fits r =
-      canon (id_of amqp.ByteArray) amqp.ByteArray (large s) (octets s) refl (not_U amqp.ByteArray) (not_L amqp.ByteArray) (canon_octets s fits)
+      canon (id_of amqp.ByteArray) amqp.ByteArray (long_field s) (octets s) refl (not_U amqp.ByteArray) (not_L amqp.ByteArray) (canon_octets s fits)
   text_is_canon (array vs) is fits r =
-      canon (id_of amqp.FieldArray) amqp.FieldArray (large (body vs)) (array vs) refl (not_U amqp.FieldArray) (not_L amqp.FieldArray)
+      canon (id_of amqp.FieldArray) amqp.FieldArray (long_field (body vs)) (array vs) refl (not_U amqp.FieldArray) (not_L amqp.FieldArray)
       (canon_array (body vs) vs (omega (arith, fits.0, length_of_body vs)) (texts_are_canon vs is fits.1 r))
   text_is_canon (table es) is fits r =
-      canon (id_of amqp.FieldTable) amqp.FieldTable (large (pairs es)) (table es) refl (not_U amqp.FieldTable) (not_L amqp.FieldTable)
+      canon (id_of amqp.FieldTable) amqp.FieldTable (long_field (pairs es)) (table es) refl (not_U amqp.FieldTable) (not_L amqp.FieldTable)
       (canon_table (pairs es) es (omega (arith, fits.0, length_of_pairs es)) (keyed_are_canon es is fits.1 r))
 
   -- texts that are joined are canonical wires one after another

@@ -6,7 +6,7 @@ use Rattle.amqp_types.specs.declared.amqp_type.AMQPType.TheVariants as amqp
 use Rattle.amqp_grammar.specs.Values.{Scalar, Tree, scalar, short, long, octets, array, table, Trees, no_trees, tree, Entries, no_entries, entry, scalar_type, onto, depth, greatest_depth, entries_depth, readable, all_readable, entries_readable}
 use Rattle.amqp_types.specs.Ids.{id_of}
 use Rattle.amqp_grammar.specs.Layouts.{spelled}
-use Rattle.amqp_grammar.specs.Grammar.{large, Wire, wire, Raw, raw_fixed, raw_short, raw_long, raw_octets, raw_array, raw_table, Body, no_values, value, Pairs, no_pairs, pair}
+use Rattle.amqp_grammar.specs.Grammar.{long_field, Wire, wire, Raw, raw_fixed, raw_short, raw_long, raw_octets, raw_array, raw_table, Body, no_values, value, Pairs, no_pairs, pair}
 use Rattle.amqp_grammar.specs.Nesting.{nesting, raw_nesting, body_nesting, pairs_nesting, WireWithin, BodyWithin, PairsWithin}
 use Rattle.amqp_input.specs.Inputs.{IsBytes}
 use Rattle.amqp_grammar.proofs.Shortest.{what_is_read, read_is_value}
@@ -53,15 +53,15 @@ mutual
       let p = scalar_raw x is in
       (wire (id_of (scalar_type x)) (scalar_type x) (spelled x) (scalar x) (scalar_spelled x is).id p, omega (arith, scalar_flat (scalar_type x) (spelled x) (scalar x) x p refl))
   text_within (short s) is fits r = absurd cc
-  text_within (long s) is fits r = (wire (id_of amqp.LongString) amqp.LongString (large s) (long s) refl (raw_long s fits), omega arith)
-  text_within (octets s) is fits r = (wire (id_of amqp.ByteArray) amqp.ByteArray (large s) (octets s) refl (raw_octets s fits), omega arith)
+  text_within (long s) is fits r = (wire (id_of amqp.LongString) amqp.LongString (long_field s) (long s) refl (raw_long s fits), omega arith)
+  text_within (octets s) is fits r = (wire (id_of amqp.ByteArray) amqp.ByteArray (long_field s) (octets s) refl (raw_octets s fits), omega arith)
   text_within (array vs) is fits r =
       let q = texts_within vs is fits.1 r in
-      (wire (id_of amqp.FieldArray) amqp.FieldArray (large (body vs)) (array vs) refl (raw_array (body vs) vs (omega (arith, fits.0, length_of_body vs)) q.0), omega (arith, q.1))
+      (wire (id_of amqp.FieldArray) amqp.FieldArray (long_field (body vs)) (array vs) refl (raw_array (body vs) vs (omega (arith, fits.0, length_of_body vs)) q.0), omega (arith, q.1))
   text_within (table es) is fits r =
       let q = pairs_within es is fits.1 r in
-      subst (λ (fs : Entries). WireWithin (suc (entries_depth es)) (id_of amqp.FieldTable ∷ large (pairs es)) (table fs)) (onto-rising es is)
-      (wire (id_of amqp.FieldTable) amqp.FieldTable (large (pairs es)) (table (onto no_entries es)) refl (raw_table (pairs es) es (omega (arith, fits.0, length_of_pairs es)) q.0), omega (arith, q.1))
+      subst (λ (fs : Entries). WireWithin (suc (entries_depth es)) (id_of amqp.FieldTable ∷ long_field (pairs es)) (table fs)) (onto-rising es is)
+      (wire (id_of amqp.FieldTable) amqp.FieldTable (long_field (pairs es)) (table (onto no_entries es)) refl (raw_table (pairs es) es (omega (arith, fits.0, length_of_pairs es)) q.0), omega (arith, q.1))
 
   pub texts_within : (vs : Trees) → AreValues vs → AllFit vs → IsTrue (all_readable vs) → BodyWithin (greatest_depth vs) (body vs) vs
   texts_within no_trees is fits r = (no_values, omega arith)

@@ -4,7 +4,7 @@ use Rattle.amqp_types.specs.declared.amqp_type.AMQPType.{AMQPType}
 use Rattle.amqp_grammar.specs.Values.{Tree, scalar, short, long, octets, array, table, Trees, tree, Entries, no_entries, entry, onto}
 use Rattle.amqp_types.specs.Ids.{kind}
 use Rattle.amqp_grammar.specs.Layouts.{Layout, fixed}
-use Rattle.amqp_grammar.specs.Grammar.{small, large, Wire, wire, Raw, raw_fixed, raw_short, raw_long, raw_octets, raw_array, raw_table, Body, no_values, value, Pairs, no_pairs, pair}
+use Rattle.amqp_grammar.specs.Grammar.{short_field, long_field, Wire, wire, Raw, raw_fixed, raw_short, raw_long, raw_octets, raw_array, raw_table, Body, no_values, value, Pairs, no_pairs, pair}
 use Rattle.amqp_grammar.proofs.Fronts.{same_fronts, one_held}
 use Rattle.amqp_grammar.proofs.Headers.{extent, extent-raw}
 
@@ -26,11 +26,11 @@ pub no_empty_wire : (w rest : List ℕ) (v : Tree) → Wire w v → w ++ rest �
 no_empty_wire _ rest _ (wire c type b v k p) e = cc
 
 -- bytes behind their length in four bytes are one thing
-same_large : (s t : List ℕ) → large s ≡ large t → s ≡ t
+same_large : (s t : List ℕ) → long_field s ≡ long_field t → s ≡ t
 same_large s t e = ap (drop 4) e
 
 -- two keys at the front of a list are one
-pub one_key : (j k x y : List ℕ) → small j ++ x ≡ small k ++ y → (j ≡ k) × (x ≡ y)
+pub one_key : (j k x y : List ℕ) → short_field j ++ x ≡ short_field k ++ y → (j ≡ k) × (x ≡ y)
 one_key j k x y e =
     let count : length j ≡ length k = cc in
     same_fronts j k x y count (ap (drop 1) e)
@@ -39,7 +39,7 @@ mutual
   -- a payload of one type has one meaning
   pub one_raw_meaning : (type : AMQPType) (b c : List ℕ) (v u : Tree) → Raw type b v → Raw type c u → b ≡ c → v ≡ u
   one_raw_meaning _ _ _ _ _ (raw_fixed type f b row len) (raw_fixed type2 g c row2 len2) e =
-      ap₂ (λ (h : Layout) (t : List ℕ). scalar (h.meaning t)) (one_held (fixed type) f g row row2) e
+      ap₂ (λ (h : Layout) (t : List ℕ). scalar (h.denotes t)) (one_held (fixed type) f g row row2) e
   one_raw_meaning _ _ _ _ _ (raw_fixed type f b row len) _ e = absurd cc
   one_raw_meaning _ _ _ _ _ _ (raw_fixed type f c row len) e = absurd cc
   one_raw_meaning _ _ _ _ _ (raw_short s is) (raw_short t is2) e = ap short (ap (drop 1) e)

@@ -8,7 +8,7 @@ use Rattle.amqp_grammar.specs.Values.{Tree, scalar, long, octets, array, table, 
 use Rattle.amqp_types.specs.Ids.{kind}
 use Rattle.amqp_grammar.specs.Layouts.{Layout, fixed}
 use Rattle.amqp_types.specs.Strings.{IsShort}
-use Rattle.amqp_grammar.specs.Grammar.{small, large}
+use Rattle.amqp_grammar.specs.Grammar.{short_field, long_field}
 
 -- the byte of a boolean is 0 or 1
 abbrev pub IsStrict : AMQPType → List ℕ → Type 0
@@ -22,12 +22,12 @@ mutual
 
   -- b is the payload in a canonical encoding
   pub data CanonRaw : AMQPType → List ℕ → Tree → Type 0 where
-    canon_fixed : (type : AMQPType) → (f : Layout) → (b : List ℕ) → fixed type ≡ Some f → length b ≡ f.width → IsStrict type b → CanonRaw type b (scalar (f.meaning b))
-    canon_long : (s : List ℕ) → length s < 2 ^ 32 → CanonRaw amqp.LongString (large s) (long s)
-    canon_octets : (s : List ℕ) → length s < 2 ^ 32 → CanonRaw amqp.ByteArray (large s) (octets s)
-    canon_array : (body : List ℕ) → (vs : Trees) → length body < 2 ^ 32 → CanonBody body vs → CanonRaw amqp.FieldArray (large body) (array vs)
+    canon_fixed : (type : AMQPType) → (f : Layout) → (b : List ℕ) → fixed type ≡ Some f → length b ≡ f.width → IsStrict type b → CanonRaw type b (scalar (f.denotes b))
+    canon_long : (s : List ℕ) → length s < 2 ^ 32 → CanonRaw amqp.LongString (long_field s) (long s)
+    canon_octets : (s : List ℕ) → length s < 2 ^ 32 → CanonRaw amqp.ByteArray (long_field s) (octets s)
+    canon_array : (body : List ℕ) → (vs : Trees) → length body < 2 ^ 32 → CanonBody body vs → CanonRaw amqp.FieldArray (long_field body) (array vs)
     -- the keys rise, so the entries are the pairs that are written
-    canon_table : (body : List ℕ) → (es : Entries) → length body < 2 ^ 32 → CanonPairs body es → CanonRaw amqp.FieldTable (large body) (table es)
+    canon_table : (body : List ℕ) → (es : Entries) → length body < 2 ^ 32 → CanonPairs body es → CanonRaw amqp.FieldTable (long_field body) (table es)
 
   -- canonical encodings of these values, one after another
   pub data CanonBody : List ℕ → Trees → Type 0 where
@@ -37,4 +37,4 @@ mutual
   -- these pairs one after another, each key above the one before it
   pub data CanonPairs : List ℕ → Entries → Type 0 where
     no_canon_pairs : CanonPairs [] no_entries
-    canon_pair : (k : List ℕ) → (w : List ℕ) → (rest : List ℕ) → (v : Tree) → (es : Entries) → IsShort k → Canon w v → ComesBefore k es → CanonPairs rest es → CanonPairs (small k ++ (w ++ rest)) (entry k v es)
+    canon_pair : (k : List ℕ) → (w : List ℕ) → (rest : List ℕ) → (v : Tree) → (es : Entries) → IsShort k → Canon w v → ComesBefore k es → CanonPairs rest es → CanonPairs (short_field k ++ (w ++ rest)) (entry k v es)

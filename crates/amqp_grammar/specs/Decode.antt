@@ -25,7 +25,7 @@ abbrev pub raw_outcome_by : Meaning → AMQPType → List ℕ → Reading
 raw_outcome_by mean type b = elim (lack type b) [
   | suc n ↦ more (suc n)
   | zero ↦ elim (fixed type) [
-    | Some f ↦ found (scalar (f.meaning (take f.width b))) (drop f.width b)
+    | Some f ↦ found (scalar (f.denotes (take f.width b))) (drop f.width b)
     | None ↦ framed (length_field type) (mean type) b
   ]
 ]
@@ -36,10 +36,10 @@ outcome_by mean [] = more 1
 outcome_by mean (c ∷ b) = elim (kind c) [ None ↦ unknown | Some type ↦ raw_outcome_by mean type b ]
 
 -- the values that bytes spell one after another, at most n of them
-abbrev pub values : (List ℕ → Reading) → ℕ → List ℕ → Option Trees
-values read n [] = Some no_trees
-values read zero (c ∷ b) = None
-values read (suc n) (c ∷ b) = elim (read (c ∷ b)) [ found v rest ↦ option_map (tree v) (values read n rest) | _ ↦ None ]
+abbrev pub values_by : (List ℕ → Reading) → ℕ → List ℕ → Option Trees
+values_by read n [] = Some no_trees
+values_by read zero (c ∷ b) = None
+values_by read (suc n) (c ∷ b) = elim (read (c ∷ b)) [ found v rest ↦ option_map (tree v) (values_by read n rest) | _ ↦ None ]
 
 -- whether some bytes are a short string
 abbrev pub is_short : List ℕ → Bool
@@ -61,7 +61,7 @@ abbrev pub meaning : ℕ → Meaning
 meaning depth amqp.ShortString s = if is_short s then Some (short s) else None
 meaning depth amqp.LongString s = Some (long s)
 meaning depth amqp.ByteArray s = Some (octets s)
-meaning (suc depth) amqp.FieldArray s = option_map array (values (outcome_by (meaning depth)) (length s) s)
+meaning (suc depth) amqp.FieldArray s = option_map array (values_by (outcome_by (meaning depth)) (length s) s)
 meaning (suc depth) amqp.FieldTable s = option_map table (pairs_onto (outcome_by (meaning depth)) (length s) no_entries s)
 meaning _ _ s = None
 

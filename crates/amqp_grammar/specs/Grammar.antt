@@ -10,12 +10,12 @@ use Rattle.amqp_grammar.specs.Layouts.{Layout, fixed}
 use Rattle.amqp_types.specs.Strings.{IsShort}
 
 -- bytes after their length in one byte
-abbrev pub small : List ℕ → List ℕ
-small s = length s ∷ s
+abbrev pub short_field : List ℕ → List ℕ
+short_field s = length s ∷ s
 
 -- bytes after their length in four bytes
-abbrev pub large : List ℕ → List ℕ
-large s = to_be_bytes w32 (length s) ++ s
+abbrev pub long_field : List ℕ → List ℕ
+long_field s = to_be_bytes w32 (length s) ++ s
 
 mutual
   -- w is an encoding of v: a type tag (id), and a payload of its type
@@ -25,15 +25,15 @@ mutual
   -- b is a payload of the type, and means v
   pub data Raw : AMQPType → List ℕ → Tree → Type 0 where
     -- of a type of fixed width: that many bytes, with the meaning of the type
-    raw_fixed : (type : AMQPType) → (f : Layout) → (b : List ℕ) → fixed type ≡ Some f → length b ≡ f.width → Raw type b (scalar (f.meaning b))
+    raw_fixed : (type : AMQPType) → (f : Layout) → (b : List ℕ) → fixed type ≡ Some f → length b ≡ f.width → Raw type b (scalar (f.denotes b))
     -- of a string or byte array: its bytes after their length
-    raw_short : (s : List ℕ) → IsShort s → Raw amqp.ShortString (small s) (short s)
-    raw_long : (s : List ℕ) → length s < 2 ^ 32 → Raw amqp.LongString (large s) (long s)
-    raw_octets : (s : List ℕ) → length s < 2 ^ 32 → Raw amqp.ByteArray (large s) (octets s)
+    raw_short : (s : List ℕ) → IsShort s → Raw amqp.ShortString (short_field s) (short s)
+    raw_long : (s : List ℕ) → length s < 2 ^ 32 → Raw amqp.LongString (long_field s) (long s)
+    raw_octets : (s : List ℕ) → length s < 2 ^ 32 → Raw amqp.ByteArray (long_field s) (octets s)
     -- of an array: its body after the body's length
-    raw_array : (body : List ℕ) → (vs : Trees) → length body < 2 ^ 32 → Body body vs → Raw amqp.FieldArray (large body) (array vs)
+    raw_array : (body : List ℕ) → (vs : Trees) → length body < 2 ^ 32 → Body body vs → Raw amqp.FieldArray (long_field body) (array vs)
     -- of a table: its body after the body's length; of equal keys the last pair's value stays
-    raw_table : (body : List ℕ) → (ps : Entries) → length body < 2 ^ 32 → Pairs body ps → Raw amqp.FieldTable (large body) (table (onto no_entries ps))
+    raw_table : (body : List ℕ) → (ps : Entries) → length body < 2 ^ 32 → Pairs body ps → Raw amqp.FieldTable (long_field body) (table (onto no_entries ps))
 
   -- the bytes are encodings of these values, one after another, and nothing else
   pub data Body : List ℕ → Trees → Type 0 where
@@ -44,4 +44,4 @@ mutual
   -- and an encoding of a value
   pub data Pairs : List ℕ → Entries → Type 0 where
     no_pairs : Pairs [] no_entries
-    pair : (k : List ℕ) → (w : List ℕ) → (rest : List ℕ) → (v : Tree) → (ps : Entries) → IsShort k → Wire w v → Pairs rest ps → Pairs (small k ++ (w ++ rest)) (entry k v ps)
+    pair : (k : List ℕ) → (w : List ℕ) → (rest : List ℕ) → (v : Tree) → (ps : Entries) → IsShort k → Wire w v → Pairs rest ps → Pairs (short_field k ++ (w ++ rest)) (entry k v ps)

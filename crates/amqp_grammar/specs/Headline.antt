@@ -8,7 +8,7 @@ use Rattle.amqp_grammar.specs.Canonical.{Canon}
 
 -- what v is that was read from an encoding of n bytes: it can be written again, and is no larger
 -- than that
-pub record IsBounded (n : ℕ) (v : Tree) : Type 0 where
+pub record IsWritableIn (n : ℕ) (v : Tree) : Type 0 where
   -- each length in it fits its field, and each value in it has an id that is read
   pub fits : Fits v
   pub readable : IsTrue (readable v)

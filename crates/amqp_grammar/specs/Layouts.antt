@@ -10,7 +10,7 @@ use Rattle.amqp_grammar.specs.Values.{Scalar, boolean, number, decimal, void}
 pub record Layout : Type 0 where
   pub first : ℕ
   pub width : ℕ
-  pub meaning : List ℕ → Scalar
+  pub denotes : List ℕ → Scalar
 
 -- 0 is false, every other number true
 abbrev pub truth : ℕ → Bool
@@ -18,12 +18,12 @@ truth n = if n == 0 then false else true
 
 -- a number in one field
 abbrev pub whole_number : Width → AMQPType → Layout
-whole_number w type = record { first = byte_len w; width = byte_len w; meaning = λ b. number type (from_be_bytes w b) }
+whole_number w type = record { first = byte_len w; width = byte_len w; denotes = λ b. number type (from_be_bytes w b) }
 
 -- the types of fixed width; a LongLongUInt means the signed number of the same bits, and a decimal
 -- has two fields, its scale and its number
 abbrev pub fixed : AMQPType → Option Layout
-fixed amqp.Boolean = Some (record { first = 1; width = 1; meaning = λ b. boolean (truth (from_be_bytes w8 b)) })
+fixed amqp.Boolean = Some (record { first = 1; width = 1; denotes = λ b. boolean (truth (from_be_bytes w8 b)) })
 fixed amqp.ShortShortInt = Some (whole_number w8 amqp.ShortShortInt)
 fixed amqp.ShortShortUInt = Some (whole_number w8 amqp.ShortShortUInt)
 fixed amqp.ShortInt = Some (whole_number w16 amqp.ShortInt)
@@ -35,8 +35,8 @@ fixed amqp.LongLongUInt = Some (whole_number w64 amqp.LongLongInt)
 fixed amqp.Float = Some (whole_number w32 amqp.Float)
 fixed amqp.Double = Some (whole_number w64 amqp.Double)
 fixed amqp.Timestamp = Some (whole_number w64 amqp.Timestamp)
-fixed amqp.DecimalValue = Some (record { first = 1; width = 5; meaning = λ b. decimal (from_be_bytes w8 (take 1 b)) (from_be_bytes w32 (drop 1 b)) })
-fixed amqp.Void = Some (record { first = 0; width = 0; meaning = λ b. void })
+fixed amqp.DecimalValue = Some (record { first = 1; width = 5; denotes = λ b. decimal (from_be_bytes w8 (take 1 b)) (from_be_bytes w32 (drop 1 b)) })
+fixed amqp.Void = Some (record { first = 0; width = 0; denotes = λ b. void })
 fixed _ = None
 
 -- the bytes of a layout, 0 where there is none

@@ -4,7 +4,7 @@ use Rattle.amqp_types.specs.declared.amqp_type.AMQPType.{AMQPType}
 use Rattle.amqp_types.specs.declared.amqp_type.AMQPType.TheVariants as amqp
 use Rattle.amqp_grammar.specs.Values.{Tree, scalar, short, long, octets, array, table, scalar_type}
 use Rattle.amqp_grammar.specs.Layouts.{spelled}
-use Rattle.amqp_grammar.specs.Grammar.{small, large, Raw}
+use Rattle.amqp_grammar.specs.Grammar.{short_field, long_field, Raw}
 use Rattle.amqp_grammar.specs.Outcomes.{Reading, FrontBy, RawOutcomeBy}
 use Rattle.amqp_grammar.specs.Texts.{body, pairs}
 
@@ -20,11 +20,11 @@ type_of (table es) = amqp.FieldTable
 -- the canonical encoding without its id
 abbrev pub payload : Tree → List ℕ
 payload (scalar x) = spelled x
-payload (short s) = small s
-payload (long s) = large s
-payload (octets s) = large s
-payload (array vs) = large (body vs)
-payload (table es) = large (pairs es)
+payload (short s) = short_field s
+payload (long s) = long_field s
+payload (octets s) = long_field s
+payload (array vs) = long_field (body vs)
+payload (table es) = long_field (pairs es)
 
 -- a prefix of s is a payload of the type, or none is
 abbrev pub RawFront : AMQPType → List ℕ → Reading → Type 0

@@ -4,18 +4,18 @@ use Rattle.amqp_types.specs.declared.amqp_type.AMQPType.TheVariants as amqp
 use Rattle.amqp_grammar.specs.Values.{Tree, scalar, short, long, octets, array, table, Trees, no_trees, tree, Entries, no_entries, entry, scalar_type}
 use Rattle.amqp_types.specs.Ids.{id_of}
 use Rattle.amqp_grammar.specs.Layouts.{width_of, spelled}
-use Rattle.amqp_grammar.specs.Grammar.{small, large}
+use Rattle.amqp_grammar.specs.Grammar.{short_field, long_field}
 
 -- an id and the payload; a container's payload joins the canonical encodings of its entries, after
 -- their length: in an array's order, and in the order of a table's keys, each key before its value
 abbrev mutual
   pub text : Tree → List ℕ
   text (scalar x) = id_of (scalar_type x) ∷ spelled x
-  text (short s) = id_of amqp.ShortString ∷ small s
-  text (long s) = id_of amqp.LongString ∷ large s
-  text (octets s) = id_of amqp.ByteArray ∷ large s
-  text (array vs) = id_of amqp.FieldArray ∷ large (body vs)
-  text (table es) = id_of amqp.FieldTable ∷ large (pairs es)
+  text (short s) = id_of amqp.ShortString ∷ short_field s
+  text (long s) = id_of amqp.LongString ∷ long_field s
+  text (octets s) = id_of amqp.ByteArray ∷ long_field s
+  text (array vs) = id_of amqp.FieldArray ∷ long_field (body vs)
+  text (table es) = id_of amqp.FieldTable ∷ long_field (pairs es)
 
   pub body : Trees → List ℕ
   body no_trees = []
@@ -23,7 +23,7 @@ abbrev mutual
 
   pub pairs : Entries → List ℕ
   pairs no_entries = []
-  pairs (entry k v es) = small k ++ (text v ++ pairs es)
+  pairs (entry k v es) = short_field k ++ (text v ++ pairs es)
 
 -- how long the canonical encoding is
 abbrev mutual

@@ -15,7 +15,7 @@ ghost use Rattle.amqp_input.specs.Inputs.{IsBytes};
 ghost use Rattle.amqp_grammar.specs.Outcomes.{Reading, Outcome, Heavy, RawHeavy, found, malformed};
 ghost use Rattle.amqp_grammar.specs.Decode.{outcome, raw_outcome};
 ghost use Rattle.amqp_grammar.specs.Canonical.{Canon};
-ghost use Rattle.amqp_grammar.specs.Headline.{IsCanonical, IsBounded, IsShortest, TellsApart};
+ghost use Rattle.amqp_grammar.specs.Headline.{IsCanonical, IsWritableIn, IsShortest, TellsApart};
 ghost use Rattle.amqp_grammar.specs.Maps.{has_key, value_at, last_at, IsRising};
 ghost use Rattle.amqp_types.specs.declared.amqp_type.AMQPType.TheVariants as amqp;
 
@@ -176,7 +176,7 @@ pub fn canonical_wire()
 pub fn what_is_found()
     ensures front { (s rest : List ℕ) (v : Tree) → Outcome s (found v rest) → Front s (found v rest) }
     ensures bounded { (s rest : List ℕ) (v : Tree) → Outcome s (found v rest)
-        → IsBounded (length s - length rest) v }
+        → IsWritableIn (length s - length rest) v }
 {}
 
 /// The canonical encoding of each value is a shortest one, if it has any, and among values that

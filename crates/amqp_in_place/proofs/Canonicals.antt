@@ -20,7 +20,7 @@ use Rattle.amqp_types.specs.declared.amqp_type.AMQPType.TheVariants as amqp
 use Rattle.amqp_types.proofs.Ids.{row_holds, kind_read}
 use Rattle.amqp_grammar.specs.Values.{Tree, short, long, array, table, Trees, no_trees, tree, Entries, no_entries, entry, ComesBefore, depth, greatest_depth, entries_depth}
 use Rattle.amqp_grammar.specs.Layouts.{Layout, fixed}
-use Rattle.amqp_grammar.specs.Grammar.{small, large, Wire, Raw, raw_fixed, raw_short, raw_long, raw_octets, raw_array, raw_table}
+use Rattle.amqp_grammar.specs.Grammar.{short_field, long_field, Wire, Raw, raw_fixed, raw_short, raw_long, raw_octets, raw_array, raw_table}
 use Rattle.amqp_grammar.specs.Nesting.{WireWithin, OutcomeWithin}
 use Rattle.amqp_grammar.specs.Outcomes.{found, more, unknown, lack, LacksOr, Outcome}
 use Rattle.amqp_grammar.specs.Payloads.{RawFront, RawOutcome}
@@ -132,9 +132,9 @@ plain_front d s r rest (type, mid, (c, here, k), q) spelled =
 -- ---- containers
 
 -- two bodies after their lengths at the front of bytes are one
-one_large : (a b x y : List ℕ) → length a < 2 ^ 32 → length b < 2 ^ 32 → large a ++ x ≡ large b ++ y → a ≡ b
+one_large : (a b x y : List ℕ) → length a < 2 ^ 32 → length b < 2 ^ 32 → long_field a ++ x ≡ long_field b ++ y → a ≡ b
 one_large a b x y few less e =
-    let same = one_raw_reading amqp.LongString (large a) (large b) x y (long a) (long b) (raw_long a few) (raw_long b less) e in
+    let same = one_raw_reading amqp.LongString (long_field a) (long_field b) x y (long a) (long b) (raw_long a few) (raw_long b less) e in
     cc
 
 -- the payload of a canonical array
@@ -144,7 +144,7 @@ record CanonArray (body : List ℕ) (v : Tree) : Type 0 where
   pub is : v ≡ array values
 
 canon_array_body : (type : AMQPType) (b : List ℕ) (v : Tree) → CanonRaw type b v → type ≡ amqp.FieldArray → (body rest left : List ℕ) → length body < 2 ^ 32
-    → b ++ left ≡ large body ++ rest → CanonArray body v
+    → b ++ left ≡ long_field body ++ rest → CanonArray body v
 canon_array_body _ _ _ (canon_fixed type f b row len strict) t body rest left few e = absurd (let none = ap fixed (sym t) ∙ row in cc)
 canon_array_body _ _ _ (canon_long s fits) t body rest left few e = absurd cc
 canon_array_body _ _ _ (canon_octets s fits) t body rest left few e = absurd cc
@@ -159,7 +159,7 @@ record CanonTable (body : List ℕ) (v : Tree) : Type 0 where
   pub is : v ≡ table entries
 
 canon_table_body : (type : AMQPType) (b : List ℕ) (v : Tree) → CanonRaw type b v → type ≡ amqp.FieldTable → (body rest left : List ℕ) → length body < 2 ^ 32
-    → b ++ left ≡ large body ++ rest → CanonTable body v
+    → b ++ left ≡ long_field body ++ rest → CanonTable body v
 canon_table_body _ _ _ (canon_fixed type f b row len strict) t body rest left few e = absurd (let none = ap fixed (sym t) ∙ row in cc)
 canon_table_body _ _ _ (canon_long s fits) t body rest left few e = absurd cc
 canon_table_body _ _ _ (canon_octets s fits) t body rest left few e = absurd cc
@@ -186,7 +186,7 @@ module _ (d : ℕ) (s : List ℕ) (i : SliceInput) (rest : List ℕ) where
   array_front (type, mid, (c, here, k), q) spelled some (vs, all, deep) =
       let body = slice_bytes i in
       let first = subst IsFirstSpelling here spelled in
-      (c ∷ large body, array vs, canon c amqp.FieldArray (large body) (array vs) (k ∙ ap Some q.0) first.0 first.1 (canon_array body vs q.1.fits all), omega arith, here ∙ ap (λ (t : List ℕ). c ∷ t) q.1.framed)
+      (c ∷ long_field body, array vs, canon c amqp.FieldArray (long_field body) (array vs) (k ∙ ap Some q.0) first.0 first.1 (canon_array body vs q.1.fits all), omega arith, here ∙ ap (λ (t : List ℕ). c ∷ t) q.1.framed)
 
   -- and only there
   pub array_inside : (left : List ℕ) → IsHead s (head.FieldArray i) rest → CanonFront d s left → (0 < d) × CanonValues (d - 1) (slice_bytes i)
@@ -201,7 +201,7 @@ module _ (d : ℕ) (s : List ℕ) (i : SliceInput) (rest : List ℕ) where
   table_front (type, mid, (c, here, k), q) spelled some (es, all, first_of, deep) =
       let body = slice_bytes i in
       let first = subst IsFirstSpelling here spelled in
-      (c ∷ large body, table es, canon c amqp.FieldTable (large body) (table es) (k ∙ ap Some q.0) first.0 first.1 (canon_table body es q.1.fits all), omega arith, here ∙ ap (λ (t : List ℕ). c ∷ t) q.1.framed)
+      (c ∷ long_field body, table es, canon c amqp.FieldTable (long_field body) (table es) (k ∙ ap Some q.0) first.0 first.1 (canon_table body es q.1.fits all), omega arith, here ∙ ap (λ (t : List ℕ). c ∷ t) q.1.framed)
 
   pub table_inside : (left : List ℕ) → IsHead s (head.FieldTable i) rest → CanonFront d s left → (0 < d) × CanonEntries (d - 1) None (slice_bytes i)
   table_inside left (type, mid, p, q) (w, v, x, deep, e) =
@@ -285,7 +285,7 @@ record FirstPair (d : ℕ) (j : Option (Bor (List ℕ))) (s : List ℕ) : Type 0
   pub key : List ℕ
   pub behind : List ℕ
   pub left : List ℕ
-  pub framed : s ≡ small key ++ behind
+  pub framed : s ≡ short_field key ++ behind
   pub short_key : IsShort key
   pub above : IsAbove j key
   pub front : CanonFront d behind left
@@ -314,15 +314,15 @@ pub key_there : (d : ℕ) (j : Option (Bor (List ℕ))) (s : List ℕ) (e : Refu
 key_there d j s e some all x =
     let p = first_pair d j s some all in
     let here : RawOutcome amqp.ShortString s (found (short p.key) p.behind) =
-    subst (λ (t : List ℕ). RawOutcome amqp.ShortString t (found (short p.key) p.behind)) (sym p.framed) (raw_found amqp.ShortString (small p.key) p.behind (short p.key) (raw_short p.key p.short_key)) in
+    subst (λ (t : List ℕ). RawOutcome amqp.ShortString t (found (short p.key) p.behind)) (sym p.framed) (raw_found amqp.ShortString (short_field p.key) p.behind (short p.key) (raw_short p.key p.short_key)) in
     refusal_of_none (RawOutcome amqp.ShortString s) (λ o y other. other (short p.key) p.behind (one_raw_outcome amqp.ShortString s o (found (short p.key) p.behind) y here)) e x
 
 -- a key that stands at the front is the first pair's
 module _ (d : ℕ) (j : Option (Bor (List ℕ))) (s key behind : List ℕ) (f : IsKeyFrame s key behind) where
   same_key : (p : FirstPair d j s) → (p.key ≡ key) × (p.behind ≡ behind)
   same_key p =
-      let here = short_bytes key behind (small p.key) p.behind (short p.key) (raw_short p.key p.short_key) (sym f.framed ∙ p.framed) in
-      let same = one_raw_reading amqp.ShortString (small p.key) (small key) p.behind behind (short p.key) (short key) (raw_short p.key p.short_key) (raw_short key here) (sym p.framed ∙ f.framed) in
+      let here = short_bytes key behind (short_field p.key) p.behind (short p.key) (raw_short p.key p.short_key) (sym f.framed ∙ p.framed) in
+      let same = one_raw_reading amqp.ShortString (short_field p.key) (short_field key) p.behind behind (short p.key) (short key) (raw_short p.key p.short_key) (raw_short key here) (sym p.framed ∙ f.framed) in
       (cc, same.2)
 
   there : 0 < length s
@@ -367,7 +367,7 @@ module _ (d : ℕ) (j : Option (Bor (List ℕ))) (s key behind : List ℕ) (f : 
         by (w, v, x, less, g) =
             let is : IsShort key = record { few = f.few; utf8 = utf8 } in
             let pairs = canon_pair key w after v es is x (subst (λ (t : List ℕ). ComesBefore t es) e before) all in
-            (entry key v es, subst (λ (t : List ℕ). CanonPairs t (entry key v es)) (sym (f.framed ∙ ap (λ (t : List ℕ). small key ++ t) g)) pairs, over j v above, omega arith)
+            (entry key v es, subst (λ (t : List ℕ). CanonPairs t (entry key v es)) (sym (f.framed ∙ ap (λ (t : List ℕ). short_field key ++ t) g)) pairs, over j v above, omega arith)
 
     -- what stands after the pair is shorter
     pub pair_shorter : length after < length s

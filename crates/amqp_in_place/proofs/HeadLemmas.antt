@@ -7,7 +7,7 @@ use Rattle.amqp_types.specs.Strings.{IsShort}
 use Rattle.amqp_types.specs.declared.amqp_type.AMQPType.{AMQPType}
 use Rattle.amqp_types.specs.declared.amqp_type.AMQPType.TheVariants as amqp
 use Rattle.amqp_grammar.specs.Values.{Tree, Trees, Entries, no_entries, onto, short, array, table}
-use Rattle.amqp_grammar.specs.Grammar.{small, large, Wire, raw_short, raw_array, raw_table}
+use Rattle.amqp_grammar.specs.Grammar.{short_field, long_field, Wire, raw_short, raw_array, raw_table}
 use Rattle.amqp_grammar.specs.Nesting.{nesting, RawWithin, BodyWithin, OutcomeWithin, RawOutcomeWithin}
 use Rattle.amqp_grammar.specs.Outcomes.{Reading, found, more, unknown, malformed, lack, frame_lack, counted, LacksOr, FrontBy, Outcome}
 use Rattle.amqp_grammar.specs.Payloads.{RawFront, RawOutcome}
@@ -167,14 +167,14 @@ only s (head.FieldArray i) rest w left v (type, mid, p, q) x e =
     let f = q.1 in
     let raw : RawFront amqp.FieldArray mid (found v left) = subst (λ (t : AMQPType). RawFront t mid (found v left)) q.0 (payload_front s mid type p w left v x e) in
     let b = array_body (slice_bytes i) rest raw.0 left v f.fits raw.1 (sym f.framed ∙ raw.2) in
-    let same = one_raw_reading amqp.FieldArray raw.0 (large (slice_bytes i)) left rest v (array b.0) raw.1 (raw_array (slice_bytes i) b.0 f.fits b.1) (sym raw.2 ∙ f.framed) in
+    let same = one_raw_reading amqp.FieldArray raw.0 (long_field (slice_bytes i)) left rest v (array b.0) raw.1 (raw_array (slice_bytes i) b.0 f.fits b.1) (sym raw.2 ∙ f.framed) in
     ((b.0, b.1, same.1), same.2)
 only s (head.FieldTable i) rest w left v (type, mid, p, q) x e =
     let f = q.1 in
     let raw : RawFront amqp.FieldTable mid (found v left) = subst (λ (t : AMQPType). RawFront t mid (found v left)) q.0 (payload_front s mid type p w left v x e) in
     let b = table_body (slice_bytes i) rest raw.0 left v f.fits raw.1 (sym f.framed ∙ raw.2) in
     let es = onto no_entries b.0 in
-    let same = one_raw_reading amqp.FieldTable raw.0 (large (slice_bytes i)) left rest v (table es) raw.1 (raw_table (slice_bytes i) b.0 f.fits b.1) (sym raw.2 ∙ f.framed) in
+    let same = one_raw_reading amqp.FieldTable raw.0 (long_field (slice_bytes i)) left rest v (table es) raw.1 (raw_table (slice_bytes i) b.0 f.fits b.1) (sym raw.2 ∙ f.framed) in
     ((es, (b.0, b.1, refl), same.1), same.2)
 
 -- ---- keys
@@ -197,4 +197,4 @@ module _ (s body rest : List ℕ) (f : IsKeyFrame s body rest) where
   pub key_found : IsUtf8 body → RawOutcome amqp.ShortString s (found (short body) rest)
   key_found utf8 =
       let is : IsShort body = record { few = f.few; utf8 = utf8 } in
-      rw f.framed (raw_found amqp.ShortString (small body) rest (short body) (raw_short body is))
+      rw f.framed (raw_found amqp.ShortString (short_field body) rest (short body) (raw_short body is))

@@ -2,7 +2,7 @@
 use Rattle.std.proofs.Common.{◌≡◌, ℕ, zero, suc, List, [], ◌∷◌, ◌++◌, refl, sym, ap, ◌∙◌, subst, append_assoc}
 use Rattle.amqp_types.specs.declared.amqp_type.AMQPType.{AMQPType}
 use Rattle.amqp_grammar.specs.Values.{Tree, long, octets}
-use Rattle.amqp_grammar.specs.Grammar.{small, large, Raw, raw_fixed, raw_short, raw_long, raw_octets, raw_array, raw_table}
+use Rattle.amqp_grammar.specs.Grammar.{short_field, long_field, Raw, raw_fixed, raw_short, raw_long, raw_octets, raw_array, raw_table}
 use Rattle.amqp_grammar.specs.Outcomes.{found, lack, LacksOr}
 use Rattle.amqp_grammar.specs.Payloads.{RawFront, RawOutcome}
 use Rattle.amqp_grammar.proofs.GrammarLaws.{front_within}
@@ -19,19 +19,19 @@ use Rattle.amqp_in_place.specs.Places.{IsFramed, LiesIn, LiesWithin, PairLiesIn}
 use Rattle.amqp_in_place.proofs.HeadLemmas.{plain_read}
 
 -- the bytes of a payload that is a long string, or a byte array
-long_bytes : (type : AMQPType) (w : List ℕ) (v : Tree) (b : List ℕ) → Raw type w v → v ≡ long b → w ≡ large b
+long_bytes : (type : AMQPType) (w : List ℕ) (v : Tree) (b : List ℕ) → Raw type w v → v ≡ long b → w ≡ long_field b
 long_bytes _ _ _ b (raw_fixed type f w row len) e = absurd cc
 long_bytes _ _ _ b (raw_short s is) e = absurd cc
-long_bytes _ _ _ b (raw_long s fits) e = let same : s ≡ b = cc in ap large same
+long_bytes _ _ _ b (raw_long s fits) e = let same : s ≡ b = cc in ap long_field same
 long_bytes _ _ _ b (raw_octets s fits) e = absurd cc
 long_bytes _ _ _ b (raw_array s vs fits p) e = absurd cc
 long_bytes _ _ _ b (raw_table s ps fits p) e = absurd cc
 
-octets_bytes : (type : AMQPType) (w : List ℕ) (v : Tree) (b : List ℕ) → Raw type w v → v ≡ octets b → w ≡ large b
+octets_bytes : (type : AMQPType) (w : List ℕ) (v : Tree) (b : List ℕ) → Raw type w v → v ≡ octets b → w ≡ long_field b
 octets_bytes _ _ _ b (raw_fixed type f w row len) e = absurd cc
 octets_bytes _ _ _ b (raw_short s is) e = absurd cc
 octets_bytes _ _ _ b (raw_long s fits) e = absurd cc
-octets_bytes _ _ _ b (raw_octets s fits) e = let same : s ≡ b = cc in ap large same
+octets_bytes _ _ _ b (raw_octets s fits) e = let same : s ≡ b = cc in ap long_field same
 octets_bytes _ _ _ b (raw_array s vs fits p) e = absurd cc
 octets_bytes _ _ _ b (raw_table s ps fits p) e = absurd cc
 
@@ -43,7 +43,7 @@ payload_of type s rest v x = by (lack type s) x
     by zero f = f
     by (suc n) f = absurd cc
 
-framed : (s mid body rest w : List ℕ) (c : ℕ) → s ≡ c ∷ mid → mid ≡ w ++ rest → w ≡ large body → IsFramed s body rest
+framed : (s mid body rest w : List ℕ) (c : ℕ) → s ≡ c ∷ mid → mid ≡ w ++ rest → w ≡ long_field body → IsFramed s body rest
 framed s mid body rest w c is e same = (c, is ∙ ap (λ (t : List ℕ). c ∷ t) (e ∙ ap (λ (t : List ℕ). t ++ rest) same))
 
 pub plain_lies : (s : List ℕ) (r : ValueRef) (rest : List ℕ) → IsHead s (head.Plain r) rest → LiesIn s r rest
@@ -58,10 +58,10 @@ plain_lies s (at.FieldTable t) rest (type, mid, p, q) = absurd q.0
 plain_lies s r rest is = let f = front_within 0 s rest (plain_tree r) (plain_read s r rest is 0) in (f.0, f.2)
 
 pub array_lies : (s : List ℕ) (i : SliceInput) (rest : List ℕ) → IsHead s (head.FieldArray i) rest → IsFramed s (slice_bytes i) rest
-array_lies s i rest (type, mid, p, q) = framed s mid (slice_bytes i) rest (large (slice_bytes i)) p.0 p.1 q.1.framed refl
+array_lies s i rest (type, mid, p, q) = framed s mid (slice_bytes i) rest (long_field (slice_bytes i)) p.0 p.1 q.1.framed refl
 
 pub table_lies : (s : List ℕ) (i : SliceInput) (rest : List ℕ) → IsHead s (head.FieldTable i) rest → IsFramed s (slice_bytes i) rest
-table_lies s i rest (type, mid, p, q) = framed s mid (slice_bytes i) rest (large (slice_bytes i)) p.0 p.1 q.1.framed refl
+table_lies s i rest (type, mid, p, q) = framed s mid (slice_bytes i) rest (long_field (slice_bytes i)) p.0 p.1 q.1.framed refl
 
 -- so what refers to what stands in the head does
 pub lies : (s : List ℕ) (h : Head) (r : ValueRef) (rest : List ℕ) → IsHead s h rest → RefersTo h r → LiesIn s r rest
@@ -76,7 +76,7 @@ lies_before : (s : List ℕ) (r : ValueRef) (rest : List ℕ) → LiesIn s r res
 lies_before s r rest x = by r x
   where
     after : (body : List ℕ) → IsFramed s body rest → IsLeft s rest
-    after body f = (f.0 ∷ large body, f.1)
+    after body f = (f.0 ∷ long_field body, f.1)
 
     by : (r : ValueRef) → LiesIn s r rest → IsLeft s rest
     by (at.LongString b) y = after b.now y
@@ -101,9 +101,9 @@ module _ (s rest behind : List ℕ) (r : ValueRef) (left : IsLeft s rest) where
   value_within x = (left.0, rest, behind, left.1, x)
 
   pub pair_left : (key : List ℕ) → PairLiesIn rest key r behind → IsLeft s behind
-  pair_left key x = left_of_left s rest behind left (left_of_left rest x.0 behind (small key, x.1) (lies_before x.0 r behind x.2))
+  pair_left key x = left_of_left s rest behind left (left_of_left rest x.0 behind (short_field key, x.1) (lies_before x.0 r behind x.2))
 
   pub pair_within : (key : List ℕ) → PairLiesIn rest key r behind → LiesWithin s r
   pair_within key x =
-      let before = left_of_left s rest x.0 left (small key, x.1) in
+      let before = left_of_left s rest x.0 left (short_field key, x.1) in
       (before.0, x.0, behind, before.1, x.2)

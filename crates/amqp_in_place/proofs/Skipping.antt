@@ -4,7 +4,7 @@ use Rattle.std.specs.Int.{w32}
 use Rattle.amqp_types.specs.declared.amqp_type.AMQPType.{AMQPType}
 use Rattle.amqp_types.specs.declared.amqp_type.AMQPType.TheVariants as amqp
 use Rattle.amqp_grammar.specs.Values.{long}
-use Rattle.amqp_grammar.specs.Grammar.{large, wire, raw_long}
+use Rattle.amqp_grammar.specs.Grammar.{long_field, wire, raw_long}
 use Rattle.amqp_grammar.specs.Outcomes.{Reading, more, unknown, Outcome}
 use Rattle.amqp_grammar.proofs.GrammarLaws.{found_front, front_within, unlimited}
 use Rattle.amqp_input.specs.Inputs.{slice_bytes}
@@ -26,11 +26,11 @@ use Rattle.amqp_in_place.proofs.HeadLemmas.{plain_read}
 frame_extent : (s mid body rest : List ℕ) (type : AMQPType) → IsType s type mid → IsFrame mid body rest → extent_at (Some type) mid ≡ suc (extent_of None w32 mid)
     → extent s + length rest ≡ length s
 frame_extent s mid body rest type p f is =
-    let string = wire_extent (83 ∷ large body) rest (long body) (wire 83 amqp.LongString (large body) (long body) refl (raw_long body f.fits)) in
+    let string = wire_extent (83 ∷ long_field body) rest (long body) (wire 83 amqp.LongString (long_field body) (long body) refl (raw_long body f.fits)) in
     let here : extent s ≡ suc (extent_of None w32 mid) = ap extent p.1 ∙ (ap (λ o. extent_at o mid) p.2 ∙ is) in
-    let there : extent_of None w32 mid ≡ extent_of None w32 (large body ++ rest) = ap (extent_of None w32) f.framed in
-    let whole : suc (extent_of None w32 (large body ++ rest)) ≡ suc (length (large body)) = string in
-    omega (arith, here, there, whole, ap length p.1, ap length f.framed, length-append (large body) rest)
+    let there : extent_of None w32 mid ≡ extent_of None w32 (long_field body ++ rest) = ap (extent_of None w32) f.framed in
+    let whole : suc (extent_of None w32 (long_field body ++ rest)) ≡ suc (length (long_field body)) = string in
+    omega (arith, here, there, whole, ap length p.1, ap length f.framed, length-append (long_field body) rest)
 
 pub skipped : (s : List ℕ) (h : Head) (rest : List ℕ) → IsHead s h rest → extent s + length rest ≡ length s
 skipped s (head.Plain r) rest is =

@@ -9,7 +9,7 @@ use Rattle.std.specs.Borrow.{Bor}
 use Rattle.amqp_types.specs.Strings.{IsShort}
 use Rattle.amqp_types.specs.declared.amqp_type.AMQPType.TheVariants as amqp
 use Rattle.amqp_grammar.specs.Values.{Tree, Trees, tree, Entries, entry, short}
-use Rattle.amqp_grammar.specs.Grammar.{small, Wire, wire, raw_short, Body, no_values, value, Pairs, no_pairs, pair}
+use Rattle.amqp_grammar.specs.Grammar.{short_field, Wire, wire, raw_short, Body, no_values, value, Pairs, no_pairs, pair}
 use Rattle.amqp_grammar.specs.Nesting.{nesting, OutcomeWithin}
 use Rattle.amqp_grammar.specs.Outcomes.{Reading, found, more, unknown, malformed}
 use Rattle.amqp_grammar.specs.Payloads.{RawOutcome}
@@ -140,8 +140,8 @@ key_there s e some has x =
     by _ _ o some no_pairs y other = absurd (omega arith)
     by _ _ o some (pair k w left v ps is p all) y other =
         other (short k) (w ++ left)
-        (one_raw_outcome amqp.ShortString (small k ++ (w ++ left)) o (found (short k) (w ++ left)) y
-        (raw_found amqp.ShortString (small k) (w ++ left) (short k) (raw_short k is)))
+        (one_raw_outcome amqp.ShortString (short_field k ++ (w ++ left)) o (found (short k) (w ++ left)) y
+        (raw_found amqp.ShortString (short_field k) (w ++ left) (short k) (raw_short k is)))
 
 -- the first of some pairs, whose key was read: its value stands at the beginning of what is after
 -- the key
@@ -155,8 +155,8 @@ record FirstPair (s key behind : List ℕ) (ps : Entries) : Type 0 where
 first_pair : (s key behind : List ℕ) (ps : Entries) → IsKeyFrame s key behind → Pairs s ps → FirstPair s key behind ps
 first_pair _ key behind _ f no_pairs = let e = f.framed in absurd cc
 first_pair _ key behind _ f (pair k w left v ps is p all) =
-    let here = short_bytes key behind (small k) (w ++ left) (short k) (raw_short k is) (sym f.framed) in
-    let same = one_raw_reading amqp.ShortString (small k) (small key) (w ++ left) behind (short k) (short key) (raw_short k is) (raw_short key here) f.framed in
+    let here = short_bytes key behind (short_field k) (w ++ left) (short k) (raw_short k is) (sym f.framed) in
+    let same = one_raw_reading amqp.ShortString (short_field k) (short_field key) (w ++ left) behind (short k) (short key) (raw_short k is) (raw_short key here) f.framed in
     let one : k ≡ key = cc in
     record {
       at = record { value_there = v; bytes = w; left = left; is_wire = p; front = sym same.2 };

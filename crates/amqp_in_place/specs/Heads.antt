@@ -3,7 +3,7 @@ use Rattle.std.specs.Prelude.{ℕ, ◌≤◌, ◌≡◌, List, length, ◌++◌}
 use Rattle.amqp_types.specs.declared.amqp_type.AMQPType.{AMQPType}
 use Rattle.amqp_types.specs.declared.amqp_type.AMQPType.TheVariants as amqp
 use Rattle.amqp_grammar.specs.Values.{Tree, Trees, Entries, array, table}
-use Rattle.amqp_grammar.specs.Grammar.{Body, small}
+use Rattle.amqp_grammar.specs.Grammar.{Body, short_field}
 use Rattle.amqp_grammar.specs.Outcomes.{Reading, found}
 use Rattle.amqp_grammar.specs.Payloads.{RawOutcome}
 use Rattle.amqp_grammar.specs.Nesting.{OutcomeWithin}
@@ -62,5 +62,5 @@ RefersTo _ _ = ⊥
 
 -- `body` stands after its length in one byte, and `rest` after it
 pub record IsKeyFrame (s body rest : List ℕ) : Type 0 where
-  pub framed : s ≡ small body ++ rest
+  pub framed : s ≡ short_field body ++ rest
   pub few : length body ≤ 255

@@ -1,6 +1,6 @@
 -- Where a value that is referred to lies in the bytes that it is read from.
 use Rattle.std.specs.Prelude.{ℕ, ◌≡◌, List, ◌∷◌, ◌++◌}
-use Rattle.amqp_grammar.specs.Grammar.{small, large}
+use Rattle.amqp_grammar.specs.Grammar.{short_field, long_field}
 use Rattle.amqp_in_place.specs.declared.refs.ValueRef.{ValueRef}
 use Rattle.amqp_in_place.specs.declared.refs.ValueRef.TheVariants as at
 use Rattle.amqp_in_place.specs.Refs.{array_body, table_body}
@@ -8,7 +8,7 @@ use Rattle.amqp_in_place.specs.Answers.{IsLeft}
 
 -- s is a type tag, the length of `body` in four bytes, `body`, and `rest`
 abbrev pub IsFramed : List ℕ → List ℕ → List ℕ → Type 0
-IsFramed s body rest = (c : ℕ) × (s ≡ c ∷ (large body ++ rest))
+IsFramed s body rest = (c : ℕ) × (s ≡ c ∷ (long_field body ++ rest))
 
 -- the value lies at the beginning of s, and `rest` stands after it: a string, a byte array or the
 -- body of a container after a type tag and its length
@@ -25,4 +25,4 @@ LiesWithin s r = (before behind rest : List ℕ) × (s ≡ before ++ behind) × 
 
 -- the key stands at the beginning of s after its length in one byte, and the value lies after it
 abbrev pub PairLiesIn : List ℕ → List ℕ → ValueRef → List ℕ → Type 0
-PairLiesIn s key r rest = (behind : List ℕ) × (s ≡ small key ++ behind) × LiesIn behind r rest
+PairLiesIn s key r rest = (behind : List ℕ) × (s ≡ short_field key ++ behind) × LiesIn behind r rest

@@ -7,7 +7,7 @@ use Rattle.amqp_value_core.specs.View.{view}
 use Rattle.amqp_grammar.specs.Values.{Tree, depth}
 use Rattle.amqp_grammar.specs.Layouts.{Layout, fixed}
 use Rattle.amqp_grammar.specs.Grammar.{Wire, wire}
-use Rattle.amqp_grammar.specs.Headline.{IsBounded}
+use Rattle.amqp_grammar.specs.Headline.{IsWritableIn}
 use Rattle.amqp_grammar.specs.Texts.{text}
 use Rattle.amqp_input.specs.Inputs.{IsBytes}
 use Rattle.amqp_grammar.specs.Outcomes.{found, length_field}
@@ -63,9 +63,9 @@ module _ {I : Type 0} (bytes : I → List ℕ) (l : Limits) (s : List ℕ) where
   depth_answer (Err e) p = tt
 
   pub bounded_within : (r : Result (I × AMQPValue) Refusal) → MatchResult r (λ x. Within l s (found (view x.1) (bytes x.0))) (RefusesWithin l s)
-      → IfOk r (λ x. IsBounded (length s - length (bytes x.0)) (view x.1))
+      → IfOk r (λ x. IsWritableIn (length s - length (bytes x.0)) (view x.1))
   bounded_within (Ok x) p =
       let f = front_within l.depth s (bytes x.0) (view x.1) p.1 in
       let taken : length f.0 ≡ length s - length (bytes x.0) = omega (arith, ap length f.2, length-append f.0 (bytes x.0)) in
-      subst (λ (n : ℕ). IsBounded n (view x.1)) taken (bounded_wire f.0 (view x.1) f.1.0)
+      subst (λ (n : ℕ). IsWritableIn n (view x.1)) taken (bounded_wire f.0 (view x.1) f.1.0)
   bounded_within (Err e) p = tt

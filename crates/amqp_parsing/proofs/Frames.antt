@@ -9,11 +9,11 @@ use Rattle.amqp_types.specs.declared.amqp_type.AMQPType.TheVariants as amqp
 use Rattle.amqp_grammar.specs.Values.{Tree, Trees, Entries, no_entries, onto, short, long, octets, array, table}
 use Rattle.amqp_grammar.specs.Layouts.{fixed}
 use Rattle.amqp_types.specs.Strings.{IsShort}
-use Rattle.amqp_grammar.specs.Grammar.{small, large, Raw, raw_short, raw_long, raw_octets, raw_array, raw_table}
+use Rattle.amqp_grammar.specs.Grammar.{short_field, long_field, Raw, raw_short, raw_long, raw_octets, raw_array, raw_table}
 use Rattle.amqp_grammar.specs.Nesting.{RawWithin, BodyWithin, RawOutcomeWithin}
 use Rattle.amqp_grammar.specs.Outcomes.{Reading, found, more, unknown, malformed, length_field, counted, frame_lack, lack_of, lack, FrontBy, RawHeavy}
 use Rattle.amqp_grammar.specs.Payloads.{RawFront, RawOutcome}
-use Rattle.amqp_grammar.proofs.GrammarLaws.{array_body_within, table_body_within, raw_found_within, raw_whole_within, short_bytes, counted-large, lack_of-large, raw_found, raw_whole}
+use Rattle.amqp_grammar.proofs.GrammarLaws.{array_body_within, table_body_within, raw_found_within, raw_whole_within, short_bytes, counted-long_field, lack_of-long_field, raw_found, raw_whole}
 use Rattle.amqp_parsing.specs.Refusals.{Refusal}
 use Rattle.amqp_parsing.specs.Answers.{Refuses}
 use Rattle.amqp_parsing.specs.Bodies.{IsFrame, IsNoBody, IsTable, IsNoTable}
@@ -27,16 +27,16 @@ module _ (type : AMQPType) (s body rest : List ℕ) (row : fixed type ≡ None) 
   -- the frame is whole
   frame_whole : lack type s ≡ 0
   frame_whole =
-      ap₂ (λ o w. lack_of o w s) row field ∙ (ap (lack_of None w32) f.framed ∙ lack_of-large body rest f.fits)
+      ap₂ (λ o w. lack_of o w s) row field ∙ (ap (lack_of None w32) f.framed ∙ lack_of-long_field body rest f.fits)
 
   -- what the frame means is found
-  pub frame_found : (v : Tree) → Raw type (large body) v → RawOutcome type s (found v rest)
-  frame_found v p = rw f.framed (raw_found type (large body) rest v p)
+  pub frame_found : (v : Tree) → Raw type (long_field body) v → RawOutcome type s (found v rest)
+  frame_found v p = rw f.framed (raw_found type (long_field body) rest v p)
 
   -- it takes memory where its body has a byte
   frame_heavy : 0 < length body → RawHeavy type s
   frame_heavy h =
-      (row, frame_whole, omega (arith, ap₂ counted field f.framed, counted-large body rest f.fits))
+      (row, frame_whole, omega (arith, ap₂ counted field f.framed, counted-long_field body rest f.fits))
 
   -- what decides about the body decides about the frame
   pub frame_refused : (Is : Reading → Type 0) → ((o : Reading) → Is o → RawFront type s o) → (r : Refusal) → Refuses Is (0 < length body) r
@@ -46,8 +46,8 @@ module _ (type : AMQPType) (s body rest : List ℕ) (row : fixed type ≡ None) 
       (λ o y. raw_whole type s o frame_whole (front o y)) frame_heavy x
 
   -- the same, where containers nest at most d deep
-  pub frame_found_within : (d : ℕ) (v : Tree) → RawWithin d type (large body) v → RawOutcomeWithin d type s (found v rest)
-  frame_found_within d v p = rw f.framed (raw_found_within d type (large body) rest v p)
+  pub frame_found_within : (d : ℕ) (v : Tree) → RawWithin d type (long_field body) v → RawOutcomeWithin d type s (found v rest)
+  frame_found_within d v p = rw f.framed (raw_found_within d type (long_field body) rest v p)
 
   pub frame_refused_within : (d : ℕ) (Is : Reading → Type 0) → ((o : Reading) → Is o → FrontBy (RawWithin d type) s o) → (r : Refusal) → Refuses Is (0 < length body) r
       → Refuses (RawOutcomeWithin d type s) (RawHeavy type s) r
@@ -117,7 +117,7 @@ module _ (d : ℕ) (s body rest : List ℕ) (f : IsFrame s body rest) where
 -- n is the length in the first byte of s, and so many bytes or more are left behind it
 module _ (s left : List ℕ) (n : ℕ) (few : n < 256) (e : IsNumberRead w8 s n left) (there : n ≤ length left) where
   -- they are n bytes behind their length, and the others
-  split_small : s ≡ small (take n left) ++ drop n left
+  split_small : s ≡ short_field (take n left) ++ drop n left
   split_small =
       let size : n ≡ length (take n left) = sym (length-take-le n left there) in
       let low : n % 256 ≡ length (take n left) = omega arith in
@@ -135,7 +135,7 @@ module _ (s left : List ℕ) (n : ℕ) (few : n < 256) (e : IsNumberRead w8 s n 
   pub short_found : IsUtf8 (take n left) → RawOutcome amqp.ShortString s (found (short (take n left)) (drop n left))
   short_found utf8 =
       let is : IsShort (take n left) = record { few = omega (arith, length-take-le n left there); utf8 = utf8 } in
-      rw split_small (raw_found amqp.ShortString (small (take n left)) (drop n left) (short (take n left)) (raw_short (take n left) is))
+      rw split_small (raw_found amqp.ShortString (short_field (take n left)) (drop n left) (short (take n left)) (raw_short (take n left) is))
 
   -- where they aren't, no front is a short string
   pub short_refused : (IsUtf8 (take n left) → ⊥) → RawOutcome amqp.ShortString s malformed

@@ -15,8 +15,8 @@ use Rattle.amqp_parsing.specs.Typed.{IsNumberRead}
 
 -- a payload of fixed width at the front is read
 pub fixed_found : (type : AMQPType) (f : Layout) (s b rest : List ℕ) → fixed type ≡ Some f → length b ≡ f.width → s ≡ b ++ rest
-    → RawOutcome type s (found (scalar (f.meaning b)) rest)
-fixed_found type f s b rest row len e = rw e (raw_found type b rest (scalar (f.meaning b)) (raw_fixed type f b row len))
+    → RawOutcome type s (found (scalar (f.denotes b)) rest)
+fixed_found type f s b rest row len e = rw e (raw_found type b rest (scalar (f.denotes b)) (raw_fixed type f b row len))
 
 -- the bytes of n in the width are as many as the width has, and n is read back from them
 pub record ReadsBack (w : Width) (n : ℕ) : Type 0 where

@@ -4,7 +4,7 @@ use Rattle.std.proofs.lemmas.List.{nil_from_length}
 use Rattle.amqp_types.specs.declared.amqp_type.AMQPType.TheVariants as amqp
 use Rattle.amqp_grammar.specs.Values.{Tree, short, Entries, no_entries, entry, put, onto}
 use Rattle.amqp_types.specs.Strings.{IsShort}
-use Rattle.amqp_grammar.specs.Grammar.{small, Wire, Raw, raw_short, Pairs, no_pairs, pair}
+use Rattle.amqp_grammar.specs.Grammar.{short_field, Wire, Raw, raw_short, Pairs, no_pairs, pair}
 use Rattle.amqp_grammar.specs.Nesting.{pairs_nesting, PairsWithin, OutcomeWithin}
 use Rattle.amqp_grammar.specs.Outcomes.{Reading, found, more, unknown, malformed, lack, LacksOr, Heavy}
 use Rattle.amqp_grammar.specs.Payloads.{RawFront, RawOutcome}
@@ -27,10 +27,10 @@ pub record Walks (d : ℕ) (s : List ℕ) (es : Entries) (rest : List ℕ) : Typ
   pub shorter : length rest ≤ length s
 
 -- a key that is read stands at the front
-key_of : (b k : List ℕ) → Raw amqp.ShortString b (short k) → (b ≡ small k) × IsShort k
+key_of : (b k : List ℕ) → Raw amqp.ShortString b (short k) → (b ≡ short_field k) × IsShort k
 key_of _ _ (raw_short s is) = (refl, is)
 
-key_front : (s k rest : List ℕ) → RawOutcome amqp.ShortString s (found (short k) rest) → (s ≡ small k ++ rest) × IsShort k
+key_front : (s k rest : List ℕ) → RawOutcome amqp.ShortString s (found (short k) rest) → (s ≡ short_field k ++ rest) × IsShort k
 key_front s k rest x =
     let f = by (lack amqp.ShortString s) x in
     let key = key_of f.0 k f.1 in
@@ -48,9 +48,9 @@ key_shorter s k rest x =
     omega (arith, ap length f.0, length-append k rest)
 
 -- one key is read of a list, and one rest
-one_key : (k j x y : List ℕ) → IsShort k → IsShort j → small k ++ x ≡ small j ++ y → x ≡ y
+one_key : (k j x y : List ℕ) → IsShort k → IsShort j → short_field k ++ x ≡ short_field j ++ y → x ≡ y
 one_key k j x y p q e =
-    (one_raw_reading amqp.ShortString (small k) (small j) x y (short k) (short j) (raw_short k p) (raw_short j q) e).2
+    (one_raw_reading amqp.ShortString (short_field k) (short_field j) x y (short k) (short j) (raw_short k p) (raw_short j q) e).2
 
 -- pairs that aren't empty begin with a key that is read
 no_key : (s : List ℕ) (ps : Entries) (o : Reading) → RawOutcome amqp.ShortString s o → ((v : Tree) (rest : List ℕ) → o ≡ found v rest → ⊥)
@@ -58,11 +58,11 @@ no_key : (s : List ℕ) (ps : Entries) (o : Reading) → RawOutcome amqp.ShortSt
 no_key _ _ o x other h no_pairs = absurd (omega arith)
 no_key _ _ o x other h (pair k w left v ps is p all) =
     other (short k) (w ++ left)
-    (one_raw_outcome amqp.ShortString (small k ++ (w ++ left)) o (found (short k) (w ++ left)) x
-    (raw_found amqp.ShortString (small k) (w ++ left) (short k) (raw_short k is)))
+    (one_raw_outcome amqp.ShortString (short_field k ++ (w ++ left)) o (found (short k) (w ++ left)) x
+    (raw_found amqp.ShortString (short_field k) (w ++ left) (short k) (raw_short k is)))
 
 -- and behind it a value that is read
-no_value : (d : ℕ) (s k behind : List ℕ) (ps : Entries) (o : Reading) → IsShort k → s ≡ small k ++ behind → OutcomeWithin d behind o
+no_value : (d : ℕ) (s k behind : List ℕ) (ps : Entries) (o : Reading) → IsShort k → s ≡ short_field k ++ behind → OutcomeWithin d behind o
     → ((v : Tree) (rest : List ℕ) → o ≡ found v rest → ⊥) → (q : Pairs s ps) → pairs_nesting s ps q ≤ d → ⊥
 no_value d _ k behind _ o is e x other no_pairs within = absurd cc
 no_value d _ k behind _ o is e x other (pair j w left v ps at p all) within =
@@ -70,7 +70,7 @@ no_value d _ k behind _ o is e x other (pair j w left v ps at p all) within =
     other v left (one_outcome_within d behind o (found v left) x (subst (λ (t : List ℕ). OutcomeWithin d t (found v left)) (sym rest) (wire_found_within d w left v p (omega arith))))
 
 -- behind the first pair stand pairs
-pairs_behind : (d : ℕ) (s k w rest : List ℕ) (v : Tree) (ps : Entries) → IsShort k → Wire w v → s ≡ small k ++ (w ++ rest) → (q : Pairs s ps) → pairs_nesting s ps q ≤ d
+pairs_behind : (d : ℕ) (s k w rest : List ℕ) (v : Tree) (ps : Entries) → IsShort k → Wire w v → s ≡ short_field k ++ (w ++ rest) → (q : Pairs s ps) → pairs_nesting s ps q ≤ d
     → (qs : Entries) × PairsWithin d rest qs
 pairs_behind d _ k w rest v _ is p e no_pairs within = absurd cc
 pairs_behind d _ k w rest v _ is p e (pair j u left z ps at q all) within =
@@ -88,7 +88,7 @@ pub Walks-step : (d : ℕ) (s : List ℕ) (es : Entries) (left k behind : List �
 Walks-step d s es left k behind v rest g x y =
     let key = key_front left k behind x in
     let f = front_within d behind rest v y in
-    let all : left ≡ small k ++ (f.0 ++ rest) = key.0 ∙ ap (λ (t : List ℕ). small k ++ t) f.2 in
+    let all : left ≡ short_field k ++ (f.0 ++ rest) = key.0 ∙ ap (λ (t : List ℕ). short_field k ++ t) f.2 in
     record {
       whole = λ ps p. g.whole (entry k v ps) (subst (λ (t : List ℕ). PairsWithin d t (entry k v ps)) (sym all) (pair k f.0 rest v ps key.1 f.1.0 p.0, omega (arith, f.1.1, p.1)));
       only = λ qs p. let m = g.only qs p in pairs_behind d left k f.0 rest v m.0 key.1 f.1.0 all m.1.0 m.1.1;

@@ -7,7 +7,7 @@ use Rattle.amqp_types.specs.Ids.{letters, kind}
 use Rattle.amqp_value_core.specs.View.{view}
 use Rattle.amqp_grammar.specs.Outcomes.{Reading, found, Outcome, RawHeavy, Heavy}
 use Rattle.amqp_grammar.specs.Nesting.{OutcomeWithin, RawOutcomeWithin}
-use Rattle.amqp_grammar.specs.Headline.{IsBounded}
+use Rattle.amqp_grammar.specs.Headline.{IsWritableIn}
 use Rattle.amqp_grammar.proofs.GrammarLaws.{raw_to_value_within, raw_to_heavy, bounded_found, unlimited}
 use Rattle.amqp_parsing.specs.declared.errors.ErrorKind.TheVariants.{Eof}
 use Rattle.amqp_parsing.specs.Refusals.{Refusal}
@@ -62,6 +62,6 @@ unlimited_answer bytes d s (Err r) e p =
 -- what was read keeps to the number of bytes that it was read from
 pub bounded_answer : {I : Type 0} (bytes : I → List ℕ) (s : List ℕ) (r : Result (I × AMQPValue) Refusal)
     → MatchResult r (λ x. Outcome s (found (view x.1) (bytes x.0))) (Refuses (Outcome s) (Heavy s))
-    → IfOk r (λ x. IsBounded (length s - length (bytes x.0)) (view x.1))
+    → IfOk r (λ x. IsWritableIn (length s - length (bytes x.0)) (view x.1))
 bounded_answer bytes s (Ok x) p = bounded_found s (bytes x.0) (view x.1) p
 bounded_answer bytes s (Err e) p = tt

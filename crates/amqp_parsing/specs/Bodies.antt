@@ -2,13 +2,13 @@
 use Rattle.std.specs.Prelude.{ℕ, ◌<◌, ◌^◌, ◌≡◌, List, ◌++◌, length}
 use Rattle.std.specs.Int.{w32}
 use Rattle.amqp_grammar.specs.Values.{Trees, Entries, no_entries, onto}
-use Rattle.amqp_grammar.specs.Grammar.{large}
+use Rattle.amqp_grammar.specs.Grammar.{long_field}
 use Rattle.amqp_grammar.specs.Nesting.{BodyWithin, PairsWithin}
 use Rattle.amqp_grammar.specs.Outcomes.{Reading, more, malformed, frame_lack}
 
 -- bytes after their length in four bytes are read from s, and `rest` is left
 pub record IsFrame (s body rest : List ℕ) : Type 0 where
-  pub framed : s ≡ large body ++ rest
+  pub framed : s ≡ long_field body ++ rest
   pub fits : length body < 2 ^ 32
 
 -- the length-prefixed field isn't all there, and so many more bytes are needed: of its length, or

@@ -7,7 +7,7 @@ ghost use Rattle.amqp_grammar.specs.Outcomes.{Outcome, Heavy, RawHeavy, found};
 ghost use Rattle.amqp_grammar.specs.Payloads.{RawOutcome};
 ghost use Rattle.amqp_value_core.specs.View.{view};
 ghost use Rattle.amqp_value_core.specs.Containers.{array_view, table_view};
-ghost use Rattle.amqp_grammar.specs.Headline.{IsBounded};
+ghost use Rattle.amqp_grammar.specs.Headline.{IsWritableIn};
 ghost use Rattle.amqp_parsing.specs.Answers.{Refuses, HasOneOutcome, KeepsOutcome};
 ghost use Rattle.amqp_parsing.specs.Typed.{RawRefuses};
 ghost use Rattle.amqp_parsing.specs.Bodies.{IsNoBody, IsTable, IsNoTable};
@@ -43,7 +43,7 @@ pub fn parse_value<I: ParsableInput>(alloc: Global, i: I) -> ParserResult<I, AMQ
     ensures one { HasOneOutcome (I.bytes i) }
     ensures more_bytes { KeepsOutcome (I.bytes i) }
     ensures bounded { IfOk result (λ x.
-        IsBounded (length (I.bytes i) - length (I.bytes x.0)) (view x.1)) }
+        IsWritableIn (length (I.bytes i) - length (I.bytes x.0)) (view x.1)) }
 {
     value_within(alloc, i, i.input_len())
 }

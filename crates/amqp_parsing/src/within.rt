@@ -1,7 +1,7 @@
 //! Reading one value within limits.
 
 ghost use Rattle.std.specs.Prelude.{◌≡◌, ◌-◌, ◌≤◌, length, MatchResult, IfOk};
-ghost use Rattle.amqp_grammar.specs.Headline.{IsBounded};
+ghost use Rattle.amqp_grammar.specs.Headline.{IsWritableIn};
 ghost use Rattle.amqp_input.specs.Inputs.{IsBytes};
 ghost use Rattle.amqp_grammar.specs.Outcomes.{found};
 ghost use Rattle.amqp_grammar.specs.Values.{depth};
@@ -35,7 +35,7 @@ pub fn parse_value_within<I: ParsableInput>(
     ensures one { HasOneOutcomeWithin limits (I.bytes i) }
     ensures more_bytes { KeepsOutcomeWithin limits (I.bytes i) }
     ensures bounded { IfOk result (λ x.
-        IsBounded (length (I.bytes i) - length (I.bytes x.0)) (view x.1)) }
+        IsWritableIn (length (I.bytes i) - length (I.bytes x.0)) (view x.1)) }
     ensures depth { IfOk result (λ x. depth (view x.1) ≤ limits.depth) }
     ensures read_again { IfOk result (λ x. IsReadAgain limits (view x.1)) }
     ensures read_back { ReadsBack limits }

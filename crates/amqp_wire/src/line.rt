@@ -2,7 +2,7 @@
 
 ghost use Rattle.std.specs.Prelude.{◌≡◌, ◌-◌, ◌≤◌, ◌++◌, ◌∷◌, [], length, IfOk, string_bytes};
 ghost use Rattle.amqp_grammar.specs.Decode.{outcome};
-ghost use Rattle.amqp_grammar.specs.Headline.{IsBounded};
+ghost use Rattle.amqp_grammar.specs.Headline.{IsWritableIn};
 ghost use Rattle.amqp_value_core.specs.View.{view};
 ghost use Rattle.amqp_grammar.specs.Texts.{text, size, Fits};
 ghost use Rattle.hex.specs.Hex.{encode_lower};
@@ -53,7 +53,7 @@ fn value_answer<I: ParsableInput>(
     count: usize,
     rest: I,
 ) -> Result<String, WireFault>
-    requires { IsBounded (count - length (I.bytes rest)) (view value.now) }
+    requires { IsWritableIn (count - length (I.bytes rest)) (view value.now) }
     ensures { IfOk result (λ answer. string_bytes answer ≡ said_of_value (view value.now) (length (I.bytes rest))) }
 {
     let left = rest.input_len();

@@ -2,7 +2,7 @@ use Rattle.std.proofs.Common.{◌≡◌, ◌+◌, ◌-◌, ℕ, List, length, re
 use Rattle.std.proofs.lemmas.Result.{err_from_is_err_and}
 use Rattle.amqp_input.specs.Inputs.{slice_bytes}
 use Rattle.amqp_parsing.specs.Typed.{IsType}
-use Rattle.amqp_grammar.specs.Grammar.{large}
+use Rattle.amqp_grammar.specs.Grammar.{long_field}
 use Rattle.amqp_c.specs.Answers.{fault_of}
 use Rattle.amqp_c.specs.declared.entry.Entry.{Entry}
 use Rattle.amqp_c.proofs.Fronts.{never_faulty, cut_fault, scalar_fault, frame_extent, found_extent, content_entry, scalar_entry, found_shorter}
@@ -32,7 +32,7 @@ returns-then-has_content-clause-told c = λ v left x.
     let p = subst (λ (t : List ℕ). IsType t c.in_ok-payload.amqp_type mid) c.new.ensures c.in_ok-payload.ensures.id in
     let f = c.in_ok-rest.ensures in
     let whole : length s - c.input_len.result + length rest ≡ length s =
-    omega (arith, ap length p.1, ap length f.framed, length-append (large body) rest, c.input_len.ensures.count) in
+    omega (arith, ap length p.1, ap length f.framed, length-append (long_field body) rest, c.input_len.ensures.count) in
     let e : Entry = record {
       key = record { offset = 0; length = 0 };
       value = record { offset = 0; length = length s - c.input_len.result };

@@ -1,7 +1,7 @@
 use Rattle.std.proofs.Common.{◌++◌, sym, ap, ◌∙◌, arith}
 use Rattle.amqp_value_core.specs.View.{view}
 use Rattle.amqp_value_core.specs.Containers.{array_items}
-use Rattle.amqp_grammar.specs.Grammar.{small}
+use Rattle.amqp_grammar.specs.Grammar.{short_field}
 use Rattle.amqp_grammar.specs.Texts.{text, Fits}
 use Rattle.amqp_generation.proofs.Arrays.{value_refused, array_closed}
 use Rattle.amqp_generation.proofs.Tables.{none_put, one_more_put, key_taken_back, entry_refused, table_closed, table_value}
@@ -23,7 +23,7 @@ write_value-returns-in-Err-clause-written g t c =
 pub gen_entry-returns-clause-written : goal.gen_entry-returns-clause-written
 gen_entry-returns-clause-written g t c =
     let v = view c.args.v.now in
-    both_put (Fits v) (small c.args.k.now ++ text v) (ap (λ s. small s ++ text v) (sym c.as_str.ensures.text)) (λ _ fit. fit) (by_buffer g.met.W.BackToTheBuffer.is_one c.in_ok-gen_short_string.ensures.written) c.in_default.ensures.written
+    both_put (Fits v) (short_field c.args.k.now ++ text v) (ap (λ s. short_field s ++ text v) (sym c.as_str.ensures.text)) (λ _ fit. fit) (by_buffer g.met.W.BackToTheBuffer.is_one c.in_ok-gen_short_string.ensures.written) c.in_default.ensures.written
 
 pub gen_field_array-loop-v-preserved : goal.gen_field_array-loop-v-preserved
 gen_field_array-loop-v-preserved g t c =
