@@ -7,11 +7,11 @@ use Rattle.amqp_types.specs.declared.amqp_type.AMQPType.{AMQPType}
 use Rattle.amqp_types.specs.declared.amqp_type.AMQPType.TheVariants as amqp
 use Rattle.amqp_types.specs.Ids.{id_of}
 use Rattle.amqp_types.specs.Names.{read_as}
-use Rattle.amqp_grammar.specs.Values.{Tree, scalar, short, long, octets, array, table, no_entries, onto, scalar_type, Scalar}
+use Rattle.amqp_grammar.specs.Values.{Tree, scalar, short, long, octets, array, table, no_entries, onto, scalar_type, Scalar, type_of}
 use Rattle.amqp_grammar.specs.Layouts.{Layout, fixed}
 use Rattle.amqp_grammar.specs.Grammar.{long_field, Wire, wire, Raw, raw_fixed, raw_short, raw_long, raw_octets, raw_array, raw_table, Body}
 use Rattle.amqp_grammar.specs.Outcomes.{Reading, found, more, unknown, malformed, lack, lack_of, frame_lack, fields_lack, length_field, LacksOr, Outcome}
-use Rattle.amqp_grammar.specs.Payloads.{type_of, RawFront, RawOutcome}
+use Rattle.amqp_grammar.specs.Payloads.{RawFront, RawOutcome}
 use Rattle.amqp_grammar.proofs.GrammarLaws.{found_front, one_outcome, one_raw_reading, raw_to_value, value_to_raw, array_body, table_body}
 use Rattle.amqp_parsing.specs.declared.errors.Err.TheVariants.{Incomplete, Error, Failure}
 use Rattle.amqp_parsing.specs.declared.errors.Needed.TheVariants.{Unknown, Size}

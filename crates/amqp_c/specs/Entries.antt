@@ -1,9 +1,8 @@
 -- What an entry tells of the bytes that it was read from.
 use Rattle.std.specs.Prelude.{ℕ, ◌≡◌, ◌<◌, List}
 use Rattle.amqp_types.specs.Ids.{id_of}
-use Rattle.amqp_grammar.specs.Values.{Tree, scalar, short, long, octets, array, table}
+use Rattle.amqp_grammar.specs.Values.{Tree, scalar, short, long, octets, array, table, type_of}
 use Rattle.amqp_grammar.specs.Grammar.{Wire, Body}
-use Rattle.amqp_grammar.specs.Payloads.{type_of}
 use Rattle.amqp_parsing.specs.Headers.{extent}
 use Rattle.amqp_in_place.specs.Bodies.{HasEntries}
 use Rattle.amqp_c.specs.declared.entry.Entry.{Entry}

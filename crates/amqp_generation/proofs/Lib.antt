@@ -4,6 +4,7 @@ mod Steps
 mod Texts
 mod Arrays
 mod WhatWasRead
+mod ReadBack
 mod Tables
 pub mod Lengths
 mod Puts

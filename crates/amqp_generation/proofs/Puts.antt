@@ -1,10 +1,10 @@
 -- Lemmas on bytes that are put one after another, to any output.
-use Rattle.std.proofs.Common.{◌≡◌, ℕ, ◌+◌, ◌-◌, ◌≤◌, inl, inr, Bool, IsTrue, Option, Some, None, IfSome, Ok, Err, List, [], ◌∷◌, ◌++◌, length, drop, refl, sym, ap, ◌∙◌, subst, arith, length-append, append-nil}
+use Rattle.std.proofs.Common.{◌≡◌, ℕ, ◌+◌, ◌-◌, ◌≤◌, inl, Bool, IsTrue, Option, Some, None, IfSome, Ok, Err, List, [], ◌∷◌, ◌++◌, length, refl, sym, ap, ◌∙◌, subst, arith, length-append, append-nil}
 use Rattle.std.specs.Option.{option_map}
 use Rattle.std.specs.Io.KnownBytes.{Appends}
 use Rattle.std.proofs.lemmas.Bool.{false≢true}
 use Rattle.amqp_generation.specs.declared.error.GenError.{GenError}
-use Rattle.amqp_generation.specs.Outputs.{Seen, Writes, HasFailed}
+use Rattle.amqp_generation.specs.Outputs.{Seen, Writes}
 use Rattle.amqp_generation.specs.Buffers.{Puts, MakesRoom}
 use Rattle.amqp_generation.proofs.Rooms.{both_too_many, still_fixed, rest_fits, any_room}
 use Rattle.amqp_generation.proofs.Steps.{both_put, failed_since}

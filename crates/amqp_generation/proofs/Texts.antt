@@ -3,24 +3,16 @@ use Rattle.std.proofs.Common.{◌≡◌, ℕ, zero, suc, ◌+◌, ◌<◌, ◌�
 use Rattle.amqp_value_core.specs.declared.value.AMQPValue.{AMQPValue}
 use Rattle.std.proofs.lemmas.List.{take_more}
 use Rattle.amqp_types.specs.declared.amqp_type.AMQPType.{AMQPType}
-use Rattle.amqp_grammar.specs.Values.{Tree, scalar, short, long, octets, array, table}
-use Rattle.amqp_grammar.specs.Payloads.{type_of, payload}
+use Rattle.amqp_grammar.specs.Values.{Tree, scalar, short, long, octets, array, table, type_of}
+use Rattle.amqp_grammar.specs.Texts.{payload, text, body, Fits, AllFit}
 use Rattle.amqp_types.specs.Ids.{id_of}
-use Rattle.amqp_grammar.specs.Layouts.{spelled}
-use Rattle.amqp_grammar.specs.Grammar.{short_field, long_field}
 use Rattle.amqp_value_core.specs.View.{view}
 use Rattle.amqp_value_core.specs.Containers.{trees}
-use Rattle.amqp_grammar.specs.Texts.{text, body, pairs, Fits, AllFit}
 use Rattle.amqp_grammar.specs.InMemory.{IsValue, AreValues}
 
 -- an id and the payload are the text
 pub text_of : (v : Tree) (type : AMQPType) → type ≡ type_of v → text v ≡ id_of type ∷ [] ++ payload v
-text_of (scalar x) type e = ap (λ t. id_of t ∷ spelled x) (sym e)
-text_of (short s) type e = ap (λ t. id_of t ∷ short_field s) (sym e)
-text_of (long s) type e = ap (λ t. id_of t ∷ long_field s) (sym e)
-text_of (octets s) type e = ap (λ t. id_of t ∷ long_field s) (sym e)
-text_of (array vs) type e = ap (λ t. id_of t ∷ long_field (body vs)) (sym e)
-text_of (table es) type e = ap (λ t. id_of t ∷ long_field (pairs es)) (sym e)
+text_of v type e = ap (λ t. id_of t ∷ payload v) (sym e)
 
 -- an id is one byte
 pub longer_by_id : (v : Tree) → 1 + length (payload v) ≤ length (text v)

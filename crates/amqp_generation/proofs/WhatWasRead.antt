@@ -3,8 +3,7 @@ use Rattle.std.proofs.Common.{ℕ, ◌≢◌, ◌≤◌, Option, Some, None, IfS
 use Rattle.amqp_types.specs.declared.amqp_type.AMQPType.{AMQPType}
 use Rattle.amqp_types.specs.declared.amqp_type.AMQPType.TheVariants as amqp
 use Rattle.amqp_grammar.specs.Values.{Tree}
-use Rattle.amqp_grammar.specs.Texts.{text, Fits}
-use Rattle.amqp_grammar.specs.Payloads.{payload}
+use Rattle.amqp_grammar.specs.Texts.{text, Fits, payload}
 use Rattle.amqp_grammar.proofs.GrammarLaws.{bounded_wire, length_of_text, raw_bounds, what_raw_reads, length_of_payload}
 use Rattle.amqp_generation.specs.declared.error.GenError.{GenError}
 use Rattle.amqp_generation.specs.Outputs.{Seen, Writes}

@@ -4,8 +4,7 @@ ghost use Rattle.amqp_value_core.specs.View.{view};
 ghost use Rattle.amqp_value_core.specs.Containers.{array_view, table_view};
 ghost use Rattle.amqp_types.specs.Strings.{IsShort};
 ghost use Rattle.amqp_grammar.specs.Grammar.{short_field};
-ghost use Rattle.amqp_grammar.specs.Texts.{text, Fits};
-ghost use Rattle.amqp_grammar.specs.Payloads.{payload};
+ghost use Rattle.amqp_grammar.specs.Texts.{text, Fits, payload};
 ghost use Rattle.amqp_grammar.specs.InMemory.{IsValue};
 ghost use Rattle.amqp_grammar.specs.Readings.{read_back};
 ghost use Rattle.amqp_grammar.specs.Outcomes.{Outcome};
@@ -30,7 +29,7 @@ use amqp_value_core::value::AMQPValue;
 /// Where the value was read, room for as many bytes as it was read from is enough. A value in which
 /// a `ShortString` stands, not as a key, has no encoding: it is written with the byte `_` where a
 /// type tag would stand, and is refused when it is read.
-#[tactic(auto, using(amqp_grammar::proofs::GrammarLaws::reading_back, amqp_grammar::proofs::GrammarLaws::is_shortest, amqp_grammar::proofs::GrammarLaws::tells_apart, amqp_grammar::proofs::GrammarLaws::is_canonical, crate::proofs::WhatWasRead::writes_what_was_read))]
+#[tactic(auto, using(amqp_grammar::proofs::GrammarLaws::is_shortest, amqp_grammar::proofs::GrammarLaws::tells_apart, amqp_grammar::proofs::GrammarLaws::is_canonical, crate::proofs::WhatWasRead::writes_what_was_read))]
 pub fn gen_value<W: BackToTheBuffer>(v: &AMQPValue, x: &mut WriteContext<W>) -> GenResult
     ensures written { Writes true (Fits (view v.now)) (text (view v.now))
         (shown W.seen x.old) result (shown W.seen x.new) }

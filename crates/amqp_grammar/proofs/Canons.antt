@@ -9,13 +9,12 @@ use Rattle.std.proofs.lemmas.List.{nil_from_length}
 use Rattle.std.proofs.lemmas.Nat.{be_bytes_2, be_bytes_4, be_bytes_8}
 use Rattle.amqp_types.specs.declared.amqp_type.AMQPType.{AMQPType}
 use Rattle.amqp_types.specs.declared.amqp_type.AMQPType.TheVariants as amqp
-use Rattle.amqp_grammar.specs.Values.{boolean, Tree, table, Trees, Entries, scalar_type, readable}
-use Rattle.amqp_grammar.specs.Payloads.{type_of, payload}
+use Rattle.amqp_grammar.specs.Values.{boolean, Tree, table, Trees, Entries, scalar_type, readable, type_of}
+use Rattle.amqp_grammar.specs.Texts.{payload, text, body, pairs, Fits}
 use Rattle.amqp_types.specs.Ids.{letters, kind, id_of}
 use Rattle.amqp_types.specs.Names.{read_as}
 use Rattle.amqp_grammar.specs.Layouts.{Layout, fixed, truth, spelled}
 use Rattle.amqp_grammar.specs.Grammar.{short_field, long_field, Wire, wire, Raw, raw_fixed, raw_long, raw_octets, raw_array, raw_table, Body, no_values, value, Pairs, no_pairs, pair}
-use Rattle.amqp_grammar.specs.Texts.{text, body, pairs, Fits}
 use Rattle.amqp_input.specs.Inputs.{IsBytes}
 use Rattle.amqp_grammar.specs.Maps.{IsRising}
 use Rattle.amqp_grammar.specs.Canonical.{IsStrict, Canon, canon, CanonRaw, canon_fixed, canon_long, canon_octets, canon_array, canon_table, CanonBody, no_canon_values, canon_value, CanonPairs, no_canon_pairs, canon_pair}

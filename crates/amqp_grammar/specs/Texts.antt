@@ -1,29 +1,37 @@
 -- The canonical encoding of a value: the one that is written for it.
 use Rattle.std.specs.Prelude.{ℕ, ◌+◌, ◌^◌, ◌<◌, List, [], ◌∷◌, ◌++◌, length}
-use Rattle.amqp_types.specs.declared.amqp_type.AMQPType.TheVariants as amqp
-use Rattle.amqp_grammar.specs.Values.{Tree, scalar, short, long, octets, array, table, Trees, no_trees, tree, Entries, no_entries, entry, scalar_type}
+use Rattle.amqp_grammar.specs.Values.{Tree, scalar, short, long, octets, array, table, Trees, no_trees, tree, Entries, no_entries, entry, scalar_type, type_of}
 use Rattle.amqp_types.specs.Ids.{id_of}
 use Rattle.amqp_grammar.specs.Layouts.{width_of, spelled}
 use Rattle.amqp_grammar.specs.Grammar.{short_field, long_field}
 
--- an id and the payload; a container's payload joins the canonical encodings of its entries, after
--- their length: in an array's order, and in the order of a table's keys, each key before its value
+-- an id of the value's type, and then these bytes
+abbrev pub after_id : Tree → List ℕ → List ℕ
+after_id v b = id_of (type_of v) ∷ b
+
+-- the canonical encoding without its id; a container's joins the canonical encodings of its entries,
+-- after their length: in an array's order, and in the order of a table's keys, each key before its
+-- value
 abbrev mutual
-  pub text : Tree → List ℕ
-  text (scalar x) = id_of (scalar_type x) ∷ spelled x
-  text (short s) = id_of amqp.ShortString ∷ short_field s
-  text (long s) = id_of amqp.LongString ∷ long_field s
-  text (octets s) = id_of amqp.ByteArray ∷ long_field s
-  text (array vs) = id_of amqp.FieldArray ∷ long_field (body vs)
-  text (table es) = id_of amqp.FieldTable ∷ long_field (pairs es)
+  pub payload : Tree → List ℕ
+  payload (scalar x) = spelled x
+  payload (short s) = short_field s
+  payload (long s) = long_field s
+  payload (octets s) = long_field s
+  payload (array vs) = long_field (body vs)
+  payload (table es) = long_field (pairs es)
 
   pub body : Trees → List ℕ
   body no_trees = []
-  body (tree v vs) = text v ++ body vs
+  body (tree v vs) = after_id v (payload v) ++ body vs
 
   pub pairs : Entries → List ℕ
   pairs no_entries = []
-  pairs (entry k v es) = short_field k ++ (text v ++ pairs es)
+  pairs (entry k v es) = short_field k ++ (after_id v (payload v) ++ pairs es)
+
+-- an id and the payload
+abbrev pub text : Tree → List ℕ
+text v = after_id v (payload v)
 
 -- how long the canonical encoding is
 abbrev mutual

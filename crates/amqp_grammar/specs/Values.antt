@@ -43,6 +43,15 @@ scalar_type (number type n) = type
 scalar_type (decimal scale n) = amqp.DecimalValue
 scalar_type void = amqp.Void
 
+-- the type of a value
+abbrev pub type_of : Tree → AMQPType
+type_of (scalar x) = scalar_type x
+type_of (short s) = amqp.ShortString
+type_of (long s) = amqp.LongString
+type_of (octets s) = amqp.ByteArray
+type_of (array vs) = amqp.FieldArray
+type_of (table es) = amqp.FieldTable
+
 -- the values of a list, as the values of an array
 abbrev pub trees_of : List Tree → Trees
 trees_of [] = no_trees

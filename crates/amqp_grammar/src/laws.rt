@@ -4,10 +4,10 @@
 
 ghost use Rattle.std.specs.Prelude.{◌≡◌, ◌↔◌, ◌+◌, ℕ, List, ◌∷◌, ◌++◌, length, IsTrue, Some, ◌≢◌, ◌≤◌, ◌*◌, is_some, ◌-◌};
 ghost use Rattle.amqp_types.specs.declared.amqp_type.AMQPType.{AMQPType};
-ghost use Rattle.amqp_grammar.specs.Values.{Tree, readable, Entries, no_entries, table, put, onto, depth, count};
-ghost use Rattle.amqp_grammar.specs.Payloads.{type_of, payload, RawOutcome};
+ghost use Rattle.amqp_grammar.specs.Values.{Tree, readable, Entries, no_entries, table, put, onto, depth, count, type_of};
+ghost use Rattle.amqp_grammar.specs.Payloads.{RawOutcome};
+ghost use Rattle.amqp_grammar.specs.Texts.{payload, text, size, Fits};
 ghost use Rattle.amqp_grammar.specs.Grammar.{Wire, Raw};
-ghost use Rattle.amqp_grammar.specs.Texts.{text, size, Fits};
 ghost use Rattle.amqp_grammar.specs.InMemory.{IsValue};
 ghost use Rattle.amqp_grammar.specs.Readings.{read_back, StillWaits, with_more, Front};
 ghost use Rattle.amqp_types.specs.Ids.{kind};

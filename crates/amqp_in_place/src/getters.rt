@@ -12,8 +12,7 @@ impl<'a> ValueRef<'a> {
     ghost use Rattle.std.specs.Int.{w8, w16, w32, w64, cast_unsigned};
     ghost use Rattle.amqp_types.specs.declared.amqp_type.AMQPType.TheVariants as amqp;
     ghost use Rattle.amqp_types.specs.Shown.{float_bits, double_bits};
-    ghost use Rattle.amqp_grammar.specs.Values.{Tree};
-    ghost use Rattle.amqp_grammar.specs.Payloads.{type_of};
+    ghost use Rattle.amqp_grammar.specs.Values.{Tree, type_of};
     ghost use Rattle.amqp_value_core.specs.Getters.{truth_in, number_in, decimal_in, long_in, octets_in, array_in, table_in, is_void};
     ghost use Rattle.amqp_in_place.specs.Refs.{Stands, ArrayIs, TableIs};
 
