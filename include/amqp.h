@@ -10,8 +10,7 @@
  * lies in them. The caller owes only this: no pointer is NULL, also where a length is 0; `length`
  * bytes can be read at `bytes`, at most PTRDIFF_MAX, and `key_length` at `key`; and no struct that
  * is written overlaps the bytes, the key or another struct of the call, and no other thread writes
- * any of these meanwhile. For the room that is written
- * to the same holds as for a struct.
+ * any of these meanwhile; the room that is written to is held to the same.
  */
 #ifndef MAOLKINT_AMQP_H
 #define MAOLKINT_AMQP_H
