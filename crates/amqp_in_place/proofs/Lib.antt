@@ -8,3 +8,4 @@ pub mod Skipping
 pub mod Places
 pub mod Canonicals
 pub mod RepeatedKeys
+pub mod Keys

@@ -5,13 +5,14 @@ use Rattle.std.specs.Borrow.{Bor}
 use Rattle.amqp_grammar.specs.Values.{Tree, Trees, no_trees, tree, Entries, no_entries, entry}
 use Rattle.amqp_grammar.specs.Maps.{same_bytes, last_at, value_at, has_key}
 use Rattle.amqp_grammar.specs.Grammar.{Wire, wire, Body, no_values, value, Pairs, no_pairs, pair}
+use Rattle.amqp_grammar.specs.Outcomes.{Outcome, found}
 use Rattle.amqp_grammar.proofs.GrammarLaws.{last_stays, key_has_value}
 use Rattle.amqp_input.specs.Inputs.{slice_bytes}
 use Rattle.amqp_input.specs.declared.input.SliceInput.{SliceInput}
 use Rattle.amqp_in_place.specs.Bodies.{HasEntries}
 use Rattle.amqp_in_place.specs.declared.refs.ValueRef.{ValueRef}
 use Rattle.amqp_in_place.specs.Refs.{Stands}
-use Rattle.amqp_in_place.specs.Walks.{NextValueIs, NextPairIs, FoundIs, tree_at}
+use Rattle.amqp_in_place.specs.Walks.{NextValueIs, NextKeyIs, BeginsAt, FoundIs, tree_at}
 
 -- ---- emptiness
 
@@ -31,8 +32,8 @@ no_values_at _ _ (value w left v vs p all) = (λ e. absurd (omega (arith, length
 -- ---- tables
 
 -- what was found so far, of the pairs before those that are left
-abbrev pub Looks : List ℕ → List ℕ → List ℕ → Option ValueRef → Type 0
-Looks key s rest r = (ps : Entries) → Pairs s ps → (qs : Entries) × (seen : Option Tree) × Pairs rest qs × FoundIs seen r × (last_at key ps ≡ option_or (last_at key qs) seen)
+abbrev pub Looks : List ℕ → List ℕ → List ℕ → Option (Bor (List ℕ)) → Type 0
+Looks key s rest at = (ps : Entries) → Pairs s ps → (qs : Entries) × (seen : Option Tree) × Pairs rest qs × BeginsAt seen at × (last_at key ps ≡ option_or (last_at key qs) seen)
 
 pub or_none : (o : Option Tree) → o ≡ option_or o None
 or_none None = refl
@@ -46,48 +47,57 @@ pub Looks-start : (key s : List ℕ) → Looks key s s None
 Looks-start key s = λ ps p. (ps, None, p, tt, or_none (last_at key ps))
 
 -- one pair more
-pub Looks-step : (key s rest : List ℕ) (old new : Option ValueRef) (x : Bor (List ℕ) × ValueRef × SliceInput) (b : Bool)
-    → Looks key s rest old → ((qs : Entries) → Pairs rest qs → NextPairIs qs (Some x)) → b ≡ same_bytes key x.0.now → new ≡ cond b (Some x.1) old
-    → Looks key s (slice_bytes x.2) new
+pub Looks-step : (key s rest : List ℕ) (old new : Option (Bor (List ℕ))) (x : Bor (List ℕ) × Bor (List ℕ) × Bor (List ℕ)) (b : Bool)
+    → Looks key s rest old → ((qs : Entries) → Pairs rest qs → NextKeyIs qs (Some x)) → b ≡ same_bytes key x.0.now → new ≡ cond b (Some x.1) old
+    → Looks key s x.2.now new
 Looks-step key s rest old new x b before next is made = λ ps p.
     let at = before ps p in
     by at.0 at.1 at.2 (next at.0 at.2) at.3 at.4
   where
-    pick : (c : Bool) (v : Tree) (seen : Option Tree) → Stands x.1 v → FoundIs seen old → FoundIs (option_or (cond c (Some v) None) seen) (cond c (Some x.1) old)
-    pick true v seen here there = here
+    pick : (c : Bool) (v : Tree) (seen : Option Tree) → Outcome x.1.now (found v x.2.now) → BeginsAt seen old → BeginsAt (option_or (cond c (Some v) None) seen) (cond c (Some x.1) old)
+    pick true v seen here there = (x.2.now, here)
     pick false v seen here there = there
 
-    by : {o : Option Tree} (qs : Entries) (seen : Option Tree) → Pairs rest qs → NextPairIs qs (Some x) → FoundIs seen old → o ≡ option_or (last_at key qs) seen
-        → (rs : Entries) × (now : Option Tree) × Pairs (slice_bytes x.2) rs × FoundIs now new × (o ≡ option_or (last_at key rs) now)
+    by : {o : Option Tree} (qs : Entries) (seen : Option Tree) → Pairs rest qs → NextKeyIs qs (Some x) → BeginsAt seen old → o ≡ option_or (last_at key qs) seen
+        → (rs : Entries) × (now : Option Tree) × Pairs x.2.now rs × BeginsAt now new × (o ≡ option_or (last_at key rs) now)
     by no_entries seen q given there e = absurd given
     by (entry k v rs) seen q given there e =
         let c = same_bytes key k in
         let same : b ≡ c = is ∙ ap (same_bytes key) given.0 in
         let now = option_or (cond c (Some v) None) seen in
-        let stands : FoundIs now new = subst (FoundIs now) (sym (made ∙ ap (λ d. cond d (Some x.1) old) same)) (pick c v seen given.1 there) in
-        (rs, now, given.2, stands, e ∙ or_or (last_at key rs) (cond c (Some v) None) seen)
+        let begins : BeginsAt now new = subst (BeginsAt now) (sym (made ∙ ap (λ d. cond d (Some x.1) old) same)) (pick c v seen given.1 there) in
+        (rs, now, given.2, begins, e ∙ or_or (last_at key rs) (cond c (Some v) None) seen)
 
 -- no pair more
-pub Looks-end : (key s rest : List ℕ) (r : Option ValueRef) → Looks key s rest r → ((qs : Entries) → Pairs rest qs → NextPairIs qs None)
-    → (es : Entries) → HasEntries s es → FoundIs (value_at key es) r
-Looks-end key s rest r looks next es (ps, p, is) =
-    let at = looks ps p in
-    let last : last_at key ps ≡ at.1 = at.4 ∙ by at.0 at.1 (next at.0 at.2) in
-    subst (λ (o : Option Tree). FoundIs o r) (sym (ap (value_at key) is ∙ last_stays key ps ∙ last)) at.3
+pub Looks-end : (key s rest : List ℕ) (at : Option (Bor (List ℕ))) → Looks key s rest at → ((qs : Entries) → Pairs rest qs → NextKeyIs qs None)
+    → (es : Entries) → HasEntries s es → BeginsAt (value_at key es) at
+Looks-end key s rest at looks next es (ps, p, is) =
+    let end = looks ps p in
+    let last : last_at key ps ≡ end.1 = end.4 ∙ by end.0 end.1 (next end.0 end.2) in
+    subst (λ (o : Option Tree). BeginsAt o at) (sym (ap (value_at key) is ∙ last_stays key ps ∙ last)) end.3
   where
-    by : (qs : Entries) (seen : Option Tree) → NextPairIs qs None → option_or (last_at key qs) seen ≡ seen
+    by : (qs : Entries) (seen : Option Tree) → NextKeyIs qs None → option_or (last_at key qs) seen ≡ seen
     by no_entries seen given = refl
     by (entry k v qs) seen given = absurd given
 
--- whether something is found is whether the key is there
-pub found_has_key : (key : List ℕ) (es : Entries) (r : Option ValueRef) → FoundIs (value_at key es) r → is_some r ≡ has_key key es
-found_has_key key es r f = by (value_at key es) r f ∙ sym (key_has_value key es)
+-- what is read where the value begins is the value
+pub found_at : (o : Option Tree) (at : Bor (List ℕ)) (r : ValueRef) → BeginsAt o (Some at) → ((v : Tree) (rest : List ℕ) → Outcome at.now (found v rest) → Stands r v) → FoundIs o (Some r)
+found_at None at r begins stands = absurd begins
+found_at (Some v) at r begins stands = stands v begins.0 begins.1
+
+pub found_nowhere : (o : Option Tree) → BeginsAt o None → FoundIs o None
+found_nowhere None begins = tt
+found_nowhere (Some v) begins = absurd begins
+
+-- whether it begins somewhere is whether the key is there
+pub begins_has_key : (key : List ℕ) (es : Entries) (at : Option (Bor (List ℕ))) → BeginsAt (value_at key es) at → is_some at ≡ has_key key es
+begins_has_key key es at begins = by (value_at key es) at begins ∙ sym (key_has_value key es)
   where
-    by : (o : Option Tree) (r : Option ValueRef) → FoundIs o r → is_some r ≡ is_some o
-    by None None f = refl
-    by (Some v) (Some r) f = refl
-    by None (Some r) f = absurd f
-    by (Some v) None f = absurd f
+    by : (o : Option Tree) (at : Option (Bor (List ℕ))) → BeginsAt o at → is_some at ≡ is_some o
+    by None None begins = refl
+    by (Some v) (Some at) begins = refl
+    by None (Some at) begins = absurd begins
+    by (Some v) None begins = absurd begins
 
 -- ---- arrays
 

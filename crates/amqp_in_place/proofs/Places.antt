@@ -86,7 +86,7 @@ lies_before s r rest x = by r x
     by _ y = y
 
 -- what is left of what is left
-left_of_left : (s mid rest : List ℕ) → IsLeft s mid → IsLeft mid rest → IsLeft s rest
+pub left_of_left : (s mid rest : List ℕ) → IsLeft s mid → IsLeft mid rest → IsLeft s rest
 left_of_left s mid rest a b = (a.0 ++ b.0, a.1 ∙ (ap (λ (t : List ℕ). a.0 ++ t) b.1 ∙ sym (append_assoc a.0 b.0 rest)))
 
 pub nothing_before : (s : List ℕ) → IsLeft s s

@@ -11,9 +11,9 @@ use Rattle.amqp_types.specs.declared.amqp_type.AMQPType.TheVariants as amqp
 use Rattle.amqp_grammar.specs.Values.{Tree, Trees, tree, Entries, entry, short}
 use Rattle.amqp_grammar.specs.Grammar.{short_field, Wire, wire, raw_short, Body, no_values, value, Pairs, no_pairs, pair}
 use Rattle.amqp_grammar.specs.Nesting.{nesting, OutcomeWithin}
-use Rattle.amqp_grammar.specs.Outcomes.{Reading, found, more, unknown, malformed}
+use Rattle.amqp_grammar.specs.Outcomes.{Reading, found, more, unknown, malformed, Outcome}
 use Rattle.amqp_grammar.specs.Payloads.{RawOutcome}
-use Rattle.amqp_grammar.proofs.GrammarLaws.{one_outcome_within, one_raw_reading, one_raw_outcome, raw_found, wire_found_within, short_bytes}
+use Rattle.amqp_grammar.proofs.GrammarLaws.{found_front, one_outcome_within, one_raw_reading, one_raw_outcome, raw_found, wire_found_within, short_bytes}
 use Rattle.amqp_input.specs.Inputs.{slice_bytes}
 use Rattle.amqp_input.specs.declared.input.SliceInput.{SliceInput}
 use Rattle.amqp_parsing.specs.declared.errors.Err.TheVariants.{Incomplete, Error, Failure}
@@ -28,7 +28,7 @@ use Rattle.amqp_in_place.specs.declared.refs.ValueRef.{ValueRef}
 use Rattle.amqp_in_place.specs.Refs.{Stands}
 use Rattle.amqp_in_place.specs.Answers.{HeadRefuses}
 use Rattle.amqp_in_place.specs.Heads.{IsHead, AtAnyDepth, Means, IsMeant, IsKeyFrame}
-use Rattle.amqp_in_place.specs.Walks.{NextValueIs, NextPairIs}
+use Rattle.amqp_in_place.specs.Walks.{HasFront, NextValueIs, NextPairIs}
 use Rattle.amqp_in_place.proofs.HeadLemmas.{only, head_refuses}
 
 -- what can't be has one proof at most
@@ -76,6 +76,23 @@ meant_pairs h i is m = ∥∥₁_map (subst (λ (k : Head). ∥ IsMeant k ∥₁
 -- a wire has at least one byte
 length-wire : (w : List ℕ) (v : Tree) → Wire w v → 0 < length w
 length-wire _ _ (wire c type b v k p) = omega arith
+
+-- ---- the value at the front
+
+at_front : (s : List ℕ) (v : Tree) (rest : List ℕ) → Outcome s (found v rest) → AtFront s
+at_front s v rest x = let f = found_front s rest v x in record { value_there = v; bytes = f.0; left = rest; is_wire = f.1; front = f.2 }
+
+-- its head is read
+pub front_there : (s : List ℕ) (e : Refusal) → ∥ HasFront s ∥₁ → HeadRefuses (AtAnyDepth s) e → ⊥
+front_there s e has x = ∥∥₁_elim has no_prop (λ (p : HasFront s). never_refused s e (at_front s p.0 p.1 p.2) x)
+
+-- and means it
+pub front_means : (s : List ℕ) (h : Head) (rest : List ℕ) → IsHead s h rest → (v : Tree) (left : List ℕ) → Outcome s (found v left) → Means h v
+unfolding at_front
+front_means s h rest is v left x = (meant s h rest is (at_front s v left x)).0
+
+pub front_meant : (s : List ℕ) (h : Head) (rest : List ℕ) → IsHead s h rest → ∥ HasFront s ∥₁ → ∥ IsMeant h ∥₁
+front_meant s h rest is has = ∥∥₁_map has (λ (p : HasFront s). (p.0, front_means s h rest is p.0 p.1 p.2))
 
 -- ---- values
 

@@ -3,6 +3,7 @@ use Rattle.std.specs.Prelude.{ℕ, zero, suc, ◌≡◌, ◌<◌, List, length, 
 use Rattle.std.specs.Borrow.{Bor}
 use Rattle.amqp_grammar.specs.Values.{Tree, Trees, no_trees, tree, Entries, no_entries, entry}
 use Rattle.amqp_grammar.specs.Grammar.{Pairs, Body}
+use Rattle.amqp_grammar.specs.Outcomes.{Outcome, found}
 use Rattle.amqp_input.specs.Inputs.{slice_bytes}
 use Rattle.amqp_input.specs.declared.input.SliceInput.{SliceInput}
 use Rattle.amqp_in_place.specs.declared.refs.ValueRef.{ValueRef}
@@ -30,6 +31,27 @@ NextPairIs _ _ = ⊥
 abbrev pub MorePairs : ℕ → Option (Bor (List ℕ) × ValueRef × SliceInput) → Type 0
 MorePairs n None = Unit {0}
 MorePairs n (Some x) = (length (slice_bytes x.2) < n) × ∥ HasPairs (slice_bytes x.2) ∥₁
+
+-- a value is read from the front
+abbrev pub HasFront : List ℕ → Type 0
+HasFront s = (v : Tree) × (rest : List ℕ) × Outcome s (found v rest)
+
+-- the first pair's key is given, the bytes from its value on, and those of the others
+abbrev pub NextKeyIs : Entries → Option (Bor (List ℕ) × Bor (List ℕ) × Bor (List ℕ)) → Type 0
+NextKeyIs no_entries None = Unit {0}
+NextKeyIs (entry k v ps) (Some x) = (x.0.now ≡ k) × Outcome x.1.now (found v x.2.now) × Pairs x.2.now ps
+NextKeyIs _ _ = ⊥
+
+-- after the pair whose key is given stand fewer bytes than n, which are pairs
+abbrev pub MoreKeys : ℕ → Option (Bor (List ℕ) × Bor (List ℕ) × Bor (List ℕ)) → Type 0
+MoreKeys n None = Unit {0}
+MoreKeys n (Some x) = (length x.2.now < n) × ∥ HasPairs x.2.now ∥₁
+
+-- the bytes begin with an encoding of the tree, if there is one
+abbrev pub BeginsAt : Option Tree → Option (Bor (List ℕ)) → Type 0
+BeginsAt None None = Unit {0}
+BeginsAt (Some v) (Some at) = (rest : List ℕ) × Outcome at.now (found v rest)
+BeginsAt _ _ = ⊥
 
 -- a step gives the first of the values, and leaves the others
 abbrev pub ValueStep : Trees → Option ValueRef → List ℕ → Type 0

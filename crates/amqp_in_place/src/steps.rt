@@ -1,18 +1,21 @@
 //! Stepping through bodies that were checked.
 
-ghost use Rattle.std.specs.Prelude.{length, IfSome};
+ghost use Rattle.std.specs.Prelude.{ℕ, List, length, IfSome};
 ghost use Rattle.amqp_grammar.specs.Values.{Tree, Trees, Entries};
 ghost use Rattle.amqp_grammar.specs.Grammar.{Body, Pairs};
+ghost use Rattle.amqp_grammar.specs.Outcomes.{Outcome, found};
 ghost use Rattle.amqp_input.specs.Inputs.{slice_bytes};
 ghost use Rattle.amqp_in_place.specs.Bodies.{HasValues, HasPairs};
 ghost use Rattle.amqp_in_place.specs.Refs.{Stands};
 ghost use Rattle.amqp_in_place.specs.Heads.{IsMeant, Means, RefersTo};
 ghost use Rattle.amqp_in_place.specs.Places.{LiesIn, PairLiesIn};
-ghost use Rattle.amqp_in_place.specs.Walks.{NextValueIs, MoreValues, NextPairIs, MorePairs};
+ghost use Rattle.amqp_in_place.specs.Answers.{IsLeft};
+ghost use Rattle.amqp_in_place.specs.Walks.{HasFront, NextValueIs, MoreValues, NextPairIs, MorePairs, NextKeyIs, MoreKeys};
 
 use super::head::{Head, read_head, read_key};
 use super::refs::{ArrayRef, TableRef, ValueRef};
 use amqp_input::{ParsableInput, SliceInput};
+use amqp_parsing::header::value_len;
 use std::str;
 
 // The value of a head that is known to have one.
@@ -27,6 +30,18 @@ fn value_of<'a>(head: Head<'a>) -> ValueRef<'a>
         Head::FieldArray(body) => ValueRef::FieldArray(ArrayRef::of(body)),
         Head::FieldTable(body) => ValueRef::FieldTable(TableRef::of(body)),
     }
+}
+
+// The value at the front of bytes, where one stands.
+pub(crate) fn front_value<'a>(bytes: &'a [u8]) -> ValueRef<'a>
+    requires { ∥ HasFront bytes.now ∥₁ }
+    ensures value { (v : Tree) (rest : List ℕ) → Outcome bytes.now (found v rest) → Stands result v }
+    ensures lies { (rest : List ℕ) × LiesIn bytes.now result rest }
+{
+    let Ok((_, head)) = read_head(SliceInput::new(bytes)) else {
+        unreachable!()
+    };
+    value_of(head)
 }
 
 // Takes the first value off bytes that are values, and gives those after it.
@@ -67,4 +82,21 @@ pub(crate) fn next_pair<'a>(
         unreachable!()
     };
     Some((key, value_of(head), rest))
+}
+
+// Takes the key of the first pair off bytes that are pairs, and gives the bytes from its value on,
+// and those after it: by the lengths and the type tag alone.
+#[inline(always)]
+pub(crate) fn next_key<'a>(pairs: &'a [u8]) -> Option<(&'a [u8], &'a [u8], &'a [u8])>
+    requires { ∥ HasPairs pairs.now ∥₁ }
+    ensures key { (ps : Entries) → Pairs pairs.now ps → NextKeyIs ps result }
+    ensures more { MoreKeys (length pairs.now) result }
+    ensures front { IfSome result (λ x. ∥ HasFront x.1.now ∥₁) }
+    ensures value { IfSome result (λ x. IsLeft pairs.now x.1.now) }
+    ensures left { IfSome result (λ x. IsLeft pairs.now x.2.now) }
+{
+    let (count, named) = pairs.split_first()?;
+    let (key, value) = named.split_at(usize::from(*count));
+    let (_, behind) = value.split_at(value_len(SliceInput::new(value)));
+    Some((key, value, behind))
 }

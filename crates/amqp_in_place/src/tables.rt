@@ -5,13 +5,14 @@ ghost use Rattle.amqp_grammar.specs.Values.{Entries, no_entries};
 ghost use Rattle.amqp_grammar.specs.Maps.{has_key, value_at};
 ghost use Rattle.amqp_grammar.specs.Grammar.{Pairs};
 ghost use Rattle.amqp_value_core.specs.Containers.{table_view};
-ghost use Rattle.amqp_in_place.specs.Bodies.{HasEntries};
+ghost use Rattle.amqp_in_place.specs.Answers.{IsLeft};
+ghost use Rattle.amqp_in_place.specs.Bodies.{HasPairs, HasEntries};
 ghost use Rattle.amqp_in_place.specs.Refs.{table_body};
-ghost use Rattle.amqp_in_place.specs.Walks.{FoundIs};
+ghost use Rattle.amqp_in_place.specs.Walks.{FoundIs, HasFront, BeginsAt};
 ghost use Rattle.amqp_in_place.specs.Places.{LiesWithin};
 
 use super::refs::{TableRef, ValueRef};
-use super::steps::next_pair;
+use super::steps::{front_value, next_key};
 use amqp_input::ParsableInput;
 use amqp_parsing::values::parse_pairs;
 use amqp_value_core::types::FieldTable;
@@ -33,27 +34,21 @@ impl<'a> TableRef<'a> {
         self.body().input_len() == 0
     }
 
-    /// The value at the key: of equal keys the last pair's. Walks all pairs.
+    /// The value at the key: of equal keys the last pair's. Passes all pairs over by their lengths,
+    /// and reads the value that is found.
     pub fn get(self, key: &str) -> Option<ValueRef<'a>>
         ensures value { (es : Entries) → HasEntries (table_body self.entry) es → FoundIs (value_at key.now es) result }
         ensures lies { IfSome result (λ r. LiesWithin (table_body self.entry) r) }
     {
-        let mut at = None;
-        let mut rest = self.body();
-        'pairs: while let Some((k, value, behind)) = next_pair(rest) {
-            if k == key {
-                at = Some(value);
-            }
-            rest = behind;
-        }
-        at
+        let at = last_at(self.as_bytes(), key.as_bytes())?;
+        Some(front_value(at))
     }
 
     /// Whether there is a value at the key.
     pub fn contains_key(self, key: &str) -> bool
         ensures { (es : Entries) → HasEntries (table_body self.entry) es → result ≡ has_key key.now es }
     {
-        self.get(key).is_some()
+        last_at(self.as_bytes(), key.as_bytes()).is_some()
     }
 
     /// The table in memory of its own, which `parse_value` gives. No entries take no memory. It
@@ -70,4 +65,22 @@ impl<'a> TableRef<'a> {
             Err(_) => Err(AllocError),
         }
     }
+}
+
+// The bytes from the last value at the key on, in bytes that are pairs.
+fn last_at<'a>(pairs: &'a [u8], key: &[u8]) -> Option<&'a [u8]>
+    requires { ∥ HasPairs pairs.now ∥₁ }
+    ensures value { (es : Entries) → HasEntries pairs.now es → BeginsAt (value_at key.now es) result }
+    ensures front { IfSome result (λ at. ∥ HasFront at.now ∥₁) }
+    ensures left { IfSome result (λ at. IsLeft pairs.now at.now) }
+{
+    let mut at = None;
+    let mut rest = pairs;
+    'pairs: while let Some((name, value, behind)) = next_key(rest) {
+        if key == name {
+            at = Some(value);
+        }
+        rest = behind;
+    }
+    at
 }

@@ -4,7 +4,7 @@ ghost use Rattle.std.specs.Prelude.{◌≡◌, ◌≢◌, ◌<◌, ◌≤◌, �
 ghost use Rattle.amqp_grammar.specs.Layouts.{fixed};
 ghost use Rattle.amqp_input.specs.Inputs.{IsBytes};
 ghost use Rattle.amqp_grammar.specs.Outcomes.{length_field};
-ghost use Rattle.amqp_parsing.specs.Headers.{raw_extent, first_of};
+ghost use Rattle.amqp_parsing.specs.Headers.{extent, raw_extent, first_of};
 ghost use Rattle.amqp_parsing.specs.Limits.{IsHeader};
 
 use super::scalars::{parse_long_uint, parse_type};
@@ -25,6 +25,7 @@ pub enum Header {
 }
 
 // How many bytes the first field of a type of fixed width has, and all of them.
+#[inline(always)]
 fn fields_of(amqp_type: AMQPType) -> Option<(usize, usize)>
     ensures { result ≡ option_map (λ f. (f.first, f.width)) (fixed amqp_type) }
 {
@@ -45,6 +46,7 @@ fn fields_of(amqp_type: AMQPType) -> Option<(usize, usize)>
 }
 
 // How many bytes the first field of a payload has, and the payload at least.
+#[inline(always)]
 fn payload_of<I: ParsableInput>(amqp_type: AMQPType, i: I) -> (usize, usize)
     requires { amqp_type ≢ AMQPType.ShortString }
     ensures first { result.0 ≡ first_of (fixed amqp_type) (length_field amqp_type) }
@@ -58,6 +60,23 @@ fn payload_of<I: ParsableInput>(amqp_type: AMQPType, i: I) -> (usize, usize)
         Ok((_, len)) => (4, 4 + len as usize),
         Err(_) => (4, 4),
     }
+}
+
+/// How many bytes the value at the front has at least, by its id and its length field alone, and 0
+/// where no id tells. It takes constant time.
+#[inline(always)]
+pub fn value_len<I: ParsableInput>(i: I) -> usize
+    ensures extent { result ≡ extent (I.bytes i) }
+    ensures small { result ≤ 4294967300 }
+{
+    if i.input_len() == 0 {
+        return 0;
+    }
+    let Ok((payload, amqp_type)) = parse_type(i) else {
+        return 0;
+    };
+    let (_, len) = payload_of(amqp_type, payload);
+    1 + len
 }
 
 /// What the header of a value tells, where none may have more than `frame` bytes.
