@@ -6,7 +6,8 @@ use Rattle.amqp_grammar.specs.Values.{array}
 use Rattle.amqp_grammar.specs.Grammar.{long_field}
 use Rattle.amqp_value_core.specs.View.{view}
 use Rattle.amqp_value_core.specs.Containers.{trees}
-use Rattle.amqp_grammar.specs.Texts.{text, body, Fits, AllFit}
+use Rattle.amqp_grammar.specs.Texts.{text, body, Fits}
+use Rattle.amqp_grammar.specs.Members.{AllFit}
 use Rattle.amqp_grammar.proofs.GrammarLaws.{length_of_text}
 use Rattle.amqp_generation.specs.declared.error.GenError.{GenError}
 use Rattle.amqp_generation.specs.Outputs.{Seen, Writes}

@@ -10,7 +10,8 @@ use Rattle.amqp_types.specs.Strings.{IsShort}
 use Rattle.amqp_grammar.specs.Grammar.{short_field, long_field}
 use Rattle.amqp_value_core.specs.View.{view}
 use Rattle.amqp_value_core.specs.Containers.{entries}
-use Rattle.amqp_grammar.specs.Texts.{text, pairs, Fits, EntriesFit}
+use Rattle.amqp_grammar.specs.Texts.{text, pairs, Fits}
+use Rattle.amqp_grammar.specs.Members.{EntriesFit}
 use Rattle.amqp_grammar.specs.InMemory.{IsValue, AreEntries}
 use Rattle.amqp_grammar.proofs.GrammarLaws.{length_of_text}
 use Rattle.amqp_generation.specs.declared.error.GenError.{GenError}

@@ -6,14 +6,15 @@ use Rattle.std.specs.Int.{w32, to_be_bytes}
 use Rattle.std.proofs.lemmas.Bool.{and_from}
 use Rattle.amqp_types.specs.declared.amqp_type.AMQPType.{AMQPType}
 use Rattle.amqp_types.specs.declared.amqp_type.AMQPType.TheVariants as amqp
-use Rattle.amqp_grammar.specs.Values.{Tree, Trees, Entries, no_entries, entry, onto, readable, all_readable, entries_readable}
+use Rattle.amqp_grammar.specs.Values.{Tree, Trees, Entries, no_entries, entry, onto, readable}
 use Rattle.amqp_types.specs.Ids.{kind}
 use Rattle.amqp_types.specs.Names.{read_as}
 use Rattle.amqp_types.proofs.Ids.{kind_read}
 use Rattle.amqp_grammar.specs.Layouts.{Layout, fixed}
 use Rattle.amqp_types.specs.Strings.{IsShort}
 use Rattle.amqp_grammar.specs.Grammar.{short_field, Wire, wire, Raw, raw_fixed, raw_short, raw_long, raw_octets, raw_array, raw_table, Body, no_values, value, Pairs, no_pairs, pair}
-use Rattle.amqp_grammar.specs.Texts.{text, Fits, AllFit, EntriesFit}
+use Rattle.amqp_grammar.specs.Texts.{text, Fits}
+use Rattle.amqp_grammar.specs.Members.{all_readable, entries_readable, AllFit, EntriesFit}
 use Rattle.amqp_grammar.specs.InMemory.{IsScalar, IsValue, AreValues, AreEntries}
 use Rattle.amqp_input.specs.Inputs.{IsBytes}
 use Rattle.amqp_grammar.specs.Maps.{IsRising}
