@@ -23,7 +23,6 @@ use Rattle.amqp_grammar.specs.Payloads.{CanonRaw}
 use Rattle.amqp_grammar.specs.Members.{CanonBody, CanonPairs}
 use Rattle.amqp_input.proofs.Bytes.{bytes_front, bytes_behind, byte_at}
 use Rattle.amqp_grammar.proofs.Tables.{rising_pairs}
-use Rattle.amqp_grammar.proofs.Spelling.{text-payload}
 use Rattle.amqp_types.proofs.Ids.{kind_read}
 use Rattle.amqp_grammar.proofs.Shortest.{what_is_read}
 
@@ -190,7 +189,7 @@ mutual
   wire_is_text : (w : List ℕ) (v : Tree) (p : Wire w v) → IsBytes w → IsCanon w v p → w ≡ text v
   wire_is_text _ _ (wire c type b v k p) bytes is =
       let same = raw_is_payload type b v p (kind_read c type k) bytes.1 is.2 in
-      ap₂ ◌∷◌ (kind_first c type k is.0 is.1 ∙ ap id_of same.0) same.1 ∙ sym (text-payload v)
+      ap₂ ◌∷◌ (kind_first c type k is.0 is.1 ∙ ap id_of same.0) same.1
 
   -- its payload is that of its value, and has its type
   raw_is_payload : (type : AMQPType) (b : List ℕ) (v : Tree) (p : Raw type b v) → read_as type ≡ Some type → IsBytes b → IsCanonRaw type b v p

@@ -4,7 +4,7 @@
 -- one reading for each list
 pub use Rattle.amqp_grammar.proofs.Unique.{one_reading, one_raw_reading, one_body_meaning, one_pairs_meaning}
 -- texts: their length, and that they are wires
-pub use Rattle.amqp_grammar.proofs.Spelling.{length_of_text, size_of_scalar, size_of_array, size_of_table, length_of_payload, text_is_wire, payload_is_raw}
+pub use Rattle.amqp_grammar.proofs.Spelling.{size_of_scalar, size_of_array, size_of_table, length_of_payload, text_is_wire, payload_is_raw}
 -- outcomes: of a text, with more bytes, and that there is one
 pub use Rattle.amqp_grammar.proofs.Reading.{reading_back}
 pub use Rattle.amqp_grammar.proofs.MoreBytes.{more_bytes, more_raw_bytes}

@@ -29,11 +29,7 @@ length-spelled (number type n) = length-bytes_high_first (width_of type) n
 length-spelled (decimal scale n) = refl
 length-spelled void = refl
 
--- the text of a value has the value's size
-pub length_of_text : (v : Tree) → length (text v) ≡ size v
-length_of_text v = refl
-
--- that of a scalar is the width of its type, and one byte
+-- the text of a scalar has the width of its type, and one byte
 pub size_of_scalar : (x : Scalar) → size (scalar x) ≡ 1 + width_of (scalar_type x)
 size_of_scalar x = omega (arith, length-spelled x)
 
@@ -52,18 +48,9 @@ size_of_array v vs = omega (arith, body_size_more v vs)
 pub size_of_table : (k : List ℕ) (v : Tree) (es : Entries) → size (table (entry k v es)) ≡ 1 + length k + size v + size (table es)
 size_of_table k v es = omega (arith, pairs_size_more k v es)
 
--- the text is the id and the payload
-pub text-payload : (v : Tree) → text v ≡ id_of (type_of v) ∷ payload v
-text-payload (scalar x) = refl
-text-payload (short s) = refl
-text-payload (long s) = refl
-text-payload (octets s) = refl
-text-payload (array vs) = refl
-text-payload (table es) = refl
-
 -- the payload is one byte shorter than the text
 pub length_of_payload : (v : Tree) → length (payload v) + 1 ≡ size v
-length_of_payload v = omega (arith, length_of_text v, ap length (text-payload v))
+length_of_payload v = omega arith
 
 -- ---- values of fixed width
 
