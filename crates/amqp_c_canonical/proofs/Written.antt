@@ -4,7 +4,7 @@ use Rattle.std.proofs.lemmas.List.{take_at}
 use Rattle.amqp_grammar.specs.Values.{Tree}
 use Rattle.amqp_grammar.specs.Outcomes.{found}
 use Rattle.amqp_grammar.specs.Texts.{text}
-use Rattle.amqp_grammar.proofs.GrammarLaws.{canon_is_text, bytes_front, front_within, bounded_wire, length_of_text}
+use Rattle.amqp_grammar.proofs.GrammarLaws.{canon_is_text, bytes_front, front_within, bounded_wire}
 use Rattle.amqp_input.specs.Inputs.{IsBytes}
 use Rattle.amqp_parsing.specs.declared.errors.Err.TheVariants.{Incomplete, Error, Failure}
 use Rattle.amqp_parsing.specs.declared.errors.Needed.TheVariants.{Unknown, Size}
@@ -21,7 +21,7 @@ use Rattle.amqp_c_canonical.specs.Calls.{IsPut, HasNoRoom, IsRead, IsWritten, Is
 is_read : (l : Limits) (s rest : List ℕ) (v : Tree) → Within l s (found v rest) → IsRead l s v rest
 is_read l s rest v x =
     let f = front_within l.depth s rest v x.1 in
-    (x, omega (arith, (bounded_wire f.0 v f.1.0).size, length_of_text v, ap length f.2, length-append f.0 rest))
+    (x, omega (arith, (bounded_wire f.0 v f.1.0).size, ap length f.2, length-append f.0 rest))
 
 -- what is put is the canonical encoding of the value that was read
 pub put_value : (l : Limits) (s bytes old new rest : List ℕ) (v : Tree) (r : Result ℕ Fault) → Within l s (found v rest) → bytes ≡ text v

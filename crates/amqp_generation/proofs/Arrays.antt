@@ -6,8 +6,8 @@ use Rattle.amqp_grammar.specs.Values.{array}
 use Rattle.amqp_grammar.specs.Grammar.{long_field}
 use Rattle.amqp_value_core.specs.View.{view}
 use Rattle.amqp_value_core.specs.Containers.{trees}
-use Rattle.amqp_grammar.specs.Texts.{text, body, Fits, AllFit}
-use Rattle.amqp_grammar.proofs.GrammarLaws.{length_of_text}
+use Rattle.amqp_grammar.specs.Texts.{text, body, Fits}
+use Rattle.amqp_grammar.specs.Members.{AllFit}
 use Rattle.amqp_generation.specs.declared.error.GenError.{GenError}
 use Rattle.amqp_generation.specs.Outputs.{Seen, Writes}
 use Rattle.amqp_generation.specs.Buffers.{IsWhole, GoesBack, FillsLength}
@@ -38,4 +38,4 @@ all_put vs k s t done p =
 pub array_closed : (vs items : List AMQPValue) (k at : ℕ) {s t w : Seen} (r : Result (Unit {0}) GenError) → vs ≡ items → length vs ≤ k → at ≡ s.at → IsWhole s → HasPut vs k s t → FillsLength at t r w → Owes items s r w
 array_closed vs items k at {s = s} {t = t} {w = w} r all done place whole p f =
     let P : List AMQPValue → Type 0 = λ us. Owes us s r w in
-    subst P all (length_put (body (trees vs)) r _ at place whole (λ many fit. omega (arith, fit.0, length_of_text (array (trees vs)))) (λ few fit. (omega (arith, length_of_text (array (trees vs))), fit)) (all_put vs k s t done p) f)
+    subst P all (length_put (body (trees vs)) r _ at place whole (λ many fit. omega (arith, fit.0)) (λ few fit. (omega arith, fit)) (all_put vs k s t done p) f)

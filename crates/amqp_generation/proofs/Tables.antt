@@ -10,9 +10,9 @@ use Rattle.amqp_types.specs.Strings.{IsShort}
 use Rattle.amqp_grammar.specs.Grammar.{short_field, long_field}
 use Rattle.amqp_value_core.specs.View.{view}
 use Rattle.amqp_value_core.specs.Containers.{entries}
-use Rattle.amqp_grammar.specs.Texts.{text, pairs, Fits, EntriesFit}
+use Rattle.amqp_grammar.specs.Texts.{text, pairs, Fits}
+use Rattle.amqp_grammar.specs.Members.{EntriesFit}
 use Rattle.amqp_grammar.specs.InMemory.{IsValue, AreEntries}
-use Rattle.amqp_grammar.proofs.GrammarLaws.{length_of_text}
 use Rattle.amqp_generation.specs.declared.error.GenError.{GenError}
 use Rattle.amqp_generation.specs.Outputs.{Seen, Writes}
 use Rattle.amqp_generation.specs.Buffers.{IsWhole, GoesBack, FillsLength}
@@ -115,7 +115,7 @@ pub table_closed : {all left : Stored} (at : ℕ) {s t w : Seen} (r : Result (Un
 table_closed at {s = s} {w = w} r none place whole p f =
     let es = entries p.done in
     let P : Stored → Type 0 = λ fs. Owes fs s r w in
-    subst P (all_put none p) (length_put (pairs es) r _ at place whole (λ many fit. omega (arith, fit.0, length_of_text (table es))) (λ few fit. (omega (arith, length_of_text (table es)), fit)) p.written f)
+    subst P (all_put none p) (length_put (pairs es) r _ at place whole (λ many fit. omega (arith, fit.0)) (λ few fit. (omega arith, fit)) p.written f)
 
 -- all of them are a value, whatever comes of their length
 pub table_value : {all left from : Stored} {s t : Seen} (r : Result (Unit {0}) GenError) → left ≡ [] → from ≡ all → IsStrictlySortedBy (slice_cmp nat_cmp) (keys_of from) → HasPut all left s t → OnOk r (IsValue (table (entries all)))

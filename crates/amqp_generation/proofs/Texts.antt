@@ -4,7 +4,8 @@ use Rattle.amqp_value_core.specs.declared.value.AMQPValue.{AMQPValue}
 use Rattle.std.proofs.lemmas.List.{take_more}
 use Rattle.amqp_types.specs.declared.amqp_type.AMQPType.{AMQPType}
 use Rattle.amqp_grammar.specs.Values.{Tree, scalar, short, long, octets, array, table, type_of}
-use Rattle.amqp_grammar.specs.Texts.{payload, text, body, Fits, AllFit}
+use Rattle.amqp_grammar.specs.Texts.{payload, text, body, Fits}
+use Rattle.amqp_grammar.specs.Members.{AllFit}
 use Rattle.amqp_types.specs.Ids.{id_of}
 use Rattle.amqp_value_core.specs.View.{view}
 use Rattle.amqp_value_core.specs.Containers.{trees}

@@ -4,7 +4,7 @@ use Rattle.amqp_types.specs.declared.amqp_type.AMQPType.{AMQPType}
 use Rattle.amqp_types.specs.declared.amqp_type.AMQPType.TheVariants as amqp
 use Rattle.amqp_grammar.specs.Values.{Tree}
 use Rattle.amqp_grammar.specs.Texts.{text, Fits, payload}
-use Rattle.amqp_grammar.proofs.GrammarLaws.{bounded_wire, length_of_text, raw_bounds, what_raw_reads, length_of_payload}
+use Rattle.amqp_grammar.proofs.GrammarLaws.{bounded_wire, raw_bounds, what_raw_reads, length_of_payload}
 use Rattle.amqp_generation.specs.declared.error.GenError.{GenError}
 use Rattle.amqp_generation.specs.Outputs.{Seen, Writes}
 use Rattle.amqp_generation.specs.Written.{WritesWhatWasRead, WritesPayloadRead}
@@ -20,7 +20,7 @@ writes_what_was_read {v = v} {s = s} p = record {
   never_too_long = λ w q e. p.too_long e (bounded_wire w v q).fits;
   succeeds = λ w q.
       let bound = bounded_wire w v q in
-      in_more_room _ s.room (length (text v)) (length w) (omega (arith, bound.size, length_of_text v)) (p.succeeds bound.fits);
+      in_more_room _ s.room (length (text v)) (length w) (bound.size) (p.succeeds bound.fits);
 }
 
 -- and what writes a payload of the type, a payload that was read

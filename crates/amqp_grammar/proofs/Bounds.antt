@@ -8,10 +8,12 @@ use Rattle.std.specs.declared.cmp.Ordering.{Ordering}
 use Rattle.std.specs.declared.cmp.Ordering.TheVariants.{Less, Equal, Greater}
 use Rattle.amqp_types.specs.declared.amqp_type.AMQPType.{AMQPType}
 use Rattle.amqp_types.specs.declared.amqp_type.AMQPType.TheVariants as amqp
-use Rattle.amqp_grammar.specs.Values.{Tree, Trees, Entries, no_entries, entry, scalar_type, put, onto, depth, greatest_depth, entries_depth, count, count_all, entries_count}
+use Rattle.amqp_grammar.specs.Values.{Tree, Trees, Entries, no_entries, entry, scalar_type, put, onto, depth, count}
 use Rattle.amqp_grammar.specs.Layouts.{Layout, fixed, width_of}
 use Rattle.amqp_grammar.specs.Grammar.{Wire, wire, Raw, raw_fixed, raw_short, raw_long, raw_octets, raw_array, raw_table, Body, no_values, value, Pairs, no_pairs, pair}
-use Rattle.amqp_grammar.specs.Texts.{size, body_size, pairs_size}
+use Rattle.amqp_grammar.specs.Texts.{size}
+use Rattle.amqp_grammar.proofs.Spelling.{size_of_scalar, body_size_more, pairs_size_more}
+use Rattle.amqp_grammar.specs.Members.{greatest_depth, entries_depth, count_all, entries_count, body_size, pairs_size}
 
 -- ---- entries that are put
 
@@ -24,16 +26,16 @@ pub record Within (bytes values deep : ℕ) (es : Entries) : Type 0 where
 -- entries grow by no more than is put
 put_within : (k : List ℕ) (v : Tree) (es : Entries)
     → Within (1 + length k + (size v + pairs_size es)) (count v + entries_count es) (max (depth v) (entries_depth es)) (put k v es)
-put_within k v no_entries = record { size = omega arith; count = omega arith; depth = omega arith }
+put_within k v no_entries = record { size = omega (arith, pairs_size_more k v no_entries); count = omega arith; depth = omega arith }
 put_within k v (entry j u es) = by (slice_cmp nat_cmp k j) (put_within k v es)
   where
     by : (o : Ordering)
         → Within (1 + length k + (size v + pairs_size es)) (count v + entries_count es) (max (depth v) (entries_depth es)) (put k v es)
         → Within (1 + length k + (size v + pairs_size (entry j u es))) (count v + entries_count (entry j u es)) (max (depth v) (entries_depth (entry j u es)))
         (match_ordering o (entry k v (entry j u es)) (entry j v es) (entry j u (put k v es)))
-    by Less inner = record { size = omega arith; count = omega arith; depth = omega arith }
-    by Equal inner = record { size = omega arith; count = omega arith; depth = omega arith }
-    by Greater inner = record { size = omega arith; count = omega arith; depth = omega arith }
+    by Less inner = record { size = omega (arith, pairs_size_more k v (entry j u es)); count = omega arith; depth = omega arith }
+    by Equal inner = record { size = omega (arith, pairs_size_more j v es, pairs_size_more j u es); count = omega arith; depth = omega arith }
+    by Greater inner = record { size = omega (arith, inner.size, pairs_size_more j u (put k v es), pairs_size_more j u es); count = omega arith; depth = omega arith }
 
 -- so they do where pairs are put one after another
 pub onto_within : (ps es : Entries)
@@ -42,7 +44,7 @@ onto_within no_entries es = record { size = omega arith; count = omega arith; de
 onto_within (entry k v ps) es =
     let first = put_within k v es in
     let all = onto_within ps (put k v es) in
-    record { size = omega (arith, first.size, all.size); count = omega (arith, first.count, all.count); depth = omega (arith, first.depth, all.depth) }
+    record { size = omega (arith, pairs_size_more k v ps, first.size, all.size); count = omega (arith, first.count, all.count); depth = omega (arith, first.depth, all.depth) }
 
 -- ---- values of fixed width
 
@@ -77,7 +79,7 @@ mutual
   -- and a payload one byte less
   raw_bounded : (type : AMQPType) (b : List ℕ) (v : Tree) → Raw type b v → Bounded (suc (length b)) (size v) (count v) (depth v)
   raw_bounded _ _ _ (raw_fixed type f b row len) =
-      record { size = omega (arith, row_wide type f b row); count = omega arith; depth = omega arith }
+      record { size = omega (arith, size_of_scalar (f.denotes b), row_wide type f b row); count = omega arith; depth = omega arith }
   raw_bounded _ _ _ (raw_short s is) = record { size = omega arith; count = omega arith; depth = omega arith }
   raw_bounded _ _ _ (raw_long s fits) = record { size = omega arith; count = omega arith; depth = omega arith }
   raw_bounded _ _ _ (raw_octets s fits) = record { size = omega arith; count = omega arith; depth = omega arith }
@@ -101,7 +103,7 @@ mutual
       let others = body_bounded more vs all in
       let long = length-append w more in
       record {
-        size = omega (arith, long, first.size, others.size);
+        size = omega (arith, body_size_more v vs, long, first.size, others.size);
         count = omega (arith, long, first.count, others.count);
         depth = omega (arith, long, first.depth, others.depth);
       }
@@ -115,7 +117,7 @@ mutual
       let key = length-append k (w ++ more) in
       let long = length-append w more in
       record {
-        size = omega (arith, key, long, first.size, others.size);
+        size = omega (arith, pairs_size_more k v ps, key, long, first.size, others.size);
         count = omega (arith, key, long, first.count, others.count);
         depth = omega (arith, key, long, first.depth, others.depth);
       }

@@ -4,7 +4,7 @@
 -- one reading for each list
 pub use Rattle.amqp_grammar.proofs.Unique.{one_reading, one_raw_reading, one_body_meaning, one_pairs_meaning}
 -- texts: their length, and that they are wires
-pub use Rattle.amqp_grammar.proofs.Spelling.{length_of_text, length_of_payload, text_is_wire, payload_is_raw}
+pub use Rattle.amqp_grammar.proofs.Spelling.{size_of_scalar, size_of_array, size_of_table, length_of_payload, text_is_wire, payload_is_raw}
 -- outcomes: of a text, with more bytes, and that there is one
 pub use Rattle.amqp_grammar.proofs.Reading.{reading_back}
 pub use Rattle.amqp_grammar.proofs.MoreBytes.{more_bytes, more_raw_bytes}
@@ -19,7 +19,7 @@ pub use Rattle.amqp_grammar.proofs.Tables.{put_found, put_other, key_has_value, 
 pub use Rattle.amqp_grammar.proofs.Bounds.{bounds, raw_bounds}
 pub use Rattle.amqp_grammar.proofs.Shortest.{what_is_read, what_raw_reads, read_is_value, raw_value, shortest, same_text_same_value}
 -- canonical wires: each is a wire and, of bytes, the text
-pub use Rattle.amqp_grammar.proofs.Canons.{canon_is_wire, canon_fits, canon_is_text}
+pub use Rattle.amqp_grammar.proofs.Canons.{canon_is_wire, canon_fits, canon_is_text, canonical_wire, canon, canon_array, canon_table, canon_value, canon_pair, canon_rises}
 pub use Rattle.amqp_grammar.proofs.TextCanon.{text_is_canon, is_canonical}
 -- the words of the headline
 pub use Rattle.amqp_grammar.proofs.Headlines.{found_front, bounded_wire, bounded_found, is_shortest, tells_apart}

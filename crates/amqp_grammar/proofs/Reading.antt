@@ -1,15 +1,16 @@
 -- Reading back: the text of a value is read as that value, where it is readable.
-use Rattle.std.proofs.Common.{◌≡◌, ◌<◌, ◌≤◌, ◌^◌, ℕ, suc, subst, List, [], ◌∷◌, ◌++◌, length, drop, Some, None, Bool, true, false, refl, sym, ap, ◌∙◌, arith, IsTrue, if◌then◌else◌}
+use Rattle.std.proofs.Common.{◌≡◌, ◌<◌, ◌≤◌, ◌^◌, ℕ, suc, subst, List, [], ◌∷◌, ◌++◌, length, drop, Some, None, Bool, true, false, refl, sym, ap, ◌∙◌, IsTrue, if◌then◌else◌}
 use Rattle.std.specs.Int.{w32}
 use Rattle.std.proofs.lemmas.Bool.{and_from, both_ways}
 use Rattle.amqp_types.specs.declared.amqp_type.AMQPType.{AMQPType}
 use Rattle.amqp_types.specs.declared.amqp_type.AMQPType.TheVariants as amqp
-use Rattle.amqp_grammar.specs.Values.{Tree, scalar, short, long, octets, array, table, Trees, no_trees, tree, Entries, no_entries, entry, readable, all_readable, entries_readable}
+use Rattle.amqp_grammar.specs.Values.{Tree, scalar, short, long, octets, array, table, Trees, no_trees, tree, Entries, no_entries, entry, readable}
 use Rattle.amqp_types.specs.Ids.{kind, id_of}
 use Rattle.amqp_types.specs.Strings.{IsShort}
 use Rattle.amqp_grammar.specs.Grammar.{short_field, long_field, Wire, wire, Raw, raw_fixed, raw_short, raw_array, raw_table, Body, no_values, value, Pairs, no_pairs, pair}
 use Rattle.amqp_grammar.specs.Nesting.{raw_nesting, body_nesting, pairs_nesting}
-use Rattle.amqp_grammar.specs.Texts.{text, body, pairs, Fits, AllFit, EntriesFit}
+use Rattle.amqp_grammar.specs.Texts.{text, body, pairs, Fits}
+use Rattle.amqp_grammar.specs.Members.{all_readable, entries_readable, AllFit, EntriesFit}
 use Rattle.amqp_grammar.specs.InMemory.{IsValue, AreValues, AreEntries}
 use Rattle.amqp_grammar.specs.Readings.{unread, read_back}
 use Rattle.amqp_grammar.specs.Outcomes.{counted, found, malformed, lack, Outcome}
@@ -18,7 +19,7 @@ use Rattle.amqp_grammar.proofs.Fronts.{same_fronts}
 use Rattle.amqp_grammar.proofs.Headers.{counted-long_field, lack_of-long_field}
 use Rattle.amqp_grammar.proofs.Unique.{one_front, one_key}
 use Rattle.amqp_grammar.proofs.Outcomes.{raw_of_wire, raw_whole, raw_to_value, wire_found}
-use Rattle.amqp_grammar.proofs.Spelling.{length_of_body, length_of_pairs, text_is_wire}
+use Rattle.amqp_grammar.proofs.Spelling.{text_is_wire}
 
 -- two lists behind their lengths, at the front of one list, are one
 one_large : (s t x y : List ℕ) → length s < 2 ^ 32 → length t < 2 ^ 32 → long_field s ++ x ≡ long_field t ++ y → (s ≡ t) × (x ≡ y)
@@ -87,11 +88,11 @@ mutual
   text_readable (octets s) x w y z is fits p e = refl
   text_readable (array vs) x w y z is fits p e =
       let r = raw_of_wire (id_of amqp.FieldArray) amqp.FieldArray (long_field (body vs) ++ x) w y z refl p e in
-      let b = array_body (body vs) x r.0 y z (omega (arith, fits.0, length_of_body vs)) r.1 r.2 in
+      let b = array_body (body vs) x r.0 y z fits.0 r.1 r.2 in
       body_readable vs (body vs) b.0 is fits.1 b.1 refl
   text_readable (table es) x w y z is fits p e =
       let r = raw_of_wire (id_of amqp.FieldTable) amqp.FieldTable (long_field (pairs es) ++ x) w y z refl p e in
-      let b = table_body (pairs es) x r.0 y z (omega (arith, fits.0, length_of_pairs es)) r.1 r.2 in
+      let b = table_body (pairs es) x r.0 y z fits.0 r.1 r.2 in
       pairs_readable es (pairs es) b.0 is fits.1 b.1 refl
 
   -- and so are values whose joined texts are an array's body
@@ -116,13 +117,13 @@ mutual
 -- where a value of an array is not readable, no front is a payload of an array
 no_array : (vs : Trees) (rest : List ℕ) → AreValues vs → Fits (array vs) → all_readable vs ≡ false → RawFront amqp.FieldArray (long_field (body vs) ++ rest) malformed
 no_array vs rest is fits r b y z p e =
-    let found = array_body (body vs) rest b y z (omega (arith, fits.0, length_of_body vs)) p e in
+    let found = array_body (body vs) rest b y z fits.0 p e in
     both_ways (all_readable vs) r (body_readable vs (body vs) found.0 is fits.1 found.1 refl)
 
 -- where a value of a table is not readable, no front is a payload of a table
 no_table : (es : Entries) (rest : List ℕ) → AreEntries es → Fits (table es) → entries_readable es ≡ false → RawFront amqp.FieldTable (long_field (pairs es) ++ rest) malformed
 no_table es rest are fits r b y z p e =
-    let found = table_body (pairs es) rest b y z (omega (arith, fits.0, length_of_pairs es)) p e in
+    let found = table_body (pairs es) rest b y z fits.0 p e in
     both_ways (entries_readable es) r (pairs_readable es (pairs es) found.0 are fits.1 found.1 refl)
 
 -- a whole frame behind an id is malformed, where no front of it is a payload
@@ -138,9 +139,9 @@ unreadable (short s) rest is fits r = refl
 unreadable (long s) rest is fits r = absurd cc
 unreadable (octets s) rest is fits r = absurd cc
 unreadable (array vs) rest is fits r =
-    malformed_frame amqp.FieldArray (body vs) rest refl (lack_of-long_field (body vs) rest (omega (arith, fits.0, length_of_body vs))) (no_array vs rest is fits r)
+    malformed_frame amqp.FieldArray (body vs) rest refl (lack_of-long_field (body vs) rest fits.0) (no_array vs rest is fits r)
 unreadable (table es) rest is fits r =
-    malformed_frame amqp.FieldTable (pairs es) rest refl (lack_of-long_field (pairs es) rest (omega (arith, fits.0, length_of_pairs es))) (no_table es rest is fits r)
+    malformed_frame amqp.FieldTable (pairs es) rest refl (lack_of-long_field (pairs es) rest fits.0) (no_table es rest is fits r)
 
 -- the text of a value, with `rest` behind it, is read as that value, or refused where it is not
 -- readable

@@ -6,21 +6,22 @@ use Rattle.std.specs.Int.{w32, to_be_bytes}
 use Rattle.std.proofs.lemmas.Bool.{and_from}
 use Rattle.amqp_types.specs.declared.amqp_type.AMQPType.{AMQPType}
 use Rattle.amqp_types.specs.declared.amqp_type.AMQPType.TheVariants as amqp
-use Rattle.amqp_grammar.specs.Values.{Tree, Trees, Entries, no_entries, entry, onto, readable, all_readable, entries_readable}
+use Rattle.amqp_grammar.specs.Values.{Tree, Trees, Entries, no_entries, entry, onto, readable}
 use Rattle.amqp_types.specs.Ids.{kind}
 use Rattle.amqp_types.specs.Names.{read_as}
 use Rattle.amqp_types.proofs.Ids.{kind_read}
 use Rattle.amqp_grammar.specs.Layouts.{Layout, fixed}
 use Rattle.amqp_types.specs.Strings.{IsShort}
 use Rattle.amqp_grammar.specs.Grammar.{short_field, Wire, wire, Raw, raw_fixed, raw_short, raw_long, raw_octets, raw_array, raw_table, Body, no_values, value, Pairs, no_pairs, pair}
-use Rattle.amqp_grammar.specs.Texts.{text, Fits, AllFit, EntriesFit}
+use Rattle.amqp_grammar.specs.Texts.{text, Fits}
+use Rattle.amqp_grammar.specs.Members.{all_readable, entries_readable, AllFit, EntriesFit}
 use Rattle.amqp_grammar.specs.InMemory.{IsScalar, IsValue, AreValues, AreEntries}
 use Rattle.amqp_input.specs.Inputs.{IsBytes}
 use Rattle.amqp_grammar.specs.Maps.{IsRising}
 use Rattle.amqp_input.proofs.Bytes.{bytes_front, bytes_behind, bytes_take, bytes_drop, below_1, below_2, below_4, below_8}
 use Rattle.amqp_grammar.proofs.Tables.{Each, each-onto, pairs_rise}
 use Rattle.amqp_grammar.proofs.Unique.{one_meaning}
-use Rattle.amqp_grammar.proofs.Spelling.{length_of_text, text_is_wire}
+use Rattle.amqp_grammar.proofs.Spelling.{text_is_wire}
 use Rattle.amqp_grammar.proofs.Bounds.{bounds, array_size, table_size}
 
 -- ---- what is read fits its fields, and is readable
@@ -152,7 +153,7 @@ read_is_value w v bytes p = wire_value w v bytes p
 pub shortest : (w : List ℕ) (v : Tree) → IsBytes w → Wire w v → Wire (text v) v × (length (text v) ≤ length w)
 shortest w v bytes p =
     let is = wire_written w v p in
-    (text_is_wire v (wire_value w v bytes p) is.fits is.reads, omega (arith, length_of_text v, (bounds w v p).0))
+    (text_is_wire v (wire_value w v bytes p) is.fits is.reads, (bounds w v p).0)
 
 -- and is the text of no other
 pub same_text_same_value : (w u : List ℕ) (v z : Tree) → Wire w v → Wire u z → IsBytes w → IsBytes u → text v ≡ text z → v ≡ z

@@ -5,8 +5,9 @@ use Rattle.std.proofs.lemmas.Bool.{and_parts}
 use Rattle.std.proofs.lemmas.Nat.{from_be_bytes-to_be_bytes_2, from_be_bytes-to_be_bytes_4, from_be_bytes-to_be_bytes_8}
 use Rattle.amqp_types.specs.declared.amqp_type.AMQPType.{AMQPType}
 use Rattle.amqp_types.specs.declared.amqp_type.AMQPType.TheVariants as amqp
-use Rattle.amqp_grammar.specs.Values.{Scalar, boolean, number, decimal, void, Tree, scalar, short, long, octets, array, table, Trees, no_trees, tree, Entries, no_entries, entry, scalar_type, readable, all_readable, entries_readable, type_of}
-use Rattle.amqp_grammar.specs.Texts.{payload, text, body, pairs, size, body_size, pairs_size, Fits, AllFit, EntriesFit}
+use Rattle.amqp_grammar.specs.Values.{Scalar, boolean, number, decimal, void, Tree, scalar, short, long, octets, array, table, Trees, no_trees, tree, Entries, no_entries, entry, scalar_type, readable, type_of}
+use Rattle.amqp_grammar.specs.Texts.{payload, text, body, pairs, size, Fits}
+use Rattle.amqp_grammar.specs.Members.{all_readable, entries_readable, body_size, pairs_size, AllFit, EntriesFit}
 use Rattle.amqp_types.specs.Ids.{kind, id_of}
 use Rattle.amqp_grammar.specs.Layouts.{Layout, fixed, width_of, spelled}
 use Rattle.amqp_grammar.specs.Grammar.{long_field, Wire, wire, Raw, raw_fixed, raw_long, raw_octets, raw_array, raw_table, Body, no_values, value, Pairs, no_pairs, pair}
@@ -28,38 +29,28 @@ length-spelled (number type n) = length-bytes_high_first (width_of type) n
 length-spelled (decimal scale n) = refl
 length-spelled void = refl
 
-mutual
-  -- the text of a value has the value's size
-  pub length_of_text : (v : Tree) → length (text v) ≡ size v
-  length_of_text (scalar x) = omega (arith, length-spelled x)
-  length_of_text (short s) = omega arith
-  length_of_text (long s) = omega arith
-  length_of_text (octets s) = omega arith
-  length_of_text (array vs) = omega (arith, length_of_body vs)
-  length_of_text (table es) = omega (arith, length_of_pairs es)
+-- the text of a scalar has the width of its type, and one byte
+pub size_of_scalar : (x : Scalar) → size (scalar x) ≡ 1 + width_of (scalar_type x)
+size_of_scalar x = omega (arith, length-spelled x)
 
-  -- and so have texts that are joined
-  pub length_of_body : (vs : Trees) → length (body vs) ≡ body_size vs
-  length_of_body no_trees = refl
-  length_of_body (tree v vs) = omega (arith, length-append (text v) (body vs), length_of_text v, length_of_body vs)
+-- values that are joined have their sizes together
+pub body_size_more : (v : Tree) (vs : Trees) → body_size (tree v vs) ≡ size v + body_size vs
+body_size_more v vs = length-append (text v) (body vs)
 
-  -- with keys before them too
-  pub length_of_pairs : (es : Entries) → length (pairs es) ≡ pairs_size es
-  length_of_pairs no_entries = refl
-  length_of_pairs (entry k v es) = omega (arith, length-append k (text v ++ pairs es), length-append (text v) (pairs es), length_of_text v, length_of_pairs es)
+-- and pairs, with a key's length and its bytes
+pub pairs_size_more : (k : List ℕ) (v : Tree) (es : Entries) → pairs_size (entry k v es) ≡ 1 + length k + (size v + pairs_size es)
+pairs_size_more k v es = omega (arith, length-append k (text v ++ pairs es), length-append (text v) (pairs es))
 
--- the text is the id and the payload
-pub text-payload : (v : Tree) → text v ≡ id_of (type_of v) ∷ payload v
-text-payload (scalar x) = refl
-text-payload (short s) = refl
-text-payload (long s) = refl
-text-payload (octets s) = refl
-text-payload (array vs) = refl
-text-payload (table es) = refl
+-- so an array and a table take more by what each value takes
+pub size_of_array : (v : Tree) (vs : Trees) → size (array (tree v vs)) ≡ size v + size (array vs)
+size_of_array v vs = omega (arith, body_size_more v vs)
+
+pub size_of_table : (k : List ℕ) (v : Tree) (es : Entries) → size (table (entry k v es)) ≡ 1 + length k + size v + size (table es)
+size_of_table k v es = omega (arith, pairs_size_more k v es)
 
 -- the payload is one byte shorter than the text
 pub length_of_payload : (v : Tree) → length (payload v) + 1 ≡ size v
-length_of_payload v = omega (arith, length_of_text v, ap length (text-payload v))
+length_of_payload v = omega arith
 
 -- ---- values of fixed width
 
@@ -122,10 +113,10 @@ mutual
   text_is_wire (octets s) is fits r = wire (id_of amqp.ByteArray) amqp.ByteArray (long_field s) (octets s) refl (raw_octets s fits)
   text_is_wire (array vs) is fits r =
       wire (id_of amqp.FieldArray) amqp.FieldArray (long_field (body vs)) (array vs) refl
-      (raw_array (body vs) vs (omega (arith, fits.0, length_of_body vs)) (texts_are_body vs is fits.1 r))
+      (raw_array (body vs) vs fits.0 (texts_are_body vs is fits.1 r))
   text_is_wire (table es) is fits r =
       wire (id_of amqp.FieldTable) amqp.FieldTable (long_field (pairs es)) (table es) refl
-      (rising_raw (pairs es) es is (omega (arith, fits.0, length_of_pairs es)) (texts_are_pairs es is fits.1 r))
+      (rising_raw (pairs es) es is fits.0 (texts_are_pairs es is fits.1 r))
 
   -- texts that are joined are an array's body
   pub texts_are_body : (vs : Trees) → AreValues vs → AllFit vs → IsTrue (all_readable vs) → Body (body vs) vs
@@ -147,5 +138,5 @@ payload_is_raw (scalar x) is fits r = scalar_raw x is
 payload_is_raw (short s) is fits r = absurd cc
 payload_is_raw (long s) is fits r = raw_long s fits
 payload_is_raw (octets s) is fits r = raw_octets s fits
-payload_is_raw (array vs) is fits r = raw_array (body vs) vs (omega (arith, fits.0, length_of_body vs)) (texts_are_body vs is fits.1 r)
-payload_is_raw (table es) is fits r = rising_raw (pairs es) es is (omega (arith, fits.0, length_of_pairs es)) (texts_are_pairs es is fits.1 r)
+payload_is_raw (array vs) is fits r = raw_array (body vs) vs fits.0 (texts_are_body vs is fits.1 r)
+payload_is_raw (table es) is fits r = rising_raw (pairs es) es is fits.0 (texts_are_pairs es is fits.1 r)

@@ -4,16 +4,18 @@ use Rattle.std.specs.Int.{bytes_high_first}
 use Rattle.std.proofs.lemmas.Bool.{and_parts}
 use Rattle.amqp_types.specs.declared.amqp_type.AMQPType.{AMQPType}
 use Rattle.amqp_types.specs.declared.amqp_type.AMQPType.TheVariants as amqp
-use Rattle.amqp_grammar.specs.Values.{Scalar, boolean, number, decimal, void, Tree, scalar, short, long, octets, array, table, Trees, no_trees, tree, Entries, no_entries, entry, scalar_type, readable, all_readable, entries_readable}
+use Rattle.amqp_grammar.specs.Values.{Scalar, boolean, number, decimal, void, Tree, scalar, short, long, octets, array, table, Trees, no_trees, tree, Entries, no_entries, entry, scalar_type, readable}
 use Rattle.amqp_types.specs.Ids.{id_of}
 use Rattle.amqp_grammar.specs.Layouts.{width_of, spelled}
-use Rattle.amqp_grammar.specs.Grammar.{long_field}
-use Rattle.amqp_grammar.specs.Texts.{text, body, pairs, Fits, AllFit, EntriesFit}
+use Rattle.amqp_grammar.specs.Grammar.{long_field, raw_fixed, raw_long, raw_octets, no_values, no_pairs}
+use Rattle.amqp_grammar.specs.Texts.{text, body, pairs, Fits}
+use Rattle.amqp_grammar.specs.Members.{all_readable, entries_readable, AllFit, EntriesFit, CanonBody, CanonPairs}
 use Rattle.amqp_grammar.specs.InMemory.{IsNumber, IsScalar, IsValue, AreValues, AreEntries}
-use Rattle.amqp_grammar.specs.Canonical.{IsStrict, Canon, canon, CanonRaw, canon_fixed, canon_long, canon_octets, canon_array, canon_table, CanonBody, no_canon_values, canon_value, CanonPairs, no_canon_pairs, canon_pair}
+use Rattle.amqp_grammar.specs.Canonical.{IsStrict, Canon}
+use Rattle.amqp_grammar.specs.Payloads.{CanonRaw}
 use Rattle.amqp_grammar.specs.Headline.{IsCanonical}
-use Rattle.amqp_grammar.proofs.Spelling.{length_of_body, length_of_pairs, scalar_spelled}
-use Rattle.amqp_grammar.proofs.Canons.{canon_is_text, canon_fits}
+use Rattle.amqp_grammar.proofs.Spelling.{scalar_spelled}
+use Rattle.amqp_grammar.proofs.Canons.{canon, canon_array, canon_table, canon_value, canon_pair, canon_is_text, canon_fits}
 
 -- no id that is written is a second spelling
 not_U : (type : AMQPType) → id_of type ≢ 85
@@ -42,7 +44,7 @@ spelled_canon : (x : Scalar) → IsScalar x → CanonRaw (scalar_type x) (spelle
 spelled_canon x is =
     let s = scalar_spelled x is in
     subst (λ (y : Scalar). CanonRaw (scalar_type x) (spelled x) (scalar y)) s.means
-    (canon_fixed (scalar_type x) s.layout (spelled x) s.row s.width (spelled_strict x is))
+    (raw_fixed (scalar_type x) s.layout (spelled x) s.row s.width, spelled_strict x is)
 
 mutual
   -- the text of a value is a canonical wire of it
@@ -51,26 +53,26 @@ mutual
       canon (id_of (scalar_type x)) (scalar_type x) (spelled x) (scalar x) (scalar_spelled x is).id (not_U (scalar_type x)) (not_L (scalar_type x)) (spelled_canon x is)
   text_is_canon (short s) is fits r = absurd cc
   text_is_canon (long s) is fits r =
-      canon (id_of amqp.LongString) amqp.LongString (long_field s) (long s) refl (not_U amqp.LongString) (not_L amqp.LongString) (canon_long s fits)
+      canon (id_of amqp.LongString) amqp.LongString (long_field s) (long s) refl (not_U amqp.LongString) (not_L amqp.LongString) (raw_long s fits, tt)
   text_is_canon (octets s) is fits r =
-      canon (id_of amqp.ByteArray) amqp.ByteArray (long_field s) (octets s) refl (not_U amqp.ByteArray) (not_L amqp.ByteArray) (canon_octets s fits)
+      canon (id_of amqp.ByteArray) amqp.ByteArray (long_field s) (octets s) refl (not_U amqp.ByteArray) (not_L amqp.ByteArray) (raw_octets s fits, tt)
   text_is_canon (array vs) is fits r =
       canon (id_of amqp.FieldArray) amqp.FieldArray (long_field (body vs)) (array vs) refl (not_U amqp.FieldArray) (not_L amqp.FieldArray)
-      (canon_array (body vs) vs (omega (arith, fits.0, length_of_body vs)) (texts_are_canon vs is fits.1 r))
+      (canon_array (body vs) vs fits.0 (texts_are_canon vs is fits.1 r))
   text_is_canon (table es) is fits r =
       canon (id_of amqp.FieldTable) amqp.FieldTable (long_field (pairs es)) (table es) refl (not_U amqp.FieldTable) (not_L amqp.FieldTable)
-      (canon_table (pairs es) es (omega (arith, fits.0, length_of_pairs es)) (keyed_are_canon es is fits.1 r))
+      (canon_table (pairs es) es fits.0 (keyed_are_canon es is fits.1 r))
 
   -- texts that are joined are canonical wires one after another
   texts_are_canon : (vs : Trees) → AreValues vs → AllFit vs → IsTrue (all_readable vs) → CanonBody (body vs) vs
-  texts_are_canon no_trees is fits r = no_canon_values
+  texts_are_canon no_trees is fits r = (no_values, tt)
   texts_are_canon (tree v vs) is fits r =
       let both = and_parts (readable v) (all_readable vs) r in
       canon_value (text v) (body vs) v vs (text_is_canon v is.0 fits.0 both.0) (texts_are_canon vs is.1 fits.1 both.1)
 
   -- with keys before them they are canonical pairs
   keyed_are_canon : (es : Entries) → AreEntries es → EntriesFit es → IsTrue (entries_readable es) → CanonPairs (pairs es) es
-  keyed_are_canon no_entries are fits r = no_canon_pairs
+  keyed_are_canon no_entries are fits r = (no_pairs, tt)
   keyed_are_canon (entry k v es) are fits r =
       let both = and_parts (readable v) (entries_readable es) r in
       canon_pair k (text v) (pairs es) v es are.0 (text_is_canon v are.1 fits.0 both.0) are.2 (keyed_are_canon es are.3 fits.1 both.1)

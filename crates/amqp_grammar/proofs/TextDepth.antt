@@ -1,20 +1,21 @@
 -- How deep a text nests: as deep as its value, which is no deeper than any wire of it.
-use Rattle.std.proofs.Common.{◌≡◌, ◌≤◌, ℕ, suc, List, ◌∷◌, refl, subst, arith, IsTrue}
+use Rattle.std.proofs.Common.{◌≡◌, ◌≤◌, ◌+◌, ℕ, List, ◌∷◌, refl, subst, arith, IsTrue}
 use Rattle.std.proofs.lemmas.Bool.{and_parts}
 use Rattle.amqp_types.specs.declared.amqp_type.AMQPType.{AMQPType}
 use Rattle.amqp_types.specs.declared.amqp_type.AMQPType.TheVariants as amqp
-use Rattle.amqp_grammar.specs.Values.{Scalar, Tree, scalar, short, long, octets, array, table, Trees, no_trees, tree, Entries, no_entries, entry, scalar_type, onto, depth, greatest_depth, entries_depth, readable, all_readable, entries_readable}
+use Rattle.amqp_grammar.specs.Values.{Scalar, Tree, scalar, short, long, octets, array, table, Trees, no_trees, tree, Entries, no_entries, entry, scalar_type, onto, depth, readable}
 use Rattle.amqp_types.specs.Ids.{id_of}
 use Rattle.amqp_grammar.specs.Layouts.{spelled}
 use Rattle.amqp_grammar.specs.Grammar.{long_field, Wire, wire, Raw, raw_fixed, raw_short, raw_long, raw_octets, raw_array, raw_table, Body, no_values, value, Pairs, no_pairs, pair}
 use Rattle.amqp_grammar.specs.Nesting.{nesting, raw_nesting, body_nesting, pairs_nesting, WireWithin, BodyWithin, PairsWithin}
 use Rattle.amqp_input.specs.Inputs.{IsBytes}
 use Rattle.amqp_grammar.proofs.Shortest.{what_is_read, read_is_value}
-use Rattle.amqp_grammar.specs.Texts.{text, body, pairs, Fits, AllFit, EntriesFit}
+use Rattle.amqp_grammar.specs.Texts.{text, body, pairs, Fits}
+use Rattle.amqp_grammar.specs.Members.{greatest_depth, entries_depth, all_readable, entries_readable, AllFit, EntriesFit}
 use Rattle.amqp_grammar.specs.InMemory.{IsValue, AreValues, AreEntries}
 use Rattle.amqp_grammar.proofs.Bounds.{onto_within}
 use Rattle.amqp_grammar.proofs.Tables.{onto-rising}
-use Rattle.amqp_grammar.proofs.Spelling.{length_of_body, length_of_pairs, scalar_spelled, scalar_raw}
+use Rattle.amqp_grammar.proofs.Spelling.{scalar_spelled, scalar_raw}
 
 mutual
   -- a value is no deeper than a wire of it
@@ -57,11 +58,11 @@ mutual
   text_within (octets s) is fits r = (wire (id_of amqp.ByteArray) amqp.ByteArray (long_field s) (octets s) refl (raw_octets s fits), omega arith)
   text_within (array vs) is fits r =
       let q = texts_within vs is fits.1 r in
-      (wire (id_of amqp.FieldArray) amqp.FieldArray (long_field (body vs)) (array vs) refl (raw_array (body vs) vs (omega (arith, fits.0, length_of_body vs)) q.0), omega (arith, q.1))
+      (wire (id_of amqp.FieldArray) amqp.FieldArray (long_field (body vs)) (array vs) refl (raw_array (body vs) vs fits.0 q.0), omega (arith, q.1))
   text_within (table es) is fits r =
       let q = pairs_within es is fits.1 r in
-      subst (λ (fs : Entries). WireWithin (suc (entries_depth es)) (id_of amqp.FieldTable ∷ long_field (pairs es)) (table fs)) (onto-rising es is)
-      (wire (id_of amqp.FieldTable) amqp.FieldTable (long_field (pairs es)) (table (onto no_entries es)) refl (raw_table (pairs es) es (omega (arith, fits.0, length_of_pairs es)) q.0), omega (arith, q.1))
+      subst (λ (fs : Entries). WireWithin (1 + entries_depth es) (id_of amqp.FieldTable ∷ long_field (pairs es)) (table fs)) (onto-rising es is)
+      (wire (id_of amqp.FieldTable) amqp.FieldTable (long_field (pairs es)) (table (onto no_entries es)) refl (raw_table (pairs es) es fits.0 q.0), omega (arith, q.1))
 
   pub texts_within : (vs : Trees) → AreValues vs → AllFit vs → IsTrue (all_readable vs) → BodyWithin (greatest_depth vs) (body vs) vs
   texts_within no_trees is fits r = (no_values, omega arith)

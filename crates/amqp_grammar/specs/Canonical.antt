@@ -1,40 +1,36 @@
 -- Canonical encodings: those that are told by their bytes alone as the ones that are written. No
 -- second spelling of a type tag, a boolean's byte is 0 or 1, and each key of a table stands above
 -- the one before it.
-use Rattle.std.specs.Prelude.{ℕ, ◌^◌, ◌<◌, ◌≡◌, ◌≢◌, Some, List, [], ◌∷◌, ◌++◌, length}
+use Rattle.std.specs.Prelude.{ℕ, ◌<◌, ◌≢◌, List, ◌∷◌}
 use Rattle.amqp_types.specs.declared.amqp_type.AMQPType.{AMQPType}
 use Rattle.amqp_types.specs.declared.amqp_type.AMQPType.TheVariants as amqp
-use Rattle.amqp_grammar.specs.Values.{Tree, scalar, long, octets, array, table, Trees, no_trees, tree, Entries, no_entries, entry, ComesBefore}
-use Rattle.amqp_types.specs.Ids.{kind}
-use Rattle.amqp_grammar.specs.Layouts.{Layout, fixed}
-use Rattle.amqp_types.specs.Strings.{IsShort}
-use Rattle.amqp_grammar.specs.Grammar.{short_field, long_field}
+use Rattle.amqp_grammar.specs.Values.{Tree, Trees, Entries, ComesBefore}
+use Rattle.amqp_grammar.specs.Grammar.{Wire, Raw, Body, Pairs, wire, raw_fixed, raw_array, raw_table, no_values, value, no_pairs, pair}
 
 -- the byte of a boolean is 0 or 1
 abbrev pub IsStrict : AMQPType → List ℕ → Type 0
 IsStrict amqp.Boolean (c ∷ b) = c < 2
 IsStrict _ b = Unit {0}
 
-mutual
-  -- w is the canonical encoding of v
-  pub data Canon : List ℕ → Tree → Type 0 where
-    canon : (c : ℕ) → (type : AMQPType) → (b : List ℕ) → (v : Tree) → kind c ≡ Some type → c ≢ 85 → c ≢ 76 → CanonRaw type b v → Canon (c ∷ b) v
+-- an encoding is canonical: by each type tag, by each boolean, and by each key with the one after it
+abbrev mutual
+  pub IsCanon : (w : List ℕ) (v : Tree) → Wire w v → Type 0
+  IsCanon _ _ (wire c type b v is raw) = (c ≢ 85) × (c ≢ 76) × IsCanonRaw type b v raw
 
-  -- b is the payload in a canonical encoding
-  pub data CanonRaw : AMQPType → List ℕ → Tree → Type 0 where
-    canon_fixed : (type : AMQPType) → (f : Layout) → (b : List ℕ) → fixed type ≡ Some f → length b ≡ f.width → IsStrict type b → CanonRaw type b (scalar (f.denotes b))
-    canon_long : (s : List ℕ) → length s < 2 ^ 32 → CanonRaw amqp.LongString (long_field s) (long s)
-    canon_octets : (s : List ℕ) → length s < 2 ^ 32 → CanonRaw amqp.ByteArray (long_field s) (octets s)
-    canon_array : (body : List ℕ) → (vs : Trees) → length body < 2 ^ 32 → CanonBody body vs → CanonRaw amqp.FieldArray (long_field body) (array vs)
-    -- the keys rise, so the entries are the pairs that are written
-    canon_table : (body : List ℕ) → (es : Entries) → length body < 2 ^ 32 → CanonPairs body es → CanonRaw amqp.FieldTable (long_field body) (table es)
+  pub IsCanonRaw : (type : AMQPType) (b : List ℕ) (v : Tree) → Raw type b v → Type 0
+  IsCanonRaw _ _ _ (raw_fixed type f b is wide) = IsStrict type b
+  IsCanonRaw _ _ _ (raw_array body vs fits all) = IsCanonBody body vs all
+  IsCanonRaw _ _ _ (raw_table body ps fits all) = IsCanonPairs body ps all
+  IsCanonRaw _ _ _ _ = Unit {0}
 
-  -- canonical encodings of these values, one after another
-  pub data CanonBody : List ℕ → Trees → Type 0 where
-    no_canon_values : CanonBody [] no_trees
-    canon_value : (w : List ℕ) → (rest : List ℕ) → (v : Tree) → (vs : Trees) → Canon w v → CanonBody rest vs → CanonBody (w ++ rest) (tree v vs)
+  pub IsCanonBody : (body : List ℕ) (vs : Trees) → Body body vs → Type 0
+  IsCanonBody _ _ no_values = Unit {0}
+  IsCanonBody _ _ (value w rest v vs first others) = IsCanon w v first × IsCanonBody rest vs others
 
-  -- these pairs one after another, each key above the one before it
-  pub data CanonPairs : List ℕ → Entries → Type 0 where
-    no_canon_pairs : CanonPairs [] no_entries
-    canon_pair : (k : List ℕ) → (w : List ℕ) → (rest : List ℕ) → (v : Tree) → (es : Entries) → IsShort k → Canon w v → ComesBefore k es → CanonPairs rest es → CanonPairs (short_field k ++ (w ++ rest)) (entry k v es)
+  pub IsCanonPairs : (body : List ℕ) (ps : Entries) → Pairs body ps → Type 0
+  IsCanonPairs _ _ no_pairs = Unit {0}
+  IsCanonPairs _ _ (pair k w rest v ps key first others) = ComesBefore k ps × IsCanon w v first × IsCanonPairs rest ps others
+
+-- w is the canonical encoding of v
+abbrev pub Canon : List ℕ → Tree → Type 0
+Canon w v = (p : Wire w v) × IsCanon w v p

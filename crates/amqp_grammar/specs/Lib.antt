@@ -16,6 +16,8 @@ pub mod Texts
 pub mod Canonical
 -- the words of the headline that speak of sizes and of what is written
 pub mod Headline
+-- what is said of a value, of all that stand in a container
+pub mod Members
 -- what every value in memory is
 pub mod InMemory
 -- what reading comes to where more bytes follow, and of what was written

@@ -1,7 +1,9 @@
 -- A value's type and its payload apart. An encoding is an id of the type, and a payload.
 use Rattle.std.specs.Prelude.{ℕ, List}
 use Rattle.amqp_types.specs.declared.amqp_type.AMQPType.{AMQPType}
+use Rattle.amqp_grammar.specs.Values.{Tree}
 use Rattle.amqp_grammar.specs.Grammar.{Raw}
+use Rattle.amqp_grammar.specs.Canonical.{IsCanonRaw}
 use Rattle.amqp_grammar.specs.Outcomes.{Reading, FrontBy, RawOutcomeBy}
 
 -- a prefix of s is a payload of the type, or none is
@@ -11,3 +13,7 @@ RawFront type s o = FrontBy (Raw type) s o
 -- reading a payload of the type from s comes to o
 abbrev pub RawOutcome : AMQPType → List ℕ → Reading → Type 0
 RawOutcome type s o = RawOutcomeBy (Raw type) type s o
+
+-- b is the payload in a canonical encoding of v
+abbrev pub CanonRaw : AMQPType → List ℕ → Tree → Type 0
+CanonRaw type b v = (p : Raw type b v) × IsCanonRaw type b v p

@@ -1,8 +1,8 @@
 -- The canonical encoding of a value: the one that is written for it.
-use Rattle.std.specs.Prelude.{ℕ, ◌+◌, ◌^◌, ◌<◌, List, [], ◌∷◌, ◌++◌, length}
-use Rattle.amqp_grammar.specs.Values.{Tree, scalar, short, long, octets, array, table, Trees, no_trees, tree, Entries, no_entries, entry, scalar_type, type_of}
+use Rattle.std.specs.Prelude.{ℕ, ◌^◌, ◌<◌, List, [], ◌∷◌, ◌++◌, length}
+use Rattle.amqp_grammar.specs.Values.{Tree, scalar, short, long, octets, array, table, Trees, no_trees, tree, Entries, no_entries, entry, type_of, Walk, walk}
 use Rattle.amqp_types.specs.Ids.{id_of}
-use Rattle.amqp_grammar.specs.Layouts.{width_of, spelled}
+use Rattle.amqp_grammar.specs.Layouts.{spelled}
 use Rattle.amqp_grammar.specs.Grammar.{short_field, long_field}
 
 -- an id of the value's type, and then these bytes
@@ -34,37 +34,20 @@ abbrev pub text : Tree → List ℕ
 text v = after_id v (payload v)
 
 -- how long the canonical encoding is
-abbrev mutual
-  pub size : Tree → ℕ
-  size (scalar x) = 1 + width_of (scalar_type x)
-  size (short s) = 2 + length s
-  size (long s) = 5 + length s
-  size (octets s) = 5 + length s
-  size (array vs) = 5 + body_size vs
-  size (table es) = 5 + pairs_size es
+abbrev pub size : Tree → ℕ
+size v = length (text v)
 
-  pub body_size : Trees → ℕ
-  body_size no_trees = 0
-  body_size (tree v vs) = size v + body_size vs
+-- a length in four bytes, if the payload has one, fits its field
+abbrev pub FieldFits : Tree → Type 0
+FieldFits (long s) = length s < 2 ^ 32
+FieldFits (octets s) = length s < 2 ^ 32
+FieldFits (array vs) = length (body vs) < 2 ^ 32
+FieldFits (table es) = length (pairs es) < 2 ^ 32
+FieldFits _ = Unit {0}
 
-  pub pairs_size : Entries → ℕ
-  pairs_size no_entries = 0
-  pairs_size (entry k v es) = (1 + length k) + (size v + pairs_size es)
+-- each length in four bytes does: that of the value and of each in it
+abbrev pub fields_fit : Walk (Type 0)
+fields_fit = record { own = FieldFits; holding = λ own all. own × all; none = Unit {0}; beside = λ first others. first × others }
 
--- each length of four bytes fits its field
-abbrev mutual
-  pub Fits : Tree → Type 0
-  Fits (scalar x) = Unit {0}
-  Fits (short s) = Unit {0}
-  Fits (long s) = length s < 2 ^ 32
-  Fits (octets s) = length s < 2 ^ 32
-  Fits (array vs) = (body_size vs < 2 ^ 32) × AllFit vs
-  Fits (table es) = (pairs_size es < 2 ^ 32) × EntriesFit es
-
-  pub AllFit : Trees → Type 0
-  AllFit no_trees = Unit {0}
-  AllFit (tree v vs) = Fits v × AllFit vs
-
-  pub EntriesFit : Entries → Type 0
-  EntriesFit no_entries = Unit {0}
-  EntriesFit (entry k v es) = Fits v × EntriesFit es
+abbrev pub Fits : Tree → Type 0
+Fits v = walk fields_fit v

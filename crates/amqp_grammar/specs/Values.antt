@@ -1,6 +1,6 @@
 -- Values: what an `AMQPValue` is, without where it lies in memory.
 -- AMQP 0-9-1, section 4.2.5.5 (field tables), in the reading of RabbitMQ's errata, section 3.
-use Rattle.std.specs.Prelude.{ℕ, suc, ◌+◌, ◌≡◌, max, Bool, true, false, ◌&&◌, List, [], ◌∷◌}
+use Rattle.std.specs.Prelude.{ℕ, ◌+◌, ◌≡◌, max, Bool, true, false, ◌&&◌, List, [], ◌∷◌}
 use Rattle.std.specs.Ordering.{nat_cmp, match_ordering}
 use Rattle.std.specs.Cmp.Lexicographic.{slice_cmp}
 use Rattle.amqp_types.specs.declared.amqp_type.AMQPType.{AMQPType}
@@ -73,52 +73,63 @@ abbrev pub onto : Entries → Entries → Entries
 onto es no_entries = es
 onto es (entry k v ps) = onto (put k v es) ps
 
--- how deep containers nest: an empty one counts 1, all that is no container 0
+-- a way to go over a value and all that stands in it
+pub record Walk {ℓ} (A : Type ℓ) : Type ℓ where
+  -- what a value gives by itself
+  pub own : Tree → A
+  -- what a container gives: from its own, and what the values in it give
+  pub holding : A → A → A
+  -- what no values give, and what a value gives with those after it; keys give nothing
+  pub none : A
+  pub beside : A → A → A
+
+-- what a value gives, the values of an array, and those of a table
 abbrev mutual
-  pub depth : Tree → ℕ
-  depth (array vs) = suc (greatest_depth vs)
-  depth (table es) = suc (entries_depth es)
-  depth _ = 0
+  pub walk {ℓ} : {A : Type ℓ} → Walk A → Tree → A
+  walk way (array vs) = way.holding (way.own (array vs)) (walk_all way vs)
+  walk way (table es) = way.holding (way.own (table es)) (walk_entries way es)
+  walk way v = way.own v
 
-  pub greatest_depth : Trees → ℕ
-  greatest_depth no_trees = 0
-  greatest_depth (tree v vs) = max (depth v) (greatest_depth vs)
+  pub walk_all {ℓ} : {A : Type ℓ} → Walk A → Trees → A
+  walk_all way no_trees = way.none
+  walk_all way (tree v vs) = way.beside (walk way v) (walk_all way vs)
 
-  pub entries_depth : Entries → ℕ
-  entries_depth no_entries = 0
-  entries_depth (entry k v es) = max (depth v) (entries_depth es)
+  pub walk_entries {ℓ} : {A : Type ℓ} → Walk A → Entries → A
+  walk_entries way no_entries = way.none
+  walk_entries way (entry k v es) = way.beside (walk way v) (walk_entries way es)
+
+-- 1 for a container, 0 for all that is none
+abbrev pub levels : Tree → ℕ
+levels (array vs) = 1
+levels (table es) = 1
+levels _ = 0
+
+-- how deep containers nest: an empty one counts 1, all that is no container 0
+abbrev pub depths : Walk ℕ
+depths = record { own = levels; holding = ◌+◌; none = 0; beside = max }
+
+abbrev pub depth : Tree → ℕ
+depth v = walk depths v
 
 -- how many values stand in the tree, itself included
-abbrev mutual
-  pub count : Tree → ℕ
-  count (array vs) = suc (count_all vs)
-  count (table es) = suc (entries_count es)
-  count _ = 1
+abbrev pub counts : Walk ℕ
+counts = record { own = λ v. 1; holding = ◌+◌; none = 0; beside = ◌+◌ }
 
-  pub count_all : Trees → ℕ
-  count_all no_trees = 0
-  count_all (tree v vs) = count v + count_all vs
+abbrev pub count : Tree → ℕ
+count v = walk counts v
 
-  pub entries_count : Entries → ℕ
-  entries_count no_entries = 0
-  entries_count (entry k v es) = count v + entries_count es
+-- whether the id of a value's type is read: it is of all but a short string
+abbrev pub has_id : Tree → Bool
+has_id (short s) = false
+has_id _ = true
 
 -- whether a value that is written can be read: each value in it has an id that is read, so none is
 -- a short string; keys don't count
-abbrev mutual
-  pub readable : Tree → Bool
-  readable (short s) = false
-  readable (array vs) = all_readable vs
-  readable (table es) = entries_readable es
-  readable _ = true
+abbrev pub have_ids : Walk Bool
+have_ids = record { own = has_id; holding = ◌&&◌; none = true; beside = ◌&&◌ }
 
-  pub all_readable : Trees → Bool
-  all_readable no_trees = true
-  all_readable (tree v vs) = readable v && all_readable vs
-
-  pub entries_readable : Entries → Bool
-  entries_readable no_entries = true
-  entries_readable (entry k v es) = readable v && entries_readable es
+abbrev pub readable : Tree → Bool
+readable v = walk have_ids v
 
 -- the key comes before each key of the entries, where their keys rise
 abbrev pub ComesBefore : List ℕ → Entries → Type 0

@@ -4,7 +4,8 @@
 
 ghost use Rattle.std.specs.Prelude.{◌≡◌, ◌↔◌, ◌+◌, ℕ, List, ◌∷◌, ◌++◌, length, IsTrue, Some, ◌≢◌, ◌≤◌, ◌*◌, is_some, ◌-◌};
 ghost use Rattle.amqp_types.specs.declared.amqp_type.AMQPType.{AMQPType};
-ghost use Rattle.amqp_grammar.specs.Values.{Tree, readable, Entries, no_entries, table, put, onto, depth, count, type_of};
+ghost use Rattle.amqp_grammar.specs.Values.{Scalar, Tree, scalar, short, long, octets, array, table, Trees, no_trees, tree, Entries, no_entries, entry, scalar_type, type_of, readable, put, onto, depth, count};
+ghost use Rattle.amqp_grammar.specs.Layouts.{width_of};
 ghost use Rattle.amqp_grammar.specs.Payloads.{RawOutcome};
 ghost use Rattle.amqp_grammar.specs.Texts.{payload, text, size, Fits};
 ghost use Rattle.amqp_grammar.specs.Grammar.{Wire, Raw};
@@ -34,11 +35,20 @@ pub fn one_raw_reading()
         → b ++ x ≡ c ++ y → (b ≡ c) × (v ≡ z) × (x ≡ y) }
 {}
 
-/// The size of a value is the number of bytes of its canonical encoding. The payload is that
-/// encoding without its first byte, the id.
-#[tactic(auto, using(crate::proofs::GrammarLaws::length_of_text, crate::proofs::GrammarLaws::length_of_payload))]
-pub fn length_of_text()
-    ensures text { (v : Tree) → length (text v) ≡ size v }
+/// What a canonical encoding takes: the id and a payload of the type's width, or a length in one
+/// or four bytes and as many bytes as it counts. A value in an array takes what it takes alone, and
+/// in a table its key more, after a length in one byte.
+#[tactic(auto, using(crate::proofs::GrammarLaws::size_of_scalar, crate::proofs::GrammarLaws::size_of_array, crate::proofs::GrammarLaws::size_of_table))]
+pub fn sizes()
+    ensures fixed_width { (x : Scalar) → size (scalar x) ≡ 1 + width_of (scalar_type x) }
+    ensures short_string { (s : List ℕ) → size (short s) ≡ 2 + length s }
+    ensures long_string { (s : List ℕ) → size (long s) ≡ 5 + length s }
+    ensures byte_array { (s : List ℕ) → size (octets s) ≡ 5 + length s }
+    ensures empty_array { size (array no_trees) ≡ 5 }
+    ensures value { (v : Tree) (vs : Trees) → size (array (tree v vs)) ≡ size v + size (array vs) }
+    ensures empty_table { size (table no_entries) ≡ 5 }
+    ensures entry { (k : List ℕ) (v : Tree) (es : Entries)
+        → size (table (entry k v es)) ≡ 1 + length k + size v + size (table es) }
     ensures payload { (v : Tree) → length (payload v) + 1 ≡ size v }
 {}
 
@@ -165,7 +175,7 @@ pub fn canonical()
 
 /// A canonical encoding of any value is an encoding, its value fits its fields and is readable, and
 /// where it is bytes, it is what is written for the value.
-#[tactic(auto, using(crate::proofs::GrammarLaws::canon_is_wire, crate::proofs::GrammarLaws::canon_fits, crate::proofs::GrammarLaws::canon_is_text))]
+#[tactic(auto, using(crate::proofs::GrammarLaws::canonical_wire))]
 pub fn canonical_wire()
     ensures { (w : List ℕ) (v : Tree) → Canon w v → IsBytes w
         → Wire w v × Fits v × IsTrue (readable v) × (w ≡ text v) }

@@ -18,14 +18,15 @@ use Rattle.amqp_types.specs.Strings.{IsShort}
 use Rattle.amqp_types.specs.declared.amqp_type.AMQPType.{AMQPType}
 use Rattle.amqp_types.specs.declared.amqp_type.AMQPType.TheVariants as amqp
 use Rattle.amqp_types.proofs.Ids.{row_holds, kind_read}
-use Rattle.amqp_grammar.specs.Values.{Tree, short, long, array, table, Trees, no_trees, tree, Entries, no_entries, entry, ComesBefore, depth, greatest_depth, entries_depth}
+use Rattle.amqp_grammar.specs.Values.{Tree, short, long, array, table, Trees, no_trees, tree, Entries, no_entries, entry, ComesBefore, depth}
+use Rattle.amqp_grammar.specs.Members.{greatest_depth, entries_depth, CanonBody, CanonPairs}
 use Rattle.amqp_grammar.specs.Layouts.{Layout, fixed}
-use Rattle.amqp_grammar.specs.Grammar.{short_field, long_field, Wire, Raw, raw_fixed, raw_short, raw_long, raw_octets, raw_array, raw_table}
+use Rattle.amqp_grammar.specs.Grammar.{short_field, long_field, Wire, wire, Raw, raw_fixed, raw_short, raw_long, raw_octets, raw_array, raw_table, no_values as no_value_there, value, no_pairs as no_pair_there, pair}
 use Rattle.amqp_grammar.specs.Nesting.{WireWithin, OutcomeWithin}
 use Rattle.amqp_grammar.specs.Outcomes.{found, more, unknown, lack, LacksOr, Outcome}
-use Rattle.amqp_grammar.specs.Payloads.{RawFront, RawOutcome}
-use Rattle.amqp_grammar.specs.Canonical.{IsStrict, Canon, canon, CanonRaw, canon_fixed, canon_long, canon_octets, canon_array, canon_table, CanonBody, no_canon_values, canon_value, CanonPairs, no_canon_pairs, canon_pair}
-use Rattle.amqp_grammar.proofs.GrammarLaws.{one_reading, one_raw_reading, one_raw_outcome, raw_found, wire_found, wire_found_within, front_within, depth_within, text_within, text_is_canon, what_is_read, read_is_value, canon_is_wire, canon_fits, canon_is_text, short_bytes, one_outcome, bytes_front}
+use Rattle.amqp_grammar.specs.Payloads.{RawFront, RawOutcome, CanonRaw}
+use Rattle.amqp_grammar.specs.Canonical.{IsStrict, Canon}
+use Rattle.amqp_grammar.proofs.GrammarLaws.{one_reading, one_raw_reading, one_raw_outcome, raw_found, wire_found, wire_found_within, front_within, depth_within, text_within, text_is_canon, what_is_read, read_is_value, canon_is_wire, canon_fits, canon_is_text, canon, canon_array, canon_table, canon_value, canon_pair, canon_rises, rising_pairs, short_bytes, one_outcome, bytes_front}
 use Rattle.amqp_input.specs.Inputs.{IsBytes, slice_bytes}
 use Rattle.amqp_input.specs.declared.input.SliceInput.{SliceInput}
 use Rattle.amqp_parsing.specs.declared.limits.Limits.{Limits}
@@ -84,18 +85,19 @@ strict_append (c ∷ b) rest one x = x
 
 -- in the canonical payload of a boolean it is
 strict_payload : (type : AMQPType) (b : List ℕ) (v : Tree) → CanonRaw type b v → type ≡ amqp.Boolean → (rest : List ℕ) → IsStrict amqp.Boolean (b ++ rest)
-strict_payload _ _ _ (canon_fixed type f b row len strict) e rest =
+strict_payload _ _ _ (raw_fixed type f b row len, strict) e rest =
     let wide : f.width ≡ 1 = subst (λ (o : Option Layout). IfSome o (λ g. g.width ≡ 1)) (ap fixed (sym e) ∙ row) refl in
     strict_append b rest (len ∙ wide) (subst (λ (t : AMQPType). IsStrict t b) e strict)
-strict_payload _ _ _ (canon_long s fits) e rest = absurd cc
-strict_payload _ _ _ (canon_octets s fits) e rest = absurd cc
-strict_payload _ _ _ (canon_array body vs fits all) e rest = absurd cc
-strict_payload _ _ _ (canon_table body es fits all) e rest = absurd cc
+strict_payload _ _ _ (raw_short s is, all) e rest = absurd cc
+strict_payload _ _ _ (raw_long s fits, all) e rest = absurd cc
+strict_payload _ _ _ (raw_octets s fits, all) e rest = absurd cc
+strict_payload _ _ _ (raw_array body vs fits p, all) e rest = absurd cc
+strict_payload _ _ _ (raw_table body es fits p, all) e rest = absurd cc
 
 -- a canonical encoding is spelled so
 canon_spelling : (w rest : List ℕ) (v : Tree) → Canon w v → IsFirstSpelling (w ++ rest)
-canon_spelling _ rest _ (canon c type b v k not_U not_L p) =
-    (not_U, not_L, λ is. strict_payload type b v p (same_Some type amqp.Boolean (sym k ∙ ap kind is)) rest)
+canon_spelling _ rest _ (wire c type b v k p, is) =
+    (is.0, is.1, λ e. strict_payload type b v (p, is.2) (same_Some type amqp.Boolean (sym k ∙ ap kind e)) rest)
 
 pub front_spelling : (d : ℕ) (s rest : List ℕ) → CanonFront d s rest → IsFirstSpelling s
 front_spelling d s rest (w, v, x, deep, e) = subst IsFirstSpelling (sym e) (canon_spelling w rest v x)
@@ -104,10 +106,10 @@ front_spelling d s rest (w, v, x, deep, e) = subst IsFirstSpelling (sym e) (cano
 
 -- a payload of a plain type is canonical where a boolean's byte is 0 or 1
 plain_payload : (type : AMQPType) (b : List ℕ) (v : Tree) → Raw type b v → IsPlainType type → (type ≡ amqp.ShortString → ⊥) → IsStrict type b → CanonRaw type b v × (depth v ≡ 0)
-plain_payload _ _ _ (raw_fixed type f b row len) plain none strict = (canon_fixed type f b row len strict, refl)
+plain_payload _ _ _ (raw_fixed type f b row len) plain none strict = ((raw_fixed type f b row len, strict), refl)
 plain_payload _ _ _ (raw_short s is) plain none strict = absurd (none refl)
-plain_payload _ _ _ (raw_long s fits) plain none strict = (canon_long s fits, refl)
-plain_payload _ _ _ (raw_octets s fits) plain none strict = (canon_octets s fits, refl)
+plain_payload _ _ _ (raw_long s fits) plain none strict = ((raw_long s fits, tt), refl)
+plain_payload _ _ _ (raw_octets s fits) plain none strict = ((raw_octets s fits, tt), refl)
 plain_payload _ _ _ (raw_array body vs fits all) plain none strict = absurd plain
 plain_payload _ _ _ (raw_table body ps fits all) plain none strict = absurd plain
 
@@ -145,12 +147,13 @@ record CanonArray (body : List ℕ) (v : Tree) : Type 0 where
 
 canon_array_body : (type : AMQPType) (b : List ℕ) (v : Tree) → CanonRaw type b v → type ≡ amqp.FieldArray → (body rest left : List ℕ) → length body < 2 ^ 32
     → b ++ left ≡ long_field body ++ rest → CanonArray body v
-canon_array_body _ _ _ (canon_fixed type f b row len strict) t body rest left few e = absurd (let none = ap fixed (sym t) ∙ row in cc)
-canon_array_body _ _ _ (canon_long s fits) t body rest left few e = absurd cc
-canon_array_body _ _ _ (canon_octets s fits) t body rest left few e = absurd cc
-canon_array_body _ _ _ (canon_array a vs fits all) t body rest left few e =
-    record { values = vs; all = subst (λ (b : List ℕ). CanonBody b vs) (one_large a body left rest fits few e) all; is = refl }
-canon_array_body _ _ _ (canon_table a es fits all) t body rest left few e = absurd cc
+canon_array_body _ _ _ (raw_fixed type f b row len, strict) t body rest left few e = absurd (let none = ap fixed (sym t) ∙ row in cc)
+canon_array_body _ _ _ (raw_short s is, x) t body rest left few e = absurd cc
+canon_array_body _ _ _ (raw_long s fits, x) t body rest left few e = absurd cc
+canon_array_body _ _ _ (raw_octets s fits, x) t body rest left few e = absurd cc
+canon_array_body _ _ _ (raw_array a vs fits p, x) t body rest left few e =
+    record { values = vs; all = subst (λ (b : List ℕ). CanonBody b vs) (one_large a body left rest fits few e) (p, x); is = refl }
+canon_array_body _ _ _ (raw_table a es fits p, x) t body rest left few e = absurd cc
 
 -- and of a canonical table
 record CanonTable (body : List ℕ) (v : Tree) : Type 0 where
@@ -160,12 +163,13 @@ record CanonTable (body : List ℕ) (v : Tree) : Type 0 where
 
 canon_table_body : (type : AMQPType) (b : List ℕ) (v : Tree) → CanonRaw type b v → type ≡ amqp.FieldTable → (body rest left : List ℕ) → length body < 2 ^ 32
     → b ++ left ≡ long_field body ++ rest → CanonTable body v
-canon_table_body _ _ _ (canon_fixed type f b row len strict) t body rest left few e = absurd (let none = ap fixed (sym t) ∙ row in cc)
-canon_table_body _ _ _ (canon_long s fits) t body rest left few e = absurd cc
-canon_table_body _ _ _ (canon_octets s fits) t body rest left few e = absurd cc
-canon_table_body _ _ _ (canon_array a vs fits all) t body rest left few e = absurd cc
-canon_table_body _ _ _ (canon_table a es fits all) t body rest left few e =
-    record { entries = es; all = subst (λ (b : List ℕ). CanonPairs b es) (one_large a body left rest fits few e) all; is = refl }
+canon_table_body _ _ _ (raw_fixed type f b row len, strict) t body rest left few e = absurd (let none = ap fixed (sym t) ∙ row in cc)
+canon_table_body _ _ _ (raw_short s is, x) t body rest left few e = absurd cc
+canon_table_body _ _ _ (raw_long s fits, x) t body rest left few e = absurd cc
+canon_table_body _ _ _ (raw_octets s fits, x) t body rest left few e = absurd cc
+canon_table_body _ _ _ (raw_array a vs fits p, x) t body rest left few e = absurd cc
+canon_table_body _ _ _ (raw_table a es fits p, x) t body rest left few e =
+    record { entries = es; all = subst (λ (b : List ℕ). CanonPairs b es) (one_large a body left rest fits few e) (p, x); is = ap table (rising_pairs es (canon_rises a es p x)) }
 
 -- the type tag that stands first, and the canonical payload after it
 record CanonTyped (type : AMQPType) (mid left : List ℕ) (v : Tree) : Type 0 where
@@ -174,11 +178,11 @@ record CanonTyped (type : AMQPType) (mid left : List ℕ) (v : Tree) : Type 0 wh
   pub front : mid ≡ payload ++ left
 
 canon_typed : (s mid : List ℕ) (type : AMQPType) (w left : List ℕ) (v : Tree) → IsType s type mid → Canon w v → s ≡ w ++ left → CanonTyped type mid left v
-canon_typed s mid type _ left _ (c, here, k) (canon d type2 b v k2 not_U not_L p) e =
+canon_typed s mid type _ left _ (c, here, k) (wire d type2 b v k2 p, is) e =
     let both : c ∷ mid ≡ d ∷ (b ++ left) = sym here ∙ e in
     let head : c ≡ d = cc in
     let same : type2 ≡ type = same_Some type2 type (sym k2 ∙ (ap kind (sym head) ∙ k)) in
-    record { payload = b; is_canon = subst (λ (t : AMQPType). CanonRaw t b v) same p; front = cc }
+    record { payload = b; is_canon = subst (λ (t : AMQPType). CanonRaw t b v) same (p, is.2); front = cc }
 
 module _ (d : ℕ) (s : List ℕ) (i : SliceInput) (rest : List ℕ) where
   -- an array in its first spelling is canonical where its body is
@@ -193,7 +197,7 @@ module _ (d : ℕ) (s : List ℕ) (i : SliceInput) (rest : List ℕ) where
   array_inside left (type, mid, p, q) (w, v, x, deep, e) =
       let t = canon_typed s mid type w left v p x e in
       let b = canon_array_body type t.payload v t.is_canon q.0 (slice_bytes i) rest left q.1.fits (sym t.front ∙ q.1.framed) in
-      let size : depth v ≡ suc (greatest_depth b.values) = ap depth b.is in
+      let size : depth v ≡ 1 + greatest_depth b.values = ap depth b.is in
       (omega (arith, size), (b.values, b.all, omega (arith, size)))
 
   -- and so it is of a table
@@ -207,7 +211,7 @@ module _ (d : ℕ) (s : List ℕ) (i : SliceInput) (rest : List ℕ) where
   table_inside left (type, mid, p, q) (w, v, x, deep, e) =
       let t = canon_typed s mid type w left v p x e in
       let b = canon_table_body type t.payload v t.is_canon q.0 (slice_bytes i) rest left q.1.fits (sym t.front ∙ q.1.framed) in
-      let size : depth v ≡ suc (entries_depth b.entries) = ap depth b.is in
+      let size : depth v ≡ 1 + entries_depth b.entries = ap depth b.is in
       (omega (arith, size), (b.entries, b.all, tt, omega (arith, size)))
 
 -- a canonical encoding stands there, so a value does
@@ -229,16 +233,16 @@ no_rest d s i false r is f none = f refl
 
 -- and takes at least one byte
 pub rest_shorter : (d : ℕ) (s rest : List ℕ) → CanonFront d s rest → length rest < length s
-rest_shorter d s rest (_, _, canon c type b v k not_U not_L p, deep, e) = omega (arith, ap length e, length-append b rest)
+rest_shorter d s rest (_, _, (wire c type b v k p, is), deep, e) = omega (arith, ap length e, length-append b rest)
 
 -- where no byte is left no value is
 pub no_values : (d : ℕ) (s : List ℕ) → length s ≡ 0 → CanonValues d s
-no_values d s none = subst (CanonValues d) (sym (nil_from_length s none)) (no_trees, no_canon_values, omega arith)
+no_values d s none = subst (CanonValues d) (sym (nil_from_length s none)) (no_trees, (no_value_there, tt), omega arith)
 
 -- otherwise the first of them stands at the front
 pub first_value : (d : ℕ) (s : List ℕ) → 0 < length s → CanonValues d s → (left : List ℕ) × CanonFront d s left × CanonValues d left
-first_value d _ some (_, no_canon_values, deep) = absurd (omega arith)
-first_value d _ some (_, canon_value w left v vs x all, deep) = (left, (w, v, x, omega arith, refl), (vs, all, omega arith))
+first_value d _ some (_, (no_value_there, all), deep) = absurd (omega arith)
+first_value d _ some (_, (value w left v vs first others, is), deep) = (left, (w, v, (first, is.0), omega arith, refl), (vs, (others, is.1), omega arith))
 
 -- what stands after one canonical encoding stands after each
 one_rest : (d : ℕ) (s x y : List ℕ) → CanonFront d s x → CanonFront d s y → x ≡ y
@@ -274,7 +278,7 @@ told_less x y b is = by (slice_cmp nat_cmp x y) (is ∙ ap (is_some_and is_lt) (
 
 -- where no byte is left no pair is
 pub no_pairs : (d : ℕ) (j : Option (Bor (List ℕ))) (s : List ℕ) → length s ≡ 0 → CanonEntries d j s
-no_pairs d j s none = subst (CanonEntries d j) (sym (nil_from_length s none)) (no_entries, no_canon_pairs, by j, omega arith)
+no_pairs d j s none = subst (CanonEntries d j) (sym (nil_from_length s none)) (no_entries, (no_pair_there, tt), by j, omega arith)
   where
     by : (j : Option (Bor (List ℕ))) → AreAbove j no_entries
     by None = tt
@@ -292,17 +296,17 @@ record FirstPair (d : ℕ) (j : Option (Bor (List ℕ))) (s : List ℕ) : Type 0
   pub others : (k : Bor (List ℕ)) → k.now ≡ key → CanonEntries d (Some k) left
 
 first_pair : (d : ℕ) (j : Option (Bor (List ℕ))) (s : List ℕ) → 0 < length s → CanonEntries d j s → FirstPair d j s
-first_pair d j _ some (_, no_canon_pairs, above, deep) = absurd (omega arith)
-first_pair d j _ some (_, canon_pair k w left v es is x before all, above, deep) =
+first_pair d j _ some (_, (no_pair_there, all), above, deep) = absurd (omega arith)
+first_pair d j _ some (_, (pair k w left v es key first pairs, is), above, deep) =
     record {
       key = k;
       behind = w ++ left;
       left = left;
       framed = refl;
-      short_key = is;
+      short_key = key;
       above = by j above;
-      front = (w, v, x, omega arith, refl);
-      others = λ j e. (es, all, rw e before, omega arith);
+      front = (w, v, (first, is.1), omega arith, refl);
+      others = λ j e. (es, (pairs, is.2), rw e is.0, omega arith);
     }
   where
     by : (j : Option (Bor (List ℕ))) → AreAbove j (entry k v es) → IsAbove j k

@@ -5,10 +5,11 @@ use Rattle.std.specs.Ordering.{nat_cmp}
 use Rattle.std.specs.Cmp.Lexicographic.{slice_cmp}
 use Rattle.std.specs.declared.cmp.Ordering.TheVariants.{Less}
 use Rattle.amqp_types.specs.declared.amqp_type.AMQPType.TheVariants as amqp
-use Rattle.amqp_grammar.specs.Values.{Tree, Trees, Entries, ComesBefore, depth, greatest_depth, entries_depth}
+use Rattle.amqp_grammar.specs.Values.{Tree, Trees, Entries, ComesBefore, depth}
 use Rattle.amqp_grammar.specs.Outcomes.{found}
 use Rattle.amqp_grammar.specs.Texts.{text}
-use Rattle.amqp_grammar.specs.Canonical.{IsStrict, Canon, CanonBody, CanonPairs}
+use Rattle.amqp_grammar.specs.Members.{greatest_depth, entries_depth, CanonBody, CanonPairs}
+use Rattle.amqp_grammar.specs.Canonical.{IsStrict, Canon}
 use Rattle.amqp_parsing.specs.declared.limits.Limits.{Limits}
 use Rattle.amqp_parsing.specs.Limits.{Within}
 

@@ -11,7 +11,7 @@ use Rattle.amqp_grammar.specs.Headline.{IsWritableIn}
 use Rattle.amqp_grammar.specs.Texts.{text}
 use Rattle.amqp_input.specs.Inputs.{IsBytes}
 use Rattle.amqp_grammar.specs.Outcomes.{found, length_field}
-use Rattle.amqp_grammar.proofs.GrammarLaws.{front_within, bounded_wire, wire_found_within, text_within, text_again, depth_within, bounds, length_of_text, tells_apart, extent-raw, header_extent_of, bytes_front}
+use Rattle.amqp_grammar.proofs.GrammarLaws.{front_within, bounded_wire, wire_found_within, text_within, text_again, depth_within, bounds, tells_apart, extent-raw, header_extent_of, bytes_front}
 use Rattle.amqp_parsing.specs.declared.limits.Limits.{Limits}
 use Rattle.amqp_parsing.specs.Refusals.{Refusal}
 use Rattle.amqp_parsing.specs.Headers.{extent_of, raw_extent, extent_at, extent}
@@ -32,11 +32,11 @@ wire_extent _ t _ (wire c type b v k p) =
 pub reads_back : (l : Limits) → ReadsBack l
 reads_back l v is fits readable deep small = λ t.
     let p = text_within v is fits readable in
-    (omega (arith, small, wire_extent (text v) t v p.0, length_of_text v), wire_found_within l.depth (text v) t v p.0 (omega (arith, p.1, deep)))
+    (omega (arith, small, wire_extent (text v) t v p.0), wire_found_within l.depth (text v) t v p.0 (omega (arith, p.1, deep)))
 
 -- the text is a shortest wire of its value within a depth, and of no other value
 pub shortest_within : (d : ℕ) (v : Tree) → IsShortestWithin d v
-shortest_within d v = λ w bytes p. (text_again d w v bytes p, omega (arith, length_of_text v, (bounds w v p.0).0))
+shortest_within d v = λ w bytes p. (text_again d w v bytes p, (bounds w v p.0).0)
 
 pub tells_apart_within : (d : ℕ) (v : Tree) → TellsApartWithin d v
 tells_apart_within d v = λ u w x bytes_w bytes_x p q. tells_apart v u w x bytes_w bytes_x p.0 q.0
@@ -48,7 +48,7 @@ read_again l s rest v bytes (few, x) = λ t.
     let w = f.0 in
     let again = text_again l.depth w v (bytes_front w rest (subst IsBytes f.2 bytes)) f.1 in
     let small : extent s ≡ length w = ap extent f.2 ∙ wire_extent w rest v f.1.0 in
-    (omega (arith, few, small, wire_extent (text v) t v again.0, length_of_text v, (bounds w v f.1.0).0), wire_found_within l.depth (text v) t v again.0 again.1)
+    (omega (arith, few, small, wire_extent (text v) t v again.0, (bounds w v f.1.0).0), wire_found_within l.depth (text v) t v again.0 again.1)
 
 -- so of what a parser answers
 module _ {I : Type 0} (bytes : I → List ℕ) (l : Limits) (s : List ℕ) where

@@ -2,7 +2,6 @@
 use Rattle.std.proofs.Common.{◌≡◌, ◌≤◌, ℕ, Option, Some, IfSome, length, Result, IsOk, true, subst, arith}
 use Rattle.amqp_grammar.specs.Values.{Tree}
 use Rattle.amqp_grammar.specs.Texts.{text, size, Fits}
-use Rattle.amqp_grammar.proofs.GrammarLaws.{length_of_text}
 use Rattle.amqp_generation.specs.declared.error.GenError.{GenError}
 use Rattle.amqp_generation.specs.Outputs.{Seen, Writes}
 
@@ -10,4 +9,4 @@ use Rattle.amqp_generation.specs.Outputs.{Seen, Writes}
 pub finds_room : (v : Tree) {s t : Seen} {r : Result (Unit {0}) GenError} (n : ℕ) → Writes true (Fits v) (text v) s r t → s.room ≡ Some n → Fits v → size v ≤ n → IsOk r
 finds_room v {r = r} n p room fits enough =
     let P : Option ℕ → Type 0 = λ o. IfSome o (λ m. length (text v) ≤ m → IsOk r) in
-    subst P room (p.succeeds fits) (omega (arith, length_of_text v))
+    subst P room (p.succeeds fits) (omega arith)

@@ -1,6 +1,7 @@
 use Rattle.std.proofs.Common.{◌≡◌, true, Ok, take, replicate, ◌++◌}
 use Rattle.amqp_value_core.specs.Containers.{array_items, trees, table_entries}
-use Rattle.amqp_grammar.specs.Texts.{body, AllFit}
+use Rattle.amqp_grammar.specs.Texts.{body}
+use Rattle.amqp_grammar.specs.Members.{AllFit}
 use Rattle.amqp_grammar.specs.InMemory.{AreValues}
 use Rattle.amqp_generation.specs.Buffers.{IsWhole}
 use Rattle.amqp_generation.specs.Outputs.{Writes}
