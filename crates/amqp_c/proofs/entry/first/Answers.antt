@@ -1,11 +1,12 @@
-use Rattle.std.proofs.Common.{◌≡◌, ◌+◌, ◌-◌, ℕ, List, length, refl, sym, ap, ◌∙◌, subst, arith, length-append}
+use Rattle.std.proofs.Common.{◌≡◌, ◌+◌, ◌-◌, ℕ, true, false, List, length, refl, sym, ap, ◌∙◌, subst, arith, length-append}
 use Rattle.std.proofs.lemmas.Result.{err_from_is_err_and}
 use Rattle.amqp_input.specs.Inputs.{slice_bytes}
 use Rattle.amqp_parsing.specs.Typed.{IsType}
 use Rattle.amqp_grammar.specs.Grammar.{long_field}
 use Rattle.amqp_c.specs.Answers.{fault_of}
 use Rattle.amqp_c.specs.declared.entry.Entry.{Entry}
-use Rattle.amqp_c.proofs.Fronts.{never_faulty, cut_fault, scalar_fault, frame_extent, found_extent, content_entry, scalar_entry, found_shorter}
+use Rattle.amqp_c.specs.Heads.{has_content}
+use Rattle.amqp_c.proofs.Fronts.{is_tagged, never_faulty, cut_fault, scalar_fault, frame_extent, found_extent, content_entry, scalar_entry, found_shorter}
 use Rattle.amqp_c.proofs.entry.first.Goals as goal
 
 pub returns-in_err-rest-clause-refused : goal.returns-in_err-rest-clause-refused
@@ -41,7 +42,7 @@ returns-then-has_content-clause-told c = λ v left x.
       tag = c.get_id-tag.result;
       scale = 0;
     } in
-    let is = content_entry s mid body rest c.in_ok-payload.amqp_type p f (sym c.has_content.ensures ∙ c.if-has_content.true) e refl whole refl c.input_len-then-has_content.ensures.count c.get_id-tag.ensures.id v left x in
+    let is = content_entry s mid body rest c.in_ok-payload.amqp_type p f (sym c.has_content.ensures ∙ c.if-has_content.true) e refl whole refl c.input_len-then-has_content.ensures.count c.get_id-tag.ensures.id (refl, refl) v left x in
     (is.0, refl, omega (arith, ap length is.1, whole))
 
 pub returns-in_err-value-clause-told : goal.returns-in_err-value-clause-told
@@ -67,13 +68,17 @@ returns-then-has_content-clause-front c =
     let mid = slice_bytes c.in_ok-payload.payload in
     let p = subst (λ (t : List ℕ). IsType t c.in_ok-payload.amqp_type mid) c.new.ensures c.in_ok-payload.ensures.id in
     let e = frame_extent s mid (slice_bytes c.in_ok-rest.body) (slice_bytes c.in_ok-rest.rest) c.in_ok-payload.amqp_type p c.in_ok-rest.ensures (sym c.has_content.ensures ∙ c.if-has_content.true) in
-    (refl, refl, omega (arith, c.input_len.ensures.count))
+    (refl, refl, omega (arith, c.input_len.ensures.count), is_tagged s mid c.in_ok-payload.amqp_type p _ c.get_id-tag.ensures.id (λ h. (refl, refl)))
 
 pub returns-clause-front : goal.returns-clause-front
 returns-clause-front c =
+    let s = c.args.bytes.now in
+    let mid = slice_bytes c.in_ok-payload.payload in
+    let p = subst (λ (t : List ℕ). IsType t c.in_ok-payload.amqp_type mid) c.new.ensures c.in_ok-payload.ensures.id in
     let x = c.in_ok-value.ensures.outcome in
-    let e = found_extent c.args.bytes.now c.in_ok-value.rest.now x.0 x.2 in
-    (refl, refl, omega arith)
+    let e = found_extent s c.in_ok-value.rest.now x.0 x.2 in
+    let plain : has_content c.in_ok-payload.amqp_type ≡ false = sym c.has_content.ensures ∙ c.if-has_content.false in
+    (refl, refl, omega arith, is_tagged s mid c.in_ok-payload.amqp_type p _ c.get_id-tag.ensures.id (λ h. absurd (let no = sym h ∙ plain in cc)))
 
 pub returns-clause-lies : goal.returns-clause-lies
 returns-clause-lies c =
