@@ -133,7 +133,7 @@ fn split_pair(pairs: &[u8]) -> Option<(&[u8], &[u8])>
 {
     let (length, named) = pairs.split_first()?;
     let length = usize::from(*length);
-    if named.len() < length {
+    if named.len() <= length {
         return None;
     }
     let (key, value) = named.split_at(length);

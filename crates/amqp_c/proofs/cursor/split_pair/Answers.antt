@@ -1,9 +1,7 @@
-use Rattle.std.proofs.Common.{◌≡◌, ◌∷◌, ◌+◌, suc, drop, length, sym, ap, ◌∙◌, subst, List, ℕ, arith}
+use Rattle.std.proofs.Common.{◌≡◌, ◌∷◌, ◌+◌, suc, drop, length, sym, ap, ◌∙◌, arith}
 use Rattle.std.proofs.lemmas.List.{drop-drop}
 use Rattle.std.proofs.lemmas.Grind.{common_steps}
 use Rattle.amqp_parsing.specs.Headers.{extent}
-use Rattle.amqp_c.specs.Steps.{BeginsWithKey}
-use Rattle.amqp_c.proofs.Stepping.{begins_with}
 use Rattle.amqp_c.proofs.Finding.{split_given, split_there}
 use Rattle.amqp_c.proofs.cursor.split_pair.Goals as goal
 use Rattle.amqp_c.proofs.cursor.split_pair.Goals.{then-taken-eq0-via-then-taken-eq0, then-taken-eq0-via-else-taken-eq0+then-value-taken}
