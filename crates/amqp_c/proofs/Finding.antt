@@ -3,49 +3,65 @@ use Rattle.std.proofs.Common.{◌≡◌, ◌-◌, ◌<◌, ◌≤◌, ℕ, Bool,
 use Rattle.std.proofs.lemmas.List.{take_at, drop_at, drop-drop}
 use Rattle.std.specs.Borrow.{Bor}
 use Rattle.std.specs.Option.{option_or}
+use Rattle.std.specs.Cmp.Lexicographic.{bytes_decides}
 use Rattle.amqp_grammar.specs.Values.{Tree, Entries, no_entries, entry}
 use Rattle.amqp_grammar.specs.Maps.{same_bytes, last_at, value_at}
 use Rattle.amqp_grammar.specs.Grammar.{Pairs, no_pairs, pair}
-use Rattle.amqp_grammar.specs.Outcomes.{found, more, unknown, Outcome}
-use Rattle.amqp_grammar.proofs.GrammarLaws.{last_stays, wire_found, one_outcome}
-use Rattle.amqp_parsing.specs.declared.errors.Err.TheVariants.{Incomplete, Error, Failure}
-use Rattle.amqp_parsing.specs.declared.errors.Needed.TheVariants.{Unknown, Size}
-use Rattle.amqp_parsing.specs.Refusals.{Refusal}
-use Rattle.amqp_in_place.specs.Answers.{IsWidthOfFound, HeadRefuses}
+use Rattle.amqp_grammar.proofs.GrammarLaws.{last_stays}
+use Rattle.amqp_parsing.specs.Headers.{extent}
+use Rattle.amqp_parsing.proofs.ParsingLaws.{wire_extent}
 use Rattle.amqp_in_place.specs.Bodies.{HasEntries}
 use Rattle.amqp_in_place.proofs.Lookups.{or_none, or_or}
 use Rattle.amqp_c.specs.declared.entry.Entry.{Entry}
 use Rattle.amqp_c.specs.declared.span.Span.{Span}
-use Rattle.amqp_c.specs.Steps.{SplitsPair, IsBehind, IsPairIn, GivesFound}
+use Rattle.amqp_c.specs.Steps.{SplitsPair, IsBehind, BeginsWithKey, IsPairIn, GivesFound}
+use Rattle.amqp_c.proofs.Fronts.{length-wire}
 
 -- ---- the pair at the front
 
--- its key is told, and what stands behind as many bytes as its value takes
-pub split_given : (t named : List ℕ) (n taken : ℕ) (x : Bor (List ℕ) × Bor (List ℕ)) → t ≡ n ∷ named → x.0.now ≡ take n named → x.1.now ≡ drop taken (drop n named)
-    → IsWidthOfFound (drop n named) taken → (ps : Entries) → 0 < length t → Pairs t ps → SplitsPair ps (Some x)
-split_given _ named n taken x e key behind wide _ some no_pairs = absurd (omega arith)
-split_given _ named n taken x e key behind wide _ some (pair k w rest v ps is q all) =
+-- the value of the pair takes what its header says
+record Split (named : List ℕ) (n : ℕ) (ps : Entries) : Type 0 where
+  pub value_there : Tree
+  pub rest : List ℕ
+  pub others : Entries
+  pub are : ps ≡ entry (take n named) value_there others
+  pub few : n ≤ length named
+  pub some : 0 < extent (drop n named)
+  pub whole : extent (drop n named) ≤ length (drop n named)
+  pub behind : drop (extent (drop n named)) (drop n named) ≡ rest
+  pub more_pairs : Pairs rest others
+
+split : (t named : List ℕ) (n : ℕ) (ps : Entries) → t ≡ n ∷ named → Pairs t ps → Split named n ps
+split _ named n _ e no_pairs = absurd cc
+split _ named n _ e (pair k w rest v ps is q all) =
     let size : length k ≡ n = ap (λ (t : List ℕ). get_or t 0 0) e in
     let here : k ++ (w ++ rest) ≡ named = ap (drop 1) e in
     let value : drop n named ≡ w ++ rest = ap (drop n) (sym here) ∙ drop_at k (w ++ rest) n size in
-    let width = wide v rest (subst (λ (t : List ℕ). Outcome t (found v rest)) (sym value) (wire_found w rest v q)) in
-    let whole : length w ≡ taken = omega (arith, width, ap length value, length-append w rest) in
-    let left : x.1.now ≡ rest = behind ∙ (ap (drop taken) value ∙ drop_at w rest taken whole) in
-    (key ∙ (ap (take n) (sym here) ∙ take_at k (w ++ rest) n size), subst (λ (t : List ℕ). Pairs t ps) (sym left) all)
+    let wide : extent (drop n named) ≡ length w = ap extent value ∙ wire_extent w rest v q in
+    record {
+      value_there = v;
+      rest = rest;
+      others = ps;
+      are = ap (λ (j : List ℕ). entry j v ps) (sym (ap (take n) (sym here) ∙ take_at k (w ++ rest) n size));
+      few = omega (arith, ap length here, length-append k (w ++ rest));
+      some = omega (arith, wide, length-wire w v q);
+      whole = omega (arith, wide, ap length value, length-append w rest);
+      behind = ap (drop (extent (drop n named))) value ∙ drop_at w rest (extent (drop n named)) (sym wide);
+      more_pairs = all;
+    }
 
--- its value has a header
-pub split_never : (t named : List ℕ) (n : ℕ) (r : Refusal) → t ≡ n ∷ named → HeadRefuses (Outcome (drop n named)) r → (ps : Entries) → 0 < length t → Pairs t ps → SplitsPair ps None
-split_never _ named n r e refused _ some no_pairs = absurd (omega arith)
-split_never _ named n r e refused _ some (pair k w rest v ps is q all) =
-    let size : length k ≡ n = ap (λ (t : List ℕ). get_or t 0 0) e in
-    let value : drop n named ≡ w ++ rest = ap (drop n) (sym (ap (drop 1) e)) ∙ drop_at k (w ++ rest) n size in
-    by (drop n named) r (subst (λ (t : List ℕ). Outcome t (found v rest)) (sym value) (wire_found w rest v q)) refused
-  where
-    by : (s : List ℕ) (r : Refusal) → Outcome s (found v rest) → HeadRefuses (Outcome s) r → ⊥
-    by s (Incomplete Unknown) x y = y
-    by s (Incomplete (Size m)) x y = let z = one_outcome s (found v rest) (more m) x y in cc
-    by s (Error kind) x y = let z = one_outcome s (found v rest) unknown x y.1 in cc
-    by s (Failure kind) x y = y.1
+-- its key is told, and what stands behind as many bytes as its value takes
+pub split_given : (t named : List ℕ) (n taken : ℕ) (x : Bor (List ℕ) × Bor (List ℕ)) → t ≡ n ∷ named → x.0.now ≡ take n named → x.1.now ≡ drop taken (drop n named)
+    → taken ≡ extent (drop n named) → (ps : Entries) → Pairs t ps → SplitsPair ps (Some x)
+split_given t named n taken x e key rest wide ps p =
+    let f = split t named n ps e p in
+    let left : x.1.now ≡ f.rest = rest ∙ (ap (λ (m : ℕ). drop m (drop n named)) wide ∙ f.behind) in
+    let given : SplitsPair (entry (take n named) f.value_there f.others) (Some x) = (key, subst (λ (u : List ℕ). Pairs u f.others) (sym left) f.more_pairs) in
+    subst (λ (qs : Entries). SplitsPair qs (Some x)) (sym f.are) given
+
+-- its key and its value are all there
+pub split_there : (t named : List ℕ) (n : ℕ) (ps : Entries) → t ≡ n ∷ named → Pairs t ps → (n ≤ length named) × (0 < extent (drop n named)) × (extent (drop n named) ≤ length (drop n named))
+split_there t named n ps e p = let f = split t named n ps e p in (f.few, f.some, f.whole)
 
 -- ---- the pairs that are left
 
@@ -67,6 +83,12 @@ left_behind all left rest from fewer (n, some, in_left, e) =
       e ∙ (ap (drop n) from ∙ (drop-drop n (length all - length left) all ∙ ap (λ (m : ℕ). drop m all) (omega arith))),
       omega arith,
     )
+
+-- the pair at the front has the key that is asked for
+pub found_keyed : (key name left last : List ℕ) (b : Bool) → left ≡ last → b ≡ same_bytes key name → b ≡ true → BeginsWithKey name left → BeginsWithKey key last
+found_keyed key name left last b from is true_so begins =
+    let same : key ≡ name = (bytes_decides key name).0 (sym is ∙ true_so) in
+    subst (BeginsWithKey key) from (subst (λ (k : List ℕ). BeginsWithKey k left) (sym same) begins)
 
 pub looks_start : (key all : List ℕ) → Looks key all all None
 looks_start key all = λ ps p. (ps, None, p, tt, or_none (last_at key ps))

@@ -27,13 +27,13 @@ use Rattle.amqp_c.specs.declared.entry.Entry.{Entry}
 use Rattle.amqp_c.specs.declared.fault.Fault.{Fault}
 use Rattle.amqp_c.specs.declared.fault.Fault.TheVariants.{More, UnknownTag, Malformed, TooLarge, Invalid}
 use Rattle.amqp_c.specs.Answers.{fault_of, HeaderFaults}
-use Rattle.amqp_c.specs.Entries.{Says, IsEntry}
+use Rattle.amqp_c.specs.Entries.{HasNoNumber, Says, IsEntry, IsTagged}
 use Rattle.amqp_c.specs.Heads.{has_content}
 use Rattle.amqp_c.specs.Scalars.{bits_in, scale_in}
 use Rattle.amqp_c.specs.Spans.{part}
 use Rattle.amqp_c.proofs.Parts.{part_front, part_content}
 
-length-wire : (w : List ℕ) (v : Tree) → Wire w v → 0 < length w
+pub length-wire : (w : List ℕ) (v : Tree) → Wire w v → 0 < length w
 length-wire _ _ (wire c type b v k p) = omega arith
 
 -- a value that is found has at least one byte
@@ -131,13 +131,13 @@ content_front amqp.FieldTable mid body rest f h v left raw =
     (subst (ContentIs body) (sym same.1) (b.0, b.1, refl), ap type_of same.1, same.2)
 content_front _ mid body rest f h v left raw = absurd cc
 
-says_content : (s : List ℕ) (e : Entry) (body : List ℕ) (v : Tree) → part s e.content ≡ body → ContentIs body v → Says s e v
-says_content s e body (scalar y) at x = absurd x
-says_content s e body (short b) at x = x
-says_content s e body (long b) at x = at ∙ sym x
-says_content s e body (octets b) at x = at ∙ sym x
-says_content s e body (array vs) at x = subst (λ (t : List ℕ). Body t vs) (sym at) x
-says_content s e body (table es) at x = subst (λ (t : List ℕ). HasEntries t es) (sym at) x
+says_content : (s : List ℕ) (e : Entry) (body : List ℕ) (v : Tree) → HasNoNumber e → part s e.content ≡ body → ContentIs body v → Says s e v
+says_content s e body (scalar y) none at x = absurd x
+says_content s e body (short b) none at x = x
+says_content s e body (long b) none at x = (at ∙ sym x, none)
+says_content s e body (octets b) none at x = (at ∙ sym x, none)
+says_content s e body (array vs) none at x = (subst (λ (t : List ℕ). Body t vs) (sym at) x, none)
+says_content s e body (table es) none at x = (subst (λ (t : List ℕ). HasEntries t es) (sym at) x, none)
 
 -- what is found of a value is its payload, of the type that was read
 raw_front : (s mid : List ℕ) (type : AMQPType) → IsType s type mid → (v : Tree) (left : List ℕ) → Outcome s (found v left) → RawFront type mid (found v left)
@@ -150,18 +150,22 @@ raw_front s mid type p v left x =
 
 -- the entry of a value whose field was read
 pub content_entry : (s mid body rest : List ℕ) (type : AMQPType) → IsType s type mid → IsFrame mid body rest → has_content type ≡ true
-    → (e : Entry) → e.value.offset ≡ 0 → e.value.length + length rest ≡ length s → e.content.offset ≡ 5 → e.content.length ≡ length body → e.tag ≡ id_of type
+    → (e : Entry) → e.value.offset ≡ 0 → e.value.length + length rest ≡ length s → e.content.offset ≡ 5 → e.content.length ≡ length body → e.tag ≡ id_of type → HasNoNumber e
     → (v : Tree) (left : List ℕ) → Outcome s (found v left) → IsEntry s e v × (left ≡ rest)
-content_entry s mid body rest type p f h e at size from count tag v left x =
+content_entry s mid body rest type p f h e at size from count tag none v left x =
     let c = content_front type mid body rest f h v left (raw_front s mid type p v left x) in
     let w : Wire (take e.value.length s) v = found_wire s left v e.value.length x (omega (arith, ap length c.2)) in (
       record {
         encoding = subst (λ (t : List ℕ). Wire t v) (sym (part_front s e.value at)) w;
         tag = tag ∙ ap id_of (sym c.1);
-        says = says_content s e body v (part_content s mid body rest p.0 e.content p.1 f.framed from count) c.0;
+        says = says_content s e body v none (part_content s mid body rest p.0 e.content p.1 f.framed from count) c.0;
       },
       c.2,
     )
+
+-- the entry has the type that was read
+pub is_tagged : (s mid : List ℕ) (type : AMQPType) → IsType s type mid → (e : Entry) → e.tag ≡ id_of type → (has_content type ≡ true → HasNoNumber e) → IsTagged s e
+is_tagged s mid type p e tag none = subst (λ (t : List ℕ). IsTagged t e) (sym p.1) (type, p.2, tag, none)
 
 -- ---- values of fixed width
 

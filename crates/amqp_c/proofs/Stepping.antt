@@ -1,6 +1,6 @@
 -- Entries in the body of a container.
-use Rattle.std.proofs.Common.{◌≡◌, ◌+◌, ◌-◌, ◌<◌, ◌≤◌, ℕ, suc, Option, Some, None, List, ◌++◌, Ok, length, take, drop, get_or, refl, sym, ap, ◌∙◌, subst, arith, length-append}
-use Rattle.std.proofs.lemmas.List.{take_at, drop_at}
+use Rattle.std.proofs.Common.{◌≡◌, ◌+◌, ◌-◌, ◌<◌, ◌≤◌, ℕ, zero, suc, Option, Some, None, IfSome, List, [], ◌∷◌, ◌++◌, Ok, length, take, drop, get_or, refl, sym, ap, ◌∙◌, subst, arith, length-append}
+use Rattle.std.proofs.lemmas.List.{take_at, drop_at, take-append-drop, length-take-le}
 use Rattle.amqp_grammar.specs.Values.{Tree, scalar, short, long, octets, array, table, Trees, Entries}
 use Rattle.amqp_grammar.specs.Grammar.{Wire, Body, no_values, value, Pairs, no_pairs, pair}
 use Rattle.amqp_grammar.specs.Outcomes.{found, Outcome}
@@ -9,10 +9,10 @@ use Rattle.amqp_in_place.specs.Bodies.{HasEntries}
 use Rattle.amqp_c.specs.declared.entry.Entry.{Entry}
 use Rattle.amqp_c.specs.declared.span.Span.{Span}
 use Rattle.amqp_c.specs.Answers.{GivesFirst}
-use Rattle.amqp_c.specs.Entries.{Says, Lies}
+use Rattle.amqp_c.specs.Entries.{Says, IsAtFront, IsTagged, Lies}
 use Rattle.amqp_c.specs.Spans.{part, moved, behind, SpanLies}
-use Rattle.amqp_c.specs.Steps.{IsFrontIn, IsValueIn, IsPairIn}
-use Rattle.amqp_c.proofs.Parts.{part_within, part_after, part_length}
+use Rattle.amqp_c.specs.Steps.{IsFrontIn, IsValueIn, IsPairIn, BeginsWithKey, StandsKeyed}
+use Rattle.amqp_c.proofs.Parts.{part_front, part_within, part_after, part_length}
 
 -- the entry, where the bytes that it was read from begin at the span
 abbrev pub placed : Span → Span → Entry → Entry
@@ -21,10 +21,10 @@ placed p key e = record { key = key; value = moved p.offset e.value; content = m
 says_placed : (s : List ℕ) (p key : Span) (e : Entry) (v : Tree) → part (part s p) e.content ≡ part s (moved p.offset e.content) → Says (part s p) e v → Says s (placed p key e) v
 says_placed s p key e (scalar x) at is = is
 says_placed s p key e (short b) at is = is
-says_placed s p key e (long b) at is = sym at ∙ is
-says_placed s p key e (octets b) at is = sym at ∙ is
-says_placed s p key e (array vs) at is = subst (λ (t : List ℕ). Body t vs) at is
-says_placed s p key e (table es) at is = subst (λ (t : List ℕ). HasEntries t es) at is
+says_placed s p key e (long b) at is = (sym at ∙ is.0, is.1)
+says_placed s p key e (octets b) at is = (sym at ∙ is.0, is.1)
+says_placed s p key e (array vs) at is = (subst (λ (t : List ℕ). Body t vs) at is.0, is.1)
+says_placed s p key e (table es) at is = (subst (λ (t : List ℕ). HasEntries t es) at is.0, is.1)
 
 -- what is read at the front of the span stands in the bytes
 pub front_given : (s : List ℕ) (p key : Span) (e : Entry) → SpanLies (length s) p → Lies (length (part s p)) e → (v : Tree) (rest : List ℕ) → Outcome (part s p) (found v rest)
@@ -45,6 +45,18 @@ front_given s p key e in_s in_part v rest x (is, at, whole) =
       after ∙ (ap (drop e.value.length) f.2 ∙ drop_at f.0 rest e.value.length taken),
     )
 
+-- its first byte is the one that was read
+tagged_front : (t : List ℕ) (n : ℕ) (p key : Span) (e : Entry) → 0 < n → IsTagged t e → IsTagged (take n t) (placed p key e)
+tagged_front [] n p key e some x = absurd x
+tagged_front (c ∷ b) zero p key e some x = absurd (omega arith)
+tagged_front (c ∷ b) (suc n) p key e some x = x
+
+pub tagged_placed : (s : List ℕ) (p key : Span) (e : Entry) → SpanLies (length s) p → Lies (length (part s p)) e → IsAtFront (part s p) e → IsTagged (part s (moved p.offset e.value)) (placed p key e)
+tagged_placed s p key e in_s lies front =
+    let same : take e.value.length (part s p) ≡ part s (moved p.offset e.value) =
+    sym (part_front (part s p) e.value front.1) ∙ part_within s p e.value (omega (arith, lies.value, part_length s p in_s)) in
+    subst (λ (t : List ℕ). IsTagged t (placed p key e)) same (tagged_front (part s p) e.value.length p key e lies.some front.3)
+
 -- the first of some values
 pub value_given : (s : List ℕ) (p key : Span) (r : Option Entry) → SpanLies (length s) p → 0 < p.length → key.length ≡ 0
     → ((v : Tree) (rest : List ℕ) → Outcome (part s p) (found v rest) → IsFrontIn s p key v rest r) → (vs : Trees) → Body (part s p) vs → IsValueIn s p vs r
@@ -57,6 +69,38 @@ value_given s p key r in_s some none f vs all = by (part s p) vs (omega (arith, 
     by : (t : List ℕ) (vs : Trees) → 0 < length t → ((v : Tree) (rest : List ℕ) → Outcome t (found v rest) → IsFrontIn s p key v rest r) → Body t vs → IsValueIn s p vs r
     by _ _ some f no_values = absurd (omega arith)
     by _ _ some f (value w rest v vs q all) = step v rest vs r all (f v rest (wire_found w rest v q))
+
+-- a key stands after its length
+pub begins_with : (s named : List ℕ) (n : ℕ) → s ≡ n ∷ named → n ≤ length named → BeginsWithKey (take n named) s
+begins_with s named n e few =
+    let size : length (take n named) ≡ n = length-take-le n named few in
+    (drop n named, e ∙ (ap (λ (t : List ℕ). n ∷ t) (sym (take-append-drop n named)) ∙ ap (λ (m : ℕ). m ∷ (take n named ++ drop n named)) (sym size)))
+
+-- and is the only one there
+pub one_key : (j k s : List ℕ) → BeginsWithKey j s → BeginsWithKey k s → j ≡ k
+one_key j k s a b =
+    let e : length j ∷ (j ++ a.0) ≡ length k ∷ (k ++ b.0) = sym a.1 ∙ b.1 in
+    let size : length j ≡ length k = ap (λ (t : List ℕ). get_or t 0 0) e in
+    sym (take_at j a.0 (length j) refl) ∙ (ap (take (length j)) (ap (drop 1) e) ∙ take_at k b.0 (length j) (sym size))
+
+pub key_stands : (s named : List ℕ) (p key : Span) (n : ℕ) → SpanLies (length s) p → part s p ≡ n ∷ named → n ≤ length named → key ≡ record { offset = p.offset + 1; length = n } → BeginsWithKey (part s key) (part s p)
+key_stands s named p key n in_s e few is =
+    let there : suc n ≤ p.length = omega (arith, ap length e, part_length s p in_s) in
+    let at : part (part s p) (record { offset = 1; length = n }) ≡ part s key =
+    part_within s p (record { offset = 1; length = n }) (omega arith) ∙ ap (λ (o : ℕ). take n (drop o s)) (omega arith) ∙ ap (part s) (sym is) in
+    subst (λ (k : List ℕ). BeginsWithKey k (part s p)) (sym (ap (λ (t : List ℕ). take n (drop 1 t)) e) ∙ at) (begins_with (part s p) named n e few)
+
+-- the entry of the pair stands at the span
+pub stands_keyed : (s named : List ℕ) (p key : Span) (n : ℕ) (r : Option Entry) → SpanLies (length s) p → part s p ≡ n ∷ named → n ≤ length named → key ≡ record { offset = p.offset + 1; length = n }
+    → IfSome r (λ e. e.key ≡ key) → IfSome r (λ e. e.value.offset ≡ key.offset + key.length) → IfSome r (StandsKeyed s p)
+stands_keyed s named p key n None in_s e few is same after = tt
+stands_keyed s named p key n (Some x) in_s e few is same after =
+    let from : x.key.offset ≡ key.offset = ap (λ (k : Span). k.offset) same in
+    let count : x.key.length ≡ key.length = ap (λ (k : Span). k.length) same in (
+      from ∙ ap (λ (k : Span). k.offset) is,
+      omega (arith, from, count, after),
+      subst (λ (k : Span). BeginsWithKey (part s k) (part s p)) (sym same) (key_stands s named p key n in_s e few is),
+    )
 
 -- a pair has all bytes of its key
 pub key_room : (t : List ℕ) (ps : Entries) → Pairs t ps → 0 < length t → get_or t 0 0 < length t

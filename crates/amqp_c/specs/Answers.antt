@@ -1,12 +1,13 @@
 -- What the calls answer.
 use Rattle.std.specs.Prelude.{ℕ, ◌≡◌, ◌+◌, ◌<◌, ◌≤◌, ℤ, pos, negsuc, List, length, Option, Some, None, Result, Ok, Err}
 use Rattle.amqp_grammar.specs.Values.{Tree}
-use Rattle.amqp_grammar.specs.Outcomes.{Reading, found, more, unknown, malformed}
+use Rattle.amqp_grammar.specs.Outcomes.{Reading, found, more, unknown, malformed, Outcome}
 use Rattle.amqp_grammar.specs.Nesting.{OutcomeWithin}
 use Rattle.amqp_parsing.specs.declared.errors.Err.TheVariants.{Incomplete, Error, Failure}
 use Rattle.amqp_parsing.specs.declared.errors.Needed.TheVariants.{Unknown, Size}
 use Rattle.amqp_parsing.specs.declared.errors.ErrorKind.TheVariants as kind
 use Rattle.amqp_parsing.specs.declared.limits.Limits.{Limits}
+use Rattle.amqp_parsing.specs.Answers.{Refuses}
 use Rattle.amqp_parsing.specs.Headers.{extent}
 use Rattle.amqp_parsing.specs.Limits.{Within}
 use Rattle.amqp_parsing.specs.Refusals.{Refusal}
@@ -32,6 +33,10 @@ code_of UnknownTag = negsuc 1
 code_of Malformed = negsuc 2
 code_of TooLarge = negsuc 3
 code_of Invalid = negsuc 4
+
+-- it is what an error that is right of reading s is told as
+abbrev pub IsRefusalOf : List ℕ → Fault → Type 0
+IsRefusalOf s f = (e : Refusal) × (f ≡ fault_of e) × Refuses (Outcome s) ⊥ e
 
 -- a fault is right, where `Is` says what reading the bytes comes to
 abbrev pub Faults : (Reading → Type 0) → Fault → Type 0

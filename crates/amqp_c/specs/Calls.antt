@@ -10,7 +10,7 @@ use Rattle.amqp_c.specs.declared.cursor.Cursor.{Cursor}
 use Rattle.amqp_c.specs.declared.entry.Entry.{Entry}
 use Rattle.amqp_c.specs.declared.fault.Fault.{Fault}
 use Rattle.amqp_c.specs.Spans.{part, SpanLies}
-use Rattle.amqp_c.specs.Entries.{IsAtFront, Lies}
+use Rattle.amqp_c.specs.Entries.{IsAtFront, IsTagged, Lies}
 use Rattle.amqp_c.specs.Steps.{array_tag, table_tag, contents, IsOfContainer, IsOfTable, StepsIn, RefusedBy, GivesValue, GivesPair, GivesFound}
 use Rattle.amqp_c.specs.Answers.{IsTaken, HeaderFaults, FaultsWithin, GivesFirst, answer_of, answer_if_any, count_of, given_or, found_or, entry_or, cursor_or}
 
@@ -53,14 +53,17 @@ pub record Steps (s : List ℕ) (c : Cursor) (old : Entry) (answer : ℤ) (new :
   pub entry : e ≡ entry_or old done
   pub values : (vs : Trees) → SpanLies (length s) c.left → c.tag ≡ array_tag → Body (part s c.left) vs → GivesValue s vs done
   pub pairs : (ps : Entries) → SpanLies (length s) c.left → c.tag ≡ table_tag → Pairs (part s c.left) ps → GivesPair s ps done
-  pub lies : IfOk done (StepsIn (length s) c)
+  pub lies : IfOk done (StepsIn s c)
   pub refused : IfErr done (RefusedBy (IsOfContainer (length s) c) (IsOfContainer (length s) c))
 
--- a look-up: where pairs are left, the value at the key is found, of equal keys the last
+-- a look-up: where pairs are left, the value at the key is found, of equal keys the last; and
+-- whatever is left, an entry that is given has the key, and the type of its type tag
 pub record Finds (s : List ℕ) (c : Cursor) (key : List ℕ) (old : Entry) (answer : ℤ) (new : Entry) : Type 0 where
   pub done : Result (Option Entry) Fault
   pub answered : answer ≡ answer_if_any done
   pub entry : new ≡ found_or old done
   pub found : (es : Entries) → IsOfTable (length s) c → HasEntries (part s c.left) es → GivesFound s (value_at key es) done
+  pub keyed : IfOk done (λ o. IfSome o (λ e. part s e.key ≡ key))
+  pub typed : IfOk done (λ o. IfSome o (λ e. IsTagged (part s e.value) e))
   pub lies : IfOk done (λ o. IfSome o (Lies (length s)))
   pub refused : IfErr done (RefusedBy (IsOfTable (length s) c) (IsOfTable (length s) c))

@@ -1,23 +1,29 @@
 -- What an entry tells of the bytes that it was read from.
-use Rattle.std.specs.Prelude.{ℕ, ◌≡◌, ◌<◌, List}
-use Rattle.amqp_types.specs.Ids.{id_of}
+use Rattle.std.specs.Prelude.{ℕ, ◌≡◌, ◌<◌, true, Some, List, [], ◌∷◌}
+use Rattle.amqp_types.specs.declared.amqp_type.AMQPType.{AMQPType}
+use Rattle.amqp_types.specs.Ids.{kind, id_of}
 use Rattle.amqp_grammar.specs.Values.{Tree, scalar, short, long, octets, array, table, type_of}
 use Rattle.amqp_grammar.specs.Grammar.{Wire, Body}
 use Rattle.amqp_parsing.specs.Headers.{extent}
 use Rattle.amqp_in_place.specs.Bodies.{HasEntries}
 use Rattle.amqp_c.specs.declared.entry.Entry.{Entry}
+use Rattle.amqp_c.specs.Heads.{has_content}
 use Rattle.amqp_c.specs.Scalars.{scalar_bits, scalar_scale}
 use Rattle.amqp_c.specs.Spans.{part, SpanLies}
+
+-- the entry has no number
+abbrev pub HasNoNumber : Entry → Type 0
+HasNoNumber e = (e.bits ≡ 0) × (e.scale ≡ 0)
 
 -- the entry says what v is: a value of fixed width by its bits and its scale, and any other by
 -- where its bytes, or those of its body, lie
 abbrev pub Says : List ℕ → Entry → Tree → Type 0
 Says s e (scalar x) = (e.bits ≡ scalar_bits x) × (e.scale ≡ scalar_scale x) × (e.content.length ≡ 0)
 Says s e (short b) = ⊥
-Says s e (long b) = part s e.content ≡ b
-Says s e (octets b) = part s e.content ≡ b
-Says s e (array vs) = Body (part s e.content) vs
-Says s e (table es) = HasEntries (part s e.content) es
+Says s e (long b) = (part s e.content ≡ b) × HasNoNumber e
+Says s e (octets b) = (part s e.content ≡ b) × HasNoNumber e
+Says s e (array vs) = Body (part s e.content) vs × HasNoNumber e
+Says s e (table es) = HasEntries (part s e.content) es × HasNoNumber e
 
 -- the entry is that of v, in s: where an encoding of v lies, the type tag that is written for it,
 -- and what it is
@@ -26,10 +32,16 @@ pub record IsEntry (s : List ℕ) (e : Entry) (v : Tree) : Type 0 where
   pub tag : e.tag ≡ id_of (type_of v)
   pub says : Says s e v
 
--- the entry has no key, and its value begins at the front of s and reaches as far as its type tag
--- and its length tell
+-- the first byte of s is a type tag, and the entry has the one that is written for its type; of a
+-- type with bytes after a length it has no number
+abbrev pub IsTagged : List ℕ → Entry → Type 0
+IsTagged [] e = ⊥
+IsTagged (c ∷ b) e = (type : AMQPType) × (kind c ≡ Some type) × (e.tag ≡ id_of type) × (has_content type ≡ true → HasNoNumber e)
+
+-- the entry has no key, its value begins at the front of s and reaches as far as its type tag and
+-- its length tell, and its type is the one that the type tag stands for
 abbrev pub IsAtFront : List ℕ → Entry → Type 0
-IsAtFront s e = (e.key.length ≡ 0) × (e.value.offset ≡ 0) × (e.value.length ≡ extent s)
+IsAtFront s e = (e.key.length ≡ 0) × (e.value.offset ≡ 0) × (e.value.length ≡ extent s) × IsTagged s e
 
 -- what the entry names lies in n bytes, and its value has at least one
 pub record Lies (n : ℕ) (e : Entry) : Type 0 where

@@ -1,9 +1,11 @@
 -- The bits and the scale that an entry has of a value of fixed width.
-use Rattle.std.specs.Prelude.{ℕ, if◌then◌else◌}
+use Rattle.std.specs.Prelude.{ℕ, ◌≡◌, ◌+◌, List, length, if◌then◌else◌}
 use Rattle.std.specs.Int.{w8, w16, w32, w64, cast_signed, cast_unsigned}
 use Rattle.amqp_types.specs.declared.amqp_type.AMQPType.{AMQPType}
 use Rattle.amqp_types.specs.declared.amqp_type.AMQPType.TheVariants as amqp
 use Rattle.amqp_grammar.specs.Values.{Tree, Scalar, boolean, number, decimal, void, scalar}
+use Rattle.amqp_grammar.specs.Outcomes.{Outcome, found}
+use Rattle.amqp_c.specs.declared.entry.Fixed.{Fixed}
 
 -- a number in 64 bits: a signed one in two's complement, and the bits of every other as they are
 abbrev pub widened : AMQPType → ℕ → ℕ
@@ -31,3 +33,7 @@ scalar_scale _ = 0
 abbrev pub scale_in : Tree → ℕ
 scale_in (scalar x) = scalar_scale x
 scale_in _ = 0
+
+-- a value is read from the front of s: it has so many bytes, these bits and this scale
+abbrev pub IsFixed : List ℕ → Fixed → Type 0
+IsFixed s x = (v : Tree) × (rest : List ℕ) × Outcome s (found v rest) × (x.length + length rest ≡ length s) × (x.bits ≡ bits_in v) × (x.scale ≡ scale_in v)

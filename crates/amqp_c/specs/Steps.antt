@@ -1,15 +1,15 @@
 -- Stepping through the body of a container by a cursor.
-use Rattle.std.specs.Prelude.{ℕ, ◌≡◌, ◌+◌, ◌<◌, ◌≤◌, List, length, drop, Option, Some, None, Result, Ok, ◌⊎◌}
+use Rattle.std.specs.Prelude.{ℕ, ◌≡◌, ◌+◌, ◌<◌, ◌≤◌, List, ◌++◌, length, drop, Option, Some, None, Result, Ok, ◌⊎◌}
 use Rattle.std.specs.Borrow.{Bor}
 use Rattle.amqp_grammar.specs.Values.{Tree, Trees, no_trees, tree, Entries, no_entries, entry}
-use Rattle.amqp_grammar.specs.Grammar.{Body, Pairs}
+use Rattle.amqp_grammar.specs.Grammar.{short_field, Body, Pairs}
 use Rattle.amqp_c.specs.declared.cursor.Cursor.{Cursor}
 use Rattle.amqp_c.specs.declared.entry.Entry.{Entry}
 use Rattle.amqp_c.specs.declared.fault.Fault.{Fault}
 use Rattle.amqp_c.specs.declared.fault.Fault.TheVariants.{Malformed, Invalid}
 use Rattle.amqp_c.specs.declared.span.Span.{Span}
 use Rattle.amqp_c.specs.Spans.{part, behind, SpanLies}
-use Rattle.amqp_c.specs.Entries.{IsEntry, Lies}
+use Rattle.amqp_c.specs.Entries.{IsEntry, IsTagged, Lies}
 
 -- the type tags of an array and of a table, `A` and `F`
 abbrev pub array_tag : ℕ
@@ -30,17 +30,38 @@ IsOfContainer n c = SpanLies n c.left × ((c.tag ≡ array_tag) ⊎ (c.tag ≡ t
 abbrev pub IsOfTable : ℕ → Cursor → Type 0
 IsOfTable n c = SpanLies n c.left × (c.tag ≡ table_tag)
 
--- a step of the cursor c in n bytes gives an entry that lies in them, and a cursor of the same
--- container which ends where c does and has less left; or nothing is left
-abbrev pub StepsIn : ℕ → Cursor → Option (Entry × Cursor) → Type 0
-StepsIn n c None = IsOfContainer n c × (c.left.length ≡ 0)
-StepsIn n c (Some x) =
-    IsOfContainer n c
-    × Lies n x.0
-    × SpanLies n x.1.left
-    × (x.1.tag ≡ c.tag)
-    × (x.1.left.length < c.left.length)
-    × (x.1.left.offset + x.1.left.length ≡ c.left.offset + c.left.length)
+-- the bytes begin with the key after its length in one byte
+abbrev pub BeginsWithKey : List ℕ → List ℕ → Type 0
+BeginsWithKey k s = (rest : List ℕ) × (s ≡ short_field k ++ rest)
+
+-- at the front of the bytes that p spans, the entry of a value stands: it has no key
+abbrev pub StandsAlone : Span → Entry → Type 0
+StandsAlone p e = (e.key.length ≡ 0) × (e.value.offset ≡ p.offset)
+
+-- the entry of a pair stands there: its key after the key's length in one byte, and the value
+-- right behind the key
+abbrev pub StandsKeyed : List ℕ → Span → Entry → Type 0
+StandsKeyed s p e = (e.key.offset ≡ p.offset + 1) × (e.value.offset ≡ e.key.offset + e.key.length) × BeginsWithKey (part s e.key) (part s p)
+
+-- a step of the cursor c in s, whatever they hold: the entry lies in s and stands where the cursor
+-- is, with the type of its type tag; the cursor becomes one of the same container that begins right
+-- behind the entry's value, ends where c does, and has less left
+pub record IsStep (s : List ℕ) (c : Cursor) (e : Entry) (next : Cursor) : Type 0 where
+  pub valid : IsOfContainer (length s) c
+  pub lies : Lies (length s) e
+  pub value : c.tag ≡ array_tag → StandsAlone c.left e
+  pub pair : c.tag ≡ table_tag → StandsKeyed s c.left e
+  pub typed : IsTagged (part s e.value) e
+  pub in_bytes : SpanLies (length s) next.left
+  pub same : next.tag ≡ c.tag
+  pub begins : next.left.offset ≡ e.value.offset + e.value.length
+  pub ends : next.left.offset + next.left.length ≡ c.left.offset + c.left.length
+  pub less : next.left.length < c.left.length
+
+-- a step gives such an entry and cursor, or nothing is left
+abbrev pub StepsIn : List ℕ → Cursor → Option (Entry × Cursor) → Type 0
+StepsIn s c None = IsOfContainer (length s) c × (c.left.length ≡ 0)
+StepsIn s c (Some x) = IsStep s c x.0 x.1
 
 -- a fault is right: what was handed in isn't `valid`, or bytes are malformed and it is so
 abbrev pub RefusedBy : Type 0 → Type 0 → Fault → Type 0

@@ -7,13 +7,14 @@ ghost use Rattle.amqp_grammar.specs.Grammar.{Body, Pairs};
 ghost use Rattle.amqp_grammar.specs.Outcomes.{Outcome, found};
 ghost use Rattle.amqp_in_place.specs.Bodies.{HasEntries};
 ghost use Rattle.amqp_c.specs.Spans.{part, SpanLies};
-ghost use Rattle.amqp_c.specs.Entries.{IsEntry, Lies};
-ghost use Rattle.amqp_c.specs.Steps.{array_tag, table_tag, contents, IsOfContainer, IsOfTable, StepsIn, RefusedBy, IsFrontIn, IsValueIn, IsPairIn, EndsIn, GivesValue, GivesPair, GivesFound, SplitsPair, IsBehind};
+ghost use Rattle.amqp_c.specs.Entries.{IsEntry, IsTagged, Lies};
+ghost use Rattle.amqp_c.specs.Steps.{array_tag, table_tag, contents, IsOfContainer, IsOfTable, StepsIn, RefusedBy, IsFrontIn, IsValueIn, IsPairIn, EndsIn, GivesValue, GivesPair, GivesFound, SplitsPair, IsBehind, BeginsWithKey, StandsAlone, StandsKeyed};
 
 use crate::entry::{Entry, first};
 use crate::fault::Fault;
 use crate::span::Span;
-use amq_protocol_types::in_place::skip_value;
+use amqp_input::SliceInput;
+use amqp_parsing::header::value_len;
 
 /// What is left of an array or a table.
 #[repr(C)]
@@ -62,7 +63,7 @@ impl Cursor {
             → Body (part bytes.now self.left) vs → GivesValue bytes.now vs result }
         ensures pairs { (ps : Entries) → SpanLies (length bytes.now) self.left → self.tag ≡ table_tag
             → Pairs (part bytes.now self.left) ps → GivesPair bytes.now ps result }
-        ensures steps { IfOk result (StepsIn (length bytes.now) self) }
+        ensures steps { IfOk result (StepsIn bytes.now self) }
         ensures refused { IfErr result (RefusedBy (IsOfContainer (length bytes.now) self) (IsOfContainer (length bytes.now) self)) }
     {
         let Some(body) = self.body(bytes) else {
@@ -91,6 +92,8 @@ impl Cursor {
     pub fn find(self, bytes: &[u8], key: &[u8]) -> Result<Option<Entry>, Fault>
         ensures found { (es : Entries) → IsOfTable (length bytes.now) self
             → HasEntries (part bytes.now self.left) es → GivesFound bytes.now (value_at key.now es) result }
+        ensures keyed { IfOk result (λ o. IfSome o (λ e. part bytes.now e.key ≡ key.now)) }
+        ensures typed { IfOk result (λ o. IfSome o (λ e. IsTagged (part bytes.now e.value) e)) }
         ensures lies { IfOk result (λ o. IfSome o (Lies (length bytes.now))) }
         ensures refused { IfErr result (RefusedBy (IsOfTable (length bytes.now) self) (IsOfTable (length bytes.now) self)) }
     {
@@ -125,17 +128,19 @@ impl Cursor {
 /// value's header alone.
 fn split_pair(pairs: &[u8]) -> Option<(&[u8], &[u8])>
     ensures pair { (ps : Entries) → 0 < length pairs.now → Pairs pairs.now ps → SplitsPair ps result }
+    ensures keyed { IfSome result (λ x. BeginsWithKey x.0.now pairs.now) }
     ensures behind { IfSome result (λ x. IsBehind pairs.now x.1.now) }
 {
     let (length, named) = pairs.split_first()?;
     let length = usize::from(*length);
-    if named.len() < length {
+    if named.len() <= length {
         return None;
     }
     let (key, value) = named.split_at(length);
-    let Ok(taken) = skip_value(value) else {
+    let taken = value_len(SliceInput::new(value));
+    if taken == 0 || value.len() < taken {
         return None;
-    };
+    }
     let (_, behind) = value.split_at(taken);
     Some((key, behind))
 }
@@ -144,6 +149,8 @@ fn split_pair(pairs: &[u8]) -> Option<(&[u8], &[u8])>
 fn first_value(bytes: &[u8], left: Span) -> Option<Entry>
     requires left { SpanLies (length bytes.now) left }
     ensures value { (vs : Trees) → 0 < left.length → Body (part bytes.now left) vs → IsValueIn bytes.now left vs result }
+    ensures stands { IfSome result (StandsAlone left) }
+    ensures typed { IfSome result (λ e. IsTagged (part bytes.now e.value) e) }
     ensures lies { IfSome result (λ e. Lies (length bytes.now) e × EndsIn left e) }
 {
     front_of(bytes, left, Span::NONE)
@@ -153,6 +160,8 @@ fn first_value(bytes: &[u8], left: Span) -> Option<Entry>
 fn first_pair(bytes: &[u8], left: Span) -> Option<Entry>
     requires left { SpanLies (length bytes.now) left }
     ensures pair { (ps : Entries) → 0 < left.length → Pairs (part bytes.now left) ps → IsPairIn bytes.now left ps result }
+    ensures stands { IfSome result (StandsKeyed bytes.now left) }
+    ensures typed { IfSome result (λ e. IsTagged (part bytes.now e.value) e) }
     ensures lies { IfSome result (λ e. Lies (length bytes.now) e × EndsIn left e) }
 {
     let length = usize::from(*left.of(bytes)?.first()?);
@@ -172,6 +181,9 @@ fn front_of(bytes: &[u8], left: Span, key: Span) -> Option<Entry>
     requires key { SpanLies (length bytes.now) key }
     ensures told { (v : Tree) (rest : List ℕ) → Outcome (part bytes.now left) (found v rest)
         → IsFrontIn bytes.now left key v rest result }
+    ensures key { IfSome result (λ e. e.key ≡ key) }
+    ensures value { IfSome result (λ e. e.value.offset ≡ left.offset) }
+    ensures typed { IfSome result (λ e. IsTagged (part bytes.now e.value) e) }
     ensures lies { IfSome result (λ e. Lies (length bytes.now) e × EndsIn left e) }
 {
     let Ok(entry) = first(left.of(bytes)?) else {

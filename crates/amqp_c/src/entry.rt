@@ -1,12 +1,12 @@
 //! What stands at the front of some bytes, told by offsets.
 
-ghost use Rattle.std.specs.Prelude.{◌≡◌, ◌+◌, ◌<◌, ℕ, List, length, IfErr, IfOk};
+ghost use Rattle.std.specs.Prelude.{◌≡◌, ◌+◌, ◌<◌, ℕ, List, length, IfErr, IfOk, MatchResult};
 ghost use Rattle.amqp_grammar.specs.Values.{Tree};
 ghost use Rattle.amqp_grammar.specs.Outcomes.{Outcome, found};
 ghost use Rattle.amqp_in_place.specs.Refs.{Stands};
-ghost use Rattle.amqp_c.specs.Scalars.{bits_in, scale_in};
+ghost use Rattle.amqp_c.specs.Scalars.{bits_in, scale_in, IsFixed};
 ghost use Rattle.amqp_c.specs.Entries.{IsAtFront, Lies};
-ghost use Rattle.amqp_c.specs.Answers.{GivesFirst, HeaderFaults};
+ghost use Rattle.amqp_c.specs.Answers.{GivesFirst, HeaderFaults, IsRefusalOf};
 ghost use Rattle.amqp_c.specs.Heads.{has_content};
 
 use crate::fault::Fault;
@@ -41,6 +41,7 @@ const NOWHERE: Span = Span {
 
 /// The entry of the value at the front of the bytes, by its type tag and its length alone: what
 /// stands in a container isn't looked at.
+#[inline(always)]
 pub fn first(bytes: &[u8]) -> Result<Entry, Fault>
     ensures told { (v : Tree) (rest : List ℕ) → Outcome bytes.now (found v rest) → GivesFirst bytes.now v rest result }
     ensures lies { IfOk result (λ e. Lies (length bytes.now) e) }
@@ -48,7 +49,6 @@ pub fn first(bytes: &[u8]) -> Result<Entry, Fault>
     ensures refused { IfErr result (HeaderFaults (Outcome bytes.now)) }
 {
     let (payload, amqp_type) = parse_type(SliceInput::new(bytes))?;
-    let tag = amqp_type.get_id() as u8;
     if has_content(amqp_type) {
         let (rest, body) = parse_frame(payload)?;
         return Ok(Entry {
@@ -62,20 +62,45 @@ pub fn first(bytes: &[u8]) -> Result<Entry, Fault>
                 length: body.input_len(),
             },
             bits: 0,
-            tag,
+            tag: amqp_type.get_id() as u8,
             scale: 0,
         });
     }
-    let (value, rest) = read_in_place_unlimited(bytes)?;
+    let fixed = read_fixed(bytes)?;
     Ok(Entry {
         key: NOWHERE,
         value: Span {
             offset: 0,
-            length: bytes.len() - rest.len(),
+            length: fixed.length,
         },
         content: NOWHERE,
+        bits: fixed.bits,
+        tag: amqp_type.get_id() as u8,
+        scale: fixed.scale,
+    })
+}
+
+/// What a value of fixed width tells.
+#[derive(Clone, Copy)]
+struct Fixed {
+    /// How many bytes its encoding has.
+    length: usize,
+    /// Its bits, as in an entry.
+    bits: u64,
+    /// Its scale, as in an entry.
+    scale: u8,
+}
+
+/// Reads the value at the front. It isn't written in line, so that `first` hands its entry on in
+/// registers where nothing is to be read.
+#[inline(never)]
+fn read_fixed(bytes: &[u8]) -> Result<Fixed, Fault>
+    ensures { MatchResult result (IsFixed bytes.now) (IsRefusalOf bytes.now) }
+{
+    let (value, rest) = read_in_place_unlimited(bytes)?;
+    Ok(Fixed {
+        length: bytes.len() - rest.len(),
         bits: bits_in(value),
-        tag,
         scale: scale_in(value),
     })
 }

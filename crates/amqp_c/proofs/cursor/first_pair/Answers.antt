@@ -1,8 +1,9 @@
-use Rattle.std.proofs.Common.{◌≡◌, get_or, arith}
+use Rattle.std.proofs.Common.{◌≡◌, ◌+◌, ◌∷◌, drop, get_or, length, length-drop, ap, refl, arith}
 use Rattle.std.proofs.lemmas.Grind.{common_steps}
+use Rattle.amqp_c.specs.declared.span.Span.{Span}
 use Rattle.amqp_c.specs.Spans.{part}
 use Rattle.amqp_c.proofs.Parts.{part_length}
-use Rattle.amqp_c.proofs.Stepping.{pair_given, key_room}
+use Rattle.amqp_c.proofs.Stepping.{pair_given, key_room, stands_keyed}
 use Rattle.amqp_c.proofs.cursor.first_pair.Goals as goal
 
 pub returns-then-left-length-clause-pair : goal.returns-then-left-length-clause-pair
@@ -17,3 +18,14 @@ returns-clause-pair c = λ ps some all.
     let s = c.args.bytes.now in
     let n : c.from-length.result ≡ get_or (part s c.args.left) 0 0 = grind (arith, common_steps) in
     pair_given s c.args.left c.from-length.result c.front_of.result c.requires.left some n (rw c.behind.ensures at c.front_of.ensures.told) ps all
+
+pub returns-clause-stands : goal.returns-clause-stands
+returns-clause-stands c =
+    let s = c.args.bytes.now in
+    let left = c.args.left in
+    let n = c.from-length.result in
+    let whole = part_length s left c.requires.left in
+    let key : Span = record { offset = left.offset + 1; length = n } in
+    let e : part s left ≡ n ∷ drop 1 (part s left) = grind (arith, common_steps) in
+    stands_keyed s (drop 1 (part s left)) left key n c.front_of.result c.requires.left e (omega (arith, ap length e, length-drop 1 (part s left))) refl c.front_of.ensures.key
+    (rw c.behind.ensures at c.front_of.ensures.value)

@@ -1,8 +1,8 @@
 use Rattle.std.proofs.Common.{List, ℕ, length, Ok, subst, sym}
 use Rattle.amqp_grammar.specs.Outcomes.{Outcome, found}
 use Rattle.amqp_c.specs.Answers.{GivesFirst}
-use Rattle.amqp_c.specs.Entries.{Lies}
-use Rattle.amqp_c.proofs.Stepping.{front_given}
+use Rattle.amqp_c.specs.Entries.{IsAtFront, Lies}
+use Rattle.amqp_c.proofs.Stepping.{front_given, tagged_placed}
 use Rattle.amqp_c.proofs.cursor.front_of.Goals as goal
 
 pub returns-clause-told : goal.returns-clause-told
@@ -15,3 +15,11 @@ returns-clause-told c = λ v rest x.
     (subst (λ (t : List ℕ). Lies (length t) e) is c.in-Ok.ensures.lies) v rest x
     (subst (λ (t : List ℕ). GivesFirst t v rest (Ok e)) is
     (c.in-Ok.ensures.told v rest (subst (λ (t : List ℕ). Outcome t (found v rest)) (sym is) x))))
+
+pub returns-clause-typed : goal.returns-clause-typed
+returns-clause-typed c =
+    let s = c.args.bytes.now in
+    let is = c.in_ok-of.ensures.1 in
+    let e = c.in-Ok.entry in
+    rw (c.moved.ensures, c.moved-2.ensures)
+    (tagged_placed s c.args.left c.args.key e c.requires.left (subst (λ (t : List ℕ). Lies (length t) e) is c.in-Ok.ensures.lies) (subst (λ (t : List ℕ). IsAtFront t e) is c.in-Ok.ensures.front))

@@ -1,11 +1,12 @@
-use Rattle.std.proofs.Common.{◌≡◌, ◌+◌, ◌-◌, ℕ, List, length, refl, sym, ap, ◌∙◌, subst, arith, length-append}
+use Rattle.std.proofs.Common.{◌≡◌, ◌+◌, ◌-◌, ℕ, false, List, length, refl, sym, ap, ◌∙◌, subst, arith, length-append}
 use Rattle.std.proofs.lemmas.Result.{err_from_is_err_and}
 use Rattle.amqp_input.specs.Inputs.{slice_bytes}
 use Rattle.amqp_parsing.specs.Typed.{IsType}
 use Rattle.amqp_grammar.specs.Grammar.{long_field}
 use Rattle.amqp_c.specs.Answers.{fault_of}
 use Rattle.amqp_c.specs.declared.entry.Entry.{Entry}
-use Rattle.amqp_c.proofs.Fronts.{never_faulty, cut_fault, scalar_fault, frame_extent, found_extent, content_entry, scalar_entry, found_shorter}
+use Rattle.amqp_c.specs.Heads.{has_content}
+use Rattle.amqp_c.proofs.Fronts.{is_tagged, never_faulty, cut_fault, scalar_fault, frame_extent, found_extent, content_entry, scalar_entry, found_shorter}
 use Rattle.amqp_c.proofs.entry.first.Goals as goal
 
 pub returns-in_err-rest-clause-refused : goal.returns-in_err-rest-clause-refused
@@ -38,28 +39,11 @@ returns-then-has_content-clause-told c = λ v left x.
       value = record { offset = 0; length = length s - c.input_len.result };
       content = record { offset = 5; length = c.input_len-then-has_content.result };
       bits = 0;
-      tag = c.get_id-tag.result;
+      tag = c.get_id.result;
       scale = 0;
     } in
-    let is = content_entry s mid body rest c.in_ok-payload.amqp_type p f (sym c.has_content.ensures ∙ c.if-has_content.true) e refl whole refl c.input_len-then-has_content.ensures.count c.get_id-tag.ensures.id v left x in
+    let is = content_entry s mid body rest c.in_ok-payload.amqp_type p f (sym c.has_content.ensures ∙ c.if-has_content.true) e refl whole refl c.input_len-then-has_content.ensures.count c.get_id.ensures.id (refl, refl) v left x in
     (is.0, refl, omega (arith, ap length is.1, whole))
-
-pub returns-in_err-value-clause-told : goal.returns-in_err-value-clause-told
-returns-in_err-value-clause-told c = λ v rest x.
-    let s = c.args.bytes.now in
-    let mid = slice_bytes c.in_ok-payload.payload in
-    let p = subst (λ (t : List ℕ). IsType t c.in_ok-payload.amqp_type mid) c.new.ensures c.in_ok-payload.ensures.id in
-    absurd (never_faulty s rest v (fault_of c.in_err-value.field-0.0) x
-    (scalar_fault s mid c.in_ok-payload.amqp_type p (sym c.has_content.ensures ∙ c.if-has_content.false) c.in_ok-payload.ensures.read_back c.in_err-value.field-0.0 c.in_err-value.ensures.outcome))
-
-pub returns-in_err-value-clause-refused : goal.returns-in_err-value-clause-refused
-returns-in_err-value-clause-refused c =
-    let s = c.args.bytes.now in
-    let mid = slice_bytes c.in_ok-payload.payload in
-    let p = subst (λ (t : List ℕ). IsType t c.in_ok-payload.amqp_type mid) c.new.ensures c.in_ok-payload.ensures.id in
-    let r = err_from_is_err_and c.from_residual-in_err-value.result c.from_residual-in_err-value.ensures.1 in
-    rw (r.1, r.2)
-    (scalar_fault s mid c.in_ok-payload.amqp_type p (sym c.has_content.ensures ∙ c.if-has_content.false) c.in_ok-payload.ensures.read_back c.in_err-value.field-0.0 c.in_err-value.ensures.outcome)
 
 pub returns-then-has_content-clause-front : goal.returns-then-has_content-clause-front
 returns-then-has_content-clause-front c =
@@ -67,36 +51,54 @@ returns-then-has_content-clause-front c =
     let mid = slice_bytes c.in_ok-payload.payload in
     let p = subst (λ (t : List ℕ). IsType t c.in_ok-payload.amqp_type mid) c.new.ensures c.in_ok-payload.ensures.id in
     let e = frame_extent s mid (slice_bytes c.in_ok-rest.body) (slice_bytes c.in_ok-rest.rest) c.in_ok-payload.amqp_type p c.in_ok-rest.ensures (sym c.has_content.ensures ∙ c.if-has_content.true) in
-    (refl, refl, omega (arith, c.input_len.ensures.count))
+    (refl, refl, omega (arith, c.input_len.ensures.count), is_tagged s mid c.in_ok-payload.amqp_type p _ c.get_id.ensures.id (λ h. (refl, refl)))
+
+pub returns-in_err-fixed-clause-told : goal.returns-in_err-fixed-clause-told
+returns-in_err-fixed-clause-told c = λ v rest x.
+    let s = c.args.bytes.now in
+    let mid = slice_bytes c.in_ok-payload.payload in
+    let p = subst (λ (t : List ℕ). IsType t c.in_ok-payload.amqp_type mid) c.new.ensures c.in_ok-payload.ensures.id in
+    let e = c.in_err-fixed.ensures in
+    absurd (never_faulty s rest v (fault_of e.0) x (scalar_fault s mid c.in_ok-payload.amqp_type p (sym c.has_content.ensures ∙ c.if-has_content.false) c.in_ok-payload.ensures.read_back e.0 e.2))
+
+pub returns-in_err-fixed-clause-refused : goal.returns-in_err-fixed-clause-refused
+returns-in_err-fixed-clause-refused c =
+    let s = c.args.bytes.now in
+    let mid = slice_bytes c.in_ok-payload.payload in
+    let p = subst (λ (t : List ℕ). IsType t c.in_ok-payload.amqp_type mid) c.new.ensures c.in_ok-payload.ensures.id in
+    let e = c.in_err-fixed.ensures in
+    let r = err_from_is_err_and c.from_residual-in_err-fixed.result c.from_residual-in_err-fixed.ensures.1 in
+    rw (r.1, r.2, e.1) (scalar_fault s mid c.in_ok-payload.amqp_type p (sym c.has_content.ensures ∙ c.if-has_content.false) c.in_ok-payload.ensures.read_back e.0 e.2)
 
 pub returns-clause-front : goal.returns-clause-front
 returns-clause-front c =
-    let x = c.in_ok-value.ensures.outcome in
-    let e = found_extent c.args.bytes.now c.in_ok-value.rest.now x.0 x.2 in
-    (refl, refl, omega arith)
+    let s = c.args.bytes.now in
+    let mid = slice_bytes c.in_ok-payload.payload in
+    let p = subst (λ (t : List ℕ). IsType t c.in_ok-payload.amqp_type mid) c.new.ensures c.in_ok-payload.ensures.id in
+    let x = c.in_ok-fixed.ensures in
+    let e = found_extent s x.1 x.0 x.2 in
+    let plain : has_content c.in_ok-payload.amqp_type ≡ false = sym c.has_content.ensures ∙ c.if-has_content.false in
+    (refl, refl, omega (arith, e, x.3), is_tagged s mid c.in_ok-payload.amqp_type p _ c.get_id-2.ensures.id (λ h. absurd (let no = sym h ∙ plain in cc)))
 
 pub returns-clause-lies : goal.returns-clause-lies
 returns-clause-lies c =
-    let x = c.in_ok-value.ensures.outcome in
-    let less = found_shorter c.args.bytes.now c.in_ok-value.rest.now x.0 x.2 in
-    record { key = omega arith; value = omega arith; content = omega arith; some = omega arith }
+    let x = c.in_ok-fixed.ensures in
+    let less = found_shorter c.args.bytes.now x.1 x.0 x.2 in
+    record { key = omega arith; value = omega (arith, less, x.3); content = omega arith; some = omega (arith, less, x.3) }
 
 pub returns-clause-told : goal.returns-clause-told
-returns-clause-told c = λ v left x.
+returns-clause-told c = λ v left y.
     let s = c.args.bytes.now in
     let mid = slice_bytes c.in_ok-payload.payload in
-    let rest = c.in_ok-value.rest.now in
     let p = subst (λ (t : List ℕ). IsType t c.in_ok-payload.amqp_type mid) c.new.ensures c.in_ok-payload.ensures.id in
-    let y = c.in_ok-value.ensures.outcome in
-    let less = found_shorter s rest y.0 y.2 in
-    let whole : length s - length rest + length rest ≡ length s = omega arith in
+    let x = c.in_ok-fixed.ensures in
     let e : Entry = record {
       key = record { offset = 0; length = 0 };
-      value = record { offset = 0; length = length s - length rest };
+      value = record { offset = 0; length = c.in_ok-fixed.fixed.length };
       content = record { offset = 0; length = 0 };
-      bits = c.bits_in.result;
-      tag = c.get_id-tag.result;
-      scale = c.scale_in.result;
+      bits = c.in_ok-fixed.fixed.bits;
+      tag = c.get_id-2.result;
+      scale = c.in_ok-fixed.fixed.scale;
     } in
-    let is = scalar_entry s mid rest c.in_ok-payload.amqp_type y.0 p (sym c.has_content.ensures ∙ c.if-has_content.false) c.in_ok-payload.ensures.read_back y.2 e refl whole refl c.get_id-tag.ensures.id (c.bits_in.ensures y.0 y.1) (c.scale_in.ensures y.0 y.1) v left x in
-    (is.0, refl, omega (arith, ap length is.1, whole))
+    let is = scalar_entry s mid x.1 c.in_ok-payload.amqp_type x.0 p (sym c.has_content.ensures ∙ c.if-has_content.false) c.in_ok-payload.ensures.read_back x.2 e refl x.3 refl c.get_id-2.ensures.id x.4 x.5 v left y in
+    (is.0, refl, omega (arith, ap length is.1, x.3))

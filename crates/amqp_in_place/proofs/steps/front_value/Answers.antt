@@ -1,5 +1,4 @@
 use Rattle.std.proofs.Common.{ℕ, List, sym, subst}
-use Rattle.amqp_grammar.specs.Outcomes.{Outcome, found}
 use Rattle.amqp_input.specs.Inputs.{slice_bytes}
 use Rattle.amqp_in_place.specs.Heads.{IsHead}
 use Rattle.amqp_in_place.specs.Walks.{HasFront}

@@ -1,4 +1,4 @@
-use Rattle.std.proofs.Common.{Some, Bool, cond, sym, ap, rules}
+use Rattle.std.proofs.Common.{Some, Bool, cond, sym, ap}
 use Rattle.amqp_in_place.proofs.Lookups.{Looks-step, Looks-end}
 use Rattle.amqp_in_place.proofs.Places.{left_of_left}
 use Rattle.amqp_in_place.proofs.tables.last_at.Goals as goal

@@ -1,6 +1,7 @@
 use Rattle.std.proofs.Common.{◌≡◌, ◌-◌, ◌≤◌, length, drop}
 use Rattle.std.specs.Option.{IfSome}
 use Rattle.amqp_c.specs.Spans.{part}
+use Rattle.amqp_c.specs.Steps.{BeginsWithKey}
 use Rattle.amqp_c.proofs.Finding.{Looks}
 use Rattle.amqp_c.proofs.cursor.Cursor.find.Given as goal
 
@@ -10,6 +11,7 @@ invariant-pairs l = record {
   behind : l.left ≡ drop (length (part l.bytes l.self.left) - length l.left) (part l.bytes l.self.left);
   fewer : length l.left ≤ length (part l.bytes l.self.left);
   at : IfSome l.at (λ n. n ≤ l.self.left.length);
+  keyed : IfSome l.at (λ n. BeginsWithKey l.key (drop (length (part l.bytes l.self.left) - n) (part l.bytes l.self.left)));
   looks : Looks l.key (part l.bytes l.self.left) l.left l.at;
 }
 

@@ -1,4 +1,4 @@
-use Rattle.std.proofs.Common.{◌≡◌, List, ℕ, sym, ◌∙◌, subst}
+use Rattle.std.proofs.Common.{List, ℕ, sym, ◌∙◌, subst}
 use Rattle.amqp_grammar.specs.Maps.{value_at}
 use Rattle.amqp_in_place.specs.Bodies.{HasPairs, HasEntries}
 use Rattle.amqp_in_place.specs.Walks.{BeginsAt}
