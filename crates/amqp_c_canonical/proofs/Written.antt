@@ -13,9 +13,10 @@ use Rattle.amqp_parsing.specs.declared.limits.Limits.{Limits}
 use Rattle.amqp_parsing.specs.Limits.{Within, RefusesWithin}
 use Rattle.amqp_parsing.specs.Refusals.{Refusal}
 use Rattle.amqp_in_place.specs.Canonicals.{IsCanonicalLen}
-use Rattle.amqp_c_canonical.specs.declared.fault.Fault.{Fault}
-use Rattle.amqp_c_canonical.specs.Answers.{fault_of}
-use Rattle.amqp_c_canonical.specs.Calls.{IsPut, HasNoRoom, IsRead, IsWritten, IsNotCanonical, IsFault}
+use Rattle.amqp_c_answers.specs.declared.fault.Fault.{Fault}
+use Rattle.amqp_c_answers.specs.Answers.{fault_of}
+use Rattle.amqp_c_answers.specs.Rooms.{IsPut, HasNoRoom}
+use Rattle.amqp_c_canonical.specs.Calls.{IsRead, IsWritten, IsNotCanonical, IsFault}
 
 -- a canonical encoding is no longer than what was read
 is_read : (l : Limits) (s rest : List ℕ) (v : Tree) → Within l s (found v rest) → IsRead l s v rest
