@@ -10,54 +10,9 @@
  * allocation failing, then the second, until a call makes fewer, and then each prefix of them and
  * each change of one byte to one of some. It prints how many calls it made.
  */
-#define _DEFAULT_SOURCE
-#include "amqp.h"
-
-#include <inttypes.h>
-#include <stdio.h>
-#include <stdlib.h>
-#include <string.h>
-#include <sys/mman.h>
-#include <unistd.h>
-
-#define CHECK(condition)                                                      \
-    do {                                                                      \
-        if (!(condition)) {                                                   \
-            fprintf(stderr, "line %d: not so: %s\n", __LINE__, #condition);   \
-            abort();                                                          \
-        }                                                                     \
-    } while (0)
-
-static uint64_t calls, taken, held, failing;
-
-/* Whether the next allocation fails: the one whose number is `failing`. */
-static int fails(void) {
-    return ++taken == failing;
-}
-
-void *__real_malloc(size_t size);
-void *__real_realloc(void *block, size_t size);
-void __real_free(void *block);
-
-void *__wrap_malloc(size_t size) {
-    void *block = fails() ? NULL : __real_malloc(size);
-    held += block != NULL;
-    return block;
-}
-
-void *__wrap_realloc(void *block, size_t size) {
-    void *larger = fails() ? NULL : __real_realloc(block, size);
-    held += block == NULL && larger != NULL;
-    return larger;
-}
-
-void __wrap_free(void *block) {
-    held -= block != NULL;
-    __real_free(block);
-}
+#include "tried.h"
 
 static uint8_t *bytes_page, *room_page;
-static size_t page_size;
 
 #define DEPTH 8
 #define INPUT(given, canonical) {given, sizeof given - 1, canonical, sizeof canonical - 1}
@@ -79,13 +34,6 @@ static const struct {
     INPUT("F\0\0\0\22\1bS\0\0\0\2hi\1aA\0\0\0\2t\7", "F\0\0\0\22\1aA\0\0\0\2t\1\1bS\0\0\0\2hi"),
 };
 static const uint8_t others[] = {0, 1, 2, 'A', 'F', 'L', 'S', 'U', 'V', 'b', 't', 127, 128, 255};
-
-static uint8_t *page_between(void) {
-    uint8_t *pages = mmap(NULL, 3 * page_size, PROT_NONE, MAP_PRIVATE | MAP_ANONYMOUS, -1, 0);
-    CHECK(pages != MAP_FAILED);
-    CHECK(mprotect(pages + page_size, page_size, PROT_READ | PROT_WRITE) == 0);
-    return pages + page_size;
-}
 
 /* Calls with the bytes and the room against the ends of their pages, and checks what is left. */
 static int32_t write_to(const uint8_t *given, size_t length, uint8_t *room, size_t room_length, size_t *count) {
@@ -159,8 +107,8 @@ static void try_bytes(const uint8_t *given, size_t length) {
 
 int main(void) {
     page_size = (size_t)sysconf(_SC_PAGESIZE);
-    bytes_page = page_between();
-    room_page = page_between();
+    bytes_page = pages_between(1);
+    room_page = pages_between(1);
 
     uint8_t input[64];
     for (size_t i = 0; i < sizeof inputs / sizeof *inputs; i++) {

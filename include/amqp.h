@@ -2,8 +2,9 @@
  * Values of AMQP 0-9-1 field tables, read where their bytes lie. C11, and C++.
  *
  * No call keeps state, prints or ends the process, and calls in several threads don't meet. None
- * takes memory but amqp_canonical, which is in a library of its own. docs/C.md goes call by call,
- * with an example; docs/GRAMMAR.md has the bytes.
+ * takes memory but amqp_canonical, amqp_to_json and amqp_from_json, which are in libraries of their
+ * own. docs/C.md goes call by call, with examples; docs/GRAMMAR.md has the bytes, and docs/JSON.md
+ * the JSON of values.
  *
  * Every offset counts bytes from `bytes`. What is handed in is checked each time: whatever a cursor
  * or an entry holds, no byte outside of the `length` bytes at `bytes` is read, and what goes out
@@ -32,7 +33,9 @@ enum {
     AMQP_TOO_LARGE = -4,   /* the value has more bytes than `frame` */
     AMQP_INVALID = -5,     /* what was handed in doesn't lie in the bytes, or is of no container */
     AMQP_NO_MEMORY = -6,   /* memory ran out */
-    AMQP_NO_ROOM = -7      /* the room is too small for what is to be written */
+    AMQP_NO_ROOM = -7,     /* the room is too small for what is to be written */
+    AMQP_NOT_JSON = -8,    /* the text isn't UTF-8, is no JSON, or the JSON of no value */
+    AMQP_NO_ENCODING = -9  /* the value has no encoding */
 };
 
 /* The type tags that an entry tells. Two are second spellings: `U` is told as `s`, `L` as `l`. */
@@ -140,6 +143,33 @@ int32_t amqp_find(const uint8_t *bytes, size_t length, const amqp_cursor *cursor
  */
 int32_t amqp_canonical(const uint8_t *bytes, size_t length, uint32_t frame, uint32_t depth,
                        uint8_t *room, size_t room_length, size_t *count);
+
+/*
+ * Writes the JSON text of the value at the front, read within the limits of amqp_read, to the start
+ * of the room, with no spaces between its parts and no zero behind it. docs/JSON.md has the JSON of
+ * each type. No two values have one JSON.
+ *
+ * `count` becomes how many bytes were written (AMQP_OK), how many more are needed of the value
+ * (AMQP_MORE), or how many the room has to have (AMQP_NO_ROOM), else 0. Also answers
+ * AMQP_UNKNOWN_TAG, AMQP_MALFORMED, AMQP_TOO_LARGE or AMQP_NO_MEMORY. It takes memory, by malloc,
+ * realloc and free, and gives it back. It recurses at most 2 * `depth` + 2 deep: as the JSON nests.
+ *
+ * It and the next one are in libamqp_c_json.a.
+ */
+int32_t amqp_to_json(const uint8_t *bytes, size_t length, uint32_t frame, uint32_t depth, uint8_t *room,
+                     size_t room_length, size_t *count);
+
+/*
+ * Writes the canonical encoding of the value that a JSON text means to the start of the room. What
+ * amqp_to_json wrote is read as the value that it was written for, where it nests at most 127 deep:
+ * no text that nests deeper is read. So it recurses at most 128 deep, whatever is handed in.
+ *
+ * `count` becomes how many bytes were written (AMQP_OK), or how many the room has to have
+ * (AMQP_NO_ROOM), else 0. Also answers AMQP_NOT_JSON, AMQP_NO_MEMORY, or AMQP_NO_ENCODING where a
+ * ShortString stands in the value, which has no type tag, or where a length is too large for its
+ * field. It takes memory, by malloc, realloc and free, and gives it back.
+ */
+int32_t amqp_from_json(const uint8_t *text, size_t length, uint8_t *room, size_t room_length, size_t *count);
 
 /* Where a call answers anything but AMQP_OK, the entry, the cursor and the room stay as they are. */
 

@@ -15,6 +15,8 @@ static const char *why(int32_t answer) {
     case AMQP_TOO_LARGE: return "too large";
     case AMQP_NO_MEMORY: return "out of memory";
     case AMQP_NO_ROOM: return "no room";
+    case AMQP_NOT_JSON: return "the JSON of no value";
+    case AMQP_NO_ENCODING: return "no encoding";
     default: return "invalid";
     }
 }

@@ -12,10 +12,14 @@ use Rattle.amqp_parsing.specs.declared.errors.ErrorKind.TheVariants as kind
 use Rattle.amqp_parsing.specs.declared.limits.Limits.{Limits}
 use Rattle.amqp_parsing.specs.Limits.{Within, RefusesWithin}
 use Rattle.amqp_parsing.specs.Refusals.{Refusal}
+use Rattle.amqp_parsing.proofs.ParsingLaws.{found_all}
 use Rattle.amqp_in_place.specs.Canonicals.{IsCanonicalLen}
-use Rattle.amqp_c_canonical.specs.declared.fault.Fault.{Fault}
-use Rattle.amqp_c_canonical.specs.Answers.{fault_of}
-use Rattle.amqp_c_canonical.specs.Calls.{IsPut, HasNoRoom, IsRead, IsWritten, IsNotCanonical, IsFault}
+use Rattle.amqp_c_answers.specs.declared.fault.Fault.{Fault}
+use Rattle.amqp_c_answers.specs.declared.fault.Fault.TheVariants.{OutOfMemory}
+use Rattle.amqp_c_answers.specs.Answers.{fault_of}
+use Rattle.amqp_c_answers.proofs.Refused.{told_as_it_is}
+use Rattle.amqp_c_answers.specs.Rooms.{IsPut, HasNoRoom}
+use Rattle.amqp_c_canonical.specs.Calls.{IsRead, IsWritten, IsNotCanonical, IsFault}
 
 -- a canonical encoding is no longer than what was read
 is_read : (l : Limits) (s rest : List ℕ) (v : Tree) → Within l s (found v rest) → IsRead l s v rest
@@ -38,13 +42,17 @@ put_front l s old new n r bytes (w, rest, v, e, size, is, x) put =
     let of_bytes : IsBytes w = bytes_front w rest (subst IsBytes e bytes) in
     put_value l s (take n s) old new rest v r x (front ∙ canon_is_text w v of_bytes is) put
 
--- an error of reading is told as it is; memory is taken only where the front isn't canonical
+-- memory runs out only where the front isn't canonical, and all of the value is there
+pub none_canonical : (l : Limits) (s rest : List ℕ) (v : Tree) (room : ℕ) → Within l s (found v rest) → IsNotCanonical l s → IsFault l s room OutOfMemory
+none_canonical l s rest v room x none = (none, found_all l s rest v x)
+
+-- an error of reading is told as it is
 pub refused_so : (l : Limits) (s : List ℕ) (room : ℕ) (e : Refusal) → RefusesWithin l s e → IsNotCanonical l s → IsFault l s room (fault_of e)
-refused_so l s room (Incomplete Unknown) x none = absurd x.1
-refused_so l s room (Incomplete (Size n)) x none = x
+refused_so l s room (Failure k) x none = (none, told_as_it_is l s (Failure k) x)
+refused_so l s room (Incomplete Unknown) x none = told_as_it_is l s (Incomplete Unknown) x
+refused_so l s room (Incomplete (Size n)) x none = told_as_it_is l s (Incomplete (Size n)) x
 refused_so l s room (Error kind.MapOpt) x none = x
 refused_so l s room (Error kind.Eof) x none = x
 refused_so l s room (Error kind.TooLarge) x none = x
 refused_so l s room (Error kind.MapRes) x none = absurd x.1
 refused_so l s room (Error kind.OutOfMemory) x none = absurd x.1
-refused_so l s room (Failure k) x none = none

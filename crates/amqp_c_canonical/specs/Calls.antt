@@ -1,23 +1,16 @@
 -- What the call from C answers, and leaves in the room.
-use Rattle.std.specs.Prelude.{ℕ, ◌≡◌, ◌+◌, ◌<◌, ◌≤◌, ℤ, List, ◌++◌, length, drop, Result, IfErr, MatchResult}
+use Rattle.std.specs.Prelude.{ℕ, ◌≡◌, ◌+◌, ◌<◌, ◌≤◌, ℤ, List, length, Result, IfErr, MatchResult}
 use Rattle.amqp_grammar.specs.Values.{Tree}
-use Rattle.amqp_grammar.specs.Outcomes.{found, more, unknown, malformed}
+use Rattle.amqp_grammar.specs.Outcomes.{found}
 use Rattle.amqp_grammar.specs.Texts.{text}
 use Rattle.amqp_parsing.specs.declared.limits.Limits.{Limits}
-use Rattle.amqp_parsing.specs.Headers.{extent}
 use Rattle.amqp_parsing.specs.Limits.{Within}
 use Rattle.amqp_in_place.specs.Canonicals.{IsCanonicalLen}
-use Rattle.amqp_c_canonical.specs.declared.fault.Fault.{Fault}
-use Rattle.amqp_c_canonical.specs.declared.fault.Fault.TheVariants.{More, UnknownTag, Malformed, TooLarge, OutOfMemory, NoRoom}
-use Rattle.amqp_c_canonical.specs.Answers.{answer_of, count_of}
-
--- the first n bytes of the room are now these, and behind them it is as it was
-abbrev pub IsPut : List ℕ → List ℕ → List ℕ → ℕ → Type 0
-IsPut bytes old new n = (n ≡ length bytes) × (n ≤ length old) × (new ≡ bytes ++ drop n old)
-
--- room for so many bytes is too small for these, and the fault tells how many they are
-abbrev pub HasNoRoom : List ℕ → ℕ → Fault → Type 0
-HasNoRoom bytes room f = (f ≡ NoRoom (length bytes)) × (room < length bytes)
+use Rattle.amqp_c_answers.specs.declared.fault.Fault.{Fault}
+use Rattle.amqp_c_answers.specs.declared.fault.Fault.TheVariants.{OutOfMemory, NoRoom}
+use Rattle.amqp_c_answers.specs.Answers.{answer_of, count_of}
+use Rattle.amqp_c_answers.specs.Reading.{limits, IsReadFault}
+use Rattle.amqp_c_answers.specs.Rooms.{IsPut}
 
 -- v is read from the front of s within the limits, with `rest` behind it, and its canonical encoding
 -- has no more bytes than it was read from
@@ -33,20 +26,13 @@ IsWritten l s old new n = (v : Tree) × (rest : List ℕ) × IsRead l s v rest �
 abbrev pub IsNotCanonical : Limits → List ℕ → Type 0
 IsNotCanonical l s = (n : ℕ) → IsCanonicalLen l s n → ⊥
 
--- a fault is right, for s and room for so many bytes: what reading s within the limits comes to;
--- memory runs out only where the encoding that was read isn't canonical; and the canonical encoding
--- of the value that is read has more bytes than the room, and as many as the fault tells
+-- a fault is right, for s and room for so many bytes: the canonical encoding of the value that is
+-- read has more bytes than the room, and as many as the fault tells; or what reading comes to, where
+-- memory runs out only if no canonical encoding stands at the front
 abbrev pub IsFault : Limits → List ℕ → ℕ → Fault → Type 0
-IsFault l s room (More n) = Within l s (more n)
-IsFault l s room UnknownTag = Within l s unknown
-IsFault l s room Malformed = Within l s malformed
-IsFault l s room TooLarge = l.frame < extent s
-IsFault l s room OutOfMemory = IsNotCanonical l s
 IsFault l s room (NoRoom n) = (v : Tree) × (rest : List ℕ) × IsRead l s v rest × (n ≡ length (text v)) × (room < n)
-
--- the limits of these numbers
-abbrev pub limits : ℕ → ℕ → Limits
-limits frame depth = record { frame = frame; depth = depth }
+IsFault l s room OutOfMemory = IsNotCanonical l s × IsReadFault l s OutOfMemory
+IsFault l s room f = IsReadFault l s f
 
 -- the canonical encoding of the value that is read from s within the limits is put into the room; or
 -- the fault is right, and the room as it was

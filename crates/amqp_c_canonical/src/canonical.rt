@@ -3,15 +3,15 @@
 ghost use Rattle.std.specs.Prelude.{◌≡◌, length, IfErr, MatchResult};
 ghost use Rattle.amqp_grammar.specs.Texts.{text, Fits};
 ghost use Rattle.amqp_value_core.specs.View.{view};
-ghost use Rattle.amqp_c_canonical.specs.Calls.{IsWritten, IsFault, IsPut, HasNoRoom};
-ghost use Rattle.amqp_c_canonical.specs.declared.fault.Fault.TheVariants.{OutOfMemory};
+ghost use Rattle.amqp_c_answers.specs.declared.fault.Fault.TheVariants.{OutOfMemory};
+ghost use Rattle.amqp_c_canonical.specs.Calls.{IsWritten, IsFault};
 
-use crate::fault::Fault;
-use amq_protocol_types::AMQPValue;
-use amq_protocol_types::generation::{WriteContext, gen_value};
-use amq_protocol_types::in_place::canonical_len;
+use amqp_c_answers::{Fault, put};
+use amqp_generation::{WriteContext, gen_value};
+use amqp_in_place::canonical_len;
 use amqp_input::SliceInput;
 use amqp_parsing::{Limits, parse_value_within};
+use amqp_value_core::value::AMQPValue;
 use std::alloc::Global;
 
 /// Writes the canonical encoding of the value at the front from the start of `room`, and answers
@@ -48,19 +48,4 @@ fn encode(alloc: Global, value: &AMQPValue) -> Result<Vec<u8>, Fault>
     }
     let (bytes, _) = context.into_inner();
     Ok(bytes)
-}
-
-/// Puts the bytes at the start of `room`, where there is room for them.
-fn put(bytes: &[u8], room: &mut [u8]) -> Result<usize, Fault>
-    ensures put { MatchResult result
-        (IsPut bytes.now room.old room.new)
-        (HasNoRoom bytes.now (length room.old)) }
-    ensures kept { IfErr result (λ _. room.new ≡ room.old) }
-{
-    let count = bytes.len();
-    if room.len() < count {
-        return Err(Fault::NoRoom(count));
-    }
-    room[..count].copy_from_slice(bytes);
-    Ok(count)
 }

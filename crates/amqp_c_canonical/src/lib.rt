@@ -8,11 +8,10 @@
 ghost use Rattle.amqp_c_canonical.specs.Calls.{Canonicalizes};
 
 mod canonical;
-mod fault;
 
+use amqp_c_answers::answer_count;
 use amqp_parsing::Limits;
 use canonical::canonical;
-use fault::answer;
 use std::alloc::Global;
 
 /// Writes the canonical encoding of the value at the front from the start of `room`. It recurses at
@@ -31,7 +30,7 @@ pub extern "C" fn amqp_canonical(
 ) -> i32
     ensures { Canonicalizes frame depth bytes.now room.old result room.new count.new }
 {
-    answer(
+    answer_count(
         canonical(alloc, bytes, Limits { frame, depth }, room),
         count,
     )

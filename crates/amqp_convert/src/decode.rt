@@ -10,6 +10,7 @@ use std::alloc::Global;
 
 /// The JSON text of the value at the front, with no spaces, and the bytes after the value. The
 /// value is read as `parse_value_within` reads it, and recurses as deep.
+#[tactic(auto, using(amqp_parsing::proofs::ParsingLaws::found_all, amqp_parsing::proofs::ParsingLaws::failed_all))]
 pub fn json_of_encoding<'a>(
     alloc: Global,
     bytes: &'a [u8],

@@ -2,6 +2,7 @@ mod Walks
 mod Bytes
 mod Numbers
 mod Signed
+mod Stored
 mod ReadWalks
 mod Back
 mod NoFloat

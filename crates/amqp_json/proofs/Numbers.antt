@@ -8,7 +8,9 @@ use Rattle.serde_json.specs.declared.number.N.TheVariants.{PosInt, NegInt, Float
 use Rattle.serde_json.specs.Number.{num_of, is_valid}
 use Rattle.serde_json.specs.Data.{number}
 use Rattle.serde_json.specs.View.{view}
-use Rattle.amqp_json.specs.Reading.{is_natural_as_negative}
+use Rattle.amqp_types.specs.declared.amqp_type.AMQPType.{AMQPType}
+use Rattle.amqp_value_core.specs.Json.{json}
+use Rattle.amqp_json.specs.Reading.{is_natural_as_negative, plain_in}
 
 valid_number : (n : N) → is_valid n ≡ true → is_natural_as_negative (number (num_of n)) ≡ false
 valid_number (PosInt n) h = refl
@@ -28,3 +30,7 @@ by_layer v (Value-F.Object ms) e = search (rules, the_lemmas, e)
 
 pub never_natural_as_negative : (v : Value) → is_natural_as_negative (view v) ≡ false
 never_natural_as_negative v = by_layer v (out-Value v) refl
+
+-- so what stands under the name of a type of integers is read as it stands
+pub plain_is : (v : Value) (type : AMQPType) → plain_in type (view v) ≡ json (view v) type
+plain_is v type = rw (never_natural_as_negative v)

@@ -10,7 +10,7 @@ told : (w : Width) (z : ℤ) → SFits w z → is_within (2 ^ hbits w) z ≡ tru
 told w (pos n) h = let low : n < 2 ^ hbits w = h.sfits in grind (arith)
 told w (negsuc n) h = let low : n < 2 ^ hbits w = h.sfits in grind (arith)
 
-fits : (w : Width) (z : ℤ) → is_within (2 ^ hbits w) z ≡ true → SFits w z
+pub fits : (w : Width) (z : ℤ) → is_within (2 ^ hbits w) z ≡ true → SFits w z
 fits w (pos n) h = let low : n < 2 ^ hbits w = grind (arith) in record { sfits = low }
 fits w (negsuc n) h = let low : n < 2 ^ hbits w = grind (arith) in record { sfits = low }
 

@@ -6,14 +6,16 @@ use Rattle.std.specs.Cmp.Lexicographic.{slice_cmp}
 use Rattle.std.specs.List.{AllByRecursion}
 use Rattle.std.specs.List.Sorted.{IsStrictlySortedBy}
 use Rattle.std.specs.Map.{keys_of}
-use Rattle.std.specs.Ordering.{nat_cmp, ordering_reverse}
+use Rattle.std.specs.Ordering.{nat_cmp, ordering_reverse, match_ordering}
+use Rattle.std.specs.declared.cmp.Ordering.{Ordering}
+use Rattle.std.specs.declared.cmp.Ordering.TheVariants.{Equal}
 use Rattle.serde_json.specs.Data.{Data, Items, no_items, item, member, put}
 use Rattle.serde_json.specs.declared.value.Value.{Value}
 use Rattle.serde_json.specs.View.{view as document, items_view}
 use Rattle.amqp_value_core.specs.declared.types.field_table.FieldTable.{FieldTable}
 use Rattle.amqp_value_core.specs.declared.value.AMQPValue.{AMQPValue, the_lemmas}
 use Rattle.amqp_value_core.specs.declared.value.AMQPValue.TheVariants as value
-use Rattle.amqp_grammar.specs.Values.{table}
+use Rattle.amqp_grammar.specs.Values.{Tree, table, Entries, no_entries, entry, put as put_entry}
 use Rattle.amqp_types.specs.Strings.{IsShort}
 use Rattle.amqp_value_core.specs.View.{view}
 use Rattle.amqp_value_core.specs.Containers.{trees, entries, table_entries, table_view}
@@ -46,6 +48,17 @@ entries_stored (first ∷ done) e all short stored = (all.0, all.1, entries_stor
 pub trees_stored : (done : List AMQPValue) (v : AMQPValue) → AreStored (trees done) → IsStored (view v) → AreStored (trees (done ++ v ∷ []))
 trees_stored [] v all stored = (stored, tt)
 trees_stored (first ∷ done) v all stored = (all.0, trees_stored done v all.1 stored)
+
+placed : (k j : List ℕ) (v u : Tree) (es : Entries) (o : Ordering) → EntriesStored (entry j u es) → IsShort k → IsStored v → EntriesStored (put_entry k v es)
+    → EntriesStored (match_ordering o (entry k v (entry j u es)) (entry j v es) (entry j u (put_entry k v es)))
+placed k j v u es Less all short stored later = (short, stored, all)
+placed k j v u es Equal all short stored later = (all.0, stored, all.2)
+placed k j v u es Greater all short stored later = (all.0, all.1, later)
+
+-- so they are with one that is put in its place
+pub put_stored : (k : List ℕ) (v : Tree) (es : Entries) → EntriesStored es → IsShort k → IsStored v → EntriesStored (put_entry k v es)
+put_stored k v no_entries all short stored = (short, stored, tt)
+put_stored k v (entry j u es) all short stored = placed k j v u es (slice_cmp nat_cmp k j) all short stored (put_stored k v es all.2 short stored)
 
 -- an item behind others
 snoc : Items → Data → Items

@@ -54,6 +54,16 @@ abbrev pub is_natural_as_negative : Data → Bool
 is_natural_as_negative (number (negative (pos n))) = true
 is_natural_as_negative _ = false
 
+-- a type of integers that have fewer than 64 bits
+abbrev pub IsNarrow : AMQPType → Type 0
+IsNarrow amqp.ShortShortInt = Unit {0}
+IsNarrow amqp.ShortShortUInt = Unit {0}
+IsNarrow amqp.ShortInt = Unit {0}
+IsNarrow amqp.ShortUInt = Unit {0}
+IsNarrow amqp.LongInt = Unit {0}
+IsNarrow amqp.LongUInt = Unit {0}
+IsNarrow _ = ⊥
+
 -- the integer or the short string of a type
 abbrev pub plain_in : AMQPType → Data → Option Tree
 plain_in type d = if is_natural_as_negative d then None else core.json d type

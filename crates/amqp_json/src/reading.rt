@@ -1,7 +1,8 @@
 //! From JSON back to a value.
 
-ghost use Rattle.std.specs.Prelude.{◌≡◌, ◌<◌, Some, None, IfOk, IfErr, option_map, length, ◌≤◌};
+ghost use Rattle.std.specs.Prelude.{◌≡◌, ◌<◌, Some, None, IfOk, IfErr, IfSome, option_map, length, ◌≤◌};
 ghost use Rattle.std.specs.List.{list_any};
+ghost use Rattle.hex.specs.Hex.{IsBytes};
 ghost use Rattle.serde_json.specs.Data.{object, string};
 ghost use Rattle.serde_json.specs.View.{view as document, items_view, members_view, number_view};
 ghost use Rattle.amqp_types.specs.declared.amqp_type.AMQPType.TheVariants as amqp;
@@ -9,9 +10,10 @@ ghost use Rattle.amqp_grammar.specs.Values.{scalar, decimal as decimal_tree};
 ghost use Rattle.amqp_value_core.specs.View.{view};
 ghost use Rattle.amqp_value_core.specs.Containers.{array_view, table_view};
 ghost use Rattle.amqp_json.specs.Json.{json, sole_type};
-ghost use Rattle.amqp_json.specs.InMemory.{IsSingle};
+ghost use Rattle.amqp_types.specs.Strings.{IsShort};
+ghost use Rattle.amqp_json.specs.InMemory.{IsSingle, IsStored, AreStored, EntriesStored};
 ghost use Rattle.amqp_json.specs.Refusals.{IsOnly, IsOfNone};
-ghost use Rattle.amqp_json.specs.Reading.{is_capital, text_without_capitals, bytes_in, sized_in, decimal_in, plain_in, value_under, long_long, value_of, values_of, entries_of, ambiguous_table};
+ghost use Rattle.amqp_json.specs.Reading.{is_capital, text_without_capitals, bytes_in, sized_in, decimal_in, IsNarrow, plain_in, value_under, long_long, value_of, values_of, entries_of, ambiguous_table};
 
 use crate::error::ValueError;
 use crate::names::type_of_name;
@@ -31,6 +33,7 @@ use std::alloc::Global;
 #[tactic(auto, using(crate::proofs::Ones::its_json, crate::proofs::Ones::only_read, crate::proofs::Ones::of_none))]
 pub fn from_value(alloc: Global, value: &Value) -> Result<AMQPValue, ValueError>
     ensures json { IfOk result (λ v. json (view v) ≡ document value.now) }
+    ensures stored { IfOk result (λ v. IsStored (view v)) }
     ensures only { IfOk result (λ v. IsOnly (view v) (document value.now)) }
     ensures refused { IfErr result (λ e. e ≡ ValueError.NotAValue → IsOfNone (document value.now)) }
     ensures single { IfErr result (λ e. IsSingle (document value.now) → e ≡ ValueError.NotAValue) }
@@ -59,6 +62,7 @@ fn has_capital(text: &[u8]) -> bool
 // the bytes of a text of hexadecimal digits in lower case
 fn bytes(alloc: Global, value: &Value) -> Result<Vec<u8>, ValueError>
     ensures ok { IfOk result (λ b. bytes_in (document value.now) ≡ Some b.items) }
+    ensures all { IfOk result (λ b. IsBytes b.items) }
     ensures err { IfErr result (λ e. e ≡ ValueError.NotAValue
         → bytes_in (document value.now) ≡ None) }
 {
@@ -99,14 +103,16 @@ fn decimal(value: &Value) -> Option<DecimalValue>
 
 // a number with no type's name
 fn long_long_int(n: &Number) -> Option<AMQPValue>
-    ensures { option_map view result ≡ long_long (number_view n.now) }
+    ensures read { option_map view result ≡ long_long (number_view n.now) }
+    ensures stored { IfSome result (λ v. IsStored (view v)) }
 {
     Some(AMQPValue::LongLongInt(n.as_i64()?))
 }
 
 // the bits of a Float
 fn float(value: &Value) -> Option<AMQPValue>
-    ensures { option_map view result ≡ value_under amqp.Float (document value.now) }
+    ensures read { option_map view result ≡ value_under amqp.Float (document value.now) }
+    ensures stored { IfSome result (λ v. IsStored (view v)) }
 {
     let bytes = sized::<4>(value)?;
     Some(AMQPValue::Float(Float::from_bits(u32::from_be_bytes(bytes))))
@@ -114,16 +120,19 @@ fn float(value: &Value) -> Option<AMQPValue>
 
 // the bits of a Double
 fn double(value: &Value) -> Option<AMQPValue>
-    ensures { option_map view result ≡ value_under amqp.Double (document value.now) }
+    ensures read { option_map view result ≡ value_under amqp.Double (document value.now) }
+    ensures stored { IfSome result (λ v. IsStored (view v)) }
 {
     let bytes = sized::<8>(value)?;
     Some(AMQPValue::Double(Double::from_bits(u64::from_be_bytes(bytes))))
 }
 
-// an integer or a short string
+// an integer of fewer than 64 bits
 #[tactic(auto, using(crate::proofs::Numbers::never_natural_as_negative))]
-fn plain(alloc: Global, amqp_type: AMQPType, value: &Value) -> Result<AMQPValue, ValueError>
+fn narrow(alloc: Global, amqp_type: AMQPType, value: &Value) -> Result<AMQPValue, ValueError>
+    requires { IsNarrow amqp_type }
     ensures ok { IfOk result (λ v. plain_in amqp_type (document value.now) ≡ Some (view v)) }
+    ensures stored { IfOk result (λ v. IsStored (view v)) }
     ensures err { IfErr result (λ e. e ≡ ValueError.NotAValue
         → plain_in amqp_type (document value.now) ≡ None) }
 {
@@ -133,11 +142,36 @@ fn plain(alloc: Global, amqp_type: AMQPType, value: &Value) -> Result<AMQPValue,
     }
 }
 
+// a time
+#[tactic(auto, using(crate::proofs::Numbers::never_natural_as_negative))]
+fn timestamp(value: &Value) -> Option<AMQPValue>
+    ensures read { option_map view result ≡ value_under amqp.Timestamp (document value.now) }
+    ensures stored { IfSome result (λ v. IsStored (view v)) }
+{
+    Some(AMQPValue::Timestamp(value.as_u64()?))
+}
+
+// a short string
+#[tactic(auto, using(crate::proofs::Numbers::never_natural_as_negative))]
+fn short_string(alloc: Global, value: &Value) -> Result<AMQPValue, ValueError>
+    ensures ok { IfOk result (λ v. value_under amqp.ShortString (document value.now)
+        ≡ Some (view v)) }
+    ensures stored { IfOk result (λ v. IsStored (view v)) }
+    ensures err { IfErr result (λ e. e ≡ ValueError.NotAValue
+        → value_under amqp.ShortString (document value.now) ≡ None) }
+{
+    let Some(text) = value.as_str() else {
+        return Err(ValueError::NotAValue);
+    };
+    Ok(AMQPValue::ShortString(short(alloc, text)?))
+}
+
 // bytes that are no text
 #[tactic(auto, using(crate::proofs::Bytes::utf8))]
 fn long_bytes(alloc: Global, value: &Value) -> Result<AMQPValue, ValueError>
     ensures ok { IfOk result (λ v. value_under amqp.LongString (document value.now)
         ≡ Some (view v)) }
+    ensures stored { IfOk result (λ v. IsStored (view v)) }
     ensures err { IfErr result (λ e. e ≡ ValueError.NotAValue
         → value_under amqp.LongString (document value.now) ≡ None) }
 {
@@ -151,6 +185,7 @@ fn long_bytes(alloc: Global, value: &Value) -> Result<AMQPValue, ValueError>
 // what stands under the name of a type, where that is no table
 fn under_type(alloc: Global, amqp_type: AMQPType, value: &Value) -> Result<AMQPValue, ValueError>
     ensures ok { IfOk result (λ v. value_under amqp_type (document value.now) ≡ Some (view v)) }
+    ensures stored { IfOk result (λ v. IsStored (view v)) }
     ensures err { IfErr result (λ e. e ≡ ValueError.NotAValue
         → value_under amqp_type (document value.now) ≡ None) }
 {
@@ -160,9 +195,9 @@ fn under_type(alloc: Global, amqp_type: AMQPType, value: &Value) -> Result<AMQPV
         | AMQPType::ShortInt
         | AMQPType::ShortUInt
         | AMQPType::LongInt
-        | AMQPType::LongUInt
-        | AMQPType::Timestamp
-        | AMQPType::ShortString => plain(alloc, amqp_type, value),
+        | AMQPType::LongUInt => narrow(alloc, amqp_type, value),
+        AMQPType::Timestamp => timestamp(value).ok_or(ValueError::NotAValue),
+        AMQPType::ShortString => short_string(alloc, value),
         AMQPType::Float => float(value).ok_or(ValueError::NotAValue),
         AMQPType::Double => double(value).ok_or(ValueError::NotAValue),
         AMQPType::DecimalValue => match decimal(value) {
@@ -184,6 +219,7 @@ fn under_type(alloc: Global, amqp_type: AMQPType, value: &Value) -> Result<AMQPV
 #[tactic(auto, using(crate::proofs::Bytes::text_is_read))]
 fn long_text(alloc: Global, text: &str) -> Result<AMQPValue, ValueError>
     ensures ok { IfOk result (λ v. value_of (string text.now) ≡ Some (view v)) }
+    ensures stored { IfOk result (λ v. IsStored (view v)) }
     ensures err { IfErr result (λ e. e ≡ ValueError.OutOfMemory) }
 {
     Ok(AMQPValue::LongString(LongString::from_text(alloc, text)?))
@@ -192,6 +228,7 @@ fn long_text(alloc: Global, text: &str) -> Result<AMQPValue, ValueError>
 #[cycle(read)]
 fn read(alloc: Global, value: &Value) -> Result<AMQPValue, ValueError>
     ensures ok { IfOk result (λ v. value_of (document value.now) ≡ Some (view v)) }
+    ensures stored { IfOk result (λ v. IsStored (view v)) }
     ensures err { IfErr result (λ e. e ≡ ValueError.NotAValue
         → value_of (document value.now) ≡ None) }
     ensures single { IfErr result (λ e. IsSingle (document value.now) → e ≡ ValueError.NotAValue) }
@@ -210,6 +247,7 @@ fn read(alloc: Global, value: &Value) -> Result<AMQPValue, ValueError>
 #[tactic(auto, using(crate::proofs::ReadWalks::item_refused))]
 fn read_items(alloc: Global, items: &Vec<Value>) -> Result<FieldArray, ValueError>
     ensures ok { IfOk result (λ a. values_of (items_view items.now.items) ≡ Some (array_view a)) }
+    ensures stored { IfOk result (λ a. AreStored (array_view a)) }
     ensures err { IfErr result (λ e. e ≡ ValueError.NotAValue
         → values_of (items_view items.now.items) ≡ None) }
 {
@@ -224,6 +262,7 @@ fn read_items(alloc: Global, items: &Vec<Value>) -> Result<FieldArray, ValueErro
 fn read_object(alloc: Global, members: &Map<String, Value>) -> Result<AMQPValue, ValueError>
     ensures ok { IfOk result (λ v. value_of (object (members_view members.now.entries))
         ≡ Some (view v)) }
+    ensures stored { IfOk result (λ v. IsStored (view v)) }
     ensures err { IfErr result (λ e. e ≡ ValueError.NotAValue
         → value_of (object (members_view members.now.entries)) ≡ None) }
 {
@@ -244,6 +283,7 @@ fn read_object(alloc: Global, members: &Map<String, Value>) -> Result<AMQPValue,
 fn read_ambiguous(alloc: Global, members: &Map<String, Value>) -> Result<AMQPValue, ValueError>
     ensures ok { IfOk result (λ v. ambiguous_table (object (members_view members.now.entries))
         ≡ Some (view v)) }
+    ensures stored { IfOk result (λ v. IsStored (view v)) }
     ensures err { IfErr result (λ e. e ≡ ValueError.NotAValue
         → ambiguous_table (object (members_view members.now.entries)) ≡ None) }
 {
@@ -268,6 +308,7 @@ fn sole_name(members: &Map<String, Value>) -> Option<AMQPType>
 fn read_members(alloc: Global, members: &Map<String, Value>) -> Result<FieldTable, ValueError>
     ensures ok { IfOk result (λ t. entries_of (members_view members.now.entries)
         ≡ Some (table_view t)) }
+    ensures stored { IfOk result (λ t. EntriesStored (table_view t)) }
     ensures err { IfErr result (λ e. e ≡ ValueError.NotAValue
         → entries_of (members_view members.now.entries) ≡ None) }
 {
@@ -282,6 +323,7 @@ fn read_members(alloc: Global, members: &Map<String, Value>) -> Result<FieldTabl
 // a key
 fn short(alloc: Global, text: &str) -> Result<ShortString, ValueError>
     ensures ok { IfOk result (λ s. s ≡ text.now) }
+    ensures short { IfOk result IsShort }
     ensures fits { IfOk result (λ s. length text.now ≤ 255) }
     ensures err { IfErr result (λ e. e ≡ ValueError.NotAValue → 255 < length text.now) }
 {

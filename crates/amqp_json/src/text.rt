@@ -35,6 +35,7 @@ pub fn to_json(alloc: Global, value: &AMQPValue) -> Result<String, AllocError>
 #[tactic(auto, using(crate::proofs::Ones::only_in))]
 pub fn from_json(alloc: Global, text: &str) -> Result<AMQPValue, JsonError>
     ensures json { IfOk result (λ v. read text.now ≡ Some (json (view v))) }
+    ensures stored { IfOk result (λ v. IsStored (view v)) }
     ensures only { IfOk result (λ v. (u : Tree) → IsStored u → read text.now ≡ Some (json u)
         → u ≡ view v) }
     ensures refused { IfErr result (λ e. Tells e (read text.now)) }

@@ -11,4 +11,5 @@ mod Waits
 mod Plain
 mod Again
 mod Appends
+mod Whole
 pub mod ParsingLaws

@@ -4,6 +4,8 @@
 pub use Rattle.amqp_parsing.proofs.Waits.{more_wanted, waits_more, nothing_behind, kept_within}
 -- a value within a depth has at most as many bytes as its header says
 pub use Rattle.amqp_parsing.proofs.Again.{wire_extent}
+-- where the bytes of a value are all there
+pub use Rattle.amqp_parsing.proofs.Whole.{found_all, failed_all}
 -- what is refused stays refused, whatever follows
 pub use Rattle.amqp_parsing.proofs.Appends.{refused_append}
 -- what an error of one reading says of another

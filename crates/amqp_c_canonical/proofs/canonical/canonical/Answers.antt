@@ -5,7 +5,7 @@ use Rattle.amqp_grammar.specs.Outcomes.{found}
 use Rattle.amqp_input.specs.Inputs.{slice_bytes}
 use Rattle.amqp_parsing.specs.Limits.{Within, RefusesWithin}
 use Rattle.amqp_value_core.specs.View.{view}
-use Rattle.amqp_c_canonical.proofs.Written.{put_value, put_front, refused_so}
+use Rattle.amqp_c_canonical.proofs.Written.{put_value, put_front, none_canonical, refused_so}
 use Rattle.amqp_c_canonical.proofs.canonical.canonical.Goals as goal
 
 pub returns-in-Some-clause-written : goal.returns-in-Some-clause-written
@@ -25,7 +25,10 @@ returns-in_err-value-clause-written c =
 pub returns-in_err-encoding-clause-written : goal.returns-in_err-encoding-clause-written
 returns-in_err-encoding-clause-written c =
     let r = err_from_is_err_and c.from_residual-in_err-encoding.result c.from_residual-in_err-encoding.ensures.1 in
-    rw (r.1, r.2, c.in_err-encoding.ensures) (c.canonical_len.ensures.none c.in_default.is)
+    let rest = slice_bytes c.in_ok-value.field-0-0 in
+    let v = view c.in_ok-value.value in
+    let x = subst (λ (t : List ℕ). Within c.args.limits t (found v rest)) c.new.ensures c.in_ok-value.ensures.within in
+    rw (r.1, r.2, c.in_err-encoding.ensures) (none_canonical c.args.limits c.args.bytes.now rest v (length c.args.room.now) x (c.canonical_len.ensures.none c.in_default.is))
 
 pub returns-clause-written : goal.returns-clause-written
 returns-clause-written c =

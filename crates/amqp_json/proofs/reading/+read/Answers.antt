@@ -6,15 +6,21 @@ use Rattle.std.specs.Map.{keys_of}
 use Rattle.std.specs.String.{string_cmp}
 use Rattle.serde_json.specs.View.{members_view}
 use Rattle.serde_json.proofs.Views.{Entry}
-use Rattle.amqp_value_core.specs.Containers.{array_items, table_view}
+use Rattle.amqp_value_core.specs.Containers.{array_items, trees, table_view}
 use Rattle.amqp_grammar.specs.Values.{put}
 use Rattle.amqp_value_core.specs.View.{view}
+use Rattle.amqp_json.specs.InMemory.{AreStored, EntriesStored}
+use Rattle.amqp_json.proofs.Walks.{trees_stored, put_stored}
 use Rattle.amqp_json.proofs.ReadWalks.{items_next, member_next, short_key, key_refused, value_refused}
 use Rattle.amqp_json.proofs.reading.+read.Goals as goal
 
 pub read_items-loop-item-preserved : goal.read_items-loop-item-preserved
 read_items-loop-item-preserved t c =
-    items_next c.deref-item-items.result.now c.loop-item.item-index c.item-item.result (array_items c.loop-item.values) _ c.in_ok-read.field-0 c.loop-item-test.true c.item-item.is c.in_ok-push.ensures.ok c.loop-item.invariant c.in_ok-read.ensures.ok
+    let values = array_items c.loop-item.values in
+    let v = c.in_ok-read.field-0 in (
+      items_next c.deref-item-items.result.now c.loop-item.item-index c.item-item.result values _ v c.loop-item-test.true c.item-item.is c.in_ok-push.ensures.ok c.loop-item.invariant.0 c.in_ok-read.ensures.ok,
+      subst (λ us. AreStored (trees us)) (sym c.in_ok-push.ensures.ok) (trees_stored values v c.loop-item.invariant.1 c.in_ok-read.ensures.stored),
+    )
 
 -- the next member is read behind those so far
 pub read_members-loop-key-preserved : goal.read_members-loop-key-preserved
@@ -30,6 +36,7 @@ read_members-loop-key-preserved t c =
       done ++ e ∷ [],
       all ∙ sym (append_assoc done (e ∷ []) left),
       member_next done e left (table_view l.table) (view c.in_ok-read.field-0) rising l.invariant.2 c.in_ok-read.ensures.ok (short_key _ fits) ∙ ap Some (sym (c.in_ok-place.ensures.ok ∙ ap (λ k. put k (view c.in_ok-read.field-0) (table_view l.table)) put_at)),
+      subst EntriesStored (sym c.in_ok-place.ensures.ok) (put_stored _ (view c.in_ok-read.field-0) (table_view l.table) l.invariant.3 c.in_ok-name.ensures.short c.in_ok-read.ensures.stored),
     )
 
 -- a key or a value is refused, and so is the table

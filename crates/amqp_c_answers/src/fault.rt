@@ -1,11 +1,11 @@
-//! Why nothing is written, and the numbers that are answered.
+//! Why a call does nothing.
 
 ghost use Rattle.std.specs.Prelude.{◌≡◌};
-ghost use Rattle.amqp_c_canonical.specs.Answers.{fault_of, code_of, answer_of, count_of};
+ghost use Rattle.amqp_c_answers.specs.Answers.{fault_of, code_of};
 
 use amqp_parsing::{Err, ErrorKind, Needed, ParserError};
 
-/// Why nothing is written.
+/// Why a call does nothing.
 #[derive(Clone, Copy)]
 pub enum Fault {
     /// So many more bytes are needed for the field that is being read.
@@ -16,10 +16,16 @@ pub enum Fault {
     Malformed,
     /// The value has more bytes than the limit.
     TooLarge,
+    /// What was handed in is not what the call takes.
+    Invalid,
     /// An allocation failed.
     OutOfMemory,
-    /// The canonical encoding has so many bytes, more than the room.
+    /// What is to be written has so many bytes, more than the room.
     NoRoom(usize),
+    /// The text is no JSON, or the JSON of no value.
+    NotJson,
+    /// The value has no encoding.
+    NoEncoding,
 }
 
 impl Fault {
@@ -32,8 +38,11 @@ impl Fault {
             Fault::UnknownTag => -2,
             Fault::Malformed => -3,
             Fault::TooLarge => -4,
+            Fault::Invalid => -5,
             Fault::OutOfMemory => -6,
             Fault::NoRoom(_) => -7,
+            Fault::NotJson => -8,
+            Fault::NoEncoding => -9,
         }
     }
 }
@@ -51,26 +60,6 @@ impl From<ParserError> for Fault {
                 ErrorKind::TooLarge => Fault::TooLarge,
                 _ => Fault::Malformed,
             },
-        }
-    }
-}
-
-/// Leaves how many bytes were written, are needed or have to have room, else 0.
-pub fn answer(done: Result<usize, Fault>, count: &mut usize) -> i32
-    ensures answer { result ≡ answer_of done }
-    ensures count { count.new ≡ count_of done }
-{
-    match done {
-        Ok(written) => {
-            *count = written;
-            0
-        }
-        Err(fault) => {
-            *count = match fault {
-                Fault::More(needed) | Fault::NoRoom(needed) => needed,
-                _ => 0,
-            };
-            fault.code()
         }
     }
 }

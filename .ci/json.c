@@ -1,0 +1,253 @@
+/*
+ * Tries amqp_to_json and amqp_from_json of include/amqp.h in rooms of every size, and with each
+ * allocation failing.
+ *
+ * What is handed in and the room each lie against a page that can't be touched, so that what is read
+ * or written beside them ends the program. Of each answer it checks what the header says: what is
+ * written is what is expected, the room behind it is as it was, and all of it where nothing is
+ * written; and no block is kept.
+ *
+ * It tries the values below in each room up to one byte more than they need, with the first
+ * allocation failing, then the second, until a call makes fewer; each prefix of them, and each change
+ * of one byte to one of some; limits that are just kept to and just not; texts that nest 127 and 128
+ * deep; and a table of 100,010 bytes, there and back, with every seventeenth allocation failing. It
+ * prints how many calls it made.
+ */
+#include "tried.h"
+
+#define FRAME 1024
+#define DEPTH 8
+#define FILLED 0x5a
+#define MANY 256
+
+/* Encodings, the JSON of each, and the canonical encoding, which is read back from the JSON. */
+#define INPUT(given, json, canonical) {given, sizeof given - 1, json, canonical, sizeof canonical - 1}
+static const struct {
+    const char *bytes;
+    size_t length;
+    const char *json, *canonical;
+    size_t canonical_length;
+} inputs[] = {
+    INPUT("V", "null", "V"),
+    INPUT("t\7", "true", "t\1"),
+    INPUT("U\377\376", "{\"ShortInt\":-2}", "s\377\376"),
+    INPUT("L\0\0\0\0\0\0\0\7", "7", "l\0\0\0\0\0\0\0\7"),
+    INPUT("f\177\300\0\1", "{\"Float\":\"7fc00001\"}", "f\177\300\0\1"),
+    INPUT("D\2\0\0\1\72", "{\"DecimalValue\":{\"scale\":2,\"value\":314}}", "D\2\0\0\1\72"),
+    INPUT("S\0\0\0\3a\"\n", "\"a\\\"\\n\"", "S\0\0\0\3a\"\n"),
+    INPUT("S\0\0\0\2h\377", "{\"LongString\":\"68ff\"}", "S\0\0\0\2h\377"),
+    INPUT("x\0\0\0\2\1\253", "{\"ByteArray\":\"01ab\"}", "x\0\0\0\2\1\253"),
+    INPUT("F\0\0\0\0", "{}", "F\0\0\0\0"),
+    INPUT("A\0\0\0\6A\0\0\0\0V", "[[],null]", "A\0\0\0\6A\0\0\0\0V"),
+    INPUT("F\0\0\0\12\1bt\7\1aV\1bV", "{\"a\":null,\"b\":null}", "F\0\0\0\6\1aV\1bV"),
+    INPUT("F\0\0\0\6\4VoidV", "{\"FieldTable\":{\"Void\":null}}", "F\0\0\0\6\4VoidV"),
+    INPUT("F\0\0\0\22\1bS\0\0\0\2hi\1aA\0\0\0\2t\7", "{\"a\":[true],\"b\":\"hi\"}", "F\0\0\0\22\1aA\0\0\0\2t\1\1bS\0\0\0\2hi"),
+};
+static const uint8_t other_bytes[] = {0, 1, 2, 'A', 'F', 'L', 'S', 'U', 'V', 'b', 't', 127, 128, 255};
+static const uint8_t other_characters[] = {0, ' ', '"', '-', '.', '0', '9', ',', ':', '[', '\\', ']', 'e', '{', '}', 128, 255};
+
+/* Texts that mean nothing, and texts that mean what has no encoding. */
+static const char *const not_json[] = {
+    "", " ", "nul", "1.0", "-0", "1e3", "9223372036854775808", "\"\377\"", "[1", "[1]]", "{\"a\":1,}", "\"\\ud800\"",
+    "{\"LongLongInt\":5}", "{\"Void\":null}", "{\"FieldTable\":{\"a\":1}}", "{\"LongString\":\"6869\"}",
+    "{\"ByteArray\":\"0AB1\"}", "{\"ByteArray\":\"abc\"}", "{\"ShortShortInt\":128}", "{\"DecimalValue\":{\"scale\":2}}",
+};
+static const char *const not_encoded[] = {"{\"ShortString\":\"\"}", "[null,{\"ShortString\":\"a\"}]", "{\"k\":{\"ShortString\":\"a\"}}"};
+
+static uint8_t *given_end, *room_start, *room_end;
+
+/* One of the two calls, with these limits. */
+typedef struct way {
+    int is_back;
+    uint32_t frame, depth;
+} way;
+static const way there = {0, FRAME, DEPTH}, back = {1, 0, 0};
+
+/* Calls with the bytes and the room against the ends of their pages, and checks what is left. */
+static int32_t write_to(way by, const uint8_t *given, size_t length, size_t room_length, size_t *count) {
+    uint8_t *bytes = given_end - length, *room = room_end - room_length;
+    memcpy(bytes, given, length);
+    uint8_t *from = room - room_start > 64 ? room - 64 : room_start;
+    memset(from, FILLED, (size_t)(room_end - from));
+    *count = 77;
+    uint64_t blocks = taken;
+    int32_t answer = by.is_back ? amqp_from_json(bytes, length, room, room_length, count)
+                                : amqp_to_json(bytes, length, by.frame, by.depth, room, room_length, count);
+    calls++;
+    CHECK(memcmp(bytes, given, length) == 0);
+    size_t written = answer == AMQP_OK ? *count : 0;
+    CHECK(written <= room_length && (answer != AMQP_OK || written > 0));
+    for (uint8_t *it = from; it < room; it++) {
+        CHECK(*it == FILLED);
+    }
+    for (uint8_t *it = room + written; it < room_end; it++) {
+        CHECK(*it == FILLED);
+    }
+    CHECK((answer == AMQP_OK || answer == AMQP_MORE || answer == AMQP_NO_ROOM) == (*count > 0));
+    CHECK(answer != AMQP_NO_ROOM || *count > room_length);
+    CHECK(answer != AMQP_NO_MEMORY || taken > blocks);
+    CHECK(answer != AMQP_INVALID && (by.is_back || answer > AMQP_NOT_JSON));
+    CHECK(!by.is_back || answer == AMQP_OK || answer <= AMQP_NO_MEMORY);
+    CHECK(held == 0);
+    return answer;
+}
+
+/* What stands at the start of a room of that length. */
+static const uint8_t *in_room(size_t room_length) {
+    return room_end - room_length;
+}
+
+/* Each allocation failing in turn: the call answers that, and nothing else. */
+static void try_memory(way by, const uint8_t *given, size_t length, size_t needed, uint64_t step) {
+    for (uint64_t nth = 1;; nth += step) {
+        uint64_t blocks = taken;
+        size_t count;
+        failing = taken + nth;
+        int32_t answer = write_to(by, given, length, needed, &count);
+        failing = 0;
+        if (taken - blocks < nth) {
+            CHECK(answer == AMQP_OK && count == needed);
+            break;
+        }
+        CHECK(answer == AMQP_NO_MEMORY || answer == AMQP_OK);
+    }
+}
+
+/* Rooms of every size, and each allocation failing in turn. */
+static void try_rooms(way by, const uint8_t *given, size_t length, const uint8_t *wanted, size_t needed) {
+    size_t count;
+    for (size_t n = 0; n <= needed + 1; n++) {
+        int32_t answer = write_to(by, given, length, n, &count);
+        CHECK(count == needed && answer == (n < needed ? AMQP_NO_ROOM : AMQP_OK));
+        CHECK(answer != AMQP_OK || memcmp(in_room(n), wanted, needed) == 0);
+    }
+    try_memory(by, given, length, needed, 1);
+}
+
+/* A text is refused, or means a value: the encoding that it gives is canonical, and its JSON gives it again. */
+static void try_text(const uint8_t *given, size_t length) {
+    uint8_t encoding[MANY], text[MANY];
+    size_t count, again;
+    int32_t answer = write_to(back, given, length, MANY, &count);
+    CHECK(answer == AMQP_OK || answer == AMQP_NOT_JSON || answer == AMQP_NO_ENCODING);
+    if (answer == AMQP_OK) {
+        memcpy(encoding, in_room(MANY), count);
+        CHECK(write_to(there, encoding, count, MANY, &again) == AMQP_OK);
+        memcpy(text, in_room(MANY), again);
+        size_t size = again;
+        CHECK(write_to(back, text, size, MANY, &again) == AMQP_OK);
+        CHECK(again == count && memcmp(in_room(MANY), encoding, count) == 0);
+    }
+}
+
+/* Bytes are read as amqp_read reads them, and the JSON of a value gives its canonical encoding. */
+static void try_bytes(const uint8_t *given, size_t length) {
+    uint8_t text[MANY], canonical[MANY];
+    size_t wanted, count, again, written;
+    int32_t read = amqp_read(given, length, FRAME, DEPTH, &wanted);
+    int32_t answer = write_to(there, given, length, MANY, &count);
+    CHECK(answer == read);
+    if (answer == AMQP_OK) {
+        memcpy(text, in_room(MANY), count);
+        CHECK(amqp_canonical(given, length, FRAME, DEPTH, canonical, MANY, &written) == AMQP_OK);
+        CHECK(write_to(back, text, count, MANY, &again) == AMQP_OK);
+        CHECK(again == written && memcmp(in_room(MANY), canonical, written) == 0);
+    } else {
+        CHECK(count == wanted);
+    }
+}
+
+/* The bytes, each prefix of them, and each change of one to one of the others. */
+static void try_changes(void (*try)(const uint8_t *, size_t), const char *bytes, size_t length, const uint8_t *others, size_t kinds) {
+    uint8_t changed[MANY];
+    for (size_t n = 0; n <= length; n++) {
+        try((const uint8_t *)bytes, n);
+    }
+    for (size_t n = 0; n < length; n++) {
+        memcpy(changed, bytes, length);
+        for (size_t k = 0; k < kinds; k++) {
+            changed[n] = others[k];
+            try(changed, length);
+        }
+    }
+}
+
+/* Limits that a value just keeps to, and just doesn't. */
+static void try_limits(void) {
+    const uint8_t *nested = (const uint8_t *)"A\0\0\0\5A\0\0\0\0";
+    size_t count;
+    CHECK(write_to((way){0, 10, 2}, nested, 10, MANY, &count) == AMQP_OK && count == 4);
+    CHECK(write_to((way){0, 9, 2}, nested, 10, MANY, &count) == AMQP_TOO_LARGE);
+    CHECK(write_to((way){0, 10, 1}, nested, 10, MANY, &count) == AMQP_MALFORMED);
+}
+
+/* A text that nests so deep. */
+static void try_deep(size_t deep, int32_t wanted) {
+    uint8_t text[MANY];
+    size_t count;
+    memset(text, '[', deep);
+    memset(text + deep, ']', deep);
+    CHECK(write_to(back, text, 2 * deep, 1024, &count) == wanted);
+    CHECK(wanted != AMQP_OK || count == 5 * deep);
+}
+
+/* A table of 100,010 bytes: 6,667 pairs, whose keys fall. */
+#define PAIRS 6667
+#define LARGE (5 + 15 * PAIRS)
+static void try_large(void) {
+    static uint8_t table[LARGE], canonical[LARGE], text[4 * LARGE];
+    size_t at = 5, size, count;
+    memcpy(table, (uint8_t[]){'F', 0, (LARGE - 5) >> 16, (LARGE - 5) >> 8 & 255, (LARGE - 5) & 255}, 5);
+    for (size_t n = 0; n < PAIRS; n++, at += 15) {
+        char key[6];
+        snprintf(key, sizeof key, "%05zu", PAIRS - n);
+        memcpy(table + at, "\5", 1);
+        memcpy(table + at + 1, key, 5);
+        memcpy(table + at + 6, "l\0\0\0\0\0\0", 7);
+        table[at + 13] = (uint8_t)(n >> 8);
+        table[at + 14] = (uint8_t)n;
+    }
+    CHECK(at == LARGE);
+    CHECK(amqp_canonical(table, LARGE, LARGE, 1, canonical, LARGE, &count) == AMQP_OK && count == LARGE);
+    way by = {0, LARGE, 1};
+    CHECK(write_to(by, table, LARGE, 0, &size) == AMQP_NO_ROOM && size <= sizeof text);
+    CHECK(write_to(by, table, LARGE, size - 1, &count) == AMQP_NO_ROOM && count == size);
+    CHECK(write_to(by, table, LARGE, size, &count) == AMQP_OK && count == size);
+    memcpy(text, in_room(size), size);
+    CHECK(write_to(back, text, size, LARGE - 1, &count) == AMQP_NO_ROOM && count == LARGE);
+    CHECK(write_to(back, text, size, LARGE, &count) == AMQP_OK && count == LARGE);
+    CHECK(memcmp(in_room(LARGE), canonical, LARGE) == 0);
+    try_memory(by, table, LARGE, size, 17);
+    try_memory(back, text, size, LARGE, 17);
+}
+
+int main(void) {
+    page_size = (size_t)sysconf(_SC_PAGESIZE);
+    size_t pages = 4 * LARGE / page_size + 1;
+    given_end = pages_between(pages) + pages * page_size;
+    room_start = pages_between(pages);
+    room_end = room_start + pages * page_size;
+
+    for (size_t i = 0; i < sizeof inputs / sizeof *inputs; i++) {
+        const uint8_t *bytes = (const uint8_t *)inputs[i].bytes, *json = (const uint8_t *)inputs[i].json;
+        size_t length = inputs[i].length, json_length = strlen(inputs[i].json);
+        try_rooms(there, bytes, length, json, json_length);
+        try_rooms(back, json, json_length, (const uint8_t *)inputs[i].canonical, inputs[i].canonical_length);
+        try_changes(try_bytes, inputs[i].bytes, length, other_bytes, sizeof other_bytes);
+        try_changes(try_text, inputs[i].json, json_length, other_characters, sizeof other_characters);
+    }
+    for (size_t i = 0; i < sizeof not_json / sizeof *not_json; i++) {
+        size_t count;
+        CHECK(write_to(back, (const uint8_t *)not_json[i], strlen(not_json[i]), MANY, &count) == AMQP_NOT_JSON);
+    }
+    for (size_t i = 0; i < sizeof not_encoded / sizeof *not_encoded; i++) {
+        size_t count;
+        CHECK(write_to(back, (const uint8_t *)not_encoded[i], strlen(not_encoded[i]), MANY, &count) == AMQP_NO_ENCODING);
+    }
+    try_limits();
+    try_deep(127, AMQP_OK);
+    try_deep(128, AMQP_NOT_JSON);
+    try_large();
+    printf("%" PRIu64 " calls\n", calls);
+    return 0;
+}

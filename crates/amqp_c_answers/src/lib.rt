@@ -1,0 +1,10 @@
+//! What the libraries for C answer: numbers that stand for faults, counts, and bytes in a room.
+#![tactic(auto)]
+
+mod answers;
+mod fault;
+mod room;
+
+pub use answers::answer_count;
+pub use fault::Fault;
+pub use room::put;

@@ -1,0 +1,38 @@
+//! From a JSON text to the canonical encoding.
+
+ghost use Rattle.std.specs.Prelude.{◌≡◌, length, IfErr, MatchResult};
+ghost use Rattle.amqp_c_json.specs.Calls.{text_fault, IsEncodingPut, IsEncodingFault};
+
+use amqp_c_answers::{Fault, put};
+use amqp_convert::{EncodeError, encoding_of_json};
+use amqp_json::JsonError;
+use std::alloc::Global;
+use std::str;
+
+/// Puts the canonical encoding of the value that a JSON text means at the start of `room`, and
+/// answers how many bytes it has.
+pub fn put_encoding(alloc: Global, text: &[u8], room: &mut [u8]) -> Result<usize, Fault>
+    ensures written { MatchResult result
+        (IsEncodingPut text.now room.old room.new)
+        (IsEncodingFault text.now (length room.old)) }
+    ensures kept { IfErr result (λ _. room.new ≡ room.old) }
+{
+    let Ok(json) = str::from_utf8(text) else {
+        return Err(Fault::NotJson);
+    };
+    match encoding_of_json(alloc, json) {
+        Ok(bytes) => put(&bytes, room),
+        Err(error) => Err(fault_of(error)),
+    }
+}
+
+// What is told of a text for which there is no encoding.
+fn fault_of(error: EncodeError) -> Fault
+    ensures { result ≡ text_fault error }
+{
+    match error {
+        EncodeError::OutOfMemory | EncodeError::Json(JsonError::OutOfMemory) => Fault::OutOfMemory,
+        EncodeError::Json(_) => Fault::NotJson,
+        EncodeError::NoTypeTag | EncodeError::TooLong => Fault::NoEncoding,
+    }
+}

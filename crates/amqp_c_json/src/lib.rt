@@ -1,0 +1,51 @@
+//! Between encodings and JSON texts, for C.
+//!
+//! Both calls take memory, by C's `malloc`, `realloc` and `free`, and give all of it back. They
+//! keep no state, print nothing and never end the process. `include/amqp.h` declares them.
+#![tactic(auto)]
+
+ghost use Rattle.amqp_c_json.specs.Calls.{WritesJson, WritesEncoding};
+
+mod decode;
+mod encode;
+
+use amqp_c_answers::answer_count;
+use amqp_parsing::Limits;
+use decode::put_json;
+use encode::put_encoding;
+use std::alloc::Global;
+
+/// Writes the JSON text of the value at the front to the start of `room`. It recurses at most
+/// `depth` deep.
+///
+/// `count` becomes how many bytes were written, how many more are needed of the value, or how many
+/// the room has to have, or else 0.
+#[unsafe(no_mangle)]
+pub extern "C" fn amqp_to_json(
+    alloc: Global,
+    bytes: &[u8],
+    frame: u32,
+    depth: u32,
+    room: &mut [u8],
+    count: &mut usize,
+) -> i32
+    ensures { WritesJson frame depth bytes.now room.old result room.new count.new }
+{
+    answer_count(put_json(alloc, bytes, Limits { frame, depth }, room), count)
+}
+
+/// Writes the canonical encoding of the value that a JSON text means to the start of `room`. It
+/// recurses at most 128 deep.
+///
+/// `count` becomes how many bytes were written, or how many the room has to have, or else 0.
+#[unsafe(no_mangle)]
+pub extern "C" fn amqp_from_json(
+    alloc: Global,
+    text: &[u8],
+    room: &mut [u8],
+    count: &mut usize,
+) -> i32
+    ensures { WritesEncoding text.now room.old result room.new count.new }
+{
+    answer_count(put_encoding(alloc, text, room), count)
+}

@@ -1,0 +1,43 @@
+-- Where the bytes of the value at the front are all there.
+use Rattle.std.proofs.Common.{◌≡◌, ◌<◌, ◌≤◌, ℕ, zero, suc, List, [], ◌∷◌, Option, Some, None, refl, arith}
+use Rattle.std.specs.Prelude.{MatchOption}
+use Rattle.amqp_types.specs.declared.amqp_type.AMQPType.{AMQPType}
+use Rattle.amqp_types.specs.Ids.{kind}
+use Rattle.amqp_grammar.specs.Values.{Tree}
+use Rattle.amqp_grammar.specs.Outcomes.{found, unknown, lack, LacksOr, FrontBy, OutcomeBy, RawHeavy, Heavy}
+use Rattle.amqp_grammar.specs.Nesting.{WireWithin}
+use Rattle.amqp_parsing.specs.declared.errors.Err.TheVariants.{Failure}
+use Rattle.amqp_parsing.specs.declared.errors.ErrorKind.{ErrorKind}
+use Rattle.amqp_parsing.specs.declared.limits.Limits.{Limits}
+use Rattle.amqp_parsing.specs.Headers.{extent_at, extent, wanted_at, IsWhole}
+use Rattle.amqp_parsing.specs.Limits.{Within, RefusesWithin}
+
+-- they are where a value is read
+pub found_whole : (P : List ℕ → Tree → Type 0) (s rest : List ℕ) (v : Tree) → OutcomeBy P s (found v rest) → IsWhole s
+found_whole P [] rest v x = absurd cc
+found_whole P (c ∷ b) rest v x = by (kind c) x
+  where
+    decided : (n : ℕ) → LacksOr n (FrontBy P (c ∷ b) (found v rest)) (found v rest) → n ≡ 0
+    decided zero front = refl
+    decided (suc n) e = absurd cc
+
+    by : (k : Option AMQPType) → MatchOption k (found v rest ≡ unknown) (λ type. LacksOr (lack type b) (FrontBy P (c ∷ b) (found v rest)) (found v rest))
+        → (wanted_at k b ≡ 0) × (0 < extent_at k b)
+    by None e = absurd cc
+    by (Some type) y = (decided (lack type b) y, omega arith)
+
+-- and where reading takes memory
+pub heavy_whole : (s : List ℕ) → Heavy s → IsWhole s
+heavy_whole [] h = absurd h
+heavy_whole (c ∷ b) h = by (kind c) h
+  where
+    by : (k : Option AMQPType) → MatchOption k ⊥ (λ type. RawHeavy type b) → (wanted_at k b ≡ 0) × (0 < extent_at k b)
+    by None none = absurd none
+    by (Some type) heavy = (heavy.1, omega arith)
+
+-- so they are wherever reading within limits takes memory, or gives a value
+pub found_all : (l : Limits) (s rest : List ℕ) (v : Tree) → Within l s (found v rest) → (extent s ≤ l.frame) × IsWhole s
+found_all l s rest v x = (x.0, found_whole (WireWithin l.depth) s rest v x.1)
+
+pub failed_all : (l : Limits) (s : List ℕ) (kind : ErrorKind) → RefusesWithin l s (Failure kind) → (extent s ≤ l.frame) × IsWhole s
+failed_all l s kind x = (x.0, heavy_whole s x.1.1)
