@@ -1,5 +1,6 @@
 /*
- * Values of AMQP 0-9-1 field tables, read where their bytes lie. C11, and C++.
+ * Values of AMQP 0-9-1 field tables, read where their bytes lie and put together in a caller's room.
+ * C11, and C++.
  *
  * No call keeps state, prints or ends the process, and calls in several threads don't meet. None
  * takes memory but amqp_canonical, amqp_to_json and amqp_from_json, which are in libraries of their
@@ -11,7 +12,8 @@
  * lies in them. The caller owes only this: no pointer is NULL, also where a length is 0; `length`
  * bytes can be read at `bytes`, at most PTRDIFF_MAX, and `key_length` at `key`; and no struct that
  * is written overlaps the bytes, the key or another struct of the call, and no other thread writes
- * any of these meanwhile; the room that is written to is held to the same.
+ * any of these meanwhile; the room that is written to is held to the same, and `room_length` bytes,
+ * at most PTRDIFF_MAX, can be read and written in it.
  */
 #ifndef MAOLKINT_AMQP_H
 #define MAOLKINT_AMQP_H
@@ -30,8 +32,9 @@ enum {
     AMQP_MORE = -1,        /* the bytes end before the value does: more are needed */
     AMQP_UNKNOWN_TAG = -2, /* the first byte is no type tag */
     AMQP_MALFORMED = -3,   /* the bytes are there, and are no value, or an entry isn't one */
-    AMQP_TOO_LARGE = -4,   /* the value has more bytes than `frame` */
-    AMQP_INVALID = -5,     /* what was handed in doesn't lie in the bytes, or is of no container */
+    AMQP_TOO_LARGE = -4,   /* the value has more bytes than `frame`, or than its length can tell */
+    AMQP_INVALID = -5,     /* what was handed in doesn't lie in the bytes or the room, is of no
+                              container, or can't be put there */
     AMQP_NO_MEMORY = -6,   /* memory ran out */
     AMQP_NO_ROOM = -7,     /* the room is too small for what is to be written */
     AMQP_NOT_JSON = -8,    /* the text isn't UTF-8, is no JSON, or the JSON of no value */
@@ -82,6 +85,12 @@ typedef struct amqp_cursor {
     amqp_span left; /* the bytes of the body that are left */
     uint8_t tag;    /* AMQP_ARRAY or AMQP_TABLE */
 } amqp_cursor;
+
+/* An array or a table that is being put together in a room. */
+typedef struct amqp_container {
+    amqp_span written; /* its body, as far as it is written; the offset counts from the room's start */
+    uint8_t tag;       /* AMQP_ARRAY or AMQP_TABLE */
+} amqp_container;
 
 /*
  * Reads the value at the front within limits, and checks all of it: at most `frame` bytes, and
@@ -171,7 +180,69 @@ int32_t amqp_to_json(const uint8_t *bytes, size_t length, uint32_t frame, uint32
  */
 int32_t amqp_from_json(const uint8_t *text, size_t length, uint8_t *room, size_t room_length, size_t *count);
 
-/* Where a call answers anything but AMQP_OK, the entry, the cursor and the room stay as they are. */
+/*
+ * The calls below put an array or a table together in a room, entry by entry. They are in
+ * libamqp_c_build.a, and take no memory. To begin with, the room is the body of an array:
+ *
+ *     amqp_container top = {{0, 0}, AMQP_ARRAY};
+ *
+ * Each call writes behind what `into` has, and leaves the rest of the room as it was. In a table
+ * `key` is the entry's key, UTF-8 of at most 255 bytes, none or more; in an array `key_length` is 0.
+ * They answer AMQP_INVALID where `into` doesn't lie in the room or has another tag, the key can't
+ * stand there, or what is to be put is no such value, and AMQP_NO_ROOM where the entry doesn't fit.
+ */
+
+/*
+ * Puts a value of fixed width, by its type tag, its bits and its scale as an entry tells them: a
+ * signed number as (uint64_t)(int64_t)n, a boolean as 0 or 1, and a scale of 0 but for a decimal.
+ *
+ * Answers AMQP_OK, AMQP_NO_ROOM or AMQP_INVALID, this also where the bits are no number of the type.
+ */
+int32_t amqp_put(uint8_t *room, size_t room_length, amqp_container *into, const uint8_t *key,
+                 size_t key_length, uint8_t tag, uint64_t bits, uint8_t scale);
+
+/*
+ * Puts a string or a byte array: `tag` is AMQP_LONG_STRING or AMQP_BYTE_ARRAY.
+ *
+ * Answers AMQP_OK, AMQP_NO_ROOM, AMQP_INVALID, or AMQP_TOO_LARGE from 2^32 bytes on.
+ */
+int32_t amqp_put_bytes(uint8_t *room, size_t room_length, amqp_container *into, const uint8_t *key,
+                       size_t key_length, uint8_t tag, const uint8_t *bytes, size_t length);
+
+/*
+ * Puts the value at the front of other bytes: reads it within limits as amqp_read does, and copies
+ * its encoding as it stands. It recurses at most `depth` deep.
+ *
+ * Answers AMQP_OK, AMQP_NO_ROOM, AMQP_INVALID, or what amqp_read answers for the bytes.
+ */
+int32_t amqp_put_value(uint8_t *room, size_t room_length, amqp_container *into, const uint8_t *key,
+                       size_t key_length, const uint8_t *bytes, size_t length, uint32_t frame,
+                       uint32_t depth);
+
+/*
+ * Begins an entry whose value is an array or a table: `tag` is AMQP_ARRAY or AMQP_TABLE. `body` is
+ * then that container with nothing in it, which the calls here put entries into; `into` stays as it
+ * is until amqp_close, and nothing is to be put into it meanwhile: that would overwrite the body.
+ *
+ * Answers AMQP_OK, AMQP_NO_ROOM or AMQP_INVALID.
+ */
+int32_t amqp_open(uint8_t *room, size_t room_length, const amqp_container *into, const uint8_t *key,
+                  size_t key_length, uint8_t tag, amqp_container *body);
+
+/*
+ * Ends the entry that amqp_open began in `into`: fills the length of `body` in before it, and `into`
+ * reaches to its end.
+ *
+ * Answers AMQP_OK, AMQP_TOO_LARGE where the body has 2^32 bytes or more, or AMQP_INVALID where
+ * `body` doesn't lie in the room, or isn't one that begins behind a key (in a table), its own type
+ * tag and four bytes, where what `into` has ends.
+ */
+int32_t amqp_close(uint8_t *room, size_t room_length, amqp_container *into, const amqp_container *body);
+
+/*
+ * Where a call answers anything but AMQP_OK, the entry, the cursor, the container and the room stay
+ * as they are.
+ */
 
 #ifdef __cplusplus
 }

@@ -1,3 +1,5 @@
 pub mod Answers
 pub mod Reading
 pub mod Rooms
+pub mod Scalars
+pub mod Spans

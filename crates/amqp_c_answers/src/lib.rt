@@ -1,10 +1,13 @@
-//! What the libraries for C answer: numbers that stand for faults, counts, and bytes in a room.
+//! What the libraries for C answer: numbers that stand for faults, counts, spans, and bytes in a
+//! room.
 #![tactic(auto)]
 
 mod answers;
 mod fault;
 mod room;
+mod span;
 
 pub use answers::answer_count;
 pub use fault::Fault;
 pub use room::put;
+pub use span::Span;

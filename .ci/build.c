@@ -1,0 +1,530 @@
+/*
+ * Tries the calls of include/amqp.h that put arrays and tables together, beside a writer in plain C.
+ *
+ * The room lies against a page that can't be touched, once with its end and once with its front, so a
+ * byte that is touched outside of it ends the program. After each call the room and the structs are
+ * those that the writer here leaves, byte for byte, and so is the answer; what isn't AMQP_OK leaves
+ * all as it was.
+ *
+ * It tries every type tag with numbers about its type's ends, keys of every kind, each of some
+ * values in rooms of every size, containers and bodies that were spoilt, and random entries that
+ * are put together, read back by amqp_read and amqp_next, and made canonical. It prints how many
+ * calls it made.
+ */
+#define _DEFAULT_SOURCE
+#include "amqp.h"
+
+#include <inttypes.h>
+#include <stdio.h>
+#include <stdlib.h>
+#include <string.h>
+#include <sys/mman.h>
+#include <unistd.h>
+
+#define CHECK(condition)                                                      \
+    do {                                                                      \
+        if (!(condition)) {                                                   \
+            fprintf(stderr, "line %d: not so: %s\n", __LINE__, #condition);   \
+            abort();                                                          \
+        }                                                                     \
+    } while (0)
+
+#define MOST 1024
+#define FRAME 512
+#define DEPTH 8
+
+static uint8_t *page;
+static size_t page_size;
+static uint64_t calls;
+
+/* The room as the library and as the writer here leave it. */
+static uint8_t *room;
+static uint8_t model[MOST];
+static size_t room_length;
+
+/* ---- a writer in plain C */
+
+static int lies(amqp_span span) {
+    return span.offset <= room_length && span.length <= room_length - span.offset;
+}
+
+/* Whether bytes are UTF-8: no overlong form, no surrogate, nothing above U+10FFFF. */
+static int is_utf8(const uint8_t *it, size_t length) {
+    size_t i = 0;
+    while (i < length) {
+        uint32_t c = it[i];
+        size_t more = c < 0x80 ? 0 : c < 0xe0 ? 1 : c < 0xf0 ? 2 : 3;
+        if ((c >= 0x80 && c < 0xc2) || c >= 0xf5 || length - i <= more) {
+            return 0;
+        }
+        c = more ? c & (0x3fu >> more) : c;
+        for (size_t k = 1; k <= more; k++) {
+            if ((it[i + k] & 0xc0) != 0x80) {
+                return 0;
+            }
+            c = c << 6 | (it[i + k] & 0x3fu);
+        }
+        int is_surrogate = c >= 0xd800 && c < 0xe000;
+        if ((more == 2 && (c < 0x800 || is_surrogate)) || (more == 3 && (c < 0x10000 || c > 0x10ffff))) {
+            return 0;
+        }
+        i += more + 1;
+    }
+    return 1;
+}
+
+static int takes_key(uint8_t tag, const uint8_t *key, size_t length) {
+    return tag == AMQP_ARRAY ? length == 0 : tag == AMQP_TABLE && length <= 255 && is_utf8(key, length);
+}
+
+/* Puts the key and these bytes behind what the container has, and says what is answered. */
+static int32_t model_append(amqp_container *into, const uint8_t *key, size_t key_length, const uint8_t *bytes,
+                            size_t length) {
+    size_t end = into->written.offset + into->written.length;
+    size_t named = into->tag == AMQP_TABLE ? 1 + key_length : 0;
+    if (!lies(into->written) || !takes_key(into->tag, key, key_length)) {
+        return AMQP_INVALID;
+    }
+    if (room_length - end < named + length) {
+        return AMQP_NO_ROOM;
+    }
+    if (named) {
+        model[end] = (uint8_t)key_length;
+        for (size_t i = 0; i < key_length; i++) {
+            model[end + 1 + i] = key[i];
+        }
+    }
+    for (size_t i = 0; i < length; i++) {
+        model[end + named + i] = bytes[i];
+    }
+    into->written.length += named + length;
+    return AMQP_OK;
+}
+
+static size_t big_endian(uint8_t *bytes, size_t width, uint64_t n) {
+    for (size_t i = 0; i < width; i++) {
+        bytes[i] = (uint8_t)(n >> 8 * (width - 1 - i));
+    }
+    return width;
+}
+
+/* The encoding of a value of fixed width, and how many bytes it has; 0 where there is none. */
+static size_t model_scalar(uint8_t *bytes, uint8_t tag, uint64_t bits, uint8_t scale) {
+    int64_t n = (int64_t)bits;
+    bytes[0] = tag;
+    if (scale != 0 && tag != AMQP_DECIMAL) {
+        return 0;
+    }
+    switch (tag) {
+    case AMQP_BOOLEAN: return bits > 1 ? 0 : 1 + big_endian(bytes + 1, 1, bits);
+    case AMQP_SHORT_SHORT_INT: return n < INT8_MIN || n > INT8_MAX ? 0 : 1 + big_endian(bytes + 1, 1, bits);
+    case AMQP_SHORT_SHORT_UINT: return bits > UINT8_MAX ? 0 : 1 + big_endian(bytes + 1, 1, bits);
+    case AMQP_SHORT_INT: return n < INT16_MIN || n > INT16_MAX ? 0 : 1 + big_endian(bytes + 1, 2, bits);
+    case AMQP_SHORT_UINT: return bits > UINT16_MAX ? 0 : 1 + big_endian(bytes + 1, 2, bits);
+    case AMQP_LONG_INT: return n < INT32_MIN || n > INT32_MAX ? 0 : 1 + big_endian(bytes + 1, 4, bits);
+    case AMQP_LONG_UINT:
+    case AMQP_FLOAT: return bits > UINT32_MAX ? 0 : 1 + big_endian(bytes + 1, 4, bits);
+    case AMQP_LONG_LONG_INT:
+    case AMQP_DOUBLE:
+    case AMQP_TIMESTAMP: return 1 + big_endian(bytes + 1, 8, bits);
+    case AMQP_DECIMAL:
+        bytes[1] = scale;
+        return bits > UINT32_MAX ? 0 : 2 + big_endian(bytes + 2, 4, bits);
+    case AMQP_VOID: return bits != 0 ? 0 : 1;
+    default: return 0;
+    }
+}
+
+/* ---- the library beside it */
+
+/* A container between bytes that no call may write. */
+typedef struct held {
+    uint64_t before;
+    amqp_container it;
+    uint64_t behind;
+} held;
+
+#define SPARE 0x5a5a5a5a5a5a5a5au
+
+static held hold(amqp_container it) {
+    held all = {SPARE, it, SPARE};
+    return all;
+}
+
+/* After a call: the answer, the container, the room and what lies about it are as they have to be. */
+static void check(const held *all, amqp_container wanted, int32_t answer, int32_t right) {
+    calls++;
+    CHECK(answer == right);
+    CHECK(all->it.written.offset == wanted.written.offset && all->it.written.length == wanted.written.length);
+    CHECK(all->it.tag == wanted.tag && all->before == SPARE && all->behind == SPARE);
+    CHECK(memcmp(room, model, room_length) == 0);
+    for (size_t i = 1; i <= 16; i++) {
+        CHECK(room - i < page || room[-(ptrdiff_t)i] == 0xa5);
+        CHECK(room + room_length + i > page + page_size || room[room_length + i - 1] == 0xa5);
+    }
+}
+
+/* Gives the room so many bytes, all of them the same, at the end of the page or at its front. */
+static void new_room(size_t length, int at_front) {
+    memset(page, 0xa5, page_size);
+    room_length = length;
+    room = at_front ? page : page + page_size - length;
+    memset(room, 0x33, length);
+    memset(model, 0x33, sizeof model);
+}
+
+static int32_t put(amqp_container *into, const uint8_t *key, size_t key_length, uint8_t tag, uint64_t bits,
+                   uint8_t scale) {
+    uint8_t bytes[16];
+    held all = hold(*into);
+    size_t length = model_scalar(bytes, tag, bits, scale);
+    int32_t right = length ? model_append(into, key, key_length, bytes, length) : AMQP_INVALID;
+    int32_t answer = amqp_put(room, room_length, &all.it, key, key_length, tag, bits, scale);
+    check(&all, *into, answer, right);
+    return answer;
+}
+
+static int32_t put_bytes(amqp_container *into, const uint8_t *key, size_t key_length, uint8_t tag,
+                         const uint8_t *content, size_t length) {
+    static uint8_t bytes[MOST + 5];
+    held all = hold(*into);
+    bytes[0] = tag;
+    big_endian(bytes + 1, 4, length);
+    memcpy(bytes + 5, content, length);
+    int is_string = tag == AMQP_LONG_STRING || tag == AMQP_BYTE_ARRAY;
+    int32_t right = is_string ? model_append(into, key, key_length, bytes, 5 + length) : AMQP_INVALID;
+    int32_t answer = amqp_put_bytes(room, room_length, &all.it, key, key_length, tag, content, length);
+    check(&all, *into, answer, right);
+    return answer;
+}
+
+static int32_t put_value(amqp_container *into, const uint8_t *key, size_t key_length, const uint8_t *bytes,
+                         size_t length) {
+    size_t taken;
+    held all = hold(*into);
+    int is_place = lies(into->written) && takes_key(into->tag, key, key_length);
+    int32_t read = amqp_read(bytes, length, FRAME, DEPTH, &taken);
+    int32_t right = !is_place ? AMQP_INVALID : read;
+    if (right == AMQP_OK) {
+        right = model_append(into, key, key_length, bytes, taken);
+    }
+    int32_t answer = amqp_put_value(room, room_length, &all.it, key, key_length, bytes, length, FRAME, DEPTH);
+    check(&all, *into, answer, right);
+    return answer;
+}
+
+static int32_t open_in(const amqp_container *into, const uint8_t *key, size_t key_length, uint8_t tag,
+                       amqp_container *body) {
+    const uint8_t bytes[] = {tag, 0, 0, 0, 0};
+    amqp_container grown = *into;
+    held all = hold(*body);
+    int is_container = tag == AMQP_ARRAY || tag == AMQP_TABLE;
+    int32_t right = is_container ? model_append(&grown, key, key_length, bytes, sizeof bytes) : AMQP_INVALID;
+    if (right == AMQP_OK) {
+        body->written.offset = grown.written.offset + grown.written.length;
+        body->written.length = 0;
+        body->tag = tag;
+    }
+    int32_t answer = amqp_open(room, room_length, into, key, key_length, tag, &all.it);
+    check(&all, *body, answer, right);
+    return answer;
+}
+
+/* Whether the body begins behind a name, its type tag and four bytes, where what `into` has ends. */
+static int is_open(const amqp_container *into, const amqp_container *body) {
+    size_t at = into->written.offset + into->written.length, key_length = 0;
+    if (!lies(into->written) || !lies(body->written) || (body->tag != AMQP_ARRAY && body->tag != AMQP_TABLE)) {
+        return 0;
+    }
+    if (into->tag == AMQP_TABLE && at < room_length) {
+        key_length = model[at++];
+    }
+    return room_length - at >= key_length + 5 && takes_key(into->tag, model + at, key_length)
+           && model[at + key_length] == body->tag && body->written.offset == at + key_length + 5;
+}
+
+static int32_t close_in(amqp_container *into, const amqp_container *body) {
+    held all = hold(*into);
+    int32_t right = is_open(into, body) ? AMQP_OK : AMQP_INVALID;
+    if (right == AMQP_OK) {
+        big_endian(model + body->written.offset - 4, 4, body->written.length);
+        into->written.length = body->written.offset + body->written.length - into->written.offset;
+    }
+    int32_t answer = amqp_close(room, room_length, &all.it, body);
+    check(&all, *into, answer, right);
+    return answer;
+}
+
+/* ---- what is tried */
+
+static const uint8_t none[1];
+
+static const amqp_container whole = {{0, 0}, AMQP_ARRAY};
+
+static const uint64_t numbers[] = {
+    0, 1, 2, 127, 128, 255, 256, 32767, 32768, 65535, 65536, 2147483647, 2147483648u, 4294967295u, 4294967296u,
+    INT64_MAX, (uint64_t)INT64_MAX + 1, UINT64_MAX, (uint64_t)-128, (uint64_t)-129, (uint64_t)-32768, (uint64_t)-32769,
+    (uint64_t)-2147483648, (uint64_t)-2147483649,
+};
+
+/* Every type tag, with numbers about the ends of each type. */
+static void try_types(void) {
+    for (int tag = 0; tag < 256; tag++) {
+        for (size_t i = 0; i < sizeof numbers / sizeof *numbers; i++) {
+            for (int scale = 0; scale < 256; scale += scale < 2 ? 1 : 253) {
+                amqp_container array = whole, table = {{3, 0}, AMQP_TABLE};
+                new_room(16, tag % 2);
+                put(&array, none, 0, (uint8_t)tag, numbers[i], (uint8_t)scale);
+                put(&table, (const uint8_t *)"k", 1, (uint8_t)tag, numbers[i], (uint8_t)scale);
+            }
+        }
+    }
+}
+
+/* Every key of at most two bytes, some longer ones, and those about 255 bytes. */
+static void try_keys(void) {
+    static const char *others[] = {
+        "\xe0\xa0\x80", "\xe0\x9f\xbf", "\xed\x9f\xbf", "\xed\xa0\x80", "\xef\xbf\xbf", "\xe2\x82", "\xf0\x90\x80\x80",
+        "\xf0\x8f\xbf\xbf", "\xf4\x8f\xbf\xbf", "\xf4\x90\x80\x80", "\xf0\x9f\x98", "a\xc3\xa4z", "a\x80z",
+    };
+    uint8_t key[300];
+    for (unsigned n = 0; n < 0x10000; n++) {
+        amqp_container table = {{0, 0}, AMQP_TABLE};
+        key[0] = (uint8_t)(n >> 8);
+        key[1] = (uint8_t)n;
+        new_room(8, n % 2);
+        put(&table, key, 2 - (n < 0x100), AMQP_VOID, 0, 0);
+    }
+    for (size_t i = 0; i < sizeof others / sizeof *others; i++) {
+        amqp_container table = {{0, 0}, AMQP_TABLE}, body = whole;
+        new_room(16, 0);
+        put(&table, (const uint8_t *)others[i], strlen(others[i]), AMQP_VOID, 0, 0);
+        put_bytes(&table, (const uint8_t *)others[i], strlen(others[i]), AMQP_LONG_STRING, none, 0);
+        open_in(&table, (const uint8_t *)others[i], strlen(others[i]), AMQP_ARRAY, &body);
+    }
+    memset(key, 'k', sizeof key);
+    for (size_t length = 0; length <= sizeof key; length += length < 253 ? 11 : 1) {
+        for (int tag = AMQP_ARRAY; tag <= AMQP_TABLE; tag += AMQP_TABLE - AMQP_ARRAY) {
+            amqp_container into = {{0, 0}, (uint8_t)tag};
+            new_room(400, 0);
+            put(&into, key, length, AMQP_BOOLEAN, 1, 0);
+        }
+    }
+}
+
+static const char *const values[] = {"t\1", "S\0\0\0\2hi", "A\0\0\0\3Vt\7", "F\0\0\0\3\1kV", "F\0\0\0\1", "z", "A\0\0\0\1z"};
+static const size_t lengths[] = {2, 7, 8, 8, 5, 1, 6};
+
+/* Entries of every kind in rooms of every size, behind what is there already. */
+static void try_rooms(void) {
+    for (size_t length = 0; length <= 40; length++) {
+        for (size_t before = 0; before <= length; before += 3) {
+            for (int tag = AMQP_ARRAY; tag <= AMQP_TABLE; tag += AMQP_TABLE - AMQP_ARRAY) {
+                const uint8_t *key = (const uint8_t *)(tag == AMQP_TABLE ? "key" : "");
+                size_t key_length = tag == AMQP_TABLE ? 3 : 0;
+                amqp_container into, start = {{0, before}, (uint8_t)tag}, body = whole;
+                new_room(length, (int)(before % 2));
+                into = start;
+                put(&into, key, key_length, AMQP_DECIMAL, 314, 2);
+                for (size_t i = 0; i < sizeof lengths / sizeof *lengths; i++) {
+                    uint8_t bytes[16];
+                    memcpy(bytes, values[i], lengths[i]);
+                    bytes[lengths[i]] = 'V';
+                    into = start;
+                    put_value(&into, key, key_length, bytes, lengths[i] + 1);
+                    put_value(&into, key, key_length, bytes, lengths[i] - 1);
+                }
+                for (size_t content = 0; content < 9; content++) {
+                    into = start;
+                    uint8_t type = content % 2 ? AMQP_BYTE_ARRAY : AMQP_LONG_STRING;
+                    put_bytes(&into, key, key_length, type, (const uint8_t *)"contents", content);
+                }
+                into = start;
+                if (open_in(&into, key, key_length, AMQP_TABLE, &body) == AMQP_OK) {
+                    put(&body, (const uint8_t *)"x", 1, AMQP_LONG_INT, 7, 0);
+                    CHECK(close_in(&into, &body) == AMQP_OK);
+                }
+            }
+        }
+    }
+}
+
+static const size_t far[] = {SIZE_MAX, SIZE_MAX - 1, SIZE_MAX / 2 + 1, (size_t)1 << 32};
+static const uint8_t tags[] = {AMQP_TABLE, AMQP_ARRAY, AMQP_LONG_STRING, 0, 255};
+
+static size_t number(size_t i) {
+    return i <= room_length + 1 ? i : far[i - room_length - 2];
+}
+
+/* Containers that were spoilt: all kinds of numbers, and of type tags. */
+static void try_spoilt(size_t length) {
+    size_t count = length + 2 + sizeof far / sizeof *far;
+    for (size_t i = 0; i < count; i++) {
+        for (size_t j = 0; j < count; j++) {
+            for (size_t t = 0; t < sizeof tags; t++) {
+                for (size_t key_length = 0; key_length < 2; key_length++) {
+                    new_room(length, (int)(i % 2));
+                    amqp_container spoilt = {{number(i), number(j)}, tags[t]}, into = spoilt, body = spoilt;
+                    put(&into, (const uint8_t *)"k", key_length, AMQP_SHORT_INT, 5, 0);
+                    into = spoilt;
+                    put_bytes(&into, (const uint8_t *)"k", key_length, AMQP_BYTE_ARRAY, (const uint8_t *)"ab", 2);
+                    into = spoilt;
+                    put_value(&into, (const uint8_t *)"k", key_length, (const uint8_t *)"t\7V", 3);
+                    open_in(&spoilt, (const uint8_t *)"k", key_length, tags[t], &body);
+                }
+            }
+        }
+    }
+}
+
+/* Bodies that were spoilt, and containers beside them, over bytes as amqp_open leaves them or not. */
+static void try_spoilt_bodies(const uint8_t *bytes, size_t length) {
+    size_t count = length + 2 + sizeof far / sizeof *far;
+    new_room(length, 0);
+    for (size_t k = 0; k < count * count * count * count; k++) {
+        amqp_container into = {{number(k % count), number(k / count % count)}, 0};
+        amqp_container body = {{number(k / count / count % count), number(k / count / count / count)}, 0};
+        for (size_t t = 0; t < 9; t++) {
+            amqp_container grown = into;
+            grown.tag = tags[t % 3];
+            body.tag = tags[t / 3];
+            memcpy(room, bytes, length);
+            memcpy(model, bytes, length);
+            close_in(&grown, &body);
+        }
+    }
+}
+
+/* A room and a body of more than 2^32 bytes, of which no more is touched than the first. */
+static void try_large(void) {
+    size_t large = ((size_t)1 << 32) + page_size;
+    uint8_t *bytes = mmap(NULL, large, PROT_READ | PROT_WRITE, MAP_PRIVATE | MAP_ANONYMOUS | MAP_NORESERVE, -1, 0);
+    CHECK(bytes != MAP_FAILED);
+    for (size_t length = ((size_t)1 << 32) - 1; length <= ((size_t)1 << 32) + 1; length++) {
+        amqp_container into = whole, body = whole, old = whole;
+        int is_too_large = length > UINT32_MAX;
+        CHECK(amqp_open(bytes, large, &into, none, 0, AMQP_ARRAY, &body) == AMQP_OK);
+        body.written.length = length;
+        CHECK(amqp_close(bytes, large, &into, &body) == (is_too_large ? AMQP_TOO_LARGE : AMQP_OK));
+        CHECK(into.written.length == (is_too_large ? 0 : length + 5));
+        CHECK(bytes[0] == 'A' && bytes[1] == (is_too_large ? 0 : 0xff) && bytes[4] == bytes[1] && bytes[5] == 0);
+        new_room(64, 0);
+        CHECK(amqp_put_bytes(room, room_length, &old, none, 0, AMQP_BYTE_ARRAY, bytes, length)
+              == (is_too_large ? AMQP_TOO_LARGE : AMQP_NO_ROOM));
+        CHECK(old.written.length == 0 && memcmp(room, model, room_length) == 0);
+        calls += 3;
+    }
+    munmap(bytes, large);
+}
+
+static uint64_t state = 88172645463325252u;
+
+/* Marsaglia's xorshift, from a fixed seed. */
+static uint64_t random_number(void) {
+    state ^= state << 13;
+    state ^= state >> 7;
+    state ^= state << 17;
+    return state;
+}
+
+/* Puts random entries into a container, and into containers in it. */
+static void fill(amqp_container *into, int depth) {
+    static const uint8_t every[] = "tbBsuIilfdDTV";
+    for (uint64_t entries = random_number() % 6; entries > 0; entries--) {
+        uint8_t key[4] = {'a', 'b', 'c', 'd'};
+        size_t key_length = into->tag == AMQP_TABLE ? random_number() % 4 : 0;
+        key[0] = (uint8_t)('a' + random_number() % 5);
+        uint64_t kind = random_number() % 8;
+        uint64_t bits = numbers[random_number() % (sizeof numbers / sizeof *numbers)];
+        if (kind < 3) {
+            put(into, key, key_length, every[random_number() % 13], bits, (uint8_t)(random_number() % 4 ? 0 : 3));
+        } else if (kind < 4) {
+            uint8_t type = random_number() % 2 ? AMQP_BYTE_ARRAY : AMQP_LONG_STRING;
+            put_bytes(into, key, key_length, type, key, random_number() % 5);
+        } else if (kind < 5) {
+            size_t i = random_number() % (sizeof lengths / sizeof *lengths);
+            put_value(into, key, key_length, (const uint8_t *)values[i], lengths[i]);
+        } else if (depth > 0) {
+            amqp_container body = whole;
+            uint8_t type = random_number() % 2 ? AMQP_TABLE : AMQP_ARRAY;
+            if (open_in(into, key, key_length, type, &body) == AMQP_OK) {
+                fill(&body, depth - 1);
+                CHECK(close_in(into, &body) == AMQP_OK);
+            }
+        }
+    }
+}
+
+/* Puts what a cursor steps through together again, in the other room, by what each entry tells. */
+static void copy_entries(const uint8_t *bytes, size_t length, amqp_cursor cursor, amqp_container *into) {
+    amqp_entry entry;
+    while (amqp_next(bytes, length, &cursor, &entry) == AMQP_OK) {
+        const uint8_t *key = bytes + entry.key.offset, *content = bytes + entry.content.offset;
+        amqp_cursor inner;
+        amqp_container body = whole;
+        if (amqp_enter(bytes, length, &entry, &inner) == AMQP_OK) {
+            CHECK(open_in(into, key, entry.key.length, entry.tag, &body) == AMQP_OK);
+            copy_entries(bytes, length, inner, &body);
+            CHECK(close_in(into, &body) == AMQP_OK);
+        } else if (entry.tag == AMQP_LONG_STRING || entry.tag == AMQP_BYTE_ARRAY) {
+            CHECK(put_bytes(into, key, entry.key.length, entry.tag, content, entry.content.length) == AMQP_OK);
+        } else {
+            CHECK(put(into, key, entry.key.length, entry.tag, entry.bits, entry.scale) == AMQP_OK);
+        }
+    }
+}
+
+/* What is put together is read, entry by entry what was put, and has a canonical encoding. */
+static void try_random(void) {
+    static uint8_t first[MOST], canonical[MOST], again[MOST];
+    amqp_container top = whole, body = whole;
+    amqp_entry entry;
+    amqp_cursor cursor;
+    size_t count, others;
+    new_room(random_number() % 300, (int)(random_number() % 2));
+    uint8_t tag = random_number() % 2 ? AMQP_TABLE : AMQP_ARRAY;
+    if (open_in(&top, none, 0, tag, &body) != AMQP_OK) {
+        return;
+    }
+    fill(&body, 3);
+    CHECK(close_in(&top, &body) == AMQP_OK);
+    size_t length = top.written.length;
+    memcpy(first, room, length);
+    CHECK(amqp_read(first, length, FRAME, DEPTH, &count) == AMQP_OK && count == length);
+    CHECK(amqp_canonical(first, length, FRAME, DEPTH, canonical, sizeof canonical, &count) == AMQP_OK && count <= length);
+    CHECK(amqp_first(first, length, &entry) == AMQP_OK && amqp_enter(first, length, &entry, &cursor) == AMQP_OK);
+    new_room(length, 0);
+    top = whole;
+    CHECK(open_in(&top, none, 0, tag, &body) == AMQP_OK);
+    copy_entries(first, length, cursor, &body);
+    CHECK(close_in(&top, &body) == AMQP_OK && top.written.length == length);
+    CHECK(amqp_canonical(room, length, FRAME, DEPTH, again, sizeof again, &others) == AMQP_OK);
+    CHECK(others == count && memcmp(again, canonical, count) == 0);
+}
+
+int main(void) {
+    static const uint8_t opened[][12] = {
+        "A\0\0\0\0AVtV", "\1kF\0\0\0\0\1aV", "\0A\0\0\0\0A\0\0\0\0", "\1\x80""A\0\0\0\0VV", "F\0\0\0\0FFFF",
+    };
+    page_size = (size_t)sysconf(_SC_PAGESIZE);
+    uint8_t *pages = mmap(NULL, 3 * page_size, PROT_NONE, MAP_PRIVATE | MAP_ANONYMOUS, -1, 0);
+    CHECK(pages != MAP_FAILED);
+    page = pages + page_size;
+    CHECK(mprotect(page, page_size, PROT_READ | PROT_WRITE) == 0);
+
+    try_types();
+    try_keys();
+    try_rooms();
+    for (size_t length = 0; length <= 12; length++) {
+        try_spoilt(length);
+    }
+    for (size_t i = 0; i < sizeof opened / sizeof *opened; i++) {
+        try_spoilt_bodies(opened[i], 10);
+    }
+    try_large();
+    for (int i = 0; i < 100000; i++) {
+        try_random();
+    }
+    printf("%" PRIu64 " calls\n", calls);
+    return 0;
+}

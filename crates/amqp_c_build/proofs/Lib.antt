@@ -1,0 +1,5 @@
+mod Growing
+mod Numbers
+mod Opened
+mod Putting
+mod Rooms
