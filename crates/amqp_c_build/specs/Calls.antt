@@ -1,18 +1,14 @@
 -- What each call from C answers, and leaves in the room and behind its pointers.
 use Rattle.std.specs.Prelude.{ℕ, ◌≡◌, ℤ, List, Result, Ok, Err, IfErr, MatchResult}
 use Rattle.amqp_grammar.specs.Values.{Tree, Scalar}
-use Rattle.amqp_parsing.specs.declared.limits.Limits.{Limits}
 use Rattle.amqp_c_answers.specs.declared.fault.Fault.{Fault}
 use Rattle.amqp_c_answers.specs.Answers.{answer_of}
+use Rattle.amqp_c_answers.specs.Reading.{limits}
 use Rattle.amqp_c_build.specs.declared.container.Container.{Container}
 use Rattle.amqp_c_build.specs.Containers.{IsContainerTag}
 use Rattle.amqp_c_build.specs.Entries.{Tells, IsTold, IsStringTag, IsOfBytes, IsFront, unfilled}
-use Rattle.amqp_c_build.specs.Faults.{Refuses, NoOther, IsTooLong, IsReadFault, RefusesToEnd}
+use Rattle.amqp_c_build.specs.Faults.{Refuses, NoOther, IsTooLong, IsReadFaultInPlace, RefusesToEnd}
 use Rattle.amqp_c_build.specs.Growth.{IsPut, IsBegun, IsEnded}
-
--- the limits of these numbers
-abbrev pub limits : ℕ → ℕ → Limits
-limits frame depth = record { frame = frame; depth = depth }
 
 -- what is given, or what stood there
 abbrev pub given_or : Container → Result Container Fault → Container
@@ -38,7 +34,7 @@ PutsBytes tag b = Puts (IsStringTag tag) (IsOfBytes tag b) (IsTooLong tag b)
 
 -- the encoding at the front of s is put, as it stands
 abbrev pub PutsValue : ℕ → ℕ → List ℕ → List ℕ → Container → List ℕ → ℤ → List ℕ → Container → Type 0
-PutsValue frame depth s = Puts (Unit {0}) (IsFront (limits frame depth) s) (IsReadFault (limits frame depth) s)
+PutsValue frame depth s = Puts (Unit {0}) (IsFront (limits frame depth) s) (IsReadFaultInPlace (limits frame depth) s)
 
 -- an entry is begun or refused whose value is a container; after a refusal the room and the body are
 -- as they were

@@ -1,11 +1,9 @@
 -- When each fault is right.
 use Rattle.std.specs.Prelude.{ℕ, ◌≡◌, ◌<◌, ◌≤◌, ◌+◌, ◌^◌, List, length}
-use Rattle.amqp_grammar.specs.Outcomes.{more, unknown, malformed}
 use Rattle.amqp_parsing.specs.declared.limits.Limits.{Limits}
-use Rattle.amqp_parsing.specs.Headers.{extent}
-use Rattle.amqp_parsing.specs.Limits.{Within}
 use Rattle.amqp_c_answers.specs.declared.fault.Fault.{Fault}
-use Rattle.amqp_c_answers.specs.declared.fault.Fault.TheVariants.{More, UnknownTag, Malformed, TooLarge, Invalid, NoRoom}
+use Rattle.amqp_c_answers.specs.declared.fault.Fault.TheVariants.{TooLarge, Invalid, OutOfMemory, NoRoom}
+use Rattle.amqp_c_answers.specs.Reading.{IsReadFault}
 use Rattle.amqp_c_build.specs.declared.container.Container.{Container}
 use Rattle.amqp_c_build.specs.Containers.{IsPlace, end_of, entry_of}
 use Rattle.amqp_c_build.specs.Entries.{IsStringTag}
@@ -32,13 +30,10 @@ abbrev pub IsTooLong : ℕ → List ℕ → Fault → Type 0
 IsTooLong tag b TooLarge = IsStringTag tag × (2 ^ 32 ≤ length b)
 IsTooLong tag b _ = ⊥
 
--- what reading s within the limits comes to
-abbrev pub IsReadFault : Limits → List ℕ → Fault → Type 0
-IsReadFault l s (More n) = Within l s (more n)
-IsReadFault l s UnknownTag = Within l s unknown
-IsReadFault l s Malformed = Within l s malformed
-IsReadFault l s TooLarge = l.frame < extent s
-IsReadFault l s _ = ⊥
+-- what reading s within the limits comes to, which takes no memory
+abbrev pub IsReadFaultInPlace : Limits → List ℕ → Fault → Type 0
+IsReadFaultInPlace l s OutOfMemory = ⊥
+IsReadFaultInPlace l s f = IsReadFault l s f
 
 -- a fault of ending an entry is right: the body is of none that was begun there, or has too many
 -- bytes

@@ -3,7 +3,7 @@
 ghost use Rattle.std.specs.Prelude.{◌≡◌, IfErr, MatchResult, MatchBool};
 ghost use Rattle.amqp_grammar.specs.Values.{Tree, Scalar};
 ghost use Rattle.amqp_c_build.specs.Entries.{Tells, IsTold, IsStringTag, IsOfBytes, IsFront};
-ghost use Rattle.amqp_c_build.specs.Faults.{Refuses, NoOther, IsTooLong, IsReadFault};
+ghost use Rattle.amqp_c_build.specs.Faults.{Refuses, NoOther, IsTooLong, IsReadFaultInPlace};
 ghost use Rattle.amqp_c_build.specs.Growth.{IsPut};
 
 use crate::container::Container;
@@ -75,7 +75,7 @@ pub fn put_value(
 ) -> Result<Container, Fault>
     ensures put { MatchResult result
         (IsPut (IsFront limits bytes.now) room.old into key.now room.new)
-        (Refuses (Unit {0}) (λ w. (v : Tree) × IsFront limits bytes.now w v) (IsReadFault limits bytes.now)
+        (Refuses (Unit {0}) (λ w. (v : Tree) × IsFront limits bytes.now w v) (IsReadFaultInPlace limits bytes.now)
         room.old into key.now) }
     ensures kept { IfErr result (λ _. room.new ≡ room.old) }
 {

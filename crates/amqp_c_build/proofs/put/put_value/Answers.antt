@@ -1,6 +1,6 @@
 use Rattle.std.proofs.Common.{◌-◌, length, take, refl}
 use Rattle.amqp_c_build.specs.Entries.{IsFront}
-use Rattle.amqp_c_build.specs.Faults.{IsReadFault}
+use Rattle.amqp_c_build.specs.Faults.{IsReadFaultInPlace}
 use Rattle.amqp_c_build.proofs.Putting.{put_of, front}
 use Rattle.amqp_c_build.proofs.put.put_value.Goals as goal
 
@@ -12,5 +12,5 @@ returns-clause-put c =
     let x = c.in_ok-rest.ensures.within in
     let w = take (length s - length rest) s in
     let is = front l s rest w x.0 x.2 refl in
-    put_of (Unit {0}) (IsFront l s) (IsReadFault l s) c.args.room.now c.append.new.room c.args.key.now w c.args.into x.0 c.append.result
+    put_of (Unit {0}) (IsFront l s) (IsReadFaultInPlace l s) c.args.room.now c.append.new.room c.args.key.now w c.args.into x.0 c.append.result
     is.0 is.1 c.append.ensures.appended
