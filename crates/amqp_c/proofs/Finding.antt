@@ -13,7 +13,7 @@ use Rattle.amqp_parsing.proofs.ParsingLaws.{wire_extent}
 use Rattle.amqp_in_place.specs.Bodies.{HasEntries}
 use Rattle.amqp_in_place.proofs.Lookups.{or_none, or_or}
 use Rattle.amqp_c.specs.declared.entry.Entry.{Entry}
-use Rattle.amqp_c.specs.declared.span.Span.{Span}
+use Rattle.amqp_c_answers.specs.declared.span.Span.{Span}
 use Rattle.amqp_c.specs.Steps.{SplitsPair, IsBehind, BeginsWithKey, IsPairIn, GivesFound}
 use Rattle.amqp_c.proofs.Fronts.{length-wire}
 

@@ -24,13 +24,14 @@ use Rattle.amqp_parsing.specs.Headers.{extent_of, extent_at, extent}
 use Rattle.amqp_parsing.proofs.ParsingLaws.{wire_extent}
 use Rattle.amqp_in_place.specs.Bodies.{HasEntries}
 use Rattle.amqp_c.specs.declared.entry.Entry.{Entry}
-use Rattle.amqp_c.specs.declared.fault.Fault.{Fault}
-use Rattle.amqp_c.specs.declared.fault.Fault.TheVariants.{More, UnknownTag, Malformed, TooLarge, Invalid}
-use Rattle.amqp_c.specs.Answers.{fault_of, HeaderFaults}
+use Rattle.amqp_c_answers.specs.declared.fault.Fault.{Fault}
+use Rattle.amqp_c_answers.specs.declared.fault.Fault.TheVariants.{More, UnknownTag, Malformed, TooLarge, Invalid, OutOfMemory, NoRoom, NotJson, NoEncoding}
+use Rattle.amqp_c_answers.specs.Answers.{fault_of}
+use Rattle.amqp_c.specs.Answers.{HeaderFaults}
 use Rattle.amqp_c.specs.Entries.{HasNoNumber, Says, IsEntry, IsTagged}
 use Rattle.amqp_c.specs.Heads.{has_content}
-use Rattle.amqp_c.specs.Scalars.{bits_in, scale_in}
-use Rattle.amqp_c.specs.Spans.{part}
+use Rattle.amqp_c_answers.specs.Scalars.{bits_in, scale_in}
+use Rattle.amqp_c_answers.specs.Spans.{part}
 use Rattle.amqp_c.proofs.Parts.{part_front, part_content}
 
 pub length-wire : (w : List ℕ) (v : Tree) → Wire w v → 0 < length w
@@ -58,6 +59,10 @@ never_faulty s rest v UnknownTag x y = let e = one_outcome s (found v rest) unkn
 never_faulty s rest v Malformed x y = y
 never_faulty s rest v TooLarge x y = y
 never_faulty s rest v Invalid x y = y
+never_faulty s rest v OutOfMemory x y = y
+never_faulty s rest v (NoRoom n) x y = y
+never_faulty s rest v NotJson x y = y
+never_faulty s rest v NoEncoding x y = y
 
 -- ---- strings, byte arrays and containers
 

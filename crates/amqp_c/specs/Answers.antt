@@ -1,11 +1,8 @@
 -- What the calls answer.
-use Rattle.std.specs.Prelude.{ℕ, ◌≡◌, ◌+◌, ◌<◌, ◌≤◌, ℤ, pos, negsuc, List, length, Option, Some, None, Result, Ok, Err}
+use Rattle.std.specs.Prelude.{ℕ, ◌≡◌, ◌+◌, ◌<◌, ◌≤◌, ℤ, pos, List, length, Option, Some, None, Result, Ok, Err}
 use Rattle.amqp_grammar.specs.Values.{Tree}
 use Rattle.amqp_grammar.specs.Outcomes.{Reading, found, more, unknown, malformed, Outcome}
 use Rattle.amqp_grammar.specs.Nesting.{OutcomeWithin}
-use Rattle.amqp_parsing.specs.declared.errors.Err.TheVariants.{Incomplete, Error, Failure}
-use Rattle.amqp_parsing.specs.declared.errors.Needed.TheVariants.{Unknown, Size}
-use Rattle.amqp_parsing.specs.declared.errors.ErrorKind.TheVariants as kind
 use Rattle.amqp_parsing.specs.declared.limits.Limits.{Limits}
 use Rattle.amqp_parsing.specs.Answers.{Refuses}
 use Rattle.amqp_parsing.specs.Headers.{extent}
@@ -13,26 +10,10 @@ use Rattle.amqp_parsing.specs.Limits.{Within}
 use Rattle.amqp_parsing.specs.Refusals.{Refusal}
 use Rattle.amqp_c.specs.declared.cursor.Cursor.{Cursor}
 use Rattle.amqp_c.specs.declared.entry.Entry.{Entry}
-use Rattle.amqp_c.specs.declared.fault.Fault.{Fault}
-use Rattle.amqp_c.specs.declared.fault.Fault.TheVariants.{More, UnknownTag, Malformed, TooLarge, Invalid}
+use Rattle.amqp_c_answers.specs.declared.fault.Fault.{Fault}
+use Rattle.amqp_c_answers.specs.declared.fault.Fault.TheVariants.{More, UnknownTag, Malformed, TooLarge}
+use Rattle.amqp_c_answers.specs.Answers.{fault_of, code_of}
 use Rattle.amqp_c.specs.Entries.{IsEntry}
-
--- what a parser's error is told as
-abbrev pub fault_of : Refusal → Fault
-fault_of (Incomplete (Size n)) = More n
-fault_of (Incomplete Unknown) = More 1
-fault_of (Failure k) = Malformed
-fault_of (Error kind.MapOpt) = UnknownTag
-fault_of (Error kind.TooLarge) = TooLarge
-fault_of (Error _) = Malformed
-
--- the number that stands for a fault
-abbrev pub code_of : Fault → ℤ
-code_of (More n) = negsuc 0
-code_of UnknownTag = negsuc 1
-code_of Malformed = negsuc 2
-code_of TooLarge = negsuc 3
-code_of Invalid = negsuc 4
 
 -- it is what an error that is right of reading s is told as
 abbrev pub IsRefusalOf : List ℕ → Fault → Type 0
@@ -66,20 +47,10 @@ GivesFirst s v rest (Ok e) = IsEntry s e v × (e.value.offset ≡ 0) × (e.value
 GivesFirst s v rest (Err f) = ⊥
 
 -- the number that stands for an answer: 0 where something is given, 1 where there is nothing
-abbrev pub answer_of : {T : Type 0} → Result T Fault → ℤ
-answer_of (Ok x) = pos 0
-answer_of (Err f) = code_of f
-
 abbrev pub answer_if_any : {T : Type 0} → Result (Option T) Fault → ℤ
 answer_if_any (Ok (Some x)) = pos 0
 answer_if_any (Ok None) = pos 1
 answer_if_any (Err f) = code_of f
-
--- a number of bytes that were taken or are needed, else 0
-abbrev pub count_of : Result ℕ Fault → ℕ
-count_of (Ok n) = n
-count_of (Err (More n)) = n
-count_of (Err f) = 0
 
 -- what is given, or what stood there
 abbrev pub given_or : {T : Type 0} → T → Result T Fault → T

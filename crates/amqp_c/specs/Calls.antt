@@ -5,18 +5,15 @@ use Rattle.amqp_grammar.specs.Maps.{value_at}
 use Rattle.amqp_grammar.specs.Grammar.{Body, Pairs}
 use Rattle.amqp_grammar.specs.Outcomes.{Outcome, found}
 use Rattle.amqp_in_place.specs.Bodies.{HasEntries}
-use Rattle.amqp_parsing.specs.declared.limits.Limits.{Limits}
 use Rattle.amqp_c.specs.declared.cursor.Cursor.{Cursor}
 use Rattle.amqp_c.specs.declared.entry.Entry.{Entry}
-use Rattle.amqp_c.specs.declared.fault.Fault.{Fault}
-use Rattle.amqp_c.specs.Spans.{part, SpanLies}
+use Rattle.amqp_c_answers.specs.declared.fault.Fault.{Fault}
+use Rattle.amqp_c_answers.specs.Reading.{limits}
+use Rattle.amqp_c_answers.specs.Spans.{part, SpanLies}
 use Rattle.amqp_c.specs.Entries.{IsAtFront, IsTagged, Lies}
 use Rattle.amqp_c.specs.Steps.{array_tag, table_tag, contents, IsOfContainer, IsOfTable, StepsIn, RefusedBy, GivesValue, GivesPair, GivesFound}
-use Rattle.amqp_c.specs.Answers.{IsTaken, HeaderFaults, FaultsWithin, GivesFirst, answer_of, answer_if_any, count_of, given_or, found_or, entry_or, cursor_or}
-
--- the limits of these numbers
-abbrev pub limits : ℕ → ℕ → Limits
-limits frame depth = record { frame = frame; depth = depth }
+use Rattle.amqp_c_answers.specs.Answers.{answer_of, count_of}
+use Rattle.amqp_c.specs.Answers.{IsTaken, HeaderFaults, FaultsWithin, GivesFirst, answer_if_any, given_or, found_or, entry_or, cursor_or}
 
 -- reading s within limits: the answer and the number of bytes are those of a value that is read, or
 -- of a fault that is right

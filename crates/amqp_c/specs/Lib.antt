@@ -1,4 +1,3 @@
-pub mod Spans
 pub mod Scalars
 pub mod Entries
 pub mod Heads

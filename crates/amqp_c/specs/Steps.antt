@@ -5,10 +5,10 @@ use Rattle.amqp_grammar.specs.Values.{Tree, Trees, no_trees, tree, Entries, no_e
 use Rattle.amqp_grammar.specs.Grammar.{short_field, Body, Pairs}
 use Rattle.amqp_c.specs.declared.cursor.Cursor.{Cursor}
 use Rattle.amqp_c.specs.declared.entry.Entry.{Entry}
-use Rattle.amqp_c.specs.declared.fault.Fault.{Fault}
-use Rattle.amqp_c.specs.declared.fault.Fault.TheVariants.{Malformed, Invalid}
-use Rattle.amqp_c.specs.declared.span.Span.{Span}
-use Rattle.amqp_c.specs.Spans.{part, behind, SpanLies}
+use Rattle.amqp_c_answers.specs.declared.fault.Fault.{Fault}
+use Rattle.amqp_c_answers.specs.declared.fault.Fault.TheVariants.{Malformed, Invalid}
+use Rattle.amqp_c_answers.specs.declared.span.Span.{Span}
+use Rattle.amqp_c_answers.specs.Spans.{part, behind, SpanLies}
 use Rattle.amqp_c.specs.Entries.{IsEntry, IsTagged, Lies}
 
 -- the type tags of an array and of a table, `A` and `F`

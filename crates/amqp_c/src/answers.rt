@@ -1,36 +1,17 @@
 //! What a call answers and leaves behind its pointers.
 
 ghost use Rattle.std.specs.Prelude.{◌≡◌};
-ghost use Rattle.amqp_c.specs.Answers.{answer_of, answer_if_any, count_of, given_or, found_or, entry_or, cursor_or};
+ghost use Rattle.amqp_c_answers.specs.Answers.{answer_of};
+ghost use Rattle.amqp_c.specs.Answers.{answer_if_any, given_or, found_or, entry_or, cursor_or};
 
 use crate::cursor::Cursor;
 use crate::entry::Entry;
-use crate::fault::Fault;
+use amqp_c_answers::Fault;
 
 /// Something is given.
 const OK: i32 = 0;
 /// No entry is left, or none has the key.
 const NONE: i32 = 1;
-
-/// Leaves a number of bytes that were taken or are needed, else 0.
-pub fn answer_count(done: Result<usize, Fault>, count: &mut usize) -> i32
-    ensures answer { result ≡ answer_of done }
-    ensures count { count.new ≡ count_of done }
-{
-    match done {
-        Ok(taken) => {
-            *count = taken;
-            OK
-        }
-        Err(fault) => {
-            *count = match fault {
-                Fault::More(needed) => needed,
-                _ => 0,
-            };
-            fault.code()
-        }
-    }
-}
 
 /// Leaves the entry that is given.
 pub fn answer_entry(done: Result<Entry, Fault>, entry: &mut Entry) -> i32

@@ -6,13 +6,12 @@ ghost use Rattle.amqp_grammar.specs.Maps.{value_at};
 ghost use Rattle.amqp_grammar.specs.Grammar.{Body, Pairs};
 ghost use Rattle.amqp_grammar.specs.Outcomes.{Outcome, found};
 ghost use Rattle.amqp_in_place.specs.Bodies.{HasEntries};
-ghost use Rattle.amqp_c.specs.Spans.{part, SpanLies};
+ghost use Rattle.amqp_c_answers.specs.Spans.{part, SpanLies};
 ghost use Rattle.amqp_c.specs.Entries.{IsEntry, IsTagged, Lies};
 ghost use Rattle.amqp_c.specs.Steps.{array_tag, table_tag, contents, IsOfContainer, IsOfTable, StepsIn, RefusedBy, IsFrontIn, IsValueIn, IsPairIn, EndsIn, GivesValue, GivesPair, GivesFound, SplitsPair, IsBehind, BeginsWithKey, StandsAlone, StandsKeyed};
 
 use crate::entry::{Entry, first};
-use crate::fault::Fault;
-use crate::span::Span;
+use amqp_c_answers::{Fault, Span};
 use amqp_input::SliceInput;
 use amqp_parsing::header::value_len;
 

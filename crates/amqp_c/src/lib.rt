@@ -10,12 +10,11 @@ ghost use Rattle.amqp_c.specs.Calls.{Reads, Firsts, Enters, Steps, Finds};
 mod answers;
 mod cursor;
 mod entry;
-mod fault;
 mod read;
-mod span;
 
+use amqp_c_answers::answer_count;
 use amqp_parsing::Limits;
-use answers::{answer_count, answer_cursor, answer_entry, answer_found, answer_step};
+use answers::{answer_cursor, answer_entry, answer_found, answer_step};
 use cursor::Cursor;
 use entry::{Entry, first};
 use read::read;

@@ -10,6 +10,7 @@ const OK: i32 = 0;
 
 /// Leaves how many bytes were written, are needed or have to have room, else 0, and answers the
 /// number that stands for what was done.
+#[inline]
 pub fn answer_count(done: Result<usize, Fault>, count: &mut usize) -> i32
     ensures answer { result ≡ answer_of done }
     ensures count { count.new ≡ count_of done }

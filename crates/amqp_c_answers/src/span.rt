@@ -21,6 +21,7 @@ impl Span {
     };
 
     /// The bytes of the span, where it lies in `bytes`.
+    #[inline]
     pub fn of(self, bytes: &[u8]) -> Option<&[u8]>
         ensures { MatchOption result
             (SpanLies (length bytes.now) self → ⊥)
@@ -33,6 +34,7 @@ impl Span {
     }
 
     /// Where the span ends, where it lies in so many bytes.
+    #[inline]
     pub fn end_in(self, count: usize) -> Option<usize>
         ensures { MatchOption result
             (SpanLies count self → ⊥)
@@ -45,6 +47,7 @@ impl Span {
     }
 
     /// The span, with so many bytes more before it.
+    #[inline]
     pub fn moved(self, by: usize) -> Span
         requires { self.offset + by < 2 ^ 64 }
         ensures { result ≡ moved by self }
@@ -56,6 +59,7 @@ impl Span {
     }
 
     /// What stands behind a part of the span, in the span.
+    #[inline]
     pub fn behind(self, part: Span) -> Span
         requires part { part.offset + part.length ≤ self.offset + self.length }
         requires fits { self.offset + self.length < 2 ^ 64 }
@@ -69,6 +73,7 @@ impl Span {
     }
 
     /// So many of its last bytes.
+    #[inline]
     pub fn last(self, count: usize) -> Span
         requires count { count ≤ self.length }
         requires fits { self.offset + self.length < 2 ^ 64 }

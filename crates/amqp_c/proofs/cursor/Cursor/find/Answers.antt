@@ -1,8 +1,8 @@
 use Rattle.std.proofs.Common.{◌≡◌, ◌-◌, ℕ, Bool, cond, List, length, drop, Some, sym, ap, ◌∙◌, subst, arith}
 use Rattle.std.proofs.lemmas.Grind.{common_steps}
 use Rattle.amqp_grammar.specs.Grammar.{Pairs}
-use Rattle.amqp_c.specs.declared.span.Span.{Span}
-use Rattle.amqp_c.specs.Spans.{part}
+use Rattle.amqp_c_answers.specs.declared.span.Span.{Span}
+use Rattle.amqp_c_answers.specs.Spans.{part}
 use Rattle.amqp_c.specs.Steps.{BeginsWithKey}
 use Rattle.amqp_c.proofs.Parts.{part_length, part_last}
 use Rattle.amqp_c.proofs.Stepping.{one_key}
