@@ -1,12 +1,12 @@
 -- Looking a key up, pair by pair.
-use Rattle.std.proofs.Common.{◌≡◌, ◌-◌, ◌<◌, ◌≤◌, ℕ, Bool, true, false, cond, List, ◌∷◌, ◌++◌, length, take, drop, get_or, Option, Some, None, Ok, refl, sym, ap, ◌∙◌, subst, arith, length-append, length-drop}
+use Rattle.std.proofs.Common.{◌≡◌, ◌+◌, ◌-◌, ◌<◌, ◌≤◌, ℕ, suc, inl, inr, IfSome, Bool, true, false, cond, List, ◌∷◌, ◌++◌, length, take, drop, get_or, Option, Some, None, Ok, refl, sym, ap, ◌∙◌, subst, arith, length-append, length-drop}
 use Rattle.std.proofs.lemmas.List.{take_at, drop_at, drop-drop}
 use Rattle.std.specs.Borrow.{Bor}
 use Rattle.std.specs.Option.{option_or}
 use Rattle.std.specs.Cmp.Lexicographic.{bytes_decides}
 use Rattle.amqp_grammar.specs.Values.{Tree, Entries, no_entries, entry}
 use Rattle.amqp_grammar.specs.Maps.{same_bytes, last_at, value_at}
-use Rattle.amqp_grammar.specs.Grammar.{Pairs, no_pairs, pair}
+use Rattle.amqp_grammar.specs.Grammar.{short_field, Pairs, no_pairs, pair}
 use Rattle.amqp_grammar.proofs.GrammarLaws.{last_stays}
 use Rattle.amqp_parsing.specs.Headers.{extent}
 use Rattle.amqp_parsing.proofs.ParsingLaws.{wire_extent}
@@ -14,7 +14,7 @@ use Rattle.amqp_in_place.specs.Bodies.{HasEntries}
 use Rattle.amqp_in_place.proofs.Lookups.{or_none, or_or}
 use Rattle.amqp_c.specs.declared.entry.Entry.{Entry}
 use Rattle.amqp_c_answers.specs.declared.span.Span.{Span}
-use Rattle.amqp_c.specs.Steps.{SplitsPair, IsBehind, BeginsWithKey, IsPairIn, GivesFound}
+use Rattle.amqp_c.specs.Steps.{SplitsPair, IsBehind, HasNoKey, HasNoExtent, BeginsWithKey, IsPairIn, GivesFound}
 use Rattle.amqp_c.proofs.Fronts.{length-wire}
 
 -- ---- the pair at the front
@@ -62,6 +62,38 @@ split_given t named n taken x e key rest wide ps p =
 -- its key and its value are all there
 pub split_there : (t named : List ℕ) (n : ℕ) (ps : Entries) → t ≡ n ∷ named → Pairs t ps → (n ≤ length named) × (0 < extent (drop n named)) × (extent (drop n named) ≤ length (drop n named))
 split_there t named n ps e p = let f = split t named n ps e p in (f.few, f.some, f.whole)
+
+-- where its key and what is behind it stand
+module _ (left name value : List ℕ) (e : left ≡ short_field name ++ value) where
+  value_at_name : drop (length name) (name ++ value) ≡ value
+  value_at_name = drop_at name value (length name) refl
+
+  pub pair_split : (x : Bor (List ℕ) × Bor (List ℕ)) → x.0.now ≡ name → x.1.now ≡ drop (extent value) value → (ps : Entries) → 0 < length left → Pairs left ps → SplitsPair ps (Some x)
+  pair_split x key rest ps some p =
+      split_given left (name ++ value) (length name) (extent value) x e (key ∙ sym (take_at name value (length name) refl))
+      (rest ∙ ap (drop (extent value)) (sym value_at_name)) (ap extent (sym value_at_name)) ps p
+
+  pub value_never : HasNoExtent value → (ps : Entries) → Pairs left ps → ⊥
+  value_never none ps p =
+      let there = split_there left (name ++ value) (length name) ps e p in
+      elim none [ inl z ↦ omega (arith, there.1, ap extent value_at_name, z) | inr few ↦ omega (arith, there.2, ap extent value_at_name, ap length value_at_name, few) ]
+
+  pub pair_behind : (behind : List ℕ) → behind ≡ drop (extent value) value → extent value ≤ length value → IsBehind left behind
+  pair_behind behind is few =
+      let all : drop (suc (length name + extent value)) left ≡ behind =
+      ap (drop (suc (length name + extent value))) e
+      ∙ (sym (drop-drop (extent value) (length name) (name ++ value)) ∙ (ap (drop (extent value)) value_at_name ∙ sym is)) in
+      (suc (length name + extent value), omega arith, omega (arith, ap length e, length-append name value), sym all)
+
+-- a pair has a key, and its value at least one byte
+pub key_never : (left : List ℕ) → HasNoKey left → 0 < length left → (ps : Entries) → Pairs left ps → ⊥
+key_never _ none some _ no_pairs = omega arith
+key_never _ none some _ (pair k w rest v ps is q all) = none k (w ++ rest) refl (omega (arith, length-append w rest, length-wire w v q))
+
+-- what holds where a test was true, and before it
+pub if_some : (P : ℕ → Type 0) (b : Bool) (n : ℕ) (old new : Option ℕ) → new ≡ cond b (Some n) old → (b ≡ true → P n) → IfSome old P → IfSome new P
+if_some P true n old new is here before = subst (λ (o : Option ℕ). IfSome o P) (sym is) (here refl)
+if_some P false n old new is here before = subst (λ (o : Option ℕ). IfSome o P) (sym is) before
 
 -- ---- the pairs that are left
 

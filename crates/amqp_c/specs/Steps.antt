@@ -3,6 +3,7 @@ use Rattle.std.specs.Prelude.{ℕ, ◌≡◌, ◌+◌, ◌<◌, ◌≤◌, List,
 use Rattle.std.specs.Borrow.{Bor}
 use Rattle.amqp_grammar.specs.Values.{Tree, Trees, no_trees, tree, Entries, no_entries, entry}
 use Rattle.amqp_grammar.specs.Grammar.{short_field, Body, Pairs}
+use Rattle.amqp_parsing.specs.Headers.{extent}
 use Rattle.amqp_c.specs.declared.cursor.Cursor.{Cursor}
 use Rattle.amqp_c.specs.declared.entry.Entry.{Entry}
 use Rattle.amqp_c_answers.specs.declared.fault.Fault.{Fault}
@@ -112,6 +113,14 @@ IsPairIn s p _ _ = ⊥
 abbrev pub SplitsPair : Entries → Option (Bor (List ℕ) × Bor (List ℕ)) → Type 0
 SplitsPair (entry k v ps) (Some x) = (x.0.now ≡ k) × Pairs x.1.now ps
 SplitsPair _ _ = ⊥
+
+-- no key with a byte behind it stands at the front
+abbrev pub HasNoKey : List ℕ → Type 0
+HasNoKey s = (k rest : List ℕ) → s ≡ short_field k ++ rest → 0 < length rest → ⊥
+
+-- no header of a value stands at the front, or it tells more bytes than are there
+abbrev pub HasNoExtent : List ℕ → Type 0
+HasNoExtent s = (extent s ≡ 0) ⊎ (length s < extent s)
 
 -- the bytes are what stands in s behind some of its bytes
 abbrev pub IsBehind : List ℕ → List ℕ → Type 0

@@ -1,14 +1,15 @@
 //! Stepping through a container.
 
-ghost use Rattle.std.specs.Prelude.{◌≡◌, ◌+◌, ◌<◌, ◌≤◌, ℕ, List, length, IfErr, IfOk, IfSome, MatchOption};
+ghost use Rattle.std.specs.Prelude.{◌≡◌, ◌+◌, ◌<◌, ◌≤◌, ◌++◌, ℕ, List, length, drop, IfErr, IfOk, IfSome, MatchOption};
 ghost use Rattle.amqp_grammar.specs.Values.{Tree, Trees, Entries};
 ghost use Rattle.amqp_grammar.specs.Maps.{value_at};
-ghost use Rattle.amqp_grammar.specs.Grammar.{Body, Pairs};
+ghost use Rattle.amqp_grammar.specs.Grammar.{short_field, Body, Pairs};
 ghost use Rattle.amqp_grammar.specs.Outcomes.{Outcome, found};
+ghost use Rattle.amqp_parsing.specs.Headers.{extent};
 ghost use Rattle.amqp_in_place.specs.Bodies.{HasEntries};
 ghost use Rattle.amqp_c_answers.specs.Spans.{part, SpanLies};
 ghost use Rattle.amqp_c.specs.Entries.{IsEntry, IsTagged, Lies};
-ghost use Rattle.amqp_c.specs.Steps.{array_tag, table_tag, contents, IsOfContainer, IsOfTable, StepsIn, RefusedBy, IsFrontIn, IsValueIn, IsPairIn, EndsIn, GivesValue, GivesPair, GivesFound, SplitsPair, IsBehind, BeginsWithKey, StandsAlone, StandsKeyed};
+ghost use Rattle.amqp_c.specs.Steps.{array_tag, table_tag, contents, IsOfContainer, IsOfTable, StepsIn, RefusedBy, IsFrontIn, IsValueIn, IsPairIn, EndsIn, GivesValue, GivesPair, GivesFound, HasNoKey, HasNoExtent, StandsAlone, StandsKeyed};
 
 use crate::entry::{Entry, first};
 use amqp_c_answers::{Fault, Span};
@@ -105,12 +106,15 @@ impl Cursor {
         let mut at = None;
         let mut left = body;
         'pairs: while !left.is_empty() {
-            let Some((name, behind)) = split_pair(left) else {
+            let Some((name, value)) = split_key(left) else {
                 return Err(Fault::Malformed);
             };
             if key == name {
                 at = Some(left.len());
             }
+            let Some(behind) = behind_value(value) else {
+                return Err(Fault::Malformed);
+            };
             left = behind;
         }
         let Some(count) = at else {
@@ -123,25 +127,34 @@ impl Cursor {
     }
 }
 
-/// The key of the pair at the front, and what stands behind the pair: by the key's length and the
-/// value's header alone.
-fn split_pair(pairs: &[u8]) -> Option<(&[u8], &[u8])>
-    ensures pair { (ps : Entries) → 0 < length pairs.now → Pairs pairs.now ps → SplitsPair ps result }
-    ensures keyed { IfSome result (λ x. BeginsWithKey x.0.now pairs.now) }
-    ensures behind { IfSome result (λ x. IsBehind pairs.now x.1.now) }
+/// The key of the pair at the front, and the bytes from its value on.
+#[inline(always)]
+fn split_key(pairs: &[u8]) -> Option<(&[u8], &[u8])>
+    ensures { MatchOption result
+        (HasNoKey pairs.now)
+        (λ x. (pairs.now ≡ short_field x.0.now ++ x.1.now) × (0 < length x.1.now)) }
 {
     let (length, named) = pairs.split_first()?;
     let length = usize::from(*length);
     if named.len() <= length {
         return None;
     }
-    let (key, value) = named.split_at(length);
+    Some(named.split_at(length))
+}
+
+/// What stands behind the value at the front, by its header alone.
+#[inline(always)]
+fn behind_value(value: &[u8]) -> Option<&[u8]>
+    ensures { MatchOption result
+        (HasNoExtent value.now)
+        (λ rest. (rest.now ≡ drop (extent value.now) value.now) × (0 < extent value.now) × (extent value.now ≤ length value.now)) }
+{
     let taken = value_len(SliceInput::new(value));
     if taken == 0 || value.len() < taken {
         return None;
     }
     let (_, behind) = value.split_at(taken);
-    Some((key, behind))
+    Some(behind)
 }
 
 /// The entry of the value at the front of the span.

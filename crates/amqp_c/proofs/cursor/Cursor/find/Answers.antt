@@ -1,4 +1,4 @@
-use Rattle.std.proofs.Common.{◌≡◌, ◌-◌, ℕ, Bool, cond, List, length, drop, Some, sym, ap, ◌∙◌, subst, arith}
+use Rattle.std.proofs.Common.{◌≡◌, ◌-◌, ◌<◌, ◌≤◌, ℕ, Bool, cond, List, length, drop, Some, refl, sym, ap, ◌∙◌, subst, arith}
 use Rattle.std.proofs.lemmas.Grind.{common_steps}
 use Rattle.amqp_grammar.specs.Grammar.{Pairs}
 use Rattle.amqp_c_answers.specs.declared.span.Span.{Span}
@@ -6,34 +6,9 @@ use Rattle.amqp_c_answers.specs.Spans.{part}
 use Rattle.amqp_c.specs.Steps.{BeginsWithKey}
 use Rattle.amqp_c.proofs.Parts.{part_length, part_last}
 use Rattle.amqp_c.proofs.Stepping.{one_key}
-use Rattle.amqp_c.proofs.Finding.{found_keyed, left_behind, looks_step, last_seen, found_none, found_some, never_none}
+use Rattle.amqp_c.proofs.Finding.{found_keyed, left_behind, looks_step, last_seen, found_none, found_some, never_none, looks_never, key_never, value_never, pair_split, pair_behind, if_some}
 use Rattle.amqp_c.proofs.cursor.Cursor.find.Goals as goal
-
-pub pairs-preserved-then-eq : goal.pairs-preserved-then-eq
-pairs-preserved-then-eq c =
-    let all = part c.args.bytes.now c.args.self.left in
-    let i = c.pairs.invariant in
-    let x = c.in-Some-split_pair in
-    let left = left_behind all c.pairs.left.now x.behind.now i.behind i.fewer x.ensures.behind in record {
-      behind = left.0;
-      fewer = left.1;
-      keyed = found_keyed c.args.key.now x.name.now c.pairs.left.now (drop (length all - length c.pairs.left.now) all) c.eq.result i.behind c.eq.ensures c.if-eq.true x.ensures.keyed;
-      at = omega (arith, i.fewer, part_length c.args.bytes.now c.args.self.left c.in-Some.ensures.0);
-      looks = looks_step c.args.key.now all c.pairs.left.now c.pairs.at (Some (length c.pairs.left.now)) (x.name, x.behind) c.eq.result (grind (arith, common_steps)) i.behind i.looks x.ensures.pair c.eq.ensures (ap (λ (b : Bool). cond b (Some (length c.pairs.left.now)) c.pairs.at) (sym c.if-eq.true));
-    }
-
-pub pairs-preserved : goal.pairs-preserved
-pairs-preserved c =
-    let all = part c.args.bytes.now c.args.self.left in
-    let i = c.pairs.invariant in
-    let x = c.in-Some-split_pair in
-    let left = left_behind all c.pairs.left.now x.behind.now i.behind i.fewer x.ensures.behind in record {
-      behind = left.0;
-      fewer = left.1;
-      at = i.at;
-      keyed = i.keyed;
-      looks = looks_step c.args.key.now all c.pairs.left.now c.pairs.at c.pairs.at (x.name, x.behind) c.eq.result (grind (arith, common_steps)) i.behind i.looks x.ensures.pair c.eq.ensures (ap (λ (b : Bool). cond b (Some (length c.pairs.left.now)) c.pairs.at) (sym c.if-eq.false));
-    }
+use Rattle.amqp_c.proofs.cursor.Cursor.find.Goals.{then-eq, else-eq}
 
 pub returns-in_default-at-clause-found : goal.returns-in_default-at-clause-found
 returns-in_default-at-clause-found c = λ es valid is.
@@ -75,3 +50,41 @@ returns-in-Some-first_pair-clause-keyed c =
     ap (part s) c.last.ensures ∙ part_last s c.args.self.left c.in-Some-at.count c.in-Some.ensures.0 (omega (arith, few)) in
     one_key (part s c.in-Some-first_pair.entry.key) c.args.key.now (part s c.last.result) c.in-Some-first_pair.ensures.stands.2
     (subst (BeginsWithKey c.args.key.now) (sym same) (rw c.in-Some-at.is at c.pairs.invariant.keyed))
+
+pub returns-in_default-split_key-clause-found : goal.returns-in_default-split_key-clause-found
+returns-in_default-split_key-clause-found c = λ es valid is.
+    let left = c.pairs.left.now in
+    let some : 0 < length left = grind (arith, common_steps) in
+    absurd (looks_never c.args.key.now (part c.args.bytes.now c.args.self.left) left c.pairs.at c.pairs.invariant.looks (key_never left c.in_default-split_key.ensures some) es is)
+
+pub returns-in_default-behind_value-clause-found : goal.returns-in_default-behind_value-clause-found
+returns-in_default-behind_value-clause-found c = λ es valid is.
+    let left = c.pairs.left.now in
+    let x = c.in-Some-split_key in
+    absurd (looks_never c.args.key.now (part c.args.bytes.now c.args.self.left) left c.pairs.at c.pairs.invariant.looks
+    (value_never left x.name.now x.value.now x.ensures.0 c.in_default-behind_value.ensures) es is)
+
+pub pairs-preserved : goal.pairs-preserved
+pairs-preserved c =
+    let all = part c.args.bytes.now c.args.self.left in
+    let i = c.pairs.invariant in
+    let left = c.pairs.left.now in
+    let x = c.in-Some-split_key in
+    let rest = c.in-Some-behind_value.behind in
+    let is = c.in-Some-behind_value.ensures in
+    let now : c.if-eq.at ≡ cond c.eq.result (Some (length left)) c.pairs.at = elim c.if-eq.branch [
+      | then-eq w ↦ w.at-is ∙ ap (λ (b : Bool). cond b (Some (length left)) c.pairs.at) (sym w.if-eq.true)
+      | else-eq w ↦ w.at-is ∙ ap (λ (b : Bool). cond b (Some (length left)) c.pairs.at) (sym w.if-eq.false)
+    ] in
+    let some : 0 < length left = grind (arith, common_steps) in
+    let after = pair_behind left x.name.now x.value.now x.ensures.0 rest.now is.0 is.2 in
+    let next = left_behind all left rest.now i.behind i.fewer after in record {
+      behind = next.0;
+      fewer = next.1;
+      at = if_some (λ (n : ℕ). n ≤ c.args.self.left.length) c.eq.result (length left) c.pairs.at c.if-eq.at now
+          (λ b. omega (arith, i.fewer, part_length c.args.bytes.now c.args.self.left c.in-Some.ensures.0)) i.at;
+      keyed = if_some (λ (n : ℕ). BeginsWithKey c.args.key.now (drop (length all - n) all)) c.eq.result (length left) c.pairs.at c.if-eq.at now
+          (λ b. found_keyed c.args.key.now x.name.now left (drop (length all - length left) all) c.eq.result i.behind c.eq.ensures b (x.value.now, x.ensures.0)) i.keyed;
+      looks = looks_step c.args.key.now all left c.pairs.at c.if-eq.at (x.name, rest) c.eq.result some i.behind i.looks
+          (pair_split left x.name.now x.value.now x.ensures.0 (x.name, rest) refl is.0) c.eq.ensures now;
+    }
