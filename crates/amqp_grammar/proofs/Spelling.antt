@@ -1,5 +1,5 @@
 -- Spelling: the text of a value has the value's size, and is a wire of it.
-use Rattle.std.proofs.Common.{◌≡◌, ◌<◌, ◌+◌, ◌^◌, ℕ, zero, suc, List, ◌∷◌, ◌++◌, length, true, false, Some, refl, ap, ap₂, subst, arith, length-append, IsTrue}
+use Rattle.std.proofs.Common.{◌≡◌, ◌<◌, ◌+◌, ◌^◌, ℕ, zero, suc, List, ◌++◌, length, true, false, Some, refl, ap, ap₂, subst, arith, length-append, IsTrue}
 use Rattle.std.specs.Int.{w8, from_be_bytes, bytes_high_first}
 use Rattle.std.proofs.lemmas.Bool.{and_parts}
 use Rattle.std.proofs.lemmas.Nat.{from_be_bytes-to_be_bytes_2, from_be_bytes-to_be_bytes_4, from_be_bytes-to_be_bytes_8}
