@@ -1,10 +1,10 @@
 /*
- * Tries the calls of include/amqp.h that put arrays and tables together, beside a writer in plain C.
+ * Tries the calls of include/amqp.h that put containers together, beside a writer in plain C.
  *
- * The room lies against a page that can't be touched, once with its end and once with its front, so a
- * byte that is touched outside of it ends the program. After each call the room and the structs are
- * those that the writer here leaves, byte for byte, and so is the answer; what isn't AMQP_OK leaves
- * all as it was.
+ * The room lies against a page that can't be touched, with its end or with its front, so a byte
+ * that is touched outside of it ends the program. After each call the room and the structs are those
+ * that the writer here leaves, byte for byte, and so is the answer; what isn't AMQP_OK leaves all as
+ * it was.
  *
  * It tries every type tag with numbers about its type's ends, keys of every kind, each of some
  * values in rooms of every size, containers and bodies that were spoilt, and random entries that
@@ -151,7 +151,7 @@ static held hold(amqp_container it) {
     return all;
 }
 
-/* After a call: the answer, the container, the room and what lies about it are as they have to be. */
+/* After a call the answer, the container, the room and its surroundings are as they have to be. */
 static void check(const held *all, amqp_container wanted, int32_t answer, int32_t right) {
     calls++;
     CHECK(answer == right);
@@ -230,7 +230,7 @@ static int32_t open_in(const amqp_container *into, const uint8_t *key, size_t ke
     return answer;
 }
 
-/* Whether the body begins behind a name, its type tag and four bytes, where what `into` has ends. */
+/* Whether the body begins behind a key, its type tag and four bytes, at the end of `into`. */
 static int is_open(const amqp_container *into, const amqp_container *body) {
     size_t at = into->written.offset + into->written.length, key_length = 0;
     if (!lies(into->written) || !lies(body->written) || (body->tag != AMQP_ARRAY && body->tag != AMQP_TABLE)) {
@@ -377,7 +377,7 @@ static void try_spoilt(size_t length) {
     }
 }
 
-/* Bodies that were spoilt, and containers beside them, over bytes as amqp_open leaves them or not. */
+/* Bodies that were spoilt, and containers beside them, over bytes as amqp_open leaves them. */
 static void try_spoilt_bodies(const uint8_t *bytes, size_t length) {
     size_t count = length + 2 + sizeof far / sizeof *far;
     new_room(length, 0);

@@ -1,6 +1,6 @@
 /*
- * Values of AMQP 0-9-1 field tables, read where their bytes lie and put together in a caller's room.
- * C11, and C++.
+ * Values of AMQP 0-9-1 field tables, read where their bytes lie, and put together in a caller's
+ * room. C11, and C++.
  *
  * No call keeps state, prints or ends the process, and calls in several threads don't meet. None
  * takes memory but amqp_canonical, amqp_to_json and amqp_from_json, which are in libraries of their
@@ -88,7 +88,7 @@ typedef struct amqp_cursor {
 
 /* An array or a table that is being put together in a room. */
 typedef struct amqp_container {
-    amqp_span written; /* its body, as far as it is written; the offset counts from the room's start */
+    amqp_span written; /* its body, as far as it is written; its offset counts from the room */
     uint8_t tag;       /* AMQP_ARRAY or AMQP_TABLE */
 } amqp_container;
 
@@ -187,7 +187,7 @@ int32_t amqp_from_json(const uint8_t *text, size_t length, uint8_t *room, size_t
  *     amqp_container top = {{0, 0}, AMQP_ARRAY};
  *
  * Each call writes behind what `into` has, and leaves the rest of the room as it was. In a table
- * `key` is the entry's key, UTF-8 of at most 255 bytes, none or more; in an array `key_length` is 0.
+ * `key` is the entry's key, UTF-8 of at most 255 bytes; in an array `key_length` is 0.
  * They answer AMQP_INVALID where `into` doesn't lie in the room or has another tag, the key can't
  * stand there, or what is to be put is no such value, and AMQP_NO_ROOM where the entry doesn't fit.
  */
@@ -196,7 +196,7 @@ int32_t amqp_from_json(const uint8_t *text, size_t length, uint8_t *room, size_t
  * Puts a value of fixed width, by its type tag, its bits and its scale as an entry tells them: a
  * signed number as (uint64_t)(int64_t)n, a boolean as 0 or 1, and a scale of 0 but for a decimal.
  *
- * Answers AMQP_OK, AMQP_NO_ROOM or AMQP_INVALID, this also where the bits are no number of the type.
+ * Answers AMQP_OK, AMQP_NO_ROOM or AMQP_INVALID, this also where the bits are no such number.
  */
 int32_t amqp_put(uint8_t *room, size_t room_length, amqp_container *into, const uint8_t *key,
                  size_t key_length, uint8_t tag, uint64_t bits, uint8_t scale);
@@ -230,8 +230,8 @@ int32_t amqp_open(uint8_t *room, size_t room_length, const amqp_container *into,
                   size_t key_length, uint8_t tag, amqp_container *body);
 
 /*
- * Ends the entry that amqp_open began in `into`: fills the length of `body` in before it, and `into`
- * reaches to its end.
+ * Ends the entry that amqp_open began in `into`: fills the length of `body` in before it, and
+ * `into` reaches to its end.
  *
  * Answers AMQP_OK, AMQP_TOO_LARGE where the body has 2^32 bytes or more, or AMQP_INVALID where
  * `body` doesn't lie in the room, or isn't one that begins behind a key (in a table), its own type

@@ -36,8 +36,8 @@ PutsBytes tag b = Puts (IsStringTag tag) (IsOfBytes tag b) (IsTooLong tag b)
 abbrev pub PutsValue : ℕ → ℕ → List ℕ → List ℕ → Container → List ℕ → ℤ → List ℕ → Container → Type 0
 PutsValue frame depth s = Puts (Unit {0}) (IsFront (limits frame depth) s) (IsReadFaultInPlace (limits frame depth) s)
 
--- an entry is begun or refused whose value is a container; after a refusal the room and the body are
--- as they were
+-- an entry is begun or refused whose value is a container; after a refusal the room and the body
+-- are as they were
 pub record Begins (tag : ℕ) (old : List ℕ) (into : Container) (k : List ℕ) (was : Container) (answer : ℤ) (new : List ℕ) (body : Container) : Type 0 where
   pub done : Result Container Fault
   pub answered : answer ≡ answer_of done

@@ -14,8 +14,8 @@ use Rattle.amqp_c_build.specs.Growth.{IsOpen}
 abbrev pub LacksRoom : (List ℕ → Type 0) → List ℕ → Container → List ℕ → ℕ → Type 0
 LacksRoom Is room into k n = (w : List ℕ) × Is w × (n ≡ length (entry_of into k w)) × (length room < end_of into + n)
 
--- a fault of putting an entry is right: no entry with this key can be put there or what is put isn't
--- `valid`; the room is too small; or another that `Other` holds of
+-- a fault of putting an entry is right: no entry with this key can be put there, or what is put
+-- isn't `valid`; the room is too small; or another that `Other` holds of
 abbrev pub Refuses : Type 0 → (List ℕ → Type 0) → (Fault → Type 0) → List ℕ → Container → List ℕ → Fault → Type 0
 Refuses valid Is Other room into k Invalid = IsPlace (length room) into k → valid → ⊥
 Refuses valid Is Other room into k (NoRoom n) = IsPlace (length room) into k × LacksRoom Is room into k n

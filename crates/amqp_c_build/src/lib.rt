@@ -1,8 +1,8 @@
 //! Writing for C: arrays and tables that are put together in a room, entry by entry.
 //!
 //! No call takes memory, keeps state, prints or ends the process. What comes in is checked each
-//! time: whatever a container holds, no byte outside of the room is touched, and after a refusal the
-//! room and the container are as they were. `include/amqp.h` declares the calls.
+//! time: whatever a container holds, no byte outside of the room is touched, and after a refusal
+//! the room and the container are as they were. `include/amqp.h` declares the calls.
 #![tactic(auto)]
 
 ghost use Rattle.amqp_c_build.specs.Calls.{PutsScalar, PutsBytes, PutsValue, Begins, Ends};
@@ -69,8 +69,8 @@ pub extern "C" fn amqp_put_value(
     )
 }
 
-/// Begins an entry behind what is written, whose value is an array or a table: `body` is then empty,
-/// and `into` as it was until the entry is ended.
+/// Begins an entry behind what is written, whose value is an array or a table: `body` is then
+/// empty, and `into` as it was until the entry is ended.
 #[unsafe(no_mangle)]
 pub extern "C" fn amqp_open(
     room: &mut [u8],
@@ -84,8 +84,8 @@ pub extern "C" fn amqp_open(
     answer_container(begin(room, *into, key, tag), body)
 }
 
-/// Ends the entry that `amqp_open` began: fills in the length of its body, and `into` reaches to its
-/// end.
+/// Ends the entry that `amqp_open` began: fills in the length of its body, and `into` reaches to
+/// its end.
 #[unsafe(no_mangle)]
 pub extern "C" fn amqp_close(room: &mut [u8], into: &mut Container, body: &Container) -> i32
     ensures { Ends room.old into.old body.now result room.new into.new }
