@@ -698,9 +698,11 @@ fn of_values_in_place<R: Print + Eprint>(rt: &R, alloc: Global, name: &str) -> i
 }
 
 /// Cases of JSON, and of taking an encoding apart.
-pub const TEXTS: [&str; 5] = [
+pub const TEXTS: [&str; 7] = [
     "to_json",
     "from_json",
+    "json_of_encoding",
+    "encoding_of_json",
     "dissect",
     "escape",
     "texts_without_memory",
@@ -715,6 +717,14 @@ fn of_texts<R: Print + Eprint>(rt: &R, alloc: Global, name: &str) -> io::Result<
         "from_json" => {
             texts::read(rt, alloc, &[Bytes(ONE_NUMBER_JSON)])?;
             texts::read(rt, alloc, &VOIDS_JSON)?;
+        }
+        "json_of_encoding" => {
+            texts::decoded(rt, alloc, &[Bytes(ONE_NUMBER)])?;
+            texts::decoded(rt, alloc, &VOIDS)?;
+        }
+        "encoding_of_json" => {
+            texts::encoded(rt, alloc, &[Bytes(ONE_NUMBER_JSON)])?;
+            texts::encoded(rt, alloc, &VOIDS_JSON)?;
         }
         "dissect" => {
             texts::taken_apart(rt, alloc, &[Bytes(ONE_NUMBER)])?;

@@ -6,6 +6,7 @@ use crate::made::Piece;
 use crate::things::{Refusal, Thing};
 use amq_protocol_types::AMQPValue;
 use amq_protocol_types::stream::Limits;
+use amqp_convert::{encoding_of_json, json_of_encoding};
 use amqp_dissect::{dissect, escape};
 use amqp_json::{from_json, to_json};
 use std::alloc::Global;
@@ -38,6 +39,31 @@ struct Reading {
 impl Call for Reading {
     fn answer(&mut self, alloc: Global) -> Result<Thing, Refusal> {
         Ok(Thing::Value(from_json(alloc, self.text.as_str())?))
+    }
+}
+
+/// An encoding, of whose value the JSON text is written.
+#[derive(Drop)]
+struct Decoding {
+    bytes: Vec<u8>,
+}
+
+impl Call for Decoding {
+    fn answer(&mut self, alloc: Global) -> Result<Thing, Refusal> {
+        let (text, _) = json_of_encoding(alloc, self.bytes.as_slice(), WIDE)?;
+        Ok(Thing::Bytes(text.into_bytes()))
+    }
+}
+
+/// A JSON text, of whose value the encoding is written.
+#[derive(Drop)]
+struct Encoding {
+    text: String,
+}
+
+impl Call for Encoding {
+    fn answer(&mut self, alloc: Global) -> Result<Thing, Refusal> {
+        Ok(Thing::Bytes(encoding_of_json(alloc, self.text.as_str())?))
     }
 }
 
@@ -77,6 +103,18 @@ pub fn written<R: Print + Eprint>(rt: &R, alloc: Global, pieces: &[Piece]) -> io
 pub fn read<R: Print + Eprint>(rt: &R, alloc: Global, pieces: &[Piece]) -> io::Result<()> {
     let text = String::from_utf8(made::wire(alloc, pieces)?).map_err(made::unmade)?;
     insist(rt, alloc, &mut Reading { text })
+}
+
+/// These bytes become the JSON text of their value.
+pub fn decoded<R: Print + Eprint>(rt: &R, alloc: Global, pieces: &[Piece]) -> io::Result<()> {
+    let bytes = made::wire(alloc, pieces)?;
+    insist(rt, alloc, &mut Decoding { bytes })
+}
+
+/// This JSON becomes the encoding of its value.
+pub fn encoded<R: Print + Eprint>(rt: &R, alloc: Global, pieces: &[Piece]) -> io::Result<()> {
+    let text = String::from_utf8(made::wire(alloc, pieces)?).map_err(made::unmade)?;
+    insist(rt, alloc, &mut Encoding { text })
 }
 
 /// The parts of these bytes are counted.

@@ -10,6 +10,7 @@ use amq_protocol_types::{
     AMQPType, AMQPValue, ByteArray, FieldArray, FieldTable, LongString, ShortString,
     ShortStringError, TryCopyError,
 };
+use amqp_convert::{DecodeError, EncodeError};
 use amqp_json::JsonError;
 use std::alloc::{AllocError, Global};
 use std::{fmt, io};
@@ -70,6 +71,10 @@ pub enum Refusal {
     Stream(StreamError),
     /// That of a text that is to be the JSON of a value.
     Json(JsonError),
+    /// That of an encoding whose value's JSON is to be written.
+    Decode(DecodeError),
+    /// That of a JSON text that is read, and whose value is to be written.
+    Encode(EncodeError),
     /// There is none of that name.
     Unknown(()),
 }
@@ -139,6 +144,8 @@ impl fmt::Debug for Refusal {
             Refusal::Copy(e) => e.fmt(f),
             Refusal::Stream(e) => e.fmt(f),
             Refusal::Json(e) => e.fmt(f),
+            Refusal::Decode(e) => e.fmt(f),
+            Refusal::Encode(e) => e.fmt(f),
             Refusal::Unknown(e) => e.fmt(f),
         }
     }
@@ -183,5 +190,20 @@ impl From<StreamError> for Refusal {
 impl From<JsonError> for Refusal {
     fn from(e: JsonError) -> Self {
         Refusal::Json(e)
+    }
+}
+
+impl From<DecodeError> for Refusal {
+    fn from(e: DecodeError) -> Self {
+        Refusal::Decode(e)
+    }
+}
+
+impl From<EncodeError> for Refusal {
+    fn from(e: EncodeError) -> Self {
+        match e {
+            EncodeError::Json(e) => Refusal::Json(e),
+            e => Refusal::Encode(e),
+        }
     }
 }
