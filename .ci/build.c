@@ -278,6 +278,12 @@ static void try_types(void) {
                 put(&table, (const uint8_t *)"k", 1, (uint8_t)tag, numbers[i], (uint8_t)scale);
             }
         }
+        for (size_t length = 0; length <= 16; length++) {
+            amqp_container table = {{0, 0}, AMQP_TABLE}, body = whole;
+            new_room(length, tag % 2);
+            open_in(&whole, none, 0, (uint8_t)tag, &body);
+            open_in(&table, (const uint8_t *)"k", 1, (uint8_t)tag, &body);
+        }
     }
 }
 
@@ -288,12 +294,14 @@ static void try_keys(void) {
         "\xf0\x8f\xbf\xbf", "\xf4\x8f\xbf\xbf", "\xf4\x90\x80\x80", "\xf0\x9f\x98", "a\xc3\xa4z", "a\x80z",
     };
     uint8_t key[300];
-    for (unsigned n = 0; n < 0x10000; n++) {
-        amqp_container table = {{0, 0}, AMQP_TABLE};
-        key[0] = (uint8_t)(n >> 8);
-        key[1] = (uint8_t)n;
-        new_room(8, n % 2);
-        put(&table, key, 2 - (n < 0x100), AMQP_VOID, 0, 0);
+    for (size_t length = 0; length <= 2; length++) {
+        for (unsigned n = 0; n < 1u << 8 * length; n++) {
+            amqp_container table = {{0, 0}, AMQP_TABLE};
+            key[0] = (uint8_t)(length == 2 ? n >> 8 : n);
+            key[1] = (uint8_t)n;
+            new_room(8, n % 2);
+            put(&table, key, length, AMQP_VOID, 0, 0);
+        }
     }
     for (size_t i = 0; i < sizeof others / sizeof *others; i++) {
         amqp_container table = {{0, 0}, AMQP_TABLE}, body = whole;

@@ -9,7 +9,7 @@ use Rattle.amqp_in_place.specs.Bodies.{HasEntries}
 use Rattle.amqp_c.specs.declared.entry.Entry.{Entry}
 use Rattle.amqp_c_answers.specs.declared.span.Span.{Span}
 use Rattle.amqp_c.specs.Answers.{GivesFirst}
-use Rattle.amqp_c.specs.Entries.{Says, IsAtFront, IsTagged, Lies}
+use Rattle.amqp_c.specs.Entries.{Says, IsAtFront, IsTagged, IsTrueTo, Lies}
 use Rattle.amqp_c_answers.specs.Spans.{part, moved, behind, SpanLies}
 use Rattle.amqp_c.specs.Steps.{IsFrontIn, IsValueIn, IsPairIn, BeginsWithKey, StandsKeyed}
 use Rattle.amqp_c.proofs.Parts.{part_front, part_within, part_after, part_length}
@@ -56,6 +56,18 @@ tagged_placed s p key e in_s lies front =
     let same : take e.value.length (part s p) ≡ part s (moved p.offset e.value) =
     sym (part_front (part s p) e.value front.1) ∙ part_within s p e.value (omega (arith, lies.value, part_length s p in_s)) in
     subst (λ (t : List ℕ). IsTagged t (placed p key e)) same (tagged_front (part s p) e.value.length p key e lies.some front.3)
+
+-- and the entry is that of whatever value is encoded there
+pub told_placed : (s : List ℕ) (p key : Span) (e : Entry) → SpanLies (length s) p → Lies (length (part s p)) e → e.value.offset ≡ 0
+    → ((v : Tree) (rest : List ℕ) → Outcome (part s p) (found v rest) → GivesFirst (part s p) v rest (Ok e)) → IsTrueTo s (placed p key e)
+told_placed s p key e in_s lies from told = λ v w.
+    let n = e.value.length in
+    let rest = drop n (part s p) in
+    let here : part s (moved p.offset e.value) ≡ take n (part s p) =
+    sym (sym (part_front (part s p) e.value from) ∙ part_within s p e.value (omega (arith, lies.value, part_length s p in_s))) in
+    let same : part s (moved p.offset e.value) ++ rest ≡ part s p = ap (λ (t : List ℕ). t ++ rest) here ∙ take-append-drop n (part s p) in
+    let x : Outcome (part s p) (found v rest) = subst (λ (t : List ℕ). Outcome t (found v rest)) same (wire_found (part s (moved p.offset e.value)) rest v w) in
+    (front_given s p key e in_s lies v rest x (told v rest x)).0
 
 -- the first of some values
 pub value_given : (s : List ℕ) (p key : Span) (r : Option Entry) → SpanLies (length s) p → 0 < p.length → key.length ≡ 0

@@ -10,8 +10,8 @@ use Rattle.amqp_c.specs.declared.entry.Entry.{Entry}
 use Rattle.amqp_c_answers.specs.declared.fault.Fault.{Fault}
 use Rattle.amqp_c_answers.specs.Reading.{limits}
 use Rattle.amqp_c_answers.specs.Spans.{part, SpanLies}
-use Rattle.amqp_c.specs.Entries.{IsAtFront, IsTagged, Lies}
-use Rattle.amqp_c.specs.Steps.{array_tag, table_tag, contents, IsOfContainer, IsOfTable, StepsIn, RefusedBy, GivesValue, GivesPair, GivesFound}
+use Rattle.amqp_c.specs.Entries.{IsAtFront, IsTagged, IsTrueTo, Lies}
+use Rattle.amqp_c.specs.Steps.{array_tag, table_tag, contents, IsOfContainer, IsOfTable, StepsIn, RefusedBy, GivesValue, GivesPair, GivesFound, StandsIn}
 use Rattle.amqp_c_answers.specs.Answers.{answer_of, count_of}
 use Rattle.amqp_c.specs.Answers.{IsTaken, HeaderFaults, FaultsWithin, GivesFirst, answer_if_any, given_or, found_or, entry_or, cursor_or}
 
@@ -53,8 +53,9 @@ pub record Steps (s : List ℕ) (c : Cursor) (old : Entry) (answer : ℤ) (new :
   pub lies : IfOk done (StepsIn s c)
   pub refused : IfErr done (RefusedBy (IsOfContainer (length s) c) (IsOfContainer (length s) c))
 
--- a look-up: where pairs are left, the value at the key is found, of equal keys the last; and
--- whatever is left, an entry that is given has the key, and the type of its type tag
+-- a look-up, in what a table has left: where pairs are left, the value at the key is found, of equal
+-- keys the last; and whatever is left, an entry that is given stands there, has the key and the type
+-- of its type tag, and is that of the value if one is encoded there
 pub record Finds (s : List ℕ) (c : Cursor) (key : List ℕ) (old : Entry) (answer : ℤ) (new : Entry) : Type 0 where
   pub done : Result (Option Entry) Fault
   pub answered : answer ≡ answer_if_any done
@@ -62,5 +63,8 @@ pub record Finds (s : List ℕ) (c : Cursor) (key : List ℕ) (old : Entry) (ans
   pub found : (es : Entries) → IsOfTable (length s) c → HasEntries (part s c.left) es → GivesFound s (value_at key es) done
   pub keyed : IfOk done (λ o. IfSome o (λ e. part s e.key ≡ key))
   pub typed : IfOk done (λ o. IfSome o (λ e. IsTagged (part s e.value) e))
+  pub told : IfOk done (λ o. IfSome o (IsTrueTo s))
+  pub stands : IfOk done (λ o. IfSome o (StandsIn s c.left))
   pub lies : IfOk done (λ o. IfSome o (Lies (length s)))
+  pub valid : IfOk done (λ _. IsOfTable (length s) c)
   pub refused : IfErr done (RefusedBy (IsOfTable (length s) c) (IsOfTable (length s) c))

@@ -32,6 +32,10 @@ pub record IsEntry (s : List ℕ) (e : Entry) (v : Tree) : Type 0 where
   pub tag : e.tag ≡ id_of (type_of v)
   pub says : Says s e v
 
+-- whatever value is encoded where the entry's value lies, the entry is that value's
+abbrev pub IsTrueTo : List ℕ → Entry → Type 0
+IsTrueTo s e = (v : Tree) → Wire (part s e.value) v → IsEntry s e v
+
 -- the first byte of s is a type tag, and the entry has the one that is written for its type; of a
 -- type with bytes after a length it has no number
 abbrev pub IsTagged : List ℕ → Entry → Type 0

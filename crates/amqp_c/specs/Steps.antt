@@ -9,8 +9,8 @@ use Rattle.amqp_c.specs.declared.entry.Entry.{Entry}
 use Rattle.amqp_c_answers.specs.declared.fault.Fault.{Fault}
 use Rattle.amqp_c_answers.specs.declared.fault.Fault.TheVariants.{Malformed, Invalid}
 use Rattle.amqp_c_answers.specs.declared.span.Span.{Span}
-use Rattle.amqp_c_answers.specs.Spans.{part, behind, SpanLies}
-use Rattle.amqp_c.specs.Entries.{IsEntry, IsTagged, Lies}
+use Rattle.amqp_c_answers.specs.Spans.{part, behind, last, SpanLies}
+use Rattle.amqp_c.specs.Entries.{IsEntry, IsTagged, IsTrueTo, Lies}
 
 -- the type tags of an array and of a table, `A` and `F`
 abbrev pub array_tag : ℕ
@@ -44,15 +44,25 @@ StandsAlone p e = (e.key.length ≡ 0) × (e.value.offset ≡ p.offset)
 abbrev pub StandsKeyed : List ℕ → Span → Entry → Type 0
 StandsKeyed s p e = (e.key.offset ≡ p.offset + 1) × (e.value.offset ≡ e.key.offset + e.key.length) × BeginsWithKey (part s e.key) (part s p)
 
+-- the entry ends in the span, which it begins in or behind its front
+abbrev pub EndsIn : Span → Entry → Type 0
+EndsIn p e = (p.offset ≤ e.value.offset) × (e.value.offset + e.value.length ≤ p.offset + p.length)
+
+-- it stands where the last n bytes of p begin, and its value ends in them
+abbrev pub StandsIn : List ℕ → Span → Entry → Type 0
+StandsIn s p e = (n : ℕ) × (n ≤ p.length) × StandsKeyed s (last p n) e × EndsIn (last p n) e
+
 -- a step of the cursor c in s, whatever they hold: the entry lies in s and stands where the cursor
--- is, with the type of its type tag; the cursor becomes one of the same container that begins right
--- behind the entry's value, ends where c does, and has less left
+-- is, with the type of its type tag, and is that of the value if one is encoded there; the cursor
+-- becomes one of the same container that begins right behind the entry's value, ends where c does,
+-- and has less left
 pub record IsStep (s : List ℕ) (c : Cursor) (e : Entry) (next : Cursor) : Type 0 where
   pub valid : IsOfContainer (length s) c
   pub lies : Lies (length s) e
   pub value : c.tag ≡ array_tag → StandsAlone c.left e
   pub pair : c.tag ≡ table_tag → StandsKeyed s c.left e
   pub typed : IsTagged (part s e.value) e
+  pub told : IsTrueTo s e
   pub in_bytes : SpanLies (length s) next.left
   pub same : next.tag ≡ c.tag
   pub begins : next.left.offset ≡ e.value.offset + e.value.length
@@ -89,10 +99,6 @@ GivesFound s (Some v) (Ok (Some e)) = IsEntry s e v
 GivesFound s _ _ = ⊥
 
 -- ---- on the way
-
--- the entry ends in the span, which it begins in or behind its front
-abbrev pub EndsIn : Span → Entry → Type 0
-EndsIn p e = (p.offset ≤ e.value.offset) × (e.value.offset + e.value.length ≤ p.offset + p.length)
 
 -- the entry of v with the key is given, and `rest` is behind it in the span
 abbrev pub IsFrontIn : List ℕ → Span → Span → Tree → List ℕ → Option Entry → Type 0

@@ -8,8 +8,8 @@ ghost use Rattle.amqp_grammar.specs.Outcomes.{Outcome, found};
 ghost use Rattle.amqp_parsing.specs.Headers.{extent};
 ghost use Rattle.amqp_in_place.specs.Bodies.{HasEntries};
 ghost use Rattle.amqp_c_answers.specs.Spans.{part, SpanLies};
-ghost use Rattle.amqp_c.specs.Entries.{IsEntry, IsTagged, Lies};
-ghost use Rattle.amqp_c.specs.Steps.{array_tag, table_tag, contents, IsOfContainer, IsOfTable, StepsIn, RefusedBy, IsFrontIn, IsValueIn, IsPairIn, EndsIn, GivesValue, GivesPair, GivesFound, HasNoKey, HasNoExtent, StandsAlone, StandsKeyed};
+ghost use Rattle.amqp_c.specs.Entries.{IsEntry, IsTagged, IsTrueTo, Lies};
+ghost use Rattle.amqp_c.specs.Steps.{array_tag, table_tag, contents, IsOfContainer, IsOfTable, StepsIn, RefusedBy, IsFrontIn, IsValueIn, IsPairIn, EndsIn, GivesValue, GivesPair, GivesFound, HasNoKey, HasNoExtent, StandsAlone, StandsKeyed, StandsIn};
 
 use crate::entry::{Entry, first};
 use amqp_c_answers::{Fault, Span};
@@ -94,7 +94,10 @@ impl Cursor {
             → HasEntries (part bytes.now self.left) es → GivesFound bytes.now (value_at key.now es) result }
         ensures keyed { IfOk result (λ o. IfSome o (λ e. part bytes.now e.key ≡ key.now)) }
         ensures typed { IfOk result (λ o. IfSome o (λ e. IsTagged (part bytes.now e.value) e)) }
+        ensures told { IfOk result (λ o. IfSome o (IsTrueTo bytes.now)) }
+        ensures stands { IfOk result (λ o. IfSome o (StandsIn bytes.now self.left)) }
         ensures lies { IfOk result (λ o. IfSome o (Lies (length bytes.now))) }
+        ensures valid { IfOk result (λ _. IsOfTable (length bytes.now) self) }
         ensures refused { IfErr result (RefusedBy (IsOfTable (length bytes.now) self) (IsOfTable (length bytes.now) self)) }
     {
         if self.tag != b'F' {
@@ -163,6 +166,7 @@ fn first_value(bytes: &[u8], left: Span) -> Option<Entry>
     ensures value { (vs : Trees) → 0 < left.length → Body (part bytes.now left) vs → IsValueIn bytes.now left vs result }
     ensures stands { IfSome result (StandsAlone left) }
     ensures typed { IfSome result (λ e. IsTagged (part bytes.now e.value) e) }
+    ensures faithful { IfSome result (IsTrueTo bytes.now) }
     ensures lies { IfSome result (λ e. Lies (length bytes.now) e × EndsIn left e) }
 {
     front_of(bytes, left, Span::NONE)
@@ -174,6 +178,7 @@ fn first_pair(bytes: &[u8], left: Span) -> Option<Entry>
     ensures pair { (ps : Entries) → 0 < left.length → Pairs (part bytes.now left) ps → IsPairIn bytes.now left ps result }
     ensures stands { IfSome result (StandsKeyed bytes.now left) }
     ensures typed { IfSome result (λ e. IsTagged (part bytes.now e.value) e) }
+    ensures faithful { IfSome result (IsTrueTo bytes.now) }
     ensures lies { IfSome result (λ e. Lies (length bytes.now) e × EndsIn left e) }
 {
     let length = usize::from(*left.of(bytes)?.first()?);
@@ -196,6 +201,7 @@ fn front_of(bytes: &[u8], left: Span, key: Span) -> Option<Entry>
     ensures key { IfSome result (λ e. e.key ≡ key) }
     ensures value { IfSome result (λ e. e.value.offset ≡ left.offset) }
     ensures typed { IfSome result (λ e. IsTagged (part bytes.now e.value) e) }
+    ensures faithful { IfSome result (IsTrueTo bytes.now) }
     ensures lies { IfSome result (λ e. Lies (length bytes.now) e × EndsIn left e) }
 {
     let Ok(entry) = first(left.of(bytes)?) else {

@@ -34,11 +34,6 @@ pub struct Entry {
     pub scale: u8,
 }
 
-const NOWHERE: Span = Span {
-    offset: 0,
-    length: 0,
-};
-
 /// The entry of the value at the front of the bytes, by its type tag and its length alone: what
 /// stands in a container isn't looked at.
 #[inline(always)]
@@ -52,7 +47,7 @@ pub fn first(bytes: &[u8]) -> Result<Entry, Fault>
     if has_content(amqp_type) {
         let (rest, body) = parse_frame(payload)?;
         return Ok(Entry {
-            key: NOWHERE,
+            key: Span::NONE,
             value: Span {
                 offset: 0,
                 length: bytes.len() - rest.input_len(),
@@ -68,12 +63,12 @@ pub fn first(bytes: &[u8]) -> Result<Entry, Fault>
     }
     let fixed = read_fixed(bytes)?;
     Ok(Entry {
-        key: NOWHERE,
+        key: Span::NONE,
         value: Span {
             offset: 0,
             length: fixed.length,
         },
-        content: NOWHERE,
+        content: Span::NONE,
         bits: fixed.bits,
         tag: amqp_type.get_id() as u8,
         scale: fixed.scale,

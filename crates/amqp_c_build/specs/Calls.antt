@@ -42,7 +42,7 @@ pub record Begins (tag : ℕ) (old : List ℕ) (into : Container) (k : List ℕ)
   pub done : Result Container Fault
   pub answered : answer ≡ answer_of done
   pub container : body ≡ given_or was done
-  pub begun : MatchResult done (IsBegun tag old into k new) (Refuses (IsContainerTag tag) (λ w. w ≡ unfilled tag) NoOther old into k)
+  pub begun : MatchResult done (IsBegun tag old into k new) (Refuses (IsContainerTag tag) (λ w. IsContainerTag tag × (w ≡ unfilled tag)) NoOther old into k)
   pub stays : IfErr done (λ _. new ≡ old)
 
 -- an entry is ended whose value is a container, or refused; after a refusal the room and the

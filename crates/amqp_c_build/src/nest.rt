@@ -15,7 +15,7 @@ use amqp_c_answers::Fault;
 pub fn begin(room: &mut [u8], into: Container, key: &[u8], tag: u8) -> Result<Container, Fault>
     ensures begun { MatchResult result
         (IsBegun tag room.old into key.now room.new)
-        (Refuses (IsContainerTag tag) (λ w. w ≡ unfilled tag) NoOther room.old into key.now) }
+        (Refuses (IsContainerTag tag) (λ w. IsContainerTag tag × (w ≡ unfilled tag)) NoOther room.old into key.now) }
     ensures kept { IfErr result (λ _. room.new ≡ room.old) }
 {
     if !is_container_tag(tag) {

@@ -3,7 +3,7 @@ use Rattle.std.proofs.lemmas.Grind.{common_steps}
 use Rattle.amqp_grammar.specs.Grammar.{Pairs}
 use Rattle.amqp_c_answers.specs.declared.span.Span.{Span}
 use Rattle.amqp_c_answers.specs.Spans.{part}
-use Rattle.amqp_c.specs.Steps.{BeginsWithKey}
+use Rattle.amqp_c.specs.Steps.{BeginsWithKey, StandsKeyed, EndsIn}
 use Rattle.amqp_c.proofs.Parts.{part_length, part_last}
 use Rattle.amqp_c.proofs.Stepping.{one_key}
 use Rattle.amqp_c.proofs.Finding.{found_keyed, left_behind, looks_step, last_seen, found_none, found_some, never_none, looks_never, key_never, value_never, pair_split, pair_behind, if_some}
@@ -50,6 +50,15 @@ returns-in-Some-first_pair-clause-keyed c =
     ap (part s) c.last.ensures ∙ part_last s c.args.self.left c.in-Some-at.count c.in-Some.ensures.0 (omega (arith, few)) in
     one_key (part s c.in-Some-first_pair.entry.key) c.args.key.now (part s c.last.result) c.in-Some-first_pair.ensures.stands.2
     (subst (BeginsWithKey c.args.key.now) (sym same) (rw c.in-Some-at.is at c.pairs.invariant.keyed))
+
+pub returns-in-Some-first_pair-clause-stands : goal.returns-in-Some-first_pair-clause-stands
+returns-in-Some-first_pair-clause-stands c =
+    let few = rw c.in-Some-at.is at c.pairs.invariant.at in (
+      c.in-Some-at.count,
+      few,
+      subst (λ (p : Span). StandsKeyed c.args.bytes.now p c.in-Some-first_pair.entry) c.last.ensures c.in-Some-first_pair.ensures.stands,
+      subst (λ (p : Span). EndsIn p c.in-Some-first_pair.entry) c.last.ensures c.in-Some-first_pair.ensures.lies.1,
+    )
 
 pub returns-in_default-split_key-clause-found : goal.returns-in_default-split_key-clause-found
 returns-in_default-split_key-clause-found c = λ es valid is.
