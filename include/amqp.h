@@ -7,10 +7,11 @@
  * own. docs/C.md goes call by call, with examples; docs/GRAMMAR.md has the bytes, and docs/JSON.md
  * the JSON of values.
  *
- * Every offset counts bytes from `bytes`. What is handed in is checked each time: whatever a cursor
- * or an entry holds, no byte outside of the `length` bytes at `bytes` is read, and what goes out
- * lies in them. The caller owes only this: no pointer is NULL, also where a length is 0; `length`
- * bytes can be read at `bytes`, at most PTRDIFF_MAX, and `key_length` at `key`; and no struct that
+ * Every offset counts bytes from `bytes`, or from the room. What is handed in is checked each time:
+ * whatever a cursor, an entry or a container holds, no byte outside of those that are handed in is
+ * touched, and what goes out lies in them. The caller owes only this: no pointer is NULL, also where
+ * a length is 0, and one to a struct or a count points at one, aligned as C has it; `length` bytes
+ * can be read at `bytes`, at most PTRDIFF_MAX, and `key_length` at `key`; and no struct that
  * is written overlaps the bytes, the key or another struct of the call, and no other thread writes
  * any of these meanwhile; the room that is written to is held to the same, and `room_length` bytes,
  * at most PTRDIFF_MAX, can be read and written in it.
@@ -31,7 +32,8 @@ enum {
     AMQP_NONE = 1,         /* no entry is left, or none has the key */
     AMQP_MORE = -1,        /* the bytes end before the value does: more are needed */
     AMQP_UNKNOWN_TAG = -2, /* the first byte is no type tag */
-    AMQP_MALFORMED = -3,   /* the bytes are there, and are no value, or an entry isn't one */
+    AMQP_MALFORMED = -3,   /* the bytes are there, and are no value, or one that nests deeper than
+                              `depth`, or an entry isn't one */
     AMQP_TOO_LARGE = -4,   /* the value has more bytes than `frame`, or than its length can tell */
     AMQP_INVALID = -5,     /* what was handed in doesn't lie in the bytes or the room, is of no
                               container, or can't be put there */
@@ -143,10 +145,11 @@ int32_t amqp_find(const uint8_t *bytes, size_t length, const amqp_cursor *cursor
  * spelling of a type tag, a boolean is 0 or 1, and the keys of each table rise, each of them once,
  * with the last of its values. It has no more bytes than the value was read from.
  *
- * `count` becomes how many bytes were written (AMQP_OK), how many more are needed of the value
- * (AMQP_MORE), or how many the room has to have (AMQP_NO_ROOM), else 0. Also answers
+ * `count` becomes how many bytes were written (AMQP_OK), how many more the field that is being read
+ * needs (AMQP_MORE), or how many the room has to have (AMQP_NO_ROOM), else 0. Also answers
  * AMQP_UNKNOWN_TAG, AMQP_MALFORMED, AMQP_TOO_LARGE or AMQP_NO_MEMORY. Bytes that are canonical
- * already are copied; for others it takes memory, by malloc, realloc and free, and gives it back.
+ * already are copied; for others it takes memory, by malloc, realloc and free, and gives it back. It
+ * recurses at most `depth` deep.
  *
  * It is in libamqp_c_canonical.a, and the calls above are in libamqp_c.a: link what you use.
  */
@@ -158,8 +161,8 @@ int32_t amqp_canonical(const uint8_t *bytes, size_t length, uint32_t frame, uint
  * of the room, with no spaces between its parts and no zero behind it. docs/JSON.md has the JSON of
  * each type. No two values have one JSON.
  *
- * `count` becomes how many bytes were written (AMQP_OK), how many more are needed of the value
- * (AMQP_MORE), or how many the room has to have (AMQP_NO_ROOM), else 0. Also answers
+ * `count` becomes how many bytes were written (AMQP_OK), how many more the field that is being read
+ * needs (AMQP_MORE), or how many the room has to have (AMQP_NO_ROOM), else 0. Also answers
  * AMQP_UNKNOWN_TAG, AMQP_MALFORMED, AMQP_TOO_LARGE or AMQP_NO_MEMORY. It takes memory, by malloc,
  * realloc and free, and gives it back. It recurses at most 2 * `depth` + 2 deep: as the JSON nests.
  *

@@ -26,8 +26,8 @@ int main(void) {
     }
     printf("%zu bytes\n", count);
 
-    /* The cursors of the containers that are open, the innermost last. */
-    amqp_cursor open[DEPTH];
+    /* The cursors of the containers that are open, the innermost last, and one that no container takes. */
+    amqp_cursor open[DEPTH + 1];
     size_t depth = 0;
     amqp_entry entry;
     answer = amqp_first(bytes, length, &entry);
