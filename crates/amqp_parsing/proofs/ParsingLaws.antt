@@ -1,7 +1,7 @@
 -- The laws of reading within limits, for the proofs of other crates to cite.
 
--- what asks for more bytes: which, and that nothing is left behind it
-pub use Rattle.amqp_parsing.proofs.Waits.{more_wanted, waits_more, nothing_behind, kept_within}
+-- what asks for more bytes: which, how many its header says at most, and that nothing is left behind it
+pub use Rattle.amqp_parsing.proofs.Waits.{more_wanted, wanted_more, wanted_within, waits_more, nothing_behind, kept_within}
 -- a value within a depth has at most as many bytes as its header says
 pub use Rattle.amqp_parsing.proofs.Again.{wire_extent}
 -- where the bytes of a value are all there

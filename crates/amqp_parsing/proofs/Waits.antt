@@ -170,7 +170,7 @@ lack_within None w b fits lt = elim (cases_lt (length b) (byte_len w)) [
 ]
 
 -- so it is of a value whose id has come
-wanted_within : (s : List ℕ) → 0 < length s → 0 < wanted s → length s + wanted s ≤ extent s
+pub wanted_within : (s : List ℕ) → 0 < length s → 0 < wanted s → length s + wanted s ≤ extent s
 wanted_within [] some lt = absurd (omega arith)
 wanted_within (c ∷ b) some lt = by (kind c) lt
   where
