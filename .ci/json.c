@@ -9,9 +9,9 @@
  *
  * It tries the values below in each room up to one byte more than they need, with the first
  * allocation failing, then the second, until a call makes fewer; each prefix of them, and each change
- * of one byte to one of some; limits that are just kept to and just not; texts that nest 127 and 128
- * deep; and a table of 100,010 bytes, there and back, with every seventeenth allocation failing. It
- * prints how many calls it made.
+ * of one byte to one of some; limits that are just kept to and just not; texts that nest as deep as
+ * `nesting` says and one deeper, 127 and 128 deep among them; and a table of 100,010 bytes, there and
+ * back, with every seventeenth allocation failing. It prints how many calls it made.
  */
 #include "tried.h"
 
@@ -19,6 +19,25 @@
 #define DEPTH 8
 #define FILLED 0x5a
 #define MANY 256
+
+/* Texts that mean a value, and how deep they nest: a bracket in a string is none. */
+static const struct {
+    const char *text;
+    uint32_t nesting;
+} nested[] = {
+    {"null", 0},
+    {"\"[\"", 0},
+    {"\"\\\"[{\"", 0},
+    {"\"\\\\\"", 0},
+    {"[]", 1},
+    {"{}", 1},
+    {"[\"]\",[]]", 2},
+    {"[\"\\\\\",[]]", 2},
+    {"[\"\\\"]\",[]]", 2},
+    {"[[],[],[]]", 2},
+    {"{\"[\":{},\"{\":[]}", 2},
+    {"[{\"a\":[{}]},[]]", 4},
+};
 
 /* Encodings, the JSON of each, and the canonical encoding, which is read back from the JSON. */
 #define INPUT(given, json, canonical) {given, sizeof given - 1, json, canonical, sizeof canonical - 1}
@@ -59,9 +78,9 @@ static uint8_t *given_end, *room_start, *room_end;
 /* One of the two calls, with these limits. */
 typedef struct way {
     int is_back;
-    uint32_t frame, depth;
+    uint32_t frame, depth, nesting;
 } way;
-static const way there = {0, FRAME, DEPTH}, back = {1, 0, 0};
+static const way there = {0, FRAME, DEPTH, 0}, back = {1, 0, 0, AMQP_JSON_NESTING};
 
 /* Calls with the bytes and the room against the ends of their pages, and checks what is left. */
 static int32_t write_to(way by, const uint8_t *given, size_t length, size_t room_length, size_t *count) {
@@ -71,7 +90,7 @@ static int32_t write_to(way by, const uint8_t *given, size_t length, size_t room
     memset(from, FILLED, (size_t)(room_end - from));
     *count = 77;
     uint64_t blocks = taken;
-    int32_t answer = by.is_back ? amqp_from_json(bytes, length, room, room_length, count)
+    int32_t answer = by.is_back ? amqp_from_json(bytes, length, by.nesting, room, room_length, count)
                                 : amqp_to_json(bytes, length, by.frame, by.depth, room, room_length, count);
     calls++;
     CHECK(memcmp(bytes, given, length) == 0);
@@ -176,18 +195,27 @@ static void try_changes(void (*try)(const uint8_t *, size_t), const char *bytes,
 static void try_limits(void) {
     const uint8_t *nested = (const uint8_t *)"A\0\0\0\5A\0\0\0\0";
     size_t count;
-    CHECK(write_to((way){0, 10, 2}, nested, 10, MANY, &count) == AMQP_OK && count == 4);
-    CHECK(write_to((way){0, 9, 2}, nested, 10, MANY, &count) == AMQP_TOO_LARGE);
-    CHECK(write_to((way){0, 10, 1}, nested, 10, MANY, &count) == AMQP_MALFORMED);
+    CHECK(write_to((way){0, 10, 2, 0}, nested, 10, MANY, &count) == AMQP_OK && count == 4);
+    CHECK(write_to((way){0, 9, 2, 0}, nested, 10, MANY, &count) == AMQP_TOO_LARGE);
+    CHECK(write_to((way){0, 10, 1, 0}, nested, 10, MANY, &count) == AMQP_MALFORMED);
+}
+
+/* A text is read where it may nest as deep as it does, and refused where it may not. */
+static void try_nesting(const char *text, uint32_t nesting) {
+    size_t length = strlen(text), count;
+    for (uint32_t most = 0; most < nesting + 2; most++) {
+        way by = {1, 0, 0, most};
+        CHECK(write_to(by, (const uint8_t *)text, length, MANY, &count) == (most < nesting ? AMQP_NOT_JSON : AMQP_OK));
+    }
 }
 
 /* A text that nests so deep. */
-static void try_deep(size_t deep, int32_t wanted) {
+static void try_deep(size_t deep, uint32_t nesting, int32_t wanted) {
     uint8_t text[MANY];
     size_t count;
     memset(text, '[', deep);
     memset(text + deep, ']', deep);
-    CHECK(write_to(back, text, 2 * deep, 1024, &count) == wanted);
+    CHECK(write_to((way){1, 0, 0, nesting}, text, 2 * deep, 1024, &count) == wanted);
     CHECK(wanted != AMQP_OK || count == 5 * deep);
 }
 
@@ -209,7 +237,7 @@ static void try_large(void) {
     }
     CHECK(at == LARGE);
     CHECK(amqp_canonical(table, LARGE, LARGE, 1, canonical, LARGE, &count) == AMQP_OK && count == LARGE);
-    way by = {0, LARGE, 1};
+    way by = {0, LARGE, 1, 0};
     CHECK(write_to(by, table, LARGE, 0, &size) == AMQP_NO_ROOM && size <= sizeof text);
     CHECK(write_to(by, table, LARGE, size - 1, &count) == AMQP_NO_ROOM && count == size);
     CHECK(write_to(by, table, LARGE, size, &count) == AMQP_OK && count == size);
@@ -245,8 +273,15 @@ int main(void) {
         CHECK(write_to(back, (const uint8_t *)not_encoded[i], strlen(not_encoded[i]), MANY, &count) == AMQP_NO_ENCODING);
     }
     try_limits();
-    try_deep(127, AMQP_OK);
-    try_deep(128, AMQP_NOT_JSON);
+    for (size_t i = 0; i < sizeof nested / sizeof *nested; i++) {
+        try_nesting(nested[i].text, nested[i].nesting);
+    }
+    try_deep(64, 64, AMQP_OK);
+    try_deep(65, 64, AMQP_NOT_JSON);
+    try_deep(127, AMQP_JSON_NESTING, AMQP_OK);
+    try_deep(128, AMQP_JSON_NESTING, AMQP_NOT_JSON);
+    try_deep(127, UINT32_MAX, AMQP_OK);
+    try_deep(128, UINT32_MAX, AMQP_NOT_JSON);
     try_large();
     printf("%" PRIu64 " calls\n", calls);
     return 0;

@@ -39,9 +39,13 @@ enum {
                               container, or can't be put there */
     AMQP_NO_MEMORY = -6,   /* memory ran out */
     AMQP_NO_ROOM = -7,     /* the room is too small for what is to be written */
-    AMQP_NOT_JSON = -8,    /* the text isn't UTF-8, is no JSON, or the JSON of no value */
+    AMQP_NOT_JSON = -8,    /* the text isn't UTF-8, nests deeper than `nesting`, is no JSON, or the JSON
+                              of no value */
     AMQP_NO_ENCODING = -9  /* the value has no encoding */
 };
+
+/* How deep JSON text nests at most that amqp_from_json reads. */
+enum { AMQP_JSON_NESTING = 127 };
 
 /* The type tags that an entry tells. Two are second spellings: `U` is told as `s`, `L` as `l`. */
 enum {
@@ -173,15 +177,17 @@ int32_t amqp_to_json(const uint8_t *bytes, size_t length, uint32_t frame, uint32
 
 /*
  * Writes the canonical encoding of the value that a JSON text means to the start of the room. What
- * amqp_to_json wrote is read as the value that it was written for, where it nests at most 127 deep:
- * no text that nests deeper is read. So it recurses at most 128 deep, whatever is handed in.
+ * amqp_to_json wrote is read as the value that it was written for, where it nests at most `nesting`
+ * deep: no text that has more arrays and objects open at once is read, and none that has more than
+ * AMQP_JSON_NESTING. It recurses at most `nesting` + 1 deep, and at most 128.
  *
  * `count` becomes how many bytes were written (AMQP_OK), or how many the room has to have
  * (AMQP_NO_ROOM), else 0. Also answers AMQP_NOT_JSON, AMQP_NO_MEMORY, or AMQP_NO_ENCODING where a
  * ShortString stands in the value, which has no type tag, or where a length is too large for its
  * field. It takes memory, by malloc, realloc and free, and gives it back.
  */
-int32_t amqp_from_json(const uint8_t *text, size_t length, uint8_t *room, size_t room_length, size_t *count);
+int32_t amqp_from_json(const uint8_t *text, size_t length, uint32_t nesting, uint8_t *room,
+                       size_t room_length, size_t *count);
 
 /*
  * The calls below put an array or a table together in a room, entry by entry. They are in

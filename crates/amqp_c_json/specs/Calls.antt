@@ -1,5 +1,5 @@
 -- What the calls between encodings and JSON texts answer, and leave in the room.
-use Rattle.std.specs.Prelude.{ℕ, ◌≡◌, ◌<◌, ℤ, List, length, Result, IfErr, MatchResult}
+use Rattle.std.specs.Prelude.{ℕ, ◌≡◌, ◌<◌, ◌⊎◌, ℤ, false, List, length, Result, Err, IfErr, MatchResult}
 use Rattle.std.specs.Str.{IsUtf8}
 use Rattle.amqp_grammar.specs.Values.{Tree}
 use Rattle.amqp_grammar.specs.Grammar.{Wire}
@@ -14,6 +14,7 @@ use Rattle.amqp_c_answers.specs.declared.fault.Fault.TheVariants.{OutOfMemory, N
 use Rattle.amqp_c_answers.specs.Answers.{answer_of, count_of}
 use Rattle.amqp_c_answers.specs.Reading.{limits, IsReadFault}
 use Rattle.amqp_c_answers.specs.Rooms.{IsPut}
+use Rattle.amqp_c_json.specs.Nesting.{nests_within}
 
 -- ---- from an encoding to the JSON text
 
@@ -55,15 +56,15 @@ HasNoWire v = (w : List ℕ) → Wire w v → ⊥
 abbrev pub IsEncodingPut : List ℕ → List ℕ → List ℕ → ℕ → Type 0
 IsEncodingPut t old new n = (v : Tree) × IsTextOf t v × IsReadAs (text v) v × IsPut (text v) old new n
 
--- a fault is right, for a text and room for so many bytes: the text means no value; or one that has
--- no encoding; or one whose canonical encoding has more bytes than the room, and as many as the
--- fault tells; memory runs out only where the text is UTF-8
-abbrev pub IsEncodingFault : List ℕ → ℕ → Fault → Type 0
-IsEncodingFault t room NotJson = MeansNothing t
-IsEncodingFault t room NoEncoding = (v : Tree) × IsTextOf t v × HasNoWire v
-IsEncodingFault t room (NoRoom n) = (v : Tree) × IsTextOf t v × IsReadAs (text v) v × (n ≡ length (text v)) × (room < n)
-IsEncodingFault t room OutOfMemory = IsUtf8 t
-IsEncodingFault t room _ = ⊥
+-- a fault is right, for a text, how deep it may nest and room for so many bytes: the text nests
+-- deeper, or means no value; or one that has no encoding; or one whose canonical encoding has more
+-- bytes than the room, and as many as the fault tells; memory runs out only where the text is UTF-8
+abbrev pub IsEncodingFault : ℕ → List ℕ → ℕ → Fault → Type 0
+IsEncodingFault most t room NotJson = (nests_within most t ≡ false) ⊎ MeansNothing t
+IsEncodingFault most t room NoEncoding = (v : Tree) × IsTextOf t v × HasNoWire v
+IsEncodingFault most t room (NoRoom n) = (v : Tree) × IsTextOf t v × IsReadAs (text v) v × (n ≡ length (text v)) × (room < n)
+IsEncodingFault most t room OutOfMemory = IsUtf8 t
+IsEncodingFault most t room _ = ⊥
 
 -- what is told of a text for which there is no encoding
 abbrev pub text_fault : EncodeError → Fault
@@ -74,10 +75,11 @@ text_fault encode.NoTypeTag = NoEncoding
 text_fault encode.TooLong = NoEncoding
 
 -- the canonical encoding of the value that a text means is put into the room; or the fault is right,
--- and the room as it was
-pub record WritesEncoding (t old : List ℕ) (answer : ℤ) (new : List ℕ) (count : ℕ) : Type 0 where
+-- and the room as it was; a text that nests too deep is refused as no JSON
+pub record WritesEncoding (most : ℕ) (t old : List ℕ) (answer : ℤ) (new : List ℕ) (count : ℕ) : Type 0 where
   pub done : Result ℕ Fault
   pub answered : answer ≡ answer_of done
   pub counted : count ≡ count_of done
-  pub written : MatchResult done (IsEncodingPut t old new) (IsEncodingFault t (length old))
+  pub written : MatchResult done (IsEncodingPut t old new) (IsEncodingFault most t (length old))
+  pub deep : nests_within most t ≡ false → done ≡ Err NotJson
   pub kept : IfErr done (λ _. new ≡ old)

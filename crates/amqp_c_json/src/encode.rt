@@ -1,8 +1,11 @@
 //! From a JSON text to the canonical encoding.
 
-ghost use Rattle.std.specs.Prelude.{◌≡◌, length, IfErr, MatchResult};
+ghost use Rattle.std.specs.Prelude.{◌≡◌, false, length, Err, IfErr, MatchResult};
+ghost use Rattle.amqp_c_answers.specs.declared.fault.Fault.TheVariants.{NotJson};
+ghost use Rattle.amqp_c_json.specs.Nesting.{nests_within};
 ghost use Rattle.amqp_c_json.specs.Calls.{text_fault, IsEncodingPut, IsEncodingFault};
 
+use crate::nesting::nests_within;
 use amqp_c_answers::{Fault, put};
 use amqp_convert::{EncodeError, encoding_of_json};
 use amqp_json::JsonError;
@@ -10,13 +13,23 @@ use std::alloc::Global;
 use std::str;
 
 /// Puts the canonical encoding of the value that a JSON text means at the start of `room`, and
-/// answers how many bytes it has.
-pub fn put_encoding(alloc: Global, text: &[u8], room: &mut [u8]) -> Result<usize, Fault>
+/// answers how many bytes it has. A text with more than `nesting` arrays and objects open at once
+/// isn't read.
+pub fn put_encoding(
+    alloc: Global,
+    text: &[u8],
+    nesting: u32,
+    room: &mut [u8],
+) -> Result<usize, Fault>
     ensures written { MatchResult result
         (IsEncodingPut text.now room.old room.new)
-        (IsEncodingFault text.now (length room.old)) }
+        (IsEncodingFault nesting text.now (length room.old)) }
+    ensures deep { nests_within nesting text.now ≡ false → result ≡ Err NotJson }
     ensures kept { IfErr result (λ _. room.new ≡ room.old) }
 {
+    if !nests_within(text, nesting) {
+        return Err(Fault::NotJson);
+    }
     let Ok(json) = str::from_utf8(text) else {
         return Err(Fault::NotJson);
     };

@@ -8,6 +8,7 @@ ghost use Rattle.amqp_c_json.specs.Calls.{WritesJson, WritesEncoding};
 
 mod decode;
 mod encode;
+mod nesting;
 
 use amqp_c_answers::answer_count;
 use amqp_parsing::Limits;
@@ -34,18 +35,20 @@ pub extern "C" fn amqp_to_json(
     answer_count(put_json(alloc, bytes, Limits { frame, depth }, room), count)
 }
 
-/// Writes the canonical encoding of the value that a JSON text means to the start of `room`. It
-/// recurses at most 128 deep.
+/// Writes the canonical encoding of the value that a JSON text means to the start of `room`. A text
+/// with more than `nesting` arrays and objects open at once isn't read, nor is one with more than
+/// 127: so it recurses at most `nesting` + 1 deep, and at most 128.
 ///
 /// `count` becomes how many bytes were written, or how many the room has to have, or else 0.
 #[unsafe(no_mangle)]
 pub extern "C" fn amqp_from_json(
     alloc: Global,
     text: &[u8],
+    nesting: u32,
     room: &mut [u8],
     count: &mut usize,
 ) -> i32
-    ensures { WritesEncoding text.now room.old result room.new count.new }
+    ensures { WritesEncoding nesting text.now room.old result room.new count.new }
 {
-    answer_count(put_encoding(alloc, text, room), count)
+    answer_count(put_encoding(alloc, text, nesting, room), count)
 }
