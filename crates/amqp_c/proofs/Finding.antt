@@ -1,6 +1,6 @@
 -- Looking a key up, pair by pair.
-use Rattle.std.proofs.Common.{◌≡◌, ◌+◌, ◌-◌, ◌<◌, ◌≤◌, ℕ, suc, inl, inr, IfSome, Bool, true, false, cond, List, ◌∷◌, ◌++◌, length, take, drop, get_or, Option, Some, None, Ok, refl, sym, ap, ◌∙◌, subst, arith, length-append, length-drop}
-use Rattle.std.proofs.lemmas.List.{take_at, drop_at, drop-drop}
+use Rattle.std.proofs.Common.{◌≡◌, ◌+◌, ◌-◌, ◌<◌, ◌≤◌, ℕ, suc, IfSome, Bool, true, false, cond, List, ◌∷◌, ◌++◌, length, take, drop, get_or, Option, Some, None, Ok, refl, sym, ap, ◌∙◌, subst, arith, length-append, length-drop}
+use Rattle.std.proofs.lemmas.List.{take_at, drop_at, drop-drop, nil_from_length}
 use Rattle.std.specs.Borrow.{Bor}
 use Rattle.std.specs.Option.{option_or}
 use Rattle.std.specs.Cmp.Lexicographic.{bytes_decides}
@@ -14,7 +14,7 @@ use Rattle.amqp_in_place.specs.Bodies.{HasEntries}
 use Rattle.amqp_in_place.proofs.Lookups.{or_none, or_or}
 use Rattle.amqp_c.specs.declared.entry.Entry.{Entry}
 use Rattle.amqp_c_answers.specs.declared.span.Span.{Span}
-use Rattle.amqp_c.specs.Steps.{SplitsPair, IsBehind, HasNoKey, HasNoExtent, BeginsWithKey, IsPairIn, GivesFound}
+use Rattle.amqp_c.specs.Steps.{IsHeaded, ArePairs, no_pairs as none_left, pair as one_left, SplitsPair, IsBehind, HasNoKey, IsPairIn, GivesFound}
 use Rattle.amqp_c.proofs.Fronts.{length-wire}
 
 -- ---- the pair at the front
@@ -73,10 +73,10 @@ module _ (left name value : List ℕ) (e : left ≡ short_field name ++ value) w
       split_given left (name ++ value) (length name) (extent value) x e (key ∙ sym (take_at name value (length name) refl))
       (rest ∙ ap (drop (extent value)) (sym value_at_name)) (ap extent (sym value_at_name)) ps p
 
-  pub value_never : HasNoExtent value → (ps : Entries) → Pairs left ps → ⊥
+  pub value_never : (IsHeaded value → ⊥) → (ps : Entries) → Pairs left ps → ⊥
   value_never none ps p =
       let there = split_there left (name ++ value) (length name) ps e p in
-      elim none [ inl z ↦ omega (arith, there.1, ap extent value_at_name, z) | inr few ↦ omega (arith, there.2, ap extent value_at_name, ap length value_at_name, few) ]
+      none (subst IsHeaded value_at_name (there.1, there.2))
 
   pub pair_behind : (behind : List ℕ) → behind ≡ drop (extent value) value → extent value ≤ length value → IsBehind left behind
   pair_behind behind is few =
@@ -116,11 +116,38 @@ left_behind all left rest from fewer (n, some, in_left, e) =
       omega arith,
     )
 
+-- the bytes begin with a pair of the key, by its lengths and its type tag
+abbrev pub BeginsWithPair : List ℕ → List ℕ → Type 0
+BeginsWithPair k s = (value : List ℕ) × (s ≡ short_field k ++ value) × IsHeaded value
+
 -- the pair at the front has the key that is asked for
-pub found_keyed : (key name left last : List ℕ) (b : Bool) → left ≡ last → b ≡ same_bytes key name → b ≡ true → BeginsWithKey name left → BeginsWithKey key last
+pub found_keyed : (key name left last : List ℕ) (b : Bool) → left ≡ last → b ≡ same_bytes key name → b ≡ true → BeginsWithPair name left → BeginsWithPair key last
 found_keyed key name left last b from is true_so begins =
     let same : key ≡ name = (bytes_decides key name).0 (sym is ∙ true_so) in
-    subst (BeginsWithKey key) from (subst (λ (k : List ℕ). BeginsWithKey k left) (sym same) begins)
+    subst (BeginsWithPair key) from (subst (λ (k : List ℕ). BeginsWithPair k left) (sym same) begins)
+
+-- ---- pairs by their lengths
+
+-- behind a pair at the front stand pairs
+pub pairs_split : (left name value : List ℕ) → left ≡ short_field name ++ value → ArePairs left → IsHeaded value × ArePairs (drop (extent value) value)
+pairs_split _ name value e none_left = absurd cc
+pairs_split _ name value e (one_left k v whole all) =
+    let size : length k ≡ length name = ap (λ (t : List ℕ). get_or t 0 0) e in
+    let same : v ≡ value = sym (drop_at k v (length name) size) ∙ (ap (drop (suc (length name))) e ∙ drop_at name value (length name) refl) in
+    subst (λ (t : List ℕ). IsHeaded t × ArePairs (drop (extent t) t)) same (whole, all)
+
+-- and before pairs a pair
+pub pairs_join : (left name value behind : List ℕ) → left ≡ short_field name ++ value → IsHeaded value → behind ≡ drop (extent value) value → ArePairs behind → ArePairs left
+pairs_join left name value behind e whole is all = subst ArePairs (sym e) (one_left name value whole (subst ArePairs is all))
+
+-- no bytes are none
+pub no_pairs_left : (left : List ℕ) → length left ≡ 0 → ArePairs left
+no_pairs_left left none = subst ArePairs (sym (nil_from_length left none)) none_left
+
+-- and others begin with a key
+pub pairs_keyed : (left : List ℕ) → HasNoKey left → 0 < length left → ArePairs left → ⊥
+pairs_keyed _ none some none_left = omega arith
+pairs_keyed _ none some (one_left k value whole all) = none k value refl (omega (arith, whole.0, whole.1))
 
 pub looks_start : (key all : List ℕ) → Looks key all all None
 looks_start key all = λ ps p. (ps, None, p, tt, or_none (last_at key ps))

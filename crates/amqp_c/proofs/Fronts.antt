@@ -1,16 +1,16 @@
 -- The entry of the value at the front.
-use Rattle.std.proofs.Common.{◌≡◌, ◌+◌, ◌-◌, ◌<◌, ◌≤◌, ℕ, zero, suc, nat_lt, if◌then◌else◌, Bool, true, false, Option, Some, None, List, ◌∷◌, ◌++◌, length, take, drop, refl, sym, ap, ◌∙◌, subst, arith, length-append}
+use Rattle.std.proofs.Common.{◌≡◌, ◌+◌, ◌-◌, ◌<◌, ◌≤◌, ℕ, zero, suc, nat_lt, if◌then◌else◌, Bool, true, false, Option, Some, None, MatchOption, List, [], ◌∷◌, ◌++◌, length, take, drop, refl, sym, ap, ◌∙◌, subst, arith, length-append}
 use Rattle.std.specs.Int.{w32}
 use borrow.Author.Tests.{ltb-true}
 use Rattle.std.proofs.lemmas.List.{take_at, length-take-le, take-append-drop}
 use Rattle.amqp_types.specs.declared.amqp_type.AMQPType.{AMQPType}
 use Rattle.amqp_types.specs.declared.amqp_type.AMQPType.TheVariants as amqp
-use Rattle.amqp_types.specs.Ids.{id_of}
+use Rattle.amqp_types.specs.Ids.{kind, id_of}
 use Rattle.amqp_types.specs.Names.{read_as}
 use Rattle.amqp_grammar.specs.Values.{Tree, scalar, short, long, octets, array, table, no_entries, onto, scalar_type, Scalar, type_of}
 use Rattle.amqp_grammar.specs.Layouts.{Layout, fixed}
 use Rattle.amqp_grammar.specs.Grammar.{long_field, Wire, wire, Raw, raw_fixed, raw_short, raw_long, raw_octets, raw_array, raw_table, Body}
-use Rattle.amqp_grammar.specs.Outcomes.{Reading, found, more, unknown, malformed, lack, lack_of, frame_lack, fields_lack, length_field, LacksOr, Outcome}
+use Rattle.amqp_grammar.specs.Outcomes.{Reading, found, more, unknown, malformed, lack, lack_of, frame_lack, fields_lack, length_field, LacksOr, FrontBy, Outcome}
 use Rattle.amqp_grammar.specs.Payloads.{RawFront, RawOutcome}
 use Rattle.amqp_grammar.proofs.GrammarLaws.{found_front, one_outcome, one_raw_reading, raw_to_value, value_to_raw, array_body, table_body}
 use Rattle.amqp_parsing.specs.declared.errors.Err.TheVariants.{Incomplete, Error, Failure}
@@ -20,8 +20,8 @@ use Rattle.amqp_parsing.specs.Refusals.{Refusal}
 use Rattle.amqp_parsing.specs.Typed.{IsType}
 use Rattle.amqp_parsing.specs.Bodies.{IsFrame, IsCutFrame}
 use Rattle.amqp_parsing.specs.Answers.{Refuses}
-use Rattle.amqp_parsing.specs.Headers.{extent_of, extent_at, extent}
-use Rattle.amqp_parsing.proofs.ParsingLaws.{wire_extent}
+use Rattle.amqp_parsing.specs.Headers.{extent_of, extent_at, extent, wanted}
+use Rattle.amqp_parsing.proofs.ParsingLaws.{wire_extent, wanted_more, wanted_within}
 use Rattle.amqp_in_place.specs.Bodies.{HasEntries}
 use Rattle.amqp_c.specs.declared.entry.Entry.{Entry}
 use Rattle.amqp_c_answers.specs.declared.fault.Fault.{Fault}
@@ -30,6 +30,7 @@ use Rattle.amqp_c_answers.specs.Answers.{fault_of}
 use Rattle.amqp_c.specs.Answers.{HeaderFaults}
 use Rattle.amqp_c.specs.Entries.{HasNoNumber, Says, IsEntry, IsTagged}
 use Rattle.amqp_c.specs.Heads.{has_content}
+use Rattle.amqp_c.specs.Steps.{IsHeaded}
 use Rattle.amqp_c_answers.specs.Scalars.{bits_in, scale_in}
 use Rattle.amqp_c_answers.specs.Spans.{part}
 use Rattle.amqp_c.proofs.Parts.{part_front, part_content}
@@ -63,6 +64,47 @@ never_faulty s rest v OutOfMemory x y = y
 never_faulty s rest v (NoRoom n) x y = y
 never_faulty s rest v NotJson x y = y
 never_faulty s rest v NoEncoding x y = y
+
+-- what is asked for is something
+some_lack : (s : List ℕ) (n : ℕ) → Outcome s (more n) → 0 < n
+some_lack [] n x = let e : n ≡ 1 = cc in omega (arith, e)
+some_lack (c ∷ b) n x = by (kind c) x
+  where
+    at : (m : ℕ) → LacksOr m (FrontBy Wire (c ∷ b) (more n)) (more n) → 0 < n
+    at zero none = absurd none
+    at (suc m) is = let e : n ≡ suc m = cc in omega (arith, e)
+
+    by : (k : Option AMQPType) → MatchOption k (more n ≡ unknown) (λ type. LacksOr (lack type b) (FrontBy Wire (c ∷ b) (more n)) (more n)) → 0 < n
+    by None is = absurd cc
+    by (Some type) y = at (lack type b) y
+
+-- an unknown type tag has no extent
+no_extent : (c : ℕ) (b : List ℕ) → Outcome (c ∷ b) unknown → extent (c ∷ b) ≡ 0
+no_extent c b x = by (kind c) x
+  where
+    at : (m : ℕ) → LacksOr m (FrontBy Wire (c ∷ b) unknown) unknown → ⊥
+    at zero none = none
+    at (suc m) is = cc
+
+    by : (k : Option AMQPType) → MatchOption k (unknown ≡ unknown) (λ type. LacksOr (lack type b) (FrontBy Wire (c ∷ b) unknown) unknown) → extent_at k b ≡ 0
+    by None is = refl
+    by (Some type) y = absurd (at (lack type b) y)
+
+-- where one is right, not as many bytes stand there as a header tells
+pub cut_header : (s : List ℕ) (f : Fault) → HeaderFaults (Outcome s) f → IsHeaded s → ⊥
+cut_header [] f x h = omega (arith, h.0)
+cut_header (c ∷ b) (More n) x h =
+    let is : wanted (c ∷ b) ≡ n = wanted_more Wire (c ∷ b) n x in
+    let some : 0 < wanted (c ∷ b) = omega (arith, is, some_lack (c ∷ b) n x) in
+    omega (arith, wanted_within (c ∷ b) (omega arith) some, some, h.1)
+cut_header (c ∷ b) UnknownTag x h = omega (arith, no_extent c b x, h.0)
+cut_header (c ∷ b) Malformed x h = x
+cut_header (c ∷ b) TooLarge x h = x
+cut_header (c ∷ b) Invalid x h = x
+cut_header (c ∷ b) OutOfMemory x h = x
+cut_header (c ∷ b) (NoRoom n) x h = x
+cut_header (c ∷ b) NotJson x h = x
+cut_header (c ∷ b) NoEncoding x h = x
 
 -- ---- strings, byte arrays and containers
 

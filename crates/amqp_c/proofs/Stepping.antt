@@ -1,17 +1,18 @@
 -- Entries in the body of a container.
-use Rattle.std.proofs.Common.{◌≡◌, ◌+◌, ◌-◌, ◌<◌, ◌≤◌, ℕ, zero, suc, Option, Some, None, IfSome, List, [], ◌∷◌, ◌++◌, Ok, length, take, drop, get_or, refl, sym, ap, ◌∙◌, subst, arith, length-append}
+use Rattle.std.proofs.Common.{◌≡◌, ◌+◌, ◌-◌, ◌<◌, ◌≤◌, ℕ, zero, suc, Option, Some, None, IfNone, IfSome, List, [], ◌∷◌, ◌++◌, Ok, length, take, drop, get_or, refl, sym, ap, ◌∙◌, subst, arith, length-append}
 use Rattle.std.proofs.lemmas.List.{take_at, drop_at, take-append-drop, length-take-le}
 use Rattle.amqp_grammar.specs.Values.{Tree, scalar, short, long, octets, array, table, Trees, Entries}
-use Rattle.amqp_grammar.specs.Grammar.{Wire, Body, no_values, value, Pairs, no_pairs, pair}
+use Rattle.amqp_grammar.specs.Grammar.{short_field, Wire, Body, no_values, value, Pairs, no_pairs, pair}
 use Rattle.amqp_grammar.specs.Outcomes.{found, Outcome}
 use Rattle.amqp_grammar.proofs.GrammarLaws.{found_front, wire_found}
+use Rattle.amqp_parsing.specs.Headers.{extent}
 use Rattle.amqp_in_place.specs.Bodies.{HasEntries}
 use Rattle.amqp_c.specs.declared.entry.Entry.{Entry}
 use Rattle.amqp_c_answers.specs.declared.span.Span.{Span}
 use Rattle.amqp_c.specs.Answers.{GivesFirst}
 use Rattle.amqp_c.specs.Entries.{Says, IsAtFront, IsTagged, IsTrueTo, Lies}
 use Rattle.amqp_c_answers.specs.Spans.{part, moved, behind, SpanLies}
-use Rattle.amqp_c.specs.Steps.{IsFrontIn, IsValueIn, IsPairIn, BeginsWithKey, StandsKeyed}
+use Rattle.amqp_c.specs.Steps.{IsHeaded, HasNoPair, IsFrontIn, IsValueIn, IsPairIn, BeginsWithKey, StandsKeyed}
 use Rattle.amqp_c.proofs.Parts.{part_front, part_within, part_after, part_length}
 
 -- the entry, where the bytes that it was read from begin at the span
@@ -104,14 +105,15 @@ key_stands s named p key n in_s e few is =
 
 -- the entry of the pair stands at the span
 pub stands_keyed : (s named : List ℕ) (p key : Span) (n : ℕ) (r : Option Entry) → SpanLies (length s) p → part s p ≡ n ∷ named → n ≤ length named → key ≡ record { offset = p.offset + 1; length = n }
-    → IfSome r (λ e. e.key ≡ key) → IfSome r (λ e. e.value.offset ≡ key.offset + key.length) → IfSome r (StandsKeyed s p)
+    → IfSome r (λ e. e.key ≡ key) → IfSome r (λ e. (e.value.offset ≡ key.offset + key.length) × (e.value.length ≡ extent (part s (behind p key)))) → IfSome r (StandsKeyed s p)
 stands_keyed s named p key n None in_s e few is same after = tt
 stands_keyed s named p key n (Some x) in_s e few is same after =
     let from : x.key.offset ≡ key.offset = ap (λ (k : Span). k.offset) same in
     let count : x.key.length ≡ key.length = ap (λ (k : Span). k.length) same in (
       from ∙ ap (λ (k : Span). k.offset) is,
-      omega (arith, from, count, after),
+      omega (arith, from, count, after.0),
       subst (λ (k : Span). BeginsWithKey (part s k) (part s p)) (sym same) (key_stands s named p key n in_s e few is),
+      subst (λ (k : Span). x.value.length ≡ extent (part s (behind p k))) (sym same) after.1,
     )
 
 -- a pair has all bytes of its key
@@ -123,6 +125,18 @@ key_room _ _ (pair k w rest v ps is q all) some = omega (arith, length-append k 
 module _ (s : List ℕ) (p : Span) (n : ℕ) (r : Option Entry) (in_s : SpanLies (length s) p) (some : 0 < p.length) (is : n ≡ get_or (part s p) 0 0) where
   abbrev key : Span
   key = record { offset = p.offset + 1; length = n }
+
+  -- what stands behind the key
+  front_at : (k rest : List ℕ) → part s p ≡ short_field k ++ rest → part s (behind p key) ≡ rest
+  front_at k rest e =
+      let size : n ≡ length k = is ∙ ap (λ (t : List ℕ). get_or t 0 0) e in
+      let room : suc n ≤ p.length = omega (arith, ap length e, part_length s p in_s, length-append k rest) in
+      part_after s p key (suc n) (omega arith) room ∙ (ap (drop (suc n)) e ∙ drop_at k rest n (sym size))
+
+  -- where no value stands there, no pair does here
+  pub pair_cut : (o : Option Entry) → IfNone o (IsHeaded (part s (behind p key)) → ⊥) → IfNone o (HasNoPair (part s p))
+  pair_cut None none = λ k value e whole. none (subst IsHeaded (sym (front_at k value e)) whole)
+  pair_cut (Some x) none = tt
 
   pub pair_given : ((v : Tree) (rest : List ℕ) → Outcome (part s (behind p key)) (found v rest) → IsFrontIn s (behind p key) key v rest r)
       → (ps : Entries) → Pairs (part s p) ps → IsPairIn s p ps r
@@ -142,8 +156,7 @@ module _ (s : List ℕ) (p : Span) (n : ℕ) (r : Option Entry) (in_s : SpanLies
       by _ _ e (pair k w rest v ps fits q all) =
           let size : n ≡ length k = is ∙ ap (λ (t : List ℕ). get_or t 0 0) e in
           let room : suc n ≤ p.length = omega (arith, ap length e, part_length s p in_s, length-append k (w ++ rest)) in
-          let front : part s (behind p key) ≡ w ++ rest =
-          part_after s p key (suc n) (omega arith) room ∙ (ap (drop (suc n)) e ∙ drop_at k (w ++ rest) n (sym size)) in
+          let front : part s (behind p key) ≡ w ++ rest = front_at k (w ++ rest) e in
           let at : key.offset ≡ 1 + p.offset = omega arith in
           let named : part s key ≡ k =
           ap (λ (o : ℕ). take n (drop o s)) at

@@ -11,7 +11,7 @@ use Rattle.amqp_c_answers.specs.declared.fault.Fault.{Fault}
 use Rattle.amqp_c_answers.specs.Reading.{limits}
 use Rattle.amqp_c_answers.specs.Spans.{part, SpanLies}
 use Rattle.amqp_c.specs.Entries.{IsAtFront, IsTagged, IsTrueTo, Lies}
-use Rattle.amqp_c.specs.Steps.{array_tag, table_tag, contents, IsOfContainer, IsOfTable, StepsIn, RefusedBy, GivesValue, GivesPair, GivesFound, StandsIn}
+use Rattle.amqp_c.specs.Steps.{array_tag, table_tag, contents, IsOfContainer, IsOfTable, StepsIn, ArePairs, IsCut, RefusedBy, GivesValue, GivesPair, GivesFound, StandsIn}
 use Rattle.amqp_c_answers.specs.Answers.{answer_of, count_of}
 use Rattle.amqp_c.specs.Answers.{IsTaken, HeaderFaults, FaultsWithin, GivesFirst, answer_if_any, given_or, found_or, entry_or, cursor_or}
 
@@ -42,7 +42,7 @@ pub record Enters (s : List ℕ) (e : Entry) (old : Cursor) (answer : ℤ) (new 
   pub refused : IfErr done (RefusedBy (IsOfContainer (length s) (contents e)) ⊥)
 
 -- a step: the first of what is left is given, where it is values or pairs, and whatever it is, what
--- goes out lies in s
+-- goes out lies in s; what is left is malformed only where no entry stands at its front
 pub record Steps (s : List ℕ) (c : Cursor) (old : Entry) (answer : ℤ) (new : Cursor) (e : Entry) : Type 0 where
   pub done : Result (Option (Entry × Cursor)) Fault
   pub answered : answer ≡ answer_if_any done
@@ -51,11 +51,12 @@ pub record Steps (s : List ℕ) (c : Cursor) (old : Entry) (answer : ℤ) (new :
   pub values : (vs : Trees) → SpanLies (length s) c.left → c.tag ≡ array_tag → Body (part s c.left) vs → GivesValue s vs done
   pub pairs : (ps : Entries) → SpanLies (length s) c.left → c.tag ≡ table_tag → Pairs (part s c.left) ps → GivesPair s ps done
   pub lies : IfOk done (StepsIn s c)
-  pub refused : IfErr done (RefusedBy (IsOfContainer (length s) c) (IsOfContainer (length s) c))
+  pub refused : IfErr done (RefusedBy (IsOfContainer (length s) c) (IsOfContainer (length s) c × IsCut s c))
 
 -- a look-up, in what a table has left: where pairs are left, the value at the key is found, of equal
 -- keys the last; and whatever is left, an entry that is given stands there, has the key and the type
--- of its type tag, and is that of the value if one is encoded there
+-- of its type tag, and is that of the value if one is encoded there; what is left is malformed
+-- exactly where it isn't pairs, one after another
 pub record Finds (s : List ℕ) (c : Cursor) (key : List ℕ) (old : Entry) (answer : ℤ) (new : Entry) : Type 0 where
   pub done : Result (Option Entry) Fault
   pub answered : answer ≡ answer_if_any done
@@ -66,5 +67,5 @@ pub record Finds (s : List ℕ) (c : Cursor) (key : List ℕ) (old : Entry) (ans
   pub told : IfOk done (λ o. IfSome o (IsTrueTo s))
   pub stands : IfOk done (λ o. IfSome o (StandsIn s c.left))
   pub lies : IfOk done (λ o. IfSome o (Lies (length s)))
-  pub valid : IfOk done (λ _. IsOfTable (length s) c)
-  pub refused : IfErr done (RefusedBy (IsOfTable (length s) c) (IsOfTable (length s) c))
+  pub valid : IfOk done (λ _. IsOfTable (length s) c × ArePairs (part s c.left))
+  pub refused : IfErr done (RefusedBy (IsOfTable (length s) c) (IsOfTable (length s) c × (ArePairs (part s c.left) → ⊥)))

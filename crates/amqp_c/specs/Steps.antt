@@ -1,5 +1,5 @@
 -- Stepping through the body of a container by a cursor.
-use Rattle.std.specs.Prelude.{ℕ, ◌≡◌, ◌+◌, ◌<◌, ◌≤◌, List, ◌++◌, length, drop, Option, Some, None, Result, Ok, ◌⊎◌}
+use Rattle.std.specs.Prelude.{ℕ, ◌≡◌, ◌+◌, ◌<◌, ◌≤◌, List, [], ◌++◌, length, drop, Option, Some, None, Result, Ok, ◌⊎◌}
 use Rattle.std.specs.Borrow.{Bor}
 use Rattle.amqp_grammar.specs.Values.{Tree, Trees, no_trees, tree, Entries, no_entries, entry}
 use Rattle.amqp_grammar.specs.Grammar.{short_field, Body, Pairs}
@@ -31,18 +31,34 @@ IsOfContainer n c = SpanLies n c.left × ((c.tag ≡ array_tag) ⊎ (c.tag ≡ t
 abbrev pub IsOfTable : ℕ → Cursor → Type 0
 IsOfTable n c = SpanLies n c.left × (c.tag ≡ table_tag)
 
+-- a type tag stands at the front, and as many bytes as it and the length behind it tell
+abbrev pub IsHeaded : List ℕ → Type 0
+IsHeaded s = (0 < extent s) × (extent s ≤ length s)
+
 -- the bytes begin with the key after its length in one byte
 abbrev pub BeginsWithKey : List ℕ → List ℕ → Type 0
 BeginsWithKey k s = (rest : List ℕ) × (s ≡ short_field k ++ rest)
 
--- at the front of the bytes that p spans, the entry of a value stands: it has no key
-abbrev pub StandsAlone : Span → Entry → Type 0
-StandsAlone p e = (e.key.length ≡ 0) × (e.value.offset ≡ p.offset)
+-- no pair stands at the front, by the key's length, the type tag and the value's length
+abbrev pub HasNoPair : List ℕ → Type 0
+HasNoPair s = (k value : List ℕ) → s ≡ short_field k ++ value → IsHeaded value → ⊥
 
--- the entry of a pair stands there: its key after the key's length in one byte, and the value
--- right behind the key
+-- the bytes are pairs, one after another, by these lengths and type tags
+pub data ArePairs : List ℕ → Type 0 where
+  no_pairs : ArePairs []
+  pair : (k value : List ℕ) → IsHeaded value → ArePairs (drop (extent value) value) → ArePairs (short_field k ++ value)
+
+-- at the front of the bytes that p spans, the entry of a value stands: it has no key, and as many
+-- bytes as its type tag and its length tell
+abbrev pub StandsAlone : List ℕ → Span → Entry → Type 0
+StandsAlone s p e = (e.key.length ≡ 0) × (e.value.offset ≡ p.offset) × (e.value.length ≡ extent (part s p))
+
+-- the entry of a pair stands there: its key after the key's length in one byte, and right behind the
+-- key the value, as many bytes as its type tag and its length tell
 abbrev pub StandsKeyed : List ℕ → Span → Entry → Type 0
-StandsKeyed s p e = (e.key.offset ≡ p.offset + 1) × (e.value.offset ≡ e.key.offset + e.key.length) × BeginsWithKey (part s e.key) (part s p)
+StandsKeyed s p e =
+    (e.key.offset ≡ p.offset + 1) × (e.value.offset ≡ e.key.offset + e.key.length)
+    × BeginsWithKey (part s e.key) (part s p) × (e.value.length ≡ extent (part s (behind p e.key)))
 
 -- the entry ends in the span, which it begins in or behind its front
 abbrev pub EndsIn : Span → Entry → Type 0
@@ -59,7 +75,7 @@ StandsIn s p e = (n : ℕ) × (n ≤ p.length) × StandsKeyed s (last p n) e × 
 pub record IsStep (s : List ℕ) (c : Cursor) (e : Entry) (next : Cursor) : Type 0 where
   pub valid : IsOfContainer (length s) c
   pub lies : Lies (length s) e
-  pub value : c.tag ≡ array_tag → StandsAlone c.left e
+  pub value : c.tag ≡ array_tag → StandsAlone s c.left e
   pub pair : c.tag ≡ table_tag → StandsKeyed s c.left e
   pub typed : IsTagged (part s e.value) e
   pub told : IsTrueTo s e
@@ -73,6 +89,10 @@ pub record IsStep (s : List ℕ) (c : Cursor) (e : Entry) (next : Cursor) : Type
 abbrev pub StepsIn : List ℕ → Cursor → Option (Entry × Cursor) → Type 0
 StepsIn s c None = IsOfContainer (length s) c × (c.left.length ≡ 0)
 StepsIn s c (Some x) = IsStep s c x.0 x.1
+
+-- no entry stands where the cursor is, whose container has values or pairs
+abbrev pub IsCut : List ℕ → Cursor → Type 0
+IsCut s c = (c.tag ≡ array_tag → IsHeaded (part s c.left) → ⊥) × (c.tag ≡ table_tag → HasNoPair (part s c.left))
 
 -- a fault is right: what was handed in isn't `valid`, or bytes are malformed and it is so
 abbrev pub RefusedBy : Type 0 → Type 0 → Fault → Type 0
@@ -123,10 +143,6 @@ SplitsPair _ _ = ⊥
 -- no key with a byte behind it stands at the front
 abbrev pub HasNoKey : List ℕ → Type 0
 HasNoKey s = (k rest : List ℕ) → s ≡ short_field k ++ rest → 0 < length rest → ⊥
-
--- no header of a value stands at the front, or it tells more bytes than are there
-abbrev pub HasNoExtent : List ℕ → Type 0
-HasNoExtent s = (extent s ≡ 0) ⊎ (length s < extent s)
 
 -- the bytes are what stands in s behind some of its bytes
 abbrev pub IsBehind : List ℕ → List ℕ → Type 0

@@ -1,6 +1,6 @@
 //! Stepping through a container.
 
-ghost use Rattle.std.specs.Prelude.{◌≡◌, ◌+◌, ◌<◌, ◌≤◌, ◌++◌, ℕ, List, length, drop, IfErr, IfOk, IfSome, MatchOption};
+ghost use Rattle.std.specs.Prelude.{◌≡◌, ◌+◌, ◌<◌, ◌≤◌, ◌++◌, ℕ, List, length, drop, IfErr, IfOk, IfNone, IfSome, MatchOption};
 ghost use Rattle.amqp_grammar.specs.Values.{Tree, Trees, Entries};
 ghost use Rattle.amqp_grammar.specs.Maps.{value_at};
 ghost use Rattle.amqp_grammar.specs.Grammar.{short_field, Body, Pairs};
@@ -9,7 +9,7 @@ ghost use Rattle.amqp_parsing.specs.Headers.{extent};
 ghost use Rattle.amqp_in_place.specs.Bodies.{HasEntries};
 ghost use Rattle.amqp_c_answers.specs.Spans.{part, SpanLies};
 ghost use Rattle.amqp_c.specs.Entries.{IsEntry, IsTagged, IsTrueTo, Lies};
-ghost use Rattle.amqp_c.specs.Steps.{array_tag, table_tag, contents, IsOfContainer, IsOfTable, StepsIn, RefusedBy, IsFrontIn, IsValueIn, IsPairIn, EndsIn, GivesValue, GivesPair, GivesFound, HasNoKey, HasNoExtent, StandsAlone, StandsKeyed, StandsIn};
+ghost use Rattle.amqp_c.specs.Steps.{array_tag, table_tag, contents, IsOfContainer, IsOfTable, IsHeaded, HasNoPair, ArePairs, StepsIn, IsCut, RefusedBy, IsFrontIn, IsValueIn, IsPairIn, EndsIn, GivesValue, GivesPair, GivesFound, HasNoKey, StandsAlone, StandsKeyed, StandsIn};
 
 use crate::entry::{Entry, first};
 use amqp_c_answers::{Fault, Span};
@@ -64,7 +64,8 @@ impl Cursor {
         ensures pairs { (ps : Entries) → SpanLies (length bytes.now) self.left → self.tag ≡ table_tag
             → Pairs (part bytes.now self.left) ps → GivesPair bytes.now ps result }
         ensures steps { IfOk result (StepsIn bytes.now self) }
-        ensures refused { IfErr result (RefusedBy (IsOfContainer (length bytes.now) self) (IsOfContainer (length bytes.now) self)) }
+        ensures refused { IfErr result (RefusedBy (IsOfContainer (length bytes.now) self)
+            (IsOfContainer (length bytes.now) self × IsCut bytes.now self)) }
     {
         let Some(body) = self.body(bytes) else {
             return Err(Fault::Invalid);
@@ -97,8 +98,9 @@ impl Cursor {
         ensures told { IfOk result (λ o. IfSome o (IsTrueTo bytes.now)) }
         ensures stands { IfOk result (λ o. IfSome o (StandsIn bytes.now self.left)) }
         ensures lies { IfOk result (λ o. IfSome o (Lies (length bytes.now))) }
-        ensures valid { IfOk result (λ _. IsOfTable (length bytes.now) self) }
-        ensures refused { IfErr result (RefusedBy (IsOfTable (length bytes.now) self) (IsOfTable (length bytes.now) self)) }
+        ensures valid { IfOk result (λ _. IsOfTable (length bytes.now) self × ArePairs (part bytes.now self.left)) }
+        ensures refused { IfErr result (RefusedBy (IsOfTable (length bytes.now) self)
+            (IsOfTable (length bytes.now) self × (ArePairs (part bytes.now self.left) → ⊥))) }
     {
         if self.tag != b'F' {
             return Err(Fault::Invalid);
@@ -149,8 +151,8 @@ fn split_key(pairs: &[u8]) -> Option<(&[u8], &[u8])>
 #[inline(always)]
 fn behind_value(value: &[u8]) -> Option<&[u8]>
     ensures { MatchOption result
-        (HasNoExtent value.now)
-        (λ rest. (rest.now ≡ drop (extent value.now) value.now) × (0 < extent value.now) × (extent value.now ≤ length value.now)) }
+        (IsHeaded value.now → ⊥)
+        (λ rest. (rest.now ≡ drop (extent value.now) value.now) × IsHeaded value.now) }
 {
     let taken = value_len(SliceInput::new(value));
     if taken == 0 || value.len() < taken {
@@ -164,7 +166,8 @@ fn behind_value(value: &[u8]) -> Option<&[u8]>
 fn first_value(bytes: &[u8], left: Span) -> Option<Entry>
     requires left { SpanLies (length bytes.now) left }
     ensures value { (vs : Trees) → 0 < left.length → Body (part bytes.now left) vs → IsValueIn bytes.now left vs result }
-    ensures stands { IfSome result (StandsAlone left) }
+    ensures stands { IfSome result (StandsAlone bytes.now left) }
+    ensures cut { IfNone result (IsHeaded (part bytes.now left) → ⊥) }
     ensures typed { IfSome result (λ e. IsTagged (part bytes.now e.value) e) }
     ensures faithful { IfSome result (IsTrueTo bytes.now) }
     ensures lies { IfSome result (λ e. Lies (length bytes.now) e × EndsIn left e) }
@@ -177,6 +180,7 @@ fn first_pair(bytes: &[u8], left: Span) -> Option<Entry>
     requires left { SpanLies (length bytes.now) left }
     ensures pair { (ps : Entries) → 0 < left.length → Pairs (part bytes.now left) ps → IsPairIn bytes.now left ps result }
     ensures stands { IfSome result (StandsKeyed bytes.now left) }
+    ensures cut { IfNone result (HasNoPair (part bytes.now left)) }
     ensures typed { IfSome result (λ e. IsTagged (part bytes.now e.value) e) }
     ensures faithful { IfSome result (IsTrueTo bytes.now) }
     ensures lies { IfSome result (λ e. Lies (length bytes.now) e × EndsIn left e) }
@@ -199,7 +203,8 @@ fn front_of(bytes: &[u8], left: Span, key: Span) -> Option<Entry>
     ensures told { (v : Tree) (rest : List ℕ) → Outcome (part bytes.now left) (found v rest)
         → IsFrontIn bytes.now left key v rest result }
     ensures key { IfSome result (λ e. e.key ≡ key) }
-    ensures value { IfSome result (λ e. e.value.offset ≡ left.offset) }
+    ensures value { IfSome result (λ e. (e.value.offset ≡ left.offset) × (e.value.length ≡ extent (part bytes.now left))) }
+    ensures cut { IfNone result (IsHeaded (part bytes.now left) → ⊥) }
     ensures typed { IfSome result (λ e. IsTagged (part bytes.now e.value) e) }
     ensures faithful { IfSome result (IsTrueTo bytes.now) }
     ensures lies { IfSome result (λ e. Lies (length bytes.now) e × EndsIn left e) }

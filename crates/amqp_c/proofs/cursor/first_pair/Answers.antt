@@ -1,9 +1,9 @@
-use Rattle.std.proofs.Common.{◌≡◌, ◌+◌, ◌∷◌, drop, get_or, length, length-drop, ap, refl, arith}
+use Rattle.std.proofs.Common.{◌≡◌, ◌+◌, ◌<◌, ◌∷◌, drop, get_or, length, length-drop, ap, refl, arith}
 use Rattle.std.proofs.lemmas.Grind.{common_steps}
 use Rattle.amqp_c_answers.specs.declared.span.Span.{Span}
 use Rattle.amqp_c_answers.specs.Spans.{part}
 use Rattle.amqp_c.proofs.Parts.{part_length}
-use Rattle.amqp_c.proofs.Stepping.{pair_given, key_room, stands_keyed}
+use Rattle.amqp_c.proofs.Stepping.{pair_given, pair_cut, key_room, stands_keyed}
 use Rattle.amqp_c.proofs.cursor.first_pair.Goals as goal
 
 pub returns-then-left-length-clause-pair : goal.returns-then-left-length-clause-pair
@@ -29,3 +29,12 @@ returns-clause-stands c =
     let e : part s left ≡ n ∷ drop 1 (part s left) = grind (arith, common_steps) in
     stands_keyed s (drop 1 (part s left)) left key n c.front_of.result c.requires.left e (omega (arith, ap length e, length-drop 1 (part s left))) refl c.front_of.ensures.key
     (rw c.behind.ensures at c.front_of.ensures.value)
+
+pub returns-clause-cut : goal.returns-clause-cut
+returns-clause-cut c =
+    let s = c.args.bytes.now in
+    let left = c.args.left in
+    let n : c.from-length.result ≡ get_or (part s left) 0 0 = grind (arith, common_steps) in
+    let e : part s left ≡ c.from-length.result ∷ drop 1 (part s left) = grind (arith, common_steps) in
+    let some : 0 < left.length = omega (arith, ap length e, part_length s left c.requires.left) in
+    pair_cut s left c.from-length.result c.front_of.result c.requires.left some n c.front_of.result (rw c.behind.ensures at c.front_of.ensures.cut)
