@@ -12,7 +12,6 @@
 
 #define FRAME 131072
 #define DEPTH 64
-#define NESTING 64
 
 static uint8_t input[FRAME];
 static size_t input_length;
@@ -22,7 +21,7 @@ static int32_t print_json(uint8_t *room, size_t room_length, size_t *count) {
 }
 
 static int32_t print_encoding(uint8_t *room, size_t room_length, size_t *count) {
-    return amqp_from_json(input, input_length, NESTING, room, room_length, count);
+    return amqp_from_json(input, input_length, AMQP_JSON_NESTING, room, room_length, count);
 }
 
 int main(int count, char **words) {
