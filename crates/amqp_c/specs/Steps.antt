@@ -1,8 +1,9 @@
 -- Stepping through the body of a container by a cursor.
-use Rattle.std.specs.Prelude.{ℕ, ◌≡◌, ◌+◌, ◌<◌, ◌≤◌, List, [], ◌++◌, length, drop, Option, Some, None, Result, Ok, ◌⊎◌}
-use Rattle.std.specs.Borrow.{Bor}
+use Rattle.std.specs.Prelude.{ℕ, ◌≡◌, ◌+◌, ◌<◌, ◌≤◌, List, [], ◌∷◌, ◌++◌, length, take, drop, if◌then◌else◌, Option, Some, None, Result, Ok, ◌⊎◌}
+use Rattle.std.specs.Option.{option_or}
 use Rattle.amqp_grammar.specs.Values.{Tree, Trees, no_trees, tree, Entries, no_entries, entry}
 use Rattle.amqp_grammar.specs.Grammar.{short_field, Body, Pairs}
+use Rattle.amqp_grammar.specs.Maps.{same_bytes}
 use Rattle.amqp_parsing.specs.Headers.{extent}
 use Rattle.amqp_c.specs.declared.cursor.Cursor.{Cursor}
 use Rattle.amqp_c.specs.declared.entry.Entry.{Entry}
@@ -43,10 +44,17 @@ BeginsWithKey k s = (rest : List ℕ) × (s ≡ short_field k ++ rest)
 abbrev pub HasNoPair : List ℕ → Type 0
 HasNoPair s = (k value : List ℕ) → s ≡ short_field k ++ value → IsHeaded value → ⊥
 
--- the bytes are pairs, one after another, by these lengths and type tags
-pub data ArePairs : List ℕ → Type 0 where
-  no_pairs : ArePairs []
-  pair : (k value : List ℕ) → IsHeaded value → ArePairs (drop (extent value) value) → ArePairs (short_field k ++ value)
+-- the bytes are pairs, one after another, by these lengths and type tags: each a key, and the bytes
+-- of a value
+pub data ArePairs : List ℕ → List (List ℕ × List ℕ) → Type 0 where
+  no_pairs : ArePairs [] []
+  pair : (k value : List ℕ) → (ps : List (List ℕ × List ℕ)) → IsHeaded value → ArePairs (drop (extent value) value) ps
+      → ArePairs (short_field k ++ value) ((k, take (extent value) value) ∷ ps)
+
+-- the bytes of the value of the last pair with the key, if a pair has it
+abbrev pub last_of : List ℕ → List (List ℕ × List ℕ) → Option (List ℕ)
+last_of k [] = None
+last_of k (p ∷ ps) = option_or (last_of k ps) (if same_bytes k p.0 then Some p.1 else None)
 
 -- at the front of the bytes that p spans, the entry of a value stands: it has no key, and as many
 -- bytes as its type tag and its length tell
@@ -118,6 +126,12 @@ GivesFound s None (Ok None) = Unit {0}
 GivesFound s (Some v) (Ok (Some e)) = IsEntry s e v
 GivesFound s _ _ = ⊥
 
+-- and it is told where the value's bytes lie
+abbrev pub GivesLast : List ℕ → Option (List ℕ) → Result (Option Entry) Fault → Type 0
+GivesLast s None (Ok None) = Unit {0}
+GivesLast s (Some w) (Ok (Some e)) = part s e.value ≡ w
+GivesLast s _ _ = ⊥
+
 -- ---- on the way
 
 -- the entry of v with the key is given, and `rest` is behind it in the span
@@ -134,11 +148,6 @@ IsValueIn s p _ _ = ⊥
 abbrev pub IsPairIn : List ℕ → Span → Entries → Option Entry → Type 0
 IsPairIn s p (entry k v ps) (Some e) = (part s e.key ≡ k) × IsEntry s e v × Pairs (part s (behind p e.value)) ps
 IsPairIn s p _ _ = ⊥
-
--- the first pair's key is told, and the pairs behind it
-abbrev pub SplitsPair : Entries → Option (Bor (List ℕ) × Bor (List ℕ)) → Type 0
-SplitsPair (entry k v ps) (Some x) = (x.0.now ≡ k) × Pairs x.1.now ps
-SplitsPair _ _ = ⊥
 
 -- no key with a byte behind it stands at the front
 abbrev pub HasNoKey : List ℕ → Type 0
