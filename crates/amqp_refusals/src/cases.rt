@@ -6,18 +6,18 @@ use self::rows::{
     COPIED, EMPTY, FALLING, LACKING, LIGHT, MANY, NUMBERS, ONE_NUMBER, ONE_NUMBER_JSON, PAYLOADS,
     SCALAR_PAYLOADS, SCALARS, TYPES, VALUES, VOIDS, VOIDS_JSON, WITHOUT,
 };
-use crate::conversions::Document;
-use crate::generation::Filler;
-use crate::growing::Growth;
-use crate::made::Piece::{Bytes, Pairs, Times};
-use crate::made::{Kind, NAMES, Plan};
-use crate::making::Maker;
-use crate::parsing::Parser;
-use crate::stream::{LIMITS, NARROW};
-use crate::{
+use amq_protocol_types::AMQPType;
+use amqp_refused_calls::conversions::Document;
+use amqp_refused_calls::generation::Filler;
+use amqp_refused_calls::growing::Growth;
+use amqp_refused_calls::made::Piece::{Bytes, Pairs, Times};
+use amqp_refused_calls::made::{Kind, NAMES, Plan};
+use amqp_refused_calls::making::Maker;
+use amqp_refused_calls::parsing::Parser;
+use amqp_refused_calls::stream::{LIMITS, NARROW};
+use amqp_refused_calls::{
     conversions, copies, flags, generation, growing, in_place, making, parsing, stream, texts,
 };
-use amq_protocol_types::AMQPType;
 use amqp_samples::TABLE;
 use std::alloc::Global;
 use std::io;

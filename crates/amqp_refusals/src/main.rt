@@ -1,24 +1,8 @@
-//! Calls that may need memory, and calls that never do, each as a case of its own, to be run with
-//! one allocation failing. The argument names the case; with none all cases are run.
-//!
-//! Around each call two lines go to standard error, `begin` and `end`, so that whoever makes
-//! allocations fail knows which of them are the call's.
+//! The calls of `amqp_refused_calls`, each as a case of its own, to be run with one allocation
+//! failing. The argument names the case; with none all cases are run.
 #![tactic(auto)]
 
-mod asking;
 mod cases;
-mod conversions;
-mod copies;
-mod flags;
-mod generation;
-mod growing;
-mod in_place;
-mod made;
-mod making;
-mod parsing;
-mod stream;
-mod texts;
-mod things;
 
 use std::alloc::Global;
 use std::process::ExitCode;

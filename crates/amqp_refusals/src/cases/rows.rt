@@ -1,10 +1,10 @@
 //! Tables of the cases.
 
-use crate::made::Piece::{Bytes, Times};
-use crate::made::{Kind, NAMES, Piece, Plan};
-use crate::making::Maker;
-use crate::parsing::{Number, Parser};
 use amq_protocol_types::AMQPType;
+use amqp_refused_calls::made::Piece::{Bytes, Times};
+use amqp_refused_calls::made::{Kind, NAMES, Piece, Plan};
+use amqp_refused_calls::making::Maker;
+use amqp_refused_calls::parsing::{Number, Parser};
 use amqp_samples::TABLE;
 
 /// Things that are written one after the other. For the last there is no room.
