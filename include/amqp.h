@@ -126,19 +126,20 @@ int32_t amqp_enter(const uint8_t *bytes, size_t length, const amqp_entry *entry,
 /*
  * Gives the next entry, and sets the cursor behind it.
  *
- * Answers AMQP_OK, AMQP_NONE at the end, AMQP_MALFORMED or AMQP_INVALID. Where the value was read
- * with AMQP_OK, and the cursor comes from it, only the first two. Takes constant time: it looks at
- * the key's length and at the value's type tag and length. Whether the key is UTF-8 and what stands
- * in a container isn't looked at: amqp_read checks that.
+ * Answers AMQP_OK, AMQP_NONE at the end, AMQP_MALFORMED where no whole entry stands next, or
+ * AMQP_INVALID. Where the value was read with AMQP_OK, and the cursor comes from it, only the first
+ * two. Takes constant time: it looks at the key's length and at the value's type tag and length.
+ * Whether the key is UTF-8 and what stands in a container isn't looked at: amqp_read checks that.
  */
 int32_t amqp_next(const uint8_t *bytes, size_t length, amqp_cursor *cursor, amqp_entry *entry);
 
 /*
  * Gives the entry at the key, of those that the cursor has left in a table: of equal keys the last.
  *
- * Answers AMQP_OK, AMQP_NONE where none has the key, AMQP_MALFORMED or AMQP_INVALID, this also
- * where the cursor is of an array. It walks all of the entries that are left, by their keys and the
- * headers of their values, and tells one. The cursor stays.
+ * Answers AMQP_OK, AMQP_NONE where none has the key, AMQP_MALFORMED where what is left isn't whole
+ * entries, one after another, or AMQP_INVALID, this also where the cursor is of an array. It walks
+ * all of the entries that are left, by their keys and the headers of their values, and tells one.
+ * The cursor stays.
  */
 int32_t amqp_find(const uint8_t *bytes, size_t length, const amqp_cursor *cursor, const uint8_t *key,
                   size_t key_length, amqp_entry *entry);

@@ -16,8 +16,8 @@ use decode::put_json;
 use encode::put_encoding;
 use std::alloc::Global;
 
-/// Writes the JSON text of the value at the front to the start of `room`. It recurses at most
-/// `depth` deep.
+/// Writes the JSON text of the value at the front to the start of `room`. It recurses as the JSON
+/// nests, at most 2 * `depth` + 2 deep.
 ///
 /// `count` becomes how many bytes were written, how many more are needed of the value, or how many
 /// the room has to have, or else 0.

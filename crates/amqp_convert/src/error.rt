@@ -6,7 +6,8 @@ use thiserror::Error;
 /// Why there is no encoding for a JSON text.
 #[derive(Debug, Drop, Error)]
 pub enum EncodeError {
-    /// The text is no JSON, or the JSON of no value.
+    /// The text is no JSON, or the JSON of no value; or memory ran out while it was read
+    /// (`JsonError::OutOfMemory`).
     #[error("{0}")]
     Json(JsonError),
     /// A ShortString stands in the value, or it is one: no type tag is read as that type.
