@@ -8,10 +8,10 @@
  * written; and no block is kept.
  *
  * It tries the values below in each room up to one byte more than they need, with the first
- * allocation failing, then the second, until a call makes fewer; each prefix of them, and each change
- * of one byte to one of some; limits that are just kept to and just not; texts that nest as deep as
- * `nesting` says and one deeper, 127 and 128 deep among them; and a table of 100,010 bytes, there and
- * back, with every seventeenth allocation failing. It prints how many calls it made.
+ * allocation failing, then the second, until a call makes fewer; each prefix of them, and each
+ * change of one byte to one of some; limits that are just kept to and just not; texts that nest as
+ * deep as `nesting` says and one deeper, 127 and 128 deep among them; and a table of 100,010 bytes,
+ * there and back, with every seventeenth allocation failing. It prints how many calls it made.
  */
 #include "tried.h"
 

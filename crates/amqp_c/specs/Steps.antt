@@ -61,8 +61,8 @@ last_of k (p ∷ ps) = option_or (last_of k ps) (if same_bytes k p.0 then Some p
 abbrev pub StandsAlone : List ℕ → Span → Entry → Type 0
 StandsAlone s p e = (e.key.length ≡ 0) × (e.value.offset ≡ p.offset) × (e.value.length ≡ extent (part s p))
 
--- the entry of a pair stands there: its key after the key's length in one byte, and right behind the
--- key the value, as many bytes as its type tag and its length tell
+-- the entry of a pair stands there: its key after the key's length in one byte, and right behind
+-- the key the value, as many bytes as its type tag and its length tell
 abbrev pub StandsKeyed : List ℕ → Span → Entry → Type 0
 StandsKeyed s p e =
     (e.key.offset ≡ p.offset + 1) × (e.value.offset ≡ e.key.offset + e.key.length)

@@ -1,5 +1,5 @@
-//! Calls that may need memory, and calls that never do, each on what it is made on, so that they can
-//! be made with one allocation failing.
+//! Calls that may need memory, and calls that never do, each on what it is made on, so that they
+//! can be made with one allocation failing.
 //!
 //! Around each call two lines go to standard error, `begin` and `end`, so that whoever makes
 //! allocations fail knows which of them are the call's.
