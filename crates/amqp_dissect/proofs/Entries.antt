@@ -50,7 +50,7 @@ value_within d xs a m e (w, v, rest, p, is, n) up le in_xs = omega (arith, windo
 
 -- ---- a type of fixed width
 
-fields_known : (o : Option Layout) (first width : ℕ) → option_map {U = ℕ × ℕ} (λ f. (f.first, f.width)) o ≡ Some (first, width) → (f : Layout) × (o ≡ Some f) × (f.first ≡ first) × (f.width ≡ width)
+pub fields_known : (o : Option Layout) (first width : ℕ) → option_map {U = ℕ × ℕ} (λ f. (f.first, f.width)) o ≡ Some (first, width) → (f : Layout) × (o ≡ Some f) × (f.first ≡ first) × (f.width ≡ width)
 fields_known None first width e = absurd cc
 fields_known (Some f) first width e =
     let same : Some (f.first, f.width) ≡ Some (first, width) = e in
@@ -105,7 +105,7 @@ pub header_of : (s b : List ℕ) (type : AMQPType) (at n : ℕ) → IsType s typ
 header_of s b type at n is (body, rest, f, e) =
     (is.0, body, rest, is.2, is.1 ∙ ap (λ t. is.0 ∷ t) f.framed, f.fits, ap (λ k. at + 5 + k) e)
 
-length_large : (body : List ℕ) → length (long_field body) ≡ 4 + length body
+pub length_large : (body : List ℕ) → length (long_field body) ≡ 4 + length body
 length_large body = omega arith
 
 -- what a header counts is there
@@ -138,18 +138,18 @@ no_tag d s a c b is none =
     offset_is d s 0 a a (UnknownTypeTag c) (subst (λ (t : List ℕ). NoValue d t 0 (UnknownTypeTag c)) (sym is) (unknown_type_tag d c b none)) (omega arith)
 
 -- it goes over a type tag
-pub after_tag : (old new : Walk) (end : ℕ) (type : AMQPType) (b : List ℕ) → CanReach old end → IsType (ahead old end) type b → new.input ≡ old.input → new.at ≡ old.at + 1 → GoesOn old end new
-after_tag old new end type b can (c, is, k) same at =
+pub after_tag : (old new : Walk) (end : ℕ) (type : AMQPType) (b : List ℕ) → CanReach old end → IsType (ahead old end) type b → new.input ≡ old.input → new.depth ≡ old.depth → new.at ≡ old.at + 1 → GoesOn old end new
+after_tag old new end type b can (c, is, k) same deep at =
     let some : suc (length b) ≡ end - old.at = sym (ap length is) ∙ length-between old.input.now old.at end can.inside in
-    record { input = same; order = omega arith; within = omega (arith, can.at) }
+    record { input = same; depth = deep; order = omega arith; within = omega (arith, can.at) }
 
 -- it goes over one
-pub passes : (d : ℕ) (old new : Walk) (end : ℕ) (u : Unit {0}) → CanReach old end → new.input ≡ old.input → old.at < new.at → IsValueOf d (ahead old end) (new.at - old.at) → PassesValue d old end (Ok u) new
-passes d old new end u can same up x =
+pub passes : (d : ℕ) (old new : Walk) (end : ℕ) (u : Unit {0}) → CanReach old end → new.input ≡ old.input → new.depth ≡ old.depth → old.at < new.at → IsValueOf d (ahead old end) (new.at - old.at) → PassesValue d old end (Ok u) new
+passes d old new end u can same deep up x =
     let back : old.at ≤ new.at = omega arith in
     let here = value_then d old.input.now old.at new.at end x back can.at can.inside in
     record {
-      goes = record { input = same; order = back; within = value_within d old.input.now old.at new.at end x back can.at can.inside };
+      goes = record { input = same; depth = deep; order = back; within = value_within d old.input.now old.at new.at end x back can.at can.inside };
       more = up;
       value = subst (λ (i : Bor (List ℕ)). IsValueThen d (ahead old end) (slice_range i.now new.at end)) (sym same) here;
       problem = tt;
@@ -195,7 +195,7 @@ body_window xs a e behind type (c, body, rest, k, is, fits, b) le in_xs =
     subst (λ k. slice_range xs k behind ≡ body) at (window_back xs a behind tag body split (omega arith) (omega (arith, size)))
 
 module _ (type : AMQPType) (Are : ℕ → List ℕ → Type 0) (Fail : ℕ → List ℕ → ℕ → Problem → Type 0) (of : IsBodyOf type Are Fail)
-    (d : ℕ) (old mid new : Walk) (end behind : ℕ) (can : CanReach old end) (same : mid.input ≡ old.input) (start : mid.at ≡ old.at + 5)
+    (d : ℕ) (old mid new : Walk) (end behind : ℕ) (can : CanReach old end) (same : mid.input ≡ old.input) (below : mid.depth ≡ old.depth) (start : mid.at ≡ old.at + 5)
     (within : behind ≤ end) (some : 0 < d) (h : HasHeader (ahead old end) type old.at behind) where
   body_ahead : ahead mid behind ≡ h.1
   body_ahead =
@@ -207,12 +207,12 @@ module _ (type : AMQPType) (Are : ℕ → List ℕ → Type 0) (Fail : ℕ → L
       let v = of.raw (d - 1) h.1 h.5 (subst (Are (d - 1)) body_ahead es.entries) in
       let whole = es.whole in
       let count : length (h.0 ∷ long_field h.1) ≡ new.at - old.at = omega (arith, length_large h.1, h.6, whole) in
-      passes d old new end u can (es.goes.input ∙ same) (omega (arith, es.goes.order)) (h.0 ∷ long_field h.1, v.0, h.2, (wire h.0 type (long_field h.1) v.0 h.3 v.1.0, omega (arith, v.1.1)), h.4, count)
+      passes d old new end u can (es.goes.input ∙ same) (es.goes.depth ∙ below) (omega (arith, es.goes.order)) (h.0 ∷ long_field h.1, v.0, h.2, (wire h.0 type (long_field h.1) v.0 h.3 v.1.0, omega (arith, v.1.1)), h.4, count)
   container (Err s) es =
       let up = es.goes.order in
       let depth : suc (d - 1) ≡ d = omega arith in
       let offset : 5 + (new.at - mid.at) ≡ new.at - old.at = omega arith in
-      stops d old new end s (record { input = es.goes.input ∙ same; order = omega arith; within = omega (arith, es.goes.within) })
+      stops d old new end s (record { input = es.goes.input ∙ same; depth = es.goes.depth ∙ below; order = omega arith; within = omega (arith, es.goes.within) })
       (is_at_weaker (Fail (d - 1) (ahead mid behind) (new.at - mid.at)) (NoValue d (ahead old end) (new.at - old.at))
       (λ p y.
       let made = of.fail (d - 1) h.0 h.1 h.2 (new.at - mid.at) p h.3 h.5 (subst (λ (s : List ℕ). Fail (d - 1) s (new.at - mid.at) p) body_ahead y) in
@@ -230,10 +230,10 @@ pub record Passed (Are : List ℕ → Type 0) (Fail : List ℕ → ℕ → Probl
   pub fail : (o : ℕ) (p : Problem) → Fail (ahead now end) o p → Fail (ahead old end) (now.at - old.at + o) p
 
 on_again : (old mid new : Walk) (end : ℕ) → GoesOn old end mid → GoesOn mid end new → GoesOn old end new
-on_again old mid new end g h = record { input = h.input ∙ g.input; order = omega (arith, g.order, h.order); within = h.within }
+on_again old mid new end g h = record { input = h.input ∙ g.input; depth = h.depth ∙ g.depth; order = omega (arith, g.order, h.order); within = h.within }
 
 -- how long what a walk went over is
-front_size : (now next : Walk) (end : ℕ) (w : List ℕ) → end ≤ length now.input.now → GoesOn now end next → ahead now end ≡ w ++ ahead next end → now.at + length w ≡ next.at
+pub front_size : (now next : Walk) (end : ℕ) (w : List ℕ) → end ≤ length now.input.now → GoesOn now end next → ahead now end ≡ w ++ ahead next end → now.at + length w ≡ next.at
 front_size now next end w in_xs goes is =
     let here : end ≤ length next.input.now = subst (λ (i : Bor (List ℕ)). end ≤ length i.now) (sym goes.input) in_xs in
     omega (arith, goes.order, goes.within, window_size now.input.now now.at end w (ahead next end) is (omega (arith, goes.order, goes.within)) in_xs, length-between next.input.now next.at end here)
@@ -241,7 +241,7 @@ front_size now next end w in_xs goes is =
 module _ (Are : List ℕ → Type 0) (Fail : List ℕ → ℕ → Problem → Type 0) (old : Walk) (end : ℕ) where
   pub passed_none : old.at ≤ end → Passed Are Fail old end old
   passed_none le = record {
-    goes = record { input = refl; order = omega arith; within = le };
+    goes = record { input = refl; depth = refl; order = omega arith; within = le };
     all = λ h. h;
     fail = λ o p h. subst (λ k. Fail (ahead old end) k p) (let z : o ≡ old.at - old.at + o = omega arith in z) h;
   }

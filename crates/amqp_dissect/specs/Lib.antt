@@ -1,5 +1,7 @@
 -- parts, one after another
 pub mod Parts
+-- the parts of an encoding as a function of its bytes
+pub mod PartsOf
 -- the first entry that is none
 pub mod Problems
 -- what a walk over an encoding answers

@@ -1,5 +1,5 @@
 -- What a walk over an encoding does.
-use Rattle.std.specs.Prelude.{ℕ, ◌+◌, ◌-◌, ◌^◌, ◌<◌, ◌≤◌, ◌≡◌, List, ◌∷◌, ◌++◌, length, slice_range, Some, Result, OnOk, IfErr}
+use Rattle.std.specs.Prelude.{ℕ, ◌+◌, ◌-◌, ◌^◌, ◌<◌, ◌≤◌, ◌≡◌, List, ◌∷◌, ◌++◌, length, map, slice_range, Some, Result, Ok, Err, OnOk, IfErr}
 use Rattle.amqp_types.specs.declared.amqp_type.AMQPType.{AMQPType}
 use Rattle.amqp_types.specs.declared.amqp_type.AMQPType.TheVariants as amqp
 use Rattle.amqp_types.specs.Ids.{kind}
@@ -8,11 +8,13 @@ use Rattle.amqp_grammar.specs.Values.{Tree, Trees, Entries}
 use Rattle.amqp_grammar.specs.Grammar.{short_field, long_field}
 use Rattle.amqp_grammar.specs.Nesting.{WireWithin, BodyWithin, PairsWithin}
 use Rattle.amqp_parsing.specs.Bodies.{IsFrame}
+use Rattle.amqp_parsing.specs.Headers.{extent}
 use Rattle.amqp_dissect.specs.declared.problem.Problem.{Problem}
 use Rattle.amqp_dissect.specs.declared.problem.Stop.{Stop}
 use Rattle.amqp_dissect.specs.declared.problem.Stop.TheVariants.{OutOfMemory, At}
 use Rattle.amqp_dissect.specs.declared.walk.Walk.{Walk}
 use Rattle.amqp_dissect.specs.Problems.{NoValue}
+use Rattle.amqp_dissect.specs.PartsOf.{Piece, piece, value_at}
 
 -- a value stands at the front of s, with containers at most `depth` deep in it, and then `rest`
 abbrev pub IsValueThen : ℕ → List ℕ → List ℕ → Type 0
@@ -71,8 +73,28 @@ pub record CanReach (w : Walk) (end : ℕ) : Type 0 where
 -- a walk went on in its input, up to `end` at most
 pub record GoesOn (old : Walk) (end : ℕ) (new : Walk) : Type 0 where
   pub input : new.input ≡ old.input
+  pub depth : new.depth ≡ old.depth
   pub order : old.at ≤ new.at
   pub within : new.at ≤ end
+
+-- the bytes that a walk went over
+abbrev pub between : Walk → Walk → List ℕ
+between old new = slice_range old.input.now old.at new.at
+
+-- a walk put down the parts of the bytes that it went over: what they are `of` says
+abbrev pub Puts : (List ℕ → List Piece) → Walk → Walk → Type 0
+Puts of old new = map piece new.parts.items ≡ map piece old.parts.items ++ of (between old new)
+
+-- it went over a value, or the front of one, and put its parts down
+pub record PutsValue (level : ℕ) (old new : Walk) : Type 0 where
+  pub parts : Puts (value_at level) old new
+  pub one : length (between old new) ≤ extent (between old new)
+
+-- P holds unless memory ran out
+abbrev pub WithMemory : {T : Type 0} → Result T Stop → Type 0 → Type 0
+WithMemory (Ok x) P = P
+WithMemory (Err OutOfMemory) P = Unit {0}
+WithMemory (Err (At p)) P = P
 
 -- A walk went over the value that stands before `end`, with containers at most `depth` deep in it,
 -- or stopped at the first entry that is none.

@@ -1,10 +1,14 @@
 //! Dissecting an encoding: its parts, each with its offset, up to the end of the value or to where
 //! it fails; and text that is safe to print.
+//!
+//! Which parts these are is the function `parts_of` in `specs`; the contracts of `rows` say what it
+//! comes to for some bytes.
 #![tactic(auto)]
 
 mod dissection;
 mod part;
 mod problem;
+pub mod rows;
 mod text;
 mod walk;
 

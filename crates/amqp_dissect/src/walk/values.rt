@@ -1,6 +1,6 @@
 //! Going over a value, and over what is in it.
 
-ghost use Rattle.std.specs.Prelude.{◌≡◌, ◌≤◌, ◌<◌, ◌+◌, ◌-◌, ◌↔◌, IsTrue, IsSome, Some, option_map, OnOk, OnErr, IfOk, IfErr};
+ghost use Rattle.std.specs.Prelude.{◌≡◌, ◌≤◌, ◌<◌, ◌+◌, ◌-◌, ◌↔◌, [], map, take, IsTrue, IsSome, Some, option_map, OnOk, OnErr, IfOk, IfErr};
 ghost use Rattle.std.specs.Int.{w32};
 ghost use Rattle.amqp_grammar.specs.Layouts.{fixed};
 ghost use Rattle.amqp_grammar.specs.Outcomes.{frame_lack};
@@ -8,7 +8,8 @@ ghost use Rattle.amqp_parsing.specs.Typed.{IsType};
 ghost use Rattle.amqp_dissect.specs.Ends.{Ends};
 ghost use Rattle.amqp_dissect.specs.Memory.{HasTypeTag, TakesMemory};
 ghost use Rattle.amqp_dissect.specs.Problems.{IsContainer, NoValue, NoValues, NoPairs};
-ghost use Rattle.amqp_dissect.specs.Walks.{ahead, CanReach, GoesOn, PassesValue, PassesEntries, IsKeyThen, IsAt, AreValues, ArePairs, HasFrame, HasHeader, IsLengthPrefixed, IsString};
+ghost use Rattle.amqp_dissect.specs.Walks.{ahead, CanReach, GoesOn, PassesValue, PassesEntries, IsKeyThen, IsAt, AreValues, ArePairs, HasFrame, HasHeader, IsLengthPrefixed, IsString, Puts, PutsValue, WithMemory};
+ghost use Rattle.amqp_dissect.specs.PartsOf.{piece, parts_of, entries_at};
 
 use crate::dissection::End;
 use crate::part::Field;
@@ -24,8 +25,12 @@ use std::str;
 impl<'a> Walk<'a> {
     /// Goes over the value at the beginning, within the limits.
     pub fn go(&mut self, limits: Limits) -> Result<End, AllocError>
-        requires { self.old.at ≡ 0 }
+        requires at { self.old.at ≡ 0 }
+        requires depth { self.old.depth ≡ limits.depth }
+        requires none { self.old.parts.items ≡ [] }
         ensures input { self.new.input ≡ self.old.input }
+        ensures parts { OnOk result
+            (map piece self.new.parts.items ≡ parts_of (take self.new.at self.old.input.now)) }
         ensures end { IfOk result (Ends limits self.old.input.now self.new.at) }
         ensures memory { OnErr result (TakesMemory limits self.old.input.now) }
     {
@@ -43,7 +48,9 @@ impl<'a> Walk<'a> {
     #[cycle(walk)]
     pub fn value(&mut self, end: usize, depth: u32) -> Result<(), Stop>
         requires within { CanReach self.old end }
+        requires deep { depth ≤ self.old.depth }
         ensures passes { PassesValue depth self.old end result self.new }
+        ensures parts { WithMemory result (PutsValue (self.old.depth - depth) self.old self.new) }
         ensures memory { IfErr result (λ stop. stop ≡ Stop.OutOfMemory → HasTypeTag (ahead self.old end)) }
     {
         let Some((tag, payload)) = self.input[self.at..end].split_first() else {
@@ -73,7 +80,8 @@ impl<'a> Walk<'a> {
         requires within { CanReach self.old end }
         requires tag { IsType (ahead self.old end) amqp_type payload.now }
         requires fixed { IsSome (fixed amqp_type) }
-        ensures { PassesValue depth self.old end result self.new }
+        ensures passes { PassesValue depth self.old end result self.new }
+        ensures parts { WithMemory result (PutsValue (self.old.depth - depth) self.old self.new) }
     {
         let (first, width) = fields_of(amqp_type);
         let there = payload.len();
@@ -101,6 +109,7 @@ impl<'a> Walk<'a> {
         requires tag { IsType (ahead self.old end) amqp_type payload.now }
         requires prefixed { IsLengthPrefixed amqp_type }
         ensures goes { GoesOn self.old end self.new }
+        ensures parts { WithMemory result (PutsValue (self.old.depth - depth) self.old self.new) }
         ensures header { IfOk result (HasHeader (ahead self.old end) amqp_type self.old.at) }
         ensures at { OnOk result (self.new.at ≡ self.old.at + 5) }
         ensures fits { IfOk result (λ behind. (self.new.at ≤ behind) × (behind ≤ end)) }
@@ -132,7 +141,8 @@ impl<'a> Walk<'a> {
         requires within { CanReach self.old end }
         requires tag { IsType (ahead self.old end) amqp_type payload.now }
         requires string { IsString amqp_type }
-        ensures { PassesValue depth self.old end result self.new }
+        ensures passes { PassesValue depth self.old end result self.new }
+        ensures parts { WithMemory result (PutsValue (self.old.depth - depth) self.old self.new) }
     {
         let behind = self.header(amqp_type, payload, end, depth)?;
         self.pass(behind - self.at, Field::Payload(amqp_type), depth)?;
@@ -143,8 +153,10 @@ impl<'a> Walk<'a> {
     #[cycle(walk)]
     fn array(&mut self, payload: &[u8], end: usize, depth: u32) -> Result<(), Stop>
         requires within { CanReach self.old end }
+        requires deep { depth ≤ self.old.depth }
         requires tag { IsType (ahead self.old end) AMQPType.FieldArray payload.now }
-        ensures { PassesValue depth self.old end result self.new }
+        ensures passes { PassesValue depth self.old end result self.new }
+        ensures parts { WithMemory result (PutsValue (self.old.depth - depth) self.old self.new) }
     {
         let behind = self.header(AMQPType::FieldArray, payload, end, depth)?;
         self.values(behind, depth - 1)
@@ -154,8 +166,10 @@ impl<'a> Walk<'a> {
     #[cycle(walk)]
     fn table(&mut self, payload: &[u8], end: usize, depth: u32) -> Result<(), Stop>
         requires within { CanReach self.old end }
+        requires deep { depth ≤ self.old.depth }
         requires tag { IsType (ahead self.old end) AMQPType.FieldTable payload.now }
-        ensures { PassesValue depth self.old end result self.new }
+        ensures passes { PassesValue depth self.old end result self.new }
+        ensures parts { WithMemory result (PutsValue (self.old.depth - depth) self.old self.new) }
     {
         let behind = self.header(AMQPType::FieldTable, payload, end, depth)?;
         self.pairs(behind, depth - 1)
@@ -165,7 +179,10 @@ impl<'a> Walk<'a> {
     #[cycle(walk)]
     fn values(&mut self, end: usize, depth: u32) -> Result<(), Stop>
         requires within { CanReach self.old end }
-        ensures { PassesEntries (AreValues depth) (NoValues depth) self.old end result self.new }
+        requires deep { depth ≤ self.old.depth }
+        ensures passes { PassesEntries (AreValues depth) (NoValues depth) self.old end result self.new }
+        ensures parts { WithMemory result
+            (Puts (entries_at AMQPType.FieldArray (self.old.depth - depth)) self.old self.new) }
     {
         'values: while self.at < end {
             self.value(end, depth)?;
@@ -177,7 +194,10 @@ impl<'a> Walk<'a> {
     #[cycle(walk)]
     fn pairs(&mut self, end: usize, depth: u32) -> Result<(), Stop>
         requires within { CanReach self.old end }
-        ensures { PassesEntries (ArePairs depth) (NoPairs depth) self.old end result self.new }
+        requires deep { depth ≤ self.old.depth }
+        ensures passes { PassesEntries (ArePairs depth) (NoPairs depth) self.old end result self.new }
+        ensures parts { WithMemory result
+            (Puts (entries_at AMQPType.FieldTable (self.old.depth - depth)) self.old self.new) }
     {
         'pairs: while self.at < end {
             self.key(end, depth)?;
@@ -191,6 +211,8 @@ impl<'a> Walk<'a> {
         requires within { CanReach self.old end }
         requires some { self.old.at < end }
         ensures goes { GoesOn self.old end self.new }
+        ensures parts { WithMemory result
+            (Puts (entries_at AMQPType.FieldTable (self.old.depth - depth)) self.old self.new) }
         ensures key { OnOk result (IsKeyThen (ahead self.old end) (ahead self.new end)) }
         ensures problem { IfErr result (IsAt (NoPairs depth (ahead self.old end) (self.new.at - self.old.at))) }
     {

@@ -1,7 +1,9 @@
 use Rattle.std.proofs.Common.{◌-◌, ◌+◌, ◌*◌}
 use Rattle.amqp_dissect.specs.Walks.{AreValues, ArePairs}
 use Rattle.amqp_dissect.specs.Problems.{NoValues, NoPairs}
+use Rattle.amqp_types.specs.declared.amqp_type.AMQPType.TheVariants as amqp
 use Rattle.amqp_dissect.proofs.Entries.{Passed}
+use Rattle.amqp_dissect.proofs.Puts.{Put}
 use Rattle.amqp_dissect.proofs.walk.Walk.+walk.Given as goal
 
 -- a call has fewer bytes than its caller, or as many and less to do
@@ -21,13 +23,19 @@ abbrev pub decreases-pairs : goal.decreases-pairs
 decreases-pairs l = 3 * (l.end - l.self.now.at) + 2
 
 abbrev pub invariant-values-values : goal.invariant-values-values
-invariant-values-values l = Passed (AreValues l.fn.depth) (NoValues l.fn.depth) l.fn.self l.fn.end l.self
+invariant-values-values l = record {
+  passed : Passed (AreValues l.fn.depth) (NoValues l.fn.depth) l.fn.self l.fn.end l.self;
+  put : Put amqp.FieldArray (l.fn.self.depth - l.fn.depth) l.fn.self l.self;
+}
 
 abbrev pub decreases-values-values : goal.decreases-values-values
 decreases-values-values l = l.fn.end - l.self.at
 
 abbrev pub invariant-pairs-pairs : goal.invariant-pairs-pairs
-invariant-pairs-pairs l = Passed (ArePairs l.fn.depth) (NoPairs l.fn.depth) l.fn.self l.fn.end l.self
+invariant-pairs-pairs l = record {
+  passed : Passed (ArePairs l.fn.depth) (NoPairs l.fn.depth) l.fn.self l.fn.end l.self;
+  put : Put amqp.FieldTable (l.fn.self.depth - l.fn.depth) l.fn.self l.self;
+}
 
 abbrev pub decreases-pairs-pairs : goal.decreases-pairs-pairs
 decreases-pairs-pairs l = l.fn.end - l.self.at

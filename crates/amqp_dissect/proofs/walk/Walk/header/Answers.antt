@@ -1,5 +1,7 @@
-use Rattle.std.proofs.Common.{◌+◌, arith, rules}
+use Rattle.std.proofs.Common.{◌+◌, ◌-◌, ℕ, List, length, ap, arith, rules}
+use Rattle.std.specs.Borrow.{Bor}
 use Rattle.amqp_dissect.proofs.Entries.{cut_frame, deep, header_of, header_fits, offset_is}
+use Rattle.amqp_dissect.proofs.Puts.{nothing_puts, tag_puts, header_puts}
 use Rattle.amqp_dissect.proofs.walk.Walk.header.Goals as goal
 
 pub returns-in_ok-pass-in-Err-clause-problem : goal.returns-in_ok-pass-in-Err-clause-problem
@@ -18,6 +20,7 @@ returns-in_ok-pass-in-Ok-2-2-clause-goes c =
     let f = header_fits c.args.self.now.input.now c.args.self.now.at c.args.end c.args.amqp_type (c.args.self.now.at + 5 + c.in-Ok-2.len) h c.requires.within.at c.requires.within.inside in
     record {
       input = search rules;
+      depth = search rules;
       order = omega (arith, c.in_ok-pass-in-Ok-2.ensures.at, c.in_ok-pass-in-Ok-2-2.ensures.at);
       within = omega (arith, f.0, f.1, c.in_ok-pass-in-Ok-2.ensures.at, c.in_ok-pass-in-Ok-2-2.ensures.at);
     }
@@ -27,3 +30,22 @@ returns-in_ok-pass-in-Ok-2-2-clause-fits c =
     let h = header_of _ c.args.payload.now c.args.amqp_type c.args.self.now.at c.in-Ok-2.len c.requires.tag c.in-Ok-2.ensures.whole in
     let f = header_fits c.args.self.now.input.now c.args.self.now.at c.args.end c.args.amqp_type (c.args.self.now.at + 5 + c.in-Ok-2.len) h c.requires.within.at c.requires.within.inside in
     (omega (arith, f.0, f.1, c.in_ok-pass-in-Ok-2.ensures.at, c.in_ok-pass-in-Ok-2-2.ensures.at), omega (arith, f.0, f.1, c.in_ok-pass-in-Ok-2.ensures.at, c.in_ok-pass-in-Ok-2-2.ensures.at))
+
+pub pass-requires-in-Ok-2-2 : goal.pass-requires-in-Ok-2-2
+pass-requires-in-Ok-2-2 c =
+    let h = header_of _ c.args.payload.now c.args.amqp_type c.args.self.now.at c.in-Ok-2.len c.requires.tag c.in-Ok-2.ensures.whole in
+    let f = header_fits c.args.self.now.input.now c.args.self.now.at c.args.end c.args.amqp_type (c.args.self.now.at + 5 + c.in-Ok-2.len) h c.requires.within.at c.requires.within.inside in
+    omega (arith, f.0, f.1, c.requires.within.inside, c.in_ok-pass-in-Ok-2.ensures.at, ap (λ (i : Bor (List ℕ)). length i.now) c.pass-in-Ok-2.ensures.input)
+
+pub returns-in_ok-pass-in-Err-clause-parts : goal.returns-in_ok-pass-in-Err-clause-parts
+returns-in_ok-pass-in-Err-clause-parts c =
+    tag_puts _ c.args.self.now c.pass.new.self c.args.end c.args.amqp_type c.args.payload.now c.requires.tag c.in_ok-pass-in-Err.ensures.at c.in_ok-pass-in-Err.ensures.parts
+
+pub returns-in-Ok-clause-parts : goal.returns-in-Ok-clause-parts
+returns-in-Ok-clause-parts c = nothing_puts (c.args.self.now.depth - c.args.depth) c.args.self.now
+
+pub returns-in_ok-pass-in-Ok-2-2-clause-parts : goal.returns-in_ok-pass-in-Ok-2-2-clause-parts
+returns-in_ok-pass-in-Ok-2-2-clause-parts c =
+    let h = header_of _ c.args.payload.now c.args.amqp_type c.args.self.now.at c.in-Ok-2.len c.requires.tag c.in-Ok-2.ensures.whole in
+    header_puts c.args.depth c.args.self.now c.pass-in-Ok-2.new.self c.pass-in-Ok-2-2.new.self c.args.end c.args.amqp_type c.pass-in-Ok-2.ensures.input c.pass-in-Ok-2.ensures.depth
+    (c.args.self.now.at + 5 + c.in-Ok-2.len) h c.requires.prefixed c.in_ok-pass-in-Ok-2.ensures.at c.in_ok-pass-in-Ok-2-2.ensures.at c.in_ok-pass-in-Ok-2.ensures.parts c.in_ok-pass-in-Ok-2-2.ensures.parts

@@ -1,0 +1,326 @@
+-- What a walk put down: one part, a value, and entries one after another.
+use Rattle.std.proofs.Common.{◌≡◌, ◌≤◌, ◌<◌, ◌+◌, ◌-◌, ℕ, suc, Result, Ok, Err, Some, List, [], ◌∷◌, ◌++◌, length, map, take, drop, slice_range, refl, sym, ap, ap₂, ◌∙◌, subst, arith, append_assoc, append-nil}
+use Rattle.std.specs.Borrow.{Bor}
+use Rattle.std.specs.Int.{w32, to_be_bytes}
+use Rattle.std.proofs.lemmas.List.{length-take, drop-drop, map-append}
+use Rattle.std.proofs.lemmas.List.Edits.{between_none}
+use Rattle.std.proofs.Math.Seq.{take-add}
+use Rattle.amqp_types.specs.declared.amqp_type.AMQPType.{AMQPType}
+use Rattle.amqp_types.specs.declared.amqp_type.AMQPType.TheVariants as amqp
+use Rattle.amqp_types.specs.Ids.{kind}
+use Rattle.amqp_grammar.specs.Layouts.{Layout, fixed}
+use Rattle.amqp_grammar.specs.Grammar.{short_field}
+use Rattle.amqp_parsing.specs.Headers.{extent}
+use Rattle.amqp_parsing.specs.Typed.{IsType}
+use Rattle.amqp_parsing.proofs.ParsingLaws.{wire_extent}
+use Rattle.amqp_dissect.specs.declared.part.Field.{Field}
+use Rattle.amqp_dissect.specs.declared.part.Field.TheVariants.{TypeTag, Length, KeyLength, Key, Payload}
+use Rattle.amqp_dissect.specs.declared.part.Part.{Part}
+use Rattle.amqp_dissect.specs.declared.problem.Stop.{Stop}
+use Rattle.amqp_dissect.specs.declared.problem.Stop.TheVariants.{OutOfMemory, At}
+use Rattle.amqp_dissect.specs.declared.walk.Walk.{Walk}
+use Rattle.amqp_dissect.specs.Problems.{NoValues, NoPairs}
+use Rattle.amqp_dissect.specs.Walks.{ahead, between, CanReach, GoesOn, PassesValue, IsKeyThen, HasHeader, IsLengthPrefixed, IsString, AreValues, ArePairs, Puts, PutsValue, WithMemory}
+use Rattle.amqp_dissect.specs.PartsOf.{Piece, piece, part, entries_at, value_at, parts_of}
+use Rattle.amqp_dissect.proofs.Windows.{window_front}
+use Rattle.amqp_dissect.proofs.Entries.{Passed, still, front_size}
+use Rattle.amqp_dissect.proofs.Pieces.{value_nothing, entries_nothing, array_first, array_last, key_only, pair_first, pair_last, tag_only, number_parts, header_parts, string_parts, array_parts, table_parts, one_tag, one_number, one_framed}
+
+-- ---- two walks in a row
+
+range_split : (xs : List ℕ) (a b c : ℕ) → a ≤ b → b ≤ c → slice_range xs a c ≡ slice_range xs a b ++ slice_range xs b c
+range_split xs a b c ab bc =
+    let m : ℕ = b - a in
+    let n : ℕ = c - b in
+    let count : c - a ≡ m + n = omega arith in
+    let here : a + m ≡ b = omega arith in
+    ap (λ k. take k (drop a xs)) count ∙ (take-add m n (drop a xs) ∙ ap (λ (t : List ℕ). take m (drop a xs) ++ take n t) (drop-drop m a xs ∙ ap (λ k. drop k xs) here))
+
+between_split : (old mid new : Walk) → mid.input ≡ old.input → old.at ≤ mid.at → mid.at ≤ new.at → between old new ≡ between old mid ++ between mid new
+between_split old mid new same ab bc =
+    range_split old.input.now old.at mid.at new.at ab bc ∙ ap (λ (i : Bor (List ℕ)). between old mid ++ slice_range i.now mid.at new.at) (sym same)
+
+puts_then : (P Q R : List ℕ → List Piece) (old mid new : Walk) → mid.input ≡ old.input → old.at ≤ mid.at → mid.at ≤ new.at → Puts P old mid → Puts Q mid new
+    → R (between old mid ++ between mid new) ≡ P (between old mid) ++ Q (between mid new) → Puts R old new
+puts_then P Q R old mid new same ab bc p q r =
+    let before : List Piece = map piece old.parts.items in
+    q ∙ (ap (λ (t : List Piece). t ++ Q (between mid new)) p
+    ∙ (append_assoc before (P (between old mid)) (Q (between mid new))
+    ∙ (ap (λ (t : List Piece). before ++ t) (sym r) ∙ ap (λ (t : List ℕ). before ++ R t) (sym (between_split old mid new same ab bc)))))
+
+puts_as : (P Q : List ℕ → List Piece) (old new : Walk) → P (between old new) ≡ Q (between old new) → Puts P old new → Puts Q old new
+puts_as P Q old new e p = p ∙ ap (λ (t : List Piece). map piece old.parts.items ++ t) e
+
+between_one : (old new : Walk) (end : ℕ) (w rest : List ℕ) → ahead old end ≡ w ++ rest → new.at ≡ old.at + length w → between old new ≡ w
+between_one old new end w rest is at =
+    subst (λ k. slice_range old.input.now old.at k ≡ w) (sym at) (window_front old.input.now old.at end w rest is)
+
+between_is : (now next : Walk) (end : ℕ) (w : List ℕ) → end ≤ length now.input.now → GoesOn now end next → ahead now end ≡ w ++ ahead next end → between now next ≡ w
+between_is now next end w in_xs goes is =
+    between_one now next end w (ahead next end) is (sym (front_size now next end w in_xs goes is))
+
+between_length : (old new : Walk) (n : ℕ) → new.at - old.at ≤ n → length (between old new) ≤ n
+between_length old new n le = omega (arith, length-take (new.at - old.at) (drop old.at old.input.now))
+
+-- ---- one part
+
+-- a part more
+pub part_more : (ps : List Part) (p : Part) (field : Field) (level : ℕ) (b : List ℕ) → p.field ≡ field → p.level ≡ level → p.bytes.now ≡ b → 0 < length b → map piece (ps ++ p ∷ []) ≡ map piece ps ++ part field level b
+unfolding part
+part_more ps p field level [] f l is some = absurd (omega arith)
+part_more ps p field level (c ∷ b) f l is some = map-append piece ps (p ∷ []) ∙ ap (λ (x : Piece). map piece ps ++ x ∷ []) cc
+
+-- none more
+pub part_none : (ps : List Part) (field : Field) (level : ℕ) (b : List ℕ) → length b ≡ 0 → map piece ps ≡ map piece ps ++ part field level b
+unfolding part
+part_none ps field level [] none = sym (append-nil (map piece ps))
+part_none ps field level (c ∷ b) none = absurd (omega arith)
+
+-- ---- one value
+
+none_between : (w : Walk) → between w w ≡ []
+none_between w = between_none w.input.now w.at
+
+pub nothing_puts : (level : ℕ) (w : Walk) → PutsValue level w w
+nothing_puts level w = record {
+  parts = sym (append-nil (map piece w.parts.items)) ∙ ap (λ (t : List Piece). map piece w.parts.items ++ t) (sym (ap (value_at level) (none_between w) ∙ value_nothing _ level));
+  one = subst (λ (t : List ℕ). length t ≤ extent t) (sym (none_between w)) (omega arith);
+}
+
+pub tag_puts : (level : ℕ) (old new : Walk) (end : ℕ) (type : AMQPType) (b : List ℕ) → IsType (ahead old end) type b → new.at ≡ old.at + 1 → Puts (part (TypeTag type) level) old new → PutsValue level old new
+tag_puts level old new end type b (c, is, k) at x =
+    let here = between_one old new end (c ∷ []) b is at in
+    record {
+      parts = puts_as (part (TypeTag type) level) (value_at level) old new (subst (λ (t : List ℕ). part (TypeTag type) level t ≡ value_at level t) (sym here) (sym (tag_only level c type k))) x;
+      one = subst (λ (t : List ℕ). length t ≤ extent t) (sym here) (one_tag c type k);
+    }
+
+same_level : (P : ℕ → List ℕ → List Piece) (d : ℕ) (old mid new : Walk) → mid.depth ≡ old.depth → Puts (P (mid.depth - d)) mid new → Puts (P (old.depth - d)) mid new
+same_level P d old mid new deep x = subst (λ k. Puts (P (k - d)) mid new) deep x
+
+module _ (d : ℕ) (old mid new : Walk) (end : ℕ) (type : AMQPType) (same : mid.input ≡ old.input) (deep : mid.depth ≡ old.depth) where
+  -- a type tag, and a payload of fixed width
+  pub number_puts : (b : List ℕ) (f : Layout) (width : ℕ) → IsType (ahead old end) type b → fixed type ≡ Some f → f.width ≡ width → mid.at ≡ old.at + 1 → new.at ≡ mid.at + width
+      → Puts (part (TypeTag type) (old.depth - d)) old mid → Puts (part (Payload type) (mid.depth - d)) mid new → PutsValue (old.depth - d) old new
+  number_puts b f width (c, is, k) known wide at then x y =
+      let level : ℕ = old.depth - d in
+      let tag = between_one old mid end (c ∷ []) b is at in
+      let g : List ℕ = between mid new in
+      let all : between old new ≡ c ∷ g = between_split old mid new same (omega arith) (omega arith) ∙ ap (λ (t : List ℕ). t ++ g) tag in
+      record {
+        parts = puts_then (part (TypeTag type) level) (part (Payload type) level) (value_at level) old mid new same (omega arith) (omega arith) x (same_level (part (Payload type)) d old mid new deep y)
+            (subst (λ (t : List ℕ). value_at level (t ++ g) ≡ part (TypeTag type) level t ++ part (Payload type) level g) (sym tag) (number_parts level c type f g k known));
+        one = subst (λ (t : List ℕ). length t ≤ extent t) (sym all) (one_number c type f g k known (between_length mid new f.width (omega arith)));
+      }
+
+  -- a type tag, and a length
+  pub header_puts : (behind : ℕ) → HasHeader (ahead old end) type old.at behind → IsLengthPrefixed type → mid.at ≡ old.at + 1 → new.at ≡ mid.at + 4
+      → Puts (part (TypeTag type) (old.depth - d)) old mid → Puts (part (Length type) (mid.depth - d)) mid new → PutsValue (old.depth - d) old new
+  header_puts behind (c, body, rest, k, is, fits, b) p at then x y =
+      let level : ℕ = old.depth - d in
+      let l : List ℕ = to_be_bytes w32 (length body) in
+      let front : ahead old end ≡ (c ∷ l) ++ (body ++ rest) = is in
+      let tag = between_one old mid end (c ∷ []) (l ++ (body ++ rest)) front at in
+      let all : between old new ≡ c ∷ l = between_one old new end (c ∷ l) (body ++ rest) front (omega arith) in
+      let split = between_split old mid new same (omega arith) (omega arith) in
+      record {
+        parts = puts_then (part (TypeTag type) level) (part (Length type) level) (value_at level) old mid new same (omega arith) (omega arith) x (same_level (part (Length type)) d old mid new deep y)
+            (let g : List ℕ = between mid new in
+            let both : c ∷ g ≡ c ∷ l = ap (λ (t : List ℕ). t ++ g) (sym tag) ∙ (sym split ∙ all) in
+            let here : g ≡ l = cc in
+            ap₂ (λ (s t : List ℕ). value_at level (s ++ t)) tag here ∙ (header_parts level c type l k p refl ∙ ap₂ (λ (s t : List ℕ). part (TypeTag type) level s ++ part (Length type) level t) (sym tag) (sym here)));
+        one = subst (λ (t : List ℕ). length t ≤ extent t) (sym all) (one_framed c type (length body) [] k p fits (omega arith));
+      }
+
+  -- a type tag, a length, and what is put down of the bytes that it counts
+  framed_puts : (P : List ℕ → List Piece) (behind : ℕ) → HasHeader (ahead old end) type old.at behind → IsLengthPrefixed type → mid.at ≡ old.at + 5 → mid.at ≤ new.at → new.at ≤ behind
+      → PutsValue (old.depth - d) old mid → Puts P mid new
+      → ((c : ℕ) (l g : List ℕ) → kind c ≡ Some type → length l ≡ 4 → value_at (old.depth - d) (c ∷ (l ++ g)) ≡ value_at (old.depth - d) (c ∷ l) ++ P g) → PutsValue (old.depth - d) old new
+  framed_puts P behind (c, body, rest, k, is, fits, b) p at up le x y by =
+      let level : ℕ = old.depth - d in
+      let l : List ℕ = to_be_bytes w32 (length body) in
+      let g : List ℕ = between mid new in
+      let front : ahead old end ≡ (c ∷ l) ++ (body ++ rest) = is in
+      let head : between old mid ≡ c ∷ l = between_one old mid end (c ∷ l) (body ++ rest) front at in
+      let all : between old new ≡ c ∷ (l ++ g) = between_split old mid new same (omega arith) up ∙ ap (λ (t : List ℕ). t ++ g) head in
+      record {
+        parts = puts_then (value_at level) P (value_at level) old mid new same (omega arith) up x.parts y (subst (λ (t : List ℕ). value_at level (t ++ g) ≡ value_at level t ++ P g) (sym head) (by c l g k refl));
+        one = subst (λ (t : List ℕ). length t ≤ extent t) (sym all) (one_framed c type (length body) g k p fits (between_length mid new (length body) (omega arith)));
+      }
+
+  prefixed_string : (type : AMQPType) → IsString type → IsLengthPrefixed type
+  prefixed_string amqp.LongString p = p
+  prefixed_string amqp.ByteArray p = p
+  prefixed_string _ p = absurd p
+
+  pub string_puts : (behind : ℕ) → HasHeader (ahead old end) type old.at behind → IsString type → mid.at ≡ old.at + 5 → mid.at ≤ new.at → new.at ≤ behind
+      → PutsValue (old.depth - d) old mid → Puts (part (Payload type) (mid.depth - d)) mid new → PutsValue (old.depth - d) old new
+  string_puts behind h p at up le x y =
+      framed_puts (part (Payload type) (old.depth - d)) behind h (prefixed_string type p) at up le x (same_level (part (Payload type)) d old mid new deep y)
+      (λ c l g k four. string_parts (old.depth - d) c type l g k p four)
+
+with_memory : {T : Type 0} (P Q : Type 0) (r : Result T Stop) → (P → Q) → WithMemory r P → WithMemory r Q
+with_memory P Q (Ok x) f p = f p
+with_memory P Q (Err OutOfMemory) f p = p
+with_memory P Q (Err (At e)) f p = f p
+
+-- a container, with its entries
+module _ (d : ℕ) (old mid new : Walk) (end behind : ℕ) (same : mid.input ≡ old.input) (deep : mid.depth ≡ old.depth) (at : mid.at ≡ old.at + 5) (up : mid.at ≤ new.at) (le : new.at ≤ behind) (some : 0 < d) (within : d ≤ old.depth) where
+  deeper : (type : AMQPType) → Puts (entries_at type (mid.depth - (d - 1))) mid new → Puts (entries_at type (suc (old.depth - d))) mid new
+  deeper type x =
+      let level : mid.depth - (d - 1) ≡ suc (old.depth - d) = omega arith in
+      subst (λ k. Puts (entries_at type k) mid new) level x
+
+  pub array_puts : {T : Type 0} (r : Result T Stop) → HasHeader (ahead old end) amqp.FieldArray old.at behind → PutsValue (old.depth - d) old mid
+      → WithMemory r (Puts (entries_at amqp.FieldArray (mid.depth - (d - 1))) mid new) → WithMemory r (PutsValue (old.depth - d) old new)
+  array_puts r h x y =
+      with_memory (Puts (entries_at amqp.FieldArray (mid.depth - (d - 1))) mid new) (PutsValue (old.depth - d) old new) r
+      (λ z. framed_puts d old mid new end amqp.FieldArray same deep (entries_at amqp.FieldArray (suc (old.depth - d))) behind h tt at up le x (deeper amqp.FieldArray z) (λ c l g k four. array_parts (old.depth - d) c l g k four)) y
+
+  pub table_puts : {T : Type 0} (r : Result T Stop) → HasHeader (ahead old end) amqp.FieldTable old.at behind → PutsValue (old.depth - d) old mid
+      → WithMemory r (Puts (entries_at amqp.FieldTable (mid.depth - (d - 1))) mid new) → WithMemory r (PutsValue (old.depth - d) old new)
+  table_puts r h x y =
+      with_memory (Puts (entries_at amqp.FieldTable (mid.depth - (d - 1))) mid new) (PutsValue (old.depth - d) old new) r
+      (λ z. framed_puts d old mid new end amqp.FieldTable same deep (entries_at amqp.FieldTable (suc (old.depth - d))) behind h tt at up le x (deeper amqp.FieldTable z) (λ c l g k four. table_parts (old.depth - d) c l g k four)) y
+
+-- ---- keys
+
+pub no_key_puts : (level : ℕ) (w : Walk) → Puts (entries_at amqp.FieldTable level) w w
+no_key_puts level w =
+    sym (append-nil (map piece w.parts.items)) ∙ ap (λ (t : List Piece). map piece w.parts.items ++ t) (sym (ap (entries_at amqp.FieldTable level) (none_between w) ∙ entries_nothing 0 amqp.FieldTable level))
+
+-- the length of a key alone
+pub key_length_puts : (level : ℕ) (old new : Walk) (end l : ℕ) (bytes : List ℕ) → ahead old end ≡ l ∷ bytes → new.at ≡ old.at + 1 → Puts (part KeyLength level) old new → Puts (entries_at amqp.FieldTable level) old new
+unfolding part
+key_length_puts level old new end l bytes is at x =
+    let here = between_one old new end (l ∷ []) bytes is at in
+    puts_as (part KeyLength level) (entries_at amqp.FieldTable level) old new
+    (subst (λ (t : List ℕ). part KeyLength level t ≡ entries_at amqp.FieldTable level t) (sym here) (sym (key_only level l [] (omega arith)))) x
+
+-- and its bytes
+pub key_puts : (d : ℕ) (old mid new : Walk) (end l n : ℕ) (bytes : List ℕ) → mid.input ≡ old.input → mid.depth ≡ old.depth → ahead old end ≡ l ∷ bytes → n ≡ l → mid.at ≡ old.at + 1 → new.at ≡ mid.at + n
+    → Puts (part KeyLength (old.depth - d)) old mid → Puts (part Key (mid.depth - d)) mid new → Puts (entries_at amqp.FieldTable (old.depth - d)) old new
+key_puts d old mid new end l n bytes same deep is e at then x y =
+    let level : ℕ = old.depth - d in
+    let g : List ℕ = between mid new in
+    let here = between_one old mid end (l ∷ []) bytes is at in
+    puts_then (part KeyLength level) (part Key level) (entries_at amqp.FieldTable level) old mid new same (omega arith) (omega arith) x (same_level (part Key) d old mid new deep y)
+    (subst (λ (t : List ℕ). entries_at amqp.FieldTable level (t ++ g) ≡ part KeyLength level t ++ part Key level g) (sym here) (key_only level l g (between_length mid new l (omega arith))))
+
+-- ---- the whole input
+
+pub start_puts : (xs : List ℕ) (ps : List Part) (at : ℕ) → ps ≡ [] → at ≡ 0 → map piece ps ≡ parts_of (take at xs)
+start_puts xs ps at none zero_is =
+    ap (λ (qs : List Part). map piece qs) none ∙ (sym (value_nothing _ 0) ∙ ap (λ k. parts_of (take k xs)) (sym zero_is))
+
+pub whole_puts : (d : ℕ) (old new : Walk) → old.at ≡ 0 → old.depth ≡ d → old.parts.items ≡ [] → PutsValue (old.depth - d) old new → map piece new.parts.items ≡ parts_of (take new.at old.input.now)
+whole_puts d old new zero_is deep none x =
+    let top : old.depth - d ≡ 0 = omega arith in
+    let count : new.at - 0 ≡ new.at = omega arith in
+    let here : between old new ≡ take new.at old.input.now = ap (λ k. slice_range old.input.now k new.at) zero_is ∙ ap (λ k. take k old.input.now) count in
+    x.parts ∙ (ap (λ (qs : List Part). map piece qs ++ value_at (old.depth - d) (between old new)) none ∙ ap₂ (λ k (t : List ℕ). value_at k t) top here)
+
+-- ---- entries one after another
+
+-- a walk put down whole entries: those of the bytes that follow are their own
+pub record Put (type : AMQPType) (level : ℕ) (old now : Walk) : Type 0 where
+  pub parts : Puts (entries_at type level) old now
+  pub more : (s : List ℕ) → entries_at type level (between old now ++ s) ≡ entries_at type level (between old now) ++ entries_at type level s
+
+module _ (type : AMQPType) (level : ℕ) (old : Walk) where
+  at_level : List ℕ → List Piece
+  at_level s = entries_at type level s
+
+  pub put_none : Put type level old old
+  put_none =
+      let none : entries_at type level (between old old) ≡ [] = ap (entries_at type level) (none_between old) ∙ entries_nothing 0 type level in
+      record {
+        parts = sym (append-nil (map piece old.parts.items)) ∙ ap (λ (t : List Piece). map piece old.parts.items ++ t) (sym none);
+        more = λ s. ap (λ (t : List ℕ). entries_at type level (t ++ s)) (none_between old) ∙ ap (λ (t : List Piece). t ++ entries_at type level s) (sym none);
+      }
+
+  module _ (now next : Walk) (same : now.input ≡ old.input) (ab : old.at ≤ now.at) (bc : now.at ≤ next.at) (g : Put type level old now) (x : Puts (entries_at type level) now next) where
+    pub put_last : Puts (entries_at type level) old next
+    put_last = puts_then (entries_at type level) (entries_at type level) (entries_at type level) old now next same ab bc g.parts x (g.more (between now next))
+
+    put_more : ((s : List ℕ) → entries_at type level (between now next ++ s) ≡ entries_at type level (between now next) ++ entries_at type level s) → Put type level old next
+    put_more y =
+        let b : List ℕ = between old now in
+        let w : List ℕ = between now next in
+        let split = between_split old now next same ab bc in
+        record {
+          parts = put_last;
+          more = λ s.
+              ap (λ (t : List ℕ). entries_at type level (t ++ s)) split
+              ∙ (ap (entries_at type level) (append_assoc b w s)
+              ∙ (g.more (w ++ s)
+              ∙ (ap (λ (t : List Piece). entries_at type level b ++ t) (y s)
+              ∙ (sym (append_assoc (entries_at type level b) (entries_at type level w) (entries_at type level s))
+              ∙ (ap (λ (t : List Piece). t ++ entries_at type level s) (sym (g.more w)) ∙ ap (λ (t : List ℕ). entries_at type level t ++ entries_at type level s) (sym split))))));
+        }
+
+-- ---- values
+
+module _ (d : ℕ) (old now next : Walk) (end : ℕ) (can : CanReach old end) (p : Passed (AreValues d) (NoValues d) old end now) (g : Put amqp.FieldArray (old.depth - d) old now) where
+  last_value : PutsValue (now.depth - d) now next → Puts (entries_at amqp.FieldArray (old.depth - d)) now next
+  last_value x =
+      let level : ℕ = old.depth - d in
+      let y = subst (λ k. PutsValue (k - d) now next) p.goes.depth x in
+      puts_as (value_at level) (entries_at amqp.FieldArray level) now next (sym (array_last level (between now next) y.one)) y.parts
+
+  pub values_more : (u : Unit {0}) → PassesValue d now end (Ok u) next → PutsValue (now.depth - d) now next → Put amqp.FieldArray (old.depth - d) old next
+  values_more u v x =
+      let level : ℕ = old.depth - d in
+      let h = v.value in
+      let inside = still (AreValues d) (NoValues d) old end now can p in
+      let w = between_is now next end h.0 inside v.goes h.3 in
+      let size = front_size now next end h.0 inside v.goes h.3 in
+      put_more amqp.FieldArray level old now next p.goes.input p.goes.order v.goes.order g (last_value x)
+      (λ s.
+      subst (λ (t : List ℕ). entries_at amqp.FieldArray level (t ++ s) ≡ entries_at amqp.FieldArray level t ++ entries_at amqp.FieldArray level s) (sym w)
+      (let one : length h.0 ≤ extent h.0 = subst (λ (t : List ℕ). length t ≤ extent t) w x.one in
+      array_first level h.0 s (wire_extent h.0 s h.1 h.2.0) (omega (arith, size, v.more)) ∙ ap (λ (t : List Piece). t ++ entries_at amqp.FieldArray level s) (sym (array_last level h.0 one))))
+
+  pub values_stop : (s : Stop) → now.at ≤ next.at → WithMemory {T = Unit {0}} (Err s) (PutsValue (now.depth - d) now next) → WithMemory {T = Unit {0}} (Err s) (Puts (entries_at amqp.FieldArray (old.depth - d)) old next)
+  values_stop OutOfMemory up x = tt
+  values_stop (At e) up x = put_last amqp.FieldArray (old.depth - d) old now next p.goes.input p.goes.order up g (last_value x)
+
+-- ---- pairs
+
+module _ (d : ℕ) (old now mid : Walk) (end : ℕ) (can : CanReach old end) (p : Passed (ArePairs d) (NoPairs d) old end now) (g : Put amqp.FieldTable (old.depth - d) old now) (goes : GoesOn now end mid) where
+  pub key_stop : (s : Stop) → WithMemory {T = Unit {0}} (Err s) (Puts (entries_at amqp.FieldTable (now.depth - d)) now mid) → WithMemory {T = Unit {0}} (Err s) (Puts (entries_at amqp.FieldTable (old.depth - d)) old mid)
+  key_stop OutOfMemory x = tt
+  key_stop (At e) x =
+      put_last amqp.FieldTable (old.depth - d) old now mid p.goes.input p.goes.order goes.order g (subst (λ k. Puts (entries_at amqp.FieldTable (k - d)) now mid) p.goes.depth x)
+
+  module _ (next : Walk) (key : IsKeyThen (ahead now end) (ahead mid end)) (before : Puts (entries_at amqp.FieldTable (now.depth - d)) now mid) where
+    inside : end ≤ length now.input.now
+    inside = still (ArePairs d) (NoPairs d) old end now can p
+
+    key_here : between now mid ≡ short_field key.0
+    key_here = between_is now mid end (short_field key.0) inside goes key.2
+
+    last_pair : mid.at ≤ next.at → PutsValue (mid.depth - d) mid next → Puts (entries_at amqp.FieldTable (old.depth - d)) now next
+    last_pair up x =
+        let level : ℕ = old.depth - d in
+        let y = subst (λ k. PutsValue (k - d) mid next) (goes.depth ∙ p.goes.depth) x in
+        let z = subst (λ k. Puts (entries_at amqp.FieldTable (k - d)) now mid) p.goes.depth before in
+        puts_then (entries_at amqp.FieldTable level) (value_at level) (entries_at amqp.FieldTable level) now mid next goes.input goes.order up z y.parts
+        (subst (λ (t : List ℕ). entries_at amqp.FieldTable level (t ++ between mid next) ≡ entries_at amqp.FieldTable level t ++ value_at level (between mid next)) (sym key_here) (pair_last level key.0 (between mid next) y.one))
+
+    pub pairs_more : (u : Unit {0}) → PassesValue d mid end (Ok u) next → PutsValue (mid.depth - d) mid next → Put amqp.FieldTable (old.depth - d) old next
+    pairs_more u v x =
+        let level : ℕ = old.depth - d in
+        let h = v.value in
+        let there : end ≤ length mid.input.now = subst (λ (i : Bor (List ℕ)). end ≤ length i.now) (sym goes.input) inside in
+        let w = between_is mid next end h.0 there v.goes h.3 in
+        let one : length h.0 ≤ extent h.0 = subst (λ (t : List ℕ). length t ≤ extent t) w x.one in
+        let all : between now next ≡ short_field key.0 ++ h.0 = between_split now mid next goes.input goes.order v.goes.order ∙ ap₂ (λ (s t : List ℕ). s ++ t) key_here w in
+        put_more amqp.FieldTable level old now next p.goes.input p.goes.order (omega (arith, goes.order, v.goes.order)) g (last_pair v.goes.order x)
+        (λ s.
+        subst (λ (t : List ℕ). entries_at amqp.FieldTable level (t ++ s) ≡ entries_at amqp.FieldTable level t ++ entries_at amqp.FieldTable level s) (sym all)
+        (ap (entries_at amqp.FieldTable level) (append_assoc (short_field key.0) h.0 s) ∙ pair_first level key.0 h.0 s (wire_extent h.0 s h.1 h.2.0) one))
+
+    pub pairs_stop : (s : Stop) → mid.at ≤ next.at → WithMemory {T = Unit {0}} (Err s) (PutsValue (mid.depth - d) mid next) → WithMemory {T = Unit {0}} (Err s) (Puts (entries_at amqp.FieldTable (old.depth - d)) old next)
+    pairs_stop OutOfMemory up x = tt
+    pairs_stop (At e) up x = put_last amqp.FieldTable (old.depth - d) old now next p.goes.input p.goes.order (omega (arith, goes.order)) g (last_pair up x)
