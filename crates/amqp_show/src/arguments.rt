@@ -9,6 +9,10 @@ const FRAME: u32 = 131_072;
 
 const DEPTH: u32 = 64;
 
+// The greatest depth that may be asked for. A level takes about a kilobyte of the stack, of which
+// programs usually have 8 MiB.
+const DEEPEST: i64 = 1_000;
+
 const EXAMPLES: &str = "\
 Examples:
   echo 4600000007 0161 7401 0162 56 | amqp_show --hex
@@ -19,7 +23,8 @@ Examples:
   cat one.bin two.bin | amqp_show --stream --json
 
 Exit status: 0 where each value was read, 1 where one was refused or is truncated,
-2 for a mistake in the arguments, or where a file or its hexadecimal can't be read.";
+2 for a mistake in the arguments, a file or its hexadecimal that can't be read, or
+output that can't be written.";
 
 /// What is done with each input.
 #[derive(Clone, Copy, Debug)]
@@ -47,10 +52,7 @@ pub enum Form {
         bytes: bool,
     },
     /// As JSON, in a line.
-    Json {
-        /// With nothing but ASCII that prints.
-        ascii: bool,
-    },
+    Json,
 }
 
 /// What is done, how a value is shown, and within which limits it is read.
@@ -69,13 +71,13 @@ pub struct Settings {
 }
 
 impl Settings {
-    /// What the arguments say, where the output is a terminal or not, and has colours or not.
-    /// Without `--bytes` and `--json` a value is shown as a tree.
-    pub fn from_matches(matches: &ArgMatches<'_>, is_terminal: bool, colours: bool) -> Settings {
+    /// What the arguments say, where the output is to have colours or not. Without `--bytes` and
+    /// `--json` a value is shown as a tree.
+    pub fn from_matches(matches: &ArgMatches<'_>, colours: bool) -> Settings {
         Settings {
             task: task_of(matches),
             hex: matches.get_flag("hex"),
-            form: form_of(matches, is_terminal),
+            form: form_of(matches),
             colours,
             limits: Limits {
                 frame: matches.get_one::<u32>("frame").unwrap_or(FRAME),
@@ -96,9 +98,9 @@ fn task_of(matches: &ArgMatches<'_>) -> Task {
     }
 }
 
-fn form_of(matches: &ArgMatches<'_>, is_terminal: bool) -> Form {
+fn form_of(matches: &ArgMatches<'_>) -> Form {
     if matches.get_flag("json") {
-        return Form::Json { ascii: is_terminal };
+        return Form::Json;
     }
     let bytes = matches.get_flag("bytes");
     let tree = matches.get_flag("tree") || !bytes;
@@ -108,12 +110,13 @@ fn form_of(matches: &ArgMatches<'_>, is_terminal: bool) -> Form {
 /// The command line.
 pub fn command<'a>(alloc: Global) -> Result<Command<'a>, AllocError> {
     Command::new(alloc, "amqp_show")
+        .version("0.1.0")
         .about("Shows values of AMQP 0-9-1 field tables, and where one is malformed")
         .after_help(EXAMPLES)
         .arg(flag(
             alloc,
             "hex",
-            "The input is hexadecimal text; spaces and line ends are skipped",
+            "The input is hexadecimal text; spaces, commas, colons, 0x, \\x and # comments are skipped",
         ))?
         .arg(flag(
             alloc,
@@ -158,8 +161,9 @@ pub fn command<'a>(alloc: Global) -> Result<Command<'a>, AllocError> {
             alloc,
             "depth",
             "64",
-            "Refuse containers that nest more than N deep",
-        ))?
+            "Refuse containers that nest more than N deep, at most 1000",
+        )
+        .value_parser(value_parser!(u32).range(0..=DEEPEST)))?
         .arg(
             Arg::new(alloc, "FILE")
                 .action(ArgAction::Append)

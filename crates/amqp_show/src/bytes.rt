@@ -1,44 +1,49 @@
 //! A value byte by byte.
 
-use crate::colours::{Colour, push_coloured, push_note};
-use crate::notes::Keys;
+use crate::notes::{Keys, push_note};
+use crate::screen::{Colour, Screen};
 use crate::texts::part_text;
-use amqp_dissect::{Dissection, Field};
+use amqp_dissect::{Field, Part};
 use std::alloc::{AllocError, Global};
 
 // How many bytes of a part are shown.
 const SHOWN: usize = 8;
 
-/// A line for each part: its offset, its bytes in hexadecimal, the first of them where they are
-/// many, and what they are, indented by how deep it stands.
-pub fn bytes_text(
+/// Adds a line for each part: its offset, its bytes in hexadecimal, the first of them where they
+/// are many, and what they are, indented by how deep it stands.
+pub fn push_bytes(
     alloc: Global,
-    input: &[u8],
-    dissection: &Dissection<'_>,
-    has_colours: bool,
-) -> Result<String, AllocError> {
-    let parts = dissection.parts.as_slice();
+    screen: &mut Screen,
+    parts: &[Part<'_>],
+) -> Result<(), AllocError> {
     let mut keys = Keys::new(alloc);
-    let mut text = String::new(alloc);
     for (index, part) in parts.iter().enumerate() {
-        let hex = shortened(alloc, part.bytes)?;
-        let line = format!(in alloc; "{:>6}  {hex:<18}  ", part.offset)?;
-        text.push_str(line.as_str())?;
-        for _ in 0..part.level {
-            text.push_str("  ")?;
-        }
-        let what = part_text(alloc, part, input)?;
+        push_place(alloc, screen, part.offset, part.bytes)?;
+        screen.indent(part.level)?;
+        let what = part_text(alloc, part)?;
         if part.field == Field::Key {
-            push_coloured(&mut text, what.as_str(), Colour::Key, has_colours)?;
+            screen.push_coloured(what.as_str(), Colour::Key)?;
         } else {
-            text.push_str(what.as_str())?;
+            screen.push_text(what.as_str())?;
         }
         if let Some(note) = keys.note(part, parts.get(index + 1))? {
-            push_note(alloc, &mut text, note, has_colours)?;
+            push_note(alloc, screen, note)?;
         }
-        text.push('\n')?;
+        screen.end_line()?;
     }
-    Ok(text)
+    Ok(())
+}
+
+// Adds an offset, and the bytes that stand there.
+fn push_place(
+    alloc: Global,
+    screen: &mut Screen,
+    offset: usize,
+    bytes: &[u8],
+) -> Result<(), AllocError> {
+    let hex = shortened(alloc, bytes)?;
+    let line = format!(in alloc; "{offset:>6}  {hex:<18}  ")?;
+    screen.push_text(line.as_str())
 }
 
 // The bytes in hexadecimal, or the first of them.

@@ -1,38 +1,95 @@
 //! Bytes that come as hexadecimal text.
 
+use std::alloc::{AllocError, Global};
 use std::io;
 use std::io::{ErrorKind, Read};
 
-/// The bytes that a reader's text stands for. Spaces and line ends are skipped. What isn't
-/// hexadecimal is a failure of the kind `InvalidData`.
+// What has come of a byte.
+#[derive(Clone, Copy, Debug)]
+enum Half {
+    Nothing,
+    Digit(u8),
+    // `\`, which `x` has to follow
+    Backslash,
+}
+
+/// The bytes that a reader's text stands for, two digits each. White space, `,`, `:`, what stands
+/// after `#` in a line, and `0x` or `\x` before a byte are skipped. What isn't hexadecimal is a
+/// failure of the kind `InvalidData`.
 #[derive(Drop)]
 pub struct Digits<R> {
     text: R,
-    // the first digit of a byte whose second hasn't come
-    high: Option<u8>,
+    half: Half,
+    is_comment: bool,
+    has_ended: bool,
+    line: u64,
+    column: u64,
 }
 
 impl<R: Read> Digits<R> {
     /// Nothing is read yet.
     pub fn new(text: R) -> Self {
-        Digits { text, high: None }
+        Digits {
+            text,
+            half: Half::Nothing,
+            is_comment: false,
+            has_ended: false,
+            line: 1,
+            column: 0,
+        }
     }
 
-    // The next digit, or none at the end of the text.
-    fn digit(&mut self) -> io::Result<Option<u8>> {
-        for _ in 0..u64::MAX {
-            let mut byte = [0];
-            if self.text.read(&mut byte)? == 0 {
-                return Ok(None);
-            }
-            if !byte[0].is_ascii_whitespace() {
-                return match value_of(byte[0]) {
-                    Some(digit) => Ok(Some(digit)),
-                    None => Err(io::Error::from(ErrorKind::InvalidData)),
-                };
-            }
+    // The next byte of the text, or none at its end.
+    fn next(&mut self) -> io::Result<Option<u8>> {
+        let mut byte = [0];
+        if self.text.read(&mut byte)? == 0 {
+            self.has_ended = true;
+            return Ok(None);
         }
+        self.column = self.column.saturating_add(1);
+        Ok(Some(byte[0]))
+    }
+
+    // Takes a byte of the text, and gives the one that is whole with it, if one is.
+    fn take(&mut self, byte: u8) -> io::Result<Option<u8>> {
+        if byte == b'\n' {
+            self.line = self.line.saturating_add(1);
+            self.column = 0;
+            self.is_comment = false;
+            return Ok(None);
+        }
+        if byte == b'#' {
+            self.is_comment = true;
+        }
+        if self.is_comment || byte.is_ascii_whitespace() {
+            return Ok(None);
+        }
+        self.half = match (self.half, byte) {
+            (Half::Nothing, b',' | b':') => Half::Nothing,
+            (Half::Nothing, b'\\') => Half::Backslash,
+            (Half::Backslash | Half::Digit(0), b'x') | (Half::Digit(0), b'X') => Half::Nothing,
+            (Half::Nothing, _) => Half::Digit(digit(byte)?),
+            (Half::Digit(high), _) => {
+                let whole = high << 4 | digit(byte)?;
+                self.half = Half::Nothing;
+                return Ok(Some(whole));
+            }
+            (Half::Backslash, _) => return Err(io::Error::from(ErrorKind::InvalidData)),
+        };
         Ok(None)
+    }
+}
+
+impl<R> Digits<R> {
+    /// Why the text isn't hexadecimal, after that was found.
+    pub fn fault(&self, alloc: Global) -> Result<String, AllocError> {
+        if self.has_ended {
+            return format!(in alloc; "the hexadecimal ends inside a byte");
+        }
+        format!(in alloc;
+            "line {}, column {}: no hexadecimal",
+            self.line, self.column
+        )
     }
 }
 
@@ -41,27 +98,28 @@ impl<R: Read> Read for Digits<R> {
         if buf.is_empty() {
             return Ok(0);
         }
-        if self.high.is_none() {
-            self.high = self.digit()?;
+        for _ in 0..u64::MAX {
+            let Some(byte) = self.next()? else {
+                return match self.half {
+                    Half::Nothing => Ok(0),
+                    _ => Err(io::Error::from(ErrorKind::InvalidData)),
+                };
+            };
+            if let Some(whole) = self.take(byte)? {
+                buf[0] = whole;
+                return Ok(1);
+            }
         }
-        let Some(high) = self.high else {
-            return Ok(0);
-        };
-        let Some(low) = self.digit()? else {
-            return Err(io::Error::from(ErrorKind::InvalidData));
-        };
-        self.high = None;
-        buf[0] = high << 4 | low;
-        Ok(1)
+        Ok(0)
     }
 }
 
 // What a digit stands for.
-fn value_of(digit: u8) -> Option<u8> {
-    match digit {
-        b'0'..=b'9' => Some(digit - b'0'),
-        b'a'..=b'f' => Some(digit - b'a' + 10),
-        b'A'..=b'F' => Some(digit - b'A' + 10),
-        _ => None,
+fn digit(byte: u8) -> io::Result<u8> {
+    match byte {
+        b'0'..=b'9' => Ok(byte - b'0'),
+        b'a'..=b'f' => Ok(byte - b'a' + 10),
+        b'A'..=b'F' => Ok(byte - b'A' + 10),
+        _ => Err(io::Error::from(ErrorKind::InvalidData)),
     }
 }

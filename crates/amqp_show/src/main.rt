@@ -4,62 +4,76 @@
 
 mod arguments;
 mod bytes;
-mod colours;
 mod digits;
 mod encode;
 mod input;
 mod json;
+mod leaf;
+mod messages;
 mod notes;
 mod recorder;
+mod screen;
 mod show;
+mod status;
 mod stream;
 mod texts;
 mod tree;
 
 use anyhow::Result;
 use arguments::{Settings, Task};
+use messages::{complain, fail};
+use screen::{Screen, is_terminal};
+use status::{Status, exit_status, worse};
 use std::env;
-use std::io::IsTerminal;
 use std::process::ExitCode;
 
-// What the program ends with: 0 where each value was read, 1 where one wasn't, 2 for a mistake in
-// the arguments, a file that can't be read, text that is no hexadecimal, or want of memory.
-const REFUSED: u8 = 1;
-
-const MISTAKE: u8 = 2;
-
 fn main(rt: HostRuntime) -> ExitCode {
-    match run(&rt) {
-        Ok(code) => code,
-        Err(error) => {
-            // Where the message can't be written, the status still says what happened.
-            let _ = eprintln!(rt; "amqp_show: {error:#}");
-            ExitCode::from(MISTAKE)
-        }
-    }
+    let status = run(&rt).unwrap_or_else(|error| {
+        // Where the message can't be written, the status still says what happened.
+        let _ = fail(&rt, &error);
+        Status::Mistake
+    });
+    ExitCode::from(exit_status(status))
 }
 
-fn run(rt: &HostRuntime) -> Result<ExitCode> {
+fn run(rt: &HostRuntime) -> Result<Status> {
     let alloc = rt.alloc();
     let words: Vec<String> = env::args(rt)?.collect(alloc)?;
     let matches = match arguments::command(alloc)?.try_get_matches_from(words.as_slice()) {
         Ok(matches) => matches,
-        Err(error) => {
-            error.print(rt)?;
-            return Ok(ExitCode::from(if error.use_stderr() { MISTAKE } else { 0 }));
-        }
+        Err(error) => return answer(rt, &error),
     };
-    let is_terminal = rt.stdout().is_terminal();
-    let colours = is_terminal && colours::are_allowed(rt);
-    let settings = Settings::from_matches(&matches, is_terminal, colours);
-    let mut all_read = true;
+    let colours = is_terminal(rt) && allows_colours(rt);
+    let settings = Settings::from_matches(&matches, colours);
+    let mut status = Status::Read;
     for file in matches.get_strs("FILE").unwrap_or(&["-"]) {
-        let is_read = match settings.task {
+        let shown = match settings.task {
             Task::Show => show::show_file(rt, *file, settings)?,
             Task::Stream => stream::show_file(rt, *file, settings)?,
             Task::Encode { raw } => encode::encode_file(rt, *file, raw)?,
         };
-        all_read = all_read && is_read;
+        status = worse(status, shown);
     }
-    Ok(ExitCode::from(if all_read { 0 } else { REFUSED }))
+    Ok(status)
+}
+
+// Prints what the arguments ask for, or why they can't be understood.
+fn answer(rt: &HostRuntime, error: &clap::Error) -> Result<Status> {
+    let text = format!(in rt.alloc(); "{error}")?;
+    let mut screen = Screen::new(rt.alloc(), false);
+    screen.push_lines(text.as_str())?;
+    if error.use_stderr() {
+        screen.print_error(rt)?;
+        return Ok(Status::Mistake);
+    }
+    screen.print(rt)?;
+    Ok(Status::Read)
+}
+
+// Whether there may be colours. A variable `NO_COLOR` that isn't empty is a wish for none.
+fn allows_colours(rt: &HostRuntime) -> bool {
+    match env::var(rt, "NO_COLOR") {
+        Ok(text) => text.is_empty(),
+        Err(_) => true,
+    }
 }

@@ -1,5 +1,6 @@
 //! What makes an encoding another one than the canonical one.
 
+use crate::screen::{Colour, Screen};
 use amq_protocol_types::AMQPType;
 use amqp_dissect::{Field, Part};
 use std::alloc::{AllocError, Global};
@@ -86,4 +87,11 @@ fn other_true(bytes: &[u8]) -> Option<&'static str> {
         Some(0 | 1) | None => None,
         Some(_) => Some("true is written as 01"),
     }
+}
+
+/// Adds why an encoding isn't the canonical one.
+pub fn push_note(alloc: Global, screen: &mut Screen, note: &str) -> Result<(), AllocError> {
+    let words = format!(in alloc; "(not canonical: {note})")?;
+    screen.push_text(" ")?;
+    screen.push_coloured(words.as_str(), Colour::Note)
 }

@@ -25,6 +25,11 @@ impl<R: Read> Recorder<R> {
         self.bytes.as_slice()
     }
 
+    /// The reader.
+    pub fn reader(&self) -> &R {
+        &self.reader
+    }
+
     /// Forgets them. Their room stays.
     pub fn forget(&mut self) {
         self.bytes.clear();

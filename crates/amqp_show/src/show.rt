@@ -1,68 +1,73 @@
 //! The value at the beginning of an input.
 
 use crate::arguments::{Form, Settings};
-use crate::bytes::bytes_text;
-use crate::colours::{Colour, push_coloured};
-use crate::input::{bytes_of, read_file};
+use crate::bytes::push_bytes;
+use crate::input::read_input;
 use crate::json;
+use crate::messages::unreadable;
+use crate::screen::{Colour, Screen};
+use crate::status::Status;
 use crate::texts::{failure_text, outcome_text};
-use crate::tree::tree_text;
-use amqp_dissect::{End, dissect, escape};
+use crate::tree::push_tree;
+use amqp_dissect::{End, dissect};
 use anyhow::Result;
 use std::alloc::{AllocError, Global};
 
-/// Shows the value at the beginning of a file. Answers whether there is one within the limits.
-pub fn show_file(rt: &HostRuntime, file: &str, settings: Settings) -> Result<bool> {
-    let mut input = read_file(rt, file)?;
-    if settings.hex {
-        input = bytes_of(rt, input)?;
-    }
+/// Shows the value at the beginning of a file.
+pub fn show_file(rt: &HostRuntime, file: &str, settings: Settings) -> Result<Status> {
+    let input = match read_input(rt, file, settings.hex) {
+        Ok(input) => input,
+        Err(error) => return unreadable(rt, file, &error),
+    };
     match settings.form {
-        Form::Json { ascii } => json::show_file(rt, file, input.as_slice(), settings.limits, ascii),
-        Form::Text { tree, bytes } => {
-            let (text, is_read) = value_text(rt.alloc(), input.as_slice(), settings, tree, bytes)?;
-            let outcome = outcome_text(rt.alloc(), input.as_slice(), settings.limits)?;
-            print_name(rt, file)?;
-            print!(rt; "{text}= {outcome}\n")?;
-            Ok(is_read)
-        }
+        Form::Json => json::show_input(rt, file, input.as_slice(), settings.limits),
+        Form::Text { .. } => show_input(rt, file, input.as_slice(), settings),
     }
 }
 
-/// Prints the name of a file, on a line.
-pub fn print_name(rt: &HostRuntime, file: &str) -> Result<()> {
+// Shows the value at the beginning of a file's bytes as text.
+fn show_input(rt: &HostRuntime, file: &str, input: &[u8], settings: Settings) -> Result<Status> {
+    let alloc = rt.alloc();
+    let mut screen = Screen::new(alloc, settings.colours);
+    push_name(&mut screen, file)?;
+    let status = push_value(alloc, &mut screen, input, settings)?;
+    let outcome = outcome_text(alloc, input, settings.limits)?;
+    screen.push_text("= ")?;
+    screen.push_line(outcome.as_str())?;
+    screen.print(rt)?;
+    Ok(status)
+}
+
+/// Adds the name of a file, on a line.
+pub fn push_name(screen: &mut Screen, file: &str) -> Result<(), AllocError> {
     if file != "-" {
-        let name = escape(rt.alloc(), file.as_bytes())?;
-        println!(rt; "{name}:")?;
+        screen.push_text(file)?;
+        screen.push_line(":")?;
     }
     Ok(())
 }
 
-/// The value at the beginning of the input as text, up to where it fails, and whether it is one
+/// Adds the value at the beginning of the input, up to where it fails. Answers whether it is one
 /// within the limits.
-pub fn value_text(
+pub fn push_value(
     alloc: Global,
+    screen: &mut Screen,
     input: &[u8],
     settings: Settings,
-    has_tree: bool,
-    has_bytes: bool,
-) -> Result<(String, bool), AllocError> {
+) -> Result<Status, AllocError> {
     let dissection = dissect(alloc, input, settings.limits)?;
-    let mut text = String::new(alloc);
-    if has_tree {
-        let tree = tree_text(alloc, input, &dissection, settings.colours)?;
-        text.push_str(tree.as_str())?;
+    if let Form::Text { tree: true, .. } = settings.form {
+        push_tree(alloc, screen, dissection.parts.as_slice())?;
     }
-    if has_bytes {
-        let bytes = bytes_text(alloc, input, &dissection, settings.colours)?;
-        text.push_str(bytes.as_str())?;
+    if let Form::Text { bytes: true, .. } = settings.form {
+        push_bytes(alloc, screen, dissection.parts.as_slice())?;
     }
     if dissection.end == End::Value {
-        return Ok((text, true));
+        return Ok(Status::Read);
     }
     let failure = failure_text(alloc, &dissection)?;
     let line = format!(in alloc; "! {failure}")?;
-    push_coloured(&mut text, line.as_str(), Colour::Failure, settings.colours)?;
-    text.push('\n')?;
-    Ok((text, false))
+    screen.push_coloured(line.as_str(), Colour::Failure)?;
+    screen.end_line()?;
+    Ok(Status::Refused)
 }

@@ -1,14 +1,15 @@
 //! Words for what is shown.
 
-use amq_protocol_types::AMQPType;
-use amq_protocol_types::in_place::{ValueRef, read_in_place};
+use crate::leaf::{leaf_of, leaf_text};
+use amq_protocol_types::in_place::read_in_place;
 use amq_protocol_types::parsing::{Err, ErrorKind, Needed, ParserError};
 use amq_protocol_types::stream::Limits;
 use amqp_dissect::{Dissection, End, Field, Part, Problem, escape};
 use std::alloc::{AllocError, Global};
+use std::str;
 
 /// What a part is.
-pub fn part_text(alloc: Global, part: &Part<'_>, input: &[u8]) -> Result<String, AllocError> {
+pub fn part_text(alloc: Global, part: &Part<'_>) -> Result<String, AllocError> {
     match part.field {
         Field::TypeTag(amqp_type) => {
             let tag = escape(alloc, part.bytes)?;
@@ -17,56 +18,33 @@ pub fn part_text(alloc: Global, part: &Part<'_>, input: &[u8]) -> Result<String,
         Field::Length(_) => format!(in alloc; "length {}", number_of(part.bytes)),
         Field::KeyLength => format!(in alloc; "key length {}", number_of(part.bytes)),
         Field::Key => {
-            let key = escape(alloc, part.bytes)?;
-            format!(in alloc; "key \"{key}\"")
+            let key = quoted(alloc, part.bytes)?;
+            format!(in alloc; "key {key}")
         }
-        Field::Payload(amqp_type) => {
-            // the type tag, and before a string its length, stand right before the payload
-            let before = match amqp_type {
-                AMQPType::LongString | AMQPType::ByteArray => 5,
-                _ => 1,
-            };
-            let start = part.offset.saturating_sub(before);
-            value_text(alloc, input.get(start..).unwrap_or(&[]))
-        }
+        Field::Payload(_) => match leaf_of(part) {
+            Some(leaf) => leaf_text(alloc, leaf),
+            None => Ok(String::new(alloc)),
+        },
     }
 }
 
-/// The value at the beginning of the bytes, where it is no container: a Float and a Double by
-/// their bits. Nothing for Void.
-pub fn value_text(alloc: Global, bytes: &[u8]) -> Result<String, AllocError> {
-    let plain = Limits {
-        frame: u32::MAX,
-        depth: 0,
-    };
-    let Ok((value, _)) = read_in_place(bytes, plain) else {
-        return Ok(String::new(alloc));
-    };
-    match value {
-        ValueRef::Boolean(b) => format!(in alloc; "{b}"),
-        ValueRef::ShortShortInt(n) => format!(in alloc; "{n}"),
-        ValueRef::ShortShortUInt(n) => format!(in alloc; "{n}"),
-        ValueRef::ShortInt(n) => format!(in alloc; "{n}"),
-        ValueRef::ShortUInt(n) => format!(in alloc; "{n}"),
-        ValueRef::LongInt(n) => format!(in alloc; "{n}"),
-        ValueRef::LongUInt(n) => format!(in alloc; "{n}"),
-        ValueRef::LongLongInt(n) => format!(in alloc; "{n}"),
-        ValueRef::Float(n) => format!(in alloc; "bits {:08x}", n.to_bits()),
-        ValueRef::Double(n) => format!(in alloc; "bits {:016x}", n.to_bits()),
-        ValueRef::DecimalValue(d) => format!(in alloc; "{}e-{}", d.value, d.scale),
-        ValueRef::LongString(s) => quoted(alloc, s),
-        ValueRef::Timestamp(n) => format!(in alloc; "{n}"),
-        ValueRef::ByteArray(s) => hex::encode(alloc, s),
-        ValueRef::FieldArray(_) | ValueRef::FieldTable(_) | ValueRef::Void => Ok(String::new(
-            alloc,
-        )),
-    }
-}
-
-/// The bytes as escaped text in quotes.
+/// The bytes in quotes, as text where they are UTF-8: a quote and a backslash stand after a
+/// backslash, and what doesn't print is escaped where it is shown. Other bytes are all escaped.
 pub fn quoted(alloc: Global, bytes: &[u8]) -> Result<String, AllocError> {
-    let text = escape(alloc, bytes)?;
-    format!(in alloc; "\"{text}\"")
+    let Ok(words) = str::from_utf8(bytes) else {
+        let text = escape(alloc, bytes)?;
+        return format!(in alloc; "\"{text}\"");
+    };
+    let mut text = String::new(alloc);
+    text.push('"')?;
+    for c in words.chars() {
+        if c == '"' || c == '\\' {
+            text.push('\\')?;
+        }
+        text.push(c)?;
+    }
+    text.push('"')?;
+    Ok(text)
 }
 
 /// Where a value fails, and why.

@@ -1,70 +1,79 @@
 //! A value as a tree.
 
-use crate::colours::{Colour, push_coloured, push_note};
-use crate::notes::{Keys, key_of};
-use crate::texts::{quoted, value_text};
-use amqp_dissect::{Dissection, Field, Part};
+use crate::leaf::{first_leaf, leaf_text};
+use crate::notes::{Keys, key_of, push_note};
+use crate::screen::{Colour, Screen};
+use crate::texts::quoted;
+use amq_protocol_types::AMQPType;
+use amqp_dissect::{Field, Part};
 use std::alloc::{AllocError, Global};
 
-/// A line for each value: its key in a table, its type, and what it is; indented by how deep it
-/// stands.
-pub fn tree_text(
-    alloc: Global,
-    input: &[u8],
-    dissection: &Dissection<'_>,
-    has_colours: bool,
-) -> Result<String, AllocError> {
-    let parts = dissection.parts.as_slice();
+/// Adds a line for each value: its key in a table, its type, and what it is; indented by how deep
+/// it stands.
+pub fn push_tree(alloc: Global, screen: &mut Screen, parts: &[Part<'_>]) -> Result<(), AllocError> {
     let mut keys = Keys::new(alloc);
-    let mut text = String::new(alloc);
+    let mut has_line = false;
     let mut has_key = false;
     for (index, part) in parts.iter().enumerate() {
         let next = parts.get(index + 1);
         match part.field {
             Field::KeyLength => {
-                begin_line(&mut text, part.level)?;
-                if let Some(key) = key_of(part.bytes, next) {
-                    let key = quoted(alloc, key)?;
-                    push_coloured(&mut text, key.as_str(), Colour::Key, has_colours)?;
-                } else {
-                    text.push('?')?;
-                }
+                begin_line(screen, has_line, part.level)?;
+                push_key(alloc, screen, key_of(part.bytes, next))?;
+                has_line = true;
                 has_key = true;
             }
             Field::TypeTag(amqp_type) => {
                 if has_key {
-                    text.push_str(": ")?;
+                    screen.push_text(": ")?;
                 } else {
-                    begin_line(&mut text, part.level)?;
+                    begin_line(screen, has_line, part.level)?;
                 }
+                has_line = true;
                 has_key = false;
-                let name = format!(in alloc; "{amqp_type}")?;
-                text.push_str(name.as_str())?;
-                let value = value_text(alloc, input.get(part.offset..).unwrap_or(&[]))?;
-                if !value.is_empty() {
-                    text.push(' ')?;
-                    text.push_str(value.as_str())?;
-                }
+                push_typed(alloc, screen, amqp_type, &parts[index..])?;
             }
             Field::Length(_) | Field::Key | Field::Payload(_) => {}
         }
         if let Some(note) = keys.note(part, next)? {
-            push_note(alloc, &mut text, note, has_colours)?;
+            push_note(alloc, screen, note)?;
         }
     }
-    if !text.is_empty() {
-        text.push('\n')?;
+    if has_line {
+        screen.end_line()?;
     }
-    Ok(text)
+    Ok(())
 }
 
 // Ends the line before, if there is one, and indents the next.
-fn begin_line(text: &mut String, level: u32) -> Result<(), AllocError> {
-    if !text.is_empty() {
-        text.push('\n')?;
+fn begin_line(screen: &mut Screen, has_line: bool, level: u32) -> Result<(), AllocError> {
+    if has_line {
+        screen.end_line()?;
     }
-    for _ in 0..level {
-        text.push_str("  ")?;
+    screen.indent(level)
+}
+
+// Adds a key, or a mark where its bytes aren't one.
+fn push_key(alloc: Global, screen: &mut Screen, key: Option<&[u8]>) -> Result<(), AllocError> {
+    match key {
+        Some(key) => screen.push_coloured(quoted(alloc, key)?.as_str(), Colour::Key),
+        None => screen.push_text("?"),
+    }
+}
+
+// Adds the type whose tag is the first of the parts, and the value if it is no container and has
+// come.
+fn push_typed(
+    alloc: Global,
+    screen: &mut Screen,
+    amqp_type: AMQPType,
+    parts: &[Part<'_>],
+) -> Result<(), AllocError> {
+    let name = format!(in alloc; "{amqp_type}")?;
+    screen.push_text(name.as_str())?;
+    if let Some(leaf) = first_leaf(parts) {
+        screen.push_text(" ")?;
+        screen.push_text(leaf_text(alloc, leaf)?.as_str())?;
     }
     Ok(())
 }
