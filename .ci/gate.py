@@ -1,0 +1,83 @@
+"""The steps of .ci/run and .ci/whole, which are shell scripts since CI runs the first by `bash`."""
+
+import argparse
+import os
+import re
+import shutil
+import subprocess
+import sys
+
+from crates import TOP, said_by
+from lib import TEST_CRATES, Steps, copy_repository
+
+# The kit that all of this is proved with.
+KIT_LINE = "rattle-kit-13b"
+# What each step needs beside the kit; `python3`, `cc` and `c++` can't be left out.
+ALWAYS = ("git", "python3", "cc", "c++")
+NEEDS = {"docs": (), "test": (), "oracle": (), "show": (), "refused": (), "sizes": (), "c": ("nm",), "wrong": ()}
+KEYS = ".ci/refused-keys"
+REFUSED = re.compile(r"(\d+) refused now, (\d+) carried over from an earlier run, (\d+) not refused")
+
+
+def missing(without):
+    """Says what is missing, before anything is begun."""
+    line = said_by("rt", "version")
+    if not line.startswith(KIT_LINE):
+        yield f"rt version prints {line or 'nothing'}, and not {KIT_LINE}"
+    needs = [*ALWAYS, *(it for step, words in NEEDS.items() if step not in without for it in words)]
+    yield from (f"{it} is missing (.ci/setup installs it)" for it in needs if not shutil.which(it))
+
+
+def by_refused(step):
+    """How many wrong bodies were refused and not, by the last line."""
+    last = step.out.read_text(errors="replace").rstrip("\n").split("\n")[-1]
+    if not (found := REFUSED.fullmatch(last)):
+        return 0, 1, f"ended with status {step.status} and no last line that counts"
+    return int(found[1]), int(found[3]), last
+
+
+def gate(name, words):
+    """Runs the steps of .ci/NAME, and returns the exit status."""
+    left_out, tries_all = ((), True) if name == "whole" else (TEST_CRATES, False)
+    text = re.findall(r"(?m)^# ?(.*)$", (TOP / ".ci" / name).read_text().partition("\n")[2])
+    how = {"description": "\n".join(text), "formatter_class": argparse.RawDescriptionHelpFormatter}
+    reader = argparse.ArgumentParser(prog=f".ci/{name}", **how)
+    reader.add_argument("--without", action="append", default=[], choices=[*NEEDS], metavar="NAME")
+    without = reader.parse_args(words).without
+    if os.environ.get("CI"):
+        subprocess.run([TOP / ".ci/setup"], check=True)
+    if lacks := [*missing(without)]:
+        print("\n".join([*lacks, f"0 passed, {len(lacks)} failed"]))
+        return 1
+    with Steps(name) as steps:
+        copy = steps.folder / "copy"
+        copy_repository(copy, left_out)
+        scripts = copy / ".ci"
+        proved = steps.add("rt ci", ["rt", "ci"], cwd=copy, tells=r"(?<=^rt: )\w+(: its tests)? (proved|NOT PROVED|ran)\b|: NOT REFUSED|BAD EDIT")
+        words = {
+            "docs": ([TOP / ".ci/docs"], ()),
+            "test": ([TOP / ".ci/test", "--jobs", 2], ()),
+            "oracle": ([scripts / "oracle"], (proved,)),
+            "show": ([scripts / "show"], (proved,)),
+            "refused": ([scripts / "refused"], (proved,)),
+            "sizes": ([scripts / "sizes"], (proved,)),
+            "c": ([scripts / "c", "--built"], (proved,)),
+            "wrong": ([scripts / "wrong", "--built", "--record", TOP / KEYS, *["--all"] * tries_all], (proved,)),
+        }
+        if tries_all:
+            # rt ci has run the tests and the stored runs
+            del words["test"]
+        for step, (command, after) in words.items():
+            if step not in without:
+                is_wrong = step == "wrong"
+                how = {"judge": by_refused, "tells": r"^\w+: tried$|NOT REFUSED|NOT TRIED|^changed.*"} if is_wrong else {}
+                steps.add(step, command, cwd=copy if command[0].parent == scripts else TOP, after=after, **how)
+        os.environ["COMMIT_NUMBER"] = said_by("git", "-C", str(TOP), "rev-list", "--count", "HEAD")
+        steps.run()
+        steps.notes += [f"left out: {it}" for it in without]
+        steps.notes += [it.last_line for it in steps.steps if it.name == "wrong"]
+        return steps.ended()
+
+
+if __name__ == "__main__":
+    sys.exit(gate(sys.argv[1], sys.argv[2:]))

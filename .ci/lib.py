@@ -1,0 +1,213 @@
+"""What the scripts of .ci share: a copy of the repository, processes that are ended, and steps that run side by side."""
+
+import ctypes
+import os
+import re
+import shutil
+import signal
+import subprocess
+import sys
+import tempfile
+import time
+from pathlib import Path
+
+from crates import TOP, said_by
+
+# The crates that have nothing but tests: .ci/test runs them, and .ci/whole proves them too.
+TEST_CRATES = ("amqp_tests", "amqp_in_place_tests", "amqp_json_tests", "amqp_codec_tests", "amqp_stream_tests")
+
+
+def copy_repository(to, without=()):
+    """Copies the files that git tracks or would track, but not these crates."""
+    for name in said_by("git", "-C", str(TOP), "ls-files", "-co", "--exclude-standard", "-z").split("\0"):
+        is_left_out = name.startswith(tuple(f"crates/{it}/" for it in without))
+        if name and not is_left_out and (TOP / name).exists():
+            (to / name).parent.mkdir(parents=True, exist_ok=True)
+            shutil.copy2(TOP / name, to / name)
+    lines = (TOP / "crates.txt").read_text().splitlines(True)
+    (to / "crates.txt").write_text("".join(it for it in lines if it.partition(":")[0] not in without))
+
+
+# Processes
+
+
+def descendants():
+    """The processes that this one started, and those that they did."""
+    parents = {}
+    for it in filter(str.isdigit, os.listdir("/proc")):
+        try:
+            state, parent = Path(f"/proc/{it}/stat").read_text().rpartition(")")[2].split()[:2]
+        except OSError:
+            continue
+        if state != "Z":
+            parents[int(it)] = int(parent)
+    found, more = set(), {os.getpid()}
+    while more:
+        more = {it for it, parent in parents.items() if parent in more} - found
+        found |= more
+    return found
+
+
+def end_descendants():
+    """Ends all that this process started, also what left its group."""
+    while left := descendants():
+        for it in left:
+            try:
+                os.kill(it, signal.SIGKILL)
+            except ProcessLookupError:
+                pass
+        time.sleep(0.05)
+
+
+def end_on_signals(first=lambda: None):
+    """Turns each signal that interrupts into this call and an exit, so that what was begun is ended and cleared away."""
+
+    def end(number, _):
+        first()
+        sys.exit(128 + number)
+
+    # PR_SET_CHILD_SUBREAPER: what a child leaves behind becomes this process's own
+    ctypes.CDLL(None).prctl(36, 1, 0, 0, 0)
+    for number in (signal.SIGINT, signal.SIGTERM, signal.SIGHUP):
+        signal.signal(number, end)
+
+
+# Steps
+
+LAST_LINE = re.compile(r"(\d+) passed, (\d+) failed")
+
+
+def by_last_line(step):
+    """How many checks of a step passed and failed, by its last line, and that line."""
+    lines = step.out.read_text(errors="replace").rstrip("\n").split("\n")
+    found = LAST_LINE.fullmatch(lines[-1])
+    if not found:
+        return 0, 1, f"ended with status {step.status} and no last line that counts"
+    return int(found[1]), int(found[2]), lines[-1]
+
+
+class Step:
+    """A command of a script, and what became of it."""
+
+    def __init__(self, name, words, cwd=TOP, after=(), given=None, judge=by_last_line, tells=None):
+        self.name, self.words, self.cwd, self.given = name, [str(it) for it in words], cwd, given
+        # the steps that it waits for; how it is judged; which of its lines are told, by their first group
+        self.after, self.judge, self.tells = after, judge, tells and re.compile(tells)
+        self.process = self.status = self.out = self.err = None
+        self.passed = self.failed = self.told = self.read = 0
+        self.begun = self.minutes = self.processor_minutes = 0
+        self.last_line = ""
+
+    def is_well(self):
+        return self.status is not None and not self.failed
+
+    def start(self, folder):
+        self.begun = time.time()
+        self.out, self.err = folder / f"{self.name}.out", folder / f"{self.name}.err"
+        # what it leaves in its temporary folder goes with this script's
+        how = {"cwd": self.cwd, "env": {**os.environ, "TMPDIR": str(folder)}, "process_group": 0}
+        with open(self.out, "wb") as out, open(self.err, "wb") as err, open(self.given or os.devnull, "rb") as given:
+            self.process = subprocess.Popen(self.words, stdin=given, stdout=out, stderr=err, **how)
+
+    def has_ended(self):
+        """Says whether it has ended, and then judges it."""
+        pid, status, used = os.wait4(self.process.pid, os.WNOHANG)
+        if not pid:
+            return False
+        self.status = self.process.returncode = os.waitstatus_to_exitcode(status)
+        self.minutes = (time.time() - self.begun) / 60
+        self.processor_minutes = (used.ru_utime + used.ru_stime) / 60
+        self.passed, self.failed, self.last_line = self.judge(self)
+        if not self.failed and (self.status or not self.passed):
+            why = f"it ended with status {self.status}" if self.status else "nothing was tried"
+            self.failed, self.last_line = 1, f"{self.last_line}, but {why}"
+        return True
+
+    def new_lines(self):
+        """The lines, since this was asked last, that are to be told."""
+        if not self.tells:
+            return
+        with open(self.out, "rb") as out:
+            out.seek(self.read)
+            text = out.read()
+        whole = text[: text.rfind(b"\n") + 1]
+        self.read += len(whole)
+        for line in whole.decode(errors="replace").split("\n"):
+            if found := self.tells.search(line):
+                self.told += 1
+                yield f"{found[0]} ({self.told})"
+
+
+class Steps:
+    """Runs steps side by side, tells how far they are, and ends all of them where it is ended itself."""
+
+    def __init__(self, name):
+        self.name, self.begun, self.steps, self.notes = name, time.time(), [], []
+        end_on_signals()
+        self.folder = Path(tempfile.mkdtemp(prefix=f"maolkint-{name}-"))
+        # programs are run as nobody, who has to come through
+        self.folder.chmod(0o755)
+
+    def __enter__(self):
+        return self
+
+    def __exit__(self, *_):
+        end_descendants()
+        shutil.rmtree(self.folder, ignore_errors=True)
+
+    def add(self, *words, **more):
+        step = Step(*words, **more)
+        self.steps.append(step)
+        return step
+
+    def say(self, text):
+        ended = sum(it.status is not None for it in self.steps)
+        print(f"{(time.time() - self.begun) / 60:5.1f} min  {ended} of {len(self.steps)} done  {text}", flush=True)
+
+    def run(self, at_once=None):
+        """Runs the steps, each once those that it waits for are well, and returns whether all are."""
+        waiting, running = [*self.steps], []
+        while waiting or running:
+            for step in [it for it in waiting if all(each.status is not None for each in it.after)]:
+                if at_once and len(running) >= at_once:
+                    break
+                waiting.remove(step)
+                lacks = [it.name for it in step.after if not it.is_well()]
+                if lacks:
+                    step.status, step.failed, step.last_line = 1, 1, f"not run, since {lacks[0]} failed"
+                    self.say(f"{step.name}: {step.last_line}")
+                    continue
+                step.start(self.folder)
+                running.append(step)
+                self.say(f"{step.name} ..")
+            time.sleep(0.2)
+            for step in [*running]:
+                has_ended = step.has_ended()
+                for line in step.new_lines():
+                    self.say(f"{step.name}: {line}")
+                if has_ended:
+                    running.remove(step)
+                    self.say(f"{step.name}: {step.last_line}")
+                    if step.failed:
+                        show_end(step)
+        return all(it.is_well() for it in self.steps)
+
+    def ended(self):
+        """Prints what each step took and the last line, and returns the exit status."""
+        print(f"\n{'minutes':>8} {'of processors':>14}  step")
+        for it in self.steps:
+            print(f"{it.minutes:8.1f} {it.processor_minutes:14.1f}  {it.name}: {it.last_line}")
+        processor = sum(it.processor_minutes for it in self.steps)
+        print(f"{(time.time() - self.begun) / 60:8.1f} {processor:14.1f}  .ci/{self.name}")
+        for it in self.notes:
+            print(it)
+        passed, failed = (sum(getattr(it, which) for it in self.steps) for which in ("passed", "failed"))
+        print(f"{passed} passed, {failed} failed", flush=True)
+        return 1 if failed or not passed else 0
+
+
+def show_end(step):
+    """Prints the end of what a failed step printed, without what says that something is proved or passed."""
+    text = step.out.read_text(errors="replace") + step.err.read_text(errors="replace")
+    lines = [it for it in text.split("\n") if not re.search(r": (proved|passed|ok)$|refused, as it must be|modules loaded=", it)]
+    print("\n".join(f"    {it}" for it in lines[-60:]), flush=True)
