@@ -1,0 +1,323 @@
+"""What amqp_show must print of some bytes, by docs/SHOW.md and docs/GRAMMAR.md, and inputs for it.
+
+It shares nothing with the crates; JSON is by .ci/oracle.
+"""
+
+import random
+import struct
+from dataclasses import dataclass
+from functools import cache
+from importlib.machinery import SourceFileLoader
+from importlib.util import module_from_spec, spec_from_loader
+
+from crates import TOP
+
+# Tables as brokers and clients sent them, with their type tag: a name, and hexadecimal.
+CAPTURED = TOP / "examples/captured/tables.txt"
+FRAME, DEPTH = 131072, 64
+# Each type tag's type, and the width of its payload, or none where a length counts it.
+TYPES = {
+    "t": ("Boolean", 1), "b": ("ShortShortInt", 1), "B": ("ShortShortUInt", 1), "s": ("ShortInt", 2), "U": ("ShortInt", 2),
+    "u": ("ShortUInt", 2), "I": ("LongInt", 4), "i": ("LongUInt", 4), "l": ("LongLongInt", 8), "L": ("LongLongInt", 8),
+    "f": ("Float", 4), "d": ("Double", 8), "D": ("DecimalValue", 5), "S": ("LongString", None), "x": ("ByteArray", None),
+    "A": ("FieldArray", None), "F": ("FieldTable", None), "T": ("Timestamp", 8), "V": ("Void", 0),
+}
+SIGNED = ("ShortShortInt", "ShortInt", "LongInt", "LongLongInt")
+UNPRINTABLE = {*range(0x20), *range(0x7F, 0xA0), 0x61C, 0x200E, 0x200F, *range(0x202A, 0x202F), *range(0x2066, 0x206A)}
+
+
+@cache
+def oracle():
+    """The reader and the writer of JSON of .ci/oracle."""
+    loader = SourceFileLoader("oracle", str(TOP / ".ci/oracle"))
+    module = module_from_spec(spec_from_loader("oracle", loader))
+    loader.exec_module(module)
+    return module
+
+
+# The parts
+
+
+class Failure(Exception):
+    """Where a value fails, and why."""
+
+    def __init__(self, offset, why):
+        super().__init__(f"offset {offset}: {why}")
+
+
+@dataclass
+class Part:
+    offset: int
+    level: int
+    kind: str
+    type: str
+    bytes: bytes
+
+
+def lack(tag, data):
+    """How many more bytes the field of a payload needs that is being read."""
+    name, width = TYPES[tag]
+    if width is None:
+        if len(data) < 4:
+            return 4 - len(data)
+        return max(0, 4 + struct.unpack(">I", data[:4])[0] - len(data))
+    if name == "DecimalValue" and not data:
+        return 1
+    return max(0, width - len(data))
+
+
+def extent(data):
+    """How many bytes the value at the front has at least."""
+    if not data or chr(data[0]) not in TYPES:
+        return 0
+    width = TYPES[chr(data[0])][1]
+    if width is not None:
+        return 1 + width
+    return 5 + (struct.unpack(">I", data[1:5])[0] if len(data) >= 5 else 0)
+
+
+class Dissection:
+    """The parts of the value at the front of some bytes, up to its end or to where it fails."""
+
+    def __init__(self, data, frame=FRAME, depth=DEPTH):
+        self.data, self.parts, self.failure, self.end = data, [], "", 0
+        try:
+            if extent(data) > frame:
+                raise Failure(0, "the value has more bytes than --frame allows")
+            self.end = self.value(0, len(data), 0, depth)
+        except Failure as why:
+            self.failure = str(why)
+
+    def part(self, at, level, kind, type, count):
+        if count:
+            self.parts.append(Part(at, level, kind, type, self.data[at : at + count]))
+        return at + count
+
+    def value(self, at, end, level, depth):
+        """Takes a value apart that begins at an offset, and returns where it ends."""
+        if at == end:
+            raise Failure(at, "a type tag is expected; nothing is left")
+        tag = chr(self.data[at])
+        if tag not in TYPES:
+            raise Failure(at, f"a type tag is expected; {self.data[at]:02x} is none")
+        name, width = TYPES[tag]
+        needs = lack(tag, self.data[at + 1 : end])
+        if not needs and tag in "AF" and not depth:
+            raise Failure(at, "containers nest deeper than --depth allows")
+        at = self.part(at, level, "tag", name, 1)
+        if needs:
+            raise Failure(at, f"the payload of a {name} is expected; more bytes needed: {needs}")
+        if width is not None:
+            return self.part(at, level, "payload", name, width)
+        (count,) = struct.unpack(">I", self.data[at : at + 4])
+        at = self.part(at, level, "length", name, 4)
+        if tag in "Sx":
+            return self.part(at, level, "payload", name, count)
+        end = at + count
+        while at < end:
+            if tag == "F":
+                at = self.key(at, end, level + 1)
+            at = self.value(at, end, level + 1, depth - 1)
+        return at
+
+    def key(self, at, end, level):
+        count = self.data[at]
+        if at + 1 + count > end:
+            raise Failure(at, f"a key is expected; more bytes needed: {at + 1 + count - end}")
+        at = self.part(at, level, "key length", "", 1)
+        try:
+            self.data[at : at + count].decode("utf-8")
+        except UnicodeDecodeError:
+            raise Failure(at, "a key is expected; the bytes aren't UTF-8") from None
+        return self.part(at, level, "key", "", count)
+
+
+def outcome(data, dissection, frame=FRAME):
+    """What reading within the limits comes to."""
+    if not data:
+        return "truncated; more bytes needed: 1"
+    if chr(data[0]) not in TYPES:
+        return "refused, MapOpt"
+    if extent(data) > frame:
+        return "refused, TooLarge"
+    if needs := lack(chr(data[0]), data[1:]):
+        return f"truncated; more bytes needed: {needs}"
+    if dissection.failure:
+        return "refused, Eof"
+    return f"a value of {dissection.end} bytes, {len(data) - dissection.end} follow"
+
+
+# The texts
+
+
+def escaped(c):
+    if c in '"\\':
+        return f"\\{c}"
+    if ord(c) not in UNPRINTABLE:
+        return c
+    return f"\\x{ord(c):02x}" if ord(c) < 128 else f"\\u{{{ord(c):04x}}}"
+
+
+def quoted(data):
+    try:
+        return '"' + "".join(map(escaped, data.decode("utf-8"))) + '"'
+    except UnicodeDecodeError:
+        return '"' + "".join(escaped(chr(b)) if 0x20 <= b < 0x7F else f"\\x{b:02x}" for b in data) + '"'
+
+
+def text_of(name, data):
+    """The text of a payload."""
+    if name == "Boolean":
+        return "false" if data == b"\0" else "true"
+    if name in ("Float", "Double"):
+        return f"bits {data.hex()}"
+    if name == "LongString":
+        return quoted(data)
+    if name == "ByteArray":
+        return data.hex()
+    if name == "DecimalValue":
+        digits, scale = str(int.from_bytes(data[1:], "big")), data[0]
+        digits = digits.rjust(scale + 1, "0")
+        return f"{digits[:-scale]}.{digits[-scale:]}" if scale else digits
+    return str(int.from_bytes(data, "big", signed=name in SIGNED))
+
+
+def notes(parts):
+    """What isn't canonical at each part, or nothing."""
+    before, found = {}, []
+    for at, part in enumerate(parts):
+        note = ""
+        if part.kind == "length":
+            before[part.level + 1] = None
+        if part.kind == "key length":
+            follows = parts[at + 1 : at + 2]
+            key = follows[0].bytes if follows and follows[0].kind == "key" else b"" if part.bytes == b"\0" else None
+            last = before.get(part.level)
+            if key is not None and last is not None and key <= last:
+                note = "the key comes again: the last value counts" if key == last else "the key comes after a greater one"
+            before[part.level] = key if key is not None else last
+        if part.kind == "tag" and part.bytes in (b"U", b"L"):
+            note = f"{part.bytes.decode()} is a second spelling of {'s' if part.bytes == b'U' else 'l'}"
+        if part.kind == "payload" and part.type == "Boolean" and part.bytes not in (b"\0", b"\1"):
+            note = "true is written as 01"
+        found.append(f" (not canonical: {note})" if note else "")
+    return found
+
+
+def tree(parts):
+    lines, has_key = [], False
+    for at, (part, note) in enumerate(zip(parts, notes(parts))):
+        follows = parts[at + 1 : at + 3]
+        if part.kind == "key length":
+            is_key = follows and follows[0].kind == "key"
+            key = quoted(follows[0].bytes) if is_key else '""' if part.bytes == b"\0" else "?"
+            lines.append("  " * part.level + key + note)
+            has_key = True
+        elif part.kind == "tag":
+            line = part.type
+            payload = [it for it in follows[: 2 if TYPES[chr(part.bytes[0])][1] is None else 1] if it.kind == "payload" and it.type == part.type]
+            is_counted = part.type in ("LongString", "ByteArray") and follows and follows[0].kind == "length"
+            if payload and part.type not in ("FieldArray", "FieldTable"):
+                line += f" {text_of(part.type, payload[0].bytes)}"
+            elif is_counted and follows[0].bytes == b"\0\0\0\0":
+                line += f" {text_of(part.type, b'')}"
+            if has_key:
+                lines[-1] += f": {line}{note}"
+            else:
+                lines.append("  " * part.level + line + note)
+            has_key = False
+        elif note:
+            lines[-1] += note
+    return lines
+
+
+def part_lines(parts):
+    for part, note in zip(parts, notes(parts)):
+        digits = part.bytes[:8].hex() + (".." if len(part.bytes) > 8 else "")
+        what = {
+            "tag": lambda: f"type tag {part.bytes.decode('latin-1')}, {part.type}",
+            "length": lambda: f"length {int.from_bytes(part.bytes, 'big')}",
+            "key length": lambda: f"key length {part.bytes[0]}",
+            "key": lambda: f"key {quoted(part.bytes)}",
+            "payload": lambda: text_of(part.type, part.bytes),
+        }[part.kind]()
+        yield f"{part.offset:>6}  {digits:<18}  {'  ' * part.level}{what}{note}"
+
+
+def printed(data):
+    """What `amqp_show --tree --bytes` prints of some bytes, and its status."""
+    found = Dissection(data)
+    lines = [*tree(found.parts), *part_lines(found.parts)]
+    lines += [f"! {found.failure}"] if found.failure else []
+    return "".join(f"{line}\n" for line in [*lines, f"= {outcome(data, found)}"]), int(bool(found.failure))
+
+
+def printed_json(data):
+    """What `amqp_show --json` prints, what it says on standard error, and its status."""
+    found, other = Dissection(data), oracle()
+    if found.failure:
+        return "", f'amqp_show: "-": {found.failure}; {outcome(data, found)}\n', 1
+    value, rest = other.read(data)
+    said = f'amqp_show: "-": {len(rest)} bytes follow the value\n' if rest else ""
+    return f"{other.json_text(value)}\n", said, 0
+
+
+# Inputs
+
+
+def field(tag, body):
+    return tag + struct.pack(">I", len(body)) + body
+
+
+def value_of(make, depth):
+    """An encoding of a value, of any type."""
+    tag = make.choice("tbBsUuIilLfdDSxTVAF" if depth else "tbBsUuIilLfdDSxTV")
+    width = TYPES[tag][1]
+    if width is not None:
+        return tag.encode() + make.randbytes(width)
+    if tag in "Sx":
+        return field(tag.encode(), make.choice([b"", "gr\u00fc\u00df \u202e\u0085\"\\\x1b[31m".encode(), make.randbytes(17)]))
+    entries = [value_of(make, depth - 1) for _ in range(make.randrange(5))]
+    if tag == "F":
+        entries = [bytes([len(key)]) + key + it for it in entries for key in [make.choice([b"", b"a", b"b", b"a\x7f", "\u00e9".encode()])]]
+    return field(tag.encode(), b"".join(entries))
+
+
+def nested(tag, count, inside):
+    for _ in range(count):
+        inside = field(b"A", inside) if tag == "A" else field(b"F", b"\1k" + inside)
+    return inside
+
+
+def damaged(make, data):
+    """The bytes with one of them another, one more or one less."""
+    at = make.randrange(len(data))
+    return make.choice([data[:at], data[:at] + make.randbytes(1) + data[at + 1 :], data[:at] + data[at + 1 :], data[:at] + b"\xff" + data[at:]])
+
+
+def captured():
+    lines = [it for it in CAPTURED.read_text().splitlines() if it and not it.startswith("#")]
+    return [bytes.fromhex(it.rpartition(": ")[2]) for it in lines]
+
+
+def inputs():
+    """Inputs of every kind: types, keys, strings, nesting, what was really sent, and damage to all of it."""
+    make, tables = random.Random(9), captured()
+    yield from [b"", b"_", b"\0"]
+    yield from (tag.encode() + it * 16 for tag in TYPES for it in (b"\0", b"\xff", b"\x80", b"\1"))
+    for size in (0, 1, 17, 256, 65536, 70000):
+        yield from (field(tag, make.randbytes(size)) for tag in (b"S", b"x"))
+        yield field(b"S", b"\xc3\xa9" * (size // 2))
+    yield from (field(b"F", bytes([size]) + b"k" * size + it) for size in (0, 1, 40, 255) for it in (b"V", b"t\7", b"z", b""))
+    for count in (1, 2, 63, 64, 65, 200):
+        yield from (nested(tag, count, inside) for tag in "AF" for inside in (b"V", b"z", b"I\0", b"A\0\0\0\0"))
+    yield field(b"S", b"\7" * 131067)
+    yield field(b"S", b"\7" * 131068)
+    yield from tables
+    for table in sorted(tables, key=len)[-3:]:
+        yield from (table[:size] for size in range(len(table)))
+    values = [value_of(make, 3) for _ in range(400)]
+    yield from values
+    yield from (value + make.randbytes(3) for value in values[:50])
+    for value in [*values, *tables * 10]:
+        yield damaged(make, value)
