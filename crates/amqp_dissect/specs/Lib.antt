@@ -12,3 +12,5 @@ pub mod Texts
 pub mod Ends
 -- where a dissection takes memory
 pub mod Memory
+-- values that are no containers
+pub mod Leaves

@@ -6,6 +6,7 @@
 #![tactic(auto)]
 
 mod dissection;
+mod leaf;
 mod part;
 mod problem;
 pub mod rows;
@@ -13,6 +14,7 @@ mod text;
 mod walk;
 
 pub use dissection::{Dissection, End, dissect};
+pub use leaf::{Leaf, first_leaf, leaf_of};
 pub use part::{Field, Part};
 pub use problem::Problem;
 pub use text::escape;

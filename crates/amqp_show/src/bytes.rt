@@ -1,9 +1,9 @@
 //! A value byte by byte.
 
 use crate::notes::{Keys, push_note};
-use crate::screen::{Colour, Screen};
 use crate::texts::part_text;
 use amqp_dissect::{Field, Part};
+use amqp_screen::{Colour, Screen};
 use std::alloc::{AllocError, Global};
 
 // How many bytes of a part are shown.

@@ -2,10 +2,9 @@
 
 use crate::input::read_file;
 use crate::messages::{complain, unreadable};
-use crate::screen::{Screen, print_raw};
-use crate::status::Status;
 use amqp_convert::{EncodeError, encoding_of_json};
 use amqp_json::JsonError;
+use amqp_screen::{Screen, Status, print_raw};
 use anyhow::{Result, anyhow};
 use std::str;
 

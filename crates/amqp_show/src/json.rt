@@ -1,12 +1,11 @@
 //! A value as JSON.
 
 use crate::messages::complain;
-use crate::screen::Screen;
-use crate::status::Status;
 use crate::texts::{failure_text, outcome_text};
 use amq_protocol_types::stream::Limits;
 use amqp_convert::{DecodeError, json_of_encoding};
 use amqp_dissect::dissect;
+use amqp_screen::{Screen, Status};
 use anyhow::{Result, anyhow};
 
 /// Prints the JSON of the value at the beginning of a file's bytes on a line, and says what is

@@ -8,22 +8,19 @@ mod digits;
 mod encode;
 mod input;
 mod json;
-mod leaf;
 mod messages;
 mod notes;
+mod payload;
 mod recorder;
-mod screen;
 mod show;
-mod status;
 mod stream;
 mod texts;
 mod tree;
 
+use amqp_screen::{Screen, Status, exit_status, is_terminal, worse};
 use anyhow::Result;
 use arguments::{Settings, Task};
 use messages::{complain, fail};
-use screen::{Screen, is_terminal};
-use status::{Status, exit_status, worse};
 use std::env;
 use std::process::ExitCode;
 

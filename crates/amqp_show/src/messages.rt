@@ -1,8 +1,7 @@
 //! Messages on the standard error.
 
-use crate::screen::{CLOSED, Screen};
-use crate::status::Status;
 use crate::texts::quoted;
+use amqp_screen::{CLOSED, Screen, Status};
 use anyhow::{Error, Result};
 
 /// Says something of a file.

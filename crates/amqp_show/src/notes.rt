@@ -1,8 +1,8 @@
 //! What makes an encoding another one than the canonical one.
 
-use crate::screen::{Colour, Screen};
 use amq_protocol_types::AMQPType;
 use amqp_dissect::{Field, Part};
+use amqp_screen::{Colour, Screen};
 use std::alloc::{AllocError, Global};
 use std::cmp::Ordering;
 

@@ -5,11 +5,10 @@ use crate::bytes::push_bytes;
 use crate::input::read_input;
 use crate::json;
 use crate::messages::unreadable;
-use crate::screen::{Colour, Screen};
-use crate::status::Status;
 use crate::texts::{failure_text, outcome_text};
 use crate::tree::push_tree;
 use amqp_dissect::{End, dissect};
+use amqp_screen::{Colour, Screen, Status};
 use anyhow::Result;
 use std::alloc::{AllocError, Global};
 

@@ -1,10 +1,10 @@
 //! Words for what is shown.
 
-use crate::leaf::{leaf_of, leaf_text};
+use crate::payload::leaf_text;
 use amq_protocol_types::in_place::read_in_place;
 use amq_protocol_types::parsing::{Err, ErrorKind, Needed, ParserError};
 use amq_protocol_types::stream::Limits;
-use amqp_dissect::{Dissection, End, Field, Part, Problem, escape};
+use amqp_dissect::{Dissection, End, Field, Part, Problem, escape, leaf_of};
 use std::alloc::{AllocError, Global};
 use std::str;
 

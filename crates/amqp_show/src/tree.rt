@@ -1,11 +1,11 @@
 //! A value as a tree.
 
-use crate::leaf::{first_leaf, leaf_text};
 use crate::notes::{Keys, key_of, push_note};
-use crate::screen::{Colour, Screen};
+use crate::payload::leaf_text;
 use crate::texts::quoted;
 use amq_protocol_types::AMQPType;
-use amqp_dissect::{Field, Part};
+use amqp_dissect::{Field, Part, first_leaf};
+use amqp_screen::{Colour, Screen};
 use std::alloc::{AllocError, Global};
 
 /// Adds a line for each value: its key in a table, its type, and what it is; indented by how deep

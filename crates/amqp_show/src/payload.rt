@@ -1,0 +1,72 @@
+//! The text of a payload.
+
+use crate::texts::quoted;
+use amq_protocol_types::AMQPType;
+use amqp_dissect::Leaf;
+use std::alloc::{AllocError, Global};
+
+/// The value as text: a Float and a Double by their bits. Nothing where the payload isn't as wide
+/// as the type.
+pub fn leaf_text(alloc: Global, leaf: Leaf<'_>) -> Result<String, AllocError> {
+    match (leaf.amqp_type, leaf.payload) {
+        (AMQPType::LongString, text) => quoted(alloc, text),
+        (AMQPType::ByteArray, bytes) => hex::encode(alloc, bytes),
+        (AMQPType::Boolean, [byte]) => format!(in alloc; "{}", *byte != 0),
+        (AMQPType::ShortShortInt, [a]) => format!(in alloc; "{}", i8::from_be_bytes([*a])),
+        (AMQPType::ShortShortUInt, [a]) => format!(in alloc; "{a}"),
+        (AMQPType::ShortInt, [a, b]) => format!(in alloc; "{}", i16::from_be_bytes([*a, *b])),
+        (AMQPType::ShortUInt, [a, b]) => format!(in alloc; "{}", u16::from_be_bytes([*a, *b])),
+        (amqp_type, [a, b, c, d]) => four_text(alloc, amqp_type, [*a, *b, *c, *d]),
+        (AMQPType::DecimalValue, [scale, a, b, c, d]) => {
+            decimal_text(alloc, u32::from_be_bytes([*a, *b, *c, *d]), *scale)
+        }
+        (amqp_type, [a, b, c, d, e, f, g, h]) => eight_text(
+            alloc,
+            amqp_type,
+            [*a, *b, *c, *d, *e, *f, *g, *h],
+        ),
+        _ => Ok(String::new(alloc)),
+    }
+}
+
+// A decimal with so many digits behind its point, and no point where there are none.
+fn decimal_text(alloc: Global, number: u32, scale: u8) -> Result<String, AllocError> {
+    let digits = format!(in alloc; "{number}")?;
+    let before = digits.len().saturating_sub(usize::from(scale));
+    let mut text = String::new(alloc);
+    if before == 0 {
+        text.push_str("0.")?;
+        for _ in digits.len()..usize::from(scale) {
+            text.push('0')?;
+        }
+    }
+    for (index, digit) in digits.chars().enumerate() {
+        if 0 < index && index == before {
+            text.push('.')?;
+        }
+        text.push(digit)?;
+    }
+    Ok(text)
+}
+
+// A value of four bytes.
+fn four_text(alloc: Global, amqp_type: AMQPType, bytes: [u8; 4]) -> Result<String, AllocError> {
+    match amqp_type {
+        AMQPType::LongInt => format!(in alloc; "{}", i32::from_be_bytes(bytes)),
+        AMQPType::LongUInt => format!(in alloc; "{}", u32::from_be_bytes(bytes)),
+        AMQPType::Float => format!(in alloc; "bits {:08x}", u32::from_be_bytes(bytes)),
+        _ => Ok(String::new(alloc)),
+    }
+}
+
+// A value of eight bytes.
+fn eight_text(alloc: Global, amqp_type: AMQPType, bytes: [u8; 8]) -> Result<String, AllocError> {
+    match amqp_type {
+        AMQPType::LongLongInt | AMQPType::LongLongUInt => {
+            format!(in alloc; "{}", i64::from_be_bytes(bytes))
+        }
+        AMQPType::Double => format!(in alloc; "bits {:016x}", u64::from_be_bytes(bytes)),
+        AMQPType::Timestamp => format!(in alloc; "{}", u64::from_be_bytes(bytes)),
+        _ => Ok(String::new(alloc)),
+    }
+}
