@@ -1,10 +1,11 @@
 -- Reading again what was checked.
-use Rattle.std.proofs.Common.{◌<◌, ◌≤◌, ℕ, List, length, arith}
+use Rattle.std.proofs.Common.{◌≡◌, ◌<◌, ◌≤◌, ℕ, List, length, refl, arith}
 use Rattle.std.proofs.Math.Logic.{∥∥₁_elim}
 use Rattle.amqp_grammar.specs.Values.{Entries}
 use Rattle.amqp_grammar.proofs.GrammarLaws.{body_nesting-le, pairs_nesting-le}
 use Rattle.amqp_parsing.specs.declared.errors.Err.TheVariants.{Incomplete, Error, Failure}
 use Rattle.amqp_parsing.specs.declared.errors.Needed.TheVariants.{Unknown, Size}
+use Rattle.amqp_parsing.specs.declared.errors.ErrorKind.{ErrorKind}
 use Rattle.amqp_parsing.specs.declared.errors.ErrorKind.TheVariants.{MapOpt, MapRes, Eof, OutOfMemory, TooLarge}
 use Rattle.amqp_parsing.specs.Refusals.{Refusal}
 use Rattle.amqp_parsing.specs.Answers.{Refuses}
@@ -15,28 +16,28 @@ no_prop : IsProp ⊥
 no_prop x y = absurd x
 
 -- where bytes are values, only memory can lack
-pub values_need : (d : ℕ) (s : List ℕ) (e : Refusal) → length s ≤ d → ∥ HasValues s ∥₁ → Refuses (IsNoBody d s) (0 < length s) e → 0 < length s
-values_need d s (Incomplete Unknown) deep has x = absurd x
-values_need d s (Incomplete (Size n)) deep has x = absurd x
-values_need d s (Error MapOpt) deep has x = absurd x
-values_need d s (Error Eof) deep has x =
+pub values_there : (d : ℕ) (s : List ℕ) (e : Refusal) → length s ≤ d → ∥ HasValues s ∥₁ → Refuses (IsNoBody d s) (0 < length s) e → ((k : ErrorKind) → e ≡ Failure k → ⊥) → ⊥
+values_there d s (Incomplete Unknown) deep has x other = absurd x
+values_there d s (Incomplete (Size n)) deep has x other = absurd x
+values_there d s (Error MapOpt) deep has x other = absurd x
+values_there d s (Error Eof) deep has x other =
     absurd (∥∥₁_elim has no_prop (λ (p : HasValues s). x p.0 (p.1, omega (arith, body_nesting-le s p.0 p.1))))
-values_need d s (Error MapRes) deep has x = absurd x
-values_need d s (Error OutOfMemory) deep has x = absurd x
-values_need d s (Error TooLarge) deep has x = absurd x
-values_need d s (Failure k) deep has x = x.1
+values_there d s (Error MapRes) deep has x other = absurd x
+values_there d s (Error OutOfMemory) deep has x other = absurd x
+values_there d s (Error TooLarge) deep has x other = absurd x
+values_there d s (Failure k) deep has x other = other k refl
 
 -- and where they are pairs
-pub pairs_need : (d : ℕ) (s : List ℕ) (e : Refusal) → length s ≤ d → ∥ HasPairs s ∥₁ → Refuses (IsNoTable d s) (0 < length s) e → 0 < length s
-pairs_need d s (Incomplete Unknown) deep has x = absurd x
-pairs_need d s (Incomplete (Size n)) deep has x = absurd x
-pairs_need d s (Error MapOpt) deep has x = absurd x
-pairs_need d s (Error Eof) deep has x =
+pub pairs_there : (d : ℕ) (s : List ℕ) (e : Refusal) → length s ≤ d → ∥ HasPairs s ∥₁ → Refuses (IsNoTable d s) (0 < length s) e → ((k : ErrorKind) → e ≡ Failure k → ⊥) → ⊥
+pairs_there d s (Incomplete Unknown) deep has x other = absurd x
+pairs_there d s (Incomplete (Size n)) deep has x other = absurd x
+pairs_there d s (Error MapOpt) deep has x other = absurd x
+pairs_there d s (Error Eof) deep has x other =
     absurd (∥∥₁_elim has no_prop (λ (p : HasPairs s). x p.0 (p.1, omega (arith, pairs_nesting-le s p.0 p.1))))
-pairs_need d s (Error MapRes) deep has x = absurd x
-pairs_need d s (Error OutOfMemory) deep has x = absurd x
-pairs_need d s (Error TooLarge) deep has x = absurd x
-pairs_need d s (Failure k) deep has x = x.1
+pairs_there d s (Error MapRes) deep has x other = absurd x
+pairs_there d s (Error OutOfMemory) deep has x other = absurd x
+pairs_there d s (Error TooLarge) deep has x other = absurd x
+pairs_there d s (Failure k) deep has x other = other k refl
 
 -- what is read at some depth is an entry
 pub entries_of_table : (d : ℕ) (s : List ℕ) (es : Entries) → IsTable d s es → HasEntries s es

@@ -11,6 +11,7 @@ ghost use Rattle.amqp_in_place.specs.Places.{LiesWithin};
 use super::refs::{ArrayRef, ValueRef};
 use super::steps::next_value;
 use amqp_input::ParsableInput;
+use amqp_parsing::Err;
 use amqp_parsing::values::parse_body;
 use amqp_value_core::types::FieldArray;
 use std::alloc::{AllocError, Global};
@@ -57,7 +58,9 @@ impl<'a> ArrayRef<'a> {
         let body = self.body();
         match parse_body(alloc, body, body.input_len()) {
             Ok(array) => Ok(array),
-            Err(_) => Err(AllocError),
+            Err(Err::Failure(_)) => Err(AllocError),
+            Err(Err::Incomplete(_)) => unreachable!(),
+            Err(Err::Error(_)) => unreachable!(),
         }
     }
 }

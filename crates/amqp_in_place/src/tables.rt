@@ -14,6 +14,7 @@ ghost use Rattle.amqp_in_place.specs.Places.{LiesWithin};
 use super::refs::{TableRef, ValueRef};
 use super::steps::{front_value, next_key};
 use amqp_input::ParsableInput;
+use amqp_parsing::Err;
 use amqp_parsing::values::parse_pairs;
 use amqp_value_core::types::FieldTable;
 use std::alloc::{AllocError, Global};
@@ -62,7 +63,9 @@ impl<'a> TableRef<'a> {
         let body = self.body();
         match parse_pairs(alloc, body, body.input_len()) {
             Ok(table) => Ok(table),
-            Err(_) => Err(AllocError),
+            Err(Err::Failure(_)) => Err(AllocError),
+            Err(Err::Incomplete(_)) => unreachable!(),
+            Err(Err::Error(_)) => unreachable!(),
         }
     }
 }

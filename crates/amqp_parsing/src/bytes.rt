@@ -42,7 +42,7 @@ pub(crate) fn copy_by_chunks<I: ParsableInput>(
             bytes.extend_from_slice(chunk)?;
             rest = rest.take_from(n);
         } else {
-            bytes.push(rest.byte_at(0)).map_err(AllocError::from)?;
+            bytes.push(rest.byte_at(0))?;
             rest = rest.take_from(1);
         }
     }

@@ -3,6 +3,7 @@
 ghost use Rattle.std.specs.Prelude.{◌≡◌, Some};
 ghost use Rattle.amqp_parsing.specs.Refusals.{lacks, refused, out_of_memory, inside};
 
+use std::alloc::AllocError;
 use std::error::Error;
 use std::fmt;
 use std::marker::Model;
@@ -120,6 +121,14 @@ pub fn out_of_memory() -> ParserError
     Err::Failure(ParserErrors {
         kind: ErrorKind::OutOfMemory,
     })
+}
+
+impl From<AllocError> for ParserError {
+    ghost from_gives = { λ _ e. e ≡ out_of_memory };
+
+    fn from(_refused: AllocError) -> ParserError {
+        out_of_memory()
+    }
 }
 
 // what the error of an entry means for the container round it, whose body is whole

@@ -4,7 +4,7 @@ ghost use Rattle.std.specs.Prelude.{MatchResult, map, length};
 ghost use Rattle.amqp_parsing.specs.Answers.{Refuses};
 ghost use Rattle.amqp_flags.specs.Flags.{flags_of, AreFlagsRead, AreFlagsCut, AreFlagsHeavy};
 
-use super::errors::{ParserResult, lacks, out_of_memory};
+use super::errors::{ParserResult, lacks};
 use super::traits::ParsableInput;
 use amqp_flags::AMQPFlags;
 use std::alloc::Global;
@@ -27,8 +27,6 @@ pub fn parse_flags<I: ParsableInput>(
     if there < len {
         return Err(lacks(len - there));
     }
-    let Ok(flags) = AMQPFlags::from_bytes(alloc, names, i.take(len)) else {
-        return Err(out_of_memory());
-    };
+    let flags = AMQPFlags::from_bytes(alloc, names, i.take(len))?;
     Ok((i.take_from(len), flags))
 }

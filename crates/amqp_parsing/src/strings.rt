@@ -13,7 +13,7 @@ use super::bytes::{copy_by_chunks, copy_of};
 use super::errors::{ErrorKind, ParserResult, lacks, out_of_memory, refused};
 use super::scalars::{parse_long_uint, parse_short_short_uint};
 use super::traits::ParsableInput;
-use amqp_value_core::types::{AMQPType, ByteArray, LongString, ShortString};
+use amqp_value_core::types::{AMQPType, ByteArray, LongString, ShortString, TryCopyError};
 use std::alloc::{AllocError, Global};
 
 /// Reads a short string: its length in one byte, then its bytes, which are UTF-8.
@@ -35,16 +35,15 @@ pub fn parse_short_string<I: ParsableInput>(alloc: Global, i: I) -> ParserResult
     let chunk = body.chunk();
     // bytes that don't lie in one piece are put together first
     let in_pieces = chunk.len() < len;
-    let Ok(joined) = joined(alloc, body, in_pieces) else {
-        return Err(out_of_memory());
-    };
+    let joined = joined(alloc, body, in_pieces)?;
     let Ok(text) = str::from_utf8(whole(in_pieces, joined.as_slice(), chunk)) else {
         return Err(refused(ErrorKind::MapRes));
     };
-    let Ok(text) = ShortString::try_copy(alloc, text) else {
-        return Err(out_of_memory());
-    };
-    Ok((i.take_from(len), text))
+    match ShortString::try_copy(alloc, text) {
+        Ok(text) => Ok((i.take_from(len), text)),
+        Err(TryCopyError::OutOfMemory) => Err(out_of_memory()),
+        Err(TryCopyError::TooLong(_)) => unreachable!(),
+    }
 }
 
 // A copy of an input's bytes where they lie in pieces, and no byte where they don't.
@@ -78,9 +77,7 @@ pub fn parse_long_string<I: ParsableInput>(alloc: Global, i: I) -> ParserResult<
         (OnlyLacks (RawOutcome AMQPType.LongString (I.bytes i)) (RawHeavy AMQPType.LongString (I.bytes i))) }
 {
     let (i, body) = parse_frame(i)?;
-    let Ok(bytes) = copy_of(alloc, body) else {
-        return Err(out_of_memory());
-    };
+    let bytes = copy_of(alloc, body)?;
     Ok((i, LongString::from(bytes)))
 }
 
@@ -93,9 +90,7 @@ pub fn parse_byte_array<I: ParsableInput>(alloc: Global, i: I) -> ParserResult<I
         (OnlyLacks (RawOutcome AMQPType.ByteArray (I.bytes i)) (RawHeavy AMQPType.ByteArray (I.bytes i))) }
 {
     let (i, body) = parse_frame(i)?;
-    let Ok(bytes) = copy_of(alloc, body) else {
-        return Err(out_of_memory());
-    };
+    let bytes = copy_of(alloc, body)?;
     Ok((i, ByteArray::from(bytes)))
 }
 

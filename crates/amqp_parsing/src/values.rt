@@ -12,7 +12,7 @@ ghost use Rattle.amqp_parsing.specs.Answers.{Refuses, HasOneOutcome, KeepsOutcom
 ghost use Rattle.amqp_parsing.specs.Typed.{RawRefuses};
 ghost use Rattle.amqp_parsing.specs.Bodies.{IsNoBody, IsTable, IsNoTable};
 
-use super::errors::{ErrorKind, ParserError, ParserResult, inside, out_of_memory, refused};
+use super::errors::{ErrorKind, ParserError, ParserResult, inside, refused};
 use super::pairs::PairsSoFar;
 use super::scalars::{
     parse_boolean, parse_decimal_value, parse_double, parse_float, parse_long_int,
@@ -222,9 +222,7 @@ pub fn parse_body<I: ParsableInput>(
             Ok(read) => read,
             Err(e) => return Err(inside(e)),
         };
-        if array.push(value).is_err() {
-            return Err(out_of_memory());
-        }
+        array.push(value)?;
         rest = after;
     }
     Ok(array)
@@ -285,13 +283,8 @@ pub fn parse_pairs<I: ParsableInput>(
             Ok(read) => read,
             Err(e) => return Err(inside(e)),
         };
-        if pairs.keep(key, value).is_err() {
-            return Err(out_of_memory());
-        }
+        pairs.keep(key, value)?;
         rest = after;
     }
-    match pairs.into_table(alloc) {
-        Ok(table) => Ok(table),
-        Err(_) => Err(out_of_memory()),
-    }
+    Ok(pairs.into_table(alloc)?)
 }

@@ -1,4 +1,5 @@
 use amqp_parsing::ParserErrors;
+use std::alloc::AllocError;
 use std::io;
 use thiserror::Error;
 
@@ -21,4 +22,15 @@ pub enum StreamError {
     /// An earlier call answered `Refused` or `Truncated`. Nothing was read.
     #[error("failed before")]
     Failed,
+}
+
+impl From<AllocError> for StreamError {
+    ghost use Rattle.std.specs.Prelude.{◌≡◌};
+    ghost use Rattle.amqp_stream.specs.declared.error.StreamError.TheVariants.{OutOfMemory};
+
+    ghost from_gives = { λ _ e. e ≡ OutOfMemory };
+
+    fn from(_refused: AllocError) -> StreamError {
+        StreamError::OutOfMemory
+    }
 }

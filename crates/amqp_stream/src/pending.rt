@@ -127,9 +127,7 @@ impl Pending {
         ensures err { IfErr result (λ e. IsPassing e × (self.new ≡ self.old)
             × Keeps (R.remaining reader.old) (R.remaining reader.new)) }
     {
-        let Ok(room) = make_room(&mut self.buffer, self.count, most) else {
-            return Err(StreamError::OutOfMemory);
-        };
+        let room = make_room(&mut self.buffer, self.count, most)?;
         match read_into(&mut self.buffer, self.count, reader, room) {
             Ok(n) => {
                 self.count += n;

@@ -75,7 +75,7 @@ impl ShortString {
         }
         match String::from_str(alloc, s) {
             Ok(text) => Ok(ShortString { text }),
-            Err(_) => Err(TryCopyError::OutOfMemory),
+            Err(AllocError) => Err(TryCopyError::OutOfMemory),
         }
     }
 
@@ -94,7 +94,8 @@ impl ShortString {
     {
         match ShortString::try_copy(alloc, self.as_str()) {
             Ok(s) => Ok(s),
-            Err(_) => Err(AllocError),
+            Err(TryCopyError::OutOfMemory) => Err(AllocError),
+            Err(TryCopyError::TooLong(_)) => unreachable!(),
         }
     }
 }

@@ -3,5 +3,5 @@ use Rattle.amqp_parsing.proofs.strings.parse_long_string.Goals as goal
 
 pub returns : goal.returns
 returns g c =
-    rw (c.from.ensures, c.in-Ok.ensures.ok)
+    rw (c.from.ensures, c.in_ok-bytes.ensures.ok)
     (long_found (g.I.ParsableInput.bytes c.args.i) (g.I.ParsableInput.bytes c.in_ok-i.body) (g.I.ParsableInput.bytes c.in_ok-i.i) c.in_ok-i.ensures)

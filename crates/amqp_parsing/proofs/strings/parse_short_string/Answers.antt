@@ -4,23 +4,23 @@ use Rattle.amqp_parsing.proofs.Copies.{whole_or_joined}
 use Rattle.amqp_parsing.proofs.Frames.{short_found, short_refused}
 use Rattle.amqp_parsing.proofs.strings.parse_short_string.Goals as goal
 
-pub returns-in_default-from_utf8 : goal.returns-in_default-from_utf8
-returns-in_default-from_utf8 g c =
+pub returns-in_default : goal.returns-in_default
+returns-in_default g c =
     let left = g.I.ParsableInput.bytes c.in_ok-i.i in
     let n = c.in_ok-i.len in
-    let whole : c.whole.result.now ≡ take n left = whole_or_joined _ _ _ left _ n _ c.chunk-chunk.ensures (search rules) (omega arith) (search rules) (λ b. c.as_slice.ensures.value ∙ c.in-Ok.ensures.ok b) c.whole.ensures in
+    let whole : c.whole.result.now ≡ take n left = whole_or_joined _ _ _ left _ n _ c.chunk-chunk.ensures (search rules) (omega arith) (search rules) (λ b. c.as_slice.ensures.value ∙ c.in_ok-joined.ensures.ok b) c.whole.ensures in
     rw c.refused.ensures (
       refl,
       short_refused (g.I.ParsableInput.bytes c.args.i) left n (omega arith) c.in_ok-i.ensures.number (omega arith)
-          (λ utf8. c.in_default-from_utf8.ensures.cases.0 (subst IsUtf8 (sym whole) utf8)),
+          (λ utf8. c.in_default.ensures.cases.0 (subst IsUtf8 (sym whole) utf8)),
     )
 
-pub returns : goal.returns
-returns g c =
+pub returns-in-Ok-try_copy : goal.returns-in-Ok-try_copy
+returns-in-Ok-try_copy g c =
     let left = g.I.ParsableInput.bytes c.in_ok-i.i in
     let n = c.in_ok-i.len in
-    let whole : c.whole.result.now ≡ take n left = whole_or_joined _ _ _ left _ n _ c.chunk-chunk.ensures (search rules) (omega arith) (search rules) (λ b. c.as_slice.ensures.value ∙ c.in-Ok.ensures.ok b) c.whole.ensures in
-    let text : c.in-Ok-try_copy.text ≡ take n left = c.in-Ok-try_copy.ensures.ok ∙ c.in-Ok-from_utf8.ensures.cases.0 ∙ whole in
+    let whole : c.whole.result.now ≡ take n left = whole_or_joined _ _ _ left _ n _ c.chunk-chunk.ensures (search rules) (omega arith) (search rules) (λ b. c.as_slice.ensures.value ∙ c.in_ok-joined.ensures.ok b) c.whole.ensures in
+    let text : c.in-Ok-try_copy.text ≡ take n left = c.in-Ok-try_copy.ensures.ok ∙ c.in-Ok.ensures.cases.0 ∙ whole in
     rw (text, c.take_from.ensures, c.from-len.ensures)
     (short_found (g.I.ParsableInput.bytes c.args.i) left n (omega arith) c.in_ok-i.ensures.number (omega arith)
-    (subst IsUtf8 whole c.in-Ok-from_utf8.ensures.cases.1))
+    (subst IsUtf8 whole c.in-Ok.ensures.cases.1))

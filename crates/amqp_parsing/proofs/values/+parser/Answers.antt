@@ -66,9 +66,9 @@ parse_pairs-pairs-preserved g t c =
     (Walks-step c.args.depth _ (kept c.pairs.pairs) (g.I.ParsableInput.bytes c.pairs.rest) c.in-Ok.read.1 (g.I.ParsableInput.bytes c.in-Ok.read.0)
     (view c.in-Ok-value_within.read.1) _ c.pairs.invariant c.in-Ok.ensures c.in-Ok-value_within.ensures)
 
-pub parse_pairs-returns-in-Ok-into_table : goal.parse_pairs-returns-in-Ok-into_table
-parse_pairs-returns-in-Ok-into_table g t c =
-    rw c.in-Ok-into_table.ensures
+pub parse_pairs-returns : goal.parse_pairs-returns
+parse_pairs-returns g t c =
+    rw c.in_ok-into_table.ensures
     (Walks-end c.args.depth (g.I.ParsableInput.bytes c.args.body) (kept c.pairs.pairs) (g.I.ParsableInput.bytes c.pairs.rest) c.pairs.invariant (omega arith))
 
 pub parse_pairs-returns-then-input_len-eq0 : goal.parse_pairs-returns-then-input_len-eq0

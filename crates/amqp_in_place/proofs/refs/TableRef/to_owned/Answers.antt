@@ -1,9 +1,22 @@
 use Rattle.std.proofs.Common.{List, ℕ, ◌<◌, length, subst, arith}
 use Rattle.amqp_input.specs.Inputs.{slice_bytes}
-use Rattle.amqp_in_place.proofs.Owning.{pairs_need}
+use Rattle.amqp_parsing.specs.Answers.{Refuses}
+use Rattle.amqp_parsing.specs.Bodies.{IsNoTable}
+use Rattle.amqp_in_place.proofs.Owning.{pairs_there}
 use Rattle.amqp_in_place.proofs.refs.TableRef.to_owned.Goals as goal
 
-pub returns-in-Err : goal.returns-in-Err
-returns-in-Err c =
-    subst (λ (s : List ℕ). 0 < length s) c.body-body.ensures.body
-    (pairs_need c.input_len.result (slice_bytes c.body-body.result) c.in-Err.field-0 (omega arith) c.body-body.ensures.well_formed c.in-Err.ensures)
+pub returns-in-Err-Failure : goal.returns-in-Err-Failure
+returns-in-Err-Failure c =
+    let s = slice_bytes c.body-body.result in
+    let x = subst (Refuses (IsNoTable c.input_len.result s) (0 < length s)) c.in-Err-Failure.field-0-is c.in-Err-Failure.ensures in
+    subst (λ (t : List ℕ). 0 < length t) c.body-body.ensures.body x.1
+
+pub unreachable-requires : goal.unreachable-requires
+unreachable-requires c =
+    pairs_there c.input_len.result (slice_bytes c.body-body.result) c.in-Err-Incomplete.field-0 (omega arith) c.body-body.ensures.well_formed c.in-Err-Incomplete.ensures
+    (λ k is. absurd (cc (is, c.in-Err-Incomplete.field-0-is)))
+
+pub unreachable-requires-in-Err-Error : goal.unreachable-requires-in-Err-Error
+unreachable-requires-in-Err-Error c =
+    pairs_there c.input_len.result (slice_bytes c.body-body.result) c.in-Err-Error.field-0 (omega arith) c.body-body.ensures.well_formed c.in-Err-Error.ensures
+    (λ k is. absurd (cc (is, c.in-Err-Error.field-0-is)))

@@ -2,19 +2,19 @@ use Rattle.std.proofs.Common.{take, drop, arith}
 use Rattle.amqp_stream.proofs.Fillings.{length_behind, still_kept, read_on}
 use Rattle.amqp_stream.proofs.pending.Pending.fill_from.Goals as goal
 
-pub returns-in-Ok-read_into-clause-ok : goal.returns-in-Ok-read_into-clause-ok
-returns-in-Ok-read_into-clause-ok g c =
+pub returns-in-Ok-clause-ok : goal.returns-in-Ok-clause-ok
+returns-in-Ok-clause-ok g c =
     let k = c.self.inside.count in
-    let n = c.in-Ok-read_into.n in
+    let n = c.in-Ok.n in
     let new = c.read_into.new.buffer.items in
     let kept = still_kept k c.args.self.now c.self.inside.buffer.items c.make_room.new.buffer.items new c.self.view_is c.make_room.ensures.same c.read_into.ensures.front in
-    let fits = c.in-Ok-read_into.ensures.fits in
-    let room = c.in-Ok.ensures.room in (
+    let fits = c.in-Ok.ensures.fits in
+    let room = c.in_ok-room.ensures.room in (
       take n (drop k new),
       length_behind k n new (omega (arith, fits, room.2, c.read_into.ensures.length)),
       omega (arith, fits, room.1),
       read_on k n c.args.self.now new kept,
-      c.in-Ok-read_into.ensures.ok,
+      c.in-Ok.ensures.ok,
     )
 
 pub returns-in-Err-clause-err : goal.returns-in-Err-clause-err
