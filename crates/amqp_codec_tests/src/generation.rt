@@ -1,5 +1,6 @@
 //! What generators put, by the format's own numbers.
 
+mod faults;
 mod fields;
 mod lengths;
 mod outputs;
