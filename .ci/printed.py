@@ -6,6 +6,8 @@ It shares nothing with the crates; JSON is by .ci/oracle.
 import random
 import struct
 from dataclasses import dataclass
+from decimal import Decimal
+from fractions import Fraction
 from functools import cache
 from importlib.machinery import SourceFileLoader
 from importlib.util import module_from_spec, spec_from_loader
@@ -23,6 +25,8 @@ TYPES = {
     "A": ("FieldArray", None), "F": ("FieldTable", None), "T": ("Timestamp", 8), "V": ("Void", 0),
 }
 SIGNED = ("ShortShortInt", "ShortInt", "LongInt", "LongLongInt")
+# How many digits at most stand before a point, and zeros behind it, with no exponent.
+LAYOUT = {"Float": (13, 5), "Double": (16, 4)}
 UNPRINTABLE = {*range(0x20), *range(0x7F, 0xA0), 0x61C, 0x200E, 0x200F, *range(0x202A, 0x202F), *range(0x2066, 0x206A)}
 
 
@@ -165,12 +169,50 @@ def quoted(data):
         return '"' + "".join(escaped(chr(b)) if 0x20 <= b < 0x7F else f"\\x{b:02x}" for b in data) + '"'
 
 
+def shortest_float(data):
+    """The shortest decimal that reads back as a finite Float above 0, of those the nearest, and of two the even one."""
+    bits = int.from_bytes(data, "big")
+    exact = Fraction(struct.unpack(">f", data)[0])
+    below = Fraction(struct.unpack(">f", struct.pack(">I", bits - 1))[0])
+    above = 2 * exact - below if bits == 0x7F7FFFFF else Fraction(struct.unpack(">f", struct.pack(">I", bits + 1))[0])
+    least, most = (below + exact) / 2, (exact + above) / 2
+    for count in range(1, 10):
+        unit = Fraction(10) ** (Decimal(float(exact)).adjusted() + 1 - count)
+        near = [it * unit for it in (exact // unit, exact // unit + 1)]
+        # A decimal in the middle between two is read as the one whose bits are even.
+        if fit := [it for it in near if (least <= it <= most if bits % 2 == 0 else least < it < most)]:
+            nearest = min(fit, key=lambda it: (abs(it - exact), it // unit % 2))
+            return Decimal(nearest.numerator) / Decimal(nearest.denominator)
+    raise AssertionError(data)
+
+
+def number_of(name, data):
+    """The number of a Float or a Double."""
+    (number,) = struct.unpack(">f" if name == "Float" else ">d", data)
+    if number != number:
+        return "NaN"
+    sign = "-" if data[0] & 0x80 else ""
+    if abs(number) == float("inf"):
+        return f"{sign}inf"
+    if not number:
+        return f"{sign}0.0"
+    positive = bytes([data[0] & 0x7F]) + data[1:]
+    shortest = shortest_float(positive) if name == "Float" else Decimal(repr(abs(number)))
+    digits, before = "".join(map(str, shortest.as_tuple().digits)).rstrip("0"), shortest.adjusted() + 1
+    most, zeros = LAYOUT[name]
+    if 0 < before <= most:
+        return f"{sign}{digits[:before].ljust(before, '0')}.{digits[before:] or '0'}"
+    if -zeros <= before <= 0:
+        return f"{sign}0.{'0' * -before}{digits}"
+    return f"{sign}{digits[0]}{'.' if digits[1:] else ''}{digits[1:]}e{before - 1}"
+
+
 def text_of(name, data):
     """The text of a payload."""
     if name == "Boolean":
         return "false" if data == b"\0" else "true"
     if name in ("Float", "Double"):
-        return f"bits {data.hex()}"
+        return f"{number_of(name, data)} (bits {data.hex()})"
     if name == "LongString":
         return quoted(data)
     if name == "ByteArray":
@@ -289,6 +331,16 @@ def nested(tag, count, inside):
     return inside
 
 
+def numbers(make):
+    """Floats and Doubles at every edge, in arrays."""
+    floats = [*range(0, 1 << 31, 1 << 23), *range(1, 1 << 31, 1 << 23), 0x7F7FFFFF, *(make.getrandbits(32) for _ in range(1000))]
+    floats += [int.from_bytes(struct.pack(">f", 10.0**it), "big") for it in range(-38, 39)]
+    doubles = [*range(0, 1 << 63, 1 << 52), *range(1, 1 << 63, 1 << 52), (0x7FF << 52) - 1, *(make.getrandbits(64) for _ in range(1000))]
+    doubles += [int.from_bytes(struct.pack(">d", -(10.0**it)), "big") for it in range(-323, 309)]
+    yield field(b"A", b"".join(b"f" + struct.pack(">I", it) for it in floats))
+    yield field(b"A", b"".join(b"d" + struct.pack(">Q", it) for it in doubles))
+
+
 def damaged(make, data):
     """The bytes with one of them another, one more or one less."""
     at = make.randrange(len(data))
@@ -321,3 +373,4 @@ def inputs():
     yield from (value + make.randbytes(3) for value in values[:50])
     for value in [*values, *tables * 10]:
         yield damaged(make, value)
+    yield from numbers(make)

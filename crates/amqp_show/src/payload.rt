@@ -3,9 +3,11 @@
 use crate::texts::quoted;
 use amq_protocol_types::AMQPType;
 use amqp_dissect::Leaf;
+use ryu::Buffer;
 use std::alloc::{AllocError, Global};
+use std::num::{f32_from_bits_with_nan, f64_from_bits_with_nan};
 
-/// The value as text: a Float and a Double by their bits. Nothing where the payload isn't as wide
+/// The value as text: a Float and a Double with their bits. Nothing where the payload isn't as wide
 /// as the type.
 pub fn leaf_text(alloc: Global, leaf: Leaf<'_>) -> Result<String, AllocError> {
     match (leaf.amqp_type, leaf.payload) {
@@ -54,7 +56,7 @@ fn four_text(alloc: Global, amqp_type: AMQPType, bytes: [u8; 4]) -> Result<Strin
     match amqp_type {
         AMQPType::LongInt => format!(in alloc; "{}", i32::from_be_bytes(bytes)),
         AMQPType::LongUInt => format!(in alloc; "{}", u32::from_be_bytes(bytes)),
-        AMQPType::Float => format!(in alloc; "bits {:08x}", u32::from_be_bytes(bytes)),
+        AMQPType::Float => float_text(alloc, u32::from_be_bytes(bytes)),
         _ => Ok(String::new(alloc)),
     }
 }
@@ -65,8 +67,22 @@ fn eight_text(alloc: Global, amqp_type: AMQPType, bytes: [u8; 8]) -> Result<Stri
         AMQPType::LongLongInt | AMQPType::LongLongUInt => {
             format!(in alloc; "{}", i64::from_be_bytes(bytes))
         }
-        AMQPType::Double => format!(in alloc; "bits {:016x}", u64::from_be_bytes(bytes)),
+        AMQPType::Double => double_text(alloc, u64::from_be_bytes(bytes)),
         AMQPType::Timestamp => format!(in alloc; "{}", u64::from_be_bytes(bytes)),
         _ => Ok(String::new(alloc)),
     }
+}
+
+// The number of these bits, as the shortest decimal that reads back as it.
+fn float_text(alloc: Global, bits: u32) -> Result<String, AllocError> {
+    let mut buffer = Buffer::new();
+    let number = buffer.format(f32_from_bits_with_nan(bits));
+    format!(in alloc; "{number} (bits {bits:08x})")
+}
+
+// The same of a Double.
+fn double_text(alloc: Global, bits: u64) -> Result<String, AllocError> {
+    let mut buffer = Buffer::new();
+    let number = buffer.format(f64_from_bits_with_nan(bits));
+    format!(in alloc; "{number} (bits {bits:016x})")
 }
