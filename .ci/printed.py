@@ -6,6 +6,7 @@ It shares nothing with the crates; JSON is by .ci/oracle.
 import random
 import struct
 from dataclasses import dataclass
+from datetime import datetime, timedelta
 from decimal import Decimal
 from fractions import Fraction
 from functools import cache
@@ -27,6 +28,7 @@ TYPES = {
 SIGNED = ("ShortShortInt", "ShortInt", "LongInt", "LongLongInt")
 # How many digits at most stand before a point, and zeros behind it, with no exponent.
 LAYOUT = {"Float": (13, 5), "Double": (16, 4)}
+LAST_DATE = 253402207200
 UNPRINTABLE = {*range(0x20), *range(0x7F, 0xA0), 0x61C, 0x200E, 0x200F, *range(0x202A, 0x202F), *range(0x2066, 0x206A)}
 
 
@@ -221,7 +223,10 @@ def text_of(name, data):
         digits, scale = str(int.from_bytes(data[1:], "big")), data[0]
         digits = digits.rjust(scale + 1, "0")
         return f"{digits[:-scale]}.{digits[-scale:]}" if scale else digits
-    return str(int.from_bytes(data, "big", signed=name in SIGNED))
+    number = int.from_bytes(data, "big", signed=name in SIGNED)
+    if name == "Timestamp" and number <= LAST_DATE:
+        return f"{number} ({datetime(1970, 1, 1) + timedelta(seconds=number):%Y-%m-%dT%H:%M:%SZ})"
+    return str(number)
 
 
 def notes(parts):
@@ -332,13 +337,16 @@ def nested(tag, count, inside):
 
 
 def numbers(make):
-    """Floats and Doubles at every edge, in arrays."""
+    """Floats, Doubles and Timestamps at every edge, in arrays."""
     floats = [*range(0, 1 << 31, 1 << 23), *range(1, 1 << 31, 1 << 23), 0x7F7FFFFF, *(make.getrandbits(32) for _ in range(1000))]
     floats += [int.from_bytes(struct.pack(">f", 10.0**it), "big") for it in range(-38, 39)]
     doubles = [*range(0, 1 << 63, 1 << 52), *range(1, 1 << 63, 1 << 52), (0x7FF << 52) - 1, *(make.getrandbits(64) for _ in range(1000))]
     doubles += [int.from_bytes(struct.pack(">d", -(10.0**it)), "big") for it in range(-323, 309)]
+    times = [0, 951782400, 1735689600, *(LAST_DATE + it for it in (-1, 0, 1, 10**5)), 2**63 - 1, 2**63, 2**64 - 1]
+    times += [make.randrange(LAST_DATE) for _ in range(100)]
     yield field(b"A", b"".join(b"f" + struct.pack(">I", it) for it in floats))
     yield field(b"A", b"".join(b"d" + struct.pack(">Q", it) for it in doubles))
+    yield field(b"A", b"".join(b"T" + struct.pack(">Q", it) for it in times))
 
 
 def damaged(make, data):

@@ -3,12 +3,13 @@
 use crate::texts::quoted;
 use amq_protocol_types::AMQPType;
 use amqp_dissect::Leaf;
+use jiff::Timestamp;
 use ryu::Buffer;
 use std::alloc::{AllocError, Global};
 use std::num::{f32_from_bits_with_nan, f64_from_bits_with_nan};
 
-/// The value as text: a Float and a Double with their bits. Nothing where the payload isn't as wide
-/// as the type.
+/// The value as text: a Float and a Double with their bits, a Timestamp with its date. Nothing
+/// where the payload isn't as wide as the type.
 pub fn leaf_text(alloc: Global, leaf: Leaf<'_>) -> Result<String, AllocError> {
     match (leaf.amqp_type, leaf.payload) {
         (AMQPType::LongString, text) => quoted(alloc, text),
@@ -68,7 +69,7 @@ fn eight_text(alloc: Global, amqp_type: AMQPType, bytes: [u8; 8]) -> Result<Stri
             format!(in alloc; "{}", i64::from_be_bytes(bytes))
         }
         AMQPType::Double => double_text(alloc, u64::from_be_bytes(bytes)),
-        AMQPType::Timestamp => format!(in alloc; "{}", u64::from_be_bytes(bytes)),
+        AMQPType::Timestamp => timestamp_text(alloc, u64::from_be_bytes(bytes)),
         _ => Ok(String::new(alloc)),
     }
 }
@@ -85,4 +86,16 @@ fn double_text(alloc: Global, bits: u64) -> Result<String, AllocError> {
     let mut buffer = Buffer::new();
     let number = buffer.format(f64_from_bits_with_nan(bits));
     format!(in alloc; "{number} (bits {bits:016x})")
+}
+
+// Seconds since 1970, and the date in UTC where the calendar reaches so far.
+fn timestamp_text(alloc: Global, seconds: u64) -> Result<String, AllocError> {
+    match instant_of(seconds) {
+        Some(instant) => format!(in alloc; "{seconds} ({instant})"),
+        None => format!(in alloc; "{seconds}"),
+    }
+}
+
+fn instant_of(seconds: u64) -> Option<Timestamp> {
+    Timestamp::from_second(i64::try_from(seconds).ok()?).ok()
 }
