@@ -309,6 +309,20 @@ def printed_json(data):
     return f"{other.json_text(value)}\n", said, 0
 
 
+def streamed(values):
+    """What `amqp_show --stream --keep-going` prints of values and refused ones, one after another, and with `--json` on either output."""
+    text, json, said, offset = [], [], [], 0
+    for data in values:
+        (*lines, last), status = printed(data)[0].splitlines(keepends=True), printed(data)[1]
+        place = f"= no value at {offset}: {last[2:]}" if status else f"= a value of {len(data)} bytes at {offset}\n"
+        text += [*lines, place]
+        line, why, _ = printed_json(data)
+        json.append(line)
+        said.append(why.replace('"-": ', f'"-": no value at {offset}: ', 1))
+        offset += len(data)
+    return "".join(text), "".join(json), "".join(said)
+
+
 # Inputs
 
 
@@ -382,3 +396,8 @@ def inputs():
     for value in [*values, *tables * 10]:
         yield damaged(make, value)
     yield from numbers(make)
+
+
+def stream():
+    """The inputs whose length is known, each up to its end, refused ones too."""
+    return [data[: extent(data)] for data in inputs() if 0 < extent(data) <= len(data)]

@@ -32,7 +32,10 @@ pub enum Task {
     /// The value at its beginning is shown.
     Show,
     /// Its values are shown, each as it comes.
-    Stream,
+    Stream {
+        /// Whether a refused value is passed over.
+        keep_going: bool,
+    },
     /// It is the JSON of a value, which is encoded: as it is where it is wanted raw, and else in
     /// hexadecimal.
     Encode {
@@ -92,7 +95,8 @@ fn task_of(matches: &ArgMatches<'_>) -> Task {
         let raw = matches.get_flag("raw");
         Task::Encode { raw }
     } else if matches.get_flag("stream") {
-        Task::Stream
+        let keep_going = matches.get_flag("keep-going");
+        Task::Stream { keep_going }
     } else {
         Task::Show
     }
@@ -138,6 +142,14 @@ pub fn command<'a>(alloc: Global) -> Result<Command<'a>, AllocError> {
             "stream",
             "The input is values one after another: show each as it comes",
         ))?
+        .arg(
+            flag(
+                alloc,
+                "keep-going",
+                "With --stream: pass over a refused value if its length is known",
+            )
+            .requires_arg("stream")?,
+        )?
         .arg(
             flag(
                 alloc,

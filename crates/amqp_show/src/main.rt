@@ -46,7 +46,7 @@ fn run(rt: &HostRuntime) -> Result<Status> {
     for file in matches.get_strs("FILE").unwrap_or(&["-"]) {
         let shown = match settings.task {
             Task::Show => show::show_file(rt, *file, settings)?,
-            Task::Stream => stream::show_file(rt, *file, settings)?,
+            Task::Stream { .. } => stream::show_file(rt, *file, settings)?,
             Task::Encode { raw } => encode::encode_file(rt, *file, raw)?,
         };
         status = worse(status, shown);

@@ -30,10 +30,30 @@ impl<R: Read> Recorder<R> {
         &self.reader
     }
 
+    /// Reads on until there are so many bytes. Answers whether there are: the reader may end before.
+    pub fn read_up_to(&mut self, count: usize) -> io::Result<bool> {
+        let missing = count.saturating_sub(self.bytes.len());
+        passes(self, missing as u64)
+    }
+
+    /// Forgets what it gave, and reads what is left of a value of so many bytes, of which nothing
+    /// is kept. Answers whether it is there: the reader may end before.
+    pub fn pass_over(&mut self, len: usize) -> io::Result<bool> {
+        let missing = len.saturating_sub(self.bytes.len());
+        self.forget();
+        passes(&mut self.reader, missing as u64)
+    }
+
     /// Forgets them. Their room stays.
     pub fn forget(&mut self) {
         self.bytes.clear();
     }
+}
+
+// Reads so many bytes. Answers whether there are as many.
+fn passes<R: Read>(reader: &mut R, count: u64) -> io::Result<bool> {
+    let read = io::copy(&mut reader.by_ref().take(count), &mut io::sink())?;
+    Ok(read == count)
 }
 
 impl<R: Read> Read for Recorder<R> {

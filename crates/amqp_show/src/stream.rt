@@ -1,22 +1,28 @@
 //! Values one after another.
 
-use crate::arguments::{Form, Settings};
+use crate::arguments::{Form, Settings, Task};
 use crate::digits::Digits;
 use crate::input::BLOCK;
 use crate::json::{print_failure, print_json};
 use crate::messages::{complain, unreadable};
 use crate::recorder::Recorder;
 use crate::show::{push_name, push_value};
-use crate::texts::outcome_text;
+use crate::texts::{failure_text, outcome_text};
 use amq_protocol_types::AMQPValue;
 use amq_protocol_types::stream::{StreamError, Values};
+use amqp_dissect::dissect;
 use amqp_json::to_json;
+use amqp_parsing::SliceInput;
+use amqp_parsing::header::value_len;
 use amqp_screen::{Screen, Status};
 use anyhow::{Context, Result, anyhow};
 use std::alloc::{AllocError, Global};
 use std::fs::File;
 use std::io;
 use std::io::{BufReader, ErrorKind, Read};
+
+// How many bytes tell how long a value is, at most: its type tag and its length.
+const HEADER: usize = 5;
 
 /// Shows the values of a file, each as it comes.
 pub fn show_file(rt: &HostRuntime, file: &str, settings: Settings) -> Result<Status> {
@@ -90,6 +96,7 @@ fn show_values<R: Read + Drop>(
     let mut values = Values::new(rt.alloc(), settings.limits);
     let mut recorder = Recorder::new(rt.alloc(), source);
     let mut offset: u64 = 0;
+    let mut status = Status::Read;
     for _ in 0..u64::MAX {
         match values.next_from(&mut recorder) {
             Ok(Some(value)) => {
@@ -97,21 +104,56 @@ fn show_values<R: Read + Drop>(
                 offset = offset.saturating_add(recorder.as_slice().len() as u64);
                 recorder.forget();
             }
-            Ok(None) => return Ok(Status::Read),
+            Ok(None) => return Ok(status),
             Err(StreamError::Read(ErrorKind::Interrupted)) => {}
-            Err(StreamError::Read(kind)) => {
-                let why = recorder.reader().fault(rt.alloc(), kind)?;
-                complain(rt, file, why.as_str())?;
-                return Ok(Status::Mistake);
-            }
+            Err(StreamError::Read(kind)) => return unread(rt, file, recorder.reader(), kind),
             Err(StreamError::OutOfMemory) => return Err(anyhow!("out of memory")),
+            Err(StreamError::Refused(_)) if keeps_going(settings) => {
+                show_failure(rt, file, recorder.as_slice(), offset, settings)?;
+                status = Status::Refused;
+                match pass_over(&mut recorder) {
+                    Ok(Some(len)) => offset = offset.saturating_add(len as u64),
+                    Ok(None) => return Ok(status),
+                    Err(error) => return unread(rt, file, recorder.reader(), error.kind()),
+                }
+                values = Values::new(rt.alloc(), settings.limits);
+            }
             Err(StreamError::Refused(_) | StreamError::Truncated | StreamError::Failed) => {
                 show_failure(rt, file, recorder.as_slice(), offset, settings)?;
                 return Ok(Status::Refused);
             }
         }
     }
-    Ok(Status::Read)
+    Ok(status)
+}
+
+// Says why a source can't be read, after an error of this kind.
+fn unread<R>(
+    rt: &HostRuntime,
+    file: &str,
+    source: &Source<R>,
+    kind: ErrorKind,
+) -> Result<Status> {
+    let why = source.fault(rt.alloc(), kind)?;
+    complain(rt, file, why.as_str())?;
+    Ok(Status::Mistake)
+}
+
+// Whether a refused value is passed over.
+fn keeps_going(settings: Settings) -> bool {
+    matches!(settings.task, Task::Stream { keep_going: true })
+}
+
+// Reads what hasn't come of the value whose first bytes the recorder gave, and forgets it. Answers
+// how many bytes it has, or none where nothing tells or the reader ends inside it.
+fn pass_over<R: Read>(recorder: &mut Recorder<R>) -> io::Result<Option<usize>> {
+    let header = value_len(SliceInput::new(recorder.as_slice())).min(HEADER);
+    if header == 0 || !recorder.read_up_to(header)? {
+        return Ok(None);
+    }
+    let len = value_len(SliceInput::new(recorder.as_slice()));
+    let is_there = recorder.pass_over(len)?;
+    Ok(is_there.then_some(len))
 }
 
 // Shows a value, which was read from these bytes at this offset of the stream.
@@ -144,7 +186,7 @@ fn show_failure(
 ) -> Result<()> {
     let alloc = rt.alloc();
     if let Form::Json = settings.form {
-        return print_failure(rt, file, bytes, settings.limits);
+        return complain_of_value(rt, file, bytes, offset, settings);
     }
     let mut screen = Screen::new(alloc, settings.colours);
     let _ = push_value(alloc, &mut screen, bytes, settings)?;
@@ -153,4 +195,22 @@ fn show_failure(
     screen.push_line(line.as_str())?;
     screen.print(rt)?;
     Ok(())
+}
+
+// The same in a message, which tells the value's offset where another value may follow.
+fn complain_of_value(
+    rt: &HostRuntime,
+    file: &str,
+    bytes: &[u8],
+    offset: u64,
+    settings: Settings,
+) -> Result<()> {
+    if !keeps_going(settings) {
+        return print_failure(rt, file, bytes, settings.limits);
+    }
+    let alloc = rt.alloc();
+    let failure = failure_text(alloc, &dissect(alloc, bytes, settings.limits)?)?;
+    let outcome = outcome_text(alloc, bytes, settings.limits)?;
+    let why = format!(in alloc; "no value at {offset}: {failure}; {outcome}")?;
+    complain(rt, file, why.as_str())
 }
