@@ -1,13 +1,13 @@
 //! The canonical encoding of the value at the front.
 
-ghost use Rattle.std.specs.Prelude.{◌≡◌, length, IfErr, MatchResult};
-ghost use Rattle.amqp_grammar.specs.Texts.{text, Fits};
+ghost use Rattle.std.specs.Prelude.{◌≡◌, ◌<◌, ◌^◌, length, IfErr, MatchResult};
+ghost use Rattle.amqp_grammar.specs.Texts.{text, size, Fits};
 ghost use Rattle.amqp_value_core.specs.View.{view};
 ghost use Rattle.amqp_c_answers.specs.declared.fault.Fault.TheVariants.{OutOfMemory};
 ghost use Rattle.amqp_c_canonical.specs.Calls.{IsWritten, IsFault};
 
 use amqp_c_answers::{Fault, put};
-use amqp_generation::{WriteContext, gen_value};
+use amqp_generation::{GenError, WriteContext, gen_value};
 use amqp_in_place::canonical_len;
 use amqp_input::SliceInput;
 use amqp_parsing::{Limits, parse_value_within};
@@ -39,12 +39,15 @@ pub fn canonical(
 
 /// The value's canonical encoding, in memory of its own.
 fn encode(alloc: Global, value: &AMQPValue) -> Result<Vec<u8>, Fault>
-    requires { Fits (view value.now) }
+    requires fits { Fits (view value.now) }
+    requires size { size (view value.now) < 2 ^ 64 }
     ensures { MatchResult result (λ bytes. bytes.items ≡ text (view value.now)) (λ fault. fault ≡ OutOfMemory) }
 {
     let mut context = WriteContext::from(Vec::new(alloc));
-    if gen_value(value, &mut context).is_err() {
-        return Err(Fault::OutOfMemory);
+    match gen_value(value, &mut context) {
+        Ok(()) => {}
+        Err(GenError::OutOfMemory) => return Err(Fault::OutOfMemory),
+        Err(_) => unreachable!(),
     }
     let (bytes, _) = context.into_inner();
     Ok(bytes)

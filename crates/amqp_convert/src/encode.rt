@@ -31,6 +31,7 @@ pub fn encoding_of_json(alloc: Global, json: &str) -> Result<Vec<u8>, EncodeErro
 // The canonical encoding of a value, if it has one that is read as it.
 #[tactic(auto, using(crate::proofs::Encodings::again))]
 fn encoding_of(alloc: Global, value: &AMQPValue) -> Result<Vec<u8>, EncodeError>
+    requires stored { IsStored (view value.now) }
     ensures text { IfOk result (λ bytes. bytes.items ≡ text (view value.now)) }
     ensures read_back { IfOk result (λ bytes. IsReadAs bytes.items (view value.now)) }
     ensures refused { IfErr result (HasNoEncoding (view value.now)) }
@@ -38,8 +39,8 @@ fn encoding_of(alloc: Global, value: &AMQPValue) -> Result<Vec<u8>, EncodeError>
     let mut context = WriteContext::from(Vec::new(alloc));
     match gen_value(value, &mut context) {
         Ok(()) => {}
-        Err(GenError::LengthTooLong) => return Err(EncodeError::TooLong),
-        Err(_) => return Err(EncodeError::OutOfMemory),
+        Err(GenError::OutOfMemory) => return Err(EncodeError::OutOfMemory),
+        Err(_) => return Err(EncodeError::TooLong),
     }
     let (bytes, _) = context.into_inner();
     if let Err(_refusal) = read_in_place_unlimited(bytes.as_slice()) {

@@ -13,7 +13,7 @@ use crate::fault::WireFault;
 use crate::line::name_of;
 use crate::run::write_out;
 use amq_protocol_types::AMQPValue;
-use amq_protocol_types::generation::{WriteContext, gen_value};
+use amq_protocol_types::generation::{GenError, WriteContext, gen_value};
 use amq_protocol_types::parsing::ErrorKind;
 use amq_protocol_types::stream::{Limits, StreamError, Values};
 use std::alloc::{AllocError, Global};
@@ -25,8 +25,10 @@ fn line_of(alloc: Global, value: &AMQPValue) -> Result<Vec<u8>, WireFault>
     ensures { IfOk result (λ line. line.items ≡ value_line (view value.now)) }
 {
     let mut context = WriteContext::from(Vec::new(alloc));
-    if gen_value(value, &mut context).is_err() {
-        return Err(WireFault::OutOfMemory);
+    match gen_value(value, &mut context) {
+        Ok(()) => {}
+        Err(GenError::OutOfMemory) => return Err(WireFault::OutOfMemory),
+        Err(_) => return Err(WireFault::Io),
     }
     let (bytes, _) = context.into_inner();
     let hex = hex::encode(alloc, bytes.as_slice())?;
