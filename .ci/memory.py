@@ -1,0 +1,129 @@
+"""Where the sources make up that memory ran out.
+
+No clause can say that an allocation failed. A body that answers OutOfMemory above some size keeps its contract, so its
+form is what is refused: OutOfMemory, of whatever error, and AllocError are made by From<AllocError>, which `?` calls,
+or on the right of a match arm with no guard, each alternative of whose pattern names such an error. Failure and
+out_of_memory() are what amqp_parsing calls it.
+"""
+
+import re
+
+from crates import TOP
+
+# Tests, and programs that provoke such errors.
+LEFT_OUT = set("""
+    amqp_tests amqp_in_place_tests amqp_json_tests amqp_codec_tests amqp_stream_tests amqp_large_tests
+    amqp_refused_calls amqp_hostile amqp_refusals amqp_samples""".split())
+# The lines that stand otherwise, each once in its file, and why.
+LISTED = {
+    ("amqp_json/src/text.rt", "Err(e) if e.is_memory() => return Err(JsonError::OutOfMemory),"):
+        "the kit's error has no variants: a call tells that it is of memory",
+}
+SILENT = r"""//[^\n]*|/\*.*?\*/|\bb?r(#*)".*?"\1|"(?:\\.|[^"\\])*"|'(?:\\.[^']*|[^'\\])'"""
+MADE = r"\bAlloc(?:Error|Failed)\b(?!\s*[<>])|\bOutOfMemory\b|\bFailure\s*\(|\bout_of_memory\s*\("
+NAMED = r"\bAllocError\b|::\s*OutOfMemory\b|::\s*Failure\s*\("
+RENAMED = r"\b(?:AllocError|AllocFailed|OutOfMemory|out_of_memory)\s+as\b"
+IMPORTED = r"\buse std::alloc::(?:AllocError;|\{[^}]*\bAllocError\b)"
+# What makes one of an AllocError.
+MAKER = r"\bimpl From<AllocError> for [^{]*\{|\bpub fn out_of_memory\(\)[^{]*\{"
+
+
+def end_of(code, at, ends):
+    """Behind the first of `ends` from here on in no bracket that opens after here, or where the one round it closes."""
+    depth = 0
+    for it in range(at, len(code)):
+        depth += (code[it] in "([{") - (code[it] in ")]}")
+        if depth < 0:
+            return it
+        if code[it] in ends and depth == (code[it] in "([{"):
+            return it + 1
+    return len(code)
+
+
+def cut(code, head, ends):
+    """The code with blanks for each thing that begins so, up to one of these."""
+    while found := re.search(head, code):
+        end = end_of(code, found.start(), ends)
+        end -= code[end - 1] == "{"
+        code = code[: found.start()] + re.sub(r"\S", " ", code[found.start() : end]) + code[end:]
+    return code
+
+
+def brackets(code, at):
+    """The places of the brackets round a place, the innermost first."""
+    depth = 0
+    for it in range(at - 1, -1, -1):
+        depth += (code[it] in ")]}") - (code[it] in "([{")
+        if depth < 0:
+            yield it
+            depth = 0
+
+
+def before(code, at):
+    """What stands before a place in its arm, statement or argument."""
+    depth = 0
+    for it in range(at - 1, -1, -1):
+        depth += (code[it] in ")]") - (code[it] in "([")
+        if depth < 0 or code[it] in "{}" or depth == 0 and code[it] in ",;":
+            return code[it + 1 : at]
+    return code[:at]
+
+
+def is_pattern(code, at):
+    """Whether what stands here is part of a pattern."""
+    end = at
+    for it in brackets(code, at):
+        if code[it] == "{":
+            break
+        if re.search(r"\bmatches!$", code[:it]):
+            return True
+        at, end = it, end_of(code, it, ")]")
+    front, behind = before(code, at), re.match(r"[^;,{}=]*(=>|=(?!=))?", code[end:])[1]
+    return behind == "=>" and not re.search(r"\bif\b|=>", front) or behind == "=" and bool(re.search(r"\blet\b[^=]*$", front))
+
+
+def is_passed_on(code, at):
+    """Whether it stands in an arm that only such an error comes to."""
+    for place in (at, *brackets(code, at)):
+        pattern, arrow, _ = before(code, place).rpartition("=>")
+        if arrow and not re.search(r"\bif\b", pattern) and all(re.search(NAMED, it) for it in pattern.split("|")):
+            return True
+    return False
+
+
+def made_up(text):
+    """Yields the lines of a file that make it up."""
+    code = re.sub(SILENT, lambda it: re.sub(r"\S", " ", it[0]), text, flags=re.DOTALL)
+    code = cut(code, r"\b(?:requires|ensures\*?|invariant)\s*(?:\w+\s*)?\{", "}")
+    code = cut(code, r"\bghost\b", ";,")
+    code = cut(code, r"#\[cfg\(test\)\]", ";}")
+    if re.search(RENAMED, code):
+        yield 1
+    is_imported = bool(re.search(IMPORTED, code))
+    code = cut(code, r"\buse\b|\btype\b", ";")
+    code = cut(code, r"\b(?:enum|struct)\b", ";}")
+    makers = [(it.end(), end_of(code, it.end() - 1, "}")) for it in re.finditer(MAKER, code)]
+    code = cut(code, r"\bfn\s+\w+", ";{")
+    for found in re.finditer(MADE, code):
+        at = found.start()
+        # what isn't imported is no error but a name that a pattern binds
+        is_known = found[0] != "AllocError" or is_imported
+        is_made = any(begin <= at < end for begin, end in makers)
+        if not (is_known and (is_made or is_pattern(code, at) or is_passed_on(code, at))):
+            yield text.count("\n", 0, at) + 1
+
+
+def faults():
+    """Yields where the sources make it up, by file and line."""
+    listed = set(LISTED)
+    for file in sorted(TOP.glob("crates/*/src/**/*.rt")):
+        name, text = file.relative_to(TOP / "crates").as_posix(), file.read_text()
+        if name.split("/")[0] in LEFT_OUT or re.search(r"/src/tests[./]", name):
+            continue
+        for number in sorted(set(made_up(text))):
+            line = text.splitlines()[number - 1].strip()
+            if (name, line) in listed:
+                listed.remove((name, line))
+            else:
+                yield f"crates/{name}:{number}: makes up that memory ran out: {line}"
+    yield from (f"crates/{name} has no line to be listed: {line}" for name, line in sorted(listed))
