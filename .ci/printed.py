@@ -229,8 +229,8 @@ def text_of(name, data):
     return str(number)
 
 
-def notes(parts):
-    """What isn't canonical at each part, or nothing."""
+def notes(parts, asked):
+    """What isn't canonical at each part, where notes are asked for, or nothing."""
     before, found = {}, []
     for at, part in enumerate(parts):
         note = ""
@@ -241,19 +241,19 @@ def notes(parts):
             key = follows[0].bytes if follows and follows[0].kind == "key" else b"" if part.bytes == b"\0" else None
             last = before.get(part.level)
             if key is not None and last is not None and key <= last:
-                note = "the key comes again: the last value counts" if key == last else "the key comes after a greater one"
+                note = "the key comes again" if key == last else "the key comes after a greater one"
             before[part.level] = key if key is not None else last
         if part.kind == "tag" and part.bytes in (b"U", b"L"):
             note = f"{part.bytes.decode()} is a second spelling of {'s' if part.bytes == b'U' else 'l'}"
         if part.kind == "payload" and part.type == "Boolean" and part.bytes not in (b"\0", b"\1"):
             note = "true is written as 01"
-        found.append(f" (not canonical: {note})" if note else "")
+        found.append(f" (not canonical: {note})" if note and asked else "")
     return found
 
 
-def tree(parts):
+def tree(parts, canonical=False):
     lines, has_key = [], False
-    for at, (part, note) in enumerate(zip(parts, notes(parts))):
+    for at, (part, note) in enumerate(zip(parts, notes(parts, canonical))):
         follows = parts[at + 1 : at + 3]
         if part.kind == "key length":
             is_key = follows and follows[0].kind == "key"
@@ -278,8 +278,8 @@ def tree(parts):
     return lines
 
 
-def part_lines(parts):
-    for part, note in zip(parts, notes(parts)):
+def part_lines(parts, canonical=False):
+    for part, note in zip(parts, notes(parts, canonical)):
         digits = part.bytes[:8].hex() + (".." if len(part.bytes) > 8 else "")
         what = {
             "tag": lambda: f"type tag {part.bytes.decode('latin-1')}, {part.type}",
@@ -291,10 +291,10 @@ def part_lines(parts):
         yield f"{part.offset:>6}  {digits:<18}  {'  ' * part.level}{what}{note}"
 
 
-def printed(data):
-    """What `amqp_show --tree --bytes` prints of some bytes, and its status."""
+def printed(data, canonical=False):
+    """What `amqp_show --tree --bytes` prints of some bytes, with `--canonical` or without it, and its status."""
     found = Dissection(data)
-    lines = [*tree(found.parts), *part_lines(found.parts)]
+    lines = [*tree(found.parts, canonical), *part_lines(found.parts, canonical)]
     lines += [f"! {found.failure}"] if found.failure else []
     return "".join(f"{line}\n" for line in [*lines, f"= {outcome(data, found)}"]), int(bool(found.failure))
 

@@ -53,6 +53,8 @@ pub enum Form {
         tree: bool,
         /// Byte by byte.
         bytes: bool,
+        /// With what isn't canonical.
+        canonical: bool,
     },
     /// As JSON, in a line.
     Json,
@@ -108,7 +110,12 @@ fn form_of(matches: &ArgMatches<'_>) -> Form {
     }
     let bytes = matches.get_flag("bytes");
     let tree = matches.get_flag("tree") || !bytes;
-    Form::Text { tree, bytes }
+    let canonical = matches.get_flag("canonical");
+    Form::Text {
+        tree,
+        bytes,
+        canonical,
+    }
 }
 
 /// The command line.
@@ -132,10 +139,16 @@ pub fn command<'a>(alloc: Global) -> Result<Command<'a>, AllocError> {
             "bytes",
             "Show each part of the encoding: offset, bytes, what they are",
         ))?
+        .arg(flag(
+            alloc,
+            "canonical",
+            "Note what isn't canonical: order of keys, second spellings, other booleans",
+        ))?
         .arg(
             flag(alloc, "json", "Show a value as JSON, in a line")
                 .conflicts_with("tree")?
-                .conflicts_with("bytes")?,
+                .conflicts_with("bytes")?
+                .conflicts_with("canonical")?,
         )?
         .arg(flag(
             alloc,
@@ -159,6 +172,7 @@ pub fn command<'a>(alloc: Global) -> Result<Command<'a>, AllocError> {
             .conflicts_with("hex")?
             .conflicts_with("tree")?
             .conflicts_with("bytes")?
+            .conflicts_with("canonical")?
             .conflicts_with("json")?
             .conflicts_with("stream")?,
         )?

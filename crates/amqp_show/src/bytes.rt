@@ -10,13 +10,15 @@ use std::alloc::{AllocError, Global};
 const SHOWN: usize = 8;
 
 /// Adds a line for each part: its offset, its bytes in hexadecimal, the first of them where they
-/// are many, and what they are, indented by how deep it stands.
+/// are many, and what they are, indented by how deep it stands; with what isn't canonical, if that
+/// is asked for.
 pub fn push_bytes(
     alloc: Global,
     screen: &mut Screen,
     parts: &[Part<'_>],
+    canonical: bool,
 ) -> Result<(), AllocError> {
-    let mut keys = Keys::new(alloc);
+    let mut keys = Keys::new(alloc, canonical);
     for (index, part) in parts.iter().enumerate() {
         push_place(alloc, screen, part.offset, part.bytes)?;
         screen.indent(part.level)?;

@@ -6,16 +6,18 @@ use amqp_screen::{Colour, Screen};
 use std::alloc::{AllocError, Global};
 use std::cmp::Ordering;
 
-/// The keys that came last, in each container that is open.
+/// The keys that came last, in each container that is open, where notes are asked for.
 #[derive(Drop)]
 pub struct Keys<'a> {
+    asked: bool,
     last: Vec<Option<&'a [u8]>>,
 }
 
 impl<'a> Keys<'a> {
-    /// No key yet.
-    pub fn new(alloc: Global) -> Self {
+    /// No key yet. Unless notes are asked for there are none.
+    pub fn new(alloc: Global, asked: bool) -> Self {
         Keys {
+            asked,
             last: Vec::new(alloc),
         }
     }
@@ -26,6 +28,9 @@ impl<'a> Keys<'a> {
         part: &Part<'a>,
         next: Option<&Part<'a>>,
     ) -> Result<Option<&'static str>, AllocError> {
+        if !self.asked {
+            return Ok(None);
+        }
         match part.field {
             Field::TypeTag(_) => {
                 self.enter(part.level)?;
@@ -56,7 +61,7 @@ impl<'a> Keys<'a> {
         *last = Some(key);
         match before?.cmp(key) {
             Ordering::Less => None,
-            Ordering::Equal => Some("the key comes again: the last value counts"),
+            Ordering::Equal => Some("the key comes again"),
             Ordering::Greater => Some("the key comes after a greater one"),
         }
     }

@@ -55,11 +55,19 @@ pub fn push_value(
     settings: Settings,
 ) -> Result<Status, AllocError> {
     let dissection = dissect(alloc, input, settings.limits)?;
-    if let Form::Text { tree: true, .. } = settings.form {
-        push_tree(alloc, screen, dissection.parts.as_slice())?;
-    }
-    if let Form::Text { bytes: true, .. } = settings.form {
-        push_bytes(alloc, screen, dissection.parts.as_slice())?;
+    let parts = dissection.parts.as_slice();
+    if let Form::Text {
+        tree,
+        bytes,
+        canonical,
+    } = settings.form
+    {
+        if tree {
+            push_tree(alloc, screen, parts, canonical)?;
+        }
+        if bytes {
+            push_bytes(alloc, screen, parts, canonical)?;
+        }
     }
     if dissection.end == End::Value {
         return Ok(Status::Read);

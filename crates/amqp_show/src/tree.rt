@@ -9,9 +9,14 @@ use amqp_screen::{Colour, Screen};
 use std::alloc::{AllocError, Global};
 
 /// Adds a line for each value: its key in a table, its type, and what it is; indented by how deep
-/// it stands.
-pub fn push_tree(alloc: Global, screen: &mut Screen, parts: &[Part<'_>]) -> Result<(), AllocError> {
-    let mut keys = Keys::new(alloc);
+/// it stands; with what isn't canonical, if that is asked for.
+pub fn push_tree(
+    alloc: Global,
+    screen: &mut Screen,
+    parts: &[Part<'_>],
+    canonical: bool,
+) -> Result<(), AllocError> {
+    let mut keys = Keys::new(alloc, canonical);
     let mut has_line = false;
     let mut has_key = false;
     for (index, part) in parts.iter().enumerate() {
