@@ -237,8 +237,7 @@ def notes(parts, asked):
         if part.kind == "length":
             before[part.level + 1] = None
         if part.kind == "key length":
-            follows = parts[at + 1 : at + 2]
-            key = follows[0].bytes if follows and follows[0].kind == "key" else b"" if part.bytes == b"\0" else None
+            key = key_at(parts, at)
             last = before.get(part.level)
             if key is not None and last is not None and key <= last:
                 note = "the key comes again" if key == last else "the key comes after a greater one"
@@ -251,23 +250,52 @@ def notes(parts, asked):
     return found
 
 
+def key_at(parts, at):
+    """The key of which the length is part `at`, or none."""
+    follows = parts[at + 1 : at + 2]
+    return follows[0].bytes if follows and follows[0].kind == "key" else b"" if parts[at].bytes == b"\0" else None
+
+
+def value_at(parts, at):
+    """The type and the text of the value whose type tag is part `at`."""
+    part, follows = parts[at], parts[at + 1 : at + 3]
+    if part.type in ("FieldArray", "FieldTable"):
+        return part.type
+    payload = [it for it in follows[: 2 if TYPES[chr(part.bytes[0])][1] is None else 1] if it.kind == "payload" and it.type == part.type]
+    if payload:
+        return f"{part.type} {text_of(part.type, payload[0].bytes)}"
+    is_empty = part.type in ("LongString", "ByteArray") and follows and follows[0].kind == "length" and not any(follows[0].bytes)
+    return f"{part.type} {text_of(part.type, b'')}" if is_empty else part.type
+
+
+def repeated(parts):
+    """A line for each key that comes again in its table."""
+    key, tables, found = None, [], {}
+    for at, part in enumerate(parts):
+        if part.kind == "key length":
+            key = key_at(parts, at)
+        if part.kind == "tag":
+            del tables[part.level :]
+            if key is not None:
+                found.setdefault((tables[-1], key), []).append(at)
+            tables.append(part.offset)
+            key = None
+    for (_, key), places in sorted(found.items()):
+        if len(places) > 1:
+            first, last = (f"{value_at(parts, at)} at {parts[at].offset}" for at in (places[0], places[-1]))
+            ends = "this library takes the last, RabbitMQ the first"
+            yield f"* the key {quoted(key)} comes {len(places)} times: first {first}, last {last}; {ends}"
+
+
 def tree(parts, canonical=False):
     lines, has_key = [], False
     for at, (part, note) in enumerate(zip(parts, notes(parts, canonical))):
-        follows = parts[at + 1 : at + 3]
         if part.kind == "key length":
-            is_key = follows and follows[0].kind == "key"
-            key = quoted(follows[0].bytes) if is_key else '""' if part.bytes == b"\0" else "?"
-            lines.append("  " * part.level + key + note)
+            key = key_at(parts, at)
+            lines.append("  " * part.level + ("?" if key is None else quoted(key)) + note)
             has_key = True
         elif part.kind == "tag":
-            line = part.type
-            payload = [it for it in follows[: 2 if TYPES[chr(part.bytes[0])][1] is None else 1] if it.kind == "payload" and it.type == part.type]
-            is_counted = part.type in ("LongString", "ByteArray") and follows and follows[0].kind == "length"
-            if payload and part.type not in ("FieldArray", "FieldTable"):
-                line += f" {text_of(part.type, payload[0].bytes)}"
-            elif is_counted and follows[0].bytes == b"\0\0\0\0":
-                line += f" {text_of(part.type, b'')}"
+            line = value_at(parts, at)
             if has_key:
                 lines[-1] += f": {line}{note}"
             else:
@@ -294,7 +322,7 @@ def part_lines(parts, canonical=False):
 def printed(data, canonical=False):
     """What `amqp_show --tree --bytes` prints of some bytes, with `--canonical` or without it, and its status."""
     found = Dissection(data)
-    lines = [*tree(found.parts, canonical), *part_lines(found.parts, canonical)]
+    lines = [*tree(found.parts, canonical), *part_lines(found.parts, canonical), *repeated(found.parts)]
     lines += [f"! {found.failure}"] if found.failure else []
     return "".join(f"{line}\n" for line in [*lines, f"= {outcome(data, found)}"]), int(bool(found.failure))
 
@@ -339,9 +367,13 @@ def value_of(make, depth):
     if tag in "Sx":
         return field(tag.encode(), make.choice([b"", "gr\u00fc\u00df \u202e\u0085\"\\\x1b[31m".encode(), make.randbytes(17)]))
     entries = [value_of(make, depth - 1) for _ in range(make.randrange(5))]
-    if tag == "F":
-        entries = [bytes([len(key)]) + key + it for it in entries for key in [make.choice([b"", b"a", b"b", b"a\x7f", "\u00e9".encode()])]]
-    return field(tag.encode(), b"".join(entries))
+    return table_of(make, entries) if tag == "F" else field(b"A", b"".join(entries))
+
+
+def table_of(make, values):
+    """A table of some values, at few keys."""
+    keys = [make.choice([b"", b"a", b"b", b"a\x7f", "\u00e9".encode()]) for _ in values]
+    return field(b"F", b"".join(bytes([len(key)]) + key + it for key, it in zip(keys, values)))
 
 
 def nested(tag, count, inside):
@@ -396,6 +428,11 @@ def inputs():
     for value in [*values, *tables * 10]:
         yield damaged(make, value)
     yield from numbers(make)
+    for count in range(100):
+        table = table_of(make, [value_of(make, 1) for _ in range(count % 10)])
+        yield from (table, damaged(make, table), table_of(make, [table, b"V", table, b"V"]))
+    keys = (b"\4%04x" % (it % 10000) for it in range(20000))
+    yield field(b"F", b"".join(it + b"V" for it in keys))
 
 
 def stream():

@@ -12,6 +12,7 @@ mod messages;
 mod notes;
 mod payload;
 mod recorder;
+mod repeats;
 mod show;
 mod stream;
 mod texts;

@@ -5,6 +5,7 @@ use crate::bytes::push_bytes;
 use crate::input::read_input;
 use crate::json;
 use crate::messages::unreadable;
+use crate::repeats::push_repeats;
 use crate::texts::{failure_text, outcome_text};
 use crate::tree::push_tree;
 use amqp_dissect::{End, dissect};
@@ -68,6 +69,7 @@ pub fn push_value(
         if bytes {
             push_bytes(alloc, screen, parts, canonical)?;
         }
+        push_repeats(alloc, screen, parts)?;
     }
     if dissection.end == End::Value {
         return Ok(Status::Read);

@@ -1,10 +1,11 @@
 //! Words for what is shown.
 
 use crate::payload::leaf_text;
+use amq_protocol_types::AMQPType;
 use amq_protocol_types::in_place::read_in_place;
 use amq_protocol_types::parsing::{Err, ErrorKind, Needed, ParserError};
 use amq_protocol_types::stream::Limits;
-use amqp_dissect::{Dissection, End, Field, Part, Problem, escape, leaf_of};
+use amqp_dissect::{Dissection, End, Field, Part, Problem, escape, first_leaf, leaf_of};
 use std::alloc::{AllocError, Global};
 use std::str;
 
@@ -25,6 +26,21 @@ pub fn part_text(alloc: Global, part: &Part<'_>) -> Result<String, AllocError> {
             Some(leaf) => leaf_text(alloc, leaf),
             None => Ok(String::new(alloc)),
         },
+    }
+}
+
+/// The type whose tag is the first of the parts, and the value if it is no container and has come.
+pub fn typed_text(
+    alloc: Global,
+    amqp_type: AMQPType,
+    parts: &[Part<'_>],
+) -> Result<String, AllocError> {
+    match first_leaf(parts) {
+        Some(leaf) => {
+            let text = leaf_text(alloc, leaf)?;
+            format!(in alloc; "{amqp_type} {text}")
+        }
+        None => format!(in alloc; "{amqp_type}"),
     }
 }
 

@@ -1,10 +1,8 @@
 //! A value as a tree.
 
 use crate::notes::{Keys, key_of, push_note};
-use crate::payload::leaf_text;
-use crate::texts::quoted;
-use amq_protocol_types::AMQPType;
-use amqp_dissect::{Field, Part, first_leaf};
+use crate::texts::{quoted, typed_text};
+use amqp_dissect::{Field, Part};
 use amqp_screen::{Colour, Screen};
 use std::alloc::{AllocError, Global};
 
@@ -36,7 +34,8 @@ pub fn push_tree(
                 }
                 has_line = true;
                 has_key = false;
-                push_typed(alloc, screen, amqp_type, &parts[index..])?;
+                let text = typed_text(alloc, amqp_type, &parts[index..])?;
+                screen.push_text(text.as_str())?;
             }
             Field::Length(_) | Field::Key | Field::Payload(_) => {}
         }
@@ -64,21 +63,4 @@ fn push_key(alloc: Global, screen: &mut Screen, key: Option<&[u8]>) -> Result<()
         Some(key) => screen.push_coloured(quoted(alloc, key)?.as_str(), Colour::Key),
         None => screen.push_text("?"),
     }
-}
-
-// Adds the type whose tag is the first of the parts, and the value if it is no container and has
-// come.
-fn push_typed(
-    alloc: Global,
-    screen: &mut Screen,
-    amqp_type: AMQPType,
-    parts: &[Part<'_>],
-) -> Result<(), AllocError> {
-    let name = format!(in alloc; "{amqp_type}")?;
-    screen.push_text(name.as_str())?;
-    if let Some(leaf) = first_leaf(parts) {
-        screen.push_text(" ")?;
-        screen.push_text(leaf_text(alloc, leaf)?.as_str())?;
-    }
-    Ok(())
 }

@@ -1,0 +1,95 @@
+//! Keys that come again in their table.
+
+use crate::notes::key_of;
+use crate::texts::{quoted, typed_text};
+use amqp_dissect::{Field, Part};
+use amqp_screen::{Colour, Screen};
+use std::alloc::{AllocError, Global};
+
+// Which of equal keys counts.
+const TAKEN: &str = "this library takes the last, RabbitMQ the first";
+
+// A key behind which a value begins: where its table begins, and which part the value's type tag is.
+#[derive(Clone, Copy, Debug, PartialEq, Eq, PartialOrd, Ord)]
+struct Entry<'a> {
+    table: usize,
+    key: &'a [u8],
+    value: usize,
+}
+
+/// Adds a line for each key that comes more than once in its table.
+pub fn push_repeats(
+    alloc: Global,
+    screen: &mut Screen,
+    parts: &[Part<'_>],
+) -> Result<(), AllocError> {
+    let mut entries = entries_of(alloc, parts)?;
+    entries.sort_unstable();
+    let same = |a: &Entry<'_>, b: &Entry<'_>| a.table == b.table && a.key == b.key;
+    for entries in entries.as_slice().chunk_by(same) {
+        if let [first, .., last] = entries {
+            let line = repeat_text(alloc, parts, entries.len(), *first, *last)?;
+            screen.push_coloured(line.as_str(), Colour::Note)?;
+            screen.end_line()?;
+        }
+    }
+    Ok(())
+}
+
+// What is said of a key that comes so many times, first and last in these entries.
+fn repeat_text(
+    alloc: Global,
+    parts: &[Part<'_>],
+    times: usize,
+    first: Entry<'_>,
+    last: Entry<'_>,
+) -> Result<String, AllocError> {
+    let key = quoted(alloc, first.key)?;
+    let first = value_text(alloc, parts, first.value)?;
+    let last = value_text(alloc, parts, last.value)?;
+    format!(in alloc; "* the key {key} comes {times} times: first {first}, last {last}; {TAKEN}")
+}
+
+// The entries of all tables, in the order in which they stand.
+fn entries_of<'a>(alloc: Global, parts: &[Part<'a>]) -> Result<Vec<Entry<'a>>, AllocError> {
+    let mut entries = Vec::new(alloc);
+    // Where the containers begin in which a value stands.
+    let mut open: Vec<usize> = Vec::new(alloc);
+    let mut last_key = None;
+    for (value, part) in parts.iter().enumerate() {
+        match part.field {
+            Field::KeyLength => last_key = key_of(part.bytes, parts.get(value + 1)),
+            Field::TypeTag(_) => {
+                open.truncate(part.level as usize);
+                if let (Some(key), Some(table)) = (last_key.take(), open.last()) {
+                    entries.push(Entry {
+                        table: *table,
+                        key,
+                        value,
+                    })?;
+                }
+                open.push(part.offset)?;
+            }
+            Field::Length(_) | Field::Key | Field::Payload(_) => {}
+        }
+    }
+    Ok(entries)
+}
+
+// The value whose type tag is the part of this number, and where it begins.
+fn value_text(alloc: Global, parts: &[Part<'_>], value: usize) -> Result<String, AllocError> {
+    let parts = parts.get(value..).unwrap_or(&[]);
+    match parts.first() {
+        Some(
+            Part {
+                field: Field::TypeTag(amqp_type),
+                offset,
+                ..
+            },
+        ) => {
+            let text = typed_text(alloc, *amqp_type, parts)?;
+            format!(in alloc; "{text} at {offset}")
+        }
+        _ => Ok(String::new(alloc)),
+    }
+}
