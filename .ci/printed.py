@@ -287,19 +287,23 @@ def repeated(parts):
             yield f"* the key {quoted(key)} comes {len(places)} times: first {first}, last {last}; {ends}"
 
 
+def indentation(level):
+    return "  " * level if level <= 32 else f"{'  ' * 32}[{level}] "
+
+
 def tree(parts, canonical=False):
     lines, has_key = [], False
     for at, (part, note) in enumerate(zip(parts, notes(parts, canonical))):
         if part.kind == "key length":
             key = key_at(parts, at)
-            lines.append("  " * part.level + ("?" if key is None else quoted(key)) + note)
+            lines.append(indentation(part.level) + ("?" if key is None else quoted(key)) + note)
             has_key = True
         elif part.kind == "tag":
             line = value_at(parts, at)
             if has_key:
                 lines[-1] += f": {line}{note}"
             else:
-                lines.append("  " * part.level + line + note)
+                lines.append(indentation(part.level) + line + note)
             has_key = False
         elif note:
             lines[-1] += note
@@ -316,7 +320,7 @@ def part_lines(parts, canonical=False):
             "key": lambda: f"key {quoted(part.bytes)}",
             "payload": lambda: text_of(part.type, part.bytes),
         }[part.kind]()
-        yield f"{part.offset:>6}  {digits:<18}  {'  ' * part.level}{what}{note}"
+        yield f"{part.offset:>6}  {digits:<18}  {indentation(part.level)}{what}{note}"
 
 
 def printed(data, canonical=False):

@@ -1,7 +1,7 @@
 //! A value byte by byte.
 
 use crate::notes::{Keys, push_note};
-use crate::texts::part_text;
+use crate::texts::{part_text, push_indent};
 use amqp_dissect::{Field, Part};
 use amqp_screen::{Colour, Screen};
 use std::alloc::{AllocError, Global};
@@ -21,7 +21,7 @@ pub fn push_bytes(
     let mut keys = Keys::new(alloc, canonical);
     for (index, part) in parts.iter().enumerate() {
         push_place(alloc, screen, part.offset, part.bytes)?;
-        screen.indent(part.level)?;
+        push_indent(alloc, screen, part.level)?;
         let what = part_text(alloc, part)?;
         if part.field == Field::Key {
             screen.push_coloured(what.as_str(), Colour::Key)?;

@@ -6,8 +6,23 @@ use amq_protocol_types::in_place::read_in_place;
 use amq_protocol_types::parsing::{Err, ErrorKind, Needed, ParserError};
 use amq_protocol_types::stream::Limits;
 use amqp_dissect::{Dissection, End, Field, Part, Problem, escape, first_leaf, leaf_of};
+use amqp_screen::Screen;
 use std::alloc::{AllocError, Global};
 use std::str;
+
+// As many levels are indented.
+const INDENTED: u32 = 32;
+
+/// What stands before a line of this level: two spaces for each of the first levels, and the level
+/// where it is deeper.
+pub fn push_indent(alloc: Global, screen: &mut Screen, level: u32) -> Result<(), AllocError> {
+    screen.indent(level.min(INDENTED))?;
+    if level > INDENTED {
+        let mark = format!(in alloc; "[{level}] ")?;
+        screen.push_text(mark.as_str())?;
+    }
+    Ok(())
+}
 
 /// What a part is.
 pub fn part_text(alloc: Global, part: &Part<'_>) -> Result<String, AllocError> {

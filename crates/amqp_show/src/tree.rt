@@ -1,7 +1,7 @@
 //! A value as a tree.
 
 use crate::notes::{Keys, key_of, push_note};
-use crate::texts::{quoted, typed_text};
+use crate::texts::{push_indent, quoted, typed_text};
 use amqp_dissect::{Field, Part};
 use amqp_screen::{Colour, Screen};
 use std::alloc::{AllocError, Global};
@@ -21,7 +21,7 @@ pub fn push_tree(
         let next = parts.get(index + 1);
         match part.field {
             Field::KeyLength => {
-                begin_line(screen, has_line, part.level)?;
+                begin_line(alloc, screen, has_line, part.level)?;
                 push_key(alloc, screen, key_of(part.bytes, next))?;
                 has_line = true;
                 has_key = true;
@@ -30,7 +30,7 @@ pub fn push_tree(
                 if has_key {
                     screen.push_text(": ")?;
                 } else {
-                    begin_line(screen, has_line, part.level)?;
+                    begin_line(alloc, screen, has_line, part.level)?;
                 }
                 has_line = true;
                 has_key = false;
@@ -50,11 +50,16 @@ pub fn push_tree(
 }
 
 // Ends the line before, if there is one, and indents the next.
-fn begin_line(screen: &mut Screen, has_line: bool, level: u32) -> Result<(), AllocError> {
+fn begin_line(
+    alloc: Global,
+    screen: &mut Screen,
+    has_line: bool,
+    level: u32,
+) -> Result<(), AllocError> {
     if has_line {
         screen.end_line()?;
     }
-    screen.indent(level)
+    push_indent(alloc, screen, level)
 }
 
 // Adds a key, or a mark where its bytes aren't one.
