@@ -127,7 +127,7 @@ pub fn command<'a>(alloc: Global) -> Result<Command<'a>, AllocError> {
         .arg(flag(
             alloc,
             "hex",
-            "The input is hexadecimal text; spaces, commas, colons, 0x, \\x and # comments are skipped",
+            "The input is hexadecimal text, or a dump of hexdump -C or xxd",
         ))?
         .arg(flag(
             alloc,

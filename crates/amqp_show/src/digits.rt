@@ -1,5 +1,6 @@
 //! Bytes that come as hexadecimal text.
 
+use crate::dump::Dump;
 use std::alloc::{AllocError, Global};
 use std::io;
 use std::io::{ErrorKind, Read};
@@ -14,11 +15,11 @@ enum Half {
 }
 
 /// The bytes that a reader's text stands for, two digits each. White space, `,`, `:`, what stands
-/// after `#` in a line, and `0x` or `\x` before a byte are skipped. What isn't hexadecimal is a
-/// failure of the kind `InvalidData`.
+/// after `#` in a line, and `0x` or `\x` before a byte are skipped, and the offsets and texts of a
+/// dump. What isn't hexadecimal is a failure of the kind `InvalidData`.
 #[derive(Drop)]
 pub struct Digits<R> {
-    text: R,
+    text: Dump<R>,
     half: Half,
     is_comment: bool,
     has_ended: bool,
@@ -30,7 +31,7 @@ impl<R: Read> Digits<R> {
     /// Nothing is read yet.
     pub fn new(text: R) -> Self {
         Digits {
-            text,
+            text: Dump::new(text),
             half: Half::Nothing,
             is_comment: false,
             has_ended: false,
@@ -41,13 +42,12 @@ impl<R: Read> Digits<R> {
 
     // The next byte of the text, or none at its end.
     fn next(&mut self) -> io::Result<Option<u8>> {
-        let mut byte = [0];
-        if self.text.read(&mut byte)? == 0 {
-            self.has_ended = true;
-            return Ok(None);
+        let next = self.text.next()?;
+        match next {
+            Some(_) => self.column = self.column.saturating_add(1),
+            None => self.has_ended = true,
         }
-        self.column = self.column.saturating_add(1);
-        Ok(Some(byte[0]))
+        Ok(next)
     }
 
     // Takes a byte of the text, and gives the one that is whole with it, if one is.
@@ -86,10 +86,8 @@ impl<R> Digits<R> {
         if self.has_ended {
             return format!(in alloc; "the hexadecimal ends inside a byte");
         }
-        format!(in alloc;
-            "line {}, column {}: no hexadecimal",
-            self.line, self.column
-        )
+        let why = self.text.fault();
+        format!(in alloc; "line {}, column {}: {why}", self.line, self.column)
     }
 }
 

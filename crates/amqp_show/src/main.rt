@@ -5,6 +5,7 @@
 mod arguments;
 mod bytes;
 mod digits;
+mod dump;
 mod encode;
 mod input;
 mod json;
