@@ -2,10 +2,10 @@
 
 use crate::input::read_file;
 use crate::messages::{complain, unreadable};
-use amqp_convert::{EncodeError, encoding_of_json};
-use amqp_json::JsonError;
+use crate::reasons::reason;
+use amqp_convert::encoding_of_json;
 use amqp_screen::{Screen, Status, print_raw};
-use anyhow::{Result, anyhow};
+use anyhow::Result;
 use std::str;
 
 /// Writes the encoding of the value that a file's JSON stands for, raw or in hexadecimal.
@@ -21,11 +21,8 @@ pub fn encode_file(rt: &HostRuntime, file: &str, raw: bool) -> Result<Status> {
     };
     match encoding_of_json(alloc, json) {
         Ok(bytes) => print_encoding(rt, bytes.as_slice(), raw),
-        Err(EncodeError::OutOfMemory | EncodeError::Json(JsonError::OutOfMemory)) => Err(anyhow!(
-            "out of memory"
-        )),
         Err(error) => {
-            let why = format!(in alloc; "{error}")?;
+            let why = reason(alloc, json, &error)?;
             complain(rt, file, why.as_str())?;
             Ok(Status::Refused)
         }

@@ -12,6 +12,7 @@ mod json;
 mod messages;
 mod notes;
 mod payload;
+mod reasons;
 mod recorder;
 mod repeats;
 mod show;
