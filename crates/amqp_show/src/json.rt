@@ -8,17 +8,20 @@ use amqp_dissect::dissect;
 use amqp_screen::{Screen, Status};
 use anyhow::{Result, anyhow};
 
+// Readers of JSON take texts that nest so deep, `--encode` among them.
+const DEEPEST: u32 = 127;
+
 /// Prints the JSON of the value at the beginning of a file's bytes on a line, and says what is
 /// amiss: that there is none, or that bytes follow it.
 pub fn show_input(rt: &HostRuntime, file: &str, input: &[u8], limits: Limits) -> Result<Status> {
     match json_of_encoding(rt.alloc(), input, limits) {
         Ok((json, rest)) => {
-            print_json(rt, json.as_str())?;
+            let status = print_json(rt, file, json.as_str(), limits)?;
             if !rest.is_empty() {
                 let why = format!(in rt.alloc(); "{} bytes follow the value", rest.len())?;
                 complain(rt, file, why.as_str())?;
             }
-            Ok(Status::Read)
+            Ok(status)
         }
         Err(DecodeError::Refused(_)) => {
             print_failure(rt, file, input, limits)?;
@@ -37,11 +40,41 @@ pub fn print_failure(rt: &HostRuntime, file: &str, input: &[u8], limits: Limits)
     complain(rt, file, why.as_str())
 }
 
-/// Prints a JSON text on a line.
-pub fn print_json(rt: &HostRuntime, json: &str) -> Result<()> {
+/// Prints a JSON text on a line, if it nests no deeper than its readers take, or the limits go
+/// beyond that.
+pub fn print_json(rt: &HostRuntime, file: &str, json: &str, limits: Limits) -> Result<Status> {
+    let depth = nesting(json);
+    if limits.depth <= DEEPEST && depth > DEEPEST {
+        let why = format!(in rt.alloc();
+            "the JSON nests {depth} deep, and --encode takes {DEEPEST}"
+        )?;
+        complain(rt, file, why.as_str())?;
+        return Ok(Status::Refused);
+    }
     let mut screen = Screen::new(rt.alloc(), false);
     screen.push_json(json)?;
     screen.end_line()?;
     screen.print(rt)?;
-    Ok(())
+    Ok(Status::Read)
+}
+
+// How deep the arrays and objects of a JSON text nest.
+fn nesting(json: &str) -> u32 {
+    let (mut depth, mut deepest) = (0_u32, 0_u32);
+    let (mut is_text, mut is_escaped) = (false, false);
+    for byte in json.bytes() {
+        match byte {
+            _ if is_escaped => is_escaped = false,
+            b'\\' => is_escaped = true,
+            b'"' => is_text = !is_text,
+            _ if is_text => {}
+            b'[' | b'{' => {
+                depth = depth.saturating_add(1);
+                deepest = deepest.max(depth);
+            }
+            b']' | b'}' => depth = depth.saturating_sub(1),
+            _ => {}
+        }
+    }
+    deepest
 }

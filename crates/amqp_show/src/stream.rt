@@ -14,7 +14,7 @@ use amqp_dissect::dissect;
 use amqp_json::to_json;
 use amqp_parsing::SliceInput;
 use amqp_parsing::header::value_len;
-use amqp_screen::{Screen, Status};
+use amqp_screen::{Screen, Status, worse};
 use anyhow::{Context, Result, anyhow};
 use std::alloc::{AllocError, Global};
 use std::fs::File;
@@ -100,7 +100,8 @@ fn show_values<R: Read + Drop>(
     for _ in 0..u64::MAX {
         match values.next_from(&mut recorder) {
             Ok(Some(value)) => {
-                show_value(rt, &value, recorder.as_slice(), offset, settings)?;
+                let shown = show_value(rt, file, &value, recorder.as_slice(), offset, settings)?;
+                status = worse(status, shown);
                 offset = offset.saturating_add(recorder.as_slice().len() as u64);
                 recorder.forget();
             }
@@ -159,21 +160,22 @@ fn pass_over<R: Read>(recorder: &mut Recorder<R>) -> io::Result<Option<usize>> {
 // Shows a value, which was read from these bytes at this offset of the stream.
 fn show_value(
     rt: &HostRuntime,
+    file: &str,
     value: &AMQPValue,
     bytes: &[u8],
     offset: u64,
     settings: Settings,
-) -> Result<()> {
+) -> Result<Status> {
     let alloc = rt.alloc();
     if let Form::Json = settings.form {
-        return print_json(rt, to_json(alloc, value)?.as_str());
+        return print_json(rt, file, to_json(alloc, value)?.as_str(), settings.limits);
     }
     let mut screen = Screen::new(alloc, settings.colours);
     let _ = push_value(alloc, &mut screen, bytes, settings)?;
     let line = format!(in alloc; "= a value of {} bytes at {offset}", bytes.len())?;
     screen.push_line(line.as_str())?;
     screen.print(rt)?;
-    Ok(())
+    Ok(Status::Read)
 }
 
 // Shows why no value begins at this offset of the stream, by as many of its bytes as were read.
