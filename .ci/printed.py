@@ -138,6 +138,11 @@ class Dissection:
         return self.part(at, level, "key", "", count)
 
 
+def following(data, end, frame=FRAME):
+    """How many bytes stand behind a value. No more than the limit and one are read."""
+    return f"at least {frame + 1 - end}" if len(data) > frame else str(len(data) - end)
+
+
 def outcome(data, dissection, frame=FRAME):
     """What reading within the limits comes to."""
     if not data:
@@ -150,7 +155,7 @@ def outcome(data, dissection, frame=FRAME):
         return f"truncated; more bytes needed: {needs}"
     if dissection.failure:
         return "refused, Eof"
-    return f"a value of {dissection.end} bytes, {len(data) - dissection.end} follow"
+    return f"a value of {dissection.end} bytes, {following(data, dissection.end, frame)} follow"
 
 
 # The texts
@@ -337,7 +342,7 @@ def printed_json(data):
     if found.failure:
         return "", f'amqp_show: "-": {found.failure}; {outcome(data, found)}\n', 1
     value, rest = other.read(data)
-    said = f'amqp_show: "-": {len(rest)} bytes follow the value\n' if rest else ""
+    said = f'amqp_show: "-": {following(data, found.end)} bytes follow the value\n' if rest else ""
     return f"{other.json_text(value)}\n", said, 0
 
 
@@ -423,6 +428,7 @@ def inputs():
         yield from (nested(tag, count, inside) for tag in "AF" for inside in (b"V", b"z", b"I\0", b"A\0\0\0\0"))
     yield field(b"S", b"\7" * 131067)
     yield field(b"S", b"\7" * 131068)
+    yield from (b"t\1" + b"\7" * size for size in (131070, 131071, 400000))
     yield from tables
     for table in sorted(tables, key=len)[-3:]:
         yield from (table[:size] for size in range(len(table)))

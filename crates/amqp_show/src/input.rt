@@ -1,9 +1,11 @@
 //! What is read.
 
+use crate::arguments::Settings;
 use crate::digits::Digits;
 use anyhow::{Context, Result, anyhow};
 use std::fs;
-use std::io::{ErrorKind, Read};
+use std::fs::File;
+use std::io::{BufReader, ErrorKind, Read};
 
 /// So many bytes of a stream are read at once, at most.
 pub const BLOCK: usize = 65_536;
@@ -18,26 +20,40 @@ pub fn read_file(rt: &HostRuntime, file: &str) -> Result<Vec<u8>> {
     Ok(input)
 }
 
-/// The same, or the bytes that its text stands for where that is hexadecimal.
-pub fn read_input(rt: &HostRuntime, file: &str, is_hex: bool) -> Result<Vec<u8>> {
-    let input = read_file(rt, file)?;
-    if is_hex {
-        bytes_of(rt, input.as_slice())
-    } else {
-        Ok(input)
+/// The bytes of a file, or those that its text stands for where that is hexadecimal: no more than
+/// the limit and one, so that it can be told whether there are more.
+pub fn read_input(rt: &HostRuntime, file: &str, settings: Settings) -> Result<Vec<u8>> {
+    if file == "-" {
+        return read_within(rt, rt.stdin(), settings);
     }
+    let opened = File::open(rt, file).context("can't be read")?;
+    read_within(rt, opened, settings)
 }
 
-// The bytes that hexadecimal text stands for.
-fn bytes_of(rt: &HostRuntime, text: &[u8]) -> Result<Vec<u8>> {
+fn read_within<R: Read + Drop>(rt: &HostRuntime, reader: R, settings: Settings) -> Result<Vec<u8>> {
+    let most = u64::from(settings.limits.frame).saturating_add(1);
+    if settings.hex {
+        let text = BufReader::with_capacity(rt.alloc(), BLOCK, reader)?;
+        return bytes_of(rt, text, most);
+    }
+    let mut bytes = Vec::new(rt.alloc());
+    reader
+        .take(most)
+        .read_to_end(&mut bytes)
+        .context("can't be read")?;
+    Ok(bytes)
+}
+
+// The bytes that hexadecimal text stands for, at most so many.
+fn bytes_of<R: Read + Drop>(rt: &HostRuntime, text: R, most: u64) -> Result<Vec<u8>> {
     let mut digits = Digits::new(text);
     let mut bytes = Vec::new(rt.alloc());
-    match digits.read_to_end(&mut bytes) {
+    match digits.by_ref().take(most).read_to_end(&mut bytes) {
         Ok(_) => Ok(bytes),
         Err(error) if error.kind() == ErrorKind::InvalidData => Err(anyhow!(
             "{}",
             digits.fault(rt.alloc())?
         )),
-        Err(error) => Err(anyhow!("{error}")),
+        Err(error) => Err(error).context("can't be read"),
     }
 }

@@ -1,7 +1,7 @@
 //! A value as JSON.
 
 use crate::messages::complain;
-use crate::texts::{failure_text, outcome_text};
+use crate::texts::{count_text, failure_text, outcome_text};
 use amq_protocol_types::stream::Limits;
 use amqp_convert::{DecodeError, json_of_encoding};
 use amqp_dissect::dissect;
@@ -18,7 +18,8 @@ pub fn show_input(rt: &HostRuntime, file: &str, input: &[u8], limits: Limits) ->
         Ok((json, rest)) => {
             let status = print_json(rt, file, json.as_str(), limits)?;
             if !rest.is_empty() {
-                let why = format!(in rt.alloc(); "{} bytes follow the value", rest.len())?;
+                let count = count_text(rt.alloc(), input, rest, limits)?;
+                let why = format!(in rt.alloc(); "{count} bytes follow the value")?;
                 complain(rt, file, why.as_str())?;
             }
             Ok(status)

@@ -15,7 +15,7 @@ use std::alloc::{AllocError, Global};
 
 /// Shows the value at the beginning of a file.
 pub fn show_file(rt: &HostRuntime, file: &str, settings: Settings) -> Result<Status> {
-    let input = match read_input(rt, file, settings.hex) {
+    let input = match read_input(rt, file, settings) {
         Ok(input) => input,
         Err(error) => return unreadable(rt, file, &error),
     };

@@ -89,10 +89,25 @@ pub fn outcome_text(alloc: Global, input: &[u8], limits: Limits) -> Result<Strin
     match read_in_place(input, limits) {
         Ok((_, rest)) => {
             let len = input.len().saturating_sub(rest.len());
-            format!(in alloc; "a value of {len} bytes, {} follow", rest.len())
+            let count = count_text(alloc, input, rest, limits)?;
+            format!(in alloc; "a value of {len} bytes, {count} follow")
         }
         Err(error) => refusal_text(alloc, error),
     }
+}
+
+/// How many bytes are left of an input. Of one that has more than the limit no more than the next
+/// byte was read.
+pub fn count_text(
+    alloc: Global,
+    input: &[u8],
+    rest: &[u8],
+    limits: Limits,
+) -> Result<String, AllocError> {
+    if input.len() as u64 > u64::from(limits.frame) {
+        return format!(in alloc; "at least {}", rest.len());
+    }
+    format!(in alloc; "{}", rest.len())
 }
 
 // What an error says.
