@@ -3,16 +3,18 @@
 // is set, of all. It fails the call of read on standard input whose number is FAIL_READ, and the call of
 // write on standard output whose number is FAIL_WRITE, with the error FAIL_WITH. Where ONE_BYTE is set,
 // no such call moves more than one byte. At the end it writes how many requests, reads and writes there
-// were to the descriptor REFUSE_TELLS.
+// were, and for how many bytes those requests were in all, to the descriptor REFUSE_TELLS.
 #define _GNU_SOURCE
 #include <dlfcn.h>
 #include <errno.h>
+#include <stdint.h>
 #include <stdio.h>
 #include <stdlib.h>
 #include <string.h>
 #include <unistd.h>
 
 static long count, refused, reads, writes, fail_read, fail_write;
+static size_t asked;
 static int inside, tells = -1, fail_with, one_byte;
 
 static long number(const char *name) {
@@ -31,10 +33,14 @@ __attribute__((constructor)) static void start(void) {
 }
 
 __attribute__((destructor)) static void stop(void) {
-    if (tells >= 0) dprintf(tells, "%ld %ld %ld\n", count, reads, writes);
+    if (tells >= 0) dprintf(tells, "%ld %ld %ld %zu\n", count, reads, writes, asked);
 }
 
-static int refuses(void) { return inside && ++count == refused; }
+static int refuses(size_t n) {
+    if (!inside) return 0;
+    if (__builtin_add_overflow(asked, n, &asked)) asked = SIZE_MAX;
+    return ++count == refused;
+}
 
 static int fails(int is_the_one) {
     if (is_the_one) errno = fail_with;
@@ -46,9 +52,9 @@ static int fails(int is_the_one) {
     if (!real) real = (__typeof__(name) *)dlsym(RTLD_NEXT, #name); \
     return real(__VA_ARGS__)
 
-void *malloc(size_t n) { if (refuses()) return NULL; REAL(malloc, n); }
-void *realloc(void *p, size_t n) { if (refuses()) return NULL; REAL(realloc, p, n); }
-void *aligned_alloc(size_t a, size_t n) { if (refuses()) return NULL; REAL(aligned_alloc, a, n); }
+void *malloc(size_t n) { if (refuses(n)) return NULL; REAL(malloc, n); }
+void *realloc(void *p, size_t n) { if (refuses(n)) return NULL; REAL(realloc, p, n); }
+void *aligned_alloc(size_t a, size_t n) { if (refuses(n)) return NULL; REAL(aligned_alloc, a, n); }
 
 ssize_t write(int fd, const void *bytes, size_t n) {
     if (fd == 2 && n == 6 && !memcmp(bytes, "begin\n", n)) inside = 1;
