@@ -100,7 +100,8 @@ typedef struct amqp_container {
 
 /*
  * Reads the value at the front within limits, and checks all of it: at most `frame` bytes, and
- * containers nested at most `depth` deep. It recurses at most `depth` deep.
+ * containers nested at most `depth` deep. It takes stack as containers
+ * nest, of which no contract speaks.
  *
  * `count` becomes how many bytes the value takes (AMQP_OK), or how many more the field that is
  * being read needs (AMQP_MORE; with these it may ask for more again), else 0. Also answers
@@ -153,8 +154,8 @@ int32_t amqp_find(const uint8_t *bytes, size_t length, const amqp_cursor *cursor
  * `count` becomes how many bytes were written (AMQP_OK), how many more the field that is being read
  * needs (AMQP_MORE), or how many the room has to have (AMQP_NO_ROOM), else 0. Also answers
  * AMQP_UNKNOWN_TAG, AMQP_MALFORMED, AMQP_TOO_LARGE or AMQP_NO_MEMORY. Bytes that are canonical
- * already are copied; for others it takes memory, by malloc, realloc and free, and gives it back. It
- * recurses at most `depth` deep.
+ * already are copied; for others it takes memory, by malloc, realloc and free, and gives it back. Of
+ * the stack it takes what canonical_len, parse_value_within and gen_value do.
  *
  * It is in libamqp_c_canonical.a, and the calls above are in libamqp_c.a: link what you use.
  */
@@ -169,7 +170,8 @@ int32_t amqp_canonical(const uint8_t *bytes, size_t length, uint32_t frame, uint
  * `count` becomes how many bytes were written (AMQP_OK), how many more the field that is being read
  * needs (AMQP_MORE), or how many the room has to have (AMQP_NO_ROOM), else 0. Also answers
  * AMQP_UNKNOWN_TAG, AMQP_MALFORMED, AMQP_TOO_LARGE or AMQP_NO_MEMORY. It takes memory, by malloc,
- * realloc and free, and gives it back. It recurses at most 2 * `depth` + 2 deep: as the JSON nests.
+ * realloc and free, and gives it back. Of the stack it takes
+ * what json_of_encoding does.
  *
  * It and the next one are in libamqp_c_json.a.
  */
@@ -180,7 +182,7 @@ int32_t amqp_to_json(const uint8_t *bytes, size_t length, uint32_t frame, uint32
  * Writes the canonical encoding of the value that a JSON text means to the start of the room. What
  * amqp_to_json wrote is read as the value that it was written for, where it nests at most `nesting`
  * deep: no text that has more arrays and objects open at once is read, and none that has more than
- * AMQP_JSON_NESTING. It recurses at most `nesting` + 1 deep, and at most 128.
+ * AMQP_JSON_NESTING. Of the stack it takes what encoding_of_json does.
  *
  * `count` becomes how many bytes were written (AMQP_OK), or how many the room has to have
  * (AMQP_NO_ROOM), else 0. Also answers AMQP_NOT_JSON, AMQP_NO_MEMORY, or AMQP_NO_ENCODING where a
@@ -221,7 +223,7 @@ int32_t amqp_put_bytes(uint8_t *room, size_t room_length, amqp_container *into, 
 
 /*
  * Puts the value at the front of other bytes: reads it within limits as amqp_read does, and copies
- * its encoding as it stands. It recurses at most `depth` deep.
+ * its encoding as it stands. Of the stack it takes what amqp_read does.
  *
  * Answers AMQP_OK, AMQP_NO_ROOM, AMQP_INVALID, or what amqp_read answers for the bytes.
  */

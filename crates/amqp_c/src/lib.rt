@@ -19,8 +19,8 @@ use cursor::Cursor;
 use entry::{Entry, first};
 use read::read;
 
-/// Reads the value at the front within limits, and checks all of it. It recurses at most `depth`
-/// deep.
+/// Reads the value at the front within limits, and checks all of it. Of the stack it takes what
+/// `read_in_place` does.
 ///
 /// `count` becomes how many bytes the value takes, or how many more the field that is being read
 /// needs, or else 0.

@@ -51,7 +51,7 @@ pub extern "C" fn amqp_put_bytes(
 }
 
 /// Puts an entry behind what is written: the encoding at the front of other bytes, read within
-/// limits and copied as it stands. It recurses at most `depth` deep.
+/// limits and copied as it stands. Of the stack it takes what `read_in_place` does.
 #[unsafe(no_mangle)]
 pub extern "C" fn amqp_put_value(
     room: &mut [u8],

@@ -14,8 +14,8 @@ use amqp_parsing::Limits;
 use canonical::canonical;
 use std::alloc::Global;
 
-/// Writes the canonical encoding of the value at the front from the start of `room`. It recurses at
-/// most `depth` deep.
+/// Writes the canonical encoding of the value at the front from the start of `room`. Of the stack
+/// it takes what `canonical_len`, `parse_value_within` and `gen_value` do.
 ///
 /// `count` becomes how many bytes were written, how many more are needed of the value, or how many
 /// the room has to have, or else 0.

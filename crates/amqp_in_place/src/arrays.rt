@@ -49,7 +49,7 @@ impl<'a> ArrayRef<'a> {
     }
 
     /// The array in memory of its own, which `parse_value` gives. No values take no memory. It
-    /// recurses as deep as containers nest.
+    /// takes stack as the value nests, of which no clause speaks.
     pub fn to_owned(self, alloc: Global) -> Result<FieldArray, AllocError>
         ensures { MatchResult result
             (λ a. Body (array_body self.entry) (array_view a))

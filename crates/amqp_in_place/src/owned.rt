@@ -13,7 +13,7 @@ use std::alloc::{AllocError, Global};
 
 impl<'a> ValueRef<'a> {
     /// The value in memory of its own, which `parse_value` gives. A number, a boolean, Void and
-    /// what is empty take no memory. It recurses as deep as containers nest.
+    /// what is empty take no memory. It takes stack as the value nests, of which no clause speaks.
     pub fn to_owned(self, alloc: Global) -> Result<AMQPValue, AllocError>
         ensures { MatchResult result (λ v. Stands self.entry (view v)) (λ _. HasBytes self.entry) }
     {

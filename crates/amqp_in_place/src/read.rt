@@ -25,7 +25,7 @@ use simdutf8::basic::Utf8Error;
 /// limits, but that it never runs out of memory.
 ///
 /// All of the value is checked, keys' UTF-8 too. Nothing is copied, and no memory is taken. It
-/// recurses at most `limits.depth` deep.
+/// takes stack as the value nests, of which no clause speaks.
 #[tactic(auto, using(crate::proofs::OneValue::one_value, crate::proofs::Reading::left_behind))]
 pub fn read_in_place(bytes: &[u8], limits: Limits) -> Result<(ValueRef<'_>, &[u8]), ParserError>
     ensures within { MatchResult result
@@ -51,7 +51,8 @@ pub fn read_in_place(bytes: &[u8], limits: Limits) -> Result<(ValueRef<'_>, &[u8
 /// Reads a value where its bytes lie, without limits: answers what `parse_value` does, but that it
 /// never runs out of memory.
 ///
-/// It recurses as deep as containers nest, which the input's length alone bounds.
+/// It takes stack for each level of nesting, which the input's length alone bounds, of which no
+/// clause speaks.
 #[tactic(auto, using(crate::proofs::OneValue::one_value, crate::proofs::Reading::left_behind))]
 pub fn read_in_place_unlimited(bytes: &[u8]) -> Result<(ValueRef<'_>, &[u8]), ParserError>
     ensures outcome { MatchResult result

@@ -26,10 +26,10 @@ use hex::{FromHex, FromHexError};
 use serde_json::{Map, Number, Value};
 use std::alloc::Global;
 
-/// The value whose JSON it is, in memory of its own. Nothing else is read: not
-/// `{"LongLongInt": 5}`, since a `LongLongInt` is plain, and not a `LongString` of digits that
-/// stand for UTF-8. Null, true, false and a number never run out of memory. It recurses as deep
-/// as the JSON nests.
+/// The value whose JSON it is, in memory of its own. Nothing else is read: not `{"LongLongInt":
+/// 5}`, since a `LongLongInt` is plain, and not a `LongString` of digits that stand for UTF-8.
+/// Null, true, false and a number never run out of memory. It takes stack as the value nests, of
+/// which no clause speaks.
 #[tactic(auto, using(crate::proofs::Ones::its_json, crate::proofs::Ones::only_read, crate::proofs::Ones::of_none))]
 pub fn from_value(alloc: Global, value: &Value) -> Result<AMQPValue, ValueError>
     ensures json { IfOk result (λ v. json (view v) ≡ document value.now) }

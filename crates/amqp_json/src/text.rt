@@ -19,8 +19,7 @@ use std::alloc::{AllocError, Global};
 
 /// The JSON text of a value, with no spaces between its parts. A JSON value of all the value is
 /// made meanwhile; an error comes where memory runs out. Where it nests more than 127 deep
-/// `from_json` refuses the text. It recurses as the JSON nests, at most two levels for each of the
-/// value's and two more.
+/// `from_json` refuses the text. It takes stack as the value nests, of which no clause speaks.
 #[tactic(auto, using(crate::proofs::NoFloat::no_float))]
 pub fn to_json(alloc: Global, value: &AMQPValue) -> Result<String, AllocError>
     ensures text { IfOk result (λ s. string_bytes s ≡ compact_text (json (view value.now))) }

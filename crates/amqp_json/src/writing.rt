@@ -16,7 +16,7 @@ use std::alloc::{AllocError, Global};
 use std::collections::BTreeMap;
 
 /// The JSON of a value, in memory of its own. Null, a boolean and an integer with no type's name
-/// never run out of it. It recurses as deep as the value nests.
+/// never run out of it. It takes stack as the value nests, of which no clause speaks.
 pub fn to_value(alloc: Global, value: &AMQPValue) -> Result<Value, AllocError>
     ensures json { IfOk result (λ r. document r ≡ json (view value.now)) }
     ensures stored { OnOk result (IsStored (view value.now)) }

@@ -19,10 +19,10 @@ use std::alloc::Global;
 /// Reads a value as `parse_value` does, where it has at most `limits.frame` bytes and its
 /// containers nest at most `limits.depth` deep.
 ///
-/// A longer value is rejected as `TooLarge` as soon as its first bytes tell, before any allocation.
-/// One that nests deeper is rejected as `Eof`, like any other length-prefixed field that is no
-/// value; each entry that is written counts, also where its key comes again. It recurses at most
-/// `limits.depth` deep.
+/// A longer value is rejected as `TooLarge` as soon as its first bytes tell; tests see no
+/// allocation then. One that nests deeper is rejected as `Eof`, like any other length-prefixed
+/// field that is no value; each entry that is written counts, also where its key comes again. It
+/// takes stack as the value nests, of which no clause speaks.
 #[tactic(auto, using(amqp_grammar::proofs::GrammarLaws::deep_enough))]
 pub fn parse_value_within<I: ParsableInput>(
     alloc: Global,

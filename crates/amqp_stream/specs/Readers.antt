@@ -31,11 +31,11 @@ values_of r = r.values
 abbrev pub reader_of : {R : Type 0} → ValueReader R → R
 reader_of r = r.reader
 
--- a call for the next value may answer this, where s is what was kept and then what came, `left` is
--- what the reader has left, `now` is kept afterwards, and `failed` says whether it gives none from
--- then on: a value, which s encodes; none, where nothing was kept or came, and the reader is at its
--- end; that s is rejected, as no shorter prefix is; that s is cut, where the reader is at its end;
--- a fault, where all of s is kept
+-- a call for the next value may answer this, where s is what was kept and then what came (of a
+-- reader that tells no bytes, any list), `left` is what the reader has left, `now` is kept
+-- afterwards, and `failed` says whether it gives none from then on: a value, which s encodes; none,
+-- where nothing was kept or came, and the reader is at its end; that s is rejected, as no shorter
+-- prefix is; that s is cut, where the reader is at its end; a fault, where all of s is kept
 abbrev pub Answers : Limits → List ℕ → Option (List ℕ) → List ℕ → Bool → Result (Option AMQPValue) StreamError → Type 0
 Answers l s left now failed (Ok (Some v)) = WireWithin l.depth s (view v) × (length s ≤ l.frame) × (now ≡ []) × (failed ≡ false)
 Answers l s left now failed (Ok None) = (s ≡ []) × (now ≡ []) × (failed ≡ false) × IsAtEnd left

@@ -3,7 +3,8 @@ use std::alloc::AllocError;
 use std::io;
 use thiserror::Error;
 
-/// Why a reader of values gave none.
+/// Why a reader of values gave none. What is said of the bytes that came, clauses say where the
+/// reader tells its bytes, as a slice does, and tests elsewhere.
 #[derive(Clone, Debug, PartialEq, Drop, Error)]
 pub enum StreamError {
     /// What came begins with no value within the limits. The reader of values has failed for good.

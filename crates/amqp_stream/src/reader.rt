@@ -14,9 +14,11 @@ use std::io::Read;
 
 /// Reads values from a reader, one after another, each within limits.
 ///
-/// It reads no byte after the value that it gives, asks for no more bytes than are needed for the
-/// field being read, and keeps at most as many as a value may have. The room for them grows as they
-/// come, by 8 KiB at least, and stays until it is dropped.
+/// Where the reader tells its bytes, as a slice does, no byte after the value that it gives is read.
+/// A file, a socket and standard input tell none: of such, tests show it, and of all that no more
+/// bytes are asked for than the field being read needs. It is viewed as keeping at most
+/// `limits.frame` bytes; the room that has them, of which no clause speaks, stays until it is
+/// dropped. What nesting takes of the stack is as in `parse_value_within`.
 #[derive(Drop)]
 pub struct ValueReader<R> {
     values: Values,

@@ -76,7 +76,7 @@ fn next_line<R: Read>(
 
 /// Reads values from the reader within the limits until there are `most`, and writes a line for
 /// each. Where there are fewer a last line says why: the reader ended, or ended inside a value, or
-/// what came is rejected. No byte after the last value is read.
+/// what came is rejected. Where the reader tells its bytes, none after the last value is read.
 pub fn run_stream<R: Read, W: Write>(
     alloc: Global,
     reader: &mut R,
