@@ -1,22 +1,12 @@
 //! Arrays and tables of a million entries, keys of 255 bytes, 100,000 equal keys.
 
-use crate::made::{MANY, WIDE, bytes, field, goes_everywhere};
+use crate::made::{MANY, WIDE, field, goes_everywhere, key, payload_of};
+use amq_protocol_types::generation::{WriteContext, gen_field_array, gen_field_table};
 use amq_protocol_types::in_place::{ValueRef, read_in_place};
-use amq_protocol_types::parsing::{SliceInput, parse_value};
+use amq_protocol_types::parsing::{SliceInput, parse_field_array, parse_field_table, parse_value};
 use amq_protocol_types::{AMQPValue, FieldArray, FieldTable, ShortString};
 use std::alloc::{AllocError, Global};
 use std::test::Fail;
-
-// The key of a number: its seven decimal digits behind so many letters.
-fn key(alloc: Global, n: u32, letters: usize) -> Result<Vec<u8>, AllocError> {
-    let mut found = vec![in alloc; b'k'; letters]?;
-    let mut unit = 1_000_000;
-    for _ in 0..7u32 {
-        found.push(b'0' + (n.checked_div(unit).unwrap_or(0) % 10) as u8)?;
-        unit /= 10;
-    }
-    Ok(found)
-}
 
 // The body of a table of so many pairs, each a number, in the order of their keys.
 fn pairs(alloc: Global, count: u32, letters: usize) -> Result<Vec<u8>, Fail> {
@@ -47,6 +37,14 @@ fn an_array_of_a_million_goes_everywhere(rt: HostRuntime) -> Result<(), Fail> {
     }
     let wire = field(alloc, b'A', body.as_slice())?;
     let value = goes_everywhere(&rt, alloc, wire.as_slice())?;
+    let payload = payload_of(wire.as_slice());
+    let Ok((_, read)) = parse_field_array(alloc, SliceInput::new(payload)) else {
+        panic!(rt; "its payload is not read");
+    };
+    assert!(rt; read == array && read.clone(alloc)? == array);
+    let mut context = WriteContext::from(Vec::new(alloc));
+    gen_field_array(&array, &mut context)?;
+    assert!(rt; context.into_inner().0.as_slice() == payload);
     assert!(rt; value == AMQPValue::FieldArray(array));
     Ok(())
 }
@@ -63,6 +61,14 @@ fn a_table_of_a_million_goes_everywhere(rt: HostRuntime) -> Result<(), Fail> {
     let last = key(alloc, MANY - 1, 0)?;
     assert!(rt; table.contains_key(as_text(last.as_slice())?));
     assert_eq!(rt; table.inner().len(), 1_000_000);
+    let payload = payload_of(wire.as_slice());
+    let Ok((_, read)) = parse_field_table(alloc, SliceInput::new(payload)) else {
+        panic!(rt; "its payload is not read");
+    };
+    assert!(rt; read == *table && read.clone(alloc)? == *table);
+    let mut context = WriteContext::from(Vec::new(alloc));
+    gen_field_table(table, &mut context)?;
+    assert!(rt; context.into_inner().0.as_slice() == payload);
     Ok(())
 }
 

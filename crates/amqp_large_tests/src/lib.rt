@@ -1,10 +1,14 @@
 //! Each call that may take memory, once at a size that a program meets: strings and buffers of
-//! 64 MiB, a million entries, keys of 255 bytes. A call that gave up with out of memory above some
-//! size below these would keep its contract, and fails here.
+//! 64 MiB, a million entries, keys of 255 bytes, 5,000 levels. A call that gave up with out of
+//! memory above some size below these would keep its contract, and fails here.
 #![tactic(auto)]
 
 #[cfg(test)]
 mod containers;
+#[cfg(test)]
+mod deep;
+#[cfg(test)]
+mod documents;
 #[cfg(test)]
 mod flags;
 #[cfg(test)]

@@ -19,10 +19,13 @@ pub const LARGE: usize = 64 << 20;
 /// How many entries a large container has.
 pub const MANY: u32 = 1_000_000;
 
+/// How deep the limits let values nest.
+pub const DEEP: u32 = 10_000;
+
 /// Limits that every value here keeps to.
 pub const WIDE: Limits = Limits {
     frame: u32::MAX,
-    depth: 64,
+    depth: DEEP,
 };
 
 /// So many bytes, each its position's lowest seven bits.
@@ -39,6 +42,17 @@ pub fn bytes(alloc: Global, len: usize) -> Result<Vec<u8>, AllocError> {
         found.extend_from_slice(again.as_slice())?;
     }
     found.truncate(len);
+    Ok(found)
+}
+
+/// The key of a number: its seven decimal digits behind so many letters.
+pub fn key(alloc: Global, n: u32, letters: usize) -> Result<Vec<u8>, AllocError> {
+    let mut found = vec![in alloc; b'k'; letters]?;
+    let mut unit = 1_000_000;
+    for _ in 0..7u32 {
+        found.push(b'0' + (n.checked_div(unit).unwrap_or(0) % 10) as u8)?;
+        unit /= 10;
+    }
     Ok(found)
 }
 

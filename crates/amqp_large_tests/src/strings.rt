@@ -1,7 +1,9 @@
 //! Strings and byte arrays of 64 MiB, and a short string of 255 bytes.
 
 use crate::made::{LARGE, bytes, device, field, goes_everywhere, payload_of};
-use amq_protocol_types::generation::{WriteContext, gen_byte_array, gen_long_string};
+use amq_protocol_types::generation::{
+    WriteContext, gen_byte_array, gen_long_string, gen_short_string, gen_with_len,
+};
 use amq_protocol_types::parsing::{
     SliceInput, parse_byte_array, parse_long_string, parse_short_string,
 };
@@ -64,5 +66,19 @@ fn a_short_string_of_255_bytes(rt: HostRuntime) -> Result<(), Fail> {
     assert_eq!(rt; text.as_str().len(), 255);
     assert!(rt; ShortString::try_copy(alloc, text.as_str())? == text);
     assert!(rt; text.clone(alloc)? == text);
+    let mut context = WriteContext::from(Vec::new(alloc));
+    gen_short_string(text.as_str(), &mut context)?;
+    assert!(rt; context.into_inner().0.as_slice() == wire.as_slice());
+    Ok(())
+}
+
+#[test]
+fn a_body_is_written_behind_its_length(rt: HostRuntime) -> Result<(), Fail> {
+    let alloc = rt.alloc();
+    let body = bytes(alloc, LARGE)?;
+    let whole = field(alloc, b'S', body.as_slice())?;
+    let mut context = WriteContext::from(Vec::new(alloc));
+    gen_with_len(|x| x.put(body.as_slice()), &mut context)?;
+    assert!(rt; context.into_inner().0.as_slice() == payload_of(whole.as_slice()));
     Ok(())
 }
