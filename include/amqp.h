@@ -100,8 +100,8 @@ typedef struct amqp_container {
 
 /*
  * Reads the value at the front within limits, and checks all of it: at most `frame` bytes, and
- * containers nested at most `depth` deep. It takes stack as containers
- * nest, of which no contract speaks.
+ * containers nested at most `depth` deep. Of the stack it takes what read_in_place does:
+ * docs/PROMISES.md has the runs of that.
  *
  * `count` becomes how many bytes the value takes (AMQP_OK), or how many more the field that is
  * being read needs (AMQP_MORE; with these it may ask for more again), else 0. Also answers

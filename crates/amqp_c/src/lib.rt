@@ -19,8 +19,8 @@ use cursor::Cursor;
 use entry::{Entry, first};
 use read::read;
 
-/// Reads the value at the front within limits, and checks all of it. Of the stack it takes what
-/// `read_in_place` does.
+/// Reads the value at the front within limits, and checks all of it. Of the stack it
+/// takes what `read_in_place` does: docs/PROMISES.md has the runs of that.
 ///
 /// `count` becomes how many bytes the value takes, or how many more the field that is being read
 /// needs, or else 0.

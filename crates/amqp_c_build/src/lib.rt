@@ -51,7 +51,8 @@ pub extern "C" fn amqp_put_bytes(
 }
 
 /// Puts an entry behind what is written: the encoding at the front of other bytes, read within
-/// limits and copied as it stands. Of the stack it takes what `read_in_place` does.
+/// limits and copied as it stands. Of the stack it takes what `read_in_place` does:
+/// docs/PROMISES.md has the runs of that.
 #[unsafe(no_mangle)]
 pub extern "C" fn amqp_put_value(
     room: &mut [u8],

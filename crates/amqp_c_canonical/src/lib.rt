@@ -15,7 +15,8 @@ use canonical::canonical;
 use std::alloc::Global;
 
 /// Writes the canonical encoding of the value at the front from the start of `room`. Of the stack
-/// it takes what `canonical_len`, `parse_value_within` and `gen_value` do.
+/// it takes what `canonical_len`, `parse_value_within` and `gen_value` do: docs/PROMISES.md has the
+/// runs of these.
 ///
 /// `count` becomes how many bytes were written, how many more are needed of the value, or how many
 /// the room has to have, or else 0.

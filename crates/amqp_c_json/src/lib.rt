@@ -17,7 +17,7 @@ use encode::put_encoding;
 use std::alloc::Global;
 
 /// Writes the JSON text of the value at the front to the start of `room`. Of the stack it takes
-/// what `json_of_encoding` does.
+/// what `json_of_encoding` does: docs/PROMISES.md has the runs of that.
 ///
 /// `count` becomes how many bytes were written, how many more are needed of the value, or how many
 /// the room has to have, or else 0.
@@ -37,7 +37,7 @@ pub extern "C" fn amqp_to_json(
 
 /// Writes the canonical encoding of the value that a JSON text means to the start of `room`. A text
 /// with more than `nesting` arrays and objects open at once isn't read, nor is one with more than
-/// 127. Of the stack it takes what `encoding_of_json` does.
+/// 127. Of the stack it takes what `encoding_of_json` does: docs/PROMISES.md has the runs of that.
 ///
 /// `count` becomes how many bytes were written, or how many the room has to have, or else 0.
 #[unsafe(no_mangle)]

@@ -9,8 +9,8 @@ use amqp_parsing::{Err as Refusal, Limits, SliceInput, parse_value_within};
 use std::alloc::Global;
 
 /// The JSON text of the value at the front, with no spaces, and the bytes after the value, which is
-/// read as `parse_value_within` reads it. It takes stack as the value nests, of which no clause
-/// speaks.
+/// read as `parse_value_within` reads it. Runs show that it takes stack for `limits.depth` levels
+/// at most; docs/PROMISES.md says how much for one.
 #[tactic(auto, using(amqp_parsing::proofs::ParsingLaws::found_all, amqp_parsing::proofs::ParsingLaws::failed_all))]
 pub fn json_of_encoding<'a>(
     alloc: Global,

@@ -37,8 +37,9 @@ pub struct Dissection<'a> {
     pub end: End,
 }
 
-/// Takes the value at the beginning of the input apart, within the limits. It takes stack as the
-/// value nests, of which no clause speaks. Memory is taken for the parts alone: no byte is copied.
+/// Takes the value at the beginning of the input apart, within the limits. Runs show that it takes
+/// stack for `limits.depth` levels at most; docs/PROMISES.md says how much for one. Memory is taken
+/// for the parts alone: no byte is copied.
 pub fn dissect<'a>(
     alloc: Global,
     input: &'a [u8],

@@ -3,9 +3,13 @@
 //! Standard input has a line of hexadecimal, the encoding of a value. What is made of it here: each
 //! prefix of it, each of its bytes replaced, each room that is too small for it, and each call of a
 //! device that writes it failed.
+//!
+//! With two words, the name of a call and how deep containers may nest, that call alone is made, on
+//! what standard input has.
 #![tactic(auto)]
 
 mod devices;
+mod nested;
 mod rooms;
 mod shown;
 mod wires;
@@ -13,19 +17,32 @@ mod wires;
 use amq_protocol_types::AMQPValue;
 use amq_protocol_types::parsing::{SliceInput, parse_value};
 use std::alloc::Global;
-use std::io;
 use std::io::{ErrorKind, Read};
 use std::process::ExitCode;
+use std::{env, io};
 
 fn main(rt: HostRuntime) -> ExitCode {
-    match run(&rt, rt.alloc(), &mut rt.stdin()) {
+    match run(&rt) {
         Ok(()) => ExitCode::SUCCESS,
         Err(_) => ExitCode::FAILURE,
     }
 }
 
+/// Makes the call that the words name, or prints all of it.
+fn run(rt: &HostRuntime) -> io::Result<()> {
+    let mut words = env::args(rt)?.skip(1);
+    let mut input = rt.stdin();
+    match (words.next(), words.next()) {
+        (Some(name), Some(depth)) => {
+            let depth = depth.parse().map_err(unmade)?;
+            nested::run(rt, rt.alloc(), name.as_str(), depth, &mut input)
+        }
+        _ => run_all(rt, rt.alloc(), &mut input),
+    }
+}
+
 /// Prints all of it.
-fn run<P: Print, R: Read>(rt: &P, alloc: Global, input: &mut R) -> io::Result<()> {
+fn run_all<P: Print, R: Read>(rt: &P, alloc: Global, input: &mut R) -> io::Result<()> {
     let bytes = encoding(alloc, input)?;
     wires::built(rt, alloc)?;
     wires::fronts(rt, alloc, bytes.as_slice())?;

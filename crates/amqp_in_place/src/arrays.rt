@@ -49,7 +49,7 @@ impl<'a> ArrayRef<'a> {
     }
 
     /// The array in memory of its own, which `parse_value` gives. No values take no memory. It
-    /// takes stack as the value nests, of which no clause speaks.
+    /// takes stack for each level of nesting; docs/PROMISES.md says how much by runs.
     pub fn to_owned(self, alloc: Global) -> Result<FieldArray, AllocError>
         ensures { MatchResult result
             (λ a. Body (array_body self.entry) (array_view a))

@@ -28,8 +28,8 @@ pub fn is_canonical(bytes: &[u8], limits: Limits) -> bool
 /// the limits.
 ///
 /// All of the value is checked, keys' UTF-8 too, in one pass. Nothing is copied, and no memory is
-/// taken. It takes stack as the value nests, of which no clause speaks. `read_in_place` tells why a
-/// value is rejected.
+/// taken. Runs show that it takes stack for `limits.depth` levels at most; docs/PROMISES.md says
+/// how much for one. `read_in_place` tells why a value is rejected.
 pub fn canonical_len(bytes: &[u8], limits: Limits) -> Option<usize>
     ensures len { IfSome result (λ n. IsCanonicalLen limits bytes.now n) }
     ensures none { result ≡ None → (n : ℕ) → IsCanonicalLen limits bytes.now n → ⊥ }

@@ -13,7 +13,8 @@ use std::alloc::{AllocError, Global};
 
 impl<'a> ValueRef<'a> {
     /// The value in memory of its own, which `parse_value` gives. A number, a boolean, Void and
-    /// what is empty take no memory. It takes stack as the value nests, of which no clause speaks.
+    /// what is empty take no memory. It takes stack for each level of nesting; docs/PROMISES.md
+    /// says how much by runs.
     pub fn to_owned(self, alloc: Global) -> Result<AMQPValue, AllocError>
         ensures { MatchResult result (λ v. Stands self.entry (view v)) (λ _. HasBytes self.entry) }
     {

@@ -24,8 +24,9 @@ use simdutf8::basic::Utf8Error;
 /// Reads a value where its bytes lie: answers what `parse_value_within` does within the same
 /// limits, but that it never runs out of memory.
 ///
-/// All of the value is checked, keys' UTF-8 too. Nothing is copied, and no memory is taken. It
-/// takes stack as the value nests, of which no clause speaks.
+/// All of the value is checked, keys' UTF-8 too. Nothing is copied, and no memory is taken. Runs
+/// show that it takes stack for `limits.depth` levels at most; docs/PROMISES.md says how much for
+/// one.
 #[tactic(auto, using(crate::proofs::OneValue::one_value, crate::proofs::Reading::left_behind))]
 pub fn read_in_place(bytes: &[u8], limits: Limits) -> Result<(ValueRef<'_>, &[u8]), ParserError>
     ensures within { MatchResult result
@@ -51,8 +52,8 @@ pub fn read_in_place(bytes: &[u8], limits: Limits) -> Result<(ValueRef<'_>, &[u8
 /// Reads a value where its bytes lie, without limits: answers what `parse_value` does, but that it
 /// never runs out of memory.
 ///
-/// It takes stack for each level of nesting, which the input's length alone bounds, of which no
-/// clause speaks.
+/// It takes stack for each level of nesting, which the input's length alone bounds;
+/// docs/PROMISES.md says how much by runs.
 #[tactic(auto, using(crate::proofs::OneValue::one_value, crate::proofs::Reading::left_behind))]
 pub fn read_in_place_unlimited(bytes: &[u8]) -> Result<(ValueRef<'_>, &[u8]), ParserError>
     ensures outcome { MatchResult result

@@ -53,7 +53,7 @@ impl<'a> TableRef<'a> {
     }
 
     /// The table in memory of its own, which `parse_value` gives. No entries take no memory. It
-    /// takes stack as the value nests, of which no clause speaks.
+    /// takes stack for each level of nesting; docs/PROMISES.md says how much by runs.
     #[tactic(auto, using(crate::proofs::Owning::entries_of_table))]
     pub fn to_owned(self, alloc: Global) -> Result<FieldTable, AllocError>
         ensures { MatchResult result

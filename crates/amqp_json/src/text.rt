@@ -19,7 +19,8 @@ use std::alloc::{AllocError, Global};
 
 /// The JSON text of a value, with no spaces between its parts. A JSON value of all the value is
 /// made meanwhile; an error comes where memory runs out. Where it nests more than 127 deep
-/// `from_json` refuses the text. It takes stack as the value nests, of which no clause speaks.
+/// `from_json` refuses the text. It takes stack for each level of nesting; docs/PROMISES.md says
+/// how much by runs.
 #[tactic(auto, using(crate::proofs::NoFloat::no_float))]
 pub fn to_json(alloc: Global, value: &AMQPValue) -> Result<String, AllocError>
     ensures text { IfOk result (λ s. string_bytes s ≡ compact_text (json (view value.now))) }

@@ -32,8 +32,8 @@ use std::alloc::Global;
 /// `Failure` that memory ran out.
 ///
 /// What is read can be written again, in no more bytes than it was read from. It takes stack for
-/// each level of nesting, which the input's length alone bounds, of which no clause speaks. Memory
-/// is taken only for strings, byte arrays and containers whose bytes are all there.
+/// each level of nesting, which the input's length alone bounds; docs/PROMISES.md says how much by
+/// runs. Memory is taken only for strings, byte arrays and containers whose bytes are all there.
 #[inline(always)]
 #[tactic(auto, using(crate::proofs::Appends::has_one_outcome, amqp_grammar::proofs::GrammarLaws::more_bytes))]
 pub fn parse_value<I: ParsableInput>(alloc: Global, i: I) -> ParserResult<I, AMQPValue>

@@ -21,8 +21,9 @@ use std::alloc::Global;
 ///
 /// A longer value is rejected as `TooLarge` as soon as its first bytes tell; tests see no
 /// allocation then. One that nests deeper is rejected as `Eof`, like any other length-prefixed
-/// field that is no value; each entry that is written counts, also where its key comes again. It
-/// takes stack as the value nests, of which no clause speaks.
+/// field that is no value; each entry that is written counts, also where its key comes again. Runs
+/// show that it takes stack for `limits.depth` levels at most; docs/PROMISES.md says how much for
+/// one.
 #[tactic(auto, using(amqp_grammar::proofs::GrammarLaws::deep_enough))]
 pub fn parse_value_within<I: ParsableInput>(
     alloc: Global,
