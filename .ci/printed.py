@@ -83,24 +83,24 @@ def extent(data):
 
 
 class Dissection:
-    """The parts of the value at the front of some bytes, up to its end or to where it fails."""
+    """The parts of the value at the front of some bytes, up to its end or to where it fails, and what is cut by the bytes' end."""
 
     def __init__(self, data, frame=FRAME, depth=DEPTH):
-        self.data, self.parts, self.failure, self.end = data, [], "", 0
+        self.data, self.parts, self.cut, self.failure, self.end = data, [], set(), "", 0
         try:
             if extent(data) > frame:
                 raise Failure(0, "the value has more bytes than --frame allows")
-            self.end = self.value(0, len(data), 0, depth)
+            self.end = self.value(0, len(data), 0, depth, True)
         except Failure as why:
-            self.failure = str(why)
+            self.failure = self.failure or str(why)
 
     def part(self, at, level, kind, type, count):
         if count:
             self.parts.append(Part(at, level, kind, type, self.data[at : at + count]))
         return at + count
 
-    def value(self, at, end, level, depth):
-        """Takes a value apart that begins at an offset, and returns where it ends."""
+    def value(self, at, end, level, depth, is_open):
+        """Takes a value apart that begins at an offset, and returns where it ends. What is open ends where the bytes do."""
         if at == end:
             raise Failure(at, "a type tag is expected; nothing is left")
         tag = chr(self.data[at])
@@ -110,6 +110,8 @@ class Dissection:
         needs = lack(tag, self.data[at + 1 : end])
         if not needs and tag in "AF" and not depth:
             raise Failure(at, "containers nest deeper than --depth allows")
+        if needs and is_open:
+            self.cut_value(at, level, depth, needs)
         at = self.part(at, level, "tag", name, 1)
         if needs:
             raise Failure(at, f"the payload of a {name} is expected; more bytes needed: {needs}")
@@ -119,15 +121,36 @@ class Dissection:
         at = self.part(at, level, "length", name, 4)
         if tag in "Sx":
             return self.part(at, level, "payload", name, count)
-        end = at + count
+        return self.entries(tag, at, at + count, level, depth, False)
+
+    def entries(self, tag, at, end, level, depth, is_open):
         while at < end:
             if tag == "F":
-                at = self.key(at, end, level + 1)
-            at = self.value(at, end, level + 1, depth - 1)
+                at = self.key(at, end, level + 1, is_open)
+            at = self.value(at, end, level + 1, depth - 1, is_open)
         return at
 
-    def key(self, at, end, level):
+    def cut_value(self, at, level, depth, needs):
+        """Takes a value apart as far as it has come. What the outermost one needs is the failure."""
+        tag, end = chr(self.data[at]), len(self.data)
+        name, width = TYPES[tag]
+        why = Failure(at + 1, f"the payload of a {name} is expected; more bytes needed: {needs}")
+        self.failure = self.failure or str(why)
+        self.cut.add(at)
+        at = self.part(at, level, "tag", name, 1)
+        if width is None and at + 4 <= end and (depth or tag in "Sx"):
+            at = self.part(at, level, "length", name, 4)
+            if tag in "Sx":
+                self.part(at, level, "payload", name, end - at)
+            else:
+                self.entries(tag, at, end, level, depth, True)
+        raise why
+
+    def key(self, at, end, level, is_open):
         count = self.data[at]
+        if is_open and at + 1 + count > end:
+            self.cut.add(at)
+            count = end - at - 1
         if at + 1 + count > end:
             raise Failure(at, f"a key is expected; more bytes needed: {at + 1 + count - end}")
         at = self.part(at, level, "key length", "", 1)
@@ -234,8 +257,8 @@ def text_of(name, data):
     return str(number)
 
 
-def notes(parts, asked):
-    """What isn't canonical at each part, where notes are asked for, or nothing."""
+def notes(parts, asked, cut):
+    """That what begins with a part is cut, or what isn't canonical at it, where notes are asked for, or nothing."""
     before, found = {}, []
     for at, part in enumerate(parts):
         note = ""
@@ -251,7 +274,7 @@ def notes(parts, asked):
             note = f"{part.bytes.decode()} is a second spelling of {'s' if part.bytes == b'U' else 'l'}"
         if part.kind == "payload" and part.type == "Boolean" and part.bytes not in (b"\0", b"\1"):
             note = "true is written as 01"
-        found.append(f" (not canonical: {note})" if note and asked else "")
+        found.append(" (cut)" if part.offset in cut else f" (not canonical: {note})" if note and asked else "")
     return found
 
 
@@ -296,9 +319,9 @@ def indentation(level):
     return "  " * level if level <= 32 else f"{'  ' * 32}[{level}] "
 
 
-def tree(parts, canonical=False):
+def tree(parts, cut, canonical=False):
     lines, has_key = [], False
-    for at, (part, note) in enumerate(zip(parts, notes(parts, canonical))):
+    for at, (part, note) in enumerate(zip(parts, notes(parts, canonical, cut))):
         if part.kind == "key length":
             key = key_at(parts, at)
             lines.append(indentation(part.level) + ("?" if key is None else quoted(key)) + note)
@@ -315,8 +338,8 @@ def tree(parts, canonical=False):
     return lines
 
 
-def part_lines(parts, canonical=False):
-    for part, note in zip(parts, notes(parts, canonical)):
+def part_lines(parts, cut, canonical=False):
+    for part, note in zip(parts, notes(parts, canonical, cut)):
         digits = part.bytes[:8].hex() + (".." if len(part.bytes) > 8 else "")
         what = {
             "tag": lambda: f"type tag {part.bytes.decode('latin-1')}, {part.type}",
@@ -331,7 +354,7 @@ def part_lines(parts, canonical=False):
 def printed(data, canonical=False):
     """What `amqp_show --tree --bytes` prints of some bytes, with `--canonical` or without it, and its status."""
     found = Dissection(data)
-    lines = [*tree(found.parts, canonical), *part_lines(found.parts, canonical), *repeated(found.parts)]
+    lines = [*tree(found.parts, found.cut, canonical), *part_lines(found.parts, found.cut, canonical), *repeated(found.parts)]
     lines += [f"! {found.failure}"] if found.failure else []
     return "".join(f"{line}\n" for line in [*lines, f"= {outcome(data, found)}"]), int(bool(found.failure))
 
@@ -446,5 +469,5 @@ def inputs():
 
 
 def stream():
-    """The inputs whose length is known, each up to its end, refused ones too."""
-    return [data[: extent(data)] for data in inputs() if 0 < extent(data) <= len(data)]
+    """The inputs whose length is known, each up to its end, refused ones too, and at last one that is cut."""
+    return [*(data[: extent(data)] for data in inputs() if 0 < extent(data) <= len(data)), max(captured(), key=len)[:100]]

@@ -155,14 +155,12 @@ pub fn command<'a>(alloc: Global) -> Result<Command<'a>, AllocError> {
             "stream",
             "The input is values one after another: show each as it comes",
         ))?
-        .arg(
-            flag(
-                alloc,
-                "keep-going",
-                "With --stream: pass over a refused value if its length is known",
-            )
-            .requires_arg("stream")?,
-        )?
+        .arg(flag(
+            alloc,
+            "keep-going",
+            "With --stream: pass over a refused value if its length is known",
+        )
+        .requires_arg("stream")?)?
         .arg(
             flag(
                 alloc,

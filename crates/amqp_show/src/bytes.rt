@@ -1,5 +1,6 @@
 //! A value byte by byte.
 
+use crate::cut::{is_cut, push_cut};
 use crate::notes::{Keys, push_note};
 use crate::texts::{part_text, push_indent};
 use amqp_dissect::{Field, Part};
@@ -11,12 +12,13 @@ const SHOWN: usize = 8;
 
 /// Adds a line for each part: its offset, its bytes in hexadecimal, the first of them where they
 /// are many, and what they are, indented by how deep it stands; with what isn't canonical, if that
-/// is asked for.
+/// is asked for. What is cut begins at the offsets of `cut`.
 pub fn push_bytes(
     alloc: Global,
     screen: &mut Screen,
     parts: &[Part<'_>],
     canonical: bool,
+    cut: &[usize],
 ) -> Result<(), AllocError> {
     let mut keys = Keys::new(alloc, canonical);
     for (index, part) in parts.iter().enumerate() {
@@ -28,7 +30,10 @@ pub fn push_bytes(
         } else {
             screen.push_text(what.as_str())?;
         }
-        if let Some(note) = keys.note(part, parts.get(index + 1))? {
+        let note = keys.note(part, parts.get(index + 1))?;
+        if is_cut(part, cut) {
+            push_cut(screen)?;
+        } else if let Some(note) = note {
             push_note(alloc, screen, note)?;
         }
         screen.end_line()?;

@@ -4,6 +4,7 @@
 
 mod arguments;
 mod bytes;
+mod cut;
 mod digits;
 mod dump;
 mod encode;

@@ -2,13 +2,14 @@
 
 use crate::arguments::{Form, Settings};
 use crate::bytes::push_bytes;
+use crate::cut::Cut;
 use crate::input::read_input;
 use crate::json;
 use crate::messages::unreadable;
 use crate::repeats::push_repeats;
 use crate::texts::{failure_text, outcome_text};
 use crate::tree::push_tree;
-use amqp_dissect::{End, dissect};
+use amqp_dissect::{End, Part, dissect};
 use amqp_screen::{Colour, Screen, Status};
 use anyhow::Result;
 use std::alloc::{AllocError, Global};
@@ -56,20 +57,24 @@ pub fn push_value(
     settings: Settings,
 ) -> Result<Status, AllocError> {
     let dissection = dissect(alloc, input, settings.limits)?;
-    let parts = dissection.parts.as_slice();
-    if let Form::Text {
-        tree,
-        bytes,
-        canonical,
-    } = settings.form
-    {
-        if tree {
-            push_tree(alloc, screen, parts, canonical)?;
+    match Cut::of(alloc, input, &dissection, settings.limits)? {
+        Some(cut) => {
+            let parts = cut.parts(alloc, input, settings.limits)?;
+            push_parts(
+                alloc,
+                screen,
+                parts.as_slice(),
+                cut.offsets(),
+                settings.form,
+            )?;
         }
-        if bytes {
-            push_bytes(alloc, screen, parts, canonical)?;
-        }
-        push_repeats(alloc, screen, parts)?;
+        None => push_parts(
+            alloc,
+            screen,
+            dissection.parts.as_slice(),
+            &[],
+            settings.form,
+        )?,
     }
     if dissection.end == End::Value {
         return Ok(Status::Read);
@@ -79,4 +84,29 @@ pub fn push_value(
     screen.push_coloured(line.as_str(), Colour::Failure)?;
     screen.end_line()?;
     Ok(Status::Refused)
+}
+
+// Adds parts in a form. What is cut begins at the offsets of `cut`.
+fn push_parts(
+    alloc: Global,
+    screen: &mut Screen,
+    parts: &[Part<'_>],
+    cut: &[usize],
+    form: Form,
+) -> Result<(), AllocError> {
+    if let Form::Text {
+        tree,
+        bytes,
+        canonical,
+    } = form
+    {
+        if tree {
+            push_tree(alloc, screen, parts, canonical, cut)?;
+        }
+        if bytes {
+            push_bytes(alloc, screen, parts, canonical, cut)?;
+        }
+        push_repeats(alloc, screen, parts)?;
+    }
+    Ok(())
 }

@@ -129,12 +129,7 @@ fn show_values<R: Read + Drop>(
 }
 
 // Says why a source can't be read, after an error of this kind.
-fn unread<R>(
-    rt: &HostRuntime,
-    file: &str,
-    source: &Source<R>,
-    kind: ErrorKind,
-) -> Result<Status> {
+fn unread<R>(rt: &HostRuntime, file: &str, source: &Source<R>, kind: ErrorKind) -> Result<Status> {
     let why = source.fault(rt.alloc(), kind)?;
     complain(rt, file, why.as_str())?;
     Ok(Status::Mistake)

@@ -1,5 +1,6 @@
 //! A value as a tree.
 
+use crate::cut::{is_cut, push_cut};
 use crate::notes::{Keys, key_of, push_note};
 use crate::texts::{push_indent, quoted, typed_text};
 use amqp_dissect::{Field, Part};
@@ -7,12 +8,14 @@ use amqp_screen::{Colour, Screen};
 use std::alloc::{AllocError, Global};
 
 /// Adds a line for each value: its key in a table, its type, and what it is; indented by how deep
-/// it stands; with what isn't canonical, if that is asked for.
+/// it stands; with what isn't canonical, if that is asked for. What is cut begins at the offsets
+/// of `cut`.
 pub fn push_tree(
     alloc: Global,
     screen: &mut Screen,
     parts: &[Part<'_>],
     canonical: bool,
+    cut: &[usize],
 ) -> Result<(), AllocError> {
     let mut keys = Keys::new(alloc, canonical);
     let mut has_line = false;
@@ -39,7 +42,10 @@ pub fn push_tree(
             }
             Field::Length(_) | Field::Key | Field::Payload(_) => {}
         }
-        if let Some(note) = keys.note(part, next)? {
+        let note = keys.note(part, next)?;
+        if is_cut(part, cut) {
+            push_cut(screen)?;
+        } else if let Some(note) = note {
             push_note(alloc, screen, note)?;
         }
     }
