@@ -7,6 +7,7 @@ use amqp_convert::{DecodeError, json_of_encoding};
 use amqp_dissect::dissect;
 use amqp_screen::{Screen, Status};
 use anyhow::{Result, anyhow};
+use std::alloc::{AllocError, Global};
 
 // Readers of JSON take texts that nest so deep, `--encode` among them.
 const DEEPEST: u32 = 127;
@@ -44,19 +45,27 @@ pub fn print_failure(rt: &HostRuntime, file: &str, input: &[u8], limits: Limits)
 /// Prints a JSON text on a line, if it nests no deeper than its readers take, or the limits go
 /// beyond that.
 pub fn print_json(rt: &HostRuntime, file: &str, json: &str, limits: Limits) -> Result<Status> {
-    let depth = nesting(json);
-    if limits.depth <= DEEPEST && depth > DEEPEST {
-        let why = format!(in rt.alloc();
-            "the JSON nests {depth} deep, and --encode takes {DEEPEST}"
-        )?;
-        complain(rt, file, why.as_str())?;
-        return Ok(Status::Refused);
+    if limits.depth <= DEEPEST {
+        if let Some(why) = too_deep(rt.alloc(), json)? {
+            complain(rt, file, why.as_str())?;
+            return Ok(Status::Refused);
+        }
     }
     let mut screen = Screen::new(rt.alloc(), false);
     screen.push_json(json)?;
     screen.end_line()?;
     screen.print(rt)?;
     Ok(Status::Read)
+}
+
+/// Says how deep a JSON text nests, if that is deeper than its readers take.
+pub fn too_deep(alloc: Global, json: &str) -> Result<Option<String>, AllocError> {
+    let depth = nesting(json);
+    if depth <= DEEPEST {
+        return Ok(None);
+    }
+    let why = format!(in alloc; "the JSON nests {depth} deep, and --encode takes {DEEPEST}")?;
+    Ok(Some(why))
 }
 
 // How deep the arrays and objects of a JSON text nest.

@@ -1,5 +1,6 @@
 //! Why JSON has no encoding, and where.
 
+use crate::json::too_deep;
 use crate::texts::quoted;
 use amqp_convert::{EncodeError, encoding_of_json};
 use amqp_json::JsonError;
@@ -19,7 +20,7 @@ const TOO_LONG: &str = "it is longer than a length of 32 bits says";
 pub fn reason(alloc: Global, json: &str, error: &EncodeError) -> Result<String> {
     match error {
         EncodeError::OutOfMemory | EncodeError::Json(JsonError::OutOfMemory) => Err(no_memory()),
-        EncodeError::Json(JsonError::Syntax(error)) => Ok(syntax_text(alloc, error)?),
+        EncodeError::Json(JsonError::Syntax(error)) => Ok(syntax_text(alloc, json, error)?),
         EncodeError::Json(JsonError::NotAValue) | EncodeError::NoTypeTag | EncodeError::TooLong => {
             // It has been read before: only memory can be wanting.
             let Ok(value) = Value::from_str(alloc, json) else {
@@ -34,12 +35,11 @@ fn no_memory() -> anyhow::Error {
     anyhow!("out of memory")
 }
 
-// Why a text is no JSON that is read, with the line and the column.
-fn syntax_text(alloc: Global, error: &serde_json::Error) -> Result<String, AllocError> {
-    let text = format!(in alloc; "{error}")?;
-    match text.strip_prefix("recursion limit exceeded") {
-        Some(place) => format!(in alloc; "the JSON nests deeper than 127{place}"),
-        None => Ok(text),
+// Why a text is no JSON that is read.
+fn syntax_text(alloc: Global, json: &str, error: &serde_json::Error) -> Result<String, AllocError> {
+    match too_deep(alloc, json)? {
+        Some(why) => Ok(why),
+        None => format!(in alloc; "{error}"),
     }
 }
 
