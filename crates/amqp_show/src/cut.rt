@@ -125,19 +125,25 @@ impl Cut {
     // Has the length behind the type tag at an offset count what is there, if it is there itself.
     fn mend_length(&mut self, at: usize) {
         let there = self.bytes.len().saturating_sub(at.saturating_add(5));
+        let Ok(there) = u32::try_from(there) else {
+            return;
+        };
         let Some(behind) = self.bytes.as_mut_slice().get_mut(at.saturating_add(1)..) else {
             return;
         };
         if let Some(length) = behind.first_chunk_mut::<4>() {
-            *length = (there as u32).to_be_bytes();
+            *length = there.to_be_bytes();
         }
     }
 
     // The same of a key's length.
     fn mend_key(&mut self, at: usize) {
         let there = self.bytes.len().saturating_sub(at.saturating_add(1));
+        let Ok(there) = u8::try_from(there) else {
+            return;
+        };
         if let Some(length) = self.bytes.as_mut_slice().get_mut(at) {
-            *length = there as u8;
+            *length = there;
         }
     }
 }
