@@ -47,16 +47,18 @@ def brackets(form, depth):
 
 
 DEEP, OF_JSON = (LIMIT, 1000), (LIMIT, 127)
+# Where there is no limit.
+DEEPEST = (LIMIT, 1000, 10_000)
 REFUSED = "Error(ParserErrors { kind: Eof })"
 NO_JSON = "Syntax(Error(invalid JSON at "
 # Each call: what it is made on, how deep, and how its answer begins where a limit refuses that. No depth: it doesn't recurse.
 CALLS = {
-    "parse_value": (encoding, DEEP, None),
+    "parse_value": (encoding, DEEPEST, None),
     "parse_value_within": (encoding, DEEP, REFUSED),
     "SplitInput": (encoding, DEEP, REFUSED),
     "ValueReader::next": (encoding, DEEP, "Refused(ParserErrors { kind: Eof })"),
     "read_in_place": (encoding, DEEP, REFUSED),
-    "read_in_place_unlimited": (encoding, DEEP, None),
+    "read_in_place_unlimited": (encoding, DEEPEST, None),
     "iter": (encoding, DEEP, REFUSED),
     "is_canonical": (encoding, DEEP, "refused"),
     "canonical_len": (encoding, DEEP, "refused"),
@@ -64,13 +66,13 @@ CALLS = {
     "to_owned": (encoding, DEEP, REFUSED),
     "dissect": (encoding, DEEP, "Problem(TooDeep)"),
     "json_of_encoding": (encoding, DEEP, f"Refused({REFUSED}"),
-    "gen_value": (type_tags, DEEP, None),
-    "clone": (type_tags, DEEP, None),
-    "==": (type_tags, DEEP, None),
-    "drop": (type_tags, DEEP, None),
-    "to_value": (type_tags, DEEP, None),
-    "to_json": (type_tags, DEEP, None),
-    "from_value": (brackets, DEEP, None),
+    "gen_value": (type_tags, DEEPEST, None),
+    "clone": (type_tags, DEEPEST, None),
+    "==": (type_tags, DEEPEST, None),
+    "drop": (type_tags, DEEPEST, None),
+    "to_value": (type_tags, DEEPEST, None),
+    "to_json": (type_tags, DEEPEST, None),
+    "from_value": (brackets, DEEPEST, None),
     "from_json": (json_text, OF_JSON, NO_JSON),
     "encoding_of_json": (json_text, OF_JSON, f"Json({NO_JSON}"),
 }
