@@ -14,14 +14,7 @@ from pathlib import Path
 from crates import TOP, said_by
 
 # The crates that have nothing but tests: .ci/test runs them, but for the last, and .ci/whole proves them too.
-TEST_CRATES = (
-    "amqp_tests",
-    "amqp_in_place_tests",
-    "amqp_json_tests",
-    "amqp_codec_tests",
-    "amqp_stream_tests",
-    "amqp_large_tests",
-)
+TEST_CRATES = ("test_values", "test_readers", "test_large")
 
 
 def copy_repository(to, without=()):

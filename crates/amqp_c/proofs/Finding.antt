@@ -11,9 +11,9 @@ use Rattle.amqp_parsing.specs.Headers.{extent}
 use Rattle.amqp_parsing.proofs.ParsingLaws.{wire_extent}
 use Rattle.amqp_in_place.specs.Bodies.{HasEntries}
 use Rattle.amqp_c.specs.declared.entry.Entry.{Entry}
-use Rattle.amqp_c_answers.specs.declared.fault.Fault.{Fault}
-use Rattle.amqp_c_answers.specs.declared.span.Span.{Span}
-use Rattle.amqp_c_answers.specs.Spans.{part, behind, SpanLies}
+use Rattle.amqp_c_common.specs.declared.fault.Fault.{Fault}
+use Rattle.amqp_c_common.specs.declared.span.Span.{Span}
+use Rattle.amqp_c_common.specs.Spans.{part, behind, SpanLies}
 use Rattle.amqp_c.specs.Entries.{IsTrueTo, Lies}
 use Rattle.amqp_c.specs.Steps.{IsHeaded, ArePairs, no_pairs as none_left, pair as one_left, last_of, IsBehind, HasNoKey, StandsKeyed, EndsIn, GivesFound, GivesLast}
 use Rattle.amqp_c.proofs.Fronts.{length-wire}

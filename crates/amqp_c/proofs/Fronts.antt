@@ -24,15 +24,15 @@ use Rattle.amqp_parsing.specs.Headers.{extent_of, extent_at, extent, wanted}
 use Rattle.amqp_parsing.proofs.ParsingLaws.{wire_extent, wanted_more, wanted_within}
 use Rattle.amqp_in_place.specs.Bodies.{HasEntries}
 use Rattle.amqp_c.specs.declared.entry.Entry.{Entry}
-use Rattle.amqp_c_answers.specs.declared.fault.Fault.{Fault}
-use Rattle.amqp_c_answers.specs.declared.fault.Fault.TheVariants.{More, UnknownTag, Malformed, TooLarge, Invalid, OutOfMemory, NoRoom, NotJson, NoEncoding}
-use Rattle.amqp_c_answers.specs.Answers.{fault_of}
+use Rattle.amqp_c_common.specs.declared.fault.Fault.{Fault}
+use Rattle.amqp_c_common.specs.declared.fault.Fault.TheVariants.{More, UnknownTag, Malformed, TooLarge, Invalid, OutOfMemory, NoRoom, NotJson, NoEncoding}
+use Rattle.amqp_c_common.specs.Answers.{fault_of}
 use Rattle.amqp_c.specs.Answers.{HeaderFaults}
 use Rattle.amqp_c.specs.Entries.{HasNoNumber, Says, IsEntry, IsTagged}
 use Rattle.amqp_c.specs.Heads.{has_content}
 use Rattle.amqp_c.specs.Steps.{IsHeaded}
-use Rattle.amqp_c_answers.specs.Scalars.{bits_in, scale_in}
-use Rattle.amqp_c_answers.specs.Spans.{part}
+use Rattle.amqp_c_common.specs.Scalars.{bits_in, scale_in}
+use Rattle.amqp_c_common.specs.Spans.{part}
 use Rattle.amqp_c.proofs.Parts.{part_front, part_content}
 
 pub length-wire : (w : List ℕ) (v : Tree) → Wire w v → 0 < length w

@@ -3,3 +3,8 @@ mod Parts
 mod Fronts
 mod Stepping
 mod Finding
+mod Growing
+mod BuiltNumbers
+mod Opened
+mod Putting
+mod Rooms

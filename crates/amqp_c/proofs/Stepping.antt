@@ -8,10 +8,10 @@ use Rattle.amqp_grammar.proofs.GrammarLaws.{found_front, wire_found}
 use Rattle.amqp_parsing.specs.Headers.{extent}
 use Rattle.amqp_in_place.specs.Bodies.{HasEntries}
 use Rattle.amqp_c.specs.declared.entry.Entry.{Entry}
-use Rattle.amqp_c_answers.specs.declared.span.Span.{Span}
+use Rattle.amqp_c_common.specs.declared.span.Span.{Span}
 use Rattle.amqp_c.specs.Answers.{GivesFirst}
 use Rattle.amqp_c.specs.Entries.{Says, IsAtFront, IsTagged, IsTrueTo, Lies}
-use Rattle.amqp_c_answers.specs.Spans.{part, moved, behind, SpanLies}
+use Rattle.amqp_c_common.specs.Spans.{part, moved, behind, SpanLies}
 use Rattle.amqp_c.specs.Steps.{IsHeaded, HasNoPair, IsFrontIn, IsValueIn, IsPairIn, BeginsWithKey, StandsKeyed}
 use Rattle.amqp_c.proofs.Parts.{part_front, part_within, part_after, part_length}
 

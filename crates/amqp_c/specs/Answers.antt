@@ -10,9 +10,9 @@ use Rattle.amqp_parsing.specs.Limits.{Within}
 use Rattle.amqp_parsing.specs.Refusals.{Refusal}
 use Rattle.amqp_c.specs.declared.cursor.Cursor.{Cursor}
 use Rattle.amqp_c.specs.declared.entry.Entry.{Entry}
-use Rattle.amqp_c_answers.specs.declared.fault.Fault.{Fault}
-use Rattle.amqp_c_answers.specs.declared.fault.Fault.TheVariants.{More, UnknownTag, Malformed, TooLarge}
-use Rattle.amqp_c_answers.specs.Answers.{fault_of, code_of}
+use Rattle.amqp_c_common.specs.declared.fault.Fault.{Fault}
+use Rattle.amqp_c_common.specs.declared.fault.Fault.TheVariants.{More, UnknownTag, Malformed, TooLarge}
+use Rattle.amqp_c_common.specs.Answers.{fault_of, code_of}
 use Rattle.amqp_c.specs.Entries.{IsEntry}
 
 -- it is what an error that is right of reading s is told as

@@ -7,12 +7,12 @@ use Rattle.amqp_grammar.specs.Outcomes.{Outcome, found}
 use Rattle.amqp_in_place.specs.Bodies.{HasEntries}
 use Rattle.amqp_c.specs.declared.cursor.Cursor.{Cursor}
 use Rattle.amqp_c.specs.declared.entry.Entry.{Entry}
-use Rattle.amqp_c_answers.specs.declared.fault.Fault.{Fault}
-use Rattle.amqp_c_answers.specs.Reading.{limits}
-use Rattle.amqp_c_answers.specs.Spans.{part, SpanLies}
+use Rattle.amqp_c_common.specs.declared.fault.Fault.{Fault}
+use Rattle.amqp_c_common.specs.Reading.{limits}
+use Rattle.amqp_c_common.specs.Spans.{part, SpanLies}
 use Rattle.amqp_c.specs.Entries.{IsAtFront, IsTagged, IsTrueTo, Lies}
 use Rattle.amqp_c.specs.Steps.{array_tag, table_tag, contents, IsOfContainer, IsOfTable, StepsIn, ArePairs, last_of, IsCut, RefusedBy, GivesValue, GivesPair, GivesFound, GivesLast, StandsIn}
-use Rattle.amqp_c_answers.specs.Answers.{answer_of, count_of}
+use Rattle.amqp_c_common.specs.Answers.{answer_of, count_of}
 use Rattle.amqp_c.specs.Answers.{IsTaken, HeaderFaults, FaultsWithin, GivesFirst, answer_if_any, given_or, found_or, entry_or, cursor_or}
 
 -- reading s within limits: the answer and the number of bytes are those of a value that is read, or

@@ -8,8 +8,8 @@ use Rattle.amqp_parsing.specs.Headers.{extent}
 use Rattle.amqp_in_place.specs.Bodies.{HasEntries}
 use Rattle.amqp_c.specs.declared.entry.Entry.{Entry}
 use Rattle.amqp_c.specs.Heads.{has_content}
-use Rattle.amqp_c_answers.specs.Scalars.{scalar_bits, scalar_scale}
-use Rattle.amqp_c_answers.specs.Spans.{part, SpanLies}
+use Rattle.amqp_c_common.specs.Scalars.{scalar_bits, scalar_scale}
+use Rattle.amqp_c_common.specs.Spans.{part, SpanLies}
 
 -- the entry has no number
 abbrev pub HasNoNumber : Entry → Type 0

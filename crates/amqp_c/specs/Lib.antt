@@ -4,3 +4,9 @@ pub mod Heads
 pub mod Steps
 pub mod Answers
 pub mod Calls
+pub mod Containers
+pub mod Rooms
+pub mod BuiltEntries
+pub mod Growth
+pub mod Faults
+pub mod BuildCalls

@@ -2,7 +2,7 @@
 use Rattle.std.specs.Prelude.{ℕ, ◌≡◌, ◌+◌, List, length}
 use Rattle.amqp_grammar.specs.Values.{Tree}
 use Rattle.amqp_grammar.specs.Outcomes.{Outcome, found}
-use Rattle.amqp_c_answers.specs.Scalars.{bits_in, scale_in}
+use Rattle.amqp_c_common.specs.Scalars.{bits_in, scale_in}
 use Rattle.amqp_c.specs.declared.entry.Fixed.{Fixed}
 
 -- a value is read from the front of s: it has so many bytes, these bits and this scale

@@ -7,10 +7,10 @@ use Rattle.amqp_grammar.specs.Maps.{same_bytes}
 use Rattle.amqp_parsing.specs.Headers.{extent}
 use Rattle.amqp_c.specs.declared.cursor.Cursor.{Cursor}
 use Rattle.amqp_c.specs.declared.entry.Entry.{Entry}
-use Rattle.amqp_c_answers.specs.declared.fault.Fault.{Fault}
-use Rattle.amqp_c_answers.specs.declared.fault.Fault.TheVariants.{Malformed, Invalid}
-use Rattle.amqp_c_answers.specs.declared.span.Span.{Span}
-use Rattle.amqp_c_answers.specs.Spans.{part, behind, last, SpanLies}
+use Rattle.amqp_c_common.specs.declared.fault.Fault.{Fault}
+use Rattle.amqp_c_common.specs.declared.fault.Fault.TheVariants.{Malformed, Invalid}
+use Rattle.amqp_c_common.specs.declared.span.Span.{Span}
+use Rattle.amqp_c_common.specs.Spans.{part, behind, last, SpanLies}
 use Rattle.amqp_c.specs.Entries.{IsEntry, IsTagged, IsTrueTo, Lies}
 
 -- the type tags of an array and of a table, `A` and `F`

@@ -1,12 +1,14 @@
 //! What a call answers and leaves behind its pointers.
 
 ghost use Rattle.std.specs.Prelude.{◌≡◌};
-ghost use Rattle.amqp_c_answers.specs.Answers.{answer_of};
+ghost use Rattle.amqp_c_common.specs.Answers.{answer_of};
+ghost use Rattle.amqp_c.specs.BuildCalls.{container_or};
 ghost use Rattle.amqp_c.specs.Answers.{answer_if_any, given_or, found_or, entry_or, cursor_or};
 
+use crate::container::Container;
 use crate::cursor::Cursor;
 use crate::entry::Entry;
-use amqp_c_answers::Fault;
+use amqp_c_common::Fault;
 
 /// Something is given.
 const OK: i32 = 0;
@@ -74,5 +76,19 @@ pub fn answer_step(
         }
         Ok(None) => NONE,
         Err(fault) => fault.code(),
+    }
+}
+
+/// Leaves the container that is given.
+pub fn answer_container(done: Result<Container, Fault>, container: &mut Container) -> i32
+    ensures answer { result ≡ answer_of done }
+    ensures container { container.new ≡ container_or container.old done }
+{
+    match done {
+        Ok(given) => {
+            *container = given;
+            OK
+        }
+        Err(error) => error.code(),
     }
 }

@@ -7,13 +7,13 @@ ghost use Rattle.amqp_grammar.specs.Grammar.{short_field, Body, Pairs};
 ghost use Rattle.amqp_grammar.specs.Outcomes.{Outcome, found};
 ghost use Rattle.amqp_parsing.specs.Headers.{extent};
 ghost use Rattle.amqp_in_place.specs.Bodies.{HasEntries};
-ghost use Rattle.amqp_c_answers.specs.Spans.{part, SpanLies};
+ghost use Rattle.amqp_c_common.specs.Spans.{part, SpanLies};
 ghost use Rattle.amqp_c.specs.Entries.{IsEntry, IsTagged, IsTrueTo, Lies};
 ghost use Rattle.amqp_c.specs.Steps.{array_tag, table_tag, contents, IsOfContainer, IsOfTable, IsHeaded, HasNoPair, ArePairs, last_of, StepsIn, IsCut, RefusedBy, IsFrontIn, IsValueIn, IsPairIn, EndsIn, GivesValue, GivesPair, GivesFound, GivesLast, HasNoKey, StandsAlone, StandsKeyed, StandsIn};
 
 use crate::entry::{Entry, first};
-use amqp_c_answers::{Fault, Span};
-use amqp_input::SliceInput;
+use amqp_c_common::{Fault, Span};
+use amqp_types::SliceInput;
 use amqp_parsing::header::value_len;
 
 /// What is left of an array or a table.

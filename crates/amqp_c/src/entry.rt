@@ -4,7 +4,7 @@ ghost use Rattle.std.specs.Prelude.{◌≡◌, ◌+◌, ◌<◌, ℕ, List, leng
 ghost use Rattle.amqp_grammar.specs.Values.{Tree};
 ghost use Rattle.amqp_grammar.specs.Outcomes.{Outcome, found};
 ghost use Rattle.amqp_in_place.specs.Refs.{Stands};
-ghost use Rattle.amqp_c_answers.specs.Scalars.{bits_in, scale_in};
+ghost use Rattle.amqp_c_common.specs.Scalars.{bits_in, scale_in};
 ghost use Rattle.amqp_c.specs.Scalars.{IsFixed};
 ghost use Rattle.amqp_c.specs.Entries.{IsAtFront, Lies};
 ghost use Rattle.amqp_c.specs.Answers.{GivesFirst, HeaderFaults, IsRefusalOf};
@@ -12,8 +12,8 @@ ghost use Rattle.amqp_c.specs.Heads.{has_content};
 
 use amq_protocol_types::AMQPType;
 use amq_protocol_types::in_place::{ValueRef, read_in_place_unlimited};
-use amqp_c_answers::{Fault, Span};
-use amqp_input::{ParsableInput, SliceInput};
+use amqp_c_common::{Fault, Span};
+use amqp_types::{ParsableInput, SliceInput};
 use amqp_parsing::{parse_frame, parse_type};
 
 /// A value, and in a table its key, by where they lie.

@@ -1,22 +1,33 @@
-//! Reading in place for C: the value at the front of some bytes, and what stands in its containers.
+//! Calls for C that don't allocate: reading in place, and putting arrays and tables together in a
+//! buffer, entry by entry.
 //!
-//! No call takes memory, keeps state, prints or ends the process. What comes in is checked each
-//! time: whatever a cursor or an entry holds, no byte outside of the bytes is read, and each offset
-//! that goes out lies in them. `include/amqp.h` declares the calls.
+//! No call allocates, keeps state, prints or ends the process. What comes in is checked each time:
+//! whatever a cursor, an entry or a container holds, no byte outside of the bytes is read and none
+//! outside of the buffer is touched, and each offset that is returned lies in the bytes. After an
+//! error the buffer and the container are as they were. `include/amqp.h` declares the calls.
 #![tactic(auto)]
 
+ghost use Rattle.amqp_c.specs.BuildCalls.{PutsScalar, PutsBytes, PutsValue, Begins, Ends};
 ghost use Rattle.amqp_c.specs.Calls.{Reads, Firsts, Enters, Steps, Finds};
 
 mod answers;
+mod container;
 mod cursor;
 mod entry;
+mod nest;
+mod number;
+mod put;
 mod read;
+mod room;
 
-use amqp_c_answers::answer_count;
+use amqp_c_common::answer_count;
 use amqp_parsing::Limits;
-use answers::{answer_cursor, answer_entry, answer_found, answer_step};
+use answers::{answer_container, answer_cursor, answer_entry, answer_found, answer_step};
+use container::Container;
 use cursor::Cursor;
 use entry::{Entry, first};
+use nest::{begin, end};
+use put::{put_bytes, put_scalar, put_value};
 use read::read;
 
 /// Reads the value at the front within limits, and checks all of it. Of the stack it
@@ -63,4 +74,78 @@ pub extern "C" fn amqp_find(bytes: &[u8], cursor: &Cursor, key: &[u8], entry: &m
     ensures { Finds bytes.now cursor.now key.now entry.old result entry.new }
 {
     answer_found(cursor.find(bytes, key), entry)
+}
+
+/// Puts an entry behind what is written: a value of fixed width, by its type tag, its bits and its
+/// scale, as an entry tells them.
+#[unsafe(no_mangle)]
+pub extern "C" fn amqp_put(
+    room: &mut [u8],
+    into: &mut Container,
+    key: &[u8],
+    tag: u8,
+    bits: u64,
+    scale: u8,
+) -> i32
+    ensures { PutsScalar tag bits scale room.old into.old key.now result room.new into.new }
+{
+    answer_container(put_scalar(room, *into, key, tag, bits, scale), into)
+}
+
+/// Puts an entry behind what is written: a long string or a byte array.
+#[unsafe(no_mangle)]
+pub extern "C" fn amqp_put_bytes(
+    room: &mut [u8],
+    into: &mut Container,
+    key: &[u8],
+    tag: u8,
+    bytes: &[u8],
+) -> i32
+    ensures { PutsBytes tag bytes.now room.old into.old key.now result room.new into.new }
+{
+    answer_container(put_bytes(room, *into, key, tag, bytes), into)
+}
+
+/// Puts an entry behind what is written: the encoding at the front of other bytes, read within
+/// limits and copied as it stands. Of the stack it takes what `read_in_place` does:
+/// docs/PROMISES.md has the runs of that.
+#[unsafe(no_mangle)]
+pub extern "C" fn amqp_put_value(
+    room: &mut [u8],
+    into: &mut Container,
+    key: &[u8],
+    bytes: &[u8],
+    frame: u32,
+    depth: u32,
+) -> i32
+    ensures { PutsValue frame depth bytes.now room.old into.old key.now result room.new into.new }
+{
+    answer_container(
+        put_value(room, *into, key, bytes, Limits { frame, depth }),
+        into,
+    )
+}
+
+/// Begins an entry behind what is written, whose value is an array or a table: `body` is then
+/// empty, and `into` as it was until the entry is ended.
+#[unsafe(no_mangle)]
+pub extern "C" fn amqp_open(
+    room: &mut [u8],
+    into: &Container,
+    key: &[u8],
+    tag: u8,
+    body: &mut Container,
+) -> i32
+    ensures { Begins tag room.old into.now key.now body.old result room.new body.new }
+{
+    answer_container(begin(room, *into, key, tag), body)
+}
+
+/// Ends the entry that `amqp_open` began: fills in the length of its body, and `into` reaches to
+/// its end.
+#[unsafe(no_mangle)]
+pub extern "C" fn amqp_close(room: &mut [u8], into: &mut Container, body: &Container) -> i32
+    ensures { Ends room.old into.old body.now result room.new into.new }
+{
+    answer_container(end(room, *into, *body), into)
 }

@@ -4,7 +4,7 @@ ghost use Rattle.std.specs.Prelude.{MatchResult};
 ghost use Rattle.amqp_c.specs.Answers.{IsTaken, FaultsWithin};
 
 use amq_protocol_types::in_place::read_in_place;
-use amqp_c_answers::Fault;
+use amqp_c_common::Fault;
 use amqp_parsing::Limits;
 
 /// Reads a value within limits, checks all of it, and answers how many bytes it takes.

@@ -3,8 +3,7 @@
 ghost use Rattle.std.specs.Prelude.{◌≡◌, ◌<◌, ◌≤◌, ◌++◌, ◌∷◌, [], map, length, string_bytes, IfOk, OnOk, OnErr};
 ghost use Rattle.amqp_flags.specs.Flags.{listed, flags_of, values_of, flag_named, number_of, pack, unpack};
 
-use amqp_input::ParsableInput;
-use amqp_types::Boolean;
+use amqp_types::{Boolean, ParsableInput};
 use serde::{Deserialize, Serialize};
 use std::alloc::{AllocError, Global};
 

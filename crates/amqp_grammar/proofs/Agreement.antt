@@ -6,7 +6,7 @@ use Rattle.amqp_grammar.specs.Values.{Tree}
 use Rattle.amqp_types.specs.Ids.{kind}
 use Rattle.amqp_grammar.specs.Grammar.{Wire, Raw}
 use Rattle.amqp_grammar.specs.Nesting.{WireWithin, RawWithin, OutcomeWithin}
-use Rattle.amqp_input.specs.Inputs.{IsBytes}
+use Rattle.amqp_types.specs.Inputs.{IsBytes}
 use Rattle.amqp_grammar.specs.Outcomes.{Reading, found, more, unknown, malformed, LacksOr, lack, FrontBy, Outcome}
 use Rattle.amqp_grammar.specs.Readings.{Front}
 use Rattle.amqp_grammar.specs.Payloads.{RawOutcome}

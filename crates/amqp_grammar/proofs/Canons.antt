@@ -16,12 +16,12 @@ use Rattle.amqp_types.specs.Names.{read_as}
 use Rattle.amqp_grammar.specs.Layouts.{Layout, fixed, truth, spelled}
 use Rattle.amqp_types.specs.Strings.{IsShort}
 use Rattle.amqp_grammar.specs.Grammar.{short_field, long_field, Wire, wire, Raw, raw_fixed, raw_short, raw_long, raw_octets, raw_array, raw_table, Body, no_values, value, Pairs, no_pairs, pair}
-use Rattle.amqp_input.specs.Inputs.{IsBytes}
+use Rattle.amqp_types.specs.Inputs.{IsBytes}
 use Rattle.amqp_grammar.specs.Maps.{IsRising}
 use Rattle.amqp_grammar.specs.Canonical.{IsStrict, IsCanon, IsCanonRaw, IsCanonBody, IsCanonPairs, Canon}
 use Rattle.amqp_grammar.specs.Payloads.{CanonRaw}
 use Rattle.amqp_grammar.specs.Members.{CanonBody, CanonPairs}
-use Rattle.amqp_input.proofs.Bytes.{bytes_front, bytes_behind, byte_at}
+use Rattle.amqp_types.proofs.Bytes.{bytes_front, bytes_behind, byte_at}
 use Rattle.amqp_grammar.proofs.Tables.{rising_pairs}
 use Rattle.amqp_types.proofs.Ids.{kind_read}
 use Rattle.amqp_grammar.proofs.Shortest.{what_is_read}

@@ -16,9 +16,9 @@ use Rattle.amqp_grammar.specs.Grammar.{short_field, Wire, wire, Raw, raw_fixed, 
 use Rattle.amqp_grammar.specs.Texts.{text, Fits}
 use Rattle.amqp_grammar.specs.Members.{all_readable, entries_readable, AllFit, EntriesFit}
 use Rattle.amqp_grammar.specs.InMemory.{IsScalar, IsValue, AreValues, AreEntries}
-use Rattle.amqp_input.specs.Inputs.{IsBytes}
+use Rattle.amqp_types.specs.Inputs.{IsBytes}
 use Rattle.amqp_grammar.specs.Maps.{IsRising}
-use Rattle.amqp_input.proofs.Bytes.{bytes_front, bytes_behind, bytes_take, bytes_drop, below_1, below_2, below_4, below_8}
+use Rattle.amqp_types.proofs.Bytes.{bytes_front, bytes_behind, bytes_take, bytes_drop, below_1, below_2, below_4, below_8}
 use Rattle.amqp_grammar.proofs.Tables.{Each, each-onto, pairs_rise}
 use Rattle.amqp_grammar.proofs.Unique.{one_meaning}
 use Rattle.amqp_grammar.proofs.Spelling.{text_is_wire}

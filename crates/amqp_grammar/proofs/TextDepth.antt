@@ -8,7 +8,7 @@ use Rattle.amqp_types.specs.Ids.{id_of}
 use Rattle.amqp_grammar.specs.Layouts.{spelled}
 use Rattle.amqp_grammar.specs.Grammar.{long_field, Wire, wire, Raw, raw_fixed, raw_short, raw_long, raw_octets, raw_array, raw_table, Body, no_values, value, Pairs, no_pairs, pair}
 use Rattle.amqp_grammar.specs.Nesting.{nesting, raw_nesting, body_nesting, pairs_nesting, WireWithin, BodyWithin, PairsWithin}
-use Rattle.amqp_input.specs.Inputs.{IsBytes}
+use Rattle.amqp_types.specs.Inputs.{IsBytes}
 use Rattle.amqp_grammar.proofs.Shortest.{what_is_read, read_is_value}
 use Rattle.amqp_grammar.specs.Texts.{text, body, pairs, Fits}
 use Rattle.amqp_grammar.specs.Members.{greatest_depth, entries_depth, all_readable, entries_readable, AllFit, EntriesFit}

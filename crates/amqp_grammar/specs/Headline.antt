@@ -2,7 +2,7 @@
 use Rattle.std.specs.Prelude.{ℕ, ◌*◌, ◌≤◌, ◌≡◌, ◌↔◌, IsTrue, List, length}
 use Rattle.amqp_grammar.specs.Values.{Tree, readable, depth, count}
 use Rattle.amqp_grammar.specs.Grammar.{Wire}
-use Rattle.amqp_input.specs.Inputs.{IsBytes}
+use Rattle.amqp_types.specs.Inputs.{IsBytes}
 use Rattle.amqp_grammar.specs.Texts.{text, size, Fits}
 use Rattle.amqp_grammar.specs.Canonical.{Canon}
 

@@ -12,7 +12,7 @@ ghost use Rattle.amqp_grammar.specs.Grammar.{Wire, Raw};
 ghost use Rattle.amqp_grammar.specs.InMemory.{IsValue};
 ghost use Rattle.amqp_grammar.specs.Readings.{read_back, StillWaits, with_more, Front};
 ghost use Rattle.amqp_types.specs.Ids.{kind};
-ghost use Rattle.amqp_input.specs.Inputs.{IsBytes};
+ghost use Rattle.amqp_types.specs.Inputs.{IsBytes};
 ghost use Rattle.amqp_grammar.specs.Outcomes.{Reading, Outcome, Heavy, RawHeavy, found, malformed};
 ghost use Rattle.amqp_grammar.specs.Decode.{outcome, raw_outcome};
 ghost use Rattle.amqp_grammar.specs.Canonical.{Canon};

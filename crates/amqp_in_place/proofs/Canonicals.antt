@@ -27,8 +27,8 @@ use Rattle.amqp_grammar.specs.Outcomes.{found, more, unknown, lack, LacksOr, Out
 use Rattle.amqp_grammar.specs.Payloads.{RawFront, RawOutcome, CanonRaw}
 use Rattle.amqp_grammar.specs.Canonical.{IsStrict, Canon}
 use Rattle.amqp_grammar.proofs.GrammarLaws.{one_reading, one_raw_reading, one_raw_outcome, raw_found, wire_found, wire_found_within, front_within, depth_within, text_within, text_is_canon, what_is_read, read_is_value, canon_is_wire, canon_fits, canon_is_text, canon, canon_array, canon_table, canon_value, canon_pair, canon_rises, rising_pairs, short_bytes, one_outcome, bytes_front}
-use Rattle.amqp_input.specs.Inputs.{IsBytes, slice_bytes}
-use Rattle.amqp_input.specs.declared.input.SliceInput.{SliceInput}
+use Rattle.amqp_types.specs.Inputs.{IsBytes, slice_bytes}
+use Rattle.amqp_types.specs.declared.input.SliceInput.{SliceInput}
 use Rattle.amqp_parsing.specs.declared.limits.Limits.{Limits}
 use Rattle.amqp_parsing.specs.Headers.{extent, wanted}
 use Rattle.amqp_parsing.specs.Limits.{Within, IsHeader}

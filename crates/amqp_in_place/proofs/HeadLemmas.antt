@@ -12,8 +12,8 @@ use Rattle.amqp_grammar.specs.Nesting.{nesting, RawWithin, BodyWithin, OutcomeWi
 use Rattle.amqp_grammar.specs.Outcomes.{Reading, found, more, unknown, malformed, lack, frame_lack, counted, LacksOr, FrontBy, Outcome}
 use Rattle.amqp_grammar.specs.Payloads.{RawFront, RawOutcome}
 use Rattle.amqp_grammar.proofs.GrammarLaws.{one_outcome_within, one_raw_reading, value_to_raw, raw_to_value_within, raw_whole, raw_found, wire_found, wire_found_within, array_body, table_body, short_bytes}
-use Rattle.amqp_input.specs.Inputs.{slice_bytes}
-use Rattle.amqp_input.specs.declared.input.SliceInput.{SliceInput}
+use Rattle.amqp_types.specs.Inputs.{slice_bytes}
+use Rattle.amqp_types.specs.declared.input.SliceInput.{SliceInput}
 use Rattle.amqp_parsing.specs.declared.errors.Err.TheVariants.{Incomplete, Error, Failure}
 use Rattle.amqp_parsing.specs.declared.errors.Needed.TheVariants.{Unknown, Size}
 use Rattle.amqp_parsing.specs.declared.errors.ErrorKind.TheVariants.{MapOpt, MapRes, Eof, OutOfMemory, TooLarge}

@@ -7,8 +7,8 @@ use Rattle.amqp_grammar.specs.Maps.{same_bytes, last_at, value_at, has_key}
 use Rattle.amqp_grammar.specs.Grammar.{Wire, wire, Body, no_values, value, Pairs, no_pairs, pair}
 use Rattle.amqp_grammar.specs.Outcomes.{Outcome, found}
 use Rattle.amqp_grammar.proofs.GrammarLaws.{last_stays, key_has_value}
-use Rattle.amqp_input.specs.Inputs.{slice_bytes}
-use Rattle.amqp_input.specs.declared.input.SliceInput.{SliceInput}
+use Rattle.amqp_types.specs.Inputs.{slice_bytes}
+use Rattle.amqp_types.specs.declared.input.SliceInput.{SliceInput}
 use Rattle.amqp_in_place.specs.Bodies.{HasEntries}
 use Rattle.amqp_in_place.specs.declared.refs.ValueRef.{ValueRef}
 use Rattle.amqp_in_place.specs.Refs.{Stands}

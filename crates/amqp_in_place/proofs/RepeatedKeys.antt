@@ -13,8 +13,8 @@ use Rattle.std.proofs.lemmas.Cmp.{nat_list_cmp_total}
 use Rattle.amqp_grammar.specs.Values.{Tree, Entries, no_entries, entry, ComesBefore}
 use Rattle.amqp_grammar.specs.Maps.{same_bytes, IsRising}
 use Rattle.amqp_grammar.specs.Grammar.{Pairs}
-use Rattle.amqp_input.specs.Inputs.{slice_bytes}
-use Rattle.amqp_input.specs.declared.input.SliceInput.{SliceInput}
+use Rattle.amqp_types.specs.Inputs.{slice_bytes}
+use Rattle.amqp_types.specs.declared.input.SliceInput.{SliceInput}
 use Rattle.amqp_in_place.specs.declared.refs.ValueRef.{ValueRef}
 use Rattle.amqp_in_place.specs.Canonicals.{IsAbove, AreAbove}
 use Rattle.amqp_in_place.specs.Keys.{times_at, RepeatedIs}

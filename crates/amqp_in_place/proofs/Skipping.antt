@@ -7,7 +7,7 @@ use Rattle.amqp_grammar.specs.Values.{long}
 use Rattle.amqp_grammar.specs.Grammar.{long_field, wire, raw_long}
 use Rattle.amqp_grammar.specs.Outcomes.{Reading, more, unknown, Outcome}
 use Rattle.amqp_grammar.proofs.GrammarLaws.{found_front, front_within, unlimited}
-use Rattle.amqp_input.specs.Inputs.{slice_bytes}
+use Rattle.amqp_types.specs.Inputs.{slice_bytes}
 use Rattle.amqp_parsing.specs.Refusals.{Refusal}
 use Rattle.amqp_parsing.specs.Typed.{IsType}
 use Rattle.amqp_parsing.specs.Bodies.{IsFrame}

@@ -7,7 +7,7 @@ use Rattle.amqp_grammar.specs.Grammar.{Body, short_field}
 use Rattle.amqp_grammar.specs.Outcomes.{Reading, found}
 use Rattle.amqp_grammar.specs.Payloads.{RawOutcome}
 use Rattle.amqp_grammar.specs.Nesting.{OutcomeWithin}
-use Rattle.amqp_input.specs.Inputs.{slice_bytes}
+use Rattle.amqp_types.specs.Inputs.{slice_bytes}
 use Rattle.amqp_parsing.specs.Typed.{IsType}
 use Rattle.amqp_parsing.specs.Bodies.{IsFrame}
 use Rattle.amqp_in_place.specs.declared.head.Head.{Head}

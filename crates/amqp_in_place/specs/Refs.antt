@@ -5,7 +5,7 @@ use Rattle.amqp_types.specs.declared.amqp_type.AMQPType.TheVariants as amqp
 use Rattle.amqp_types.specs.Shown.{float_bits, double_bits}
 use Rattle.amqp_grammar.specs.Values.{Tree, Trees, Entries, scalar, boolean, number, decimal, void, long, octets, array, table}
 use Rattle.amqp_grammar.specs.Grammar.{Body}
-use Rattle.amqp_input.specs.Inputs.{slice_bytes}
+use Rattle.amqp_types.specs.Inputs.{slice_bytes}
 use Rattle.amqp_in_place.specs.Bodies.{HasEntries}
 use Rattle.amqp_in_place.specs.declared.refs.ArrayRef.{ArrayRef}
 use Rattle.amqp_in_place.specs.declared.refs.TableRef.{TableRef}

@@ -4,8 +4,8 @@ use Rattle.std.specs.Borrow.{Bor}
 use Rattle.amqp_grammar.specs.Values.{Tree, Trees, no_trees, tree, Entries, no_entries, entry}
 use Rattle.amqp_grammar.specs.Grammar.{Pairs, Body}
 use Rattle.amqp_grammar.specs.Outcomes.{Outcome, found}
-use Rattle.amqp_input.specs.Inputs.{slice_bytes}
-use Rattle.amqp_input.specs.declared.input.SliceInput.{SliceInput}
+use Rattle.amqp_types.specs.Inputs.{slice_bytes}
+use Rattle.amqp_types.specs.declared.input.SliceInput.{SliceInput}
 use Rattle.amqp_in_place.specs.declared.refs.ValueRef.{ValueRef}
 use Rattle.amqp_in_place.specs.Refs.{Stands}
 use Rattle.amqp_in_place.specs.Bodies.{HasValues, HasPairs}

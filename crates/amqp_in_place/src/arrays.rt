@@ -10,7 +10,7 @@ ghost use Rattle.amqp_in_place.specs.Places.{LiesWithin};
 
 use super::refs::{ArrayRef, ValueRef};
 use super::steps::next_value;
-use amqp_input::ParsableInput;
+use amqp_types::ParsableInput;
 use amqp_parsing::Err;
 use amqp_parsing::values::parse_body;
 use amqp_value_core::types::FieldArray;

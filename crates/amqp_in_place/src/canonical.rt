@@ -1,12 +1,12 @@
 //! Canonical encodings, told in place.
 
 ghost use Rattle.std.specs.Prelude.{◌≡◌, true, false, ℕ, List, length, None, IfSome};
-ghost use Rattle.amqp_input.specs.Inputs.{slice_bytes};
+ghost use Rattle.amqp_types.specs.Inputs.{slice_bytes};
 ghost use Rattle.amqp_in_place.specs.Canonicals.{IsCanonicalLen, IsCanonicalWithin, IsReadAsWritten, CanonFront, CanonValues, CanonEntries, IsAbove, IsFirstSpelling};
 
 use super::head::{Head, read_head, read_key};
 use super::read::check_utf8;
-use amqp_input::{ParsableInput, SliceInput};
+use amqp_types::{ParsableInput, SliceInput};
 use amqp_parsing::Limits;
 use amqp_parsing::header::{Header, header_of};
 

@@ -2,21 +2,20 @@
 
 ghost use Rattle.std.specs.Prelude.{◌≡◌, ◌≢◌, MatchResult};
 ghost use Rattle.amqp_grammar.specs.Payloads.{RawOutcome};
-ghost use Rattle.amqp_input.specs.Inputs.{slice_bytes};
+ghost use Rattle.amqp_types.specs.Inputs.{slice_bytes};
 ghost use Rattle.amqp_parsing.specs.Typed.{OnlyLacks};
 ghost use Rattle.amqp_parsing.specs.Answers.{Refuses};
 ghost use Rattle.amqp_in_place.specs.Answers.{HeadRefuses};
 ghost use Rattle.amqp_in_place.specs.Heads.{RawHeadIs, IsHead, IsKeyFrame, AtAnyDepth};
 
 use super::refs::ValueRef;
-use amqp_input::{ParsableInput, SliceInput};
 use amqp_parsing::errors::lacks;
 use amqp_parsing::{
     ParserResult, parse_boolean, parse_decimal_value, parse_double, parse_float, parse_frame,
     parse_long_int, parse_long_long_int, parse_long_uint, parse_short_int, parse_short_short_int,
     parse_short_short_uint, parse_short_uint, parse_timestamp, parse_type,
 };
-use amqp_types::AMQPType;
+use amqp_types::{AMQPType, ParsableInput, SliceInput};
 
 // A value that is no container, or the body of a container, which isn't looked at.
 #[derive(Clone, Copy)]

@@ -1,11 +1,11 @@
 //! The values of an array and the pairs of a table, one after another.
 
-ghost use Rattle.amqp_input.specs.Inputs.{slice_bytes};
+ghost use Rattle.amqp_types.specs.Inputs.{slice_bytes};
 ghost use Rattle.amqp_in_place.specs.Bodies.{HasValues, HasPairs};
 
 use super::refs::{ArrayRef, TableRef, ValueRef};
 use super::steps::{next_pair, next_value};
-use amqp_input::SliceInput;
+use amqp_types::SliceInput;
 
 /// The values of an array that are left, in order.
 #[derive(Drop)]

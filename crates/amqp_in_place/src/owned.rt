@@ -5,9 +5,8 @@ ghost use Rattle.amqp_value_core.specs.View.{view};
 ghost use Rattle.amqp_in_place.specs.Refs.{Stands, HasBytes};
 
 use super::refs::ValueRef;
-use amqp_input::SliceInput;
 use amqp_parsing::copy_of;
-use amqp_types::{ByteArray, LongString};
+use amqp_types::{ByteArray, LongString, SliceInput};
 use amqp_value_core::value::AMQPValue;
 use std::alloc::{AllocError, Global};
 

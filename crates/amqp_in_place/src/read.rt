@@ -5,7 +5,7 @@ ghost use Rattle.std.specs.Prelude.{◌≡◌, true, false, length, MatchResult,
 ghost use Rattle.amqp_grammar.specs.Values.{Tree, Trees, Entries};
 ghost use Rattle.amqp_grammar.specs.Nesting.{BodyWithin, PairsWithin, OutcomeWithin};
 ghost use Rattle.amqp_grammar.specs.Outcomes.{Outcome, found, malformed};
-ghost use Rattle.amqp_input.specs.Inputs.{slice_bytes};
+ghost use Rattle.amqp_types.specs.Inputs.{slice_bytes};
 ghost use Rattle.amqp_parsing.specs.Answers.{Refuses};
 ghost use Rattle.amqp_parsing.specs.Bodies.{IsNoBody, IsTable, IsNoTable};
 ghost use Rattle.amqp_parsing.specs.Limits.{Within, RefusesWithin};
@@ -15,7 +15,7 @@ ghost use Rattle.amqp_in_place.specs.Places.{LiesIn};
 
 use super::head::{Head, read_head, read_key};
 use super::refs::{ArrayRef, TableRef, ValueRef};
-use amqp_input::{ParsableInput, SliceInput};
+use amqp_types::{ParsableInput, SliceInput};
 use amqp_parsing::errors::{lacks, refused};
 use amqp_parsing::header::{Header, header_of};
 use amqp_parsing::{ErrorKind, Limits, ParserError, ParserResult};

@@ -1,12 +1,11 @@
 //! Values that lie in the bytes they were read from.
 
-ghost use Rattle.amqp_input.specs.Inputs.{slice_bytes};
+ghost use Rattle.amqp_types.specs.Inputs.{slice_bytes};
 ghost use Rattle.amqp_in_place.specs.Bodies.{HasValues, HasPairs};
 
-use amqp_input::SliceInput;
 use amqp_types::{
     Boolean, DecimalValue, Double, Float, LongInt, LongLongInt, LongUInt, ShortInt, ShortShortInt,
-    ShortShortUInt, ShortUInt, Timestamp,
+    ShortShortUInt, ShortUInt, SliceInput, Timestamp,
 };
 
 /// An array where its bytes lie.

@@ -4,7 +4,7 @@ ghost use Rattle.std.specs.Prelude.{◌≡◌, true, false, IfOk, OnErr};
 ghost use Rattle.amqp_grammar.specs.Values.{Entries};
 ghost use Rattle.amqp_grammar.specs.Grammar.{Pairs};
 ghost use Rattle.amqp_grammar.specs.Maps.{IsRising};
-ghost use Rattle.amqp_input.specs.Inputs.{slice_bytes};
+ghost use Rattle.amqp_types.specs.Inputs.{slice_bytes};
 ghost use Rattle.amqp_in_place.specs.Bodies.{HasPairs};
 ghost use Rattle.amqp_in_place.specs.Refs.{table_body};
 ghost use Rattle.amqp_in_place.specs.Keys.{RepeatedIs};
@@ -12,7 +12,7 @@ ghost use Rattle.amqp_in_place.specs.Keys.{RepeatedIs};
 use super::canonical::is_above;
 use super::refs::TableRef;
 use super::steps::next_pair;
-use amqp_input::SliceInput;
+use amqp_types::SliceInput;
 use std::alloc::{AllocError, Global};
 use std::collections::BTreeSet;
 

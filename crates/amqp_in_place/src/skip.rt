@@ -6,7 +6,7 @@ ghost use Rattle.amqp_parsing.specs.Headers.{extent};
 ghost use Rattle.amqp_in_place.specs.Answers.{IsWidthOfFound, HeadRefuses};
 
 use super::head::read_head;
-use amqp_input::{ParsableInput, SliceInput};
+use amqp_types::{ParsableInput, SliceInput};
 use amqp_parsing::ParserError;
 
 /// How many bytes the value at the beginning takes, by its type tag and its length alone: in

@@ -4,7 +4,7 @@ ghost use Rattle.std.specs.Prelude.{ℕ, List, length, IfSome};
 ghost use Rattle.amqp_grammar.specs.Values.{Tree, Trees, Entries};
 ghost use Rattle.amqp_grammar.specs.Grammar.{Body, Pairs};
 ghost use Rattle.amqp_grammar.specs.Outcomes.{Outcome, found};
-ghost use Rattle.amqp_input.specs.Inputs.{slice_bytes};
+ghost use Rattle.amqp_types.specs.Inputs.{slice_bytes};
 ghost use Rattle.amqp_in_place.specs.Bodies.{HasValues, HasPairs};
 ghost use Rattle.amqp_in_place.specs.Refs.{Stands};
 ghost use Rattle.amqp_in_place.specs.Heads.{IsMeant, Means, RefersTo};
@@ -14,7 +14,7 @@ ghost use Rattle.amqp_in_place.specs.Walks.{HasFront, NextValueIs, MoreValues, N
 
 use super::head::{Head, read_head, read_key};
 use super::refs::{ArrayRef, TableRef, ValueRef};
-use amqp_input::{ParsableInput, SliceInput};
+use amqp_types::{ParsableInput, SliceInput};
 use amqp_parsing::header::value_len;
 use std::str;
 

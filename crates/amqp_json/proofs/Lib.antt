@@ -8,3 +8,4 @@ mod Back
 mod NoFloat
 mod Only
 mod Ones
+mod Encodings

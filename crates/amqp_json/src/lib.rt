@@ -1,7 +1,11 @@
 //! The JSON of a value, as text and as a `serde_json::Value`: plain where that tells the type, and
-//! else under the type's name. No two values have one JSON.
+//! else under the type's name. No two values have one JSON. And from the encoding of a value to its
+//! JSON text, and back.
 #![tactic(auto)]
 
+mod conversion_error;
+mod decode;
+mod encode;
 mod error;
 pub mod laws;
 mod names;
@@ -9,6 +13,9 @@ mod reading;
 mod text;
 mod writing;
 
+pub use conversion_error::{DecodeError, EncodeError};
+pub use decode::json_of_encoding;
+pub use encode::encoding_of_json;
 pub use error::{JsonError, ValueError};
 pub use reading::from_value;
 pub use text::{from_json, to_json};

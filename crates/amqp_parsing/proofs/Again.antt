@@ -9,7 +9,7 @@ use Rattle.amqp_grammar.specs.Layouts.{Layout, fixed}
 use Rattle.amqp_grammar.specs.Grammar.{Wire, wire}
 use Rattle.amqp_grammar.specs.Headline.{IsWritableIn}
 use Rattle.amqp_grammar.specs.Texts.{text}
-use Rattle.amqp_input.specs.Inputs.{IsBytes}
+use Rattle.amqp_types.specs.Inputs.{IsBytes}
 use Rattle.amqp_grammar.specs.Outcomes.{found, length_field}
 use Rattle.amqp_grammar.proofs.GrammarLaws.{front_within, bounded_wire, wire_found_within, text_within, text_again, depth_within, bounds, tells_apart, extent-raw, header_extent_of, bytes_front}
 use Rattle.amqp_parsing.specs.declared.limits.Limits.{Limits}

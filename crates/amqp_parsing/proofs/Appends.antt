@@ -8,7 +8,7 @@ use Rattle.amqp_types.specs.declared.amqp_type.AMQPType.{AMQPType}
 use Rattle.amqp_types.specs.Ids.{kind}
 use Rattle.amqp_grammar.specs.Layouts.{Layout, fixed}
 use Rattle.amqp_grammar.specs.Nesting.{WireWithin, OutcomeWithin}
-use Rattle.amqp_input.specs.Inputs.{IsBytes}
+use Rattle.amqp_types.specs.Inputs.{IsBytes}
 use Rattle.amqp_grammar.specs.Outcomes.{Reading, found, more, unknown, malformed, length_field, counted, lack, lack_of, frame_lack, LacksOr, FrontBy}
 use Rattle.amqp_grammar.specs.Readings.{StillWaits, with_more}
 use Rattle.amqp_grammar.specs.Decode.{outcome_by, meaning, outcome}

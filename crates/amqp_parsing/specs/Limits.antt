@@ -3,7 +3,7 @@ use Rattle.std.specs.Prelude.{ℕ, ◌<◌, ◌≤◌, ◌≡◌, ◌/◌, ◌�
 use Rattle.amqp_grammar.specs.Values.{Tree, readable, depth}
 use Rattle.amqp_grammar.specs.Grammar.{Wire}
 use Rattle.amqp_grammar.specs.Nesting.{WireWithin, OutcomeWithin}
-use Rattle.amqp_input.specs.Inputs.{IsBytes}
+use Rattle.amqp_types.specs.Inputs.{IsBytes}
 use Rattle.amqp_grammar.specs.Outcomes.{Reading, found, unknown, Outcome, Heavy}
 use Rattle.amqp_grammar.specs.Readings.{StillWaits, with_more}
 use Rattle.amqp_grammar.specs.Texts.{text, size, Fits}

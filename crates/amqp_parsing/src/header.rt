@@ -2,7 +2,7 @@
 
 ghost use Rattle.std.specs.Prelude.{◌≡◌, ◌≢◌, ◌<◌, ◌≤◌, ◌+◌, option_map};
 ghost use Rattle.amqp_grammar.specs.Layouts.{fixed};
-ghost use Rattle.amqp_input.specs.Inputs.{IsBytes};
+ghost use Rattle.amqp_types.specs.Inputs.{IsBytes};
 ghost use Rattle.amqp_grammar.specs.Outcomes.{length_field};
 ghost use Rattle.amqp_parsing.specs.Headers.{extent, raw_extent, first_of};
 ghost use Rattle.amqp_parsing.specs.Limits.{IsHeader};

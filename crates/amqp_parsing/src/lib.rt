@@ -13,7 +13,7 @@ pub mod traits;
 pub mod values;
 mod within;
 
-pub use amqp_input::{SliceInput, SplitInput};
+pub use amqp_types::{SliceInput, SplitInput};
 pub use bytes::copy_of;
 pub use errors::{Err, ErrorKind, Needed, ParserError, ParserErrors, ParserResult};
 pub use flags::parse_flags;

@@ -2,7 +2,7 @@
 
 ghost use Rattle.std.specs.Prelude.{◌≡◌, ◌-◌, ◌≤◌, length, MatchResult, IfOk};
 ghost use Rattle.amqp_grammar.specs.Headline.{IsWritableIn};
-ghost use Rattle.amqp_input.specs.Inputs.{IsBytes};
+ghost use Rattle.amqp_types.specs.Inputs.{IsBytes};
 ghost use Rattle.amqp_grammar.specs.Outcomes.{found};
 ghost use Rattle.amqp_grammar.specs.Values.{depth};
 ghost use Rattle.amqp_value_core.specs.View.{view};

@@ -3,7 +3,7 @@
 use crate::input::read_file;
 use crate::messages::{complain, unreadable};
 use crate::reasons::reason;
-use amqp_convert::encoding_of_json;
+use amqp_json::encoding_of_json;
 use amqp_screen::{Screen, Status, print_raw};
 use anyhow::Result;
 use std::str;

@@ -2,8 +2,7 @@
 
 use crate::json::too_deep;
 use crate::texts::quoted;
-use amqp_convert::{EncodeError, encoding_of_json};
-use amqp_json::JsonError;
+use amqp_json::{EncodeError, JsonError, encoding_of_json};
 use anyhow::{Result, anyhow};
 use serde_json::{Map, Value};
 use std::alloc::{AllocError, Global};

@@ -1,1 +1,3 @@
 pub mod Ids
+mod Splits
+pub mod Bytes

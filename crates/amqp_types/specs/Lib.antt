@@ -8,3 +8,9 @@ pub mod Names
 pub mod Shown
 -- the errors for a text that is too long
 pub mod Short
+-- prefixes of lists of bytes
+pub mod Fronts
+-- the bytes that an input has
+pub mod Inputs
+-- an input in two parts
+pub mod Splits

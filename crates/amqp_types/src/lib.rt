@@ -1,4 +1,5 @@
-//! The types of AMQP 0-9-1 values, their names, and the values that hold no others.
+//! The types of AMQP 0-9-1 values, their names, the values that hold no others, and the inputs
+//! that parsers read from.
 #![tactic(auto)]
 
 mod amqp_type;
@@ -6,6 +7,7 @@ mod byte_array;
 mod decimal_value;
 mod double;
 mod float;
+mod input;
 mod long_string;
 mod names;
 mod short_string;
@@ -15,6 +17,7 @@ pub use byte_array::ByteArray;
 pub use decimal_value::DecimalValue;
 pub use double::Double;
 pub use float::Float;
+pub use input::{ParsableInput, SliceInput, SplitInput};
 pub use long_string::LongString;
 pub use names::{
     Boolean, ChannelId, ChunkSize, ConsumerCount, DeliveryTag, FrameSize, Heartbeat, Identifier,

@@ -1,3 +1,3 @@
 //! What parsers read from.
 
-pub use amqp_input::{ParsableInput, SliceInput, SplitInput};
+pub use amqp_types::{ParsableInput, SliceInput, SplitInput};

@@ -8,7 +8,7 @@ use Rattle.amqp_grammar.specs.Values.{Tree}
 use Rattle.amqp_value_core.specs.View.{view}
 use Rattle.amqp_grammar.specs.Nesting.{WireWithin}
 use Rattle.amqp_grammar.specs.Grammar.{Wire, wire}
-use Rattle.amqp_input.specs.Inputs.{IsBytes}
+use Rattle.amqp_types.specs.Inputs.{IsBytes}
 use Rattle.amqp_grammar.specs.Outcomes.{Reading, found, more, unknown, malformed}
 use Rattle.amqp_grammar.proofs.GrammarLaws.{one_reading, front_within, wire_found_within}
 use Rattle.amqp_parsing.specs.declared.errors.ErrorKind.{ErrorKind}

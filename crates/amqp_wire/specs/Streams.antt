@@ -3,7 +3,7 @@ use Rattle.std.specs.Prelude.{◌≡◌, ◌≤◌, ◌<◌, ℕ, zero, suc, Boo
 use Rattle.hex.specs.Hex.{encode_lower}
 use Rattle.amqp_grammar.specs.Values.{Tree}
 use Rattle.amqp_grammar.specs.Nesting.{WireWithin}
-use Rattle.amqp_input.specs.Inputs.{IsBytes}
+use Rattle.amqp_types.specs.Inputs.{IsBytes}
 use Rattle.amqp_grammar.specs.Outcomes.{Reading, found, more, unknown, malformed}
 use Rattle.amqp_grammar.specs.Texts.{text}
 use Rattle.amqp_parsing.specs.declared.limits.Limits.{Limits}

@@ -2,7 +2,7 @@
 
 ghost use Rattle.std.specs.Prelude.{◌≡◌, ◌<◌, ◌∷◌, ◌++◌, [], true, false, codes, OnOk, OnErr, IfOk, IfSome, string_bytes};
 ghost use Rattle.std.specs.Io.KnownBytes.{Appends};
-ghost use Rattle.amqp_input.specs.Inputs.{IsBytes};
+ghost use Rattle.amqp_types.specs.Inputs.{IsBytes};
 ghost use Rattle.amqp_value_core.specs.View.{view};
 ghost use Rattle.amqp_stream.specs.Readers.{kept, has_failed, limits_of};
 ghost use Rattle.amqp_wire.specs.Lines.{AppendsFront};

@@ -15,10 +15,9 @@ use crate::dissection::End;
 use crate::part::Field;
 use crate::problem::{Problem, Stop};
 use crate::walk::Walk;
-use amqp_input::{ParsableInput, SliceInput};
 use amqp_parsing::header::{Header, header_of};
 use amqp_parsing::{Err, Limits, Needed, parse_frame};
-use amqp_types::AMQPType;
+use amqp_types::{AMQPType, ParsableInput, SliceInput};
 use std::alloc::AllocError;
 use std::str;
 

@@ -1,5 +1,5 @@
 use Rattle.std.proofs.Common.{ℕ, ◌-◌, List, length, sym, ap, subst, arith}
-use Rattle.amqp_input.specs.Inputs.{IsBytes, slice_bytes}
+use Rattle.amqp_types.specs.Inputs.{IsBytes, slice_bytes}
 use Rattle.amqp_parsing.specs.Limits.{IsHeader}
 use Rattle.amqp_in_place.specs.Canonicals.{CanonFront}
 use Rattle.amqp_in_place.proofs.Canonicals.{canon_len, len_front, len_header, rest_shorter}

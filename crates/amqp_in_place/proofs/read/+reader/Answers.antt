@@ -1,7 +1,7 @@
 use Rattle.std.proofs.Common.{ℕ, List, [], ◌∷◌, ◌++◌, refl, sym, subst, rules, arith}
 use Rattle.std.specs.Str.{IsUtf8}
 use Rattle.amqp_grammar.specs.Values.{no_entries, put, array, table, trees_of}
-use Rattle.amqp_input.specs.Inputs.{slice_bytes}
+use Rattle.amqp_types.specs.Inputs.{slice_bytes}
 use Rattle.amqp_parsing.proofs.ParsingLaws.{Goes-step, Goes-end, rest_shorter, Walks-start, Walks-step, Walks-end, key_shorter}
 use Rattle.amqp_in_place.specs.Heads.{IsHead}
 use Rattle.amqp_in_place.specs.declared.head.Head.{Head}

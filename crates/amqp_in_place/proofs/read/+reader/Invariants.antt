@@ -1,6 +1,6 @@
 use Rattle.std.proofs.Common.{List, length, ◌+◌, ◌*◌}
 use Rattle.amqp_grammar.specs.Values.{Tree, Entries}
-use Rattle.amqp_input.specs.Inputs.{slice_bytes}
+use Rattle.amqp_types.specs.Inputs.{slice_bytes}
 use Rattle.amqp_parsing.proofs.ParsingLaws.{Goes, Walks}
 use Rattle.amqp_in_place.proofs.read.+reader.Given as goal
 

@@ -1,5 +1,5 @@
 use Rattle.std.proofs.Common.{◌≡◌, ◌+◌, ◌-◌, ℕ, List, length, subst, arith}
-use Rattle.amqp_input.specs.Inputs.{slice_bytes}
+use Rattle.amqp_types.specs.Inputs.{slice_bytes}
 use Rattle.std.proofs.lemmas.Result.{err_from_is_err_and}
 use Rattle.amqp_grammar.specs.Outcomes.{Outcome}
 use Rattle.amqp_parsing.specs.Headers.{extent}

@@ -1,7 +1,7 @@
 use Rattle.std.proofs.Common.{◌≡◌, ℕ, Bool, ◌-◌, true, false, subst, ◌∙◌, rules, arith}
 use Rattle.std.specs.Option.{IfSome}
 use Rattle.std.specs.Io.KnownBytes.{Appends}
-use Rattle.amqp_input.specs.Inputs.{IsBytes}
+use Rattle.amqp_types.specs.Inputs.{IsBytes}
 use Rattle.amqp_wire.specs.Lines.{AppendsFront}
 use Rattle.amqp_wire.specs.Streams.{stream_text}
 use Rattle.amqp_wire.proofs.Streams.{Progress, LineTold, on_err, on_last, on_last_left, on_end_left, on_more}

@@ -1,6 +1,6 @@
 use Rattle.std.proofs.Common.{◌≡◌, ◌-◌, ◌≤◌, ℕ, List, length, drop}
 use Rattle.std.specs.Option.{IfSome}
-use Rattle.amqp_c_answers.specs.Spans.{part}
+use Rattle.amqp_c_common.specs.Spans.{part}
 use Rattle.amqp_c.specs.Steps.{ArePairs}
 use Rattle.amqp_c.proofs.Finding.{Looks}
 use Rattle.amqp_c.proofs.cursor.Cursor.find.Given as goal

@@ -1,5 +1,5 @@
 use Rattle.std.proofs.Common.{◌≤◌, ◌-◌, ℕ, List, length, slice_range, subst, rules}
-use Rattle.amqp_input.specs.Inputs.{slice_bytes}
+use Rattle.amqp_types.specs.Inputs.{slice_bytes}
 use Rattle.amqp_parsing.specs.Headers.{extent}
 use Rattle.amqp_dissect.specs.Problems.{NoValue}
 use Rattle.amqp_dissect.specs.Walks.{PutsValue}

@@ -2,7 +2,7 @@ use Rattle.std.proofs.Common.{◌≡◌, ◌++◌, ◌∙◌, List, ℕ, [], ap,
 use Rattle.amqp_value_core.specs.View.{view}
 use Rattle.amqp_grammar.specs.Nesting.{WireWithin, OutcomeWithin}
 use Rattle.amqp_grammar.specs.Outcomes.{found}
-use Rattle.amqp_input.specs.Inputs.{slice_bytes}
+use Rattle.amqp_types.specs.Inputs.{slice_bytes}
 use Rattle.amqp_grammar.proofs.GrammarLaws.{front_within}
 use Rattle.amqp_stream.specs.Readers.{kept}
 use Rattle.amqp_parsing.proofs.ParsingLaws.{nothing_behind, kept_within}

@@ -1,0 +1,146 @@
+-- Containers that grow by an entry.
+use Rattle.std.proofs.Common.{◌≡◌, ◌+◌, ◌-◌, ◌<◌, ◌≤◌, ◌^◌, inl, inr, ℕ, List, [], ◌∷◌, ◌++◌, length, take, drop, refl, sym, ap, ap₂, ◌∙◌, subst, arith, append_assoc, append-nil, length-append, take-append-drop, length-drop}
+use Rattle.std.specs.Int.{w32, to_be_bytes}
+use Rattle.std.proofs.lemmas.List.{take_at, drop_at, drop-drop, drop-take, drop-append-le, length-take-le}
+use Rattle.amqp_types.specs.declared.amqp_type.AMQPType.TheVariants as amqp
+use Rattle.amqp_types.specs.Strings.{IsShort}
+use Rattle.amqp_grammar.specs.Grammar.{short_field, long_field, Wire, wire, raw_array, raw_table, Body, no_values, value, Pairs, no_pairs, pair}
+use Rattle.amqp_grammar.specs.Values.{Tree, scalar, short, long, octets, array, table, Trees, no_trees, tree, Entries, no_entries, entry, onto}
+use Rattle.amqp_c_common.specs.Spans.{part, SpanLies}
+use Rattle.amqp_c.specs.declared.container.Container.{Container}
+use Rattle.amqp_c.specs.Containers.{IsKeyOf, named, end_of, entry_of, up_to}
+use Rattle.amqp_c.specs.BuiltEntries.{IsOfBody}
+use Rattle.amqp_c.specs.Growth.{and_value, and_pair, Grows, IsOpen, IsEnded}
+use Rattle.amqp_c.specs.Rooms.{with_bytes, StandsAt}
+use Rattle.amqp_c.proofs.Rooms.{with_bytes-join}
+
+-- values, and an encoding behind them
+body_and : (b w : List ℕ) (vs : Trees) (v : Tree) → Body b vs → Wire w v → Body (b ++ w) (and_value vs v)
+body_and _ w _ v no_values p = subst (λ (t : List ℕ). Body t (tree v no_trees)) (append-nil w) (value w [] v no_trees p no_values)
+body_and _ w _ v (value u rest t ts q others) p =
+    subst (λ (x : List ℕ). Body x (tree t (and_value ts v))) (sym (append_assoc u rest w)) (value u (rest ++ w) t (and_value ts v) q (body_and rest w ts v others p))
+
+-- pairs, and one behind them
+pairs_and : (b k w : List ℕ) (ps : Entries) (v : Tree) → Pairs b ps → IsShort k → Wire w v → Pairs (b ++ (short_field k ++ w)) (and_pair ps k v)
+pairs_and _ k w _ v no_pairs is p =
+    subst (λ (t : List ℕ). Pairs (short_field k ++ t) (entry k v no_entries)) (append-nil w) (pair k w [] v no_entries is p no_pairs)
+pairs_and _ k w _ v (pair j u rest t ps brief q others) is p =
+    let x = short_field k ++ w in
+    subst (λ (y : List ℕ). Pairs y (entry j t (and_pair ps k v)))
+    (sym (append_assoc (short_field j) (u ++ rest) x ∙ ap (λ (y : List ℕ). short_field j ++ y) (append_assoc u rest x)))
+    (pair j u (rest ++ x) t (and_pair ps k v) brief q (pairs_and rest k w ps v others is p))
+
+-- a key of a table is a short string
+short_key : (into : Container) (k : List ℕ) → into.tag ≡ 70 → IsKeyOf into k → IsShort k
+short_key into k is (inl x) = absurd (omega (arith, x.0))
+short_key into k is (inr x) = x.1
+
+-- a container that has an entry's bytes more grows by its value
+pub grows_by : (old new k w : List ℕ) (into grown : Container) (v : Tree) → IsKeyOf into k → Wire w v
+    → part new grown.written ≡ part old into.written ++ entry_of into k w → Grows old into k v new grown
+grows_by old new k w into grown v key p more = record {
+  values = λ vs is all.
+      let bare : entry_of into k w ≡ w = rw is refl in
+      subst (λ (t : List ℕ). Body t (and_value vs v)) (sym (more ∙ ap (λ (t : List ℕ). part old into.written ++ t) bare)) (body_and (part old into.written) w vs v all p);
+  pairs = λ ps is all.
+      let whole : entry_of into k w ≡ short_field k ++ w = rw is refl in
+      subst (λ (t : List ℕ). Pairs t (and_pair ps k v)) (sym (more ∙ ap (λ (t : List ℕ). part old into.written ++ t) whole))
+      (pairs_and (part old into.written) k w ps v all (short_key into k is key) p);
+}
+
+-- what is written of a container, once bytes were written behind it
+pub part_grown : (old new bytes : List ℕ) (c grown : Container) → SpanLies (length old) c.written → new ≡ with_bytes (end_of c) bytes old
+    → grown ≡ up_to (end_of c + length bytes) c → part new grown.written ≡ part old c.written ++ bytes
+part_grown old new bytes c grown lies written reaches =
+    let o = c.written.offset in
+    let n = c.written.length in
+    let before = take (o + n) old in
+    let rest = drop (o + n + length bytes) old in
+    let long : length before ≡ o + n = length-take-le (o + n) old lies in
+    let cut : drop o before ≡ part old c.written = drop-take o n old in
+    let size : length (drop o before) ≡ n = ap length cut ∙ length-take-le n (drop o old) (omega (arith, length-drop o old)) in
+    let count : length (drop o before ++ bytes) ≡ o + n + length bytes - o = omega (arith, length-append (drop o before) bytes) in
+    let behind : drop o (with_bytes (o + n) bytes old) ≡ (drop o before ++ bytes) ++ rest =
+    drop-append-le o before (bytes ++ rest) (omega arith) ∙ sym (append_assoc (drop o before) bytes rest) in
+    ap₂ (λ (r : List ℕ) (g : Container). part r g.written) written reaches
+    ∙ (ap (take (o + n + length bytes - o)) behind
+    ∙ (take_at (drop o before ++ bytes) rest (o + n + length bytes - o) count
+    ∙ ap (λ (t : List ℕ). t ++ bytes) cut))
+
+-- bytes that stand there already are written
+with_bytes-same : (at : ℕ) (a room : List ℕ) → StandsAt at a room → with_bytes at a room ≡ room
+with_bytes-same at a room stands =
+    ap (λ (t : List ℕ). take at room ++ t)
+    (ap₂ (λ (p q : List ℕ). p ++ q) (sym stands) (sym (drop-drop (length a) at room)) ∙ take-append-drop (length a) (drop at room))
+    ∙ take-append-drop at room
+
+-- behind bytes that are written the room is as it was
+drop-with_bytes : (at : ℕ) (a room : List ℕ) → at ≤ length room → drop (at + length a) (with_bytes at a room) ≡ drop (at + length a) room
+drop-with_bytes at a room fits =
+    ap (drop (at + length a)) (sym (append_assoc (take at room) a (drop (at + length a) room)))
+    ∙ drop_at (take at room ++ a) (drop (at + length a) room) (at + length a) (omega (arith, length-append (take at room) a, length-take-le at room fits))
+
+-- a length that is filled in between what stands before a body and the body
+filled_in : (old head length_bytes content : List ℕ) (at : ℕ) → at + length head ≤ length old → at + length head + length length_bytes ≤ length old
+    → StandsAt at head old → StandsAt (at + length head + length length_bytes) content old
+    → with_bytes (at + length head) length_bytes old ≡ with_bytes at (head ++ (length_bytes ++ content)) old
+filled_in old head l content at fits more stands body =
+    let next = at + length head in
+    let off = next + length l in
+    let joined = head ++ l in
+    let one : with_bytes next l old ≡ with_bytes at joined old =
+    ap (with_bytes next l) (sym (with_bytes-same at head old stands)) ∙ with_bytes-join at next head l old refl fits in
+    let here : off ≡ at + length joined = omega (arith, length-append head l) in
+    let behind : drop off (with_bytes at joined old) ≡ drop off old =
+    subst (λ (m : ℕ). drop m (with_bytes at joined old) ≡ drop m old) (sym here) (drop-with_bytes at joined old (omega arith)) in
+    let still : StandsAt off content (with_bytes at joined old) = ap (take (length content)) behind ∙ body in
+    one
+    ∙ (sym (with_bytes-same off content (with_bytes at joined old) still)
+    ∙ (with_bytes-join at off joined content old here more
+    ∙ ap (λ (t : List ℕ). with_bytes at t old) (append_assoc head l content)))
+
+-- a container's body, after its type tag and its length, is an encoding of it
+wire_of_body : (tag : ℕ) (b : List ℕ) (v : Tree) → length b < 2 ^ 32 → IsOfBody tag b v → Wire (tag ∷ long_field b) v
+wire_of_body tag b (array vs) fits x =
+    subst (λ (t : ℕ). Wire (t ∷ long_field b) (array vs)) (sym x.0) (wire 65 amqp.FieldArray (long_field b) (array vs) refl (raw_array b vs fits x.1))
+wire_of_body tag b (table es) fits x =
+    let ps = x.1.0 in
+    subst (λ (t : ℕ). Wire (t ∷ long_field b) (table es)) (sym x.0)
+    (subst (λ (fs : Entries). Wire (70 ∷ long_field b) (table fs)) (sym x.1.2)
+    (wire 70 amqp.FieldTable (long_field b) (table (onto no_entries ps)) refl (raw_table b ps fits x.1.1)))
+wire_of_body tag b (scalar y) fits x = absurd x
+wire_of_body tag b (short y) fits x = absurd x
+wire_of_body tag b (long y) fits x = absurd x
+wire_of_body tag b (octets y) fits x = absurd x
+
+-- the length of an open body is filled in, and the container grows by it
+pub ended : (old new k : List ℕ) (into body grown : Container) → IsOpen old into body k → body.written.length < 2 ^ 32
+    → new ≡ with_bytes (body.written.offset - 4) (to_be_bytes w32 body.written.length) old → grown ≡ up_to (end_of body) into → IsEnded old into body new grown
+ended old new k into body grown is fits filled reaches =
+    let e = end_of into in
+    let head = entry_of into k (body.tag ∷ []) in
+    let n = body.written.length in
+    let l = to_be_bytes w32 n in
+    let b = part old body.written in
+    let at = is.behind in
+    let size : length b ≡ n = length-take-le n (drop body.written.offset old) (omega (arith, is.lies, length-drop body.written.offset old)) in
+    let there : StandsAt (e + length head + 4) b old =
+    subst (λ (o : ℕ). take (length b) (drop o old) ≡ b) at (ap (λ (m : ℕ). take m (drop body.written.offset old)) size) in
+    let written : new ≡ with_bytes e (head ++ (l ++ b)) old =
+    filled ∙ (ap (λ (o : ℕ). with_bytes o l old) (omega (arith, at)) ∙ filled_in old head l b e (omega (arith, at, is.lies)) (omega (arith, at, is.lies)) is.named there) in
+    let field : l ++ b ≡ long_field b = ap (λ (m : ℕ). to_be_bytes w32 m ++ b) (sym size) in
+    let bytes : head ++ (l ++ b) ≡ entry_of into k (body.tag ∷ long_field b) =
+    append_assoc (named into.tag k) (body.tag ∷ []) (l ++ b) ∙ ap (λ (t : List ℕ). named into.tag k ++ (body.tag ∷ t)) field in
+    let ends : end_of body ≡ e + length (head ++ (l ++ b)) = omega (arith, at, size, length-append head (l ++ b), length-append l b) in
+    let more : part new grown.written ≡ part old into.written ++ (head ++ (l ++ b)) =
+    part_grown old new (head ++ (l ++ b)) into grown is.place.0 written (reaches ∙ ap (λ (m : ℕ). up_to m into) ends) in
+    record {
+      key = k;
+      opened = is;
+      fits = fits;
+      filled = filled;
+      reaches = reaches;
+      grows = λ v of.
+          grows_by old new k (body.tag ∷ long_field b) into grown v is.place.1 (wire_of_body body.tag b v (omega (arith, size)) of)
+          (more ∙ ap (λ (t : List ℕ). part old into.written ++ t) bytes);
+    }

@@ -1,0 +1,17 @@
+use Rattle.std.proofs.Common.{sym, ◌∙◌}
+use Rattle.amqp_c.proofs.Rooms.{named_table, named_other, appended}
+use Rattle.amqp_c.proofs.room.append.Goals as goal
+use Rattle.amqp_c.proofs.room.append.Goals.{then-into-eq70, else-into-eq70}
+
+pub returns-clause-appended : goal.returns-clause-appended
+returns-clause-appended c =
+    let tag = c.args.into.tag in
+    let k = c.args.key.now in
+    let place = c.in-Some.ensures in
+    appended c.args.room.now k c.args.head.now c.args.content.now c.write_name.new.room c.write.new.room c.write-2.new.room
+    c.args.into c.up_to.result c.in-Some.at c.if-into-eq70.name_length place.0 place.1
+    (elim c.if-into-eq70.branch [
+      | then-into-eq70 w ↦ w.name_length-is ∙ sym (named_table tag k w.if-into-eq70.true)
+      | else-into-eq70 w ↦ w.name_length-is ∙ sym (named_other tag k w.if-into-eq70.false)
+    ])
+    c.if-room-at.false c.write_name.ensures c.write.ensures c.write-2.ensures c.up_to.ensures

@@ -1,0 +1,59 @@
+-- What is put: encodings, and the values that they are of.
+use Rattle.std.specs.Prelude.{ℕ, ◌≡◌, ◌<◌, ◌^◌, List, [], ◌∷◌, ◌++◌, length, ◌⊎◌}
+use Rattle.amqp_types.specs.declared.amqp_type.AMQPType.{AMQPType}
+use Rattle.amqp_types.specs.Ids.{id_of}
+use Rattle.amqp_grammar.specs.Values.{Scalar, Tree, scalar, long, octets, array, table, scalar_type}
+use Rattle.amqp_grammar.specs.Grammar.{Body}
+use Rattle.amqp_grammar.specs.InMemory.{IsScalar}
+use Rattle.amqp_grammar.specs.Outcomes.{found}
+use Rattle.amqp_grammar.specs.Texts.{text}
+use Rattle.amqp_parsing.specs.declared.limits.Limits.{Limits}
+use Rattle.amqp_parsing.specs.Limits.{Within}
+use Rattle.amqp_in_place.specs.Bodies.{HasEntries}
+use Rattle.amqp_c_common.specs.Scalars.{scalar_bits, scalar_scale}
+use Rattle.amqp_c.specs.Containers.{array_tag, table_tag}
+
+-- the type tag, the bits and the scale tell x, as those of an entry do
+pub record Tells (tag bits scale : ℕ) (x : Scalar) : Type 0 where
+  pub in_range : IsScalar x
+  pub same_tag : tag ≡ id_of (scalar_type x)
+  pub same_bits : bits ≡ scalar_bits x
+  pub same_scale : scale ≡ scalar_scale x
+
+-- the bits and the scale tell x, which is of this type
+pub record TellsOf (type : AMQPType) (bits scale : ℕ) (x : Scalar) : Type 0 where
+  pub in_range : IsScalar x
+  pub same_type : scalar_type x ≡ type
+  pub same_bits : bits ≡ scalar_bits x
+  pub same_scale : scale ≡ scalar_scale x
+
+-- w is the canonical encoding of v, a value of fixed width that these tell
+abbrev pub IsTold : ℕ → ℕ → ℕ → List ℕ → Tree → Type 0
+IsTold tag bits scale w v = (x : Scalar) × Tells tag bits scale x × (v ≡ scalar x) × (w ≡ text v)
+
+-- the type tags of a long string and of a byte array, `S` and `x`
+abbrev pub IsStringTag : ℕ → Type 0
+IsStringTag tag = (tag ≡ 83) ⊎ (tag ≡ 120)
+
+-- v is the long string or the byte array of these bytes, by its type tag
+abbrev pub IsString : ℕ → List ℕ → Tree → Type 0
+IsString tag b v = ((tag ≡ 83) × (v ≡ long b)) ⊎ ((tag ≡ 120) × (v ≡ octets b))
+
+-- w is the canonical encoding of v, a long string or a byte array of these bytes, whose length fits
+-- its field
+abbrev pub IsOfBytes : ℕ → List ℕ → List ℕ → Tree → Type 0
+IsOfBytes tag b w v = IsString tag b v × (w ≡ text v) × (length b < 2 ^ 32)
+
+-- w stands at the front of s, and is read within the limits as v
+abbrev pub IsFront : Limits → List ℕ → List ℕ → Tree → Type 0
+IsFront l s w v = (rest : List ℕ) × Within l s (found v rest) × (s ≡ w ++ rest)
+
+-- v is the array or the table whose body these bytes are
+abbrev pub IsOfBody : ℕ → List ℕ → Tree → Type 0
+IsOfBody tag b (array vs) = (tag ≡ array_tag) × Body b vs
+IsOfBody tag b (table es) = (tag ≡ table_tag) × HasEntries b es
+IsOfBody tag b _ = ⊥
+
+-- what stands before the body of a container, its length not filled in yet
+abbrev pub unfilled : ℕ → List ℕ
+unfilled tag = tag ∷ 0 ∷ 0 ∷ 0 ∷ 0 ∷ []

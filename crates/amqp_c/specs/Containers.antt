@@ -1,0 +1,48 @@
+-- Containers that are put together in a room.
+use Rattle.std.specs.Prelude.{ℕ, ◌≡◌, ◌+◌, ◌-◌, List, [], ◌++◌, ◌==◌, if◌then◌else◌, length, ◌⊎◌}
+use Rattle.amqp_types.specs.Strings.{IsShort}
+use Rattle.amqp_grammar.specs.Grammar.{short_field}
+use Rattle.amqp_c_common.specs.Spans.{SpanLies}
+use Rattle.amqp_c.specs.declared.container.Container.{Container}
+
+-- the type tags of an array and of a table, `A` and `F`
+abbrev pub array_tag : ℕ
+array_tag = 65
+
+abbrev pub table_tag : ℕ
+table_tag = 70
+
+abbrev pub IsContainerTag : ℕ → Type 0
+IsContainerTag tag = (tag ≡ array_tag) ⊎ (tag ≡ table_tag)
+
+-- where what is written of a container ends
+abbrev pub end_of : Container → ℕ
+end_of c = c.written.offset + c.written.length
+
+-- an entry of the container may have this key: in an array none, in a table each short string
+abbrev pub IsKeyOf : Container → List ℕ → Type 0
+IsKeyOf c k = ((c.tag ≡ array_tag) × (k ≡ [])) ⊎ ((c.tag ≡ table_tag) × IsShort k)
+
+-- in a room of n bytes an entry with this key can be put behind what is written
+abbrev pub IsPlace : ℕ → Container → List ℕ → Type 0
+IsPlace n c k = SpanLies n c.written × IsKeyOf c k
+
+-- what stands before the value of an entry: in a table the key, after its length in one byte
+abbrev pub named : ℕ → List ℕ → List ℕ
+named tag k = if tag == table_tag then short_field k else []
+
+-- the bytes of an entry: what stands before its value, and an encoding of the value
+abbrev pub entry_of : Container → List ℕ → List ℕ → List ℕ
+entry_of c k w = named c.tag k ++ w
+
+-- where the entry ends that is put behind what is written
+abbrev pub end_with : Container → List ℕ → List ℕ → ℕ
+end_with c k w = end_of c + length (entry_of c k w)
+
+-- a container of which nothing is written yet
+abbrev pub empty_at : ℕ → ℕ → Container
+empty_at at tag = record { written = record { offset = at; length = 0 }; tag = tag }
+
+-- the container, where what is written ends there
+abbrev pub up_to : ℕ → Container → Container
+up_to at c = record { written = record { offset = c.written.offset; length = at - c.written.offset }; tag = c.tag }

@@ -1,0 +1,91 @@
+//! Containers that are put together in a room.
+
+ghost use Rattle.std.specs.Prelude.{◌≡◌, ◌≤◌, ◌<◌, ◌^◌, ℕ, List, length, MatchBool, MatchOption};
+ghost use Rattle.amqp_c.specs.Containers.{IsContainerTag, IsKeyOf, IsPlace, named, end_of, up_to, empty_at};
+
+use amqp_c_common::Span;
+use std::str;
+
+/// An array or a table that is being put together.
+#[repr(C)]
+#[derive(Clone, Copy)]
+pub struct Container {
+    /// Its body, as far as it is written.
+    pub written: Span,
+    /// The type tag: `A` of an array, `F` of a table.
+    pub tag: u8,
+}
+
+/// Whether it is the type tag of an array or a table.
+pub fn is_container_tag(tag: u8) -> bool
+    ensures { MatchBool result (IsContainerTag tag) (IsContainerTag tag → ⊥) }
+{
+    tag == b'A' || tag == b'F'
+}
+
+impl Container {
+    /// A container of which nothing is written yet.
+    pub fn empty_at(at: usize, tag: u8) -> Container
+        ensures { result ≡ empty_at at tag }
+    {
+        Container {
+            written: Span {
+                offset: at,
+                length: 0,
+            },
+            tag,
+        }
+    }
+
+    /// Where the next entry goes, if in a room of so many bytes one with this key can be put.
+    pub fn place(self, room_length: usize, key: &[u8]) -> Option<usize>
+        ensures { MatchOption result
+            (IsPlace room_length self key.now → ⊥)
+            (λ at. IsPlace room_length self key.now × (at ≡ end_of self)) }
+    {
+        if !self.has_key(key) {
+            return None;
+        }
+        self.written.end_in(room_length)
+    }
+
+    /// Whether an entry may have this key: in an array none, in a table each short string.
+    fn has_key(self, key: &[u8]) -> bool
+        ensures { MatchBool result (IsKeyOf self key.now) (IsKeyOf self key.now → ⊥) }
+    {
+        match self.tag {
+            b'A' => key.is_empty(),
+            b'F' => key.len() <= 255 && str::from_utf8(key).is_ok(),
+            _ => false,
+        }
+    }
+
+    /// Whether these bytes can stand before the value of an entry.
+    pub fn has_name(self, name: &[u8]) -> bool
+        ensures { MatchBool result
+            ((k : List ℕ) × IsKeyOf self k × (name.now ≡ named self.tag k))
+            ((k : List ℕ) → IsKeyOf self k → name.now ≡ named self.tag k → ⊥) }
+    {
+        if self.tag != b'F' {
+            return self.has_key(name);
+        }
+        let Some((length, key)) = name.split_first() else {
+            return false;
+        };
+        usize::from(*length) == key.len() && self.has_key(key)
+    }
+
+    /// The container, where what is written ends there.
+    pub fn up_to(self, at: usize) -> Container
+        requires { self.written.offset ≤ at }
+        ensures { result ≡ up_to at self }
+    {
+        Container {
+            written: Span {
+                offset: self.written.offset,
+                length: at - self.written.offset,
+            },
+            tag: self.tag,
+        }
+    }
+}

@@ -1,0 +1,150 @@
+//! The encodings of values of fixed width.
+
+ghost use Rattle.std.specs.Prelude.{◌≡◌, ◌≤◌, ◌∷◌, length, MatchOption};
+ghost use Rattle.amqp_types.specs.declared.amqp_type.AMQPType.TheVariants as amqp;
+ghost use Rattle.amqp_grammar.specs.Values.{Scalar, scalar};
+ghost use Rattle.amqp_grammar.specs.Texts.{text};
+ghost use Rattle.amqp_c.specs.BuiltEntries.{Tells, TellsOf};
+
+use amqp_types::AMQPType;
+use std::marker::Model;
+
+/// The encoding of a value of fixed width: its type tag, and at most eight bytes more.
+#[derive(Drop)]
+pub struct Encoding {
+    bytes: [u8; 9],
+    count: usize,
+}
+
+impl Model for Encoding {
+    ghost use Rattle.std.specs.Prelude.{ℕ, ◌≤◌, List, take};
+
+    ghost Value = { List ℕ };
+
+    ghost view = { λ e. take e.count e.bytes };
+
+    ghost invariant = { λ e. e.count ≤ 9 };
+}
+
+impl Encoding {
+    /// The encoding of this type tag and this payload.
+    fn new(tag: u8, payload: &[u8]) -> Encoding
+        requires { length payload.now ≤ 8 }
+        ensures { result ≡ tag ∷ payload.now }
+    {
+        let mut bytes = [0; 9];
+        let count = 1 + payload.len();
+        bytes[0] = tag;
+        bytes[1..count].copy_from_slice(payload);
+        Encoding { bytes, count }
+    }
+
+    /// Its bytes.
+    pub fn as_slice(&self) -> &[u8]
+        ensures value { result.now ≡ self.now }
+        ensures few { length result.now ≤ 9 }
+    {
+        &self.bytes[..self.count]
+    }
+}
+
+/// The encoding of the value of fixed width that these tell, as those of an entry do.
+pub fn encoding_by_tag(tag: u8, bits: u64, scale: u8) -> Option<Encoding>
+    ensures { MatchOption result
+        ((x : Scalar) → Tells tag bits scale x → ⊥)
+        (λ e. (x : Scalar) × Tells tag bits scale x × (e ≡ text (scalar x))) }
+{
+    let amqp_type = AMQPType::from_id(tag as char)?;
+    // `U` and `L` are second spellings, which no entry tells
+    if amqp_type.get_id() as u8 != tag {
+        return None;
+    }
+    encoding_by_type(amqp_type, bits, scale)
+}
+
+/// The encoding of the value of this type that the bits and the scale tell.
+fn encoding_by_type(amqp_type: AMQPType, bits: u64, scale: u8) -> Option<Encoding>
+    ensures { MatchOption result
+        ((x : Scalar) → TellsOf amqp_type bits scale x → ⊥)
+        (λ e. (x : Scalar) × TellsOf amqp_type bits scale x × (e ≡ text (scalar x))) }
+{
+    match amqp_type {
+        AMQPType::DecimalValue => decimal(bits, scale),
+        _ if scale != 0 => None,
+        AMQPType::Boolean => boolean(bits),
+        AMQPType::ShortShortInt => {
+            let n = i8::try_from(bits.cast_signed()).ok()?;
+            Some(Encoding::new(b'b', &n.to_be_bytes()))
+        }
+        AMQPType::ShortShortUInt => {
+            let n = u8::try_from(bits).ok()?;
+            Some(Encoding::new(b'B', &n.to_be_bytes()))
+        }
+        AMQPType::ShortInt => {
+            let n = i16::try_from(bits.cast_signed()).ok()?;
+            Some(Encoding::new(b's', &n.to_be_bytes()))
+        }
+        AMQPType::ShortUInt => {
+            let n = u16::try_from(bits).ok()?;
+            Some(Encoding::new(b'u', &n.to_be_bytes()))
+        }
+        AMQPType::LongInt => {
+            let n = i32::try_from(bits.cast_signed()).ok()?;
+            Some(Encoding::new(b'I', &n.to_be_bytes()))
+        }
+        AMQPType::LongUInt => {
+            let n = u32::try_from(bits).ok()?;
+            Some(Encoding::new(b'i', &n.to_be_bytes()))
+        }
+        AMQPType::Float => {
+            let n = u32::try_from(bits).ok()?;
+            Some(Encoding::new(b'f', &n.to_be_bytes()))
+        }
+        AMQPType::LongLongInt => Some(Encoding::new(b'l', &bits.to_be_bytes())),
+        AMQPType::Double => Some(Encoding::new(b'd', &bits.to_be_bytes())),
+        AMQPType::Timestamp => Some(Encoding::new(b'T', &bits.to_be_bytes())),
+        AMQPType::Void => void(bits),
+        AMQPType::LongLongUInt
+        | AMQPType::ShortString
+        | AMQPType::LongString
+        | AMQPType::ByteArray
+        | AMQPType::FieldArray
+        | AMQPType::FieldTable => None,
+    }
+}
+
+/// The encoding of a decimal: its scale in a byte, and its number in four.
+fn decimal(bits: u64, scale: u8) -> Option<Encoding>
+    ensures { MatchOption result
+        ((x : Scalar) → TellsOf amqp.DecimalValue bits scale x → ⊥)
+        (λ e. (x : Scalar) × TellsOf amqp.DecimalValue bits scale x × (e ≡ text (scalar x))) }
+{
+    let n = u32::try_from(bits).ok()?;
+    let [a, b, c, d] = n.to_be_bytes();
+    Some(Encoding::new(b'D', &[scale, a, b, c, d]))
+}
+
+/// The encoding of a boolean, whose bits are 0 or 1.
+fn boolean(bits: u64) -> Option<Encoding>
+    ensures { MatchOption result
+        ((x : Scalar) → TellsOf amqp.Boolean bits 0 x → ⊥)
+        (λ e. (x : Scalar) × TellsOf amqp.Boolean bits 0 x × (e ≡ text (scalar x))) }
+{
+    match bits {
+        0 => Some(Encoding::new(b't', &[0])),
+        1 => Some(Encoding::new(b't', &[1])),
+        _ => None,
+    }
+}
+
+/// The encoding of nothing, whose bits are 0.
+fn void(bits: u64) -> Option<Encoding>
+    ensures { MatchOption result
+        ((x : Scalar) → TellsOf amqp.Void bits 0 x → ⊥)
+        (λ e. (x : Scalar) × TellsOf amqp.Void bits 0 x × (e ≡ text (scalar x))) }
+{
+    if bits != 0 {
+        return None;
+    }
+    Some(Encoding::new(b'V', &[]))
+}

@@ -1,0 +1,87 @@
+//! Putting an entry: a value of fixed width, a string or a byte array, or an encoding as it stands.
+
+ghost use Rattle.std.specs.Prelude.{◌≡◌, IfErr, MatchResult, MatchBool};
+ghost use Rattle.amqp_grammar.specs.Values.{Tree, Scalar};
+ghost use Rattle.amqp_c.specs.BuiltEntries.{Tells, IsTold, IsStringTag, IsOfBytes, IsFront};
+ghost use Rattle.amqp_c.specs.Faults.{Refuses, NoOther, IsTooLong, IsReadFaultInPlace};
+ghost use Rattle.amqp_c.specs.Growth.{IsPut};
+
+use crate::container::Container;
+use crate::number::encoding_by_tag;
+use crate::room::append;
+use amqp_c_common::Fault;
+use amqp_in_place::read_in_place;
+use amqp_parsing::Limits;
+
+/// Puts a value of fixed width, by its type tag, its bits and its scale.
+pub fn put_scalar(
+    room: &mut [u8],
+    into: Container,
+    key: &[u8],
+    tag: u8,
+    bits: u64,
+    scale: u8,
+) -> Result<Container, Fault>
+    ensures put { MatchResult result
+        (IsPut (IsTold tag bits scale) room.old into key.now room.new)
+        (Refuses ((x : Scalar) × Tells tag bits scale x) (λ w. (v : Tree) × IsTold tag bits scale w v) NoOther
+        room.old into key.now) }
+    ensures kept { IfErr result (λ _. room.new ≡ room.old) }
+{
+    let Some(encoding) = encoding_by_tag(tag, bits, scale) else {
+        return Err(Fault::Invalid);
+    };
+    append(room, into, key, encoding.as_slice(), &[])
+}
+
+/// Puts a long string or a byte array.
+pub fn put_bytes(
+    room: &mut [u8],
+    into: Container,
+    key: &[u8],
+    tag: u8,
+    bytes: &[u8],
+) -> Result<Container, Fault>
+    ensures put { MatchResult result
+        (IsPut (IsOfBytes tag bytes.now) room.old into key.now room.new)
+        (Refuses (IsStringTag tag) (λ w. (v : Tree) × IsOfBytes tag bytes.now w v) (IsTooLong tag bytes.now)
+        room.old into key.now) }
+    ensures kept { IfErr result (λ _. room.new ≡ room.old) }
+{
+    if into.place(room.len(), key).is_none() || !is_string_tag(tag) {
+        return Err(Fault::Invalid);
+    }
+    let Ok(length) = u32::try_from(bytes.len()) else {
+        return Err(Fault::TooLarge);
+    };
+    let [a, b, c, d] = length.to_be_bytes();
+    append(room, into, key, &[tag, a, b, c, d], bytes)
+}
+
+/// Whether it is the type tag of a long string or a byte array.
+fn is_string_tag(tag: u8) -> bool
+    ensures { MatchBool result (IsStringTag tag) (IsStringTag tag → ⊥) }
+{
+    tag == b'S' || tag == b'x'
+}
+
+/// Puts the encoding at the front of other bytes, which is read within limits, as it stands.
+pub fn put_value(
+    room: &mut [u8],
+    into: Container,
+    key: &[u8],
+    bytes: &[u8],
+    limits: Limits,
+) -> Result<Container, Fault>
+    ensures put { MatchResult result
+        (IsPut (IsFront limits bytes.now) room.old into key.now room.new)
+        (Refuses (Unit {0}) (λ w. (v : Tree) × IsFront limits bytes.now w v) (IsReadFaultInPlace limits bytes.now)
+        room.old into key.now) }
+    ensures kept { IfErr result (λ _. room.new ≡ room.old) }
+{
+    if into.place(room.len(), key).is_none() {
+        return Err(Fault::Invalid);
+    }
+    let (_, rest) = read_in_place(bytes, limits)?;
+    append(room, into, key, &[], &bytes[..bytes.len() - rest.len()])
+}

@@ -1,0 +1,60 @@
+//! Writing to a room.
+
+ghost use Rattle.std.specs.Prelude.{◌≡◌, ◌+◌, ◌≤◌, ◌<◌, ◌^◌, ◌++◌, length, IfErr, MatchResult};
+ghost use Rattle.amqp_grammar.specs.Grammar.{short_field};
+ghost use Rattle.amqp_c.specs.Containers.{named, end_of, entry_of, end_with, up_to};
+ghost use Rattle.amqp_c.specs.Growth.{IsAppended};
+ghost use Rattle.amqp_c.specs.Faults.{Refuses, NoOther};
+ghost use Rattle.amqp_c.specs.Rooms.{with_bytes};
+
+use crate::container::Container;
+use amqp_c_common::Fault;
+
+/// Writes the bytes from `at` on.
+pub fn write(room: &mut [u8], at: usize, bytes: &[u8])
+    requires { at + length bytes.now ≤ length room.old }
+    ensures { room.new ≡ with_bytes at bytes.now room.old }
+{
+    room[at..at + bytes.len()].copy_from_slice(bytes);
+}
+
+/// Puts an entry behind what the container has: its key, and an encoding in two parts.
+pub fn append(
+    room: &mut [u8],
+    into: Container,
+    key: &[u8],
+    head: &[u8],
+    content: &[u8],
+) -> Result<Container, Fault>
+    requires { length head.now ≤ 9 }
+    ensures appended { MatchResult result
+        (λ grown. IsAppended room.old into key.now (head.now ++ content.now) room.new
+        × (grown ≡ up_to (end_with into key.now (head.now ++ content.now)) into))
+        (Refuses (Unit {0}) (λ w. w ≡ head.now ++ content.now) NoOther room.old into key.now) }
+    ensures kept { IfErr result (λ _. room.new ≡ room.old) }
+{
+    let Some(at) = into.place(room.len(), key) else {
+        return Err(Fault::Invalid);
+    };
+    let name_length = if into.tag == b'F' { 1 + key.len() } else { 0 };
+    let count = name_length + head.len() + content.len();
+    if room.len() - at < count {
+        return Err(Fault::NoRoom(count));
+    }
+    write_name(room, at, into.tag, key);
+    write(room, at + name_length, head);
+    write(room, at + name_length + head.len(), content);
+    Ok(into.up_to(at + count))
+}
+
+/// Writes what stands before the value of an entry: in a table the key, after its length.
+fn write_name(room: &mut [u8], at: usize, tag: u8, key: &[u8])
+    requires few { length key.now ≤ 255 }
+    requires room { at + length (named tag key.now) ≤ length room.old }
+    ensures { room.new ≡ with_bytes at (named tag key.now) room.old }
+{
+    if tag == b'F' {
+        write(room, at, &[key.len() as u8]);
+        write(room, at + 1, key);
+    }
+}

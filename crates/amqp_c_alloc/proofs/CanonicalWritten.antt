@@ -1,0 +1,58 @@
+-- What was written of a value that was read.
+use Rattle.std.proofs.Common.{◌≡◌, ℕ, List, length, take, Result, Ok, Err, MatchResult, sym, ap, ◌∙◌, subst, arith, length-append}
+use Rattle.std.proofs.lemmas.List.{take_at}
+use Rattle.amqp_grammar.specs.Values.{Tree}
+use Rattle.amqp_grammar.specs.Outcomes.{found}
+use Rattle.amqp_grammar.specs.Texts.{text}
+use Rattle.amqp_grammar.proofs.GrammarLaws.{canon_is_text, bytes_front, front_within, bounded_wire}
+use Rattle.amqp_types.specs.Inputs.{IsBytes}
+use Rattle.amqp_parsing.specs.declared.errors.Err.TheVariants.{Incomplete, Error, Failure}
+use Rattle.amqp_parsing.specs.declared.errors.Needed.TheVariants.{Unknown, Size}
+use Rattle.amqp_parsing.specs.declared.errors.ErrorKind.TheVariants as kind
+use Rattle.amqp_parsing.specs.declared.limits.Limits.{Limits}
+use Rattle.amqp_parsing.specs.Limits.{Within, RefusesWithin}
+use Rattle.amqp_parsing.specs.Refusals.{Refusal}
+use Rattle.amqp_parsing.proofs.ParsingLaws.{found_all}
+use Rattle.amqp_in_place.specs.Canonicals.{IsCanonicalLen}
+use Rattle.amqp_c_common.specs.declared.fault.Fault.{Fault}
+use Rattle.amqp_c_common.specs.declared.fault.Fault.TheVariants.{OutOfMemory}
+use Rattle.amqp_c_common.specs.Answers.{fault_of}
+use Rattle.amqp_c_common.proofs.Refused.{told_as_it_is}
+use Rattle.amqp_c_common.specs.Rooms.{IsPut, HasNoRoom}
+use Rattle.amqp_c_alloc.specs.CanonicalCalls.{IsRead, IsWritten, IsNotCanonical, IsFault}
+
+-- a canonical encoding is no longer than what was read
+is_read : (l : Limits) (s rest : List ℕ) (v : Tree) → Within l s (found v rest) → IsRead l s v rest
+is_read l s rest v x =
+    let f = front_within l.depth s rest v x.1 in
+    (x, omega (arith, (bounded_wire f.0 v f.1.0).size, ap length f.2, length-append f.0 rest))
+
+-- what is put is the canonical encoding of the value that was read
+pub put_value : (l : Limits) (s bytes old new rest : List ℕ) (v : Tree) (r : Result ℕ Fault) → Within l s (found v rest) → bytes ≡ text v
+    → MatchResult r (IsPut bytes old new) (HasNoRoom bytes (length old)) → MatchResult r (IsWritten l s old new) (IsFault l s (length old))
+put_value l s bytes old new rest v (Ok n) x is put = (v, rest, is_read l s rest v x, subst (λ (t : List ℕ). IsPut t old new n) is put)
+put_value l s bytes old new rest v (Err f) x is (e, less) =
+    subst (IsFault l s (length old)) (sym e) (v, rest, is_read l s rest v x, ap length is, less)
+
+-- and it is what stands at the front, where that is canonical
+pub put_front : (l : Limits) (s old new : List ℕ) (n : ℕ) (r : Result ℕ Fault) → IsBytes s → IsCanonicalLen l s n
+    → MatchResult r (IsPut (take n s) old new) (HasNoRoom (take n s) (length old)) → MatchResult r (IsWritten l s old new) (IsFault l s (length old))
+put_front l s old new n r bytes (w, rest, v, e, size, is, x) put =
+    let front : take n s ≡ w = ap (take n) e ∙ take_at w rest n size in
+    let of_bytes : IsBytes w = bytes_front w rest (subst IsBytes e bytes) in
+    put_value l s (take n s) old new rest v r x (front ∙ canon_is_text w v of_bytes is) put
+
+-- memory runs out only where the front isn't canonical, and all of the value is there
+pub none_canonical : (l : Limits) (s rest : List ℕ) (v : Tree) (room : ℕ) → Within l s (found v rest) → IsNotCanonical l s → IsFault l s room OutOfMemory
+none_canonical l s rest v room x none = (none, found_all l s rest v x)
+
+-- an error of reading is told as it is
+pub refused_so : (l : Limits) (s : List ℕ) (room : ℕ) (e : Refusal) → RefusesWithin l s e → IsNotCanonical l s → IsFault l s room (fault_of e)
+refused_so l s room (Failure k) x none = (none, told_as_it_is l s (Failure k) x)
+refused_so l s room (Incomplete Unknown) x none = told_as_it_is l s (Incomplete Unknown) x
+refused_so l s room (Incomplete (Size n)) x none = told_as_it_is l s (Incomplete (Size n)) x
+refused_so l s room (Error kind.MapOpt) x none = x
+refused_so l s room (Error kind.Eof) x none = x
+refused_so l s room (Error kind.TooLarge) x none = x
+refused_so l s room (Error kind.MapRes) x none = absurd x.1
+refused_so l s room (Error kind.OutOfMemory) x none = absurd x.1

@@ -1,0 +1,2 @@
+mod CanonicalWritten
+mod JsonWritten

@@ -1,0 +1,85 @@
+-- What the calls between encodings and JSON texts answer, and leave in the room.
+use Rattle.std.specs.Prelude.{ℕ, ◌≡◌, ◌<◌, ◌⊎◌, ℤ, false, List, length, Result, Err, IfErr, MatchResult}
+use Rattle.std.specs.Str.{IsUtf8}
+use Rattle.amqp_grammar.specs.Values.{Tree}
+use Rattle.amqp_grammar.specs.Grammar.{Wire}
+use Rattle.amqp_grammar.specs.Texts.{text}
+use Rattle.amqp_parsing.specs.declared.limits.Limits.{Limits}
+use Rattle.amqp_json.specs.declared.error.JsonError.TheVariants as json
+use Rattle.amqp_json.specs.declared.conversion_error.EncodeError.{EncodeError}
+use Rattle.amqp_json.specs.declared.conversion_error.EncodeError.TheVariants as encode
+use Rattle.amqp_json.specs.Converts.{IsJsonOf, IsMeant, IsReadAs}
+use Rattle.amqp_c_common.specs.declared.fault.Fault.{Fault}
+use Rattle.amqp_c_common.specs.declared.fault.Fault.TheVariants.{OutOfMemory, NoRoom, NotJson, NoEncoding}
+use Rattle.amqp_c_common.specs.Answers.{answer_of, count_of}
+use Rattle.amqp_c_common.specs.Reading.{limits, IsReadFault}
+use Rattle.amqp_c_common.specs.Rooms.{IsPut}
+use Rattle.amqp_c_alloc.specs.Nesting.{nests_within}
+
+-- ---- from an encoding to the JSON text
+
+-- the JSON text of the value that is read from s within the limits is put into the room
+abbrev pub IsJsonPut : Limits → List ℕ → List ℕ → List ℕ → ℕ → Type 0
+IsJsonPut l s old new n = (t : List ℕ) × (rest : List ℕ) × IsJsonOf l s t rest × IsPut t old new n
+
+-- a fault is right, for s and room for so many bytes: the JSON text of the value that is read has
+-- more bytes than the room, and as many as the fault tells; or what reading comes to
+abbrev pub IsJsonFault : Limits → List ℕ → ℕ → Fault → Type 0
+IsJsonFault l s room (NoRoom n) = (t : List ℕ) × (rest : List ℕ) × IsJsonOf l s t rest × (n ≡ length t) × (room < n)
+IsJsonFault l s room f = IsReadFault l s f
+
+-- the JSON text of the value at the front of s is put into the room; or the fault is right, and the
+-- room as it was
+pub record WritesJson (frame depth : ℕ) (s old : List ℕ) (answer : ℤ) (new : List ℕ) (count : ℕ) : Type 0 where
+  pub done : Result ℕ Fault
+  pub answered : answer ≡ answer_of done
+  pub counted : count ≡ count_of done
+  pub written : MatchResult done (IsJsonPut (limits frame depth) s old new) (IsJsonFault (limits frame depth) s (length old))
+  pub kept : IfErr done (λ _. new ≡ old)
+
+-- ---- from a JSON text to the encoding
+
+-- the text is UTF-8, and means the value
+abbrev pub IsTextOf : List ℕ → Tree → Type 0
+IsTextOf t v = IsUtf8 t × IsMeant t v
+
+-- the text isn't UTF-8, or means no value
+abbrev pub MeansNothing : List ℕ → Type 0
+MeansNothing t = (v : Tree) → IsTextOf t v → ⊥
+
+-- no bytes are an encoding of the value
+abbrev pub HasNoWire : Tree → Type 0
+HasNoWire v = (w : List ℕ) → Wire w v → ⊥
+
+-- the canonical encoding of the value that the text means is put into the room, and is read as that
+-- value
+abbrev pub IsEncodingPut : List ℕ → List ℕ → List ℕ → ℕ → Type 0
+IsEncodingPut t old new n = (v : Tree) × IsTextOf t v × IsReadAs (text v) v × IsPut (text v) old new n
+
+-- a fault is right, for a text, how deep it may nest and room for so many bytes: the text nests
+-- deeper, or means no value; or one that has no encoding; or one whose canonical encoding has more
+-- bytes than the room, and as many as the fault tells; memory runs out only where the text is UTF-8
+abbrev pub IsEncodingFault : ℕ → List ℕ → ℕ → Fault → Type 0
+IsEncodingFault most t room NotJson = (nests_within most t ≡ false) ⊎ MeansNothing t
+IsEncodingFault most t room NoEncoding = (v : Tree) × IsTextOf t v × HasNoWire v
+IsEncodingFault most t room (NoRoom n) = (v : Tree) × IsTextOf t v × IsReadAs (text v) v × (n ≡ length (text v)) × (room < n)
+IsEncodingFault most t room OutOfMemory = IsUtf8 t
+IsEncodingFault most t room _ = ⊥
+
+-- what is told of a text for which there is no encoding
+abbrev pub text_fault : EncodeError → Fault
+text_fault encode.OutOfMemory = OutOfMemory
+text_fault (encode.Json json.OutOfMemory) = OutOfMemory
+text_fault (encode.Json e) = NotJson
+text_fault encode.NoTypeTag = NoEncoding
+text_fault encode.TooLong = NoEncoding
+
+-- the canonical encoding of the value that a text means is put into the room; or the fault is right,
+-- and the room as it was; a text that nests too deep is refused as no JSON
+pub record WritesEncoding (most : ℕ) (t old : List ℕ) (answer : ℤ) (new : List ℕ) (count : ℕ) : Type 0 where
+  pub done : Result ℕ Fault
+  pub answered : answer ≡ answer_of done
+  pub counted : count ≡ count_of done
+  pub written : MatchResult done (IsEncodingPut t old new) (IsEncodingFault most t (length old))
+  pub deep : nests_within most t ≡ false → done ≡ Err NotJson
+  pub kept : IfErr done (λ _. new ≡ old)

@@ -1,0 +1,3 @@
+pub mod CanonicalCalls
+pub mod Nesting
+pub mod JsonCalls

@@ -1,0 +1,82 @@
+//! Calls for C that allocate: the canonical encoding of a value, and between encodings and JSON
+//! texts.
+//!
+//! They allocate by C's `malloc`, `realloc` and `free` (the canonical encoding only where the bytes
+//! aren't canonical already), and free all of it. They keep no state, print nothing and never end
+//! the process. `include/amqp.h` declares them.
+#![tactic(auto)]
+
+ghost use Rattle.amqp_c_alloc.specs.CanonicalCalls.{Canonicalizes};
+ghost use Rattle.amqp_c_alloc.specs.JsonCalls.{WritesJson, WritesEncoding};
+
+mod canonical;
+mod decode;
+mod encode;
+mod nesting;
+
+use amqp_c_common::answer_count;
+use amqp_parsing::Limits;
+use canonical::canonical;
+use decode::put_json;
+use encode::put_encoding;
+use std::alloc::Global;
+
+/// Writes the canonical encoding of the value at the front from the start of `room`. Of the stack
+/// it takes what `canonical_len`, `parse_value_within` and `gen_value` do: docs/PROMISES.md has the
+/// runs of these.
+///
+/// `count` becomes how many bytes were written, how many more are needed of the value, or how many
+/// the room has to have, or else 0.
+#[unsafe(no_mangle)]
+pub extern "C" fn amqp_canonical(
+    alloc: Global,
+    bytes: &[u8],
+    frame: u32,
+    depth: u32,
+    room: &mut [u8],
+    count: &mut usize,
+) -> i32
+    ensures { Canonicalizes frame depth bytes.now room.old result room.new count.new }
+{
+    answer_count(
+        canonical(alloc, bytes, Limits { frame, depth }, room),
+        count,
+    )
+}
+
+/// Writes the JSON text of the value at the front to the start of `room`. Of the stack it takes
+/// what `json_of_encoding` does: docs/PROMISES.md has the runs of that.
+///
+/// `count` becomes how many bytes were written, how many more are needed of the value, or how many
+/// the room has to have, or else 0.
+#[unsafe(no_mangle)]
+pub extern "C" fn amqp_to_json(
+    alloc: Global,
+    bytes: &[u8],
+    frame: u32,
+    depth: u32,
+    room: &mut [u8],
+    count: &mut usize,
+) -> i32
+    ensures { WritesJson frame depth bytes.now room.old result room.new count.new }
+{
+    answer_count(put_json(alloc, bytes, Limits { frame, depth }, room), count)
+}
+
+/// Writes the canonical encoding of the value that a JSON text means to the start of `room`. A text
+/// with more than `nesting` arrays and objects open at once isn't read, nor is one with more than
+/// 127. Of the stack it takes what `encoding_of_json` does: docs/PROMISES.md has the runs of that.
+///
+/// `count` becomes how many bytes were written, or how many the room has to have, or else 0.
+#[unsafe(no_mangle)]
+pub extern "C" fn amqp_from_json(
+    alloc: Global,
+    text: &[u8],
+    nesting: u32,
+    room: &mut [u8],
+    count: &mut usize,
+) -> i32
+    ensures { WritesEncoding nesting text.now room.old result room.new count.new }
+{
+    answer_count(put_encoding(alloc, text, nesting, room), count)
+}

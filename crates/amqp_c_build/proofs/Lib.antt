@@ -1,5 +1,0 @@
-mod Growing
-mod Numbers
-mod Opened
-mod Putting
-mod Rooms

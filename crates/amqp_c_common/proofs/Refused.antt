@@ -1,0 +1,22 @@
+-- What an error of reading within limits is told as.
+use Rattle.std.proofs.Common.{ℕ, List}
+use Rattle.amqp_parsing.specs.declared.errors.Err.TheVariants.{Incomplete, Error, Failure}
+use Rattle.amqp_parsing.specs.declared.errors.Needed.TheVariants.{Unknown, Size}
+use Rattle.amqp_parsing.specs.declared.errors.ErrorKind.TheVariants as kind
+use Rattle.amqp_parsing.specs.declared.limits.Limits.{Limits}
+use Rattle.amqp_parsing.specs.Limits.{RefusesWithin}
+use Rattle.amqp_parsing.specs.Refusals.{Refusal}
+use Rattle.amqp_parsing.proofs.ParsingLaws.{failed_all}
+use Rattle.amqp_c_common.specs.Answers.{fault_of}
+use Rattle.amqp_c_common.specs.Reading.{IsReadFault}
+
+-- each error is told as it is
+pub told_as_it_is : (l : Limits) (s : List ℕ) (e : Refusal) → RefusesWithin l s e → IsReadFault l s (fault_of e)
+told_as_it_is l s (Incomplete Unknown) x = absurd x.1
+told_as_it_is l s (Incomplete (Size n)) x = x
+told_as_it_is l s (Error kind.MapOpt) x = x
+told_as_it_is l s (Error kind.Eof) x = x
+told_as_it_is l s (Error kind.TooLarge) x = x
+told_as_it_is l s (Error kind.MapRes) x = absurd x.1
+told_as_it_is l s (Error kind.OutOfMemory) x = absurd x.1
+told_as_it_is l s (Failure k) x = failed_all l s k x

@@ -1,0 +1,41 @@
+-- The numbers that are answered.
+use Rattle.std.specs.Prelude.{ℕ, ℤ, pos, negsuc, Result, Ok, Err}
+use Rattle.amqp_parsing.specs.declared.errors.Err.TheVariants.{Incomplete, Error, Failure}
+use Rattle.amqp_parsing.specs.declared.errors.Needed.TheVariants.{Unknown, Size}
+use Rattle.amqp_parsing.specs.declared.errors.ErrorKind.TheVariants as kind
+use Rattle.amqp_parsing.specs.Refusals.{Refusal}
+use Rattle.amqp_c_common.specs.declared.fault.Fault.{Fault}
+use Rattle.amqp_c_common.specs.declared.fault.Fault.TheVariants.{More, UnknownTag, Malformed, TooLarge, Invalid, OutOfMemory, NoRoom, NotJson, NoEncoding}
+
+-- what a parser's error is told as
+abbrev pub fault_of : Refusal → Fault
+fault_of (Incomplete (Size n)) = More n
+fault_of (Incomplete Unknown) = More 1
+fault_of (Failure k) = OutOfMemory
+fault_of (Error kind.MapOpt) = UnknownTag
+fault_of (Error kind.TooLarge) = TooLarge
+fault_of (Error _) = Malformed
+
+-- the number that stands for a fault
+abbrev pub code_of : Fault → ℤ
+code_of (More n) = negsuc 0
+code_of UnknownTag = negsuc 1
+code_of Malformed = negsuc 2
+code_of TooLarge = negsuc 3
+code_of Invalid = negsuc 4
+code_of OutOfMemory = negsuc 5
+code_of (NoRoom n) = negsuc 6
+code_of NotJson = negsuc 7
+code_of NoEncoding = negsuc 8
+
+-- the number that stands for an answer: 0 where it is done
+abbrev pub answer_of : {T : Type 0} → Result T Fault → ℤ
+answer_of (Ok x) = pos 0
+answer_of (Err f) = code_of f
+
+-- a number of bytes that were written, are needed or have to have room, else 0
+abbrev pub count_of : Result ℕ Fault → ℕ
+count_of (Ok n) = n
+count_of (Err (More n)) = n
+count_of (Err (NoRoom n)) = n
+count_of (Err f) = 0

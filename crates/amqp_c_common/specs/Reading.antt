@@ -1,0 +1,22 @@
+-- What a fault says of reading within limits.
+use Rattle.std.specs.Prelude.{ℕ, ◌<◌, ◌≤◌, List}
+use Rattle.amqp_grammar.specs.Outcomes.{more, unknown, malformed}
+use Rattle.amqp_parsing.specs.declared.limits.Limits.{Limits}
+use Rattle.amqp_parsing.specs.Headers.{extent, IsWhole}
+use Rattle.amqp_parsing.specs.Limits.{Within}
+use Rattle.amqp_c_common.specs.declared.fault.Fault.{Fault}
+use Rattle.amqp_c_common.specs.declared.fault.Fault.TheVariants.{More, UnknownTag, Malformed, TooLarge, OutOfMemory}
+
+-- the limits of these numbers
+abbrev pub limits : ℕ → ℕ → Limits
+limits frame depth = record { frame = frame; depth = depth }
+
+-- a fault is right, for reading s within the limits; memory runs out only where all the bytes of the
+-- value at the front are there, and no more than the limit `frame` allows
+abbrev pub IsReadFault : Limits → List ℕ → Fault → Type 0
+IsReadFault l s (More n) = Within l s (more n)
+IsReadFault l s UnknownTag = Within l s unknown
+IsReadFault l s Malformed = Within l s malformed
+IsReadFault l s TooLarge = l.frame < extent s
+IsReadFault l s OutOfMemory = (extent s ≤ l.frame) × IsWhole s
+IsReadFault l s _ = ⊥

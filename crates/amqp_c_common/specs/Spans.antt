@@ -1,0 +1,23 @@
+-- Spans: bytes by where they begin and how many there are.
+use Rattle.std.specs.Prelude.{ℕ, ◌+◌, ◌-◌, ◌≤◌, List, take, drop}
+use Rattle.amqp_c_common.specs.declared.span.Span.{Span}
+
+-- the bytes of the span
+abbrev pub part : List ℕ → Span → List ℕ
+part s p = take p.length (drop p.offset s)
+
+-- the span lies in n bytes
+abbrev pub SpanLies : ℕ → Span → Type 0
+SpanLies n p = p.offset + p.length ≤ n
+
+-- the same bytes, where n more stand before them
+abbrev pub moved : ℕ → Span → Span
+moved n p = record { offset = p.offset + n; length = p.length }
+
+-- the bytes of p behind those of q
+abbrev pub behind : Span → Span → Span
+behind p q = record { offset = q.offset + q.length; length = p.offset + p.length - (q.offset + q.length) }
+
+-- the last n bytes of p
+abbrev pub last : Span → ℕ → Span
+last p n = record { offset = p.offset + (p.length - n); length = n }

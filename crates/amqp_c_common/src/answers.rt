@@ -1,0 +1,31 @@
+//! The numbers that are answered.
+
+ghost use Rattle.std.specs.Prelude.{◌≡◌};
+ghost use Rattle.amqp_c_common.specs.Answers.{answer_of, count_of};
+
+use crate::fault::Fault;
+
+/// It is done.
+const OK: i32 = 0;
+
+/// Leaves how many bytes were written, are needed or have to have room, else 0, and answers the
+/// number that stands for what was done.
+#[inline]
+pub fn answer_count(done: Result<usize, Fault>, count: &mut usize) -> i32
+    ensures answer { result ≡ answer_of done }
+    ensures count { count.new ≡ count_of done }
+{
+    match done {
+        Ok(written) => {
+            *count = written;
+            OK
+        }
+        Err(fault) => {
+            *count = match fault {
+                Fault::More(needed) | Fault::NoRoom(needed) => needed,
+                _ => 0,
+            };
+            fault.code()
+        }
+    }
+}

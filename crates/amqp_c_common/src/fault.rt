@@ -1,0 +1,65 @@
+//! Why a call does nothing.
+
+ghost use Rattle.std.specs.Prelude.{◌≡◌};
+ghost use Rattle.amqp_c_common.specs.Answers.{fault_of, code_of};
+
+use amqp_parsing::{Err, ErrorKind, Needed, ParserError};
+
+/// Why a call does nothing.
+#[derive(Clone, Copy)]
+pub enum Fault {
+    /// So many more bytes are needed for the field that is being read.
+    More(usize),
+    /// The first byte is no type tag.
+    UnknownTag,
+    /// The bytes are there, and no value stands at the front of them.
+    Malformed,
+    /// The value has more bytes than the limit.
+    TooLarge,
+    /// What was handed in is not what the call takes.
+    Invalid,
+    /// An allocation failed.
+    OutOfMemory,
+    /// What is to be written has so many bytes, more than the room.
+    NoRoom(usize),
+    /// The text is no JSON, or the JSON of no value.
+    NotJson,
+    /// The value has no encoding.
+    NoEncoding,
+}
+
+impl Fault {
+    /// The number that stands for the fault.
+    pub fn code(self) -> i32
+        ensures { result ≡ code_of self }
+    {
+        match self {
+            Fault::More(_) => -1,
+            Fault::UnknownTag => -2,
+            Fault::Malformed => -3,
+            Fault::TooLarge => -4,
+            Fault::Invalid => -5,
+            Fault::OutOfMemory => -6,
+            Fault::NoRoom(_) => -7,
+            Fault::NotJson => -8,
+            Fault::NoEncoding => -9,
+        }
+    }
+}
+
+impl From<ParserError> for Fault {
+    ghost from_gives = { λ error fault. fault ≡ fault_of error };
+
+    fn from(error: ParserError) -> Self {
+        match error {
+            Err::Incomplete(Needed::Size(n)) => Fault::More(n),
+            Err::Incomplete(Needed::Unknown) => Fault::More(1),
+            Err::Failure(_) => Fault::OutOfMemory,
+            Err::Error(refused) => match refused.kind() {
+                ErrorKind::MapOpt => Fault::UnknownTag,
+                ErrorKind::TooLarge => Fault::TooLarge,
+                _ => Fault::Malformed,
+            },
+        }
+    }
+}

@@ -1,0 +1,88 @@
+//! Bytes by where they lie.
+
+ghost use Rattle.std.specs.Prelude.{◌≡◌, ◌+◌, ◌<◌, ◌≤◌, ◌^◌, length, MatchOption};
+ghost use Rattle.amqp_c_common.specs.Spans.{part, SpanLies, moved, behind, last};
+
+/// Bytes, by how many stand before them and how many there are.
+#[repr(C)]
+#[derive(Clone, Copy)]
+pub struct Span {
+    /// How many bytes stand before them.
+    pub offset: usize,
+    /// How many bytes there are.
+    pub length: usize,
+}
+
+impl Span {
+    /// The span of no byte, at the front.
+    pub const NONE: Span = Span {
+        offset: 0,
+        length: 0,
+    };
+
+    /// The bytes of the span, where it lies in `bytes`.
+    #[inline]
+    pub fn of(self, bytes: &[u8]) -> Option<&[u8]>
+        ensures { MatchOption result
+            (SpanLies (length bytes.now) self → ⊥)
+            (λ found. SpanLies (length bytes.now) self × (found.now ≡ part bytes.now self)) }
+    {
+        if self.offset > bytes.len() || self.length > bytes.len() - self.offset {
+            return None;
+        }
+        Some(&bytes[self.offset..self.offset + self.length])
+    }
+
+    /// Where the span ends, where it lies in so many bytes.
+    #[inline]
+    pub fn end_in(self, count: usize) -> Option<usize>
+        ensures { MatchOption result
+            (SpanLies count self → ⊥)
+            (λ end. SpanLies count self × (end ≡ self.offset + self.length)) }
+    {
+        if self.offset > count || self.length > count - self.offset {
+            return None;
+        }
+        Some(self.offset + self.length)
+    }
+
+    /// The span, with so many bytes more before it.
+    #[inline]
+    pub fn moved(self, by: usize) -> Span
+        requires { self.offset + by < 2 ^ 64 }
+        ensures { result ≡ moved by self }
+    {
+        Span {
+            offset: self.offset + by,
+            length: self.length,
+        }
+    }
+
+    /// What stands behind a part of the span, in the span.
+    #[inline]
+    pub fn behind(self, part: Span) -> Span
+        requires part { part.offset + part.length ≤ self.offset + self.length }
+        requires fits { self.offset + self.length < 2 ^ 64 }
+        ensures { result ≡ behind self part }
+    {
+        let offset = part.offset + part.length;
+        Span {
+            offset,
+            length: self.offset + self.length - offset,
+        }
+    }
+
+    /// So many of its last bytes.
+    #[inline]
+    pub fn last(self, count: usize) -> Span
+        requires count { count ≤ self.length }
+        requires fits { self.offset + self.length < 2 ^ 64 }
+        ensures { result ≡ last self count }
+    {
+        let before = self.length - count;
+        Span {
+            offset: self.offset + before,
+            length: count,
+        }
+    }
+}

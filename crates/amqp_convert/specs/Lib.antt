@@ -1,2 +1,0 @@
--- what converting says
-pub mod Converts

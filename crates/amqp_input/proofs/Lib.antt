@@ -1,2 +1,0 @@
-mod Splits
-pub mod Bytes

@@ -1,0 +1,62 @@
+-- When what was written is read as what it was written for.
+use Rattle.std.proofs.Common.{◌≡◌, ℕ, Bool, true, false, cond, List, [], ◌++◌, sym, subst, refl}
+use Rattle.std.proofs.lemmas.List.{append-nil}
+use Rattle.amqp_grammar.specs.Values.{Tree, scalar, short, long, octets, array, table, readable}
+use Rattle.amqp_grammar.specs.Texts.{text}
+use Rattle.amqp_grammar.specs.Outcomes.{Reading, more, unknown, malformed, found, Outcome}
+use Rattle.amqp_grammar.specs.Readings.{read_back, unread}
+use Rattle.amqp_grammar.proofs.GrammarLaws.{one_outcome}
+use Rattle.amqp_parsing.specs.declared.errors.Err.TheVariants.{Incomplete, Error, Failure}
+use Rattle.amqp_parsing.specs.declared.errors.Needed.TheVariants.{Unknown, Size}
+use Rattle.amqp_parsing.specs.declared.errors.ErrorKind.TheVariants.{MapOpt, MapRes, Eof, OutOfMemory, TooLarge}
+use Rattle.amqp_parsing.specs.Refusals.{Refusal}
+use Rattle.amqp_parsing.specs.Answers.{Refuses}
+use Rattle.amqp_json.specs.Converts.{IsReadAs}
+
+-- what reading a text comes to, whatever follows
+abbrev Back : Tree → Type 0
+Back v = (rest : List ℕ) → Outcome (text v ++ rest) (read_back v rest)
+
+no_value : (v : Tree) (u : Tree) (rest : List ℕ) → unread v ≡ found u rest → ⊥
+no_value (short s) u rest e = absurd (cc e)
+no_value (scalar x) u rest e = absurd (cc e)
+no_value (long s) u rest e = absurd (cc e)
+no_value (octets s) u rest e = absurd (cc e)
+no_value (array vs) u rest e = absurd (cc e)
+no_value (table es) u rest e = absurd (cc e)
+
+found_readable : (b : Bool) (v u : Tree) (rest : List ℕ) → cond b (found v []) (unread v) ≡ found u rest → b ≡ true
+found_readable true v u rest e = refl
+found_readable false v u rest e = absurd (no_value v u rest e)
+
+-- nothing but a value is read from the text of a readable one
+is_found : (b : Bool) (v : Tree) (o : Reading) → b ≡ true → cond b (found v []) (unread v) ≡ o → found v [] ≡ o
+is_found true v o t e = e
+is_found false v o t e = absurd (cc t)
+
+here : (v : Tree) → Back v → Outcome (text v) (read_back v [])
+here v back = subst (λ s. Outcome s (read_back v [])) (append-nil (text v)) (back [])
+
+-- where a value is read from the text of v, v is read from it, whatever follows
+pub again : (v u : Tree) (rest : List ℕ) → Back v → Outcome (text v) (found u rest) → IsReadAs (text v) v
+again v u rest back o =
+    let same = one_outcome (text v) (read_back v []) (found u rest) (here v back) o in
+    let yes : readable v ≡ true = found_readable (readable v) v u rest same in
+    λ t. subst (λ (b : Bool). Outcome (text v ++ t) (cond b (found v t) (unread v))) yes (back t)
+
+refused : (v : Tree) (o : Reading) (b : Bool) → readable v ≡ b → Back v → Outcome (text v) o → (o ≡ found v [] → ⊥) → b ≡ false
+refused v o false is back at other = refl
+refused v o true is back at other =
+    let same = one_outcome (text v) (read_back v []) o (here v back) at in
+    absurd (other (sym (is_found (readable v) v o is same)))
+
+-- where no value is read from the text of v, v isn't readable
+pub not_again : (v : Tree) (e : Refusal) → Back v → Refuses (Outcome (text v)) ⊥ e → readable v ≡ false
+not_again v (Incomplete Unknown) back h = absurd h
+not_again v (Incomplete (Size n)) back h = refused v (more n) (readable v) refl back h (λ e. absurd (cc e))
+not_again v (Error MapOpt) back h = refused v unknown (readable v) refl back h (λ e. absurd (cc e))
+not_again v (Error Eof) back h = refused v malformed (readable v) refl back h (λ e. absurd (cc e))
+not_again v (Error MapRes) back h = absurd h
+not_again v (Error OutOfMemory) back h = absurd h
+not_again v (Error TooLarge) back h = absurd h
+not_again v (Failure kind) back h = absurd h.1

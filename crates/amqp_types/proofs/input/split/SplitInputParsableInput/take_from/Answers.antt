@@ -1,0 +1,5 @@
+use Rattle.amqp_types.proofs.Splits.{both_left}
+use Rattle.amqp_types.proofs.input.split.SplitInputParsableInput.take_from.Goals as goal
+
+pub returns-clause-bytes : goal.returns-clause-bytes
+returns-clause-bytes c = both_left _ _ _ _ _ c.min.ensures c.saturating_sub.ensures c.requires

@@ -1,0 +1,9 @@
+//! Tests of reading in place, within limits and from a stream, from outside.
+#![tactic(auto)]
+
+#[cfg(test)]
+mod in_place;
+#[cfg(test)]
+mod repeated_keys;
+#[cfg(test)]
+mod stream;

@@ -1,0 +1,93 @@
+//! Encodings that stand one after another.
+
+use super::*;
+use test_support::TABLE;
+use std::alloc::AllocError;
+use std::test::Fail;
+
+/// The encodings.
+const WIRES: &[&[u8]] = &[
+    TABLE,
+    &[116, 7],
+    &[85, 0, 5],
+    &[76, 255, 255, 255, 255, 255, 255, 255, 255],
+    &[70, 0, 0, 0, 8, 1, 97, 116, 1, 1, 97, 116, 0],
+    &[65, 0, 0, 0, 11, 70, 0, 0, 0, 6, 1, 97, 86, 1, 97, 86],
+    &[70, 0, 0, 0, 6, 1, 98, 86, 1, 97, 86],
+    &[65, 0, 0, 0, 0],
+    &[120, 0, 0, 0, 2, 255, 0],
+];
+
+/// What is answered to them: the values that are written so.
+const ANSWERS: &[Answer<'static>] = &[
+    Answer::Value(TABLE),
+    Answer::Value(&[116, 1]),
+    Answer::Value(&[115, 0, 5]),
+    Answer::Value(&[108, 255, 255, 255, 255, 255, 255, 255, 255]),
+    Answer::Value(&[70, 0, 0, 0, 4, 1, 97, 116, 0]),
+    Answer::Value(&[65, 0, 0, 0, 8, 70, 0, 0, 0, 3, 1, 97, 86]),
+    Answer::Value(&[70, 0, 0, 0, 6, 1, 97, 86, 1, 98, 86]),
+    Answer::Value(&[65, 0, 0, 0, 0]),
+    Answer::Value(&[120, 0, 0, 0, 2, 255, 0]),
+    Answer::End,
+];
+
+/// All encodings in one.
+pub(super) fn joined(alloc: Global) -> Result<Vec<u8>, AllocError> {
+    let mut bytes = Vec::new(alloc);
+    for wire in WIRES {
+        bytes.extend_from_slice(wire)?;
+    }
+    Ok(bytes)
+}
+
+// Within a limit `frame` of so many bytes they are answered so, and this is left.
+fn are_answered(
+    rt: &impl Abort,
+    alloc: Global,
+    wires: &[u8],
+    frame: u32,
+    answers: &[Answer<'_>],
+    left: &[u8],
+) {
+    let row = Row {
+        says: "joined wires",
+        limits: Limits { frame, depth: 2 },
+        events: &[Event::Gives(wires)],
+        answers,
+        left,
+    };
+    holds(rt, alloc, row);
+}
+
+#[test]
+fn are_read_one_by_one(rt: HostRuntime) -> Result<(), Fail> {
+    let bytes = joined(rt.alloc())?;
+    let wires = bytes.as_slice();
+    assert_eq!(rt; wires.len(), 265);
+    are_answered(&rt, rt.alloc(), wires, 199, ANSWERS, &[]);
+    let refused = [Answer::Refused(ErrorKind::TooLarge), Answer::Failed];
+    are_answered(&rt, rt.alloc(), wires, 198, &refused, &wires[5..]);
+    Ok(())
+}
+
+/// Each value is the one that is read of its encoding alone.
+#[test]
+fn are_read_as_alone(rt: HostRuntime) -> Result<(), Fail> {
+    let bytes = joined(rt.alloc())?;
+    let mut reader = bytes.as_slice();
+    let limits = Limits {
+        frame: 199,
+        depth: 2,
+    };
+    let mut values = Values::new(rt.alloc(), limits);
+    for wire in WIRES {
+        let answer = values.next_from(&mut reader);
+        assert!(rt;
+            answers(rt.alloc(), answer, Answer::Value(wire)),
+            "at {wire:?}"
+        );
+    }
+    assert!(rt; reader.is_empty());
+    Ok(())
+}
