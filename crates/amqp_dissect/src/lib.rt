@@ -1,15 +1,13 @@
 //! Dissecting an encoding: its parts, each with its offset, up to the end of the value or to where
 //! it fails; and text that is safe to print.
 //!
-//! Which parts these are is the function `parts_of` in `specs`; the contracts of `rows` say what it
-//! comes to for some bytes.
+//! Which parts these are is the function `parts_of` in `specs`.
 #![tactic(auto)]
 
 mod dissection;
 mod leaf;
 mod part;
 mod problem;
-pub mod rows;
 mod text;
 mod walk;
 

@@ -2,6 +2,6 @@
 #![tactic(auto)]
 
 mod flags;
-pub mod rows;
+pub mod laws;
 
 pub use flags::{AMQPFlags, byte_of};

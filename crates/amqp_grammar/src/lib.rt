@@ -1,10 +1,8 @@
 //! The grammar of AMQP 0-9-1 field tables: which bytes are the encoding of which value, what
 //! reading any bytes comes to, and what a value is written as.
 //!
-//! The definitions lie in `specs`. The functions here do nothing when they run: the contracts of
-//! `laws` say what follows from the definitions for every list of bytes and every value, and those
-//! of `rows`, worked examples, what they come to for some.
+//! The definitions are in `specs`. The functions here do nothing when they run: the contracts of
+//! `laws` state what follows from the definitions for every list of bytes and every value.
 #![tactic(auto)]
 
 pub mod laws;
-pub mod rows;

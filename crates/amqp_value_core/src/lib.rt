@@ -4,6 +4,5 @@
 mod conversions;
 mod equality;
 pub mod input;
-pub mod rows;
 pub mod types;
 pub mod value;

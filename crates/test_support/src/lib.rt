@@ -1,5 +1,8 @@
-//! What several crates of tests share: one table, each kind of fault, and one device.
+//! What several crates of tests share: one table, each kind of I/O error, and one device; and worked
+//! examples of the definitions.
 #![tactic(auto)]
+
+pub mod worked;
 
 use std::io;
 use std::io::{ErrorKind, Write};

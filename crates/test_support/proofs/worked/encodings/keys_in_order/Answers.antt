@@ -1,7 +1,7 @@
 use Rattle.std.proofs.Common.{refl}
 use Rattle.std.specs.Str.{is_utf8, chars}
 use lib.Utf8.{encode}
-use Rattle.amqp_grammar.proofs.rows.keys_in_order.Goals as goal
+use Rattle.test_support.proofs.worked.encodings.keys_in_order.Goals as goal
 
 pub returns-clause-reads : goal.returns-clause-reads
 unfolding is_utf8 chars encode

@@ -1,8 +1,5 @@
 //! Worked examples: what the definitions say of some bytes and of some values.
 //!
-//! Nothing here does anything when it runs: the contracts are the examples, and they hold by
-//! computation.
-//!
 //! Bytes stand as `hex` reads them: two digits a byte, type tags and texts between quotes.
 
 ghost use Rattle.std.specs.Prelude.{◌≡◌, List, [], ◌∷◌, ◌++◌, true, false, negsuc, Some, None, codes};

@@ -1,17 +1,14 @@
 //! Worked examples: the parts of some bytes.
 //!
-//! Nothing here does anything when it runs: the contracts are the examples, and they hold by
-//! computation.
-//!
 //! Bytes stand as `hex` reads them: two digits a byte, type tags and texts between quotes. Of each
 //! part stand what it is, in how many containers it stands, and its bytes.
-#![tactic(auto, unfolding(crate::specs::PartsOf::part, crate::specs::PartsOf::key_parts, crate::specs::PartsOf::counted_parts, crate::specs::PartsOf::payload_parts, crate::specs::PartsOf::value_parts, crate::specs::PartsOf::entries_parts))]
+#![tactic(auto, unfolding(amqp_dissect::specs::PartsOf::part, amqp_dissect::specs::PartsOf::key_parts, amqp_dissect::specs::PartsOf::counted_parts, amqp_dissect::specs::PartsOf::payload_parts, amqp_dissect::specs::PartsOf::value_parts, amqp_dissect::specs::PartsOf::entries_parts))]
 
 ghost use Rattle.std.specs.Prelude.{◌≡◌, [], ◌∷◌};
 ghost use Rattle.amqp_grammar.specs.Hexadecimal.{hex};
 ghost use Rattle.amqp_dissect.specs.PartsOf.{parts_of};
 
-use crate::part::Field;
+use amqp_dissect::Field;
 use amqp_types::AMQPType;
 
 /// A payload of fixed width is one part, a decimal's with its scale; Void has none.

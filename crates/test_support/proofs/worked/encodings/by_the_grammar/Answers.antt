@@ -4,7 +4,7 @@ use lib.Utf8.{encode}
 use Rattle.amqp_types.specs.declared.amqp_type.AMQPType.TheVariants as amqp
 use Rattle.amqp_grammar.specs.Hexadecimal.{hex}
 use Rattle.amqp_grammar.proofs.Agreement.{outcome_holds, raw_outcome_holds}
-use Rattle.amqp_grammar.proofs.rows.by_the_grammar.Goals as goal
+use Rattle.test_support.proofs.worked.encodings.by_the_grammar.Goals as goal
 
 pub returns-clause-array : goal.returns-clause-array
 returns-clause-array c = outcome_holds (hex "'A' 00000003 't' 07 'V'") (search rules)

@@ -1,7 +1,7 @@
 use Rattle.std.proofs.Common.{refl}
 use Rattle.std.specs.Str.{is_utf8, chars}
 use lib.Utf8.{encode}
-use Rattle.amqp_grammar.proofs.rows.a_large_table.Goals as goal
+use Rattle.test_support.proofs.worked.encodings.a_large_table.Goals as goal
 
 pub returns : goal.returns
 unfolding is_utf8 chars encode
