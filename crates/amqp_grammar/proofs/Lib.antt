@@ -15,7 +15,6 @@ mod Nests
 mod Limited
 mod TextDepth
 mod Sound
-mod OnLiterals
 mod Agreement
 mod Whole
 mod Headlines

@@ -1,4 +1,4 @@
--- Which bytes of the rows are UTF-8, by computation.
+-- Which bytes of the worked examples are UTF-8, by computation.
 use Rattle.std.proofs.Common.{◌≡◌, refl, true, false, [], ◌∷◌}
 use Rattle.std.specs.Str.{is_utf8, chars}
 use lib.Utf8.{encode}
