@@ -13,8 +13,8 @@ ghost use Rattle.amqp_c.specs.Steps.{array_tag, table_tag, contents, IsOfContain
 
 use crate::entry::{Entry, first};
 use amqp_c_common::{Fault, Span};
-use amqp_types::SliceInput;
 use amqp_parsing::header::value_len;
+use amqp_types::SliceInput;
 
 /// What is left of an array or a table.
 #[repr(C)]

@@ -13,8 +13,8 @@ ghost use Rattle.amqp_c.specs.Heads.{has_content};
 use amq_protocol_types::AMQPType;
 use amq_protocol_types::in_place::{ValueRef, read_in_place_unlimited};
 use amqp_c_common::{Fault, Span};
-use amqp_types::{ParsableInput, SliceInput};
 use amqp_parsing::{parse_frame, parse_type};
+use amqp_types::{ParsableInput, SliceInput};
 
 /// A value, and in a table its key, by where they lie.
 #[repr(C)]

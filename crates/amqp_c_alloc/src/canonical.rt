@@ -9,8 +9,8 @@ ghost use Rattle.amqp_c_alloc.specs.CanonicalCalls.{IsWritten, IsFault};
 use amqp_c_common::{Fault, put};
 use amqp_generation::{GenError, WriteContext, gen_value};
 use amqp_in_place::canonical_len;
-use amqp_types::SliceInput;
 use amqp_parsing::{Limits, parse_value_within};
+use amqp_types::SliceInput;
 use amqp_value_core::value::AMQPValue;
 use std::alloc::Global;
 

@@ -10,9 +10,9 @@ ghost use Rattle.amqp_in_place.specs.Places.{LiesWithin};
 
 use super::refs::{ArrayRef, ValueRef};
 use super::steps::next_value;
-use amqp_types::ParsableInput;
 use amqp_parsing::Err;
 use amqp_parsing::values::parse_body;
+use amqp_types::ParsableInput;
 use amqp_value_core::types::FieldArray;
 use std::alloc::{AllocError, Global};
 

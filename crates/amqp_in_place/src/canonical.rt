@@ -6,9 +6,9 @@ ghost use Rattle.amqp_in_place.specs.Canonicals.{IsCanonicalLen, IsCanonicalWith
 
 use super::head::{Head, read_head, read_key};
 use super::read::check_utf8;
-use amqp_types::{ParsableInput, SliceInput};
 use amqp_parsing::Limits;
 use amqp_parsing::header::{Header, header_of};
+use amqp_types::{ParsableInput, SliceInput};
 
 /// Whether the bytes are the canonical encoding of a value, within the limits, and no byte stands
 /// behind it: told where they lie, with no memory.

@@ -15,10 +15,10 @@ ghost use Rattle.amqp_in_place.specs.Places.{LiesIn};
 
 use super::head::{Head, read_head, read_key};
 use super::refs::{ArrayRef, TableRef, ValueRef};
-use amqp_types::{ParsableInput, SliceInput};
 use amqp_parsing::errors::{lacks, refused};
 use amqp_parsing::header::{Header, header_of};
 use amqp_parsing::{ErrorKind, Limits, ParserError, ParserResult};
+use amqp_types::{ParsableInput, SliceInput};
 use simdutf8::basic::Utf8Error;
 
 /// Reads a value where its bytes lie: answers what `parse_value_within` does within the same

@@ -6,8 +6,8 @@ ghost use Rattle.amqp_parsing.specs.Headers.{extent};
 ghost use Rattle.amqp_in_place.specs.Answers.{IsWidthOfFound, HeadRefuses};
 
 use super::head::read_head;
-use amqp_types::{ParsableInput, SliceInput};
 use amqp_parsing::ParserError;
+use amqp_types::{ParsableInput, SliceInput};
 
 /// How many bytes the value at the beginning takes, by its type tag and its length alone: in
 /// constant time, and whether or not the body of a container holds entries.

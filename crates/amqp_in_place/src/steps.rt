@@ -14,8 +14,8 @@ ghost use Rattle.amqp_in_place.specs.Walks.{HasFront, NextValueIs, MoreValues, N
 
 use super::head::{Head, read_head, read_key};
 use super::refs::{ArrayRef, TableRef, ValueRef};
-use amqp_types::{ParsableInput, SliceInput};
 use amqp_parsing::header::value_len;
+use amqp_types::{ParsableInput, SliceInput};
 use std::str;
 
 // The value of a head that is known to have one.

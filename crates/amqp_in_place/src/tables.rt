@@ -13,9 +13,9 @@ ghost use Rattle.amqp_in_place.specs.Places.{LiesWithin};
 
 use super::refs::{TableRef, ValueRef};
 use super::steps::{front_value, next_key};
-use amqp_types::ParsableInput;
 use amqp_parsing::Err;
 use amqp_parsing::values::parse_pairs;
+use amqp_types::ParsableInput;
 use amqp_value_core::types::FieldTable;
 use std::alloc::{AllocError, Global};
 

@@ -3,8 +3,8 @@
 use crate::messages::complain;
 use crate::texts::{count_text, failure_text, outcome_text};
 use amq_protocol_types::stream::Limits;
-use amqp_json::{DecodeError, json_of_encoding};
 use amqp_dissect::dissect;
+use amqp_json::{DecodeError, json_of_encoding};
 use amqp_screen::{Screen, Status};
 use anyhow::{Result, anyhow};
 use std::alloc::{AllocError, Global};

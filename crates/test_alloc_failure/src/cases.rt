@@ -6,7 +6,6 @@ use self::rows::{
     COPIED, EMPTY, FALLING, LACKING, LIGHT, MANY, NUMBERS, ONE_NUMBER, ONE_NUMBER_JSON, PAYLOADS,
     SCALAR_PAYLOADS, SCALARS, TYPES, VALUES, VOIDS, VOIDS_JSON, WITHOUT,
 };
-use amq_protocol_types::AMQPType;
 use crate::conversions::Document;
 use crate::generation::Filler;
 use crate::growing::Growth;
@@ -18,9 +17,10 @@ use crate::stream::{LIMITS, NARROW};
 use crate::{
     conversions, copies, flags, generation, growing, in_place, making, parsing, stream, texts,
 };
-use test_support::TABLE;
+use amq_protocol_types::AMQPType;
 use std::alloc::Global;
 use std::io;
+use test_support::TABLE;
 
 /// Runs the case of this name. Answers whether there is one.
 pub fn run<R: Print + Eprint>(rt: &R, alloc: Global, name: &str) -> io::Result<bool> {

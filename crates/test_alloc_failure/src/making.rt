@@ -7,9 +7,9 @@ use amq_protocol_types::{
     AMQPType, AMQPValue, ByteArray, FieldArray, FieldTable, LongString, ShortString,
     ShortStringError,
 };
-use test_support::TABLE;
 use std::alloc::Global;
 use std::{io, mem};
+use test_support::TABLE;
 
 /// A call that is handed a text.
 #[derive(Clone, Copy)]

@@ -3,10 +3,10 @@
 use crate::asking::{Call, ask, insist, tell};
 use crate::things::{Refusal, Thing};
 use amq_protocol_types::stream::{Limits, ValueReader};
-use test_support::TABLE;
 use std::alloc::Global;
 use std::io;
 use std::io::Read;
+use test_support::TABLE;
 
 /// Limits that the table keeps to.
 pub const LIMITS: Limits = Limits {

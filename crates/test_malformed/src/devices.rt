@@ -9,9 +9,9 @@ use amq_protocol_types::generation::{
     gen_short_string, gen_short_uint, gen_timestamp, gen_type,
 };
 use amq_protocol_types::{AMQPType, ByteArray, DecimalValue, Double, Float};
-use test_support::OneByte;
 use std::alloc::Global;
 use std::io;
+use test_support::OneByte;
 
 /// The generators that write to any output.
 const GENERATORS: [&str; 19] = [

@@ -1,10 +1,10 @@
 //! Tables of the cases.
 
-use amq_protocol_types::AMQPType;
 use crate::made::Piece::{Bytes, Times};
 use crate::made::{Kind, NAMES, Piece, Plan};
 use crate::making::Maker;
 use crate::parsing::{Number, Parser};
+use amq_protocol_types::AMQPType;
 use test_support::TABLE;
 
 /// Things that are written one after the other. For the last there is no room.

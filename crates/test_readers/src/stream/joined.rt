@@ -1,9 +1,9 @@
 //! Encodings that stand one after another.
 
 use super::*;
-use test_support::TABLE;
 use std::alloc::AllocError;
 use std::test::Fail;
+use test_support::TABLE;
 
 /// The encodings.
 const WIRES: &[&[u8]] = &[

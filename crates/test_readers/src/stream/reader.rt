@@ -3,8 +3,8 @@
 use super::*;
 use Answer::{End, Failed, Refused, Truncated, Value};
 use Event::{Ends, Fails, Gives};
-use test_support::KINDS;
 use std::io::ErrorKind::{BrokenPipe, Interrupted, TimedOut};
+use test_support::KINDS;
 
 const TEST: &[u8] = &[83, 0, 0, 0, 4, 116, 101, 115, 116];
 

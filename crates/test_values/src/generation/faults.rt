@@ -7,12 +7,12 @@ use Part::{Bytes, Fixed, Flags, Long, Short};
 use amq_protocol_types::ByteArray;
 use amq_protocol_types::flags::AMQPFlags;
 use amq_protocol_types::generation::*;
-use test_support::KINDS;
 use std::alloc::Global;
 use std::io;
 use std::io::{ErrorKind, Write};
 use std::process::Abort;
 use std::test::Fail;
+use test_support::KINDS;
 
 /// Takes one byte a call, but answers the call after so many with a fault of this kind.
 #[derive(Drop)]

@@ -4,10 +4,10 @@ use super::fields::{WRITTEN, put_all};
 use amq_protocol_types::flags::AMQPFlags;
 use amq_protocol_types::generation::*;
 use amq_protocol_types::{AMQPValue, ByteArray, FieldArray, FieldTable, ShortString};
-use test_support::OneByte;
 use std::alloc::Global;
 use std::io::ErrorKind;
 use std::test::Fail;
+use test_support::OneByte;
 
 #[test]
 fn a_vector_is_written_at_its_end(rt: HostRuntime) -> Result<(), Fail> {

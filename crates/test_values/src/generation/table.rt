@@ -8,9 +8,9 @@ use amq_protocol_types::{
     AMQPValue, ByteArray, DecimalValue, Double, FieldArray, FieldTable, Float, LongString,
     ShortString,
 };
-use test_support::TABLE;
 use std::alloc::Global;
 use std::test::Fail;
+use test_support::TABLE;
 
 /// Puts a value at a key.
 fn put(alloc: Global, table: &mut FieldTable, key: &str, value: AMQPValue) -> Result<(), Fail> {
