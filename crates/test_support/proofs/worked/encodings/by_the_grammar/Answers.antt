@@ -3,7 +3,7 @@ use Rattle.std.specs.Str.{is_utf8, chars}
 use lib.Utf8.{encode}
 use Rattle.amqp_types.specs.declared.amqp_type.AMQPType.TheVariants as amqp
 use Rattle.amqp_grammar.specs.Hexadecimal.{hex}
-use Rattle.amqp_grammar.proofs.Agreement.{outcome_holds, raw_outcome_holds}
+use Rattle.amqp_grammar.proofs.GrammarLaws.{outcome_holds, raw_outcome_holds}
 use Rattle.test_support.proofs.worked.encodings.by_the_grammar.Goals as goal
 
 pub returns-clause-array : goal.returns-clause-array
