@@ -22,6 +22,12 @@
 #include <stddef.h>
 #include <stdint.h>
 
+/* The version of this header and of the libraries that define its calls. */
+#define AMQP_VALUES_VERSION_MAJOR 0
+#define AMQP_VALUES_VERSION_MINOR 1
+#define AMQP_VALUES_VERSION_PATCH 0
+#define AMQP_VALUES_VERSION "0.1.0"
+
 #ifdef __cplusplus
 extern "C" {
 #endif
