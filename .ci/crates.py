@@ -1,4 +1,4 @@
-"""The crates of a repository: what each stands on, and what rattle is told of it. (A change here has every wrong body tried again.)"""
+"""The crates of a repository: what each stands on, and what rattle is told of it. (A change here has every mutant tried again.)"""
 
 import subprocess
 from pathlib import Path

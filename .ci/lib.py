@@ -209,5 +209,5 @@ class Steps:
 def show_end(step):
     """Prints the end of what a failed step printed, without what says that something is proved or passed."""
     text = step.out.read_text(errors="replace") + step.err.read_text(errors="replace")
-    lines = [it for it in text.split("\n") if not re.search(r": (proved|passed|ok)$|refused, as it must be|modules loaded=", it)]
+    lines = [it for it in text.split("\n") if not re.search(r": (proved|passed|ok)$|(refused|rejected), as it must be|modules loaded=", it)]
     print("\n".join(f"    {it}" for it in lines[-60:]), flush=True)
