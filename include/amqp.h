@@ -208,9 +208,9 @@ int32_t amqp_to_json(const uint8_t *bytes, size_t length, uint32_t frame, uint32
  * stack as encoding_of_json: docs/PROMISES.md.
  *
  * `count` becomes how many bytes were written (AMQP_OK), or which capacity is needed (AMQP_NO_ROOM),
- * else 0. Also returns AMQP_NO_MEMORY, or AMQP_NO_ENCODING if the value contains a ShortString, which
- * has no type tag, or if a length is too large for its field. It allocates a JSON value, a tree and
- * the encoding.
+ * else 0. Also returns AMQP_NOT_JSON, AMQP_NO_MEMORY, or AMQP_NO_ENCODING if the value contains a
+ * ShortString, which has no type tag, or if a length is too large for its field. It allocates a JSON
+ * value, a tree and the encoding.
  */
 int32_t amqp_from_json(const uint8_t *text, size_t length, uint32_t nesting, uint8_t *buffer,
                        size_t capacity, size_t *count);
