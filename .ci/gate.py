@@ -70,7 +70,7 @@ def gate(name, words):
         for step, (command, after) in words.items():
             if step not in without:
                 tries_mutants = step == "mutants"
-                how = {"judge": by_rejected, "tells": r"^\w+: tried$|NOT REJECTED|NOT TRIED|^changed.*"} if tries_mutants else {}
+                how = {"judge": by_rejected, "tells": r"^\w+: tried$|NOT REJECTED|NOT TRIED|self test: FAILED|^changed.*"} if tries_mutants else {}
                 steps.add(step, command, cwd=copy if command[0].parent == scripts else TOP, after=after, **how)
         os.environ["COMMIT_NUMBER"] = said_by("git", "-C", str(TOP), "rev-list", "--count", "HEAD")
         steps.run()
