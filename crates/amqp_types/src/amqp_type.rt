@@ -1,4 +1,4 @@
-//! The type of an AMQP value, and the id that stands for it.
+//! The type of an AMQP value, and its type tag.
 
 ghost use Rattle.std.specs.Prelude.{◌≡◌, Some, IfSome};
 ghost use Rattle.amqp_types.specs.Ids.{kind, id_of};
@@ -12,49 +12,49 @@ use std::fmt;
 pub enum AMQPType {
     /// A boolean, a `bool`.
     Boolean,
-    /// A signed number of 8 bits, an `i8`.
+    /// A signed integer of 8 bits, an `i8`.
     ShortShortInt,
-    /// An unsigned number of 8 bits, a `u8`.
+    /// An unsigned integer of 8 bits, a `u8`.
     ShortShortUInt,
-    /// A signed number of 16 bits, an `i16`.
+    /// A signed integer of 16 bits, an `i16`.
     ShortInt,
-    /// An unsigned number of 16 bits, a `u16`.
+    /// An unsigned integer of 16 bits, a `u16`.
     ShortUInt,
-    /// A signed number of 32 bits, an `i32`.
+    /// A signed integer of 32 bits, an `i32`.
     LongInt,
-    /// An unsigned number of 32 bits, a `u32`.
+    /// An unsigned integer of 32 bits, a `u32`.
     LongUInt,
-    /// A signed number of 64 bits, an `i64`.
+    /// A signed integer of 64 bits, an `i64`.
     LongLongInt,
-    /// An unsigned number of 64 bits, a `u64`. No id stands for it: where its id is written, a
-    /// `LongLongInt` of the same bits is read.
+    /// An unsigned integer of 64 bits, a `u64`. It has no type tag: `get_id` returns that of
+    /// `LongLongInt`, and a reader gets a `LongLongInt` of the same bits.
     LongLongUInt,
     /// A floating-point number of 32 bits.
     Float,
     /// A floating-point number of 64 bits.
     Double,
-    /// A decimal number: a scale and an unsigned number of 32 bits.
+    /// A decimal number: a scale and an unsigned integer of 32 bits.
     DecimalValue,
-    /// A text of at most 255 bytes. No id stands for it: it is a key of a table, and where it is
-    /// written as a value it is refused by the parsers.
+    /// A string of at most 255 bytes. It has no type tag: it is a table's key, and the parsers
+    /// reject one that is written as a value.
     ShortString,
-    /// Bytes of any kind, a text for most peers.
+    /// Arbitrary bytes, which most peers take for text.
     LongString,
     /// A list of values, each with its type.
     FieldArray,
-    /// A time, an unsigned number of 64 bits.
+    /// A time, an unsigned integer of 64 bits.
     Timestamp,
     /// A map from short strings to values, each with its type.
     FieldTable,
-    /// Bytes of any kind.
+    /// Arbitrary bytes.
     ByteArray,
-    /// Nothing: a type with one value.
+    /// No value: a type with one value.
     Void,
 }
 
 impl AMQPType {
-    /// The type that an id stands for: the type tags of RabbitMQ's errata. Two are second
-    /// spellings: `U` is read as `s` is, and `L` as `l`.
+    /// The type of a type tag, by RabbitMQ's errata. Two are alternate tags: `U` is read as `s`,
+    /// and `L` as `l`.
     #[inline(always)]
     #[tactic(auto, using(crate::proofs::Ids::kind_read))]
     pub fn from_id(id: char) -> Option<AMQPType>
@@ -83,7 +83,7 @@ impl AMQPType {
         }
     }
 
-    /// The type tag (id) that is written for the type, an ASCII letter or `_`.
+    /// The type tag that is written for the type, an ASCII letter or `_`.
     pub fn get_id(self) -> char
         ensures id { result ≡ id_of self }
         ensures read_back { kind result ≡ read_as self }

@@ -4,7 +4,7 @@ ghost use Rattle.amqp_types.specs.Shown.{octets_of};
 use serde::{Deserialize, Serialize};
 use std::alloc::{AllocError, Global};
 
-/// Bytes of any kind, at most 4294967295 of which can be written.
+/// Arbitrary bytes, of which at most 4294967295 can be written.
 ///
 /// Equality and hash are those of its bytes.
 #[derive(Debug, PartialEq, Eq, Hash, Serialize, Deserialize, Drop)]
@@ -14,7 +14,7 @@ pub struct ByteArray {
 }
 
 impl ByteArray {
-    /// The array with no bytes. Takes no memory.
+    /// An empty array. Doesn't allocate.
     pub fn new_in(alloc: Global) -> Self
         ensures { octets_of result ≡ [] }
     {
@@ -23,7 +23,7 @@ impl ByteArray {
         }
     }
 
-    /// A copy of the bytes. No bytes take no memory.
+    /// Copies the bytes. An empty array doesn't allocate.
     pub fn from_slice(alloc: Global, bytes: &[u8]) -> Result<ByteArray, AllocError>
         ensures bytes { IfOk result (λ a. octets_of a ≡ bytes.now) }
         ensures empty { bytes.now ≡ [] → IsOk result }
@@ -36,28 +36,28 @@ impl ByteArray {
         })
     }
 
-    /// The bytes.
+    /// The bytes as a slice.
     pub fn as_slice(&self) -> &[u8]
         ensures { result.now ≡ octets_of self.now }
     {
         self.bytes.as_slice()
     }
 
-    /// How many bytes there are.
+    /// The number of bytes.
     pub fn len(&self) -> usize
         ensures { result ≡ length (octets_of self.now) }
     {
         self.bytes.len()
     }
 
-    /// Whether there is no byte.
+    /// Whether it is empty.
     pub fn is_empty(&self) -> bool
         ensures { result ≡ nat_eq (length (octets_of self.now)) 0 }
     {
         self.bytes.is_empty()
     }
 
-    /// A copy of the bytes. No bytes take no memory.
+    /// Copies the bytes. An empty array doesn't allocate.
     pub fn clone(&self, alloc: Global) -> Result<ByteArray, AllocError>
         ensures same { IfOk result (λ a. octets_of a ≡ octets_of self.now) }
         ensures empty { octets_of self.now ≡ [] → IsOk result }

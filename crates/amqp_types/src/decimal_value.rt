@@ -1,12 +1,12 @@
 use crate::{LongUInt, ShortShortUInt};
 use serde::{Deserialize, Serialize};
 
-/// A decimal number: `value` with its point moved `scale` digits to the left. What it stands for
-/// isn't computed here.
+/// A decimal number: `value` with its decimal point moved `scale` digits to the left. Its numeric
+/// value isn't computed here.
 #[derive(Clone, Copy, Debug, PartialEq, Eq, Hash, Serialize, Deserialize)]
 pub struct DecimalValue {
-    /// How many digits stand after the point.
+    /// The number of digits after the decimal point.
     pub scale: ShortShortUInt,
-    /// The digits, as a number.
+    /// The digits, as an integer.
     pub value: LongUInt,
 }

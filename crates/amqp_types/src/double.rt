@@ -1,23 +1,23 @@
 ghost use Rattle.std.specs.Prelude.{◌≡◌};
 ghost use Rattle.amqp_types.specs.Shown.{double_bits};
 
-/// A floating-point number of 64 bits, carried as its bits (IEEE 754, `binary64`).
+/// A floating-point number of 64 bits, stored as its bits (IEEE 754, `binary64`).
 ///
-/// Two are equal where their bits are: a NaN equals itself, and the two zeros differ.
+/// Two are equal if their bits are: a NaN equals itself, and the two zeros differ.
 #[derive(Clone, Copy, Debug, PartialEq, Eq)]
 pub struct Double {
     bits: u64,
 }
 
 impl Double {
-    /// The number of these bits.
+    /// Makes a number from its bits.
     pub fn from_bits(bits: u64) -> Self
         ensures { double_bits result ≡ bits }
     {
         Double { bits }
     }
 
-    /// The number's bits.
+    /// Returns the number's bits.
     pub fn to_bits(self) -> u64
         ensures { result ≡ double_bits self }
     {

@@ -1,23 +1,23 @@
 ghost use Rattle.std.specs.Prelude.{◌≡◌};
 ghost use Rattle.amqp_types.specs.Shown.{float_bits};
 
-/// A floating-point number of 32 bits, carried as its bits (IEEE 754, `binary32`).
+/// A floating-point number of 32 bits, stored as its bits (IEEE 754, `binary32`).
 ///
-/// Two are equal where their bits are: a NaN equals itself, and the two zeros differ.
+/// Two are equal if their bits are: a NaN equals itself, and the two zeros differ.
 #[derive(Clone, Copy, Debug, PartialEq, Eq)]
 pub struct Float {
     bits: u32,
 }
 
 impl Float {
-    /// The number of these bits.
+    /// Makes a number from its bits.
     pub fn from_bits(bits: u32) -> Self
         ensures { float_bits result ≡ bits }
     {
         Float { bits }
     }
 
-    /// The number's bits.
+    /// Returns the number's bits.
     pub fn to_bits(self) -> u32
         ensures { result ≡ float_bits self }
     {

@@ -1,4 +1,4 @@
-//! What parsers read from.
+//! The inputs of parsers.
 
 ghost use Rattle.std.specs.Prelude.{◌≡◌, ◌<◌, ◌≤◌, List, ℕ, length, slice_index, take, drop};
 ghost use Rattle.amqp_types.specs.Fronts.{IsFront};
@@ -8,20 +8,20 @@ mod split;
 
 pub use split::SplitInput;
 
-/// Bytes that a parser reads. It is viewed as a list of bytes, each below 256, and its calls take
-/// no memory and copy no byte.
+/// The input of a parser: a list of bytes, each below 256. Its calls don't allocate and copy no
+/// byte.
 ///
-/// Whoever implements it owes the clauses below, and that copies of an input have the same bytes.
-/// Each parser of this project works over every implementor.
+/// An implementor must guarantee the clauses below, and that copies of an input have the same
+/// bytes. Each parser of this project works over every implementor.
 pub trait ParsableInput: Copy {
     ghost bytes: { Self → List ℕ };
 
-    /// How many bytes there are.
+    /// The number of bytes.
     fn input_len(&self) -> usize
         ensures count { result ≡ length (bytes self.now) }
         ensures bytes { IsBytes (bytes self.now) };
 
-    /// The byte at `i`, counted from 0.
+    /// The byte at index `i`, counted from 0.
     fn byte_at(&self, i: usize) -> u8
         requires { i < length (bytes self.now) }
         ensures { result ≡ slice_index (bytes self.now) i };
@@ -36,9 +36,8 @@ pub trait ParsableInput: Copy {
         requires { n ≤ length (bytes self.now) }
         ensures { bytes result ≡ drop n (bytes self.now) };
 
-    /// Some of the first bytes, as a slice: as many as lie there, maybe none. What copies bytes
-    /// copies them by chunks, and one by one where a chunk is empty. An implementor may leave it
-    /// out.
+    /// A prefix of the bytes as a slice: as many as are contiguous, possibly none. Parsers copy
+    /// bytes chunk by chunk, and byte by byte if a chunk is empty. An implementor may leave it out.
     fn chunk(&self) -> &[u8]
         ensures { IsFront result.now (bytes self.now) }
     {
@@ -55,7 +54,7 @@ fn length_of(bytes: &[u8]) -> usize
     bytes.len()
 }
 
-/// The bytes of a slice, as an input.
+/// A slice of bytes as an input.
 #[derive(Clone, Copy, Debug)]
 pub struct SliceInput<'a> {
     slice: &'a [u8],
@@ -64,14 +63,14 @@ pub struct SliceInput<'a> {
 impl<'a> SliceInput<'a> {
     ghost use Rattle.amqp_types.specs.Inputs.{slice_bytes};
 
-    /// The input of a slice's bytes.
+    /// Makes an input of a slice.
     pub fn new(slice: &'a [u8]) -> Self
         ensures { slice_bytes result ≡ slice.now }
     {
         SliceInput { slice }
     }
 
-    /// The bytes, as a slice.
+    /// The bytes as a slice.
     pub fn as_slice(&self) -> &'a [u8]
         ensures { result.now ≡ slice_bytes self.now }
     {

@@ -1,5 +1,5 @@
-//! The types of AMQP 0-9-1 values, their names, the values that hold no others, and the inputs
-//! that parsers read from.
+//! The types of AMQP 0-9-1 values, their names, the values that hold no others, and what parsers
+//! read from: bytes in one slice, in two, or a caller's own.
 #![tactic(auto)]
 
 mod amqp_type;

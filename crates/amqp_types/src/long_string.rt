@@ -6,7 +6,7 @@ use serde::{Deserialize, Serialize};
 use std::alloc::{AllocError, Global};
 use std::fmt;
 
-/// Bytes of any kind, at most 4294967295 of which can be written. Most peers take them for text.
+/// Arbitrary bytes, of which at most 4294967295 can be written. Most peers take them for text.
 ///
 /// Order, equality and hash are those of its bytes.
 #[derive(Debug, PartialEq, Eq, PartialOrd, Ord, Hash, Serialize, Deserialize, Drop)]
@@ -16,7 +16,7 @@ pub struct LongString {
 }
 
 impl LongString {
-    /// The string with no bytes. Takes no memory.
+    /// An empty string. Doesn't allocate.
     pub fn new_in(alloc: Global) -> Self
         ensures { long_bytes result ≡ [] }
     {
@@ -25,7 +25,7 @@ impl LongString {
         }
     }
 
-    /// A copy of the text's bytes. The empty text takes no memory.
+    /// Copies the string's bytes. An empty string doesn't allocate.
     pub fn from_text(alloc: Global, text: &str) -> Result<LongString, AllocError>
         ensures bytes { IfOk result (λ s. long_bytes s ≡ text.now) }
         ensures empty { text.now ≡ [] → IsOk result }
@@ -33,7 +33,7 @@ impl LongString {
         LongString::from_slice(alloc, text.as_bytes())
     }
 
-    /// A copy of the bytes. No bytes take no memory.
+    /// Copies the bytes. An empty string doesn't allocate.
     pub fn from_slice(alloc: Global, bytes: &[u8]) -> Result<LongString, AllocError>
         ensures bytes { IfOk result (λ s. long_bytes s ≡ bytes.now) }
         ensures empty { bytes.now ≡ [] → IsOk result }
@@ -46,28 +46,28 @@ impl LongString {
         })
     }
 
-    /// The bytes.
+    /// The bytes as a slice.
     pub fn as_bytes(&self) -> &[u8]
         ensures { result.now ≡ long_bytes self.now }
     {
         self.bytes.as_slice()
     }
 
-    /// How many bytes there are.
+    /// The number of bytes.
     pub fn len(&self) -> usize
         ensures { result ≡ length (long_bytes self.now) }
     {
         self.bytes.len()
     }
 
-    /// Whether there is no byte.
+    /// Whether it is empty.
     pub fn is_empty(&self) -> bool
         ensures { result ≡ nat_eq (length (long_bytes self.now)) 0 }
     {
         self.bytes.is_empty()
     }
 
-    /// A copy of the bytes. No bytes take no memory.
+    /// Copies the bytes. An empty string doesn't allocate.
     pub fn clone(&self, alloc: Global) -> Result<LongString, AllocError>
         ensures same { IfOk result (λ s. long_bytes s ≡ long_bytes self.now) }
         ensures empty { long_bytes self.now ≡ [] → IsOk result }

@@ -1,48 +1,48 @@
-//! Names of AMQP for types of Rust.
+//! AMQP's names for Rust's types.
 
 /// A boolean.
 pub type Boolean = bool;
-/// A signed number of 8 bits.
+/// A signed integer of 8 bits.
 pub type ShortShortInt = i8;
-/// An unsigned number of 8 bits.
+/// An unsigned integer of 8 bits.
 pub type ShortShortUInt = u8;
-/// A signed number of 16 bits.
+/// A signed integer of 16 bits.
 pub type ShortInt = i16;
-/// An unsigned number of 16 bits.
+/// An unsigned integer of 16 bits.
 pub type ShortUInt = u16;
-/// A signed number of 32 bits.
+/// A signed integer of 32 bits.
 pub type LongInt = i32;
-/// An unsigned number of 32 bits.
+/// An unsigned integer of 32 bits.
 pub type LongUInt = u32;
-/// A signed number of 64 bits.
+/// A signed integer of 64 bits.
 pub type LongLongInt = i64;
-/// An unsigned number of 64 bits.
+/// An unsigned integer of 64 bits.
 pub type LongLongUInt = u64;
-/// A time, as AMQP's `timestamp`.
+/// A time, AMQP's `timestamp`.
 pub type Timestamp = LongLongUInt;
-/// Nothing.
+/// No value.
 pub type Void = ();
 
 /// The number of a class or of a method.
 pub type Identifier = ShortUInt;
 /// The number of a channel.
 pub type ChannelId = Identifier;
-/// How many seconds lie between two heartbeats.
+/// The seconds between two heartbeats.
 pub type Heartbeat = ShortUInt;
 /// The code of a reply.
 pub type ReplyCode = ShortUInt;
-/// How many bytes a chunk has.
+/// The size of a chunk in bytes.
 pub type ChunkSize = LongUInt;
-/// How many consumers there are.
+/// The number of consumers.
 pub type ConsumerCount = LongUInt;
-/// How many bytes a frame has.
+/// The size of a frame in bytes.
 pub type FrameSize = LongUInt;
-/// How many messages there are.
+/// The number of messages.
 pub type MessageCount = LongUInt;
 /// The tag of a delivery.
 pub type DeliveryTag = LongLongUInt;
-/// How many bytes a message has.
+/// The size of a message in bytes.
 pub type PayloadSize = LongLongUInt;
 
-/// The greatest number of bytes of a short string.
+/// The maximum length of a short string in bytes.
 pub const MAX_SHORT_STRING_LENGTH: usize = 255;

@@ -13,7 +13,7 @@ use std::fmt;
 use std::hash::{Hash, Hasher};
 use std::marker::Model;
 
-/// A text of at most 255 bytes: the key of a table, and AMQP's `shortstr` (0-9-1, section 4.2.5.3).
+/// A string of at most 255 bytes: a table's key, and AMQP's `shortstr` (0-9-1, section 4.2.5.3).
 ///
 /// Order, equality and hash are those of its bytes.
 #[derive(Debug, Drop)]
@@ -35,7 +35,7 @@ impl Model for ShortString {
 impl ShortString {
     ghost use Rattle.std.specs.Prelude.{[], Ok};
 
-    /// The text with no bytes. Takes no memory.
+    /// An empty string. Doesn't allocate.
     pub fn new_in(alloc: Global) -> Self
         ensures { result ≡ [] }
     {
@@ -44,8 +44,7 @@ impl ShortString {
         }
     }
 
-    /// The text as a short string, where it has at most 255 bytes. Takes no memory; a refused text
-    /// is dropped.
+    /// Converts a string of at most 255 bytes. Doesn't allocate; a longer string is dropped.
     pub fn try_new(s: String) -> Result<ShortString, ShortStringError>
         ensures ok { IfOk result (λ short. short ≡ string_bytes s) }
         ensures fits { OnOk result (length (string_bytes s) ≤ 255) }
@@ -58,8 +57,8 @@ impl ShortString {
         Ok(ShortString { text: s })
     }
 
-    /// A copy of the text, where it has at most 255 bytes. A longer one is refused before any
-    /// allocation, and an empty one takes no memory.
+    /// Copies a string of at most 255 bytes. A longer one is rejected before any allocation, and an
+    /// empty one doesn't allocate.
     pub fn try_copy(alloc: Global, s: &str) -> Result<ShortString, TryCopyError>
         ensures ok { IfOk result (λ short. short ≡ s.now) }
         ensures fits { OnOk result (length s.now ≤ 255) }
@@ -79,7 +78,7 @@ impl ShortString {
         }
     }
 
-    /// The text.
+    /// The string as a `str`.
     pub fn as_str(&self) -> &str
         ensures text { result.now ≡ self.now }
         ensures short { IsShort self.now }
@@ -87,7 +86,7 @@ impl ShortString {
         self.text.as_str()
     }
 
-    /// A copy of the text. The empty text takes no memory.
+    /// Copies the string. An empty string doesn't allocate.
     pub fn clone(&self, alloc: Global) -> Result<ShortString, AllocError>
         ensures same { IfOk result (λ s. s ≡ self.now) }
         ensures empty { self.now ≡ [] → IsOk result }
@@ -178,14 +177,14 @@ impl fmt::Display for ShortString {
     }
 }
 
-/// A text has more than 255 bytes.
+/// The error for a string of more than 255 bytes.
 #[derive(Clone, Copy, Debug, PartialEq, Eq)]
 pub struct ShortStringError {
     length: usize,
 }
 
 impl ShortStringError {
-    /// How many bytes the text has.
+    /// The length of the rejected string in bytes.
     pub fn length(&self) -> usize
         ensures { result ≡ refused_length self.now }
     {
@@ -207,10 +206,10 @@ impl fmt::Display for ShortStringError {
 
 impl Error for ShortStringError {}
 
-/// Why a text wasn't copied.
+/// The error of `ShortString::try_copy`.
 #[derive(Clone, Copy, Debug, PartialEq, Eq, thiserror::Error)]
 pub enum TryCopyError {
-    /// It has more than 255 bytes.
+    /// The string has more than 255 bytes.
     #[error(transparent)]
     TooLong(ShortStringError),
     /// An allocation failed.

@@ -2,8 +2,8 @@ ghost use Rattle.std.specs.Prelude.{◌≡◌, ◌+◌, ◌-◌, ◌^◌, ◌<�
 
 use crate::input::{ParsableInput, length_of};
 
-/// The bytes of a slice, followed by those of another, as one input. A byte stays in the part that
-/// it came in.
+/// Two slices of bytes as one input, the first's bytes before the second's. Each byte stays in its
+/// part.
 #[derive(Clone, Copy, Debug)]
 pub struct SplitInput<'a> {
     first: &'a [u8],
@@ -14,7 +14,7 @@ pub struct SplitInput<'a> {
 impl<'a> SplitInput<'a> {
     ghost use Rattle.amqp_types.specs.Splits.{split_first, split_second};
 
-    /// The input of two slices' bytes, of no more than a `usize` counts.
+    /// Makes an input of two slices. Precondition: a `usize` holds the sum of their lengths.
     pub fn new(first: &'a [u8], second: &'a [u8]) -> Self
         requires { length first.now + length second.now < 2 ^ 64 }
         ensures first { split_first result ≡ first.now }
@@ -23,7 +23,7 @@ impl<'a> SplitInput<'a> {
         SplitInput { first, second }
     }
 
-    /// The bytes, as two slices.
+    /// The bytes as two slices.
     pub fn parts(&self) -> (&'a [u8], &'a [u8])
         ensures first { result.0.now ≡ split_first self.now }
         ensures second { result.1.now ≡ split_second self.now }
