@@ -1,4 +1,4 @@
-//! Between values and the types of their fields.
+//! Conversions between values and the types of their fields.
 
 mod copies;
 mod from;

@@ -49,7 +49,7 @@ impl PartialEq for FieldTable {
     }
 }
 
-/// Whether two values have one type and the same contents.
+/// Whether two values have the same type and contents.
 #[cycle(same)]
 fn same(a: &AMQPValue, b: &AMQPValue) -> bool
     ensures { result ≡ same_tree (view a.now) (view b.now) }
@@ -79,7 +79,7 @@ fn same(a: &AMQPValue, b: &AMQPValue) -> bool
     }
 }
 
-/// Whether two lists have as many values, each the same as the one at its place.
+/// Whether two lists have the same length and equal values at each index.
 #[cycle(same)]
 fn same_items(a: &[AMQPValue], b: &[AMQPValue]) -> bool
     ensures { result ≡ same_trees (trees a.now) (trees b.now) }
@@ -92,7 +92,7 @@ fn same_items(a: &[AMQPValue], b: &[AMQPValue]) -> bool
     a.len() == b.len()
 }
 
-/// Whether two maps have as many entries, each with the key and the value of the one at its place.
+/// Whether two maps have the same number of entries, with equal keys and values in order.
 #[cycle(same)]
 fn same_pairs(m: &BTreeMap<ShortString, AMQPValue>, n: &BTreeMap<ShortString, AMQPValue>) -> bool
     ensures { result ≡ same_entries (entries m.now.entries) (entries n.now.entries) }

@@ -1,3 +1,3 @@
-//! What parsers read from.
+//! The inputs of parsers.
 
 pub use amqp_types::{ParsableInput, SliceInput, SplitInput};

@@ -12,19 +12,19 @@ use crate::types::{
 pub enum AMQPValue {
     /// A boolean.
     Boolean(Boolean),
-    /// A signed number of 8 bits.
+    /// A signed integer of 8 bits.
     ShortShortInt(ShortShortInt),
-    /// An unsigned number of 8 bits.
+    /// An unsigned integer of 8 bits.
     ShortShortUInt(ShortShortUInt),
-    /// A signed number of 16 bits.
+    /// A signed integer of 16 bits.
     ShortInt(ShortInt),
-    /// An unsigned number of 16 bits.
+    /// An unsigned integer of 16 bits.
     ShortUInt(ShortUInt),
-    /// A signed number of 32 bits.
+    /// A signed integer of 32 bits.
     LongInt(LongInt),
-    /// An unsigned number of 32 bits.
+    /// An unsigned integer of 32 bits.
     LongUInt(LongUInt),
-    /// A signed number of 64 bits.
+    /// A signed integer of 64 bits.
     LongLongInt(LongLongInt),
     /// A floating-point number of 32 bits.
     Float(Float),
@@ -32,17 +32,17 @@ pub enum AMQPValue {
     Double(Double),
     /// A decimal number.
     DecimalValue(DecimalValue),
-    /// A text of at most 255 bytes. It can be written, and the parsers refuse what is written.
+    /// A string of at most 255 bytes. It can be written, but the parsers reject what is written.
     ShortString(ShortString),
-    /// Bytes of any kind, a text for most peers.
+    /// Arbitrary bytes, which most peers take for text.
     LongString(LongString),
     /// A list of values, each with its type.
     FieldArray(FieldArray),
-    /// A time, an unsigned number of 64 bits.
+    /// A time, an unsigned integer of 64 bits.
     Timestamp(Timestamp),
     /// A map from short strings to values, each with its type.
     FieldTable(FieldTable),
-    /// Bytes of any kind.
+    /// Arbitrary bytes.
     ByteArray(ByteArray),
     /// No value.
     Void,

@@ -1,7 +1,7 @@
-//! `clone`: a copy in memory of its own. It goes as deep as the value nests.
+//! `clone`: deep copies.
 //!
-//! Where an allocation fails, what was copied so far is dropped. What has no bytes, no values and
-//! no entries takes no memory.
+//! If an allocation fails, what was copied so far is dropped. What has no bytes, no values and no
+//! entries doesn't allocate.
 
 ghost use Rattle.std.specs.Prelude.{◌≡◌, [], IfOk, IsOk};
 ghost use Rattle.amqp_grammar.specs.Light.{IsLight};
@@ -14,7 +14,7 @@ use std::alloc::{AllocError, Global};
 use std::collections::BTreeMap;
 
 impl FieldArray {
-    /// A copy of the array, each value copied. No values take no memory.
+    /// Copies the array and each value in it. An empty array doesn't allocate.
     pub fn clone(&self, alloc: Global) -> Result<FieldArray, AllocError>
         ensures same { IfOk result (λ a. array_view a ≡ array_view self.now) }
         ensures empty { array_items self.now ≡ [] → IsOk result }
@@ -24,7 +24,7 @@ impl FieldArray {
 }
 
 impl FieldTable {
-    /// A copy of the table, each key and each value copied. No entries take no memory.
+    /// Copies the table, each key and each value. An empty table doesn't allocate.
     pub fn clone(&self, alloc: Global) -> Result<FieldTable, AllocError>
         ensures same { IfOk result (λ t. table_view t ≡ table_view self.now) }
         ensures empty { table_entries self.now ≡ [] → IsOk result }
@@ -34,8 +34,8 @@ impl FieldTable {
 }
 
 impl AMQPValue {
-    /// A copy of the value, and of each value in it. A number, a boolean, Void and what is empty
-    /// take no memory.
+    /// Copies the value and each value in it. A number, a boolean, Void and what is empty don't
+    /// allocate.
     pub fn clone(&self, alloc: Global) -> Result<AMQPValue, AllocError>
         ensures same { IfOk result (λ v. view v ≡ view self.now) }
         ensures light { IsLight (view self.now) → IsOk result }

@@ -1,4 +1,5 @@
-//! A value of a field: each type of a field goes to its own variant, and a `u64` to `Timestamp`.
+//! Conversions from a field's type to a value: each type to its own variant, and a `u64` to
+//! `Timestamp`.
 
 use crate::types::{
     ByteArray, DecimalValue, Double, FieldArray, FieldTable, Float, LongString, ShortString,

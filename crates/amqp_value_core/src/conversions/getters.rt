@@ -1,4 +1,4 @@
-//! The field of a value, where the value is of a given type.
+//! Getters: the field of a value of a given type.
 
 use crate::types::{
     Boolean, ByteArray, DecimalValue, Double, FieldArray, FieldTable, Float, LongInt, LongLongInt,
@@ -7,7 +7,7 @@ use crate::types::{
 };
 use crate::value::AMQPValue;
 
-/// Each getter gives the field of its own variant, and `None` for every other.
+/// Each getter returns the field of its own variant, and `None` for every other.
 impl AMQPValue {
     ghost use Rattle.std.specs.Prelude.{◌≡◌, option_map, is_some};
     ghost use Rattle.std.specs.Int.{w8, w16, w32, w64, cast_unsigned};
@@ -132,7 +132,7 @@ impl AMQPValue {
         }
     }
 
-    /// The text, of a `ShortString`.
+    /// The string, of a `ShortString`.
     pub fn as_short_string(&self) -> Option<&ShortString>
         ensures { option_map (λ s. s.now) result ≡ short_in (view self.now) }
     {
@@ -152,7 +152,7 @@ impl AMQPValue {
         }
     }
 
-    /// The list, of a `FieldArray`.
+    /// The array, of a `FieldArray`.
     pub fn as_array(&self) -> Option<&FieldArray>
         ensures { option_map (λ a. array_view a.now) result ≡ array_in (view self.now) }
     {
@@ -172,7 +172,7 @@ impl AMQPValue {
         }
     }
 
-    /// The map, of a `FieldTable`.
+    /// The table, of a `FieldTable`.
     pub fn as_field_table(&self) -> Option<&FieldTable>
         ensures { option_map (λ t. table_view t.now) result ≡ table_in (view self.now) }
     {
@@ -192,7 +192,7 @@ impl AMQPValue {
         }
     }
 
-    /// Nothing, of `Void`.
+    /// `Some(())`, of `Void`.
     pub fn as_void(&self) -> Option<()>
         ensures { is_some result ≡ is_void (view self.now) }
     {

@@ -1,4 +1,4 @@
-//! A value of a JSON value, as one of a given type.
+//! Conversion from a JSON value to a value of a given type.
 
 ghost use Rattle.std.specs.Prelude.{◌≡◌, option_map, IfOk, OnErr};
 ghost use Rattle.serde_json.specs.View.{view as document};
@@ -12,13 +12,13 @@ use serde_json::Value;
 use std::alloc::{AllocError, Global};
 
 impl AMQPValue {
-    /// The value of the type that the JSON value stands for, if there is one.
+    /// Converts a JSON value to a value of the type, or returns `None` if it has none.
     ///
-    /// A number gives a value of a type that holds it, and to `LongLongUInt` the `LongLongInt` of
-    /// the same bits. A text gives a `LongString`, and a `ShortString` where it has at most 255
-    /// bytes; `true` and `false` give a `Boolean`, and `null` gives `Void`. Nothing gives a
-    /// `Float`, a `Double`, a `DecimalValue`, a `ByteArray`, an array or a table. Only a text that
-    /// isn't empty takes memory.
+    /// A number becomes a value of a type that holds it, and for `LongLongUInt` the `LongLongInt`
+    /// of the same bits. A string becomes a `LongString`, or a `ShortString` if it has at most 255
+    /// bytes; `true` and `false` become a `Boolean`, and `null` becomes `Void`. Nothing becomes a
+    /// `Float`, a `Double`, a `DecimalValue`, a `ByteArray`, an array or a table. Only a string
+    /// that isn't empty allocates.
     pub fn try_from(
         alloc: Global,
         value: &Value,

@@ -12,7 +12,7 @@ pub struct FieldArray {
 }
 
 impl FieldArray {
-    /// The array with no values. Takes no memory.
+    /// An empty array. Doesn't allocate.
     pub fn new_in(alloc: Global) -> Self
         ensures { array_items result ≡ [] }
     {
@@ -21,14 +21,14 @@ impl FieldArray {
         }
     }
 
-    /// The values, in order.
+    /// The values as a slice.
     pub fn as_slice(&self) -> &[AMQPValue]
         ensures { result.now ≡ array_items self.now }
     {
         self.items.as_slice()
     }
 
-    /// Appends a value. Where an allocation fails the array is as before, and the value is dropped.
+    /// Appends a value. If an allocation fails the array is unchanged, and the value is dropped.
     pub fn push(&mut self, v: AMQPValue) -> Result<(), AllocError>
         ensures ok { OnOk result (array_items self.new ≡ array_items self.old ++ v ∷ []) }
         ensures err { OnErr result (array_items self.new ≡ array_items self.old) }

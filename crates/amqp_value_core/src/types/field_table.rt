@@ -11,15 +11,14 @@ use crate::value::AMQPValue;
 use std::alloc::{AllocError, Global};
 use std::collections::{BTreeMap, btree_map};
 
-/// A map from short strings to values, each with its type. Its keys are in the order of their
-/// bytes.
+/// A map from short strings to values, each with its type. Its keys are sorted by their bytes.
 #[cycle(values)]
 #[derive(Debug, Drop)]
 pub struct FieldTable {
     map: BTreeMap<ShortString, AMQPValue>,
 }
 
-/// A table that a call hands back.
+/// A table that a call returns.
 #[derive(Drop)]
 struct Lent<'a> {
     table: &'a mut FieldTable,
@@ -36,7 +35,7 @@ fn bare(lent: Result<Lent<'_>, AllocError>) -> Result<&mut FieldTable, AllocErro
 }
 
 impl FieldTable {
-    /// The table with no entries. Takes no memory.
+    /// An empty table. Doesn't allocate.
     pub fn new_in(alloc: Global) -> Self
         ensures { table_entries result ≡ [] }
     {
@@ -45,8 +44,8 @@ impl FieldTable {
         }
     }
 
-    /// Puts a value at a key, in the place of the one that was there, and hands back the table.
-    /// Where an allocation fails the table is as before, and the key and the value are dropped.
+    /// Inserts a value at a key, replaces the old one if there was one, and returns the table. If
+    /// an allocation fails the table is unchanged, and the key and the value are dropped.
     pub fn insert(&mut self, k: ShortString, v: AMQPValue) -> Result<&mut FieldTable, AllocError>
         ensures* unchanged_at_err { sem 𝓛 (Rests self.entry result) }
         ensures same { IfOk result (λ r. r.ghost_name ≡ self.entry.ghost_name) }
@@ -64,8 +63,8 @@ impl FieldTable {
         Ok(Lent { table: self })
     }
 
-    /// Puts a value at a key, as `insert` does, and hands nothing back: for callers whose own
-    /// contract speaks of the table after a refusal.
+    /// Inserts a value at a key, as `insert` does, and returns nothing: for callers whose own
+    /// contract is about the table after an error.
     pub fn place(&mut self, k: ShortString, v: AMQPValue) -> Result<(), AllocError>
         ensures ok { OnOk result (table_view self.new ≡ put k (view v) (table_view self.old)) }
         ensures err { OnErr result (table_entries self.new ≡ table_entries self.old) }
@@ -74,9 +73,9 @@ impl FieldTable {
         Ok(())
     }
 
-    /// The table of the pairs, put one after another: of equal keys the last one's value stays. It
-    /// is faster than to put each from some hundred pairs on, and takes more memory meanwhile. No
-    /// pairs take none.
+    /// Makes a table of the pairs, inserted in order: of equal keys the last one's value is
+    /// retained. From some hundred pairs on it is faster than inserting each, and uses more memory
+    /// meanwhile. An empty list doesn't allocate.
     #[inline(never)]
     #[tactic(auto, using(crate::proofs::Gathered::made_of))]
     pub fn from_pairs(
@@ -93,7 +92,7 @@ impl FieldTable {
         Ok(FieldTable { map })
     }
 
-    /// Whether there is a value at the key. Walks the entries, and takes no memory.
+    /// Whether the table has the key. Iterates over the entries, and doesn't allocate.
     pub fn contains_key(&self, k: &str) -> bool
         ensures { result ≡ has_key k.now (table_view self.now) }
     {
@@ -105,7 +104,7 @@ impl FieldTable {
         false
     }
 
-    /// The entries as a map.
+    /// The entries as a `BTreeMap`.
     pub fn inner(&self) -> &BTreeMap<ShortString, AMQPValue>
         ensures { result.now.entries ≡ table_entries self.now }
     {
