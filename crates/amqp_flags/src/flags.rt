@@ -1,4 +1,4 @@
-//! Flags: booleans under names, which travel eight to a byte.
+//! Flags: named booleans, packed eight to a byte as in AMQP's method arguments.
 
 ghost use Rattle.std.specs.Prelude.{◌≡◌, ◌<◌, ◌≤◌, ◌++◌, ◌∷◌, [], map, length, string_bytes, IfOk, OnOk, OnErr};
 ghost use Rattle.amqp_flags.specs.Flags.{listed, flags_of, values_of, flag_named, number_of, pack, unpack};
@@ -7,14 +7,14 @@ use amqp_types::{Boolean, ParsableInput};
 use serde::{Deserialize, Serialize};
 use std::alloc::{AllocError, Global};
 
-/// Booleans under names, in the order in which they were added. A name may come again.
+/// Named booleans, in the order in which they were added. A name may occur more than once.
 #[derive(Debug, PartialEq, Serialize, Deserialize, Drop)]
 pub struct AMQPFlags {
     flags: Vec<(String, Boolean)>,
 }
 
 impl AMQPFlags {
-    /// No flags. Takes no memory.
+    /// An empty list of flags. Doesn't allocate.
     pub fn new_in(alloc: Global) -> Self
         ensures { flags_of result ≡ [] }
     {
@@ -23,8 +23,8 @@ impl AMQPFlags {
         }
     }
 
-    /// Appends a flag, also where there is one of that name. Where an allocation fails the flags
-    /// are as before, and the name is dropped.
+    /// Appends a flag, even if there is one of that name. If an allocation fails the flags are
+    /// unchanged, and the name is dropped.
     pub fn add_flag(&mut self, name: String, flag: Boolean) -> Result<(), AllocError>
         ensures ok { OnOk result
             (flags_of self.new ≡ flags_of self.old ++ (string_bytes name, flag) ∷ []) }
@@ -34,7 +34,7 @@ impl AMQPFlags {
         Ok(())
     }
 
-    /// The boolean of the first flag of that name.
+    /// The value of the first flag of that name.
     pub fn get_flag(&self, name: &str) -> Option<Boolean>
         ensures { result ≡ flag_named name.now (flags_of self.now) }
     {
@@ -46,8 +46,8 @@ impl AMQPFlags {
         None
     }
 
-    /// The flags as bits, eight to a byte, the first one's bit the lowest. No flags are no bytes,
-    /// and take no memory.
+    /// Packs the flags eight to a byte, the first one in the lowest bit. An empty list packs to no
+    /// bytes, and doesn't allocate.
     pub fn get_bytes(&self, alloc: Global) -> Result<Vec<u8>, AllocError>
         ensures ok { IfOk result (λ bytes. bytes.items ≡ pack (values_of (flags_of self.now))) }
         ensures err { OnErr result (0 < length (flags_of self.now)) }
@@ -59,8 +59,8 @@ impl AMQPFlags {
         Ok(bytes)
     }
 
-    /// A flag for each name that a bit is there for, in order, the lowest bit of a byte first. No
-    /// flag takes no memory.
+    /// Unpacks a flag for each name that has a bit, in order, the lowest bit of a byte first. No
+    /// flags don't allocate.
     pub fn from_bytes<I: ParsableInput>(
         alloc: Global,
         names: &[&str],
@@ -81,7 +81,7 @@ impl AMQPFlags {
         Ok(flags)
     }
 
-    /// A copy, with the same flags.
+    /// Copies the flags.
     pub fn clone(&self, alloc: Global) -> Result<AMQPFlags, AllocError>
         ensures ok { IfOk result (λ copy. flags_of copy ≡ flags_of self.now) }
         ensures err { OnErr result (0 < length (flags_of self.now)) }
@@ -93,7 +93,7 @@ impl AMQPFlags {
         Ok(copy)
     }
 
-    /// The flags, in order.
+    /// The flags as a slice, in order.
     pub fn as_slice(&self) -> &[(String, Boolean)]
         ensures { listed result.now ≡ flags_of self.now }
     {
@@ -101,7 +101,7 @@ impl AMQPFlags {
     }
 }
 
-/// The byte whose bits are those of at most eight flags, the first one's the lowest.
+/// Packs at most eight flags into a byte, the first one in the lowest bit.
 pub fn byte_of(flags: &[(String, Boolean)]) -> u8
     requires { length flags.now ≤ 8 }
     ensures { result ≡ number_of (values_of (listed flags.now)) }

@@ -17,7 +17,7 @@ pub fn flags_are_bits()
     ensures count { (bs : List Bool) → length (pack bs) ≡ (length bs + 7) / 8 }
 {}
 
-/// What flags are packed to is unpacked by their names as the same flags.
+/// Packed flags are unpacked by their names as the same flags.
 #[tactic(auto, using(crate::proofs::FlagBits::unpacked))]
 pub fn flags_are_unpacked()
     ensures { (fs : List Flag) → unpack (names_of fs) (pack (values_of fs)) ≡ fs }

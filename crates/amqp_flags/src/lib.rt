@@ -1,4 +1,4 @@
-//! Flags: booleans under names, which travel eight to a byte.
+//! Flags: named booleans, packed eight to a byte as in AMQP's method arguments.
 #![tactic(auto)]
 
 mod flags;
