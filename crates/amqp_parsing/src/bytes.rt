@@ -5,7 +5,7 @@ ghost use Rattle.std.specs.Prelude.{◌≡◌, ◌<◌, IfOk, OnErr, length};
 use super::traits::ParsableInput;
 use std::alloc::{AllocError, Global};
 
-/// A copy of all bytes of the input. Takes no memory where there is no byte.
+/// Copies all bytes of the input. An empty input doesn't allocate.
 #[inline(always)]
 #[tactic(auto, using(crate::proofs::Copies::whole_front))]
 pub fn copy_of<I: ParsableInput>(alloc: Global, input: I) -> Result<Vec<u8>, AllocError>

@@ -1,4 +1,4 @@
-//! What parsers answer where they give no value.
+//! The errors of parsers.
 
 ghost use Rattle.std.specs.Prelude.{◌≡◌, Some};
 ghost use Rattle.amqp_parsing.specs.Refusals.{lacks, refused, out_of_memory, inside};
@@ -8,43 +8,43 @@ use std::error::Error;
 use std::fmt;
 use std::marker::Model;
 
-/// Why a parser gave no value.
+/// Why a parser returned no value.
 #[derive(Clone, Debug, PartialEq, Drop)]
 pub enum Err<E> {
-    /// The input is too short to tell. More bytes may follow, and the call be made again.
+    /// More bytes are needed: call again with more input.
     Incomplete(Needed),
-    /// The input isn't what the parser reads, whatever follows.
+    /// The input is invalid, whatever bytes follow.
     Error(E),
-    /// The parser ran out of memory, whatever the input is.
+    /// Out of memory, whatever the input is.
     Failure(E),
 }
 
 /// How many more bytes are needed.
 #[derive(Clone, Copy, Debug, PartialEq, Eq)]
 pub enum Needed {
-    /// A number that isn't known. No parser of this crate answers it.
+    /// An unknown number. No parser of this crate returns it.
     Unknown,
-    /// So many bytes, at least 1, of the field that is being read.
+    /// This many bytes, at least 1, for the field that is being read.
     Size(usize),
 }
 
 /// The kind of an error.
 #[derive(Clone, Copy, Debug, PartialEq, Eq)]
 pub enum ErrorKind {
-    /// The byte that stands for the type of a value is no known id.
+    /// The byte is no known type tag.
     MapOpt,
-    /// A short string is whole, and isn't UTF-8.
+    /// A short string is complete, and isn't UTF-8.
     MapRes,
-    /// A container is whole, and its body isn't a concatenation of entries; or, within limits,
+    /// A container is complete, and its body isn't a concatenation of entries; or, within limits,
     /// containers nest deeper than `depth`.
     Eof,
     /// An allocation failed.
     OutOfMemory,
-    /// A value is longer than the limit `frame`, by what its first bytes tell.
+    /// A value is longer than the limit `frame`, as its type tag and length show.
     TooLarge,
 }
 
-/// The error of a parser.
+/// An invalid input, or out of memory.
 #[derive(Clone, Debug, PartialEq, Drop)]
 pub struct ParserErrors {
     kind: ErrorKind,
@@ -61,7 +61,7 @@ impl Model for ParserErrors {
 }
 
 impl ParserErrors {
-    /// The kind of the error.
+    /// Returns the kind of the error.
     pub fn kind(&self) -> ErrorKind
         ensures { result ≡ self.now }
     {
@@ -87,27 +87,27 @@ impl fmt::Display for ParserErrors {
 
 impl Error for ParserErrors {}
 
-/// An error, or a number of bytes that are needed.
+/// What a parser returns instead of a value: an error, or how many more bytes it needs.
 pub type ParserError = Err<ParserErrors>;
 
-/// What a parser answers: what is left of its input, and a value; or why there is none.
+/// What a parser returns: the remaining input and a value, or why there is none.
 pub type ParserResult<I, T> = Result<(I, T), ParserError>;
 
-/// `n` more bytes are needed for the field that is being read.
+/// Makes `Incomplete`: `n` more bytes are needed for the field that is being read.
 pub fn lacks(n: usize) -> ParserError
     ensures { result ≡ lacks n }
 {
     Err::Incomplete(Needed::Size(n))
 }
 
-/// The error of that kind.
+/// Makes an error of the kind.
 pub fn refusal(kind: ErrorKind) -> ParserErrors
     ensures { result ≡ kind }
 {
     ParserErrors { kind }
 }
 
-/// The input isn't what the parser reads.
+/// Makes `Error`: the input is invalid.
 pub fn refused(kind: ErrorKind) -> ParserError
     ensures { result ≡ refused kind }
 {

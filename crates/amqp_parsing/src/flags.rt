@@ -9,10 +9,10 @@ use super::traits::ParsableInput;
 use amqp_flags::AMQPFlags;
 use std::alloc::Global;
 
-/// Reads a flag for each name: as many bytes as the names need, eight to a byte, the lowest bit of
-/// a byte first. Bits that no name is left for are ignored.
+/// Parses a flag for each name: as many bytes as the names need, eight flags to a byte, the lowest
+/// bit of a byte first. Unused bits are ignored.
 ///
-/// Memory is taken only where there is a name and the bytes are all there.
+/// It allocates only if there is a name and the bytes are all there.
 pub fn parse_flags<I: ParsableInput>(
     alloc: Global,
     i: I,

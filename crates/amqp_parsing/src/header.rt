@@ -1,4 +1,4 @@
-//! What the id and the length of a value tell.
+//! What a value's type tag and length determine.
 
 ghost use Rattle.std.specs.Prelude.{◌≡◌, ◌≢◌, ◌<◌, ◌≤◌, ◌+◌, option_map};
 ghost use Rattle.amqp_grammar.specs.Layouts.{fixed};
@@ -11,16 +11,16 @@ use super::scalars::{parse_long_uint, parse_type};
 use super::traits::ParsableInput;
 use amqp_value_core::types::AMQPType;
 
-/// What the id and the length of a value tell, whatever has come after them.
+/// What a value's type tag and length determine, whatever bytes follow them.
 #[derive(Clone, Copy, Debug)]
 pub enum Header {
-    /// The first byte is no id.
+    /// The first byte is no type tag.
     Unknown,
     /// The value is longer than the limit.
     TooLarge,
-    /// So many more bytes are needed for the field that is being read.
+    /// This many more bytes are needed for the field that is being read.
     Lacks(usize),
-    /// All bytes of the value are there, by its header.
+    /// The value is complete, by its header.
     Whole,
 }
 
@@ -62,8 +62,8 @@ fn payload_of<I: ParsableInput>(amqp_type: AMQPType, i: I) -> (usize, usize)
     }
 }
 
-/// How many bytes the value at the front has at least, by its id and its length field alone, and 0
-/// where no id tells. It takes constant time.
+/// The least length of the value at the start of the input, by its type tag and length alone, and 0
+/// if there is no type tag. It takes constant time.
 #[inline(always)]
 pub fn value_len<I: ParsableInput>(i: I) -> usize
     ensures extent { result ≡ extent (I.bytes i) }
@@ -79,7 +79,7 @@ pub fn value_len<I: ParsableInput>(i: I) -> usize
     1 + len
 }
 
-/// What the header of a value tells, where none may have more than `frame` bytes.
+/// Reads the header of a value that may have at most `frame` bytes.
 pub fn header_of<I: ParsableInput>(i: I, frame: u32) -> Header
     ensures header { IsHeader frame (I.bytes i) result }
     ensures bytes { IsBytes (I.bytes i) }

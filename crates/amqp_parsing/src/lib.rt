@@ -1,4 +1,4 @@
-//! Parsers of values, and of what values are made of.
+//! Parsers of values and of their parts.
 #![tactic(auto)]
 
 mod bytes;

@@ -1,12 +1,13 @@
-/// How large and how deep a value may be.
+/// The limits on a value's length and nesting.
 ///
-/// A careful reader of strangers' bytes takes RabbitMQ's usual frame of 128 KiB and a depth of 64:
+/// For bytes from untrusted peers RabbitMQ's usual frame of 128 KiB and a depth of 64 are suitable:
 /// `Limits { frame: 131_072, depth: 64 }`.
 #[derive(Clone, Copy, Debug, PartialEq, Eq)]
 pub struct Limits {
-    /// How many bytes a value's encoding may have, its id and lengths among them.
+    /// The most bytes that a value's encoding may have, with its type tag and lengths. It is no
+    /// AMQP frame.
     pub frame: u32,
-    /// How deep containers may nest in it: 0 for none, 1 for those of plain values alone. Each
-    /// entry that is written counts, also where its key comes again.
+    /// How deep containers may nest in a value: 0 for none, 1 for containers of scalars and strings
+    /// only. Each entry that is written counts, even if its key occurs again.
     pub depth: u32,
 }

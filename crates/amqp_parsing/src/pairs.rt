@@ -1,4 +1,4 @@
-//! Pairs on their way into a table: few are put one by one, many are gathered first.
+//! Building a table of pairs: few are inserted one by one, many are collected first.
 
 ghost use Rattle.std.specs.Prelude.{◌≡◌, ◌≤◌, IfOk, OnOk, length};
 ghost use Rattle.amqp_grammar.specs.Values.{no_entries, put};

@@ -1,4 +1,4 @@
-//! Parsers that take no memory.
+//! Parsers that don't allocate.
 
 ghost use Rattle.std.specs.Prelude.{◌≡◌, Some, IfOk, MatchResult};
 ghost use Rattle.std.specs.Int.{w8, w16, w32, w64, cast_unsigned};
@@ -16,7 +16,7 @@ use amqp_value_core::types::{
     LongUInt, ShortInt, ShortShortInt, ShortShortUInt, ShortUInt, Timestamp,
 };
 
-/// Reads the id of a type, one byte.
+/// Parses a type tag, one byte.
 #[inline(always)]
 pub fn parse_type<I: ParsableInput>(i: I) -> ParserResult<I, AMQPType>
     ensures id { MatchResult result
@@ -31,7 +31,7 @@ pub fn parse_type<I: ParsableInput>(i: I) -> ParserResult<I, AMQPType>
     }
 }
 
-/// Reads the number of a class or of a method, two bytes.
+/// Parses the number of a class or of a method, two bytes.
 #[inline(always)]
 pub fn parse_id<I: ParsableInput>(i: I) -> ParserResult<I, Identifier>
     ensures { ReadsUnsigned w16 I.bytes i result }
@@ -39,7 +39,7 @@ pub fn parse_id<I: ParsableInput>(i: I) -> ParserResult<I, Identifier>
     parse_short_uint(i)
 }
 
-/// Reads a boolean, one byte: 0 is false, every other byte true.
+/// Parses a boolean, one byte: 0 is false, every other byte true.
 #[inline(always)]
 pub fn parse_boolean<I: ParsableInput>(i: I) -> ParserResult<I, Boolean>
     ensures { ReadsScalar AMQPType.Boolean boolean I.bytes i result }
@@ -48,7 +48,7 @@ pub fn parse_boolean<I: ParsableInput>(i: I) -> ParserResult<I, Boolean>
     Ok((i, byte != 0))
 }
 
-/// Reads an unsigned number of 8 bits.
+/// Parses an unsigned integer of 8 bits.
 #[inline(always)]
 pub fn parse_short_short_uint<I: ParsableInput>(i: I) -> ParserResult<I, ShortShortUInt>
     ensures number { ReadsUnsigned w8 I.bytes i result }
@@ -60,7 +60,7 @@ pub fn parse_short_short_uint<I: ParsableInput>(i: I) -> ParserResult<I, ShortSh
     Ok((i.take_from(1), i.byte_at(0)))
 }
 
-/// Reads an unsigned number of 16 bits.
+/// Parses an unsigned integer of 16 bits.
 #[inline(always)]
 pub fn parse_short_uint<I: ParsableInput>(i: I) -> ParserResult<I, ShortUInt>
     ensures number { ReadsUnsigned w16 I.bytes i result }
@@ -74,7 +74,7 @@ pub fn parse_short_uint<I: ParsableInput>(i: I) -> ParserResult<I, ShortUInt>
     Ok((i.take_from(2), n))
 }
 
-/// Reads an unsigned number of 32 bits.
+/// Parses an unsigned integer of 32 bits.
 #[inline(always)]
 pub fn parse_long_uint<I: ParsableInput>(i: I) -> ParserResult<I, LongUInt>
     ensures number { ReadsUnsigned w32 I.bytes i result }
@@ -88,8 +88,8 @@ pub fn parse_long_uint<I: ParsableInput>(i: I) -> ParserResult<I, LongUInt>
     Ok((i.take_from(4), n))
 }
 
-/// Reads an unsigned number of 64 bits. `parse_raw_value` gives the signed number of
-/// the same bits for it.
+/// Parses an unsigned integer of 64 bits. `parse_raw_value` returns the signed integer of the same
+/// bits for it.
 #[inline(always)]
 pub fn parse_long_long_uint<I: ParsableInput>(i: I) -> ParserResult<I, LongLongUInt>
     ensures { ReadsUnsigned w64 I.bytes i result }
@@ -111,7 +111,7 @@ pub fn parse_long_long_uint<I: ParsableInput>(i: I) -> ParserResult<I, LongLongU
     Ok((i.take_from(8), n))
 }
 
-/// Reads a signed number of 8 bits.
+/// Parses a signed integer of 8 bits.
 #[inline(always)]
 pub fn parse_short_short_int<I: ParsableInput>(i: I) -> ParserResult<I, ShortShortInt>
     ensures { ReadsNumber AMQPType.ShortShortInt (cast_unsigned w8) I.bytes i result }
@@ -120,7 +120,7 @@ pub fn parse_short_short_int<I: ParsableInput>(i: I) -> ParserResult<I, ShortSho
     Ok((i, n.cast_signed()))
 }
 
-/// Reads a signed number of 16 bits.
+/// Parses a signed integer of 16 bits.
 #[inline(always)]
 pub fn parse_short_int<I: ParsableInput>(i: I) -> ParserResult<I, ShortInt>
     ensures { ReadsNumber AMQPType.ShortInt (cast_unsigned w16) I.bytes i result }
@@ -129,7 +129,7 @@ pub fn parse_short_int<I: ParsableInput>(i: I) -> ParserResult<I, ShortInt>
     Ok((i, n.cast_signed()))
 }
 
-/// Reads a signed number of 32 bits.
+/// Parses a signed integer of 32 bits.
 #[inline(always)]
 pub fn parse_long_int<I: ParsableInput>(i: I) -> ParserResult<I, LongInt>
     ensures { ReadsNumber AMQPType.LongInt (cast_unsigned w32) I.bytes i result }
@@ -138,7 +138,7 @@ pub fn parse_long_int<I: ParsableInput>(i: I) -> ParserResult<I, LongInt>
     Ok((i, n.cast_signed()))
 }
 
-/// Reads a signed number of 64 bits.
+/// Parses a signed integer of 64 bits.
 #[inline(always)]
 pub fn parse_long_long_int<I: ParsableInput>(i: I) -> ParserResult<I, LongLongInt>
     ensures { ReadsNumber AMQPType.LongLongInt (cast_unsigned w64) I.bytes i result }
@@ -147,7 +147,7 @@ pub fn parse_long_long_int<I: ParsableInput>(i: I) -> ParserResult<I, LongLongIn
     Ok((i, n.cast_signed()))
 }
 
-/// Reads the bits of a floating-point number of 32 bits.
+/// Parses a floating-point number of 32 bits.
 #[inline(always)]
 pub fn parse_float<I: ParsableInput>(i: I) -> ParserResult<I, Float>
     ensures { ReadsNumber AMQPType.Float float_bits I.bytes i result }
@@ -156,7 +156,7 @@ pub fn parse_float<I: ParsableInput>(i: I) -> ParserResult<I, Float>
     Ok((i, Float::from_bits(bits)))
 }
 
-/// Reads the bits of a floating-point number of 64 bits.
+/// Parses a floating-point number of 64 bits.
 #[inline(always)]
 pub fn parse_double<I: ParsableInput>(i: I) -> ParserResult<I, Double>
     ensures { ReadsNumber AMQPType.Double double_bits I.bytes i result }
@@ -165,7 +165,7 @@ pub fn parse_double<I: ParsableInput>(i: I) -> ParserResult<I, Double>
     Ok((i, Double::from_bits(bits)))
 }
 
-/// Reads a time, an unsigned number of 64 bits.
+/// Parses a time, an unsigned integer of 64 bits.
 #[inline(always)]
 pub fn parse_timestamp<I: ParsableInput>(i: I) -> ParserResult<I, Timestamp>
     ensures { ReadsNumber AMQPType.Timestamp (λ n. n) I.bytes i result }
@@ -174,7 +174,8 @@ pub fn parse_timestamp<I: ParsableInput>(i: I) -> ParserResult<I, Timestamp>
     Ok((i, seconds))
 }
 
-/// Reads a decimal number: its scale in one byte, then its digits as an unsigned number of 32 bits.
+/// Parses a decimal number: its scale in one byte, then its digits as an unsigned integer of 32
+/// bits.
 #[inline(always)]
 pub fn parse_decimal_value<I: ParsableInput>(i: I) -> ParserResult<I, DecimalValue>
     ensures { ReadsScalar AMQPType.DecimalValue (λ d. decimal d.scale d.value) I.bytes i result }

@@ -16,10 +16,10 @@ use super::traits::ParsableInput;
 use amqp_value_core::types::{AMQPType, ByteArray, LongString, ShortString, TryCopyError};
 use std::alloc::{AllocError, Global};
 
-/// Reads a short string: its length in one byte, then its bytes, which are UTF-8.
+/// Parses a short string: its length in one byte, then its bytes, which must be UTF-8.
 ///
-/// The bytes are looked at once all of them are there, and copied where they are a text; where they
-/// aren't UTF-8 it is `MapRes`. Memory is taken only for a string that isn't empty.
+/// If all bytes are there and they aren't UTF-8 it returns `MapRes`. It allocates only for a string
+/// that isn't empty.
 pub fn parse_short_string<I: ParsableInput>(alloc: Global, i: I) -> ParserResult<I, ShortString>
     ensures { MatchResult result
         (λ x. RawOutcome AMQPType.ShortString (I.bytes i) (found (short x.1) (I.bytes x.0)))
@@ -67,9 +67,9 @@ fn whole<'a>(in_pieces: bool, joined: &'a [u8], chunk: &'a [u8]) -> &'a [u8]
     if in_pieces { joined } else { chunk }
 }
 
-/// Reads a long string: its length in four bytes, then its bytes, of any kind.
+/// Parses a long string: its length in four bytes, then its bytes, which are arbitrary.
 ///
-/// Memory is taken only for a string that isn't empty and whose bytes are all there.
+/// It allocates only for a string that isn't empty and whose bytes are all there.
 #[inline(always)]
 pub fn parse_long_string<I: ParsableInput>(alloc: Global, i: I) -> ParserResult<I, LongString>
     ensures { MatchResult result
@@ -81,9 +81,9 @@ pub fn parse_long_string<I: ParsableInput>(alloc: Global, i: I) -> ParserResult<
     Ok((i, LongString::from(bytes)))
 }
 
-/// Reads a byte array: its length in four bytes, then its bytes.
+/// Parses a byte array: its length in four bytes, then its bytes.
 ///
-/// Memory is taken only for an array that isn't empty and whose bytes are all there.
+/// It allocates only for an array that isn't empty and whose bytes are all there.
 pub fn parse_byte_array<I: ParsableInput>(alloc: Global, i: I) -> ParserResult<I, ByteArray>
     ensures { MatchResult result
         (λ x. RawOutcome AMQPType.ByteArray (I.bytes i) (found (octets (octets_of x.1)) (I.bytes x.0)))
@@ -94,7 +94,8 @@ pub fn parse_byte_array<I: ParsableInput>(alloc: Global, i: I) -> ParserResult<I
     Ok((i, ByteArray::from(bytes)))
 }
 
-/// Reads a length in four bytes, and takes as many bytes, once all of them are there.
+/// Parses a length-prefixed field: a length in four bytes, then as many bytes, if all of them are
+/// there.
 #[inline(always)]
 pub fn parse_frame<I: ParsableInput>(i: I) -> ParserResult<I, I>
     ensures { MatchResult result

@@ -25,15 +25,16 @@ use amqp_value_core::types::{AMQPType, FieldArray, FieldTable};
 use amqp_value_core::value::AMQPValue;
 use std::alloc::Global;
 
-/// Reads a value: the id of its type, then its payload.
+/// Parses a value: its type tag, then its payload.
 ///
-/// `Incomplete` says how many more bytes the field that is being read needs, `Error` that the first
-/// byte is no id (`MapOpt`) or that an array or table that is all there is malformed (`Eof`), and
-/// `Failure` that memory ran out.
+/// It returns `Incomplete` with the number of further bytes that the field being read needs,
+/// `Error` if the first byte is no type tag (`MapOpt`) or a complete array or table is malformed
+/// (`Eof`), and `Failure` if an allocation failed.
 ///
-/// What is read can be written again, in no more bytes than it was read from. It takes stack for
-/// each level of nesting, which the input's length alone bounds; docs/PROMISES.md says how much by
-/// runs. Memory is taken only for strings, byte arrays and containers whose bytes are all there.
+/// A parsed value can be written again, in no more bytes than it was parsed from. It uses stack for
+/// each level of nesting, which only the input's length bounds: for bytes from untrusted peers use
+/// `parse_value_within`. docs/PROMISES.md has measurements. It allocates only for strings, byte
+/// arrays and containers whose bytes are all there.
 #[inline(always)]
 #[tactic(auto, using(crate::proofs::Appends::has_one_outcome, amqp_grammar::proofs::GrammarLaws::more_bytes))]
 pub fn parse_value<I: ParsableInput>(alloc: Global, i: I) -> ParserResult<I, AMQPValue>
@@ -48,7 +49,7 @@ pub fn parse_value<I: ParsableInput>(alloc: Global, i: I) -> ParserResult<I, AMQ
     value_within(alloc, i, i.input_len())
 }
 
-/// Reads a value in which containers nest at most `depth` deep.
+/// Parses a value in which containers nest at most `depth` deep.
 #[cycle(parser)]
 #[inline(always)]
 pub fn value_within<I: ParsableInput>(
@@ -64,9 +65,9 @@ pub fn value_within<I: ParsableInput>(
     payload_within(alloc, amqp_type, i, depth)
 }
 
-/// Reads the payload of a value of the type.
+/// Parses the payload of a value of the type.
 ///
-/// A `LongLongUInt` is given as the `LongLongInt` of the same bits.
+/// For `LongLongUInt` it returns the `LongLongInt` of the same bits.
 pub fn parse_raw_value<I: ParsableInput>(
     alloc: Global,
     amqp_type: AMQPType,
@@ -174,10 +175,9 @@ fn payload_within<I: ParsableInput>(
     }
 }
 
-/// Reads an array: the length of its body in bytes, in four bytes, then its values, each with its
-/// id.
+/// Parses an array: the length of its body in four bytes, then its values, each after its type tag.
 ///
-/// The body is taken whole before a value of it is looked at.
+/// All bytes of the body must be there before any value in it is parsed.
 #[inline(always)]
 pub fn parse_field_array<I: ParsableInput>(alloc: Global, i: I) -> ParserResult<I, FieldArray>
     ensures { MatchResult result
@@ -203,7 +203,7 @@ fn array_within<I: ParsableInput>(alloc: Global, i: I, depth: usize) -> ParserRe
     Ok((i, array))
 }
 
-/// Reads the body of an array: values one after another, to its end.
+/// Parses the body of an array: values one after another, to its end.
 #[cycle(parser)]
 #[inline(never)]
 pub fn parse_body<I: ParsableInput>(
@@ -228,10 +228,10 @@ pub fn parse_body<I: ParsableInput>(
     Ok(array)
 }
 
-/// Reads a table: the length of its body in bytes, in four bytes, then its entries, each a key as a
-/// short string and a value with its id. Of equal keys the last one's value stays.
+/// Parses a table: the length of its body in four bytes, then its entries, each a key as a short
+/// string and a value after its type tag. Of equal keys the last one's value is retained.
 ///
-/// The body is taken whole before an entry of it is looked at.
+/// All bytes of the body must be there before any entry in it is parsed.
 #[inline(always)]
 pub fn parse_field_table<I: ParsableInput>(alloc: Global, i: I) -> ParserResult<I, FieldTable>
     ensures { MatchResult result
@@ -257,7 +257,7 @@ fn table_within<I: ParsableInput>(alloc: Global, i: I, depth: usize) -> ParserRe
     Ok((i, table))
 }
 
-/// Reads the body of a table: keys, each with a value, one after another, to its end.
+/// Parses the body of a table: keys, each with a value, one after another, to its end.
 #[cycle(parser)]
 #[inline(never)]
 pub fn parse_pairs<I: ParsableInput>(

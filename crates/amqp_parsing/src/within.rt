@@ -1,4 +1,4 @@
-//! Reading one value within limits.
+//! Parsing a value within limits.
 
 ghost use Rattle.std.specs.Prelude.{◌≡◌, ◌-◌, ◌≤◌, length, MatchResult, IfOk};
 ghost use Rattle.amqp_grammar.specs.Headline.{IsWritableIn};
@@ -16,14 +16,14 @@ use super::values::value_within;
 use amqp_value_core::value::AMQPValue;
 use std::alloc::Global;
 
-/// Reads a value as `parse_value` does, where it has at most `limits.frame` bytes and its
-/// containers nest at most `limits.depth` deep.
+/// Parses a value as `parse_value` does, if it has at most `limits.frame` bytes and its containers
+/// nest at most `limits.depth` deep.
 ///
-/// A longer value is rejected as `TooLarge` as soon as its first bytes tell; tests see no
-/// allocation then. One that nests deeper is rejected as `Eof`, like any other length-prefixed
-/// field that is no value; each entry that is written counts, also where its key comes again. Runs
-/// show that it takes stack for `limits.depth` levels at most; docs/PROMISES.md says how much for
-/// one.
+/// A longer value is rejected with `TooLarge` as soon as its first bytes show it; tests see no
+/// allocation then. One that nests deeper is rejected with `Eof`, like any other length-prefixed
+/// field that isn't a value; each entry that is written counts, even if its key occurs again. By
+/// measurements it uses stack for at most `limits.depth` levels; docs/PROMISES.md has what one
+/// takes.
 #[tactic(auto, using(amqp_grammar::proofs::GrammarLaws::deep_enough))]
 pub fn parse_value_within<I: ParsableInput>(
     alloc: Global,
