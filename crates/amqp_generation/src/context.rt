@@ -5,7 +5,7 @@ ghost use Rattle.amqp_generation.specs.Contexts.{output_of, start_of, shown};
 
 use crate::{BackToTheBuffer, GenError, GenResult, Output};
 
-/// An output and the position that it had as this context was made. Each generator writes to one.
+/// The context that generators write to: an output, and its position when this context was made.
 #[derive(Drop)]
 pub struct WriteContext<W: Output> {
     output: W,
@@ -25,14 +25,14 @@ impl<W: Output> From<W> for WriteContext<W> {
 }
 
 impl<W: Output> WriteContext<W> {
-    /// How many bytes were put through this context.
+    /// The number of bytes written through this context.
     pub fn position(&self) -> u64
         ensures { result ≡ (shown W.seen self.now).at - start_of self.now }
     {
         self.output.position().saturating_sub(self.start)
     }
 
-    /// Appends all of `bytes` to the output, or refuses.
+    /// Appends all of `bytes` to the output, or returns an error.
     pub fn put(&mut self, bytes: &[u8]) -> GenResult
         ensures put { Puts W.is_buffer bytes.now
             (shown W.seen self.old) result (shown W.seen self.new) }
@@ -50,7 +50,7 @@ impl<W: Output> WriteContext<W> {
         self.output.make_room(n)
     }
 
-    /// The output, and how many bytes were put through this context.
+    /// Returns the output, and the number of bytes written through this context.
     pub fn into_inner(self) -> (W, u64)
         ensures output { result.0 ≡ output_of self }
         ensures count { result.1 ≡ (shown W.seen self).at - start_of self }

@@ -5,9 +5,9 @@ ghost use Rattle.amqp_generation.specs.Devices.{seen_device, device_of, PutsToDe
 use crate::{GenError, GenResult, Output};
 use std::io::Write;
 
-/// A device as an output. It is no buffer: what a refused call had written by then stays written.
+/// A device as an output. It isn't a buffer: what was written before an error stays written.
 ///
-/// Its position counts the bytes of the puts that were answered `Ok`.
+/// Its position counts the bytes of the calls of `put` that returned `Ok`.
 #[derive(Drop)]
 pub struct IoOutput<W: Write> {
     device: W,
@@ -16,7 +16,7 @@ pub struct IoOutput<W: Write> {
 }
 
 impl<W: Write> IoOutput<W> {
-    /// An output of the device, nothing put yet and no fault counted.
+    /// Makes an output of the device, with nothing written and no fault counted.
     pub fn new(device: W) -> Self
         ensures device { device_of result ≡ device }
         ensures at { (seen_device W.contents result).at ≡ 0 }
@@ -29,7 +29,7 @@ impl<W: Write> IoOutput<W> {
         }
     }
 
-    /// The device.
+    /// Returns the device.
     pub fn into_inner(self) -> W
         ensures { result ≡ device_of self }
     {

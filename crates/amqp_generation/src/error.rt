@@ -1,25 +1,25 @@
 use std::io::ErrorKind;
 use thiserror::Error;
 
-/// Why a generator or an output refused to write.
+/// The error of a generator or an output.
 #[derive(Clone, Copy, Debug, PartialEq, Eq, Error)]
 pub enum GenError {
-    /// The bytes don't fit the fixed room.
+    /// The bytes don't fit in the buffer.
     #[error("buffer too small")]
     BufferTooSmall,
-    /// A length doesn't fit the field that is written for it.
+    /// A length doesn't fit in its length field.
     #[error("length too long")]
     LengthTooLong,
     /// An allocation failed.
     #[error("out of memory")]
     OutOfMemory,
-    /// The device failed, in this way.
+    /// The device failed with this kind of error.
     #[error("write failed")]
     IoError(ErrorKind),
-    /// The number of bytes written would pass the greatest `u64`.
+    /// The number of bytes written would exceed the greatest `u64`.
     #[error("invalid offset")]
     InvalidOffset,
 }
 
-/// What a generator answers.
+/// What a generator returns.
 pub type GenResult = Result<(), GenError>;

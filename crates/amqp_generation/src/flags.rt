@@ -8,8 +8,8 @@ ghost use Rattle.amqp_flags.specs.Flags.{flags_of, values_of, pack, AreFlagsRead
 use crate::{GenResult, Output, WriteContext};
 use amqp_flags::{AMQPFlags, byte_of};
 
-/// Writes flags, eight to a byte, the first one's bit the lowest. Packs as it goes, and takes no
-/// memory of its own.
+/// Writes flags, eight to a byte, the first one in the lowest bit. It packs as it goes, and doesn't
+/// allocate, except that a `Vec` grows.
 ///
 /// What is written is read back by the flags' names as the same flags, whatever follows.
 pub fn gen_flags<W: Output>(flags: &AMQPFlags, x: &mut WriteContext<W>) -> GenResult

@@ -1,7 +1,7 @@
-//! Writing values: outputs, and a generator for each type.
+//! Serializers: outputs, and a generator for each type.
 //!
-//! A generator writes a value through a context over any output; one of a whole value needs a
-//! buffer. None of them allocates memory of its own.
+//! A generator writes through a context over any output; one that writes a complete value or a
+//! container needs a buffer. None of them allocates, except that a `Vec` grows.
 #![tactic(auto)]
 
 mod context;

@@ -1,4 +1,4 @@
-//! Generators of numbers.
+//! Generators of scalars.
 
 ghost use Rattle.std.specs.Prelude.{[], ◌∷◌};
 ghost use Rattle.std.specs.Int.{w8, w16, w32, w64, to_be_bytes, cast_unsigned};
@@ -14,7 +14,7 @@ use amqp_value_core::types::{
     LongUInt, ShortInt, ShortShortInt, ShortShortUInt, ShortUInt, Timestamp,
 };
 
-/// Writes the id of a type, in one byte.
+/// Writes a type tag, one byte.
 pub fn gen_type<W: Output>(t: AMQPType, x: &mut WriteContext<W>) -> GenResult
     ensures put { PutsThrough W.is_buffer W.seen (id_of t ∷ []) x.old result x.new }
     ensures start { KeepsStart x.old x.new }
@@ -38,7 +38,7 @@ pub fn gen_boolean<W: Output>(b: Boolean, x: &mut WriteContext<W>) -> GenResult
     x.put(&[u8::from(b)])
 }
 
-/// Writes a signed number in one byte.
+/// Writes a signed integer in one byte.
 pub fn gen_short_short_int<W: Output>(n: ShortShortInt, x: &mut WriteContext<W>) -> GenResult
     ensures put { PutsThrough W.is_buffer W.seen (to_be_bytes w8 (cast_unsigned w8 n)) x.old result x.new }
     ensures start { KeepsStart x.old x.new }
@@ -46,7 +46,7 @@ pub fn gen_short_short_int<W: Output>(n: ShortShortInt, x: &mut WriteContext<W>)
     x.put(&i8::to_be_bytes(n))
 }
 
-/// Writes a number in one byte.
+/// Writes an unsigned integer in one byte.
 pub fn gen_short_short_uint<W: Output>(n: ShortShortUInt, x: &mut WriteContext<W>) -> GenResult
     ensures put { PutsThrough W.is_buffer W.seen (to_be_bytes w8 n) x.old result x.new }
     ensures start { KeepsStart x.old x.new }
@@ -54,7 +54,7 @@ pub fn gen_short_short_uint<W: Output>(n: ShortShortUInt, x: &mut WriteContext<W
     x.put(&u8::to_be_bytes(n))
 }
 
-/// Writes a signed number in two bytes, big-endian.
+/// Writes a signed integer in two bytes, big-endian.
 pub fn gen_short_int<W: Output>(n: ShortInt, x: &mut WriteContext<W>) -> GenResult
     ensures put { PutsThrough W.is_buffer W.seen (to_be_bytes w16 (cast_unsigned w16 n)) x.old result x.new }
     ensures start { KeepsStart x.old x.new }
@@ -62,7 +62,7 @@ pub fn gen_short_int<W: Output>(n: ShortInt, x: &mut WriteContext<W>) -> GenResu
     x.put(&i16::to_be_bytes(n))
 }
 
-/// Writes a number in two bytes, big-endian.
+/// Writes an unsigned integer in two bytes, big-endian.
 pub fn gen_short_uint<W: Output>(n: ShortUInt, x: &mut WriteContext<W>) -> GenResult
     ensures put { PutsThrough W.is_buffer W.seen (to_be_bytes w16 n) x.old result x.new }
     ensures start { KeepsStart x.old x.new }
@@ -70,7 +70,7 @@ pub fn gen_short_uint<W: Output>(n: ShortUInt, x: &mut WriteContext<W>) -> GenRe
     x.put(&u16::to_be_bytes(n))
 }
 
-/// Writes a signed number in four bytes, big-endian.
+/// Writes a signed integer in four bytes, big-endian.
 pub fn gen_long_int<W: Output>(n: LongInt, x: &mut WriteContext<W>) -> GenResult
     ensures put { PutsThrough W.is_buffer W.seen (to_be_bytes w32 (cast_unsigned w32 n)) x.old result x.new }
     ensures start { KeepsStart x.old x.new }
@@ -78,7 +78,7 @@ pub fn gen_long_int<W: Output>(n: LongInt, x: &mut WriteContext<W>) -> GenResult
     x.put(&i32::to_be_bytes(n))
 }
 
-/// Writes a number in four bytes, big-endian.
+/// Writes an unsigned integer in four bytes, big-endian.
 pub fn gen_long_uint<W: Output>(n: LongUInt, x: &mut WriteContext<W>) -> GenResult
     ensures put { PutsThrough W.is_buffer W.seen (to_be_bytes w32 n) x.old result x.new }
     ensures start { KeepsStart x.old x.new }
@@ -86,7 +86,7 @@ pub fn gen_long_uint<W: Output>(n: LongUInt, x: &mut WriteContext<W>) -> GenResu
     x.put(&u32::to_be_bytes(n))
 }
 
-/// Writes a signed number in eight bytes, big-endian.
+/// Writes a signed integer in eight bytes, big-endian.
 pub fn gen_long_long_int<W: Output>(n: LongLongInt, x: &mut WriteContext<W>) -> GenResult
     ensures put { PutsThrough W.is_buffer W.seen (to_be_bytes w64 (cast_unsigned w64 n)) x.old result x.new }
     ensures start { KeepsStart x.old x.new }
@@ -94,7 +94,7 @@ pub fn gen_long_long_int<W: Output>(n: LongLongInt, x: &mut WriteContext<W>) -> 
     x.put(&i64::to_be_bytes(n))
 }
 
-/// Writes a number in eight bytes, big-endian.
+/// Writes an unsigned integer in eight bytes, big-endian.
 pub fn gen_long_long_uint<W: Output>(n: LongLongUInt, x: &mut WriteContext<W>) -> GenResult
     ensures put { PutsThrough W.is_buffer W.seen (to_be_bytes w64 n) x.old result x.new }
     ensures start { KeepsStart x.old x.new }
@@ -126,7 +126,8 @@ pub fn gen_timestamp<W: Output>(n: Timestamp, x: &mut WriteContext<W>) -> GenRes
     gen_long_long_uint(n, x)
 }
 
-/// Writes a decimal number: its scale in one byte, then its digits as a number in four bytes.
+/// Writes a decimal number: its scale in one byte, then its digits as an unsigned integer in four
+/// bytes, big-endian.
 pub fn gen_decimal_value<W: Output>(d: DecimalValue, x: &mut WriteContext<W>) -> GenResult
     ensures put { PutsThrough W.is_buffer W.seen (spelled (decimal d.scale d.value)) x.old result x.new }
     ensures start { KeepsStart x.old x.new }

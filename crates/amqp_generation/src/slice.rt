@@ -4,7 +4,7 @@ ghost use Rattle.amqp_generation.specs.Slices.{seen_slice};
 use crate::{BackToTheBuffer, GenError, GenResult, Output};
 use std::marker::Model;
 
-/// A slice as a buffer of fixed room, written from its start. Takes no memory.
+/// A slice as a buffer of fixed capacity, written from its start. Doesn't allocate.
 #[derive(Drop)]
 pub struct SliceOutput<'a> {
     slice: &'a mut [u8],
@@ -23,14 +23,14 @@ impl<'a> Model for SliceOutput<'a> {
 }
 
 impl<'a> SliceOutput<'a> {
-    /// A buffer with the room of the slice, nothing put yet.
+    /// Makes a buffer of the slice, with nothing written.
     pub fn new(slice: &'a mut [u8]) -> Self
         ensures { result ≡ record { put = []; tail = slice.old } }
     {
         SliceOutput { slice, at: 0 }
     }
 
-    /// The bytes put.
+    /// The bytes written.
     pub fn written(&self) -> &[u8]
         ensures { result.now ≡ self.now.put }
     {

@@ -10,9 +10,10 @@ ghost use Rattle.amqp_generation.specs.Contexts.{shown, KeepsStart};
 use crate::{GenError, GenResult, Output, WriteContext};
 use amqp_value_core::types::ByteArray;
 
-/// Writes a text of at most 255 bytes after its length in one byte.
+/// Writes a string of at most 255 bytes after its length in one byte.
 ///
-/// A longer text is refused as `LengthTooLong` before a byte is put, whatever the room.
+/// A longer string is rejected with `LengthTooLong` before a byte is written, whatever the
+/// capacity.
 pub fn gen_short_string<W: Output>(s: &str, x: &mut WriteContext<W>) -> GenResult
     ensures written { Writes W.is_buffer (length s.now ≤ 255) (short_field s.now)
         (shown W.seen x.old) result (shown W.seen x.new) }
@@ -28,9 +29,9 @@ pub fn gen_short_string<W: Output>(s: &str, x: &mut WriteContext<W>) -> GenResul
     x.put(s.as_bytes())
 }
 
-/// Writes at most 4294967295 bytes after their number in four bytes.
+/// Writes at most 4294967295 bytes after their length in four bytes.
 ///
-/// More bytes are refused as `LengthTooLong` before a byte is put, whatever the room.
+/// More bytes are rejected with `LengthTooLong` before a byte is written, whatever the capacity.
 pub fn gen_long_string<W: Output>(s: &[u8], x: &mut WriteContext<W>) -> GenResult
     ensures written { Writes W.is_buffer (length s.now < 2 ^ 32) (long_field s.now)
         (shown W.seen x.old) result (shown W.seen x.new) }
@@ -46,9 +47,9 @@ pub fn gen_long_string<W: Output>(s: &[u8], x: &mut WriteContext<W>) -> GenResul
     x.put(s)
 }
 
-/// Writes at most 4294967295 bytes after their number in four bytes.
+/// Writes at most 4294967295 bytes after their length in four bytes.
 ///
-/// More bytes are refused as `LengthTooLong` before a byte is put, whatever the room.
+/// More bytes are rejected with `LengthTooLong` before a byte is written, whatever the capacity.
 pub fn gen_byte_array<W: Output>(a: &ByteArray, x: &mut WriteContext<W>) -> GenResult
     ensures written { Writes W.is_buffer (length (octets_of a.now) < 2 ^ 32) (long_field (octets_of a.now))
         (shown W.seen x.old) result (shown W.seen x.new) }

@@ -23,12 +23,12 @@ use crate::{
 use amqp_value_core::types::{AMQPType, DecimalValue, FieldArray, FieldTable, ShortString};
 use amqp_value_core::value::AMQPValue;
 
-/// Writes a value: the id of its type, then its payload.
+/// Writes a value: its type tag, then its payload.
 ///
-/// What is written is the value's canonical encoding: a shortest one, which no other value has.
-/// Where the value was read, room for as many bytes as it was read from is enough. A value in which
-/// a `ShortString` stands, not as a key, has no encoding: it is written with the byte `_` where a
-/// type tag would stand, and is refused when it is read.
+/// What is written is the value's canonical encoding: a shortest one, which no other value has. For
+/// a value that was parsed, a buffer as long as the bytes it was parsed from is enough. A value
+/// that holds a `ShortString`, except as a key, has no encoding: it is written with the byte `_` as
+/// type tag, and the parsers reject it.
 #[tactic(auto, using(amqp_grammar::proofs::GrammarLaws::is_shortest, amqp_grammar::proofs::GrammarLaws::tells_apart, amqp_grammar::proofs::GrammarLaws::is_canonical, crate::proofs::WhatWasRead::writes_what_was_read))]
 pub fn gen_value<W: BackToTheBuffer>(v: &AMQPValue, x: &mut WriteContext<W>) -> GenResult
     ensures written { Writes true (Fits (view v.now)) (text (view v.now))
@@ -62,7 +62,7 @@ fn write_value<W: BackToTheBuffer>(v: &AMQPValue, x: &mut WriteContext<W>) -> Ge
     Ok(())
 }
 
-/// Writes a value's payload, without the id of its type.
+/// Writes a value's payload, without its type tag.
 #[cycle(values)]
 pub fn gen_raw_value<W: BackToTheBuffer>(v: &AMQPValue, x: &mut WriteContext<W>) -> GenResult
     ensures written { Writes true (Fits (view v.now)) (payload (view v.now))
@@ -97,7 +97,7 @@ pub fn gen_raw_value<W: BackToTheBuffer>(v: &AMQPValue, x: &mut WriteContext<W>)
     }
 }
 
-/// Writes an array's values, each with its id, after the number of bytes that they take.
+/// Writes an array: the length of its body in four bytes, then its values, each after its type tag.
 #[cycle(values)]
 #[tactic(auto, using(crate::proofs::WhatWasRead::writes_payload_read))]
 pub fn gen_field_array<W: BackToTheBuffer>(a: &FieldArray, x: &mut WriteContext<W>) -> GenResult
@@ -119,8 +119,8 @@ pub fn gen_field_array<W: BackToTheBuffer>(a: &FieldArray, x: &mut WriteContext<
     fill_length(at, x)
 }
 
-/// Writes a table's entries, each its key as a short string and its value with its id, in the order
-/// of the keys' bytes, after the number of bytes that they take.
+/// Writes a table: the length of its body in four bytes, then its entries, each its key as a short
+/// string and its value after its type tag, sorted by the keys' bytes.
 #[cycle(values)]
 #[tactic(auto, using(crate::proofs::WhatWasRead::writes_payload_read))]
 pub fn gen_field_table<W: BackToTheBuffer>(t: &FieldTable, x: &mut WriteContext<W>) -> GenResult

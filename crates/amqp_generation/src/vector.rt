@@ -15,8 +15,8 @@ impl From<AllocError> for GenError {
     }
 }
 
-/// A vector as a buffer of open room, written at its end. Its position is its length, and it
-/// refuses only where an allocation fails.
+/// A `Vec` as a buffer of open capacity, written at its end. Its position is its length, and it
+/// returns an error only if an allocation fails.
 impl Output for Vec<u8> {
     ghost is_buffer = { true };
 

@@ -8,11 +8,11 @@ ghost use Rattle.amqp_generation.specs.Lengths.{OnlyAppends, PutsWithLength, Ref
 use crate::values::fill_length;
 use crate::{BackToTheBuffer, GenResult, WriteContext};
 
-/// Writes the length of what `f` appends in four bytes, then that.
+/// Writes the length of what `f` appends in four bytes, then what it appends.
 ///
-/// The caller owes that `f` only appends, whatever it answers. Where `f` answers an error, that is
-/// answered, and where it appends more than 4294967295 bytes, `LengthTooLong`. Then the position
-/// and the bytes before it are as before.
+/// Precondition: `f` only appends, whatever it returns. If `f` returns an error, that is returned,
+/// and if it appends more than 4294967295 bytes, `LengthTooLong`. On an error the position and the
+/// bytes before it are unchanged.
 pub fn gen_with_len<W: BackToTheBuffer, F: FnOnce(&mut WriteContext<W>) -> GenResult>(
     f: F,
     x: &mut WriteContext<W>,
