@@ -3,24 +3,24 @@ use std::alloc::AllocError;
 use std::io;
 use thiserror::Error;
 
-/// Why a reader of values gave none. What is said of the bytes that came, clauses say where the
-/// reader tells its bytes, as a slice does, and tests elsewhere.
+/// Why a reader of values returned none. Clauses state what it says of the bytes that came for
+/// readers whose model has their bytes, as a slice's has, and tests show it for others.
 #[derive(Clone, Debug, PartialEq, Drop, Error)]
 pub enum StreamError {
-    /// What came begins with no value within the limits. The reader of values has failed for good.
+    /// The input is no value within the limits. The reader of values has failed for good.
     #[error(transparent)]
     Refused(ParserErrors),
-    /// The reader ended inside a value. The reader of values has failed for good.
+    /// The input ended inside a value. The reader of values has failed for good.
     #[error("truncated")]
     Truncated,
-    /// The reader failed in this way, `Interrupted` too. Nothing that came is lost, and the next
-    /// call goes on.
+    /// The reader returned this kind of error, `Interrupted` too. Nothing that came is lost, and
+    /// the next call continues.
     #[error("read failed")]
     Read(io::ErrorKind),
-    /// An allocation failed. Nothing that came is lost, and the next call goes on.
+    /// An allocation failed. Nothing that came is lost, and the next call continues.
     #[error("out of memory")]
     OutOfMemory,
-    /// An earlier call answered `Refused` or `Truncated`. Nothing was read.
+    /// An earlier call returned `Refused` or `Truncated`. Nothing was read.
     #[error("failed before")]
     Failed,
 }

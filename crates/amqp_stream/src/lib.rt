@@ -1,5 +1,5 @@
-//! Values from strangers' bytes, within limits on their length and on how deep they nest: one from
-//! an input, or one after another from a reader.
+//! Values from untrusted peers, with limits on length and nesting: one from an input, or one after
+//! another from a reader.
 #![tactic(auto)]
 
 mod error;

@@ -14,11 +14,11 @@ use std::io::Read;
 
 /// Reads values from a reader, one after another, each within limits.
 ///
-/// Where the reader tells its bytes, as a slice does, no byte after the value that it gives is read.
-/// A file, a socket and standard input tell none: of such, tests show it, and of all that no more
-/// bytes are asked for than the field being read needs. It is viewed as keeping at most
-/// `limits.frame` bytes; the room that has them, of which no clause speaks, stays until it is
-/// dropped. What nesting takes of the stack is as in `parse_value_within`.
+/// If the reader's model has its bytes, as a slice's has, no byte after the value that it returns
+/// is read. A file's, a socket's and standard input's have none: for such, tests show it, and for
+/// all that no more bytes are asked for than the field being read needs. At most `limits.frame`
+/// bytes are retained in its model; the buffer for them, which no clause is about, stays until it
+/// is dropped. It uses stack as `parse_value_within` does.
 #[derive(Drop)]
 pub struct ValueReader<R> {
     values: Values,
@@ -26,7 +26,7 @@ pub struct ValueReader<R> {
 }
 
 impl<R: Read> ValueReader<R> {
-    /// A reader of values that has read nothing yet. It takes no memory. The caller owes that
+    /// Makes a reader of values that has read nothing. It doesn't allocate. Precondition:
     /// `limits.frame` isn't 0.
     pub fn new(alloc: Global, reader: R, limits: Limits) -> Self
         requires { 0 < limits.frame }
@@ -41,8 +41,8 @@ impl<R: Read> ValueReader<R> {
         }
     }
 
-    /// The next value, or `None` where the reader ended after the value before. After `None` a
-    /// later call asks the reader again.
+    /// Reads the next value; returns `None` if the reader ended after the value before. After
+    /// `None` a later call asks the reader again.
     pub fn next(&mut self) -> Result<Option<AMQPValue>, StreamError>
         ensures answer { has_failed (values_of self.old) ≡ false → (x : List ℕ)
             × Consumes (R.remaining (reader_of self.old)) (R.remaining (reader_of self.new)) x
@@ -58,7 +58,7 @@ impl<R: Read> ValueReader<R> {
         self.values.next_from(&mut self.reader)
     }
 
-    /// The reader. What is kept of a value that hasn't all come is dropped.
+    /// Returns the reader. What is retained of an incomplete value is dropped.
     pub fn into_inner(self) -> R
         ensures { result ≡ reader_of self }
     {

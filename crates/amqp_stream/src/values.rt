@@ -1,4 +1,4 @@
-//! Values that come from a reader, one after another.
+//! Values from a reader, one after another.
 
 ghost use Rattle.std.specs.Prelude.{◌≡◌, ◌<◌, ◌≤◌, ◌++◌, List, ℕ, Option, length, IfSome, true, false, []};
 ghost use Rattle.std.specs.Io.KnownBytes.{Consumes, IsAtEnd};
@@ -15,8 +15,8 @@ use amqp_value_core::value::AMQPValue;
 use std::alloc::Global;
 use std::io::Read;
 
-/// What a reader of values keeps between its calls, each of which is handed the reader: where a
-/// `ValueReader` would borrow it for the whole stream.
+/// The state of a reader of values between its calls, each of which is passed the reader. A
+/// `ValueReader` holds the reader itself.
 #[derive(Drop)]
 pub struct Values {
     alloc: Global,
@@ -30,7 +30,8 @@ pub struct Values {
 impl Values {
     ghost use Rattle.amqp_stream.specs.Readers.{kept, has_failed, limits_of, Answers, AnswersAll, IsFailed};
 
-    /// Nothing is kept yet. It takes no memory. The caller owes that `limits.frame` isn't 0.
+    /// Makes a state with nothing retained. It doesn't allocate. Precondition: `limits.frame` isn't
+    /// 0.
     pub fn new(alloc: Global, limits: Limits) -> Self
         requires { 0 < limits.frame }
         ensures limits { limits_of result ≡ limits }
@@ -45,8 +46,8 @@ impl Values {
         }
     }
 
-    /// The next value, or `None` where the reader ended after the value before. The reader may be
-    /// another one each time: what is kept of a value is read on in it.
+    /// Reads the next value; returns `None` if the reader ended after the value before. The reader
+    /// may be another one each time: an incomplete value is continued from it.
     #[tactic(auto, using(amqp_parsing::proofs::ParsingLaws::kept_within))]
     pub fn next_from<R: Read>(&mut self, reader: &mut R) -> Result<Option<AMQPValue>, StreamError>
         ensures answer { has_failed self.old ≡ false → (x : List ℕ)
