@@ -1,4 +1,4 @@
-//! What stands in an array.
+//! Access to the values of an array.
 
 ghost use Rattle.std.specs.Prelude.{◌≡◌, ◌<◌, ◌↔◌, IsTrue, IfSome, length, MatchResult};
 ghost use Rattle.amqp_grammar.specs.Values.{Trees, no_trees};
@@ -24,14 +24,14 @@ impl<'a> ArrayRef<'a> {
         self.body().as_slice()
     }
 
-    /// Whether there is no value.
+    /// Whether the array is empty.
     pub fn is_empty(self) -> bool
         ensures { (vs : Trees) → Body (array_body self.entry) vs → IsTrue result ↔ (vs ≡ no_trees) }
     {
         self.body().input_len() == 0
     }
 
-    /// The value at `index`, counted from 0. Walks the values before it.
+    /// Returns the value at `index`, counted from 0. Iterates over the values before it.
     pub fn get(self, index: usize) -> Option<ValueRef<'a>>
         ensures value { (vs : Trees) → Body (array_body self.entry) vs → FoundIs (tree_at index vs) result }
         ensures lies { IfSome result (λ r. LiesWithin (array_body self.entry) r) }
@@ -48,8 +48,8 @@ impl<'a> ArrayRef<'a> {
         None
     }
 
-    /// The array in memory of its own, which `parse_value` gives. No values take no memory. It
-    /// takes stack for each level of nesting; docs/PROMISES.md says how much by runs.
+    /// Copies the array to an owned one, the one that `parse_value` returns. An empty array doesn't
+    /// allocate. It uses stack for each level of nesting; docs/PROMISES.md has measurements.
     pub fn to_owned(self, alloc: Global) -> Result<FieldArray, AllocError>
         ensures { MatchResult result
             (λ a. Body (array_body self.entry) (array_view a))

@@ -1,4 +1,4 @@
-//! Canonical encodings, told in place.
+//! Canonical encodings, checked in place.
 
 ghost use Rattle.std.specs.Prelude.{◌≡◌, true, false, ℕ, List, length, None, IfSome};
 ghost use Rattle.amqp_types.specs.Inputs.{slice_bytes};
@@ -10,11 +10,11 @@ use amqp_parsing::Limits;
 use amqp_parsing::header::{Header, header_of};
 use amqp_types::{ParsableInput, SliceInput};
 
-/// Whether the bytes are the canonical encoding of a value, within the limits, and no byte stands
-/// behind it: told where they lie, with no memory.
+/// Whether the bytes are exactly the canonical encoding of a value within the limits. It doesn't
+/// allocate.
 ///
-/// The canonical encoding is the one that `gen_value` writes: no second spelling of a type tag (`U`
-/// or `L`), a boolean's byte 0 or 1, and the keys of each table strictly rising by their bytes.
+/// The canonical encoding is the one that `gen_value` writes: no alternate type tag (`U` or `L`), a
+/// boolean's byte 0 or 1, and the keys of each table strictly ascending by their bytes.
 pub fn is_canonical(bytes: &[u8], limits: Limits) -> bool
     ensures yes { result ≡ true → IsCanonicalWithin limits bytes.now }
     ensures no { result ≡ false → IsCanonicalWithin limits bytes.now → ⊥ }
@@ -24,12 +24,12 @@ pub fn is_canonical(bytes: &[u8], limits: Limits) -> bool
     canonical_len(bytes, limits) == Some(bytes.len())
 }
 
-/// How many bytes the canonical encoding at the front has; `None` where none stands there within
-/// the limits.
+/// The length of the canonical encoding at the start of the bytes, or `None` if there is none
+/// within the limits.
 ///
-/// All of the value is checked, keys' UTF-8 too, in one pass. Nothing is copied, and no memory is
-/// taken. Runs show that it takes stack for `limits.depth` levels at most; docs/PROMISES.md says
-/// how much for one. `read_in_place` tells why a value is rejected.
+/// All of the value is checked, keys' UTF-8 too, in one pass. Nothing is copied or allocated. By
+/// measurements it uses stack for at most `limits.depth` levels; docs/PROMISES.md has what one
+/// takes. `read_in_place` returns why a value is rejected.
 pub fn canonical_len(bytes: &[u8], limits: Limits) -> Option<usize>
     ensures len { IfSome result (λ n. IsCanonicalLen limits bytes.now n) }
     ensures none { result ≡ None → (n : ℕ) → IsCanonicalLen limits bytes.now n → ⊥ }

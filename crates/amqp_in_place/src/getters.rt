@@ -1,4 +1,4 @@
-//! The field of a value, where the value is of a given type.
+//! Getters: the field of a value of a given type.
 
 use super::refs::{ArrayRef, TableRef, ValueRef};
 use amqp_types::{
@@ -6,7 +6,7 @@ use amqp_types::{
     ShortShortInt, ShortShortUInt, ShortUInt, Timestamp,
 };
 
-/// Each getter gives the field of its own variant, and `None` for every other.
+/// Each getter returns the field of its own variant, and `None` for every other.
 impl<'a> ValueRef<'a> {
     ghost use Rattle.std.specs.Prelude.{◌≡◌, option_map, is_some};
     ghost use Rattle.std.specs.Int.{w8, w16, w32, w64, cast_unsigned};
@@ -168,7 +168,7 @@ impl<'a> ValueRef<'a> {
         }
     }
 
-    /// The list, of a `FieldArray`.
+    /// The array, of a `FieldArray`.
     pub fn as_array(self) -> Option<ArrayRef<'a>>
         ensures { (v : Tree) → Stands self.entry v → ArrayIs (array_in v) result }
     {
@@ -188,7 +188,7 @@ impl<'a> ValueRef<'a> {
         }
     }
 
-    /// The map, of a `FieldTable`.
+    /// The table, of a `FieldTable`.
     pub fn as_field_table(self) -> Option<TableRef<'a>>
         ensures { (v : Tree) → Stands self.entry v → TableIs (table_in v) result }
     {
@@ -209,7 +209,7 @@ impl<'a> ValueRef<'a> {
         }
     }
 
-    /// Nothing, of `Void`.
+    /// `Some(())`, of `Void`.
     pub fn as_void(self) -> Option<()>
         ensures { (v : Tree) → Stands self.entry v → is_some result ≡ is_void v }
     {

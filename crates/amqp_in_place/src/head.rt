@@ -1,4 +1,4 @@
-//! What stands after a type tag (id), one level deep.
+//! What follows a type tag, one level deep.
 
 ghost use Rattle.std.specs.Prelude.{◌≡◌, ◌≢◌, MatchResult};
 ghost use Rattle.amqp_grammar.specs.Payloads.{RawOutcome};

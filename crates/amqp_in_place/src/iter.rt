@@ -1,4 +1,4 @@
-//! The values of an array and the pairs of a table, one after another.
+//! Iterators over the values of an array and the pairs of a table.
 
 ghost use Rattle.amqp_types.specs.Inputs.{slice_bytes};
 ghost use Rattle.amqp_in_place.specs.Bodies.{HasValues, HasPairs};
@@ -7,15 +7,15 @@ use super::refs::{ArrayRef, TableRef, ValueRef};
 use super::steps::{next_pair, next_value};
 use amqp_types::SliceInput;
 
-/// The values of an array that are left, in order.
+/// An iterator over the remaining values of an array, in order.
 #[derive(Drop)]
 pub struct ArrayValues<'a> {
     values: SliceInput<'a>,
     ghost well_formed: { ∥ HasValues (slice_bytes values) ∥₁ },
 }
 
-/// The pairs of a table that are left, in the order in which they are written. A key may come more
-/// than once: the last pair's value is the one that counts.
+/// An iterator over the pairs of a table, in the order in which they are written. A key may occur
+/// more than once: the last pair's value counts.
 #[derive(Drop)]
 pub struct TablePairs<'a> {
     pairs: SliceInput<'a>,
@@ -27,7 +27,7 @@ impl<'a> ArrayRef<'a> {
     ghost use Rattle.amqp_in_place.specs.Refs.{array_body};
     ghost use Rattle.amqp_in_place.specs.Left.{values_left};
 
-    /// The values, in order.
+    /// Iterates over the values, in order.
     pub fn iter(self) -> ArrayValues<'a>
         ensures { values_left result ≡ array_body self.entry }
     {
@@ -42,7 +42,8 @@ impl<'a> TableRef<'a> {
     ghost use Rattle.amqp_in_place.specs.Refs.{table_body};
     ghost use Rattle.amqp_in_place.specs.Left.{pairs_left};
 
-    /// The pairs, in the order in which they are written; a key may come more than once.
+    /// Iterates over the pairs, in the order in which they are written; a key may occur more than
+    /// once.
     pub fn iter(self) -> TablePairs<'a>
         ensures { pairs_left result ≡ table_body self.entry }
     {
@@ -102,7 +103,7 @@ impl<'a> ArrayValues<'a> {
     ghost use Rattle.std.specs.Prelude.{◌≡◌};
     ghost use Rattle.amqp_in_place.specs.Left.{values_left};
 
-    /// The bytes of the values that are left: those of the array from the next value on.
+    /// The bytes of the remaining values: those of the array from the next value on.
     pub fn as_bytes(&self) -> &'a [u8]
         ensures { result.now ≡ values_left self.now }
     {
@@ -114,7 +115,7 @@ impl<'a> TablePairs<'a> {
     ghost use Rattle.std.specs.Prelude.{◌≡◌};
     ghost use Rattle.amqp_in_place.specs.Left.{pairs_left};
 
-    /// The bytes of the pairs that are left: those of the table from the next key's length on.
+    /// The bytes of the remaining pairs: those of the table from the next key's length on.
     pub fn as_bytes(&self) -> &'a [u8]
         ensures { result.now ≡ pairs_left self.now }
     {

@@ -1,4 +1,5 @@
-//! Reading in place: a value where its bytes lie, with no memory and no copy.
+//! Reading in place: borrowed views of encoded values, which are validated once and then iterated
+//! and looked up, without allocation or copies.
 #![tactic(auto)]
 
 mod arrays;

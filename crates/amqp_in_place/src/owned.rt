@@ -1,4 +1,4 @@
-//! Values of their own, from values in place.
+//! Owned values, from values in place.
 
 ghost use Rattle.std.specs.Prelude.{MatchResult};
 ghost use Rattle.amqp_value_core.specs.View.{view};
@@ -11,9 +11,9 @@ use amqp_value_core::value::AMQPValue;
 use std::alloc::{AllocError, Global};
 
 impl<'a> ValueRef<'a> {
-    /// The value in memory of its own, which `parse_value` gives. A number, a boolean, Void and
-    /// what is empty take no memory. It takes stack for each level of nesting; docs/PROMISES.md
-    /// says how much by runs.
+    /// Copies the value to an owned one, the one that `parse_value` returns. A number, a boolean,
+    /// Void and what is empty don't allocate. It uses stack for each level of nesting;
+    /// docs/PROMISES.md has measurements.
     pub fn to_owned(self, alloc: Global) -> Result<AMQPValue, AllocError>
         ensures { MatchResult result (λ v. Stands self.entry (view v)) (λ _. HasBytes self.entry) }
     {

@@ -21,12 +21,11 @@ use amqp_parsing::{ErrorKind, Limits, ParserError, ParserResult};
 use amqp_types::{ParsableInput, SliceInput};
 use simdutf8::basic::Utf8Error;
 
-/// Reads a value where its bytes lie: answers what `parse_value_within` does within the same
-/// limits, but that it never runs out of memory.
+/// Reads a value in place: returns what `parse_value_within` does within the same limits, except
+/// that it never runs out of memory.
 ///
-/// All of the value is checked, keys' UTF-8 too. Nothing is copied, and no memory is taken. Runs
-/// show that it takes stack for `limits.depth` levels at most; docs/PROMISES.md says how much for
-/// one.
+/// All of the value is validated, keys' UTF-8 too. Nothing is copied or allocated. By measurements
+/// it uses stack for at most `limits.depth` levels; docs/PROMISES.md has what one takes.
 #[tactic(auto, using(crate::proofs::OneValue::one_value, crate::proofs::Reading::left_behind))]
 pub fn read_in_place(bytes: &[u8], limits: Limits) -> Result<(ValueRef<'_>, &[u8]), ParserError>
     ensures within { MatchResult result
@@ -49,11 +48,11 @@ pub fn read_in_place(bytes: &[u8], limits: Limits) -> Result<(ValueRef<'_>, &[u8
     }
 }
 
-/// Reads a value where its bytes lie, without limits: answers what `parse_value` does, but that it
-/// never runs out of memory.
+/// Reads a value in place, without limits: returns what `parse_value` does, except that it never
+/// runs out of memory.
 ///
-/// It takes stack for each level of nesting, which the input's length alone bounds;
-/// docs/PROMISES.md says how much by runs.
+/// It uses stack for each level of nesting, which only the input's length bounds: for bytes from
+/// untrusted peers use `read_in_place`. docs/PROMISES.md has measurements.
 #[tactic(auto, using(crate::proofs::OneValue::one_value, crate::proofs::Reading::left_behind))]
 pub fn read_in_place_unlimited(bytes: &[u8]) -> Result<(ValueRef<'_>, &[u8]), ParserError>
     ensures outcome { MatchResult result

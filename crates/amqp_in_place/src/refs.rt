@@ -1,4 +1,4 @@
-//! Values that lie in the bytes they were read from.
+//! Borrowed views of encoded values.
 
 ghost use Rattle.amqp_types.specs.Inputs.{slice_bytes};
 ghost use Rattle.amqp_in_place.specs.Bodies.{HasValues, HasPairs};
@@ -8,38 +8,39 @@ use amqp_types::{
     ShortShortUInt, ShortUInt, SliceInput, Timestamp,
 };
 
-/// An array where its bytes lie.
+/// A borrowed view of an encoded array.
 #[derive(Clone, Copy)]
 pub struct ArrayRef<'a> {
     body: SliceInput<'a>,
     ghost well_formed: { ∥ HasValues (slice_bytes body) ∥₁ },
 }
 
-/// A table where its bytes lie.
+/// A borrowed view of an encoded table.
 #[derive(Clone, Copy)]
 pub struct TableRef<'a> {
     body: SliceInput<'a>,
     ghost well_formed: { ∥ HasPairs (slice_bytes body) ∥₁ },
 }
 
-/// A value where its bytes lie, with its type. There is no short string: no id stands for it.
+/// A borrowed view of an encoded value, with its type. It is never a short string, which has no
+/// type tag.
 #[derive(Clone, Copy)]
 pub enum ValueRef<'a> {
     /// A boolean.
     Boolean(Boolean),
-    /// A signed number of 8 bits.
+    /// A signed integer of 8 bits.
     ShortShortInt(ShortShortInt),
-    /// An unsigned number of 8 bits.
+    /// An unsigned integer of 8 bits.
     ShortShortUInt(ShortShortUInt),
-    /// A signed number of 16 bits.
+    /// A signed integer of 16 bits.
     ShortInt(ShortInt),
-    /// An unsigned number of 16 bits.
+    /// An unsigned integer of 16 bits.
     ShortUInt(ShortUInt),
-    /// A signed number of 32 bits.
+    /// A signed integer of 32 bits.
     LongInt(LongInt),
-    /// An unsigned number of 32 bits.
+    /// An unsigned integer of 32 bits.
     LongUInt(LongUInt),
-    /// A signed number of 64 bits.
+    /// A signed integer of 64 bits.
     LongLongInt(LongLongInt),
     /// A floating-point number of 32 bits.
     Float(Float),
@@ -47,15 +48,15 @@ pub enum ValueRef<'a> {
     Double(Double),
     /// A decimal number.
     DecimalValue(DecimalValue),
-    /// Bytes of any kind, a text for most peers.
+    /// Arbitrary bytes, which most peers take for text.
     LongString(&'a [u8]),
     /// A list of values, each with its type.
     FieldArray(ArrayRef<'a>),
-    /// A time, an unsigned number of 64 bits: by the specification, seconds since 1970.
+    /// A time, an unsigned integer of 64 bits: by the specification, seconds since 1970.
     Timestamp(Timestamp),
     /// A map from short strings to values, each with its type.
     FieldTable(TableRef<'a>),
-    /// Bytes of any kind.
+    /// Arbitrary bytes.
     ByteArray(&'a [u8]),
     /// No value.
     Void,

@@ -1,4 +1,4 @@
-//! Keys that stand more than once in a table.
+//! Keys that occur more than once in a table.
 
 ghost use Rattle.std.specs.Prelude.{◌≡◌, true, false, IfOk, OnErr};
 ghost use Rattle.amqp_grammar.specs.Values.{Entries};
@@ -17,12 +17,12 @@ use std::alloc::{AllocError, Global};
 use std::collections::BTreeSet;
 
 impl<'a> TableRef<'a> {
-    /// A key that more than one pair has, so that readers may differ on its value; `None` where
-    /// each key stands once. Containers inside the table aren't looked into.
+    /// Returns a key that more than one pair has, so that readers may differ on its value, or
+    /// `None` if there is no such key. Containers inside the table aren't checked.
     ///
-    /// Keys that rise by their bytes, as in a canonical encoding, take no memory. Others are kept
-    /// in a set, in at most some 40 bytes each, until one comes again: n log n comparisons for n
-    /// pairs, whoever picks the keys.
+    /// If the keys ascend by their bytes, as in a canonical encoding, it doesn't allocate.
+    /// Otherwise keys are retained in a set, in at most some 40 bytes each, until one is repeated:
+    /// n log n comparisons for n pairs, whoever picks the keys.
     pub fn repeated_key(self, alloc: Global) -> Result<Option<&'a str>, AllocError>
         ensures repeated { IfOk result (λ key. (ps : Entries) → Pairs (table_body self.entry) ps → RepeatedIs ps key) }
         ensures err { OnErr result ((ps : Entries) → Pairs (table_body self.entry) ps → IsRising ps → ⊥) }

@@ -1,4 +1,4 @@
-//! How many bytes a value takes.
+//! The length of a value.
 
 ghost use Rattle.std.specs.Prelude.{◌≡◌, ◌<◌, ◌≤◌, length, IfErr, IfOk};
 ghost use Rattle.amqp_grammar.specs.Outcomes.{Outcome};
@@ -9,10 +9,10 @@ use super::head::read_head;
 use amqp_parsing::ParserError;
 use amqp_types::{ParsableInput, SliceInput};
 
-/// How many bytes the value at the beginning takes, by its type tag and its length alone: in
+/// The length of the value at the start of the bytes, by its type tag and its length field only: in
 /// constant time, and whether or not the body of a container holds entries.
 ///
-/// It rejects what `parse_value` rejects for its type tag, and asks for more bytes where that does.
+/// It rejects an unknown type tag, as `parse_value` does, and asks for more bytes whenever that does.
 #[tactic(auto, using(crate::proofs::Skipping::skipped, crate::proofs::Skipping::width_of_found, crate::proofs::Skipping::refused_so))]
 pub fn skip_value(bytes: &[u8]) -> Result<usize, ParserError>
     ensures extent { IfOk result (λ n. n ≡ extent bytes.now) }

@@ -1,4 +1,4 @@
-//! Stepping through bodies that were checked.
+//! Iterating over bodies that were validated.
 
 ghost use Rattle.std.specs.Prelude.{ℕ, List, length, IfSome};
 ghost use Rattle.amqp_grammar.specs.Values.{Tree, Trees, Entries};

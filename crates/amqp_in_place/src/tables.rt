@@ -1,4 +1,4 @@
-//! What stands in a table.
+//! Access to the entries of a table.
 
 ghost use Rattle.std.specs.Prelude.{◌≡◌, ◌<◌, ◌↔◌, IsTrue, IfSome, length, MatchResult};
 ghost use Rattle.amqp_grammar.specs.Values.{Entries, no_entries};
@@ -27,7 +27,7 @@ impl<'a> TableRef<'a> {
         self.body().as_slice()
     }
 
-    /// Whether there is no entry.
+    /// Whether the table is empty.
     #[tactic(auto, using(crate::proofs::Lookups::no_pairs_at))]
     pub fn is_empty(self) -> bool
         ensures { (ps : Entries) → Pairs (table_body self.entry) ps → IsTrue result ↔ (ps ≡ no_entries) }
@@ -35,8 +35,8 @@ impl<'a> TableRef<'a> {
         self.body().input_len() == 0
     }
 
-    /// The value at the key: of equal keys the last pair's. Passes all pairs over by their lengths,
-    /// and reads the value that is found.
+    /// Returns the value at the key: of equal keys the last pair's. Skips over all pairs by their
+    /// lengths, and reads the value that is found.
     pub fn get(self, key: &str) -> Option<ValueRef<'a>>
         ensures value { (es : Entries) → HasEntries (table_body self.entry) es → FoundIs (value_at key.now es) result }
         ensures lies { IfSome result (λ r. LiesWithin (table_body self.entry) r) }
@@ -45,15 +45,15 @@ impl<'a> TableRef<'a> {
         Some(front_value(at))
     }
 
-    /// Whether there is a value at the key.
+    /// Whether the table has the key.
     pub fn contains_key(self, key: &str) -> bool
         ensures { (es : Entries) → HasEntries (table_body self.entry) es → result ≡ has_key key.now es }
     {
         last_at(self.as_bytes(), key.as_bytes()).is_some()
     }
 
-    /// The table in memory of its own, which `parse_value` gives. No entries take no memory. It
-    /// takes stack for each level of nesting; docs/PROMISES.md says how much by runs.
+    /// Copies the table to an owned one, the one that `parse_value` returns. An empty table doesn't
+    /// allocate. It uses stack for each level of nesting; docs/PROMISES.md has measurements.
     #[tactic(auto, using(crate::proofs::Owning::entries_of_table))]
     pub fn to_owned(self, alloc: Global) -> Result<FieldTable, AllocError>
         ensures { MatchResult result
