@@ -3,17 +3,17 @@ use amqp_parsing::ParserError;
 use std::alloc::AllocError;
 use thiserror::Error;
 
-/// Why there is no encoding for a JSON text.
+/// Why a JSON text has no encoding.
 #[derive(Debug, Drop, Error)]
 pub enum EncodeError {
-    /// The text is no JSON, or the JSON of no value; or memory ran out while it was read
+    /// The text isn't JSON, or isn't the JSON of a value; or memory ran out while it was read
     /// (`JsonError::OutOfMemory`).
     #[error("{0}")]
     Json(JsonError),
-    /// A ShortString stands in the value, or it is one: no type tag is read as that type.
+    /// The value is or holds a ShortString, which has no type tag.
     #[error("a ShortString has no type tag")]
     NoTypeTag,
-    /// A string, a byte array or a container is longer than a length field can say.
+    /// A string, a byte array or a container is longer than its length field can hold.
     #[error("length too long")]
     TooLong,
     /// An allocation failed.
@@ -21,10 +21,10 @@ pub enum EncodeError {
     OutOfMemory,
 }
 
-/// Why there is no JSON text for some bytes.
+/// Why some bytes have no JSON text.
 #[derive(Debug, Drop)]
 pub enum DecodeError {
-    /// They don't begin with a value within the limits: what `parse_value_within` answers.
+    /// The bytes don't begin with a value within the limits: the error of `parse_value_within`.
     Refused(ParserError),
     /// An allocation failed.
     OutOfMemory,

@@ -1,4 +1,4 @@
-//! From an encoding to the JSON text.
+//! From an encoding to its JSON text.
 
 ghost use Rattle.std.specs.Prelude.{IfOk, IfErr, string_bytes};
 ghost use Rattle.amqp_json.specs.Converts.{IsJsonOf, IsNotRead};
@@ -8,9 +8,9 @@ use crate::text::to_json;
 use amqp_parsing::{Err as Refusal, Limits, SliceInput, parse_value_within};
 use std::alloc::Global;
 
-/// The JSON text of the value at the front, with no spaces, and the bytes after the value, which is
-/// read as `parse_value_within` reads it. Runs show that it takes stack for `limits.depth` levels
-/// at most; docs/PROMISES.md says how much for one.
+/// Converts the encoding at the start of the bytes to JSON text without spaces, and returns the
+/// remaining bytes too. The value is parsed as `parse_value_within` does. By measurements it uses
+/// stack for at most `limits.depth` levels; docs/PROMISES.md has what one takes.
 #[tactic(auto, using(amqp_parsing::proofs::ParsingLaws::found_all, amqp_parsing::proofs::ParsingLaws::failed_all))]
 pub fn json_of_encoding<'a>(
     alloc: Global,

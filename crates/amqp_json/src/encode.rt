@@ -14,8 +14,8 @@ use amqp_in_place::read_in_place_unlimited;
 use amqp_value_core::value::AMQPValue;
 use std::alloc::Global;
 
-/// The canonical encoding of the value that a JSON text means, as `amqp_json::from_json` reads it.
-/// The value is made meanwhile, and a `serde_json::Value` of it.
+/// Converts a JSON text to the canonical encoding of its value, which it reads as `from_json` does.
+/// The value, and a `serde_json::Value` of it, are allocated meanwhile.
 pub fn encoding_of_json(alloc: Global, json: &str) -> Result<Vec<u8>, EncodeError>
     ensures encoding { IfOk result (λ bytes. IsEncodingOf json.now bytes.items) }
     ensures only { IfOk result (λ bytes. (v : Tree) → IsStored v → Means json.now v

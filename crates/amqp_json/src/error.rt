@@ -1,13 +1,13 @@
 use std::alloc::AllocError;
 use thiserror::Error;
 
-/// Why no value is made of a JSON value.
+/// Why a JSON value isn't the JSON of a value.
 #[derive(Clone, Copy, Debug, PartialEq, Eq, Error)]
 pub enum ValueError {
     /// An allocation failed.
     #[error("out of memory")]
     OutOfMemory,
-    /// It is the JSON of no value.
+    /// It isn't the JSON of any value.
     #[error("the JSON of no AMQP value")]
     NotAValue,
 }
@@ -23,16 +23,16 @@ impl From<AllocError> for ValueError {
     }
 }
 
-/// Why no value is read from a text.
+/// Why no value was read from a JSON text.
 #[derive(Debug, Drop, Error)]
 pub enum JsonError {
     /// An allocation failed.
     #[error("out of memory")]
     OutOfMemory,
-    /// The text is no JSON, or its arrays and objects nest deeper than 127.
+    /// The text isn't JSON, or its arrays and objects nest deeper than 127.
     #[error("{0}")]
     Syntax(serde_json::Error),
-    /// It is the JSON of no value.
+    /// It isn't the JSON of any value.
     #[error("the JSON of no AMQP value")]
     NotAValue,
 }

@@ -7,7 +7,7 @@ ghost use Rattle.amqp_grammar.specs.Values.{Tree};
 ghost use Rattle.amqp_json.specs.Json.{json};
 ghost use Rattle.amqp_json.specs.InMemory.{IsStored};
 
-/// No two values have one JSON.
+/// No two values have the same JSON.
 #[tactic(auto, using(crate::proofs::Back::one_value))]
 pub fn one_value()
     ensures { (v u : Tree) → IsStored v → IsStored u → json v ≡ json u → v ≡ u }

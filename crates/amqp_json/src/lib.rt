@@ -1,6 +1,6 @@
-//! The JSON of a value, as text and as a `serde_json::Value`: plain where that tells the type, and
-//! else under the type's name. No two values have one JSON. And from the encoding of a value to its
-//! JSON text, and back.
+//! The JSON of a value, as text and as a `serde_json::Value`: plain if that determines the type,
+//! and otherwise under the type's name. No two values have the same JSON. Encodings are converted
+//! to JSON text, and back.
 #![tactic(auto)]
 
 mod conversion_error;

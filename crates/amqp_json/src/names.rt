@@ -5,7 +5,7 @@ ghost use Rattle.amqp_json.specs.Names.{type_named};
 
 use amqp_value_core::types::AMQPType;
 
-/// The type of a name, if there is one.
+/// The type of a name, if it is a type's name.
 pub(crate) fn type_of_name(name: &str) -> Option<AMQPType>
     ensures { result ≡ type_named name.now }
 {

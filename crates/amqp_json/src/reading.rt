@@ -26,10 +26,10 @@ use hex::{FromHex, FromHexError};
 use serde_json::{Map, Number, Value};
 use std::alloc::Global;
 
-/// The value whose JSON it is, in memory of its own. Nothing else is read: not
+/// Converts a JSON value to the value whose JSON it is. Nothing else is accepted: not
 /// `{"LongLongInt": 5}`, since a `LongLongInt` is plain, and not a `LongString` of digits that
-/// stand for UTF-8. Null, true, false and a number never run out of memory. It takes stack for
-/// each level of nesting; docs/PROMISES.md says how much by runs.
+/// denote UTF-8. Null, true, false and a number never run out of memory. It uses stack for each
+/// level of nesting; docs/PROMISES.md has measurements.
 #[tactic(auto, using(crate::proofs::Ones::its_json, crate::proofs::Ones::only_read, crate::proofs::Ones::of_none))]
 pub fn from_value(alloc: Global, value: &Value) -> Result<AMQPValue, ValueError>
     ensures json { IfOk result (λ v. json (view v) ≡ document value.now) }

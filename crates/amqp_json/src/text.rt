@@ -17,10 +17,10 @@ use amqp_value_core::value::AMQPValue;
 use serde_json::Value;
 use std::alloc::{AllocError, Global};
 
-/// The JSON text of a value, with no spaces between its parts. A JSON value of all the value is
-/// made meanwhile; an error comes where memory runs out. Where it nests more than 127 deep
-/// `from_json` refuses the text. It takes stack for each level of nesting; docs/PROMISES.md says
-/// how much by runs.
+/// Converts a value to its JSON text, without spaces. A `serde_json::Value` of the complete value
+/// is allocated meanwhile; if memory runs out it returns an error. `from_json` rejects the text if
+/// it nests more than 127 deep. It uses stack for each level of nesting; docs/PROMISES.md has
+/// measurements.
 #[tactic(auto, using(crate::proofs::NoFloat::no_float))]
 pub fn to_json(alloc: Global, value: &AMQPValue) -> Result<String, AllocError>
     ensures text { IfOk result (λ s. string_bytes s ≡ compact_text (json (view value.now))) }
@@ -30,9 +30,10 @@ pub fn to_json(alloc: Global, value: &AMQPValue) -> Result<String, AllocError>
     to_value(alloc, value)?.to_string(alloc)
 }
 
-/// The value whose JSON the text is. Of a key that comes twice in one object the last one's value
-/// stays. A JSON value of all the text is made meanwhile. It is `Syntax` where the text is no JSON
-/// or nests more than 127 deep, and `NotAValue` where it is the JSON of no value.
+/// Converts a JSON text to the value whose JSON it is. If an object has a key twice, the last one's
+/// value is retained. A `serde_json::Value` of the complete text is allocated meanwhile. It returns
+/// `Syntax` if the text isn't JSON or nests more than 127 deep, and `NotAValue` if it isn't the
+/// JSON of any value.
 #[tactic(auto, using(crate::proofs::Ones::only_in))]
 pub fn from_json(alloc: Global, text: &str) -> Result<AMQPValue, JsonError>
     ensures json { IfOk result (λ v. read text.now ≡ Some (json (view v))) }

@@ -15,9 +15,8 @@ use serde_json::{Map, Value};
 use std::alloc::{AllocError, Global};
 use std::collections::BTreeMap;
 
-/// The JSON of a value, in memory of its own. Null, a boolean and an integer with no type's name
-/// never run out of it. It takes stack for each level of nesting; docs/PROMISES.md says how much by
-/// runs.
+/// Converts a value to its JSON. Null, a boolean and an integer without its type's name never run
+/// out of memory. It uses stack for each level of nesting; docs/PROMISES.md has measurements.
 pub fn to_value(alloc: Global, value: &AMQPValue) -> Result<Value, AllocError>
     ensures json { IfOk result (λ r. document r ≡ json (view value.now)) }
     ensures stored { OnOk result (IsStored (view value.now)) }
