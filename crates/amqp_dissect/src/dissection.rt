@@ -13,33 +13,33 @@ use crate::walk::Walk;
 use amqp_parsing::Limits;
 use std::alloc::{AllocError, Global};
 
-/// What stands where a dissection ends.
+/// What a dissection ends at.
 #[derive(Clone, Copy, Debug, PartialEq, Eq)]
 pub enum End {
     /// The end of the value. Bytes may follow.
     Value,
-    /// What is no value, nor a pair of a table, though it should be one.
+    /// Bytes that aren't a value, or a pair of a table, though one should be there.
     Problem(Problem),
-    /// The value has more bytes than the limit `frame`, by what has come of it. No part is given.
+    /// The value is longer than the limit `frame`, as the bytes so far show. No part is returned.
     TooLarge,
 }
 
 /// The parts of an encoding.
 #[derive(Drop)]
 pub struct Dissection<'a> {
-    /// The parts, in order and without a gap.
+    /// The parts, in order and without gaps.
     pub parts: Vec<Part<'a>>,
-    /// How many bytes stand before the end. Of a problem that is where it is seen: behind the type
-    /// tag of a payload that is cut, behind the length of a key that isn't UTF-8, else where the
-    /// value or the pair begins.
+    /// The number of bytes before the end. For a problem it is where it is detected: after the type
+    /// tag of a payload that is cut, after the length of a key that isn't UTF-8, otherwise where
+    /// the value or the pair begins.
     pub offset: usize,
-    /// What ends it.
+    /// What it ends at.
     pub end: End,
 }
 
-/// Takes the value at the beginning of the input apart, within the limits. Runs show that it takes
-/// stack for `limits.depth` levels at most; docs/PROMISES.md says how much for one. Memory is taken
-/// for the parts alone: no byte is copied.
+/// Dissects the value at the start of the input, within the limits. By measurements it uses stack
+/// for at most `limits.depth` levels; docs/PROMISES.md has what one takes. It allocates only for
+/// the parts: no byte is copied.
 pub fn dissect<'a>(
     alloc: Global,
     input: &'a [u8],

@@ -1,4 +1,4 @@
-//! Values that are no containers, as the parts of a dissection give them.
+//! Values that aren't containers, in a dissection's parts.
 
 ghost use Rattle.std.specs.Prelude.{IfSome};
 ghost use Rattle.amqp_dissect.specs.Leaves.{IsLeaf, IsBehind, IsPayload};
@@ -6,17 +6,16 @@ ghost use Rattle.amqp_dissect.specs.Leaves.{IsLeaf, IsBehind, IsPayload};
 use crate::part::{Field, Part};
 use amqp_types::AMQPType;
 
-/// A value that is no container, and whose payload has come: its type and the payload's bytes.
+/// A value that isn't a container and whose payload is there: its type and the payload's bytes.
 #[derive(Clone, Copy, Debug)]
 pub struct Leaf<'a> {
     /// Its type.
     pub amqp_type: AMQPType,
-    /// The bytes of its payload, after the length where there is one.
+    /// The bytes of its payload, after its length if it has one.
     pub payload: &'a [u8],
 }
 
-/// The value whose type tag is the first of the parts, or none where it is a container, is Void or
-/// is cut.
+/// The value whose type tag is the first of the parts, or `None` if it is a container, Void or cut.
 pub fn first_leaf<'a>(parts: &[Part<'a>]) -> Option<Leaf<'a>>
     ensures { IfSome result (λ leaf. IsLeaf parts.now leaf.amqp_type leaf.payload.now) }
 {
@@ -53,7 +52,7 @@ fn payload_behind<'a>(amqp_type: AMQPType, len: &[u8], parts: &[Part<'a>]) -> Op
     None
 }
 
-/// The value whose payload is this part, or none where it is no payload.
+/// The value whose payload this part is, or `None` if it isn't a payload.
 pub fn leaf_of<'a>(part: &Part<'a>) -> Option<Leaf<'a>>
     ensures { IfSome result (λ leaf. IsPayload part.now leaf.amqp_type leaf.payload.now) }
 {

@@ -1,7 +1,7 @@
 //! Dissecting an encoding: its parts, each with its offset, up to the end of the value or to where
-//! it fails; and text that is safe to print.
+//! it is malformed; and text that is safe to print.
 //!
-//! Which parts these are is the function `parts_of` in `specs`.
+//! The function `parts_of` in `specs` defines the parts.
 #![tactic(auto)]
 
 mod dissection;

@@ -5,11 +5,11 @@ use amqp_types::AMQPType;
 /// What a part of an encoding is.
 #[derive(Clone, Copy, Debug, PartialEq, Eq)]
 pub enum Field {
-    /// The byte that tells the type of the value after it.
+    /// The byte that determines the type of the value after it.
     TypeTag(AMQPType),
-    /// How many bytes follow in a string, a byte array or the body of a container: four bytes.
+    /// The length of a string, a byte array or the body of a container: four bytes.
     Length(AMQPType),
-    /// How many bytes a key has: one byte.
+    /// The length of a key: one byte.
     KeyLength,
     /// The bytes of a key. An empty key has no such part.
     Key,
@@ -18,12 +18,12 @@ pub enum Field {
     Payload(AMQPType),
 }
 
-/// Some bytes of an encoding that belong together.
+/// A piece of an encoding.
 #[derive(Clone, Copy, Debug)]
 pub struct Part<'a> {
-    /// How many bytes of the input stand before it.
+    /// The number of bytes of the input before it.
     pub offset: usize,
-    /// In how many containers it stands.
+    /// The number of containers that it is in.
     pub level: u32,
     /// What it is.
     pub field: Field,

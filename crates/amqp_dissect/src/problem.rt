@@ -1,19 +1,19 @@
-//! Why bytes are no encoding.
+//! Why bytes aren't an encoding.
 
 use amqp_types::AMQPType;
 use std::alloc::AllocError;
 
-/// Why no value, or no pair of a table, stands where one should.
+/// Why there is no value, or no pair of a table, at an offset.
 #[derive(Clone, Copy, Debug, PartialEq, Eq)]
 pub enum Problem {
-    /// The input or the body ends where a type tag should stand.
+    /// The input or the body ends at a missing type tag.
     NoTypeTag,
     /// The byte is no type tag.
     UnknownTypeTag(u8),
-    /// The input or the body ends inside the payload: so many more bytes are needed for its field
-    /// that is being read, a length or a scale before what stands after it.
+    /// The input or the body ends inside the payload: this many more bytes are needed for the field
+    /// that is being read, a length or a scale before what follows it.
     Cut(AMQPType, usize),
-    /// The body ends inside a key: so many more bytes are needed for it.
+    /// The body ends inside a key: this many more bytes are needed for it.
     KeyCut(usize),
     /// The bytes of a key aren't UTF-8.
     KeyNotUtf8,
@@ -21,7 +21,7 @@ pub enum Problem {
     TooDeep,
 }
 
-/// What ends a walk before the end of the value.
+/// What ends a dissection before the end of the value.
 #[derive(Debug, Drop)]
 pub(crate) enum Stop {
     OutOfMemory,

@@ -7,8 +7,8 @@ ghost use Rattle.amqp_dissect.specs.Texts.{IsPrintable, escaped, escaped_byte};
 
 use std::alloc::{AllocError, Global};
 
-/// The bytes as ASCII text that a terminal shows and doesn't obey. A quote and a backslash stand
-/// after a backslash, and what doesn't print is `\x` and two digits.
+/// Escapes bytes as ASCII text that a terminal prints and doesn't interpret. A quote and a
+/// backslash are escaped by a backslash, and bytes that aren't printable by `\x` and two digits.
 pub fn escape(alloc: Global, bytes: &[u8]) -> Result<String, AllocError>
     ensures escaped { IfOk result (λ text. string_bytes text ≡ escaped bytes.now) }
     ensures printable { IfOk result (λ text. AllByRecursion IsPrintable (string_bytes text)) }

@@ -1,4 +1,4 @@
-//! The parts of an encoding up to where a walk over it has come.
+//! The parts of an encoding up to the current offset.
 
 mod values;
 
@@ -25,7 +25,7 @@ pub(crate) struct Walk<'a> {
 }
 
 impl<'a> Walk<'a> {
-    /// A walk that stands at the beginning of the input.
+    /// Starts at the beginning of the input.
     pub fn new(alloc: Global, input: &'a [u8], depth: u32) -> Self
         ensures input { result.input.now ≡ input.entry.now }
         ensures at { result.at ≡ 0 }
@@ -40,7 +40,7 @@ impl<'a> Walk<'a> {
         }
     }
 
-    /// The offset up to which the walk has come, and the parts before it.
+    /// Returns the current offset, and the parts before it.
     pub fn into_parts(self) -> (usize, Vec<Part<'a>>)
         ensures at { result.0 ≡ self.entry.at }
         ensures parts { result.1.items ≡ self.entry.parts.items }

@@ -1,4 +1,4 @@
-//! Going over a value, and over what is in it.
+//! Dissecting a value, and what is inside it.
 
 ghost use Rattle.std.specs.Prelude.{◌≡◌, ◌≤◌, ◌<◌, ◌+◌, ◌-◌, ◌↔◌, [], map, take, IsTrue, IsSome, Some, option_map, OnOk, OnErr, IfOk, IfErr};
 ghost use Rattle.std.specs.Int.{w32};
@@ -22,7 +22,7 @@ use std::alloc::AllocError;
 use std::str;
 
 impl<'a> Walk<'a> {
-    /// Goes over the value at the beginning, within the limits.
+    /// Dissects the value at the start of the input, within the limits.
     pub fn go(&mut self, limits: Limits) -> Result<End, AllocError>
         requires at { self.old.at ≡ 0 }
         requires depth { self.old.depth ≡ limits.depth }
@@ -43,7 +43,7 @@ impl<'a> Walk<'a> {
         }
     }
 
-    /// Goes over a value that stands before `end`, with containers at most `depth` deep in it.
+    /// Dissects a value that ends before `end`, with containers at most `depth` deep in it.
     #[cycle(walk)]
     pub fn value(&mut self, end: usize, depth: u32) -> Result<(), Stop>
         requires within { CanReach self.old end }
