@@ -1,3 +1,3 @@
-//! Flags: booleans under names, which travel eight to a byte.
+//! Named booleans packed eight to a byte, as in AMQP's method arguments.
 
 pub use amqp_flags::AMQPFlags;

@@ -1,7 +1,8 @@
-//! Writing values: outputs, and a generator for each type.
+//! Serializers: one for a complete value ([`gen_value`]), one for each type.
 //!
-//! A generator writes a value through a context over any output; one of a whole value needs a
-//! buffer. None of them allocates memory of its own.
+//! They write through a [`WriteContext`] to a slice ([`SliceOutput`]) or a `Vec<u8>`; those of scalars,
+//! strings and flags also to an `io::Write` ([`IoOutput`]). On an error a buffer is as before the call.
+//! None of them allocates, except that a `Vec` grows.
 
 pub use amqp_generation::{
     BackToTheBuffer, GenError, GenResult, IoOutput, Output, SliceOutput, WriteContext, gen_boolean,

@@ -1,4 +1,41 @@
-//! The types and the codec of AMQP 0-9-1 field tables.
+//! Values of AMQP 0-9-1 field tables: types, parsers and serializers.
+//!
+//! A field table maps short strings to typed values. It carries queue arguments, message headers and
+//! server properties. This crate decodes and encodes them, by the type tags of RabbitMQ and its
+//! clients; it does no networking.
+//!
+//! | Module | For |
+//! |---|---|
+//! | [`parsing`] | owned values from bytes; tells incomplete from malformed input |
+//! | [`stream`] | the same with limits on length and nesting, from bytes or a reader: for untrusted peers |
+//! | [`in_place`] | borrowed views of bytes, with look-ups and the same limits, without allocation |
+//! | [`generation`] | bytes from values, always in the canonical encoding |
+//! | [`flags`] | named booleans packed eight to a byte, as in method arguments |
+//!
+//! A value is an [`AMQPValue`], here a table with one entry:
+//!
+//! ```rust
+//! let mut arguments = FieldTable::new_in(alloc);
+//! arguments.insert(
+//!     ShortString::try_copy(alloc, "x-max-length")?,
+//!     AMQPValue::LongInt(10_000),
+//! )?;
+//! let value = AMQPValue::FieldTable(arguments);
+//! ```
+//!
+//! It is written to any buffer, and parsed back:
+//!
+//! ```rust
+//! gen_value(&value, &mut context)?;
+//!
+//! let (rest, read) = parse_value(alloc, SliceInput::new(output.written()))?;
+//! ```
+//!
+//! Calls that may allocate take the allocator first, and return an error if an allocation fails.
+//! `parse_value` recurses as deep as its input nests: on bytes from untrusted peers use
+//! [`stream::parse_value_within`], [`stream::ValueReader`] or [`in_place::read_in_place`].
+//!
+//! `CALLING.md` has the public contracts and a proved caller, `crates/examples` complete programs.
 #![tactic(auto)]
 
 pub mod flags;

@@ -1,3 +1,3 @@
-//! What the parsers are generic over.
+//! The traits and inputs that the parsers are generic over.
 
 pub use amqp_parsing::traits::{Needed, ParsableInput, SliceInput, SplitInput};
