@@ -1,8 +1,9 @@
 //! Serializers: one for a complete value ([`gen_value`]), one for each type.
 //!
-//! They write through a [`WriteContext`] to a slice ([`SliceOutput`]) or a `Vec<u8>`; those of scalars,
-//! strings and flags also to an `io::Write` ([`IoOutput`]). On an error a buffer is as before the call.
-//! None of them allocates, except that a `Vec` grows.
+//! They write through a [`WriteContext`] to a slice ([`SliceOutput`]) or a `Vec<u8>`; those of
+//! scalars, strings and flags also to an `io::Write` ([`IoOutput`]). On an error a buffer's
+//! position and the bytes before it are as before the call. None of them allocates, except that a
+//! `Vec` grows.
 
 pub use amqp_generation::{
     BackToTheBuffer, GenError, GenResult, IoOutput, Output, SliceOutput, WriteContext, gen_boolean,

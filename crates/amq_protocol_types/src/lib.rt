@@ -1,14 +1,14 @@
 //! Values of AMQP 0-9-1 field tables: types, parsers and serializers.
 //!
-//! A field table maps short strings to typed values. It carries queue arguments, message headers and
-//! server properties. This crate decodes and encodes them, by the type tags of RabbitMQ and its
+//! A field table maps short strings to typed values. It carries queue arguments, message headers
+//! and server properties. This crate decodes and encodes them, by the type tags of RabbitMQ and its
 //! clients; it does no networking.
 //!
 //! | Module | For |
 //! |---|---|
-//! | [`parsing`] | owned values from bytes; tells incomplete from malformed input |
-//! | [`stream`] | the same with limits on length and nesting, from bytes or a reader: for untrusted peers |
-//! | [`in_place`] | borrowed views of bytes, with look-ups and the same limits, without allocation |
+//! | [`parsing`] | owned values from bytes; incomplete input is distinguished from malformed |
+//! | [`stream`] | the same from untrusted peers: limits on length and nesting; readers |
+//! | [`in_place`] | borrowed views of bytes, with the same limits; doesn't allocate |
 //! | [`generation`] | bytes from values, always in the canonical encoding |
 //! | [`flags`] | named booleans packed eight to a byte, as in method arguments |
 //!

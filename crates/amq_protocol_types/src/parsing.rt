@@ -1,9 +1,9 @@
 //! Parsers: one for a complete value ([`parse_value`]), one for each type.
 //!
-//! A parser returns `Ok((rest, value))`; `Err(Incomplete(..))` with the number of further bytes that
-//! it needs, to be called again with more; `Err(Error(..))` if the input is invalid, whatever bytes
-//! follow; or `Err(Failure(..))` if memory ran out. None of them limits length or nesting: on bytes
-//! from untrusted peers use `stream` or `in_place`.
+//! A parser returns `Ok((rest, value))`; `Err(Incomplete(..))` with the number of further bytes
+//! that it needs, to be called again with more; `Err(Error(..))` if the input is invalid, whatever
+//! bytes follow; or `Err(Failure(..))` if memory ran out. None of them limits length or nesting: on
+//! bytes from untrusted peers use `stream` or `in_place`.
 
 pub mod traits;
 
