@@ -8,7 +8,7 @@
 //! |---|---|
 //! | [`parsing`] | owned values from bytes; incomplete input is distinguished from malformed |
 //! | [`stream`] | the same from untrusted peers: limits on length and nesting; readers |
-//! | [`in_place`] | borrowed views of bytes, with the same limits; doesn't allocate |
+//! | [`in_place`] | borrowed views with the same limits; reading and look-ups don't allocate |
 //! | [`generation`] | bytes from values, always in the canonical encoding |
 //! | [`flags`] | named booleans packed eight to a byte, as in method arguments |
 //!
