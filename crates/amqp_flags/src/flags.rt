@@ -59,8 +59,8 @@ impl AMQPFlags {
         Ok(bytes)
     }
 
-    /// Unpacks a flag for each name that has a bit, in order, the lowest bit of a byte first. No
-    /// flags don't allocate.
+    /// Unpacks a flag for each name that has a bit, in order, the lowest bit of a byte first. If
+    /// there are none it doesn't allocate.
     pub fn from_bytes<I: ParsableInput>(
         alloc: Global,
         names: &[&str],
