@@ -68,7 +68,7 @@ def contracts():
             lines += ["```text"] * (lines[-1][0] == "#") + text
             lines += [f"  so too, each for its type: {', '.join(name for name, _ in others)}"] if others else []
         lines += ["```\n"] if alike else []
-        lines += [f"With one clause that says what it returns: {', '.join(f'`{name}`' for name, _ in short)}.\n"] if short else []
+        lines += [f"With one clause, not quoted here: {', '.join(f'`{name}`' for name, _ in short)}.\n"] if short else []
     return "\n".join(lines)
 
 
