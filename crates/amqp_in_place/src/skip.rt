@@ -12,7 +12,8 @@ use amqp_types::{ParsableInput, SliceInput};
 /// The length of the value at the start of the bytes, by its type tag and its length field only: in
 /// constant time, and whether or not the body of a container holds entries.
 ///
-/// It rejects an unknown type tag, as `parse_value` does, and asks for more bytes whenever that does.
+/// It rejects an unknown type tag, as `parse_value` does, and asks for more bytes whenever that
+/// does.
 #[tactic(auto, using(crate::proofs::Skipping::skipped, crate::proofs::Skipping::width_of_found, crate::proofs::Skipping::refused_so))]
 pub fn skip_value(bytes: &[u8]) -> Result<usize, ParserError>
     ensures extent { IfOk result (λ n. n ≡ extent bytes.now) }
