@@ -6,16 +6,16 @@ use self::rows::{
     COPIED, EMPTY, FALLING, LACKING, LIGHT, MANY, NUMBERS, ONE_NUMBER, ONE_NUMBER_JSON, PAYLOADS,
     SCALAR_PAYLOADS, SCALARS, TYPES, VALUES, VOIDS, VOIDS_JSON, WITHOUT,
 };
+use crate::appends::Growth;
+use crate::constructors::Maker;
 use crate::conversions::Document;
+use crate::fixtures::Piece::{Bytes, Pairs, Times};
+use crate::fixtures::{Kind, NAMES, Plan};
 use crate::generation::Filler;
-use crate::growing::Growth;
-use crate::made::Piece::{Bytes, Pairs, Times};
-use crate::made::{Kind, NAMES, Plan};
-use crate::making::Maker;
 use crate::parsing::Parser;
 use crate::stream::{LIMITS, NARROW};
 use crate::{
-    conversions, copies, flags, generation, growing, in_place, making, parsing, stream, texts,
+    appends, constructors, conversions, copies, flags, generation, in_place, parsing, stream, texts,
 };
 use amq_protocol_types::AMQPType;
 use std::alloc::Global;
@@ -334,7 +334,7 @@ fn of_flags<R: Print + Eprint>(rt: &R, alloc: Global, name: &str) -> io::Result<
                 &[Bytes(&[1, 2, 3, 4])],
             )
         }
-        "add_flag" => growing::run(rt, alloc, Growth::AddFlag, 10),
+        "add_flag" => appends::run(rt, alloc, Growth::AddFlag, 10),
         "get_bytes" => {
             flags::pack(rt, alloc, &NAMES)?;
             flags::pack(rt, alloc, &[""; 30])
@@ -370,25 +370,35 @@ pub const VALUES_MADE: [&str; 13] = [
 
 fn of_made<R: Print + Eprint>(rt: &R, alloc: Global, name: &str) -> io::Result<bool> {
     let answer = match name {
-        "try_copy" => making::of_texts(rt, alloc, Maker::TryCopy, &[4, 255]),
-        "from_text" => making::of_texts(rt, alloc, Maker::FromText, &[4, 70_000]),
-        "long_string_from_slice" => making::of_texts(rt, alloc, Maker::LongString, &[4, 70_000]),
-        "byte_array_from_slice" => making::of_texts(rt, alloc, Maker::ByteArray, &[3, 70_000]),
-        "push" => growing::run(rt, alloc, Growth::Push, 20),
-        "insert_of_a_new_key" => growing::run(rt, alloc, Growth::Insert("c"), 1),
-        "insert_of_a_key_that_is_there" => growing::run(rt, alloc, Growth::Insert("b"), 1),
-        "insert_of_many_keys" => growing::run(rt, alloc, Growth::InsertKeys, 100),
-        "place_of_a_new_key" => growing::run(rt, alloc, Growth::Place("c"), 1),
-        "place_of_a_key_that_is_there" => growing::run(rt, alloc, Growth::Place("b"), 1),
+        "try_copy" => constructors::of_texts(rt, alloc, Maker::TryCopy, &[4, 255]),
+        "from_text" => constructors::of_texts(rt, alloc, Maker::FromText, &[4, 70_000]),
+        "long_string_from_slice" => constructors::of_texts(
+            rt,
+            alloc,
+            Maker::LongString,
+            &[4, 70_000],
+        ),
+        "byte_array_from_slice" => constructors::of_texts(
+            rt,
+            alloc,
+            Maker::ByteArray,
+            &[3, 70_000],
+        ),
+        "push" => appends::run(rt, alloc, Growth::Push, 20),
+        "insert_of_a_new_key" => appends::run(rt, alloc, Growth::Insert("c"), 1),
+        "insert_of_a_key_that_is_there" => appends::run(rt, alloc, Growth::Insert("b"), 1),
+        "insert_of_many_keys" => appends::run(rt, alloc, Growth::InsertKeys, 100),
+        "place_of_a_new_key" => appends::run(rt, alloc, Growth::Place("c"), 1),
+        "place_of_a_key_that_is_there" => appends::run(rt, alloc, Growth::Place("b"), 1),
         "from_pairs" => {
-            making::of_pairs(rt, alloc, 2)?;
-            making::of_pairs(rt, alloc, 100)
+            constructors::of_pairs(rt, alloc, 2)?;
+            constructors::of_pairs(rt, alloc, 100)
         }
         "made_without_memory" => {
-            making::once(rt, alloc, &WITHOUT)?;
-            making::of_pairs(rt, alloc, 0)
+            constructors::once(rt, alloc, &WITHOUT)?;
+            constructors::of_pairs(rt, alloc, 0)
         }
-        "looked_at_without_memory" => making::look(rt, alloc),
+        "looked_at_without_memory" => constructors::look(rt, alloc),
         _ => return Ok(false),
     };
     answer?;

@@ -1,8 +1,8 @@
 //! Calls that make values of JSON.
 
-use crate::asking::{Call, insist};
-use crate::made;
-use crate::things::{Refusal, Thing};
+use crate::fixtures;
+use crate::harness::{Call, insist};
+use crate::values::{Refusal, Thing};
 use amq_protocol_types::{AMQPType, AMQPValue};
 use serde_json::Value;
 use std::alloc::Global;
@@ -41,8 +41,8 @@ pub enum Document {
 fn made_of(alloc: Global, document: Document) -> io::Result<Value> {
     match document {
         Document::Null => Ok(Value::Null),
-        Document::Seven => Value::from_str(alloc, "7").map_err(made::unmade),
-        Document::Text(length) => Ok(Value::String(made::text(alloc, length)?)),
+        Document::Seven => Value::from_str(alloc, "7").map_err(fixtures::unmade),
+        Document::Text(length) => Ok(Value::String(fixtures::text(alloc, length)?)),
     }
 }
 

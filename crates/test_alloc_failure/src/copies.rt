@@ -1,9 +1,9 @@
 //! Calls that copy.
 
-use crate::asking::{Call, insist};
-use crate::made;
-use crate::made::Plan;
-use crate::things::{Refusal, Thing};
+use crate::fixtures;
+use crate::fixtures::Plan;
+use crate::harness::{Call, insist};
+use crate::values::{Refusal, Thing};
 use std::alloc::Global;
 use std::io;
 
@@ -34,7 +34,7 @@ impl Call for Copying {
 
 /// The thing of a plan is copied.
 fn copied<R: Print + Eprint>(rt: &R, alloc: Global, plan: Plan) -> io::Result<()> {
-    let thing = made::thing(alloc, plan)?;
+    let thing = fixtures::thing(alloc, plan)?;
     insist(rt, alloc, &mut Copying { thing })
 }
 

@@ -1,8 +1,8 @@
 //! Calls that look at flags.
 
-use crate::asking::{Call, ask, insist};
-use crate::made;
-use crate::things::{Refusal, Thing};
+use crate::fixtures;
+use crate::harness::{Call, ask, insist};
+use crate::values::{Refusal, Thing};
 use amq_protocol_types::flags::AMQPFlags;
 use std::alloc::Global;
 use std::io;
@@ -39,13 +39,13 @@ impl Call for Finding {
 
 /// The bytes of flags under these names.
 pub fn pack<R: Print + Eprint>(rt: &R, alloc: Global, names: &[&str]) -> io::Result<()> {
-    let flags = made::flags(alloc, names)?;
+    let flags = fixtures::flags(alloc, names)?;
     insist(rt, alloc, &mut Packing { flags })
 }
 
 /// This name is looked for among ten.
 pub fn find<R: Print + Eprint>(rt: &R, alloc: Global, name: &'static str) -> io::Result<()> {
-    let flags = made::flags(alloc, &made::NAMES)?;
+    let flags = fixtures::flags(alloc, &fixtures::NAMES)?;
     ask(rt, alloc, &mut Finding { flags, name })?;
     Ok(())
 }

@@ -1,9 +1,9 @@
 //! Calls of generators and of outputs.
 
-use crate::asking::{Call, ask, insist, tell_made};
-use crate::made;
-use crate::made::Plan;
-use crate::things::{Refusal, Thing, bytes};
+use crate::fixtures;
+use crate::fixtures::Plan;
+use crate::harness::{Call, ask, insist, tell_made};
+use crate::values::{Refusal, Thing, bytes};
 use amq_protocol_types::generation::{
     BackToTheBuffer, GenResult, Output, SliceOutput, WriteContext, gen_byte_array, gen_field_array,
     gen_field_table, gen_flags, gen_long_int, gen_long_string, gen_raw_value, gen_short_string,
@@ -66,7 +66,7 @@ impl Call for Writing {
 
 /// The thing of a plan, to be written after the byte 9 of a vector.
 fn make_writing(alloc: Global, plan: Plan, is_payload: bool) -> io::Result<Writing> {
-    let thing = made::thing(alloc, plan)?;
+    let thing = fixtures::thing(alloc, plan)?;
     let vector = Vec::from_slice(alloc, &[9])?;
     let count = 0;
     Ok(Writing {
@@ -129,7 +129,7 @@ fn all_to_slice<R: Print + Eprint>(
         x,
     };
     for plan in plans {
-        call.thing = made::thing(alloc, *plan)?;
+        call.thing = fixtures::thing(alloc, *plan)?;
         ask(rt, alloc, &mut call)?;
     }
     let (output, _) = call.x.into_inner();
@@ -207,7 +207,7 @@ fn fill_and_cut(vector: &mut Vec<u8>) {
 /// The byte 9 in a vector with room for so many bytes more.
 fn make_filling(alloc: Global, room: usize) -> io::Result<Filling> {
     let mut vector = Vec::from_slice(alloc, &[9])?;
-    vector.make_room(room).map_err(made::unmade)?;
+    vector.make_room(room).map_err(fixtures::unmade)?;
     let filler = Filler::MakeRoom(room);
     Ok(Filling { filler, vector })
 }

@@ -1,8 +1,8 @@
 //! Calls that read a value where its bytes lie.
 
-use crate::asking::{Call, ask, insist};
+use crate::harness::{Call, ask, insist};
 use crate::stream::LIMITS;
-use crate::things::{Refusal, Thing};
+use crate::values::{Refusal, Thing};
 use amq_protocol_types::in_place::{ValueRef, read_in_place, skip_value};
 use std::alloc::Global;
 use std::io;

@@ -5,20 +5,20 @@
 //! allocations fail knows which of them are the call's.
 #![tactic(auto)]
 
-mod asking;
+mod appends;
 mod cases;
+mod constructors;
 mod conversions;
 mod copies;
+mod fixtures;
 mod flags;
 mod generation;
-mod growing;
+mod harness;
 mod in_place;
-mod made;
-mod making;
 mod parsing;
 mod stream;
 mod texts;
-mod things;
+mod values;
 
 use std::alloc::Global;
 use std::process::ExitCode;

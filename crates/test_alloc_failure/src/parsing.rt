@@ -1,9 +1,9 @@
 //! Calls of parsers.
 
-use crate::asking::{Call, ask, insist};
-use crate::made;
-use crate::made::Piece;
-use crate::things::{Refusal, Thing};
+use crate::fixtures;
+use crate::fixtures::Piece;
+use crate::harness::{Call, ask, insist};
+use crate::values::{Refusal, Thing};
 use amq_protocol_types::flags::AMQPFlags;
 use amq_protocol_types::parsing::traits::ParsableInput;
 use amq_protocol_types::parsing::{
@@ -165,7 +165,7 @@ pub fn in_one<R: Print + Eprint>(
     parser: Parser,
     pieces: &[Piece],
 ) -> io::Result<()> {
-    let wire = made::wire(alloc, pieces)?;
+    let wire = fixtures::wire(alloc, pieces)?;
     let input = SliceInput::new(wire.as_slice());
     insist(rt, alloc, &mut Reading { parser, input })
 }
@@ -178,7 +178,7 @@ pub fn in_two<R: Print + Eprint>(
     pieces: &[Piece],
     cut: usize,
 ) -> io::Result<()> {
-    let wire = made::wire(alloc, pieces)?;
+    let wire = fixtures::wire(alloc, pieces)?;
     let (front, behind) = wire.as_slice().split_at(wire.len().min(cut));
     let input = SplitInput::new(front, behind);
     insist(rt, alloc, &mut Reading { parser, input })

@@ -1,7 +1,7 @@
 //! Calls of readers of values.
 
-use crate::asking::{Call, ask, insist, tell};
-use crate::things::{Refusal, Thing};
+use crate::harness::{Call, ask, insist, tell};
+use crate::values::{Refusal, Thing};
 use amq_protocol_types::stream::{Limits, ValueReader};
 use std::alloc::Global;
 use std::io;

@@ -1,9 +1,9 @@
 //! Calls that write and read JSON, take an encoding apart, and make bytes safe to print.
 
-use crate::asking::{Call, insist};
-use crate::made;
-use crate::made::Piece;
-use crate::things::{Refusal, Thing};
+use crate::fixtures;
+use crate::fixtures::Piece;
+use crate::harness::{Call, insist};
+use crate::values::{Refusal, Thing};
 use amq_protocol_types::AMQPValue;
 use amq_protocol_types::stream::Limits;
 use amqp_dissect::{dissect, escape};
@@ -93,37 +93,37 @@ impl Call for Escaping {
 
 /// The value of these bytes is written as JSON.
 pub fn written<R: Print + Eprint>(rt: &R, alloc: Global, pieces: &[Piece]) -> io::Result<()> {
-    let bytes = made::wire(alloc, pieces)?;
-    let value = made::value(alloc, bytes.as_slice())?;
+    let bytes = fixtures::wire(alloc, pieces)?;
+    let value = fixtures::value(alloc, bytes.as_slice())?;
     insist(rt, alloc, &mut Writing { value })
 }
 
 /// The JSON of these bytes is read.
 pub fn read<R: Print + Eprint>(rt: &R, alloc: Global, pieces: &[Piece]) -> io::Result<()> {
-    let text = String::from_utf8(made::wire(alloc, pieces)?).map_err(made::unmade)?;
+    let text = String::from_utf8(fixtures::wire(alloc, pieces)?).map_err(fixtures::unmade)?;
     insist(rt, alloc, &mut Reading { text })
 }
 
 /// These bytes become the JSON text of their value.
 pub fn decoded<R: Print + Eprint>(rt: &R, alloc: Global, pieces: &[Piece]) -> io::Result<()> {
-    let bytes = made::wire(alloc, pieces)?;
+    let bytes = fixtures::wire(alloc, pieces)?;
     insist(rt, alloc, &mut Decoding { bytes })
 }
 
 /// This JSON becomes the encoding of its value.
 pub fn encoded<R: Print + Eprint>(rt: &R, alloc: Global, pieces: &[Piece]) -> io::Result<()> {
-    let text = String::from_utf8(made::wire(alloc, pieces)?).map_err(made::unmade)?;
+    let text = String::from_utf8(fixtures::wire(alloc, pieces)?).map_err(fixtures::unmade)?;
     insist(rt, alloc, &mut Encoding { text })
 }
 
 /// The parts of these bytes are counted.
 pub fn taken_apart<R: Print + Eprint>(rt: &R, alloc: Global, pieces: &[Piece]) -> io::Result<()> {
-    let bytes = made::wire(alloc, pieces)?;
+    let bytes = fixtures::wire(alloc, pieces)?;
     insist(rt, alloc, &mut Dissecting { bytes })
 }
 
 /// These bytes are escaped.
 pub fn escaped<R: Print + Eprint>(rt: &R, alloc: Global, pieces: &[Piece]) -> io::Result<()> {
-    let bytes = made::wire(alloc, pieces)?;
+    let bytes = fixtures::wire(alloc, pieces)?;
     insist(rt, alloc, &mut Escaping { bytes })
 }

@@ -1,8 +1,8 @@
 //! Tables of the cases.
 
-use crate::made::Piece::{Bytes, Times};
-use crate::made::{Kind, NAMES, Piece, Plan};
-use crate::making::Maker;
+use crate::constructors::Maker;
+use crate::fixtures::Piece::{Bytes, Times};
+use crate::fixtures::{Kind, NAMES, Piece, Plan};
 use crate::parsing::{Number, Parser};
 use amq_protocol_types::AMQPType;
 use test_support::TABLE;

@@ -1,8 +1,8 @@
 //! Calls that make strings, byte arrays and tables, and such as look at what is made.
 
-use crate::asking::{Call, ask, insist};
-use crate::made;
-use crate::things::{Refusal, Thing};
+use crate::fixtures;
+use crate::harness::{Call, ask, insist};
+use crate::values::{Refusal, Thing};
 use amq_protocol_types::{
     AMQPType, AMQPValue, ByteArray, FieldArray, FieldTable, LongString, ShortString,
     ShortStringError,
@@ -58,7 +58,7 @@ struct Pairing {
 
 impl Call for Pairing {
     fn make_ready(&mut self, alloc: Global) -> io::Result<()> {
-        self.pairs = made::pairs(alloc, self.count)?;
+        self.pairs = fixtures::pairs(alloc, self.count)?;
         Ok(())
     }
 
@@ -120,7 +120,7 @@ fn of_text<R: Print + Eprint>(
     maker: Maker,
     length: usize,
 ) -> io::Result<()> {
-    let text = made::text(alloc, length)?;
+    let text = fixtures::text(alloc, length)?;
     insist(rt, alloc, &mut Making { maker, text })
 }
 
@@ -140,7 +140,7 @@ pub fn of_texts<R: Print + Eprint>(
 /// Each call is handed a text of that length, once.
 pub fn once<R: Print + Eprint>(rt: &R, alloc: Global, rows: &[(Maker, usize)]) -> io::Result<()> {
     for (maker, length) in rows {
-        let text = made::text(alloc, *length)?;
+        let text = fixtures::text(alloc, *length)?;
         let maker = *maker;
         ask(rt, alloc, &mut Making { maker, text })?;
     }
@@ -155,9 +155,9 @@ pub fn of_pairs<R: Print + Eprint>(rt: &R, alloc: Global, count: usize) -> io::R
 
 /// What is handed over whole, and what is only looked at.
 fn make_looking(alloc: Global) -> io::Result<Looking> {
-    let value = made::value(alloc, TABLE)?;
+    let value = fixtures::value(alloc, TABLE)?;
     let text = String::from_str(alloc, "test")?;
-    let letters = made::letters(alloc, 3)?;
+    let letters = fixtures::letters(alloc, 3)?;
     Ok(Looking {
         value,
         text,

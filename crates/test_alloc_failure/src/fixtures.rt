@@ -1,6 +1,6 @@
 //! What the cases are made of. Where an allocation fails here, the case ends without a judgement.
 
-use crate::things::Thing;
+use crate::values::Thing;
 use amq_protocol_types::flags::AMQPFlags;
 use amq_protocol_types::parsing::{SliceInput, parse_value};
 use amq_protocol_types::{AMQPValue, ByteArray, FieldArray, FieldTable, LongString, ShortString};

@@ -1,6 +1,6 @@
 //! How a call is made and told.
 
-use crate::things::{Refusal, Thing};
+use crate::values::{Refusal, Thing};
 use std::alloc::Global;
 use std::io;
 

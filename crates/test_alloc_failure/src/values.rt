@@ -1,7 +1,7 @@
 //! What calls are made on and what they answer.
 
+use crate::fixtures::unmade;
 use crate::generation::generate;
-use crate::made::unmade;
 use amq_protocol_types::flags::AMQPFlags;
 use amq_protocol_types::generation::{GenError, SliceOutput, WriteContext};
 use amq_protocol_types::parsing::{ErrorKind, ParserError};

@@ -1,8 +1,8 @@
 //! Calls that add to arrays, tables and flags.
 
-use crate::asking::{Call, insist, tell_made};
-use crate::made;
-use crate::things::{Refusal, Thing};
+use crate::fixtures;
+use crate::harness::{Call, insist, tell_made};
+use crate::values::{Refusal, Thing};
 use amq_protocol_types::flags::AMQPFlags;
 use amq_protocol_types::{AMQPValue, FieldArray, FieldTable, ShortString};
 use std::alloc::{AllocError, Global};
@@ -40,9 +40,9 @@ impl Call for Growing {
     fn make_ready(&mut self, alloc: Global) -> io::Result<()> {
         self.key = match self.growth {
             Growth::Push => ShortString::new_in(alloc),
-            Growth::Insert(key) | Growth::Place(key) => made::short(alloc, key)?,
-            Growth::InsertKeys => made::key(alloc, self.n)?,
-            Growth::AddFlag => made::short(alloc, flag_name(self.n))?,
+            Growth::Insert(key) | Growth::Place(key) => fixtures::short(alloc, key)?,
+            Growth::InsertKeys => fixtures::key(alloc, self.n)?,
+            Growth::AddFlag => fixtures::short(alloc, flag_name(self.n))?,
         };
         Ok(())
     }
@@ -61,7 +61,7 @@ impl Call for Growing {
 
 // the nth name of a flag
 fn flag_name(n: u8) -> &'static str {
-    made::NAMES.get(usize::from(n)).map_or("", |name| *name)
+    fixtures::NAMES.get(usize::from(n)).map_or("", |name| *name)
 }
 
 // adds to a table
@@ -85,7 +85,7 @@ fn fifteen_keys(alloc: Global) -> io::Result<FieldTable> {
     for key in [
         "a", "b", "d", "e", "f", "g", "h", "i", "j", "k", "l", "m", "n", "o", "p",
     ] {
-        table.place(made::short(alloc, key)?, AMQPValue::Void)?;
+        table.place(fixtures::short(alloc, key)?, AMQPValue::Void)?;
     }
     Ok(table)
 }
