@@ -1,16 +1,16 @@
-//! Calls that add to arrays, tables and flags.
+//! Calls that append to arrays, tables and flags.
 
 use crate::fixtures;
-use crate::harness::{Call, insist, tell_made};
-use crate::values::{Refusal, Thing};
+use crate::harness::{Call, Harness};
+use crate::values::AnyValue;
 use amq_protocol_types::flags::AMQPFlags;
 use amq_protocol_types::{AMQPValue, FieldArray, FieldTable, ShortString};
 use std::alloc::{AllocError, Global};
 use std::{io, mem};
 
-/// How something grows.
+/// What is appended.
 #[derive(Clone, Copy)]
-pub enum Growth {
+pub enum Append {
     /// Numbers are pushed to an array.
     Push,
     /// True is inserted under this key into a table whose one node is full.
@@ -23,39 +23,41 @@ pub enum Growth {
     AddFlag,
 }
 
-/// What grows, by its nth part.
+/// What is appended to, and the nth entry.
 #[derive(Drop)]
-struct Growing {
-    growth: Growth,
-    thing: Thing,
+struct Appending {
+    append: Append,
+    to: AnyValue,
     n: u8,
     key: ShortString,
 }
 
-impl Call for Growing {
+impl Call for Appending {
+    type Error = AllocError;
+
     fn state(&self, alloc: Global) -> io::Result<String> {
-        self.thing.text(alloc)
+        self.to.text(alloc)
     }
 
-    fn make_ready(&mut self, alloc: Global) -> io::Result<()> {
-        self.key = match self.growth {
-            Growth::Push => ShortString::new_in(alloc),
-            Growth::Insert(key) | Growth::Place(key) => fixtures::short(alloc, key)?,
-            Growth::InsertKeys => fixtures::key(alloc, self.n)?,
-            Growth::AddFlag => fixtures::short(alloc, flag_name(self.n))?,
+    fn prepare(&mut self, alloc: Global) -> io::Result<()> {
+        self.key = match self.append {
+            Append::Push => ShortString::new_in(alloc),
+            Append::Insert(key) | Append::Place(key) => fixtures::short(alloc, key)?,
+            Append::InsertKeys => fixtures::key(alloc, self.n)?,
+            Append::AddFlag => fixtures::short(alloc, flag_name(self.n))?,
         };
         Ok(())
     }
 
-    fn answer(&mut self, alloc: Global) -> Result<Thing, Refusal> {
+    fn call(&mut self, alloc: Global) -> Result<AnyValue, AllocError> {
         let key = mem::replace(&mut self.key, ShortString::new_in(alloc));
-        match &mut self.thing {
-            Thing::FieldArray(array) => array.push(AMQPValue::ShortShortUInt(self.n))?,
-            Thing::FieldTable(table) => add(table, key, self.growth, self.n)?,
-            Thing::Flags(flags) => flags.add_flag(String::from(key), true)?,
+        match &mut self.to {
+            AnyValue::FieldArray(array) => array.push(AMQPValue::ShortShortUInt(self.n))?,
+            AnyValue::FieldTable(table) => append_pair(table, key, self.append, self.n)?,
+            AnyValue::Flags(flags) => flags.add_flag(String::from(key), true)?,
             _ => {}
         }
-        Ok(Thing::Nothing)
+        Ok(AnyValue::Nothing)
     }
 }
 
@@ -64,16 +66,21 @@ fn flag_name(n: u8) -> &'static str {
     fixtures::NAMES.get(usize::from(n)).map_or("", |name| *name)
 }
 
-// adds to a table
-fn add(table: &mut FieldTable, key: ShortString, growth: Growth, n: u8) -> Result<(), AllocError> {
-    match growth {
-        Growth::Place(_) => table.place(key, AMQPValue::Boolean(true)),
-        Growth::InsertKeys => inserted(table, key, AMQPValue::ShortShortUInt(n)),
-        _ => inserted(table, key, AMQPValue::Boolean(true)),
+// appends to a table
+fn append_pair(
+    t: &mut FieldTable,
+    key: ShortString,
+    append: Append,
+    n: u8,
+) -> Result<(), AllocError> {
+    match append {
+        Append::Place(_) => t.place(key, AMQPValue::Boolean(true)),
+        Append::InsertKeys => inserted(t, key, AMQPValue::ShortShortUInt(n)),
+        _ => inserted(t, key, AMQPValue::Boolean(true)),
     }
 }
 
-// `insert`, without the table that it hands on
+// `insert`, without the table that it returns
 fn inserted(table: &mut FieldTable, key: ShortString, value: AMQPValue) -> Result<(), AllocError> {
     table.insert(key, value)?;
     Ok(())
@@ -90,39 +97,19 @@ fn fifteen_keys(alloc: Global) -> io::Result<FieldTable> {
     Ok(table)
 }
 
-/// What grows that way.
-fn start(alloc: Global, growth: Growth) -> io::Result<Thing> {
-    Ok(match growth {
-        Growth::Push => Thing::FieldArray(FieldArray::new_in(alloc)),
-        Growth::Insert(_) | Growth::Place(_) => Thing::FieldTable(fifteen_keys(alloc)?),
-        Growth::InsertKeys => Thing::FieldTable(FieldTable::new_in(alloc)),
-        Growth::AddFlag => Thing::Flags(AMQPFlags::new_in(alloc)),
-    })
-}
-
-/// The parts are added one after another.
-fn grow<R: Print + Eprint>(
-    rt: &R,
-    alloc: Global,
-    growing: &mut Growing,
-    count: u8,
-) -> io::Result<()> {
-    for n in 0..count {
-        growing.n = n;
-        insist(rt, alloc, growing)?;
-    }
-    tell_made(rt, alloc, growing)
-}
-
-/// Something grows by so many parts.
-pub fn run<R: Print + Eprint>(rt: &R, alloc: Global, growth: Growth, count: u8) -> io::Result<()> {
-    let thing = start(alloc, growth)?;
-    let key = ShortString::new_in(alloc);
-    let mut growing = Growing {
-        growth,
-        thing,
-        n: 0,
-        key,
+/// Appends `count` entries.
+pub fn run<R: Print + Eprint>(h: &Harness<R>, append: Append, count: u8) -> io::Result<()> {
+    let to = match append {
+        Append::Push => AnyValue::FieldArray(FieldArray::new_in(h.alloc)),
+        Append::Insert(_) | Append::Place(_) => AnyValue::FieldTable(fifteen_keys(h.alloc)?),
+        Append::InsertKeys => AnyValue::FieldTable(FieldTable::new_in(h.alloc)),
+        Append::AddFlag => AnyValue::Flags(AMQPFlags::new_in(h.alloc)),
     };
-    grow(rt, alloc, &mut growing, count)
+    let (n, key) = (0, ShortString::new_in(h.alloc));
+    let mut appending = Appending { append, to, n, key };
+    for n in 0..count {
+        appending.n = n;
+        h.run(&mut appending)?;
+    }
+    h.print_made(appending.to.text(h.alloc)?.as_str())
 }

@@ -1,779 +1,363 @@
-//! The cases.
+//! The table of cases.
 
-mod rows;
-
-use self::rows::{
-    COPIED, EMPTY, FALLING, LACKING, LIGHT, MANY, NUMBERS, ONE_NUMBER, ONE_NUMBER_JSON, PAYLOADS,
-    SCALAR_PAYLOADS, SCALARS, TYPES, VALUES, VOIDS, VOIDS_JSON, WITHOUT,
-};
-use crate::appends::Growth;
-use crate::constructors::Maker;
+use crate::appends::Append;
+use crate::constructors::Constructor;
 use crate::conversions::Document;
+use crate::conversions::Document::{Null, Seven, Text};
 use crate::fixtures::Piece::{Bytes, Pairs, Times};
-use crate::fixtures::{Kind, NAMES, Plan};
-use crate::generation::Filler;
-use crate::parsing::Parser;
+use crate::fixtures::Plan::{Of, ValueOf, Wire};
+use crate::fixtures::{Kind, NAMES, Piece, Plan};
+use crate::flags::FromBytes;
+use crate::generation::Fill;
+use crate::harness::Harness;
+use crate::parsing::{Number, Parser};
 use crate::stream::{LIMITS, NARROW};
+use crate::texts::TextCall;
 use crate::{
-    appends, constructors, conversions, copies, flags, generation, in_place, parsing, stream, texts,
+    appends, constructors, conversions, flags, generation, in_place, parsing, stream, texts,
 };
 use amq_protocol_types::AMQPType;
 use std::alloc::Global;
 use std::io;
 use test_support::TABLE;
 
-/// Runs the case of this name. Answers whether there is one.
-pub fn run<R: Print + Eprint>(rt: &R, alloc: Global, name: &str) -> io::Result<bool> {
-    Ok(
-        of_values(rt, alloc, name)?
-            || of_payloads(rt, alloc, name)?
-            || of_strings(rt, alloc, name)?
-            || of_parsers_without(rt, alloc, name)?
-            || of_flags(rt, alloc, name)?
-            || of_made(rt, alloc, name)?
-            || of_copies(rt, alloc, name)?
-            || of_conversions(rt, alloc, name)?
-            || of_generators(rt, alloc, name)?
-            || of_streams(rt, alloc, name)?
-            || of_values_in_place(rt, alloc, name)?
-            || of_texts(rt, alloc, name)?,
-    )
+pub struct Case {
+    pub name: &'static str,
+    /// Each error that its calls may return if an allocation fails. None: they don't allocate.
+    pub errors: &'static [&'static str],
+    steps: &'static [Step],
 }
 
-/// Cases of `parse_value`.
-pub const VALUES_READ: [&str; 11] = [
-    "value_of_a_table",
-    "value_of_a_table_in_two",
-    "value_of_many_keys",
-    "value_of_many_pairs",
-    "value_of_equal_keys",
-    "value_of_many_values",
-    "value_of_nested_arrays",
-    "value_of_a_long_text",
-    "value_of_a_long_text_in_two",
-    "value_of_many_bytes",
-    "value_that_is_refused",
-];
-
-fn of_values<R: Print + Eprint>(rt: &R, alloc: Global, name: &str) -> io::Result<bool> {
-    let answer = match name {
-        "value_of_a_table" => parsing::in_one(rt, alloc, Parser::Value, &[Bytes(TABLE)]),
-        "value_of_a_table_in_two" => parsing::in_two(rt, alloc, Parser::Value, &[Bytes(TABLE)], 99),
-        "value_of_many_keys" => parsing::in_one(
-            rt,
-            alloc,
-            Parser::Value,
-            &[Bytes(&[70, 0, 0, 1, 144]), Pairs],
-        ),
-        "value_of_many_pairs" => parsing::in_one(
-            rt,
-            alloc,
-            Parser::Value,
-            &[
-                Bytes(&[70, 0, 0, 79, 183]),
-                Pairs,
-                Bytes(&[1, 122, 83, 0, 0, 78, 32]),
-                Times(20_000, &[97]),
-            ],
-        ),
-        "value_of_equal_keys" => parsing::in_one(
-            rt,
-            alloc,
-            Parser::Value,
-            &[
-                Bytes(&[70, 0, 0, 46, 227]),
-                Times(4000, &[0, 116, 1]),
-                Bytes(&[0, 116, 0]),
-            ],
-        ),
-        "value_of_many_values" => parsing::in_one(
-            rt,
-            alloc,
-            Parser::Value,
-            &[Bytes(&[65, 0, 0, 15, 160]), Times(4000, &[86])],
-        ),
-        "value_of_nested_arrays" => parsing::in_one(
-            rt,
-            alloc,
-            Parser::Value,
-            &[Bytes(&[65, 0, 0, 0, 11, 86, 65, 0, 0, 0, 4, 116, 1, 116, 0, 86])],
-        ),
-        "value_of_a_long_text" => parsing::in_one(
-            rt,
-            alloc,
-            Parser::Value,
-            &[Bytes(&[83, 0, 1, 17, 112]), Times(70_000, &[97])],
-        ),
-        "value_of_a_long_text_in_two" => parsing::in_two(
-            rt,
-            alloc,
-            Parser::Value,
-            &[Bytes(&[83, 0, 1, 17, 112]), Times(70_000, &[97])],
-            35_005,
-        ),
-        "value_of_many_bytes" => parsing::in_one(
-            rt,
-            alloc,
-            Parser::Value,
-            &[Bytes(&[120, 0, 1, 17, 112]), Times(70_000, &[97])],
-        ),
-        "value_that_is_refused" => parsing::in_one(
-            rt,
-            alloc,
-            Parser::NoValue,
-            &[Bytes(&[65, 0, 0, 0, 3, 86, 73, 0])],
-        ),
-        _ => return Ok(false),
+// name ERRORS [step, ..] for each case
+macro_rules! cases {
+    ($($name:literal $errors:ident [$($step:expr),+ $(,)?])*) => {
+        &[$(Case { name: $name, errors: $errors, steps: &[$($step),+] }),*]
     };
-    answer?;
-    Ok(true)
 }
 
-/// Cases of `parse_raw_value`.
-pub const PAYLOADS_READ: [&str; 5] = [
-    "payload_of_a_short_string",
-    "payload_of_a_long_string",
-    "payload_of_a_byte_array",
-    "payload_of_an_array",
-    "payload_of_a_table",
-];
+/// The calls don't allocate.
+const NO_ALLOC: &[&str] = &[];
 
-fn of_payloads<R: Print + Eprint>(rt: &R, alloc: Global, name: &str) -> io::Result<bool> {
-    let answer = match name {
-        "payload_of_a_short_string" => {
-            parsing::in_one(
-                rt,
-                alloc,
-                Parser::Raw(AMQPType::ShortString),
-                &[Bytes(&[2, 104, 105])],
-            )?;
-            parsing::in_one(
-                rt,
-                alloc,
-                Parser::Raw(AMQPType::ShortString),
-                &[Bytes(&[255]), Times(255, &[97])],
-            )
-        }
-        "payload_of_a_long_string" => {
-            parsing::in_one(
-                rt,
-                alloc,
-                Parser::Raw(AMQPType::LongString),
-                &[Bytes(&[0, 0, 0, 2, 104, 105])],
-            )?;
-            parsing::in_one(
-                rt,
-                alloc,
-                Parser::Raw(AMQPType::LongString),
-                &[Bytes(&[0, 1, 17, 112]), Times(70_000, &[97])],
-            )
-        }
-        "payload_of_a_byte_array" => parsing::in_one(
-            rt,
-            alloc,
-            Parser::Raw(AMQPType::ByteArray),
-            &[Bytes(&[0, 0, 0, 2, 104, 105])],
-        ),
-        "payload_of_an_array" => parsing::in_one(
-            rt,
-            alloc,
-            Parser::Raw(AMQPType::FieldArray),
-            &[Bytes(&[0, 0, 0, 1, 86])],
-        ),
-        "payload_of_a_table" => parsing::in_one(
-            rt,
-            alloc,
-            Parser::Raw(AMQPType::FieldTable),
-            &[Bytes(&[0, 0, 0, 3, 1, 97, 86])],
-        ),
-        _ => return Ok(false),
-    };
-    answer?;
-    Ok(true)
+const ALLOC: &[&str] = &["AllocError"];
+
+const PARSER: &[&str] = &["Failure(ParserErrors { kind: OutOfMemory })"];
+
+const MEMORY: &[&str] = &["OutOfMemory"];
+
+const ENCODE: &[&str] = &["OutOfMemory", "Json(OutOfMemory)"];
+
+/// A step of a case: calls, and their arguments.
+#[derive(Clone, Copy)]
+enum Step {
+    /// A parser on one slice.
+    Parse(Parser, &'static [Piece]),
+    /// A parser on two slices, cut there.
+    ParseSplit(Parser, &'static [Piece], usize),
+    /// Each parser on each input.
+    ParseEach(&'static [Parser], &'static [&'static [u8]]),
+    /// `parse_value` on each input, in one slice and in two.
+    ParseValues(&'static [&'static [u8]]),
+    FlagsFromBytes(&'static [&'static str], &'static [u8]),
+    GetBytes(&'static [&'static str]),
+    GetFlag(&'static str),
+    AppendEach(Append, u8),
+    Construct(Constructor, usize),
+    FromPairs(usize),
+    Inspect,
+    CloneAll(&'static [Plan]),
+    TryFrom(&'static [AMQPType], &'static [Document]),
+    Generate(&'static [Plan]),
+    GeneratePayloads(&'static [Plan]),
+    /// Generators into a slice of that length.
+    GenerateSlice(usize, &'static [Plan]),
+    /// A vector with capacity for so many bytes more is filled.
+    FillVector(usize, &'static [Fill]),
+    /// `ValueReader::next`, with a source that yields at most so many bytes at a time.
+    Next(usize),
+    NextAfterFailure,
+    ToOwned(&'static [&'static [u8]]),
+    RepeatedKey(&'static [&'static [u8]]),
+    Skip(&'static [u8]),
+    OfText(TextCall, &'static [Piece]),
 }
 
-/// Cases of the parsers of strings, byte arrays and containers.
-pub const STRINGS_READ: [&str; 8] = [
-    "short_string",
-    "short_string_in_two",
-    "long_string",
-    "long_string_in_two",
-    "byte_array",
-    "byte_array_in_two",
-    "field_array",
-    "field_table",
-];
+use self::Step::{
+    AppendEach, CloneAll, Construct, FillVector, FlagsFromBytes, FromPairs, Generate,
+    GeneratePayloads, GenerateSlice, GetBytes, GetFlag, Inspect, Next, NextAfterFailure, OfText,
+    Parse, ParseEach, ParseSplit, ParseValues, RepeatedKey, Skip, ToOwned, TryFrom,
+};
 
-fn of_strings<R: Print + Eprint>(rt: &R, alloc: Global, name: &str) -> io::Result<bool> {
-    let answer = match name {
-        "short_string" => parsing::in_one(rt, alloc, Parser::ShortString, &[Bytes(&[2, 195, 169])]),
-        "short_string_in_two" => parsing::in_two(
-            rt,
-            alloc,
-            Parser::ShortString,
-            &[Bytes(&[2, 195, 169])],
-            2,
-        ),
-        "long_string" => parsing::in_one(
-            rt,
-            alloc,
-            Parser::LongString,
-            &[Bytes(&[0, 0, 0, 4, 116, 101, 115, 116])],
-        ),
-        "long_string_in_two" => parsing::in_two(
-            rt,
-            alloc,
-            Parser::LongString,
-            &[Bytes(&[0, 0, 0, 4, 116, 101, 115, 116])],
-            2,
-        ),
-        "byte_array" => parsing::in_one(
-            rt,
-            alloc,
-            Parser::ByteArray,
-            &[Bytes(&[0, 0, 0, 4, 42, 1, 2, 3])],
-        ),
-        "byte_array_in_two" => parsing::in_two(
-            rt,
-            alloc,
-            Parser::ByteArray,
-            &[Bytes(&[0, 0, 0, 4, 42, 1, 2, 3])],
-            5,
-        ),
-        "field_array" => parsing::in_one(
-            rt,
-            alloc,
-            Parser::FieldArray,
-            &[Bytes(&[0, 0, 0, 7, 86, 83, 0, 0, 0, 1, 97])],
-        ),
-        "field_table" => parsing::in_one(
-            rt,
-            alloc,
-            Parser::FieldTable,
-            &[Bytes(&[0, 0, 0, 11, 1, 97, 65, 0, 0, 0, 1, 86, 1, 98, 86])],
-        ),
-        _ => return Ok(false),
-    };
-    answer?;
-    Ok(true)
-}
+/// A table with the LongLongInt 1 at `a`, and its JSON.
+const ONE_NUMBER: &[Piece] = &[Bytes(b"F\0\0\0\x0b\x01al\0\0\0\0\0\0\0\x01")];
 
-/// Cases of parsers that take no memory.
-pub const READ_WITHOUT: [&str; 5] = [
-    "values_without_memory",
-    "payloads_without_memory",
-    "strings_without_memory",
-    "containers_without_memory",
-    "scalars_without_memory",
-];
+const ONE_NUMBER_JSON: &[Piece] = &[Bytes(b"{\"a\":1}")];
 
-fn of_parsers_without<R: Print + Eprint>(rt: &R, alloc: Global, name: &str) -> io::Result<bool> {
-    let answer = match name {
-        "values_without_memory" => parsing::whole_and_in_two(rt, alloc, &VALUES),
-        "payloads_without_memory" => {
-            parsing::lengths(rt, alloc, &PAYLOADS)?;
-            parsing::once(rt, alloc, &SCALAR_PAYLOADS, &[&[1, 2, 3, 4, 5, 6, 7, 8]])
+/// An array of 4000 Voids, and its JSON.
+const VOIDS: &[Piece] = &[Bytes(b"A\0\0\x0f\xa0"), Times(4000, b"V")];
+
+const VOIDS_JSON: &[Piece] = &[Bytes(b"["), Times(3999, b"null,"), Bytes(b"null]")];
+
+/// A length of 0, and a long one.
+const LENGTHS: &[&[u8]] = &[&[0, 0, 0, 0], &[255, 255, 255, 255]];
+
+/// The cases.
+pub const CASES: &[Case] = cases! {
+    // parse_value
+    "value_of_a_table" PARSER [Parse(Parser::Value, &[Bytes(TABLE)])]
+    "value_of_a_table_in_two" PARSER [ParseSplit(Parser::Value, &[Bytes(TABLE)], 99)]
+    "value_of_many_keys" PARSER [Parse(Parser::Value, &[Bytes(b"F\0\0\x01\x90"), Pairs])]
+    "value_of_many_pairs" PARSER [
+        Parse(Parser::Value, &[Bytes(b"F\0\0\x4f\xb7"), Pairs, Bytes(b"\x01zS\0\0\x4e\x20"), Times(20_000, b"a")]),
+    ]
+    "value_of_equal_keys" PARSER [
+        Parse(Parser::Value, &[Bytes(b"F\0\0\x2e\xe3"), Times(4000, b"\0t\x01"), Bytes(b"\0t\0")]),
+    ]
+    "value_of_many_values" PARSER [Parse(Parser::Value, VOIDS)]
+    "value_of_nested_arrays" PARSER [Parse(Parser::Value, &[Bytes(b"A\0\0\0\x0bVA\0\0\0\x04t\x01t\0V")])]
+    "value_of_a_long_text" PARSER [Parse(Parser::Value, &[Bytes(b"S\0\x01\x11\x70"), Times(70_000, b"a")])]
+    "value_of_a_long_text_in_two" PARSER [
+        ParseSplit(Parser::Value, &[Bytes(b"S\0\x01\x11\x70"), Times(70_000, b"a")], 35_005),
+    ]
+    "value_of_many_bytes" PARSER [Parse(Parser::Value, &[Bytes(b"x\0\x01\x11\x70"), Times(70_000, b"a")])]
+    "value_that_is_refused" PARSER [Parse(Parser::NoValue, &[Bytes(b"A\0\0\0\x03VI\0")])]
+    // parse_raw_value
+    "payload_of_a_short_string" PARSER [
+        Parse(Parser::Raw(AMQPType::ShortString), &[Bytes(b"\x02hi")]),
+        Parse(Parser::Raw(AMQPType::ShortString), &[Bytes(&[255]), Times(255, b"a")]),
+    ]
+    "payload_of_a_long_string" PARSER [
+        Parse(Parser::Raw(AMQPType::LongString), &[Bytes(b"\0\0\0\x02hi")]),
+        Parse(Parser::Raw(AMQPType::LongString), &[Bytes(b"\0\x01\x11\x70"), Times(70_000, b"a")]),
+    ]
+    "payload_of_a_byte_array" PARSER [Parse(Parser::Raw(AMQPType::ByteArray), &[Bytes(b"\0\0\0\x02hi")])]
+    "payload_of_an_array" PARSER [Parse(Parser::Raw(AMQPType::FieldArray), &[Bytes(b"\0\0\0\x01V")])]
+    "payload_of_a_table" PARSER [Parse(Parser::Raw(AMQPType::FieldTable), &[Bytes(b"\0\0\0\x03\x01aV")])]
+    // the parsers of strings, byte arrays and containers
+    "short_string" PARSER [Parse(Parser::ShortString, &[Bytes(b"\x02\xc3\xa9")])]
+    "short_string_in_two" PARSER [ParseSplit(Parser::ShortString, &[Bytes(b"\x02\xc3\xa9")], 2)]
+    "long_string" PARSER [Parse(Parser::LongString, &[Bytes(b"\0\0\0\x04test")])]
+    "long_string_in_two" PARSER [ParseSplit(Parser::LongString, &[Bytes(b"\0\0\0\x04test")], 2)]
+    "byte_array" PARSER [Parse(Parser::ByteArray, &[Bytes(&[0, 0, 0, 4, 42, 1, 2, 3])])]
+    "byte_array_in_two" PARSER [ParseSplit(Parser::ByteArray, &[Bytes(&[0, 0, 0, 4, 42, 1, 2, 3])], 5)]
+    "field_array" PARSER [Parse(Parser::FieldArray, &[Bytes(b"\0\0\0\x07VS\0\0\0\x01a")])]
+    "field_table" PARSER [Parse(Parser::FieldTable, &[Bytes(b"\0\0\0\x0b\x01aA\0\0\0\x01V\x01bV")])]
+    // parsers that don't allocate
+    "values_without_memory" NO_ALLOC [
+        ParseValues(&[
+            b"", b"z", b"D", b"A\0", b"A\0\0\0\0", b"A\0\0\0\x0az", b"A\xff\xff\xff\xff", b"F\0\0\0\0",
+            b"F\xff\xff\xff\xff", b"S\0\0\0\0", b"S\xff\xff\xff\xff", b"x\0\0\0\0", b"x\xff\xff\xff\xff",
+            b"t\x07", b"b\x01", b"B\x01", b"s\0\x01", b"U\0\x05", b"u\0\x01", b"I\0\0\0\x01", b"i\0\0\0\x01",
+            b"l\0\0\0\0\0\0\0\x01", b"L\xff\xff\xff\xff\xff\xff\xff\xff", b"f\x7f\xc0\0\x01",
+            b"d\x40E5\xc2\x8f\x5c\x28\xf6", b"D7\0\0\x03\xe7", b"T\x2a\x2a\x2a\x2a\x2a\x2a\x2a\x2a", b"V",
+        ]),
+    ]
+    "payloads_without_memory" NO_ALLOC [
+        ParseEach(&[Parser::Raw(AMQPType::ShortString)], LENGTHS),
+        ParseEach(&[Parser::Raw(AMQPType::LongString)], LENGTHS),
+        ParseEach(&[Parser::Raw(AMQPType::ByteArray)], LENGTHS),
+        ParseEach(&[Parser::Raw(AMQPType::FieldArray)], LENGTHS),
+        ParseEach(&[Parser::Raw(AMQPType::FieldTable)], LENGTHS),
+        ParseEach(&[
+            Parser::Raw(AMQPType::Boolean), Parser::Raw(AMQPType::ShortShortInt),
+            Parser::Raw(AMQPType::ShortShortUInt), Parser::Raw(AMQPType::ShortInt),
+            Parser::Raw(AMQPType::ShortUInt), Parser::Raw(AMQPType::LongInt), Parser::Raw(AMQPType::LongUInt),
+            Parser::Raw(AMQPType::LongLongInt), Parser::Raw(AMQPType::LongLongUInt),
+            Parser::Raw(AMQPType::Float), Parser::Raw(AMQPType::Double), Parser::Raw(AMQPType::DecimalValue),
+            Parser::Raw(AMQPType::Timestamp), Parser::Raw(AMQPType::Void),
+        ], &[&[1, 2, 3, 4, 5, 6, 7, 8]]),
+    ]
+    "strings_without_memory" NO_ALLOC [
+        ParseEach(&[Parser::ShortString], &[&[0], &[], &[9, 255]]),
+        ParseEach(&[Parser::LongString, Parser::ByteArray], &[&[0, 0, 0, 0], &[0, 0], &[0, 0, 0, 2, 1]]),
+    ]
+    "containers_without_memory" NO_ALLOC [
+        ParseEach(&[Parser::FieldArray, Parser::FieldTable], &[&[0, 0, 0, 0], &[0, 0], &[0, 0, 0, 4, 1, 97, 86]]),
+    ]
+    "scalars_without_memory" NO_ALLOC [
+        ParseEach(&[
+            Parser::Number(Number::Type), Parser::Number(Number::Id), Parser::Number(Number::Boolean),
+            Parser::Number(Number::ShortShortInt), Parser::Number(Number::ShortShortUInt),
+            Parser::Number(Number::ShortInt), Parser::Number(Number::ShortUInt),
+            Parser::Number(Number::LongInt), Parser::Number(Number::LongUInt),
+            Parser::Number(Number::LongLongInt), Parser::Number(Number::LongLongUInt),
+            Parser::Number(Number::Timestamp), Parser::Number(Number::Float), Parser::Number(Number::Double),
+            Parser::Number(Number::Decimal),
+        ], &[&[], &[73], &[73, 0, 0, 0, 1, 0, 0, 0, 2]]),
+    ]
+    // flags
+    "parse_flags" PARSER [
+        Parse(Parser::Flags(&NAMES), &[Bytes(&[221, 2])]),
+        Parse(Parser::Flags(&[""; 30]), &[Bytes(&[1, 2, 3, 4])]),
+    ]
+    "parse_flags_in_two" PARSER [ParseSplit(Parser::Flags(&NAMES), &[Bytes(&[221, 2])], 1)]
+    "flags_from_bytes" ALLOC [FlagsFromBytes(&NAMES, &[5]), FlagsFromBytes(&[""; 30], &[1, 2, 3, 4])]
+    "add_flag" ALLOC [AppendEach(Append::AddFlag, 10)]
+    "get_bytes" ALLOC [GetBytes(&NAMES), GetBytes(&[""; 30])]
+    "clone_of_flags" ALLOC [CloneAll(&[Plan::Flags(&["a", "", "c"]), Plan::Flags(&[""; 30])])]
+    "flags_without_memory" NO_ALLOC [
+        GetBytes(&[]), CloneAll(&[Plan::Flags(&[])]), FlagsFromBytes(&NAMES, &[]),
+        FlagsFromBytes(&[], &[221]), ParseEach(&[Parser::Flags(&[]), Parser::Flags(&NAMES)], &[&[221]]),
+        GetFlag("b"), GetFlag("z"),
+    ]
+    // constructors and appends
+    "try_copy" MEMORY [Construct(Constructor::TryCopy, 4), Construct(Constructor::TryCopy, 255)]
+    "from_text" ALLOC [Construct(Constructor::FromText, 4), Construct(Constructor::FromText, 70_000)]
+    "long_string_from_slice" ALLOC [Construct(Constructor::LongString, 4), Construct(Constructor::LongString, 70_000)]
+    "byte_array_from_slice" ALLOC [Construct(Constructor::ByteArray, 3), Construct(Constructor::ByteArray, 70_000)]
+    "push" ALLOC [AppendEach(Append::Push, 20)]
+    "insert_of_a_new_key" ALLOC [AppendEach(Append::Insert("c"), 1)]
+    "insert_of_a_key_that_is_there" NO_ALLOC [AppendEach(Append::Insert("b"), 1)]
+    "insert_of_many_keys" ALLOC [AppendEach(Append::InsertKeys, 100)]
+    "place_of_a_new_key" ALLOC [AppendEach(Append::Place("c"), 1)]
+    "place_of_a_key_that_is_there" NO_ALLOC [AppendEach(Append::Place("b"), 1)]
+    "from_pairs" ALLOC [FromPairs(2), FromPairs(100)]
+    "made_without_memory" NO_ALLOC [
+        Construct(Constructor::TryCopy, 256), Construct(Constructor::TryNew, 256),
+        Construct(Constructor::TryCopy, 0), Construct(Constructor::FromText, 0),
+        Construct(Constructor::LongString, 0), Construct(Constructor::ByteArray, 0), FromPairs(0),
+    ]
+    "looked_at_without_memory" NO_ALLOC [Inspect]
+    // clone
+    "clone_of_a_short_string" ALLOC [CloneAll(&[Of(Kind::ShortString, 4), Of(Kind::ShortString, 255)])]
+    "clone_of_a_long_string" ALLOC [CloneAll(&[Of(Kind::LongString, 4), Of(Kind::LongString, 70_000)])]
+    "clone_of_a_byte_array" ALLOC [CloneAll(&[Of(Kind::ByteArray, 3), Of(Kind::ByteArray, 70_000)])]
+    "clone_of_an_array" ALLOC [CloneAll(&[Of(Kind::FieldArray, 1), Of(Kind::FieldArray, 4000)])]
+    "clone_of_a_table" ALLOC [CloneAll(&[Of(Kind::FieldTable, 3), Of(Kind::FieldTable, 100)])]
+    "clone_of_a_value_that_is_a_short_string" ALLOC [
+        CloneAll(&[ValueOf(Kind::ShortString, 4), ValueOf(Kind::ShortString, 255)]),
+    ]
+    "clone_of_a_value_that_is_a_long_string" ALLOC [
+        CloneAll(&[ValueOf(Kind::LongString, 4), ValueOf(Kind::LongString, 70_000)]),
+    ]
+    "clone_of_a_value_that_is_a_byte_array" ALLOC [
+        CloneAll(&[ValueOf(Kind::ByteArray, 3), ValueOf(Kind::ByteArray, 70_000)]),
+    ]
+    "clone_of_a_value_that_is_an_array" ALLOC [CloneAll(&[ValueOf(Kind::FieldArray, 1), ValueOf(Kind::FieldArray, 4000)])]
+    "clone_of_a_value_that_is_a_table" ALLOC [CloneAll(&[ValueOf(Kind::FieldTable, 3), ValueOf(Kind::FieldTable, 100)])]
+    "clone_of_a_nested_value" ALLOC [CloneAll(&[Wire(TABLE)])]
+    "clones_without_memory" NO_ALLOC [
+        CloneAll(&[
+            Wire(b"t\x01"), Wire(b"b\x01"), Wire(b"B\x01"), Wire(b"s\0\x01"), Wire(b"u\0\x01"),
+            Wire(b"I\0\0\0\x01"), Wire(b"i\0\0\0\x01"), Wire(b"l\0\0\0\0\0\0\0\x01"),
+            Wire(b"f\x7f\xc0\0\x01"), Wire(b"d\x40E5\xc2\x8f\x5c\x28\xf6"), Wire(b"D7\0\0\x03\xe7"),
+            Wire(b"T\x2a\x2a\x2a\x2a\x2a\x2a\x2a\x2a"), Wire(b"V"),
+        ]),
+    ]
+    "clones_of_what_is_empty" NO_ALLOC [
+        CloneAll(&[
+            Of(Kind::ShortString, 0), Of(Kind::LongString, 0), Of(Kind::ByteArray, 0),
+            Of(Kind::FieldArray, 0), Of(Kind::FieldTable, 0), ValueOf(Kind::ShortString, 0),
+            ValueOf(Kind::LongString, 0), ValueOf(Kind::ByteArray, 0), ValueOf(Kind::FieldArray, 0),
+            ValueOf(Kind::FieldTable, 0),
+        ]),
+    ]
+    // AMQPValue::try_from
+    "try_from_to_a_short_string" ALLOC [TryFrom(&[AMQPType::ShortString], &[Text(4), Text(255)])]
+    "try_from_to_a_long_string" ALLOC [TryFrom(&[AMQPType::LongString], &[Text(4), Text(70_000)])]
+    "try_from_without_memory" NO_ALLOC [
+        TryFrom(&[
+            AMQPType::Boolean, AMQPType::ShortShortInt, AMQPType::ShortShortUInt, AMQPType::ShortInt,
+            AMQPType::ShortUInt, AMQPType::LongInt, AMQPType::LongUInt, AMQPType::LongLongInt,
+            AMQPType::LongLongUInt, AMQPType::Float, AMQPType::Double, AMQPType::DecimalValue,
+            AMQPType::ShortString, AMQPType::LongString, AMQPType::FieldArray, AMQPType::Timestamp,
+            AMQPType::FieldTable, AMQPType::ByteArray, AMQPType::Void,
+        ], &[Seven, Text(0)]),
+        TryFrom(&[AMQPType::ShortString, AMQPType::FieldArray], &[Text(256)]),
+        TryFrom(&[AMQPType::Void], &[Null]),
+    ]
+    // generators
+    "gen_value" MEMORY [Generate(&[Wire(TABLE), ValueOf(Kind::LongString, 70_000)])]
+    "gen_raw_value" MEMORY [GeneratePayloads(&[Wire(TABLE), ValueOf(Kind::LongString, 70_000)])]
+    "gen_field_array" MEMORY [Generate(&[Of(Kind::FieldArray, 1), Of(Kind::FieldArray, 4000)])]
+    "gen_field_table" MEMORY [Generate(&[Of(Kind::FieldTable, 3), Of(Kind::FieldTable, 100)])]
+    "gen_short_string" MEMORY [Generate(&[Of(Kind::ShortString, 4), Of(Kind::ShortString, 255)])]
+    "gen_long_string" MEMORY [Generate(&[Of(Kind::LongString, 4), Of(Kind::LongString, 70_000)])]
+    "gen_byte_array" MEMORY [Generate(&[Of(Kind::ByteArray, 3), Of(Kind::ByteArray, 70_000)])]
+    "gen_long_int" MEMORY [Generate(&[Plan::Number(-2)])]
+    "gen_flags" MEMORY [Generate(&[Plan::Flags(&NAMES), Plan::Flags(&[""; 30])])]
+    "gen_with_len" MEMORY [Generate(&[Plan::Bytes(&[7; 20])])]
+    "buffer" MEMORY [FillVector(0, &[Fill::Put(&[7; 20]), Fill::MakeRoom(1000), Fill::Reserve(4)])]
+    "generators_without_memory" NO_ALLOC [
+        GenerateSlice(199, &[Wire(TABLE)]), GenerateSlice(198, &[Wire(TABLE)]),
+        GenerateSlice(70_005, &[ValueOf(Kind::LongString, 70_000)]), GenerateSlice(3, &[Plan::Text("x")]),
+        GenerateSlice(40, &[Plan::Flags(&NAMES), Plan::Bytes(&[7; 20]), Of(Kind::LongString, 11)]),
+    ]
+    "promised_without_memory" NO_ALLOC [
+        FillVector(9, &[Fill::Put(&[1, 2, 3, 4, 5, 6, 7, 8]), Fill::Put(&[10]), Fill::FillAndCut]),
+    ]
+    // limits, and readers of values
+    "value_within_limits" PARSER [Parse(Parser::Within(LIMITS), &[Bytes(TABLE)])]
+    "next_value" MEMORY [Next(usize::MAX)]
+    "next_value_byte_by_byte" MEMORY [Next(1)]
+    "streams_without_memory" NO_ALLOC [ParseEach(&[Parser::Within(NARROW)], &[TABLE]), NextAfterFailure]
+    // values in place
+    "value_in_place_to_owned" ALLOC [ToOwned(&[TABLE, b"S\0\0\0\x02hi", b"x\0\0\0\x02\xff\0"])]
+    // 17 keys, descending, and the first again; and two that differ
+    "repeated_key_in_place" ALLOC [
+        RepeatedKey(&[
+            b"F\0\0\0\x36\x01qV\x01pV\x01oV\x01nV\x01mV\x01lV\x01kV\x01jV\x01iV\
+              \x01hV\x01gV\x01fV\x01eV\x01dV\x01cV\x01bV\x01aV\x01qV",
+            b"F\0\0\0\x06\x01bV\x01aV",
+        ]),
+    ]
+    "in_place_without_memory" NO_ALLOC [
+        Skip(TABLE), RepeatedKey(&[TABLE]),
+        ToOwned(&[b"t\x01", b"S\0\0\0\0", b"A\0\0\0\0", b"F\0\0\0\0", b"V"]),
+    ]
+    // JSON, dissect and escape
+    "to_json" ALLOC [OfText(TextCall::ToJson, ONE_NUMBER), OfText(TextCall::ToJson, VOIDS)]
+    "from_json" MEMORY [OfText(TextCall::FromJson, ONE_NUMBER_JSON), OfText(TextCall::FromJson, VOIDS_JSON)]
+    "json_of_encoding" MEMORY [OfText(TextCall::JsonOfEncoding, ONE_NUMBER), OfText(TextCall::JsonOfEncoding, VOIDS)]
+    "encoding_of_json" ENCODE [
+        OfText(TextCall::EncodingOfJson, ONE_NUMBER_JSON), OfText(TextCall::EncodingOfJson, VOIDS_JSON),
+    ]
+    "dissect" ALLOC [OfText(TextCall::Dissect, ONE_NUMBER), OfText(TextCall::Dissect, VOIDS)]
+    "escape" ALLOC [OfText(TextCall::Escape, &[Bytes(b"a\0\"")]), OfText(TextCall::Escape, &[Times(70_000, b"a")])]
+    "texts_without_memory" NO_ALLOC [OfText(TextCall::Dissect, &[]), OfText(TextCall::Escape, &[])]
+};
+
+impl Case {
+    /// Runs the case. If its calls allocate, one that fails is made once more.
+    pub fn run<R: Print + Eprint>(&self, rt: &R, alloc: Global) -> io::Result<()> {
+        let is_retrying = !self.errors.is_empty();
+        let h = Harness {
+            rt,
+            alloc,
+            is_retrying,
+        };
+        for step in self.steps {
+            step.run(&h)?;
         }
-        "strings_without_memory" => {
-            parsing::once(rt, alloc, &[Parser::ShortString], &[&[0], &[], &[9, 255]])?;
-            parsing::once(
-                rt,
-                alloc,
-                &[Parser::LongString, Parser::ByteArray],
-                &[&[0, 0, 0, 0], &[0, 0], &[0, 0, 0, 2, 1]],
-            )
-        }
-        "containers_without_memory" => parsing::once(
-            rt,
-            alloc,
-            &[Parser::FieldArray, Parser::FieldTable],
-            &[&[0, 0, 0, 0], &[0, 0], &[0, 0, 0, 4, 1, 97, 86]],
-        ),
-        "scalars_without_memory" => parsing::once(
-            rt,
-            alloc,
-            &NUMBERS,
-            &[&[], &[73], &[73, 0, 0, 0, 1, 0, 0, 0, 2]],
-        ),
-        _ => return Ok(false),
-    };
-    answer?;
-    Ok(true)
-}
-
-/// Cases of flags.
-pub const FLAGS: [&str; 7] = [
-    "parse_flags",
-    "parse_flags_in_two",
-    "flags_from_bytes",
-    "add_flag",
-    "get_bytes",
-    "clone_of_flags",
-    "flags_without_memory",
-];
-
-fn of_flags<R: Print + Eprint>(rt: &R, alloc: Global, name: &str) -> io::Result<bool> {
-    let answer = match name {
-        "parse_flags" => {
-            parsing::in_one(rt, alloc, Parser::Flags(&NAMES), &[Bytes(&[221, 2])])?;
-            parsing::in_one(rt, alloc, Parser::Flags(&[""; 30]), &[Bytes(&[1, 2, 3, 4])])
-        }
-        "parse_flags_in_two" => parsing::in_two(
-            rt,
-            alloc,
-            Parser::Flags(&NAMES),
-            &[Bytes(&[221, 2])],
-            1,
-        ),
-        "flags_from_bytes" => {
-            parsing::in_one(rt, alloc, Parser::FromBytes(&NAMES), &[Bytes(&[5])])?;
-            parsing::in_one(
-                rt,
-                alloc,
-                Parser::FromBytes(&[""; 30]),
-                &[Bytes(&[1, 2, 3, 4])],
-            )
-        }
-        "add_flag" => appends::run(rt, alloc, Growth::AddFlag, 10),
-        "get_bytes" => {
-            flags::pack(rt, alloc, &NAMES)?;
-            flags::pack(rt, alloc, &[""; 30])
-        }
-        "clone_of_flags" => copies::all(
-            rt,
-            alloc,
-            &[Plan::Flags(&["a", "", "c"]), Plan::Flags(&[""; 30])],
-        ),
-        "flags_without_memory" => flags_without(rt, alloc),
-        _ => return Ok(false),
-    };
-    answer?;
-    Ok(true)
-}
-
-/// Cases of what makes strings, arrays and tables, and of what grows them.
-pub const VALUES_MADE: [&str; 13] = [
-    "try_copy",
-    "from_text",
-    "long_string_from_slice",
-    "byte_array_from_slice",
-    "push",
-    "insert_of_a_new_key",
-    "insert_of_a_key_that_is_there",
-    "insert_of_many_keys",
-    "place_of_a_new_key",
-    "place_of_a_key_that_is_there",
-    "from_pairs",
-    "made_without_memory",
-    "looked_at_without_memory",
-];
-
-fn of_made<R: Print + Eprint>(rt: &R, alloc: Global, name: &str) -> io::Result<bool> {
-    let answer = match name {
-        "try_copy" => constructors::of_texts(rt, alloc, Maker::TryCopy, &[4, 255]),
-        "from_text" => constructors::of_texts(rt, alloc, Maker::FromText, &[4, 70_000]),
-        "long_string_from_slice" => constructors::of_texts(
-            rt,
-            alloc,
-            Maker::LongString,
-            &[4, 70_000],
-        ),
-        "byte_array_from_slice" => constructors::of_texts(
-            rt,
-            alloc,
-            Maker::ByteArray,
-            &[3, 70_000],
-        ),
-        "push" => appends::run(rt, alloc, Growth::Push, 20),
-        "insert_of_a_new_key" => appends::run(rt, alloc, Growth::Insert("c"), 1),
-        "insert_of_a_key_that_is_there" => appends::run(rt, alloc, Growth::Insert("b"), 1),
-        "insert_of_many_keys" => appends::run(rt, alloc, Growth::InsertKeys, 100),
-        "place_of_a_new_key" => appends::run(rt, alloc, Growth::Place("c"), 1),
-        "place_of_a_key_that_is_there" => appends::run(rt, alloc, Growth::Place("b"), 1),
-        "from_pairs" => {
-            constructors::of_pairs(rt, alloc, 2)?;
-            constructors::of_pairs(rt, alloc, 100)
-        }
-        "made_without_memory" => {
-            constructors::once(rt, alloc, &WITHOUT)?;
-            constructors::of_pairs(rt, alloc, 0)
-        }
-        "looked_at_without_memory" => constructors::look(rt, alloc),
-        _ => return Ok(false),
-    };
-    answer?;
-    Ok(true)
-}
-
-/// Cases of copies.
-pub const COPIES: [&str; 13] = [
-    "clone_of_a_short_string",
-    "clone_of_a_long_string",
-    "clone_of_a_byte_array",
-    "clone_of_an_array",
-    "clone_of_a_table",
-    "clone_of_a_value_that_is_a_short_string",
-    "clone_of_a_value_that_is_a_long_string",
-    "clone_of_a_value_that_is_a_byte_array",
-    "clone_of_a_value_that_is_an_array",
-    "clone_of_a_value_that_is_a_table",
-    "clone_of_a_nested_value",
-    "clones_without_memory",
-    "clones_of_what_is_empty",
-];
-
-fn of_copies<R: Print + Eprint>(rt: &R, alloc: Global, name: &str) -> io::Result<bool> {
-    let answer = match name {
-        "clone_of_a_short_string" => copies::all(
-            rt,
-            alloc,
-            &[
-                Plan::Of(Kind::ShortString, 4),
-                Plan::Of(Kind::ShortString, 255),
-            ],
-        ),
-        "clone_of_a_long_string" => copies::all(
-            rt,
-            alloc,
-            &[
-                Plan::Of(Kind::LongString, 4),
-                Plan::Of(Kind::LongString, 70_000),
-            ],
-        ),
-        "clone_of_a_byte_array" => copies::all(
-            rt,
-            alloc,
-            &[
-                Plan::Of(Kind::ByteArray, 3),
-                Plan::Of(Kind::ByteArray, 70_000),
-            ],
-        ),
-        "clone_of_an_array" => copies::all(
-            rt,
-            alloc,
-            &[
-                Plan::Of(Kind::FieldArray, 1),
-                Plan::Of(Kind::FieldArray, 4000),
-            ],
-        ),
-        "clone_of_a_table" => copies::all(
-            rt,
-            alloc,
-            &[
-                Plan::Of(Kind::FieldTable, 3),
-                Plan::Of(Kind::FieldTable, 100),
-            ],
-        ),
-        "clone_of_a_value_that_is_a_short_string" => copies::all(
-            rt,
-            alloc,
-            &[
-                Plan::ValueOf(Kind::ShortString, 4),
-                Plan::ValueOf(Kind::ShortString, 255),
-            ],
-        ),
-        "clone_of_a_value_that_is_a_long_string" => copies::all(
-            rt,
-            alloc,
-            &[
-                Plan::ValueOf(Kind::LongString, 4),
-                Plan::ValueOf(Kind::LongString, 70_000),
-            ],
-        ),
-        "clone_of_a_value_that_is_a_byte_array" => copies::all(
-            rt,
-            alloc,
-            &[
-                Plan::ValueOf(Kind::ByteArray, 3),
-                Plan::ValueOf(Kind::ByteArray, 70_000),
-            ],
-        ),
-        "clone_of_a_value_that_is_an_array" => copies::all(
-            rt,
-            alloc,
-            &[
-                Plan::ValueOf(Kind::FieldArray, 1),
-                Plan::ValueOf(Kind::FieldArray, 4000),
-            ],
-        ),
-        "clone_of_a_value_that_is_a_table" => copies::all(
-            rt,
-            alloc,
-            &[
-                Plan::ValueOf(Kind::FieldTable, 3),
-                Plan::ValueOf(Kind::FieldTable, 100),
-            ],
-        ),
-        "clone_of_a_nested_value" => copies::all(rt, alloc, &[Plan::Wire(TABLE)]),
-        "clones_without_memory" => copies::all(rt, alloc, &SCALARS),
-        "clones_of_what_is_empty" => copies::all(rt, alloc, &EMPTY),
-        _ => return Ok(false),
-    };
-    answer?;
-    Ok(true)
-}
-
-/// Cases of values made of JSON.
-pub const CONVERSIONS: [&str; 3] = [
-    "try_from_to_a_short_string",
-    "try_from_to_a_long_string",
-    "try_from_without_memory",
-];
-
-fn of_conversions<R: Print + Eprint>(rt: &R, alloc: Global, name: &str) -> io::Result<bool> {
-    let answer = match name {
-        "try_from_to_a_short_string" => conversions::all(
-            rt,
-            alloc,
-            &[AMQPType::ShortString],
-            &[Document::Text(4), Document::Text(255)],
-        ),
-        "try_from_to_a_long_string" => conversions::all(
-            rt,
-            alloc,
-            &[AMQPType::LongString],
-            &[Document::Text(4), Document::Text(70_000)],
-        ),
-        "try_from_without_memory" => {
-            conversions::all(rt, alloc, &TYPES, &[Document::Seven, Document::Text(0)])?;
-            conversions::all(
-                rt,
-                alloc,
-                &[AMQPType::ShortString, AMQPType::FieldArray],
-                &[Document::Text(256)],
-            )?;
-            conversions::all(rt, alloc, &[AMQPType::Void], &[Document::Null])
-        }
-        _ => return Ok(false),
-    };
-    answer?;
-    Ok(true)
-}
-
-/// Cases of generators.
-pub const GENERATORS: [&str; 13] = [
-    "gen_value",
-    "gen_raw_value",
-    "gen_field_array",
-    "gen_field_table",
-    "gen_short_string",
-    "gen_long_string",
-    "gen_byte_array",
-    "gen_long_int",
-    "gen_flags",
-    "gen_with_len",
-    "buffer",
-    "generators_without_memory",
-    "promised_without_memory",
-];
-
-fn of_generators<R: Print + Eprint>(rt: &R, alloc: Global, name: &str) -> io::Result<bool> {
-    let answer = match name {
-        "gen_value" => generation::to_vectors(
-            rt,
-            alloc,
-            &[Plan::Wire(TABLE), Plan::ValueOf(Kind::LongString, 70_000)],
-            false,
-        ),
-        "gen_raw_value" => generation::to_vectors(
-            rt,
-            alloc,
-            &[Plan::Wire(TABLE), Plan::ValueOf(Kind::LongString, 70_000)],
-            true,
-        ),
-        "gen_field_array" => generation::to_vectors(
-            rt,
-            alloc,
-            &[
-                Plan::Of(Kind::FieldArray, 1),
-                Plan::Of(Kind::FieldArray, 4000),
-            ],
-            false,
-        ),
-        "gen_field_table" => generation::to_vectors(
-            rt,
-            alloc,
-            &[
-                Plan::Of(Kind::FieldTable, 3),
-                Plan::Of(Kind::FieldTable, 100),
-            ],
-            false,
-        ),
-        "gen_short_string" => generation::to_vectors(
-            rt,
-            alloc,
-            &[
-                Plan::Of(Kind::ShortString, 4),
-                Plan::Of(Kind::ShortString, 255),
-            ],
-            false,
-        ),
-        "gen_long_string" => generation::to_vectors(
-            rt,
-            alloc,
-            &[
-                Plan::Of(Kind::LongString, 4),
-                Plan::Of(Kind::LongString, 70_000),
-            ],
-            false,
-        ),
-        "gen_byte_array" => generation::to_vectors(
-            rt,
-            alloc,
-            &[
-                Plan::Of(Kind::ByteArray, 3),
-                Plan::Of(Kind::ByteArray, 70_000),
-            ],
-            false,
-        ),
-        "gen_long_int" => generation::to_vectors(rt, alloc, &[Plan::Number(-2)], false),
-        "gen_flags" => generation::to_vectors(
-            rt,
-            alloc,
-            &[Plan::Flags(&NAMES), Plan::Flags(&[""; 30])],
-            false,
-        ),
-        "gen_with_len" => generation::to_vectors(rt, alloc, &[Plan::Bytes(&[7; 20])], false),
-        "buffer" => generation::fill(
-            rt,
-            alloc,
-            0,
-            &[
-                Filler::Put(&[7; 20]),
-                Filler::MakeRoom(1000),
-                Filler::Reserve(4),
-            ],
-        ),
-        "generators_without_memory" => to_slices(rt, alloc),
-        "promised_without_memory" => generation::fill(
-            rt,
-            alloc,
-            9,
-            &[
-                Filler::Put(&[1, 2, 3, 4, 5, 6, 7, 8]),
-                Filler::Put(&[10]),
-                Filler::FillAndCut,
-            ],
-        ),
-        _ => return Ok(false),
-    };
-    answer?;
-    Ok(true)
-}
-
-/// Cases of values within limits, and of readers of values.
-pub const STREAMS: [&str; 4] = [
-    "value_within_limits",
-    "next_value",
-    "next_value_byte_by_byte",
-    "streams_without_memory",
-];
-
-fn of_streams<R: Print + Eprint>(rt: &R, alloc: Global, name: &str) -> io::Result<bool> {
-    let answer = match name {
-        "value_within_limits" => parsing::in_one(
-            rt,
-            alloc,
-            Parser::Within(LIMITS),
-            &[Bytes(TABLE)],
-        ),
-        "next_value" => stream::run(rt, alloc, usize::MAX),
-        "next_value_byte_by_byte" => stream::run(rt, alloc, 1),
-        "streams_without_memory" => {
-            parsing::once(rt, alloc, &[Parser::Within(NARROW)], &[TABLE])?;
-            stream::failed(rt, alloc)
-        }
-        _ => return Ok(false),
-    };
-    answer?;
-    Ok(true)
-}
-
-/// Cases of values where their bytes lie.
-pub const IN_PLACE: [&str; 3] = [
-    "value_in_place_to_owned",
-    "repeated_key_in_place",
-    "in_place_without_memory",
-];
-
-fn of_values_in_place<R: Print + Eprint>(rt: &R, alloc: Global, name: &str) -> io::Result<bool> {
-    let answer = match name {
-        "value_in_place_to_owned" => in_place::copied(rt, alloc, &COPIED),
-        "repeated_key_in_place" => in_place::repeated(rt, alloc, &FALLING),
-        "in_place_without_memory" => in_place::without(rt, alloc, TABLE, &LIGHT),
-        _ => return Ok(false),
-    };
-    answer?;
-    Ok(true)
-}
-
-/// Cases of JSON, and of taking an encoding apart.
-pub const TEXTS: [&str; 7] = [
-    "to_json",
-    "from_json",
-    "json_of_encoding",
-    "encoding_of_json",
-    "dissect",
-    "escape",
-    "texts_without_memory",
-];
-
-fn of_texts<R: Print + Eprint>(rt: &R, alloc: Global, name: &str) -> io::Result<bool> {
-    match name {
-        "to_json" => {
-            texts::written(rt, alloc, &[Bytes(ONE_NUMBER)])?;
-            texts::written(rt, alloc, &VOIDS)?;
-        }
-        "from_json" => {
-            texts::read(rt, alloc, &[Bytes(ONE_NUMBER_JSON)])?;
-            texts::read(rt, alloc, &VOIDS_JSON)?;
-        }
-        "json_of_encoding" => {
-            texts::decoded(rt, alloc, &[Bytes(ONE_NUMBER)])?;
-            texts::decoded(rt, alloc, &VOIDS)?;
-        }
-        "encoding_of_json" => {
-            texts::encoded(rt, alloc, &[Bytes(ONE_NUMBER_JSON)])?;
-            texts::encoded(rt, alloc, &VOIDS_JSON)?;
-        }
-        "dissect" => {
-            texts::taken_apart(rt, alloc, &[Bytes(ONE_NUMBER)])?;
-            texts::taken_apart(rt, alloc, &VOIDS)?;
-        }
-        "escape" => {
-            texts::escaped(rt, alloc, &[Bytes(b"a\0\"")])?;
-            texts::escaped(rt, alloc, &[Times(70_000, b"a")])?;
-        }
-        "texts_without_memory" => {
-            texts::taken_apart(rt, alloc, &[])?;
-            texts::escaped(rt, alloc, &[])?;
-        }
-        _ => return Ok(false),
+        Ok(())
     }
-    Ok(true)
 }
 
-/// No flags, too few bytes, and what is looked for.
-fn flags_without<R: Print + Eprint>(rt: &R, alloc: Global) -> io::Result<()> {
-    flags::pack(rt, alloc, &[])?;
-    copies::all(rt, alloc, &[Plan::Flags(&[])])?;
-    parsing::once(rt, alloc, &[Parser::FromBytes(&NAMES)], &[&[]])?;
-    parsing::once(rt, alloc, &LACKING, &[&[221]])?;
-    flags::find(rt, alloc, "b")?;
-    flags::find(rt, alloc, "z")
-}
-
-/// Into slices, where there is room and where there is none.
-fn to_slices<R: Print + Eprint>(rt: &R, alloc: Global) -> io::Result<()> {
-    for room in [199, 198] {
-        generation::to_slice(rt, alloc, &[Plan::Wire(TABLE)], room)?;
+impl Step {
+    fn run<R: Print + Eprint>(&self, h: &Harness<R>) -> io::Result<()> {
+        match *self {
+            Parse(parser, pieces) => parsing::parse_pieces(h, parser, pieces, None),
+            ParseSplit(parser, pieces, cut) => parsing::parse_pieces(h, parser, pieces, Some(cut)),
+            ParseEach(parsers, inputs) => parsing::parse_each(h, parsers, inputs),
+            ParseValues(inputs) => parsing::parse_values(h, inputs),
+            FlagsFromBytes(names, bytes) => h.run(&mut FromBytes { names, bytes }),
+            GetBytes(names) => flags::get_bytes(h, names),
+            GetFlag(name) => flags::get_flag(h, name),
+            AppendEach(append, count) => appends::run(h, append, count),
+            Construct(constructor, length) => constructors::construct(h, constructor, length),
+            FromPairs(count) => constructors::from_pairs(h, count),
+            Inspect => constructors::inspect_fixtures(h),
+            CloneAll(plans) => constructors::clone_all(h, plans),
+            TryFrom(types, documents) => conversions::try_from(h, types, documents),
+            Generate(plans) => generation::to_vectors(h, plans, false),
+            GeneratePayloads(plans) => generation::to_vectors(h, plans, true),
+            GenerateSlice(len, plans) => generation::to_slice(h, len, plans),
+            FillVector(capacity, fills) => generation::fill_vector(h, capacity, fills),
+            Next(most) => stream::next_values(h, most),
+            NextAfterFailure => stream::next_after_failure(h),
+            ToOwned(all) => in_place::to_owned(h, all),
+            RepeatedKey(all) => in_place::repeated_key(h, all),
+            Skip(bytes) => in_place::count_and_skip(h, bytes),
+            OfText(call, pieces) => texts::run(h, call, pieces),
+        }
     }
-    generation::to_slice(
-        rt,
-        alloc,
-        &[Plan::ValueOf(Kind::LongString, 70_000)],
-        70_005,
-    )?;
-    generation::to_slice(rt, alloc, &[Plan::Text("x")], 3)?;
-    generation::to_slice(rt, alloc, &MANY, 40)
 }

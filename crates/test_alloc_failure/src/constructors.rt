@@ -1,89 +1,116 @@
-//! Calls that make strings, byte arrays and tables, and such as look at what is made.
+//! Calls that make and clone strings, byte arrays, arrays and tables, and that look at them.
 
 use crate::fixtures;
-use crate::harness::{Call, ask, insist};
-use crate::values::{Refusal, Thing};
+use crate::fixtures::Plan;
+use crate::harness::{Call, Harness};
+use crate::values::AnyValue;
 use amq_protocol_types::{
     AMQPType, AMQPValue, ByteArray, FieldArray, FieldTable, LongString, ShortString,
-    ShortStringError,
+    ShortStringError, TryCopyError,
 };
-use std::alloc::Global;
+use std::alloc::{AllocError, Global};
 use std::{io, mem};
 use test_support::TABLE;
 
-/// A call that is handed a text.
+/// `ShortString::try_copy` and `try_new`, `LongString::from_text` and `from_slice`, and
+/// `ByteArray::from_slice`.
 #[derive(Clone, Copy)]
-pub enum Maker {
-    /// `ShortString::try_copy`.
+pub enum Constructor {
     TryCopy,
-    /// `ShortString::try_new`, which takes the text over.
     TryNew,
-    /// `LongString::from_text`.
     FromText,
-    /// `LongString::from_slice`.
     LongString,
-    /// `ByteArray::from_slice`.
     ByteArray,
 }
 
-/// A text that something is made of.
 #[derive(Drop)]
-struct Making {
-    maker: Maker,
+struct TryCopy {
     text: String,
 }
 
-impl Call for Making {
-    fn answer(&mut self, alloc: Global) -> Result<Thing, Refusal> {
-        let text = &self.text;
-        Ok(match self.maker {
-            Maker::TryCopy => Thing::ShortString(ShortString::try_copy(alloc, text.as_str())?),
-            Maker::TryNew => {
-                let text = mem::replace(&mut self.text, String::new(alloc));
-                Thing::ShortString(ShortString::try_new(text)?)
+impl Call for TryCopy {
+    type Error = TryCopyError;
+
+    fn call(&mut self, alloc: Global) -> Result<AnyValue, TryCopyError> {
+        let text = self.text.as_str();
+        Ok(AnyValue::ShortString(ShortString::try_copy(alloc, text)?))
+    }
+}
+
+#[derive(Drop)]
+struct TryNew {
+    text: String,
+}
+
+impl Call for TryNew {
+    type Error = ShortStringError;
+
+    fn call(&mut self, alloc: Global) -> Result<AnyValue, ShortStringError> {
+        let text = mem::replace(&mut self.text, String::new(alloc));
+        Ok(AnyValue::ShortString(ShortString::try_new(text)?))
+    }
+}
+
+/// The other constructors.
+#[derive(Drop)]
+struct FromText {
+    constructor: Constructor,
+    text: String,
+}
+
+impl Call for FromText {
+    type Error = AllocError;
+
+    fn call(&mut self, alloc: Global) -> Result<AnyValue, AllocError> {
+        let text = self.text.as_str();
+        Ok(match self.constructor {
+            Constructor::FromText => AnyValue::LongString(LongString::from_text(alloc, text)?),
+            Constructor::LongString => {
+                AnyValue::LongString(LongString::from_slice(alloc, text.as_bytes())?)
             }
-            Maker::FromText => Thing::LongString(LongString::from_text(alloc, text.as_str())?),
-            Maker::LongString => Thing::LongString(LongString::from_slice(alloc, text.as_bytes())?),
-            Maker::ByteArray => Thing::ByteArray(ByteArray::from_slice(alloc, text.as_bytes())?),
+            _ => AnyValue::ByteArray(ByteArray::from_slice(alloc, text.as_bytes())?),
         })
     }
 }
 
-/// Pairs that a table is made of.
 #[derive(Drop)]
-struct Pairing {
+struct FromPairs {
     count: usize,
     pairs: Vec<(ShortString, AMQPValue)>,
 }
 
-impl Call for Pairing {
-    fn make_ready(&mut self, alloc: Global) -> io::Result<()> {
+impl Call for FromPairs {
+    type Error = AllocError;
+
+    fn prepare(&mut self, alloc: Global) -> io::Result<()> {
         self.pairs = fixtures::pairs(alloc, self.count)?;
         Ok(())
     }
 
-    fn answer(&mut self, alloc: Global) -> Result<Thing, Refusal> {
+    fn call(&mut self, alloc: Global) -> Result<AnyValue, AllocError> {
         let pairs = mem::replace(&mut self.pairs, Vec::new(alloc));
-        Ok(Thing::FieldTable(FieldTable::from_pairs(alloc, pairs)?))
+        Ok(AnyValue::FieldTable(FieldTable::from_pairs(alloc, pairs)?))
     }
 }
 
-/// What is handed over whole, and what is only looked at.
+/// What is consumed, and what is only looked at.
 #[derive(Drop)]
-struct Looking {
+struct Inspect {
     value: AMQPValue,
     text: String,
     letters: Vec<u8>,
 }
 
-impl Call for Looking {
-    fn answer(&mut self, alloc: Global) -> Result<Thing, Refusal> {
+impl Call for Inspect {
+    type Error = ShortStringError;
+
+    fn call(&mut self, alloc: Global) -> Result<AnyValue, ShortStringError> {
         let text = mem::replace(&mut self.text, String::new(alloc));
         let letters = mem::replace(&mut self.letters, Vec::new(alloc));
         let are_known = are_strings_known(text, letters)?
             && is_table_known(&self.value)
             && FieldArray::from(Vec::new(alloc)).as_slice().is_empty();
-        Ok(Thing::Truth(are_known))
+        Ok(AnyValue::Truth(are_known))
     }
 }
 
@@ -113,60 +140,70 @@ fn is_table_known(value: &AMQPValue) -> bool {
     has_foo && table.contains_key("tabl") && !table.contains_key("tab") && *value == *value
 }
 
-/// Something is made of a text of that length.
-fn of_text<R: Print + Eprint>(
-    rt: &R,
-    alloc: Global,
-    maker: Maker,
+/// Something is made of a string of `length` letters.
+pub fn construct<R: Print + Eprint>(
+    h: &Harness<R>,
+    constructor: Constructor,
     length: usize,
 ) -> io::Result<()> {
-    let text = fixtures::text(alloc, length)?;
-    insist(rt, alloc, &mut Making { maker, text })
-}
-
-/// Something is made of texts of these lengths.
-pub fn of_texts<R: Print + Eprint>(
-    rt: &R,
-    alloc: Global,
-    maker: Maker,
-    lengths: &[usize],
-) -> io::Result<()> {
-    for length in lengths {
-        of_text(rt, alloc, maker, *length)?;
+    let text = fixtures::text(h.alloc, length)?;
+    match constructor {
+        Constructor::TryCopy => h.run(&mut TryCopy { text }),
+        Constructor::TryNew => h.run(&mut TryNew { text }),
+        _ => h.run(&mut FromText { constructor, text }),
     }
-    Ok(())
 }
 
-/// Each call is handed a text of that length, once.
-pub fn once<R: Print + Eprint>(rt: &R, alloc: Global, rows: &[(Maker, usize)]) -> io::Result<()> {
-    for (maker, length) in rows {
-        let text = fixtures::text(alloc, *length)?;
-        let maker = *maker;
-        ask(rt, alloc, &mut Making { maker, text })?;
-    }
-    Ok(())
+/// A table is made of `count` pairs.
+pub fn from_pairs<R: Print + Eprint>(h: &Harness<R>, count: usize) -> io::Result<()> {
+    let pairs = Vec::new(h.alloc);
+    h.run(&mut FromPairs { count, pairs })
 }
 
-/// A table is made of so many pairs.
-pub fn of_pairs<R: Print + Eprint>(rt: &R, alloc: Global, count: usize) -> io::Result<()> {
-    let pairs = Vec::new(alloc);
-    insist(rt, alloc, &mut Pairing { count, pairs })
-}
-
-/// What is handed over whole, and what is only looked at.
-fn make_looking(alloc: Global) -> io::Result<Looking> {
-    let value = fixtures::value(alloc, TABLE)?;
-    let text = String::from_str(alloc, "test")?;
-    let letters = fixtures::letters(alloc, 3)?;
-    Ok(Looking {
+/// Strings, byte arrays and a table are looked at.
+pub fn inspect_fixtures<R: Print + Eprint>(h: &Harness<R>) -> io::Result<()> {
+    let value = fixtures::value(h.alloc, TABLE)?;
+    let text = String::from_str(h.alloc, "test")?;
+    let letters = fixtures::letters(h.alloc, 3)?;
+    h.run(&mut Inspect {
         value,
         text,
         letters,
     })
 }
 
-/// The same is handed over and looked at.
-pub fn look<R: Print + Eprint>(rt: &R, alloc: Global) -> io::Result<()> {
-    let mut looking = make_looking(alloc)?;
-    insist(rt, alloc, &mut looking)
+/// What is cloned.
+#[derive(Drop)]
+struct Cloning {
+    from: AnyValue,
+}
+
+impl Call for Cloning {
+    type Error = AllocError;
+
+    fn state(&self, alloc: Global) -> io::Result<String> {
+        self.from.text(alloc)
+    }
+
+    fn call(&mut self, alloc: Global) -> Result<AnyValue, AllocError> {
+        Ok(match &self.from {
+            AnyValue::ShortString(s) => AnyValue::ShortString(s.clone(alloc)?),
+            AnyValue::LongString(s) => AnyValue::LongString(s.clone(alloc)?),
+            AnyValue::ByteArray(a) => AnyValue::ByteArray(a.clone(alloc)?),
+            AnyValue::FieldArray(a) => AnyValue::FieldArray(a.clone(alloc)?),
+            AnyValue::FieldTable(t) => AnyValue::FieldTable(t.clone(alloc)?),
+            AnyValue::Value(v) => AnyValue::Value(v.clone(alloc)?),
+            AnyValue::Flags(flags) => AnyValue::Flags(flags.clone(alloc)?),
+            _ => AnyValue::Nothing,
+        })
+    }
+}
+
+/// What each of these plans makes is cloned.
+pub fn clone_all<R: Print + Eprint>(h: &Harness<R>, plans: &[Plan]) -> io::Result<()> {
+    for plan in plans {
+        let from = fixtures::make(h.alloc, *plan)?;
+        h.run(&mut Cloning { from })?;
+    }
+    Ok(())
 }

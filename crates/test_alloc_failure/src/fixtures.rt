@@ -1,6 +1,6 @@
-//! What the cases are made of. Where an allocation fails here, the case ends without a judgement.
+//! Arguments of calls. If an allocation fails here, the program fails.
 
-use crate::values::Thing;
+use crate::values::AnyValue;
 use amq_protocol_types::flags::AMQPFlags;
 use amq_protocol_types::parsing::{SliceInput, parse_value};
 use amq_protocol_types::{AMQPValue, ByteArray, FieldArray, FieldTable, LongString, ShortString};
@@ -14,55 +14,47 @@ pub const NAMES: [&str; 10] = ["a", "b", "c", "d", "e", "f", "g", "h", "i", "j"]
 /// A piece of an input.
 #[derive(Clone, Copy)]
 pub enum Piece {
-    /// These bytes.
     Bytes(&'static [u8]),
-    /// The same bytes so many times.
+    /// Bytes n times.
     Times(usize, &'static [u8]),
     /// Pairs of 100 keys with a boolean each.
     Pairs,
 }
 
-/// What a string, a byte array or a container is.
+/// A string or byte array of the letter a, an array of Voids, or a table with its keys' numbers.
 #[derive(Clone, Copy)]
 pub enum Kind {
-    /// A short string of the letter a.
     ShortString,
-    /// A long string of it.
     LongString,
-    /// A byte array of it.
     ByteArray,
-    /// An array of Voids.
     FieldArray,
-    /// A table of keys.
     FieldTable,
 }
 
-/// What a thing is made of.
+/// What a value is made of.
 #[derive(Clone, Copy)]
 pub enum Plan {
     /// A value of this encoding.
     Wire(&'static [u8]),
-    /// That, so long.
+    /// That, of length n.
     Of(Kind, usize),
-    /// A value that is that, so long.
+    /// A value that is that, of length n.
     ValueOf(Kind, usize),
     /// A value that is this short string.
     Text(&'static str),
     /// Flags under these names, the first one true, and then each other one.
     Flags(&'static [&'static str]),
-    /// These bytes.
     Bytes(&'static [u8]),
-    /// This number.
     Number(i128),
 }
 
 /// A preparation failed.
-pub fn unmade<E: Drop>(_: E) -> io::Error {
+pub fn failed<E: Drop>(_: E) -> io::Error {
     io::Error::from(ErrorKind::OutOfMemory)
 }
 
 /// The bytes of these pieces, joined.
-pub fn wire(alloc: Global, pieces: &[Piece]) -> Result<Vec<u8>, AllocError> {
+pub fn encoding(alloc: Global, pieces: &[Piece]) -> Result<Vec<u8>, AllocError> {
     let mut all = Vec::new(alloc);
     for piece in pieces {
         match piece {
@@ -82,64 +74,64 @@ pub fn wire(alloc: Global, pieces: &[Piece]) -> Result<Vec<u8>, AllocError> {
     Ok(all)
 }
 
-/// The thing of a plan.
-pub fn thing(alloc: Global, plan: Plan) -> io::Result<Thing> {
+/// What a plan makes.
+pub fn make(alloc: Global, plan: Plan) -> io::Result<AnyValue> {
     match plan {
-        Plan::Wire(wire) => Ok(Thing::Value(value(alloc, wire)?)),
+        Plan::Wire(wire) => Ok(AnyValue::Value(value(alloc, wire)?)),
         Plan::Of(kind, count) => of(alloc, kind, count),
         Plan::ValueOf(kind, count) => Ok(in_a_value(of(alloc, kind, count)?)),
-        Plan::Text(text) => Ok(Thing::Value(AMQPValue::from(short(alloc, text)?))),
-        Plan::Flags(names) => Ok(Thing::Flags(flags(alloc, names)?)),
-        Plan::Bytes(bytes) => Ok(Thing::Bytes(Vec::from_slice(alloc, bytes)?)),
-        Plan::Number(number) => Ok(Thing::Number(number)),
+        Plan::Text(text) => Ok(AnyValue::Value(AMQPValue::from(short(alloc, text)?))),
+        Plan::Flags(names) => Ok(AnyValue::Flags(flags(alloc, names)?)),
+        Plan::Bytes(bytes) => Ok(AnyValue::Bytes(Vec::from_slice(alloc, bytes)?)),
+        Plan::Number(number) => Ok(AnyValue::Number(number)),
     }
 }
 
-/// That, so long.
-fn of(alloc: Global, kind: Kind, count: usize) -> io::Result<Thing> {
+/// That, of length n.
+fn of(alloc: Global, kind: Kind, count: usize) -> io::Result<AnyValue> {
     Ok(match kind {
-        Kind::ShortString => Thing::ShortString(short(alloc, text(alloc, count)?.as_str())?),
-        Kind::LongString => Thing::LongString(LongString::from(letters(alloc, count)?)),
-        Kind::ByteArray => Thing::ByteArray(ByteArray::from(letters(alloc, count)?)),
-        Kind::FieldArray => Thing::FieldArray(voids(alloc, count)?),
-        Kind::FieldTable => Thing::FieldTable(keys(alloc, count)?),
+        Kind::ShortString => AnyValue::ShortString(short(alloc, text(alloc, count)?.as_str())?),
+        Kind::LongString => AnyValue::LongString(LongString::from(letters(alloc, count)?)),
+        Kind::ByteArray => AnyValue::ByteArray(ByteArray::from(letters(alloc, count)?)),
+        Kind::FieldArray => AnyValue::FieldArray(voids(alloc, count)?),
+        Kind::FieldTable => AnyValue::FieldTable(keys(alloc, count)?),
     })
 }
 
 /// A value that is that.
-fn in_a_value(thing: Thing) -> Thing {
-    match thing {
-        Thing::ShortString(s) => Thing::Value(AMQPValue::from(s)),
-        Thing::LongString(s) => Thing::Value(AMQPValue::from(s)),
-        Thing::ByteArray(a) => Thing::Value(AMQPValue::from(a)),
-        Thing::FieldArray(a) => Thing::Value(AMQPValue::from(a)),
-        Thing::FieldTable(t) => Thing::Value(AMQPValue::from(t)),
+fn in_a_value(inner: AnyValue) -> AnyValue {
+    match inner {
+        AnyValue::ShortString(s) => AnyValue::Value(AMQPValue::from(s)),
+        AnyValue::LongString(s) => AnyValue::Value(AMQPValue::from(s)),
+        AnyValue::ByteArray(a) => AnyValue::Value(AMQPValue::from(a)),
+        AnyValue::FieldArray(a) => AnyValue::Value(AMQPValue::from(a)),
+        AnyValue::FieldTable(t) => AnyValue::Value(AMQPValue::from(t)),
         other => other,
     }
 }
 
 /// The value of an encoding.
 pub fn value(alloc: Global, wire: &[u8]) -> io::Result<AMQPValue> {
-    let (_, value) = parse_value(alloc, SliceInput::new(wire)).map_err(unmade)?;
+    let (_, value) = parse_value(alloc, SliceInput::new(wire)).map_err(failed)?;
     Ok(value)
 }
 
-/// A text as a short string.
+/// A short string.
 pub fn short(alloc: Global, text: &str) -> io::Result<ShortString> {
-    ShortString::try_copy(alloc, text).map_err(unmade)
+    ShortString::try_copy(alloc, text).map_err(failed)
 }
 
-/// So many letters a.
+/// n letters a.
 pub fn letters(alloc: Global, count: usize) -> Result<Vec<u8>, AllocError> {
     vec![in alloc; 97; count]
 }
 
-/// The same as a text.
+/// The same as a string.
 pub fn text(alloc: Global, count: usize) -> io::Result<String> {
-    String::from_utf8(letters(alloc, count)?).map_err(unmade)
+    String::from_utf8(letters(alloc, count)?).map_err(failed)
 }
 
-/// An array of so many Voids.
+/// An array of n Voids.
 fn voids(alloc: Global, count: usize) -> Result<FieldArray, AllocError> {
     let mut array = FieldArray::new_in(alloc);
     for _ in 0..count {
@@ -153,7 +145,7 @@ pub fn key(alloc: Global, n: u8) -> io::Result<ShortString> {
     short(alloc, format!(in alloc; "{n:02}")?.as_str())
 }
 
-/// So many keys, each with its number.
+/// n keys, each with its number.
 pub fn pairs(alloc: Global, count: usize) -> io::Result<Vec<(ShortString, AMQPValue)>> {
     let mut pairs = Vec::new(alloc);
     for n in (0..u8::MAX).take(count) {
@@ -162,7 +154,7 @@ pub fn pairs(alloc: Global, count: usize) -> io::Result<Vec<(ShortString, AMQPVa
     Ok(pairs)
 }
 
-/// A table of so many keys.
+/// A table of n keys.
 fn keys(alloc: Global, count: usize) -> io::Result<FieldTable> {
     let mut table = FieldTable::new_in(alloc);
     for (key, value) in pairs(alloc, count)? {

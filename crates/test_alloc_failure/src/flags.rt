@@ -1,51 +1,69 @@
-//! Calls that look at flags.
+//! Calls of flags.
 
 use crate::fixtures;
-use crate::harness::{Call, ask, insist};
-use crate::values::{Refusal, Thing};
+use crate::harness::{Call, Harness};
+use crate::values::AnyValue;
 use amq_protocol_types::flags::AMQPFlags;
-use std::alloc::Global;
+use amq_protocol_types::parsing::SliceInput;
+use std::alloc::{AllocError, Global};
 use std::io;
 
-/// Flags whose bytes are made.
 #[derive(Drop)]
-struct Packing {
+struct GetBytes {
     flags: AMQPFlags,
 }
 
-impl Call for Packing {
+impl Call for GetBytes {
+    type Error = AllocError;
+
     fn state(&self, alloc: Global) -> io::Result<String> {
         Ok(format!(in alloc; "{:?}", self.flags)?)
     }
 
-    fn answer(&mut self, alloc: Global) -> Result<Thing, Refusal> {
-        Ok(Thing::Bytes(self.flags.get_bytes(alloc)?))
+    fn call(&mut self, alloc: Global) -> Result<AnyValue, AllocError> {
+        Ok(AnyValue::Bytes(self.flags.get_bytes(alloc)?))
     }
 }
 
-/// A name that is looked for among flags.
 #[derive(Drop)]
-struct Finding {
+struct GetFlag {
     flags: AMQPFlags,
     name: &'static str,
 }
 
-impl Call for Finding {
-    fn answer(&mut self, _alloc: Global) -> Result<Thing, Refusal> {
+impl Call for GetFlag {
+    type Error = ();
+
+    fn call(&mut self, _alloc: Global) -> Result<AnyValue, ()> {
         let flag = self.flags.get_flag(self.name);
-        flag.map(Thing::Truth).ok_or(Refusal::Unknown(()))
+        flag.map(AnyValue::Truth).ok_or(())
+    }
+}
+
+/// `AMQPFlags::from_bytes`.
+#[derive(Drop)]
+pub struct FromBytes {
+    pub names: &'static [&'static str],
+    pub bytes: &'static [u8],
+}
+
+impl Call for FromBytes {
+    type Error = AllocError;
+
+    fn call(&mut self, alloc: Global) -> Result<AnyValue, AllocError> {
+        let input = SliceInput::new(self.bytes);
+        Ok(AnyValue::Flags(AMQPFlags::from_bytes(alloc, self.names, input)?))
     }
 }
 
 /// The bytes of flags under these names.
-pub fn pack<R: Print + Eprint>(rt: &R, alloc: Global, names: &[&str]) -> io::Result<()> {
-    let flags = fixtures::flags(alloc, names)?;
-    insist(rt, alloc, &mut Packing { flags })
+pub fn get_bytes<R: Print + Eprint>(h: &Harness<R>, names: &[&str]) -> io::Result<()> {
+    let flags = fixtures::flags(h.alloc, names)?;
+    h.run(&mut GetBytes { flags })
 }
 
-/// This name is looked for among ten.
-pub fn find<R: Print + Eprint>(rt: &R, alloc: Global, name: &'static str) -> io::Result<()> {
-    let flags = fixtures::flags(alloc, &fixtures::NAMES)?;
-    ask(rt, alloc, &mut Finding { flags, name })?;
-    Ok(())
+/// The flag of this name among ten.
+pub fn get_flag<R: Print + Eprint>(h: &Harness<R>, name: &'static str) -> io::Result<()> {
+    let flags = fixtures::flags(h.alloc, &fixtures::NAMES)?;
+    h.run(&mut GetFlag { flags, name })
 }

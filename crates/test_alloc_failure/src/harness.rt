@@ -1,71 +1,74 @@
-//! How a call is made and told.
+//! How a call is made, and what is printed of it.
 
-use crate::values::{Refusal, Thing};
+use crate::values::AnyValue;
 use std::alloc::Global;
-use std::io;
+use std::{fmt, io};
 
-/// A call, with what it is made on.
+/// A call, with its arguments.
 pub trait Call {
-    /// What the call is made on, as a text. Empty where that can't change.
+    /// Its error.
+    type Error: fmt::Debug + Drop;
+
+    /// What the call may change, as a string.
     fn state(&self, alloc: Global) -> io::Result<String> {
         Ok(String::new(alloc))
     }
 
-    /// Makes what one call uses up.
-    fn make_ready(&mut self, _alloc: Global) -> io::Result<()> {
+    /// Makes the arguments that one call consumes.
+    fn prepare(&mut self, _alloc: Global) -> io::Result<()> {
         Ok(())
     }
 
-    /// Makes the call. Nothing else in here allocates memory.
-    fn answer(&mut self, alloc: Global) -> Result<Thing, Refusal>;
+    /// Makes the call. Nothing else in here allocates.
+    fn call(&mut self, alloc: Global) -> Result<AnyValue, Self::Error>;
 }
 
-/// The line that tells what a call answered. None tells of a call that answers nothing.
-fn line(alloc: Global, answer: &Result<Thing, Refusal>) -> io::Result<String> {
-    Ok(match answer {
-        Ok(Thing::Nothing) => String::new(alloc),
-        Ok(thing) => {
-            let text = thing.text(alloc)?;
-            format!(in alloc; "ok {text}\n")?
+/// Makes calls, and prints what they return.
+#[derive(Drop)]
+pub struct Harness<'a, R> {
+    pub rt: &'a R,
+    pub alloc: Global,
+    /// Whether a call that fails is made once more.
+    pub is_retrying: bool,
+}
+
+impl<R: Print + Eprint> Harness<'_, R> {
+    /// Makes a call. If it fails and is to be made once more, prints the state before and after it.
+    pub fn run<C: Call>(&self, call: &mut C) -> io::Result<()> {
+        let (rt, alloc) = (self.rt, self.alloc);
+        for _ in 0..2 {
+            call.prepare(alloc)?;
+            let before = call.state(alloc)?;
+            // Where nothing can be printed, whoever counts allocations finds none.
+            let _ = eprintln!(rt; "begin");
+            let result = call.call(alloc);
+            let _ = eprintln!(rt; "end");
+            self.print(&result)?;
+            if result.is_ok() || !self.is_retrying {
+                break;
+            }
+            let after = call.state(alloc)?;
+            println!(rt; "had {before}\nleft {after}")?;
         }
-        Err(e) => format!(in alloc; "refused {e:?}\n")?,
-    })
-}
-
-/// Prints what a call answered. Answers whether it was Ok.
-pub fn tell<R: Print>(rt: &R, alloc: Global, answer: &Result<Thing, Refusal>) -> io::Result<bool> {
-    let line = line(alloc, answer)?;
-    print!(rt; "{line}")?;
-    Ok(answer.is_ok())
-}
-
-/// Makes a call, says where its allocations begin and end, and tells what it answered.
-/// Answers whether that was Ok.
-pub fn ask<R: Print + Eprint, C: Call>(rt: &R, alloc: Global, call: &mut C) -> io::Result<bool> {
-    // Where nothing can be said, whoever counts allocations finds none.
-    let _ = eprintln!(rt; "begin");
-    let answer = call.answer(alloc);
-    let _ = eprintln!(rt; "end");
-    tell(rt, alloc, &answer)
-}
-
-/// Makes a call that is to fail only where it runs out of memory. Where it does, tells what was
-/// there before the call and is there after it, and makes it once more.
-pub fn insist<R: Print + Eprint, C: Call>(rt: &R, alloc: Global, call: &mut C) -> io::Result<()> {
-    for _ in 0..2 {
-        call.make_ready(alloc)?;
-        let had = call.state(alloc)?;
-        if ask(rt, alloc, call)? {
-            break;
-        }
-        let left = call.state(alloc)?;
-        println!(rt; "had {had}\nleft {left}")?;
+        Ok(())
     }
-    Ok(())
-}
 
-/// Prints what calls have made.
-pub fn tell_made<R: Print, C: Call>(rt: &R, alloc: Global, call: &C) -> io::Result<()> {
-    let text = call.state(alloc)?;
-    println!(rt; "made {text}")
+    /// Prints what a call returned. For `AnyValue::Nothing` that is no line.
+    pub fn print<E: fmt::Debug>(&self, returned: &Result<AnyValue, E>) -> io::Result<()> {
+        let rt = self.rt;
+        match returned {
+            Ok(AnyValue::Nothing) => Ok(()),
+            Ok(value) => {
+                let text = value.text(self.alloc)?;
+                println!(rt; "ok {text}")
+            }
+            Err(e) => println!(rt; "refused {e:?}"),
+        }
+    }
+
+    /// Prints what calls have made.
+    pub fn print_made(&self, text: &str) -> io::Result<()> {
+        let rt = self.rt;
+        println!(rt; "made {text}")
+    }
 }

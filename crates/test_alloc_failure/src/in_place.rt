@@ -1,100 +1,96 @@
-//! Calls that read a value where its bytes lie.
+//! Calls of values in place.
 
-use crate::harness::{Call, ask, insist};
+use crate::harness::{Call, Harness};
 use crate::stream::LIMITS;
-use crate::values::{Refusal, Thing};
-use amq_protocol_types::in_place::{ValueRef, read_in_place, skip_value};
-use std::alloc::Global;
+use crate::values::AnyValue;
+use amq_protocol_types::in_place::{TableRef, ValueRef, read_in_place, skip_value};
+use amq_protocol_types::parsing::ParserError;
+use std::alloc::{AllocError, Global};
 use std::io;
 
-/// A value in place that is copied.
 #[derive(Drop)]
-struct Owning {
+struct ToOwned {
     value: ValueRef<'static>,
 }
 
-impl Call for Owning {
-    fn answer(&mut self, alloc: Global) -> Result<Thing, Refusal> {
-        Ok(Thing::Value(self.value.to_owned(alloc)?))
+impl Call for ToOwned {
+    type Error = AllocError;
+
+    fn call(&mut self, alloc: Global) -> Result<AnyValue, AllocError> {
+        Ok(AnyValue::Value(self.value.to_owned(alloc)?))
     }
 }
 
-/// A table that is read, and its pairs counted.
+/// `read_in_place` of a table, whose pairs are counted.
 #[derive(Drop)]
-struct Looking {
+struct CountPairs {
     bytes: &'static [u8],
 }
 
-impl Call for Looking {
-    fn answer(&mut self, _alloc: Global) -> Result<Thing, Refusal> {
+impl Call for CountPairs {
+    type Error = ParserError;
+
+    fn call(&mut self, _alloc: Global) -> Result<AnyValue, ParserError> {
         let (value, _) = read_in_place(self.bytes, LIMITS)?;
         let Some(table) = value.as_field_table() else {
-            return Ok(Thing::NoValue);
+            return Ok(AnyValue::NoValue);
         };
-        Ok(Thing::Number(table.iter().count() as i128))
+        Ok(AnyValue::Number(table.iter().count() as i128))
     }
 }
 
-/// A value that is skipped.
 #[derive(Drop)]
-struct Skipping {
+struct Skip {
     bytes: &'static [u8],
 }
 
-impl Call for Skipping {
-    fn answer(&mut self, _alloc: Global) -> Result<Thing, Refusal> {
-        Ok(Thing::Number(skip_value(self.bytes)? as i128))
+impl Call for Skip {
+    type Error = ParserError;
+
+    fn call(&mut self, _alloc: Global) -> Result<AnyValue, ParserError> {
+        Ok(AnyValue::Number(skip_value(self.bytes)? as i128))
     }
 }
 
-/// A table that is asked for a key that stands more than once.
 #[derive(Drop)]
-struct Repeating {
-    bytes: &'static [u8],
+struct RepeatedKey {
+    table: TableRef<'static>,
 }
 
-impl Call for Repeating {
+impl Call for RepeatedKey {
+    type Error = AllocError;
+
     // the number of the key's bytes
-    fn answer(&mut self, alloc: Global) -> Result<Thing, Refusal> {
-        let (value, _) = read_in_place(self.bytes, LIMITS)?;
-        let Some(table) = value.as_field_table() else {
-            return Ok(Thing::NoValue);
-        };
-        match table.repeated_key(alloc)? {
-            Some(key) => Ok(Thing::Number(key.len() as i128)),
-            None => Ok(Thing::NoValue),
-        }
+    fn call(&mut self, alloc: Global) -> Result<AnyValue, AllocError> {
+        let key = self.table.repeated_key(alloc)?;
+        Ok(key.map_or(AnyValue::NoValue, |key| AnyValue::Number(key.len() as i128)))
     }
 }
 
 /// The value of each of these is copied.
-pub fn copied<R: Print + Eprint>(rt: &R, alloc: Global, all: &[&'static [u8]]) -> io::Result<()> {
+pub fn to_owned<R: Print + Eprint>(h: &Harness<R>, all: &[&'static [u8]]) -> io::Result<()> {
     for bytes in all {
         if let Ok((value, _)) = read_in_place(bytes, LIMITS) {
-            insist(rt, alloc, &mut Owning { value })?;
+            h.run(&mut ToOwned { value })?;
         }
     }
     Ok(())
 }
 
-/// Each of these tables is asked for a key that stands more than once.
-pub fn repeated<R: Print + Eprint>(rt: &R, alloc: Global, all: &[&'static [u8]]) -> io::Result<()> {
-    for bytes in all {
-        insist(rt, alloc, &mut Repeating { bytes })?;
-    }
-    Ok(())
+/// The pairs of this table are counted, and it is skipped.
+pub fn count_and_skip<R: Print + Eprint>(h: &Harness<R>, bytes: &'static [u8]) -> io::Result<()> {
+    h.run(&mut CountPairs { bytes })?;
+    h.run(&mut Skip { bytes })
 }
 
-/// The pairs of a table are counted, it is skipped and asked for a key that stands more than once,
-/// and values that take no memory are copied.
-pub fn without<R: Print + Eprint>(
-    rt: &R,
-    alloc: Global,
-    bytes: &'static [u8],
-    light: &[&'static [u8]],
-) -> io::Result<()> {
-    ask(rt, alloc, &mut Looking { bytes })?;
-    ask(rt, alloc, &mut Skipping { bytes })?;
-    ask(rt, alloc, &mut Repeating { bytes })?;
-    copied(rt, alloc, light)
+/// A key that each of these tables has more than once.
+pub fn repeated_key<R: Print + Eprint>(h: &Harness<R>, all: &[&'static [u8]]) -> io::Result<()> {
+    for bytes in all {
+        if let Ok((value, _)) = read_in_place(bytes, LIMITS)
+            && let Some(table) = value.as_field_table()
+        {
+            h.run(&mut RepeatedKey { table })?;
+        }
+    }
+    Ok(())
 }

@@ -1,5 +1,6 @@
-//! Calls that may need memory, and calls that never do, each as a case of its own, to be run with
-//! one allocation failing. The argument names the case; with none all cases are run.
+//! Cases of calls that may allocate, and of calls that never do, to be run with one allocation
+//! failing. The argument names the case. With none all cases are run; with `--list` each is printed
+//! with what its calls return if an allocation fails.
 //!
 //! Around each call two lines go to standard error, `begin` and `end`, so that whoever makes
 //! allocations fail knows which of them are the call's.
@@ -9,7 +10,6 @@ mod appends;
 mod cases;
 mod constructors;
 mod conversions;
-mod copies;
 mod fixtures;
 mod flags;
 mod generation;
@@ -20,6 +20,7 @@ mod stream;
 mod texts;
 mod values;
 
+use self::cases::CASES;
 use std::alloc::Global;
 use std::process::ExitCode;
 use std::rt::Env;
@@ -33,40 +34,33 @@ fn main(rt: HostRuntime) -> ExitCode {
     }
 }
 
-/// Runs the case that the argument names, or all of them. Answers whether there is such a case.
+/// Does what the argument says. Returns whether it is known.
 fn run<R: Env + Alloc + Print + Eprint>(rt: &R, alloc: Global) -> io::Result<bool> {
-    match env::args(rt)?.nth(1) {
-        Some(name) => run_case(rt, alloc, name.as_str()),
-        None => run_all(rt, alloc),
+    let argument = env::args(rt)?.nth(1);
+    let name = argument.as_ref().map(|it| it.as_str());
+    if name == Some("--list") {
+        list(rt)?;
+        return Ok(true);
     }
-}
-
-/// Runs the case of this name. Answers whether there is one.
-fn run_case<R: Print + Eprint>(rt: &R, alloc: Global, name: &str) -> io::Result<bool> {
-    println!(rt; "case {name}")?;
-    cases::run(rt, alloc, name)
-}
-
-/// Runs all cases. Answers whether each was found under its name.
-fn run_all<R: Print + Eprint>(rt: &R, alloc: Global) -> io::Result<bool> {
-    let mut are_found = true;
-    for names in [
-        cases::VALUES_READ.as_slice(),
-        cases::PAYLOADS_READ.as_slice(),
-        cases::STRINGS_READ.as_slice(),
-        cases::READ_WITHOUT.as_slice(),
-        cases::FLAGS.as_slice(),
-        cases::VALUES_MADE.as_slice(),
-        cases::COPIES.as_slice(),
-        cases::CONVERSIONS.as_slice(),
-        cases::GENERATORS.as_slice(),
-        cases::STREAMS.as_slice(),
-        cases::IN_PLACE.as_slice(),
-        cases::TEXTS.as_slice(),
-    ] {
-        for name in names {
-            are_found = run_case(rt, alloc, name)? && are_found;
+    let mut is_found = false;
+    for case in CASES {
+        if name.is_none_or(|it| it == case.name) {
+            println!(rt; "case {}", case.name)?;
+            case.run(rt, alloc)?;
+            is_found = true;
         }
     }
-    Ok(are_found)
+    Ok(is_found)
+}
+
+/// Prints each case's name, and the errors of its calls after tabs.
+fn list<R: Print>(rt: &R) -> io::Result<()> {
+    for case in CASES {
+        print!(rt; "{}", case.name)?;
+        for error in case.errors {
+            print!(rt; "\t{error}")?;
+        }
+        println!(rt; "")?;
+    }
+    Ok(())
 }

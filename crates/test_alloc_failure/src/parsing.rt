@@ -2,12 +2,11 @@
 
 use crate::fixtures;
 use crate::fixtures::Piece;
-use crate::harness::{Call, ask, insist};
-use crate::values::{Refusal, Thing};
-use amq_protocol_types::flags::AMQPFlags;
+use crate::harness::{Call, Harness};
+use crate::values::AnyValue;
 use amq_protocol_types::parsing::traits::ParsableInput;
 use amq_protocol_types::parsing::{
-    Err, ParserResult, SliceInput, SplitInput, parse_boolean, parse_byte_array,
+    Err, ParserError, ParserResult, SliceInput, SplitInput, parse_boolean, parse_byte_array,
     parse_decimal_value, parse_double, parse_field_array, parse_field_table, parse_flags,
     parse_float, parse_id, parse_long_int, parse_long_long_int, parse_long_long_uint,
     parse_long_string, parse_long_uint, parse_raw_value, parse_short_int, parse_short_short_int,
@@ -19,129 +18,99 @@ use amq_protocol_types::{AMQPType, AMQPValue};
 use std::alloc::Global;
 use std::io;
 
-/// A parser.
+/// A parser, with its arguments: `Value` is `parse_value`, and so on.
 #[derive(Clone, Copy)]
 pub enum Parser {
-    /// `parse_value`.
     Value,
-    /// `parse_value`, where the input begins with no value: it answers what it is rejected as.
+    /// `parse_value` of what begins with no value. Returns the kind of its error.
     NoValue,
-    /// `parse_value_within` these limits.
     Within(Limits),
-    /// `parse_raw_value` of that type.
     Raw(AMQPType),
-    /// `parse_short_string`.
     ShortString,
-    /// `parse_long_string`.
     LongString,
-    /// `parse_byte_array`.
     ByteArray,
-    /// `parse_field_array`.
     FieldArray,
-    /// `parse_field_table`.
     FieldTable,
-    /// `parse_flags` of these names.
     Flags(&'static [&'static str]),
-    /// `AMQPFlags::from_bytes` of these names.
-    FromBytes(&'static [&'static str]),
-    /// The parser of a number.
     Number(Number),
 }
 
-/// The parsers of numbers, and of what is read as one.
+/// The parsers of numbers, and of what is read as one: `Type` is `parse_type`, and so on.
 #[derive(Clone, Copy)]
 pub enum Number {
-    /// `parse_type`.
     Type,
-    /// `parse_id`.
     Id,
-    /// `parse_boolean`.
     Boolean,
-    /// `parse_short_short_int`.
     ShortShortInt,
-    /// `parse_short_short_uint`.
     ShortShortUInt,
-    /// `parse_short_int`.
     ShortInt,
-    /// `parse_short_uint`.
     ShortUInt,
-    /// `parse_long_int`.
     LongInt,
-    /// `parse_long_uint`.
     LongUInt,
-    /// `parse_long_long_int`.
     LongLongInt,
-    /// `parse_long_long_uint`.
     LongLongUInt,
-    /// `parse_timestamp`.
     Timestamp,
-    /// `parse_float`.
     Float,
-    /// `parse_double`.
     Double,
-    /// `parse_decimal_value`.
     Decimal,
 }
 
-/// An input that is read.
 #[derive(Drop)]
-struct Reading<I> {
+struct Parsing<I> {
     parser: Parser,
     input: I,
 }
 
-impl<I: ParsableInput> Call for Reading<I> {
-    fn answer(&mut self, alloc: Global) -> Result<Thing, Refusal> {
+impl<I: ParsableInput> Call for Parsing<I> {
+    type Error = ParserError;
+
+    fn call(&mut self, alloc: Global) -> Result<AnyValue, ParserError> {
         match self.parser {
-            Parser::Number(number) => read_number(number, self.input),
-            parser => read(alloc, parser, self.input),
+            Parser::Number(number) => parse_number(number, self.input),
+            parser => parse(alloc, parser, self.input),
         }
     }
 }
 
-/// What an input that begins with no value is rejected as.
-fn kind_of<I: ParsableInput>(answer: ParserResult<I, AMQPValue>) -> Result<Thing, Refusal> {
-    match answer {
-        Ok((_rest, _value)) => Ok(Thing::Kind(None)),
-        Err(e) => match e {
-            Err::Error(error) => Ok(Thing::Kind(Some(error.kind()))),
-            Err::Incomplete(needed) => Err(Refusal::Parser(Err::Incomplete(needed))),
-            Err::Failure(error) => Err(Refusal::Parser(Err::Failure(error))),
-        },
+/// The kind of the error of an input that begins with no value.
+fn kind_of<I: ParsableInput>(parsed: ParserResult<I, AMQPValue>) -> Result<AnyValue, ParserError> {
+    match parsed {
+        Ok((_rest, _value)) => Ok(AnyValue::Kind(None)),
+        Err(Err::Error(error)) => Ok(AnyValue::Kind(Some(error.kind()))),
+        Err(e) => Err(e),
     }
 }
 
-/// Reads what may hold memory.
-fn read<I: ParsableInput>(alloc: Global, parser: Parser, i: I) -> Result<Thing, Refusal> {
+/// Parses what may allocate.
+fn parse<I: ParsableInput>(alloc: Global, parser: Parser, i: I) -> Result<AnyValue, ParserError> {
     Ok(match parser {
-        Parser::Value => Thing::Value(parse_value(alloc, i)?.1),
+        Parser::Value => AnyValue::Value(parse_value(alloc, i)?.1),
         Parser::NoValue => kind_of(parse_value(alloc, i))?,
-        Parser::Within(limits) => Thing::Value(parse_value_within(alloc, i, limits)?.1),
-        Parser::Raw(of_type) => Thing::Value(parse_raw_value(alloc, of_type, i)?.1),
-        Parser::ShortString => Thing::ShortString(parse_short_string(alloc, i)?.1),
-        Parser::LongString => Thing::LongString(parse_long_string(alloc, i)?.1),
-        Parser::ByteArray => Thing::ByteArray(parse_byte_array(alloc, i)?.1),
-        Parser::FieldArray => Thing::FieldArray(parse_field_array(alloc, i)?.1),
-        Parser::FieldTable => Thing::FieldTable(parse_field_table(alloc, i)?.1),
-        Parser::Flags(names) => Thing::Flags(parse_flags(alloc, i, names)?.1),
-        Parser::FromBytes(names) => Thing::Flags(AMQPFlags::from_bytes(alloc, names, i)?),
-        Parser::Number(_) => Thing::Nothing,
+        Parser::Within(limits) => AnyValue::Value(parse_value_within(alloc, i, limits)?.1),
+        Parser::Raw(of_type) => AnyValue::Value(parse_raw_value(alloc, of_type, i)?.1),
+        Parser::ShortString => AnyValue::ShortString(parse_short_string(alloc, i)?.1),
+        Parser::LongString => AnyValue::LongString(parse_long_string(alloc, i)?.1),
+        Parser::ByteArray => AnyValue::ByteArray(parse_byte_array(alloc, i)?.1),
+        Parser::FieldArray => AnyValue::FieldArray(parse_field_array(alloc, i)?.1),
+        Parser::FieldTable => AnyValue::FieldTable(parse_field_table(alloc, i)?.1),
+        Parser::Flags(names) => AnyValue::Flags(parse_flags(alloc, i, names)?.1),
+        Parser::Number(_) => AnyValue::Nothing,
     })
 }
 
-/// What the parser of a number answered.
+/// The number that a parser returned.
 fn any_number<I: ParsableInput, T: Into<i128>>(
-    answer: ParserResult<I, T>,
-) -> Result<Thing, Refusal> {
-    let (_rest, number) = answer?;
-    Ok(Thing::Number(number.into()))
+    parsed: ParserResult<I, T>,
+) -> Result<AnyValue, ParserError> {
+    let (_rest, number) = parsed?;
+    Ok(AnyValue::Number(number.into()))
 }
 
-/// Reads a number, or what is read as one.
-fn read_number<I: ParsableInput>(kind: Number, i: I) -> Result<Thing, Refusal> {
+/// Parses a number, or what is read as one.
+fn parse_number<I: ParsableInput>(kind: Number, i: I) -> Result<AnyValue, ParserError> {
     match kind {
-        Number::Type => Ok(Thing::Type(parse_type(i)?.1)),
-        Number::Boolean => Ok(Thing::Truth(parse_boolean(i)?.1)),
+        Number::Type => Ok(AnyValue::Type(parse_type(i)?.1)),
+        Number::Boolean => Ok(AnyValue::Truth(parse_boolean(i)?.1)),
         Number::Id => any_number(parse_id(i)),
         Number::ShortShortInt => any_number(parse_short_short_int(i)),
         Number::ShortShortUInt => any_number(parse_short_short_uint(i)),
@@ -152,81 +121,63 @@ fn read_number<I: ParsableInput>(kind: Number, i: I) -> Result<Thing, Refusal> {
         Number::LongLongInt => any_number(parse_long_long_int(i)),
         Number::LongLongUInt => any_number(parse_long_long_uint(i)),
         Number::Timestamp => any_number(parse_timestamp(i)),
-        Number::Float => Ok(Thing::Number(i128::from(parse_float(i)?.1.to_bits()))),
-        Number::Double => Ok(Thing::Number(i128::from(parse_double(i)?.1.to_bits()))),
-        Number::Decimal => Ok(Thing::Number(i128::from(parse_decimal_value(i)?.1.value))),
+        Number::Float => Ok(AnyValue::Number(i128::from(parse_float(i)?.1.to_bits()))),
+        Number::Double => Ok(AnyValue::Number(i128::from(parse_double(i)?.1.to_bits()))),
+        Number::Decimal => Ok(AnyValue::Number(i128::from(parse_decimal_value(i)?.1.value))),
     }
 }
 
-/// An input is read from one slice.
-pub fn in_one<R: Print + Eprint>(
-    rt: &R,
-    alloc: Global,
-    parser: Parser,
-    pieces: &[Piece],
-) -> io::Result<()> {
-    let wire = fixtures::wire(alloc, pieces)?;
-    let input = SliceInput::new(wire.as_slice());
-    insist(rt, alloc, &mut Reading { parser, input })
+/// Parses one slice.
+fn parse_slice<R: Print + Eprint>(h: &Harness<R>, parser: Parser, bytes: &[u8]) -> io::Result<()> {
+    let input = SliceInput::new(bytes);
+    h.run(&mut Parsing { parser, input })
 }
 
-/// An input is read from two slices, cut there.
-pub fn in_two<R: Print + Eprint>(
-    rt: &R,
-    alloc: Global,
+/// Parses two slices, which are this one cut at `cut`.
+fn parse_split<R: Print + Eprint>(
+    h: &Harness<R>,
     parser: Parser,
-    pieces: &[Piece],
+    bytes: &[u8],
     cut: usize,
 ) -> io::Result<()> {
-    let wire = fixtures::wire(alloc, pieces)?;
-    let (front, behind) = wire.as_slice().split_at(wire.len().min(cut));
-    let input = SplitInput::new(front, behind);
-    insist(rt, alloc, &mut Reading { parser, input })
+    let (first, second) = bytes.split_at(bytes.len().min(cut));
+    let input = SplitInput::new(first, second);
+    h.run(&mut Parsing { parser, input })
 }
 
-/// Each input is read by each parser, once.
-pub fn once<R: Print + Eprint>(
-    rt: &R,
-    alloc: Global,
-    parsers: &[Parser],
-    wires: &[&[u8]],
+/// Parses pieces, in one slice, or in two.
+pub fn parse_pieces<R: Print + Eprint>(
+    h: &Harness<R>,
+    parser: Parser,
+    pieces: &[Piece],
+    cut: Option<usize>,
 ) -> io::Result<()> {
-    for wire in wires {
+    let bytes = fixtures::encoding(h.alloc, pieces)?;
+    match cut {
+        Some(cut) => parse_split(h, parser, bytes.as_slice(), cut),
+        None => parse_slice(h, parser, bytes.as_slice()),
+    }
+}
+
+/// Parses each input by each parser.
+pub fn parse_each<R: Print + Eprint>(
+    h: &Harness<R>,
+    parsers: &[Parser],
+    inputs: &[&[u8]],
+) -> io::Result<()> {
+    for bytes in inputs {
         for parser in parsers {
-            let parser = *parser;
-            let input = SliceInput::new(wire);
-            ask(rt, alloc, &mut Reading { parser, input })?;
+            parse_slice(h, *parser, bytes)?;
         }
     }
     Ok(())
 }
 
-/// Each parser reads a length of 0, and one that is far from there, once.
-pub fn lengths<R: Print + Eprint>(rt: &R, alloc: Global, parsers: &[Parser]) -> io::Result<()> {
-    for parser in parsers {
-        once(
-            rt,
-            alloc,
-            &[*parser],
-            &[&[0, 0, 0, 0], &[255, 255, 255, 255]],
-        )?;
-    }
-    Ok(())
-}
-
-/// Each input is read as a value once, and once more from two slices, cut in the middle.
-pub fn whole_and_in_two<R: Print + Eprint>(
-    rt: &R,
-    alloc: Global,
-    wires: &[&[u8]],
-) -> io::Result<()> {
-    let parser = Parser::Value;
-    for wire in wires {
-        let input = SliceInput::new(wire);
-        ask(rt, alloc, &mut Reading { parser, input })?;
-        let (front, behind) = wire.split_at(wire.len() / 2);
-        let input = SplitInput::new(front, behind);
-        ask(rt, alloc, &mut Reading { parser, input })?;
+/// Parses each input as a value, and once more from two slices, cut in the middle.
+pub fn parse_values<R: Print + Eprint>(h: &Harness<R>, inputs: &[&[u8]]) -> io::Result<()> {
+    for bytes in inputs {
+        parse_slice(h, Parser::Value, bytes)?;
+        parse_split(h, Parser::Value, bytes, bytes.len() / 2)?;
     }
     Ok(())
 }

@@ -1,8 +1,8 @@
 //! Calls of readers of values.
 
-use crate::harness::{Call, ask, insist, tell};
-use crate::values::{Refusal, Thing};
-use amq_protocol_types::stream::{Limits, ValueReader};
+use crate::harness::{Call, Harness};
+use crate::values::AnyValue;
+use amq_protocol_types::stream::{Limits, StreamError, ValueReader};
 use std::alloc::Global;
 use std::io;
 use std::io::Read;
@@ -20,7 +20,7 @@ pub const NARROW: Limits = Limits {
     depth: 3,
 };
 
-/// Gives at most so many bytes at a time.
+/// Yields at most so many bytes at a time.
 #[derive(Drop)]
 struct Slow {
     bytes: &'static [u8],
@@ -34,34 +34,38 @@ impl Read for Slow {
     }
 }
 
-/// A reader of values, whose next value is asked for.
 #[derive(Drop)]
-struct Asking {
+struct Next {
     values: ValueReader<Slow>,
 }
 
-impl Call for Asking {
-    fn answer(&mut self, _alloc: Global) -> Result<Thing, Refusal> {
-        Ok(self.values.next()?.map_or(Thing::NoValue, Thing::Value))
+impl Call for Next {
+    type Error = StreamError;
+
+    fn call(&mut self, _alloc: Global) -> Result<AnyValue, StreamError> {
+        Ok(
+            self.values
+                .next()?
+                .map_or(AnyValue::NoValue, AnyValue::Value),
+        )
     }
 }
 
-/// The table from a reader that gives at most so many bytes at a time, and then its end: the call
+/// The table from a reader that yields at most so many bytes at a time, and then its end: the call
 /// after a failed allocation goes on.
-pub fn run<R: Print + Eprint>(rt: &R, alloc: Global, most: usize) -> io::Result<()> {
+pub fn next_values<R: Print + Eprint>(h: &Harness<R>, most: usize) -> io::Result<()> {
     let bytes = TABLE;
-    let values = ValueReader::new(alloc, Slow { bytes, most }, LIMITS);
-    let mut asking = Asking { values };
-    insist(rt, alloc, &mut asking)?;
-    insist(rt, alloc, &mut asking)
+    let values = ValueReader::new(h.alloc, Slow { bytes, most }, LIMITS);
+    let mut next = Next { values };
+    h.run(&mut next)?;
+    h.run(&mut next)
 }
 
-/// A reader of values that has failed is asked.
-pub fn failed<R: Print + Eprint>(rt: &R, alloc: Global) -> io::Result<()> {
+/// The next value of a reader that has failed.
+pub fn next_after_failure<R: Print + Eprint>(h: &Harness<R>) -> io::Result<()> {
     let bytes = [122].as_slice();
-    let values = ValueReader::new(alloc, Slow { bytes, most: 1 }, NARROW);
-    let mut asking = Asking { values };
-    tell(rt, alloc, &asking.answer(alloc))?;
-    ask(rt, alloc, &mut asking)?;
-    Ok(())
+    let values = ValueReader::new(h.alloc, Slow { bytes, most: 1 }, NARROW);
+    let mut next = Next { values };
+    h.print(&next.call(h.alloc))?;
+    h.run(&mut next)
 }

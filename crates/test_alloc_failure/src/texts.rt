@@ -1,14 +1,16 @@
-//! Calls that write and read JSON, take an encoding apart, and make bytes safe to print.
+//! Calls that write and read JSON, dissect an encoding, and escape bytes.
 
 use crate::fixtures;
 use crate::fixtures::Piece;
-use crate::harness::{Call, insist};
-use crate::values::{Refusal, Thing};
+use crate::harness::{Call, Harness};
+use crate::values::AnyValue;
 use amq_protocol_types::AMQPValue;
 use amq_protocol_types::stream::Limits;
 use amqp_dissect::{dissect, escape};
-use amqp_json::{encoding_of_json, from_json, json_of_encoding, to_json};
-use std::alloc::Global;
+use amqp_json::{
+    DecodeError, EncodeError, JsonError, encoding_of_json, from_json, json_of_encoding, to_json,
+};
+use std::alloc::{AllocError, Global};
 use std::io;
 
 /// Limits that all values of the cases keep to.
@@ -17,113 +19,117 @@ const WIDE: Limits = Limits {
     depth: 3,
 };
 
-/// A value whose JSON is written.
+/// A call on a string or on bytes, each named after its function.
+#[derive(Clone, Copy)]
+pub enum TextCall {
+    ToJson,
+    FromJson,
+    JsonOfEncoding,
+    EncodingOfJson,
+    Dissect,
+    Escape,
+}
+
 #[derive(Drop)]
-struct Writing {
+struct ToJson {
     value: AMQPValue,
 }
 
-impl Call for Writing {
-    fn answer(&mut self, alloc: Global) -> Result<Thing, Refusal> {
-        Ok(Thing::Bytes(to_json(alloc, &self.value)?.into_bytes()))
+impl Call for ToJson {
+    type Error = AllocError;
+
+    fn call(&mut self, alloc: Global) -> Result<AnyValue, AllocError> {
+        Ok(AnyValue::Bytes(to_json(alloc, &self.value)?.into_bytes()))
     }
 }
 
-/// A text that is read as the JSON of a value.
 #[derive(Drop)]
-struct Reading {
+struct FromJson {
     text: String,
 }
 
-impl Call for Reading {
-    fn answer(&mut self, alloc: Global) -> Result<Thing, Refusal> {
-        Ok(Thing::Value(from_json(alloc, self.text.as_str())?))
+impl Call for FromJson {
+    type Error = JsonError;
+
+    fn call(&mut self, alloc: Global) -> Result<AnyValue, JsonError> {
+        Ok(AnyValue::Value(from_json(alloc, self.text.as_str())?))
     }
 }
 
-/// An encoding, of whose value the JSON text is written.
 #[derive(Drop)]
-struct Decoding {
+struct JsonOfEncoding {
     bytes: Vec<u8>,
 }
 
-impl Call for Decoding {
-    fn answer(&mut self, alloc: Global) -> Result<Thing, Refusal> {
+impl Call for JsonOfEncoding {
+    type Error = DecodeError;
+
+    fn call(&mut self, alloc: Global) -> Result<AnyValue, DecodeError> {
         let (text, _) = json_of_encoding(alloc, self.bytes.as_slice(), WIDE)?;
-        Ok(Thing::Bytes(text.into_bytes()))
+        Ok(AnyValue::Bytes(text.into_bytes()))
     }
 }
 
-/// A JSON text, of whose value the encoding is written.
 #[derive(Drop)]
-struct Encoding {
+struct EncodingOfJson {
     text: String,
 }
 
-impl Call for Encoding {
-    fn answer(&mut self, alloc: Global) -> Result<Thing, Refusal> {
-        Ok(Thing::Bytes(encoding_of_json(alloc, self.text.as_str())?))
+impl Call for EncodingOfJson {
+    type Error = EncodeError;
+
+    fn call(&mut self, alloc: Global) -> Result<AnyValue, EncodeError> {
+        let text = self.text.as_str();
+        Ok(AnyValue::Bytes(encoding_of_json(alloc, text)?))
     }
 }
 
-/// An encoding that is taken apart.
 #[derive(Drop)]
-struct Dissecting {
+struct Dissect {
     bytes: Vec<u8>,
 }
 
-impl Call for Dissecting {
-    fn answer(&mut self, alloc: Global) -> Result<Thing, Refusal> {
+impl Call for Dissect {
+    type Error = AllocError;
+
+    // the number of parts
+    fn call(&mut self, alloc: Global) -> Result<AnyValue, AllocError> {
         let dissection = dissect(alloc, self.bytes.as_slice(), WIDE)?;
-        Ok(Thing::Number(dissection.parts.len() as i128))
+        Ok(AnyValue::Number(dissection.parts.len() as i128))
     }
 }
 
-/// Bytes that are made safe to print.
 #[derive(Drop)]
-struct Escaping {
+struct Escape {
     bytes: Vec<u8>,
 }
 
-impl Call for Escaping {
-    fn answer(&mut self, alloc: Global) -> Result<Thing, Refusal> {
-        Ok(Thing::Bytes(escape(alloc, self.bytes.as_slice())?.into_bytes()))
+impl Call for Escape {
+    type Error = AllocError;
+
+    fn call(&mut self, alloc: Global) -> Result<AnyValue, AllocError> {
+        Ok(AnyValue::Bytes(escape(alloc, self.bytes.as_slice())?.into_bytes()))
     }
 }
 
-/// The value of these bytes is written as JSON.
-pub fn written<R: Print + Eprint>(rt: &R, alloc: Global, pieces: &[Piece]) -> io::Result<()> {
-    let bytes = fixtures::wire(alloc, pieces)?;
-    let value = fixtures::value(alloc, bytes.as_slice())?;
-    insist(rt, alloc, &mut Writing { value })
-}
-
-/// The JSON of these bytes is read.
-pub fn read<R: Print + Eprint>(rt: &R, alloc: Global, pieces: &[Piece]) -> io::Result<()> {
-    let text = String::from_utf8(fixtures::wire(alloc, pieces)?).map_err(fixtures::unmade)?;
-    insist(rt, alloc, &mut Reading { text })
-}
-
-/// These bytes become the JSON text of their value.
-pub fn decoded<R: Print + Eprint>(rt: &R, alloc: Global, pieces: &[Piece]) -> io::Result<()> {
-    let bytes = fixtures::wire(alloc, pieces)?;
-    insist(rt, alloc, &mut Decoding { bytes })
-}
-
-/// This JSON becomes the encoding of its value.
-pub fn encoded<R: Print + Eprint>(rt: &R, alloc: Global, pieces: &[Piece]) -> io::Result<()> {
-    let text = String::from_utf8(fixtures::wire(alloc, pieces)?).map_err(fixtures::unmade)?;
-    insist(rt, alloc, &mut Encoding { text })
-}
-
-/// The parts of these bytes are counted.
-pub fn taken_apart<R: Print + Eprint>(rt: &R, alloc: Global, pieces: &[Piece]) -> io::Result<()> {
-    let bytes = fixtures::wire(alloc, pieces)?;
-    insist(rt, alloc, &mut Dissecting { bytes })
-}
-
-/// These bytes are escaped.
-pub fn escaped<R: Print + Eprint>(rt: &R, alloc: Global, pieces: &[Piece]) -> io::Result<()> {
-    let bytes = fixtures::wire(alloc, pieces)?;
-    insist(rt, alloc, &mut Escaping { bytes })
+/// A call on these pieces.
+pub fn run<R: Print + Eprint>(h: &Harness<R>, call: TextCall, pieces: &[Piece]) -> io::Result<()> {
+    let bytes = fixtures::encoding(h.alloc, pieces)?;
+    match call {
+        TextCall::ToJson => {
+            let value = fixtures::value(h.alloc, bytes.as_slice())?;
+            h.run(&mut ToJson { value })
+        }
+        TextCall::FromJson => {
+            let text = String::from_utf8(bytes).map_err(fixtures::failed)?;
+            h.run(&mut FromJson { text })
+        }
+        TextCall::JsonOfEncoding => h.run(&mut JsonOfEncoding { bytes }),
+        TextCall::EncodingOfJson => {
+            let text = String::from_utf8(bytes).map_err(fixtures::failed)?;
+            h.run(&mut EncodingOfJson { text })
+        }
+        TextCall::Dissect => h.run(&mut Dissect { bytes }),
+        TextCall::Escape => h.run(&mut Escape { bytes }),
+    }
 }
