@@ -1,0 +1,71 @@
+// Preloaded, it fails one allocation: the one whose number is FAIL_ALLOC, of those between the lines
+// `begin` and `end` on standard error, or of all if FAIL_ANYWHERE is set. It fails the call of read on
+// standard input whose number is FAIL_READ, and the call of write on standard output whose number is
+// FAIL_WRITE, with the error FAIL_WITH. If ONE_BYTE is set, no such call moves more than one byte. At the
+// end it writes the numbers of allocations, reads and writes, and of bytes in all those allocations, to the
+// descriptor COUNTS_TO.
+#define _GNU_SOURCE
+#include <dlfcn.h>
+#include <errno.h>
+#include <stdint.h>
+#include <stdio.h>
+#include <stdlib.h>
+#include <string.h>
+#include <unistd.h>
+
+static long allocations, fail_alloc, reads, writes, fail_read, fail_write;
+static size_t bytes_allocated;
+static int inside, counts_to = -1, fail_with, one_byte;
+
+static long number(const char *name) {
+    const char *text = getenv(name);
+    return text ? atol(text) : 0;
+}
+
+__attribute__((constructor)) static void start(void) {
+    fail_alloc = number("FAIL_ALLOC");
+    fail_read = number("FAIL_READ");
+    fail_write = number("FAIL_WRITE");
+    fail_with = number("FAIL_WITH");
+    one_byte = getenv("ONE_BYTE") != NULL;
+    counts_to = getenv("COUNTS_TO") ? number("COUNTS_TO") : -1;
+    inside = getenv("FAIL_ANYWHERE") != NULL;
+}
+
+__attribute__((destructor)) static void stop(void) {
+    if (counts_to >= 0) dprintf(counts_to, "%ld %ld %ld %zu\n", allocations, reads, writes, bytes_allocated);
+}
+
+static int alloc_fails(size_t n) {
+    if (!inside) return 0;
+    if (__builtin_add_overflow(bytes_allocated, n, &bytes_allocated)) bytes_allocated = SIZE_MAX;
+    return ++allocations == fail_alloc;
+}
+
+static int io_fails(int is_the_one) {
+    if (is_the_one) errno = fail_with;
+    return is_the_one;
+}
+
+#define REAL(name, ...) \
+    static __typeof__(name) *real; \
+    if (!real) real = (__typeof__(name) *)dlsym(RTLD_NEXT, #name); \
+    return real(__VA_ARGS__)
+
+void *malloc(size_t n) { if (alloc_fails(n)) return NULL; REAL(malloc, n); }
+void *realloc(void *p, size_t n) { if (alloc_fails(n)) return NULL; REAL(realloc, p, n); }
+void *aligned_alloc(size_t a, size_t n) { if (alloc_fails(n)) return NULL; REAL(aligned_alloc, a, n); }
+
+ssize_t write(int fd, const void *bytes, size_t n) {
+    if (fd == 2 && n == 6 && !memcmp(bytes, "begin\n", n)) inside = 1;
+    if (fd == 2 && n == 4 && !memcmp(bytes, "end\n", n)) inside = 0;
+    if (fd == 1 && io_fails(++writes == fail_write)) return -1;
+    if (fd == 1 && one_byte && n > 1) n = 1;
+    REAL(write, fd, bytes, n);
+}
+
+ssize_t read(int fd, void *bytes, size_t n) {
+    if (fd == 0 && io_fails(++reads == fail_read)) return -1;
+    if (fd == 0 && one_byte && n > 1) n = 1;
+    REAL(read, fd, bytes, n);
+}
