@@ -1,6 +1,6 @@
 -- What readers of values keep and answer.
-use Rattle.std.specs.Prelude.{ℕ, ◌<◌, ◌≤◌, ◌≡◌, Bool, true, false, Option, Some, None, Result, Ok, Err, List, [], length}
-use Rattle.std.specs.Io.KnownBytes.{IsAtEnd}
+use Rattle.std.specs.Prelude.{ℕ, ◌<◌, ◌≤◌, ◌≡◌, ◌++◌, Bool, true, false, Option, Some, None, IfSome, Result, Ok, Err, List, [], length}
+use Rattle.std.specs.Io.KnownBytes.{Consumes, IsAtEnd}
 use Rattle.amqp_value_core.specs.declared.value.AMQPValue.{AMQPValue}
 use Rattle.amqp_grammar.specs.Nesting.{WireWithin}
 use Rattle.amqp_value_core.specs.View.{view}
@@ -61,3 +61,18 @@ AnswersAll l s left (Err stream.Truncated) = (0 < length s) × ((n : ℕ) × Wit
 AnswersAll l s left (Err (stream.Read kind)) = Unit {0}
 AnswersAll l s left (Err stream.OutOfMemory) = Unit {0}
 AnswersAll l s left (Err stream.Failed) = ⊥
+
+-- a call for the next value: from the state `old` and the reader `from` to `new` and `to`, where
+-- `remaining` says what bytes a reader has left, if it tells them
+pub record ReadsNext {R : Type 0} (remaining : R → Option (List ℕ)) (old : Values) (from : R) (result : Result (Option AMQPValue) StreamError) (new : Values) (to : R) : Type 0 where
+  -- what came, and the answer by it
+  pub answer : has_failed old ≡ false → (x : List ℕ) × Consumes (remaining from) (remaining to) x
+      × Answers (limits_of old) (kept old ++ x) (remaining to) (kept new) (has_failed new) result
+  -- the answer by all that the reader held
+  pub told : has_failed old ≡ false → IfSome (remaining from) (λ z. AnswersAll (limits_of old) (kept old ++ z) (remaining to) result)
+  -- after an error for good nothing is read or changed
+  pub failed : has_failed old ≡ true → IsFailed result × (new ≡ old) × (to ≡ from)
+  pub limits : limits_of new ≡ limits_of old
+  -- what is retained: at most `frame` bytes, of which each shorter prefix asks for more
+  pub bounded : length (kept new) ≤ (limits_of new).frame
+  pub waiting : IsWaiting (limits_of new).frame (kept new)

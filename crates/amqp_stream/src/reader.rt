@@ -1,9 +1,7 @@
 //! A reader of values.
 
-ghost use Rattle.std.specs.Prelude.{◌≡◌, ◌<◌, ◌≤◌, ◌++◌, List, ℕ, length, IfSome, true, false, []};
-ghost use Rattle.std.specs.Io.KnownBytes.{Consumes};
-ghost use Rattle.amqp_parsing.specs.Headers.{IsWaiting};
-ghost use Rattle.amqp_stream.specs.Readers.{values_of, reader_of, kept, has_failed, limits_of, Answers, AnswersAll, IsFailed};
+ghost use Rattle.std.specs.Prelude.{◌≡◌, ◌<◌, false, []};
+ghost use Rattle.amqp_stream.specs.Readers.{values_of, reader_of, kept, has_failed, limits_of, ReadsNext};
 
 use super::error::StreamError;
 use super::values::Values;
@@ -44,16 +42,7 @@ impl<R: Read> ValueReader<R> {
     /// Reads the next value; returns `None` if the reader ended after the value before. After
     /// `None` a later call asks the reader again.
     pub fn next(&mut self) -> Result<Option<AMQPValue>, StreamError>
-        ensures answer { has_failed (values_of self.old) ≡ false → (x : List ℕ)
-            × Consumes (R.remaining (reader_of self.old)) (R.remaining (reader_of self.new)) x
-            × Answers (limits_of (values_of self.old)) (kept (values_of self.old) ++ x) (R.remaining (reader_of self.new))
-            (kept (values_of self.new)) (has_failed (values_of self.new)) result }
-        ensures told { has_failed (values_of self.old) ≡ false → IfSome (R.remaining (reader_of self.old))
-            (λ z. AnswersAll (limits_of (values_of self.old)) (kept (values_of self.old) ++ z) (R.remaining (reader_of self.new)) result) }
-        ensures failed { has_failed (values_of self.old) ≡ true → IsFailed result × (self.new ≡ self.old) }
-        ensures limits { limits_of (values_of self.new) ≡ limits_of (values_of self.old) }
-        ensures bounded { length (kept (values_of self.new)) ≤ (limits_of (values_of self.new)).frame }
-        ensures waiting { IsWaiting (limits_of (values_of self.new)).frame (kept (values_of self.new)) }
+        ensures { ReadsNext R.remaining (values_of self.old) (reader_of self.old) result (values_of self.new) (reader_of self.new) }
     {
         self.values.next_from(&mut self.reader)
     }

@@ -1,6 +1,6 @@
 //! Values from a reader, one after another.
 
-ghost use Rattle.std.specs.Prelude.{◌≡◌, ◌<◌, ◌≤◌, ◌++◌, List, ℕ, Option, length, IfSome, true, false, []};
+ghost use Rattle.std.specs.Prelude.{◌≡◌, ◌<◌, ◌≤◌, ◌++◌, List, ℕ, Option, false, []};
 ghost use Rattle.std.specs.Io.KnownBytes.{Consumes, IsAtEnd};
 ghost use Rattle.std.proofs.Props.{props};
 ghost use Rattle.amqp_parsing.specs.Headers.{IsWaiting, IsWhole, extent, wanted};
@@ -28,7 +28,7 @@ pub struct Values {
 }
 
 impl Values {
-    ghost use Rattle.amqp_stream.specs.Readers.{kept, has_failed, limits_of, Answers, AnswersAll, IsFailed};
+    ghost use Rattle.amqp_stream.specs.Readers.{kept, has_failed, limits_of, Answers, ReadsNext};
 
     /// Makes a state with nothing retained. It doesn't allocate. Precondition: `limits.frame` isn't
     /// 0.
@@ -50,15 +50,7 @@ impl Values {
     /// may be another one each time: an incomplete value is continued from it.
     #[tactic(auto, using(amqp_parsing::proofs::ParsingLaws::kept_within))]
     pub fn next_from<R: Read>(&mut self, reader: &mut R) -> Result<Option<AMQPValue>, StreamError>
-        ensures answer { has_failed self.old ≡ false → (x : List ℕ)
-            × Consumes (R.remaining reader.old) (R.remaining reader.new) x
-            × Answers (limits_of self.old) (kept self.old ++ x) (R.remaining reader.new) (kept self.new) (has_failed self.new) result }
-        ensures told { has_failed self.old ≡ false → IfSome (R.remaining reader.old)
-            (λ z. AnswersAll (limits_of self.old) (kept self.old ++ z) (R.remaining reader.new) result) }
-        ensures failed { has_failed self.old ≡ true → IsFailed result × (self.new ≡ self.old) × (reader.new ≡ reader.old) }
-        ensures limits { limits_of self.new ≡ limits_of self.old }
-        ensures bounded { length (kept self.new) ≤ (limits_of self.new).frame }
-        ensures waiting { IsWaiting (limits_of self.new).frame (kept self.new) }
+        ensures { ReadsNext R.remaining self.old reader.old result self.new reader.new }
     {
         if self.failed {
             return Err(StreamError::Failed);
