@@ -1,7 +1,8 @@
 -- Looking a key up, pair by pair.
-use Rattle.std.proofs.Common.{◌≡◌, ◌+◌, ◌-◌, ◌<◌, ◌≤◌, ℕ, suc, IfOk, IfSome, Bool, true, false, cond, List, [], ◌∷◌, ◌++◌, length, take, drop, get_or, Option, Some, None, Result, Ok, refl, sym, ap, ◌∙◌, subst, arith, length-append, length-drop}
+use Rattle.std.proofs.Common.{◌≡◌, ◌+◌, ◌-◌, ◌<◌, ◌≤◌, ℕ, suc, IfOk, IfSome, Bool, true, false, cond, List, [], ◌∷◌, ◌++◌, length, take, drop, get_or, Option, Some, None, Result, Ok, Err, refl, sym, ap, ◌∙◌, subst, arith, length-append, length-drop}
 use Rattle.std.proofs.lemmas.List.{take_at, drop_at, drop-drop, take-take, nil_from_length}
 use Rattle.std.specs.Option.{option_or}
+use Rattle.std.specs.Result.{IfErr}
 use Rattle.std.specs.Cmp.Lexicographic.{bytes_decides}
 use Rattle.amqp_grammar.specs.Values.{Tree, Entries}
 use Rattle.amqp_grammar.specs.Maps.{same_bytes, last_at, value_at}
@@ -10,12 +11,13 @@ use Rattle.amqp_grammar.proofs.GrammarLaws.{last_stays}
 use Rattle.amqp_parsing.specs.Headers.{extent}
 use Rattle.amqp_parsing.proofs.ParsingLaws.{wire_extent}
 use Rattle.amqp_in_place.specs.Bodies.{HasEntries}
+use Rattle.amqp_c.specs.declared.cursor.Cursor.{Cursor}
 use Rattle.amqp_c.specs.declared.entry.Entry.{Entry}
 use Rattle.amqp_c_common.specs.declared.fault.Fault.{Fault}
 use Rattle.amqp_c_common.specs.declared.span.Span.{Span}
 use Rattle.amqp_c_common.specs.Spans.{part, behind, SpanLies}
 use Rattle.amqp_c.specs.Entries.{IsTrueTo, Lies}
-use Rattle.amqp_c.specs.Steps.{IsHeaded, ArePairs, no_pairs as none_left, pair as one_left, last_of, IsBehind, HasNoKey, StandsKeyed, EndsIn, GivesFound, GivesLast}
+use Rattle.amqp_c.specs.Steps.{IsHeaded, ArePairs, no_pairs as none_left, pair as one_left, last_of, IsBehind, HasNoKey, StandsKeyed, EndsIn, IsOfTable, RefusedBy, GivesFound, GivesLast, IsFoundIn, LooksUp}
 use Rattle.amqp_c.proofs.Fronts.{length-wire}
 use Rattle.amqp_c.proofs.Parts.{part_after, part_length}
 use Rattle.amqp_c.proofs.Stepping.{one_key}
@@ -216,3 +218,20 @@ found_of s all key r gives told es (ps, p, is) =
     by (Some w) None _ g m t = absurd m
     by None None _ g m t = absurd g
     by (Some w) (Some v) _ g m t = absurd g
+
+-- a look-up, by the last pair that it finds
+pub looked_up : (s : List ℕ) (c : Cursor) (key : List ℕ) (r : Result (Option Entry) Fault) → ((ps : List (List ℕ × List ℕ)) → ArePairs (part s c.left) ps → GivesLast s (last_of key ps) r)
+    → IfOk r (λ o. IfSome o (IsFoundIn s c key)) → IfOk r (λ _. IsOfTable (length s) c × (ps : List (List ℕ × List ℕ)) × ArePairs (part s c.left) ps)
+    → IfErr r (RefusedBy (IsOfTable (length s) c) (IsOfTable (length s) c × ((ps : List (List ℕ × List ℕ)) → ArePairs (part s c.left) ps → ⊥))) → LooksUp s c key r
+looked_up s c key r last entry valid refused = record {
+  found = λ es table is. found_of s (part s c.left) key r last (true_to r entry) es is;
+  last = λ ps table are. last ps are;
+  entry = entry;
+  valid = valid;
+  refused = refused;
+}
+  where
+    true_to : (r : Result (Option Entry) Fault) → IfOk r (λ o. IfSome o (IsFoundIn s c key)) → IfOk r (λ o. IfSome o (IsTrueTo s))
+    true_to (Ok (Some e)) h = h.told
+    true_to (Ok None) h = tt
+    true_to (Err f) h = tt

@@ -1,17 +1,15 @@
 -- What each call from C answers and leaves behind its pointers.
-use Rattle.std.specs.Prelude.{ℕ, ◌≡◌, ℤ, List, length, Option, Result, IfOk, IfErr, IfSome, MatchResult}
+use Rattle.std.specs.Prelude.{ℕ, ◌≡◌, ℤ, List, length, Option, Result, IfOk, IfErr, MatchResult}
 use Rattle.amqp_grammar.specs.Values.{Tree, Trees, Entries}
-use Rattle.amqp_grammar.specs.Maps.{value_at}
 use Rattle.amqp_grammar.specs.Grammar.{Body, Pairs}
 use Rattle.amqp_grammar.specs.Outcomes.{Outcome, found}
-use Rattle.amqp_in_place.specs.Bodies.{HasEntries}
 use Rattle.amqp_c.specs.declared.cursor.Cursor.{Cursor}
 use Rattle.amqp_c.specs.declared.entry.Entry.{Entry}
 use Rattle.amqp_c_common.specs.declared.fault.Fault.{Fault}
 use Rattle.amqp_c_common.specs.Reading.{limits}
 use Rattle.amqp_c_common.specs.Spans.{part, SpanLies}
-use Rattle.amqp_c.specs.Entries.{IsAtFront, IsTagged, IsTrueTo, Lies}
-use Rattle.amqp_c.specs.Steps.{array_tag, table_tag, contents, IsOfContainer, IsOfTable, StepsIn, ArePairs, last_of, IsCut, RefusedBy, GivesValue, GivesPair, GivesFound, GivesLast, StandsIn}
+use Rattle.amqp_c.specs.Entries.{IsAtFront, Lies}
+use Rattle.amqp_c.specs.Steps.{array_tag, table_tag, contents, IsOfContainer, StepsIn, IsCut, RefusedBy, GivesValue, GivesPair, LooksUp}
 use Rattle.amqp_c_common.specs.Answers.{answer_of, count_of}
 use Rattle.amqp_c.specs.Answers.{IsTaken, HeaderFaults, FaultsWithin, GivesFirst, answer_if_any, given_or, found_or, entry_or, cursor_or}
 
@@ -53,21 +51,9 @@ pub record Steps (s : List ℕ) (c : Cursor) (old : Entry) (answer : ℤ) (new :
   pub lies : IfOk done (StepsIn s c)
   pub refused : IfErr done (RefusedBy (IsOfContainer (length s) c) (IsOfContainer (length s) c × IsCut s c))
 
--- a look-up, in what a table has left: where pairs are left, the value at the key is found, of equal
--- keys the last; and whatever is left, an entry that is given stands there, has the key and the type
--- of its type tag, and is that of the value if one is encoded there; what is left is malformed
--- exactly where it isn't pairs by their lengths and type tags, and of such pairs the last with the
--- key is found, whatever stands in their values
+-- a look-up: what is found is given
 pub record Finds (s : List ℕ) (c : Cursor) (key : List ℕ) (old : Entry) (answer : ℤ) (new : Entry) : Type 0 where
   pub done : Result (Option Entry) Fault
   pub answered : answer ≡ answer_if_any done
   pub entry : new ≡ found_or old done
-  pub found : (es : Entries) → IsOfTable (length s) c → HasEntries (part s c.left) es → GivesFound s (value_at key es) done
-  pub last : (ps : List (List ℕ × List ℕ)) → IsOfTable (length s) c → ArePairs (part s c.left) ps → GivesLast s (last_of key ps) done
-  pub keyed : IfOk done (λ o. IfSome o (λ e. part s e.key ≡ key))
-  pub typed : IfOk done (λ o. IfSome o (λ e. IsTagged (part s e.value) e))
-  pub told : IfOk done (λ o. IfSome o (IsTrueTo s))
-  pub stands : IfOk done (λ o. IfSome o (StandsIn s c.left))
-  pub lies : IfOk done (λ o. IfSome o (Lies (length s)))
-  pub valid : IfOk done (λ _. IsOfTable (length s) c × (ps : List (List ℕ × List ℕ)) × ArePairs (part s c.left) ps)
-  pub refused : IfErr done (RefusedBy (IsOfTable (length s) c) (IsOfTable (length s) c × ((ps : List (List ℕ × List ℕ)) → ArePairs (part s c.left) ps → ⊥)))
+  pub looked_up : LooksUp s c key done

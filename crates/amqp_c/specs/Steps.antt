@@ -1,10 +1,11 @@
 -- Stepping through the body of a container by a cursor.
-use Rattle.std.specs.Prelude.{ℕ, ◌≡◌, ◌+◌, ◌<◌, ◌≤◌, List, [], ◌∷◌, ◌++◌, length, take, drop, if◌then◌else◌, Option, Some, None, Result, Ok, ◌⊎◌}
+use Rattle.std.specs.Prelude.{ℕ, ◌≡◌, ◌+◌, ◌<◌, ◌≤◌, List, [], ◌∷◌, ◌++◌, length, take, drop, if◌then◌else◌, Option, Some, None, IfSome, Result, Ok, IfOk, IfErr, ◌⊎◌}
 use Rattle.std.specs.Option.{option_or}
 use Rattle.amqp_grammar.specs.Values.{Tree, Trees, no_trees, tree, Entries, no_entries, entry}
 use Rattle.amqp_grammar.specs.Grammar.{short_field, Body, Pairs}
-use Rattle.amqp_grammar.specs.Maps.{same_bytes}
+use Rattle.amqp_grammar.specs.Maps.{same_bytes, value_at}
 use Rattle.amqp_parsing.specs.Headers.{extent}
+use Rattle.amqp_in_place.specs.Bodies.{HasEntries}
 use Rattle.amqp_c.specs.declared.cursor.Cursor.{Cursor}
 use Rattle.amqp_c.specs.declared.entry.Entry.{Entry}
 use Rattle.amqp_c_common.specs.declared.fault.Fault.{Fault}
@@ -131,6 +132,25 @@ abbrev pub GivesLast : List ℕ → Option (List ℕ) → Result (Option Entry) 
 GivesLast s None (Ok None) = Unit {0}
 GivesLast s (Some w) (Ok (Some e)) = part s e.value ≡ w
 GivesLast s _ _ = ⊥
+
+-- an entry found by its key, whatever is left: it has the key and the type of its type tag, is that of
+-- the value if one is encoded there, and stands in what the cursor c has left
+pub record IsFoundIn (s : List ℕ) (c : Cursor) (key : List ℕ) (e : Entry) : Type 0 where
+  pub keyed : part s e.key ≡ key
+  pub typed : IsTagged (part s e.value) e
+  pub told : IsTrueTo s e
+  pub stands : StandsIn s c.left e
+  pub lies : Lies (length s) e
+
+-- a look-up, in what a table has left: where pairs are left, the value at the key is found, of equal
+-- keys the last; what is left is malformed exactly where it isn't pairs by their lengths and type
+-- tags, and of such pairs the last with the key is found, whatever stands in their values
+pub record LooksUp (s : List ℕ) (c : Cursor) (key : List ℕ) (done : Result (Option Entry) Fault) : Type 0 where
+  pub found : (es : Entries) → IsOfTable (length s) c → HasEntries (part s c.left) es → GivesFound s (value_at key es) done
+  pub last : (ps : List (List ℕ × List ℕ)) → IsOfTable (length s) c → ArePairs (part s c.left) ps → GivesLast s (last_of key ps) done
+  pub entry : IfOk done (λ o. IfSome o (IsFoundIn s c key))
+  pub valid : IfOk done (λ _. IsOfTable (length s) c × (ps : List (List ℕ × List ℕ)) × ArePairs (part s c.left) ps)
+  pub refused : IfErr done (RefusedBy (IsOfTable (length s) c) (IsOfTable (length s) c × ((ps : List (List ℕ × List ℕ)) → ArePairs (part s c.left) ps → ⊥)))
 
 -- ---- on the way
 

@@ -1,15 +1,13 @@
 //! Stepping through a container.
 
-ghost use Rattle.std.specs.Prelude.{◌≡◌, ◌+◌, ◌<◌, ◌≤◌, ◌++◌, ℕ, List, length, drop, IfErr, IfOk, IfNone, IfSome, MatchOption};
+ghost use Rattle.std.specs.Prelude.{◌≡◌, ◌+◌, ◌<◌, ◌++◌, ℕ, List, length, drop, IfErr, IfOk, IfNone, IfSome, MatchOption};
 ghost use Rattle.amqp_grammar.specs.Values.{Tree, Trees, Entries};
-ghost use Rattle.amqp_grammar.specs.Maps.{value_at};
 ghost use Rattle.amqp_grammar.specs.Grammar.{short_field, Body, Pairs};
 ghost use Rattle.amqp_grammar.specs.Outcomes.{Outcome, found};
 ghost use Rattle.amqp_parsing.specs.Headers.{extent};
-ghost use Rattle.amqp_in_place.specs.Bodies.{HasEntries};
 ghost use Rattle.amqp_c_common.specs.Spans.{part, SpanLies};
-ghost use Rattle.amqp_c.specs.Entries.{IsEntry, IsTagged, IsTrueTo, Lies};
-ghost use Rattle.amqp_c.specs.Steps.{array_tag, table_tag, contents, IsOfContainer, IsOfTable, IsHeaded, HasNoPair, ArePairs, last_of, StepsIn, IsCut, RefusedBy, IsFrontIn, IsValueIn, IsPairIn, EndsIn, GivesValue, GivesPair, GivesFound, GivesLast, HasNoKey, StandsAlone, StandsKeyed, StandsIn};
+ghost use Rattle.amqp_c.specs.Entries.{IsTagged, IsTrueTo, Lies};
+ghost use Rattle.amqp_c.specs.Steps.{array_tag, table_tag, contents, IsOfContainer, IsHeaded, HasNoPair, StepsIn, IsCut, RefusedBy, IsFrontIn, IsValueIn, IsPairIn, EndsIn, GivesValue, GivesPair, HasNoKey, StandsAlone, StandsKeyed, LooksUp};
 
 use crate::entry::{Entry, first};
 use amqp_c_common::{Fault, Span};
@@ -91,20 +89,7 @@ impl Cursor {
     /// The entry at the key: of equal keys the last. It walks all entries that are left, and tells
     /// one.
     pub fn find(self, bytes: &[u8], key: &[u8]) -> Result<Option<Entry>, Fault>
-        ensures found { (es : Entries) → IsOfTable (length bytes.now) self
-            → HasEntries (part bytes.now self.left) es → GivesFound bytes.now (value_at key.now es) result }
-        ensures last { (ps : List (List ℕ × List ℕ)) → IsOfTable (length bytes.now) self
-            → ArePairs (part bytes.now self.left) ps → GivesLast bytes.now (last_of key.now ps) result }
-        ensures keyed { IfOk result (λ o. IfSome o (λ e. part bytes.now e.key ≡ key.now)) }
-        ensures typed { IfOk result (λ o. IfSome o (λ e. IsTagged (part bytes.now e.value) e)) }
-        ensures told { IfOk result (λ o. IfSome o (IsTrueTo bytes.now)) }
-        ensures stands { IfOk result (λ o. IfSome o (StandsIn bytes.now self.left)) }
-        ensures lies { IfOk result (λ o. IfSome o (Lies (length bytes.now))) }
-        ensures valid { IfOk result (λ _. IsOfTable (length bytes.now) self
-            × (ps : List (List ℕ × List ℕ)) × ArePairs (part bytes.now self.left) ps) }
-        ensures refused { IfErr result (RefusedBy (IsOfTable (length bytes.now) self)
-            (IsOfTable (length bytes.now) self
-            × ((ps : List (List ℕ × List ℕ)) → ArePairs (part bytes.now self.left) ps → ⊥))) }
+        ensures { LooksUp bytes.now self key.now result }
     {
         if self.tag != b'F' {
             return Err(Fault::Invalid);

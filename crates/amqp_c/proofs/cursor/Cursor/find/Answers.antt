@@ -1,31 +1,28 @@
-use Rattle.std.proofs.Common.{◌≡◌, ◌-◌, ◌<◌, ◌≤◌, ℕ, Bool, cond, [], length, drop, Some, sym, ap, ◌∙◌, subst, arith}
+use Rattle.std.proofs.Common.{◌≡◌, ◌-◌, ◌<◌, ◌≤◌, ℕ, Bool, cond, List, [], length, drop, Some, sym, ap, ◌∙◌, subst, arith}
 use Rattle.std.proofs.lemmas.Grind.{common_steps}
 use Rattle.amqp_c_common.specs.declared.span.Span.{Span}
 use Rattle.amqp_c_common.specs.Spans.{part, SpanLies}
-use Rattle.amqp_c.specs.Steps.{table_tag, StandsKeyed, EndsIn}
+use Rattle.amqp_c.specs.Steps.{table_tag, ArePairs, StandsKeyed, EndsIn}
 use Rattle.amqp_c.proofs.Parts.{part_length, part_last}
 use Rattle.amqp_c.proofs.Stepping.{one_key}
-use Rattle.amqp_c.proofs.Finding.{pairs_split, pairs_join, pairs_keyed, no_pairs_left, value_stands, left_behind, pair_behind, if_some, looks_step, last_seen, gives_none, gives_some, seen_pair, found_of}
+use Rattle.amqp_c.proofs.Finding.{pairs_split, pairs_join, pairs_keyed, no_pairs_left, value_stands, left_behind, pair_behind, if_some, looks_step, last_seen, gives_none, gives_some, seen_pair, looked_up}
 use Rattle.amqp_c.proofs.cursor.Cursor.find.Goals as goal
 use Rattle.amqp_c.proofs.cursor.Cursor.find.Goals.{then-eq, else-eq}
 
 -- ---- no pair has the key
 
-pub returns-in_default-at-clause-last : goal.returns-in_default-at-clause-last
-returns-in_default-at-clause-last c = λ ps valid are.
-    let all = part c.args.bytes.now c.args.self.left in
-    let seen = last_seen c.args.key.now all c.pairs.left.now c.pairs.at c.pairs.invariant.looks (grind (arith, common_steps)) ps are in
-    gives_none c.args.bytes.now c.args.key.now all _ (rw c.in_default-at.is at seen)
-
-pub returns-in_default-at-clause-found : goal.returns-in_default-at-clause-found
-returns-in_default-at-clause-found c = λ es valid is. found_of c.args.bytes.now (part c.args.bytes.now c.args.self.left) c.args.key.now _ (λ ps are. returns-in_default-at-clause-last c ps valid are) tt es is
-
-pub returns-in_default-at-clause-valid : goal.returns-in_default-at-clause-valid
-returns-in_default-at-clause-valid c =
+pub returns-in_default-at : goal.returns-in_default-at
+returns-in_default-at c =
+    let s = c.args.bytes.now in
+    let key = c.args.key.now in
+    let all = part s c.args.self.left in
+    let left = c.pairs.left.now in
     let tag : c.args.self.tag ≡ table_tag = grind (arith, common_steps) in
-    let none : length c.pairs.left.now ≡ 0 = grind (arith, common_steps) in
-    let all = c.pairs.invariant.also [] (no_pairs_left c.pairs.left.now none) in
-    ((c.in-Some.ensures.0, tag), all.0, all.1)
+    let none : length left ≡ 0 = grind (arith, common_steps) in
+    let (ps, are) = c.pairs.invariant.also [] (no_pairs_left left none) in
+    looked_up s c.args.self key _
+    (λ ps are. let seen = last_seen key all left c.pairs.at c.pairs.invariant.looks none ps are in gives_none s key all _ (rw c.in_default-at.is at seen))
+    tt ((c.in-Some.ensures.0, tag), ps, are) tt
 
 -- ---- the last pair that has it
 
@@ -35,78 +32,51 @@ last_part c =
     let few = rw c.in-Some-at.is at c.pairs.invariant.at in
     ap (part c.args.bytes.now) c.last.ensures ∙ part_last c.args.bytes.now c.args.self.left c.in-Some-at.count c.in-Some.ensures.0 (omega (arith, few))
 
-pub returns-in-Some-first_pair-clause-valid : goal.returns-in-Some-first_pair-clause-valid
-returns-in-Some-first_pair-clause-valid c =
-    let tag : c.args.self.tag ≡ table_tag = grind (arith, common_steps) in
-    let none : length c.pairs.left.now ≡ 0 = grind (arith, common_steps) in
-    let all = c.pairs.invariant.also [] (no_pairs_left c.pairs.left.now none) in
-    ((c.in-Some.ensures.0, tag), all.0, all.1)
-
-pub returns-in-Some-first_pair-clause-last : goal.returns-in-Some-first_pair-clause-last
-returns-in-Some-first_pair-clause-last c = λ ps valid are.
+pub returns-in-Some-first_pair : goal.returns-in-Some-first_pair
+returns-in-Some-first_pair c =
     let s = c.args.bytes.now in
+    let key = c.args.key.now in
     let all = part s c.args.self.left in
+    let left = c.pairs.left.now in
     let p = c.last.result in
     let e = c.in-Some-first_pair.entry in
     let is = c.in-Some-first_pair.ensures in
+    let tag : c.args.self.tag ≡ table_tag = grind (arith, common_steps) in
+    let none : length left ≡ 0 = grind (arith, common_steps) in
     let few = rw c.in-Some-at.is at c.pairs.invariant.at in
     let in_s : SpanLies (length s) p = subst (SpanLies (length s)) (sym c.last.ensures) (omega (arith, few, c.in-Some.ensures.0)) in
-    let seen = last_seen c.args.key.now all c.pairs.left.now c.pairs.at c.pairs.invariant.looks (grind (arith, common_steps)) ps are in
-    gives_some s c.args.key.now all p c.in-Some-at.count e _ (last_part c)
-    (λ value begins. value_stands s p e c.args.key.now value in_s is.lies.0 is.stands is.lies.1 begins) (rw c.in-Some-at.is at seen)
-
-pub returns-in-Some-first_pair-clause-found : goal.returns-in-Some-first_pair-clause-found
-returns-in-Some-first_pair-clause-found c = λ es valid is.
-    found_of c.args.bytes.now (part c.args.bytes.now c.args.self.left) c.args.key.now _ (λ ps are. returns-in-Some-first_pair-clause-last c ps valid are) c.in-Some-first_pair.ensures.faithful es is
-
-pub returns-in-Some-first_pair-clause-keyed : goal.returns-in-Some-first_pair-clause-keyed
-returns-in-Some-first_pair-clause-keyed c =
-    let s = c.args.bytes.now in
-    let all = part s c.args.self.left in
-    let (valid, ps, are) = returns-in-Some-first_pair-clause-valid c in
-    let seen = last_seen c.args.key.now all c.pairs.left.now c.pairs.at c.pairs.invariant.looks (grind (arith, common_steps)) ps are in
-    let x = seen_pair c.args.key.now all (part s c.last.result) c.in-Some-at.count c.pairs.at _ (last_part c) c.in-Some-at.is seen in
-    one_key (part s c.in-Some-first_pair.entry.key) c.args.key.now (part s c.last.result) c.in-Some-first_pair.ensures.stands.2 (x.0, x.1)
-
-pub returns-in-Some-first_pair-clause-stands : goal.returns-in-Some-first_pair-clause-stands
-returns-in-Some-first_pair-clause-stands c =
-    let few = rw c.in-Some-at.is at c.pairs.invariant.at in (
-      c.in-Some-at.count,
-      few,
-      subst (λ (p : Span). StandsKeyed c.args.bytes.now p c.in-Some-first_pair.entry) c.last.ensures c.in-Some-first_pair.ensures.stands,
-      subst (λ (p : Span). EndsIn p c.in-Some-first_pair.entry) c.last.ensures c.in-Some-first_pair.ensures.lies.1,
-    )
+    let (ps, are) = c.pairs.invariant.also [] (no_pairs_left left none) in
+    let there = seen_pair key all (part s p) c.in-Some-at.count c.pairs.at _ (last_part c) c.in-Some-at.is (last_seen key all left c.pairs.at c.pairs.invariant.looks none ps are) in
+    looked_up s c.args.self key _
+    (λ ps are. let seen = last_seen key all left c.pairs.at c.pairs.invariant.looks none ps are in
+    gives_some s key all p c.in-Some-at.count e _ (last_part c) (λ value begins. value_stands s p e key value in_s is.lies.0 is.stands is.lies.1 begins)
+    (rw c.in-Some-at.is at seen))
+    record {
+      keyed = one_key (part s e.key) key (part s p) is.stands.2 (there.0, there.1);
+      typed = is.typed;
+      told = is.faithful;
+      stands = (c.in-Some-at.count, few, subst (λ (q : Span). StandsKeyed s q e) c.last.ensures is.stands, subst (λ (q : Span). EndsIn q e) c.last.ensures is.lies.1);
+      lies = is.lies.0;
+    } ((c.in-Some.ensures.0, tag), ps, are) tt
 
 -- ---- bytes that are no pairs
 
-pub returns-in_default-split_key-clause-refused : goal.returns-in_default-split_key-clause-refused
-returns-in_default-split_key-clause-refused c =
+pub returns-in_default-split_key : goal.returns-in_default-split_key
+returns-in_default-split_key c =
     let left = c.pairs.left.now in
     let some : 0 < length left = grind (arith, common_steps) in
     let tag : c.args.self.tag ≡ table_tag = grind (arith, common_steps) in
-    ((c.in-Some.ensures.0, tag), λ ps all. let x = c.pairs.invariant.looks ps all in pairs_keyed left x.0 c.in_default-split_key.ensures some x.2)
+    let bad : (ps : List (List ℕ × List ℕ)) → ArePairs (part c.args.bytes.now c.args.self.left) ps → ⊥ =
+    λ ps are. let x = c.pairs.invariant.looks ps are in pairs_keyed left x.0 c.in_default-split_key.ensures some x.2 in
+    looked_up c.args.bytes.now c.args.self c.args.key.now _ (λ ps are. absurd (bad ps are)) tt tt ((c.in-Some.ensures.0, tag), bad)
 
-pub returns-in_default-split_key-clause-last : goal.returns-in_default-split_key-clause-last
-returns-in_default-split_key-clause-last c = λ ps valid are. absurd ((returns-in_default-split_key-clause-refused c).1 ps are)
-
-pub returns-in_default-split_key-clause-found : goal.returns-in_default-split_key-clause-found
-returns-in_default-split_key-clause-found c = λ es valid is.
-    found_of c.args.bytes.now (part c.args.bytes.now c.args.self.left) c.args.key.now _ (λ ps are. returns-in_default-split_key-clause-last c ps valid are) tt es is
-
-pub returns-in_default-behind_value-clause-refused : goal.returns-in_default-behind_value-clause-refused
-returns-in_default-behind_value-clause-refused c =
+pub returns-in_default-behind_value : goal.returns-in_default-behind_value
+returns-in_default-behind_value c =
     let x = c.in-Some-split_key in
-    let tag : c.args.self.tag ≡ table_tag = grind (arith, common_steps) in (
-      (c.in-Some.ensures.0, tag),
-      λ ps all. let q = c.pairs.invariant.looks ps all in c.in_default-behind_value.ensures (pairs_split c.pairs.left.now x.name.now x.value.now q.0 x.ensures.0 q.2).whole,
-    )
-
-pub returns-in_default-behind_value-clause-last : goal.returns-in_default-behind_value-clause-last
-returns-in_default-behind_value-clause-last c = λ ps valid are. absurd ((returns-in_default-behind_value-clause-refused c).1 ps are)
-
-pub returns-in_default-behind_value-clause-found : goal.returns-in_default-behind_value-clause-found
-returns-in_default-behind_value-clause-found c = λ es valid is.
-    found_of c.args.bytes.now (part c.args.bytes.now c.args.self.left) c.args.key.now _ (λ ps are. returns-in_default-behind_value-clause-last c ps valid are) tt es is
+    let tag : c.args.self.tag ≡ table_tag = grind (arith, common_steps) in
+    let bad : (ps : List (List ℕ × List ℕ)) → ArePairs (part c.args.bytes.now c.args.self.left) ps → ⊥ =
+    λ ps are. let q = c.pairs.invariant.looks ps are in c.in_default-behind_value.ensures (pairs_split c.pairs.left.now x.name.now x.value.now q.0 x.ensures.0 q.2).whole in
+    looked_up c.args.bytes.now c.args.self c.args.key.now _ (λ ps are. absurd (bad ps are)) tt tt ((c.in-Some.ensures.0, tag), bad)
 
 -- what was seen is a pair
 never : (c : goal.In-None) → ⊥
@@ -122,14 +92,8 @@ never c =
     let x = seen_pair c.args.key.now all (part s c.last.result) c.in-Some-at.count c.pairs.at _ same c.in-Some-at.is seen in
     c.in-None.ensures.cut c.args.key.now x.0 x.1 x.2
 
-pub returns-in-None-clause-refused : goal.returns-in-None-clause-refused
-returns-in-None-clause-refused c = absurd (never c)
-
-pub returns-in-None-clause-last : goal.returns-in-None-clause-last
-returns-in-None-clause-last c = absurd (never c)
-
-pub returns-in-None-clause-found : goal.returns-in-None-clause-found
-returns-in-None-clause-found c = absurd (never c)
+pub returns-in-None : goal.returns-in-None
+returns-in-None c = absurd (never c)
 
 -- ---- one pair more
 
