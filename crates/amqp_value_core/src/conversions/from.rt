@@ -1,16 +1,20 @@
 //! Conversions from a field's type to a value: each type to its own variant, and a `u64` to
 //! `Timestamp`.
 
+ghost use Rattle.std.specs.Prelude.{◌≡◌};
+ghost use Rattle.std.specs.Int.{w8, w16, w32, w64, cast_unsigned};
+ghost use Rattle.amqp_types.specs.Shown.{float_bits, double_bits, long_bytes, octets_of};
+ghost use Rattle.amqp_types.specs.declared.amqp_type.AMQPType.TheVariants as amqp;
+ghost use Rattle.amqp_grammar.specs.Values.{boolean, number, decimal, scalar, short, long, octets, array, table};
+ghost use Rattle.amqp_value_core.specs.View.{view};
+ghost use Rattle.amqp_value_core.specs.Containers.{array_view, table_view};
+
 use crate::types::{
     ByteArray, DecimalValue, Double, FieldArray, FieldTable, Float, LongString, ShortString,
 };
 use crate::value::AMQPValue;
 
 impl From<bool> for AMQPValue {
-    ghost use Rattle.std.specs.Prelude.{◌≡◌};
-    ghost use Rattle.amqp_grammar.specs.Values.{boolean, scalar};
-    ghost use Rattle.amqp_value_core.specs.View.{view};
-
     ghost from_gives = { λ b value. view value ≡ scalar (boolean b) };
 
     fn from(field: bool) -> AMQPValue {
@@ -19,12 +23,6 @@ impl From<bool> for AMQPValue {
 }
 
 impl From<i8> for AMQPValue {
-    ghost use Rattle.std.specs.Prelude.{◌≡◌};
-    ghost use Rattle.std.specs.Int.{w8, cast_unsigned};
-    ghost use Rattle.amqp_types.specs.declared.amqp_type.AMQPType.TheVariants as amqp;
-    ghost use Rattle.amqp_grammar.specs.Values.{number, scalar};
-    ghost use Rattle.amqp_value_core.specs.View.{view};
-
     ghost from_gives = { λ z value. view value ≡ scalar (number amqp.ShortShortInt (cast_unsigned w8 z)) };
 
     fn from(field: i8) -> AMQPValue {
@@ -33,11 +31,6 @@ impl From<i8> for AMQPValue {
 }
 
 impl From<u8> for AMQPValue {
-    ghost use Rattle.std.specs.Prelude.{◌≡◌};
-    ghost use Rattle.amqp_types.specs.declared.amqp_type.AMQPType.TheVariants as amqp;
-    ghost use Rattle.amqp_grammar.specs.Values.{number, scalar};
-    ghost use Rattle.amqp_value_core.specs.View.{view};
-
     ghost from_gives = { λ n value. view value ≡ scalar (number amqp.ShortShortUInt n) };
 
     fn from(field: u8) -> AMQPValue {
@@ -46,12 +39,6 @@ impl From<u8> for AMQPValue {
 }
 
 impl From<i16> for AMQPValue {
-    ghost use Rattle.std.specs.Prelude.{◌≡◌};
-    ghost use Rattle.std.specs.Int.{w16, cast_unsigned};
-    ghost use Rattle.amqp_types.specs.declared.amqp_type.AMQPType.TheVariants as amqp;
-    ghost use Rattle.amqp_grammar.specs.Values.{number, scalar};
-    ghost use Rattle.amqp_value_core.specs.View.{view};
-
     ghost from_gives = { λ z value. view value ≡ scalar (number amqp.ShortInt (cast_unsigned w16 z)) };
 
     fn from(field: i16) -> AMQPValue {
@@ -60,11 +47,6 @@ impl From<i16> for AMQPValue {
 }
 
 impl From<u16> for AMQPValue {
-    ghost use Rattle.std.specs.Prelude.{◌≡◌};
-    ghost use Rattle.amqp_types.specs.declared.amqp_type.AMQPType.TheVariants as amqp;
-    ghost use Rattle.amqp_grammar.specs.Values.{number, scalar};
-    ghost use Rattle.amqp_value_core.specs.View.{view};
-
     ghost from_gives = { λ n value. view value ≡ scalar (number amqp.ShortUInt n) };
 
     fn from(field: u16) -> AMQPValue {
@@ -73,12 +55,6 @@ impl From<u16> for AMQPValue {
 }
 
 impl From<i32> for AMQPValue {
-    ghost use Rattle.std.specs.Prelude.{◌≡◌};
-    ghost use Rattle.std.specs.Int.{w32, cast_unsigned};
-    ghost use Rattle.amqp_types.specs.declared.amqp_type.AMQPType.TheVariants as amqp;
-    ghost use Rattle.amqp_grammar.specs.Values.{number, scalar};
-    ghost use Rattle.amqp_value_core.specs.View.{view};
-
     ghost from_gives = { λ z value. view value ≡ scalar (number amqp.LongInt (cast_unsigned w32 z)) };
 
     fn from(field: i32) -> AMQPValue {
@@ -87,11 +63,6 @@ impl From<i32> for AMQPValue {
 }
 
 impl From<u32> for AMQPValue {
-    ghost use Rattle.std.specs.Prelude.{◌≡◌};
-    ghost use Rattle.amqp_types.specs.declared.amqp_type.AMQPType.TheVariants as amqp;
-    ghost use Rattle.amqp_grammar.specs.Values.{number, scalar};
-    ghost use Rattle.amqp_value_core.specs.View.{view};
-
     ghost from_gives = { λ n value. view value ≡ scalar (number amqp.LongUInt n) };
 
     fn from(field: u32) -> AMQPValue {
@@ -100,12 +71,6 @@ impl From<u32> for AMQPValue {
 }
 
 impl From<i64> for AMQPValue {
-    ghost use Rattle.std.specs.Prelude.{◌≡◌};
-    ghost use Rattle.std.specs.Int.{w64, cast_unsigned};
-    ghost use Rattle.amqp_types.specs.declared.amqp_type.AMQPType.TheVariants as amqp;
-    ghost use Rattle.amqp_grammar.specs.Values.{number, scalar};
-    ghost use Rattle.amqp_value_core.specs.View.{view};
-
     ghost from_gives = { λ z value. view value ≡ scalar (number amqp.LongLongInt (cast_unsigned w64 z)) };
 
     fn from(field: i64) -> AMQPValue {
@@ -114,12 +79,6 @@ impl From<i64> for AMQPValue {
 }
 
 impl From<Float> for AMQPValue {
-    ghost use Rattle.std.specs.Prelude.{◌≡◌};
-    ghost use Rattle.amqp_types.specs.declared.amqp_type.AMQPType.TheVariants as amqp;
-    ghost use Rattle.amqp_grammar.specs.Values.{number, scalar};
-    ghost use Rattle.amqp_types.specs.Shown.{float_bits};
-    ghost use Rattle.amqp_value_core.specs.View.{view};
-
     ghost from_gives = { λ f value. view value ≡ scalar (number amqp.Float (float_bits f)) };
 
     fn from(field: Float) -> AMQPValue {
@@ -128,12 +87,6 @@ impl From<Float> for AMQPValue {
 }
 
 impl From<Double> for AMQPValue {
-    ghost use Rattle.std.specs.Prelude.{◌≡◌};
-    ghost use Rattle.amqp_types.specs.declared.amqp_type.AMQPType.TheVariants as amqp;
-    ghost use Rattle.amqp_grammar.specs.Values.{number, scalar};
-    ghost use Rattle.amqp_types.specs.Shown.{double_bits};
-    ghost use Rattle.amqp_value_core.specs.View.{view};
-
     ghost from_gives = { λ f value. view value ≡ scalar (number amqp.Double (double_bits f)) };
 
     fn from(field: Double) -> AMQPValue {
@@ -142,10 +95,6 @@ impl From<Double> for AMQPValue {
 }
 
 impl From<DecimalValue> for AMQPValue {
-    ghost use Rattle.std.specs.Prelude.{◌≡◌};
-    ghost use Rattle.amqp_grammar.specs.Values.{decimal, scalar};
-    ghost use Rattle.amqp_value_core.specs.View.{view};
-
     ghost from_gives = { λ d value. view value ≡ scalar (decimal d.scale d.value) };
 
     fn from(field: DecimalValue) -> AMQPValue {
@@ -154,10 +103,6 @@ impl From<DecimalValue> for AMQPValue {
 }
 
 impl From<ShortString> for AMQPValue {
-    ghost use Rattle.std.specs.Prelude.{◌≡◌};
-    ghost use Rattle.amqp_grammar.specs.Values.{short};
-    ghost use Rattle.amqp_value_core.specs.View.{view};
-
     ghost from_gives = { λ s value. view value ≡ short s };
 
     fn from(field: ShortString) -> AMQPValue {
@@ -166,11 +111,6 @@ impl From<ShortString> for AMQPValue {
 }
 
 impl From<LongString> for AMQPValue {
-    ghost use Rattle.std.specs.Prelude.{◌≡◌};
-    ghost use Rattle.amqp_grammar.specs.Values.{long};
-    ghost use Rattle.amqp_types.specs.Shown.{long_bytes};
-    ghost use Rattle.amqp_value_core.specs.View.{view};
-
     ghost from_gives = { λ s value. view value ≡ long (long_bytes s) };
 
     fn from(field: LongString) -> AMQPValue {
@@ -179,11 +119,6 @@ impl From<LongString> for AMQPValue {
 }
 
 impl From<FieldArray> for AMQPValue {
-    ghost use Rattle.std.specs.Prelude.{◌≡◌};
-    ghost use Rattle.amqp_grammar.specs.Values.{array};
-    ghost use Rattle.amqp_value_core.specs.View.{view};
-    ghost use Rattle.amqp_value_core.specs.Containers.{array_view};
-
     ghost from_gives = { λ a value. view value ≡ array (array_view a) };
 
     fn from(field: FieldArray) -> AMQPValue {
@@ -192,11 +127,6 @@ impl From<FieldArray> for AMQPValue {
 }
 
 impl From<u64> for AMQPValue {
-    ghost use Rattle.std.specs.Prelude.{◌≡◌};
-    ghost use Rattle.amqp_types.specs.declared.amqp_type.AMQPType.TheVariants as amqp;
-    ghost use Rattle.amqp_grammar.specs.Values.{number, scalar};
-    ghost use Rattle.amqp_value_core.specs.View.{view};
-
     ghost from_gives = { λ n value. view value ≡ scalar (number amqp.Timestamp n) };
 
     fn from(field: u64) -> AMQPValue {
@@ -205,11 +135,6 @@ impl From<u64> for AMQPValue {
 }
 
 impl From<FieldTable> for AMQPValue {
-    ghost use Rattle.std.specs.Prelude.{◌≡◌};
-    ghost use Rattle.amqp_grammar.specs.Values.{table};
-    ghost use Rattle.amqp_value_core.specs.View.{view};
-    ghost use Rattle.amqp_value_core.specs.Containers.{table_view};
-
     ghost from_gives = { λ t value. view value ≡ table (table_view t) };
 
     fn from(field: FieldTable) -> AMQPValue {
@@ -218,11 +143,6 @@ impl From<FieldTable> for AMQPValue {
 }
 
 impl From<ByteArray> for AMQPValue {
-    ghost use Rattle.std.specs.Prelude.{◌≡◌};
-    ghost use Rattle.amqp_grammar.specs.Values.{octets};
-    ghost use Rattle.amqp_types.specs.Shown.{octets_of};
-    ghost use Rattle.amqp_value_core.specs.View.{view};
-
     ghost from_gives = { λ a value. view value ≡ octets (octets_of a) };
 
     fn from(field: ByteArray) -> AMQPValue {
