@@ -7,35 +7,15 @@
  * it was.
  *
  * It tries every type tag with numbers about its type's ends, keys of every kind, each of some
- * values in rooms of every size, containers and bodies that were spoilt, and random entries that
+ * values in rooms of every size, containers and bodies that were corrupted, and random entries that
  * are put together, read back by amqp_read and amqp_next, and made canonical. It prints how many
  * calls it made.
  */
-#define _DEFAULT_SOURCE
-#include "amqp.h"
-
-#include <inttypes.h>
-#include <stdio.h>
-#include <stdlib.h>
-#include <string.h>
-#include <sys/mman.h>
-#include <unistd.h>
-
-#define CHECK(condition)                                                      \
-    do {                                                                      \
-        if (!(condition)) {                                                   \
-            fprintf(stderr, "line %d: not so: %s\n", __LINE__, #condition);   \
-            abort();                                                          \
-        }                                                                     \
-    } while (0)
+#include "check.h"
 
 #define MOST 1024
-#define FRAME 512
-#define DEPTH 8
 
 static uint8_t *page;
-static size_t page_size;
-static uint64_t calls;
 
 /* The room as the library and as the writer here leave it. */
 static uint8_t *room;
@@ -43,10 +23,6 @@ static uint8_t model[MOST];
 static size_t room_length;
 
 /* ---- a writer in plain C */
-
-static int lies(amqp_span span) {
-    return span.offset <= room_length && span.length <= room_length - span.offset;
-}
 
 /* Whether bytes are UTF-8: no overlong form, no surrogate, nothing above U+10FFFF. */
 static int is_utf8(const uint8_t *it, size_t length) {
@@ -82,7 +58,7 @@ static int32_t model_append(amqp_container *into, const uint8_t *key, size_t key
                             size_t length) {
     size_t end = into->written.offset + into->written.length;
     size_t named = into->tag == AMQP_TABLE ? 1 + key_length : 0;
-    if (!lies(into->written) || !takes_key(into->tag, key, key_length)) {
+    if (!is_inside(into->written, room_length) || !takes_key(into->tag, key, key_length)) {
         return AMQP_INVALID;
     }
     if (room_length - end < named + length) {
@@ -90,13 +66,9 @@ static int32_t model_append(amqp_container *into, const uint8_t *key, size_t key
     }
     if (named) {
         model[end] = (uint8_t)key_length;
-        for (size_t i = 0; i < key_length; i++) {
-            model[end + 1 + i] = key[i];
-        }
+        memcpy(model + end + 1, key, key_length);
     }
-    for (size_t i = 0; i < length; i++) {
-        model[end + named + i] = bytes[i];
-    }
+    memcpy(model + end + named, bytes, length);
     into->written.length += named + length;
     return AMQP_OK;
 }
@@ -152,7 +124,7 @@ static held hold(amqp_container it) {
 }
 
 /* After a call the answer, the container, the room and its surroundings are as they have to be. */
-static void check(const held *all, amqp_container wanted, int32_t answer, int32_t right) {
+static int32_t check(const held *all, amqp_container wanted, int32_t answer, int32_t right) {
     calls++;
     CHECK(answer == right);
     CHECK(all->it.written.offset == wanted.written.offset && all->it.written.length == wanted.written.length);
@@ -162,6 +134,7 @@ static void check(const held *all, amqp_container wanted, int32_t answer, int32_
         CHECK(room - i < page || room[-(ptrdiff_t)i] == 0xa5);
         CHECK(room + room_length + i > page + page_size || room[room_length + i - 1] == 0xa5);
     }
+    return answer;
 }
 
 /* Gives the room so many bytes, all of them the same, at the end of the page or at its front. */
@@ -179,9 +152,7 @@ static int32_t put(amqp_container *into, const uint8_t *key, size_t key_length, 
     held all = hold(*into);
     size_t length = model_scalar(bytes, tag, bits, scale);
     int32_t right = length ? model_append(into, key, key_length, bytes, length) : AMQP_INVALID;
-    int32_t answer = amqp_put(room, room_length, &all.it, key, key_length, tag, bits, scale);
-    check(&all, *into, answer, right);
-    return answer;
+    return check(&all, *into, amqp_put(room, room_length, &all.it, key, key_length, tag, bits, scale), right);
 }
 
 static int32_t put_bytes(amqp_container *into, const uint8_t *key, size_t key_length, uint8_t tag,
@@ -193,24 +164,20 @@ static int32_t put_bytes(amqp_container *into, const uint8_t *key, size_t key_le
     memcpy(bytes + 5, content, length);
     int is_string = tag == AMQP_LONG_STRING || tag == AMQP_BYTE_ARRAY;
     int32_t right = is_string ? model_append(into, key, key_length, bytes, 5 + length) : AMQP_INVALID;
-    int32_t answer = amqp_put_bytes(room, room_length, &all.it, key, key_length, tag, content, length);
-    check(&all, *into, answer, right);
-    return answer;
+    return check(&all, *into, amqp_put_bytes(room, room_length, &all.it, key, key_length, tag, content, length), right);
 }
 
 static int32_t put_value(amqp_container *into, const uint8_t *key, size_t key_length, const uint8_t *bytes,
                          size_t length) {
     size_t taken;
     held all = hold(*into);
-    int is_place = lies(into->written) && takes_key(into->tag, key, key_length);
+    int is_place = is_inside(into->written, room_length) && takes_key(into->tag, key, key_length);
     int32_t read = amqp_read(bytes, length, FRAME, DEPTH, &taken);
     int32_t right = !is_place ? AMQP_INVALID : read;
     if (right == AMQP_OK) {
         right = model_append(into, key, key_length, bytes, taken);
     }
-    int32_t answer = amqp_put_value(room, room_length, &all.it, key, key_length, bytes, length, FRAME, DEPTH);
-    check(&all, *into, answer, right);
-    return answer;
+    return check(&all, *into, amqp_put_value(room, room_length, &all.it, key, key_length, bytes, length, FRAME, DEPTH), right);
 }
 
 static int32_t open_in(const amqp_container *into, const uint8_t *key, size_t key_length, uint8_t tag,
@@ -225,15 +192,14 @@ static int32_t open_in(const amqp_container *into, const uint8_t *key, size_t ke
         body->written.length = 0;
         body->tag = tag;
     }
-    int32_t answer = amqp_open(room, room_length, into, key, key_length, tag, &all.it);
-    check(&all, *body, answer, right);
-    return answer;
+    return check(&all, *body, amqp_open(room, room_length, into, key, key_length, tag, &all.it), right);
 }
 
 /* Whether the body begins behind a key, its type tag and four bytes, at the end of `into`. */
 static int is_open(const amqp_container *into, const amqp_container *body) {
     size_t at = into->written.offset + into->written.length, key_length = 0;
-    if (!lies(into->written) || !lies(body->written) || (body->tag != AMQP_ARRAY && body->tag != AMQP_TABLE)) {
+    int is_container = body->tag == AMQP_ARRAY || body->tag == AMQP_TABLE;
+    if (!is_inside(into->written, room_length) || !is_inside(body->written, room_length) || !is_container) {
         return 0;
     }
     if (into->tag == AMQP_TABLE && at < room_length) {
@@ -250,9 +216,7 @@ static int32_t close_in(amqp_container *into, const amqp_container *body) {
         big_endian(model + body->written.offset - 4, 4, body->written.length);
         into->written.length = body->written.offset + body->written.length - into->written.offset;
     }
-    int32_t answer = amqp_close(room, room_length, &all.it, body);
-    check(&all, *into, answer, right);
-    return answer;
+    return check(&all, *into, amqp_close(room, room_length, &all.it, body), right);
 }
 
 /* ---- what is tried */
@@ -270,7 +234,7 @@ static const uint64_t numbers[] = {
 /* Every type tag, with numbers about the ends of each type. */
 static void try_types(void) {
     for (int tag = 0; tag < 256; tag++) {
-        for (size_t i = 0; i < sizeof numbers / sizeof *numbers; i++) {
+        for (size_t i = 0; i < COUNT(numbers); i++) {
             for (int scale = 0; scale < 256; scale += scale < 2 ? 1 : 253) {
                 amqp_container array = whole, table = {{3, 0}, AMQP_TABLE};
                 new_room(16, tag % 2);
@@ -303,7 +267,7 @@ static void try_keys(void) {
             put(&table, key, length, AMQP_VOID, 0, 0);
         }
     }
-    for (size_t i = 0; i < sizeof others / sizeof *others; i++) {
+    for (size_t i = 0; i < COUNT(others); i++) {
         amqp_container table = {{0, 0}, AMQP_TABLE}, body = whole;
         new_room(16, 0);
         put(&table, (const uint8_t *)others[i], strlen(others[i]), AMQP_VOID, 0, 0);
@@ -334,7 +298,7 @@ static void try_rooms(void) {
                 new_room(length, (int)(before % 2));
                 into = start;
                 put(&into, key, key_length, AMQP_DECIMAL, 314, 2);
-                for (size_t i = 0; i < sizeof lengths / sizeof *lengths; i++) {
+                for (size_t i = 0; i < COUNT(lengths); i++) {
                     uint8_t bytes[16];
                     memcpy(bytes, values[i], lengths[i]);
                     bytes[lengths[i]] = 'V';
@@ -357,41 +321,34 @@ static void try_rooms(void) {
     }
 }
 
-static const size_t far[] = {SIZE_MAX, SIZE_MAX - 1, SIZE_MAX / 2 + 1, (size_t)1 << 32};
-static const uint8_t tags[] = {AMQP_TABLE, AMQP_ARRAY, AMQP_LONG_STRING, 0, 255};
-
-static size_t number(size_t i) {
-    return i <= room_length + 1 ? i : far[i - room_length - 2];
-}
-
-/* Containers that were spoilt: all kinds of numbers, and of type tags. */
-static void try_spoilt(size_t length) {
-    size_t count = length + 2 + sizeof far / sizeof *far;
+/* Containers that were corrupted: all kinds of numbers, and of type tags. */
+static void try_corrupt(size_t length) {
+    size_t small = length + 2, count = small + 4;
     for (size_t i = 0; i < count; i++) {
         for (size_t j = 0; j < count; j++) {
             for (size_t t = 0; t < sizeof tags; t++) {
                 for (size_t key_length = 0; key_length < 2; key_length++) {
                     new_room(length, (int)(i % 2));
-                    amqp_container spoilt = {{number(i), number(j)}, tags[t]}, into = spoilt, body = spoilt;
+                    amqp_container corrupt = {{number(i, small), number(j, small)}, tags[t]}, into = corrupt, body = corrupt;
                     put(&into, (const uint8_t *)"k", key_length, AMQP_SHORT_INT, 5, 0);
-                    into = spoilt;
+                    into = corrupt;
                     put_bytes(&into, (const uint8_t *)"k", key_length, AMQP_BYTE_ARRAY, (const uint8_t *)"ab", 2);
-                    into = spoilt;
+                    into = corrupt;
                     put_value(&into, (const uint8_t *)"k", key_length, (const uint8_t *)"t\7V", 3);
-                    open_in(&spoilt, (const uint8_t *)"k", key_length, tags[t], &body);
+                    open_in(&corrupt, (const uint8_t *)"k", key_length, tags[t], &body);
                 }
             }
         }
     }
 }
 
-/* Bodies that were spoilt, and containers beside them, over bytes as amqp_open leaves them. */
-static void try_spoilt_bodies(const uint8_t *bytes, size_t length) {
-    size_t count = length + 2 + sizeof far / sizeof *far;
+/* Bodies that were corrupted, and containers beside them, over bytes as amqp_open leaves them. */
+static void try_corrupt_bodies(const uint8_t *bytes, size_t length) {
+    size_t small = length + 2, count = small + 4;
     new_room(length, 0);
     for (size_t k = 0; k < count * count * count * count; k++) {
-        amqp_container into = {{number(k % count), number(k / count % count)}, 0};
-        amqp_container body = {{number(k / count / count % count), number(k / count / count / count)}, 0};
+        amqp_container into = {{number(k % count, small), number(k / count % count, small)}, 0};
+        amqp_container body = {{number(k / count / count % count, small), number(k / count / count / count, small)}, 0};
         for (size_t t = 0; t < 9; t++) {
             amqp_container grown = into;
             grown.tag = tags[t % 3];
@@ -425,16 +382,6 @@ static void try_large(void) {
     munmap(bytes, large);
 }
 
-static uint64_t state = 88172645463325252u;
-
-/* Marsaglia's xorshift, from a fixed seed. */
-static uint64_t random_number(void) {
-    state ^= state << 13;
-    state ^= state >> 7;
-    state ^= state << 17;
-    return state;
-}
-
 /* Puts random entries into a container, and into containers in it. */
 static void fill(amqp_container *into, int depth) {
     static const uint8_t every[] = "tbBsuIilfdDTV";
@@ -443,14 +390,14 @@ static void fill(amqp_container *into, int depth) {
         size_t key_length = into->tag == AMQP_TABLE ? random_number() % 4 : 0;
         key[0] = (uint8_t)('a' + random_number() % 5);
         uint64_t kind = random_number() % 8;
-        uint64_t bits = numbers[random_number() % (sizeof numbers / sizeof *numbers)];
+        uint64_t bits = numbers[random_number() % COUNT(numbers)];
         if (kind < 3) {
             put(into, key, key_length, every[random_number() % 13], bits, (uint8_t)(random_number() % 4 ? 0 : 3));
         } else if (kind < 4) {
             uint8_t type = random_number() % 2 ? AMQP_BYTE_ARRAY : AMQP_LONG_STRING;
             put_bytes(into, key, key_length, type, key, random_number() % 5);
         } else if (kind < 5) {
-            size_t i = random_number() % (sizeof lengths / sizeof *lengths);
+            size_t i = random_number() % COUNT(lengths);
             put_value(into, key, key_length, (const uint8_t *)values[i], lengths[i]);
         } else if (depth > 0) {
             amqp_container body = whole;
@@ -514,20 +461,15 @@ int main(void) {
     static const uint8_t opened[][12] = {
         "A\0\0\0\0AVtV", "\1kF\0\0\0\0\1aV", "\0A\0\0\0\0A\0\0\0\0", "\1\x80""A\0\0\0\0VV", "F\0\0\0\0FFFF",
     };
-    page_size = (size_t)sysconf(_SC_PAGESIZE);
-    uint8_t *pages = mmap(NULL, 3 * page_size, PROT_NONE, MAP_PRIVATE | MAP_ANONYMOUS, -1, 0);
-    CHECK(pages != MAP_FAILED);
-    page = pages + page_size;
-    CHECK(mprotect(page, page_size, PROT_READ | PROT_WRITE) == 0);
-
+    page = pages_between(1);
     try_types();
     try_keys();
     try_rooms();
     for (size_t length = 0; length <= 12; length++) {
-        try_spoilt(length);
+        try_corrupt(length);
     }
-    for (size_t i = 0; i < sizeof opened / sizeof *opened; i++) {
-        try_spoilt_bodies(opened[i], 10);
+    for (size_t i = 0; i < COUNT(opened); i++) {
+        try_corrupt_bodies(opened[i], 10);
     }
     try_large();
     for (int i = 0; i < 100000; i++) {

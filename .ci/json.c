@@ -1,23 +1,20 @@
 /*
- * Tries amqp_to_json and amqp_from_json of include/amqp.h in rooms of every size, and with each
+ * Tries amqp_to_json and amqp_from_json of include/amqp.h in buffers of every size, and with each
  * allocation failing.
  *
- * What is handed in and the room each lie against a page that can't be touched, so that what is read
- * or written beside them ends the program. Of each answer it checks what the header says: what is
- * written is what is expected, the room behind it is as it was, and all of it where nothing is
- * written; and no block is kept.
+ * What is passed and the buffer each end at a page that can't be touched, so that what is read or
+ * written after them ends the program. Of each result it checks what the header says: what is written
+ * is what is expected, the buffer after it is unchanged, and all of it if nothing is written; and no
+ * block is kept.
  *
- * It tries the values below in each room up to one byte more than they need, with the first
+ * It tries the values below in each buffer up to one byte more than they need, with the first
  * allocation failing, then the second, until a call makes fewer; each prefix of them, and each
  * change of one byte to one of some; limits that are just kept to and just not; texts that nest as
  * deep as `nesting` says and one deeper, 127 and 128 deep among them; and a table of 100,010 bytes,
  * there and back, with every seventeenth allocation failing. It prints how many calls it made.
  */
-#include "tried.h"
+#include "check.h"
 
-#define FRAME 1024
-#define DEPTH 8
-#define FILLED 0x5a
 #define MANY 256
 
 /* Texts that mean a value, and how deep they nest: a bracket in a string is none. */
@@ -73,75 +70,7 @@ static const char *const not_json[] = {
 };
 static const char *const not_encoded[] = {"{\"ShortString\":\"\"}", "[null,{\"ShortString\":\"a\"}]", "{\"k\":{\"ShortString\":\"a\"}}"};
 
-static uint8_t *given_end, *room_start, *room_end;
-
-/* One of the two calls, with these limits. */
-typedef struct way {
-    int is_back;
-    uint32_t frame, depth, nesting;
-} way;
-static const way there = {0, FRAME, DEPTH, 0}, back = {1, 0, 0, AMQP_JSON_NESTING};
-
-/* Calls with the bytes and the room against the ends of their pages, and checks what is left. */
-static int32_t write_to(way by, const uint8_t *given, size_t length, size_t room_length, size_t *count) {
-    uint8_t *bytes = given_end - length, *room = room_end - room_length;
-    memcpy(bytes, given, length);
-    uint8_t *from = room - room_start > 64 ? room - 64 : room_start;
-    memset(from, FILLED, (size_t)(room_end - from));
-    *count = 77;
-    uint64_t blocks = taken;
-    int32_t answer = by.is_back ? amqp_from_json(bytes, length, by.nesting, room, room_length, count)
-                                : amqp_to_json(bytes, length, by.frame, by.depth, room, room_length, count);
-    calls++;
-    CHECK(memcmp(bytes, given, length) == 0);
-    size_t written = answer == AMQP_OK ? *count : 0;
-    CHECK(written <= room_length && (answer != AMQP_OK || written > 0));
-    for (uint8_t *it = from; it < room; it++) {
-        CHECK(*it == FILLED);
-    }
-    for (uint8_t *it = room + written; it < room_end; it++) {
-        CHECK(*it == FILLED);
-    }
-    CHECK((answer == AMQP_OK || answer == AMQP_MORE || answer == AMQP_NO_ROOM) == (*count > 0));
-    CHECK(answer != AMQP_NO_ROOM || *count > room_length);
-    CHECK(answer != AMQP_NO_MEMORY || taken > blocks);
-    CHECK(answer != AMQP_INVALID && (by.is_back || answer > AMQP_NOT_JSON));
-    CHECK(!by.is_back || answer == AMQP_OK || answer <= AMQP_NO_MEMORY);
-    CHECK(held == 0);
-    return answer;
-}
-
-/* What stands at the start of a room of that length. */
-static const uint8_t *in_room(size_t room_length) {
-    return room_end - room_length;
-}
-
-/* Each allocation failing in turn: the call answers that, and nothing else. */
-static void try_memory(way by, const uint8_t *given, size_t length, size_t needed, uint64_t step) {
-    for (uint64_t nth = 1;; nth += step) {
-        uint64_t blocks = taken;
-        size_t count;
-        failing = taken + nth;
-        int32_t answer = write_to(by, given, length, needed, &count);
-        failing = 0;
-        if (taken - blocks < nth) {
-            CHECK(answer == AMQP_OK && count == needed);
-            break;
-        }
-        CHECK(answer == AMQP_NO_MEMORY || answer == AMQP_OK);
-    }
-}
-
-/* Rooms of every size, and each allocation failing in turn. */
-static void try_rooms(way by, const uint8_t *given, size_t length, const uint8_t *wanted, size_t needed) {
-    size_t count;
-    for (size_t n = 0; n <= needed + 1; n++) {
-        int32_t answer = write_to(by, given, length, n, &count);
-        CHECK(count == needed && answer == (n < needed ? AMQP_NO_ROOM : AMQP_OK));
-        CHECK(answer != AMQP_OK || memcmp(in_room(n), wanted, needed) == 0);
-    }
-    try_memory(by, given, length, needed, 1);
-}
+static const way there = {TO_JSON, FRAME, DEPTH, 0}, back = {FROM_JSON, 0, 0, AMQP_JSON_NESTING};
 
 /* A text is refused, or means a value: the encoding that it gives is canonical, and its JSON gives it again. */
 static void try_text(const uint8_t *given, size_t length) {
@@ -150,12 +79,12 @@ static void try_text(const uint8_t *given, size_t length) {
     int32_t answer = write_to(back, given, length, MANY, &count);
     CHECK(answer == AMQP_OK || answer == AMQP_NOT_JSON || answer == AMQP_NO_ENCODING);
     if (answer == AMQP_OK) {
-        memcpy(encoding, in_room(MANY), count);
+        memcpy(encoding, in_buffer(MANY), count);
         CHECK(write_to(there, encoding, count, MANY, &again) == AMQP_OK);
-        memcpy(text, in_room(MANY), again);
+        memcpy(text, in_buffer(MANY), again);
         size_t size = again;
         CHECK(write_to(back, text, size, MANY, &again) == AMQP_OK);
-        CHECK(again == count && memcmp(in_room(MANY), encoding, count) == 0);
+        CHECK(again == count && memcmp(in_buffer(MANY), encoding, count) == 0);
     }
 }
 
@@ -167,27 +96,12 @@ static void try_bytes(const uint8_t *given, size_t length) {
     int32_t answer = write_to(there, given, length, MANY, &count);
     CHECK(answer == read);
     if (answer == AMQP_OK) {
-        memcpy(text, in_room(MANY), count);
+        memcpy(text, in_buffer(MANY), count);
         CHECK(amqp_canonical(given, length, FRAME, DEPTH, canonical, MANY, &written) == AMQP_OK);
         CHECK(write_to(back, text, count, MANY, &again) == AMQP_OK);
-        CHECK(again == written && memcmp(in_room(MANY), canonical, written) == 0);
+        CHECK(again == written && memcmp(in_buffer(MANY), canonical, written) == 0);
     } else {
         CHECK(count == wanted);
-    }
-}
-
-/* The bytes, each prefix of them, and each change of one to one of the others. */
-static void try_changes(void (*try)(const uint8_t *, size_t), const char *bytes, size_t length, const uint8_t *others, size_t kinds) {
-    uint8_t changed[MANY];
-    for (size_t n = 0; n <= length; n++) {
-        try((const uint8_t *)bytes, n);
-    }
-    for (size_t n = 0; n < length; n++) {
-        memcpy(changed, bytes, length);
-        for (size_t k = 0; k < kinds; k++) {
-            changed[n] = others[k];
-            try(changed, length);
-        }
     }
 }
 
@@ -195,16 +109,16 @@ static void try_changes(void (*try)(const uint8_t *, size_t), const char *bytes,
 static void try_limits(void) {
     const uint8_t *nested = (const uint8_t *)"A\0\0\0\5A\0\0\0\0";
     size_t count;
-    CHECK(write_to((way){0, 10, 2, 0}, nested, 10, MANY, &count) == AMQP_OK && count == 4);
-    CHECK(write_to((way){0, 9, 2, 0}, nested, 10, MANY, &count) == AMQP_TOO_LARGE);
-    CHECK(write_to((way){0, 10, 1, 0}, nested, 10, MANY, &count) == AMQP_MALFORMED);
+    CHECK(write_to((way){TO_JSON, 10, 2, 0}, nested, 10, MANY, &count) == AMQP_OK && count == 4);
+    CHECK(write_to((way){TO_JSON, 9, 2, 0}, nested, 10, MANY, &count) == AMQP_TOO_LARGE);
+    CHECK(write_to((way){TO_JSON, 10, 1, 0}, nested, 10, MANY, &count) == AMQP_MALFORMED);
 }
 
 /* A text is read where it may nest as deep as it does, and refused where it may not. */
 static void try_nesting(const char *text, uint32_t nesting) {
     size_t length = strlen(text), count;
     for (uint32_t most = 0; most < nesting + 2; most++) {
-        way by = {1, 0, 0, most};
+        way by = {FROM_JSON, 0, 0, most};
         CHECK(write_to(by, (const uint8_t *)text, length, MANY, &count) == (most < nesting ? AMQP_NOT_JSON : AMQP_OK));
     }
 }
@@ -215,7 +129,7 @@ static void try_deep(size_t deep, uint32_t nesting, int32_t wanted) {
     size_t count;
     memset(text, '[', deep);
     memset(text + deep, ']', deep);
-    CHECK(write_to((way){1, 0, 0, nesting}, text, 2 * deep, 1024, &count) == wanted);
+    CHECK(write_to((way){FROM_JSON, 0, 0, nesting}, text, 2 * deep, 1024, &count) == wanted);
     CHECK(wanted != AMQP_OK || count == 5 * deep);
 }
 
@@ -237,43 +151,38 @@ static void try_large(void) {
     }
     CHECK(at == LARGE);
     CHECK(amqp_canonical(table, LARGE, LARGE, 1, canonical, LARGE, &count) == AMQP_OK && count == LARGE);
-    way by = {0, LARGE, 1, 0};
+    way by = {TO_JSON, LARGE, 1, 0};
     CHECK(write_to(by, table, LARGE, 0, &size) == AMQP_NO_ROOM && size <= sizeof text);
     CHECK(write_to(by, table, LARGE, size - 1, &count) == AMQP_NO_ROOM && count == size);
     CHECK(write_to(by, table, LARGE, size, &count) == AMQP_OK && count == size);
-    memcpy(text, in_room(size), size);
+    memcpy(text, in_buffer(size), size);
     CHECK(write_to(back, text, size, LARGE - 1, &count) == AMQP_NO_ROOM && count == LARGE);
     CHECK(write_to(back, text, size, LARGE, &count) == AMQP_OK && count == LARGE);
-    CHECK(memcmp(in_room(LARGE), canonical, LARGE) == 0);
+    CHECK(memcmp(in_buffer(LARGE), canonical, LARGE) == 0);
     try_memory(by, table, LARGE, size, 17);
     try_memory(back, text, size, LARGE, 17);
 }
 
 int main(void) {
-    page_size = (size_t)sysconf(_SC_PAGESIZE);
-    size_t pages = 4 * LARGE / page_size + 1;
-    given_end = pages_between(pages) + pages * page_size;
-    room_start = pages_between(pages);
-    room_end = room_start + pages * page_size;
-
-    for (size_t i = 0; i < sizeof inputs / sizeof *inputs; i++) {
+    new_pages(4 * LARGE / (size_t)sysconf(_SC_PAGESIZE) + 1);
+    for (size_t i = 0; i < COUNT(inputs); i++) {
         const uint8_t *bytes = (const uint8_t *)inputs[i].bytes, *json = (const uint8_t *)inputs[i].json;
         size_t length = inputs[i].length, json_length = strlen(inputs[i].json);
-        try_rooms(there, bytes, length, json, json_length);
-        try_rooms(back, json, json_length, (const uint8_t *)inputs[i].canonical, inputs[i].canonical_length);
+        try_buffers(there, bytes, length, json, json_length);
+        try_buffers(back, json, json_length, (const uint8_t *)inputs[i].canonical, inputs[i].canonical_length);
         try_changes(try_bytes, inputs[i].bytes, length, other_bytes, sizeof other_bytes);
         try_changes(try_text, inputs[i].json, json_length, other_characters, sizeof other_characters);
     }
-    for (size_t i = 0; i < sizeof not_json / sizeof *not_json; i++) {
+    for (size_t i = 0; i < COUNT(not_json); i++) {
         size_t count;
         CHECK(write_to(back, (const uint8_t *)not_json[i], strlen(not_json[i]), MANY, &count) == AMQP_NOT_JSON);
     }
-    for (size_t i = 0; i < sizeof not_encoded / sizeof *not_encoded; i++) {
+    for (size_t i = 0; i < COUNT(not_encoded); i++) {
         size_t count;
         CHECK(write_to(back, (const uint8_t *)not_encoded[i], strlen(not_encoded[i]), MANY, &count) == AMQP_NO_ENCODING);
     }
     try_limits();
-    for (size_t i = 0; i < sizeof nested / sizeof *nested; i++) {
+    for (size_t i = 0; i < COUNT(nested); i++) {
         try_nesting(nested[i].text, nested[i].nesting);
     }
     try_deep(64, 64, AMQP_OK);

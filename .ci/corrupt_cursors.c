@@ -1,45 +1,23 @@
 /*
- * Tries the calls of include/amqp.h with cursors and entries that were spoilt.
+ * Tries the calls of include/amqp.h with cursors and entries that were corrupted.
  *
- * The bytes lie against a page that can't be touched, once with their end and once with their
- * front, so a byte that is read outside of them ends the program. Of each answer it checks what the
- * header says: what goes out lies in the bytes, a step goes on, what isn't AMQP_OK leaves the entry
+ * The bytes are next to a page that can't be touched, once with their end and once with their
+ * start, so a byte that is read outside of them ends the program. Of each result it checks what the
+ * header says: what is returned is inside the bytes, a step goes on, what isn't AMQP_OK leaves the entry
  * and the cursor as they were, and nothing beside the structs is written.
  *
  * It tries every cursor of small numbers over small inputs, each prefix of them and each change of
  * one byte to one of some, and then random cursors over random bytes. It prints how many calls
  * it made.
  */
-#define _DEFAULT_SOURCE
-#include "amqp.h"
-
-#include <inttypes.h>
-#include <stdio.h>
-#include <stdlib.h>
-#include <string.h>
-#include <sys/mman.h>
-#include <unistd.h>
-
-#define CHECK(condition)                                                      \
-    do {                                                                      \
-        if (!(condition)) {                                                   \
-            fprintf(stderr, "line %d: not so: %s\n", __LINE__, #condition);   \
-            abort();                                                          \
-        }                                                                     \
-    } while (0)
+#include "check.h"
 
 static uint8_t *page;
-static size_t page_size;
-static uint64_t calls;
-
-static int lies(amqp_span span, size_t length) {
-    return span.offset <= length && span.length <= length - span.offset;
-}
 
 static void check_entry(const amqp_entry *entry, size_t length) {
-    CHECK(lies(entry->key, length));
-    CHECK(lies(entry->value, length));
-    CHECK(lies(entry->content, length));
+    CHECK(is_inside(entry->key, length));
+    CHECK(is_inside(entry->value, length));
+    CHECK(is_inside(entry->content, length));
     CHECK(entry->value.length > 0);
     CHECK(memchr("tbBsuIilfdDSxAFTV", entry->tag, 17) != NULL);
 }
@@ -70,7 +48,7 @@ static void check_rest(const held *new, const held *old, int32_t answer) {
 
 /* Steps to the end by the cursor, and looks keys up. */
 static void walk(const uint8_t *bytes, size_t length, amqp_cursor cursor) {
-    int is_valid = lies(cursor.left, length) && (cursor.tag == AMQP_ARRAY || cursor.tag == AMQP_TABLE);
+    int is_valid = is_inside(cursor.left, length) && (cursor.tag == AMQP_ARRAY || cursor.tag == AMQP_TABLE);
     held it = fresh(cursor);
     for (size_t steps = 0;; steps++) {
         held old = it;
@@ -108,7 +86,7 @@ static void walk(const uint8_t *bytes, size_t length, amqp_cursor cursor) {
     }
 }
 
-/* Reads the value, and enters what a spoilt entry tells. */
+/* Reads the value, and enters what a corrupt entry tells. */
 static void front(const uint8_t *bytes, size_t length, amqp_cursor cursor) {
     size_t count = 77;
     int32_t answer = amqp_read(bytes, length, 64, 3, &count);
@@ -130,38 +108,33 @@ static void front(const uint8_t *bytes, size_t length, amqp_cursor cursor) {
         CHECK(first == AMQP_MORE || first == AMQP_UNKNOWN_TAG);
     }
 
-    amqp_entry spoilt = it.entry;
-    spoilt.content = cursor.left;
-    spoilt.tag = cursor.tag;
+    amqp_entry corrupt = it.entry;
+    corrupt.content = cursor.left;
+    corrupt.tag = cursor.tag;
     old = it;
-    answer = amqp_enter(bytes, length, &spoilt, &it.cursor);
+    answer = amqp_enter(bytes, length, &corrupt, &it.cursor);
     calls++;
     CHECK(it.before == old.before && it.between == old.between && it.behind == old.behind);
-    CHECK((answer == AMQP_OK) == (lies(cursor.left, length) && (cursor.tag == AMQP_ARRAY || cursor.tag == AMQP_TABLE)));
+    CHECK((answer == AMQP_OK) == (is_inside(cursor.left, length) && (cursor.tag == AMQP_ARRAY || cursor.tag == AMQP_TABLE)));
 }
 
-static const size_t far[] = {
-    SIZE_MAX, SIZE_MAX - 1, SIZE_MAX / 2, SIZE_MAX / 2 + 1, (size_t)1 << 32, ((size_t)1 << 32) - 1,
-};
-static const uint8_t tags[] = {AMQP_TABLE, AMQP_ARRAY, AMQP_LONG_STRING, 0, 255};
-
-static size_t number(size_t i, size_t length) {
-    return i <= length + 2 ? i : far[i - length - 3];
+static void try_cursor(const uint8_t *bytes, size_t length, size_t offset, size_t left, uint8_t tag) {
+    amqp_cursor cursor;
+    memset(&cursor, 0, sizeof cursor);
+    cursor.left.offset = offset;
+    cursor.left.length = left;
+    cursor.tag = tag;
+    walk(bytes, length, cursor);
+    front(bytes, length, cursor);
 }
 
 /* Tries every cursor of small numbers, and of some large ones. */
 static void all_cursors(const uint8_t *bytes, size_t length) {
-    size_t numbers = length + 3 + sizeof far / sizeof *far;
+    size_t numbers = length + 3 + 6;
     for (size_t t = 0; t < sizeof tags; t++) {
         for (size_t i = 0; i < numbers; i++) {
             for (size_t j = 0; j < numbers; j++) {
-                amqp_cursor cursor;
-                memset(&cursor, 0, sizeof cursor);
-                cursor.left.offset = number(i, length);
-                cursor.left.length = number(j, length);
-                cursor.tag = tags[t];
-                walk(bytes, length, cursor);
-                front(bytes, length, cursor);
+                try_cursor(bytes, length, number(i, length + 3), number(j, length + 3), tags[t]);
             }
         }
     }
@@ -177,25 +150,11 @@ static void at_both_ends(const uint8_t *input, size_t length, void (*try)(const 
     }
 }
 
-static uint64_t state = 88172645463325252u;
-
-/* Marsaglia's xorshift, from a fixed seed. */
-static uint64_t random_number(void) {
-    state ^= state << 13;
-    state ^= state >> 7;
-    state ^= state << 17;
-    return state;
-}
-
 static void random_cursors(const uint8_t *bytes, size_t length) {
     for (int i = 0; i < 200; i++) {
-        amqp_cursor cursor;
-        memset(&cursor, 0, sizeof cursor);
-        cursor.left.offset = random_number() % 8 ? random_number() % (length + 1) : random_number();
-        cursor.left.length = random_number() % 8 ? random_number() % (length + 1) : random_number();
-        cursor.tag = tags[random_number() % 2];
-        walk(bytes, length, cursor);
-        front(bytes, length, cursor);
+        uint64_t offset = random_number() % 8 ? random_number() % (length + 1) : random_number();
+        uint64_t left = random_number() % 8 ? random_number() % (length + 1) : random_number();
+        try_cursor(bytes, length, offset, left, tags[random_number() % 2]);
     }
 }
 
@@ -214,27 +173,16 @@ static const struct {
 };
 static const uint8_t others[] = {0, 1, 2, 5, 'A', 'F', 'S', 'V', 't', 'z', 127, 128, 255};
 
-int main(void) {
-    page_size = (size_t)sysconf(_SC_PAGESIZE);
-    uint8_t *pages = mmap(NULL, 3 * page_size, PROT_NONE, MAP_PRIVATE | MAP_ANONYMOUS, -1, 0);
-    CHECK(pages != MAP_FAILED);
-    page = pages + page_size;
-    CHECK(mprotect(page, page_size, PROT_READ | PROT_WRITE) == 0);
+static void try_bytes(const uint8_t *input, size_t length) {
+    at_both_ends(input, length, all_cursors);
+}
 
-    uint8_t input[64];
-    for (size_t i = 0; i < sizeof inputs / sizeof *inputs; i++) {
-        size_t length = inputs[i].length;
-        for (size_t n = 0; n <= length; n++) {
-            at_both_ends((const uint8_t *)inputs[i].bytes, n, all_cursors);
-        }
-        for (size_t n = 0; n < length; n++) {
-            memcpy(input, inputs[i].bytes, length);
-            for (size_t k = 0; k < sizeof others; k++) {
-                input[n] = others[k];
-                at_both_ends(input, length, all_cursors);
-            }
-        }
+int main(void) {
+    page = pages_between(1);
+    for (size_t i = 0; i < COUNT(inputs); i++) {
+        try_changes(try_bytes, inputs[i].bytes, inputs[i].length, others, sizeof others);
     }
+    uint8_t input[64];
     for (int i = 0; i < 2000; i++) {
         size_t length = random_number() % sizeof input;
         for (size_t n = 0; n < length; n++) {

@@ -1,0 +1,193 @@
+/*
+ * What the programs that try the calls for C share: a check, allocations that fail, pages that can't
+ * be touched, numbers to try, and calls that write to a buffer.
+ * Linked with -Wl,--wrap=malloc, realloc and free.
+ */
+#ifndef CHECK_H
+#define CHECK_H
+
+#define _DEFAULT_SOURCE
+#include "amqp.h"
+
+#include <inttypes.h>
+#include <stdio.h>
+#include <stdlib.h>
+#include <string.h>
+#include <sys/mman.h>
+#include <unistd.h>
+
+#define CHECK(condition)                                                      \
+    do {                                                                      \
+        if (!(condition)) {                                                   \
+            fprintf(stderr, "line %d: not so: %s\n", __LINE__, #condition);   \
+            abort();                                                          \
+        }                                                                     \
+    } while (0)
+#define COUNT(array) (sizeof(array) / sizeof *(array))
+
+/* ---- allocations */
+
+/* How many calls were made and blocks requested, how many are held, and the request that fails. */
+static uint64_t calls, requests, blocks, failing;
+
+void *__real_malloc(size_t size);
+void *__real_realloc(void *block, size_t size);
+void __real_free(void *block);
+
+void *__wrap_malloc(size_t size) {
+    void *block = ++requests == failing ? NULL : __real_malloc(size);
+    blocks += block != NULL;
+    return block;
+}
+
+void *__wrap_realloc(void *block, size_t size) {
+    void *larger = ++requests == failing ? NULL : __real_realloc(block, size);
+    blocks += block == NULL && larger != NULL;
+    return larger;
+}
+
+void __wrap_free(void *block) {
+    blocks -= block != NULL;
+    __real_free(block);
+}
+
+/* ---- pages, and numbers to try */
+
+static size_t page_size;
+
+/* So many pages, between two that can't be touched. */
+static inline uint8_t *pages_between(size_t count) {
+    page_size = (size_t)sysconf(_SC_PAGESIZE);
+    uint8_t *pages = mmap(NULL, (count + 2) * page_size, PROT_NONE, MAP_PRIVATE | MAP_ANONYMOUS, -1, 0);
+    CHECK(pages != MAP_FAILED);
+    CHECK(mprotect(pages + page_size, count * page_size, PROT_READ | PROT_WRITE) == 0);
+    return pages + page_size;
+}
+
+static inline int is_inside(amqp_span span, size_t length) {
+    return span.offset <= length && span.length <= length - span.offset;
+}
+
+static const uint8_t tags[] = {AMQP_TABLE, AMQP_ARRAY, AMQP_LONG_STRING, 0, 255};
+
+/* The number i below `small`, and from there on one of six large ones. */
+static inline size_t number(size_t i, size_t small) {
+    const size_t two_32 = (size_t)1 << 32;
+    const size_t large[] = {SIZE_MAX, SIZE_MAX - 1, SIZE_MAX / 2 + 1, two_32, SIZE_MAX / 2, two_32 - 1};
+    return i < small ? i : large[i - small];
+}
+
+/* Marsaglia's xorshift, from a fixed seed. */
+static inline uint64_t random_number(void) {
+    static uint64_t state = 88172645463325252u;
+    state ^= state << 13;
+    state ^= state >> 7;
+    state ^= state << 17;
+    return state;
+}
+
+/* The bytes, each prefix of them, and each change of one to one of the others. */
+static inline void try_changes(void (*try)(const uint8_t *, size_t), const char *bytes, size_t length,
+                               const uint8_t *others, size_t kinds) {
+    uint8_t changed[256];
+    for (size_t n = 0; n <= length; n++) {
+        try((const uint8_t *)bytes, n);
+    }
+    for (size_t n = 0; n < length; n++) {
+        memcpy(changed, bytes, length);
+        for (size_t k = 0; k < kinds; k++) {
+            changed[n] = others[k];
+            try(changed, length);
+        }
+    }
+}
+
+/* ---- calls that write to a buffer */
+
+#define FRAME 1024
+#define DEPTH 8
+#define FILLED 0x5a
+
+/* What is passed and the buffer each end with pages that can't be touched behind them. Of the buffer's
+   pages the last `watched` bytes before it are checked too. */
+static uint8_t *given_end, *buffer_start, *buffer_end;
+static size_t watched = 64;
+
+static inline void new_pages(size_t count) {
+    given_end = pages_between(count) + count * page_size;
+    buffer_start = pages_between(count);
+    buffer_end = buffer_start + count * page_size;
+}
+
+/* A call with these limits. */
+typedef struct way {
+    enum { CANONICAL, TO_JSON, FROM_JSON } call;
+    uint32_t frame, depth, nesting;
+} way;
+
+/* Calls with the bytes and the buffer against the ends of their pages, and checks what is left. */
+static inline int32_t write_to(way by, const uint8_t *given, size_t length, size_t buffer_length, size_t *count) {
+    uint8_t *bytes = given_end - length, *buffer = buffer_end - buffer_length;
+    memcpy(bytes, given, length);
+    uint8_t *from = (size_t)(buffer - buffer_start) > watched ? buffer - watched : buffer_start;
+    memset(from, FILLED, (size_t)(buffer_end - from));
+    *count = 77;
+    uint64_t before = requests;
+    int32_t answer = by.call == CANONICAL ? amqp_canonical(bytes, length, by.frame, by.depth, buffer, buffer_length, count)
+                     : by.call == TO_JSON ? amqp_to_json(bytes, length, by.frame, by.depth, buffer, buffer_length, count)
+                                          : amqp_from_json(bytes, length, by.nesting, buffer, buffer_length, count);
+    calls++;
+    CHECK(memcmp(bytes, given, length) == 0);
+    size_t written = answer == AMQP_OK ? *count : 0;
+    CHECK(written <= buffer_length && (answer != AMQP_OK || written > 0));
+    for (uint8_t *it = from; it < buffer; it++) {
+        CHECK(*it == FILLED);
+    }
+    for (uint8_t *it = buffer + written; it < buffer_end; it++) {
+        CHECK(*it == FILLED);
+    }
+    CHECK((answer == AMQP_OK || answer == AMQP_MORE || answer == AMQP_NO_ROOM) == (*count > 0));
+    CHECK(answer != AMQP_NO_ROOM || *count > buffer_length);
+    CHECK(answer != AMQP_NO_MEMORY || requests > before);
+    CHECK(answer != AMQP_INVALID && (by.call == FROM_JSON || answer > AMQP_NOT_JSON));
+    CHECK(by.call != FROM_JSON || answer == AMQP_OK || answer <= AMQP_NO_MEMORY);
+    CHECK(blocks == 0);
+    return answer;
+}
+
+/* What is at the start of a buffer of that length. */
+static inline const uint8_t *in_buffer(size_t buffer_length) {
+    return buffer_end - buffer_length;
+}
+
+/* Each allocation failing in turn: the call reports that, and nothing else. */
+static inline void try_memory(way by, const uint8_t *given, size_t length, size_t needed, uint64_t step) {
+    for (uint64_t nth = 1;; nth += step) {
+        uint64_t before = requests;
+        size_t count;
+        failing = requests + nth;
+        int32_t answer = write_to(by, given, length, needed, &count);
+        failing = 0;
+        if (requests - before < nth) {
+            CHECK(answer == AMQP_OK && count == needed);
+            break;
+        }
+        CHECK(answer == AMQP_NO_MEMORY || answer == AMQP_OK);
+    }
+}
+
+/* Buffers of every size, and each allocation failing in turn. Canonical bytes are copied without any. */
+static inline void try_buffers(way by, const uint8_t *given, size_t length, const uint8_t *wanted, size_t needed) {
+    int is_canonical = length == needed && memcmp(given, wanted, length) == 0;
+    size_t count;
+    for (size_t n = 0; n <= needed + 1; n++) {
+        uint64_t before = requests;
+        int32_t answer = write_to(by, given, length, n, &count);
+        CHECK(count == needed && answer == (n < needed ? AMQP_NO_ROOM : AMQP_OK));
+        CHECK(answer != AMQP_OK || memcmp(in_buffer(n), wanted, needed) == 0);
+        CHECK(by.call != CANONICAL || (requests == before) == is_canonical);
+    }
+    try_memory(by, given, length, needed, 1);
+}
+
+#endif
