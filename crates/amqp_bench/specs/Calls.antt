@@ -7,14 +7,14 @@ use Rattle.amqp_grammar.specs.Texts.{text}
 use Rattle.amqp_bench.specs.declared.fault.Fault.{Fault}
 use Rattle.amqp_bench.specs.declared.fault.Fault.TheVariants.{Incomplete, Refused, OutOfMemory, TooSmall}
 
--- the number that stands for a fault
+-- the number that denotes a fault
 abbrev pub code_of : Fault → ℤ
 code_of Incomplete = negsuc 0
 code_of Refused = negsuc 1
 code_of OutOfMemory = negsuc 2
 code_of TooSmall = negsuc 3
 
--- why no number of bytes is answered for s: more bytes are needed, s is rejected, an allocation
+-- why no number of bytes is returned for s: more bytes are needed, s is rejected, an allocation
 -- failed where the value takes memory, or there is no room
 abbrev pub IsFault : List ℕ → Type 0 → Fault → Type 0
 IsFault s no_room Incomplete = (n : ℕ) × Outcome s (more n)
@@ -22,12 +22,12 @@ IsFault s no_room Refused = Outcome s unknown ⊎ Outcome s malformed
 IsFault s no_room OutOfMemory = Heavy s
 IsFault s no_room TooSmall = no_room
 
--- the number that stands for how many bytes, or for a fault
+-- the number that denotes how many bytes, or a fault
 abbrev pub answer_of : Result ℕ Fault → ℤ
 answer_of (Ok n) = pos n
 answer_of (Err f) = code_of f
 
--- an answer for s: it stands for a number of bytes that is right, or for a fault that is
+-- an answer for s: it denotes a number of bytes that is right, or a fault that is
 abbrev pub Answers : List ℕ → (ℕ → Type 0) → Type 0 → ℤ → Type 0
 Answers s IsRight no_room z = (done : Result ℕ Fault) × (z ≡ answer_of done) × MatchResult done IsRight (IsFault s no_room)
 
@@ -48,8 +48,8 @@ is_keyed key _ = false
 abbrev pub IsLookedUp : List ℕ → List ℕ → ℕ → Type 0
 IsLookedUp key s n = (v : Tree) × (taken : ℕ) × IsRead s taken v × (n ≡ if is_keyed key v then 0 else taken)
 
--- a value is read from s and written so many times to room for so many bytes: n is 0 where that is
--- no time, and else the length of its canonical encoding, and no more than there is room
+-- a value is read from s and written that many times to room for that many bytes: n is 0 where that
+-- is no time, and else the length of its canonical encoding, and no more than there is room
 abbrev pub IsWritten : ℕ → List ℕ → ℕ → ℕ → Type 0
 IsWritten times s room n =
     (v : Tree) × (rest : List ℕ) × Outcome s (found v rest) × (times ≡ 0 → n ≡ 0) × (0 < times → n ≡ length (text v)) × (n ≤ room)

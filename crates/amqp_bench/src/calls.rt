@@ -15,7 +15,7 @@ use amq_protocol_types::parsing::traits::ParsableInput;
 use amq_protocol_types::parsing::{Err, SliceInput, parse_value};
 use std::alloc::Global;
 
-/// Reads a value to a tree of its own, drops it, and answers how many bytes it took.
+/// Reads a value to a separate tree, drops it, and returns how many bytes it took.
 pub fn decode(alloc: Global, bytes: &[u8]) -> Result<usize, Fault>
     ensures taken { MatchResult result (IsTaken bytes.now) (IsFault bytes.now ⊥) }
     ensures small { IfOk result (λ n. n ≤ length bytes.now) }
@@ -24,7 +24,7 @@ pub fn decode(alloc: Global, bytes: &[u8]) -> Result<usize, Fault>
     Ok(taken)
 }
 
-/// Reads a value, writes it `times` times, and answers how many bytes were written the last time.
+/// Reads a value, writes it `times` times, and returns how many bytes were written the last time.
 #[tactic(auto, using(crate::proofs::Written::written_often))]
 pub fn encode(alloc: Global, bytes: &[u8], out: &mut [u8], times: u64) -> Result<usize, Fault>
     ensures written { MatchResult result
@@ -36,7 +36,7 @@ pub fn encode(alloc: Global, bytes: &[u8], out: &mut [u8], times: u64) -> Result
     write_often(&value, out, times)
 }
 
-/// Reads a value, and answers how many bytes it took.
+/// Reads a value, and returns how many bytes it took.
 fn read(alloc: Global, bytes: &[u8]) -> Result<(usize, AMQPValue), Fault>
     ensures read { MatchResult result
         (λ x. IsRead bytes.now x.0 (view x.1))
@@ -52,7 +52,7 @@ fn read(alloc: Global, bytes: &[u8]) -> Result<(usize, AMQPValue), Fault>
     }
 }
 
-/// Reads a value where its bytes lie, and answers how many bytes it took.
+/// Reads a value in place, and returns how many bytes it took.
 pub fn scan(bytes: &[u8]) -> Result<usize, Fault>
     ensures taken { MatchResult result (IsTaken bytes.now) (IsFault bytes.now ⊥) }
     ensures small { IfOk result (λ n. n ≤ length bytes.now) }
@@ -61,7 +61,7 @@ pub fn scan(bytes: &[u8]) -> Result<usize, Fault>
     Ok(taken)
 }
 
-/// Reads a value where its bytes lie, and answers how many bytes it took, or 0 where it is a table
+/// Reads a value in place, and returns how many bytes it took, or 0 where it is a table
 /// with a value at the key.
 pub fn find(bytes: &[u8], key: &str) -> Result<usize, Fault>
     ensures taken { MatchResult result (IsLookedUp key.now bytes.now) (IsFault bytes.now ⊥) }
@@ -84,7 +84,7 @@ fn has_key(value: ValueRef<'_>, key: &str) -> bool
     }
 }
 
-/// Reads a value where its bytes lie, and answers how many bytes it took.
+/// Reads a value in place, and returns how many bytes it took.
 fn read_in_place(bytes: &[u8]) -> Result<(usize, ValueRef<'_>), Fault>
     ensures read { MatchResult result
         (λ x. (v : Tree) × Stands x.1 v × IsRead bytes.now x.0 v)
@@ -98,7 +98,7 @@ fn read_in_place(bytes: &[u8]) -> Result<(usize, ValueRef<'_>), Fault>
     }
 }
 
-/// Writes a value `times` times, and answers how many bytes were written the last time, 0 where it
+/// Writes a value `times` times, and returns how many bytes were written the last time, 0 where it
 /// is written no time.
 fn write_often(value: &AMQPValue, out: &mut [u8], times: u64) -> Result<usize, Fault>
     requires { Fits (view value.now) }
@@ -114,7 +114,7 @@ fn write_often(value: &AMQPValue, out: &mut [u8], times: u64) -> Result<usize, F
     Ok(written)
 }
 
-/// Writes a value from the start of `out`, and answers how many bytes were written.
+/// Writes a value from the start of `out`, and returns how many bytes were written.
 fn write(value: &AMQPValue, out: &mut [u8]) -> Result<usize, Fault>
     requires { Fits (view value.now) }
     ensures ok { IfOk result (λ n. n ≡ length (text (view value.now))) }

@@ -1,9 +1,9 @@
-//! Why a call answers no number of bytes.
+//! Why a call returns no number of bytes.
 
 ghost use Rattle.std.specs.Prelude.{◌≡◌, ◌<◌, ◌^◌, IfOk};
 ghost use Rattle.amqp_bench.specs.Calls.{code_of, answer_of};
 
-/// Why a call answers no number of bytes.
+/// Why a call returns no number of bytes.
 #[derive(Clone, Copy)]
 pub enum Fault {
     /// The bytes end before the value does.
@@ -17,7 +17,7 @@ pub enum Fault {
 }
 
 impl Fault {
-    /// The number that stands for the fault.
+    /// The number that denotes the fault.
     pub fn code(self) -> i64
         ensures { result ≡ code_of self }
     {
@@ -30,7 +30,7 @@ impl Fault {
     }
 }
 
-/// The number that stands for how many bytes, or for a fault.
+/// The number that denotes how many bytes, or a fault.
 pub fn answer(done: Result<usize, Fault>) -> i64
     requires { IfOk done (λ n. n < 2 ^ 63) }
     ensures { result ≡ answer_of done }

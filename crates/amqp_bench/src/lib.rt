@@ -1,8 +1,8 @@
 //! The codec as a C library: what goes in and out are bytes and numbers.
 //!
-//! Each call answers a number of bytes, or -1 where more bytes are needed, -2 where the bytes begin
+//! Each call returns a number of bytes, or -1 where more bytes are needed, -2 where the bytes begin
 //! with no value, -3 where an allocation failed, and -4 where the canonical encoding of the value
-//! doesn't fit. It is for benchmarks: nothing of a value is handed out.
+//! doesn't fit. It is for benchmarks: nothing of a value is returned.
 #![tactic(auto)]
 
 ghost use Rattle.std.specs.Prelude.{length, codes};
@@ -17,7 +17,7 @@ use calls::{decode, encode, find, scan};
 use fault::answer;
 use std::alloc::Global;
 
-/// Reads a value from the start of `bytes` to a tree of its own, drops it, and answers how many
+/// Reads a value from the start of `bytes` to a separate tree, drops it, and returns how many
 /// bytes it took.
 #[unsafe(no_mangle)]
 pub extern "C" fn amqp_bench_decode(alloc: Global, bytes: &[u8]) -> i64
@@ -26,7 +26,7 @@ pub extern "C" fn amqp_bench_decode(alloc: Global, bytes: &[u8]) -> i64
     answer(decode(alloc, bytes))
 }
 
-/// Reads a value where its bytes lie, and answers how many bytes it took.
+/// Reads a value in place, and returns how many bytes it took.
 #[unsafe(no_mangle)]
 pub extern "C" fn amqp_bench_scan(bytes: &[u8]) -> i64
     ensures { Answers bytes.now (IsTaken bytes.now) ⊥ result }
@@ -34,7 +34,7 @@ pub extern "C" fn amqp_bench_scan(bytes: &[u8]) -> i64
     answer(scan(bytes))
 }
 
-/// Reads a value where its bytes lie, looks the key `-` up in it, and answers how many bytes it
+/// Reads a value in place, looks the key `-` up in it, and returns how many bytes it
 /// took, or 0 where it is a table with a value at that key.
 #[unsafe(no_mangle)]
 pub extern "C" fn amqp_bench_find(bytes: &[u8]) -> i64
@@ -43,7 +43,7 @@ pub extern "C" fn amqp_bench_find(bytes: &[u8]) -> i64
     answer(find(bytes, "-"))
 }
 
-/// Reads a value from the start of `bytes`, writes it from the start of `out`, and answers how many
+/// Reads a value from the start of `bytes`, writes it from the start of `out`, and returns how many
 /// bytes were written.
 #[unsafe(no_mangle)]
 pub extern "C" fn amqp_bench_roundtrip(alloc: Global, bytes: &[u8], out: &mut [u8]) -> i64
@@ -53,7 +53,7 @@ pub extern "C" fn amqp_bench_roundtrip(alloc: Global, bytes: &[u8], out: &mut [u
 }
 
 /// Reads a value from the start of `bytes`, writes it `times` times from the start of `out`, and
-/// answers how many bytes were written the last time, 0 where it is written no time.
+/// returns how many bytes were written the last time, 0 where it is written no time.
 #[unsafe(no_mangle)]
 pub extern "C" fn amqp_bench_encode_n(
     alloc: Global,
