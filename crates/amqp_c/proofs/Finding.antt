@@ -33,7 +33,7 @@ or_none (Some w) = refl
 
 -- ---- pairs by their lengths
 
--- the pair at the front, and those behind it
+-- the pair at the start, and those after it
 pub record Split (value name : List ℕ) (ps : List (List ℕ × List ℕ)) : Type 0 where
   pub others : List (List ℕ × List ℕ)
   pub are : ps ≡ (name, take (extent value) value) ∷ others
@@ -84,7 +84,7 @@ value_stands s p e key value in_s lies (at, next, begins, whole) ends is =
 
 -- ---- the pairs that are left
 
--- what stands behind the pair at the front
+-- what is after the pair at the start
 pub pair_behind : (left name value behind : List ℕ) → left ≡ short_field name ++ value → behind ≡ drop (extent value) value → extent value ≤ length value → IsBehind left behind
 pair_behind left name value behind e is few =
     let at_name : drop (length name) (name ++ value) ≡ value = drop_at name value (length name) refl in
@@ -107,7 +107,7 @@ pub if_some : (P : ℕ → Type 0) (b : Bool) (n : ℕ) (old new : Option ℕ) �
 if_some P true n old new is here before = subst (λ (o : Option ℕ). IfSome o P) (sym is) (here refl)
 if_some P false n old new is here before = subst (λ (o : Option ℕ). IfSome o P) (sym is) before
 
--- the pair of the key whose value was seen stands at the last n bytes, if there is one
+-- the pair of the key whose value was seen is at the last n bytes, if there is one
 abbrev pub Seen : List ℕ → List ℕ → Option (List ℕ) → Option ℕ → Type 0
 Seen key all None None = Unit {0}
 Seen key all (Some w) (Some n) = (value : List ℕ) × (drop (length all - n) all ≡ short_field key ++ value) × IsHeaded value × (w ≡ take (extent value) value)
@@ -162,7 +162,7 @@ pub gives_some : (s key all : List ℕ) (p : Span) (n : ℕ) (e : Entry) (o : Op
 gives_some s key all p n e None same stands x = absurd x
 gives_some s key all p n e (Some w) same stands (value, is, whole, size) = stands value (same ∙ is) ∙ sym size
 
--- and a pair of the key stands there
+-- and a pair of the key is there
 pub seen_pair : (key all there : List ℕ) (n : ℕ) (at : Option ℕ) (o : Option (List ℕ)) → there ≡ drop (length all - n) all → at ≡ Some n → Seen key all o at
     → (value : List ℕ) × (there ≡ short_field key ++ value) × IsHeaded value
 seen_pair key all there n at o same is seen = by o (subst (Seen key all o) is seen)

@@ -1,4 +1,4 @@
--- The entry of the value at the front.
+-- The entry of the value at the start.
 use Rattle.std.proofs.Common.{◌≡◌, ◌+◌, ◌-◌, ◌<◌, ◌≤◌, ℕ, zero, suc, nat_lt, if◌then◌else◌, Bool, true, false, Option, Some, None, MatchOption, List, [], ◌∷◌, ◌++◌, length, take, drop, refl, sym, ap, ◌∙◌, subst, arith, length-append}
 use Rattle.std.specs.Int.{w32}
 use borrow.Author.Tests.{ltb-true}
@@ -90,7 +90,7 @@ no_extent c b x = by (kind c) x
     by None is = refl
     by (Some type) y = absurd (at (lack type b) y)
 
--- where one is right, not as many bytes stand there as a header tells
+-- where one is right, not as many bytes are there as a header tells
 pub cut_header : (s : List ℕ) (f : Fault) → HeaderFaults (Outcome s) f → IsHeaded s → ⊥
 cut_header [] f x h = omega (arith, h.0)
 cut_header (c ∷ b) (More n) x h =
@@ -151,7 +151,7 @@ frame_extent s mid body rest type p f h =
     by amqp.FieldTable h = refl
     by _ h = absurd cc
 
--- the bytes behind the length are what v is
+-- the bytes after the length are what v is
 abbrev ContentIs : List ℕ → Tree → Type 0
 ContentIs body (long b) = b ≡ body
 ContentIs body (octets b) = b ≡ body
@@ -230,7 +230,7 @@ fixed_tag amqp.FieldArray f b is = absurd cc
 fixed_tag amqp.FieldTable f b is = absurd cc
 fixed_tag _ f b is = sym (ap (λ (o : Option Layout). id_in o b) is)
 
--- a value of a type that has no bytes behind a length is of fixed width
+-- a value of a type that has no bytes after a length is of fixed width
 pub record IsScalar (type : AMQPType) (v : Tree) : Type 0 where
   pub it : Scalar
   pub is : v ≡ scalar it

@@ -14,13 +14,13 @@ use Rattle.amqp_c.specs.Growth.{and_value, and_pair, Grows, IsOpen, IsEnded}
 use Rattle.amqp_c.specs.Rooms.{with_bytes, StandsAt}
 use Rattle.amqp_c.proofs.Rooms.{with_bytes-join}
 
--- values, and an encoding behind them
+-- values, and an encoding after them
 body_and : (b w : List ℕ) (vs : Trees) (v : Tree) → Body b vs → Wire w v → Body (b ++ w) (and_value vs v)
 body_and _ w _ v no_values p = subst (λ (t : List ℕ). Body t (tree v no_trees)) (append-nil w) (value w [] v no_trees p no_values)
 body_and _ w _ v (value u rest t ts q others) p =
     subst (λ (x : List ℕ). Body x (tree t (and_value ts v))) (sym (append_assoc u rest w)) (value u (rest ++ w) t (and_value ts v) q (body_and rest w ts v others p))
 
--- pairs, and one behind them
+-- pairs, and one after them
 pairs_and : (b k w : List ℕ) (ps : Entries) (v : Tree) → Pairs b ps → IsShort k → Wire w v → Pairs (b ++ (short_field k ++ w)) (and_pair ps k v)
 pairs_and _ k w _ v no_pairs is p =
     subst (λ (t : List ℕ). Pairs (short_field k ++ t) (entry k v no_entries)) (append-nil w) (pair k w [] v no_entries is p no_pairs)
@@ -48,7 +48,7 @@ grows_by old new k w into grown v key p more = record {
       (pairs_and (part old into.written) k w ps v all (short_key into k is key) p);
 }
 
--- what is written of a container, once bytes were written behind it
+-- what is written of a container, once bytes were written after it
 pub part_grown : (old new bytes : List ℕ) (c grown : Container) → SpanLies (length old) c.written → new ≡ with_bytes (end_of c) bytes old
     → grown ≡ up_to (end_of c + length bytes) c → part new grown.written ≡ part old c.written ++ bytes
 part_grown old new bytes c grown lies written reaches =
@@ -67,20 +67,20 @@ part_grown old new bytes c grown lies written reaches =
     ∙ (take_at (drop o before ++ bytes) rest (o + n + length bytes - o) count
     ∙ ap (λ (t : List ℕ). t ++ bytes) cut))
 
--- bytes that stand there already are written
+-- bytes that are there already are written
 with_bytes-same : (at : ℕ) (a room : List ℕ) → StandsAt at a room → with_bytes at a room ≡ room
 with_bytes-same at a room stands =
     ap (λ (t : List ℕ). take at room ++ t)
     (ap₂ (λ (p q : List ℕ). p ++ q) (sym stands) (sym (drop-drop (length a) at room)) ∙ take-append-drop (length a) (drop at room))
     ∙ take-append-drop at room
 
--- behind bytes that are written the room is as it was
+-- after bytes that are written the buffer is as it was
 drop-with_bytes : (at : ℕ) (a room : List ℕ) → at ≤ length room → drop (at + length a) (with_bytes at a room) ≡ drop (at + length a) room
 drop-with_bytes at a room fits =
     ap (drop (at + length a)) (sym (append_assoc (take at room) a (drop (at + length a) room)))
     ∙ drop_at (take at room ++ a) (drop (at + length a) room) (at + length a) (omega (arith, length-append (take at room) a, length-take-le at room fits))
 
--- a length that is filled in between what stands before a body and the body
+-- a length that is filled in between what is before a body and the body
 filled_in : (old head length_bytes content : List ℕ) (at : ℕ) → at + length head ≤ length old → at + length head + length length_bytes ≤ length old
     → StandsAt at head old → StandsAt (at + length head + length length_bytes) content old
     → with_bytes (at + length head) length_bytes old ≡ with_bytes at (head ++ (length_bytes ++ content)) old

@@ -7,7 +7,7 @@ use Rattle.amqp_c.specs.declared.container.Container.{Container}
 use Rattle.amqp_c.specs.Containers.{IsContainerTag, IsKeyOf, named, end_of, entry_of}
 use Rattle.amqp_c.specs.Growth.{IsOpen}
 
--- lists that are the same with one element behind each are the same
+-- lists that are the same with one element after each are the same
 same_before : (a b : List ℕ) (x y : ℕ) → a ++ x ∷ [] ≡ b ++ y ∷ [] → a ≡ b
 same_before a b x y e =
     let count : length a ≡ length b = omega (arith, ap length e, length-append a (x ∷ []), length-append b (y ∷ [])) in

@@ -5,11 +5,11 @@ use Rattle.amqp_grammar.specs.Grammar.{long_field}
 use Rattle.amqp_c_common.specs.declared.span.Span.{Span}
 use Rattle.amqp_c_common.specs.Spans.{part, moved, behind, last}
 
--- at the front
+-- at the start
 pub part_front : (s : List ℕ) (p : Span) → p.offset ≡ 0 → part s p ≡ take p.length s
 part_front s p e = ap (λ (o : ℕ). take p.length (drop o s)) e
 
--- behind a type tag and a length
+-- after a type tag and a length
 pub part_content : (s mid body rest : List ℕ) (c : ℕ) (p : Span) → s ≡ c ∷ mid → mid ≡ long_field body ++ rest → p.offset ≡ 5 → p.length ≡ length body → part s p ≡ body
 part_content s mid body rest c p typed framed at size =
     ap (λ (o : ℕ). take p.length (drop o s)) at
@@ -27,7 +27,7 @@ part_within s p q lies =
     ∙ (ap (take q.length) (drop-drop q.offset p.offset s)
     ∙ ap (λ (o : ℕ). take q.length (drop o s)) (omega arith)))
 
--- what is behind the first n bytes of a part
+-- what is after the first n bytes of a part
 pub part_after : (s : List ℕ) (p q : Span) (n : ℕ) → q.offset + q.length ≡ p.offset + n → n ≤ p.length → part s (behind p q) ≡ drop n (part s p)
 part_after s p q n at lies =
     let here : p.length ≡ n + (p.length - n) = omega arith in

@@ -49,7 +49,7 @@ told tag bits scale w head x tells is written =
     let same : w ≡ text (scalar x) = is ∙ (append-nil head ∙ written) in
     ((x, tells, refl, same), subst (λ (t : List ℕ). Wire t (scalar x)) (sym same) (text_is_wire (scalar x) tells.in_range tt refl))
 
--- a long string or a byte array, behind its length
+-- a long string or a byte array, after its length
 pub strings : (tag : ℕ) (b t w : List ℕ) → IsStringTag tag → length b < 2 ^ 32 → t ≡ to_be_bytes w32 (length b)
     → w ≡ (tag ∷ get_or t 0 0 ∷ get_or t 1 0 ∷ get_or t 2 0 ∷ get_or t 3 0 ∷ []) ++ b → (v : Tree) × IsOfBytes tag b w v × Wire w v
 strings tag b t w (inl is) fits counts written =
@@ -63,7 +63,7 @@ strings tag b t w (inr is) fits counts written =
     ∙ ap (λ (n : ℕ). (n ∷ to_be_bytes w32 (length b)) ++ b) is) in
     (octets b, (inr (is, refl), same, fits), subst (λ (u : List ℕ). Wire u (octets b)) (sym same) (text_is_wire (octets b) tt fits refl))
 
--- an encoding that is read from the front
+-- an encoding that is read from the start
 pub front : (l : Limits) (s rest w : List ℕ) (v : Tree) → Within l s (found v rest) → w ≡ take (length s - length rest) s → IsFront l s w v × Wire w v
 front l s rest w v x is =
     let f = front_within l.depth s rest v x.1 in

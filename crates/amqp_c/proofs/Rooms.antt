@@ -7,7 +7,7 @@ use Rattle.amqp_c.specs.Containers.{IsPlace, named, end_of, entry_of, end_with, 
 use Rattle.amqp_c.specs.Growth.{IsAppended}
 use Rattle.amqp_c.specs.Rooms.{with_bytes}
 
--- bytes that are written behind others are written with these at once
+-- bytes that are written after others are written with these at once
 pub with_bytes-join : (at next : ℕ) (a b room : List ℕ) → next ≡ at + length a → next ≤ length room
     → with_bytes next b (with_bytes at a room) ≡ with_bytes at (a ++ b) room
 with_bytes-join at next a b room e fits =
@@ -25,14 +25,14 @@ with_bytes-join at next a b room e fits =
     ∙ (append_assoc front a (b ++ drop (at + length (a ++ b)) room)
     ∙ ap (λ (t : List ℕ). front ++ t) (sym (append_assoc a b (drop (at + length (a ++ b)) room))))
 
--- how many bytes stand before the value of an entry
+-- how many bytes are before the value of an entry
 pub named_table : (tag : ℕ) (k : List ℕ) → tag ≡ 70 → length (named tag k) ≡ 1 + length k
 named_table tag k is = rw is (omega arith)
 
 pub named_other : (tag : ℕ) (k : List ℕ) → (tag ≡ 70 → ⊥) → length (named tag k) ≡ 0
 named_other tag k other = rw (ne_eqb tag 70 other) refl
 
--- an entry is there once what stands before its value, and its encoding in two parts are written
+-- an entry is there once what is before its value, and its encoding in two parts are written
 pub appended : (old k head content first second new : List ℕ) (into grown : Container) (at n : ℕ)
     → IsPlace (length old) into k → at ≡ end_of into → n ≡ length (named into.tag k) → n + length head + length content ≤ length old - at
     → first ≡ with_bytes at (named into.tag k) old → second ≡ with_bytes (at + n) head first → new ≡ with_bytes (at + n + length head) content second

@@ -27,7 +27,7 @@ says_placed s p key e (octets b) at is = (sym at ∙ is.0, is.1)
 says_placed s p key e (array vs) at is = (subst (λ (t : List ℕ). Body t vs) at is.0, is.1)
 says_placed s p key e (table es) at is = (subst (λ (t : List ℕ). HasEntries t es) at is.0, is.1)
 
--- what is read at the front of the span stands in the bytes
+-- what is read at the start of the span is in the bytes
 pub front_given : (s : List ℕ) (p key : Span) (e : Entry) → SpanLies (length s) p → Lies (length (part s p)) e → (v : Tree) (rest : List ℕ) → Outcome (part s p) (found v rest)
     → GivesFirst (part s p) v rest (Ok e) → IsFrontIn s p key v rest (Some (placed p key e))
 front_given s p key e in_s in_part v rest x (is, at, whole) =
@@ -83,7 +83,7 @@ value_given s p key r in_s some none f vs all = by (part s p) vs (omega (arith, 
     by _ _ some f no_values = absurd (omega arith)
     by _ _ some f (value w rest v vs q all) = step v rest vs r all (f v rest (wire_found w rest v q))
 
--- a key stands after its length
+-- a key is after its length
 pub begins_with : (s named : List ℕ) (n : ℕ) → s ≡ n ∷ named → n ≤ length named → BeginsWithKey (take n named) s
 begins_with s named n e few =
     let size : length (take n named) ≡ n = length-take-le n named few in
@@ -103,7 +103,7 @@ key_stands s named p key n in_s e few is =
     part_within s p (record { offset = 1; length = n }) (omega arith) ∙ ap (λ (o : ℕ). take n (drop o s)) (omega arith) ∙ ap (part s) (sym is) in
     subst (λ (k : List ℕ). BeginsWithKey k (part s p)) (sym (ap (λ (t : List ℕ). take n (drop 1 t)) e) ∙ at) (begins_with (part s p) named n e few)
 
--- the entry of the pair stands at the span
+-- the entry of the pair is at the span
 pub stands_keyed : (s named : List ℕ) (p key : Span) (n : ℕ) (r : Option Entry) → SpanLies (length s) p → part s p ≡ n ∷ named → n ≤ length named → key ≡ record { offset = p.offset + 1; length = n }
     → IfSome r (λ e. e.key ≡ key) → IfSome r (λ e. (e.value.offset ≡ key.offset + key.length) × (e.value.length ≡ extent (part s (behind p key)))) → IfSome r (StandsKeyed s p)
 stands_keyed s named p key n None in_s e few is same after = tt
@@ -126,14 +126,14 @@ module _ (s : List ℕ) (p : Span) (n : ℕ) (r : Option Entry) (in_s : SpanLies
   abbrev key : Span
   key = record { offset = p.offset + 1; length = n }
 
-  -- what stands behind the key
+  -- what is after the key
   front_at : (k rest : List ℕ) → part s p ≡ short_field k ++ rest → part s (behind p key) ≡ rest
   front_at k rest e =
       let size : n ≡ length k = is ∙ ap (λ (t : List ℕ). get_or t 0 0) e in
       let room : suc n ≤ p.length = omega (arith, ap length e, part_length s p in_s, length-append k rest) in
       part_after s p key (suc n) (omega arith) room ∙ (ap (drop (suc n)) e ∙ drop_at k rest n (sym size))
 
-  -- where no value stands there, no pair does here
+  -- where no value is there, no pair is here
   pub pair_cut : (o : Option Entry) → IfNone o (IsHeaded (part s (behind p key)) → ⊥) → IfNone o (HasNoPair (part s p))
   pair_cut None none = λ k value e whole. none (subst IsHeaded (sym (front_at k value e)) whole)
   pair_cut (Some x) none = tt

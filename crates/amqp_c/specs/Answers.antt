@@ -1,4 +1,4 @@
--- What the calls answer.
+-- What the calls return.
 use Rattle.std.specs.Prelude.{ℕ, ◌≡◌, ◌+◌, ◌<◌, ◌≤◌, ℤ, pos, List, length, Option, Some, None, Result, Ok, Err}
 use Rattle.amqp_grammar.specs.Values.{Tree}
 use Rattle.amqp_grammar.specs.Outcomes.{Reading, found, more, unknown, malformed, Outcome}
@@ -19,7 +19,7 @@ use Rattle.amqp_c.specs.Entries.{IsEntry}
 abbrev pub IsRefusalOf : List ℕ → Fault → Type 0
 IsRefusalOf s f = (e : Refusal) × (f ≡ fault_of e) × Refuses (Outcome s) ⊥ e
 
--- a fault is right, where `Is` says what reading the bytes comes to
+-- a fault is right, where `Is` says what reading the bytes results in
 abbrev pub Faults : (Reading → Type 0) → Fault → Type 0
 Faults Is (More n) = Is (more n)
 Faults Is UnknownTag = Is unknown
@@ -41,12 +41,12 @@ FaultsWithin l s f = (extent s ≤ l.frame) × Faults (OutcomeWithin l.depth s) 
 abbrev pub IsTaken : Limits → List ℕ → ℕ → Type 0
 IsTaken l s n = (v : Tree) × (rest : List ℕ) × Within l s (found v rest) × (n + length rest ≡ length s)
 
--- the entry of the value at the front is given, wherever there is one
+-- the entry of the value at the start is given, wherever there is one
 abbrev pub GivesFirst : List ℕ → Tree → List ℕ → Result Entry Fault → Type 0
 GivesFirst s v rest (Ok e) = IsEntry s e v × (e.value.offset ≡ 0) × (e.value.length + length rest ≡ length s)
 GivesFirst s v rest (Err f) = ⊥
 
--- the number that stands for an answer: 0 where something is given, 1 where there is nothing
+-- the number that denotes a result: 0 where something is given, 1 where there is nothing
 abbrev pub answer_if_any : {T : Type 0} → Result (Option T) Fault → ℤ
 answer_if_any (Ok (Some x)) = pos 0
 answer_if_any (Ok None) = pos 1
@@ -61,7 +61,7 @@ abbrev pub found_or : {T : Type 0} → T → Result (Option T) Fault → T
 found_or old (Ok (Some x)) = x
 found_or old _ = old
 
--- the entry and the cursor that a step gives, or what stood there
+-- the entry and the cursor that a step returns, or what stood there
 abbrev pub entry_or : Entry → Result (Option (Entry × Cursor)) Fault → Entry
 entry_or old (Ok (Some x)) = x.0
 entry_or old _ = old

@@ -1,4 +1,4 @@
--- What each call from C answers, and leaves in the room and behind its pointers.
+-- What each call from C returns, and leaves in the buffer and behind its pointers.
 use Rattle.std.specs.Prelude.{ℕ, ◌≡◌, ℤ, List, Result, Ok, Err, IfErr, MatchResult}
 use Rattle.amqp_grammar.specs.Values.{Tree, Scalar}
 use Rattle.amqp_c_common.specs.declared.fault.Fault.{Fault}
@@ -15,8 +15,8 @@ abbrev pub container_or : Container → Result Container Fault → Container
 container_or was (Ok c) = c
 container_or was (Err f) = was
 
--- an entry is put or refused, where `Gives` says of which encoding and value it may be; after a
--- refusal the room and the container are as they were
+-- an entry is put or rejected, where `Gives` says of which encoding and value it may be; after a
+-- error the buffer and the container are as they were
 pub record Puts (valid : Type 0) (Gives : List ℕ → Tree → Type 0) (Other : Fault → Type 0) (old : List ℕ) (into : Container) (k : List ℕ) (answer : ℤ) (new : List ℕ) (grown : Container) : Type 0 where
   pub done : Result Container Fault
   pub answered : answer ≡ answer_of done
@@ -32,11 +32,11 @@ PutsScalar tag bits scale = Puts ((x : Scalar) × Tells tag bits scale x) (IsTol
 abbrev pub PutsBytes : ℕ → List ℕ → List ℕ → Container → List ℕ → ℤ → List ℕ → Container → Type 0
 PutsBytes tag b = Puts (IsStringTag tag) (IsOfBytes tag b) (IsTooLong tag b)
 
--- the encoding at the front of s is put, as it stands
+-- the encoding at the start of s is put, unchanged
 abbrev pub PutsValue : ℕ → ℕ → List ℕ → List ℕ → Container → List ℕ → ℤ → List ℕ → Container → Type 0
 PutsValue frame depth s = Puts (Unit {0}) (IsFront (limits frame depth) s) (IsReadFaultInPlace (limits frame depth) s)
 
--- an entry is begun or refused whose value is a container; after a refusal the room and the body
+-- an entry is begun or rejected whose value is a container; after an error the buffer and the body
 -- are as they were
 pub record Begins (tag : ℕ) (old : List ℕ) (into : Container) (k : List ℕ) (was : Container) (answer : ℤ) (new : List ℕ) (body : Container) : Type 0 where
   pub done : Result Container Fault
@@ -45,7 +45,7 @@ pub record Begins (tag : ℕ) (old : List ℕ) (into : Container) (k : List ℕ)
   pub begun : MatchResult done (IsBegun tag old into k new) (Refuses (IsContainerTag tag) (λ w. IsContainerTag tag × (w ≡ unfilled tag)) NoOther old into k)
   pub stays : IfErr done (λ _. new ≡ old)
 
--- an entry is ended whose value is a container, or refused; after a refusal the room and the
+-- an entry is ended whose value is a container, or rejected; after an error the buffer and the
 -- container are as they were
 pub record Ends (old : List ℕ) (into body : Container) (answer : ℤ) (new : List ℕ) (grown : Container) : Type 0 where
   pub done : Result Container Fault

@@ -44,7 +44,7 @@ IsString tag b v = ((tag ≡ 83) × (v ≡ long b)) ⊎ ((tag ≡ 120) × (v ≡
 abbrev pub IsOfBytes : ℕ → List ℕ → List ℕ → Tree → Type 0
 IsOfBytes tag b w v = IsString tag b v × (w ≡ text v) × (length b < 2 ^ 32)
 
--- w stands at the front of s, and is read within the limits as v
+-- w is at the start of s, and is read within the limits as v
 abbrev pub IsFront : Limits → List ℕ → List ℕ → Tree → Type 0
 IsFront l s w v = (rest : List ℕ) × Within l s (found v rest) × (s ≡ w ++ rest)
 
@@ -54,6 +54,6 @@ IsOfBody tag b (array vs) = (tag ≡ array_tag) × Body b vs
 IsOfBody tag b (table es) = (tag ≡ table_tag) × HasEntries b es
 IsOfBody tag b _ = ⊥
 
--- what stands before the body of a container, its length not filled in yet
+-- what is before the body of a container, its length not filled in yet
 abbrev pub unfilled : ℕ → List ℕ
 unfilled tag = tag ∷ 0 ∷ 0 ∷ 0 ∷ 0 ∷ []

@@ -21,7 +21,7 @@ pub record Reads (frame depth : ℕ) (s : List ℕ) (answer : ℤ) (count : ℕ)
   pub counted : count ≡ count_of done
   pub right : MatchResult done (IsTaken (limits frame depth) s) (FaultsWithin (limits frame depth) s)
 
--- the value at the front of s: its entry is given, or the fault is right and the entry as it was
+-- the value at the start of s: its entry is given, or the fault is right and the entry as it was
 pub record Firsts (s : List ℕ) (old : Entry) (answer : ℤ) (new : Entry) : Type 0 where
   pub done : Result Entry Fault
   pub answered : answer ≡ answer_of done
@@ -31,7 +31,7 @@ pub record Firsts (s : List ℕ) (old : Entry) (answer : ℤ) (new : Entry) : Ty
   pub lies : IfOk done (Lies (length s))
   pub refused : IfErr done (HeaderFaults (Outcome s))
 
--- a container is entered exactly where the entry is of one, and its contents lie in s
+-- a container is entered exactly where the entry is of one, and its contents are in s
 pub record Enters (s : List ℕ) (e : Entry) (old : Cursor) (answer : ℤ) (new : Cursor) : Type 0 where
   pub done : Result Cursor Fault
   pub answered : answer ≡ answer_of done
@@ -40,7 +40,7 @@ pub record Enters (s : List ℕ) (e : Entry) (old : Cursor) (answer : ℤ) (new 
   pub refused : IfErr done (RefusedBy (IsOfContainer (length s) (contents e)) ⊥)
 
 -- a step: the first of what is left is given, where it is values or pairs, and whatever it is, what
--- goes out lies in s; what is left is malformed only where no entry stands at its front
+-- goes out is inside s; what is left is malformed only where no entry is at its start
 pub record Steps (s : List ℕ) (c : Cursor) (old : Entry) (answer : ℤ) (new : Cursor) (e : Entry) : Type 0 where
   pub done : Result (Option (Entry × Cursor)) Fault
   pub answered : answer ≡ answer_if_any done

@@ -1,4 +1,4 @@
--- Containers that are put together in a room.
+-- Containers that are put together in a buffer.
 use Rattle.std.specs.Prelude.{ℕ, ◌≡◌, ◌+◌, ◌-◌, List, [], ◌++◌, ◌==◌, if◌then◌else◌, length, ◌⊎◌}
 use Rattle.amqp_types.specs.Strings.{IsShort}
 use Rattle.amqp_grammar.specs.Grammar.{short_field}
@@ -23,19 +23,19 @@ end_of c = c.written.offset + c.written.length
 abbrev pub IsKeyOf : Container → List ℕ → Type 0
 IsKeyOf c k = ((c.tag ≡ array_tag) × (k ≡ [])) ⊎ ((c.tag ≡ table_tag) × IsShort k)
 
--- in a room of n bytes an entry with this key can be put behind what is written
+-- in a buffer of n bytes an entry with this key can be put after what is written
 abbrev pub IsPlace : ℕ → Container → List ℕ → Type 0
 IsPlace n c k = SpanLies n c.written × IsKeyOf c k
 
--- what stands before the value of an entry: in a table the key, after its length in one byte
+-- what is before the value of an entry: in a table the key, after its length in one byte
 abbrev pub named : ℕ → List ℕ → List ℕ
 named tag k = if tag == table_tag then short_field k else []
 
--- the bytes of an entry: what stands before its value, and an encoding of the value
+-- the bytes of an entry: what is before its value, and an encoding of the value
 abbrev pub entry_of : Container → List ℕ → List ℕ → List ℕ
 entry_of c k w = named c.tag k ++ w
 
--- where the entry ends that is put behind what is written
+-- where the entry ends that is put after what is written
 abbrev pub end_with : Container → List ℕ → List ℕ → ℕ
 end_with c k w = end_of c + length (entry_of c k w)
 

@@ -42,12 +42,12 @@ abbrev pub IsTagged : List ℕ → Entry → Type 0
 IsTagged [] e = ⊥
 IsTagged (c ∷ b) e = (type : AMQPType) × (kind c ≡ Some type) × (e.tag ≡ id_of type) × (has_content type ≡ true → HasNoNumber e)
 
--- the entry has no key, its value begins at the front of s and reaches as far as its type tag and
--- its length tell, and its type is the one that the type tag stands for
+-- the entry has no key, its value begins at the start of s and reaches as far as its type tag and
+-- its length tell, and its type is the one that the type tag denotes
 abbrev pub IsAtFront : List ℕ → Entry → Type 0
 IsAtFront s e = (e.key.length ≡ 0) × (e.value.offset ≡ 0) × (e.value.length ≡ extent s) × IsTagged s e
 
--- what the entry names lies in n bytes, and its value has at least one
+-- what the entry names is inside n bytes, and its value has at least one
 pub record Lies (n : ℕ) (e : Entry) : Type 0 where
   pub key : SpanLies n e.key
   pub value : SpanLies n e.value

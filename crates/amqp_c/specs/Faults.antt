@@ -9,13 +9,13 @@ use Rattle.amqp_c.specs.Containers.{IsPlace, end_of, entry_of}
 use Rattle.amqp_c.specs.BuiltEntries.{IsStringTag}
 use Rattle.amqp_c.specs.Growth.{IsOpen}
 
--- an encoding that `Is` holds of would be put, and the room is too small for its entry, which has n
--- bytes
+-- an encoding that `Is` holds of would be put, and the buffer is too small for its entry, which has
+-- n bytes
 abbrev pub LacksRoom : (List ℕ → Type 0) → List ℕ → Container → List ℕ → ℕ → Type 0
 LacksRoom Is room into k n = (w : List ℕ) × Is w × (n ≡ length (entry_of into k w)) × (length room < end_of into + n)
 
 -- a fault of putting an entry is right: no entry with this key can be put there, or what is put
--- isn't `valid`; the room is too small; or another that `Other` holds of
+-- isn't `valid`; the buffer is too small; or another that `Other` holds of
 abbrev pub Refuses : Type 0 → (List ℕ → Type 0) → (Fault → Type 0) → List ℕ → Container → List ℕ → Fault → Type 0
 Refuses valid Is Other room into k Invalid = IsPlace (length room) into k → valid → ⊥
 Refuses valid Is Other room into k (NoRoom n) = IsPlace (length room) into k × LacksRoom Is room into k n
@@ -30,7 +30,7 @@ abbrev pub IsTooLong : ℕ → List ℕ → Fault → Type 0
 IsTooLong tag b TooLarge = IsStringTag tag × (2 ^ 32 ≤ length b)
 IsTooLong tag b _ = ⊥
 
--- what reading s within the limits comes to, which takes no memory
+-- what reading s within the limits results in, which doesn't allocate
 abbrev pub IsReadFaultInPlace : Limits → List ℕ → Fault → Type 0
 IsReadFaultInPlace l s OutOfMemory = ⊥
 IsReadFaultInPlace l s f = IsReadFault l s f

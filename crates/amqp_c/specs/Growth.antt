@@ -9,23 +9,24 @@ use Rattle.amqp_c.specs.Containers.{array_tag, table_tag, IsContainerTag, IsPlac
 use Rattle.amqp_c.specs.BuiltEntries.{unfilled, IsOfBody}
 use Rattle.amqp_c.specs.Rooms.{with_bytes, StandsAt}
 
--- the values, with v behind them
+-- the values, with v after them
 abbrev pub and_value : Trees → Tree → Trees
 and_value no_trees v = tree v no_trees
 and_value (tree u vs) v = tree u (and_value vs v)
 
--- the pairs, with k and v behind them
+-- the pairs, with k and v after them
 abbrev pub and_pair : Entries → List ℕ → Tree → Entries
 and_pair no_entries k v = entry k v no_entries
 and_pair (entry j u ps) k v = entry j u (and_pair ps k v)
 
--- the key and an encoding are written behind what the container has, and the room is else as it was
+-- the key and an encoding are written after what the container has, and the buffer is else as it
+-- was
 pub record IsAppended (old : List ℕ) (into : Container) (k w new : List ℕ) : Type 0 where
   pub place : IsPlace (length old) into k
   pub room : end_with into k w ≤ length old
   pub written : new ≡ with_bytes (end_of into) (entry_of into k w) old
 
--- where values or pairs were written of a container, they are written now with v behind them
+-- where values or pairs were written of a container, they are written now with v after them
 pub record Grows (old : List ℕ) (into : Container) (k : List ℕ) (v : Tree) (new : List ℕ) (grown : Container) : Type 0 where
   pub values : (vs : Trees) → into.tag ≡ array_tag → Body (part old into.written) vs → Body (part new grown.written) (and_value vs v)
   pub pairs : (ps : Entries) → into.tag ≡ table_tag → Pairs (part old into.written) ps → Pairs (part new grown.written) (and_pair ps k v)
@@ -45,8 +46,8 @@ pub record IsBegun (tag : ℕ) (old : List ℕ) (into : Container) (k new : List
   pub appended : IsAppended old into k (unfilled tag) new
   pub empty : body ≡ empty_at (end_with into k (unfilled tag)) tag
 
--- the body is one of an entry that was begun with this key behind what `into` has: the key and the
--- body's type tag stand there, and the body begins four bytes behind them
+-- the body is one of an entry that was begun with this key after what `into` has: the key and the
+-- body's type tag are there, and the body begins four bytes after them
 pub record IsOpen (room : List ℕ) (into body : Container) (k : List ℕ) : Type 0 where
   pub place : IsPlace (length room) into k
   pub container : IsContainerTag body.tag

@@ -1,10 +1,10 @@
--- What is left in a room.
+-- What is left in a buffer.
 use Rattle.std.specs.Prelude.{ℕ, ◌≡◌, ◌+◌, List, ◌++◌, length, take, drop}
 
--- the room with these bytes from `at` on, and else as it was
+-- the buffer with these bytes from `at` on, and else as it was
 abbrev pub with_bytes : ℕ → List ℕ → List ℕ → List ℕ
 with_bytes at bytes room = take at room ++ (bytes ++ drop (at + length bytes) room)
 
--- these bytes stand in the room from `at` on
+-- these bytes are in the buffer from `at` on
 abbrev pub StandsAt : ℕ → List ℕ → List ℕ → Type 0
 StandsAt at bytes room = take (length bytes) (drop at room) ≡ bytes

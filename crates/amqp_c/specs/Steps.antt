@@ -25,7 +25,7 @@ table_tag = 70
 abbrev pub contents : Entry → Cursor
 contents e = record { left = e.content; tag = e.tag }
 
--- the cursor lies in n bytes, and is of an array or a table
+-- the cursor is inside n bytes, and is of an array or a table
 abbrev pub IsOfContainer : ℕ → Cursor → Type 0
 IsOfContainer n c = SpanLies n c.left × ((c.tag ≡ array_tag) ⊎ (c.tag ≡ table_tag))
 
@@ -33,7 +33,7 @@ IsOfContainer n c = SpanLies n c.left × ((c.tag ≡ array_tag) ⊎ (c.tag ≡ t
 abbrev pub IsOfTable : ℕ → Cursor → Type 0
 IsOfTable n c = SpanLies n c.left × (c.tag ≡ table_tag)
 
--- a type tag stands at the front, and as many bytes as it and the length behind it tell
+-- a type tag is at the start, and as many bytes as it and the length after it tell
 abbrev pub IsHeaded : List ℕ → Type 0
 IsHeaded s = (0 < extent s) × (extent s ≤ length s)
 
@@ -41,7 +41,7 @@ IsHeaded s = (0 < extent s) × (extent s ≤ length s)
 abbrev pub BeginsWithKey : List ℕ → List ℕ → Type 0
 BeginsWithKey k s = (rest : List ℕ) × (s ≡ short_field k ++ rest)
 
--- no pair stands at the front, by the key's length, the type tag and the value's length
+-- no pair is at the start, by the key's length, the type tag and the value's length
 abbrev pub HasNoPair : List ℕ → Type 0
 HasNoPair s = (k value : List ℕ) → s ≡ short_field k ++ value → IsHeaded value → ⊥
 
@@ -57,19 +57,19 @@ abbrev pub last_of : List ℕ → List (List ℕ × List ℕ) → Option (List �
 last_of k [] = None
 last_of k (p ∷ ps) = option_or (last_of k ps) (if same_bytes k p.0 then Some p.1 else None)
 
--- at the front of the bytes that p spans, the entry of a value stands: it has no key, and as many
+-- at the start of the bytes that p spans, the entry of a value stands: it has no key, and as many
 -- bytes as its type tag and its length tell
 abbrev pub StandsAlone : List ℕ → Span → Entry → Type 0
 StandsAlone s p e = (e.key.length ≡ 0) × (e.value.offset ≡ p.offset) × (e.value.length ≡ extent (part s p))
 
--- the entry of a pair stands there: its key after the key's length in one byte, and right behind
+-- the entry of a pair is there: its key after the key's length in one byte, and right after
 -- the key the value, as many bytes as its type tag and its length tell
 abbrev pub StandsKeyed : List ℕ → Span → Entry → Type 0
 StandsKeyed s p e =
     (e.key.offset ≡ p.offset + 1) × (e.value.offset ≡ e.key.offset + e.key.length)
     × BeginsWithKey (part s e.key) (part s p) × (e.value.length ≡ extent (part s (behind p e.key)))
 
--- the entry ends in the span, which it begins in or behind its front
+-- the entry ends in the span, which it begins in or after its start
 abbrev pub EndsIn : Span → Entry → Type 0
 EndsIn p e = (p.offset ≤ e.value.offset) × (e.value.offset + e.value.length ≤ p.offset + p.length)
 
@@ -77,10 +77,10 @@ EndsIn p e = (p.offset ≤ e.value.offset) × (e.value.offset + e.value.length �
 abbrev pub StandsIn : List ℕ → Span → Entry → Type 0
 StandsIn s p e = (n : ℕ) × (n ≤ p.length) × StandsKeyed s (last p n) e × EndsIn (last p n) e
 
--- a step of the cursor c in s, whatever they hold: the entry lies in s and stands where the cursor
--- is, with the type of its type tag, and is that of the value if one is encoded there; the cursor
--- becomes one of the same container that begins right behind the entry's value, ends where c does,
--- and has less left
+-- a step of the cursor c in s, whatever they hold: the entry is inside s and stands where the
+-- cursor is, with the type of its type tag, and is that of the value if one is encoded there; the
+-- cursor becomes one of the same container that begins right after the entry's value, ends where c
+-- does, and has less left
 pub record IsStep (s : List ℕ) (c : Cursor) (e : Entry) (next : Cursor) : Type 0 where
   pub valid : IsOfContainer (length s) c
   pub lies : Lies (length s) e
@@ -94,7 +94,7 @@ pub record IsStep (s : List ℕ) (c : Cursor) (e : Entry) (next : Cursor) : Type
   pub ends : next.left.offset + next.left.length ≡ c.left.offset + c.left.length
   pub less : next.left.length < c.left.length
 
--- a step gives such an entry and cursor, or nothing is left
+-- a step returns such an entry and cursor, or nothing is left
 abbrev pub StepsIn : List ℕ → Cursor → Option (Entry × Cursor) → Type 0
 StepsIn s c None = IsOfContainer (length s) c × (c.left.length ≡ 0)
 StepsIn s c (Some x) = IsStep s c x.0 x.1
@@ -103,19 +103,19 @@ StepsIn s c (Some x) = IsStep s c x.0 x.1
 abbrev pub IsCut : List ℕ → Cursor → Type 0
 IsCut s c = (c.tag ≡ array_tag → IsHeaded (part s c.left) → ⊥) × (c.tag ≡ table_tag → HasNoPair (part s c.left))
 
--- a fault is right: what was handed in isn't `valid`, or bytes are malformed and it is so
+-- a fault is right: what was passed in isn't `valid`, or bytes are malformed and it is so
 abbrev pub RefusedBy : Type 0 → Type 0 → Fault → Type 0
 RefusedBy valid bad Invalid = valid → ⊥
 RefusedBy valid bad Malformed = bad
 RefusedBy valid bad _ = ⊥
 
--- a step gives the first of the values, with no key, and leaves the others
+-- a step returns the first of the values, with no key, and leaves the others
 abbrev pub GivesValue : List ℕ → Trees → Result (Option (Entry × Cursor)) Fault → Type 0
 GivesValue s no_trees (Ok None) = Unit {0}
 GivesValue s (tree v vs) (Ok (Some x)) = (x.0.key.length ≡ 0) × IsEntry s x.0 v × Body (part s x.1.left) vs
 GivesValue s _ _ = ⊥
 
--- a step gives the first of the pairs, and leaves the others
+-- a step returns the first of the pairs, and leaves the others
 abbrev pub GivesPair : List ℕ → Entries → Result (Option (Entry × Cursor)) Fault → Type 0
 GivesPair s no_entries (Ok None) = Unit {0}
 GivesPair s (entry k v ps) (Ok (Some x)) = (part s x.0.key ≡ k) × IsEntry s x.0 v × Pairs (part s x.1.left) ps
@@ -154,25 +154,25 @@ pub record LooksUp (s : List ℕ) (c : Cursor) (key : List ℕ) (done : Result (
 
 -- ---- on the way
 
--- the entry of v with the key is given, and `rest` is behind it in the span
+-- the entry of v with the key is given, and `rest` is after it in the span
 abbrev pub IsFrontIn : List ℕ → Span → Span → Tree → List ℕ → Option Entry → Type 0
 IsFrontIn s p key v rest None = ⊥
 IsFrontIn s p key v rest (Some e) = IsEntry s e v × (e.key ≡ key) × (part s (behind p e.value) ≡ rest)
 
--- the entry of the first value is given, with no key, and the others are behind it in the span
+-- the entry of the first value is given, with no key, and the others are after it in the span
 abbrev pub IsValueIn : List ℕ → Span → Trees → Option Entry → Type 0
 IsValueIn s p (tree v vs) (Some e) = (e.key.length ≡ 0) × IsEntry s e v × Body (part s (behind p e.value)) vs
 IsValueIn s p _ _ = ⊥
 
--- the entry of the first pair is given, and the others are behind it in the span
+-- the entry of the first pair is given, and the others are after it in the span
 abbrev pub IsPairIn : List ℕ → Span → Entries → Option Entry → Type 0
 IsPairIn s p (entry k v ps) (Some e) = (part s e.key ≡ k) × IsEntry s e v × Pairs (part s (behind p e.value)) ps
 IsPairIn s p _ _ = ⊥
 
--- no key with a byte behind it stands at the front
+-- no key with a byte after it is at the start
 abbrev pub HasNoKey : List ℕ → Type 0
 HasNoKey s = (k rest : List ℕ) → s ≡ short_field k ++ rest → 0 < length rest → ⊥
 
--- the bytes are what stands in s behind some of its bytes
+-- the bytes are what is in s after some of its bytes
 abbrev pub IsBehind : List ℕ → List ℕ → Type 0
 IsBehind s rest = (n : ℕ) × (0 < n) × (n ≤ length s) × (rest ≡ drop n s)

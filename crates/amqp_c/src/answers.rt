@@ -1,4 +1,4 @@
-//! What a call answers and leaves behind its pointers.
+//! What a call returns and leaves behind its pointers.
 
 ghost use Rattle.std.specs.Prelude.{◌≡◌};
 ghost use Rattle.amqp_c_common.specs.Answers.{answer_of};
@@ -58,7 +58,7 @@ pub fn answer_found(done: Result<Option<Entry>, Fault>, entry: &mut Entry) -> i3
     }
 }
 
-/// Leaves the entry and the cursor that a step gives.
+/// Leaves the entry and the cursor that a step returns.
 pub fn answer_step(
     done: Result<Option<(Entry, Cursor)>, Fault>,
     cursor: &mut Cursor,

@@ -1,4 +1,4 @@
-//! Containers that are put together in a room.
+//! Containers that are put together in a buffer.
 
 ghost use Rattle.std.specs.Prelude.{◌≡◌, ◌≤◌, ◌<◌, ◌^◌, ℕ, List, length, MatchBool, MatchOption};
 ghost use Rattle.amqp_c.specs.Containers.{IsContainerTag, IsKeyOf, IsPlace, named, end_of, up_to, empty_at};
@@ -37,7 +37,7 @@ impl Container {
         }
     }
 
-    /// Where the next entry goes, if in a room of so many bytes one with this key can be put.
+    /// Where the next entry goes, if in a buffer of that many bytes one with this key can be put.
     pub fn place(self, room_length: usize, key: &[u8]) -> Option<usize>
         ensures { MatchOption result
             (IsPlace room_length self key.now → ⊥)
@@ -60,7 +60,7 @@ impl Container {
         }
     }
 
-    /// Whether these bytes can stand before the value of an entry.
+    /// Whether these bytes can be before the value of an entry.
     pub fn has_name(self, name: &[u8]) -> bool
         ensures { MatchBool result
             ((k : List ℕ) × IsKeyOf self k × (name.now ≡ named self.tag k))

@@ -42,7 +42,7 @@ impl Entry {
 }
 
 impl Cursor {
-    /// The bytes that are left, where they lie in `bytes` and are of a container.
+    /// The bytes that are left, where they are in `bytes` and are of a container.
     fn body(self, bytes: &[u8]) -> Option<&[u8]>
         ensures { MatchOption result
             (IsOfContainer (length bytes.now) self → ⊥)
@@ -54,7 +54,7 @@ impl Cursor {
         self.left.of(bytes)
     }
 
-    /// The next entry, and a cursor behind it. It looks at the key's length, the type tag and the
+    /// The next entry, and a cursor after it. It looks at the key's length, the type tag and the
     /// length after it alone, so it takes constant time.
     pub fn next(self, bytes: &[u8]) -> Result<Option<(Entry, Cursor)>, Fault>
         ensures values { (vs : Trees) → SpanLies (length bytes.now) self.left → self.tag ≡ array_tag
@@ -121,7 +121,7 @@ impl Cursor {
     }
 }
 
-/// The key of the pair at the front, and the bytes from its value on.
+/// The key of the pair at the start, and the bytes from its value on.
 #[inline(always)]
 fn split_key(pairs: &[u8]) -> Option<(&[u8], &[u8])>
     ensures { MatchOption result
@@ -136,7 +136,7 @@ fn split_key(pairs: &[u8]) -> Option<(&[u8], &[u8])>
     Some(named.split_at(length))
 }
 
-/// What stands behind the value at the front, by its header alone.
+/// What is after the value at the start, by its header alone.
 #[inline(always)]
 fn behind_value(value: &[u8]) -> Option<&[u8]>
     ensures { MatchOption result
@@ -151,7 +151,7 @@ fn behind_value(value: &[u8]) -> Option<&[u8]>
     Some(behind)
 }
 
-/// The entry of the value at the front of the span.
+/// The entry of the value at the start of the span.
 fn first_value(bytes: &[u8], left: Span) -> Option<Entry>
     requires left { SpanLies (length bytes.now) left }
     ensures value { (vs : Trees) → 0 < left.length → Body (part bytes.now left) vs → IsValueIn bytes.now left vs result }
@@ -164,7 +164,7 @@ fn first_value(bytes: &[u8], left: Span) -> Option<Entry>
     front_of(bytes, left, Span::NONE)
 }
 
-/// The entry of the pair at the front of the span.
+/// The entry of the pair at the start of the span.
 fn first_pair(bytes: &[u8], left: Span) -> Option<Entry>
     requires left { SpanLies (length bytes.now) left }
     ensures pair { (ps : Entries) → 0 < left.length → Pairs (part bytes.now left) ps → IsPairIn bytes.now left ps result }
@@ -185,7 +185,7 @@ fn first_pair(bytes: &[u8], left: Span) -> Option<Entry>
     front_of(bytes, left.behind(key), key)
 }
 
-/// The entry of the value at the front of the span, with its key.
+/// The entry of the value at the start of the span, with its key.
 fn front_of(bytes: &[u8], left: Span, key: Span) -> Option<Entry>
     requires left { SpanLies (length bytes.now) left }
     requires key { SpanLies (length bytes.now) key }

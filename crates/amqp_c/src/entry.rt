@@ -1,4 +1,4 @@
-//! What stands at the front of some bytes, told by offsets.
+//! What is at the start of some bytes, told by offsets.
 
 ghost use Rattle.std.specs.Prelude.{◌≡◌, ◌+◌, ◌<◌, ℕ, List, length, IfErr, IfOk, MatchResult};
 ghost use Rattle.amqp_grammar.specs.Values.{Tree};
@@ -16,11 +16,11 @@ use amqp_c_common::{Fault, Span};
 use amqp_parsing::{parse_frame, parse_type};
 use amqp_types::{ParsableInput, SliceInput};
 
-/// A value, and in a table its key, by where they lie.
+/// A value, and in a table its key, by position.
 #[repr(C)]
 #[derive(Clone, Copy)]
 pub struct Entry {
-    /// The bytes of the key, without their length; none in an array, and of the value at the front.
+    /// The bytes of the key, without their length; none in an array, and of the value at the start.
     pub key: Span,
     /// The encoding of the value, its type tag included.
     pub value: Span,
@@ -30,12 +30,12 @@ pub struct Entry {
     pub bits: u64,
     /// The type tag that is written for the value's type.
     pub tag: u8,
-    /// How many digits of a decimal stand behind the point; else 0.
+    /// How many digits of a decimal are after the point; else 0.
     pub scale: u8,
 }
 
-/// The entry of the value at the front of the bytes, by its type tag and its length alone: what
-/// stands in a container isn't looked at.
+/// The entry of the value at the start of the bytes, by its type tag and its length alone: what
+/// is in a container isn't looked at.
 #[inline(always)]
 pub fn first(bytes: &[u8]) -> Result<Entry, Fault>
     ensures told { (v : Tree) (rest : List ℕ) → Outcome bytes.now (found v rest) → GivesFirst bytes.now v rest result }
@@ -86,7 +86,7 @@ struct Fixed {
     scale: u8,
 }
 
-/// Reads the value at the front. It isn't written in line, so that `first` hands its entry on in
+/// Reads the value at the start. It isn't written in line, so that `first` passes its entry on in
 /// registers where nothing is to be read.
 #[inline(never)]
 fn read_fixed(bytes: &[u8]) -> Result<Fixed, Fault>
@@ -136,7 +136,7 @@ fn bits_in(value: ValueRef<'_>) -> u64
     }
 }
 
-/// How many digits of a decimal stand behind the point.
+/// How many digits of a decimal are after the point.
 fn scale_in(value: ValueRef<'_>) -> u8
     ensures { (v : Tree) → Stands value.entry v → result ≡ scale_in v }
 {

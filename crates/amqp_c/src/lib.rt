@@ -3,7 +3,7 @@
 //!
 //! No call allocates, keeps state, prints or ends the process. What comes in is checked each time:
 //! whatever a cursor, an entry or a container holds, no byte outside of the bytes is read and none
-//! outside of the buffer is touched, and each offset that is returned lies in the bytes. After an
+//! outside of the buffer is touched, and each offset that is returned is inside the bytes. After an
 //! error the buffer and the container are as they were. `include/amqp.h` declares the calls.
 #![tactic(auto)]
 
@@ -30,11 +30,11 @@ use nest::{begin, end};
 use put::{put_bytes, put_scalar, put_value};
 use read::read;
 
-/// Reads the value at the front within limits, and checks all of it. Of the stack it
+/// Reads the value at the start within limits, and checks all of it. Of the stack it
 /// takes what `read_in_place` does: docs/PROMISES.md has the runs of that.
 ///
 /// `count` becomes how many bytes the value takes, or how many more the field that is being read
-/// needs, or else 0.
+/// needs, otherwise 0.
 #[unsafe(no_mangle)]
 pub extern "C" fn amqp_read(bytes: &[u8], frame: u32, depth: u32, count: &mut usize) -> i32
     ensures { Reads frame depth bytes.now result count.new }
@@ -42,7 +42,7 @@ pub extern "C" fn amqp_read(bytes: &[u8], frame: u32, depth: u32, count: &mut us
     answer_count(read(bytes, Limits { frame, depth }), count)
 }
 
-/// Gives the entry of the value at the front, by its type tag and its length alone, in constant
+/// Gives the entry of the value at the start, by its type tag and its length alone, in constant
 /// time.
 #[unsafe(no_mangle)]
 pub extern "C" fn amqp_first(bytes: &[u8], entry: &mut Entry) -> i32
@@ -59,7 +59,7 @@ pub extern "C" fn amqp_enter(bytes: &[u8], entry: &Entry, cursor: &mut Cursor) -
     answer_cursor(entry.enter(bytes), cursor)
 }
 
-/// Gives the next entry and sets the cursor behind it, in constant time.
+/// Gives the next entry and sets the cursor after it, in constant time.
 #[unsafe(no_mangle)]
 pub extern "C" fn amqp_next(bytes: &[u8], cursor: &mut Cursor, entry: &mut Entry) -> i32
     ensures { Steps bytes.now cursor.old entry.old result cursor.new entry.new }
@@ -76,7 +76,7 @@ pub extern "C" fn amqp_find(bytes: &[u8], cursor: &Cursor, key: &[u8], entry: &m
     answer_found(cursor.find(bytes, key), entry)
 }
 
-/// Puts an entry behind what is written: a value of fixed width, by its type tag, its bits and its
+/// Puts an entry after what is written: a value of fixed width, by its type tag, its bits and its
 /// scale, as an entry tells them.
 #[unsafe(no_mangle)]
 pub extern "C" fn amqp_put(
@@ -92,7 +92,7 @@ pub extern "C" fn amqp_put(
     answer_container(put_scalar(room, *into, key, tag, bits, scale), into)
 }
 
-/// Puts an entry behind what is written: a long string or a byte array.
+/// Puts an entry after what is written: a long string or a byte array.
 #[unsafe(no_mangle)]
 pub extern "C" fn amqp_put_bytes(
     room: &mut [u8],
@@ -106,8 +106,8 @@ pub extern "C" fn amqp_put_bytes(
     answer_container(put_bytes(room, *into, key, tag, bytes), into)
 }
 
-/// Puts an entry behind what is written: the encoding at the front of other bytes, read within
-/// limits and copied as it stands. Of the stack it takes what `read_in_place` does:
+/// Puts an entry after what is written: the encoding at the start of other bytes, read within
+/// limits and copied unchanged. Of the stack it takes what `read_in_place` does:
 /// docs/PROMISES.md has the runs of that.
 #[unsafe(no_mangle)]
 pub extern "C" fn amqp_put_value(
@@ -126,7 +126,7 @@ pub extern "C" fn amqp_put_value(
     )
 }
 
-/// Begins an entry behind what is written, whose value is an array or a table: `body` is then
+/// Begins an entry after what is written, whose value is an array or a table: `body` is then
 /// empty, and `into` as it was until the entry is ended.
 #[unsafe(no_mangle)]
 pub extern "C" fn amqp_open(

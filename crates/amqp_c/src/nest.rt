@@ -11,7 +11,7 @@ use crate::container::{Container, is_container_tag};
 use crate::room::{append, write};
 use amqp_c_common::Fault;
 
-/// Begins an entry whose value is an array or a table, and answers its body, which is empty.
+/// Begins an entry whose value is an array or a table, and returns its body, which is empty.
 pub fn begin(room: &mut [u8], into: Container, key: &[u8], tag: u8) -> Result<Container, Fault>
     ensures begun { MatchResult result
         (IsBegun tag room.old into key.now room.new)
@@ -43,7 +43,7 @@ pub fn end(room: &mut [u8], into: Container, body: Container) -> Result<Containe
     Ok(into.up_to(body.written.offset + body.written.length))
 }
 
-/// Whether the body is one of an entry that was begun behind what `into` has.
+/// Whether the body is one of an entry that was begun after what `into` has.
 fn is_open(room: &[u8], into: Container, body: Container) -> bool
     ensures { MatchBool result
         ((k : List ℕ) × IsOpen room.now into body k)

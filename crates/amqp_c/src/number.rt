@@ -55,7 +55,7 @@ pub fn encoding_by_tag(tag: u8, bits: u64, scale: u8) -> Option<Encoding>
         (λ e. (x : Scalar) × Tells tag bits scale x × (e ≡ text (scalar x))) }
 {
     let amqp_type = AMQPType::from_id(tag as char)?;
-    // `U` and `L` are second spellings, which no entry tells
+    // `U` and `L` are alternate tags, which no entry tells
     if amqp_type.get_id() as u8 != tag {
         return None;
     }

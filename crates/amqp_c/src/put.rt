@@ -1,4 +1,4 @@
-//! Putting an entry: a value of fixed width, a string or a byte array, or an encoding as it stands.
+//! Putting an entry: a value of fixed width, a string or a byte array, or an encoding unchanged.
 
 ghost use Rattle.std.specs.Prelude.{◌≡◌, IfErr, MatchResult, MatchBool};
 ghost use Rattle.amqp_grammar.specs.Values.{Tree, Scalar};
@@ -65,7 +65,7 @@ fn is_string_tag(tag: u8) -> bool
     tag == b'S' || tag == b'x'
 }
 
-/// Puts the encoding at the front of other bytes, which is read within limits, as it stands.
+/// Puts the encoding at the start of other bytes, which is read within limits, unchanged.
 pub fn put_value(
     room: &mut [u8],
     into: Container,

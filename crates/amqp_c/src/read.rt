@@ -1,4 +1,4 @@
-//! Reading the value at the front.
+//! Reading the value at the start.
 
 ghost use Rattle.std.specs.Prelude.{MatchResult};
 ghost use Rattle.amqp_c.specs.Answers.{IsTaken, FaultsWithin};
@@ -7,7 +7,7 @@ use amq_protocol_types::in_place::read_in_place;
 use amqp_c_common::Fault;
 use amqp_parsing::Limits;
 
-/// Reads a value within limits, checks all of it, and answers how many bytes it takes.
+/// Reads a value within limits, checks all of it, and returns how many bytes it takes.
 pub fn read(bytes: &[u8], limits: Limits) -> Result<usize, Fault>
     ensures { MatchResult result (IsTaken limits bytes.now) (FaultsWithin limits bytes.now) }
 {

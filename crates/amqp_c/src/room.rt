@@ -1,4 +1,4 @@
-//! Writing to a room.
+//! Writing to a buffer.
 
 ghost use Rattle.std.specs.Prelude.{◌≡◌, ◌+◌, ◌≤◌, ◌<◌, ◌^◌, ◌++◌, length, IfErr, MatchResult};
 ghost use Rattle.amqp_grammar.specs.Grammar.{short_field};
@@ -18,7 +18,7 @@ pub fn write(room: &mut [u8], at: usize, bytes: &[u8])
     room[at..at + bytes.len()].copy_from_slice(bytes);
 }
 
-/// Puts an entry behind what the container has: its key, and an encoding in two parts.
+/// Puts an entry after what the container has: its key, and an encoding in two parts.
 pub fn append(
     room: &mut [u8],
     into: Container,
@@ -47,7 +47,7 @@ pub fn append(
     Ok(into.up_to(at + count))
 }
 
-/// Writes what stands before the value of an entry: in a table the key, after its length.
+/// Writes what is before the value of an entry: in a table the key, after its length.
 fn write_name(room: &mut [u8], at: usize, tag: u8, key: &[u8])
     requires few { length key.now ≤ 255 }
     requires room { at + length (named tag key.now) ≤ length room.old }
