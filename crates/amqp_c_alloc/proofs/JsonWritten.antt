@@ -1,4 +1,4 @@
--- What was put into the room, and why nothing was.
+-- What was put into the buffer, and why nothing was.
 use Rattle.std.proofs.Common.{◌≡◌, ℕ, inr, true, false, None, Some, List, length, Result, Ok, Err, MatchResult, sym, ap, ◌∙◌, subst}
 use Rattle.std.specs.Str.{IsUtf8}
 use Rattle.amqp_grammar.specs.Values.{Tree}

@@ -1,4 +1,4 @@
--- What the call from C answers, and leaves in the room.
+-- What the call from C returns, and leaves in the buffer.
 use Rattle.std.specs.Prelude.{ℕ, ◌≡◌, ◌+◌, ◌<◌, ◌≤◌, ℤ, List, length, Result, IfErr, MatchResult}
 use Rattle.amqp_grammar.specs.Values.{Tree}
 use Rattle.amqp_grammar.specs.Outcomes.{found}
@@ -12,30 +12,30 @@ use Rattle.amqp_c_common.specs.Answers.{answer_of, count_of}
 use Rattle.amqp_c_common.specs.Reading.{limits, IsReadFault}
 use Rattle.amqp_c_common.specs.Rooms.{IsPut}
 
--- v is read from the front of s within the limits, with `rest` behind it, and its canonical encoding
+-- v is read from the start of s within the limits, with `rest` after it, and its canonical encoding
 -- has no more bytes than it was read from
 abbrev pub IsRead : Limits → List ℕ → Tree → List ℕ → Type 0
 IsRead l s v rest = Within l s (found v rest) × (length (text v) + length rest ≤ length s)
 
--- a value is read from the front of s within the limits, and its canonical encoding is put into the
--- room
+-- a value is read from the start of s within the limits, and its canonical encoding is put into the
+-- buffer
 abbrev pub IsWritten : Limits → List ℕ → List ℕ → List ℕ → ℕ → Type 0
 IsWritten l s old new n = (v : Tree) × (rest : List ℕ) × IsRead l s v rest × IsPut (text v) old new n
 
--- no canonical encoding of a value within the limits stands at the front of s
+-- no canonical encoding of a value within the limits is at the start of s
 abbrev pub IsNotCanonical : Limits → List ℕ → Type 0
 IsNotCanonical l s = (n : ℕ) → IsCanonicalLen l s n → ⊥
 
--- a fault is right, for s and room for so many bytes: the canonical encoding of the value that is
--- read has more bytes than the room, and as many as the fault tells; or what reading comes to, where
--- memory runs out only if no canonical encoding stands at the front
+-- a fault is right, for s and a buffer of that many bytes: the canonical encoding of the value that
+-- is read has more bytes than the buffer, and as many as the fault tells; or what reading results
+-- in, where memory runs out only if no canonical encoding is at the start
 abbrev pub IsFault : Limits → List ℕ → ℕ → Fault → Type 0
 IsFault l s room (NoRoom n) = (v : Tree) × (rest : List ℕ) × IsRead l s v rest × (n ≡ length (text v)) × (room < n)
 IsFault l s room OutOfMemory = IsNotCanonical l s × IsReadFault l s OutOfMemory
 IsFault l s room f = IsReadFault l s f
 
--- the canonical encoding of the value that is read from s within the limits is put into the room; or
--- the fault is right, and the room as it was
+-- the canonical encoding of the value that is read from s within the limits is put into the buffer;
+-- or the fault is right, and the buffer as it was
 pub record Canonicalizes (frame depth : ℕ) (s old : List ℕ) (answer : ℤ) (new : List ℕ) (count : ℕ) : Type 0 where
   pub done : Result ℕ Fault
   pub answered : answer ≡ answer_of done

@@ -1,4 +1,4 @@
--- What the calls between encodings and JSON texts answer, and leave in the room.
+-- What the calls between encodings and JSON texts answer, and leave in the buffer.
 use Rattle.std.specs.Prelude.{ℕ, ◌≡◌, ◌<◌, ◌⊎◌, ℤ, false, List, length, Result, Err, IfErr, MatchResult}
 use Rattle.std.specs.Str.{IsUtf8}
 use Rattle.amqp_grammar.specs.Values.{Tree}
@@ -18,18 +18,18 @@ use Rattle.amqp_c_alloc.specs.Nesting.{nests_within}
 
 -- ---- from an encoding to the JSON text
 
--- the JSON text of the value that is read from s within the limits is put into the room
+-- the JSON text of the value that is read from s within the limits is put into the buffer
 abbrev pub IsJsonPut : Limits → List ℕ → List ℕ → List ℕ → ℕ → Type 0
 IsJsonPut l s old new n = (t : List ℕ) × (rest : List ℕ) × IsJsonOf l s t rest × IsPut t old new n
 
--- a fault is right, for s and room for so many bytes: the JSON text of the value that is read has
--- more bytes than the room, and as many as the fault tells; or what reading comes to
+-- a fault is right, for s and a buffer of that many bytes: the JSON text of the value that is read
+-- has more bytes than the buffer, and as many as the fault tells; or what reading results in
 abbrev pub IsJsonFault : Limits → List ℕ → ℕ → Fault → Type 0
 IsJsonFault l s room (NoRoom n) = (t : List ℕ) × (rest : List ℕ) × IsJsonOf l s t rest × (n ≡ length t) × (room < n)
 IsJsonFault l s room f = IsReadFault l s f
 
--- the JSON text of the value at the front of s is put into the room; or the fault is right, and the
--- room as it was
+-- the JSON text of the value at the start of s is put into the buffer; or the fault is right, and
+-- the buffer as it was
 pub record WritesJson (frame depth : ℕ) (s old : List ℕ) (answer : ℤ) (new : List ℕ) (count : ℕ) : Type 0 where
   pub done : Result ℕ Fault
   pub answered : answer ≡ answer_of done
@@ -51,14 +51,15 @@ MeansNothing t = (v : Tree) → IsTextOf t v → ⊥
 abbrev pub HasNoWire : Tree → Type 0
 HasNoWire v = (w : List ℕ) → Wire w v → ⊥
 
--- the canonical encoding of the value that the text means is put into the room, and is read as that
--- value
+-- the canonical encoding of the value that the text means is put into the buffer, and is read as
+-- that value
 abbrev pub IsEncodingPut : List ℕ → List ℕ → List ℕ → ℕ → Type 0
 IsEncodingPut t old new n = (v : Tree) × IsTextOf t v × IsReadAs (text v) v × IsPut (text v) old new n
 
--- a fault is right, for a text, how deep it may nest and room for so many bytes: the text nests
--- deeper, or means no value; or one that has no encoding; or one whose canonical encoding has more
--- bytes than the room, and as many as the fault tells; memory runs out only where the text is UTF-8
+-- a fault is right, for a text, how deep it may nest and a buffer of that many bytes: the text
+-- nests deeper, or means no value; or one that has no encoding; or one whose canonical encoding has
+-- more bytes than the buffer, and as many as the fault tells; memory runs out only where the text
+-- is UTF-8
 abbrev pub IsEncodingFault : ℕ → List ℕ → ℕ → Fault → Type 0
 IsEncodingFault most t room NotJson = (nests_within most t ≡ false) ⊎ MeansNothing t
 IsEncodingFault most t room NoEncoding = (v : Tree) × IsTextOf t v × HasNoWire v
@@ -74,8 +75,8 @@ text_fault (encode.Json e) = NotJson
 text_fault encode.NoTypeTag = NoEncoding
 text_fault encode.TooLong = NoEncoding
 
--- the canonical encoding of the value that a text means is put into the room; or the fault is right,
--- and the room as it was; a text that nests too deep is refused as no JSON
+-- the canonical encoding of the value that a text means is put into the buffer; or the fault is
+-- right, and the buffer as it was; a text that nests too deep is rejected as no JSON
 pub record WritesEncoding (most : ℕ) (t old : List ℕ) (answer : ℤ) (new : List ℕ) (count : ℕ) : Type 0 where
   pub done : Result ℕ Fault
   pub answered : answer ≡ answer_of done

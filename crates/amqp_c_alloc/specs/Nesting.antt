@@ -3,20 +3,20 @@ use Rattle.std.specs.Prelude.{ℕ, suc, ◌-◌, ◌==◌, ◌||◌, ◌&&◌, n
 use Rattle.amqp_c_alloc.specs.declared.nesting.Place.{Place}
 use Rattle.amqp_c_alloc.specs.declared.nesting.Place.TheVariants.{Outside, InString, Escaped}
 
--- where the byte behind c stands: a quote begins a string, and ends it but behind a backslash
+-- where the byte after c stands: a quote begins a string, and ends it but after a backslash
 abbrev pub place_behind : Place → ℕ → Place
 place_behind Outside c = if c == 34 then InString else Outside
 place_behind InString c = if c == 34 then Outside else (if c == 92 then Escaped else InString)
 place_behind Escaped c = InString
 
--- how many arrays and objects are open behind c, of so many before it: outside of strings a bracket
--- opens or closes one
+-- how many arrays and objects are open after c, with that many open before it: outside of strings a
+-- bracket opens or closes one
 abbrev pub open_behind : Place → ℕ → ℕ → ℕ
 open_behind Outside c n = if c == 91 || c == 123 then suc n else (if c == 93 || c == 125 then n - 1 else n)
 open_behind InString c n = n
 open_behind Escaped c n = n
 
--- from such a place, with so many open, at most `most` are ever open
+-- from such a place, with that many open, at most `most` are ever open
 abbrev pub stays_within : ℕ → Place → ℕ → List ℕ → Bool
 stays_within most place n [] = true
 stays_within most place n (c ∷ t) =

@@ -1,4 +1,4 @@
-//! The canonical encoding of the value at the front.
+//! The canonical encoding of the value at the start.
 
 ghost use Rattle.std.specs.Prelude.{◌≡◌, ◌<◌, ◌^◌, length, IfErr, MatchResult};
 ghost use Rattle.amqp_grammar.specs.Texts.{text, size, Fits};
@@ -14,7 +14,7 @@ use amqp_types::SliceInput;
 use amqp_value_core::value::AMQPValue;
 use std::alloc::Global;
 
-/// Writes the canonical encoding of the value at the front from the start of `room`, and answers
+/// Writes the canonical encoding of the value at the start from the start of `room`, and answers
 /// how many bytes it has.
 ///
 /// Bytes that are canonical already are copied, with no memory.
@@ -37,7 +37,7 @@ pub fn canonical(
     put(&encoding, room)
 }
 
-/// The value's canonical encoding, in memory of its own.
+/// The value's canonical encoding, in its own memory.
 fn encode(alloc: Global, value: &AMQPValue) -> Result<Vec<u8>, Fault>
     requires fits { Fits (view value.now) }
     requires size { size (view value.now) < 2 ^ 64 }

@@ -8,7 +8,7 @@ use amqp_json::{DecodeError, json_of_encoding};
 use amqp_parsing::Limits;
 use std::alloc::Global;
 
-/// Puts the JSON text of the value at the front at the start of `room`, and answers how many bytes
+/// Puts the JSON text of the value at the start at the start of `room`, and returns how many bytes
 /// it has.
 pub fn put_json(
     alloc: Global,

@@ -12,7 +12,7 @@ use std::alloc::Global;
 use std::str;
 
 /// Puts the canonical encoding of the value that a JSON text means at the start of `room`, and
-/// answers how many bytes it has. A text with more than `nesting` arrays and objects open at once
+/// returns how many bytes it has. A text with more than `nesting` arrays and objects open at once
 /// isn't read.
 pub fn put_encoding(
     alloc: Global,

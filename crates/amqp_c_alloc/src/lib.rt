@@ -21,12 +21,12 @@ use decode::put_json;
 use encode::put_encoding;
 use std::alloc::Global;
 
-/// Writes the canonical encoding of the value at the front from the start of `room`. Of the stack
+/// Writes the canonical encoding of the value at the start from the start of `room`. Of the stack
 /// it takes what `canonical_len`, `parse_value_within` and `gen_value` do: docs/PROMISES.md has the
 /// runs of these.
 ///
 /// `count` becomes how many bytes were written, how many more are needed of the value, or how many
-/// the room has to have, or else 0.
+/// the buffer has to have, otherwise 0.
 #[unsafe(no_mangle)]
 pub extern "C" fn amqp_canonical(
     alloc: Global,
@@ -44,11 +44,11 @@ pub extern "C" fn amqp_canonical(
     )
 }
 
-/// Writes the JSON text of the value at the front to the start of `room`. Of the stack it takes
+/// Writes the JSON text of the value at the start to the start of `room`. Of the stack it takes
 /// what `json_of_encoding` does: docs/PROMISES.md has the runs of that.
 ///
 /// `count` becomes how many bytes were written, how many more are needed of the value, or how many
-/// the room has to have, or else 0.
+/// the buffer has to have, otherwise 0.
 #[unsafe(no_mangle)]
 pub extern "C" fn amqp_to_json(
     alloc: Global,
@@ -67,7 +67,7 @@ pub extern "C" fn amqp_to_json(
 /// with more than `nesting` arrays and objects open at once isn't read, nor is one with more than
 /// 127. Of the stack it takes what `encoding_of_json` does: docs/PROMISES.md has the runs of that.
 ///
-/// `count` becomes how many bytes were written, or how many the room has to have, or else 0.
+/// `count` becomes how many bytes were written, or how many the buffer has to have, otherwise 0.
 #[unsafe(no_mangle)]
 pub extern "C" fn amqp_from_json(
     alloc: Global,

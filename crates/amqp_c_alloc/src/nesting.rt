@@ -8,7 +8,7 @@ ghost use Rattle.amqp_c_alloc.specs.Nesting.{nests_within, open_behind, place_be
 pub enum Place {
     Outside,
     InString,
-    /// In a string, behind a backslash.
+    /// In a string, after a backslash.
     Escaped,
 }
 
@@ -28,7 +28,8 @@ pub fn nests_within(text: &[u8], most: u32) -> bool
     true
 }
 
-// How many are open behind a byte, of so many before it; `None` where these are more than `most`.
+// How many are open after a byte, with that many open before it; `None` where these are more than
+// `most`.
 fn open_behind(place: Place, byte: u8, count: u32, most: u32) -> Option<u32>
     requires { count ≤ most }
     ensures { MatchOption result
@@ -43,7 +44,7 @@ fn open_behind(place: Place, byte: u8, count: u32, most: u32) -> Option<u32>
     }
 }
 
-// Where the byte behind another one stands.
+// Where the byte after another one stands.
 fn place_behind(place: Place, byte: u8) -> Place
     ensures { result ≡ place_behind place byte }
 {
