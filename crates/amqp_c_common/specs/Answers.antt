@@ -1,4 +1,4 @@
--- The numbers that are answered.
+-- The numbers that are returned.
 use Rattle.std.specs.Prelude.{ℕ, ℤ, pos, negsuc, Result, Ok, Err}
 use Rattle.amqp_parsing.specs.declared.errors.Err.TheVariants.{Incomplete, Error, Failure}
 use Rattle.amqp_parsing.specs.declared.errors.Needed.TheVariants.{Unknown, Size}
@@ -16,7 +16,7 @@ fault_of (Error kind.MapOpt) = UnknownTag
 fault_of (Error kind.TooLarge) = TooLarge
 fault_of (Error _) = Malformed
 
--- the number that stands for a fault
+-- the number that denotes a fault
 abbrev pub code_of : Fault → ℤ
 code_of (More n) = negsuc 0
 code_of UnknownTag = negsuc 1
@@ -28,7 +28,7 @@ code_of (NoRoom n) = negsuc 6
 code_of NotJson = negsuc 7
 code_of NoEncoding = negsuc 8
 
--- the number that stands for an answer: 0 where it is done
+-- the number that denotes a result: 0 where it is done
 abbrev pub answer_of : {T : Type 0} → Result T Fault → ℤ
 answer_of (Ok x) = pos 0
 answer_of (Err f) = code_of f

@@ -12,7 +12,7 @@ abbrev pub limits : ℕ → ℕ → Limits
 limits frame depth = record { frame = frame; depth = depth }
 
 -- a fault is right, for reading s within the limits; memory runs out only where all the bytes of the
--- value at the front are there, and no more than the limit `frame` allows
+-- value at the start are there, and no more than the limit `frame` allows
 abbrev pub IsReadFault : Limits → List ℕ → Fault → Type 0
 IsReadFault l s (More n) = Within l s (more n)
 IsReadFault l s UnknownTag = Within l s unknown

@@ -23,7 +23,7 @@ abbrev pub bits_in : Tree → ℕ
 bits_in (scalar x) = scalar_bits x
 bits_in _ = 0
 
--- how many digits of a decimal stand behind the point
+-- how many digits of a decimal are after the point
 abbrev pub scalar_scale : Scalar → ℕ
 scalar_scale (decimal scale n) = scale
 scalar_scale _ = 0

@@ -6,15 +6,15 @@ use Rattle.amqp_c_common.specs.declared.span.Span.{Span}
 abbrev pub part : List ℕ → Span → List ℕ
 part s p = take p.length (drop p.offset s)
 
--- the span lies in n bytes
+-- the span is inside n bytes
 abbrev pub SpanLies : ℕ → Span → Type 0
 SpanLies n p = p.offset + p.length ≤ n
 
--- the same bytes, where n more stand before them
+-- the same bytes, where n more are before them
 abbrev pub moved : ℕ → Span → Span
 moved n p = record { offset = p.offset + n; length = p.length }
 
--- the bytes of p behind those of q
+-- the bytes of p after those of q
 abbrev pub behind : Span → Span → Span
 behind p q = record { offset = q.offset + q.length; length = p.offset + p.length - (q.offset + q.length) }
 

@@ -1,4 +1,4 @@
-//! The numbers that are answered.
+//! The numbers that are returned.
 
 ghost use Rattle.std.specs.Prelude.{◌≡◌};
 ghost use Rattle.amqp_c_common.specs.Answers.{answer_of, count_of};
@@ -8,8 +8,8 @@ use crate::fault::Fault;
 /// It is done.
 const OK: i32 = 0;
 
-/// Leaves how many bytes were written, are needed or have to have room, else 0, and answers the
-/// number that stands for what was done.
+/// Leaves how many bytes were written, are needed or have to have room, else 0, and returns the
+/// number that denotes what was done.
 #[inline]
 pub fn answer_count(done: Result<usize, Fault>, count: &mut usize) -> i32
     ensures answer { result ≡ answer_of done }

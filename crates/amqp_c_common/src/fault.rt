@@ -8,19 +8,19 @@ use amqp_parsing::{Err, ErrorKind, Needed, ParserError};
 /// Why a call does nothing.
 #[derive(Clone, Copy)]
 pub enum Fault {
-    /// So many more bytes are needed for the field that is being read.
+    /// That many more bytes are needed for the field that is being read.
     More(usize),
-    /// The first byte is no type tag.
+    /// The first byte isn't a type tag.
     UnknownTag,
-    /// The bytes are there, and no value stands at the front of them.
+    /// The bytes are there, and no value is at the start of them.
     Malformed,
     /// The value has more bytes than the limit.
     TooLarge,
-    /// What was handed in is not what the call takes.
+    /// What was passed in is not what the call takes.
     Invalid,
     /// An allocation failed.
     OutOfMemory,
-    /// What is to be written has so many bytes, more than the room.
+    /// What is to be written has that many bytes, more than the buffer.
     NoRoom(usize),
     /// The text is no JSON, or the JSON of no value.
     NotJson,
@@ -29,7 +29,7 @@ pub enum Fault {
 }
 
 impl Fault {
-    /// The number that stands for the fault.
+    /// The number that denotes the fault.
     pub fn code(self) -> i32
         ensures { result ≡ code_of self }
     {

@@ -1,5 +1,5 @@
-//! What the libraries for C answer: numbers that stand for faults, counts, spans, and bytes in a
-//! room.
+//! What the libraries for C return: numbers that denote faults, counts, spans, and bytes in a
+//! buffer.
 #![tactic(auto)]
 
 mod answers;

@@ -1,26 +1,26 @@
-//! Bytes by where they lie.
+//! Bytes by position.
 
 ghost use Rattle.std.specs.Prelude.{◌≡◌, ◌+◌, ◌<◌, ◌≤◌, ◌^◌, length, MatchOption};
 ghost use Rattle.amqp_c_common.specs.Spans.{part, SpanLies, moved, behind, last};
 
-/// Bytes, by how many stand before them and how many there are.
+/// Bytes, by how many are before them and how many there are.
 #[repr(C)]
 #[derive(Clone, Copy)]
 pub struct Span {
-    /// How many bytes stand before them.
+    /// How many bytes are before them.
     pub offset: usize,
     /// How many bytes there are.
     pub length: usize,
 }
 
 impl Span {
-    /// The span of no byte, at the front.
+    /// The span of no byte, at the start.
     pub const NONE: Span = Span {
         offset: 0,
         length: 0,
     };
 
-    /// The bytes of the span, where it lies in `bytes`.
+    /// The bytes of the span, where it is inside `bytes`.
     #[inline]
     pub fn of(self, bytes: &[u8]) -> Option<&[u8]>
         ensures { MatchOption result
@@ -33,7 +33,7 @@ impl Span {
         Some(&bytes[self.offset..self.offset + self.length])
     }
 
-    /// Where the span ends, where it lies in so many bytes.
+    /// Where the span ends, where it is inside that many bytes.
     #[inline]
     pub fn end_in(self, count: usize) -> Option<usize>
         ensures { MatchOption result
@@ -46,7 +46,7 @@ impl Span {
         Some(self.offset + self.length)
     }
 
-    /// The span, with so many bytes more before it.
+    /// The span, with that many bytes more before it.
     #[inline]
     pub fn moved(self, by: usize) -> Span
         requires { self.offset + by < 2 ^ 64 }
@@ -58,7 +58,7 @@ impl Span {
         }
     }
 
-    /// What stands behind a part of the span, in the span.
+    /// What is after a part of the span, in the span.
     #[inline]
     pub fn behind(self, part: Span) -> Span
         requires part { part.offset + part.length ≤ self.offset + self.length }
@@ -72,7 +72,7 @@ impl Span {
         }
     }
 
-    /// So many of its last bytes.
+    /// That many of its last bytes.
     #[inline]
     pub fn last(self, count: usize) -> Span
         requires count { count ≤ self.length }
