@@ -1,4 +1,4 @@
--- Values and pairs one after another, and the first one that is none.
+-- Values and pairs one after another, and the first that isn't one.
 use Rattle.std.proofs.Common.{◌≡◌, ◌≤◌, ◌<◌, ◌+◌, ◌-◌, ◌^◌, ℕ, Result, Ok, Err, suc, List, [], ◌∷◌, ◌++◌, length, take, drop, slice_range, Option, Some, None, option_map, refl, sym, ap, ap₂, ◌∙◌, subst, arith, take-append-drop, append_assoc, length-append}
 use Rattle.std.specs.Borrow.{Bor}
 use Rattle.std.specs.Int.{w32, to_be_bytes}
@@ -34,11 +34,11 @@ use Rattle.amqp_dissect.specs.Memory.{HasTypeTag, TakesMemory}
 use Rattle.amqp_dissect.proofs.Refused.{value_refused}
 use Rattle.amqp_dissect.proofs.Windows.{window_size, window_front, window_back}
 
--- a value of n bytes at the front of s
+-- a value of n bytes at the start of s
 abbrev pub IsValueOf : ℕ → List ℕ → ℕ → Type 0
 IsValueOf d s n = (w : List ℕ) × (v : Tree) × (rest : List ℕ) × WireWithin d w v × (s ≡ w ++ rest) × (length w ≡ n)
 
--- in the input it stands before what follows
+-- in the input it is before what follows
 pub value_then : (d : ℕ) (xs : List ℕ) (a m e : ℕ) → IsValueOf d (slice_range xs a e) (m - a) → a ≤ m → a ≤ e → e ≤ length xs → IsValueThen d (slice_range xs a e) (slice_range xs m e)
 value_then d xs a m e (w, v, rest, p, is, n) up le in_xs =
     let back = window_back xs a e w rest is le in_xs in
@@ -137,13 +137,13 @@ pub no_tag : (d : ℕ) (s : List ℕ) (a c : ℕ) (b : List ℕ) → s ≡ c ∷
 no_tag d s a c b is none =
     offset_is d s 0 a a (UnknownTypeTag c) (subst (λ (t : List ℕ). NoValue d t 0 (UnknownTypeTag c)) (sym is) (unknown_type_tag d c b none)) (omega arith)
 
--- it goes over a type tag
+-- it covers a type tag
 pub after_tag : (old new : Walk) (end : ℕ) (type : AMQPType) (b : List ℕ) → CanReach old end → IsType (ahead old end) type b → new.input ≡ old.input → new.depth ≡ old.depth → new.at ≡ old.at + 1 → GoesOn old end new
 after_tag old new end type b can (c, is, k) same deep at =
     let some : suc (length b) ≡ end - old.at = sym (ap length is) ∙ length-between old.input.now old.at end can.inside in
     record { input = same; depth = deep; order = omega arith; within = omega (arith, can.at) }
 
--- it goes over one
+-- it covers one
 pub passes : (d : ℕ) (old new : Walk) (end : ℕ) (u : Unit {0}) → CanReach old end → new.input ≡ old.input → new.depth ≡ old.depth → old.at < new.at → IsValueOf d (ahead old end) (new.at - old.at) → PassesValue d old end (Ok u) new
 passes d old new end u can same deep up x =
     let back : old.at ≤ new.at = omega arith in
@@ -165,7 +165,7 @@ is_at_weaker P Q f (At p) x = f p x
 
 -- ---- a container
 
--- what such entries are as the body of a container: they make its payload, and one that is none
+-- what such entries are as the body of a container: they make its payload, and one that isn't one
 -- stands 5 bytes later in the value
 pub record IsBodyOf (type : AMQPType) (Are : ℕ → List ℕ → Type 0) (Fail : ℕ → List ℕ → ℕ → Problem → Type 0) : Type 0 where
   pub raw : (d : ℕ) (body : List ℕ) → length body < 2 ^ 32 → Are d body → (v : Tree) × RawWithin (suc d) type (long_field body) v
@@ -201,7 +201,7 @@ module _ (type : AMQPType) (Are : ℕ → List ℕ → Type 0) (Fail : ℕ → L
   body_ahead =
       ap₂ (λ (i : Bor (List ℕ)) k. slice_range i.now k behind) same start ∙ body_window old.input.now old.at end behind type h can.at can.inside
 
-  -- a walk over the entries of a container goes over the container
+  -- a walk over the entries of a container covers the container
   pub container : (r : Result (Unit {0}) Stop) → PassesEntries (Are (d - 1)) (Fail (d - 1)) mid behind r new → PassesValue d old end r new
   container (Ok u) es =
       let v = of.raw (d - 1) h.1 h.5 (subst (Are (d - 1)) body_ahead es.entries) in
@@ -232,7 +232,7 @@ pub record Passed (Are : List ℕ → Type 0) (Fail : List ℕ → ℕ → Probl
 on_again : (old mid new : Walk) (end : ℕ) → GoesOn old end mid → GoesOn mid end new → GoesOn old end new
 on_again old mid new end g h = record { input = h.input ∙ g.input; depth = h.depth ∙ g.depth; order = omega (arith, g.order, h.order); within = h.within }
 
--- how long what a walk went over is
+-- how long what a walk covered is
 pub front_size : (now next : Walk) (end : ℕ) (w : List ℕ) → end ≤ length now.input.now → GoesOn now end next → ahead now end ≡ w ++ ahead next end → now.at + length w ≡ next.at
 front_size now next end w in_xs goes is =
     let here : end ≤ length next.input.now = subst (λ (i : Bor (List ℕ)). end ≤ length i.now) (sym goes.input) in_xs in
@@ -270,7 +270,7 @@ module _ (Are : List ℕ → Type 0) (Fail : List ℕ → ℕ → Problem → Ty
         let is : ahead now end ≡ [] = ap (λ k. slice_range now.input.now k end) whole ∙ between_none now.input.now end in
         record { goes = g.goes; whole = whole; entries = g.all (subst Are (sym is) empty); problem = tt }
 
-    -- the next entry is none
+    -- the next entry isn't one
     pub entries_stop : (next : Walk) (s : Stop) → GoesOn now end next → IsAt (Fail (ahead now end) (next.at - now.at)) s → PassesEntries Are Fail old end (Err s) next
     entries_stop next s goes x =
         let at : now.at - old.at + (next.at - now.at) ≡ next.at - old.at = omega (arith, g.goes.order, goes.order) in

@@ -142,7 +142,7 @@ array_first level (c ∷ b) s e some =
     ∙ (ap (λ k. value_at level (take k (w ++ s)) ++ entries_at amqp.FieldArray level (drop k (w ++ s))) e
     ∙ ap₂ (λ (x y : List ℕ). value_at level x ++ entries_at amqp.FieldArray level y) (take-append_seam w s) (drop-append_seam w s))
 
--- the front of a value, and nothing after it
+-- a prefix of a value, and nothing after it
 pub array_last : (level : ℕ) (g : List ℕ) → length g ≤ extent g → entries_at amqp.FieldArray level g ≡ value_at level g
 array_last level [] le = entries_nothing 0 amqp.FieldArray level ∙ sym (value_nothing (entries_parts 0) level)
 array_last level (c ∷ b) le =
@@ -160,7 +160,7 @@ pair_step level c t =
     ∙ ap₂ (λ (x y : List Piece). key_parts level (c ∷ take c t) ++ (x ++ y)) (value_fuel (length t) level (take e v) (omega (arith, length-take e v, length-drop c t)))
     ((fuel (length t) (length (drop e v)) level (drop e v) (omega (arith, length-drop e v, length-drop c t)) (omega arith)).1)
 
--- a key, or the front of one, and nothing after it
+-- a key, or a prefix of one, and nothing after it
 pub key_only : (level c : ℕ) (k : List ℕ) → length k ≤ c → entries_at amqp.FieldTable level (c ∷ k) ≡ part KeyLength level (c ∷ []) ++ part Key level k
 unfolding key_parts
 key_only level c k le =
@@ -179,7 +179,7 @@ key_whole : (level : ℕ) (k : List ℕ) → entries_at amqp.FieldTable level (s
 unfolding key_parts
 key_whole level k = key_only level (length k) k (omega arith)
 
--- a key, and the front of a value
+-- a key, and a prefix of a value
 pub pair_last : (level : ℕ) (k g : List ℕ) → length g ≤ extent g → entries_at amqp.FieldTable level (short_field k ++ g) ≡ entries_at amqp.FieldTable level (short_field k) ++ value_at level g
 pair_last level k g le =
     pair_with level k g

@@ -16,7 +16,7 @@ module _ (xs : List ℕ) (a e : ℕ) (w rest : List ℕ) (is : slice_range xs a 
   pub window_size : a ≤ e → e ≤ length xs → a + length w + length rest ≡ e
   window_size le in_xs = omega (arith, length-between xs a e in_xs, ap length is, length-append w rest)
 
-  -- its front
+  -- its prefix
   pub window_front : slice_range xs a (a + length w) ≡ w
   window_front =
       let zs = drop a xs in
@@ -24,7 +24,7 @@ module _ (xs : List ℕ) (a e : ℕ) (w rest : List ℕ) (is : slice_range xs a 
       let count : a + length w - a ≡ length w = omega arith in
       ap (λ n. take n zs) count ∙ (ap (take (length w)) whole ∙ take-append_seam w (rest ++ drop (e - a) zs))
 
-  -- and what follows the front
+  -- and what follows the prefix
   pub window_back : a ≤ e → e ≤ length xs → slice_range xs (a + length w) e ≡ rest
   window_back le in_xs =
       window_drop xs a (length w) e (omega (arith, window_size le in_xs)) ∙ (ap (drop (length w)) is ∙ drop-append_seam w rest)

@@ -2,7 +2,7 @@
 pub mod Parts
 -- the parts of an encoding as a function of its bytes
 pub mod PartsOf
--- the first entry that is none
+-- the first entry that isn't one
 pub mod Problems
 -- what a walk over an encoding answers
 pub mod Walks

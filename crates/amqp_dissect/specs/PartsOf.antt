@@ -53,7 +53,7 @@ unfoldable pub key_parts : ℕ → List ℕ → List Piece
 key_parts level [] = []
 key_parts level (n ∷ k) = part KeyLength level (n ∷ []) ++ part Key level k
 
--- how many bytes the key at the front has, with its length
+-- how many bytes the key at the start has, with its length
 abbrev pub key_extent : List ℕ → ℕ
 key_extent [] = 0
 key_extent (n ∷ s) = suc n
@@ -71,13 +71,13 @@ entries_parts (suc n) type level s =
     value_parts (entries_parts n) level (take (extent s) s)
     ++ entries_parts n type level (drop (extent s) s)
 
--- the parts of entries, and of a value, at a level: no more entries stand there than bytes
+-- the parts of entries, and of a value, at a level: no more entries are there than bytes
 abbrev pub entries_at : Inside
 entries_at type level s = entries_parts (length s) type level s
 
 abbrev pub value_at : ℕ → List ℕ → List Piece
 value_at level s = value_parts (entries_parts (length s)) level s
 
--- the parts of an encoding, or of the front of one: it stands in no container
+-- the parts of an encoding, or of a prefix of one: it is in no container
 abbrev pub parts_of : List ℕ → List Piece
 parts_of s = value_at 0 s

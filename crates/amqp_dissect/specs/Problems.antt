@@ -1,4 +1,4 @@
--- The first entry that is none: where a value should stand and none does, and why.
+-- The first entry that isn't one: where a value should be and none does, and why.
 use Rattle.std.specs.Prelude.{ℕ, suc, ◌+◌, ◌-◌, ◌^◌, ◌<◌, ◌≡◌, Some, None, List, [], ◌∷◌, ◌++◌, length}
 use Rattle.std.specs.Str.{IsUtf8}
 use Rattle.amqp_types.specs.declared.amqp_type.AMQPType.{AMQPType}
@@ -19,28 +19,28 @@ IsContainer amqp.FieldTable = Unit {0}
 IsContainer _ = ⊥
 
 mutual
-  -- no value stands at the front of s, with containers at most `depth` deep in it: what is read at
-  -- the offset isn't what should stand there
+  -- no value is at the start of s, with containers at most `depth` deep in it: what is read at
+  -- the offset isn't what should be there
   pub data NoValue : ℕ → List ℕ → ℕ → Problem → Type 0 where
     -- there is no byte
     no_type_tag : (depth : ℕ) → NoValue depth [] 0 NoTypeTag
-    -- the first byte is no type tag
+    -- the first byte isn't a type tag
     unknown_type_tag : (depth : ℕ) → (c : ℕ) → (b : List ℕ) → kind c ≡ None → NoValue depth (c ∷ b) 0 (UnknownTypeTag c)
     -- the payload isn't all there: of its field that is being read n more bytes are needed
     cut : (depth : ℕ) → (c : ℕ) → (type : AMQPType) → (b : List ℕ) → (n : ℕ) → kind c ≡ Some type → 0 < n → lack type b ≡ n → NoValue depth (c ∷ b) 1 (Cut type n)
     -- a container that is all there stands where none may
     too_deep : (c : ℕ) → (type : AMQPType) → (body : List ℕ) → (rest : List ℕ) → kind c ≡ Some type → IsContainer type → length body < 2 ^ 32 → NoValue 0 (c ∷ (long_field body ++ rest)) 0 TooDeep
-    -- in the body of an array, or a table, an entry is none
+    -- in the body of an array, or a table, an entry isn't one
     in_array : (depth : ℕ) → (c : ℕ) → (body : List ℕ) → (rest : List ℕ) → (offset : ℕ) → (p : Problem) → kind c ≡ Some amqp.FieldArray → length body < 2 ^ 32 → NoValues depth body offset p → NoValue (suc depth) (c ∷ (long_field body ++ rest)) (5 + offset) p
     in_table : (depth : ℕ) → (c : ℕ) → (body : List ℕ) → (rest : List ℕ) → (offset : ℕ) → (p : Problem) → kind c ≡ Some amqp.FieldTable → length body < 2 ^ 32 → NoPairs depth body offset p → NoValue (suc depth) (c ∷ (long_field body ++ rest)) (5 + offset) p
 
-  -- the bytes are values one after another up to one that is none
+  -- the bytes are values one after another up to the first that isn't one
   pub data NoValues : ℕ → List ℕ → ℕ → Problem → Type 0 where
     bad_value : (depth : ℕ) → (s : List ℕ) → (offset : ℕ) → (p : Problem) → 0 < length s → NoValue depth s offset p → NoValues depth s offset p
     after_value : (depth : ℕ) → (w : List ℕ) → (v : Tree) → (s : List ℕ) → (offset : ℕ) → (p : Problem) → WireWithin depth w v → NoValues depth s offset p → NoValues depth (w ++ s) (length w + offset) p
 
-  -- the bytes are pairs one after another up to one that is none: its key isn't all there, isn't
-  -- UTF-8, or no value stands after it
+  -- the bytes are pairs one after another up to the first that isn't one: its key isn't all there,
+  -- isn't UTF-8, or no value is after it
   pub data NoPairs : ℕ → List ℕ → ℕ → Problem → Type 0 where
     cut_key : (depth : ℕ) → (n : ℕ) → (s : List ℕ) → length s < n → NoPairs depth (n ∷ s) 0 (KeyCut (n - length s))
     key_not_utf8 : (depth : ℕ) → (k : List ℕ) → (s : List ℕ) → (IsUtf8 k → ⊥) → NoPairs depth (short_field k ++ s) 1 KeyNotUtf8

@@ -6,7 +6,7 @@ use Rattle.std.specs.Char.{digit_char}
 abbrev pub IsPrintable : ℕ → Type 0
 IsPrintable c = (32 ≤ c) × (c < 127)
 
--- a quote and a backslash stand after a backslash, each other character that prints for itself, and
+-- a quote and a backslash are after a backslash, each other character that prints for itself, and
 -- every other byte is \x and its two digits, in lower case
 abbrev pub escaped_byte : ℕ → List ℕ
 escaped_byte b =

@@ -16,11 +16,11 @@ use Rattle.amqp_dissect.specs.declared.walk.Walk.{Walk}
 use Rattle.amqp_dissect.specs.Problems.{NoValue}
 use Rattle.amqp_dissect.specs.PartsOf.{Piece, piece, value_at}
 
--- a value stands at the front of s, with containers at most `depth` deep in it, and then `rest`
+-- a value is at the start of s, with containers at most `depth` deep in it, and then `rest`
 abbrev pub IsValueThen : ℕ → List ℕ → List ℕ → Type 0
 IsValueThen depth s rest = (w : List ℕ) × (v : Tree) × WireWithin depth w v × (s ≡ w ++ rest)
 
--- a key stands at the front of s, and then `rest`
+-- a key is at the start of s, and then `rest`
 abbrev pub IsKeyThen : List ℕ → List ℕ → Type 0
 IsKeyThen s rest = (k : List ℕ) × IsShort k × (s ≡ short_field k ++ rest)
 
@@ -36,7 +36,7 @@ abbrev pub IsAt : (Problem → Type 0) → Stop → Type 0
 IsAt P OutOfMemory = Unit {0}
 IsAt P (At p) = P p
 
--- n bytes stand after a length of four bytes that counts them
+-- n bytes are after a length of four bytes that counts them
 abbrev pub HasFrame : List ℕ → ℕ → Type 0
 HasFrame s n = (body : List ℕ) × (rest : List ℕ) × IsFrame s body rest × (n ≡ length body)
 
@@ -65,7 +65,7 @@ HasHeader s type at behind = (c : ℕ) × (body : List ℕ) × (rest : List ℕ)
 abbrev pub ahead : Walk → ℕ → List ℕ
 ahead w end = slice_range w.input.now w.at end
 
--- a walk may go on up to `end`, which lies in the input
+-- a walk may go on up to `end`, which is inside the input
 pub record CanReach (w : Walk) (end : ℕ) : Type 0 where
   pub at : w.at ≤ end
   pub inside : end ≤ length w.input.now
@@ -77,15 +77,15 @@ pub record GoesOn (old : Walk) (end : ℕ) (new : Walk) : Type 0 where
   pub order : old.at ≤ new.at
   pub within : new.at ≤ end
 
--- the bytes that a walk went over
+-- the bytes that a walk covered
 abbrev pub between : Walk → Walk → List ℕ
 between old new = slice_range old.input.now old.at new.at
 
--- a walk put down the parts of the bytes that it went over: what they are `of` says
+-- a walk put down the parts of the bytes that it covered: what they are `of` says
 abbrev pub Puts : (List ℕ → List Piece) → Walk → Walk → Type 0
 Puts of old new = map piece new.parts.items ≡ map piece old.parts.items ++ of (between old new)
 
--- it went over a value, or the front of one, and put its parts down
+-- it covered a value, or a prefix of one, and put its parts down
 pub record PutsValue (level : ℕ) (old new : Walk) : Type 0 where
   pub parts : Puts (value_at level) old new
   pub one : length (between old new) ≤ extent (between old new)
@@ -96,15 +96,15 @@ WithMemory (Ok x) P = P
 WithMemory (Err OutOfMemory) P = Unit {0}
 WithMemory (Err (At p)) P = P
 
--- A walk went over the value that stands before `end`, with containers at most `depth` deep in it,
--- or stopped at the first entry that is none.
+-- A walk covered the value that is before `end`, with containers at most `depth` deep in it,
+-- or stopped at the first entry that isn't one.
 pub record PassesValue (depth : ℕ) (old : Walk) (end : ℕ) (result : Result (Unit {0}) Stop) (new : Walk) : Type 0 where
   pub goes : GoesOn old end new
   pub more : OnOk result (old.at < new.at)
   pub value : OnOk result (IsValueThen depth (ahead old end) (ahead new end))
   pub problem : IfErr result (IsAt (NoValue depth (ahead old end) (new.at - old.at)))
 
--- A walk went over the entries that stand before `end`, or stopped at the first that is none: `Are`
+-- A walk covered the entries that are before `end`, or stopped at the first that isn't one: `Are`
 -- says that bytes are such entries, and `Fail` where they aren't, and why.
 pub record PassesEntries (Are : List ℕ → Type 0) (Fail : List ℕ → ℕ → Problem → Type 0) (old : Walk) (end : ℕ) (result : Result (Unit {0}) Stop) (new : Walk) : Type 0 where
   pub goes : GoesOn old end new

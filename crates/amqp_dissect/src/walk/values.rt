@@ -261,7 +261,7 @@ fn fields_of(amqp_type: AMQPType) -> (usize, usize)
     }
 }
 
-// How many bytes stand after a length of four bytes as it counts, or how many more bytes are needed
+// How many bytes are after a length of four bytes as it counts, or how many more bytes are needed
 // of the two.
 fn body_len(payload: &[u8]) -> Result<usize, usize>
     ensures whole { IfOk result (HasFrame payload.now) }
