@@ -1,4 +1,4 @@
--- Lemmas on flags and the bits that stand for them.
+-- Lemmas on flags and the bits that denote them.
 use Rattle.std.proofs.Common.{◌≡◌, ◌==◌, ℕ, zero, suc, ◌+◌, ◌-◌, ◌*◌, ◌/◌, ◌%◌, ◌^◌, ◌<◌, ◌≤◌, min, Bool, true, false, if◌then◌else◌, Option, Some, List, [], ◌∷◌, ◌++◌, length, get_or, take, drop, map, refl, sym, ap, ◌∙◌, arith, inl, inr, append_assoc, append-nil, length-append, length-drop, string_bytes, String, Bor}
 use Rattle.std.specs.declared.alloc.Global.{Global}
 use Rattle.std.specs.List.{zip}
@@ -12,7 +12,7 @@ use Rattle.std.proofs.lemmas.List.{take_more, at_drop_more, map-append, length-m
 use Rattle.amqp_grammar.specs.Maps.{same_bytes}
 use Rattle.amqp_flags.specs.Flags.{Flag, listed, names_of, values_of, flag_named, bytes_for, number_of, packed, pack, low_bits, bits, unpack, AreFlagsReadBack}
 
--- the next flag decides, or the flags behind it do
+-- the next flag decides, or the flags after it do
 named_more : (name : List ℕ) (fs : List (String Global × Bool)) (i : ℕ) (f : String Global × Bool) → i < length fs → f ≡ get_or fs i f → flag_named name (listed (drop i fs)) ≡ (if same_bytes (string_bytes f.0) name then Some f.1 else flag_named name (listed (drop (i + 1) fs)))
 named_more name fs i f few is =
     at_drop_more (λ l. flag_named name (listed l)) fs i f few ∙ ap (λ g. flag_named name (listed (g ∷ drop (i + 1) fs))) (sym is)
@@ -91,7 +91,7 @@ pack_chunk bs cs rs parts size some =
     ] in
     pack_cut bs some ∙ (λ i. number_of (cut.0 i) ∷ pack (cut.1 i))
 
--- the same of flags as they stand in memory
+-- the same of flags as they are in memory
 pub flags_chunk : (all eight rest : List (String Global × Bool)) (n : ℕ) → n ≡ 8 → all ≡ eight ++ rest → length eight ≡ min n (length all) → 0 < length all → pack (values_of (listed all)) ≡ number_of (values_of (listed eight)) ∷ pack (values_of (listed rest))
 flags_chunk all eight rest n is parts size some =
     let long : (l : List (String Global × Bool)) → length (values_of (listed l)) ≡ length l = λ l. length-map (listed l) _ ∙ length-map l _ in
@@ -99,7 +99,7 @@ flags_chunk all eight rest n is parts size some =
     ap (λ l. values_of (listed l)) parts ∙ ap values_of (map-append _ eight rest) ∙ map-append _ (listed eight) (listed rest) in
     pack_chunk (values_of (listed all)) (values_of (listed eight)) (values_of (listed rest)) cut (omega (arith, long all, long eight)) (omega (arith, long all))
 
--- a bit of the lowest, and those behind it
+-- a bit of the lowest, and those after it
 low_at : (n i c : ℕ) (bs : List Bool) → i < n → drop i (low_bits n c ++ bs) ≡ (bit_at c i == 1) ∷ drop (suc i) (low_bits n c ++ bs)
 unfolding low_bits
 low_at zero i c bs few = absurd (omega arith)
@@ -108,7 +108,7 @@ low_at (suc n) (suc i) c bs few =
     let fits : i < n = omega arith in
     low_at n i (c / 2) bs fits ∙ ap (λ b. (b == 1) ∷ drop (suc i) (low_bits n (c / 2) ++ bs)) (sym (bit_at-suc c i))
 
--- the bits behind the first byte
+-- the bits after the first byte
 bits_behind : (c : ℕ) (s : List ℕ) (j : ℕ) → drop (8 + j) (bits (c ∷ s)) ≡ drop j (bits s)
 unfolding low_bits
 bits_behind c s j = sym (drop-drop j 8 (bits (c ∷ s)))
@@ -146,7 +146,7 @@ length_bits (c ∷ s) =
     let more = length_bits s in
     omega arith
 
--- no bit is left behind the last byte
+-- no bit is left after the last byte
 no_bit : (s : List ℕ) (i : ℕ) → length s ≤ i / 8 → drop i (bits s) ≡ []
 no_bit s i past =
     let long = length_bits s in
@@ -186,7 +186,7 @@ some_flag names s i name bit =
     let long = length_bits s in
     omega arith
 
--- so many bytes
+-- that many bytes
 length_packed : (n : ℕ) (bs : List Bool) → length (packed n bs) ≡ n
 length_packed zero bs = refl
 length_packed (suc n) bs = ap suc (length_packed n (drop 8 bs))
@@ -207,7 +207,7 @@ both_unset [] ys p q i = q i
 both_unset (x ∷ xs) ys p q zero = p zero
 both_unset (x ∷ xs) ys p q (suc i) = both_unset xs ys (λ j. p (suc j)) q i
 
--- so many bits
+-- that many bits
 length_low_bits : (n c : ℕ) → length (low_bits n c) ≡ n
 unfolding low_bits
 length_low_bits zero c = refl
@@ -220,7 +220,7 @@ no_low_bit zero i = refl
 no_low_bit (suc n) zero = refl
 no_low_bit (suc n) (suc i) = no_low_bit n i
 
--- the bits of a number are those that it was made of, and unset ones behind them
+-- the bits of a number are those that it was made of, and unset ones after them
 low_number : (n : ℕ) (bs : List Bool) → length bs ≤ n → (pad : List Bool) × (low_bits n (number_of bs) ≡ bs ++ pad) × (length bs + length pad ≡ n) × AreUnset pad
 unfolding low_bits
 low_number n [] few = (low_bits n 0, refl, omega (arith, length_low_bits n 0), no_low_bit n)
@@ -238,7 +238,7 @@ low_number (suc n) (false ∷ bs) few =
     let half : (0 + 2 * m) / 2 ≡ m = omega arith in
     (behind.0, (λ k. (bit k == 1) ∷ (ap (low_bits n) half ∙ behind.1) k), omega (arith, behind.2), behind.3)
 
--- the bits of packed truth values are these, and unset ones behind them
+-- the bits of packed truth values are these, and unset ones after them
 bits_packed : (n : ℕ) (bs : List Bool) → length bs ≤ 8 * n → (pad : List Bool) × (bits (packed n bs) ≡ bs ++ pad) × AreUnset pad
 bits_packed zero [] few = ([], refl, λ i. refl)
 bits_packed zero (b ∷ bs) few = absurd (omega arith)
@@ -260,7 +260,7 @@ bits_packed (suc n) bs few =
           (behind.0, both ∙ (λ k. (first ++ none k) ++ (drop 8 bs ++ behind.0)) ∙ ap (λ l. l ++ (drop 8 bs ++ behind.0)) (append-nil first) ∙ sym (append_assoc first (drop 8 bs) behind.0) ∙ ap (λ l. l ++ behind.0) parts, behind.2)
     ]
 
--- flags are their names beside their truth values, whatever stands behind these
+-- flags are their names with their truth values, whatever is after these
 zip_front : (fs : List Flag) (more : List Bool) → zip (names_of fs) (values_of fs ++ more) ≡ fs
 zip_front [] more = refl
 zip_front (f ∷ fs) more = ap (λ l. f ∷ l) (zip_front fs more)

@@ -1,4 +1,4 @@
--- Flags: names with booleans, and the bits that stand for these.
+-- Flags: names with booleans, and the bits that denote these.
 use Rattle.std.specs.Prelude.{ℕ, zero, suc, ◌+◌, ◌*◌, ◌/◌, ◌%◌, ◌<◌, ◌≤◌, ◌-◌, ◌==◌, ◌≡◌, Bool, Option, Some, None, String, string_bytes, List, [], ◌∷◌, ◌++◌, length, take, drop, map, if◌then◌else◌}
 use Rattle.std.specs.declared.alloc.Global.{Global}
 use Rattle.std.specs.List.{zip}
@@ -10,7 +10,7 @@ use Rattle.amqp_flags.specs.declared.flags.AMQPFlags.{AMQPFlags}
 abbrev pub Flag : Type 0
 Flag = List ℕ × Bool
 
--- flags as they stand in memory, listed as names with booleans
+-- flags as they are in memory, listed as names with booleans
 abbrev pub listed : List (String Global × Bool) → List Flag
 listed = map (λ f. (string_bytes f.0, f.1))
 
@@ -30,7 +30,7 @@ abbrev pub flag_named : List ℕ → List Flag → Option Bool
 flag_named name [] = None
 flag_named name (f ∷ fs) = if same_bytes f.0 name then Some f.1 else flag_named name fs
 
--- how many bytes so many flags take: eight to a byte
+-- how many bytes that many flags take: eight to a byte
 abbrev pub bytes_for : ℕ → ℕ
 bytes_for n = (n + 7) / 8
 
@@ -68,7 +68,7 @@ pub record AreFlagsRead (names : List (List ℕ)) (s : List ℕ) (fs : List Flag
   pub flags : fs ≡ unpack names (take (bytes_for (length names)) s)
   pub left : rest ≡ drop (bytes_for (length names)) s
 
--- the bytes of so many flags aren't all there: so many more are needed
+-- the bytes of that many flags aren't all there: that many more are needed
 abbrev pub AreFlagsCut : ℕ → List ℕ → Reading → Type 0
 AreFlagsCut n s o = (length s < bytes_for n) × (o ≡ more (bytes_for n - length s))
 
