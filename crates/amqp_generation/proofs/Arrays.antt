@@ -1,4 +1,4 @@
--- Lemmas on an array that is written behind its length.
+-- Lemmas on an array that is written after its length.
 use Rattle.std.proofs.Common.{◌≡◌, ℕ, ◌<◌, ◌≤◌, true, Result, Ok, Err, List, ◌++◌, length, get_or, take, replicate, subst, arith}
 use Rattle.std.proofs.lemmas.List.{take_all}
 use Rattle.amqp_value_core.specs.declared.value.AMQPValue.{AMQPValue}
@@ -14,15 +14,15 @@ use Rattle.amqp_generation.specs.Buffers.{IsWhole, GoesBack, FillsLength}
 use Rattle.amqp_generation.proofs.Texts.{fits_of, within_of}
 use Rattle.amqp_generation.proofs.Steps.{refused_inside, length_put}
 
--- the first k values were put behind four reserved bytes
+-- the first k values were put after four reserved bytes
 abbrev pub HasPut : List AMQPValue → ℕ → Seen → Seen → Type 0
 HasPut vs k s t = Writes true (AllFit (trees (take k vs))) (replicate 4 0 ++ body (trees (take k vs))) s (Ok tt) t
 
--- what an array's generator owes
+-- what an array's generator must promise
 abbrev pub Owes : List AMQPValue → Seen → Result (Unit {0}) GenError → Seen → Type 0
 Owes vs s r t = Writes true (Fits (array (trees vs))) (long_field (body (trees vs))) s r t
 
--- the next value was refused, and all was taken back
+-- the next value was rejected, and all was taken back
 pub value_refused : (vs items : List AMQPValue) (k : ℕ) (v : AMQPValue) (at : ℕ) {s t u w : Seen} {e : GenError} → vs ≡ items → k < length vs → v ≡ get_or vs k v → at ≡ s.at → IsWhole s → HasPut vs k s t → Writes true (Fits (view v)) (text (view v)) t (Err e) u → GoesBack at u w → Owes items s (Err e) w
 value_refused vs items k v at {s = s} {w = w} {e = e} all more next place whole p q back =
     let P : List AMQPValue → Type 0 = λ us. Owes us s (Err e) w in
@@ -34,7 +34,7 @@ all_put vs k s t done p =
     let P : List AMQPValue → Type 0 = λ us. Writes true (AllFit (trees us)) (replicate 4 0 ++ body (trees us)) s (Ok tt) t in
     subst P (take_all k vs done) p
 
--- their length was filled in, or refused
+-- their length was filled in, or rejected
 pub array_closed : (vs items : List AMQPValue) (k at : ℕ) {s t w : Seen} (r : Result (Unit {0}) GenError) → vs ≡ items → length vs ≤ k → at ≡ s.at → IsWhole s → HasPut vs k s t → FillsLength at t r w → Owes items s r w
 array_closed vs items k at {s = s} {t = t} {w = w} r all done place whole p f =
     let P : List AMQPValue → Type 0 = λ us. Owes us s r w in

@@ -32,11 +32,11 @@ pub nothing_appended : (a b : Option (List ℕ)) → b ≡ a → Appends a b []
 nothing_appended None b e = tt
 nothing_appended (Some put) b e = subst (λ (o : Option (List ℕ)). Appends (Some put) o []) (sym e) (sym (append-nil put))
 
--- a refusal that leaves the bytes as they were only appends
+-- an error that leaves the bytes as they were only appends
 pub refusal_appends : {s t : Seen} {e : GenError} → t.told ≡ s.told → OnlyAppends s (Err e) t
 refusal_appends {s = s} {t = t} same = record { more = []; appended = nothing_appended s.told t.told same; tail = tt }
 
--- what was written is appended, and a refused write leaves a buffer's bytes
+-- what was written is appended, and a rejected write leaves a buffer's bytes
 pub write_appends : {b : Bool} {A : Type 0} {xs : List ℕ} {s t : Seen} {r : Result (Unit {0}) GenError} → b ≡ true → Writes b A xs s r t → OnlyAppends s r t
 write_appends {xs = xs} {r = Ok _} e p = record { more = xs; appended = p.appended; tail = p.tail }
 write_appends {r = Err _} e p = refusal_appends (p.kept (subst IsTrue (sym e) refl))
@@ -55,14 +55,14 @@ then_appends {s = s} {t = t} {u = u} {r = r} p q = record {
         e ∙ ap (drop (length q.more)) p.tail ∙ drop-drop (length q.more) (length p.more) s.tail ∙ ap (λ n. drop n s.tail) sum
     by (Err _) e = tt
 
--- what was appended behind four reserved bytes was taken back with them
+-- what was appended after four reserved bytes was taken back with them
 pub taken_back : {s t u w : Seen} {r : Result (Unit {0}) GenError} (at : ℕ) → at ≡ s.at → IsWhole s → Writes true ⊤ (replicate 4 0) s (Ok tt) t → OnlyAppends t r u → GoesBack at u w → w.told ≡ s.told
 taken_back {s = s} {t = t} {u = u} {w = w} at place whole p o back =
     told_back s.told u.told w.told s.at (replicate 4 0 ++ o.more) whole.counted whole.told
     (Appends-trans s.told t.told u.told (replicate 4 0) o.more p.appended o.appended)
     (back.told ∙ ap (λ n. option_map (take n) u.told) place)
 
--- a call appended behind four reserved bytes, which were then filled with the number of what it
+-- a call appended after four reserved bytes, which were then filled with the number of what it
 -- appended, or were taken back with that
 module _ {W : Type 0} (seen : W → Seen) (may : WriteContext W → Result (Unit {0}) GenError → WriteContext W → Type 0) (old before after new : WriteContext W) (at : ℕ) (place : at ≡ (shown seen old).at) (whole : IsWhole (shown seen old)) (end : IsWhole (shown seen after)) (reserved : Reserved seen old before) (appends : (x y : WriteContext W) (r : Result (Unit {0}) GenError) → may x r y → OnlyAppends (shown seen x) r (shown seen y)) (called : may before (Ok tt) after) where
   abbrev s : Seen
@@ -78,7 +78,7 @@ module _ {W : Type 0} (seen : W → Seen) (may : WriteContext W → Result (Unit
   abbrev o : OnlyAppends (shown seen before) (Ok tt) u
   o = appends before after (Ok tt) called
 
-  -- the four bytes and those behind them
+  -- the four bytes and those after them
   both : Appends s.told u.told (replicate 4 0 ++ o.more)
   both = Appends-trans s.told (shown seen before).told u.told (replicate 4 0) o.more reserved.zeros.appended o.appended
 
@@ -86,7 +86,7 @@ module _ {W : Type 0} (seen : W → Seen) (may : WriteContext W → Result (Unit
   size : u.at - at - 4 ≡ length o.more
   size = let n = counted s.told u.told s.at u.at (replicate 4 0 ++ o.more) whole.told whole.counted end.told end.counted both in omega arith
 
-  -- what stands behind the position
+  -- what is after the position
   rest : u.tail ≡ drop (length (long_field o.more)) s.tail
   rest =
       let sum : 4 + length o.more ≡ length (long_field o.more) = omega arith in
@@ -97,7 +97,7 @@ module _ {W : Type 0} (seen : W → Seen) (may : WriteContext W → Result (Unit
     number : w ≡ filled u s.at (to_be_bytes w32 (length o.more))
     number = e ∙ (λ i. filled u (place i) (to_be_bytes w32 (size i)))
 
-    -- so that stands behind its length
+    -- so that is after its length
     put : Appends s.told w.told (long_field o.more)
     put = subst (λ (x : Seen). Appends s.told x.told (long_field o.more)) (sym number) (front_overwritten s.told u.told s.at (replicate 4 0) (to_be_bytes w32 (length o.more)) o.more whole.counted refl both)
 

@@ -9,7 +9,7 @@ use Rattle.amqp_generation.specs.Buffers.{Puts, MakesRoom}
 use Rattle.amqp_generation.proofs.Rooms.{both_too_many, still_fixed, rest_fits, any_room}
 use Rattle.amqp_generation.proofs.Steps.{both_put, failed_since}
 
--- some bytes were put, and a buffer won't refuse those behind them, n in all
+-- some bytes were put, and a buffer won't reject those after them, n in all
 pub record PutSoFar (b : Bool) (n : ℕ) (done : List ℕ) (before after : Seen) : Type 0 where
   pub written : Writes b (Unit {0}) done before (Ok tt) after
   pub promise : IsTrue b → n ≤ after.promise + length done
@@ -54,7 +54,7 @@ room_made {s = s} {t = t} same m = record {
   promise = λ is. omega (arith, m.promise is);
 }
 
--- room for the bytes was refused
+-- room for the bytes was rejected
 pub room_refused : {b : Bool} {n : ℕ} {s t : Seen} {e : GenError} (all : List ℕ) → n ≡ length all → MakesRoom b n s (Err e) t → Writes b (Unit {0}) all s (Err e) t
 room_refused {b = b} {n = n} {s = s} {t = t} {e = e} all count m =
     let P : ℕ → Type 0 = λ k. MakesRoom b k s (Err e) t in
@@ -86,7 +86,7 @@ put_more {done = xs} {ys = ys} so_far new = record {
   promise = λ is. omega (arith, so_far.promise is, new.promise, length-append xs ys);
 }
 
--- more bytes were refused: then it is no buffer, since a buffer promised them
+-- more bytes were rejected: then it isn't a buffer, since a buffer promised them
 pub refused_later : {b : Bool} {n : ℕ} {done ys : List ℕ} {s t u : Seen} {e : GenError} (all : List ℕ) → n ≡ length all → length done + length ys ≤ length all → PutSoFar b n done s t → Puts b ys t (Err e) u → Writes b (Unit {0}) all s (Err e) u
 refused_later {b = b} {n = n} {done = xs} {ys = ys} {s = s} {t = t} {u = u} {e = e} all count long so_far new =
     let p = so_far.written in

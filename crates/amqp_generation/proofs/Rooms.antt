@@ -53,7 +53,7 @@ told_back None more last at bytes long h p e = absurd cc
 told_back (Some put) None last at bytes long h p e = absurd p
 told_back (Some put) (Some all) last at bytes long h p e = e ∙ ap Some (ap (take at) p ∙ take_at put bytes at long)
 
--- overwriting the front of what was appended
+-- overwriting the start of what was appended
 pub front_overwritten : (told more : Option (List ℕ)) (at : ℕ) (zeros ys rest : List ℕ) → IfSome told (λ put. length put ≡ at) → length zeros ≡ length ys → Appends told more (zeros ++ rest) → Appends told (option_map (λ put. overwrite put at ys) more) (ys ++ rest)
 front_overwritten None more at zeros ys rest long same p = tt
 front_overwritten (Some put) None at zeros ys rest long same p = absurd p

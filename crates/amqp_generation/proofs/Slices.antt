@@ -1,4 +1,4 @@
--- Lemmas on slices that are written from their front.
+-- Lemmas on slices that are written from their start.
 use Rattle.std.proofs.Common.{◌≡◌, ℕ, ◌+◌, ◌-◌, ◌≤◌, true, Some, Ok, List, ◌++◌, length, take, drop, refl, sym, ap, ◌∙◌, subst, arith, rules, length-append, length-drop}
 use Rattle.std.proofs.lemmas.Slice.{take-put_mid, drop-put_mid}
 use Rattle.std.proofs.lemmas.List.{drop-drop, length-take-le, same_lists, places}
@@ -40,7 +40,7 @@ put_fits s t ys fit put tail =
       promise = omega arith;
     }
 
--- bytes were written at the place, and the place moved behind them
+-- bytes were written at the place, and the place moved after them
 pub put_next : (s : Sliced) (xs ys bytes : List ℕ) (at k : ℕ) → cut_at xs at ≡ s → ys ≡ bytes → length bytes ≡ k → at + k ≤ length xs → Puts true bytes (seen_slice s) (Ok tt) (seen_slice (cut_at (put_mid at (at + k - at) xs ys) (at + k)))
 put_next s xs ys bytes at k was same long fit =
     let tail : drop (length bytes) (drop at xs) ≡ drop (at + k) xs = ap (λ n. drop n (drop at xs)) long ∙ drop-drop k at xs in

@@ -42,7 +42,7 @@ pub failed_since : (s t u w : Seen) → s.faults ≤ t.faults → w.faults ≡ u
 failed_since s t u w before after (inl more) = inl (omega arith)
 failed_since s t u w before after (inr most) = inr (after ∙ most)
 
--- xs were put, ys refused, and xs taken back: so more than both was refused
+-- xs were put, ys rejected, and xs taken back: so more than both was rejected
 pub refused : {A B : Type 0} {xs ys : List ℕ} {s t u w : Seen} {e : GenError} (C : Type 0) (zs : List ℕ) (at : ℕ) → at ≡ s.at → IsWhole s → length xs + length ys ≤ length zs → (C → B) → Writes true A xs s (Ok tt) t → Writes true B ys t (Err e) u → GoesBack at u w → Writes true C zs s (Err e) w
 refused {xs = xs} {ys = ys} {s = s} {t = t} {u = u} {w = w} {e = e} C zs at place whole long lengths p q back =
     let kept : u.at ≡ t.at = q.stayed refl in
@@ -69,7 +69,7 @@ refused {xs = xs} {ys = ys} {s = s} {t = t} {u = u} {w = w} {e = e} C zs at plac
       faults = omega (arith, p.faults, q.faults, back.faults);
     }
 
--- a length that doesn't fit its field is refused where nothing more was put
+-- a length that doesn't fit its field is rejected where nothing more was put
 pub refused_as_long : (s : Seen) (C : Type 0) → (C → ⊥) → Writes true C [] s (Err LengthTooLong) s
 refused_as_long s C long = record {
   appended = tt;
@@ -122,11 +122,11 @@ by_buffer {A = A} {xs = xs} {s = s} {t = t} e p =
     let P : Bool → Type 0 = λ c. Writes c A xs s (Ok tt) t in
     subst P e p
 
--- behind four reserved bytes some bytes of `all` were put, ys refused, and all taken back
+-- after four reserved bytes some bytes of `all` were put, ys rejected, and all taken back
 pub refused_inside : {A B : Type 0} (some all : List ℕ) {ys : List ℕ} {s t u w : Seen} {e : GenError} (C : Type 0) (at : ℕ) → at ≡ s.at → IsWhole s → length some + length ys ≤ length all → (C → B) → Writes true A (replicate 4 0 ++ some) s (Ok tt) t → Writes true B ys t (Err e) u → GoesBack at u w → Writes true C (long_field all) s (Err e) w
 refused_inside some all C at place whole long lengths p q back = refused C (long_field all) at place whole (omega arith) lengths p q back
 
--- behind four reserved bytes all were put; their number was filled in, or doesn't fit and all are
+-- after four reserved bytes all were put; their number was filled in, or doesn't fit and all are
 -- taken back
 pub length_put : {A : Type 0} (all : List ℕ) {s t w : Seen} (r : Result (Unit {0}) GenError) (C : Type 0) (at : ℕ) → at ≡ s.at → IsWhole s → (2 ^ 32 ≤ length all → C → ⊥) → (length all < 2 ^ 32 → A → C) → Writes true A (replicate 4 0 ++ all) s (Ok tt) t → FillsLength at t r w → Writes true C (long_field all) s r w
 length_put all {s = s} {t = t} {w = w} (Ok _) C at place whole long short p f =

@@ -1,4 +1,4 @@
--- Lemmas on a table that is written behind its length.
+-- Lemmas on a table that is written after its length.
 use Rattle.std.proofs.Common.{◌≡◌, ℕ, ◌+◌, ◌≤◌, true, Result, Ok, Err, OnOk, List, [], ◌∷◌, ◌++◌, length, replicate, refl, sym, ap, ◌∙◌, subst, arith, append_assoc, append-nil, length-append}
 use Rattle.std.specs.Ordering.{nat_cmp}
 use Rattle.std.specs.Cmp.Lexicographic.{slice_cmp}
@@ -22,7 +22,7 @@ use Rattle.amqp_generation.proofs.Steps.{both_put, refused, refused_inside, leng
 abbrev pub Stored : Type 0
 Stored = List (List ℕ × AMQPValue)
 
--- ---- some entries, and others behind them
+-- ---- some entries, and others after them
 
 -- the texts of both
 pairs-append : (es fs : Stored) → pairs (entries (es ++ fs)) ≡ pairs (entries es) ++ pairs (entries fs)
@@ -53,7 +53,7 @@ stored_more : (es : Stored) (k : List ℕ) (v : AMQPValue) → AreStored es → 
 stored_more [] k v p is value = ((is, value), tt)
 stored_more (e ∷ es) k v p is value = (p.0, stored_more es k v p.1 is value)
 
--- with rising keys they are a value's entries
+-- with sorted keys they are a value's entries
 are_entries : (es : Stored) → IsStrictlySortedBy (slice_cmp nat_cmp) (keys_of es) → AreStored es → AreEntries (entries es)
 unfolding IsStrictlySortedBy
 are_entries [] rising p = tt
@@ -62,7 +62,7 @@ are_entries (e ∷ f ∷ es) rising p = (p.0.0, p.0.1, rising.0.0, are_entries (
 
 -- ---- writing
 
--- of all entries some were put behind four reserved bytes, and these are left
+-- of all entries some were put after four reserved bytes, and these are left
 pub record HasPut (all left : Stored) (s t : Seen) : Type 0 where
   pub done : Stored
   pub split : done ++ left ≡ all
@@ -87,16 +87,16 @@ one_more_put {rest = rest} k v here is value p q =
       stored = stored_more p.done k v p.stored is value;
     }
 
--- an entry's key was put and its value refused, and the key was taken back
+-- an entry's key was put and its value rejected, and the key was taken back
 pub key_taken_back : {A : Type 0} (k name : List ℕ) (v : Tree) (at : ℕ) {s t u w : Seen} {e : GenError} → name ≡ k → at ≡ s.at → IsWhole s → Writes true A (short_field name) s (Ok tt) t → Writes true (Fits v) (text v) t (Err e) u → GoesBack at u w → Writes true (Fits v) (short_field k ++ text v) s (Err e) w
 key_taken_back k name v at same place whole p q back =
     refused (Fits v) (short_field k ++ text v) at place whole (omega (arith, length-append k (text v), ap length same)) (λ fit. fit) p q back
 
--- what a table's generator owes
+-- what a table's generator must promise
 abbrev pub Owes : Stored → Seen → Result (Unit {0}) GenError → Seen → Type 0
 Owes all s r w = Writes true (Fits (table (entries all))) (long_field (pairs (entries all))) s r w
 
--- the next entry was refused, and all was taken back
+-- the next entry was rejected, and all was taken back
 pub entry_refused : {all left rest : Stored} (k : List ℕ) (v : AMQPValue) (at : ℕ) {s t u w : Seen} {e : GenError} → left ≡ (k, v) ∷ rest → at ≡ s.at → IsWhole s → HasPut all left s t → Writes true (Fits (view v)) (short_field k ++ text (view v)) t (Err e) u → GoesBack at u w → Owes all s (Err e) w
 entry_refused {rest = rest} k v at {s = s} {w = w} {e = e} here place whole p q back =
     let split : p.done ++ (k, v) ∷ rest ≡ _ = ap (λ l. p.done ++ l) (sym here) ∙ p.split in
@@ -110,7 +110,7 @@ entry_refused {rest = rest} k v at {s = s} {w = w} {e = e} here place whole p q 
 all_put : {all left : Stored} {s t : Seen} → left ≡ [] → (p : HasPut all left s t) → p.done ≡ all
 all_put none p = sym (append-nil p.done) ∙ ap (λ l. p.done ++ l) (sym none) ∙ p.split
 
--- their length was filled in, or refused
+-- their length was filled in, or rejected
 pub table_closed : {all left : Stored} (at : ℕ) {s t w : Seen} (r : Result (Unit {0}) GenError) → left ≡ [] → at ≡ s.at → IsWhole s → HasPut all left s t → FillsLength at t r w → Owes all s r w
 table_closed at {s = s} {w = w} r none place whole p f =
     let es = entries p.done in

@@ -11,11 +11,11 @@ use Rattle.amqp_value_core.specs.View.{view}
 use Rattle.amqp_value_core.specs.Containers.{trees}
 use Rattle.amqp_grammar.specs.InMemory.{IsValue, AreValues}
 
--- an id and the payload are the text
+-- a type tag and the payload are the text
 pub text_of : (v : Tree) (type : AMQPType) → type ≡ type_of v → text v ≡ id_of type ∷ [] ++ payload v
 text_of v type e = ap (λ t. id_of t ∷ payload v) (sym e)
 
--- an id is one byte
+-- a type tag is one byte
 pub longer_by_id : (v : Tree) → 1 + length (payload v) ≤ length (text v)
 longer_by_id (scalar x) = omega arith
 longer_by_id (short s) = omega arith
@@ -43,7 +43,7 @@ values_more (u ∷ vs) v p q = (p.0, values_more vs v p.1 q)
 taken_more : (vs : List AMQPValue) (k : ℕ) (v : AMQPValue) → k < length vs → v ≡ get_or vs k v → take k vs ++ v ∷ [] ≡ take (k + 1) vs
 taken_more vs k v h e = ap (λ u. take k vs ++ u ∷ []) e ∙ sym (take_more vs k v h)
 
--- their texts, behind four reserved bytes
+-- their texts, after four reserved bytes
 pub body_next : (vs : List AMQPValue) (k : ℕ) (v : AMQPValue) → k < length vs → v ≡ get_or vs k v → replicate 4 0 ++ body (trees (take (k + 1) vs)) ≡ replicate 4 0 ++ body (trees (take k vs)) ++ text (view v)
 body_next vs k v h e = ap (λ l. replicate 4 0 ++ l) (ap (λ us. body (trees us)) (sym (taken_more vs k v h e)) ∙ body_more (take k vs) v)
 

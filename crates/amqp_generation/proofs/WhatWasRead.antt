@@ -1,4 +1,4 @@
--- A value that was read finds the room that its wire took.
+-- A value that was read finds the room that its encoding took.
 use Rattle.std.proofs.Common.{ℕ, ◌≢◌, ◌≤◌, Option, Some, None, IfSome, length, Result, true, arith}
 use Rattle.amqp_types.specs.declared.amqp_type.AMQPType.{AMQPType}
 use Rattle.amqp_types.specs.declared.amqp_type.AMQPType.TheVariants as amqp

@@ -7,7 +7,7 @@ use Rattle.amqp_generation.specs.declared.error.GenError.{GenError}
 use Rattle.amqp_generation.specs.declared.error.GenError.TheVariants.{BufferTooSmall, LengthTooLong, IoError, InvalidOffset, OutOfMemory}
 use Rattle.amqp_generation.specs.Outputs.{Seen, HasFailed, Writes}
 
--- the answer of a call that writes, without what it hands out
+-- the answer of a call that writes, without what it returns
 abbrev pub answer_of : {T : Type 0} → Result T GenError → Result (Unit {0}) GenError
 answer_of (Ok _) = Ok tt
 answer_of (Err e) = Err e
@@ -19,27 +19,27 @@ pub record IsWhole (s : Seen) : Type 0 where
   pub counted : IfSome s.told (λ put. length put ≡ s.at)
   pub tail : IfSome s.room (λ room. length s.tail ≡ room)
 
--- One piece of bytes was put whole, or refused.
+-- One piece of bytes was put whole, or rejected.
 pub record Puts (is_buffer : Bool) (bytes : List ℕ) (before : Seen) (result : Result (Unit {0}) GenError) (after : Seen) : Type 0 where
   pub written : Writes is_buffer ⊤ bytes before result after
-  -- a refusal leaves the position as it was
+  -- an error leaves the position as it was
   pub stayed : OnErr result (after.at ≡ before.at)
-  -- it isn't refused within what was promised, and takes no more of that than its length
+  -- it isn't rejected within what was promised, and takes no more of that than its length
   pub promised : length bytes ≤ before.promise → IsOk result
   pub promise : OnOk result (before.promise ≤ after.promise + length bytes)
 
--- A length doesn't fit its field: the call is refused for that, and nothing was put.
+-- A length doesn't fit its field: the call is rejected for that, and nothing was put.
 pub record RefusedAsLong (before : Seen) (result : Result (Unit {0}) GenError) (after : Seen) : Type 0 where
   pub is : result ≡ Err LengthTooLong
   pub unchanged : after ≡ before
 
--- Room was made for n more bytes, or refused; nothing else changed.
+-- Room was made for n more bytes, or the call failed; nothing else changed.
 pub record MakesRoom (is_buffer : Bool) (n : ℕ) (before : Seen) (result : Result (Unit {0}) GenError) (after : Seen) : Type 0 where
   pub told : after.told ≡ before.told
   pub at : after.at ≡ before.at
   pub room : after.room ≡ before.room
   pub tail : after.tail ≡ before.tail
-  -- a buffer now promises so many
+  -- a buffer now promises that many
   pub promise : IsTrue is_buffer → OnOk result (n ≤ after.promise)
   -- with fixed room it succeeds exactly where they fit
   pub fits : OnOk result (IfSome before.room (λ room. n ≤ room))

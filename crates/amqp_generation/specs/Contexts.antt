@@ -17,7 +17,7 @@ start_of x = x.start
 abbrev pub shown : {W : Type 0} → (W → Seen) → WriteContext W → Seen
 shown seen x = seen x.output
 
--- a call put one piece of bytes through the context whole, or was refused
+-- a call put one piece of bytes through the context whole, or was rejected
 abbrev pub PutsThrough : {W : Type 0} → Bool → (W → Seen) → List ℕ → WriteContext W → Result (Unit {0}) GenError → WriteContext W → Type 0
 PutsThrough is_buffer seen bytes old result new = Puts is_buffer bytes (shown seen old) result (shown seen new)
 

@@ -16,9 +16,9 @@ device_of s = s.device
 
 -- What a put of n bytes comes to at a device, beside what it is at every output.
 pub record PutsToDevice (n : ℕ) (before : Seen) (result : Result (Unit {0}) GenError) (after : Seen) : Type 0 where
-  -- it is refused before a byte goes out where the position would pass the greatest `u64`
+  -- it is rejected before a byte goes out where the position would pass the greatest `u64`
   pub offset : 2 ^ 64 ≤ before.at + n → (result ≡ Err InvalidOffset) × (after ≡ before)
-  -- else only the device's own failure refuses it
+  -- else only the device's own failure rejects it
   pub refused : IfErr result (λ e. (e ≡ InvalidOffset) ⊎ ((kind : ErrorKind) × (e ≡ IoError kind)))
   -- the count of faults rises by one with each failure, up to the greatest `u64`, and with nothing
   -- else

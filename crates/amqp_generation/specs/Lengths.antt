@@ -62,7 +62,7 @@ pub record MayPassLength {W : Type 0} (seen : W → Seen) (may : WriteContext W 
   pub long : 2 ^ 32 ≤ length more
   pub start : start_of new ≡ start_of after
 
--- Why no length was put: the four bytes for it were refused, or the call was, or what it appended
+-- Why no length was put: the four bytes for it were rejected, or the call was, or what it appended
 -- is too long.
 abbrev pub RefusesWithLength : {W : Type 0} → (W → Seen) → (WriteContext W → Result (Unit {0}) GenError → WriteContext W → Type 0) → WriteContext W → WriteContext W → GenError → Type 0
 RefusesWithLength seen may old new e =

@@ -14,7 +14,7 @@ pub record Seen : Type 0 where
   pub at : ℕ
   -- how many more bytes fit; none where the room is open
   pub room : Option ℕ
-  -- so many further bytes can't be refused
+  -- that many further bytes can't be rejected
   pub promise : ℕ
   -- how often its device failed
   pub faults : ℕ
@@ -25,7 +25,7 @@ pub record Seen : Type 0 where
 abbrev pub HasFailed : Seen → Seen → Type 0
 HasFailed before after = (before.faults < after.faults) ⊎ (after.faults ≡ 2 ^ 64 - 1)
 
--- A call appended `bytes`, or was refused. `lengths` says that each length in what it writes fits
+-- A call appended `bytes`, or was rejected. `lengths` says that each length in what it writes fits
 -- its field.
 pub record Writes (is_buffer : Bool) (lengths : Type 0) (bytes : List ℕ) (before : Seen) (result : Result (Unit {0}) GenError) (after : Seen) : Type 0 where
   -- the bytes were put, and they alone
@@ -34,7 +34,7 @@ pub record Writes (is_buffer : Bool) (lengths : Type 0) (bytes : List ℕ) (befo
   pub moved : OnOk result (after.at ≡ before.at + length bytes)
   -- what stood after the position is cut by as many
   pub tail : OnOk result (after.tail ≡ drop (length bytes) before.tail)
-  -- a refusal leaves a buffer's position, bytes and room as they were
+  -- an error leaves a buffer's position, bytes and room as they were
   pub stayed : IsTrue is_buffer → OnErr result (after.at ≡ before.at)
   pub kept : IsTrue is_buffer → OnErr result (after.told ≡ before.told)
   pub room_kept : IsTrue is_buffer → OnErr result (after.room ≡ before.room)

@@ -4,6 +4,6 @@ use Rattle.std.specs.Vec.{vec_len, vec_capacity}
 use Rattle.amqp_generation.specs.Outputs.{Seen}
 
 -- the output that a vector is viewed as: its bytes are those put, its room is open, it doesn't
--- refuse what fits the memory that it has, and there is no device
+-- reject what fits the memory that it has, and there is no device
 abbrev pub seen_vector : {Z : Type 0} → Vec ℕ Z → Seen
 seen_vector v = record { told = Some v.items; at = length v.items; room = None; promise = vec_capacity v - vec_len v; faults = 0; tail = [] }

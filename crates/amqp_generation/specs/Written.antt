@@ -1,4 +1,4 @@
--- What a generator owes to a value that was read.
+-- What a generator must promise of a value that was read.
 use Rattle.std.specs.Prelude.{ℕ, ◌≤◌, List, length, Result, IsOk, IsErrOf}
 use Rattle.std.specs.Option.{IfSome}
 use Rattle.amqp_grammar.specs.Values.{Tree}
@@ -8,8 +8,8 @@ use Rattle.amqp_generation.specs.declared.error.GenError.{GenError}
 use Rattle.amqp_generation.specs.declared.error.GenError.TheVariants.{LengthTooLong}
 use Rattle.amqp_generation.specs.Outputs.{Seen}
 
--- Where some bytes are as `Is` says, no length in what is written is refused, and fixed room for as
--- many bytes is enough.
+-- Where some bytes are as `Is` says, no length in what is written is rejected, and fixed room for
+-- as many bytes is enough.
 pub record WritesWhatIs (Is : List ℕ → Type 0) (before : Seen) (result : Result (Unit {0}) GenError) : Type 0 where
   pub never_too_long : (w : List ℕ) → Is w → IsErrOf result LengthTooLong → ⊥
   pub succeeds : (w : List ℕ) → Is w → IfSome before.room (λ room. length w ≤ room → IsOk result)

@@ -41,7 +41,7 @@ impl<W: Output> WriteContext<W> {
         self.output.put(bytes)
     }
 
-    // Makes room for `n` more bytes, so that a buffer won't refuse them, or refuses.
+    // Makes room for `n` more bytes, so that a buffer won't reject them, or fails.
     pub(crate) fn make_room(&mut self, n: usize) -> GenResult
         ensures made { MakesRoom W.is_buffer n
             (shown W.seen self.old) result (shown W.seen self.new) }
@@ -69,7 +69,7 @@ impl<W: BackToTheBuffer> WriteContext<W> {
         self.output.position()
     }
 
-    // Appends `n` bytes of 0 and answers the position before them, or refuses.
+    // Appends `n` bytes of 0 and returns the position before them, or fails.
     pub(crate) fn reserve(&mut self, n: usize) -> Result<u64, GenError>
         ensures written { Writes true ⊤ (replicate n 0)
             (shown W.seen self.old) (answer_of result) (shown W.seen self.new) }

@@ -45,7 +45,7 @@ pub fn gen_value<W: BackToTheBuffer>(v: &AMQPValue, x: &mut WriteContext<W>) -> 
     write_value(v, x)
 }
 
-// Writes a value, for `gen_value` and for the containers that it stands in.
+// Writes a value, for `gen_value` and for the containers that it is in.
 #[cycle(values)]
 fn write_value<W: BackToTheBuffer>(v: &AMQPValue, x: &mut WriteContext<W>) -> GenResult
     ensures written { Writes true (Fits (view v.now)) (text (view v.now))
@@ -142,7 +142,7 @@ pub fn gen_field_table<W: BackToTheBuffer>(t: &FieldTable, x: &mut WriteContext<
     fill_length(at, x)
 }
 
-// Writes an entry of a table: its key as a short string, then its value with its id.
+// Writes an entry of a table: its key as a short string, then its value with its type tag.
 #[cycle(values)]
 fn gen_entry<W: BackToTheBuffer>(
     k: &ShortString,
@@ -164,7 +164,7 @@ fn gen_entry<W: BackToTheBuffer>(
     Ok(())
 }
 
-// Fills in how many bytes stand after the four from `at` on, or takes all from `at` on back.
+// Fills in how many bytes are after the four from `at` on, or takes all from `at` on back.
 pub(super) fn fill_length<W: BackToTheBuffer>(at: u64, x: &mut WriteContext<W>) -> GenResult
     requires { at + 4 ≤ (shown W.seen x.old).at }
     ensures filled { FillsLength at (shown W.seen x.old) result (shown W.seen x.new) }
