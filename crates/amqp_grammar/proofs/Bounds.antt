@@ -1,5 +1,5 @@
--- Bounds: a wire has at least as many bytes as its value's text, one for each value in it, and five
--- for each container.
+-- Bounds: an encoding has at least as many bytes as its value's text, one for each value in it, and
+-- five for each container.
 use Rattle.std.proofs.Common.{◌≡◌, ◌≤◌, ◌+◌, ◌*◌, ℕ, suc, max, List, ◌++◌, length, Option, Some, refl, subst, arith, length-append}
 use Rattle.std.specs.Option.{IfSome}
 use Rattle.std.specs.Ordering.{nat_cmp, match_ordering}
@@ -63,7 +63,7 @@ rows_wide _ = λ b. refl
 row_wide : (type : AMQPType) (f : Layout) (b : List ℕ) → fixed type ≡ Some f → width_of (scalar_type (f.denotes b)) ≡ f.width
 row_wide type f b row = subst IsWide row (rows_wide type) b
 
--- ---- wires
+-- ---- encodings
 
 -- a size, a count and five times a depth are at most n
 record Bounded (n bytes values deep : ℕ) : Type 0 where
@@ -72,7 +72,7 @@ record Bounded (n bytes values deep : ℕ) : Type 0 where
   pub depth : 5 * deep ≤ n
 
 mutual
-  -- a wire is as long as its value is large
+  -- an encoding is as long as its value is large
   wire_bounded : (w : List ℕ) (v : Tree) → Wire w v → Bounded (length w) (size v) (count v) (depth v)
   wire_bounded _ _ (wire c type b v k p) = raw_bounded type b v p
 
@@ -129,13 +129,13 @@ table_size body ps all = omega (arith, (onto_within ps no_entries).size, (pairs_
 pub array_size : (body : List ℕ) (vs : Trees) → Body body vs → body_size vs ≤ length body
 array_size body vs all = (body_bounded body vs all).size
 
--- the bounds of a wire
+-- the bounds of an encoding
 pub bounds : (w : List ℕ) (v : Tree) → Wire w v → (size v ≤ length w) × (count v ≤ length w) × (5 * depth v ≤ length w)
 bounds w v p =
     let b = wire_bounded w v p in
     (b.size, b.count, b.depth)
 
--- and of a payload, which has no id
+-- and of a payload, which has no type tag
 pub raw_bounds : (type : AMQPType) (b : List ℕ) (v : Tree) → Raw type b v
     → (size v ≤ length b + 1) × (count v ≤ length b + 1) × (5 * depth v ≤ length b + 1)
 raw_bounds type b v p =

@@ -1,4 +1,4 @@
--- Canonical wires: each is a wire, and of bytes each is the text of its value.
+-- Canonical encodings: each is an encoding, and of bytes each is the text of its value.
 use Rattle.std.proofs.Common.{◌≡◌, ◌≢◌, ◌<◌, ◌^◌, ℕ, zero, suc, Bool, true, false, cond, nat_eq, List, [], ◌∷◌, ◌++◌, length, take, drop, Option, Some, IsTrue, refl, sym, ap, ap₂, ◌∙◌, subst, arith}
 use Rattle.std.specs.Map.{lookup}
 use Rattle.std.specs.List.{AllByRecursion}
@@ -26,9 +26,9 @@ use Rattle.amqp_grammar.proofs.Tables.{rising_pairs}
 use Rattle.amqp_types.proofs.Ids.{kind_read}
 use Rattle.amqp_grammar.proofs.Shortest.{what_is_read}
 
--- ---- they are wires
+-- ---- they are encodings
 
--- a canonical wire is a wire
+-- a canonical encoding is an encoding
 pub canon_is_wire : (w : List ℕ) (v : Tree) → Canon w v → Wire w v
 canon_is_wire w v (p, is) = p
 
@@ -36,18 +36,19 @@ canon_is_wire w v (p, is) = p
 pub canon_fits : (w : List ℕ) (v : Tree) → Canon w v → Fits v × IsTrue (readable v)
 canon_fits w v (p, is) = what_is_read w v p
 
--- the keys of canonical pairs rise
+-- the keys of canonical pairs are ascending
 pub canon_rises : (body : List ℕ) (ps : Entries) (p : Pairs body ps) → IsCanonPairs body ps p → IsRising ps
 canon_rises _ _ no_pairs is = tt
 canon_rises _ _ (pair k w rest v ps key first others) is = (is.0, canon_rises rest ps others is.2)
 
 -- ---- from their parts
 
--- an id and a canonical payload
+-- a type tag and a canonical payload
 pub canon : (c : ℕ) (type : AMQPType) (b : List ℕ) (v : Tree) → kind c ≡ Some type → c ≢ 85 → c ≢ 76 → CanonRaw type b v → Canon (c ∷ b) v
 canon c type b v k not_U not_L (p, is) = (wire c type b v k p, (not_U, not_L, is))
 
--- the payload of an array, and of a table, whose pairs are its entries since their keys rise
+-- the payload of an array, and of a table, whose pairs are its entries since their keys are
+-- ascending
 pub canon_array : (body : List ℕ) (vs : Trees) → length body < 2 ^ 32 → CanonBody body vs → CanonRaw amqp.FieldArray (long_field body) (array vs)
 canon_array body vs fits (p, is) = (raw_array body vs fits p, is)
 
@@ -64,7 +65,7 @@ pub canon_pair : (k w rest : List ℕ) (v : Tree) (es : Entries) → IsShort k �
     → CanonPairs (short_field k ++ (w ++ rest)) (entry k v es)
 canon_pair k w rest v es key (p, is) before (ps, are) = (pair k w rest v es key p ps, (before, is, are))
 
--- ---- ids
+-- ---- type tags
 
 -- what holds of each row of a table holds of what is found at a letter
 row_at : (P : ℕ → AMQPType → Type 0) (c : ℕ) (rows : List (ℕ × AMQPType)) → AllByRecursion (λ r. P r.0 r.1) rows → IfSome (lookup (nat_eq c) rows) (P c)
@@ -75,7 +76,7 @@ row_at P c (r ∷ rows) all = by (nat_eq c r.0) refl (row_at P c rows all.1)
     by true is behind = subst (λ d. P d r.1) (sym (eqb-true c r.0 is)) all.0
     by false is behind = behind
 
--- a letter that is no second spelling is the one that is written
+-- a letter that is no alternate tag is the one that is written
 abbrev IsFirst : ℕ → AMQPType → Type 0
 IsFirst c type = c ≢ 85 → c ≢ 76 → c ≡ id_of type
 
@@ -138,13 +139,13 @@ kind_first c type k = subst (λ (o : Option AMQPType). IfSome o (IsFirst c)) k (
 
 -- ---- payloads of fixed width
 
--- one byte is spelled as it stands
+-- one byte is spelled unchanged
 be_byte : (b : List ℕ) → length b ≡ 1 → IsBytes b → bytes_high_first 1 (from_be_bytes w8 b) ≡ b
 be_byte [] one bytes = absurd (omega arith)
 be_byte (c ∷ []) one bytes = ap (λ (n : ℕ). n ∷ []) (omega (arith, bytes.0))
 be_byte (c ∷ d ∷ b) one bytes = absurd (omega arith)
 
--- 0 and 1 are spelled as they stand
+-- 0 and 1 are spelled unchanged
 be_truth : (b : List ℕ) → length b ≡ 1 → IsStrict amqp.Boolean b → spelled (boolean (truth (from_be_bytes w8 b))) ≡ b
 be_truth [] one strict = absurd (omega arith)
 be_truth (zero ∷ []) one strict = refl
@@ -152,7 +153,7 @@ be_truth (suc zero ∷ []) one strict = refl
 be_truth (suc (suc n) ∷ []) one strict = absurd (omega arith)
 be_truth (c ∷ d ∷ b) one strict = absurd (omega arith)
 
--- a scale and a number are spelled as they stand
+-- a scale and a number are spelled unchanged
 be_decimal : (b : List ℕ) → length b ≡ 5 → IsBytes b
     → bytes_high_first 1 (from_be_bytes w8 (take 1 b)) ++ bytes_high_first 4 (from_be_bytes w32 (drop 1 b)) ≡ b
 be_decimal [] five bytes = absurd (omega arith)
@@ -164,7 +165,7 @@ abbrev IsUndone : AMQPType → Option Layout → Type 0
 IsUndone type o = IfSome o (λ f. (b : List ℕ) → length b ≡ f.width → IsStrict type b → IsBytes b
     → (type ≡ scalar_type (f.denotes b)) × (spelled (f.denotes b) ≡ b))
 
--- the table of layouts; a letter stands for no LongLongUInt
+-- the table of layouts; a letter denotes no LongLongUInt
 rows_undone : (type : AMQPType) → read_as type ≡ Some type → IsUndone type (fixed type)
 rows_undone amqp.Boolean read = λ b len strict bytes. (refl, be_truth b len strict)
 rows_undone amqp.ShortShortInt read = λ b len strict bytes. (refl, be_byte b len bytes)
@@ -185,7 +186,7 @@ rows_undone _ read = tt
 -- ---- they are texts
 
 mutual
-  -- a canonical wire of bytes is the text of its value
+  -- a canonical encoding of bytes is the text of its value
   wire_is_text : (w : List ℕ) (v : Tree) (p : Wire w v) → IsBytes w → IsCanon w v p → w ≡ text v
   wire_is_text _ _ (wire c type b v k p) bytes is =
       let same = raw_is_payload type b v p (kind_read c type k) bytes.1 is.2 in
@@ -206,7 +207,7 @@ mutual
       let texts = pairs_are_keyed b ps p (bytes_behind (to_be_bytes w32 (length b)) b bytes) all in
       (refl, ap long_field (texts ∙ ap pairs (sym (rising_pairs ps (canon_rises b ps p all)))))
 
-  -- canonical wires one after another are the texts, joined
+  -- canonical encodings one after another are the texts, joined
   body_is_texts : (b : List ℕ) (vs : Trees) (p : Body b vs) → IsBytes b → IsCanonBody b vs p → b ≡ body vs
   body_is_texts _ _ no_values bytes all = refl
   body_is_texts _ _ (value w more v vs first others) bytes all =

@@ -1,5 +1,5 @@
--- What has a wire is found: reading as a function finds each value of the grammar, whatever stands
--- behind its wire.
+-- What has an encoding is found: reading as a function finds each value of the grammar, whatever
+-- stands after its encoding.
 use Rattle.std.proofs.Common.{ℕ, suc, zero, ◌+◌, ◌-◌, ◌≤◌, ◌≡◌, ◌∙◌, ap, sym, refl, subst, Bool, true, ◌&&◌, Option, Some, None, option_map, List, [], ◌∷◌, ◌++◌, length, take, drop, arith, append_assoc, length-append}
 use Rattle.std.proofs.Math.Seq.{take-append_seam, drop-append_seam}
 use Rattle.std.proofs.lemmas.Bool.{le-ltb, le-leb}
@@ -18,7 +18,7 @@ use Rattle.amqp_grammar.specs.Nesting.{nesting, raw_nesting, body_nesting, pairs
 use Rattle.amqp_grammar.specs.Outcomes.{Reading, found, more, unknown, malformed, length_field, counted, lack_of, frame_lack}
 use Rattle.amqp_grammar.specs.Decode.{Meaning, framed, raw_outcome_by, outcome_by, values_by, is_short, is_key, pairs_onto, meaning}
 
--- the cases of reading, under names: by what the id stands for
+-- the cases of reading, under names: by what the type tag denotes
 abbrev pub by_kind : Option AMQPType → Meaning → List ℕ → Reading
 by_kind k mean b = elim k [ None ↦ unknown | Some type ↦ raw_outcome_by mean type b ]
 
@@ -29,11 +29,11 @@ by_layout f mean type b = elim f [
   | None ↦ framed (length_field type) (mean type) b
 ]
 
--- by what lacks
+-- by what is missing
 abbrev pub by_lack : ℕ → Meaning → AMQPType → List ℕ → Reading
 by_lack n mean type b = elim n [ suc n ↦ more (suc n) | zero ↦ by_layout (fixed type) mean type b ]
 
--- by what the bytes behind a length field mean
+-- by what the bytes after a length field mean
 abbrev pub by_meaning : Option Tree → List ℕ → Reading
 by_meaning v rest = elim v [ Some v ↦ found v rest | None ↦ malformed ]
 
@@ -41,7 +41,7 @@ by_meaning v rest = elim v [ Some v ↦ found v rest | None ↦ malformed ]
 abbrev pub and_others : (List ℕ → Reading) → ℕ → Reading → Option Trees
 and_others read n o = elim o [ found v rest ↦ option_map (tree v) (values_by read n rest) | _ ↦ None ]
 
--- by what stands behind the first of some keys
+-- by what is after the first of some keys
 abbrev pub and_pairs : (List ℕ → Reading) → ℕ → Entries → List ℕ → Reading → Option Entries
 and_pairs read n es k o = elim o [ found v rest ↦ pairs_onto read n (put k v es) rest | _ ↦ None ]
 
@@ -75,7 +75,7 @@ fixed_lack-whole : (f : Layout) (w : Width) (b : List ℕ) → f.first ≤ f.wid
 fixed_lack-whole f w b first fields =
     ap (λ t. cond t (f.first - length b) (f.width - length b)) (le-ltb (length b) f.first (omega arith)) ∙ omega arith
 
--- nor does a whole frame
+-- nor does a complete length-prefixed field
 frame_lack-whole : (w : Width) (b : List ℕ) → byte_len w ≤ length b → byte_len w + counted w b ≤ length b → frame_lack w b ≡ 0
 frame_lack-whole w b field frame =
     ap (λ t. cond t (byte_len w - length b) (byte_len w + counted w b - length b)) (le-ltb (length b) (byte_len w) field) ∙ omega arith
@@ -114,16 +114,16 @@ framed_found mean type l s rest v is field_wide counts means =
 is_short-true : (s : List ℕ) → IsShort s → is_short s ≡ true
 is_short-true s is = λ i. le-leb (length s) 255 is.few i && is_utf8-from_IsUtf8 s is.utf8 i
 
--- a key at the front is found to be one
+-- a key at the start is found to be one
 is_key-true : (k s : List ℕ) → IsShort k → is_key (length k) (k ++ s) ≡ true
 is_key-true k s is =
     λ i. le-leb (length k) (length (k ++ s)) (omega (arith, length-append k s)) i && (ap is_short (take-append_seam k s) ∙ is_short-true k is) i
 
--- a wire has its id
+-- an encoding has its type tag
 pub wire_starts : (w : List ℕ) (v : Tree) → Wire w v → 1 ≤ length w
 wire_starts _ _ (wire c type b v is raw) = omega arith
 
--- what starts with a value's wire is that value, and then the others
+-- what starts with a value's encoding is that value, and then the others
 value_first : (read : List ℕ → Reading) (n : ℕ) (w rest : List ℕ) (v : Tree) → Wire w v → length (w ++ rest) ≤ suc n
     → read (w ++ rest) ≡ found v rest → values_by read (suc n) (w ++ rest) ≡ option_map (tree v) (values_by read n rest)
 value_first read n _ rest _ (wire c type b v is raw) room first = ap (and_others read n) first
@@ -135,7 +135,7 @@ array_means : (depth deep : ℕ) (body : List ℕ) (vs : Trees) → suc deep ≤
 array_means zero deep body vs within spelled = absurd (omega arith)
 array_means (suc depth) deep body vs within spelled = ap (option_map array) (spelled depth (omega arith))
 
--- what starts with a key and a value's wire is that pair, and then the others
+-- what starts with a key and a value's encoding is that pair, and then the others
 pair_first : (read : List ℕ → Reading) (n : ℕ) (es : Entries) (k t rest : List ℕ) (v : Tree) → IsShort k → read t ≡ found v rest
     → pairs_onto read (suc n) es (short_field k ++ t) ≡ pairs_onto read n (put k v es) rest
 pair_first read n es k t rest v key first =
@@ -150,7 +150,7 @@ table_means zero deep body es within spelled = absurd (omega arith)
 table_means (suc depth) deep body es within spelled = ap (option_map table) (spelled depth (omega arith))
 
 mutual
-  -- every wire that nests no deeper is found
+  -- every encoding that nests no deeper is found
   pub found_wire : (depth : ℕ) (w rest : List ℕ) (v : Tree) (p : Wire w v) → nesting w v p ≤ depth
       → outcome_by (meaning depth) (w ++ rest) ≡ found v rest
   found_wire depth _ rest _ (wire c type b v is raw) within =

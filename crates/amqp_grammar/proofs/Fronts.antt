@@ -1,9 +1,9 @@
--- Fronts of lists.
+-- Prefixes of lists.
 use Rattle.std.proofs.Common.{◌≡◌, ℕ, ◌≤◌, List, [], ◌∷◌, ◌++◌, length, take, drop, refl, sym, ap, ◌∙◌, arith, take-append-drop, Option, Some}
 use Rattle.std.proofs.lemmas.List.{take_at, take-append-le}
 use Rattle.std.proofs.lemmas.Option.{same_Some}
 
--- two fronts of one list that are as long are one, and so are the rests
+-- two prefixes of one list that are as long are one, and so are the rests
 pub same_fronts : (a b x y : List ℕ) → length a ≡ length b → a ++ x ≡ b ++ y → (a ≡ b) × (x ≡ y)
 same_fronts [] [] x y len e = (refl, e)
 same_fronts [] (d ∷ b) x y len e = absurd (omega arith)
@@ -12,7 +12,7 @@ same_fronts (c ∷ a) (d ∷ b) x y len e =
     let rest = same_fronts a b x y (omega arith) (cc) in
     (cc, rest.1)
 
--- a front of a joined list that is no longer than its first part is a front of that part
+-- a prefix of a joined list that is no longer than its first part is a prefix of that part
 pub front_inside : (s t b rest : List ℕ) → s ++ t ≡ b ++ rest → length b ≤ length s → s ≡ b ++ drop (length b) s
 front_inside s t b rest e le =
     let front : take (length b) s ≡ b = sym (take-append-le (length b) s t le) ∙ (ap (take (length b)) e ∙ take_at b rest (length b) refl) in

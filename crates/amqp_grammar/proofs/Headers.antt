@@ -47,15 +47,15 @@ fields_lack_known f b le = rw (le-ltb (length b) f.first le) refl
 frame_lack_cut : (w : Width) (b : List ℕ) → length b < byte_len w → frame_lack w b ≡ byte_len w - length b
 frame_lack_cut w b lt = rw (lt-ltb (length b) (byte_len w) lt) refl
 
--- what a frame lacks whose length field is whole
+-- what a length-prefixed field lacks whose length field is whole
 frame_lack_known : (w : Width) (b : List ℕ) → byte_len w ≤ length b → frame_lack w b ≡ byte_len w + counted w b - length b
 frame_lack_known w b le = rw (le-ltb (length b) (byte_len w) le) refl
 
--- bytes behind a whole length field don't change its number
+-- bytes after a whole length field don't change its number
 counted-append : (w : Width) (b t : List ℕ) → byte_len w ≤ length b → counted w (b ++ t) ≡ counted w b
 counted-append w b t le = rw (take-append-le (byte_len w) b t le) refl
 
--- a frame that lacks nothing reaches its extent
+-- a length-prefixed field that lacks nothing reaches its extent
 extent_of-whole : (o : Option Layout) (w : Width) (b : List ℕ) → lack_of o w b ≡ 0 → extent_of o w b ≤ length b
 extent_of-whole (Some f) w b e = elim (cases_lt (length b) f.first) [
   | inl cut ↦ absurd (omega (arith, fields_lack_cut f b cut))
@@ -66,12 +66,12 @@ extent_of-whole None w b e = elim (cases_lt (length b) (byte_len w)) [
   | inr known ↦ omega (arith, frame_lack_known w b known)
 ]
 
--- a frame that reaches its extent lacks nothing
+-- a length-prefixed field that reaches its extent lacks nothing
 lack_of-none : (o : Option Layout) (w : Width) (b : List ℕ) → FirstWithin o → extent_of o w b ≤ length b → lack_of o w b ≡ 0
 lack_of-none (Some f) w b within le = omega (arith, fields_lack_known f b (omega arith))
 lack_of-none None w b within le = omega (arith, frame_lack_known w b (omega arith))
 
--- more bytes behind a whole frame don't change its extent
+-- more bytes after a complete length-prefixed field don't change its extent
 extent_of-append : (o : Option Layout) (w : Width) (b t : List ℕ) → lack_of o w b ≡ 0 → extent_of o w (b ++ t) ≡ extent_of o w b
 extent_of-append (Some f) w b t e = refl
 extent_of-append None w b t e = ap (λ n. byte_len w + n) (counted-append w b t (omega (arith, extent_of-whole None w b e)))
@@ -93,19 +93,19 @@ lack_of-append None w b t lt = elim (cases_lt (length b) (byte_len w)) [
       omega (arith, length-append b t, counted-append w b t known, frame_lack_known w b known, frame_lack_known w (b ++ t) (omega (arith, length-append b t)))
 ]
 
--- a whole frame reaches its extent
+-- a complete length-prefixed field reaches its extent
 pub extent-whole : (type : AMQPType) (b : List ℕ) → lack type b ≡ 0 → extent type b ≤ length b
 extent-whole type b e = extent_of-whole (fixed type) (length_field type) b e
 
--- a frame that reaches its extent is whole
+-- a length-prefixed field that reaches its extent is whole
 pub lack-none : (type : AMQPType) (b : List ℕ) → extent type b ≤ length b → lack type b ≡ 0
 lack-none type b le = lack_of-none (fixed type) (length_field type) b (first_within type) le
 
--- more bytes behind a whole frame don't change its extent
+-- more bytes after a complete length-prefixed field don't change its extent
 pub extent-append : (type : AMQPType) (b t : List ℕ) → lack type b ≡ 0 → extent type (b ++ t) ≡ extent type b
 extent-append type b t e = extent_of-append (fixed type) (length_field type) b t e
 
--- a whole frame stays whole
+-- a complete length-prefixed field stays whole
 pub lack-whole : (type : AMQPType) (b t : List ℕ) → lack type b ≡ 0 → lack type (b ++ t) ≡ 0
 lack-whole type b t e =
     lack-none type (b ++ t) (omega (arith, extent-append type b t e, extent-whole type b e, length-append b t))
@@ -121,7 +121,7 @@ counted-long_field s rest fits = from_be_bytes-to_be_bytes_4 (length s) fits
 pub counted-short_field : (s rest : List ℕ) → IsShort s → counted w8 (short_field s ++ rest) ≡ length s
 counted-short_field s rest is = omega (arith, is.few)
 
--- bytes behind their length are a whole frame
+-- bytes after their length are a complete length-prefixed field
 pub lack_of-long_field : (s rest : List ℕ) → length s < 2 ^ 32 → lack_of None w32 (long_field s ++ rest) ≡ 0
 lack_of-long_field s rest fits = lack_of-none None w32 (long_field s ++ rest) tt (omega (arith, counted-long_field s rest fits, length-append s rest))
 
@@ -137,6 +137,6 @@ extent-raw _ _ rest _ (raw_octets s fits) = omega (arith, counted-long_field s r
 extent-raw _ _ rest _ (raw_array body vs fits all) = omega (arith, counted-long_field body rest fits)
 extent-raw _ _ rest _ (raw_table body ps fits all) = omega (arith, counted-long_field body rest fits)
 
--- the frame of a payload is whole, whatever follows
+-- the length-prefixed field of a payload is whole, whatever follows
 pub lack-raw : (type : AMQPType) (b rest : List ℕ) (v : Tree) → Raw type b v → lack type (b ++ rest) ≡ 0
 lack-raw type b rest v p = lack-none type (b ++ rest) (omega (arith, extent-raw type b rest v p, length-append b rest))

@@ -1,5 +1,5 @@
--- Headlines: what was read keeps to its wire's length, and what is written is a shortest wire that
--- tells its value.
+-- Headlines: what was read keeps to its encoding's length, and what is written is a shortest
+-- encoding that tells its value.
 use Rattle.std.proofs.Common.{◌≡◌, ◌-◌, ℕ, zero, suc, List, [], ◌∷◌, length, Option, Some, None, MatchOption, ap, subst, arith, length-append}
 use Rattle.amqp_types.specs.declared.amqp_type.AMQPType.{AMQPType}
 use Rattle.amqp_grammar.specs.Values.{Tree}
@@ -12,7 +12,7 @@ use Rattle.amqp_grammar.specs.Headline.{IsWritableIn, IsShortest, TellsApart}
 use Rattle.amqp_grammar.proofs.Bounds.{bounds}
 use Rattle.amqp_grammar.proofs.Shortest.{what_is_read, shortest, same_text_same_value}
 
--- what is found has a wire at the front
+-- what is found has an encoding at the start
 pub found_front : (s rest : List ℕ) (v : Tree) → Outcome s (found v rest) → Front s (found v rest)
 found_front [] rest v x = absurd cc
 found_front (c ∷ b) rest v x = by (kind c) x
@@ -26,7 +26,7 @@ found_front (c ∷ b) rest v x = by (kind c) x
     by None e = absurd cc
     by (Some type) f = decided (lack type b) f
 
--- a value that was read is bounded by its wire
+-- a value that was read is bounded by its encoding
 pub bounded_wire : (w : List ℕ) (v : Tree) → Wire w v → IsWritableIn (length w) v
 bounded_wire w v p =
     let bound = bounds w v p in
@@ -40,7 +40,7 @@ bounded_found s rest v x =
     let taken : length front.0 ≡ length s - length rest = omega (arith, ap length front.2, length-append front.0 rest) in
     subst (λ (n : ℕ). IsWritableIn n v) taken (bounded_wire front.0 v front.1)
 
--- the text is a shortest wire
+-- the text is a shortest encoding
 pub is_shortest : (v : Tree) → IsShortest v
 is_shortest v w bytes p = shortest w v bytes p
 

@@ -1,4 +1,4 @@
--- Reading where containers nest at most so deep: the laws of reading, with that limit.
+-- Reading where containers nest at most that deep: the laws of reading, with that limit.
 use Rattle.std.proofs.Common.{◌≡◌, ◌↔◌, ◌≤◌, ◌*◌, ◌+◌, ◌/◌, ℕ, zero, suc, List, [], ◌∷◌, ◌++◌, length, drop, Option, Some, None, refl, sym, ap, ap₂, ◌∙◌, subst, arith, length-append}
 use Rattle.std.specs.Prelude.{MatchOption}
 use Rattle.amqp_types.specs.declared.amqp_type.AMQPType.{AMQPType}
@@ -16,7 +16,7 @@ use Rattle.amqp_grammar.proofs.Nests.{nesting-le, raw_nesting-le}
 
 -- ---- of any P
 
--- P decides what Q does, where they hold of the same fronts
+-- P decides what Q does, where they hold of the same prefixes
 front_same : (P Q : List ℕ → Tree → Type 0) (s : List ℕ) (o : Reading) → ((b rest : List ℕ) (v : Tree) → s ≡ b ++ rest → P b v → Q b v)
     → ((b rest : List ℕ) (v : Tree) → s ≡ b ++ rest → Q b v → P b v) → FrontBy P s o → FrontBy Q s o
 front_same P Q s (found v rest) there back (b, p, e) = (b, there b rest v e p, e)
@@ -43,7 +43,7 @@ outcome_same P Q (c ∷ b) o there back x = by (kind c) x
     by None e = e
     by (Some type) y = unless_same (lack type b) (FrontBy P (c ∷ b) o) (FrontBy Q (c ∷ b) o) o (front_same P Q (c ∷ b) o there back) y
 
--- what is found stands at the front
+-- what is found is at the start
 raw_front : (P : List ℕ → Tree → Type 0) (n : ℕ) (s rest : List ℕ) (v : Tree) → LacksOr n (FrontBy P s (found v rest)) (found v rest) → FrontBy P s (found v rest)
 raw_front P zero s rest v f = f
 raw_front P (suc n) s rest v e = absurd cc
@@ -57,7 +57,7 @@ front_by P (c ∷ b) rest v x = by (kind c) x
     by None e = absurd cc
     by (Some type) y = raw_front P (lack type b) (c ∷ b) rest v y
 
--- a front has one meaning
+-- a prefix has one meaning
 abbrev One : (List ℕ → Tree → Type 0) → Type 0
 One P = (b c x y : List ℕ) (v u : Tree) → P b v → P c u → b ++ x ≡ c ++ y → (v ≡ u) × (x ≡ y)
 
@@ -91,15 +91,15 @@ one_outcome_by P one (c ∷ b) o p x y = by (kind c) x y
 one_within : (d : ℕ) → One (WireWithin d)
 one_within d b c x y v u p q e = let same = one_reading b c x y v u p.0 q.0 e in (same.1, same.2)
 
--- reading a value within a depth comes to one outcome
+-- reading a value within a depth results in one outcome
 pub one_outcome_within : (d : ℕ) (s : List ℕ) (o p : Reading) → OutcomeWithin d s o → OutcomeWithin d s p → o ≡ p
 one_outcome_within d s o p x y = one_outcome_by (WireWithin d) (one_within d) s o p x y
 
--- what is found stands at the front
+-- what is found is at the start
 pub front_within : (d : ℕ) (s rest : List ℕ) (v : Tree) → OutcomeWithin d s (found v rest) → (w : List ℕ) × WireWithin d w v × (s ≡ w ++ rest)
 front_within d s rest v x = front_by (WireWithin d) s rest v x
 
--- a payload with its id before it is a wire
+-- a payload with its type tag before it is an encoding
 wire_of_raw : (d c : ℕ) (type : AMQPType) (b : List ℕ) (v : Tree) → kind c ≡ Some type → RawWithin d type b v → WireWithin d (c ∷ b) v
 wire_of_raw d c type b v k (p, within) = (wire c type b v k p, within)
 
@@ -119,21 +119,21 @@ front_from_raw d c type b malformed k f = λ w rest v p e.
 front_from_raw d c type b (more n) k f = absurd f
 front_from_raw d c type b unknown k f = absurd f
 
--- reading an id and then its payload is reading the value
+-- reading a type tag and then its payload is reading the value
 pub raw_to_value_within : (d c : ℕ) (type : AMQPType) (b : List ℕ) (o : Reading) → kind c ≡ Some type → RawOutcomeWithin d type b o → OutcomeWithin d (c ∷ b) o
 raw_to_value_within d c type b o k x =
     subst (λ (k : Option AMQPType). MatchOption k (o ≡ unknown) (λ type. LacksOr (lack type b) (FrontBy (WireWithin d) (c ∷ b) o) o)) (sym k)
     (unless_same (lack type b) (FrontBy (RawWithin d type) b o) (FrontBy (WireWithin d) (c ∷ b) o) o (front_from_raw d c type b o k) x)
 
--- a whole frame comes to what its front decides
+-- a complete length-prefixed field results in what its prefix decides
 pub raw_whole_within : (d : ℕ) (type : AMQPType) (s : List ℕ) (o : Reading) → lack type s ≡ 0 → FrontBy (RawWithin d type) s o → RawOutcomeWithin d type s o
 raw_whole_within d type s o whole f = subst (λ (n : ℕ). LacksOr n (FrontBy (RawWithin d type) s o) o) (sym whole) f
 
--- a payload is found at the front
+-- a payload is found at the start
 pub raw_found_within : (d : ℕ) (type : AMQPType) (b rest : List ℕ) (v : Tree) → RawWithin d type b v → RawOutcomeWithin d type (b ++ rest) (found v rest)
 raw_found_within d type b rest v p = raw_whole_within d type (b ++ rest) (found v rest) (lack-raw type b rest v p.0) (b, p, refl)
 
--- a wire is found at the front
+-- an encoding is found at the start
 pub wire_found_within : (d : ℕ) (w rest : List ℕ) (v : Tree) (p : Wire w v) → nesting w v p ≤ d → OutcomeWithin d (w ++ rest) (found v rest)
 wire_found_within d _ rest _ (wire c type b v k p) within =
     raw_to_value_within d c type (b ++ rest) (found v rest) k (raw_found_within d type b rest v (p, within))
@@ -151,13 +151,14 @@ raw_unlimited d type s o enough x =
     raw_outcome_same (RawWithin d type) (Raw type) type s o (λ b rest v e p. p.0)
     (λ b rest v e p. (p, omega (arith, raw_nesting-le type b v p, ap length e, length-append b rest))) x
 
--- a wire is one in which containers nest at most as deep as a fifth of its bytes, and any deeper
+-- an encoding is one in which containers nest at most as deep as a fifth of its bytes, and any
+-- deeper
 pub deep_enough : (w : List ℕ) (v : Tree) → Wire w v ↔ ((d : ℕ) → length w / 5 ≤ d → WireWithin d w v)
 deep_enough w v = (λ p d le. (p, omega (arith, nesting-le w v p)), λ all. (all (length w / 5) (omega arith)).0)
 
 -- ---- more bytes
 
--- where no front is a wire that nests at most d deep, none is with more bytes
+-- where no prefix is an encoding that nests at most d deep, none is with more bytes
 pub malformed_append : (d : ℕ) (s t : List ℕ) → OutcomeWithin d s malformed → OutcomeWithin d (s ++ t) malformed
 malformed_append d [] t x = absurd cc
 malformed_append d (c ∷ b) t x = by (kind c) refl x
@@ -177,7 +178,7 @@ malformed_append d (c ∷ b) t x = by (kind c) refl x
     by None k e = e
     by (Some type) k y = decided type k (lack type b) refl y
 
--- what begins with no id does with more bytes
+-- what begins with no type tag does with more bytes
 pub unknown_append : (d : ℕ) (s t : List ℕ) → OutcomeWithin d s unknown → OutcomeWithin d (s ++ t) unknown
 unknown_append d [] t x = absurd cc
 unknown_append d (c ∷ b) t x = by (kind c) x

@@ -12,13 +12,14 @@ use Rattle.amqp_grammar.proofs.Fronts.{front_inside}
 use Rattle.amqp_grammar.proofs.Headers.{extent, extent-whole, extent-append, extent-raw, lack-whole, lack-append}
 use Rattle.amqp_grammar.proofs.Outcomes.{raw_whole, value_to_raw, raw_to_value, unknown_outcome}
 
--- a payload at the front of a joined list stands in its first part, where that is a whole frame
+-- a payload at the start of a joined list is in its first part, where that is a complete
+-- length-prefixed field
 pub raw_inside : (type : AMQPType) (s t b rest : List ℕ) (v : Tree) → lack type s ≡ 0 → Raw type b v → s ++ t ≡ b ++ rest → s ≡ b ++ drop (length b) s
 raw_inside type s t b rest v whole p e =
     let same : extent type s ≡ length b = sym (extent-append type s t whole) ∙ (ap (extent type) e ∙ extent-raw type b rest v p) in
     front_inside s t b rest e (omega (arith, same, extent-whole type s whole))
 
--- what decides a whole frame decides it with more bytes
+-- what decides a complete length-prefixed field decides it with more bytes
 RawFront-append : (type : AMQPType) (s t : List ℕ) (o : Reading) → lack type s ≡ 0 → RawFront type s o → RawFront type (s ++ t) (with_more o t)
 RawFront-append type s t (found v rest) whole f = (f.0, f.1, ap (λ (x : List ℕ). x ++ t) f.2 ∙ append_assoc f.0 rest t)
 RawFront-append type s t malformed whole f = λ b rest v p e.
@@ -31,7 +32,7 @@ LacksOr-more : (n : ℕ) (P : Type 0) → 0 < n → LacksOr n P (more n)
 LacksOr-more zero P lt = absurd (omega arith)
 LacksOr-more (suc n) P lt = refl
 
--- reading a payload that lacks n bytes comes to asking for them
+-- reading a payload that is short by n bytes results in asking for them
 raw_lacks : (type : AMQPType) (s : List ℕ) (n : ℕ) → lack type s ≡ n → 0 < n → RawOutcome type s (more n)
 raw_lacks type s n e lt =
     subst (λ (m : ℕ). LacksOr m (RawFront type s (more n)) (more n)) (sym e) (LacksOr-more n (RawFront type s (more n)) lt)

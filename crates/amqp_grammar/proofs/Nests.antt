@@ -1,4 +1,4 @@
--- How deep a wire can nest: each container that holds another takes five bytes.
+-- How deep an encoding can nest: each container that holds another takes five bytes.
 use Rattle.std.proofs.Common.{ℕ, suc, ◌*◌, ◌≤◌, List, ◌++◌, length, arith, length-append}
 use Rattle.amqp_types.specs.declared.amqp_type.AMQPType.{AMQPType}
 use Rattle.amqp_grammar.specs.Values.{Tree, Trees, Entries}
@@ -6,7 +6,7 @@ use Rattle.amqp_grammar.specs.Grammar.{Wire, Raw, Body, Pairs, wire, raw_fixed, 
 use Rattle.amqp_grammar.specs.Nesting.{nesting, raw_nesting, body_nesting, pairs_nesting}
 
 mutual
-  -- a wire has five bytes for each container
+  -- an encoding has five bytes for each container
   pub nesting-le : (w : List ℕ) (v : Tree) (p : Wire w v) → 5 * nesting w v p ≤ length w
   nesting-le _ _ (wire c type b v is raw) = raw_nesting-le type b v raw
 

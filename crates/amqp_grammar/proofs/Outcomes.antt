@@ -13,7 +13,8 @@ use Rattle.amqp_grammar.proofs.Unique.{one_raw_reading}
 
 -- ---- a value and its payload
 
--- a wire at the front of c and b, where c is an id: a payload of c's type stands at the front of b
+-- an encoding at the start of c and b, where c is a type tag: a payload of c's type is at the start
+-- of b
 pub raw_of_wire : (c : ℕ) (type : AMQPType) (b w rest : List ℕ) (v : Tree) → kind c ≡ Some type → Wire w v → c ∷ b ≡ w ++ rest
     → (p : List ℕ) × Raw type p v × (b ≡ p ++ rest)
 raw_of_wire c type b _ rest _ k (wire d type2 p v k2 q) e =
@@ -21,7 +22,7 @@ raw_of_wire c type b _ rest _ k (wire d type2 p v k2 q) e =
     let same : type2 ≡ type = one_held (kind c) type2 type (ap kind head ∙ k2) k in
     (p, subst (λ (t : AMQPType). Raw t p v) same q, cc)
 
--- what a payload at the front of b decides, a wire at the front of c and b does
+-- what a payload at the start of b decides, an encoding at the start of c and b does
 front_from_raw : (c : ℕ) (type : AMQPType) (b : List ℕ) (o : Reading) → kind c ≡ Some type → RawFront type b o → Front (c ∷ b) o
 front_from_raw c type b (found v rest) k f = (c ∷ f.0, wire c type f.0 v k f.1, ap (λ (t : List ℕ). c ∷ t) f.2)
 front_from_raw c type b malformed k f = λ w rest v p e.
@@ -43,11 +44,11 @@ LacksOr-weaker : (n : ℕ) (P Q : Type 0) (o : Reading) → (P → Q) → LacksO
 LacksOr-weaker zero P Q o f x = f x
 LacksOr-weaker (suc n) P Q o f x = x
 
--- the outcome of reading c and b, where k is what c stands for
+-- the outcome of reading c and b, where k is what c denotes
 abbrev OutcomeAt : List ℕ → Reading → ℕ → Option AMQPType → Type 0
 OutcomeAt b o c k = MatchOption k (o ≡ unknown) (λ type. LacksOr (lack type b) (Front (c ∷ b) o) o)
 
--- reading an id and then its payload is reading the value
+-- reading a type tag and then its payload is reading the value
 pub raw_to_value : (c : ℕ) (type : AMQPType) (b : List ℕ) (o : Reading) → kind c ≡ Some type → RawOutcome type b o → Outcome (c ∷ b) o
 raw_to_value c type b o k x =
     subst (OutcomeAt b o c) (sym k)
@@ -59,7 +60,7 @@ value_to_raw c type b o k x =
     LacksOr-weaker (lack type b) (Front (c ∷ b) o) (RawFront type b o) o (raw_from_front c type b o k)
     (subst (OutcomeAt b o c) k x)
 
--- where the first byte is no id, that is the outcome
+-- where the first byte isn't a type tag, that is the outcome
 pub unknown_outcome : (c : ℕ) (b : List ℕ) (o : Reading) → kind c ≡ None → (Outcome (c ∷ b) o → o ≡ unknown) × (o ≡ unknown → Outcome (c ∷ b) o)
 unknown_outcome c b o k = (λ x. subst (OutcomeAt b o c) k x, λ x. subst (OutcomeAt b o c) (sym k) x)
 
@@ -67,23 +68,23 @@ unknown_outcome c b o k = (λ x. subst (OutcomeAt b o c) k x, λ x. subst (Outco
 pub raw_to_heavy : (c : ℕ) (type : AMQPType) (b : List ℕ) → kind c ≡ Some type → RawHeavy type b → Heavy (c ∷ b)
 raw_to_heavy c type b k x = subst (λ (k : Option AMQPType). MatchOption k ⊥ (λ type. RawHeavy type b)) (sym k) x
 
--- ---- whole frames
+-- ---- whole length-prefixed fields
 
--- a whole frame comes to what its front decides
+-- a complete length-prefixed field results in what its prefix decides
 pub raw_whole : (type : AMQPType) (s : List ℕ) (o : Reading) → lack type s ≡ 0 → RawFront type s o → RawOutcome type s o
 raw_whole type s o whole f = subst (λ (n : ℕ). LacksOr n (RawFront type s o) o) (sym whole) f
 
--- a payload is found at the front
+-- a payload is found at the start
 pub raw_found : (type : AMQPType) (b rest : List ℕ) (v : Tree) → Raw type b v → RawOutcome type (b ++ rest) (found v rest)
 raw_found type b rest v p = raw_whole type (b ++ rest) (found v rest) (lack-raw type b rest v p) (b, p, refl)
 
--- a wire is found at the front
+-- an encoding is found at the start
 pub wire_found : (w rest : List ℕ) (v : Tree) → Wire w v → Outcome (w ++ rest) (found v rest)
 wire_found _ rest _ (wire c type b v k p) = raw_to_value c type (b ++ rest) (found v rest) k (raw_found type b rest v p)
 
 -- ---- one outcome
 
--- a list has one front that is a payload, or none
+-- a list has one prefix that is a payload, or none
 one_front_outcome : (type : AMQPType) (s : List ℕ) (o p : Reading) → RawFront type s o → RawFront type s p → o ≡ p
 one_front_outcome type s (found v rest) (found u left) f g =
     let same = one_raw_reading type f.0 g.0 rest left v u f.1 g.1 (sym f.2 ∙ g.2) in
@@ -96,7 +97,7 @@ one_front_outcome type s unknown p f g = absurd f
 one_front_outcome type s o (more n) f g = absurd g
 one_front_outcome type s o unknown f g = absurd g
 
--- reading a payload comes to one outcome
+-- reading a payload results in one outcome
 pub one_raw_outcome : (type : AMQPType) (s : List ℕ) (o p : Reading) → RawOutcome type s o → RawOutcome type s p → o ≡ p
 one_raw_outcome type s o p x y = by (lack type s) x y
   where
@@ -104,7 +105,7 @@ one_raw_outcome type s o p x y = by (lack type s) x y
     by zero f g = one_front_outcome type s o p f g
     by (suc n) f g = f ∙ sym g
 
--- reading a value comes to one outcome
+-- reading a value results in one outcome
 pub one_outcome : (s : List ℕ) (o p : Reading) → Outcome s o → Outcome s p → o ≡ p
 one_outcome [] o p x y = x ∙ sym y
 one_outcome (c ∷ b) o p x y = by (kind c) refl

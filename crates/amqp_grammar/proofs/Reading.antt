@@ -21,13 +21,13 @@ use Rattle.amqp_grammar.proofs.Unique.{one_front, one_key}
 use Rattle.amqp_grammar.proofs.Outcomes.{raw_of_wire, raw_whole, raw_to_value, wire_found}
 use Rattle.amqp_grammar.proofs.Spelling.{text_is_wire}
 
--- two lists behind their lengths, at the front of one list, are one
+-- two lists after their lengths, at the start of one list, are one
 one_large : (s t x y : List ℕ) → length s < 2 ^ 32 → length t < 2 ^ 32 → long_field s ++ x ≡ long_field t ++ y → (s ≡ t) × (x ≡ y)
 one_large s t x y short_s short_t e =
     let len : length s ≡ length t = sym (counted-long_field s x short_s) ∙ (ap (counted w32) e ∙ counted-long_field t y short_t) in
     same_fronts s t x y len (ap (drop 4) e)
 
--- the payload of an array is a body behind its length
+-- the payload of an array is a body after its length
 pub array_body : (s x b y : List ℕ) (z : Tree) → length s < 2 ^ 32 → Raw amqp.FieldArray b z → long_field s ++ x ≡ b ++ y → (us : Trees) × Body s us
 array_body s x _ y _ fits (raw_fixed type f b row len) e = absurd cc
 array_body s x _ y _ fits (raw_array c us room p) e =
@@ -43,7 +43,7 @@ array_body_within d s x _ y _ fits (raw_array c us room p) within e =
     let at = subst (λ (t : List ℕ). (q : Body t us) × (suc (body_nesting t us q) ≤ d)) (sym same.0) (p, within) in
     (us, at.0, at.1)
 
--- the payload of a table is pairs behind their length
+-- the payload of a table is pairs after their length
 pub table_body : (s x b y : List ℕ) (z : Tree) → length s < 2 ^ 32 → Raw amqp.FieldTable b z → long_field s ++ x ≡ b ++ y → (ps : Entries) × Pairs s ps
 table_body s x _ y _ fits (raw_fixed type f b row len) e = absurd cc
 table_body s x _ y _ fits (raw_table c ps room p) e =
@@ -58,12 +58,12 @@ table_body_within d s x _ y _ fits (raw_table c ps room p) within e =
     let at = subst (λ (t : List ℕ). (q : Pairs t ps) × (suc (pairs_nesting t ps q) ≤ d)) (sym same.0) (p, within) in
     (ps, at.0, at.1)
 
--- the payload of a short string is one behind its length
+-- the payload of a short string is one after its length
 pub short_bytes : (s x b y : List ℕ) (z : Tree) → Raw amqp.ShortString b z → short_field s ++ x ≡ b ++ y → IsShort s
 short_bytes s x _ y _ (raw_fixed type f b row len) e = absurd cc
 short_bytes s x _ y _ (raw_short t is) e = rw (one_key s t x y e).0 is
 
--- what begins with no id begins with no wire
+-- what begins with no type tag begins with no encoding
 no_wire : (c : ℕ) (b w rest : List ℕ) (v : Tree) → kind c ≡ None → Wire w v → c ∷ b ≡ w ++ rest → ⊥
 no_wire c b _ rest _ none (wire d type p v k q) e =
     let head : c ≡ d = cc in
@@ -80,7 +80,7 @@ no_empty_text (array vs) x e = cc
 no_empty_text (table es) x e = cc
 
 mutual
-  -- a value whose text is a wire, of whatever value, is readable
+  -- a value whose text is an encoding, of whatever value, is readable
   pub text_readable : (v : Tree) (x w y : List ℕ) (z : Tree) → IsValue v → Fits v → Wire w z → text v ++ x ≡ w ++ y → IsTrue (readable v)
   text_readable (scalar s) x w y z is fits p e = refl
   text_readable (short s) x w y z is fits p e = absurd (no_wire (id_of amqp.ShortString) (short_field s ++ x) w y z refl p e)
@@ -114,25 +114,26 @@ mutual
       let same = one_front (text v) w (pairs es) more v z (text_is_wire v are.1 fits.0 r) p behind.1 in
       and_from (readable v) (entries_readable es) r (pairs_readable es more ps are.3 fits.1 all same.1)
 
--- where a value of an array is not readable, no front is a payload of an array
+-- where a value of an array is not readable, no prefix is a payload of an array
 no_array : (vs : Trees) (rest : List ℕ) → AreValues vs → Fits (array vs) → all_readable vs ≡ false → RawFront amqp.FieldArray (long_field (body vs) ++ rest) malformed
 no_array vs rest is fits r b y z p e =
     let found = array_body (body vs) rest b y z fits.0 p e in
     both_ways (all_readable vs) r (body_readable vs (body vs) found.0 is fits.1 found.1 refl)
 
--- where a value of a table is not readable, no front is a payload of a table
+-- where a value of a table is not readable, no prefix is a payload of a table
 no_table : (es : Entries) (rest : List ℕ) → AreEntries es → Fits (table es) → entries_readable es ≡ false → RawFront amqp.FieldTable (long_field (pairs es) ++ rest) malformed
 no_table es rest are fits r b y z p e =
     let found = table_body (pairs es) rest b y z fits.0 p e in
     both_ways (entries_readable es) r (pairs_readable es (pairs es) found.0 are fits.1 found.1 refl)
 
--- a whole frame behind an id is malformed, where no front of it is a payload
+-- a complete length-prefixed field after a type tag is malformed, where no prefix of it is a
+-- payload
 malformed_frame : (type : AMQPType) (s rest : List ℕ) → kind (id_of type) ≡ Some type → lack type (long_field s ++ rest) ≡ 0
     → RawFront type (long_field s ++ rest) malformed → Outcome (id_of type ∷ (long_field s ++ rest)) malformed
 malformed_frame type s rest k whole none =
     raw_to_value (id_of type) type (long_field s ++ rest) malformed k (raw_whole type (long_field s ++ rest) malformed whole none)
 
--- the text of a value that is not readable is refused
+-- the text of a value that is not readable is rejected
 unreadable : (v : Tree) (rest : List ℕ) → IsValue v → Fits v → readable v ≡ false → Outcome (text v ++ rest) (unread v)
 unreadable (scalar s) rest is fits r = absurd cc
 unreadable (short s) rest is fits r = refl
@@ -143,7 +144,7 @@ unreadable (array vs) rest is fits r =
 unreadable (table es) rest is fits r =
     malformed_frame amqp.FieldTable (pairs es) rest refl (lack_of-long_field (pairs es) rest fits.0) (no_table es rest is fits r)
 
--- the text of a value, with `rest` behind it, is read as that value, or refused where it is not
+-- the text of a value, with `rest` after it, is read as that value, or rejected where it is not
 -- readable
 pub reading_back : (v : Tree) (rest : List ℕ) → IsValue v → Fits v → Outcome (text v ++ rest) (read_back v rest)
 reading_back v rest is fits = by (readable v) refl

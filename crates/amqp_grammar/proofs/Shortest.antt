@@ -1,5 +1,5 @@
--- Shortest: what is read is a value that can be written again, and no wire of it is shorter than
--- its text.
+-- Shortest: what is read is a value that can be written again, and no encoding of it is shorter
+-- than its text.
 use Rattle.std.proofs.Common.{◌≡◌, ◌≢◌, ◌≤◌, ℕ, List, ◌++◌, length, take, drop, Option, Some, None, IsTrue, refl, sym, ap, ◌∙◌, subst, arith}
 use Rattle.std.specs.Option.{IfSome}
 use Rattle.std.specs.Int.{w32, to_be_bytes}
@@ -26,7 +26,7 @@ use Rattle.amqp_grammar.proofs.Bounds.{bounds, array_size, table_size}
 
 -- ---- what is read fits its fields, and is readable
 
--- no letter stands for a short string
+-- no letter denotes a short string
 no_short : (c : ℕ) (type : AMQPType) → kind c ≡ Some type → type ≢ amqp.ShortString
 no_short c type k e =
     let none : None ≡ Some type = sym (ap read_as e) ∙ kind_read c type k in
@@ -47,7 +47,7 @@ entries_read no_entries each = refl
 entries_read (entry k v es) each = and_from (readable v) (entries_readable es) each.0.reads (entries_read es each.1)
 
 mutual
-  -- the value of a wire fits, and is readable
+  -- the value of an encoding fits, and is readable
   wire_written : (w : List ℕ) (v : Tree) → Wire w v → IsWritten v
   wire_written _ _ (wire c type b v k p) = raw_written type b v (no_short c type k) p
 
@@ -101,13 +101,13 @@ rows_ranged amqp.DecimalValue = λ b bytes. (below_1 (take 1 b) (bytes_take 1 b 
 rows_ranged amqp.Void = λ b bytes. tt
 rows_ranged _ = tt
 
--- entries whose keys and values are such are a table's, where the keys rise
+-- entries whose keys and values are such are a table's, where the keys are ascending
 are_entries : (es : Entries) → Each (λ k v. IsShort k × IsValue v) es → IsRising es → AreEntries es
 are_entries no_entries each rises = tt
 are_entries (entry k v es) each rises = (each.0.0, each.0.1, rises.0, are_entries es each.1 rises.1)
 
 mutual
-  -- the value of a wire is one, where that is bytes
+  -- the value of an encoding is one, where that is bytes
   wire_value : (w : List ℕ) (v : Tree) → IsBytes w → Wire w v → IsValue v
   wire_value _ _ bytes (wire c type b v k p) = raw_value type b v bytes.1 p
 
@@ -134,7 +134,7 @@ mutual
 
 -- ---- the laws
 
--- what is read fits its fields, and each value in it has an id that is read
+-- what is read fits its fields, and each value in it has a type tag that is read
 pub what_is_read : (w : List ℕ) (v : Tree) → Wire w v → Fits v × IsTrue (readable v)
 what_is_read w v p =
     let is = wire_written w v p in
@@ -145,11 +145,11 @@ what_raw_reads type b v other p =
     let is = raw_written type b v other p in
     (is.fits, is.reads)
 
--- and it is a value, where its wire is bytes
+-- and it is a value, where its encoding is bytes
 pub read_is_value : (w : List ℕ) (v : Tree) → IsBytes w → Wire w v → IsValue v
 read_is_value w v bytes p = wire_value w v bytes p
 
--- its text is a wire of it, and no longer
+-- its text is an encoding of it, and no longer
 pub shortest : (w : List ℕ) (v : Tree) → IsBytes w → Wire w v → Wire (text v) v × (length (text v) ≤ length w)
 shortest w v bytes p =
     let is = wire_written w v p in

@@ -1,4 +1,4 @@
--- What is found has a wire: reading as a function finds nothing but values of the grammar.
+-- What is found has an encoding: reading as a function finds nothing but values of the grammar.
 use Rattle.std.proofs.Common.{ℕ, suc, zero, ◌+◌, ◌-◌, ◌≤◌, ◌<◌, ◌^◌, ◌≡◌, ◌∙◌, ap, sym, refl, subst, Bool, true, false, Option, Some, None, option_map, List, [], ◌∷◌, ◌++◌, length, get_or, take, drop, arith, append_assoc, length-take, length-drop}
 use Rattle.std.proofs.lemmas.Bool.{ltb-true, ltb-false, leb-true, and_parts}
 use Rattle.std.proofs.lemmas.List.{take-append-drop}
@@ -42,27 +42,28 @@ IsBytes-get [] bytes i = omega arith
 IsBytes-get (c ∷ s) bytes zero = bytes.0
 IsBytes-get (c ∷ s) bytes (suc i) = IsBytes-get s bytes.1 i
 
--- P holds of a front of s and the value that was found in it, or s is refused
+-- P holds of a prefix of s and the value that was found in it, or s is rejected
 abbrev pub Ends : (List ℕ → Tree → Type 0) → List ℕ → Reading → Type 0
 Ends P s (found v rest) = (b : List ℕ) × P b v × (s ≡ b ++ rest)
 Ends P s malformed = Unit {0}
 Ends P s _ = ⊥
 
--- P holds of a front of s and the value that was found in it, if one was
+-- P holds of a prefix of s and the value that was found in it, if one was
 abbrev pub IfFound : (List ℕ → Tree → Type 0) → List ℕ → Reading → Type 0
 IfFound P s (found v rest) = (b : List ℕ) × P b v × (s ≡ b ++ rest)
 IfFound P s _ = Unit {0}
 
--- reading a payload says what lacks, or else finds a payload or refuses
+-- reading a payload says what is missing, otherwise finds a payload or fails
 abbrev pub RawEnds : ℕ → AMQPType → List ℕ → Reading → Type 0
 RawEnds depth type b o = LacksOr (lack type b) (Ends (RawWithin depth type) b o) o
 
--- reading a value says what lacks, or that there is no id, or else finds a wire or refuses
+-- reading a value says what is missing, or that there is no type tag, otherwise finds an encoding
+-- or fails
 abbrev pub WireEnds : ℕ → List ℕ → Reading → Type 0
 WireEnds depth [] o = o ≡ more 1
 WireEnds depth (c ∷ b) o = MatchOption (kind c) (o ≡ unknown) (λ type. LacksOr (lack type b) (Ends (WireWithin depth) (c ∷ b) o) o)
 
--- what some bytes mean has them for a payload, behind each length field that counts them
+-- what some bytes mean has them for a payload, after each length field that counts them
 abbrev pub Means : ℕ → Meaning → Type 0
 Means depth mean = (type : AMQPType) (l s : List ℕ) → IsBytes l → length l ≡ byte_len (length_field type)
     → from_be_bytes (length_field type) l ≡ length s → IsBytes s → IfSome (mean type s) (RawWithin depth type (l ++ s))
@@ -74,7 +75,7 @@ fixed_lack-zero f w b whole = at_test (nat_lt (length b) f.first) refl whole whe
   at_test true is whole = absurd (omega (arith, ltb-true (length b) f.first is))
   at_test false is whole = omega arith
 
--- so is a frame
+-- so is a length-prefixed field
 frame_lack-zero : (w : Width) (b : List ℕ) → frame_lack w b ≡ 0 → (byte_len w ≤ length b) × (byte_len w + counted w b ≤ length b)
 frame_lack-zero w b whole = at_test (nat_lt (length b) (byte_len w)) refl whole where
   at_test : (t : Bool) → nat_lt (length b) (byte_len w) ≡ t → cond t (byte_len w - length b) (byte_len w + counted w b - length b) ≡ 0
@@ -119,7 +120,7 @@ raw_ends depth mean means type b bytes = at_lack (lack type b) refl where
   at_lack (suc n) is = refl
   at_lack zero is = by_layout_ends depth mean type b means bytes (fixed type) refl is
 
--- with its id before it, a payload is a wire
+-- with its type tag before it, a payload is an encoding
 id_before : (depth c : ℕ) (type : AMQPType) (b : List ℕ) (o : Reading) → kind c ≡ Some type → Ends (RawWithin depth type) b o → Ends (WireWithin depth) (c ∷ b) o
 id_before depth c type b (found v rest) is (raw, (p, within), split) = (c ∷ raw, (wire c type raw v is p, within), ap (λ t. c ∷ t) split)
 id_before depth c type b malformed is ends = tt
@@ -149,7 +150,7 @@ if_found P s (more n) ends = tt
 if_found P s unknown ends = tt
 if_found P s malformed ends = tt
 
--- what reading a value found has a wire
+-- what reading a value found has an encoding
 wire_found : (depth : ℕ) (s : List ℕ) (o : Reading) → WireEnds depth s o → IfFound (WireWithin depth) s o
 wire_found depth [] o ends = subst (IfFound (WireWithin depth) []) (sym ends) tt
 wire_found depth (c ∷ b) o ends = at_kind (kind c) ends where
@@ -161,7 +162,7 @@ wire_found depth (c ∷ b) o ends = at_kind (kind c) ends where
   at_kind None is = subst (IfFound (WireWithin depth) (c ∷ b)) (sym is) tt
   at_kind (Some type) ends = at_lack (lack type b) ends
 
--- a value's wire, and a body of the others behind it
+-- a value's encoding, and a body of the others after it
 tree_ends : (depth : ℕ) (s w rest : List ℕ) (v : Tree) (vs : Option Trees) → WireWithin depth w v → s ≡ w ++ rest
     → IfSome vs (BodyWithin depth rest) → IfSome (option_map (tree v) vs) (BodyWithin depth s)
 tree_ends depth s w rest v None first is others = tt
@@ -196,14 +197,14 @@ is_short-holds s is =
 abbrev PairsOnto : ℕ → Entries → List ℕ → Entries → Type 0
 PairsOnto depth es s fs = (ps : Entries) × PairsWithin depth s ps × (fs ≡ onto es ps)
 
--- a key and a value's wire, and the other pairs behind them
+-- a key and a value's encoding, and the other pairs after them
 pair_ends : (depth : ℕ) (es : Entries) (k t w rest : List ℕ) (v : Tree) (fs : Option Entries) → IsShort k → WireWithin depth w v → t ≡ w ++ rest
     → IfSome fs (PairsOnto depth (put k v es) rest) → IfSome fs (PairsOnto depth es (short_field k ++ t))
 pair_ends depth es k t w rest v None key first is others = tt
 pair_ends depth es k t w rest v (Some fs) key (p, within) is (ps, (q, all_within), onto_es) =
     subst (λ x. PairsOnto depth es (short_field k ++ x) fs) (sym is) (entry k v ps, (pair k w rest v ps key p q, omega arith), onto_es)
 
--- what stands behind the first key, and what the other pairs are
+-- what is after the first key, and what the other pairs are
 pairs_behind : (depth : ℕ) (read : List ℕ → Reading) (n : ℕ) (es : Entries) (k t : List ℕ) (o : Reading) → IsShort k → IsBytes t → IfFound (WireWithin depth) t o
     → ((fs : Entries) (rest : List ℕ) → IsBytes rest → IfSome (pairs_onto read n fs rest) (PairsOnto depth fs rest))
     → IfSome (and_pairs read n es k o) (PairsOnto depth es (short_field k ++ t))
@@ -237,7 +238,7 @@ pairs_end depth read reads n es [] bytes = (no_entries, (no_pairs, omega arith),
 pairs_end depth read reads zero es (c ∷ s) bytes = tt
 pairs_end depth read reads (suc n) es (c ∷ s) bytes = key_ends depth read reads n es c s bytes.1 (pairs_end depth read reads n)
 
--- what holds of bytes behind their length in one byte holds behind each field that counts them
+-- what holds of bytes after their length in one byte holds after each field that counts them
 small_end : (P : List ℕ → Type 0) (l s : List ℕ) → length l ≡ 1 → from_be_bytes w8 l ≡ length s → P (short_field s) → P (l ++ s)
 small_end P [] s one counts here = absurd (omega arith)
 small_end P (c ∷ []) s one counts here = subst (λ n. P (n ∷ s)) (sym counts) here
@@ -258,7 +259,7 @@ short_end depth l s one counts false is = tt
 short_end depth l s one counts true is =
     small_end (λ b. RawWithin depth amqp.ShortString b (short s)) l s one counts (raw_short s (is_short-holds s is), omega arith)
 
--- a body behind its length is an array
+-- a body after its length is an array
 array_end : (depth : ℕ) (l s : List ℕ) → IsBytes l → length l ≡ 4 → from_be_bytes w32 l ≡ length s → (vs : Option Trees)
     → IfSome vs (BodyWithin depth s) → IfSome (option_map array vs) (RawWithin (suc depth) amqp.FieldArray (l ++ s))
 array_end depth l s bytes four counts None ends = tt

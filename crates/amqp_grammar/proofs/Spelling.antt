@@ -1,4 +1,4 @@
--- Spelling: the text of a value has the value's size, and is a wire of it.
+-- Spelling: the text of a value has the value's size, and is an encoding of it.
 use Rattle.std.proofs.Common.{◌≡◌, ◌<◌, ◌+◌, ◌^◌, ℕ, zero, suc, List, ◌++◌, length, true, false, Some, refl, ap, ap₂, subst, arith, length-append, IsTrue}
 use Rattle.std.specs.Int.{w8, from_be_bytes, bytes_high_first}
 use Rattle.std.proofs.lemmas.Bool.{and_parts}
@@ -54,7 +54,7 @@ length_of_payload v = omega arith
 
 -- ---- values of fixed width
 
--- x has the layout of its type, is what its spelling means, and has an id that is read
+-- x has the layout of its type, is what its spelling means, and has a type tag that is read
 pub record IsSpelled (x : Scalar) : Type 0 where
   pub layout : Layout
   pub row : fixed (scalar_type x) ≡ Some layout
@@ -98,13 +98,13 @@ scalar_raw x is =
 
 -- ---- all values
 
--- pairs whose keys rise are the payload of a table that has them for entries
+-- pairs whose keys are ascending are the payload of a table that has them for entries
 rising_raw : (b : List ℕ) (es : Entries) → AreEntries es → length b < 2 ^ 32 → Pairs b es → Raw amqp.FieldTable (long_field b) (table es)
 rising_raw b es are fits all =
     subst (λ (fs : Entries). Raw amqp.FieldTable (long_field b) (table fs)) (onto-rising es are) (raw_table b es fits all)
 
 mutual
-  -- the text of a value is a wire of it
+  -- the text of a value is an encoding of it
   pub text_is_wire : (v : Tree) → IsValue v → Fits v → IsTrue (readable v) → Wire (text v) v
   text_is_wire (scalar x) is fits r =
       wire (id_of (scalar_type x)) (scalar_type x) (spelled x) (scalar x) (scalar_spelled x is).id (scalar_raw x is)

@@ -13,7 +13,7 @@ use Rattle.amqp_grammar.specs.Maps.{same_bytes, has_key, value_at, last_at, IsRi
 
 -- ---- the order of keys
 
--- what comes before another comes not behind it
+-- what comes before another comes not after it
 greater : (j k : List ℕ) → slice_cmp nat_cmp j k ≡ Less → slice_cmp nat_cmp k j ≡ Greater
 greater j k less = nat_list_cmp_total.antisymm k j ∙ ap ordering_reverse less
 
@@ -39,14 +39,14 @@ not_same j k other = by (same_bytes j k) (bytes_decides j k).0
     by true f = absurd (other (f refl))
     by false f = refl
 
--- ---- rising entries
+-- ---- sorted entries
 
--- the keys of a value's table rise
+-- the keys of a value's table are ascending
 pub entries_rise : (es : Entries) → AreEntries es → IsRising es
 entries_rise no_entries are = tt
 entries_rise (entry k v es) are = (are.2, entries_rise es are.3)
 
--- entries, and others behind them
+-- entries, and others after them
 join : Entries → Entries → Entries
 join no_entries fs = fs
 join (entry k v es) fs = entry k v (join es fs)
@@ -61,13 +61,13 @@ unfolding join
 join-entry no_entries k v fs = refl
 join-entry (entry j u es) k v fs = ap (entry j u) (join-entry es k v fs)
 
--- where keys rise, the first comes before a later one
+-- where keys are ascending, the first comes before a later one
 comes_before : (es : Entries) (j k : List ℕ) (u v : Tree) (fs : Entries) → IsRising (entry j u (join es (entry k v fs))) → slice_cmp nat_cmp j k ≡ Less
 unfolding join
 comes_before no_entries j k u v fs rises = rises.0
 comes_before (entry i w es) j k u v fs rises = nat_list_cmp_total.trans j i k rises.0 (comes_before es i k w v fs rises.1)
 
--- a key behind all others is put at the end
+-- a key after all others is put at the end
 put-last : (es : Entries) (k : List ℕ) (v : Tree) (fs : Entries) → IsRising (join es (entry k v fs)) → put k v es ≡ join es (entry k v no_entries)
 unfolding join
 put-last no_entries k v fs rises = refl
@@ -76,14 +76,14 @@ put-last (entry j u es) k v fs rises =
     ap (λ (o : Ordering). match_ordering o (entry k v (entry j u es)) (entry j v es) (entry j u (put k v es))) behind
     ∙ ap (entry j u) (put-last es k v fs rises.1)
 
--- rising entries that are put behind others are joined to them
+-- sorted entries that are put after others are joined to them
 onto-join : (fs es : Entries) → IsRising (join es fs) → onto es fs ≡ join es fs
 onto-join no_entries es rises = sym (join-none es)
 onto-join (entry k v fs) es rises =
     ap (λ (x : Entries). onto x fs) (put-last es k v fs rises)
     ∙ (onto-join fs (join es (entry k v no_entries)) (subst IsRising (sym (join-entry es k v fs)) rises) ∙ join-entry es k v fs)
 
--- rising entries, put one after another, are those entries
+-- sorted entries, put one after another, are those entries
 pub rising_pairs : (es : Entries) → IsRising es → onto no_entries es ≡ es
 unfolding join
 rising_pairs es rises = onto-join es no_entries rises
@@ -102,7 +102,7 @@ before-put j k v (entry i u es) first before = by (slice_cmp nat_cmp k i)
     by Equal = before
     by Greater = before
 
--- keys still rise where one is put
+-- keys are still ascending where one is put
 rising-put : (k : List ℕ) (v : Tree) (es : Entries) → IsRising es → IsRising (put k v es)
 rising-put k v no_entries rises = (tt, tt)
 rising-put k v (entry j u es) rises = by (slice_cmp nat_cmp k j) refl (rising-put k v es rises.1)
@@ -118,7 +118,7 @@ pub rising-onto : (ps es : Entries) → IsRising es → IsRising (onto es ps)
 rising-onto no_entries es rises = rises
 rising-onto (entry k v ps) es rises = rising-onto ps (put k v es) (rising-put k v es rises)
 
--- the keys of what pairs mean rise
+-- the keys of what pairs mean are ascending
 pub pairs_rise : (ps : Entries) → IsRising (onto no_entries ps)
 pairs_rise ps = rising-onto ps no_entries tt
 
@@ -193,7 +193,7 @@ option_or-assoc : (a b c : Option Tree) → option_or (option_or a b) c ≡ opti
 option_or-assoc None b c = refl
 option_or-assoc (Some x) b c = refl
 
--- nothing behind it changes nothing
+-- nothing after it changes nothing
 pub option_or-none : (a : Option Tree) → option_or a None ≡ a
 option_or-none None = refl
 option_or-none (Some x) = refl
@@ -250,7 +250,7 @@ same_tables-at k j v u es fs one r s same inner =
     let others : es ≡ fs = inner (same_others k v u es fs r rises same_k) in
     cc
 
--- rising entries with the same value at each key are equal
+-- sorted entries with the same value at each key are equal
 pub same_tables : (es fs : Entries) → IsRising es → IsRising fs → ((k : List ℕ) → value_at k es ≡ value_at k fs) → es ≡ fs
 same_tables no_entries no_entries r s same = refl
 same_tables no_entries (entry j u fs) r s same = let e : None ≡ Some u = same j ∙ first_value j u fs in cc

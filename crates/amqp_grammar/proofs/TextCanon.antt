@@ -1,4 +1,4 @@
--- The text of a value is its canonical wire, and the only one that is bytes.
+-- The text of a value is its canonical encoding, and the only one that is bytes.
 use Rattle.std.proofs.Common.{◌≢◌, ℕ, true, false, List, IsTrue, refl, sym, subst, arith}
 use Rattle.std.specs.Int.{bytes_high_first}
 use Rattle.std.proofs.lemmas.Bool.{and_parts}
@@ -17,7 +17,7 @@ use Rattle.amqp_grammar.specs.Headline.{IsCanonical}
 use Rattle.amqp_grammar.proofs.Spelling.{scalar_spelled}
 use Rattle.amqp_grammar.proofs.Canons.{canon, canon_array, canon_table, canon_value, canon_pair, canon_is_text, canon_fits}
 
--- no id that is written is a second spelling
+-- no type tag that is written is an alternate tag
 not_U : (type : AMQPType) → id_of type ≢ 85
 not_U amqp.Void = λ e. absurd (omega (arith, e))
 not_U _ = λ e. absurd (omega (arith, e))
@@ -47,7 +47,7 @@ spelled_canon x is =
     (raw_fixed (scalar_type x) s.layout (spelled x) s.row s.width, spelled_strict x is)
 
 mutual
-  -- the text of a value is a canonical wire of it
+  -- the text of a value is a canonical encoding of it
   pub text_is_canon : (v : Tree) → IsValue v → Fits v → IsTrue (readable v) → Canon (text v) v
   text_is_canon (scalar x) is fits r =
       canon (id_of (scalar_type x)) (scalar_type x) (spelled x) (scalar x) (scalar_spelled x is).id (not_U (scalar_type x)) (not_L (scalar_type x)) (spelled_canon x is)
@@ -63,7 +63,7 @@ mutual
       canon (id_of amqp.FieldTable) amqp.FieldTable (long_field (pairs es)) (table es) refl (not_U amqp.FieldTable) (not_L amqp.FieldTable)
       (canon_table (pairs es) es fits.0 (keyed_are_canon es is fits.1 r))
 
-  -- texts that are joined are canonical wires one after another
+  -- texts that are joined are canonical encodings one after another
   texts_are_canon : (vs : Trees) → AreValues vs → AllFit vs → IsTrue (all_readable vs) → CanonBody (body vs) vs
   texts_are_canon no_trees is fits r = (no_values, tt)
   texts_are_canon (tree v vs) is fits r =
@@ -77,7 +77,7 @@ mutual
       let both = and_parts (readable v) (entries_readable es) r in
       canon_pair k (text v) (pairs es) v es are.0 (text_is_canon v are.1 fits.0 both.0) are.2 (keyed_are_canon es are.3 fits.1 both.1)
 
--- a list is a canonical wire of a value exactly where it is the text of a readable one
+-- a list is a canonical encoding of a value exactly where it is the text of a readable one
 pub is_canonical : (v : Tree) → IsValue v → Fits v → IsCanonical v
 is_canonical v is fits w bytes = (
   λ p. ((canon_fits w v p).1, canon_is_text w v bytes p),

@@ -1,4 +1,4 @@
--- How deep a text nests: as deep as its value, which is no deeper than any wire of it.
+-- How deep a text nests: as deep as its value, which is no deeper than any encoding of it.
 use Rattle.std.proofs.Common.{◌≡◌, ◌≤◌, ◌+◌, ℕ, List, ◌∷◌, refl, subst, arith, IsTrue}
 use Rattle.std.proofs.lemmas.Bool.{and_parts}
 use Rattle.amqp_types.specs.declared.amqp_type.AMQPType.{AMQPType}
@@ -18,7 +18,7 @@ use Rattle.amqp_grammar.proofs.Tables.{onto-rising}
 use Rattle.amqp_grammar.proofs.Spelling.{scalar_spelled, scalar_raw}
 
 mutual
-  -- a value is no deeper than a wire of it
+  -- a value is no deeper than an encoding of it
   pub depth-le : (w : List ℕ) (v : Tree) (p : Wire w v) → depth v ≤ nesting w v p
   depth-le _ _ (wire c type b v is raw) = raw_depth-le type b v raw
 
@@ -48,7 +48,7 @@ scalar_flat _ _ _ x (raw_array body vs fits all) e = absurd cc
 scalar_flat _ _ _ x (raw_table body ps fits all) e = absurd cc
 
 mutual
-  -- the text of a value is a wire of it that nests as deep as the value
+  -- the text of a value is an encoding of it that nests as deep as the value
   pub text_within : (v : Tree) → IsValue v → Fits v → IsTrue (readable v) → WireWithin (depth v) (text v) v
   text_within (scalar x) is fits r =
       let p = scalar_raw x is in

@@ -1,4 +1,4 @@
--- One reading: a list has at most one wire at its front, and a wire one meaning.
+-- One reading: a list has at most one encoding at its start, and an encoding one meaning.
 use Rattle.std.proofs.Common.{◌≡◌, ℕ, List, [], ◌++◌, length, drop, refl, sym, ap, ap₂, ◌∙◌, subst}
 use Rattle.amqp_types.specs.declared.amqp_type.AMQPType.{AMQPType}
 use Rattle.amqp_grammar.specs.Values.{Tree, scalar, short, long, octets, array, table, Trees, tree, Entries, no_entries, entry, onto}
@@ -8,12 +8,12 @@ use Rattle.amqp_grammar.specs.Grammar.{short_field, long_field, Wire, wire, Raw,
 use Rattle.amqp_grammar.proofs.Fronts.{same_fronts, one_held}
 use Rattle.amqp_grammar.proofs.Headers.{extent, extent-raw}
 
--- two payloads of one type at the front of a list are one
+-- two payloads of one type at the start of a list are one
 pub one_raw_front : (type : AMQPType) (b c x y : List ℕ) (v u : Tree) → Raw type b v → Raw type c u → b ++ x ≡ c ++ y → (b ≡ c) × (x ≡ y)
 one_raw_front type b c x y v u p q e =
     same_fronts b c x y (sym (extent-raw type b x v p) ∙ (ap (extent type) e ∙ extent-raw type c y u q)) e
 
--- two wires at the front of a list are one
+-- two encodings at the start of a list are one
 pub one_front : (w u x y : List ℕ) (v z : Tree) → Wire w v → Wire u z → w ++ x ≡ u ++ y → (w ≡ u) × (x ≡ y)
 one_front _ _ x y _ _ (wire c type b v k p) (wire d type2 b2 z k2 q) e =
     let head : c ≡ d = cc in
@@ -21,15 +21,15 @@ one_front _ _ x y _ _ (wire c type b v k p) (wire d type2 b2 z k2 q) e =
     let rest = one_raw_front type b b2 x y v z p (subst (λ (t : AMQPType). Raw t b2 z) same q) (cc) in
     (cc, rest.1)
 
--- a wire has a first byte
+-- an encoding has a first byte
 pub no_empty_wire : (w rest : List ℕ) (v : Tree) → Wire w v → w ++ rest ≡ [] → ⊥
 no_empty_wire _ rest _ (wire c type b v k p) e = cc
 
--- bytes behind their length in four bytes are one thing
+-- bytes after their length in four bytes are one thing
 same_large : (s t : List ℕ) → long_field s ≡ long_field t → s ≡ t
 same_large s t e = ap (drop 4) e
 
--- two keys at the front of a list are one
+-- two keys at the start of a list are one
 pub one_key : (j k x y : List ℕ) → short_field j ++ x ≡ short_field k ++ y → (j ≡ k) × (x ≡ y)
 one_key j k x y e =
     let count : length j ≡ length k = cc in
@@ -50,7 +50,7 @@ mutual
   one_raw_meaning _ _ _ _ _ (raw_table body ps fits all) (raw_table body2 qs fits2 all2) e =
       ap (λ (rs : Entries). table (onto no_entries rs)) (one_pairs_meaning body body2 ps qs all all2 (same_large body body2 e))
 
-  -- a wire has one meaning
+  -- an encoding has one meaning
   pub one_meaning : (w u : List ℕ) (v z : Tree) → Wire w v → Wire u z → w ≡ u → v ≡ z
   one_meaning _ _ _ _ (wire c type b v k p) (wire d type2 b2 z k2 q) e =
       let head : c ≡ d = cc in
@@ -77,13 +77,13 @@ mutual
       ap (λ (j : List ℕ). entry j v ps) key.0
       ∙ ap₂ (entry k2) (one_meaning w w2 v v2 p p2 same.0) (one_pairs_meaning more more2 ps qs all all2 same.1)
 
--- a list has one front that is a payload of the type, with one meaning
+-- a list has one prefix that is a payload of the type, with one meaning
 pub one_raw_reading : (type : AMQPType) (b c x y : List ℕ) (v u : Tree) → Raw type b v → Raw type c u → b ++ x ≡ c ++ y → (b ≡ c) × (v ≡ u) × (x ≡ y)
 one_raw_reading type b c x y v u p q e =
     let same = one_raw_front type b c x y v u p q e in
     (same.0, one_raw_meaning type b c v u p q same.0, same.1)
 
--- a list has one front that is a wire, with one meaning
+-- a list has one prefix that is an encoding, with one meaning
 pub one_reading : (w u x y : List ℕ) (v z : Tree) → Wire w v → Wire u z → w ++ x ≡ u ++ y → (w ≡ u) × (v ≡ z) × (x ≡ y)
 one_reading w u x y v z p q e =
     let same = one_front w u x y v z p q e in

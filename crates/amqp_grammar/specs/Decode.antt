@@ -30,7 +30,7 @@ raw_outcome_by mean type b = elim (lack type b) [
   ]
 ]
 
--- reading an id and a payload of its type
+-- reading a type tag and a payload of its type
 abbrev pub outcome_by : Meaning → List ℕ → Reading
 outcome_by mean [] = more 1
 outcome_by mean (c ∷ b) = elim (kind c) [ None ↦ unknown | Some type ↦ raw_outcome_by mean type b ]

@@ -18,7 +18,7 @@ abbrev pub long_field : List ℕ → List ℕ
 long_field s = to_be_bytes w32 (length s) ++ s
 
 mutual
-  -- w is an encoding of v: a type tag (id), and a payload of its type
+  -- w is an encoding of v: a type tag, and a payload of its type
   pub data Wire : List ℕ → Tree → Type 0 where
     wire : (c : ℕ) → (type : AMQPType) → (b : List ℕ) → (v : Tree) → kind c ≡ Some type → Raw type b v → Wire (c ∷ b) v
 

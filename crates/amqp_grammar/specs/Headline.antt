@@ -9,10 +9,10 @@ use Rattle.amqp_grammar.specs.Canonical.{Canon}
 -- what v is that was read from an encoding of n bytes: it can be written again, and is no larger
 -- than that
 pub record IsWritableIn (n : ℕ) (v : Tree) : Type 0 where
-  -- each length in it fits its field, and each value in it has an id that is read
+  -- each length in it fits its field, and each value in it has a type tag that is read
   pub fits : Fits v
   pub readable : IsTrue (readable v)
-  -- its canonical encoding has at most n bytes, and at most n values stand in it
+  -- its canonical encoding has at most n bytes, and at most n values are in it
   pub size : size v ≤ n
   pub count : count v ≤ n
   -- it nests at most as deep as a fifth of n, rounded down

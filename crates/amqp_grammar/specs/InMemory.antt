@@ -26,7 +26,7 @@ IsScalar (decimal scale n) = (scale < 2 ^ 8) × (n < 2 ^ 32)
 IsScalar _ = Unit {0}
 
 -- what every value in memory is: each number is in its type's range, each short string and each key
--- is one, and a table's keys rise by their bytes
+-- is one, and a table's keys are in ascending order of their bytes
 abbrev mutual
   pub IsValue : Tree → Type 0
   IsValue (scalar x) = IsScalar x

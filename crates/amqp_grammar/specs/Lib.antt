@@ -1,5 +1,5 @@
 -- The definitions of the format. The first seven are those of the headline, in reading order.
--- Two of `amqp_types` come before them: *Ids*, which byte stands for which type, and *Strings*,
+-- Two of `amqp_types` come before them: *Ids*, which byte denotes which type, and *Strings*,
 -- which bytes a short string may have.
 
 -- what a value is, without where it lies in memory
@@ -8,7 +8,7 @@ pub mod Values
 pub mod Layouts
 -- which bytes are an encoding of which value
 pub mod Grammar
--- what reading any bytes comes to: a value, more bytes that are needed, or an error
+-- what reading any bytes results in: a value, more bytes that are needed, or an error
 pub mod Outcomes
 -- what a value is written as
 pub mod Texts
@@ -16,21 +16,21 @@ pub mod Texts
 pub mod Canonical
 -- the words of the headline that speak of sizes and of what is written
 pub mod Headline
--- what is said of a value, of all that stand in a container
+-- what is said of a value, of all that are in a container
 pub mod Members
 -- what every value in memory is
 pub mod InMemory
--- what reading comes to where more bytes follow, and of what was written
+-- what reading results in where more bytes follow, and of what was written
 pub mod Readings
 -- the same outcomes as a function
 pub mod Decode
--- encodings in which containers nest at most so deep
+-- encodings in which containers nest at most that deep
 pub mod Nesting
 -- a table as a finite map: what is found at a key
 pub mod Maps
--- a value's type and its payload apart: what is written, and what reading a payload comes to
+-- a value's type and its payload apart: what is written, and what reading a payload results in
 pub mod Payloads
--- values that are kept with no memory of their own
+-- values that are kept without memory of their own
 pub mod Light
 -- for the worked examples alone: bytes as a person writes them
 pub mod Hexadecimal

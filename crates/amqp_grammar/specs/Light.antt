@@ -1,8 +1,8 @@
--- Values that are kept with no memory of their own.
+-- Values that are kept without memory of their own.
 use Rattle.std.specs.Prelude.{◌≡◌, []}
 use Rattle.amqp_grammar.specs.Values.{Tree, scalar, short, long, octets, array, table, no_trees, no_entries}
 
--- v is kept with no memory of its own: it has a fixed width, or it is empty
+-- v is kept without memory of its own: it has a fixed width, or it is empty
 abbrev pub IsLight : Tree → Type 0
 IsLight (scalar x) = Unit {0}
 IsLight (short s) = s ≡ []

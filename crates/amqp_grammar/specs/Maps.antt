@@ -23,7 +23,7 @@ abbrev pub last_at : List ℕ → Entries → Option Tree
 last_at k no_entries = None
 last_at k (entry j v ps) = option_or (last_at k ps) (if same_bytes k j then Some v else None)
 
--- the keys rise by their bytes, so no two are equal
+-- the keys are in ascending order of their bytes, so no two are equal
 abbrev pub IsRising : Entries → Type 0
 IsRising no_entries = Unit {0}
 IsRising (entry k v es) = ComesBefore k es × IsRising es

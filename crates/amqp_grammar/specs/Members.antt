@@ -1,4 +1,4 @@
--- What is said of a value, of all that stand in a container.
+-- What is said of a value, of all that are in a container.
 use Rattle.std.specs.Prelude.{ℕ, Bool, List, length}
 use Rattle.amqp_grammar.specs.Values.{Trees, Entries, walk_all, walk_entries, depths, counts, have_ids}
 use Rattle.amqp_grammar.specs.Grammar.{Body, Pairs}
@@ -12,7 +12,7 @@ greatest_depth vs = walk_all depths vs
 abbrev pub entries_depth : Entries → ℕ
 entries_depth es = walk_entries depths es
 
--- how many they are, with all that stands in them
+-- how many they are, with all that is in them
 abbrev pub count_all : Trees → ℕ
 count_all vs = walk_all counts vs
 

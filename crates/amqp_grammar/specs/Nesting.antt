@@ -5,7 +5,7 @@ use Rattle.amqp_grammar.specs.Values.{Tree, Trees, Entries}
 use Rattle.amqp_grammar.specs.Outcomes.{Reading, RawOutcomeBy, OutcomeBy}
 use Rattle.amqp_grammar.specs.Grammar.{Wire, Raw, Body, Pairs, wire, raw_fixed, raw_short, raw_long, raw_octets, raw_array, raw_table, no_values, value, no_pairs, pair}
 
--- a container counts 1 more than what nests deepest in its body, all that is no container 0
+-- a container counts 1 more than what nests deepest in its body, all that isn't a container 0
 abbrev mutual
   pub nesting : (w : List ℕ) (v : Tree) → Wire w v → ℕ
   nesting _ _ (wire c type b v is raw) = raw_nesting type b v raw
@@ -42,7 +42,8 @@ BodyWithin depth body vs = (p : Body body vs) × (body_nesting body vs p ≤ dep
 abbrev pub PairsWithin : ℕ → List ℕ → Entries → Type 0
 PairsWithin depth body ps = (p : Pairs body ps) × (pairs_nesting body ps p ≤ depth)
 
--- reading a payload of the type, or a value, comes to o where containers nest at most `depth` deep
+-- reading a payload of the type, or a value, results in o where containers nest at most `depth`
+-- deep
 abbrev pub RawOutcomeWithin : ℕ → AMQPType → List ℕ → Reading → Type 0
 RawOutcomeWithin depth type s o = RawOutcomeBy (RawWithin depth type) type s o
 

@@ -1,4 +1,4 @@
--- What reading some bytes comes to: a value, more bytes that are needed, or an error.
+-- What reading some bytes results in: a value, more bytes that are needed, or an error.
 use Rattle.std.specs.Prelude.{ℕ, suc, zero, ◌+◌, ◌-◌, ◌<◌, ◌≡◌, Option, Some, None, MatchOption, List, [], ◌∷◌, ◌++◌, length, take, nat_lt, if◌then◌else◌}
 use Rattle.std.specs.Int.{Width, w8, w32, byte_len, from_be_bytes}
 use Rattle.amqp_types.specs.declared.amqp_type.AMQPType.{AMQPType}
@@ -11,9 +11,9 @@ use Rattle.amqp_grammar.specs.Grammar.{Wire}
 pub data Reading : Type 0 where
   -- a value, and the bytes after its encoding
   found : Tree → List ℕ → Reading
-  -- so many more bytes are needed for the field that is being read
+  -- that many more bytes are needed for the field that is being read
   more : ℕ → Reading
-  -- the first byte is no id
+  -- the first byte isn't a type tag
   unknown : Reading
   -- the outermost length-prefixed field is whole, and no prefix is an encoding
   malformed : Reading
@@ -58,18 +58,18 @@ FrontBy P s (found v rest) = (b : List ℕ) × P b v × (s ≡ b ++ rest)
 FrontBy P s malformed = (b rest : List ℕ) (v : Tree) → P b v → s ≡ b ++ rest → ⊥
 FrontBy P s _ = ⊥
 
--- reading a payload of the type from s comes to o, where P says what its payloads are
+-- reading a payload of the type from s results in o, where P says what its payloads are
 abbrev pub RawOutcomeBy : (List ℕ → Tree → Type 0) → AMQPType → List ℕ → Reading → Type 0
 RawOutcomeBy P type s o = LacksOr (lack type s) (FrontBy P s o) o
 
--- reading a value from s comes to o, by the first of these that holds: there is no byte, and one is
--- needed; the first byte is no id; more bytes of the payload are needed; P holds of a prefix and a
--- value; it holds of none
+-- reading a value from s results in o, by the first of these that holds: there is no byte, and one
+-- is needed; the first byte isn't a type tag; more bytes of the payload are needed; P holds of a
+-- prefix and a value; it holds of none
 abbrev pub OutcomeBy : (List ℕ → Tree → Type 0) → List ℕ → Reading → Type 0
 OutcomeBy P [] o = o ≡ more 1
 OutcomeBy P (c ∷ b) o = MatchOption (kind c) (o ≡ unknown) (λ type. LacksOr (lack type b) (FrontBy P (c ∷ b) o) o)
 
--- reading a value from s comes to o
+-- reading a value from s results in o
 abbrev pub Outcome : List ℕ → Reading → Type 0
 Outcome s o = OutcomeBy Wire s o
 

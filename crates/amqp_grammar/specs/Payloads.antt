@@ -1,4 +1,4 @@
--- A value's type and its payload apart. An encoding is an id of the type, and a payload.
+-- A value's type and its payload apart. An encoding is a type tag of the type, and a payload.
 use Rattle.std.specs.Prelude.{ℕ, List}
 use Rattle.amqp_types.specs.declared.amqp_type.AMQPType.{AMQPType}
 use Rattle.amqp_grammar.specs.Values.{Tree}
@@ -10,7 +10,7 @@ use Rattle.amqp_grammar.specs.Outcomes.{Reading, FrontBy, RawOutcomeBy}
 abbrev pub RawFront : AMQPType → List ℕ → Reading → Type 0
 RawFront type s o = FrontBy (Raw type) s o
 
--- reading a payload of the type from s comes to o
+-- reading a payload of the type from s results in o
 abbrev pub RawOutcome : AMQPType → List ℕ → Reading → Type 0
 RawOutcome type s o = RawOutcomeBy (Raw type) type s o
 

@@ -1,4 +1,4 @@
--- What reading comes to where more bytes follow, and of what was written.
+-- What reading results in where more bytes follow, and of what was written.
 use Rattle.std.specs.Prelude.{ℕ, ◌-◌, ◌<◌, List, ◌++◌, length, if◌then◌else◌}
 use Rattle.amqp_grammar.specs.Values.{Tree, short, readable}
 use Rattle.amqp_grammar.specs.Grammar.{Wire}
@@ -16,13 +16,13 @@ abbrev pub StillWaits : Reading → List ℕ → Type 0
 StillWaits (more n) t = length t < n
 StillWaits _ t = Unit {0}
 
--- what a value is rejected as that isn't readable: a short string's id is none that is read, and a
--- container that has one inside is no container
+-- what a value is rejected as that isn't readable: a short string's type tag is none that is read,
+-- and a container that has one inside isn't a container
 abbrev pub unread : Tree → Reading
 unread (short s) = unknown
 unread _ = malformed
 
--- what reading v's canonical encoding with `rest` after it comes to: v again where v is readable
+-- what reading v's canonical encoding with `rest` after it results in: v again where v is readable
 abbrev pub read_back : Tree → List ℕ → Reading
 read_back v rest = if readable v then found v rest else unread v
 

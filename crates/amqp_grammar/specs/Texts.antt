@@ -5,13 +5,13 @@ use Rattle.amqp_types.specs.Ids.{id_of}
 use Rattle.amqp_grammar.specs.Layouts.{spelled}
 use Rattle.amqp_grammar.specs.Grammar.{short_field, long_field}
 
--- an id of the value's type, and then these bytes
+-- a type tag of the value's type, and then these bytes
 abbrev pub after_id : Tree → List ℕ → List ℕ
 after_id v b = id_of (type_of v) ∷ b
 
--- the canonical encoding without its id; a container's joins the canonical encodings of its entries,
--- after their length: in an array's order, and in the order of a table's keys, each key before its
--- value
+-- the canonical encoding without its type tag; a container's joins the canonical encodings of its
+-- entries, after their length: in an array's order, and in the order of a table's keys, each key
+-- before its value
 abbrev mutual
   pub payload : Tree → List ℕ
   payload (scalar x) = spelled x
@@ -29,7 +29,7 @@ abbrev mutual
   pairs no_entries = []
   pairs (entry k v es) = short_field k ++ (after_id v (payload v) ++ pairs es)
 
--- an id and the payload
+-- a type tag and the payload
 abbrev pub text : Tree → List ℕ
 text v = after_id v (payload v)
 

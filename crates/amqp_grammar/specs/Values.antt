@@ -73,7 +73,7 @@ abbrev pub onto : Entries → Entries → Entries
 onto es no_entries = es
 onto es (entry k v ps) = onto (put k v es) ps
 
--- a way to go over a value and all that stands in it
+-- a way to go over a value and all that is in it
 pub record Walk {ℓ} (A : Type ℓ) : Type ℓ where
   -- what a value gives by itself
   pub own : Tree → A
@@ -98,40 +98,40 @@ abbrev mutual
   walk_entries way no_entries = way.none
   walk_entries way (entry k v es) = way.beside (walk way v) (walk_entries way es)
 
--- 1 for a container, 0 for all that is none
+-- 1 for a container, 0 for anything else
 abbrev pub levels : Tree → ℕ
 levels (array vs) = 1
 levels (table es) = 1
 levels _ = 0
 
--- how deep containers nest: an empty one counts 1, all that is no container 0
+-- how deep containers nest: an empty one counts 1, all that isn't a container 0
 abbrev pub depths : Walk ℕ
 depths = record { own = levels; holding = ◌+◌; none = 0; beside = max }
 
 abbrev pub depth : Tree → ℕ
 depth v = walk depths v
 
--- how many values stand in the tree, itself included
+-- how many values are in the tree, itself included
 abbrev pub counts : Walk ℕ
 counts = record { own = λ v. 1; holding = ◌+◌; none = 0; beside = ◌+◌ }
 
 abbrev pub count : Tree → ℕ
 count v = walk counts v
 
--- whether the id of a value's type is read: it is of all but a short string
+-- whether the type tag of a value's type is read: it is of all but a short string
 abbrev pub has_id : Tree → Bool
 has_id (short s) = false
 has_id _ = true
 
--- whether a value that is written can be read: each value in it has an id that is read, so none is
--- a short string; keys don't count
+-- whether a value that is written can be read: each value in it has a type tag that is read, so
+-- none is a short string; keys don't count
 abbrev pub have_ids : Walk Bool
 have_ids = record { own = has_id; holding = ◌&&◌; none = true; beside = ◌&&◌ }
 
 abbrev pub readable : Tree → Bool
 readable v = walk have_ids v
 
--- the key comes before each key of the entries, where their keys rise
+-- the key comes before each key of the entries, where their keys are ascending
 abbrev pub ComesBefore : List ℕ → Entries → Type 0
 ComesBefore k no_entries = Unit {0}
 ComesBefore k (entry j u es) = slice_cmp nat_cmp k j ≡ Less

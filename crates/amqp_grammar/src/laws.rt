@@ -35,9 +35,9 @@ pub fn one_raw_reading()
         → b ++ x ≡ c ++ y → (b ≡ c) × (v ≡ z) × (x ≡ y) }
 {}
 
-/// What a canonical encoding takes: the id and a payload of the type's width, or a length in one
-/// or four bytes and as many bytes as it counts. A value in an array takes what it takes alone, and
-/// in a table its key more, after a length in one byte.
+/// What a canonical encoding takes: the type tag and a payload of the type's width, or a length in
+/// one or four bytes and as many bytes as it counts. A value in an array takes what it takes alone,
+/// and in a table its key more, after a length in one byte.
 #[tactic(auto, using(crate::proofs::GrammarLaws::size_of_scalar, crate::proofs::GrammarLaws::size_of_array, crate::proofs::GrammarLaws::size_of_table))]
 pub fn sizes()
     ensures fixed_width { (x : Scalar) → size (scalar x) ≡ 1 + width_of (scalar_type x) }
@@ -53,8 +53,8 @@ pub fn sizes()
 {}
 
 /// The canonical encoding of a value is an encoding of it, and the payload is one of its type: of
-/// every value in memory whose lengths fit their fields, and in which every value has an id that is
-/// read.
+/// every value in memory whose lengths fit their fields, and in which every value has a type tag
+/// that is read.
 #[tactic(auto, using(crate::proofs::GrammarLaws::text_is_wire, crate::proofs::GrammarLaws::payload_is_raw))]
 pub fn text_is_wire()
     ensures text { (v : Tree) → IsValue v → Fits v → IsTrue (readable v) → Wire (text v) v }
@@ -88,7 +88,7 @@ pub fn one_outcome()
         → RawOutcome type s p → o ≡ p }
 {}
 
-/// Reading a value is reading the payload of the type that its first byte stands for, and takes
+/// Reading a value is reading the payload of the type that its first byte denotes, and takes
 /// memory where that does.
 #[tactic(auto, using(crate::proofs::GrammarLaws::raw_to_value, crate::proofs::GrammarLaws::raw_to_heavy))]
 pub fn value_from_payload()
@@ -109,7 +109,7 @@ pub fn table_is_a_map()
 {}
 
 /// What the pairs of an encoding mean: at each key the value of the last pair with it, under keys
-/// that rise. Where the pairs' own keys rise they are the table's entries as they stand.
+/// that rise. Where the pairs' own keys are ascending they are the table's entries unchanged.
 #[tactic(auto, using(crate::proofs::GrammarLaws::last_stays, crate::proofs::GrammarLaws::pairs_rise, crate::proofs::GrammarLaws::rising_pairs))]
 pub fn last_pair_stays()
     ensures values { (k : List ℕ) (ps : Entries) → value_at k (onto no_entries ps) ≡ last_at k ps }
@@ -128,7 +128,7 @@ pub fn same_tables()
 
 /// What is in an encoding takes bytes: as many as the canonical encoding of its value has, one for
 /// each value in it, and five for each container down to the deepest. A payload has one byte less,
-/// since it has no id.
+/// since it has no type tag.
 #[tactic(auto, using(crate::proofs::GrammarLaws::bounds, crate::proofs::GrammarLaws::raw_bounds))]
 pub fn bounds()
     ensures value { (w : List ℕ) (v : Tree) → Wire w v
@@ -138,8 +138,8 @@ pub fn bounds()
 {}
 
 /// What an encoding means can be written and read again: its lengths fit their fields, and each
-/// value in it has an id that is read. Where the encoding is bytes, what it means is a value. The
-/// same holds of a payload, but a short string's, which no id stands for.
+/// value in it has a type tag that is read. Where the encoding is bytes, what it means is a value.
+/// The same holds of a payload, but a short string's, which no type tag denotes.
 #[tactic(auto, using(crate::proofs::GrammarLaws::what_is_read, crate::proofs::GrammarLaws::what_raw_reads, crate::proofs::GrammarLaws::read_is_value, crate::proofs::GrammarLaws::raw_value))]
 pub fn what_is_read()
     ensures fits { (w : List ℕ) (v : Tree) → Wire w v → Fits v × IsTrue (readable v) }
@@ -164,10 +164,10 @@ pub fn same_text_same_value()
         → text v ≡ text z → v ≡ z }
 {}
 
-/// A canonical encoding is told by its bytes alone: no second spelling of an id, no boolean but 0
-/// or 1, and keys that rise. Bytes are such an encoding of a value in memory, whose lengths fit
-/// their fields, exactly where each value in it has an id that is read and they are what is written
-/// for it.
+/// A canonical encoding is told by its bytes alone: no alternate tag, no boolean but 0
+/// or 1, and keys that are ascending. Bytes are such an encoding of a value in memory, whose
+/// lengths fit their fields, exactly where each value in it has a type tag that is read and they
+/// are what is written for it.
 #[tactic(auto, using(crate::proofs::GrammarLaws::is_canonical))]
 pub fn canonical()
     ensures { (v : Tree) → IsValue v → Fits v → IsCanonical v }

@@ -28,7 +28,7 @@ pub cut_letter : is_utf8 (195 ∷ []) ≡ false
 unfolding is_utf8 chars encode
 cut_letter = refl
 
--- a byte that stands in no text
+-- a byte that is in no text
 pub byte_255 : is_utf8 (255 ∷ []) ≡ false
 unfolding is_utf8 chars encode
 byte_255 = refl

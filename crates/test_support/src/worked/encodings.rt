@@ -104,7 +104,7 @@ pub fn a_decimal()
     ensures writes { text (scalar (decimal 2 42)) ≡ hex "'D' 02 0000002a" }
 {}
 
-/// Nothing has no payload, and what stands after it is left.
+/// Nothing has no payload, and what is after it is left.
 pub fn nothing()
     ensures alone { outcome (hex "'V'") ≡ found (scalar void) [] }
     ensures with_rest { outcome (hex "'V' 0a") ≡ found (scalar void) (hex "0a") }
@@ -142,7 +142,7 @@ pub fn short_strings_read()
     ensures two_bytes { raw_outcome AMQPType.ShortString (hex "02 c3a9") ≡ found (short (hex "c3a9")) [] }
 {}
 
-/// Bytes that aren't UTF-8 are rejected once they have come: a byte that stands in no text, a
+/// Bytes that aren't UTF-8 are rejected once they have come: a byte that is in no text, a
 /// character that is cut, an overlong form, a surrogate.
 #[tactic(auto, using(crate::proofs::OnLiterals::byte_255, crate::proofs::OnLiterals::cut_letter, crate::proofs::OnLiterals::overlong, crate::proofs::OnLiterals::surrogate))]
 pub fn short_strings_refused()
@@ -163,7 +163,7 @@ pub fn an_array()
 {}
 
 /// An array that holds the array of false; its body ends before the last three bytes. With a body
-/// that is two bytes longer the number -1 stands in the array too.
+/// that is two bytes longer the number -1 is in the array too.
 pub fn a_nested_array()
     ensures ends_before { outcome (hex "'A' 00000007 'A' 00000002 't' 00 'b' ff 01")
         ≡ found (array (trees_of (array (trees_of (scalar (boolean false) ∷ [])) ∷ []))) (hex "'b' ff 01") }
@@ -326,27 +326,28 @@ pub fn a_cut_number()
     ensures number { outcome (hex "'D' 02 00") ≡ more 3 }
 {}
 
-/// Nine more bytes of the body are needed, and the unknown id in what has come isn't looked at.
+/// Nine more bytes of the body are needed, and the unknown type tag in what has come isn't looked
+/// at.
 pub fn a_cut_body()
     ensures lacks { outcome (hex "'A' 0000000a 'z'") ≡ more 9 }
     ensures a_byte_more { outcome (hex "'A' 0000000a 'z' 'V'") ≡ more 8 }
 {}
 
-/// As many bytes may be needed as a length can count, and no memory is taken for them.
+/// As many bytes may be needed as a length can count, and nothing is allocated for them.
 pub fn the_longest_frame()
     ensures array { outcome (hex "'A' ffffffff") ≡ more 0xffffffff }
     ensures string { outcome (hex "'S' ffffffff") ≡ more 0xffffffff }
     ensures no_memory { ¬ Heavy (hex "'S' ffffffff") }
 {}
 
-/// The first byte is no id: `z`, and a byte beyond ASCII.
+/// The first byte isn't a type tag: `z`, and a byte beyond ASCII.
 pub fn an_unknown_id()
     ensures letter { outcome (hex "'z'") ≡ unknown }
     ensures beyond_ascii { outcome (hex "c8") ≡ unknown }
     ensures with_rest { outcome (hex "c8 'V'") ≡ unknown }
 {}
 
-/// An unknown id in a body that has come whole is malformed.
+/// An unknown type tag in a body that has come whole is malformed.
 pub fn an_unknown_id_inside()
     ensures { outcome (hex "'A' 00000001 'z'") ≡ malformed }
 {}
@@ -363,7 +364,7 @@ pub fn a_frame_past_its_body()
     ensures string { outcome (hex "'A' 00000006 'S' 00000002 't' 00") ≡ malformed }
 {}
 
-/// What is written is read back, whatever stands after it.
+/// What is written is read back, whatever is after it.
 #[tactic(auto, using(crate::proofs::OnLiterals::letter_a))]
 pub fn reading_back()
     ensures number { outcome (text (scalar (number AMQPType.LongInt 70000)) ++ hex "21")
@@ -400,7 +401,7 @@ pub fn measures_of_a_table()
         ≡ true }
 {}
 
-/// A payload is read by its type, with no id before it.
+/// A payload is read by its type, with no type tag before it.
 pub fn payloads()
     ensures boolean { raw_outcome AMQPType.Boolean (hex "07 09") ≡ found (scalar (boolean true)) (hex "09") }
     ensures no_byte { raw_outcome AMQPType.Boolean [] ≡ more 1 }
@@ -425,8 +426,8 @@ pub fn unsigned_numbers_of_eight_bytes()
         ≡ found (scalar (number AMQPType.Timestamp 0x2a2a2a2a2a2a2a2a)) [] }
 {}
 
-/// The nineteen type tags that are read, and the types that they stand for; `_`, `z`, 0 and 200
-/// stand for none.
+/// The nineteen type tags that are read, and the types that they denote; `_`, `z`, 0 and 200
+/// denote none.
 pub fn ids()
     ensures boolean { kind (byte "t") ≡ Some AMQPType.Boolean }
     ensures short_short_int { kind (byte "b") ≡ Some AMQPType.ShortShortInt }
