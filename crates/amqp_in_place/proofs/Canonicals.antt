@@ -1,4 +1,4 @@
--- Canonical encodings at the front of bytes.
+-- Canonical encodings at the start of bytes.
 use Rattle.std.proofs.Common.{◌≡◌, ◌<◌, ◌≤◌, ◌+◌, ◌-◌, ◌^◌, ℕ, zero, suc, Bool, true, false, cond, nat_eq, eqb, List, [], ◌∷◌, ◌++◌, length, drop, get_or, Fits, w8, Option, Some, None, refl, sym, ap, ◌∙◌, subst, arith, length-append, eq-eqb}
 use Rattle.std.specs.Map.{lookup}
 use Rattle.std.specs.List.{AllByRecursion}
@@ -47,7 +47,7 @@ use Rattle.amqp_in_place.proofs.Stepping.{AtFront, refusal_of_none}
 
 -- ---- type tags and booleans
 
--- only `t` stands for a boolean
+-- only `t` denotes a boolean
 abbrev is_boolean : AMQPType → Bool
 is_boolean amqp.Boolean = true
 is_boolean _ = false
@@ -66,11 +66,11 @@ boolean_letter c k = by (nat_eq c 116) refl (row_holds (λ type. is_boolean type
     by true is none held = eqb-true c 116 is
     by false is none held = absurd (let no : true ≡ false = subst (λ (o : Option AMQPType). IfSome o (λ type. is_boolean type ≡ false)) held none in cc)
 
--- no type tag stands for a short string
+-- no type tag denotes a short string
 no_short_letter : (c : ℕ) → kind c ≡ Some amqp.ShortString → ⊥
 no_short_letter c k = let r = kind_read c amqp.ShortString k in absurd cc
 
--- a boolean's byte is 0 or 1, whatever stands after it
+-- a boolean's byte is 0 or 1, whatever is after it
 strict_front : (b rest : List ℕ) → IsStrict amqp.Boolean (b ++ rest) → IsStrict amqp.Boolean b
 strict_front [] rest x = tt
 strict_front (c ∷ b) rest x = x
@@ -113,7 +113,7 @@ plain_payload _ _ _ (raw_octets s fits) plain none strict = ((raw_octets s fits,
 plain_payload _ _ _ (raw_array body vs fits all) plain none strict = absurd plain
 plain_payload _ _ _ (raw_table body ps fits all) plain none strict = absurd plain
 
--- what is found after the type tag stands there
+-- what is found after the type tag is there
 raw_front : (type : AMQPType) (s : List ℕ) (v : Tree) (rest : List ℕ) → RawOutcome type s (found v rest) → RawFront type s (found v rest)
 raw_front type s v rest x = by (lack type s) x
   where
@@ -133,7 +133,7 @@ plain_front d s r rest (type, mid, (c, here, k), q) spelled =
 
 -- ---- containers
 
--- two bodies after their lengths at the front of bytes are one
+-- two bodies after their lengths at the start of bytes are one
 one_large : (a b x y : List ℕ) → length a < 2 ^ 32 → length b < 2 ^ 32 → long_field a ++ x ≡ long_field b ++ y → a ≡ b
 one_large a b x y few less e =
     let same = one_raw_reading amqp.LongString (long_field a) (long_field b) x y (long a) (long b) (raw_long a few) (raw_long b less) e in
@@ -214,11 +214,11 @@ module _ (d : ℕ) (s : List ℕ) (i : SliceInput) (rest : List ℕ) where
       let size : depth v ≡ 1 + entries_depth b.entries = ap depth b.is in
       (omega (arith, size), (b.entries, b.all, tt, omega (arith, size)))
 
--- a canonical encoding stands there, so a value does
+-- a canonical encoding is there, so is a value
 pub canon_at : (d : ℕ) (s left : List ℕ) → CanonFront d s left → AtFront s
 canon_at d s left (w, v, x, deep, e) = record { value_there = v; bytes = w; left = left; is_wire = canon_is_wire w v x; front = e }
 
--- the rest is answered where a test holds
+-- the rest is returned where a test holds
 pub some_rest : (d : ℕ) (s : List ℕ) (i : SliceInput) (b : Bool) (r : Option SliceInput) → r ≡ then_some b i → (b ≡ true → CanonFront d s (slice_bytes i))
     → IfSome r (λ (rest : SliceInput). CanonFront d s (slice_bytes rest))
 some_rest d s i true r is f = subst (λ (o : Option SliceInput). IfSome o (λ (rest : SliceInput). CanonFront d s (slice_bytes rest))) (sym is) (f refl)
@@ -239,12 +239,12 @@ rest_shorter d s rest (_, _, (wire c type b v k p, is), deep, e) = omega (arith,
 pub no_values : (d : ℕ) (s : List ℕ) → length s ≡ 0 → CanonValues d s
 no_values d s none = subst (CanonValues d) (sym (nil_from_length s none)) (no_trees, (no_value_there, tt), omega arith)
 
--- otherwise the first of them stands at the front
+-- otherwise the first of them is at the start
 pub first_value : (d : ℕ) (s : List ℕ) → 0 < length s → CanonValues d s → (left : List ℕ) × CanonFront d s left × CanonValues d left
 first_value d _ some (_, (no_value_there, all), deep) = absurd (omega arith)
 first_value d _ some (_, (value w left v vs first others, is), deep) = (left, (w, v, (first, is.0), omega arith, refl), (vs, (others, is.1), omega arith))
 
--- what stands after one canonical encoding stands after each
+-- what is after one canonical encoding is after each
 one_rest : (d : ℕ) (s x y : List ℕ) → CanonFront d s x → CanonFront d s y → x ≡ y
 one_rest d s x y (w, v, p, deep, e) (u, z, q, deep2, f) = (one_reading w u x y v z (canon_is_wire w v p) (canon_is_wire u z q) (sym e ∙ f)).2
 
@@ -321,7 +321,7 @@ key_there d j s e some all x =
     subst (λ (t : List ℕ). RawOutcome amqp.ShortString t (found (short p.key) p.behind)) (sym p.framed) (raw_found amqp.ShortString (short_field p.key) p.behind (short p.key) (raw_short p.key p.short_key)) in
     refusal_of_none (RawOutcome amqp.ShortString s) (λ o y other. other (short p.key) p.behind (one_raw_outcome amqp.ShortString s o (found (short p.key) p.behind) y here)) e x
 
--- a key that stands at the front is the first pair's
+-- a key that is at the start is the first pair's
 module _ (d : ℕ) (j : Option (Bor (List ℕ))) (s key behind : List ℕ) (f : IsKeyFrame s key behind) where
   same_key : (p : FirstPair d j s) → (p.key ≡ key) × (p.behind ≡ behind)
   same_key p =
@@ -344,7 +344,7 @@ module _ (d : ℕ) (j : Option (Bor (List ℕ))) (s key behind : List ℕ) (f : 
       let p = first_pair d j s there all in
       subst (IsAbove j) (same_key p).0 p.above
 
-  -- a canonical encoding stands after it
+  -- a canonical encoding is after it
   pub value_behind : CanonEntries d j s → (left : List ℕ) × CanonFront d behind left
   value_behind all =
       let p = first_pair d j s there all in
@@ -373,13 +373,13 @@ module _ (d : ℕ) (j : Option (Bor (List ℕ))) (s key behind : List ℕ) (f : 
             let pairs = canon_pair key w after v es is x (subst (λ (t : List ℕ). ComesBefore t es) e before) all in
             (entry key v es, subst (λ (t : List ℕ). CanonPairs t (entry key v es)) (sym (f.framed ∙ ap (λ (t : List ℕ). short_field key ++ t) g)) pairs, over j v above, omega arith)
 
-    -- what stands after the pair is shorter
+    -- what is after the pair is shorter
     pub pair_shorter : length after < length s
     pair_shorter = omega (arith, ap length f.framed, length-append key behind, rest_shorter d behind after front)
 
 -- ---- limits
 
--- what lies in a slice of bytes is bytes
+-- what is inside a slice of bytes is bytes
 pub bytes_all : (s : List ℕ) → ((i : ℕ) → Fits w8 (get_or s i 0)) → IsBytes s
 bytes_all [] at = tt
 bytes_all (c ∷ s) at = (omega (arith, at 0), bytes_all s (λ i. at (suc i)))
@@ -394,7 +394,7 @@ canon_found d w rest v bytes x deep =
     wire_found_within d w rest v p.0 (omega (arith, p.1, deep))
 
 module _ (l : Limits) (s : List ℕ) where
-  -- a canonical encoding at the front, as deep as the limits allow
+  -- a canonical encoding at the start, as deep as the limits allow
   pub canon_len : (rest : List ℕ) (n : ℕ) → IsBytes s → extent s ≤ l.frame → CanonFront l.depth s rest → length s ≡ n + length rest → IsCanonicalLen l s n
   canon_len rest n bytes fits (w, v, x, deep, e) size =
       let front : IsBytes w = bytes_front w rest (subst IsBytes e bytes) in
@@ -418,7 +418,7 @@ module _ (l : Limits) (s : List ℕ) where
           absurd (let same = one_outcome s (more (wanted s)) (found v rest) lacks there in cc)
       by header.Whole is there = refl
 
-  -- one canonical encoding at most stands at the front
+  -- one canonical encoding at most is at the start
   pub one_len : (n m : ℕ) → IsCanonicalLen l s n → IsCanonicalLen l s m → n ≡ m
   one_len n m (w, rest, v, e, size, x, within) (u, left, z, f, count, y, inside) =
       let same = (one_reading w u rest left v z (canon_is_wire w v x) (canon_is_wire u z y) (sym e ∙ f)).0 in

@@ -1,4 +1,4 @@
--- What stands behind an id, one level deep.
+-- What is after a type tag, one level deep.
 use Rattle.std.proofs.Common.{◌≡◌, ◌<◌, ◌-◌, ◌+◌, ℕ, zero, suc, List, [], ◌∷◌, ◌++◌, length, MatchResult, Result, Ok, Err, refl, sym, ap, ◌∙◌, subst, arith, length-append}
 use Rattle.std.specs.Int.{w8}
 use Rattle.std.specs.Str.{IsUtf8}
@@ -30,7 +30,7 @@ use Rattle.amqp_in_place.specs.Refs.{plain_tree, Stands}
 use Rattle.amqp_in_place.specs.Answers.{HeadRefuses}
 use Rattle.amqp_in_place.specs.Heads.{IsPlain, IsPlainType, RawHeadIs, IsHead, AtAnyDepth, Means, IsKeyFrame}
 
--- a plain value stands for its tree
+-- a plain value denotes its tree
 pub plain_stands : (r : ValueRef) → IsPlain r → Stands r (plain_tree r)
 plain_stands (at.FieldArray a) p = absurd p
 plain_stands (at.FieldTable t) p = absurd p
@@ -41,13 +41,13 @@ plain_type amqp.FieldArray p = absurd p
 plain_type amqp.FieldTable p = absurd p
 plain_type _ p = tt
 
--- the id of the type is read from s, and `mid` is left
+-- the type tag of the type is read from s, and `mid` is left
 module _ (s mid : List ℕ) (type : AMQPType) (p : IsType s type mid) where
-  -- what reading the payload comes to, reading the value does
+  -- what reading the payload results in, reading the value does
   typed : (d : ℕ) (o : Reading) → RawOutcomeWithin d type mid o → OutcomeWithin d s o
   typed d o x = subst (λ (t : List ℕ). OutcomeWithin d t o) (sym p.1) (raw_to_value_within d p.0 type mid o p.2 x)
 
-  -- bytes that lack of the payload lack of the value
+  -- bytes that are missing of the payload are missing of the value
   typed_lack : (n : ℕ) → RawOutcome type mid (more n) → AtAnyDepth s (more n)
   typed_lack n x = λ d. typed d (more n) (by d (lack type mid) x)
     where
@@ -64,7 +64,7 @@ module _ (s mid : List ℕ) (type : AMQPType) (p : IsType s type mid) where
   head_answer (Err (Error k)) q = absurd q
   head_answer (Err (Failure k)) q = q
 
-  -- what stands at the front of the value, where a wire does
+  -- what is at the start of the value, where an encoding is
   payload_front : (w left : List ℕ) (v : Tree) → Wire w v → s ≡ w ++ left → RawFront type mid (found v left)
   payload_front w left v q e =
       let x : Outcome s (found v left) = subst (λ (t : List ℕ). Outcome t (found v left)) (sym e) (wire_found w left v q) in
@@ -74,7 +74,7 @@ module _ (s mid : List ℕ) (type : AMQPType) (p : IsType s type mid) where
       by zero f = f
       by (suc n) f = absurd cc
 
--- bytes that lack of a LongLongInt lack of a LongLongUInt
+-- bytes that are missing of a LongLongInt are missing of a LongLongUInt
 pub unsigned_lacks : (s : List ℕ) (e : Refusal) → OnlyLacks (RawOutcome amqp.LongLongInt s) ⊥ e → OnlyLacks (RawOutcome amqp.LongLongUInt s) ⊥ e
 unsigned_lacks s (Incomplete Unknown) x = x
 unsigned_lacks s (Incomplete (Size n)) x = unsigned_outcome s (more n) x
@@ -155,7 +155,7 @@ module _ (d : ℕ) (s : List ℕ) (i : SliceInput) (rest : List ℕ) where
   pub table_deep : IsHead s (head.FieldTable i) rest → d ≡ 0 → OutcomeWithin d s malformed
   table_deep h none = as_table h malformed (λ mid f. table_too_deep d mid (slice_bytes i) rest f none)
 
--- what stands at the front is what the head means, and no more
+-- what is at the start is what the head means, and no more
 pub only : (s : List ℕ) (h : Head) (rest w left : List ℕ) (v : Tree) → IsHead s h rest → Wire w v → s ≡ w ++ left → Means h v × (left ≡ rest)
 only s (head.Plain r) rest w left v (type, mid, p, q) x e =
     let d = nesting w v x in
@@ -187,7 +187,7 @@ module _ (s body rest : List ℕ) (f : IsKeyFrame s body rest) where
       let count : counted w8 s ≡ length body = ap (counted w8) f.framed ∙ omega (arith, f.few) in
       omega arith
 
-  -- a key whose bytes are no text is refused
+  -- a key whose bytes are no text is rejected
   pub key_refused : (IsUtf8 body → ⊥) → RawOutcome amqp.ShortString s malformed
   key_refused none =
       let front : RawFront amqp.ShortString s malformed = λ b left v p d. none (short_bytes body rest b left v p (sym f.framed ∙ d)).utf8 in

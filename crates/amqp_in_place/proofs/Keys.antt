@@ -72,7 +72,7 @@ module _ (s named : List ℕ) (n : ℕ) (e : s ≡ n ∷ named) where
       let f = first_key s named n p.0 e p.1 in
       (f.value_there, f.left, value_here p.0 f))
 
-  -- pairs stand after it
+  -- pairs are after it
   pub keys_behind : ∥ HasPairs s ∥₁ → (length (drop (extent (drop n named)) (drop n named)) < length s) × ∥ HasPairs (drop (extent (drop n named)) (drop n named)) ∥₁
   keys_behind has = (
     ∥∥₁_elim has le_prop (λ (p : HasPairs s).
@@ -93,7 +93,7 @@ module _ (s named : List ℕ) (n : ℕ) (e : s ≡ n ∷ named) where
       (key, here, subst (λ (t : List ℕ). Pairs t f.others) (sym (rest ∙ behind ps f)) f.more_pairs) in
       subst (λ (qs : Entries). NextKeyIs qs (Some x)) (sym f.are) given
 
-  -- what is given lies in the bytes
+  -- what is given is inside the bytes
   pub value_left : IsLeft s (drop n named)
   value_left = (n ∷ take n named, e ∙ ap (λ (t : List ℕ). n ∷ t) (sym (take-append-drop n named)))
 

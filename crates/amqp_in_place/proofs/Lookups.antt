@@ -1,4 +1,4 @@
--- Looking up what stands in a container.
+-- Looking up what is in a container.
 use Rattle.std.proofs.Common.{◌≡◌, ◌<◌, ◌↔◌, ℕ, suc, Bool, true, false, cond, List, length, Option, Some, None, refl, sym, ap, ◌∙◌, subst, arith, length-append}
 use Rattle.std.specs.Option.{option_or, is_some}
 use Rattle.std.specs.Borrow.{Bor}

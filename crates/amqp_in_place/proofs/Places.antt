@@ -63,7 +63,7 @@ array_lies s i rest (type, mid, p, q) = framed s mid (slice_bytes i) rest (long_
 pub table_lies : (s : List ℕ) (i : SliceInput) (rest : List ℕ) → IsHead s (head.FieldTable i) rest → IsFramed s (slice_bytes i) rest
 table_lies s i rest (type, mid, p, q) = framed s mid (slice_bytes i) rest (long_field (slice_bytes i)) p.0 p.1 q.1.framed refl
 
--- so what refers to what stands in the head does
+-- so what refers to what is in the head does
 pub lies : (s : List ℕ) (h : Head) (r : ValueRef) (rest : List ℕ) → IsHead s h rest → RefersTo h r → LiesIn s r rest
 lies s (head.Plain q) r rest is e = subst (λ (x : ValueRef). LiesIn s x rest) (sym e) (plain_lies s q rest is)
 lies s (head.FieldArray i) (at.FieldArray a) rest is e = subst (λ (t : List ℕ). IsFramed s t rest) (sym e) (array_lies s i rest is)
@@ -71,7 +71,7 @@ lies s (head.FieldArray i) _ rest is e = absurd e
 lies s (head.FieldTable i) (at.FieldTable t) rest is e = subst (λ (u : List ℕ). IsFramed s u rest) (sym e) (table_lies s i rest is)
 lies s (head.FieldTable i) _ rest is e = absurd e
 
--- what lies in the bytes leaves the rest of them
+-- what is inside the bytes leaves the rest of them
 lies_before : (s : List ℕ) (r : ValueRef) (rest : List ℕ) → LiesIn s r rest → IsLeft s rest
 lies_before s r rest x = by r x
   where

@@ -23,11 +23,11 @@ use Rattle.std.proofs.lemmas.Str.Ascii.{IsAscii-from_all}
 pub ascii_is_utf8 : (s : List ℕ) → All (λ b. b < 128) s → IsUtf8 s
 ascii_is_utf8 s ascii = IsUtf8-from_ascii s (IsAscii-from_all s ascii)
 
--- what isn't there for want of memory isn't there
+-- what isn't there when memory runs out isn't there
 no_heavy : (Is : Reading → Type 0) (heavy : Type 0) (e : Refusal) → Refuses Is ⊥ e → Refuses Is heavy e
 no_heavy Is heavy e x = Refuses-weaker Is Is ⊥ heavy e (λ o y. y) (λ h. absurd h) x
 
--- the refusal of what stands in a body, where memory is never wanted: the body is none
+-- the error of what is in a body, where memory is never wanted: the body isn't one
 told : (Is Now : Reading → Type 0) (heavy : Type 0) (e : Refusal) → Refuses Is ⊥ e → Refuses Now heavy (inside e) → Now malformed
 told Is Now heavy (Incomplete m) x y = y
 told Is Now heavy (Error k) x y = y
@@ -65,7 +65,7 @@ bad_key d s es rest (Error OutOfMemory) g h x = absurd x
 bad_key d s es rest (Error TooLarge) g h x = absurd x
 bad_key d s es rest (Failure k) g h x = absurd x.1
 
--- a depth that the bytes can't pass limits no refusal
+-- a depth that the bytes can't pass limits no error
 pub unlimited_refused : (d : ℕ) (s : List ℕ) (e : Refusal) → d ≡ length s → Refuses (OutcomeWithin d s) ⊥ e → Refuses (Outcome s) ⊥ e
 unlimited_refused d s e is x = Refuses-weaker (OutcomeWithin d s) (Outcome s) ⊥ ⊥ e (λ o y. unlimited d s o (omega arith) y) (λ h. h) x
 

@@ -1,4 +1,4 @@
--- Keys that stand more than once, and keys that rise.
+-- Keys that stand more than once, and keys that are ascending.
 use Rattle.std.proofs.Common.{◌≡◌, ◌<◌, ◌≤◌, ◌+◌, ◌↔◌, ℕ, Bool, true, false, cond, List, Option, Some, None, refl, sym, ap, ◌∙◌, subst, arith}
 use Rattle.std.specs.List.{list_any}
 use Rattle.std.specs.Borrow.{Bor}
@@ -24,9 +24,9 @@ use Rattle.amqp_in_place.specs.Walks.{NextPairIs}
 abbrev one_if : Bool → ℕ
 one_if b = cond b 1 0
 
--- ---- keys that rise stand once
+-- ---- keys that are ascending stand once
 
--- a key below the first of rising keys is none of them
+-- a key below the first of sorted keys is none of them
 times-below : (j k : List ℕ) (ps : Entries) → slice_cmp nat_cmp j k ≡ Less → ComesBefore k ps → IsRising ps → times_at j ps ≡ 0
 times-below j k no_entries less before rises = refl
 times-below j k (entry i v ps) less before rises =
@@ -55,9 +55,9 @@ rising_once (entry j v ps) rises k = by (same_bytes k j) refl (rising_once ps ri
         omega (arith, none)
     by false is few = omega arith
 
--- ---- the walk that looks whether keys rise
+-- ---- the walk that looks whether keys are ascending
 
--- the keys rise where those that are left rise, above the one before them
+-- the keys are ascending where those that are left rise, above the one before them
 abbrev pub Rises : List ℕ → List ℕ → Option (Bor (List ℕ)) → Type 0
 Rises s rest j = (ps : Entries) → Pairs s ps → (qs : Entries) × Pairs rest qs × (IsRising ps ↔ (AreAbove j qs × IsRising qs))
 

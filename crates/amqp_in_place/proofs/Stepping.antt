@@ -35,7 +35,7 @@ use Rattle.amqp_in_place.proofs.HeadLemmas.{only, head_refuses}
 no_prop : IsProp ⊥
 no_prop x y = absurd x
 
--- where reading finds something it isn't refused
+-- where reading finds something it isn't rejected
 pub refusal_of_none : (Is : Reading → Type 0) → ((o : Reading) → Is o → ((v : Tree) (left : List ℕ) → o ≡ found v left → ⊥) → ⊥) → (e : Refusal) → Refuses Is ⊥ e → ⊥
 refusal_of_none Is f (Incomplete Unknown) x = x
 refusal_of_none Is f (Incomplete (Size n)) x = f (more n) x (λ v left e. cc)
@@ -46,7 +46,7 @@ refusal_of_none Is f (Error OutOfMemory) x = x
 refusal_of_none Is f (Error TooLarge) x = x
 refusal_of_none Is f (Failure k) x = x.1
 
--- a value stands at the beginning of s, and `left` after it
+-- a value is at the beginning of s, and `left` after it
 pub record AtFront (s : List ℕ) : Type 0 where
   pub value_there : Tree
   pub bytes : List ℕ
@@ -73,11 +73,11 @@ meant_values h i is m = ∥∥₁_map (subst (λ (k : Head). ∥ IsMeant k ∥�
 pub meant_pairs : (h : Head) (i : SliceInput) → h ≡ head.FieldTable i → ∥ IsMeant h ∥₁ → ∥ HasPairs (slice_bytes i) ∥₁
 meant_pairs h i is m = ∥∥₁_map (subst (λ (k : Head). ∥ IsMeant k ∥₁) is m) (λ (x : IsMeant (head.FieldTable i)). (x.1.1.0, x.1.1.1))
 
--- a wire has at least one byte
+-- an encoding has at least one byte
 length-wire : (w : List ℕ) (v : Tree) → Wire w v → 0 < length w
 length-wire _ _ (wire c type b v k p) = omega arith
 
--- ---- the value at the front
+-- ---- the value at the start
 
 at_front : (s : List ℕ) (v : Tree) (rest : List ℕ) → Outcome s (found v rest) → AtFront s
 at_front s v rest x = let f = found_front s rest v x in record { value_there = v; bytes = f.0; left = rest; is_wire = f.1; front = f.2 }
@@ -120,7 +120,7 @@ module _ (s : List ℕ) (h : Head) (rest : List ℕ) (some : 0 < length s) (is :
       let a = (first_value s p.0 some p.1).at in
       (a.value_there, (meant s h rest is a).0))
 
-  -- values stand after it
+  -- values are after it
   pub values_behind : ∥ HasValues s ∥₁ → (length rest < length s) × ∥ HasValues rest ∥₁
   values_behind has = (
     ∥∥₁_elim has le_prop (λ (p : HasValues s).
@@ -160,7 +160,7 @@ key_there s e some has x =
         (one_raw_outcome amqp.ShortString (short_field k ++ (w ++ left)) o (found (short k) (w ++ left)) y
         (raw_found amqp.ShortString (short_field k) (w ++ left) (short k) (raw_short k is)))
 
--- the first of some pairs, whose key was read: its value stands at the beginning of what is after
+-- the first of some pairs, whose key was read: its value is at the beginning of what is after
 -- the key
 record FirstPair (s key behind : List ℕ) (ps : Entries) : Type 0 where
   pub at : AtFront behind
@@ -200,7 +200,7 @@ module _ (s key behind : List ℕ) (f : IsKeyFrame s key behind) where
       let a = (first_pair s key behind p.0 f p.1).at in
       (a.value_there, (meant behind h rest is a).0))
 
-  -- pairs stand after it
+  -- pairs are after it
   pub pairs_behind : (h : Head) (rest : List ℕ) → IsHead behind h rest → ∥ HasPairs s ∥₁ → (length rest < length s) × ∥ HasPairs rest ∥₁
   pairs_behind h rest is has = (
     ∥∥₁_elim has le_prop (λ (p : HasPairs s).

@@ -1,4 +1,4 @@
--- What reading in place answers.
+-- What reading in place returns.
 use Rattle.std.specs.Prelude.{ℕ, ◌≡◌, ◌+◌, List, ◌++◌, length}
 use Rattle.amqp_grammar.specs.Values.{Tree}
 use Rattle.amqp_grammar.specs.Outcomes.{Reading, found, unknown, Outcome}
@@ -13,7 +13,7 @@ NeedsNoMemory (Failure kind) = ⊥
 NeedsNoMemory _ = Unit {0}
 
 -- an error of reading a type tag and a length is right: where enough bytes are there, the type tag
--- stands for no type
+-- denotes no type
 abbrev pub HeadRefuses : (Reading → Type 0) → Refusal → Type 0
 HeadRefuses Is e = RefusesAs (λ kind. (kind ≡ MapOpt) × Is unknown) Is ⊥ e
 
@@ -21,6 +21,6 @@ HeadRefuses Is e = RefusesAs (λ kind. (kind ≡ MapOpt) × Is unknown) Is ⊥ e
 abbrev pub IsLeft : List ℕ → List ℕ → Type 0
 IsLeft s rest = (w : List ℕ) × (s ≡ w ++ rest)
 
--- n bytes stand before what is left after the value at the beginning, where there is one
+-- n bytes are before what is left after the value at the beginning, where there is one
 abbrev pub IsWidthOfFound : List ℕ → ℕ → Type 0
 IsWidthOfFound s n = (v : Tree) (rest : List ℕ) → Outcome s (found v rest) → length s ≡ n + length rest

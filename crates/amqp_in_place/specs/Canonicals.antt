@@ -1,4 +1,4 @@
--- Canonical encodings at the front of bytes.
+-- Canonical encodings at the start of bytes.
 use Rattle.std.specs.Prelude.{ℕ, ◌≤◌, ◌≡◌, ◌≢◌, Option, Some, None, List, [], ◌∷◌, ◌++◌, length}
 use Rattle.std.specs.Borrow.{Bor}
 use Rattle.std.specs.Ordering.{nat_cmp}
@@ -25,7 +25,7 @@ IsCanonicalWithin l s = (v : Tree) × Canon s v × Within l s (found v [])
 abbrev pub IsReadAsWritten : Limits → List ℕ → Type 0
 IsReadAsWritten l s = (v : Tree) × Within l s (found v []) × (s ≡ text v)
 
--- a canonical encoding stands before `rest`, and containers nest at most d deep in its value
+-- a canonical encoding is before `rest`, and containers nest at most d deep in its value
 abbrev pub CanonFront : ℕ → List ℕ → List ℕ → Type 0
 CanonFront d s rest = (w : List ℕ) × (v : Tree) × Canon w v × (depth v ≤ d) × (s ≡ w ++ rest)
 
@@ -47,7 +47,7 @@ AreAbove (Some j) es = ComesBefore j.now es
 abbrev pub CanonEntries : ℕ → Option (Bor (List ℕ)) → List ℕ → Type 0
 CanonEntries d j s = (es : Entries) × CanonPairs s es × AreAbove j es × (entries_depth es ≤ d)
 
--- no second spelling of a type tag stands first, and after a boolean's 0 or 1
+-- no alternate tag stands first, and after a boolean's 0 or 1
 abbrev pub IsFirstSpelling : List ℕ → Type 0
 IsFirstSpelling [] = Unit {0}
 IsFirstSpelling (c ∷ b) = (c ≢ 85) × (c ≢ 76) × (c ≡ 116 → IsStrict amqp.Boolean b)

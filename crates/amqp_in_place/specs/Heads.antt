@@ -1,4 +1,4 @@
--- What stands after a type tag (id), one level deep.
+-- What is after a type tag, one level deep.
 use Rattle.std.specs.Prelude.{ℕ, ◌≤◌, ◌≡◌, List, length, ◌++◌}
 use Rattle.amqp_types.specs.declared.amqp_type.AMQPType.{AMQPType}
 use Rattle.amqp_types.specs.declared.amqp_type.AMQPType.TheVariants as amqp
@@ -17,7 +17,7 @@ use Rattle.amqp_in_place.specs.declared.refs.ValueRef.TheVariants as at
 use Rattle.amqp_in_place.specs.Refs.{array_body, table_body, plain_tree, Stands}
 use Rattle.amqp_in_place.specs.Bodies.{HasEntries}
 
--- the value is no container
+-- the value isn't a container
 abbrev pub IsPlain : ValueRef → Type 0
 IsPlain (at.FieldArray a) = ⊥
 IsPlain (at.FieldTable t) = ⊥
@@ -35,11 +35,11 @@ RawHeadIs type s (head.Plain r) rest = IsPlain r × IsPlainType type × RawOutco
 RawHeadIs type s (head.FieldArray i) rest = (type ≡ amqp.FieldArray) × IsFrame s (slice_bytes i) rest
 RawHeadIs type s (head.FieldTable i) rest = (type ≡ amqp.FieldTable) × IsFrame s (slice_bytes i) rest
 
--- the head of a value: that of the payload after its id
+-- the head of a value: that of the payload after its type tag
 abbrev pub IsHead : List ℕ → Head → List ℕ → Type 0
 IsHead s h rest = (type : AMQPType) × (mid : List ℕ) × IsType s type mid × RawHeadIs type mid h rest
 
--- whatever the limit on depth is, reading s comes to o
+-- whatever the limit on depth is, reading s results in o
 abbrev pub AtAnyDepth : List ℕ → Reading → Type 0
 AtAnyDepth s o = (d : ℕ) → OutcomeWithin d s o
 
@@ -53,14 +53,14 @@ Means (head.FieldTable i) v = (es : Entries) × HasEntries (slice_bytes i) es ×
 abbrev pub IsMeant : Head → Type 0
 IsMeant h = (v : Tree) × Means h v
 
--- the value is what stands in the head
+-- the value is what is in the head
 abbrev pub RefersTo : Head → ValueRef → Type 0
 RefersTo (head.Plain r) q = q ≡ r
 RefersTo (head.FieldArray i) (at.FieldArray a) = array_body a ≡ slice_bytes i
 RefersTo (head.FieldTable i) (at.FieldTable t) = table_body t ≡ slice_bytes i
 RefersTo _ _ = ⊥
 
--- `body` stands after its length in one byte, and `rest` after it
+-- `body` is after its length in one byte, and `rest` after it
 pub record IsKeyFrame (s body rest : List ℕ) : Type 0 where
   pub framed : s ≡ short_field body ++ rest
   pub few : length body ≤ 255

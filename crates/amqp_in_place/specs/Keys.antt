@@ -1,4 +1,4 @@
--- How often keys stand in a table as it is written.
+-- How often keys are in a table as it is written.
 use Rattle.std.specs.Prelude.{ℕ, ◌+◌, ◌<◌, ◌≤◌, List, Option, Some, None, if◌then◌else◌}
 use Rattle.std.specs.Borrow.{Bor}
 use Rattle.amqp_grammar.specs.Values.{Entries, no_entries, entry}

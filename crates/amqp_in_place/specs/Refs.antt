@@ -1,4 +1,4 @@
--- Values in place: what they stand for.
+-- Values in place: what they denote.
 use Rattle.std.specs.Prelude.{ℕ, ◌≡◌, ◌<◌, List, length, Option, Some, None}
 use Rattle.std.specs.Int.{w8, w16, w32, w64, cast_unsigned}
 use Rattle.amqp_types.specs.declared.amqp_type.AMQPType.TheVariants as amqp
@@ -19,7 +19,7 @@ array_body a = slice_bytes a.body
 abbrev pub table_body : TableRef → List ℕ
 table_body t = slice_bytes t.body
 
--- the tree of a value that is no container
+-- the tree of a value that isn't a container
 abbrev pub plain_tree : ValueRef → Tree
 plain_tree (at.Boolean b) = scalar (boolean b)
 plain_tree (at.ShortShortInt z) = scalar (number amqp.ShortShortInt (cast_unsigned w8 z))

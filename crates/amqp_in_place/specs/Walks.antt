@@ -32,7 +32,7 @@ abbrev pub MorePairs : ℕ → Option (Bor (List ℕ) × ValueRef × SliceInput)
 MorePairs n None = Unit {0}
 MorePairs n (Some x) = (length (slice_bytes x.2) < n) × ∥ HasPairs (slice_bytes x.2) ∥₁
 
--- a value is read from the front
+-- a value is read from the start
 abbrev pub HasFront : List ℕ → Type 0
 HasFront s = (v : Tree) × (rest : List ℕ) × Outcome s (found v rest)
 
@@ -53,19 +53,19 @@ BeginsAt None None = Unit {0}
 BeginsAt (Some v) (Some at) = (rest : List ℕ) × Outcome at.now (found v rest)
 BeginsAt _ _ = ⊥
 
--- a step gives the first of the values, and leaves the others
+-- a step returns the first of the values, and leaves the others
 abbrev pub ValueStep : Trees → Option ValueRef → List ℕ → Type 0
 ValueStep no_trees None left = Body left no_trees
 ValueStep (tree v vs) (Some r) left = Stands r v × Body left vs
 ValueStep _ _ left = ⊥
 
--- a step gives the first of the pairs, and leaves the others
+-- a step returns the first of the pairs, and leaves the others
 abbrev pub PairStep : Entries → Option (Bor (List ℕ) × ValueRef) → List ℕ → Type 0
 PairStep no_entries None left = Pairs left no_entries
 PairStep (entry k v ps) (Some x) left = (x.0.now ≡ k) × Stands x.1 v × Pairs left ps
 PairStep _ _ left = ⊥
 
--- what is found stands for the tree, if there is one
+-- what is found denotes the tree, if there is one
 abbrev pub FoundIs : Option Tree → Option ValueRef → Type 0
 FoundIs None None = Unit {0}
 FoundIs (Some v) (Some r) = Stands r v

@@ -42,7 +42,7 @@ pub fn canonical_len(bytes: &[u8], limits: Limits) -> Option<usize>
     Some(bytes.len() - rest.input_len())
 }
 
-// What stands after a canonical encoding in which containers nest at most `depth` deep.
+// What is after a canonical encoding in which containers nest at most `depth` deep.
 #[cycle(canonical)]
 fn after_canonical<'a>(i: SliceInput<'a>, depth: usize) -> Option<SliceInput<'a>>
     ensures rest { IfSome result (λ rest. CanonFront depth (slice_bytes i.entry) (slice_bytes rest)) }
@@ -120,7 +120,7 @@ pub(crate) fn is_above(previous: Option<&[u8]>, key: &[u8]) -> bool
     }
 }
 
-// Whether no second spelling of a type tag stands first, and after a boolean's 0 or 1.
+// Whether no alternate tag stands first, and after a boolean's 0 or 1.
 fn is_first_spelling(bytes: &[u8]) -> bool
     ensures yes { result ≡ true → IsFirstSpelling bytes.now }
     ensures no { result ≡ false → IsFirstSpelling bytes.now → ⊥ }

@@ -25,7 +25,7 @@ pub(crate) enum Head<'a> {
     FieldTable(SliceInput<'a>),
 }
 
-// Reads an id and what stands after it, one level deep.
+// Reads a type tag and what is after it, one level deep.
 #[inline(always)]
 #[tactic(auto, using(crate::proofs::HeadLemmas::head_answer, crate::proofs::HeadLemmas::no_head))]
 pub(crate) fn read_head<'a>(i: SliceInput<'a>) -> ParserResult<SliceInput<'a>, Head<'a>>
@@ -37,7 +37,7 @@ pub(crate) fn read_head<'a>(i: SliceInput<'a>) -> ParserResult<SliceInput<'a>, H
     read_payload_head(amqp_type, i)
 }
 
-// Reads what stands after a type tag (id).
+// Reads what is after a type tag.
 #[inline(always)]
 #[tactic(auto, using(amqp_parsing::proofs::ParsingLaws::long_found, amqp_parsing::proofs::ParsingLaws::octets_found, amqp_parsing::proofs::ParsingLaws::void_found, amqp_parsing::proofs::ParsingLaws::unsigned_outcome, crate::proofs::HeadLemmas::unsigned_lacks))]
 fn read_payload_head<'a>(

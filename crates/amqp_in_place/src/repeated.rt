@@ -42,7 +42,7 @@ impl<'a> TableRef<'a> {
     }
 }
 
-// Whether the keys of the pairs rise by their bytes.
+// Whether the keys of the pairs are ascending by their bytes.
 fn keys_rise<'a>(pairs: SliceInput<'a>) -> bool
     requires { ∥ HasPairs (slice_bytes pairs) ∥₁ }
     ensures yes { result ≡ true → (ps : Entries) → Pairs (slice_bytes pairs.entry) ps → IsRising ps }

@@ -32,7 +32,7 @@ fn value_of<'a>(head: Head<'a>) -> ValueRef<'a>
     }
 }
 
-// The value at the front of bytes, where one stands.
+// The value at the start of bytes, where one stands.
 pub(crate) fn front_value<'a>(bytes: &'a [u8]) -> ValueRef<'a>
     requires { ∥ HasFront bytes.now ∥₁ }
     ensures value { (v : Tree) (rest : List ℕ) → Outcome bytes.now (found v rest) → Stands result v }
