@@ -51,7 +51,7 @@ named amqp.FieldTable = refl
 named amqp.ByteArray = refl
 named amqp.Void = refl
 
--- what stands under a type's name is read as of that type
+-- what is under a type's name is read as of that type
 pub read_under : (type : AMQPType) (d : Data) → value_of (under type d) ≡ value_named type d (ambiguous_table d)
 read_under type d = rw (named type) refl
 

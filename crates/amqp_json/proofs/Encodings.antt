@@ -13,7 +13,7 @@ use Rattle.amqp_parsing.specs.Refusals.{Refusal}
 use Rattle.amqp_parsing.specs.Answers.{Refuses}
 use Rattle.amqp_json.specs.Converts.{IsReadAs}
 
--- what reading a text comes to, whatever follows
+-- what reading a text results in, whatever follows
 abbrev Back : Tree → Type 0
 Back v = (rest : List ℕ) → Outcome (text v ++ rest) (read_back v rest)
 

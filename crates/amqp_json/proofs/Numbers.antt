@@ -31,6 +31,6 @@ by_layer v (Value-F.Object ms) e = search (rules, the_lemmas, e)
 pub never_natural_as_negative : (v : Value) → is_natural_as_negative (view v) ≡ false
 never_natural_as_negative v = by_layer v (out-Value v) refl
 
--- so what stands under the name of a type of integers is read as it stands
+-- so what is under the name of a type of integers is read unchanged
 pub plain_is : (v : Value) (type : AMQPType) → plain_in type (view v) ≡ json (view v) type
 plain_is v type = rw (never_natural_as_negative v)

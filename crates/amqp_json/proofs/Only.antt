@@ -315,7 +315,7 @@ is_under amqp.Void d t h = absurd (cc h)
 
 -- ---- values
 
--- what stands under a type's name, where an object that is a table is that table's
+-- what is under a type's name, where an object that is a table is that table's
 abbrev Ambiguous : Data → Type 0
 Ambiguous d = (t : Tree) → ambiguous_table d ≡ Some t → json t ≡ under amqp.FieldTable d
 

@@ -18,7 +18,7 @@ use Rattle.amqp_json.specs.Reading.{value_of, values_of, entries_of, with_entry}
 
 -- ---- items
 
--- a tree behind others
+-- a tree after others
 snoc : Trees → Tree → Trees
 snoc no_trees t = tree t no_trees
 snoc (tree u ts) t = tree u (snoc ts t)
@@ -28,7 +28,7 @@ unfolding snoc
 trees_snoc [] v = refl
 trees_snoc (u ∷ vs) v = ap (tree (view u)) (trees_snoc vs v)
 
--- the next item's tree behind those so far
+-- the next item's tree after those so far
 both : Option Trees → Option Tree → Option Trees
 both ts t = option_and_then (λ us. option_map (snoc us) t) ts
 
@@ -61,7 +61,7 @@ none_behind : (q : Option Tree) (os : Option Trees) → os ≡ None → option_a
 none_behind None os e = refl
 none_behind (Some x) os e = rw e
 
--- an item that is no value
+-- an item that isn't a value
 pub item_refused : (vs : List Value) (k : ℕ) (v : Value) → k < length vs → v ≡ get_or vs k v → value_of (document v) ≡ None → values_of (items_view vs) ≡ None
 item_refused [] k v h e q = absurd (omega arith)
 item_refused (x ∷ vs) zero v h e q = rw (← e, q)
@@ -130,7 +130,7 @@ no_more k true None os s e = rw s
 no_more k true (Some x) os s e = rw (s, e)
 no_more k false o os s e = rw s
 
--- a member that is no entry
+-- a member that isn't an entry
 member_refused : (done : List Entry) (e : Entry) (more : List Entry) → ((os : Option Entries) → with_entry (string_bytes e.0) (value_of (document e.1)) os ≡ None) → entries_of (members_view (done ++ e ∷ more)) ≡ None
 member_refused [] e more h = h (entries_of (members_view more))
 member_refused (first ∷ done) e more h = no_more (string_bytes first.0) _ (value_of (document first.1)) (entries_of (members_view (done ++ e ∷ more))) refl (member_refused done e more h)
@@ -148,7 +148,7 @@ key_refused all done left more e is next long =
     ap (λ es. entries_of (members_view es)) (is ∙ ap (λ es. done ++ es) next)
     ∙ member_refused done e more (λ os. long_key (string_bytes e.0) (value_of (document e.1)) os long)
 
--- what is no value
+-- what isn't a value
 pub value_refused : (all done left more : List Entry) (e : Entry) → all ≡ done ++ left → left ≡ e ∷ more → value_of (document e.1) ≡ None → entries_of (members_view all) ≡ None
 value_refused all done left more e is next none =
     ap (λ es. entries_of (members_view es)) (is ∙ ap (λ es. done ++ es) next)

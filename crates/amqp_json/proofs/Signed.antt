@@ -14,10 +14,10 @@ pub fits : (w : Width) (z : ℤ) → is_within (2 ^ hbits w) z ≡ true → SFit
 fits w (pos n) h = let low : n < 2 ^ hbits w = grind (arith) in record { sfits = low }
 fits w (negsuc n) h = let low : n < 2 ^ hbits w = grind (arith) in record { sfits = low }
 
--- what bits stand for is in the type's range
+-- what bits denote is in the type's range
 pub is_in_range : (w : Width) (n : ℕ) → n < 2 ^ bits w → is_within (2 ^ hbits w) (cast_signed w n) ≡ true
 is_in_range w n h = told w (cast_signed w n) (sfits_to_z (record { fits = h }))
 
--- and an integer in that range is what its bits stand for
+-- and an integer in that range is what its bits denote
 pub from_its_bits : (w : Width) (z : ℤ) → is_within (2 ^ hbits w) z ≡ true → cast_signed w (cast_unsigned w z) ≡ z
 from_its_bits w z h = to_z-of_z w z (fits w z h)

@@ -66,6 +66,6 @@ narrow_stored amqp.ShortUInt d v i e = held w16 _ v (λ n h. h) (unsigned_bits w
 narrow_stored amqp.LongUInt d v i e = held w32 _ v (λ n h. h) (unsigned_bits w32 amqp.LongUInt d v (in_place (is_natural_as_negative d) _ v e))
 narrow_stored _ d v i e = absurd i
 
--- and what hexadecimal digits stand for
+-- and what hexadecimal digits denote
 pub decoded_bytes : (s b : List ℕ) → decode_of s ≡ Ok b → IsBytes b
 decoded_bytes s b h = (decode_of-ok s b h).3

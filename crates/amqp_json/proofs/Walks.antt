@@ -30,7 +30,7 @@ pub of_a_later_key : {K V : Type 0} (P : K → Type 0) (es : List (K × V)) (e :
 of_a_later_key P [] e more h = h.0
 of_a_later_key P (x ∷ es) e more h = of_a_later_key P es e more h.1
 
--- a member whose key is behind all others is put at the end
+-- a member whose key is after all others is put at the end
 pub put_at_the_end : (done : List Pair) (e : Pair) (more : List Pair) → IsStrictlySortedBy (slice_cmp nat_cmp) (keys_of (done ++ e ∷ more))
     → put e.0 (json (view e.1)) (members_json (entries done)) ≡ members_json (entries (done ++ e ∷ []))
 unfolding IsStrictlySortedBy
@@ -60,7 +60,7 @@ pub put_stored : (k : List ℕ) (v : Tree) (es : Entries) → EntriesStored es �
 put_stored k v no_entries all short stored = (short, stored, tt)
 put_stored k v (entry j u es) all short stored = placed k j v u es (slice_cmp nat_cmp k j) all short stored (put_stored k v es all.2 short stored)
 
--- an item behind others
+-- an item after others
 snoc : Items → Data → Items
 snoc no_items d = item d no_items
 snoc (item e es) d = item e (snoc es d)

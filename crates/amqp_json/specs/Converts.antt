@@ -46,13 +46,13 @@ IsRefused t (encode.Json e) = Tells e (read t)
 IsRefused t encode.OutOfMemory = Unit {0}
 IsRefused t e = (v : Tree) × IsMeant t v × HasNoEncoding v e
 
--- a text is the JSON text of the value at the front of s, as reading within the limits has it, with
+-- a text is the JSON text of the value at the start of s, as reading within the limits has it, with
 -- `rest` after it; where the JSON doesn't nest deeper than texts are read, the text means the value
 abbrev pub IsJsonOf : Limits → List ℕ → List ℕ → List ℕ → Type 0
 IsJsonOf l s t rest =
     (v : Tree) × Within l s (found v rest) × (t ≡ compact_text (json v)) × (depth (json v) ≤ max_depth → Means t v)
 
--- an error says why no text is made of the value at the front of s: it isn't read; or memory ran
+-- an error says why no text is made of the value at the start of s: it isn't read; or memory ran
 -- out, where all of its bytes are there, and no more than the limit `frame` allows
 abbrev pub IsNotRead : Limits → List ℕ → DecodeError → Type 0
 IsNotRead l s (decode.Refused e) = RefusesWithin l s e

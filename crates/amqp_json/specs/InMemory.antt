@@ -1,4 +1,4 @@
--- What every value in memory is, and what takes no memory as JSON.
+-- What every value in memory is, and what doesn't allocate as JSON.
 use Rattle.amqp_types.specs.Strings.{IsShort}
 use Rattle.serde_json.specs.Data as json
 use Rattle.serde_json.specs.Data.{Data}
@@ -25,14 +25,14 @@ abbrev mutual
   EntriesStored no_entries = Unit {0}
   EntriesStored (entry k v es) = IsShort k × IsStored v × EntriesStored es
 
--- a value whose JSON takes no memory: null, true, false, or an integer with no type's name
+-- a value whose JSON doesn't allocate: null, true, false, or an integer with no type's name
 abbrev pub IsPlain : Tree → Type 0
 IsPlain (scalar (boolean b)) = Unit {0}
 IsPlain (scalar (number amqp.LongLongInt n)) = Unit {0}
 IsPlain (scalar void) = Unit {0}
 IsPlain _ = ⊥
 
--- JSON that takes no memory to read: null, true, false, or a number
+-- JSON that doesn't allocate to read: null, true, false, or a number
 abbrev pub IsSingle : Data → Type 0
 IsSingle json.null = Unit {0}
 IsSingle (json.boolean b) = Unit {0}

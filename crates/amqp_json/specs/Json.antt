@@ -12,7 +12,7 @@ use Rattle.amqp_grammar.specs.Values as values
 use Rattle.amqp_grammar.specs.Values.{Scalar, decimal, void, Tree, scalar, short, long, octets, table, Trees, no_trees, tree, Entries, no_entries, entry}
 use Rattle.amqp_json.specs.Names.{type_named}
 
--- an object of one member: a type's name, and what stands for the value
+-- an object of one member: a type's name, and what denotes the value
 abbrev pub under : AMQPType → Data → Data
 under type d = object (member (name_of type) d no_members)
 

@@ -68,7 +68,7 @@ IsNarrow _ = ⊥
 abbrev pub plain_in : AMQPType → Data → Option Tree
 plain_in type d = if is_natural_as_negative d then None else core.json d type
 
--- what stands under a type's name, where that is no table
+-- what is under a type's name, where that isn't a table
 abbrev pub value_under : AMQPType → Data → Option Tree
 value_under amqp.ShortShortInt d = plain_in amqp.ShortShortInt d
 value_under amqp.ShortShortUInt d = plain_in amqp.ShortShortUInt d
@@ -89,12 +89,12 @@ value_under _ d = None
 abbrev pub with_entry : List ℕ → Option Tree → Option Entries → Option Entries
 with_entry k v es = if nat_le (length k) 255 then option_and_then (λ x. option_map (entry k x) es) v else None
 
--- what stands under a type's name: `inner` is the table that it is, if it is one
+-- what is under a type's name: `inner` is the table that it is, if it is one
 abbrev pub value_named : AMQPType → Data → Option Tree → Option Tree
 value_named amqp.FieldTable d inner = inner
 value_named type d inner = value_under type d
 
--- what an object is: a table, or what stands under a type's name
+-- what an object is: a table, or what is under a type's name
 abbrev pub value_in : Option AMQPType → Members → Option Entries → Option Tree → Option Tree
 value_in None ms es inner = option_map table es
 value_in (Some type) (member k d no_members) es inner = value_named type d inner
@@ -115,7 +115,7 @@ abbrev mutual
   value_of (array ds) = option_map values.array (values_of ds)
   value_of (object ms) = value_in (sole_type ms) ms (entries_of ms) (first_ambiguous ms)
 
-  -- the table that would be taken for a value of another type: it stands under the name of its own
+  -- the table that would be taken for a value of another type: it is under the name of its own
   pub ambiguous_table : Data → Option Tree
   ambiguous_table (object ms) = ambiguous_in (sole_type ms) (entries_of ms)
   ambiguous_table _ = None

@@ -76,7 +76,7 @@ fn bytes(alloc: Global, value: &Value) -> Result<Vec<u8>, ValueError>
     }
 }
 
-// the same, for so many bytes
+// the same, for that many bytes
 fn sized<const N: usize>(value: &Value) -> Option<[u8; N]>
     ensures { result ≡ sized_in N (document value.now) }
 {
@@ -182,7 +182,7 @@ fn long_bytes(alloc: Global, value: &Value) -> Result<AMQPValue, ValueError>
     }
 }
 
-// what stands under the name of a type, where that is no table
+// what is under the name of a type, where that isn't a table
 fn under_type(alloc: Global, amqp_type: AMQPType, value: &Value) -> Result<AMQPValue, ValueError>
     ensures ok { IfOk result (λ v. value_under amqp_type (document value.now) ≡ Some (view v)) }
     ensures stored { IfOk result (λ v. IsStored (view v)) }

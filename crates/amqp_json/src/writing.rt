@@ -25,7 +25,7 @@ pub fn to_value(alloc: Global, value: &AMQPValue) -> Result<Value, AllocError>
     written(alloc, value)
 }
 
-// an object of one member, the type's name and what stands for the value
+// an object of one member, the type's name and what denotes the value
 fn under_type(alloc: Global, amqp_type: AMQPType, payload: Value) -> Result<Value, AllocError>
     ensures { IfOk result (λ r. document r ≡ under amqp_type (document payload)) }
 {

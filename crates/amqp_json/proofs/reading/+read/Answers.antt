@@ -22,7 +22,7 @@ read_items-loop-item-preserved t c =
       subst (λ us. AreStored (trees us)) (sym c.in_ok-push.ensures.ok) (trees_stored values v c.loop-item.invariant.1 c.in_ok-read.ensures.stored),
     )
 
--- the next member is read behind those so far
+-- the next member is read after those so far
 pub read_members-loop-key-preserved : goal.read_members-loop-key-preserved
 read_members-loop-key-preserved t c =
     let l = c.loop-key in
@@ -39,7 +39,7 @@ read_members-loop-key-preserved t c =
       subst EntriesStored (sym c.in_ok-place.ensures.ok) (put_stored _ (view c.in_ok-read.field-0) (table_view l.table) l.invariant.3 c.in_ok-name.ensures.short c.in_ok-read.ensures.stored),
     )
 
--- a key or a value is refused, and so is the table
+-- a key or a value is rejected, and so is the table
 pub read_members-returns-in_err-name-clause-err : goal.read_members-returns-in_err-name-clause-err
 read_members-returns-in_err-name-clause-err t c =
     let l = c.loop-key in

@@ -20,7 +20,7 @@ written_items-loop-item-preserved t c =
       stored_next vs k v c.loop-item-test.true c.item-item.is c.loop-item.invariant.1 c.in_ok-written.ensures.stored,
     )
 
--- the next entry is written behind those so far
+-- the next entry is written after those so far
 pub written_members-loop-key-preserved : goal.written_members-loop-key-preserved
 written_members-loop-key-preserved t c =
     let l = c.loop-key in
