@@ -22,7 +22,7 @@ whole_extent : (o : Option Layout) (w : Width) (b : List ℕ) (n : ℕ) → head
 whole_extent (Some f) w b n e le = e
 whole_extent None w b n e le = rw (le-ltb (length b) (byte_len w) (omega arith)) e
 
--- the least extent of what begins with a wire is the wire's length
+-- the least extent of what begins with an encoding is the encoding's length
 pub wire_extent : (w t : List ℕ) (v : Tree) → Wire w v → extent (w ++ t) ≡ length w
 wire_extent _ t _ (wire c type b v k p) =
     let raw : raw_extent type (b ++ t) ≡ length b = whole_extent (fixed type) (length_field type) (b ++ t) (length b) (extent-raw type b t v p) (omega (arith, length-append b t)) in
@@ -34,7 +34,7 @@ reads_back l v is fits readable deep small = λ t.
     let p = text_within v is fits readable in
     (omega (arith, small, wire_extent (text v) t v p.0), wire_found_within l.depth (text v) t v p.0 (omega (arith, p.1, deep)))
 
--- the text is a shortest wire of its value within a depth, and of no other value
+-- the text is a shortest encoding of its value within a depth, and of no other value
 pub shortest_within : (d : ℕ) (v : Tree) → IsShortestWithin d v
 shortest_within d v = λ w bytes p. (text_again d w v bytes p, (bounds w v p.0).0)
 

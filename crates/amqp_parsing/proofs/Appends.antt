@@ -52,7 +52,7 @@ extent-le (c ∷ b) t = by (kind c)
     by None = omega arith
     by (Some type) = omega (arith, raw_extent-le (fixed type) (length_field type) b t)
 
--- a whole frame's stays
+-- a complete length-prefixed field's stays
 raw_extent-whole : (o : Option Layout) (w : Width) (b t : List ℕ) → lack_of o w b ≡ 0 → extent_of o w (b ++ t) ≡ extent_of o w b
 raw_extent-whole (Some f) w b t whole = refl
 raw_extent-whole None w b t whole = elim (cases_lt (length b) (byte_len w)) [
@@ -92,8 +92,8 @@ unknown_extent d (c ∷ b) t x = by (kind c) x
     by None e = refl
     by (Some type) y = absurd (decided (lack type b) y)
 
--- more bytes join the rest behind a value, are so many fewer that lack, and leave a refusal as it
--- is
+-- more bytes join the rest after a value, are that many fewer that are missing, and leave an error
+-- as it is
 pub within_append : (l : Limits) (s t : List ℕ) (o : Reading) → Within l s o → StillWaits o t → Within l (s ++ t) (with_more o t)
 within_append l s t (found v rest) (few, x) waits =
     let f = front_within l.depth s rest v x in

@@ -13,14 +13,14 @@ use Rattle.amqp_parsing.specs.Refusals.{Refusal, inside}
 use Rattle.amqp_parsing.specs.Answers.{Refuses}
 use Rattle.amqp_parsing.specs.Bodies.{IsNoBody}
 
--- the values of a list, and others behind them
+-- the values of a list, and others after them
 abbrev pub behind : List Tree → Trees → Trees
 behind [] vs = vs
 behind (x ∷ xs) vs = tree x (behind xs vs)
 
 -- values xs are read of the body s, and `rest` is left
 pub record Goes (d : ℕ) (s : List ℕ) (xs : List Tree) (rest : List ℕ) : Type 0 where
-  -- the values of what is left, behind those, are the values of the body
+  -- the values of what is left, after those, are the values of the body
   pub whole : (vs : Trees) → BodyWithin d rest vs → BodyWithin d s (behind xs vs)
   -- what is left has values if the body has
   pub only : (vs : Trees) → BodyWithin d s vs → (more : Trees) × BodyWithin d rest more
@@ -36,7 +36,7 @@ behind-nothing : (xs : List Tree) → behind xs no_trees ≡ trees_of xs
 behind-nothing [] = refl
 behind-nothing (x ∷ xs) = ap (tree x) (behind-nothing xs)
 
--- a wire has at least one byte
+-- an encoding has at least one byte
 length-wire : (w : List ℕ) (v : Tree) → Wire w v → 0 < length w
 length-wire _ _ (wire c type b v k p) = omega arith
 
@@ -45,20 +45,20 @@ body_found : (d : ℕ) (s : List ℕ) (vs : Trees) (p : Body s vs) → body_nest
 body_found d _ _ no_values within h = absurd (omega arith)
 body_found d _ _ (value w left v vs p all) within h = (v, left, wire_found_within d w left v p (omega arith))
 
--- what else a body comes to that isn't empty has no values
+-- what else a body results in that isn't empty has no values
 no_body : (d : ℕ) (s : List ℕ) (vs : Trees) (o : Reading) → OutcomeWithin d s o → ((v : Tree) (rest : List ℕ) → o ≡ found v rest → ⊥) → 0 < length s → BodyWithin d s vs → ⊥
 no_body d s vs o x other h p =
     let f = body_found d s vs p.0 p.1 h in
     other f.0 f.1 (one_outcome_within d s o (found f.0 f.1) x f.2)
 
--- behind the first value of a body stands a body
+-- after the first value of a body stands a body
 body_behind : (d : ℕ) (s w rest : List ℕ) (v : Tree) (vs : Trees) → s ≡ w ++ rest → Wire w v → (q : Body s vs) → body_nesting s vs q ≤ d → (more : Trees) × BodyWithin d rest more
 body_behind d _ w rest v _ e p no_values within = let h = length-wire w v p in absurd (omega (arith, ap length e, length-append w rest))
 body_behind d _ w rest v _ e p (value u left z vs q all) within =
     let same = one_reading u w left rest z v q p e in
     (vs, subst (λ (t : List ℕ). BodyWithin d t vs) same.2 (all, omega arith))
 
--- what is left behind a value is shorter
+-- what is left after a value is shorter
 pub rest_shorter : (d : ℕ) (s : List ℕ) (v : Tree) (rest : List ℕ) → OutcomeWithin d s (found v rest) → length rest < length s
 rest_shorter d s v rest x =
     let f = front_within d s rest v x in
@@ -68,7 +68,7 @@ rest_shorter d s v rest x =
 pub Goes-start : (d : ℕ) (s : List ℕ) → Goes d s [] s
 Goes-start d s = record { whole = λ vs p. p; only = λ vs p. (vs, p); shorter = omega arith }
 
--- behind one value more
+-- after one value more
 pub Goes-step : (d : ℕ) (s : List ℕ) (xs : List Tree) (left : List ℕ) (v : Tree) (rest : List ℕ) → Goes d s xs left → OutcomeWithin d left (found v rest)
     → Goes d s (xs ++ v ∷ []) rest
 Goes-step d s xs left v rest g x =
@@ -81,7 +81,7 @@ Goes-step d s xs left v rest g x =
       shorter = omega (arith, g.shorter, rest_shorter d left v rest x);
     }
 
--- behind the last value
+-- after the last value
 pub Goes-end : (d : ℕ) (s : List ℕ) (xs : List Tree) (rest : List ℕ) → Goes d s xs rest → length rest ≡ 0 → BodyWithin d s (trees_of xs)
 Goes-end d s xs rest g e =
     subst (BodyWithin d s) (behind-nothing xs)
@@ -92,7 +92,7 @@ Goes-stuck : (d : ℕ) (s : List ℕ) (xs : List Tree) (rest : List ℕ) (o : Re
     → ((v : Tree) (left : List ℕ) → o ≡ found v left → ⊥) → IsNoBody d s malformed
 Goes-stuck d s xs rest o g h x other = λ vs p. let m = g.only vs p in no_body d rest m.0 o x other h m.1
 
--- the refusal of a value, for the array round it
+-- the error of a value, for the array round it
 pub Goes-refused : (d : ℕ) (s : List ℕ) (xs : List Tree) (rest : List ℕ) (e : Refusal) → Goes d s xs rest → 0 < length rest
     → Refuses (OutcomeWithin d rest) (Heavy rest) e → Refuses (IsNoBody d s) (0 < length s) (inside e)
 Goes-refused d s xs rest (Incomplete Unknown) g h x = absurd x

@@ -4,7 +4,7 @@ use Rattle.std.proofs.lemmas.Bool.{ltb-false}
 use Rattle.std.proofs.lemmas.List.{append-nil, nil_from_length, length-append, length-take}
 use Rattle.amqp_types.specs.Fronts.{IsFront}
 
--- a front with as many bytes as there are is all of them
+-- a prefix with as many bytes as there are is all of them
 pub whole_front : (a s : List ℕ) → IsFront a s → length a ≡ length s → a ≡ s
 whole_front a s (rest, e) same =
     let none = nil_from_length rest (omega (arith, length-append a rest, ap length e)) in
@@ -16,7 +16,7 @@ whole_taken a body left n (rest, e) is there enough =
     let size = length-take n left in
     whole_front a body (rest, e) (omega (arith, length-append a rest, ap length e, ap length is, size)) ∙ is
 
--- what was joined where a front is shorter than n, and else the front, is the first n bytes
+-- what was joined where a prefix is shorter than n, and else the prefix, is the first n bytes
 pub whole_or_joined : (a joined body left whole : List ℕ) (n : ℕ) (short : Bool) → IsFront a body → body ≡ take n left → n ≤ length left → short ≡ nat_lt (length a) n → (short ≡ true → joined ≡ body) → whole ≡ (if short then joined else a) → whole ≡ take n left
 whole_or_joined a joined body left whole n true front is there test made e = e ∙ made refl ∙ is
 whole_or_joined a joined body left whole n false front is there test made e = e ∙ whole_taken a body left n front is there (ltb-false (length a) n (sym test))

@@ -1,4 +1,4 @@
--- Frames: a length, and as many bytes behind it.
+-- Length-prefixed fields: a length, and as many bytes after it.
 use Rattle.std.proofs.Common.{◌≡◌, ◌+◌, ◌-◌, ◌%◌, ◌<◌, ◌≤◌, ℕ, List, ◌++◌, ◌∷◌, length, take, drop, None, refl, sym, ap, ap₂, ◌∙◌, subst, arith, take-append-drop}
 use Rattle.std.specs.Int.{w8, w32}
 use Rattle.std.specs.Str.{IsUtf8}
@@ -22,14 +22,14 @@ use Rattle.amqp_parsing.proofs.Refused.{Refuses-weaker}
 
 -- ---- a length in four bytes
 
--- s is a payload of the type, and `rest` behind it: `body` behind its length
+-- s is a payload of the type, and `rest` after it: `body` after its length
 module _ (type : AMQPType) (s body rest : List ℕ) (row : fixed type ≡ None) (field : length_field type ≡ w32) (f : IsFrame s body rest) where
-  -- the frame is whole
+  -- the length-prefixed field is whole
   frame_whole : lack type s ≡ 0
   frame_whole =
       ap₂ (λ o w. lack_of o w s) row field ∙ (ap (lack_of None w32) f.framed ∙ lack_of-long_field body rest f.fits)
 
-  -- what the frame means is found
+  -- what the length-prefixed field means is found
   pub frame_found : (v : Tree) → Raw type (long_field body) v → RawOutcome type s (found v rest)
   frame_found v p = rw f.framed (raw_found type (long_field body) rest v p)
 
@@ -38,7 +38,7 @@ module _ (type : AMQPType) (s body rest : List ℕ) (row : fixed type ≡ None) 
   frame_heavy h =
       (row, frame_whole, omega (arith, ap₂ counted field f.framed, counted-long_field body rest f.fits))
 
-  -- what decides about the body decides about the frame
+  -- what decides about the body decides about the length-prefixed field
   pub frame_refused : (Is : Reading → Type 0) → ((o : Reading) → Is o → RawFront type s o) → (r : Refusal) → Refuses Is (0 < length body) r
       → Refuses (RawOutcome type s) (RawHeavy type s) r
   frame_refused Is front r x =
@@ -55,7 +55,7 @@ module _ (type : AMQPType) (s body rest : List ℕ) (row : fixed type ≡ None) 
       Refuses-weaker Is (RawOutcomeWithin d type s) (0 < length body) (RawHeavy type s) r
       (λ o y. raw_whole_within d type s o frame_whole (front o y)) frame_heavy x
 
-  -- a whole frame that no front decides is malformed
+  -- a complete length-prefixed field that no prefix decides is malformed
   pub frame_malformed : (d : ℕ) → FrontBy (RawWithin d type) s malformed → RawOutcomeWithin d type s malformed
   frame_malformed d none = raw_whole_within d type s malformed frame_whole none
 
@@ -73,18 +73,18 @@ module _ (d : ℕ) (s body rest : List ℕ) (f : IsFrame s body rest) where
   pub array_found : (vs : Trees) → 0 < d → BodyWithin (d - 1) body vs → RawOutcomeWithin d amqp.FieldArray s (found (array vs) rest)
   array_found vs some p = frame_found_within amqp.FieldArray s body rest refl refl f d (array vs) (raw_array body vs f.fits p.0, omega (arith, p.1))
 
-  -- where the body is none, no front is an array
+  -- where the body isn't one, no prefix is an array
   no_array : (o : Reading) → IsNoBody (d - 1) body o → FrontBy (RawWithin d amqp.FieldArray) s o
   no_array malformed none = λ b left v p e. let r = array_body_within d body rest b left v f.fits p.0 p.1 (sym f.framed ∙ e) in none r.0 (r.1, omega (arith, r.2))
   no_array (found v left) none = absurd none
   no_array (more m) none = absurd none
   no_array unknown none = absurd none
 
-  -- the refusal of the body is the array's
+  -- the error of the body is the array's
   pub array_refused : (r : Refusal) → Refuses (IsNoBody (d - 1) body) (0 < length body) r → Refuses (RawOutcomeWithin d amqp.FieldArray s) (RawHeavy amqp.FieldArray s) r
   array_refused r x = frame_refused_within amqp.FieldArray s body rest refl refl f d (IsNoBody (d - 1) body) no_array r x
 
-  -- where no container may stand, there is no array
+  -- where no container may be, there is no array
   pub array_too_deep : d ≡ 0 → RawOutcomeWithin d amqp.FieldArray s malformed
   array_too_deep none =
       frame_malformed amqp.FieldArray s body rest refl refl f d
@@ -96,14 +96,14 @@ module _ (d : ℕ) (s body rest : List ℕ) (f : IsFrame s body rest) where
       subst (λ (t : Entries). RawOutcomeWithin d amqp.FieldTable s (found (table t) rest)) (sym p.2)
       (frame_found_within amqp.FieldTable s body rest refl refl f d (table (onto no_entries p.0)) (raw_table body p.0 f.fits p.1.0, omega (arith, p.1.1)))
 
-  -- where the body is none, no front is a table
+  -- where the body isn't one, no prefix is a table
   no_table : (o : Reading) → IsNoTable (d - 1) body o → FrontBy (RawWithin d amqp.FieldTable) s o
   no_table malformed none = λ b left v p e. let r = table_body_within d body rest b left v f.fits p.0 p.1 (sym f.framed ∙ e) in none r.0 (r.1, omega (arith, r.2))
   no_table (found v left) none = absurd none
   no_table (more m) none = absurd none
   no_table unknown none = absurd none
 
-  -- the refusal of the body is the table's
+  -- the error of the body is the table's
   pub table_refused : (r : Refusal) → Refuses (IsNoTable (d - 1) body) (0 < length body) r → Refuses (RawOutcomeWithin d amqp.FieldTable s) (RawHeavy amqp.FieldTable s) r
   table_refused r x = frame_refused_within amqp.FieldTable s body rest refl refl f d (IsNoTable (d - 1) body) no_table r x
 
@@ -114,16 +114,16 @@ module _ (d : ℕ) (s body rest : List ℕ) (f : IsFrame s body rest) where
 
 -- ---- a length in one byte
 
--- n is the length in the first byte of s, and so many bytes or more are left behind it
+-- n is the length in the first byte of s, and that many bytes or more are left after it
 module _ (s left : List ℕ) (n : ℕ) (few : n < 256) (e : IsNumberRead w8 s n left) (there : n ≤ length left) where
-  -- they are n bytes behind their length, and the others
+  -- they are n bytes after their length, and the others
   split_small : s ≡ short_field (take n left) ++ drop n left
   split_small =
       let size : n ≡ length (take n left) = sym (length-take-le n left there) in
       let low : n % 256 ≡ length (take n left) = omega arith in
       e ∙ ap₂ (λ (k : ℕ) (t : List ℕ). k ∷ t) low (sym (take-append-drop n left))
 
-  -- the frame is whole
+  -- the length-prefixed field is whole
   small_whole : lack amqp.ShortString s ≡ 0
   small_whole =
       let size : length s ≡ 1 + length left = ap length e ∙ omega arith in
@@ -137,7 +137,7 @@ module _ (s left : List ℕ) (n : ℕ) (few : n < 256) (e : IsNumberRead w8 s n 
       let is : IsShort (take n left) = record { few = omega (arith, length-take-le n left there); utf8 = utf8 } in
       rw split_small (raw_found amqp.ShortString (short_field (take n left)) (drop n left) (short (take n left)) (raw_short (take n left) is))
 
-  -- where they aren't, no front is a short string
+  -- where they aren't, no prefix is a short string
   pub short_refused : (IsUtf8 (take n left) → ⊥) → RawOutcome amqp.ShortString s malformed
   short_refused none =
       raw_whole amqp.ShortString s malformed small_whole

@@ -1,12 +1,13 @@
 -- The laws of reading within limits, for the proofs of other crates to cite.
 
--- what asks for more bytes: which, how many its header says at most, and that nothing is left behind it
+-- what asks for more bytes: which, how many its header says at most, and that nothing is left after
+-- it
 pub use Rattle.amqp_parsing.proofs.Waits.{more_wanted, wanted_more, wanted_within, waits_more, nothing_behind, kept_within}
 -- a value within a depth has at most as many bytes as its header says
 pub use Rattle.amqp_parsing.proofs.Again.{wire_extent}
 -- where the bytes of a value are all there
 pub use Rattle.amqp_parsing.proofs.Whole.{found_all, failed_all}
--- what is refused stays refused, whatever follows
+-- what is rejected stays rejected, whatever follows
 pub use Rattle.amqp_parsing.proofs.Appends.{refused_append}
 -- what an error of one reading says of another
 pub use Rattle.amqp_parsing.proofs.Refused.{Refuses-weaker}

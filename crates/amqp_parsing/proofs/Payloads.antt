@@ -13,7 +13,7 @@ use Rattle.amqp_grammar.specs.Payloads.{RawFront, RawOutcome}
 use Rattle.amqp_grammar.proofs.GrammarLaws.{raw_found}
 use Rattle.amqp_parsing.specs.Typed.{IsNumberRead}
 
--- a payload of fixed width at the front is read
+-- a payload of fixed width at the start is read
 pub fixed_found : (type : AMQPType) (f : Layout) (s b rest : List ℕ) → fixed type ≡ Some f → length b ≡ f.width → s ≡ b ++ rest
     → RawOutcome type s (found (scalar (f.denotes b)) rest)
 fixed_found type f s b rest row len e = rw e (raw_found type b rest (scalar (f.denotes b)) (raw_fixed type f b row len))
@@ -36,7 +36,7 @@ ReadsBack-32 n h = record { wide = refl; back = from_be_bytes-to_be_bytes_4 n h 
 pub ReadsBack-64 : (n : ℕ) → n < 2 ^ 64 → ReadsBack w64 n
 ReadsBack-64 n h = record { wide = refl; back = from_be_bytes-to_be_bytes_8 n h }
 
--- the bytes of n at the front are read as n, of a type that is one number
+-- the bytes of n at the start are read as n, of a type that is one number
 pub number_found : (type : AMQPType) (w : Width) (s rest : List ℕ) (n : ℕ) → fixed type ≡ Some (whole_number w type) → ReadsBack w n
     → IsNumberRead w s n rest → RawOutcome type s (found (scalar (number type n)) rest)
 number_found type w s rest n row r e =
@@ -54,7 +54,7 @@ signed_found type w s rest n z row r same is e =
     bits : cast_unsigned w (cast_signed w (cast_unsigned w z)) ≡ n
     bits = rw (is, same, same) refl
 
--- a truth value at the front is read
+-- a truth value at the start is read
 pub boolean_found : (s rest : List ℕ) (n : ℕ) → ReadsBack w8 n → IsNumberRead w8 s n rest
     → RawOutcome amqp.Boolean s (found (scalar (boolean (not (nat_eq n 0)))) rest)
 boolean_found s rest n r e =
@@ -65,7 +65,7 @@ boolean_found s rest n r e =
     as_not true = refl
     as_not false = refl
 
--- a decimal number at the front is read: its scale, and its digits behind it
+-- a decimal number at the start is read: its scale, and its digits after it
 pub decimal_found : (s middle rest : List ℕ) (scale n : ℕ) → ReadsBack w8 scale → ReadsBack w32 n
     → IsNumberRead w8 s scale middle → IsNumberRead w32 middle n rest → RawOutcome amqp.DecimalValue s (found (scalar (decimal scale n)) rest)
 decimal_found s middle rest scale n first second d e =
@@ -96,4 +96,4 @@ module _ (s : List ℕ) where
       by : (n : ℕ) → LacksOr n (RawFront amqp.LongLongInt s o) o → LacksOr n (RawFront amqp.LongLongUInt s o) o
       by zero f = unsigned_front o f
       by (suc n) e = e
-      -- and so is its refusal
+      -- and so is its error

@@ -30,7 +30,7 @@ plain_outcome : (d : ℕ) (type : AMQPType) (s : List ℕ) (o : Reading) → typ
 plain_outcome d type s o no_array no_table x =
     raw_outcome_same (Raw type) (RawWithin d type) type s o (λ b rest v e p. (p, omega (arith, flat type b v p no_array no_table))) (λ b rest v e p. p.0) x
 
--- a payload of the type is no container
+-- a payload of the type isn't a container
 abbrev pub IsPlain : AMQPType → Type 0
 IsPlain amqp.FieldArray = ⊥
 IsPlain amqp.FieldTable = ⊥
@@ -52,13 +52,13 @@ pub plain_lacks : (d : ℕ) (type : AMQPType) (s : List ℕ) (heavy : Type 0) (e
     → Refuses (RawOutcomeWithin d type s) (RawHeavy type s) e
 plain_lacks d type s heavy e plain weaker x = plain_refuses d type s heavy e plain weaker (OnlyLacks-refuses (RawOutcome type s) heavy e x)
 
--- a LongLongUInt is refused as the LongLongInt of the same bits
+-- a LongLongUInt is rejected as the LongLongInt of the same bits
 pub unsigned_refuses : (d : ℕ) (s : List ℕ) (e : Refusal) → OnlyLacks (RawOutcome amqp.LongLongInt s) ⊥ e → Refuses (RawOutcomeWithin d amqp.LongLongUInt s) (RawHeavy amqp.LongLongUInt s) e
 unsigned_refuses d s e x =
     Refuses-weaker (RawOutcome amqp.LongLongInt s) (RawOutcomeWithin d amqp.LongLongUInt s) ⊥ (RawHeavy amqp.LongLongUInt s) e
     (λ o y. plain_within d amqp.LongLongUInt s o tt (unsigned_outcome s o y)) (λ h. absurd h) (OnlyLacks-refuses (RawOutcome amqp.LongLongInt s) ⊥ e x)
 
--- a type that isn't a short string's has this kind of refusal
+-- a type that isn't a short string's has this kind of error
 eof_of_type : (type : AMQPType) → type ≢ amqp.ShortString → bad_kind type ≡ Eof
 eof_of_type amqp.ShortString no_short = absurd (no_short refl)
 eof_of_type _ no_short = refl

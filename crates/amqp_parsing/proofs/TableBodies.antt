@@ -26,7 +26,7 @@ pub record Walks (d : ℕ) (s : List ℕ) (es : Entries) (rest : List ℕ) : Typ
   pub only : (qs : Entries) → PairsWithin d s qs → (ps : Entries) × PairsWithin d rest ps
   pub shorter : length rest ≤ length s
 
--- a key that is read stands at the front
+-- a key that is read is at the start
 key_of : (b k : List ℕ) → Raw amqp.ShortString b (short k) → (b ≡ short_field k) × IsShort k
 key_of _ _ (raw_short s is) = (refl, is)
 
@@ -41,7 +41,7 @@ key_front s k rest x =
     by zero f = f
     by (suc n) e = absurd cc
 
--- what is left behind a key is shorter
+-- what is left after a key is shorter
 pub key_shorter : (s k rest : List ℕ) → RawOutcome amqp.ShortString s (found (short k) rest) → length rest < length s
 key_shorter s k rest x =
     let f = key_front s k rest x in
@@ -61,7 +61,7 @@ no_key _ _ o x other h (pair k w left v ps is p all) =
     (one_raw_outcome amqp.ShortString (short_field k ++ (w ++ left)) o (found (short k) (w ++ left)) x
     (raw_found amqp.ShortString (short_field k) (w ++ left) (short k) (raw_short k is)))
 
--- and behind it a value that is read
+-- and after it a value that is read
 no_value : (d : ℕ) (s k behind : List ℕ) (ps : Entries) (o : Reading) → IsShort k → s ≡ short_field k ++ behind → OutcomeWithin d behind o
     → ((v : Tree) (rest : List ℕ) → o ≡ found v rest → ⊥) → (q : Pairs s ps) → pairs_nesting s ps q ≤ d → ⊥
 no_value d _ k behind _ o is e x other no_pairs within = absurd cc
@@ -69,7 +69,7 @@ no_value d _ k behind _ o is e x other (pair j w left v ps at p all) within =
     let rest : behind ≡ w ++ left = one_key k j behind (w ++ left) is at (sym e) in
     other v left (one_outcome_within d behind o (found v left) x (subst (λ (t : List ℕ). OutcomeWithin d t (found v left)) (sym rest) (wire_found_within d w left v p (omega arith))))
 
--- behind the first pair stand pairs
+-- after the first pair stand pairs
 pairs_behind : (d : ℕ) (s k w rest : List ℕ) (v : Tree) (ps : Entries) → IsShort k → Wire w v → s ≡ short_field k ++ (w ++ rest) → (q : Pairs s ps) → pairs_nesting s ps q ≤ d
     → (qs : Entries) × PairsWithin d rest qs
 pairs_behind d _ k w rest v _ is p e no_pairs within = absurd cc
@@ -82,7 +82,7 @@ pairs_behind d _ k w rest v _ is p e (pair j u left z ps at q all) within =
 pub Walks-start : (d : ℕ) (s : List ℕ) → Walks d s no_entries s
 Walks-start d s = record { whole = λ ps p. (ps, p, refl); only = λ qs p. (qs, p); shorter = omega arith }
 
--- behind one pair more
+-- after one pair more
 pub Walks-step : (d : ℕ) (s : List ℕ) (es : Entries) (left k behind : List ℕ) (v : Tree) (rest : List ℕ) → Walks d s es left
     → RawOutcome amqp.ShortString left (found (short k) behind) → OutcomeWithin d behind (found v rest) → Walks d s (put k v es) rest
 Walks-step d s es left k behind v rest g x y =
@@ -95,7 +95,7 @@ Walks-step d s es left k behind v rest g x y =
       shorter = omega (arith, g.shorter, key_shorter left k behind x, rest_shorter d behind v rest y);
     }
 
--- behind the last pair
+-- after the last pair
 pub Walks-end : (d : ℕ) (s : List ℕ) (es : Entries) (rest : List ℕ) → Walks d s es rest → length rest ≡ 0 → IsTable d s es
 Walks-end d s es rest g e = g.whole no_entries (subst (λ (t : List ℕ). PairsWithin d t no_entries) (sym (nil_from_length rest e)) (no_pairs, omega arith))
 
@@ -104,7 +104,7 @@ stuck_at_key : (d : ℕ) (s : List ℕ) (es : Entries) (rest : List ℕ) (o : Re
     → ((v : Tree) (left : List ℕ) → o ≡ found v left → ⊥) → IsNoTable d s malformed
 stuck_at_key d s es rest o g h x other = λ qs p. let m = g.only qs p in no_key rest m.0 o x other h m.1.0
 
--- the refusal of a key, for the table round it
+-- the error of a key, for the table round it
 pub Walks-bad_key : (d : ℕ) (s : List ℕ) (es : Entries) (rest : List ℕ) (e : Refusal) → Walks d s es rest → 0 < length rest
     → RawRefuses amqp.ShortString rest e → Refuses (IsNoTable d s) (0 < length s) (inside e)
 Walks-bad_key d s es rest (Incomplete Unknown) g h x = absurd x
@@ -112,7 +112,7 @@ Walks-bad_key d s es rest (Incomplete (Size n)) g h x = stuck_at_key d s es rest
 Walks-bad_key d s es rest (Error k) g h x = stuck_at_key d s es rest malformed g h x.1 (λ v left e. cc)
 Walks-bad_key d s es rest (Failure k) g h x = (x.0, omega (arith, g.shorter))
 
--- where a value can't be read behind its key there are no pairs
+-- where a value can't be read after its key there are no pairs
 stuck_at_value : (d : ℕ) (s : List ℕ) (es : Entries) (rest k behind : List ℕ) (o : Reading) → Walks d s es rest
     → RawOutcome amqp.ShortString rest (found (short k) behind) → OutcomeWithin d behind o
     → ((v : Tree) (left : List ℕ) → o ≡ found v left → ⊥) → IsNoTable d s malformed
@@ -121,7 +121,7 @@ stuck_at_value d s es rest k behind o g x y other = λ qs p.
     let key = key_front rest k behind x in
     no_value d rest k behind m.0 o key.1 key.0 y other m.1.0 m.1.1
 
--- the refusal of a value, for the table round it
+-- the error of a value, for the table round it
 pub Walks-bad_value : (d : ℕ) (s : List ℕ) (es : Entries) (rest k behind : List ℕ) (e : Refusal) → Walks d s es rest
     → RawOutcome amqp.ShortString rest (found (short k) behind) → Refuses (OutcomeWithin d behind) (Heavy behind) e
     → Refuses (IsNoTable d s) (0 < length s) (inside e)

@@ -1,4 +1,4 @@
--- A value behind its id.
+-- A value after its type tag.
 use Rattle.std.proofs.Common.{◌-◌, arith, length, IfOk, ◌≡◌, ℕ, Bool, true, false, cond, List, [], ◌∷◌, Some, Result, Ok, Err, MatchResult, nat_eq, sym, subst, rules}
 use Rattle.std.specs.Map.{lookup}
 use Rattle.amqp_types.specs.declared.amqp_type.AMQPType.{AMQPType}
@@ -33,9 +33,9 @@ eof_of test (x ∷ xs) type all e = by (test x.0) (eof_of test xs type all.1) e
 eof_of_kind : (c : ℕ) (type : AMQPType) → kind c ≡ Some type → bad_kind type ≡ Eof
 eof_of_kind c type e = eof_of (nat_eq c) letters type (search rules) e
 
--- the id of the type is read from s, and `rest` is left
+-- the type tag of the type is read from s, and `rest` is left
 module _ (d : ℕ) (s rest : List ℕ) (type : AMQPType) (p : IsType s type rest) where
-  -- what reading the payload comes to, reading the value does
+  -- what reading the payload results in, reading the value does
   typed_outcome : (o : Reading) → RawOutcomeWithin d type rest o → OutcomeWithin d s o
   typed_outcome o x = subst (λ (t : List ℕ). OutcomeWithin d t o) (sym p.1) (raw_to_value_within d p.0 type rest o p.2 x)
 

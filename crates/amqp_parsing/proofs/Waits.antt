@@ -17,7 +17,7 @@ use Rattle.amqp_grammar.proofs.GrammarLaws.{more_bytes, wire_found, front_within
 use Rattle.amqp_parsing.specs.Headers.{extent_of, extent_at, extent, wanted_at, wanted, IsWaiting}
 use lib.Seq.{take-add}
 
--- ---- what lacks, and the outcome
+-- ---- what is missing, and the outcome
 
 -- where bytes lack, that many are asked for
 pub more_wanted : (P : List ℕ → Tree → Type 0) (s : List ℕ) → 0 < wanted s → OutcomeBy P s (more (wanted s))
@@ -107,7 +107,7 @@ take_behind s m n le =
 pub waits_start : (frame : ℕ) → IsWaiting frame []
 waits_start frame n lt = absurd (omega arith)
 
--- as many bytes as lack, or fewer
+-- as many bytes as are missing, or fewer
 pub waits_more : (frame : ℕ) (s m : List ℕ) → IsWaiting frame s → extent s ≤ frame → length m ≤ wanted s → IsWaiting frame (s ++ m)
 waits_more frame s m waits within few n lt = elim (cases_lt n (length s)) [
   | inl inside ↦
@@ -135,7 +135,7 @@ nothing_behind frame d s v rest waits x =
       | inr whole ↦ nil_from_length rest (omega arith)
     ]
 
--- ---- the frame
+-- ---- the length-prefixed field
 
 -- the first field of a type is within all of its fields
 first_fits : (type : AMQPType) → IfSome (fixed type) (λ f. f.first ≤ f.width)
@@ -169,7 +169,7 @@ lack_within None w b fits lt = elim (cases_lt (length b) (byte_len w)) [
       omega (arith, is, all)
 ]
 
--- so it is of a value whose id has come
+-- so it is of a value whose type tag has come
 pub wanted_within : (s : List ℕ) → 0 < length s → 0 < wanted s → length s + wanted s ≤ extent s
 wanted_within [] some lt = absurd (omega arith)
 wanted_within (c ∷ b) some lt = by (kind c) lt
@@ -179,7 +179,7 @@ wanted_within (c ∷ b) some lt = by (kind c) lt
     by None lt = absurd (omega arith)
     by (Some type) lt = omega (arith, lack_within (fixed type) (length_field type) b (first_fits type) lt)
 
--- what has waited is within the frame
+-- what has waited is within the length-prefixed field
 pub kept_within : (frame : ℕ) (s : List ℕ) → 0 < frame → IsWaiting frame s → length s ≤ frame
 kept_within frame s some waits = elim (cases_lt 1 (length s)) [
   | inl many ↦

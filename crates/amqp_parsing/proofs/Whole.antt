@@ -1,4 +1,4 @@
--- Where the bytes of the value at the front are all there.
+-- Where the bytes of the value at the start are all there.
 use Rattle.std.proofs.Common.{◌≡◌, ◌<◌, ◌≤◌, ℕ, zero, suc, List, [], ◌∷◌, Option, Some, None, refl, arith}
 use Rattle.std.specs.Prelude.{MatchOption}
 use Rattle.amqp_types.specs.declared.amqp_type.AMQPType.{AMQPType}

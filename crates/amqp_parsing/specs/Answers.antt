@@ -1,4 +1,4 @@
--- What the parsers answer.
+-- What the parsers return.
 use Rattle.std.specs.Prelude.{ℕ, ◌≡◌, List, ◌++◌}
 use Rattle.amqp_grammar.specs.Outcomes.{Reading, more, unknown, malformed, Outcome}
 use Rattle.amqp_grammar.specs.Readings.{StillWaits, with_more}
@@ -15,7 +15,7 @@ RightKind Is Eof = Is malformed
 RightKind Is _ = ⊥
 
 -- an error is right, where `IsError` says which kinds of `Error` are, `Is` what reading the input
--- comes to, and memory may run out only where `heavy` holds
+-- results in, and memory may run out only where `heavy` holds
 abbrev pub RefusesAs : (ErrorKind → Type 0) → (Reading → Type 0) → Type 0 → Refusal → Type 0
 RefusesAs IsError Is heavy (Incomplete Unknown) = ⊥
 RefusesAs IsError Is heavy (Incomplete (Size n)) = Is (more n)
@@ -26,11 +26,11 @@ RefusesAs IsError Is heavy (Failure kind) = (kind ≡ OutOfMemory) × heavy
 abbrev pub Refuses : (Reading → Type 0) → Type 0 → Refusal → Type 0
 Refuses Is heavy e = RefusesAs (RightKind Is) Is heavy e
 
--- reading s comes to exactly one outcome: the value, the rest and the error are determined
+-- reading s results in exactly one outcome: the value, the rest and the error are determined
 abbrev pub HasOneOutcome : List ℕ → Type 0
 HasOneOutcome s = (o : Reading) × Outcome s o × ((p : Reading) → Outcome s p → p ≡ o)
 
--- more bytes join the rest after a value, are so many fewer that are needed, and leave an error as
--- it is
+-- more bytes join the rest after a value, are that many fewer that are needed, and leave an error
+-- as it is
 abbrev pub KeepsOutcome : List ℕ → Type 0
 KeepsOutcome s = (o : Reading) (t : List ℕ) → Outcome s o → StillWaits o t → Outcome (s ++ t) (with_more o t)

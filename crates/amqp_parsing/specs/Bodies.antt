@@ -1,4 +1,4 @@
--- What reading a container answers on its way: a length-prefixed field, and its body's entries.
+-- What reading a container returns on its way: a length-prefixed field, and its body's entries.
 use Rattle.std.specs.Prelude.{ℕ, ◌<◌, ◌^◌, ◌≡◌, List, ◌++◌, length}
 use Rattle.std.specs.Int.{w32}
 use Rattle.amqp_grammar.specs.Values.{Trees, Entries, no_entries, onto}
@@ -11,7 +11,7 @@ pub record IsFrame (s body rest : List ℕ) : Type 0 where
   pub framed : s ≡ long_field body ++ rest
   pub fits : length body < 2 ^ 32
 
--- the length-prefixed field isn't all there, and so many more bytes are needed: of its length, or
+-- the length-prefixed field isn't all there, and that many more bytes are needed: of its length, or
 -- of what that counts
 abbrev pub IsCutFrame : List ℕ → Reading → Type 0
 IsCutFrame s o = (0 < frame_lack w32 s) × (o ≡ more (frame_lack w32 s))

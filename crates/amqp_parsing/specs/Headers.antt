@@ -1,4 +1,4 @@
--- What the id and the length field of a value tell, whatever has come after them.
+-- What the type tag and the length field of a value tell, whatever has come after them.
 use Rattle.std.specs.Prelude.{ℕ, suc, ◌+◌, ◌<◌, ◌≤◌, ◌≡◌, Option, Some, None, List, [], ◌∷◌, length, take, nat_lt, if◌then◌else◌}
 use Rattle.std.specs.Int.{Width, byte_len}
 use Rattle.amqp_types.specs.declared.amqp_type.AMQPType.{AMQPType}
@@ -15,28 +15,28 @@ extent_of None w b = if nat_lt (length b) (byte_len w) then byte_len w else byte
 abbrev pub raw_extent : AMQPType → List ℕ → ℕ
 raw_extent type b = extent_of (fixed type) (length_field type) b
 
--- and a value, by what its id stands for
+-- and a value, by what its type tag denotes
 abbrev pub extent_at : Option AMQPType → List ℕ → ℕ
 extent_at None b = 0
 extent_at (Some type) b = suc (raw_extent type b)
 
--- how many bytes the value at the start has at least; 0 where no id tells
+-- how many bytes the value at the start has at least; 0 where no type tag tells
 abbrev pub extent : List ℕ → ℕ
 extent [] = 0
 extent (c ∷ b) = extent_at (kind c) b
 
--- how many more bytes are needed after an id
+-- how many more bytes are needed after a type tag
 abbrev pub wanted_at : Option AMQPType → List ℕ → ℕ
 wanted_at None b = 0
 wanted_at (Some type) b = lack type b
 
 -- how many more bytes are needed for the field that is being read; 0 where the bytes of the payload
--- are all there, or no id tells
+-- are all there, or no type tag tells
 abbrev pub wanted : List ℕ → ℕ
 wanted [] = 1
 wanted (c ∷ b) = wanted_at (kind c) b
 
--- the first byte is an id, and the bytes of its payload are all there
+-- the first byte is a type tag, and the bytes of its payload are all there
 abbrev pub IsWhole : List ℕ → Type 0
 IsWhole s = (wanted s ≡ 0) × (0 < extent s)
 

@@ -12,5 +12,5 @@ pub mod Bodies
 pub mod Gathering
 -- what the first bytes of a value tell
 pub mod Headers
--- what reading within limits comes to
+-- what reading within limits results in
 pub mod Limits

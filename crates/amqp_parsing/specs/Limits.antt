@@ -17,8 +17,8 @@ use Rattle.amqp_parsing.specs.Refusals.{Refusal}
 use Rattle.amqp_parsing.specs.Answers.{Refuses}
 use Rattle.amqp_parsing.specs.Headers.{extent, wanted, IsWhole}
 
--- reading s within limits comes to o: the value has no more bytes than the limit `frame` allows, by
--- what has come of it, and containers nest within the depth
+-- reading s within limits results in o: the value has no more bytes than the limit `frame` allows,
+-- by what has come of it, and containers nest within the depth
 abbrev pub Within : Limits → List ℕ → Reading → Type 0
 Within l s o = (extent s ≤ l.frame) × OutcomeWithin l.depth s o
 
@@ -27,14 +27,14 @@ abbrev pub RefusesWithin : Limits → List ℕ → Refusal → Type 0
 RefusesWithin l s (Error TooLarge) = l.frame < extent s
 RefusesWithin l s e = (extent s ≤ l.frame) × Refuses (OutcomeWithin l.depth s) (Heavy s) e
 
--- reading s within limits comes to exactly one outcome, and to none where the value is too large
+-- reading s within limits results in exactly one outcome, and in none where the value is too large
 abbrev pub HasOneOutcomeWithin : Limits → List ℕ → Type 0
 HasOneOutcomeWithin l s =
     (extent s ≤ l.frame → (o : Reading) × Within l s o × ((p : Reading) → Within l s p → p ≡ o))
     × ((o : Reading) → l.frame < extent s → Within l s o → ⊥)
 
--- more bytes join the rest after a value, are so many fewer that are needed, and leave an error as
--- it is
+-- more bytes join the rest after a value, are that many fewer that are needed, and leave an error
+-- as it is
 abbrev pub KeepsOutcomeWithin : Limits → List ℕ → Type 0
 KeepsOutcomeWithin l s =
     ((o : Reading) (t : List ℕ) → Within l s o → StillWaits o t → Within l (s ++ t) (with_more o t))

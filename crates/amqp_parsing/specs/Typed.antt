@@ -25,11 +25,11 @@ bad_kind _ = Eof
 abbrev pub RawRefuses : AMQPType → List ℕ → Refusal → Type 0
 RawRefuses type s e = RefusesAs (λ kind. (kind ≡ bad_kind type) × RawOutcome type s malformed) (RawOutcome type s) (RawHeavy type s) e
 
--- a type is read from s, and `rest` is left: the first byte is an id of it
+-- a type is read from s, and `rest` is left: the first byte is a type tag of it
 abbrev pub IsType : List ℕ → AMQPType → List ℕ → Type 0
 IsType s type rest = (c : ℕ) × (s ≡ c ∷ rest) × (kind c ≡ Some type)
 
--- no type is read from s: there is no byte, or the first is no id
+-- no type is read from s: there is no byte, or the first isn't a type tag
 abbrev pub IsNoType : List ℕ → Reading → Type 0
 IsNoType [] o = o ≡ more 1
 IsNoType (c ∷ b) o = (o ≡ unknown) × (kind c ≡ None)
@@ -38,6 +38,6 @@ IsNoType (c ∷ b) o = (o ≡ unknown) × (kind c ≡ None)
 abbrev pub IsNumberRead : Width → List ℕ → ℕ → List ℕ → Type 0
 IsNumberRead w s n rest = s ≡ to_be_bytes w n ++ rest
 
--- a number of the width isn't all there, and so many more bytes are needed
+-- a number of the width isn't all there, and that many more bytes are needed
 abbrev pub IsCut : Width → List ℕ → Reading → Type 0
 IsCut w s o = (length s < byte_len w) × (o ≡ more (byte_len w - length s))

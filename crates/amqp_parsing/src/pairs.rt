@@ -29,7 +29,7 @@ pub(crate) enum PairsSoFar {
 }
 
 impl PairsSoFar {
-    // No pairs yet of the body. Takes no memory.
+    // No pairs yet of the body. Doesn't allocate.
     #[inline(always)]
     pub(crate) fn none_of<I: ParsableInput>(alloc: Global, body: I) -> Self
         ensures { kept result ≡ no_entries }

@@ -59,7 +59,7 @@ fn joined<I: ParsableInput>(alloc: Global, input: I, in_pieces: bool) -> Result<
     }
 }
 
-// The bytes that were joined, where they lie in pieces, or else the chunk that has all of them.
+// The bytes that were joined, where they lie in pieces, otherwise the chunk that has all of them.
 #[inline(always)]
 fn whole<'a>(in_pieces: bool, joined: &'a [u8], chunk: &'a [u8]) -> &'a [u8]
     ensures { result.now ≡ if in_pieces then joined.now else chunk.now }

@@ -86,7 +86,8 @@ pub fn parse_raw_value<I: ParsableInput>(
     }
 }
 
-// Reads the payload of a value of the type, which isn't `ShortString`: no id stands for that one.
+// Reads the payload of a value of the type, which isn't `ShortString`: no type tag denotes that
+// one.
 #[cycle(parser)]
 #[inline(always)]
 #[tactic(auto, using(crate::proofs::Plain::plain_lacks))]
