@@ -18,7 +18,7 @@ begins_with [] s = true
 begins_with (c ∷ cs) [] = false
 begins_with (c ∷ cs) (d ∷ s) = c == d && begins_with cs s
 
--- what stands behind the escape character that begins a colour, or ends it
+-- what is after the escape character that begins a colour, or ends it
 abbrev pub names_colour : List ℕ → Bool
 names_colour s = begins_with (codes "[36m") s || (begins_with (codes "[33m") s || (begins_with (codes "[31m") s || begins_with (codes "[0m") s))
 

@@ -66,7 +66,7 @@ impl Screen {
         Ok(())
     }
 
-    /// Adds a JSON text in a line. It stays the same JSON: what doesn't print stands in its
+    /// Adds a JSON text in a line. It stays the same JSON: what doesn't print is in its
     /// strings alone, where it may be escaped.
     pub fn push_json(&mut self, json: &str) -> Result<(), AllocError> {
         for c in json.chars() {

@@ -8,9 +8,9 @@ ghost use Rattle.amqp_screen.specs.Statuses.{code_of};
 pub enum Status {
     /// Each value was read.
     Read,
-    /// One was refused, or is truncated.
+    /// One was rejected, or is truncated.
     Refused,
-    /// A mistake in the arguments, a file that can't be read, text that is no hexadecimal, output
+    /// A mistake in the arguments, a file that can't be read, text that isn't hexadecimal, output
     /// that can't be written, or out of memory.
     Mistake,
 }
