@@ -33,7 +33,7 @@ pub enum Task {
     Show,
     /// Its values are shown, each as it comes.
     Stream {
-        /// Whether a refused value is passed over.
+        /// Whether a rejected value is passed over.
         keep_going: bool,
     },
     /// It is the JSON of a value, which is encoded: as it is where it is wanted raw, and else in
@@ -71,7 +71,7 @@ pub struct Settings {
     pub form: Form,
     /// The output is a terminal that is to have colours.
     pub colours: bool,
-    /// A value is refused where it has more bytes, or nests deeper.
+    /// A value is rejected where it has more bytes, or nests deeper.
     pub limits: Limits,
 }
 

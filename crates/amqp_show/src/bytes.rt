@@ -41,7 +41,7 @@ pub fn push_bytes(
     Ok(())
 }
 
-// Adds an offset, and the bytes that stand there.
+// Adds an offset, and the bytes that are there.
 fn push_place(
     alloc: Global,
     screen: &mut Screen,

@@ -122,7 +122,7 @@ impl Cut {
         Ok(inside_of(&dissection, at))
     }
 
-    // Has the length behind the type tag at an offset count what is there, if it is there itself.
+    // Has the length after the type tag at an offset count what is there, if it is there itself.
     fn mend_length(&mut self, at: usize) {
         let there = self.bytes.len().saturating_sub(at.saturating_add(5));
         let Ok(there) = u32::try_from(there) else {

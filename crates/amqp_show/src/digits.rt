@@ -14,7 +14,7 @@ enum Half {
     Backslash,
 }
 
-/// The bytes that a reader's text stands for, two digits each. White space, `,`, `:`, what stands
+/// The bytes that a reader's text denotes, two digits each. White space, `,`, `:`, what stands
 /// after `#` in a line, and `0x` or `\x` before a byte are skipped, and the offsets and texts of a
 /// dump. What isn't hexadecimal is a failure of the kind `InvalidData`.
 #[derive(Drop)]
@@ -112,7 +112,7 @@ impl<R: Read> Read for Digits<R> {
     }
 }
 
-// What a digit stands for.
+// What a digit denotes.
 fn digit(byte: u8) -> io::Result<u8> {
     match byte {
         b'0'..=b'9' => Ok(byte - b'0'),

@@ -13,9 +13,9 @@ enum Kind {
     Unknown,
     // no dump
     Plain,
-    // of `hexdump -C`: its texts stand behind `|`
+    // of `hexdump -C`: its texts are after `|`
     Hexdump,
-    // of `xxd`: its texts stand behind two spaces
+    // of `xxd`: its texts are after two spaces
     Xxd,
 }
 
@@ -37,7 +37,7 @@ enum Fault {
     OtherOffset,
 }
 
-/// The text that a reader gives. Of a dump spaces stand where offsets and texts do.
+/// The text that a reader yields. Of a dump spaces stand where offsets and texts do.
 #[derive(Drop)]
 pub struct Dump<R> {
     text: R,
@@ -78,7 +78,7 @@ impl<R> Dump<R> {
         }
     }
 
-    // What stands for a byte of a dump: the byte, a space, or `!` where an offset is wrong.
+    // What denotes a byte of a dump: the byte, a space, or `!` where an offset is wrong.
     fn shown(&mut self, byte: u8) -> u8 {
         match self.place {
             Place::Offset if !byte.is_ascii_hexdigit() => self.end_offset(byte),
@@ -116,7 +116,7 @@ impl<R> Dump<R> {
         b' '
     }
 
-    // Takes the byte behind an offset.
+    // Takes the byte after an offset.
     fn end_offset(&mut self, byte: u8) -> u8 {
         if self.offset.saturating_mul(2) != self.digits {
             self.fault = Fault::OtherOffset;
@@ -128,7 +128,7 @@ impl<R> Dump<R> {
         self.go(Place::Bytes { is_space: false }, byte)
     }
 
-    // Takes a byte behind the offset, where the text of the line may begin.
+    // Takes a byte after the offset, where the text of the line may begin.
     fn shown_of_bytes(&mut self, byte: u8, is_space: bool) -> u8 {
         match (self.kind, byte) {
             (Kind::Hexdump, b'|') => return self.go(Place::Text, b' '),

@@ -8,7 +8,7 @@ use amqp_screen::{Screen, Status, print_raw};
 use anyhow::Result;
 use std::str;
 
-/// Writes the encoding of the value that a file's JSON stands for, raw or in hexadecimal.
+/// Writes the encoding of the value that a file's JSON denotes, raw or in hexadecimal.
 pub fn encode_file(rt: &HostRuntime, file: &str, raw: bool) -> Result<Status> {
     let alloc = rt.alloc();
     let input = match read_file(rt, file) {

@@ -7,7 +7,7 @@ use std::fs;
 use std::fs::File;
 use std::io::{BufReader, ErrorKind, Read};
 
-/// So many bytes of a stream are read at once, at most.
+/// That many bytes of a stream are read at once, at most.
 pub const BLOCK: usize = 65_536;
 
 /// The bytes of a file, or of the standard input where it is called `-`.
@@ -20,7 +20,7 @@ pub fn read_file(rt: &HostRuntime, file: &str) -> Result<Vec<u8>> {
     Ok(input)
 }
 
-/// The bytes of a file, or those that its text stands for where that is hexadecimal: no more than
+/// The bytes of a file, or those that its text denotes where that is hexadecimal: no more than
 /// the limit and one, so that it can be told whether there are more.
 pub fn read_input(rt: &HostRuntime, file: &str, settings: Settings) -> Result<Vec<u8>> {
     if file == "-" {
@@ -44,7 +44,7 @@ fn read_within<R: Read + Drop>(rt: &HostRuntime, reader: R, settings: Settings) 
     Ok(bytes)
 }
 
-// The bytes that hexadecimal text stands for, at most so many.
+// The bytes that hexadecimal text denotes, at most that many.
 fn bytes_of<R: Read + Drop>(rt: &HostRuntime, text: R, most: u64) -> Result<Vec<u8>> {
     let mut digits = Digits::new(text);
     let mut bytes = Vec::new(rt.alloc());

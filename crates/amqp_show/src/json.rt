@@ -9,7 +9,7 @@ use amqp_screen::{Screen, Status};
 use anyhow::{Result, anyhow};
 use std::alloc::{AllocError, Global};
 
-// Readers of JSON take texts that nest so deep, `--encode` among them.
+// Readers of JSON take texts that nest that deep, `--encode` among them.
 const DEEPEST: u32 = 127;
 
 /// Prints the JSON of the value at the beginning of a file's bytes on a line, and says what is

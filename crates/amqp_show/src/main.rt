@@ -1,5 +1,5 @@
 //! Shows AMQP field-table values to people and programs: as a tree, byte by byte up to where one
-//! fails, or as JSON, one or a stream of them; and encodes the values that JSON stands for.
+//! fails, or as JSON, one or a stream of them; and encodes the values that JSON denotes.
 #![tactic(auto)]
 
 mod arguments;

@@ -32,7 +32,7 @@ pub fn leaf_text(alloc: Global, leaf: Leaf<'_>) -> Result<String, AllocError> {
     }
 }
 
-// A decimal with so many digits behind its point, and no point where there are none.
+// A decimal with that many digits after its point, and no point where there are none.
 fn decimal_text(alloc: Global, number: u32, scale: u8) -> Result<String, AllocError> {
     let digits = format!(in alloc; "{number}")?;
     let before = digits.len().saturating_sub(usize::from(scale));

@@ -34,7 +34,7 @@ fn no_memory() -> anyhow::Error {
     anyhow!("out of memory")
 }
 
-// Why a text is no JSON that is read.
+// Why a text isn't JSON that is read.
 fn syntax_text(alloc: Global, json: &str, error: &serde_json::Error) -> Result<String, AllocError> {
     match too_deep(alloc, json)? {
         Some(why) => Ok(why),

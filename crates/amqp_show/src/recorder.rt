@@ -30,14 +30,15 @@ impl<R: Read> Recorder<R> {
         &self.reader
     }
 
-    /// Reads on until there are so many bytes. Answers whether there are: the reader may end before.
+    /// Reads on until there are that many bytes. Returns whether there are: the reader may end
+    /// before.
     pub fn read_up_to(&mut self, count: usize) -> io::Result<bool> {
         let missing = count.saturating_sub(self.bytes.len());
         passes(self, missing as u64)
     }
 
-    /// Forgets what it gave, and reads what is left of a value of so many bytes, of which nothing
-    /// is kept. Answers whether it is there: the reader may end before.
+    /// Forgets what it gave, and reads what is left of a value of that many bytes, of which nothing
+    /// is kept. Returns whether it is there: the reader may end before.
     pub fn pass_over(&mut self, len: usize) -> io::Result<bool> {
         let missing = len.saturating_sub(self.bytes.len());
         self.forget();
@@ -50,7 +51,7 @@ impl<R: Read> Recorder<R> {
     }
 }
 
-// Reads so many bytes. Answers whether there are as many.
+// Reads that many bytes. Returns whether there are as many.
 fn passes<R: Read>(reader: &mut R, count: u64) -> io::Result<bool> {
     let read = io::copy(&mut reader.by_ref().take(count), &mut io::sink())?;
     Ok(read == count)
@@ -58,7 +59,7 @@ fn passes<R: Read>(reader: &mut R, count: u64) -> io::Result<bool> {
 
 impl<R: Read> Read for Recorder<R> {
     fn read(&mut self, buf: &mut [u8]) -> io::Result<usize> {
-        // Room comes first: nothing that the reader gives is lost for want of memory.
+        // Room comes first: nothing that the reader yields is lost when memory runs out.
         self.bytes.try_reserve(buf.len())?;
         let n = self.reader.read(buf)?;
         self.bytes.extend_from_slice(&buf[..n])?;

@@ -9,7 +9,7 @@ use std::alloc::{AllocError, Global};
 // Which of equal keys counts.
 const TAKEN: &str = "this library takes the last, RabbitMQ the first";
 
-// A key behind which a value begins: where its table begins, and which part the value's type tag is.
+// A key after which a value begins: where its table begins, and which part the value's type tag is.
 #[derive(Clone, Copy, Debug, PartialEq, Eq, PartialOrd, Ord)]
 struct Entry<'a> {
     table: usize,
@@ -36,7 +36,7 @@ pub fn push_repeats(
     Ok(())
 }
 
-// What is said of a key that comes so many times, first and last in these entries.
+// What is said of a key that comes that many times, first and last in these entries.
 fn repeat_text(
     alloc: Global,
     parts: &[Part<'_>],

@@ -48,7 +48,7 @@ pub fn push_name(screen: &mut Screen, file: &str) -> Result<(), AllocError> {
     Ok(())
 }
 
-/// Adds the value at the beginning of the input, up to where it fails. Answers whether it is one
+/// Adds the value at the beginning of the input, up to where it fails. Returns whether it is one
 /// within the limits.
 pub fn push_value(
     alloc: Global,

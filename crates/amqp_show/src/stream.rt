@@ -83,7 +83,7 @@ impl<R: Read> Read for Source<R> {
     }
 }
 
-// Shows the values that a reader gives. No more of them is kept than the one that is being read.
+// Shows the values that a reader yields. No more of them is kept than the one that is being read.
 fn show_values<R: Read + Drop>(
     rt: &HostRuntime,
     file: &str,
@@ -135,7 +135,7 @@ fn unread<R>(rt: &HostRuntime, file: &str, source: &Source<R>, kind: ErrorKind) 
     Ok(Status::Mistake)
 }
 
-// Whether a refused value is passed over.
+// Whether a rejected value is passed over.
 fn keeps_going(settings: Settings) -> bool {
     matches!(settings.task, Task::Stream { keep_going: true })
 }

@@ -13,7 +13,7 @@ use std::str;
 // As many levels are indented.
 const INDENTED: u32 = 32;
 
-/// What stands before a line of this level: two spaces for each of the first levels, and the level
+/// What is before a line of this level: two spaces for each of the first levels, and the level
 /// where it is deeper.
 pub fn push_indent(alloc: Global, screen: &mut Screen, level: u32) -> Result<(), AllocError> {
     screen.indent(level.min(INDENTED))?;
@@ -44,7 +44,8 @@ pub fn part_text(alloc: Global, part: &Part<'_>) -> Result<String, AllocError> {
     }
 }
 
-/// The type whose tag is the first of the parts, and the value if it is no container and has come.
+/// The type whose tag is the first of the parts, and the value if it isn't a container and has
+/// come.
 pub fn typed_text(
     alloc: Global,
     amqp_type: AMQPType,
@@ -59,7 +60,7 @@ pub fn typed_text(
     }
 }
 
-/// The bytes in quotes, as text where they are UTF-8: a quote and a backslash stand after a
+/// The bytes in quotes, as text where they are UTF-8: a quote and a backslash are after a
 /// backslash, and what doesn't print is escaped where it is shown. Other bytes are all escaped.
 pub fn quoted(alloc: Global, bytes: &[u8]) -> Result<String, AllocError> {
     let Ok(words) = str::from_utf8(bytes) else {
@@ -84,7 +85,7 @@ pub fn failure_text(alloc: Global, dissection: &Dissection<'_>) -> Result<String
     format!(in alloc; "offset {}: {why}", dissection.offset)
 }
 
-/// What the library answers about the value at the beginning of the input.
+/// What the library returns about the value at the beginning of the input.
 pub fn outcome_text(alloc: Global, input: &[u8], limits: Limits) -> Result<String, AllocError> {
     match read_in_place(input, limits) {
         Ok((_, rest)) => {
@@ -128,7 +129,7 @@ fn refusal_text(alloc: Global, error: ParserError) -> Result<String, AllocError>
     }
 }
 
-// What ends a dissection, and what should stand there.
+// What ends a dissection, and what should be there.
 fn end_text(alloc: Global, end: End) -> Result<String, AllocError> {
     match end {
         End::Value => format!(in alloc; "the end of the value"),
