@@ -10,7 +10,7 @@ use Rattle.amqp_stream.specs.Readers.{Answers}
 use Rattle.amqp_parsing.specs.Headers.{extent, wanted, IsWaiting}
 use Rattle.amqp_parsing.proofs.ParsingLaws.{waits_more}
 
--- one read of at most as many bytes as lack leaves all waiting
+-- one read of at most as many bytes as are missing leaves all waiting
 pub filled_waits : (frame : ℕ) (s now : List ℕ) (most : ℕ) (r : Result ℕ StreamError) (C : List ℕ → Type 0) (E : StreamError → Type 0) (K : Type 0)
     → IsWaiting frame s → extent s ≤ frame → most ≡ wanted s
     → IfOk r (λ n. (more : List ℕ) × (length more ≡ n) × (n ≤ most) × (now ≡ s ++ more) × C more)

@@ -1,4 +1,4 @@
--- What a reader of values answers, by all that its reader held.
+-- What a reader of values returns, by all that its reader held.
 use Rattle.std.proofs.Common.{◌≡◌, ◌<◌, ◌≤◌, ℕ, Bool, List, [], ◌++◌, length, Option, Some, None, Result, Ok, Err, refl, sym, ap, ◌∙◌, subst, arith, append-nil, append_assoc}
 use Rattle.std.specs.Option.{IfSome}
 use Rattle.std.specs.Io.KnownBytes.{Consumes}
@@ -15,7 +15,7 @@ use Rattle.amqp_parsing.specs.Limits.{Within}
 use Rattle.amqp_stream.specs.Readers.{Answers, AnswersAll}
 use Rattle.amqp_parsing.proofs.ParsingLaws.{wire_extent, refused_append}
 
--- a value whose wire came is read of that and more
+-- a value whose encoding came is read of that and more
 wire_told : (l : Limits) (s t : List ℕ) (v : Tree) → WireWithin l.depth s v → length s ≤ l.frame → Within l (s ++ t) (found v t)
 wire_told l s t v p few = (omega (arith, few, wire_extent s t v p.0), wire_found_within l.depth s t v p.0 p.1)
 

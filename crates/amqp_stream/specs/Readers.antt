@@ -52,7 +52,7 @@ IsFailed _ = ⊥
 
 -- a call for the next value may answer this, where the reader tells its bytes, s is what was kept
 -- and then all that the reader held, and `left` is what it has left: what reading s within the
--- limits comes to, however the reader cuts its bytes, and with all after the value unread
+-- limits results in, however the reader cuts its bytes, and with all after the value unread
 abbrev pub AnswersAll : Limits → List ℕ → Option (List ℕ) → Result (Option AMQPValue) StreamError → Type 0
 AnswersAll l s left (Ok (Some v)) = (rest : List ℕ) × Within l s (found (view v) rest) × (left ≡ Some rest)
 AnswersAll l s left (Ok None) = (s ≡ []) × (left ≡ Some [])

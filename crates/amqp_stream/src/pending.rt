@@ -10,10 +10,10 @@ use std::io;
 use std::io::Read;
 use std::marker::Model;
 
-// The first room is for so many bytes.
+// The first room is for that many bytes.
 const BLOCK: usize = 8192;
 
-// So many bytes of new room are filled at once, at most: they are still in the processor's cache
+// That many bytes of new room are filled at once, at most: they are still in the processor's cache
 // when the reader writes over them.
 const FILLED: usize = 65_536;
 
@@ -34,7 +34,7 @@ impl Model for Pending {
 }
 
 // Makes room for some of `most` bytes, where there is none: as much again as there is, whatever a
-// length claims. Answers for how many there is room.
+// length claims. Returns for how many there is room.
 fn make_room(buffer: &mut Vec<u8>, count: usize, most: usize) -> Result<usize, AllocError>
     requires some { 0 < most }
     requires within { count ≤ vec_len buffer.old }

@@ -58,7 +58,7 @@ impl Values {
         self.read_value(reader)
     }
 
-    // Reads until the value is whole, or is none.
+    // Reads until the value is whole, or isn't one.
     fn read_value<R: Read>(&mut self, reader: &mut R) -> Result<Option<AMQPValue>, StreamError>
         requires goes_on { has_failed self.old ≡ false }
         ensures answer { (x : List ℕ)
@@ -112,7 +112,7 @@ impl Values {
         }
     }
 
-    // What is answered where the reader ended.
+    // What is returned where the reader ended.
     fn ended(&mut self) -> Result<Option<AMQPValue>, StreamError>
         requires goes_on { has_failed self.old ≡ false }
         requires wants { 0 < wanted (kept self.old) }
