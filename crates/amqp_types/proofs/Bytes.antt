@@ -40,7 +40,7 @@ pub below_8 : (s : List ℕ) → IsBytes s → from_be_bytes w64 s < 2 ^ 64
 below_8 s bytes =
     omega (arith, byte_at s bytes 0, byte_at s bytes 1, byte_at s bytes 2, byte_at s bytes 3, byte_at s bytes 4, byte_at s bytes 5, byte_at s bytes 6, byte_at s bytes 7)
 
--- bytes behind bytes are bytes
+-- bytes after bytes are bytes
 pub bytes_join : (s t : List ℕ) → IsBytes s → IsBytes t → IsBytes (s ++ t)
 bytes_join [] t first second = second
 bytes_join (c ∷ s) t first second = (first.0, bytes_join s t first.1 second)

@@ -1,4 +1,4 @@
--- Ids: a type that a letter stands for is read as itself.
+-- Ids: a type that a letter denotes is read as itself.
 use Rattle.std.proofs.Common.{◌≡◌, ℕ, Bool, true, false, cond, nat_eq, List, [], ◌∷◌, Option, Some, refl, subst}
 use Rattle.std.specs.Map.{lookup}
 use Rattle.std.specs.List.{AllByRecursion}
@@ -16,7 +16,7 @@ row_holds P test (r ∷ rows) all = by (test r.0) (row_holds P test rows all.1)
     by true behind = all.0
     by false behind = behind
 
--- a type that a letter stands for is read as itself
+-- a type that a letter denotes is read as itself
 rows_read : AllByRecursion (λ (r : ℕ × AMQPType). read_as r.1 ≡ Some r.1) letters
 rows_read = (refl, (refl, (refl, (refl, (refl, (refl, (refl, (refl, (refl, (refl, (refl, (refl, (refl, (refl, (refl, (refl, (refl, (refl, (refl, tt)))))))))))))))))))
 

@@ -2,7 +2,7 @@
 use Rattle.std.proofs.Common.{◌≡◌, ℕ, ◌-◌, zero, suc, List, [], ◌∷◌, ◌++◌, length, min, ◌≤◌, take, drop, ap, ◌∙◌, rules, arith, length-append}
 use Rattle.std.proofs.lemmas.List.{same_lists, places}
 
--- what is left of both behind the first n is what is left of each
+-- what is left of both after the first n is what is left of each
 pub drop_both : (n : ℕ) (xs ys : List ℕ) → drop n xs ++ drop (n - length xs) ys ≡ drop n (xs ++ ys)
 drop_both zero xs ys =
     let none : 0 - length xs ≡ 0 = omega arith in

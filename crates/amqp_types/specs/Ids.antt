@@ -1,11 +1,11 @@
--- Type tags (ids): the byte that stands before a value, as an ASCII character.
+-- Type tags: the byte that is before a value, as an ASCII character.
 -- AMQP 0-9-1, section 4.2.1 (`field-value`), with the type tags of RabbitMQ's errata, section 3.
 use Rattle.std.specs.Prelude.{ℕ, List, [], ◌∷◌, nat_eq, Option}
 use Rattle.std.specs.Map.{lookup}
 use Rattle.amqp_types.specs.declared.amqp_type.AMQPType.{AMQPType}
 use Rattle.amqp_types.specs.declared.amqp_type.AMQPType.TheVariants as amqp
 
--- the type tags that are read, each with its type; `U` and `L` are second spellings
+-- the type tags that are read, each with its type; `U` and `L` are alternate tags
 abbrev pub letters : List (ℕ × AMQPType)
 letters =
     (116, amqp.Boolean)  -- t
@@ -29,7 +29,7 @@ letters =
     ∷ (86, amqp.Void)  -- V
     ∷ []
 
--- the type that a byte stands for; every byte that isn't in the table has none
+-- the type that a byte denotes; every byte that isn't in the table has none
 abbrev pub kind : ℕ → Option AMQPType
 kind c = lookup (nat_eq c) letters
 

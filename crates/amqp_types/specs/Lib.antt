@@ -1,4 +1,4 @@
--- which byte stands for which type
+-- which byte denotes which type
 pub mod Ids
 -- which bytes a short string may have
 pub mod Strings
@@ -6,7 +6,7 @@ pub mod Strings
 pub mod Names
 -- what numbers, long strings and byte arrays are viewed as
 pub mod Shown
--- the errors for a text that is too long
+-- the errors for a string that is too long
 pub mod Short
 -- prefixes of lists of bytes
 pub mod Fronts

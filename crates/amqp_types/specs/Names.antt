@@ -1,4 +1,4 @@
--- What a type is called, and which type is read where its id was written.
+-- What a type is called, and which type is read where its type tag was written.
 use Rattle.std.specs.Prelude.{ℕ, List, codes, Option, Some, None}
 use Rattle.amqp_types.specs.declared.amqp_type.AMQPType.{AMQPType}
 use Rattle.amqp_types.specs.declared.amqp_type.AMQPType.TheVariants as amqp

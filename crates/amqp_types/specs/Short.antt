@@ -1,20 +1,20 @@
--- Short strings: the refusals of a text that is too long.
+-- Short strings: the errors of a string that is too long.
 use Rattle.std.specs.Prelude.{ℕ, ◌<◌, ◌≤◌, ◌≡◌, List, length, codes, ◌++◌}
 use Rattle.std.specs.Fmt.{decimal}
 use Rattle.amqp_types.specs.declared.short_string.ShortStringError.{ShortStringError}
 use Rattle.amqp_types.specs.declared.short_string.TryCopyError.{TryCopyError}
 use Rattle.amqp_types.specs.declared.short_string.TryCopyError.TheVariants.{TooLong, OutOfMemory}
 
--- the length of the text that was refused
+-- the length of the string that was rejected
 abbrev pub refused_length : ShortStringError → ℕ
 refused_length e = e.length
 
--- a text is refused for its length, which the error tells
+-- a string is rejected for its length, which the error tells
 abbrev pub IsTooLong : List ℕ → ShortStringError → Type 0
 IsTooLong s e = (255 < length s) × (refused_length e ≡ length s)
 
--- a copy is refused for the text's length, or for a failed allocation where the text has at most
--- 255 bytes and isn't empty
+-- a copy is rejected for the string's length, or for a failed allocation where the string has at
+-- most 255 bytes and isn't empty
 abbrev pub IsCopyRefused : List ℕ → TryCopyError → Type 0
 IsCopyRefused s (TooLong e) = IsTooLong s e
 IsCopyRefused s OutOfMemory = (0 < length s) × (length s ≤ 255)
