@@ -1,4 +1,4 @@
--- Copies: a walk over rising entries puts each behind the ones before it.
+-- Copies: a walk over sorted entries puts each after the ones before it.
 use Rattle.std.proofs.Common.{◌≡◌, ℕ, List, [], ◌∷◌, ◌++◌, Less, Greater, refl, ap, subst, ◌∙◌, rules}
 use Rattle.std.proofs.lemmas.Cmp.{nat_list_cmp_total}
 use Rattle.std.specs.Cmp.Lexicographic.{slice_cmp}
@@ -18,12 +18,12 @@ use Rattle.amqp_value_core.specs.Containers.{trees, entries, array_items, array_
 abbrev pub Pair : Type 0
 Pair = List ℕ × AMQPValue
 
--- where keys rise, the first comes before a later one
+-- where keys are ascending, the first comes before a later one
 comes_before : (k : List ℕ) (es : List Pair) (e : Pair) (more : List Pair) → AllByRecursion (λ j. slice_cmp nat_cmp k j ≡ Less) (keys_of (es ++ e ∷ more)) → slice_cmp nat_cmp k e.0 ≡ Less
 comes_before k [] e more h = h.0
 comes_before k (x ∷ es) e more h = comes_before k es e more h.1
 
--- an entry whose key is behind all others is put at the end
+-- an entry whose key is after all others is put at the end
 pub put_at_the_end : (done : List Pair) (e : Pair) (more : List Pair) → IsStrictlySortedBy (slice_cmp nat_cmp) (keys_of (done ++ e ∷ more))
     → put e.0 (view e.1) (entries done) ≡ entries (done ++ e ∷ [])
 unfolding IsStrictlySortedBy

@@ -45,7 +45,7 @@ last_put k (p ∷ ps) f =
     by None true false e = absurd cc
     by None false true e = absurd cc
 
--- a map's keys rise
+-- a map's keys are ascending
 rise : (es : List Pair) → IsStrictlySortedBy order (keys_of es) → IsRising (entries es)
 unfolding IsStrictlySortedBy
 rise [] h = tt

@@ -8,7 +8,7 @@ use Rattle.amqp_types.specs.declared.amqp_type.AMQPType.TheVariants as amqp
 use Rattle.amqp_grammar.specs.Values.{boolean, number, void, Tree, scalar, short, long}
 
 -- the integer that the JSON value is, where a signed number of 64 bits holds it, and where an
--- unsigned one does; a number with a point or an exponent is none
+-- unsigned one does; a number with a point or an exponent isn't one
 abbrev pub signed : Data → Option ℤ
 signed d = option_and_then as_i64 (as_number d)
 

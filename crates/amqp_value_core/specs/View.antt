@@ -1,4 +1,4 @@
--- The tree that an `AMQPValue` stands for.
+-- The tree that an `AMQPValue` denotes.
 use Rattle.std.specs.Prelude.{map}
 use Rattle.std.specs.Int.{w8, w16, w32, w64, cast_unsigned}
 use Rattle.amqp_types.specs.declared.amqp_type.AMQPType.TheVariants as amqp

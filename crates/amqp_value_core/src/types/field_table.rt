@@ -135,7 +135,7 @@ impl<'a> IntoIterator for &'a FieldTable {
 
     type IntoIter = btree_map::Iter<'a, ShortString, AMQPValue>;
 
-    // the entries, in order or from the back; the keys rise
+    // the entries, in order or from the back; the keys are ascending
     ghost into_iter_gives = { λ t r. (r ≡ table_entries t.now) × (length r < 2 ^ 63) × ShowsInOrder (deref_pair {K = List ℕ} {X = AMQPValue}) × ShowsValuesInOrder (deref_pair {K = List ℕ} {X = AMQPValue}) × ShowsInReverse (deref_pair {K = List ℕ} {X = AMQPValue}) × IsStrictlySortedBy (slice_cmp nat_cmp) (keys_of (table_entries t.now)) };
 
     fn into_iter(self) -> btree_map::Iter<'a, ShortString, AMQPValue> {

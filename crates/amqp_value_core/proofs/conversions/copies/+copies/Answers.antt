@@ -14,7 +14,7 @@ copy-returns-in_ok-copy_entries-in-FieldTable t c =
       light = λ light. refl;
     }
 
--- the next entry is copied behind those so far
+-- the next entry is copied after those so far
 pub copy_entries-loop-key-preserved : goal.copy_entries-loop-key-preserved
 copy_entries-loop-key-preserved t c =
     let l = c.loop-key in

@@ -1,4 +1,4 @@
--- `insert` hands on what `lend` lent, out of its struct: at each result its clauses are those of
+-- `insert` passes on what `lend` lent, out of its struct: at each result its clauses are those of
 -- `lend`.
 use Rattle.std.proofs.Common.{◌≡◌, List, [], ◌∷◌, refl, sym, subst, Ok, Err}
 use Rattle.std.proofs.raw_atomic.Walks.{proved_at, leaves}
