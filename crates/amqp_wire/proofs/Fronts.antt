@@ -1,14 +1,14 @@
--- Fronts of a text, written one after another.
+-- Prefixes of a text, written one after another.
 use Rattle.std.proofs.Common.{◌≡◌, ℕ, Option, List, [], ◌∷◌, ◌++◌, take, drop, ap, ◌∙◌, sym, append_assoc, take-append-drop}
 use Rattle.std.specs.Io.KnownBytes.{Appends}
 use Rattle.std.proofs.KnownBytes.{Appends-trans}
 use Rattle.amqp_wire.specs.Lines.{line_by, lines_by, AppendsFront}
 
--- a front of the text was appended, and this is the rest
+-- a prefix of the text was appended, and this is the rest
 abbrev pub Written : Option (List ℕ) → Option (List ℕ) → List ℕ → List ℕ → Type 0
 Written a b text rest = (front : List ℕ) × (text ≡ front ++ rest) × Appends a b front
 
--- a front of the rest was appended
+-- a prefix of the rest was appended
 pub written_more : (a b c : Option (List ℕ)) (text rest more left : List ℕ) → Written a b text rest → rest ≡ more ++ left → Appends b c more → Written a c text left
 written_more a b c text rest more left (front, e, p) e' q =
     (front ++ more, e ∙ ap (λ l. front ++ l) e' ∙ sym (append_assoc front more left), Appends-trans a b c front more p q)
@@ -18,7 +18,7 @@ pub written_front : (a b c : Option (List ℕ)) (text rest left : List ℕ) (n :
 written_front a b c text rest left n h p e =
     written_more a b c text rest (take n rest) left h (sym (take-append-drop n rest) ∙ ap (λ l. take n rest ++ l) (sym e)) p
 
--- a front of a front of the rest was appended
+-- a prefix of a prefix of the rest was appended
 pub written_part : (a b c : Option (List ℕ)) (text rest more left : List ℕ) → Written a b text rest → rest ≡ more ++ left → AppendsFront b c more → AppendsFront a c text
 written_part a b c text rest more left (front, e, p) e' (part, missing, e'', q) = (
   front ++ part,

@@ -27,7 +27,7 @@ bytes_fit (c ∷ s) fit = ((fit 0).fits, bytes_fit s (λ i. fit (suc i)))
 pub said_of_outcome : (s : List ℕ) (o : Reading) → IsBytes s → Outcome s o → said o ≡ said (outcome s)
 said_of_outcome s o fit here = ap said ((outcome_is s o fit).0 here)
 
--- and what is said of a refusal
+-- and what is said of an error
 pub said_of_refusal : (s : List ℕ) (e : Refusal) (t : List ℕ) → IsBytes s → Refuses (Outcome s) (Heavy s) e → IsSaid e t → t ≡ said (outcome s)
 said_of_refusal s (Incomplete Unknown) t fit right is = absurd right
 said_of_refusal s (Incomplete (Size n)) t fit right is = is ∙ said_of_outcome s (more n) fit right
@@ -38,7 +38,7 @@ said_of_refusal s (Failure kind) t fit right is = absurd is
 
 -- ---- within limits
 
--- what reading comes to, the function says
+-- what reading results in, the function says
 pub read_is : (l : Limits) (s : List ℕ) (o : Reading) → IsBytes s → Within l s o → read_within l s ≡ Some o
 read_is l s o bytes (few, x) =
     ap (λ b. cond b None (Some (outcome_by (meaning l.depth) s))) (le-ltb l.frame (extent s) few) ∙ ap Some (sym ((within_is l.depth s o bytes).0 x))

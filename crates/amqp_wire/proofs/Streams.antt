@@ -26,14 +26,14 @@ use Rattle.amqp_wire.specs.Streams.{value_line, last_line, stream_step, stream_t
 use Rattle.amqp_wire.proofs.Fronts.{Written, written_more, written_part}
 use Rattle.amqp_wire.proofs.Outcomes.{read_is, read_holds, too_large}
 
--- the bytes behind a front are bytes
+-- the bytes after a prefix are bytes
 behind : (s t : List ℕ) → IsBytes (s ++ t) → IsBytes t
 behind [] t bytes = bytes
 behind (c ∷ s) t bytes = behind s t bytes.1
 
--- ---- what stands at the front
+-- ---- what is at the start
 
--- what is found begins with a wire
+-- what is found begins with an encoding
 found_begins : (l : Limits) (s rest : List ℕ) (v : Tree) → Within l s (found v rest) → BeginsWith l s (v ∷ []) rest
 found_begins l s rest v (few, x) =
     let f = front_within l.depth s rest v x in
@@ -45,7 +45,7 @@ begins_found : (l : Limits) (s w rest : List ℕ) (v : Tree) → s ≡ w ++ rest
 begins_found l s w rest v e p few =
     subst (λ (t : List ℕ). Within l t (found v rest)) (sym e) (omega (arith, few, wire_extent w rest v p.0), wire_found_within l.depth w rest v p.0 p.1)
 
--- where reading comes to no value, none is there
+-- where reading results in no value, none is there
 abbrev NoValue : Option Reading → Type 0
 NoValue o = (v : Tree) (rest : List ℕ) → o ≡ Some (found v rest) → ⊥
 
@@ -65,7 +65,7 @@ value_or_none (Some (more n)) = inr (λ v rest e. cc)
 value_or_none (Some unknown) = inr (λ v rest e. cc)
 value_or_none (Some malformed) = inr (λ v rest e. cc)
 
--- so many values are followed by the same
+-- that many values are followed by the same
 begins_unique : (l : Limits) (s a b : List ℕ) (us vs : List Tree) → BeginsWith l s us a → BeginsWith l s vs b → length us ≡ length vs → a ≡ b
 begins_unique l s a b [] [] p q e = sym p ∙ q
 begins_unique l s a b [] (v ∷ vs) p q e = absurd (omega (arith, e))
@@ -114,7 +114,7 @@ are_lines l (suc n) s bytes (v ∷ vs) left ((w, rest, is, p, few, others), none
       λ lt. first ∙ ap (λ (t : List ℕ). value_line v ++ t) (next.1 (omega (arith, lt))) ∙ sym (append_assoc (value_line v) (value_lines vs) (last_line left (read_within l left))),
     )
 
--- a wire has a byte
+-- an encoding has a byte
 some_byte : (w : List ℕ) (v : Tree) → Wire w v → 0 < length w
 some_byte _ _ (wire c type b v k p) = omega arith
 
@@ -139,7 +139,7 @@ value_told l s left v line e bytes (rest, x, is) =
     let b = found_begins l s rest (view v) x in
     (view v, rest, subst IsBytes b.5 (behind b.0 b.1 (subst IsBytes b.2 bytes)), read_is l s (found (view v) rest) bytes x, b, e, is)
 
--- reading comes to no value, and so the line is the last one
+-- reading results in no value, and so the line is the last one
 last_told : (l : Limits) (s : List ℕ) (left : Option (List ℕ)) (line : List ℕ) (o : Option Reading) → IsBytes s → read_within l s ≡ o → NoValue o → line ≡ last_line s o → IsLine l s left line false
 last_told l s left line o bytes is none e = (e ∙ ap (last_line s) (sym is), none_begins l s bytes (subst NoValue (sym is) none))
 
@@ -167,7 +167,7 @@ line_told l k (Some z) left line b r one none told = λ bytes. one z bytes (subs
 
 -- ---- line after line
 
--- the lines so far were written, and the others are those of what is left behind as many values
+-- the lines so far were written, and the others are those of what is left after as many values
 abbrev pub Progress : Limits → ℕ → ℕ → Option (List ℕ) → Option (List ℕ) → Option (List ℕ) → Option (List ℕ) → Type 0
 Progress l most left held now a b = IfSome held (λ s. IsBytes s → (rest : List ℕ) × IsBytes rest × (now ≡ Some rest)
     × Written a b (stream_text l most s) (stream_text l left rest)
@@ -202,7 +202,7 @@ on_err l most left (Some s) now new a b c line t lt p told front = λ bytes.
     let first = line_first l left rest new line t lt rest_bytes (told_at l now new line rest t is rest_bytes told) in
     written_part a b c (stream_text l most s) (stream_text l left rest) line first.0 written first.1 front
 
--- where no line was to be written, a front was
+-- where no line was to be written, a prefix was
 pub on_fault : (l : Limits) (most left : ℕ) (held now a b : Option (List ℕ)) → Progress l most left held now a b → IfSome held (λ s. IsBytes s → AppendsFront a b (stream_text l most s))
 on_fault l most left None now a b p = tt
 on_fault l most left (Some s) now a b p = λ bytes.

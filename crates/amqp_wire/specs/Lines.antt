@@ -25,7 +25,7 @@ said (more n) = codes "more " ++ decimal n
 said unknown = codes "refused MapOpt"
 said malformed = codes "refused Eof"
 
--- what reading s within limits comes to, and none where the value is too large
+-- what reading s within limits results in, and none where the value is too large
 abbrev pub read_within : Limits → List ℕ → Option Reading
 read_within l s = if nat_lt l.frame (extent s) then None else Some (outcome_by (meaning l.depth) s)
 

@@ -25,7 +25,7 @@ last_line s (Some malformed) = codes "refused Eof\n"
 last_line s (Some (more n)) = cut_line s
 last_line s (Some (found v rest)) = []
 
--- by what reading s comes to: the line of a value, and the lines of what is left after it, or a
+-- by what reading s results in: the line of a value, and the lines of what is left after it, or a
 -- last line
 abbrev pub stream_step : (List ℕ → List ℕ) → List ℕ → Option Reading → List ℕ
 stream_step others s (Some (found v rest)) = value_line v ++ others rest
@@ -48,7 +48,7 @@ BeginsWith l s (v ∷ vs) left = (w : List ℕ) × (rest : List ℕ) × (s ≡ w
 abbrev pub BeginsNone : Limits → List ℕ → Type 0
 BeginsNone l s = (w rest : List ℕ) (v : Tree) → s ≡ w ++ rest → WireWithin l.depth w v → length w ≤ l.frame → ⊥
 
--- the values of a stream, as many as stand one after another, and what is left after them
+-- the values of a stream, as many as are one after another, and what is left after them
 abbrev pub AreValues : Limits → List ℕ → List Tree → List ℕ → Type 0
 AreValues l s vs left = BeginsWith l s vs left × BeginsNone l left
 
@@ -74,7 +74,7 @@ Leaves l n s now = (vs : List Tree) (left : List ℕ) → BeginsWith l s vs left
 
 -- ---- one line
 
--- a line of the stream s, and whether it is a value's, after which `left` is left; or else it is
+-- a line of the stream s, and whether it is a value's, after which `left` is left; otherwise it is
 -- the last line
 abbrev pub IsLine : Limits → List ℕ → Option (List ℕ) → List ℕ → Bool → Type 0
 IsLine l s left line true = (v : Tree) × (rest : List ℕ) × IsBytes rest × (read_within l s ≡ Some (found v rest)) × BeginsWith l s (v ∷ []) rest × (line ≡ value_line v) × (left ≡ Some rest)

@@ -25,7 +25,7 @@ use std::alloc::{AllocError, Global};
 pub enum Form {
     /// As one slice.
     Whole,
-    /// As two slices, cut after so many bytes, or after the last where there are fewer.
+    /// As two slices, cut after that many bytes, or after the last where there are fewer.
     Split(usize),
     /// As one slice, within limits.
     Within(Limits),

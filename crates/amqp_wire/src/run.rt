@@ -27,7 +27,7 @@ pub fn run<R: Read, W: Write>(
     run_in_form(alloc, reader, writer, Form::Whole)
 }
 
-/// Does what `run` does, and hands the parser the bytes of each line as two slices, cut after `at`
+/// Does what `run` does, and passes the parser the bytes of each line as two slices, cut after `at`
 /// bytes, or after the last where there are fewer.
 pub fn run_split<R: Read, W: Write>(
     alloc: Global,

@@ -17,11 +17,11 @@ use std::process::Abort;
 #[derive(Clone, Copy)]
 enum Program {
     Lines,
-    /// Lines whose bytes are cut after so many.
+    /// Lines whose bytes are cut after that many.
     Split(usize),
     /// Lines within the limits `frame` and `depth`.
     Within(u32, u32),
-    /// A stream within those, of so many values at most.
+    /// A stream within those, of that many values at most.
     Stream(u32, u32, usize),
 }
 

@@ -155,7 +155,7 @@ const ROWS: &[(Program, &[u8], &str, usize)] = &[
         "more 1\nrefused MapOpt\nrefused Eof\nvalue 56 rest 1\nvalue 730005 rest 0\nnot hex\nnot hex\nrefused TooLarge\nvalue 4100000003740156 rest 0\n",
         0,
     ),
-    // a stream's values are written, and no more than so many
+    // a stream's values are written, and no more than that many
     (Stream(9, 2, 9), BYTES, LINES, 0),
     (Stream(9, 2, 3), BYTES, LINES, 0),
     (
