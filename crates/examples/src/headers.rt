@@ -27,7 +27,7 @@ fn deaths(headers: &FieldTable) -> Option<i64> {
     value_at(first, "count")?.as_long_long_int()
 }
 
-/// Prints what stands under `x-death`.
+/// Prints what is under `x-death`.
 pub fn run<P: Print>(rt: &P, alloc: Global) -> Result<(), Fault> {
     let (_rest, value) = parse_value(alloc, SliceInput::new(HEADERS))?;
     let Some(headers) = value.as_field_table() else {

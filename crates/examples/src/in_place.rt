@@ -1,4 +1,4 @@
-//! A message's headers looked up where their bytes lie: nothing is copied, and no memory is taken.
+//! A message's headers looked up in place: nothing is copied, and nothing is allocated.
 
 use crate::fault::Fault;
 use crate::headers::HEADERS;

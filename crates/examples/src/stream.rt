@@ -8,7 +8,7 @@ use std::io::ErrorKind;
 /// Void, a long string, and the beginning of one that is longer than the limit.
 const STREAM: &[u8] = b"VS\0\0\0\x04testS\0\x10\0\0";
 
-/// Prints the values that a stream gives, and why there are no more.
+/// Prints the values that a stream yields, and why there are no more.
 pub fn run<P: Print>(rt: &P, alloc: Global) -> Result<(), Fault> {
     let limits = Limits {
         frame: 131_072,
@@ -27,7 +27,7 @@ pub fn run<P: Print>(rt: &P, alloc: Global) -> Result<(), Fault> {
             Err(StreamError::Read(_)) => return Err(Fault::Output),
             // nor is it here, once there is memory again
             Err(StreamError::OutOfMemory) => return Err(Fault::OutOfMemory),
-            // the stream ended inside a value, or what came is refused
+            // the stream ended inside a value, or what came is rejected
             Err(error) => {
                 println!(rt; "stream: {error}")?;
                 break;
