@@ -8,7 +8,7 @@ use amq_protocol_types::{AMQPValue, FieldArray, FieldTable, ShortString};
 use std::alloc::{AllocError, Global};
 use std::test::Fail;
 
-// The body of a table of so many pairs, each a number, in the order of their keys.
+// The body of a table of n pairs, each a number, in the order of their keys.
 fn pairs(alloc: Global, count: u32, letters: usize) -> Result<Vec<u8>, Fail> {
     let mut body = Vec::new(alloc);
     for n in 0..count {

@@ -11,7 +11,7 @@ use std::test::Fail;
 
 const LEVELS: u32 = 5_000;
 
-// The containers, each behind a key in the one around it where they are tables, and the innermost
+// The containers, each after a key in the one around it where they are tables, and the innermost
 // empty.
 fn nested(alloc: Global, tag: u8, key: &[u8]) -> Result<Vec<u8>, Fail> {
     let step = u32::try_from(key.len())?.saturating_add(5);
@@ -28,7 +28,7 @@ fn nested(alloc: Global, tag: u8, key: &[u8]) -> Result<Vec<u8>, Fail> {
 }
 
 // So deep they are read and written by all that has no limit, and within the limits that they keep
-// to, but not within one less. Each has so many parts.
+// to, but not within one less. Each has n parts.
 fn go_everywhere(rt: &impl Abort, alloc: Global, wire: &[u8], parts: usize) -> Result<(), Fail> {
     let value = goes_everywhere(rt, alloc, wire)?;
     let Ok((found, rest)) = read_in_place_unlimited(wire) else {

@@ -28,7 +28,7 @@ pub const WIDE: Limits = Limits {
     depth: DEEP,
 };
 
-/// So many bytes, each its position's lowest seven bits.
+/// That many bytes, each its position's lowest seven bits.
 pub fn bytes(alloc: Global, len: usize) -> Result<Vec<u8>, AllocError> {
     let mut found = Vec::from_slice(alloc, &[0])?;
     for n in 1..128u8 {
@@ -45,7 +45,7 @@ pub fn bytes(alloc: Global, len: usize) -> Result<Vec<u8>, AllocError> {
     Ok(found)
 }
 
-/// The key of a number: its seven decimal digits behind so many letters.
+/// The key of a number: its seven decimal digits after n letters.
 pub fn key(alloc: Global, n: u32, letters: usize) -> Result<Vec<u8>, AllocError> {
     let mut found = vec![in alloc; b'k'; letters]?;
     let mut unit = 1_000_000;
@@ -64,7 +64,7 @@ pub fn field(alloc: Global, tag: u8, body: &[u8]) -> Result<Vec<u8>, Fail> {
     Ok(found)
 }
 
-/// What is behind the type tag.
+/// What is after the type tag.
 pub fn payload_of(wire: &[u8]) -> &[u8] {
     wire.split_at(1.min(wire.len())).1
 }
