@@ -68,8 +68,8 @@ fn generate<W: Output>(name: &str, made: &Made, x: &mut WriteContext<W>) -> GenR
     }
 }
 
-/// Prints what a generator answers where the device fails once so many calls have been made.
-/// Answers whether it failed.
+/// Prints what a generator answers where the device fails once n calls have been made.
+/// Returns whether it failed.
 fn fails<P: Print>(
     rt: &P,
     alloc: Global,

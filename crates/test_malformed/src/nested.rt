@@ -54,7 +54,7 @@ pub fn run<P: Print, R: Read>(
     println!(rt; "{answer}")
 }
 
-/// Whether a call gave what it was asked for, or else its error.
+/// Whether a call gave what it was asked for, otherwise its error.
 fn said<T: Drop, E: Debug + Drop>(alloc: Global, answer: Result<T, E>) -> io::Result<String> {
     match answer {
         Ok(_) => told(alloc, true),
@@ -184,7 +184,7 @@ fn object_of(alloc: Global, value: Value) -> Result<Value, AllocError> {
     Ok(Value::Object(members))
 }
 
-/// Walks so many containers inwards by the last entry of each, which it looks up too.
+/// Walks n containers inwards by the last entry of each, which it looks up too.
 fn walked(alloc: Global, value: ValueRef<'_>, depth: u32) -> io::Result<String> {
     let mut inner = Some(value);
     for _ in 0..depth {

@@ -1,4 +1,4 @@
-//! Rooms that are too small, and what is left after a refusal.
+//! Rooms that are too small, and what is left after an error.
 
 use crate::shown;
 use amq_protocol_types::AMQPValue;
@@ -13,7 +13,7 @@ fn said(alloc: Global, answer: GenResult) -> io::Result<String> {
     Ok(format!(in alloc; "{answer:?}")?)
 }
 
-/// Prints what writing a value comes to in room for so many bytes, each 170, after those that were
+/// Prints what writing a value results in, in room for n bytes, each 170, after those that were
 /// put before. Where the value is written, prints how many bytes after it are still so.
 fn in_room<P: Print>(
     rt: &P,
@@ -40,7 +40,7 @@ fn in_room<P: Print>(
     Ok(())
 }
 
-/// Puts three bytes, and refuses.
+/// Puts three bytes, and fails.
 fn puts_and_refuses<W: BackToTheBuffer>(x: &mut WriteContext<W>) -> GenResult {
     gen_with_len(
         |x: &mut WriteContext<W>| {
@@ -51,7 +51,7 @@ fn puts_and_refuses<W: BackToTheBuffer>(x: &mut WriteContext<W>) -> GenResult {
     )
 }
 
-/// Prints what is left of a vector and of a slice where what has a length refuses.
+/// Prints what is left of a vector and of a slice where what has a length fails.
 fn with_length<P: Print>(rt: &P, alloc: Global) -> io::Result<()> {
     let mut x = WriteContext::from(Vec::from_slice(alloc, &[9])?);
     let answer = said(alloc, puts_and_refuses(&mut x))?;

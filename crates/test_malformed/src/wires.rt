@@ -4,7 +4,7 @@ use crate::shown::tell;
 use std::alloc::Global;
 use std::io;
 
-/// So many containers stand in one another.
+/// That many containers are in one another.
 const DEPTH: u32 = 200;
 
 /// Arrays in one another, the innermost with this body. Each has five bytes beside what it holds.
@@ -21,7 +21,7 @@ fn arrays(alloc: Global, body: &[u8]) -> io::Result<Vec<u8>> {
 }
 
 /// Tables in one another, the innermost empty. Each other has Void at the empty key and then the
-/// next table at the same key: three bytes and the id beside what the next one holds.
+/// next table at the same key: three bytes and the type tag beside what the next one holds.
 fn tables(alloc: Global) -> io::Result<Vec<u8>> {
     let mut bytes = Vec::new(alloc);
     for inside in (0..DEPTH).rev() {
@@ -34,7 +34,7 @@ fn tables(alloc: Global) -> io::Result<Vec<u8>> {
     Ok(bytes)
 }
 
-/// An id, a length and so many times the same bytes.
+/// A type tag, a length and n times the same bytes.
 fn repeated(alloc: Global, id: u8, length: u32, times: usize, part: &[u8]) -> io::Result<Vec<u8>> {
     let mut bytes = Vec::new(alloc);
     bytes.push(id)?;
@@ -45,7 +45,7 @@ fn repeated(alloc: Global, id: u8, length: u32, times: usize, part: &[u8]) -> io
     Ok(bytes)
 }
 
-/// Prints what built input comes to.
+/// Prints what built input results in.
 pub fn built<P: Print>(rt: &P, alloc: Global) -> io::Result<()> {
     let nested = arrays(alloc, &[])?;
     tell(rt, alloc, "200 arrays", nested.as_slice())?;
@@ -76,7 +76,7 @@ pub fn built<P: Print>(rt: &P, alloc: Global) -> io::Result<()> {
     tell(rt, alloc, "the greatest length inside", inside.as_slice())
 }
 
-/// Prints what each prefix of some bytes comes to.
+/// Prints what each prefix of some bytes results in.
 pub fn fronts<P: Print>(rt: &P, alloc: Global, bytes: &[u8]) -> io::Result<()> {
     for n in 0..bytes.len() {
         let name = format!(in alloc; "the first {n} bytes")?;
