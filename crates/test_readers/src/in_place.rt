@@ -1,4 +1,4 @@
-//! Values where their bytes lie, by worked bytes.
+//! Values in place, by worked bytes.
 
 use amq_protocol_types::in_place::{
     Limits, TableRef, ValueRef, canonical_len, is_canonical, read_in_place,
@@ -49,7 +49,7 @@ const EACH: [(&[u8], AMQPType); 18] = [
     (b"V", AMQPType::Void),
 ];
 
-// the value that the bytes are, and nothing behind it
+// the value that the bytes are, and nothing after it
 fn value(bytes: &[u8]) -> Option<ValueRef<'_>> {
     match read_in_place_unlimited(bytes) {
         Ok((value, &[])) => Some(value),
@@ -331,7 +331,7 @@ fn other_encodings_are_not_canonical(rt: HostRuntime) {
     assert!(rt; !is_canonical(b"F\0\0\0\x04\0V\0V", LIMITS));
     // the third key is above the first alone
     assert!(rt; !is_canonical(b"F\0\0\0\x09\x01aV\x01cV\x01bV", LIMITS));
-    // second spellings, and a boolean's byte
+    // alternate tags, and a boolean's byte
     assert!(rt; !is_canonical(b"L\0\0\0\0\0\0\0\x02", LIMITS));
     assert!(rt; !is_canonical(b"U\0\x02", LIMITS));
     assert!(rt; !is_canonical(b"t\x02", LIMITS));
@@ -350,7 +350,7 @@ fn other_encodings_are_not_canonical(rt: HostRuntime) {
 #[test]
 fn a_canonical_encoding_has_a_length(rt: HostRuntime) {
     assert_eq!(rt; canonical_len(SORTED, LIMITS), Some(12));
-    // bytes behind it, whatever they are
+    // bytes after it, whatever they are
     assert_eq!(rt; canonical_len(b"t\x01t\x02", LIMITS), Some(2));
     assert!(rt; !is_canonical(b"t\x01t\x02", LIMITS));
     assert_eq!(rt; canonical_len(b"t\x02t\x01", LIMITS), None);

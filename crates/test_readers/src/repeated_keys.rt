@@ -1,4 +1,4 @@
-//! Keys that stand more than once in a table where its bytes lie.
+//! Keys that stand more than once in a table in place.
 
 use amq_protocol_types::in_place::{TableRef, read_in_place_unlimited};
 use std::alloc::{AllocError, Global};
@@ -8,7 +8,7 @@ use std::test::Fail;
 const TABLES: [(&[u8], Option<&str>); 14] = [
     (b"F\0\0\0\0", None),
     (b"F\0\0\0\x03\x01aV", None),
-    // keys that rise, that fall, and that do both
+    // keys that are ascending, that fall, and that do both
     (b"F\0\0\0\x09\x01aV\x01bV\x01cV", None),
     (b"F\0\0\0\x09\x01cV\x01bV\x01aV", None),
     (b"F\0\0\0\x09\x01bV\x01aV\x01cV", None),
@@ -28,7 +28,7 @@ const TABLES: [(&[u8], Option<&str>); 14] = [
     (b"F\0\0\0\x0d\x01aF\0\0\0\x06\x01bV\x01bV", None),
 ];
 
-// the table that the bytes are, and nothing behind it
+// the table that the bytes are, and nothing after it
 fn table(bytes: &[u8]) -> Option<TableRef<'_>> {
     match read_in_place_unlimited(bytes) {
         Ok((value, &[])) => value.as_field_table(),

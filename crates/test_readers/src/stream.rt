@@ -87,7 +87,7 @@ impl Read for Script<'_> {
     }
 }
 
-/// What a call answers.
+/// What a call returns.
 #[derive(Clone, Copy)]
 enum Answer<'a> {
     /// The value of this encoding.
@@ -108,7 +108,7 @@ fn is_wire_of(alloc: Global, bytes: &[u8], value: &AMQPValue) -> bool {
     }
 }
 
-// whether a call answers so
+// whether a call returns so
 fn answers(
     alloc: Global,
     answer: Result<Option<AMQPValue>, StreamError>,
@@ -128,7 +128,7 @@ fn answers(
     }
 }
 
-/// What is answered to what a reader does, call by call, and which bytes it would give next.
+/// What is returned to what a reader does, call by call, and which bytes it would give next.
 #[derive(Clone, Copy)]
 struct Row<'a> {
     says: &'a str,
@@ -139,7 +139,7 @@ struct Row<'a> {
 }
 
 // A reader of values, and values of a reader that is the caller's, answer as the case says, and
-// leave what it says, where the reader gives at most so many bytes at a time.
+// leave what it says, where the reader yields at most n bytes at a time.
 fn holds_for(rt: &impl Abort, alloc: Global, row: Row<'_>, most: usize) {
     assert!(rt; 0 < row.limits.frame);
     let mut owner = ValueReader::new(alloc, Script::new(row.events, most), row.limits);

@@ -1,4 +1,4 @@
-//! Encodings that stand one after another.
+//! Encodings that are one after another.
 
 use super::*;
 use std::alloc::AllocError;
@@ -18,7 +18,7 @@ const WIRES: &[&[u8]] = &[
     &[120, 0, 0, 0, 2, 255, 0],
 ];
 
-/// What is answered to them: the values that are written so.
+/// What is returned to them: the values that are written so.
 const ANSWERS: &[Answer<'static>] = &[
     Answer::Value(TABLE),
     Answer::Value(&[116, 1]),
@@ -41,7 +41,7 @@ pub(super) fn joined(alloc: Global) -> Result<Vec<u8>, AllocError> {
     Ok(bytes)
 }
 
-// Within a limit `frame` of so many bytes they are answered so, and this is left.
+// Within a limit `frame` of n bytes they are answered so, and this is left.
 fn are_answered(
     rt: &impl Abort,
     alloc: Global,

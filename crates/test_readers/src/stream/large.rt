@@ -11,7 +11,7 @@ fn long_wire(alloc: Global) -> Result<Vec<u8>, AllocError> {
     Ok(bytes)
 }
 
-// whether a value is a text of so many bytes 7
+// whether a value is a text of n bytes 7
 fn is_text_of_sevens(answer: Result<Option<AMQPValue>, StreamError>, length: usize) -> bool {
     match answer {
         Ok(Some(AMQPValue::LongString(text))) => {
@@ -21,7 +21,7 @@ fn is_text_of_sevens(answer: Result<Option<AMQPValue>, StreamError>, length: usi
     }
 }
 
-// The reader gives the long string and nothing after it.
+// The reader yields the long string and nothing after it.
 fn gives_it(rt: &impl Abort, alloc: Global, reader: impl Read + Drop) {
     let limits = Limits {
         frame: 1048576,

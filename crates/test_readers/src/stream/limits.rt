@@ -27,16 +27,16 @@ const KEPT: &[u8] = &[70, 0, 0, 0, 12, 1, 97, 65, 0, 0, 0, 5, 65, 0, 0, 0, 0];
 /// A long string of one byte.
 const TEXT: &[u8] = &[83, 0, 0, 0, 1, 97];
 
-/// What an input comes to.
+/// What an input results in.
 #[derive(Clone, Copy)]
 pub(super) enum Outcome<'a> {
-    /// The value of this encoding, and so many bytes as rest.
+    /// The value of this encoding, and n bytes as rest.
     Value(&'a [u8], usize),
     Needs(usize),
     Refused(ErrorKind),
 }
 
-/// What an input comes to: the limits `frame` and `depth`, the input and the outcome.
+/// What an input results in: the limits `frame` and `depth`, the input and the outcome.
 const CASES: &[(u32, u32, &[u8], Outcome<'static>)] = &[
     // a value keeps both limits
     (10, 2, NESTED, Value(NESTED, 0)),
@@ -62,7 +62,7 @@ const CASES: &[(u32, u32, &[u8], Outcome<'static>)] = &[
     (9, 0, &[65, 0, 0, 0, 5, 122], Refused(ErrorKind::TooLarge)),
     (10, 0, &[65, 0, 0, 0, 1, 122, 86], Refused(ErrorKind::Eof)),
     (1, 0, &[], Needs(1)),
-    // a fixed width is told by the id alone
+    // a fixed width is told by the type tag alone
     (8, 0, &[84], Refused(ErrorKind::TooLarge)),
     (9, 0, &[84, 1], Needs(7)),
     (5, 0, &[68], Refused(ErrorKind::TooLarge)),
@@ -74,7 +74,7 @@ const CASES: &[(u32, u32, &[u8], Outcome<'static>)] = &[
     (2, 0, &[116, 7, 65, 0], Value(&[116, 1], 2)),
 ];
 
-// whether an input comes to that
+// whether an input results in that
 pub(super) fn comes_to<I: ParsableInput>(
     alloc: Global,
     answer: ParserResult<I, AMQPValue>,
@@ -91,7 +91,7 @@ pub(super) fn comes_to<I: ParsableInput>(
     }
 }
 
-// One slice comes to that, and so do two, wherever the bytes are cut.
+// One slice results in that, and so do two, wherever the bytes are cut.
 fn answers_over_each_cut(
     rt: &impl Abort,
     alloc: Global,

@@ -21,7 +21,7 @@ fn is_table_of(value: &AMQPValue, key: &str, text: &[u8]) -> bool {
     }
 }
 
-// What a call answers, made again once if it ran out of memory.
+// What a call returns, made again once if it ran out of memory.
 fn patient_next(
     values: &mut Values,
     reader: &mut Script<'_>,

@@ -1,4 +1,4 @@
-//! What a reader does, and what is answered to it.
+//! What a reader does, and what is returned to it.
 
 use super::*;
 use Answer::{End, Failed, Refused, Truncated, Value};
@@ -189,7 +189,8 @@ fn readers_are_answered(rt: HostRuntime) {
     }
 }
 
-/// Each kind of fault is answered as itself, `Interrupted` too: the reader isn't asked again for it.
+/// Each kind of fault is returned as itself, `Interrupted` too: the reader isn't asked again for
+/// it.
 #[test]
 fn it_goes_on_after_a_fault(rt: HostRuntime) {
     for kind in KINDS {

@@ -90,8 +90,8 @@ fn are_modest(requests: &[Request]) -> bool {
         .all(|request| 0 < request.most && request.most <= request.lack)
 }
 
-// Requests for the values of these bytes, which are so many, and for what is no value after them
-// are modest, where at most so many bytes come at a time.
+// Requests for the values of these bytes, which are n, and for what isn't a value after them
+// are modest, where at most n bytes come at a time.
 fn asks_modestly_for(
     rt: &impl Abort,
     alloc: Global,
@@ -168,7 +168,7 @@ fn are_modest_for_values(rt: HostRuntime) -> Result<(), Fail> {
     Ok(())
 }
 
-// whether each request is for so many bytes at most
+// whether each request is for n bytes at most
 fn are_at_most(requests: &[Request], most: usize) -> bool {
     requests.iter().all(|request| request.most <= most)
 }
