@@ -7,7 +7,7 @@ pub mod worked;
 use std::io;
 use std::io::{ErrorKind, Write};
 
-/// The canonical encoding of a table with an entry of nearly every type: its type tag (id), its
+/// The canonical encoding of a table with an entry of nearly every type: its type tag, its
 /// length of 194 bytes, and an entry a line, keys in order.
 pub const TABLE: &[u8] = &[
     70, 0, 0, 0, 194, //
@@ -78,7 +78,7 @@ pub const KINDS: [ErrorKind; 42] = [
     ErrorKind::Uncategorized,
 ];
 
-/// Takes one byte a call, so many calls, and then answers each with a broken pipe.
+/// Takes one byte a call, n calls, and then answers each with a broken pipe.
 #[derive(Drop)]
 pub struct OneByte {
     /// What it has taken.
