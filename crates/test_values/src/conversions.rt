@@ -106,7 +106,7 @@ fn json_gives_a_text(rt: HostRuntime) -> Result<(), Fail> {
     Ok(())
 }
 
-// a text of so many letters, in quotes
+// a text of n letters, in quotes
 fn letters(alloc: Global, n: usize) -> Result<String, AllocError> {
     let mut text = String::new(alloc);
     text.push('"')?;

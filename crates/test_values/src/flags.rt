@@ -1,4 +1,4 @@
-//! Flags, and the bytes that stand for them.
+//! Flags, and the bytes that denote them.
 
 use amq_protocol_types::Boolean;
 use amq_protocol_types::flags::AMQPFlags;
@@ -89,7 +89,7 @@ fn unpacks_flags(rt: HostRuntime) -> Result<(), Fail> {
     Ok(())
 }
 
-// whether flags of so many names are read, and what is left
+// whether flags of n names are read, and what is left
 fn reads(
     alloc: Global,
     bytes: &[u8],

@@ -18,7 +18,7 @@ use std::io::ErrorKind;
 use std::process::Abort;
 use std::test::Fail;
 
-/// What a generator is handed.
+/// What a generator is passed.
 #[derive(Clone, Copy)]
 enum Piece<'a> {
     Number(Field),
@@ -51,7 +51,7 @@ fn has_put(rt: &impl Abort, x: WriteContext<SliceOutput<'_>>, bytes: &[u8]) {
     assert_eq!(rt; x.into_inner().0.written(), bytes);
 }
 
-// In so many bytes of room a generator answers this, and puts these bytes.
+// In n bytes of room a generator answers this, and puts these bytes.
 fn room_holds(rt: &impl Abort, piece: Piece<'_>, room: usize, answer: GenResult, bytes: &[u8]) {
     let mut slice = [7u8; 255];
     assert!(rt; room <= 255);
@@ -67,7 +67,7 @@ fn fills_its_room(rt: &impl Abort, piece: Piece<'_>, bytes: &[u8]) {
     room_holds(rt, piece, less, Err(GenError::BufferTooSmall), &[]);
 }
 
-// So do those of a value, and those of its payload after its id.
+// So do those of a value, and those of its payload after its type tag.
 fn value_fills_its_room(rt: &impl Abort, value: &AMQPValue, bytes: &[u8]) {
     fills_its_room(rt, Value(value), bytes);
     fills_its_room(rt, Payload(value), bytes.split_at(bytes.len().min(1)).1);

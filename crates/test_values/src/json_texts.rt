@@ -1,4 +1,4 @@
-//! The JSON text of each type of value, written by hand, and texts that are refused.
+//! The JSON text of each type of value, written by hand, and texts that are rejected.
 
 use amqp_json::{JsonError, from_json, to_json};
 use amqp_value_core::types::{

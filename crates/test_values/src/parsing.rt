@@ -9,7 +9,7 @@ mod strings;
 use amq_protocol_types::parsing::traits::ParsableInput;
 use amq_protocol_types::parsing::*;
 
-// whether a number was read, and so many bytes are left
+// whether a number was read, and n bytes are left
 fn reads<I: ParsableInput, T: Copy + PartialEq>(
     answer: ParserResult<I, T>,
     value: T,
@@ -21,7 +21,7 @@ fn reads<I: ParsableInput, T: Copy + PartialEq>(
     }
 }
 
-// whether so many more bytes are needed
+// whether n more bytes are needed
 fn needs<I: ParsableInput, T: Drop>(answer: ParserResult<I, T>, n: usize) -> bool {
     match answer {
         Err(Err::Incomplete(Needed::Size(lack))) => lack == n,

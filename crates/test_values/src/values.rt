@@ -12,7 +12,7 @@ use std::fmt::Display;
 use std::hash::{DefaultHasher, Hash, Hasher};
 use std::test::Fail;
 
-// a text of so many letters
+// a text of n letters
 fn letters(alloc: Global, n: usize) -> Result<String, AllocError> {
     let mut text = String::new(alloc);
     for _ in 0..n {
@@ -62,7 +62,7 @@ fn values_of_two_types_differ(rt: HostRuntime) {
     assert!(rt; AMQPValue::FieldArray(FieldArray::new_in(rt.alloc())) != AMQPValue::Void);
 }
 
-// the length of a short string of this text, or the length that its refusal tells
+// the length of a short string of this text, or the length that its error tells
 fn length_of(text: String) -> Result<usize, usize> {
     match ShortString::try_new(text) {
         Ok(short) => Ok(short.as_str().len()),

@@ -14,7 +14,7 @@ use std::process::Abort;
 use std::test::Fail;
 use test_support::KINDS;
 
-/// Takes one byte a call, but answers the call after so many with a fault of this kind.
+/// Takes one byte a call, but answers the call after n with a fault of this kind.
 #[derive(Drop)]
 struct FailingOnce {
     taken: Vec<u8>,
@@ -60,7 +60,7 @@ fn put<W: Output>(part: Part<'_>, x: &mut WriteContext<W>) -> GenResult {
     }
 }
 
-// Each kind of fault, at each byte of a part, is answered as itself. A call that is interrupted is
+// Each kind of fault, at each byte of a part, is returned as itself. A call that is interrupted is
 // made again by `write_all`, so all of the part is written.
 fn passes_faults_on(rt: &impl Abort, alloc: Global, part: Part<'_>, bytes: &[u8]) {
     for kind in KINDS {

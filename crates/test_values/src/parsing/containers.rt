@@ -93,7 +93,7 @@ fn tells_why_there_is_no_container(rt: HostRuntime) {
     assert!(rt; refuses(table, ErrorKind::Eof));
 }
 
-// so many pairs with the key `k` and true, and one more with false, after their length
+// n pairs with the key `k` and true, and one more with false, after their length
 fn many_pairs(alloc: Global) -> Result<Vec<u8>, AllocError> {
     let mut bytes = Vec::from_slice(alloc, &[70, 0, 0, 70, 84])?;
     for _ in 0..4500 {

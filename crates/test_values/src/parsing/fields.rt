@@ -53,7 +53,7 @@ const READ: &[(Field, &[u8], usize)] = &[
     (Type(AMQPType::Float), &[102], 0),
 ];
 
-// whether the field is read, and so many bytes are left
+// whether the field is read, and n bytes are left
 fn is_read(field: Field, bytes: &[u8], left: usize) -> bool {
     let i = SliceInput::new(bytes);
     match field {

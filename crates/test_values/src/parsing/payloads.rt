@@ -7,7 +7,7 @@ use amqp_value_core::value::AMQPValue;
 use std::alloc::Global;
 use std::test::Fail;
 
-// whether a payload is the value's, and so many bytes are left
+// whether a payload is the value's, and n bytes are left
 fn is_payload(
     alloc: Global,
     amqp_type: AMQPType,

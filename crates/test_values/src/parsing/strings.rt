@@ -5,7 +5,7 @@ use amq_protocol_types::parsing::traits::ParsableInput;
 use amq_protocol_types::parsing::*;
 use std::alloc::Global;
 
-// whether a short string was read, and so many bytes are left
+// whether a short string was read, and n bytes are left
 fn reads_short_string(alloc: Global, bytes: &[u8], text: &str, left: usize) -> bool {
     match parse_short_string(alloc, SliceInput::new(bytes)) {
         Ok((rest, read)) => read.as_str() == text && rest.input_len() == left,
@@ -13,7 +13,7 @@ fn reads_short_string(alloc: Global, bytes: &[u8], text: &str, left: usize) -> b
     }
 }
 
-// whether a long string was read, and so many bytes are left
+// whether a long string was read, and n bytes are left
 fn reads_long_string<I: ParsableInput>(alloc: Global, i: I, text: &[u8], left: usize) -> bool {
     match parse_long_string(alloc, i) {
         Ok((rest, read)) => read.as_bytes() == text && rest.input_len() == left,
