@@ -4,7 +4,7 @@ pub mod Names
 pub mod Json
 -- what every value in memory is, bytes and all
 pub mod InMemory
--- what reading fails
+-- what reading rejects
 pub mod Refusals
 -- for private clauses: reading as a function
 pub mod Reading

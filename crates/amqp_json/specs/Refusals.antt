@@ -1,4 +1,4 @@
--- What a JSON value or a text is that reading fails, and what one is that it accepts.
+-- What a JSON value or a text is that reading rejects, and what one is that it accepts.
 use Rattle.std.specs.Prelude.{◌≡◌, ◌≢◌, Option, Some, None}
 use Rattle.serde_json.specs.Data.{Data}
 use Rattle.amqp_grammar.specs.Values.{Tree}
