@@ -5,7 +5,7 @@ ghost use Rattle.amqp_grammar.specs.Texts.{text, Fits};
 ghost use Rattle.amqp_value_core.specs.View.{view};
 ghost use Rattle.amqp_bench.specs.Calls.{IsFault, IsTooSmall, IsRead, IsTaken, IsLookedUp, IsWritten, HasNoRoom, is_keyed};
 ghost use Rattle.amqp_grammar.specs.Values.{Tree};
-ghost use Rattle.amqp_in_place.specs.Refs.{Stands};
+ghost use Rattle.amqp_in_place.specs.Refs.{Denotes};
 
 use crate::fault::Fault;
 use amq_protocol_types::AMQPValue;
@@ -76,7 +76,7 @@ pub fn find(bytes: &[u8], key: &str) -> Result<usize, Fault>
 
 /// Whether the value is a table with a value at the key.
 fn has_key(value: ValueRef<'_>, key: &str) -> bool
-    ensures { (v : Tree) → Stands value.entry v → result ≡ is_keyed key.now v }
+    ensures { (v : Tree) → Denotes value.entry v → result ≡ is_keyed key.now v }
 {
     match value {
         ValueRef::FieldTable(table) => table.contains_key(key),
@@ -87,7 +87,7 @@ fn has_key(value: ValueRef<'_>, key: &str) -> bool
 /// Reads a value in place, and returns how many bytes it took.
 fn read_in_place(bytes: &[u8]) -> Result<(usize, ValueRef<'_>), Fault>
     ensures read { MatchResult result
-        (λ x. (v : Tree) × Stands x.1 v × IsRead bytes.now x.0 v)
+        (λ x. (v : Tree) × Denotes x.1 v × IsRead bytes.now x.0 v)
         (IsFault bytes.now ⊥) }
     ensures small { IfOk result (λ x. x.0 ≤ length bytes.now) }
 {

@@ -6,7 +6,7 @@ use Rattle.std.specs.Result.{IfErr}
 use Rattle.std.specs.Cmp.Lexicographic.{bytes_decides}
 use Rattle.amqp_grammar.specs.Values.{Tree, Entries}
 use Rattle.amqp_grammar.specs.Maps.{same_bytes, last_at, value_at}
-use Rattle.amqp_grammar.specs.Grammar.{short_field, Wire, Pairs, no_pairs, pair}
+use Rattle.amqp_grammar.specs.Grammar.{short_field, Wire, TableBody, no_pairs, pair}
 use Rattle.amqp_grammar.proofs.GrammarLaws.{last_stays}
 use Rattle.amqp_parsing.specs.Headers.{extent}
 use Rattle.amqp_parsing.proofs.ParsingLaws.{wire_extent}
@@ -186,7 +186,7 @@ or_of None b (Some v) y p q = absurd p
 or_of (Some w) b None y p q = absurd p
 
 -- they are pairs by their lengths, and the last value at a key is that of the same pair
-laid : (key t : List ℕ) (ps : Entries) → Pairs t ps → (qs : List (List ℕ × List ℕ)) × ArePairs t qs × AreOf (last_of key qs) (last_at key ps)
+laid : (key t : List ℕ) (ps : Entries) → TableBody t ps → (qs : List (List ℕ × List ℕ)) × ArePairs t qs × AreOf (last_of key qs) (last_at key ps)
 laid key _ _ no_pairs = ([], none_left, tt)
 laid key _ _ (pair k w rest v ps is q all) =
     let (qs, are, same) = laid key rest ps all in

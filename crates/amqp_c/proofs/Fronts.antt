@@ -7,27 +7,27 @@ use Rattle.amqp_types.specs.declared.amqp_type.AMQPType.{AMQPType}
 use Rattle.amqp_types.specs.declared.amqp_type.AMQPType.TheVariants as amqp
 use Rattle.amqp_types.specs.Ids.{kind, id_of}
 use Rattle.amqp_types.specs.Names.{read_as}
-use Rattle.amqp_grammar.specs.Values.{Tree, scalar, short, long, octets, array, table, no_entries, onto, scalar_type, Scalar, type_of}
+use Rattle.amqp_grammar.specs.Values.{Tree, scalar, short, long, octets, array, table, no_entries, insert_all, scalar_type, Scalar, type_of}
 use Rattle.amqp_grammar.specs.Layouts.{Layout, fixed}
-use Rattle.amqp_grammar.specs.Grammar.{long_field, Wire, wire, Raw, raw_fixed, raw_short, raw_long, raw_octets, raw_array, raw_table, Body}
-use Rattle.amqp_grammar.specs.Outcomes.{Reading, found, more, unknown, malformed, lack, lack_of, frame_lack, fields_lack, length_field, LacksOr, FrontBy, Outcome}
+use Rattle.amqp_grammar.specs.Grammar.{long_field, Wire, wire, Raw, raw_fixed, raw_short, raw_long, raw_octets, raw_array, raw_table, ArrayBody}
+use Rattle.amqp_grammar.specs.Outcomes.{Reading, found, more, unknown, malformed, lack, lack_of, frame_lack, fields_lack, length_field, NeedsMoreOr, FrontBy, Outcome}
 use Rattle.amqp_grammar.specs.Payloads.{RawFront, RawOutcome}
 use Rattle.amqp_grammar.proofs.GrammarLaws.{found_front, one_outcome, one_raw_reading, raw_to_value, value_to_raw, array_body, table_body}
 use Rattle.amqp_parsing.specs.declared.errors.Err.TheVariants.{Incomplete, Error, Failure}
 use Rattle.amqp_parsing.specs.declared.errors.Needed.TheVariants.{Unknown, Size}
 use Rattle.amqp_parsing.specs.declared.errors.ErrorKind.TheVariants as kind
 use Rattle.amqp_parsing.specs.Refusals.{Refusal}
-use Rattle.amqp_parsing.specs.Typed.{IsType}
-use Rattle.amqp_parsing.specs.Bodies.{IsFrame, IsCutFrame}
-use Rattle.amqp_parsing.specs.Answers.{Refuses}
+use Rattle.amqp_parsing.specs.PayloadResults.{IsType}
+use Rattle.amqp_parsing.specs.Bodies.{IsLengthPrefixed, IsCutLengthPrefixed}
+use Rattle.amqp_parsing.specs.ParseResults.{Refuses}
 use Rattle.amqp_parsing.specs.Headers.{extent_of, extent_at, extent, wanted}
 use Rattle.amqp_parsing.proofs.ParsingLaws.{wire_extent, wanted_more, wanted_within}
 use Rattle.amqp_in_place.specs.Bodies.{HasEntries}
 use Rattle.amqp_c.specs.declared.entry.Entry.{Entry}
 use Rattle.amqp_c_common.specs.declared.fault.Fault.{Fault}
 use Rattle.amqp_c_common.specs.declared.fault.Fault.TheVariants.{More, UnknownTag, Malformed, TooLarge, Invalid, OutOfMemory, NoRoom, NotJson, NoEncoding}
-use Rattle.amqp_c_common.specs.Answers.{fault_of}
-use Rattle.amqp_c.specs.Answers.{HeaderFaults}
+use Rattle.amqp_c_common.specs.ReturnCodes.{fault_of}
+use Rattle.amqp_c.specs.CallResults.{HeaderFaults}
 use Rattle.amqp_c.specs.Entries.{HasNoNumber, Says, IsEntry, IsTagged}
 use Rattle.amqp_c.specs.Heads.{has_content}
 use Rattle.amqp_c.specs.Steps.{IsHeaded}
@@ -70,11 +70,11 @@ some_lack : (s : List ℕ) (n : ℕ) → Outcome s (more n) → 0 < n
 some_lack [] n x = let e : n ≡ 1 = cc in omega (arith, e)
 some_lack (c ∷ b) n x = by (kind c) x
   where
-    at : (m : ℕ) → LacksOr m (FrontBy Wire (c ∷ b) (more n)) (more n) → 0 < n
+    at : (m : ℕ) → NeedsMoreOr m (FrontBy Wire (c ∷ b) (more n)) (more n) → 0 < n
     at zero none = absurd none
     at (suc m) is = let e : n ≡ suc m = cc in omega (arith, e)
 
-    by : (k : Option AMQPType) → MatchOption k (more n ≡ unknown) (λ type. LacksOr (lack type b) (FrontBy Wire (c ∷ b) (more n)) (more n)) → 0 < n
+    by : (k : Option AMQPType) → MatchOption k (more n ≡ unknown) (λ type. NeedsMoreOr (lack type b) (FrontBy Wire (c ∷ b) (more n)) (more n)) → 0 < n
     by None is = absurd cc
     by (Some type) y = at (lack type b) y
 
@@ -82,11 +82,11 @@ some_lack (c ∷ b) n x = by (kind c) x
 no_extent : (c : ℕ) (b : List ℕ) → Outcome (c ∷ b) unknown → extent (c ∷ b) ≡ 0
 no_extent c b x = by (kind c) x
   where
-    at : (m : ℕ) → LacksOr m (FrontBy Wire (c ∷ b) unknown) unknown → ⊥
+    at : (m : ℕ) → NeedsMoreOr m (FrontBy Wire (c ∷ b) unknown) unknown → ⊥
     at zero none = none
     at (suc m) is = cc
 
-    by : (k : Option AMQPType) → MatchOption k (unknown ≡ unknown) (λ type. LacksOr (lack type b) (FrontBy Wire (c ∷ b) unknown) unknown) → extent_at k b ≡ 0
+    by : (k : Option AMQPType) → MatchOption k (unknown ≡ unknown) (λ type. NeedsMoreOr (lack type b) (FrontBy Wire (c ∷ b) unknown) unknown) → extent_at k b ≡ 0
     by None is = refl
     by (Some type) y = absurd (at (lack type b) y)
 
@@ -116,15 +116,15 @@ has_frame amqp.FieldTable mid h = refl
 has_frame _ mid h = absurd cc
 
 -- where the field isn't whole more bytes are needed
-cut : (s mid : List ℕ) (type : AMQPType) → IsType s type mid → has_content type ≡ true → (o : Reading) → IsCutFrame mid o → Outcome s o
+cut : (s mid : List ℕ) (type : AMQPType) → IsType s type mid → has_content type ≡ true → (o : Reading) → IsCutLengthPrefixed mid o → Outcome s o
 cut s mid type p h o x =
     subst (λ (t : List ℕ). Outcome t o) (sym p.1) (raw_to_value p.0 type mid o p.2 (by (lack type mid) (has_frame type mid h)))
   where
-    by : (k : ℕ) → k ≡ frame_lack w32 mid → LacksOr k (RawFront type mid o) o
+    by : (k : ℕ) → k ≡ frame_lack w32 mid → NeedsMoreOr k (RawFront type mid o) o
     by zero e = absurd (omega (arith, x.0))
     by (suc k) e = x.1 ∙ ap more (sym e)
 
-pub cut_fault : (s mid : List ℕ) (type : AMQPType) → IsType s type mid → has_content type ≡ true → (e : Refusal) → Refuses (IsCutFrame mid) ⊥ e → HeaderFaults (Outcome s) (fault_of e)
+pub cut_fault : (s mid : List ℕ) (type : AMQPType) → IsType s type mid → has_content type ≡ true → (e : Refusal) → Refuses (IsCutLengthPrefixed mid) ⊥ e → HeaderFaults (Outcome s) (fault_of e)
 cut_fault s mid type p h (Incomplete Unknown) x = absurd x
 cut_fault s mid type p h (Incomplete (Size n)) x = cut s mid type p h (more n) x
 cut_fault s mid type p h (Error kind.MapOpt) x = let e = x.1 in absurd cc
@@ -135,7 +135,7 @@ cut_fault s mid type p h (Error kind.TooLarge) x = absurd x
 cut_fault s mid type p h (Failure k) x = absurd x.1
 
 -- a field that is read has the extent of a long string with the same bytes
-pub frame_extent : (s mid body rest : List ℕ) (type : AMQPType) → IsType s type mid → IsFrame mid body rest → has_content type ≡ true → extent s + length rest ≡ length s
+pub frame_extent : (s mid body rest : List ℕ) (type : AMQPType) → IsType s type mid → IsLengthPrefixed mid body rest → has_content type ≡ true → extent s + length rest ≡ length s
 frame_extent s mid body rest type p f h =
     let string = wire_extent (83 ∷ long_field body) rest (long body) (wire 83 amqp.LongString (long_field body) (long body) refl (raw_long body f.fits)) in
     let here : extent s ≡ extent_at (Some type) mid = ap extent p.1 ∙ ap (λ (o : Option AMQPType). extent_at o mid) p.2 in
@@ -155,11 +155,11 @@ frame_extent s mid body rest type p f h =
 abbrev ContentIs : List ℕ → Tree → Type 0
 ContentIs body (long b) = b ≡ body
 ContentIs body (octets b) = b ≡ body
-ContentIs body (array vs) = Body body vs
+ContentIs body (array vs) = ArrayBody body vs
 ContentIs body (table es) = HasEntries body es
 ContentIs body _ = ⊥
 
-content_front : (type : AMQPType) (mid body rest : List ℕ) → IsFrame mid body rest → has_content type ≡ true → (v : Tree) (left : List ℕ) → RawFront type mid (found v left)
+content_front : (type : AMQPType) (mid body rest : List ℕ) → IsLengthPrefixed mid body rest → has_content type ≡ true → (v : Tree) (left : List ℕ) → RawFront type mid (found v left)
     → ContentIs body v × (type_of v ≡ type) × (left ≡ rest)
 content_front amqp.LongString mid body rest f h v left raw =
     let same = one_raw_reading amqp.LongString raw.0 (long_field body) left rest v (long body) raw.1 (raw_long body f.fits) (sym raw.2 ∙ f.framed) in
@@ -173,7 +173,7 @@ content_front amqp.FieldArray mid body rest f h v left raw =
     (subst (ContentIs body) (sym same.1) b.1, ap type_of same.1, same.2)
 content_front amqp.FieldTable mid body rest f h v left raw =
     let b = table_body body rest raw.0 left v f.fits raw.1 (sym f.framed ∙ raw.2) in
-    let es = onto no_entries b.0 in
+    let es = insert_all no_entries b.0 in
     let same = one_raw_reading amqp.FieldTable raw.0 (long_field body) left rest v (table es) raw.1 (raw_table body b.0 f.fits b.1) (sym raw.2 ∙ f.framed) in
     (subst (ContentIs body) (sym same.1) (b.0, b.1, refl), ap type_of same.1, same.2)
 content_front _ mid body rest f h v left raw = absurd cc
@@ -183,7 +183,7 @@ says_content s e body (scalar y) none at x = absurd x
 says_content s e body (short b) none at x = x
 says_content s e body (long b) none at x = (at ∙ sym x, none)
 says_content s e body (octets b) none at x = (at ∙ sym x, none)
-says_content s e body (array vs) none at x = (subst (λ (t : List ℕ). Body t vs) (sym at) x, none)
+says_content s e body (array vs) none at x = (subst (λ (t : List ℕ). ArrayBody t vs) (sym at) x, none)
 says_content s e body (table es) none at x = (subst (λ (t : List ℕ). HasEntries t es) (sym at) x, none)
 
 -- what is found of a value is its payload, of the type that was read
@@ -191,12 +191,12 @@ raw_front : (s mid : List ℕ) (type : AMQPType) → IsType s type mid → (v : 
 raw_front s mid type p v left x =
     by (lack type mid) (value_to_raw p.0 type mid (found v left) p.2 (subst (λ (t : List ℕ). Outcome t (found v left)) p.1 x))
   where
-    by : (n : ℕ) → LacksOr n (RawFront type mid (found v left)) (found v left) → RawFront type mid (found v left)
+    by : (n : ℕ) → NeedsMoreOr n (RawFront type mid (found v left)) (found v left) → RawFront type mid (found v left)
     by zero f = f
     by (suc n) f = absurd cc
 
 -- the entry of a value whose field was read
-pub content_entry : (s mid body rest : List ℕ) (type : AMQPType) → IsType s type mid → IsFrame mid body rest → has_content type ≡ true
+pub content_entry : (s mid body rest : List ℕ) (type : AMQPType) → IsType s type mid → IsLengthPrefixed mid body rest → has_content type ≡ true
     → (e : Entry) → e.value.offset ≡ 0 → e.value.length + length rest ≡ length s → e.content.offset ≡ 5 → e.content.length ≡ length body → e.tag ≡ id_of type → HasNoNumber e
     → (v : Tree) (left : List ℕ) → Outcome s (found v left) → IsEntry s e v × (left ≡ rest)
 content_entry s mid body rest type p f h e at size from count tag none v left x =
@@ -263,7 +263,7 @@ fields_there f b none = by (nat_lt (length b) f.first) refl none
 never_malformed : (mid : List ℕ) (type : AMQPType) → has_content type ≡ false → read_as type ≡ Some type → RawOutcome type mid malformed → ⊥
 never_malformed mid type h r x = by (lack type mid) refl x
   where
-    by : (k : ℕ) → lack type mid ≡ k → LacksOr k (RawFront type mid malformed) malformed → ⊥
+    by : (k : ℕ) → lack type mid ≡ k → NeedsMoreOr k (RawFront type mid malformed) malformed → ⊥
     by zero is f =
         let row = fixed_layout type h r in
         let there = fields_there row.0 mid (sym (ap (λ (o : Option Layout). lack_of o (length_field type) mid) row.1) ∙ is) in

@@ -4,8 +4,8 @@ use Rattle.std.specs.Int.{w32, to_be_bytes}
 use Rattle.std.proofs.lemmas.List.{take_at, drop_at, drop-drop, drop-take, drop-append-le, length-take-le}
 use Rattle.amqp_types.specs.declared.amqp_type.AMQPType.TheVariants as amqp
 use Rattle.amqp_types.specs.Strings.{IsShort}
-use Rattle.amqp_grammar.specs.Grammar.{short_field, long_field, Wire, wire, raw_array, raw_table, Body, no_values, value, Pairs, no_pairs, pair}
-use Rattle.amqp_grammar.specs.Values.{Tree, scalar, short, long, octets, array, table, Trees, no_trees, tree, Entries, no_entries, entry, onto}
+use Rattle.amqp_grammar.specs.Grammar.{short_field, long_field, Wire, wire, raw_array, raw_table, ArrayBody, no_values, value, TableBody, no_pairs, pair}
+use Rattle.amqp_grammar.specs.Values.{Tree, scalar, short, long, octets, array, table, Trees, no_trees, tree, Entries, no_entries, entry, insert_all}
 use Rattle.amqp_c_common.specs.Spans.{part, SpanLies}
 use Rattle.amqp_c.specs.declared.container.Container.{Container}
 use Rattle.amqp_c.specs.Containers.{IsKeyOf, named, end_of, entry_of, up_to}
@@ -15,18 +15,18 @@ use Rattle.amqp_c.specs.Rooms.{with_bytes, StandsAt}
 use Rattle.amqp_c.proofs.Rooms.{with_bytes-join}
 
 -- values, and an encoding after them
-body_and : (b w : List ℕ) (vs : Trees) (v : Tree) → Body b vs → Wire w v → Body (b ++ w) (and_value vs v)
-body_and _ w _ v no_values p = subst (λ (t : List ℕ). Body t (tree v no_trees)) (append-nil w) (value w [] v no_trees p no_values)
+body_and : (b w : List ℕ) (vs : Trees) (v : Tree) → ArrayBody b vs → Wire w v → ArrayBody (b ++ w) (and_value vs v)
+body_and _ w _ v no_values p = subst (λ (t : List ℕ). ArrayBody t (tree v no_trees)) (append-nil w) (value w [] v no_trees p no_values)
 body_and _ w _ v (value u rest t ts q others) p =
-    subst (λ (x : List ℕ). Body x (tree t (and_value ts v))) (sym (append_assoc u rest w)) (value u (rest ++ w) t (and_value ts v) q (body_and rest w ts v others p))
+    subst (λ (x : List ℕ). ArrayBody x (tree t (and_value ts v))) (sym (append_assoc u rest w)) (value u (rest ++ w) t (and_value ts v) q (body_and rest w ts v others p))
 
 -- pairs, and one after them
-pairs_and : (b k w : List ℕ) (ps : Entries) (v : Tree) → Pairs b ps → IsShort k → Wire w v → Pairs (b ++ (short_field k ++ w)) (and_pair ps k v)
+pairs_and : (b k w : List ℕ) (ps : Entries) (v : Tree) → TableBody b ps → IsShort k → Wire w v → TableBody (b ++ (short_field k ++ w)) (and_pair ps k v)
 pairs_and _ k w _ v no_pairs is p =
-    subst (λ (t : List ℕ). Pairs (short_field k ++ t) (entry k v no_entries)) (append-nil w) (pair k w [] v no_entries is p no_pairs)
+    subst (λ (t : List ℕ). TableBody (short_field k ++ t) (entry k v no_entries)) (append-nil w) (pair k w [] v no_entries is p no_pairs)
 pairs_and _ k w _ v (pair j u rest t ps brief q others) is p =
     let x = short_field k ++ w in
-    subst (λ (y : List ℕ). Pairs y (entry j t (and_pair ps k v)))
+    subst (λ (y : List ℕ). TableBody y (entry j t (and_pair ps k v)))
     (sym (append_assoc (short_field j) (u ++ rest) x ∙ ap (λ (y : List ℕ). short_field j ++ y) (append_assoc u rest x)))
     (pair j u (rest ++ x) t (and_pair ps k v) brief q (pairs_and rest k w ps v others is p))
 
@@ -41,10 +41,10 @@ pub grows_by : (old new k w : List ℕ) (into grown : Container) (v : Tree) → 
 grows_by old new k w into grown v key p more = record {
   values = λ vs is all.
       let bare : entry_of into k w ≡ w = rw is refl in
-      subst (λ (t : List ℕ). Body t (and_value vs v)) (sym (more ∙ ap (λ (t : List ℕ). part old into.written ++ t) bare)) (body_and (part old into.written) w vs v all p);
+      subst (λ (t : List ℕ). ArrayBody t (and_value vs v)) (sym (more ∙ ap (λ (t : List ℕ). part old into.written ++ t) bare)) (body_and (part old into.written) w vs v all p);
   pairs = λ ps is all.
       let whole : entry_of into k w ≡ short_field k ++ w = rw is refl in
-      subst (λ (t : List ℕ). Pairs t (and_pair ps k v)) (sym (more ∙ ap (λ (t : List ℕ). part old into.written ++ t) whole))
+      subst (λ (t : List ℕ). TableBody t (and_pair ps k v)) (sym (more ∙ ap (λ (t : List ℕ). part old into.written ++ t) whole))
       (pairs_and (part old into.written) k w ps v all (short_key into k is key) p);
 }
 
@@ -107,7 +107,7 @@ wire_of_body tag b (table es) fits x =
     let ps = x.1.0 in
     subst (λ (t : ℕ). Wire (t ∷ long_field b) (table es)) (sym x.0)
     (subst (λ (fs : Entries). Wire (70 ∷ long_field b) (table fs)) (sym x.1.2)
-    (wire 70 amqp.FieldTable (long_field b) (table (onto no_entries ps)) refl (raw_table b ps fits x.1.1)))
+    (wire 70 amqp.FieldTable (long_field b) (table (insert_all no_entries ps)) refl (raw_table b ps fits x.1.1)))
 wire_of_body tag b (scalar y) fits x = absurd x
 wire_of_body tag b (short y) fits x = absurd x
 wire_of_body tag b (long y) fits x = absurd x

@@ -2,14 +2,14 @@
 use Rattle.std.proofs.Common.{◌≡◌, ◌+◌, ◌-◌, ◌<◌, ◌≤◌, ℕ, zero, suc, Option, Some, None, IfNone, IfSome, List, [], ◌∷◌, ◌++◌, Ok, length, take, drop, get_or, refl, sym, ap, ◌∙◌, subst, arith, length-append}
 use Rattle.std.proofs.lemmas.List.{take_at, drop_at, take-append-drop, length-take-le}
 use Rattle.amqp_grammar.specs.Values.{Tree, scalar, short, long, octets, array, table, Trees, Entries}
-use Rattle.amqp_grammar.specs.Grammar.{short_field, Wire, Body, no_values, value, Pairs, no_pairs, pair}
+use Rattle.amqp_grammar.specs.Grammar.{short_field, Wire, ArrayBody, no_values, value, TableBody, no_pairs, pair}
 use Rattle.amqp_grammar.specs.Outcomes.{found, Outcome}
 use Rattle.amqp_grammar.proofs.GrammarLaws.{found_front, wire_found}
 use Rattle.amqp_parsing.specs.Headers.{extent}
 use Rattle.amqp_in_place.specs.Bodies.{HasEntries}
 use Rattle.amqp_c.specs.declared.entry.Entry.{Entry}
 use Rattle.amqp_c_common.specs.declared.span.Span.{Span}
-use Rattle.amqp_c.specs.Answers.{GivesFirst}
+use Rattle.amqp_c.specs.CallResults.{GivesFirst}
 use Rattle.amqp_c.specs.Entries.{Says, IsAtFront, IsTagged, IsTrueTo, Lies}
 use Rattle.amqp_c_common.specs.Spans.{part, moved, behind, SpanLies}
 use Rattle.amqp_c.specs.Steps.{IsHeaded, HasNoPair, IsFrontIn, IsValueIn, IsPairIn, BeginsWithKey, StandsKeyed}
@@ -24,7 +24,7 @@ says_placed s p key e (scalar x) at is = is
 says_placed s p key e (short b) at is = is
 says_placed s p key e (long b) at is = (sym at ∙ is.0, is.1)
 says_placed s p key e (octets b) at is = (sym at ∙ is.0, is.1)
-says_placed s p key e (array vs) at is = (subst (λ (t : List ℕ). Body t vs) at is.0, is.1)
+says_placed s p key e (array vs) at is = (subst (λ (t : List ℕ). ArrayBody t vs) at is.0, is.1)
 says_placed s p key e (table es) at is = (subst (λ (t : List ℕ). HasEntries t es) at is.0, is.1)
 
 -- what is read at the start of the span is in the bytes
@@ -72,14 +72,14 @@ told_placed s p key e in_s lies from told = λ v w.
 
 -- the first of some values
 pub value_given : (s : List ℕ) (p key : Span) (r : Option Entry) → SpanLies (length s) p → 0 < p.length → key.length ≡ 0
-    → ((v : Tree) (rest : List ℕ) → Outcome (part s p) (found v rest) → IsFrontIn s p key v rest r) → (vs : Trees) → Body (part s p) vs → IsValueIn s p vs r
+    → ((v : Tree) (rest : List ℕ) → Outcome (part s p) (found v rest) → IsFrontIn s p key v rest r) → (vs : Trees) → ArrayBody (part s p) vs → IsValueIn s p vs r
 value_given s p key r in_s some none f vs all = by (part s p) vs (omega (arith, part_length s p in_s)) f all
   where
-    step : (v : Tree) (rest : List ℕ) (vs : Trees) (r : Option Entry) → Body rest vs → IsFrontIn s p key v rest r → IsValueIn s p (Trees.tree v vs) r
+    step : (v : Tree) (rest : List ℕ) (vs : Trees) (r : Option Entry) → ArrayBody rest vs → IsFrontIn s p key v rest r → IsValueIn s p (Trees.tree v vs) r
     step v rest vs None all x = x
-    step v rest vs (Some e) all x = (ap (λ (k : Span). k.length) x.1 ∙ none, x.0, subst (λ (t : List ℕ). Body t vs) (sym x.2) all)
+    step v rest vs (Some e) all x = (ap (λ (k : Span). k.length) x.1 ∙ none, x.0, subst (λ (t : List ℕ). ArrayBody t vs) (sym x.2) all)
 
-    by : (t : List ℕ) (vs : Trees) → 0 < length t → ((v : Tree) (rest : List ℕ) → Outcome t (found v rest) → IsFrontIn s p key v rest r) → Body t vs → IsValueIn s p vs r
+    by : (t : List ℕ) (vs : Trees) → 0 < length t → ((v : Tree) (rest : List ℕ) → Outcome t (found v rest) → IsFrontIn s p key v rest r) → ArrayBody t vs → IsValueIn s p vs r
     by _ _ some f no_values = absurd (omega arith)
     by _ _ some f (value w rest v vs q all) = step v rest vs r all (f v rest (wire_found w rest v q))
 
@@ -117,7 +117,7 @@ stands_keyed s named p key n (Some x) in_s e few is same after =
     )
 
 -- a pair has all bytes of its key
-pub key_room : (t : List ℕ) (ps : Entries) → Pairs t ps → 0 < length t → get_or t 0 0 < length t
+pub key_room : (t : List ℕ) (ps : Entries) → TableBody t ps → 0 < length t → get_or t 0 0 < length t
 key_room _ _ no_pairs some = absurd (omega arith)
 key_room _ _ (pair k w rest v ps is q all) some = omega (arith, length-append k (w ++ rest))
 
@@ -139,19 +139,19 @@ module _ (s : List ℕ) (p : Span) (n : ℕ) (r : Option Entry) (in_s : SpanLies
   pair_cut (Some x) none = tt
 
   pub pair_given : ((v : Tree) (rest : List ℕ) → Outcome (part s (behind p key)) (found v rest) → IsFrontIn s (behind p key) key v rest r)
-      → (ps : Entries) → Pairs (part s p) ps → IsPairIn s p ps r
+      → (ps : Entries) → TableBody (part s p) ps → IsPairIn s p ps r
   pair_given f ps all = by (part s p) ps refl all
     where
-      step : (k : List ℕ) (v : Tree) (rest : List ℕ) (ps : Entries) (r : Option Entry) → suc n ≤ p.length → part s key ≡ k → Pairs rest ps → IsFrontIn s (behind p key) key v rest r
+      step : (k : List ℕ) (v : Tree) (rest : List ℕ) (ps : Entries) (r : Option Entry) → suc n ≤ p.length → part s key ≡ k → TableBody rest ps → IsFrontIn s (behind p key) key v rest r
           → IsPairIn s p (Entries.entry k v ps) r
       step k v rest ps None room named all x = x
       step k v rest ps (Some e) room named all x =
           let ends : p.offset + p.length ≡ p.offset + 1 + n + (p.offset + p.length - (p.offset + 1 + n)) = omega arith in
           let same : part s (behind p e.value) ≡ part s (behind (behind p key) e.value) =
           ap (λ (m : ℕ). take (m - (e.value.offset + e.value.length)) (drop (e.value.offset + e.value.length) s)) ends in
-          (ap (part s) x.1 ∙ named, x.0, subst (λ (t : List ℕ). Pairs t ps) (sym (same ∙ x.2)) all)
+          (ap (part s) x.1 ∙ named, x.0, subst (λ (t : List ℕ). TableBody t ps) (sym (same ∙ x.2)) all)
 
-      by : (t : List ℕ) (ps : Entries) → part s p ≡ t → Pairs t ps → IsPairIn s p ps r
+      by : (t : List ℕ) (ps : Entries) → part s p ≡ t → TableBody t ps → IsPairIn s p ps r
       by _ _ e no_pairs = absurd (omega (arith, ap length e, part_length s p in_s))
       by _ _ e (pair k w rest v ps fits q all) =
           let size : n ≡ length k = is ∙ ap (λ (t : List ℕ). get_or t 0 0) e in

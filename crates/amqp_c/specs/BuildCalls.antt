@@ -2,7 +2,7 @@
 use Rattle.std.specs.Prelude.{ℕ, ◌≡◌, ℤ, List, Result, Ok, Err, IfErr, MatchResult}
 use Rattle.amqp_grammar.specs.Values.{Tree, Scalar}
 use Rattle.amqp_c_common.specs.declared.fault.Fault.{Fault}
-use Rattle.amqp_c_common.specs.Answers.{answer_of}
+use Rattle.amqp_c_common.specs.ReturnCodes.{answer_of}
 use Rattle.amqp_c_common.specs.Reading.{limits}
 use Rattle.amqp_c.specs.declared.container.Container.{Container}
 use Rattle.amqp_c.specs.Containers.{IsContainerTag}
@@ -11,16 +11,16 @@ use Rattle.amqp_c.specs.Faults.{Refuses, NoOther, IsTooLong, IsReadFaultInPlace,
 use Rattle.amqp_c.specs.Growth.{IsPut, IsBegun, IsEnded}
 
 -- what is given, or what stood there
-abbrev pub container_or : Container → Result Container Fault → Container
-container_or was (Ok c) = c
-container_or was (Err f) = was
+abbrev pub container_or_old : Container → Result Container Fault → Container
+container_or_old was (Ok c) = c
+container_or_old was (Err f) = was
 
 -- an entry is put or rejected, where `Gives` says of which encoding and value it may be; after a
 -- error the buffer and the container are as they were
 pub record Puts (valid : Type 0) (Gives : List ℕ → Tree → Type 0) (Other : Fault → Type 0) (old : List ℕ) (into : Container) (k : List ℕ) (answer : ℤ) (new : List ℕ) (grown : Container) : Type 0 where
   pub done : Result Container Fault
   pub answered : answer ≡ answer_of done
-  pub container : grown ≡ container_or into done
+  pub container : grown ≡ container_or_old into done
   pub put : MatchResult done (IsPut Gives old into k new) (Refuses valid (λ w. (v : Tree) × Gives w v) Other old into k)
   pub stays : IfErr done (λ _. new ≡ old)
 
@@ -41,7 +41,7 @@ PutsValue frame depth s = Puts (Unit {0}) (IsFront (limits frame depth) s) (IsRe
 pub record Begins (tag : ℕ) (old : List ℕ) (into : Container) (k : List ℕ) (was : Container) (answer : ℤ) (new : List ℕ) (body : Container) : Type 0 where
   pub done : Result Container Fault
   pub answered : answer ≡ answer_of done
-  pub container : body ≡ container_or was done
+  pub container : body ≡ container_or_old was done
   pub begun : MatchResult done (IsBegun tag old into k new) (Refuses (IsContainerTag tag) (λ w. IsContainerTag tag × (w ≡ unfilled tag)) NoOther old into k)
   pub stays : IfErr done (λ _. new ≡ old)
 
@@ -50,6 +50,6 @@ pub record Begins (tag : ℕ) (old : List ℕ) (into : Container) (k : List ℕ)
 pub record Ends (old : List ℕ) (into body : Container) (answer : ℤ) (new : List ℕ) (grown : Container) : Type 0 where
   pub done : Result Container Fault
   pub answered : answer ≡ answer_of done
-  pub container : grown ≡ container_or into done
+  pub container : grown ≡ container_or_old into done
   pub ended : MatchResult done (IsEnded old into body new) (RefusesToEnd old into body)
   pub stays : IfErr done (λ _. new ≡ old)

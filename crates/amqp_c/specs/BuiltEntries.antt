@@ -3,7 +3,7 @@ use Rattle.std.specs.Prelude.{ℕ, ◌≡◌, ◌<◌, ◌^◌, List, [], ◌∷
 use Rattle.amqp_types.specs.declared.amqp_type.AMQPType.{AMQPType}
 use Rattle.amqp_types.specs.Ids.{id_of}
 use Rattle.amqp_grammar.specs.Values.{Scalar, Tree, scalar, long, octets, array, table, scalar_type}
-use Rattle.amqp_grammar.specs.Grammar.{Body}
+use Rattle.amqp_grammar.specs.Grammar.{ArrayBody}
 use Rattle.amqp_grammar.specs.InMemory.{IsScalar}
 use Rattle.amqp_grammar.specs.Outcomes.{found}
 use Rattle.amqp_grammar.specs.Texts.{text}
@@ -50,7 +50,7 @@ IsFront l s w v = (rest : List ℕ) × Within l s (found v rest) × (s ≡ w ++ 
 
 -- v is the array or the table whose body these bytes are
 abbrev pub IsOfBody : ℕ → List ℕ → Tree → Type 0
-IsOfBody tag b (array vs) = (tag ≡ array_tag) × Body b vs
+IsOfBody tag b (array vs) = (tag ≡ array_tag) × ArrayBody b vs
 IsOfBody tag b (table es) = (tag ≡ table_tag) × HasEntries b es
 IsOfBody tag b _ = ⊥
 

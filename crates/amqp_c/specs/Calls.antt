@@ -1,7 +1,7 @@
 -- What each call from C answers and leaves behind its pointers.
 use Rattle.std.specs.Prelude.{ℕ, ◌≡◌, ℤ, List, length, Option, Result, IfOk, IfErr, MatchResult}
 use Rattle.amqp_grammar.specs.Values.{Tree, Trees, Entries}
-use Rattle.amqp_grammar.specs.Grammar.{Body, Pairs}
+use Rattle.amqp_grammar.specs.Grammar.{ArrayBody, TableBody}
 use Rattle.amqp_grammar.specs.Outcomes.{Outcome, found}
 use Rattle.amqp_c.specs.declared.cursor.Cursor.{Cursor}
 use Rattle.amqp_c.specs.declared.entry.Entry.{Entry}
@@ -10,8 +10,8 @@ use Rattle.amqp_c_common.specs.Reading.{limits}
 use Rattle.amqp_c_common.specs.Spans.{part, SpanLies}
 use Rattle.amqp_c.specs.Entries.{IsAtFront, Lies}
 use Rattle.amqp_c.specs.Steps.{array_tag, table_tag, contents, IsOfContainer, StepsIn, IsCut, RefusedBy, GivesValue, GivesPair, LooksUp}
-use Rattle.amqp_c_common.specs.Answers.{answer_of, count_of}
-use Rattle.amqp_c.specs.Answers.{IsTaken, HeaderFaults, FaultsWithin, GivesFirst, answer_if_any, given_or, found_or, entry_or, cursor_or}
+use Rattle.amqp_c_common.specs.ReturnCodes.{answer_of, count_of}
+use Rattle.amqp_c.specs.CallResults.{IsTaken, HeaderFaults, FaultsWithin, GivesFirst, answer_if_any, ok_or_old, found_or_old, entry_or_old, cursor_or_old}
 
 -- reading s within limits: the answer and the number of bytes are those of a value that is read, or
 -- of a fault that is right
@@ -25,7 +25,7 @@ pub record Reads (frame depth : ℕ) (s : List ℕ) (answer : ℤ) (count : ℕ)
 pub record Firsts (s : List ℕ) (old : Entry) (answer : ℤ) (new : Entry) : Type 0 where
   pub done : Result Entry Fault
   pub answered : answer ≡ answer_of done
-  pub entry : new ≡ given_or old done
+  pub entry : new ≡ ok_or_old old done
   pub told : (v : Tree) (rest : List ℕ) → Outcome s (found v rest) → GivesFirst s v rest done
   pub front : IfOk done (IsAtFront s)
   pub lies : IfOk done (Lies (length s))
@@ -35,7 +35,7 @@ pub record Firsts (s : List ℕ) (old : Entry) (answer : ℤ) (new : Entry) : Ty
 pub record Enters (s : List ℕ) (e : Entry) (old : Cursor) (answer : ℤ) (new : Cursor) : Type 0 where
   pub done : Result Cursor Fault
   pub answered : answer ≡ answer_of done
-  pub cursor : new ≡ given_or old done
+  pub cursor : new ≡ ok_or_old old done
   pub entered : IfOk done (λ c. (c ≡ contents e) × IsOfContainer (length s) c)
   pub refused : IfErr done (RefusedBy (IsOfContainer (length s) (contents e)) ⊥)
 
@@ -44,10 +44,10 @@ pub record Enters (s : List ℕ) (e : Entry) (old : Cursor) (answer : ℤ) (new 
 pub record Steps (s : List ℕ) (c : Cursor) (old : Entry) (answer : ℤ) (new : Cursor) (e : Entry) : Type 0 where
   pub done : Result (Option (Entry × Cursor)) Fault
   pub answered : answer ≡ answer_if_any done
-  pub cursor : new ≡ cursor_or c done
-  pub entry : e ≡ entry_or old done
-  pub values : (vs : Trees) → SpanLies (length s) c.left → c.tag ≡ array_tag → Body (part s c.left) vs → GivesValue s vs done
-  pub pairs : (ps : Entries) → SpanLies (length s) c.left → c.tag ≡ table_tag → Pairs (part s c.left) ps → GivesPair s ps done
+  pub cursor : new ≡ cursor_or_old c done
+  pub entry : e ≡ entry_or_old old done
+  pub values : (vs : Trees) → SpanLies (length s) c.left → c.tag ≡ array_tag → ArrayBody (part s c.left) vs → GivesValue s vs done
+  pub pairs : (ps : Entries) → SpanLies (length s) c.left → c.tag ≡ table_tag → TableBody (part s c.left) ps → GivesPair s ps done
   pub lies : IfOk done (StepsIn s c)
   pub refused : IfErr done (RefusedBy (IsOfContainer (length s) c) (IsOfContainer (length s) c × IsCut s c))
 
@@ -55,5 +55,5 @@ pub record Steps (s : List ℕ) (c : Cursor) (old : Entry) (answer : ℤ) (new :
 pub record Finds (s : List ℕ) (c : Cursor) (key : List ℕ) (old : Entry) (answer : ℤ) (new : Entry) : Type 0 where
   pub done : Result (Option Entry) Fault
   pub answered : answer ≡ answer_if_any done
-  pub entry : new ≡ found_or old done
+  pub entry : new ≡ found_or_old old done
   pub looked_up : LooksUp s c key done

@@ -3,7 +3,7 @@ use Rattle.std.specs.Prelude.{ℕ, ◌≡◌, ◌<◌, true, Some, List, [], ◌
 use Rattle.amqp_types.specs.declared.amqp_type.AMQPType.{AMQPType}
 use Rattle.amqp_types.specs.Ids.{kind, id_of}
 use Rattle.amqp_grammar.specs.Values.{Tree, scalar, short, long, octets, array, table, type_of}
-use Rattle.amqp_grammar.specs.Grammar.{Wire, Body}
+use Rattle.amqp_grammar.specs.Grammar.{Wire, ArrayBody}
 use Rattle.amqp_parsing.specs.Headers.{extent}
 use Rattle.amqp_in_place.specs.Bodies.{HasEntries}
 use Rattle.amqp_c.specs.declared.entry.Entry.{Entry}
@@ -22,7 +22,7 @@ Says s e (scalar x) = (e.bits ≡ scalar_bits x) × (e.scale ≡ scalar_scale x)
 Says s e (short b) = ⊥
 Says s e (long b) = (part s e.content ≡ b) × HasNoNumber e
 Says s e (octets b) = (part s e.content ≡ b) × HasNoNumber e
-Says s e (array vs) = Body (part s e.content) vs × HasNoNumber e
+Says s e (array vs) = ArrayBody (part s e.content) vs × HasNoNumber e
 Says s e (table es) = HasEntries (part s e.content) es × HasNoNumber e
 
 -- the entry is that of v, in s: where an encoding of v lies, the type tag that is written for it,

@@ -2,7 +2,7 @@
 use Rattle.std.specs.Prelude.{ℕ, ◌≡◌, ◌+◌, ◌-◌, ◌<◌, ◌≤◌, ◌^◌, List, [], ◌∷◌, length}
 use Rattle.std.specs.Int.{w32, to_be_bytes}
 use Rattle.amqp_grammar.specs.Values.{Tree, Trees, no_trees, tree, Entries, no_entries, entry}
-use Rattle.amqp_grammar.specs.Grammar.{Body, Pairs}
+use Rattle.amqp_grammar.specs.Grammar.{ArrayBody, TableBody}
 use Rattle.amqp_c_common.specs.Spans.{part, SpanLies}
 use Rattle.amqp_c.specs.declared.container.Container.{Container}
 use Rattle.amqp_c.specs.Containers.{array_tag, table_tag, IsContainerTag, IsPlace, end_of, entry_of, end_with, empty_at, up_to}
@@ -28,8 +28,8 @@ pub record IsAppended (old : List ℕ) (into : Container) (k w new : List ℕ) :
 
 -- where values or pairs were written of a container, they are written now with v after them
 pub record Grows (old : List ℕ) (into : Container) (k : List ℕ) (v : Tree) (new : List ℕ) (grown : Container) : Type 0 where
-  pub values : (vs : Trees) → into.tag ≡ array_tag → Body (part old into.written) vs → Body (part new grown.written) (and_value vs v)
-  pub pairs : (ps : Entries) → into.tag ≡ table_tag → Pairs (part old into.written) ps → Pairs (part new grown.written) (and_pair ps k v)
+  pub values : (vs : Trees) → into.tag ≡ array_tag → ArrayBody (part old into.written) vs → ArrayBody (part new grown.written) (and_value vs v)
+  pub pairs : (ps : Entries) → into.tag ≡ table_tag → TableBody (part old into.written) ps → TableBody (part new grown.written) (and_pair ps k v)
 
 -- an entry is put, with an encoding of a value that `Gives` holds of, and the container grows by it
 pub record IsPut (Gives : List ℕ → Tree → Type 0) (old : List ℕ) (into : Container) (k new : List ℕ) (grown : Container) : Type 0 where

@@ -2,7 +2,7 @@ pub mod Scalars
 pub mod Entries
 pub mod Heads
 pub mod Steps
-pub mod Answers
+pub mod CallResults
 pub mod Calls
 pub mod Containers
 pub mod Rooms

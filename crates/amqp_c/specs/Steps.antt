@@ -2,7 +2,7 @@
 use Rattle.std.specs.Prelude.{ℕ, ◌≡◌, ◌+◌, ◌<◌, ◌≤◌, List, [], ◌∷◌, ◌++◌, length, take, drop, if◌then◌else◌, Option, Some, None, IfSome, Result, Ok, IfOk, IfErr, ◌⊎◌}
 use Rattle.std.specs.Option.{option_or}
 use Rattle.amqp_grammar.specs.Values.{Tree, Trees, no_trees, tree, Entries, no_entries, entry}
-use Rattle.amqp_grammar.specs.Grammar.{short_field, Body, Pairs}
+use Rattle.amqp_grammar.specs.Grammar.{short_field, ArrayBody, TableBody}
 use Rattle.amqp_grammar.specs.Maps.{same_bytes, value_at}
 use Rattle.amqp_parsing.specs.Headers.{extent}
 use Rattle.amqp_in_place.specs.Bodies.{HasEntries}
@@ -112,13 +112,13 @@ RefusedBy valid bad _ = ⊥
 -- a step returns the first of the values, with no key, and leaves the others
 abbrev pub GivesValue : List ℕ → Trees → Result (Option (Entry × Cursor)) Fault → Type 0
 GivesValue s no_trees (Ok None) = Unit {0}
-GivesValue s (tree v vs) (Ok (Some x)) = (x.0.key.length ≡ 0) × IsEntry s x.0 v × Body (part s x.1.left) vs
+GivesValue s (tree v vs) (Ok (Some x)) = (x.0.key.length ≡ 0) × IsEntry s x.0 v × ArrayBody (part s x.1.left) vs
 GivesValue s _ _ = ⊥
 
 -- a step returns the first of the pairs, and leaves the others
 abbrev pub GivesPair : List ℕ → Entries → Result (Option (Entry × Cursor)) Fault → Type 0
 GivesPair s no_entries (Ok None) = Unit {0}
-GivesPair s (entry k v ps) (Ok (Some x)) = (part s x.0.key ≡ k) × IsEntry s x.0 v × Pairs (part s x.1.left) ps
+GivesPair s (entry k v ps) (Ok (Some x)) = (part s x.0.key ≡ k) × IsEntry s x.0 v × TableBody (part s x.1.left) ps
 GivesPair s _ _ = ⊥
 
 -- what is found is the entry of the value, if there is one
@@ -161,12 +161,12 @@ IsFrontIn s p key v rest (Some e) = IsEntry s e v × (e.key ≡ key) × (part s 
 
 -- the entry of the first value is given, with no key, and the others are after it in the span
 abbrev pub IsValueIn : List ℕ → Span → Trees → Option Entry → Type 0
-IsValueIn s p (tree v vs) (Some e) = (e.key.length ≡ 0) × IsEntry s e v × Body (part s (behind p e.value)) vs
+IsValueIn s p (tree v vs) (Some e) = (e.key.length ≡ 0) × IsEntry s e v × ArrayBody (part s (behind p e.value)) vs
 IsValueIn s p _ _ = ⊥
 
 -- the entry of the first pair is given, and the others are after it in the span
 abbrev pub IsPairIn : List ℕ → Span → Entries → Option Entry → Type 0
-IsPairIn s p (entry k v ps) (Some e) = (part s e.key ≡ k) × IsEntry s e v × Pairs (part s (behind p e.value)) ps
+IsPairIn s p (entry k v ps) (Some e) = (part s e.key ≡ k) × IsEntry s e v × TableBody (part s (behind p e.value)) ps
 IsPairIn s p _ _ = ⊥
 
 -- no key with a byte after it is at the start

@@ -2,7 +2,7 @@
 
 ghost use Rattle.std.specs.Prelude.{◌≡◌, ◌+◌, ◌<◌, ◌++◌, ℕ, List, length, drop, IfErr, IfOk, IfNone, IfSome, MatchOption};
 ghost use Rattle.amqp_grammar.specs.Values.{Tree, Trees, Entries};
-ghost use Rattle.amqp_grammar.specs.Grammar.{short_field, Body, Pairs};
+ghost use Rattle.amqp_grammar.specs.Grammar.{short_field, ArrayBody, TableBody};
 ghost use Rattle.amqp_grammar.specs.Outcomes.{Outcome, found};
 ghost use Rattle.amqp_parsing.specs.Headers.{extent};
 ghost use Rattle.amqp_c_common.specs.Spans.{part, SpanLies};
@@ -58,9 +58,9 @@ impl Cursor {
     /// length after it alone, so it takes constant time.
     pub fn next(self, bytes: &[u8]) -> Result<Option<(Entry, Cursor)>, Fault>
         ensures values { (vs : Trees) → SpanLies (length bytes.now) self.left → self.tag ≡ array_tag
-            → Body (part bytes.now self.left) vs → GivesValue bytes.now vs result }
+            → ArrayBody (part bytes.now self.left) vs → GivesValue bytes.now vs result }
         ensures pairs { (ps : Entries) → SpanLies (length bytes.now) self.left → self.tag ≡ table_tag
-            → Pairs (part bytes.now self.left) ps → GivesPair bytes.now ps result }
+            → TableBody (part bytes.now self.left) ps → GivesPair bytes.now ps result }
         ensures steps { IfOk result (StepsIn bytes.now self) }
         ensures refused { IfErr result (RefusedBy (IsOfContainer (length bytes.now) self)
             (IsOfContainer (length bytes.now) self × IsCut bytes.now self)) }
@@ -154,7 +154,7 @@ fn behind_value(value: &[u8]) -> Option<&[u8]>
 /// The entry of the value at the start of the span.
 fn first_value(bytes: &[u8], left: Span) -> Option<Entry>
     requires left { SpanLies (length bytes.now) left }
-    ensures value { (vs : Trees) → 0 < left.length → Body (part bytes.now left) vs → IsValueIn bytes.now left vs result }
+    ensures value { (vs : Trees) → 0 < left.length → ArrayBody (part bytes.now left) vs → IsValueIn bytes.now left vs result }
     ensures stands { IfSome result (StandsAlone bytes.now left) }
     ensures cut { IfNone result (IsHeaded (part bytes.now left) → ⊥) }
     ensures typed { IfSome result (λ e. IsTagged (part bytes.now e.value) e) }
@@ -167,7 +167,7 @@ fn first_value(bytes: &[u8], left: Span) -> Option<Entry>
 /// The entry of the pair at the start of the span.
 fn first_pair(bytes: &[u8], left: Span) -> Option<Entry>
     requires left { SpanLies (length bytes.now) left }
-    ensures pair { (ps : Entries) → 0 < left.length → Pairs (part bytes.now left) ps → IsPairIn bytes.now left ps result }
+    ensures pair { (ps : Entries) → 0 < left.length → TableBody (part bytes.now left) ps → IsPairIn bytes.now left ps result }
     ensures stands { IfSome result (StandsKeyed bytes.now left) }
     ensures cut { IfNone result (HasNoPair (part bytes.now left)) }
     ensures typed { IfSome result (λ e. IsTagged (part bytes.now e.value) e) }

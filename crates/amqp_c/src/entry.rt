@@ -3,17 +3,17 @@
 ghost use Rattle.std.specs.Prelude.{◌≡◌, ◌+◌, ◌<◌, ℕ, List, length, IfErr, IfOk, MatchResult};
 ghost use Rattle.amqp_grammar.specs.Values.{Tree};
 ghost use Rattle.amqp_grammar.specs.Outcomes.{Outcome, found};
-ghost use Rattle.amqp_in_place.specs.Refs.{Stands};
+ghost use Rattle.amqp_in_place.specs.Refs.{Denotes};
 ghost use Rattle.amqp_c_common.specs.Scalars.{bits_in, scale_in};
 ghost use Rattle.amqp_c.specs.Scalars.{IsFixed};
 ghost use Rattle.amqp_c.specs.Entries.{IsAtFront, Lies};
-ghost use Rattle.amqp_c.specs.Answers.{GivesFirst, HeaderFaults, IsRefusalOf};
+ghost use Rattle.amqp_c.specs.CallResults.{GivesFirst, HeaderFaults, IsRefusalOf};
 ghost use Rattle.amqp_c.specs.Heads.{has_content};
 
 use amq_protocol_types::AMQPType;
 use amq_protocol_types::in_place::{ValueRef, read_in_place_unlimited};
 use amqp_c_common::{Fault, Span};
-use amqp_parsing::{parse_frame, parse_type};
+use amqp_parsing::{parse_length_prefixed, parse_type};
 use amqp_types::{ParsableInput, SliceInput};
 
 /// A value, and in a table its key, by position.
@@ -45,7 +45,7 @@ pub fn first(bytes: &[u8]) -> Result<Entry, Fault>
 {
     let (payload, amqp_type) = parse_type(SliceInput::new(bytes))?;
     if has_content(amqp_type) {
-        let (rest, body) = parse_frame(payload)?;
+        let (rest, body) = parse_length_prefixed(payload)?;
         return Ok(Entry {
             key: Span::NONE,
             value: Span {
@@ -113,7 +113,7 @@ fn has_content(amqp_type: AMQPType) -> bool
 /// The bits of a number, 0 or 1 of a boolean.
 #[tactic(auto, using(crate::proofs::Numbers::signed))]
 fn bits_in(value: ValueRef<'_>) -> u64
-    ensures { (v : Tree) → Stands value.entry v → result ≡ bits_in v }
+    ensures { (v : Tree) → Denotes value.entry v → result ≡ bits_in v }
 {
     match value {
         ValueRef::Boolean(b) => u64::from(b),
@@ -138,7 +138,7 @@ fn bits_in(value: ValueRef<'_>) -> u64
 
 /// How many digits of a decimal are after the point.
 fn scale_in(value: ValueRef<'_>) -> u8
-    ensures { (v : Tree) → Stands value.entry v → result ≡ scale_in v }
+    ensures { (v : Tree) → Denotes value.entry v → result ≡ scale_in v }
 {
     match value {
         ValueRef::DecimalValue(d) => d.scale,

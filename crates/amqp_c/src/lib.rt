@@ -10,7 +10,6 @@
 ghost use Rattle.amqp_c.specs.BuildCalls.{PutsScalar, PutsBytes, PutsValue, Begins, Ends};
 ghost use Rattle.amqp_c.specs.Calls.{Reads, Firsts, Enters, Steps, Finds};
 
-mod answers;
 mod container;
 mod cursor;
 mod entry;
@@ -19,16 +18,17 @@ mod number;
 mod put;
 mod read;
 mod room;
+mod store;
 
-use amqp_c_common::answer_count;
+use amqp_c_common::return_count;
 use amqp_parsing::Limits;
-use answers::{answer_container, answer_cursor, answer_entry, answer_found, answer_step};
 use container::Container;
 use cursor::Cursor;
 use entry::{Entry, first};
 use nest::{begin, end};
 use put::{put_bytes, put_scalar, put_value};
 use read::read;
+use store::{store_container, store_cursor, store_entry, store_found, store_step};
 
 /// Reads the value at the start within limits, and checks all of it. Of the stack it
 /// takes what `read_in_place` does: docs/PROMISES.md has the runs of that.
@@ -39,7 +39,7 @@ use read::read;
 pub extern "C" fn amqp_read(bytes: &[u8], frame: u32, depth: u32, count: &mut usize) -> i32
     ensures { Reads frame depth bytes.now result count.new }
 {
-    answer_count(read(bytes, Limits { frame, depth }), count)
+    return_count(read(bytes, Limits { frame, depth }), count)
 }
 
 /// Gives the entry of the value at the start, by its type tag and its length alone, in constant
@@ -48,7 +48,7 @@ pub extern "C" fn amqp_read(bytes: &[u8], frame: u32, depth: u32, count: &mut us
 pub extern "C" fn amqp_first(bytes: &[u8], entry: &mut Entry) -> i32
     ensures { Firsts bytes.now entry.old result entry.new }
 {
-    answer_entry(first(bytes), entry)
+    store_entry(first(bytes), entry)
 }
 
 /// Gives a cursor before the first entry of an array or a table, in constant time.
@@ -56,7 +56,7 @@ pub extern "C" fn amqp_first(bytes: &[u8], entry: &mut Entry) -> i32
 pub extern "C" fn amqp_enter(bytes: &[u8], entry: &Entry, cursor: &mut Cursor) -> i32
     ensures { Enters bytes.now entry.now cursor.old result cursor.new }
 {
-    answer_cursor(entry.enter(bytes), cursor)
+    store_cursor(entry.enter(bytes), cursor)
 }
 
 /// Gives the next entry and sets the cursor after it, in constant time.
@@ -64,7 +64,7 @@ pub extern "C" fn amqp_enter(bytes: &[u8], entry: &Entry, cursor: &mut Cursor) -
 pub extern "C" fn amqp_next(bytes: &[u8], cursor: &mut Cursor, entry: &mut Entry) -> i32
     ensures { Steps bytes.now cursor.old entry.old result cursor.new entry.new }
 {
-    answer_step(cursor.next(bytes), cursor, entry)
+    store_step(cursor.next(bytes), cursor, entry)
 }
 
 /// Gives the entry at a key of the table, of those that the cursor has left: of equal keys the
@@ -73,7 +73,7 @@ pub extern "C" fn amqp_next(bytes: &[u8], cursor: &mut Cursor, entry: &mut Entry
 pub extern "C" fn amqp_find(bytes: &[u8], cursor: &Cursor, key: &[u8], entry: &mut Entry) -> i32
     ensures { Finds bytes.now cursor.now key.now entry.old result entry.new }
 {
-    answer_found(cursor.find(bytes, key), entry)
+    store_found(cursor.find(bytes, key), entry)
 }
 
 /// Puts an entry after what is written: a value of fixed width, by its type tag, its bits and its
@@ -89,7 +89,7 @@ pub extern "C" fn amqp_put(
 ) -> i32
     ensures { PutsScalar tag bits scale room.old into.old key.now result room.new into.new }
 {
-    answer_container(put_scalar(room, *into, key, tag, bits, scale), into)
+    store_container(put_scalar(room, *into, key, tag, bits, scale), into)
 }
 
 /// Puts an entry after what is written: a long string or a byte array.
@@ -103,7 +103,7 @@ pub extern "C" fn amqp_put_bytes(
 ) -> i32
     ensures { PutsBytes tag bytes.now room.old into.old key.now result room.new into.new }
 {
-    answer_container(put_bytes(room, *into, key, tag, bytes), into)
+    store_container(put_bytes(room, *into, key, tag, bytes), into)
 }
 
 /// Puts an entry after what is written: the encoding at the start of other bytes, read within
@@ -120,7 +120,7 @@ pub extern "C" fn amqp_put_value(
 ) -> i32
     ensures { PutsValue frame depth bytes.now room.old into.old key.now result room.new into.new }
 {
-    answer_container(
+    store_container(
         put_value(room, *into, key, bytes, Limits { frame, depth }),
         into,
     )
@@ -138,7 +138,7 @@ pub extern "C" fn amqp_open(
 ) -> i32
     ensures { Begins tag room.old into.now key.now body.old result room.new body.new }
 {
-    answer_container(begin(room, *into, key, tag), body)
+    store_container(begin(room, *into, key, tag), body)
 }
 
 /// Ends the entry that `amqp_open` began: fills in the length of its body, and `into` reaches to
@@ -147,5 +147,5 @@ pub extern "C" fn amqp_open(
 pub extern "C" fn amqp_close(room: &mut [u8], into: &mut Container, body: &Container) -> i32
     ensures { Ends room.old into.old body.now result room.new into.new }
 {
-    answer_container(end(room, *into, *body), into)
+    store_container(end(room, *into, *body), into)
 }

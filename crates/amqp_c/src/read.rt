@@ -1,7 +1,7 @@
 //! Reading the value at the start.
 
 ghost use Rattle.std.specs.Prelude.{MatchResult};
-ghost use Rattle.amqp_c.specs.Answers.{IsTaken, FaultsWithin};
+ghost use Rattle.amqp_c.specs.CallResults.{IsTaken, FaultsWithin};
 
 use amq_protocol_types::in_place::read_in_place;
 use amqp_c_common::Fault;

@@ -16,7 +16,7 @@ use Rattle.amqp_parsing.proofs.ParsingLaws.{found_all}
 use Rattle.amqp_in_place.specs.Canonicals.{IsCanonicalLen}
 use Rattle.amqp_c_common.specs.declared.fault.Fault.{Fault}
 use Rattle.amqp_c_common.specs.declared.fault.Fault.TheVariants.{OutOfMemory}
-use Rattle.amqp_c_common.specs.Answers.{fault_of}
+use Rattle.amqp_c_common.specs.ReturnCodes.{fault_of}
 use Rattle.amqp_c_common.proofs.Refused.{told_as_it_is}
 use Rattle.amqp_c_common.specs.Rooms.{IsPut, HasNoRoom}
 use Rattle.amqp_c_alloc.specs.CanonicalCalls.{IsRead, IsWritten, IsNotCanonical, IsFault}

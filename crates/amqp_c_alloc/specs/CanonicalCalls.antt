@@ -8,7 +8,7 @@ use Rattle.amqp_parsing.specs.Limits.{Within}
 use Rattle.amqp_in_place.specs.Canonicals.{IsCanonicalLen}
 use Rattle.amqp_c_common.specs.declared.fault.Fault.{Fault}
 use Rattle.amqp_c_common.specs.declared.fault.Fault.TheVariants.{OutOfMemory, NoRoom}
-use Rattle.amqp_c_common.specs.Answers.{answer_of, count_of}
+use Rattle.amqp_c_common.specs.ReturnCodes.{answer_of, count_of}
 use Rattle.amqp_c_common.specs.Reading.{limits, IsReadFault}
 use Rattle.amqp_c_common.specs.Rooms.{IsPut}
 

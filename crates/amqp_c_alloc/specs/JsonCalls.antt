@@ -11,7 +11,7 @@ use Rattle.amqp_json.specs.declared.conversion_error.EncodeError.TheVariants as 
 use Rattle.amqp_json.specs.Converts.{IsJsonOf, IsMeant, IsReadAs}
 use Rattle.amqp_c_common.specs.declared.fault.Fault.{Fault}
 use Rattle.amqp_c_common.specs.declared.fault.Fault.TheVariants.{OutOfMemory, NoRoom, NotJson, NoEncoding}
-use Rattle.amqp_c_common.specs.Answers.{answer_of, count_of}
+use Rattle.amqp_c_common.specs.ReturnCodes.{answer_of, count_of}
 use Rattle.amqp_c_common.specs.Reading.{limits, IsReadFault}
 use Rattle.amqp_c_common.specs.Rooms.{IsPut}
 use Rattle.amqp_c_alloc.specs.Nesting.{nests_within}

@@ -14,7 +14,7 @@ mod decode;
 mod encode;
 mod nesting;
 
-use amqp_c_common::answer_count;
+use amqp_c_common::return_count;
 use amqp_parsing::Limits;
 use canonical::canonical;
 use decode::put_json;
@@ -38,7 +38,7 @@ pub extern "C" fn amqp_canonical(
 ) -> i32
     ensures { Canonicalizes frame depth bytes.now room.old result room.new count.new }
 {
-    answer_count(
+    return_count(
         canonical(alloc, bytes, Limits { frame, depth }, room),
         count,
     )
@@ -60,7 +60,7 @@ pub extern "C" fn amqp_to_json(
 ) -> i32
     ensures { WritesJson frame depth bytes.now room.old result room.new count.new }
 {
-    answer_count(put_json(alloc, bytes, Limits { frame, depth }, room), count)
+    return_count(put_json(alloc, bytes, Limits { frame, depth }, room), count)
 }
 
 /// Writes the canonical encoding of the value that a JSON text means to the start of `room`. A text
@@ -78,5 +78,5 @@ pub extern "C" fn amqp_from_json(
 ) -> i32
     ensures { WritesEncoding nesting text.now room.old result room.new count.new }
 {
-    answer_count(put_encoding(alloc, text, nesting, room), count)
+    return_count(put_encoding(alloc, text, nesting, room), count)
 }

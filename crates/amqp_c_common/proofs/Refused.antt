@@ -7,7 +7,7 @@ use Rattle.amqp_parsing.specs.declared.limits.Limits.{Limits}
 use Rattle.amqp_parsing.specs.Limits.{RefusesWithin}
 use Rattle.amqp_parsing.specs.Refusals.{Refusal}
 use Rattle.amqp_parsing.proofs.ParsingLaws.{failed_all}
-use Rattle.amqp_c_common.specs.Answers.{fault_of}
+use Rattle.amqp_c_common.specs.ReturnCodes.{fault_of}
 use Rattle.amqp_c_common.specs.Reading.{IsReadFault}
 
 -- each error is told as it is

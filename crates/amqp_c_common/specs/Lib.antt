@@ -1,4 +1,4 @@
-pub mod Answers
+pub mod ReturnCodes
 pub mod Reading
 pub mod Rooms
 pub mod Scalars

@@ -1,7 +1,7 @@
 //! Why a call does nothing.
 
 ghost use Rattle.std.specs.Prelude.{◌≡◌};
-ghost use Rattle.amqp_c_common.specs.Answers.{fault_of, code_of};
+ghost use Rattle.amqp_c_common.specs.ReturnCodes.{fault_of, code_of};
 
 use amqp_parsing::{Err, ErrorKind, Needed, ParserError};
 

@@ -2,12 +2,12 @@
 //! buffer.
 #![tactic(auto)]
 
-mod answers;
 mod fault;
+mod return_count;
 mod room;
 mod span;
 
-pub use answers::answer_count;
 pub use fault::Fault;
+pub use return_count::return_count;
 pub use room::put;
 pub use span::Span;

@@ -9,7 +9,7 @@ use Rattle.std.proofs.lemmas.Bool.{le-ltb, lt-ltb}
 use Rattle.amqp_types.specs.declared.amqp_type.AMQPType.{AMQPType}
 use Rattle.amqp_types.specs.declared.amqp_type.AMQPType.TheVariants as amqp
 use Rattle.amqp_types.specs.Ids.{kind}
-use Rattle.amqp_grammar.specs.Values.{Tree, scalar, long, octets, array, table, no_trees, tree, no_entries, entry, onto}
+use Rattle.amqp_grammar.specs.Values.{Tree, scalar, long, octets, array, table, no_trees, tree, no_entries, entry, insert_all}
 use Rattle.amqp_grammar.specs.Layouts.{Layout, fixed}
 use Rattle.amqp_grammar.specs.Grammar.{short_field, long_field, wire, raw_fixed, raw_long, raw_octets, raw_array, raw_table, no_values, value, no_pairs, pair}
 use Rattle.amqp_grammar.specs.Nesting.{OutcomeWithin, WireWithin, RawWithin}
@@ -20,15 +20,15 @@ use Rattle.amqp_parsing.specs.Limits.{Within, IsHeader as IsHeaderOf}
 use Rattle.amqp_parsing.specs.declared.limits.Limits.{Limits}
 use Rattle.amqp_parsing.specs.declared.header.Header.{Header}
 use Rattle.amqp_parsing.specs.declared.header.Header.TheVariants as header
-use Rattle.amqp_parsing.specs.Typed.{IsType}
+use Rattle.amqp_parsing.specs.PayloadResults.{IsType}
 use Rattle.amqp_dissect.specs.declared.problem.Problem.{Problem}
 use Rattle.amqp_dissect.specs.declared.problem.Problem.TheVariants.{NoTypeTag, UnknownTypeTag, Cut, KeyCut, KeyNotUtf8, TooDeep}
 use Rattle.amqp_dissect.specs.Problems.{IsContainer, NoValue, no_type_tag, unknown_type_tag, cut, too_deep, in_array, in_table, NoValues, bad_value, after_value, NoPairs, cut_key, key_not_utf8, bad_pair, after_pair}
 use Rattle.amqp_dissect.specs.declared.problem.Stop.{Stop}
 use Rattle.amqp_dissect.specs.declared.problem.Stop.TheVariants.{OutOfMemory, At}
 use Rattle.amqp_dissect.specs.declared.walk.Walk.{Walk}
-use Rattle.amqp_dissect.specs.Walks.{IsAt, IsValueThen, IsKeyThen, AreValues, ArePairs, HasFrame, HasHeader, IsLengthPrefixed, IsString, ahead, CanReach, GoesOn, PassesValue, PassesEntries}
-use Rattle.amqp_parsing.specs.Answers.{Refuses}
+use Rattle.amqp_dissect.specs.Walks.{IsAt, IsValueThen, IsKeyThen, AreValues, ArePairs, HasFrame, HasHeader, HasLengthPrefix, IsString, ahead, CanReach, GoesOn, PassesValue, PassesEntries}
+use Rattle.amqp_parsing.specs.ParseResults.{Refuses}
 use Rattle.amqp_dissect.specs.Ends.{refusal_of}
 use Rattle.amqp_dissect.specs.Memory.{HasTypeTag, TakesMemory}
 use Rattle.amqp_dissect.proofs.Refused.{value_refused}
@@ -85,14 +85,14 @@ module _ (d : ℕ) (s b : List ℕ) (type : AMQPType) (first width : ℕ) (is : 
 
 -- ---- a length in four bytes
 
-framed_lack : (type : AMQPType) (b : List ℕ) → IsLengthPrefixed type → lack type b ≡ frame_lack w32 b
+framed_lack : (type : AMQPType) (b : List ℕ) → HasLengthPrefix type → lack type b ≡ frame_lack w32 b
 framed_lack amqp.LongString b p = refl
 framed_lack amqp.ByteArray b p = refl
 framed_lack amqp.FieldArray b p = refl
 framed_lack amqp.FieldTable b p = refl
 framed_lack _ b p = absurd p
 
-pub cut_frame : (d : ℕ) (s b : List ℕ) (type : AMQPType) (n : ℕ) → IsType s type b → IsLengthPrefixed type → 0 < n → n ≡ frame_lack w32 b → NoValue d s 1 (Cut type n)
+pub cut_frame : (d : ℕ) (s b : List ℕ) (type : AMQPType) (n : ℕ) → IsType s type b → HasLengthPrefix type → 0 < n → n ≡ frame_lack w32 b → NoValue d s 1 (Cut type n)
 cut_frame d s b type n is framed some e =
     subst (λ (t : List ℕ). NoValue d t 1 (Cut type n)) (sym is.1) (cut d is.0 type b n is.2 some (framed_lack type b framed ∙ sym e))
 
@@ -179,7 +179,7 @@ of_array = record {
 
 pub of_table : IsBodyOf amqp.FieldTable ArePairs NoPairs
 of_table = record {
-  raw = λ d body fits (ps, p). (table (onto no_entries ps), (raw_table body ps fits p.0, omega (arith, p.1)));
+  raw = λ d body fits (ps, p). (table (insert_all no_entries ps), (raw_table body ps fits p.0, omega (arith, p.1)));
   fail = in_table;
 }
 

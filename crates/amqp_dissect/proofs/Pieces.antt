@@ -14,7 +14,7 @@ use Rattle.amqp_grammar.specs.Grammar.{short_field}
 use Rattle.amqp_grammar.specs.Outcomes.{length_field, counted}
 use Rattle.amqp_parsing.specs.Headers.{extent, extent_at, extent_of, raw_extent}
 use Rattle.amqp_dissect.specs.declared.part.Field.TheVariants.{TypeTag, Length, KeyLength, Key, Payload}
-use Rattle.amqp_dissect.specs.Walks.{IsLengthPrefixed, IsString}
+use Rattle.amqp_dissect.specs.Walks.{HasLengthPrefix, IsString}
 use Rattle.amqp_dissect.specs.PartsOf.{Piece, part, Inside, counted_parts, payload_parts, value_parts, key_parts, entries_parts, entries_at, value_at}
 
 -- ---- no bytes have no parts
@@ -208,7 +208,7 @@ payload_known : (f : Inside) (type : AMQPType) (level : ℕ) (b : List ℕ) (o :
 unfolding payload_parts
 payload_known f type level b o e = ap (laid f type level b) e
 
-unfixed : (type : AMQPType) → IsLengthPrefixed type → fixed type ≡ None
+unfixed : (type : AMQPType) → HasLengthPrefix type → fixed type ≡ None
 unfixed amqp.LongString p = refl
 unfixed amqp.ByteArray p = refl
 unfixed amqp.FieldArray p = refl
@@ -235,7 +235,7 @@ number_parts level c type f b k is =
     value_known e level c type b k ∙ ap (λ (t : List Piece). part (TypeTag type) level (c ∷ []) ++ t) (payload_known e type level b (Some f) is)
 
 -- a type tag, a length, and what it counts
-prefixed : (f : Inside) (level c : ℕ) (type : AMQPType) (l g : List ℕ) → kind c ≡ Some type → IsLengthPrefixed type → length l ≡ 4
+prefixed : (f : Inside) (level c : ℕ) (type : AMQPType) (l g : List ℕ) → kind c ≡ Some type → HasLengthPrefix type → length l ≡ 4
     → value_parts f level (c ∷ (l ++ g)) ≡ (part (TypeTag type) level (c ∷ []) ++ part (Length type) level l) ++ counted_parts f type level g
 prefixed f level c type l g k p four =
     let tag : List Piece = part (TypeTag type) level (c ∷ []) in
@@ -245,7 +245,7 @@ prefixed f level c type l g k p four =
     ∙ ap₂ (λ (x y : List ℕ). part (Length type) level x ++ counted_parts f type level y) (take_at l g 4 four) back)
     ∙ sym (append_assoc tag (part (Length type) level l) (counted_parts f type level g)))
 
-pub header_parts : (level c : ℕ) (type : AMQPType) (l : List ℕ) → kind c ≡ Some type → IsLengthPrefixed type → length l ≡ 4 → value_at level (c ∷ l) ≡ part (TypeTag type) level (c ∷ []) ++ part (Length type) level l
+pub header_parts : (level c : ℕ) (type : AMQPType) (l : List ℕ) → kind c ≡ Some type → HasLengthPrefix type → length l ≡ 4 → value_at level (c ∷ l) ≡ part (TypeTag type) level (c ∷ []) ++ part (Length type) level l
 header_parts level c type l k p four =
     let n : ℕ = suc (length l) in
     let f : Inside = entries_parts n in
@@ -253,7 +253,7 @@ header_parts level c type l k p four =
     ap (λ (t : List ℕ). value_parts f level (c ∷ t)) (sym (append-nil l))
     ∙ (prefixed f level c type l [] k p four ∙ (ap (λ (t : List Piece). h ++ t) (counted_nothing n type level) ∙ append-nil h))
 
-module _ (level c : ℕ) (type : AMQPType) (l g : List ℕ) (k : kind c ≡ Some type) (p : IsLengthPrefixed type) (four : length l ≡ 4) where
+module _ (level c : ℕ) (type : AMQPType) (l g : List ℕ) (k : kind c ≡ Some type) (p : HasLengthPrefix type) (four : length l ≡ 4) where
   counted_with : value_at level (c ∷ (l ++ g)) ≡ value_at level (c ∷ l) ++ counted_parts (entries_parts (suc (length (l ++ g)))) type level g
   counted_with =
       let f : Inside = entries_parts (suc (length (l ++ g))) in
@@ -290,7 +290,7 @@ one_number c type f b k is le =
     let e : raw_extent type b ≡ f.width = ap (λ o. extent_of o (length_field type) b) is in
     omega (arith, known_extent c type b k)
 
-framed_extent : (type : AMQPType) (n : ℕ) (g : List ℕ) → IsLengthPrefixed type → n < 2 ^ 32 → raw_extent type (to_be_bytes w32 n ++ g) ≡ 4 + n
+framed_extent : (type : AMQPType) (n : ℕ) (g : List ℕ) → HasLengthPrefix type → n < 2 ^ 32 → raw_extent type (to_be_bytes w32 n ++ g) ≡ 4 + n
 framed_extent type n g p fits = by type p
   where
     b : List ℕ
@@ -302,12 +302,12 @@ framed_extent type n g p fits = by type p
     count : counted w32 b ≡ n
     count = from_be_bytes-to_be_bytes_4 n fits
 
-    by : (type : AMQPType) → IsLengthPrefixed type → raw_extent type b ≡ 4 + n
+    by : (type : AMQPType) → HasLengthPrefix type → raw_extent type b ≡ 4 + n
     by amqp.LongString p = all ∙ ap (λ k. 4 + k) count
     by amqp.ByteArray p = all ∙ ap (λ k. 4 + k) count
     by amqp.FieldArray p = all ∙ ap (λ k. 4 + k) count
     by amqp.FieldTable p = all ∙ ap (λ k. 4 + k) count
     by _ p = absurd p
 
-pub one_framed : (c : ℕ) (type : AMQPType) (n : ℕ) (g : List ℕ) → kind c ≡ Some type → IsLengthPrefixed type → n < 2 ^ 32 → length g ≤ n → length (c ∷ (to_be_bytes w32 n ++ g)) ≤ extent (c ∷ (to_be_bytes w32 n ++ g))
+pub one_framed : (c : ℕ) (type : AMQPType) (n : ℕ) (g : List ℕ) → kind c ≡ Some type → HasLengthPrefix type → n < 2 ^ 32 → length g ≤ n → length (c ∷ (to_be_bytes w32 n ++ g)) ≤ extent (c ∷ (to_be_bytes w32 n ++ g))
 one_framed c type n g k p fits le = omega (arith, known_extent c type (to_be_bytes w32 n ++ g) k, framed_extent type n g p fits)

@@ -11,7 +11,7 @@ use Rattle.amqp_types.specs.Ids.{kind}
 use Rattle.amqp_grammar.specs.Layouts.{Layout, fixed}
 use Rattle.amqp_grammar.specs.Grammar.{short_field}
 use Rattle.amqp_parsing.specs.Headers.{extent}
-use Rattle.amqp_parsing.specs.Typed.{IsType}
+use Rattle.amqp_parsing.specs.PayloadResults.{IsType}
 use Rattle.amqp_parsing.proofs.ParsingLaws.{wire_extent}
 use Rattle.amqp_dissect.specs.declared.part.Field.{Field}
 use Rattle.amqp_dissect.specs.declared.part.Field.TheVariants.{TypeTag, Length, KeyLength, Key, Payload}
@@ -20,7 +20,7 @@ use Rattle.amqp_dissect.specs.declared.problem.Stop.{Stop}
 use Rattle.amqp_dissect.specs.declared.problem.Stop.TheVariants.{OutOfMemory, At}
 use Rattle.amqp_dissect.specs.declared.walk.Walk.{Walk}
 use Rattle.amqp_dissect.specs.Problems.{NoValues, NoPairs}
-use Rattle.amqp_dissect.specs.Walks.{ahead, between, CanReach, GoesOn, PassesValue, IsKeyThen, HasHeader, IsLengthPrefixed, IsString, AreValues, ArePairs, Puts, PutsValue, WithMemory}
+use Rattle.amqp_dissect.specs.Walks.{ahead, between, CanReach, GoesOn, PassesValue, IsKeyThen, HasHeader, HasLengthPrefix, IsString, AreValues, ArePairs, Puts, PutsValue, WithMemory}
 use Rattle.amqp_dissect.specs.PartsOf.{Piece, piece, part, entries_at, value_at, parts_of}
 use Rattle.amqp_dissect.proofs.Windows.{window_front}
 use Rattle.amqp_dissect.proofs.Entries.{Passed, still, front_size}
@@ -114,7 +114,7 @@ module _ (d : ℕ) (old mid new : Walk) (end : ℕ) (type : AMQPType) (same : mi
       }
 
   -- a type tag, and a length
-  pub header_puts : (behind : ℕ) → HasHeader (ahead old end) type old.at behind → IsLengthPrefixed type → mid.at ≡ old.at + 1 → new.at ≡ mid.at + 4
+  pub header_puts : (behind : ℕ) → HasHeader (ahead old end) type old.at behind → HasLengthPrefix type → mid.at ≡ old.at + 1 → new.at ≡ mid.at + 4
       → Puts (part (TypeTag type) (old.depth - d)) old mid → Puts (part (Length type) (mid.depth - d)) mid new → PutsValue (old.depth - d) old new
   header_puts behind (c, body, rest, k, is, fits, b) p at then x y =
       let level : ℕ = old.depth - d in
@@ -133,7 +133,7 @@ module _ (d : ℕ) (old mid new : Walk) (end : ℕ) (type : AMQPType) (same : mi
       }
 
   -- a type tag, a length, and what is put down of the bytes that it counts
-  framed_puts : (P : List ℕ → List Piece) (behind : ℕ) → HasHeader (ahead old end) type old.at behind → IsLengthPrefixed type → mid.at ≡ old.at + 5 → mid.at ≤ new.at → new.at ≤ behind
+  framed_puts : (P : List ℕ → List Piece) (behind : ℕ) → HasHeader (ahead old end) type old.at behind → HasLengthPrefix type → mid.at ≡ old.at + 5 → mid.at ≤ new.at → new.at ≤ behind
       → PutsValue (old.depth - d) old mid → Puts P mid new
       → ((c : ℕ) (l g : List ℕ) → kind c ≡ Some type → length l ≡ 4 → value_at (old.depth - d) (c ∷ (l ++ g)) ≡ value_at (old.depth - d) (c ∷ l) ++ P g) → PutsValue (old.depth - d) old new
   framed_puts P behind (c, body, rest, k, is, fits, b) p at up le x y by =
@@ -148,7 +148,7 @@ module _ (d : ℕ) (old mid new : Walk) (end : ℕ) (type : AMQPType) (same : mi
         one = subst (λ (t : List ℕ). length t ≤ extent t) (sym all) (one_framed c type (length body) g k p fits (between_length mid new (length body) (omega arith)));
       }
 
-  prefixed_string : (type : AMQPType) → IsString type → IsLengthPrefixed type
+  prefixed_string : (type : AMQPType) → IsString type → HasLengthPrefix type
   prefixed_string amqp.LongString p = p
   prefixed_string amqp.ByteArray p = p
   prefixed_string _ p = absurd p

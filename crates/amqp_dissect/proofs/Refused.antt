@@ -9,14 +9,14 @@ use Rattle.amqp_types.specs.declared.amqp_type.AMQPType.TheVariants as amqp
 use Rattle.amqp_grammar.specs.Values.{no_entries, short}
 use Rattle.amqp_grammar.specs.Grammar.{short_field, long_field, raw_short}
 use Rattle.amqp_grammar.specs.Nesting.{OutcomeWithin}
-use Rattle.amqp_grammar.specs.Outcomes.{more, malformed, lack, frame_lack, counted, LacksOr, Heavy}
+use Rattle.amqp_grammar.specs.Outcomes.{more, malformed, lack, frame_lack, counted, NeedsMoreOr, Heavy}
 use Rattle.amqp_grammar.specs.Payloads.{RawFront, RawOutcome}
 use Rattle.amqp_grammar.proofs.GrammarLaws.{raw_to_value_within, raw_found, raw_whole, wire_found_within, short_bytes}
 use Rattle.amqp_parsing.specs.declared.errors.Err.TheVariants.{Incomplete, Error}
 use Rattle.amqp_parsing.specs.declared.errors.Needed.TheVariants.{Size}
 use Rattle.amqp_parsing.specs.declared.errors.ErrorKind.TheVariants.{MapRes, Eof}
 use Rattle.amqp_parsing.specs.Refusals.{Refusal, inside}
-use Rattle.amqp_parsing.specs.Answers.{Refuses}
+use Rattle.amqp_parsing.specs.ParseResults.{Refuses}
 use Rattle.amqp_parsing.specs.Bodies.{IsNoBody, IsNoTable}
 use Rattle.amqp_parsing.proofs.ParsingLaws.{Refuses-weaker, Goes, Goes-step, Goes-refused, Walks-start, Walks-step, Walks-bad_key, Walks-bad_value, array_refused, array_too_deep, table_refused, table_too_deep}
 use Rattle.amqp_dissect.specs.declared.problem.Problem.{Problem}
@@ -40,7 +40,7 @@ inside_eof (suc zero) (Cut type n) = refl
 inside_eof (suc zero) _ = refl
 inside_eof (suc (suc n)) p = refl
 
-lacks_or : (n : ℕ) (P : Type 0) → 0 < n → LacksOr n P (more n)
+lacks_or : (n : ℕ) (P : Type 0) → 0 < n → NeedsMoreOr n P (more n)
 lacks_or zero P h = absurd (omega arith)
 lacks_or (suc n) P h = refl
 

@@ -7,7 +7,7 @@ use Rattle.amqp_types.specs.Strings.{IsShort}
 use Rattle.amqp_grammar.specs.Values.{Tree, Trees, Entries}
 use Rattle.amqp_grammar.specs.Grammar.{short_field, long_field}
 use Rattle.amqp_grammar.specs.Nesting.{WireWithin, BodyWithin, PairsWithin}
-use Rattle.amqp_parsing.specs.Bodies.{IsFrame}
+use Rattle.amqp_parsing.specs.Bodies.{IsLengthPrefixed}
 use Rattle.amqp_parsing.specs.Headers.{extent}
 use Rattle.amqp_dissect.specs.declared.problem.Problem.{Problem}
 use Rattle.amqp_dissect.specs.declared.problem.Stop.{Stop}
@@ -38,7 +38,7 @@ IsAt P (At p) = P p
 
 -- n bytes are after a length of four bytes that counts them
 abbrev pub HasFrame : List ℕ → ℕ → Type 0
-HasFrame s n = (body : List ℕ) × (rest : List ℕ) × IsFrame s body rest × (n ≡ length body)
+HasFrame s n = (body : List ℕ) × (rest : List ℕ) × IsLengthPrefixed s body rest × (n ≡ length body)
 
 -- the type is that of a string or byte array, or of these or a container: of a payload that is
 -- prefixed by its length in four bytes
@@ -47,12 +47,12 @@ IsString amqp.LongString = Unit {0}
 IsString amqp.ByteArray = Unit {0}
 IsString _ = ⊥
 
-abbrev pub IsLengthPrefixed : AMQPType → Type 0
-IsLengthPrefixed amqp.LongString = Unit {0}
-IsLengthPrefixed amqp.ByteArray = Unit {0}
-IsLengthPrefixed amqp.FieldArray = Unit {0}
-IsLengthPrefixed amqp.FieldTable = Unit {0}
-IsLengthPrefixed _ = ⊥
+abbrev pub HasLengthPrefix : AMQPType → Type 0
+HasLengthPrefix amqp.LongString = Unit {0}
+HasLengthPrefix amqp.ByteArray = Unit {0}
+HasLengthPrefix amqp.FieldArray = Unit {0}
+HasLengthPrefix amqp.FieldTable = Unit {0}
+HasLengthPrefix _ = ⊥
 
 -- s begins with a type tag of the type and a length, and what that counts ends at `behind`, where s
 -- begins at `at`

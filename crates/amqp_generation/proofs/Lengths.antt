@@ -8,10 +8,10 @@ use Rattle.std.proofs.KnownBytes.{Appends-trans}
 use Rattle.std.proofs.lemmas.List.{drop-drop, append-nil}
 use Rattle.amqp_grammar.specs.Grammar.{long_field}
 use Rattle.amqp_generation.specs.declared.error.GenError.{GenError}
-use Rattle.amqp_generation.specs.Outputs.{Seen, Writes}
-use Rattle.amqp_generation.specs.Buffers.{IsWhole, GoesBack, FillsLength, filled}
-use Rattle.amqp_generation.specs.Lengths.{OnlyAppends, Reserved, PutsWithLength, RefusesWithLength}
-use Rattle.amqp_generation.specs.Contexts.{start_of, shown}
+use Rattle.amqp_generation.specs.Outputs.{OutputState, Writes}
+use Rattle.amqp_generation.specs.BufferOutput.{IsWhole, Truncates, PatchesLength, filled}
+use Rattle.amqp_generation.specs.Lengths.{OnlyAppends, Reserved, AppendsWithLength, RefusesWithLength}
+use Rattle.amqp_generation.specs.Contexts.{start_of, state_of}
 use Rattle.amqp_generation.specs.declared.context.WriteContext.{WriteContext}
 use Rattle.amqp_generation.proofs.Rooms.{told_back, front_overwritten}
 
@@ -22,9 +22,9 @@ counted (Some put) None n m xs h e k d p = absurd cc
 counted (Some put) (Some all) n m xs h e k d p = sym d ∙ ap length p ∙ length-append put xs ∙ ap (λ i. i + length xs) e
 
 -- what only appends leaves the position or raises it
-pub behind : {s t : Seen} {r : Result (Unit {0}) GenError} → IsWhole s → IsWhole t → OnlyAppends s r t → s.at ≤ t.at
+pub behind : {s t : OutputState} {r : Result (Unit {0}) GenError} → IsWhole s → IsWhole t → OnlyAppends s r t → s.position ≤ t.position
 behind {s = s} {t = t} here there o =
-    let n = counted s.told t.told s.at t.at o.more here.told here.counted there.told there.counted o.appended in
+    let n = counted s.written t.written s.position t.position o.more here.written here.counted there.written there.counted o.appended in
     omega arith
 
 -- nothing was appended where the bytes are as they were
@@ -33,19 +33,19 @@ nothing_appended None b e = tt
 nothing_appended (Some put) b e = subst (λ (o : Option (List ℕ)). Appends (Some put) o []) (sym e) (sym (append-nil put))
 
 -- an error that leaves the bytes as they were only appends
-pub refusal_appends : {s t : Seen} {e : GenError} → t.told ≡ s.told → OnlyAppends s (Err e) t
-refusal_appends {s = s} {t = t} same = record { more = []; appended = nothing_appended s.told t.told same; tail = tt }
+pub refusal_appends : {s t : OutputState} {e : GenError} → t.written ≡ s.written → OnlyAppends s (Err e) t
+refusal_appends {s = s} {t = t} same = record { more = []; appended = nothing_appended s.written t.written same; tail = tt }
 
 -- what was written is appended, and a rejected write leaves a buffer's bytes
-pub write_appends : {b : Bool} {A : Type 0} {xs : List ℕ} {s t : Seen} {r : Result (Unit {0}) GenError} → b ≡ true → Writes b A xs s r t → OnlyAppends s r t
+pub write_appends : {b : Bool} {A : Type 0} {xs : List ℕ} {s t : OutputState} {r : Result (Unit {0}) GenError} → b ≡ true → Writes b A xs s r t → OnlyAppends s r t
 write_appends {xs = xs} {r = Ok _} e p = record { more = xs; appended = p.appended; tail = p.tail }
 write_appends {r = Err _} e p = refusal_appends (p.kept (subst IsTrue (sym e) refl))
 
 -- what appends and then appends again only appends
-pub then_appends : {s t u : Seen} {r : Result (Unit {0}) GenError} → OnlyAppends s (Ok tt) t → OnlyAppends t r u → OnlyAppends s r u
+pub then_appends : {s t u : OutputState} {r : Result (Unit {0}) GenError} → OnlyAppends s (Ok tt) t → OnlyAppends t r u → OnlyAppends s r u
 then_appends {s = s} {t = t} {u = u} {r = r} p q = record {
   more = p.more ++ q.more;
-  appended = Appends-trans s.told t.told u.told p.more q.more p.appended q.appended;
+  appended = Appends-trans s.written t.written u.written p.more q.more p.appended q.appended;
   tail = by r q.tail;
 }
   where
@@ -56,35 +56,35 @@ then_appends {s = s} {t = t} {u = u} {r = r} p q = record {
     by (Err _) e = tt
 
 -- what was appended after four reserved bytes was taken back with them
-pub taken_back : {s t u w : Seen} {r : Result (Unit {0}) GenError} (at : ℕ) → at ≡ s.at → IsWhole s → Writes true ⊤ (replicate 4 0) s (Ok tt) t → OnlyAppends t r u → GoesBack at u w → w.told ≡ s.told
+pub taken_back : {s t u w : OutputState} {r : Result (Unit {0}) GenError} (at : ℕ) → at ≡ s.position → IsWhole s → Writes true ⊤ (replicate 4 0) s (Ok tt) t → OnlyAppends t r u → Truncates at u w → w.written ≡ s.written
 taken_back {s = s} {t = t} {u = u} {w = w} at place whole p o back =
-    told_back s.told u.told w.told s.at (replicate 4 0 ++ o.more) whole.counted whole.told
-    (Appends-trans s.told t.told u.told (replicate 4 0) o.more p.appended o.appended)
-    (back.told ∙ ap (λ n. option_map (take n) u.told) place)
+    told_back s.written u.written w.written s.position (replicate 4 0 ++ o.more) whole.counted whole.written
+    (Appends-trans s.written t.written u.written (replicate 4 0) o.more p.appended o.appended)
+    (back.written ∙ ap (λ n. option_map (take n) u.written) place)
 
 -- a call appended after four reserved bytes, which were then filled with the number of what it
 -- appended, or were taken back with that
-module _ {W : Type 0} (seen : W → Seen) (may : WriteContext W → Result (Unit {0}) GenError → WriteContext W → Type 0) (old before after new : WriteContext W) (at : ℕ) (place : at ≡ (shown seen old).at) (whole : IsWhole (shown seen old)) (end : IsWhole (shown seen after)) (reserved : Reserved seen old before) (appends : (x y : WriteContext W) (r : Result (Unit {0}) GenError) → may x r y → OnlyAppends (shown seen x) r (shown seen y)) (called : may before (Ok tt) after) where
-  abbrev s : Seen
-  s = shown seen old
+module _ {W : Type 0} (seen : W → OutputState) (may : WriteContext W → Result (Unit {0}) GenError → WriteContext W → Type 0) (old before after new : WriteContext W) (at : ℕ) (place : at ≡ (state_of seen old).position) (whole : IsWhole (state_of seen old)) (end : IsWhole (state_of seen after)) (reserved : Reserved seen old before) (appends : (x y : WriteContext W) (r : Result (Unit {0}) GenError) → may x r y → OnlyAppends (state_of seen x) r (state_of seen y)) (called : may before (Ok tt) after) where
+  abbrev s : OutputState
+  s = state_of seen old
 
-  abbrev u : Seen
-  u = shown seen after
+  abbrev u : OutputState
+  u = state_of seen after
 
-  abbrev w : Seen
-  w = shown seen new
+  abbrev w : OutputState
+  w = state_of seen new
 
   -- it only appended
-  abbrev o : OnlyAppends (shown seen before) (Ok tt) u
+  abbrev o : OnlyAppends (state_of seen before) (Ok tt) u
   o = appends before after (Ok tt) called
 
   -- the four bytes and those after them
-  both : Appends s.told u.told (replicate 4 0 ++ o.more)
-  both = Appends-trans s.told (shown seen before).told u.told (replicate 4 0) o.more reserved.zeros.appended o.appended
+  both : Appends s.written u.written (replicate 4 0 ++ o.more)
+  both = Appends-trans s.written (state_of seen before).written u.written (replicate 4 0) o.more reserved.zeros.appended o.appended
 
   -- how many they are
-  size : u.at - at - 4 ≡ length o.more
-  size = let n = counted s.told u.told s.at u.at (replicate 4 0 ++ o.more) whole.told whole.counted end.told end.counted both in omega arith
+  size : u.position - at - 4 ≡ length o.more
+  size = let n = counted s.written u.written s.position u.position (replicate 4 0 ++ o.more) whole.written whole.counted end.written end.counted both in omega arith
 
   -- what is after the position
   rest : u.tail ≡ drop (length (long_field o.more)) s.tail
@@ -92,28 +92,28 @@ module _ {W : Type 0} (seen : W → Seen) (may : WriteContext W → Result (Unit
       let sum : 4 + length o.more ≡ length (long_field o.more) = omega arith in
       o.tail ∙ ap (drop (length o.more)) reserved.zeros.tail ∙ drop-drop (length o.more) 4 s.tail ∙ ap (λ n. drop n s.tail) sum
 
-  module _ (e : w ≡ filled u at (to_be_bytes w32 (u.at - at - 4))) where
+  module _ (e : w ≡ filled u at (to_be_bytes w32 (u.position - at - 4))) where
     -- the number is that of what was appended
-    number : w ≡ filled u s.at (to_be_bytes w32 (length o.more))
+    number : w ≡ filled u s.position (to_be_bytes w32 (length o.more))
     number = e ∙ (λ i. filled u (place i) (to_be_bytes w32 (size i)))
 
     -- so that is after its length
-    put : Appends s.told w.told (long_field o.more)
-    put = subst (λ (x : Seen). Appends s.told x.told (long_field o.more)) (sym number) (front_overwritten s.told u.told s.at (replicate 4 0) (to_be_bytes w32 (length o.more)) o.more whole.counted refl both)
+    put : Appends s.written w.written (long_field o.more)
+    put = subst (λ (x : OutputState). Appends s.written x.written (long_field o.more)) (sym number) (front_overwritten s.written u.written s.position (replicate 4 0) (to_be_bytes w32 (length o.more)) o.more whole.counted refl both)
 
     -- and is all that was put
-    moved : w.at ≡ s.at + length (long_field o.more)
+    moved : w.position ≡ s.position + length (long_field o.more)
     moved =
-        let n = counted s.told u.told s.at u.at (replicate 4 0 ++ o.more) whole.told whole.counted end.told end.counted both in
-        let same : w.at ≡ u.at = ap (λ (x : Seen). x.at) number in
+        let n = counted s.written u.written s.position u.position (replicate 4 0 ++ o.more) whole.written whole.counted end.written end.counted both in
+        let same : w.position ≡ u.position = ap (λ (x : OutputState). x.position) number in
         omega arith
 
     -- the tail was cut by as much
     tail : w.tail ≡ drop (length (long_field o.more)) s.tail
-    tail = ap (λ (x : Seen). x.tail) number ∙ rest
+    tail = ap (λ (x : OutputState). x.tail) number ∙ rest
 
   -- where the number fits, it is put before what was appended
-  pub put_with_length : (r : Result (Unit {0}) GenError) → FillsLength at u r w → start_of new ≡ start_of after → OnOk r (PutsWithLength seen may old new)
+  pub put_with_length : (r : Result (Unit {0}) GenError) → PatchesLength at u r w → start_of new ≡ start_of after → OnOk r (AppendsWithLength seen may old new)
   put_with_length (Ok _) f start = record {
     before = before;
     after = after;
@@ -130,7 +130,7 @@ module _ {W : Type 0} (seen : W → Seen) (may : WriteContext W → Result (Unit
   put_with_length (Err e) f start = tt
 
   -- where it doesn't fit, the call may pass it
-  pub too_long : (r : Result (Unit {0}) GenError) → FillsLength at u r w → start_of new ≡ start_of after → IfErr r (RefusesWithLength seen may old new)
+  pub too_long : (r : Result (Unit {0}) GenError) → PatchesLength at u r w → start_of new ≡ start_of after → IfErr r (RefusesWithLength seen may old new)
   too_long (Ok _) f start = tt
   too_long (Err e) f start = inr (inr (
     f.refused,
@@ -147,11 +147,11 @@ module _ {W : Type 0} (seen : W → Seen) (may : WriteContext W → Result (Unit
   ))
 
   -- then all is taken back
-  pub all_back : (r : Result (Unit {0}) GenError) → FillsLength at u r w → OnErr r (w.told ≡ s.told)
+  pub all_back : (r : Result (Unit {0}) GenError) → PatchesLength at u r w → OnErr r (w.written ≡ s.written)
   all_back (Ok _) f = tt
   all_back (Err e) f = taken_back at place whole reserved.zeros o f.back
 
   -- so it only appends
-  pub length_appends : (r : Result (Unit {0}) GenError) → FillsLength at u r w → OnlyAppends s r w
+  pub length_appends : (r : Result (Unit {0}) GenError) → PatchesLength at u r w → OnlyAppends s r w
   length_appends (Ok _) f = record { more = long_field o.more; appended = put f.filled; tail = tail f.filled }
   length_appends (Err e) f = refusal_appends (all_back (Err e) f)

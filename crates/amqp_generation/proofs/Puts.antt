@@ -4,13 +4,13 @@ use Rattle.std.specs.Option.{option_map}
 use Rattle.std.specs.Io.KnownBytes.{Appends}
 use Rattle.std.proofs.lemmas.Bool.{false≢true}
 use Rattle.amqp_generation.specs.declared.error.GenError.{GenError}
-use Rattle.amqp_generation.specs.Outputs.{Seen, Writes}
-use Rattle.amqp_generation.specs.Buffers.{Puts, MakesRoom}
+use Rattle.amqp_generation.specs.Outputs.{OutputState, Writes}
+use Rattle.amqp_generation.specs.BufferOutput.{AppendsBytes, MakesRoom}
 use Rattle.amqp_generation.proofs.Rooms.{both_too_many, still_fixed, rest_fits, any_room}
 use Rattle.amqp_generation.proofs.Steps.{both_put, failed_since}
 
 -- some bytes were put, and a buffer won't reject those after them, n in all
-pub record PutSoFar (b : Bool) (n : ℕ) (done : List ℕ) (before after : Seen) : Type 0 where
+pub record PutSoFar (b : Bool) (n : ℕ) (done : List ℕ) (before after : OutputState) : Type 0 where
   pub written : Writes b (Unit {0}) done before (Ok tt) after
   pub promise : IsTrue b → n ≤ after.promise + length done
 
@@ -30,11 +30,11 @@ none_fit None = tt
 none_fit (Some n) = omega arith
 
 -- room was made, and nothing is put yet
-pub room_made : {b : Bool} {n m : ℕ} {s t : Seen} → n ≡ m → MakesRoom b n s (Ok tt) t → PutSoFar b m [] s t
+pub room_made : {b : Bool} {n m : ℕ} {s t : OutputState} → n ≡ m → MakesRoom b n s (Ok tt) t → PutSoFar b m [] s t
 room_made {s = s} {t = t} same m = record {
   written = record {
-    appended = nothing_appended s.told t.told m.told;
-    moved = m.at ∙ (omega arith);
+    appended = nothing_appended s.written t.written m.written;
+    moved = m.position ∙ (omega arith);
     tail = m.tail;
     stayed = λ _. tt;
     kept = λ _. tt;
@@ -55,7 +55,7 @@ room_made {s = s} {t = t} same m = record {
 }
 
 -- room for the bytes was rejected
-pub room_refused : {b : Bool} {n : ℕ} {s t : Seen} {e : GenError} (all : List ℕ) → n ≡ length all → MakesRoom b n s (Err e) t → Writes b (Unit {0}) all s (Err e) t
+pub room_refused : {b : Bool} {n : ℕ} {s t : OutputState} {e : GenError} (all : List ℕ) → n ≡ length all → MakesRoom b n s (Err e) t → Writes b (Unit {0}) all s (Err e) t
 room_refused {b = b} {n = n} {s = s} {t = t} {e = e} all count m =
     let P : ℕ → Type 0 = λ k. MakesRoom b k s (Err e) t in
     let r = subst P count m in
@@ -63,8 +63,8 @@ room_refused {b = b} {n = n} {s = s} {t = t} {e = e} all count m =
       appended = tt;
       moved = tt;
       tail = tt;
-      stayed = λ _. r.at;
-      kept = λ _. r.told;
+      stayed = λ _. r.position;
+      kept = λ _. r.written;
       room_kept = λ _. r.room;
       fits = tt;
       room = tt;
@@ -80,14 +80,14 @@ room_refused {b = b} {n = n} {s = s} {t = t} {e = e} all count m =
     }
 
 -- more bytes were put
-pub put_more : {b : Bool} {n : ℕ} {done ys : List ℕ} {s t u : Seen} → PutSoFar b n done s t → Puts b ys t (Ok tt) u → PutSoFar b n (done ++ ys) s u
+pub put_more : {b : Bool} {n : ℕ} {done ys : List ℕ} {s t u : OutputState} → PutSoFar b n done s t → AppendsBytes b ys t (Ok tt) u → PutSoFar b n (done ++ ys) s u
 put_more {done = xs} {ys = ys} so_far new = record {
   written = both_put (Unit {0}) (xs ++ ys) refl (λ _ _. tt) so_far.written new.written;
   promise = λ is. omega (arith, so_far.promise is, new.promise, length-append xs ys);
 }
 
 -- more bytes were rejected: then it isn't a buffer, since a buffer promised them
-pub refused_later : {b : Bool} {n : ℕ} {done ys : List ℕ} {s t u : Seen} {e : GenError} (all : List ℕ) → n ≡ length all → length done + length ys ≤ length all → PutSoFar b n done s t → Puts b ys t (Err e) u → Writes b (Unit {0}) all s (Err e) u
+pub refused_later : {b : Bool} {n : ℕ} {done ys : List ℕ} {s t u : OutputState} {e : GenError} (all : List ℕ) → n ≡ length all → length done + length ys ≤ length all → PutSoFar b n done s t → AppendsBytes b ys t (Err e) u → Writes b (Unit {0}) all s (Err e) u
 refused_later {b = b} {n = n} {done = xs} {ys = ys} {s = s} {t = t} {u = u} {e = e} all count long so_far new =
     let p = so_far.written in
     let q = new.written in
@@ -115,7 +115,7 @@ refused_later {b = b} {n = n} {done = xs} {ys = ys} {s = s} {t = t} {u = u} {e =
     }
 
 -- all bytes were put
-pub all_put : {b : Bool} {n : ℕ} {done : List ℕ} {s t : Seen} (all : List ℕ) → done ≡ all → PutSoFar b n done s t → Writes b (Unit {0}) all s (Ok tt) t
+pub all_put : {b : Bool} {n : ℕ} {done : List ℕ} {s t : OutputState} (all : List ℕ) → done ≡ all → PutSoFar b n done s t → Writes b (Unit {0}) all s (Ok tt) t
 all_put {b = b} {s = s} {t = t} all same so_far =
     let P : List ℕ → Type 0 = λ l. Writes b (Unit {0}) l s (Ok tt) t in
     subst P same so_far.written

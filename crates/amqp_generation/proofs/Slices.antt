@@ -3,7 +3,7 @@ use Rattle.std.proofs.Common.{◌≡◌, ℕ, ◌+◌, ◌-◌, ◌≤◌, true,
 use Rattle.std.proofs.lemmas.Slice.{take-put_mid, drop-put_mid}
 use Rattle.std.proofs.lemmas.List.{drop-drop, length-take-le, same_lists, places}
 use borrow.Rule.Slice.PartMut.{put_mid}
-use Rattle.amqp_generation.specs.Buffers.{Puts, filled, overwrite}
+use Rattle.amqp_generation.specs.BufferOutput.{AppendsBytes, filled, overwrite}
 use Rattle.amqp_generation.specs.Slices.{Sliced, seen_slice}
 
 -- a slice's bytes before a place, and those from there on
@@ -11,7 +11,7 @@ abbrev pub cut_at : List ℕ → ℕ → Sliced
 cut_at xs at = record { put = take at xs; tail = drop at xs }
 
 -- bytes that fit were put
-put_fits : (s t : Sliced) (ys : List ℕ) → length ys ≤ length s.tail → t.put ≡ s.put ++ ys → t.tail ≡ drop (length ys) s.tail → Puts true ys (seen_slice s) (Ok tt) (seen_slice t)
+put_fits : (s t : Sliced) (ys : List ℕ) → length ys ≤ length s.tail → t.put ≡ s.put ++ ys → t.tail ≡ drop (length ys) s.tail → AppendsBytes true ys (seen_slice s) (Ok tt) (seen_slice t)
 put_fits s t ys fit put tail =
     let long = ap length put ∙ length-append s.put ys in
     let left = ap length tail ∙ length-drop (length ys) s.tail in
@@ -41,12 +41,12 @@ put_fits s t ys fit put tail =
     }
 
 -- bytes were written at the place, and the place moved after them
-pub put_next : (s : Sliced) (xs ys bytes : List ℕ) (at k : ℕ) → cut_at xs at ≡ s → ys ≡ bytes → length bytes ≡ k → at + k ≤ length xs → Puts true bytes (seen_slice s) (Ok tt) (seen_slice (cut_at (put_mid at (at + k - at) xs ys) (at + k)))
+pub put_next : (s : Sliced) (xs ys bytes : List ℕ) (at k : ℕ) → cut_at xs at ≡ s → ys ≡ bytes → length bytes ≡ k → at + k ≤ length xs → AppendsBytes true bytes (seen_slice s) (Ok tt) (seen_slice (cut_at (put_mid at (at + k - at) xs ys) (at + k)))
 put_next s xs ys bytes at k was same long fit =
     let tail : drop (length bytes) (drop at xs) ≡ drop (at + k) xs = ap (λ n. drop n (drop at xs)) long ∙ drop-drop k at xs in
     let count : length ys ≡ k = ap length same ∙ long in
     let left = length-drop at xs in
-    let P : Sliced → Type 0 = λ x. Puts true bytes (seen_slice x) (Ok tt) (seen_slice (cut_at (put_mid at (at + k - at) xs ys) (at + k))) in
+    let P : Sliced → Type 0 = λ x. AppendsBytes true bytes (seen_slice x) (Ok tt) (seen_slice (cut_at (put_mid at (at + k - at) xs ys) (at + k))) in
     subst P was (put_fits (cut_at xs at) _ bytes (omega arith)
     (take-put_mid at (at + k - at) xs ys (at + k) (omega arith) (omega arith) ∙ ap (λ l. take at xs ++ l) same)
     (drop-put_mid at (at + k - at) xs ys (at + k) (omega arith) (omega arith) (omega arith) ∙ sym tail))
@@ -62,5 +62,5 @@ fill_before s xs ys bytes from at was same h fit =
     let put : take at new ≡ overwrite (take at xs) from ys = same_lists _ _ (search (rules, places)) (λ n d l. grind (arith, places)) in
     let long : length (take at new) ≡ length (take at xs) = search (rules, places) in
     let tail : drop at new ≡ drop at xs = drop-put_mid from k xs ys at (omega arith) (omega arith) (omega arith) in
-    let seen : seen_slice (cut_at new at) ≡ filled (seen_slice (cut_at xs at)) from ys = λ i. record { told = Some (put i); at = long i; room = Some (length (tail i)); promise = length (tail i); faults = 0; tail = tail i } in
+    let seen : seen_slice (cut_at new at) ≡ filled (seen_slice (cut_at xs at)) from ys = λ i. record { written = Some (put i); position = long i; room = Some (length (tail i)); promise = length (tail i); faults = 0; tail = tail i } in
     seen ∙ (λ i. filled (seen_slice (was i)) from (same i))

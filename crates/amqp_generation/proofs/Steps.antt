@@ -8,17 +8,17 @@ use Rattle.std.specs.Int.{w32, to_be_bytes}
 use Rattle.amqp_grammar.specs.Grammar.{long_field}
 use Rattle.amqp_generation.specs.declared.error.GenError.{GenError}
 use Rattle.amqp_generation.specs.declared.error.GenError.TheVariants.{LengthTooLong}
-use Rattle.amqp_generation.specs.Outputs.{Seen, Writes, HasFailed}
-use Rattle.amqp_generation.specs.Buffers.{IsWhole, GoesBack, FillsLength, filled}
+use Rattle.amqp_generation.specs.Outputs.{OutputState, Writes, HasFailed}
+use Rattle.amqp_generation.specs.BufferOutput.{IsWhole, Truncates, PatchesLength, filled}
 use Rattle.amqp_generation.proofs.Rooms.{both_fit, both_left, room_back, both_too_many, still_fixed, rest_fits, told_back, front_overwritten, any_room}
 
 -- xs were put, and then ys: so both were
-pub both_put : {b : Bool} {A B : Type 0} {xs ys : List ℕ} {s t u : Seen} (C : Type 0) (zs : List ℕ) → zs ≡ xs ++ ys → (A → B → C) → Writes b A xs s (Ok tt) t → Writes b B ys t (Ok tt) u → Writes b C zs s (Ok tt) u
+pub both_put : {b : Bool} {A B : Type 0} {xs ys : List ℕ} {s t u : OutputState} (C : Type 0) (zs : List ℕ) → zs ≡ xs ++ ys → (A → B → C) → Writes b A xs s (Ok tt) t → Writes b B ys t (Ok tt) u → Writes b C zs s (Ok tt) u
 both_put {xs = xs} {ys = ys} {s = s} {t = t} {u = u} C zs both lengths p q =
     let sum : length zs ≡ length xs + length ys = ap length both ∙ length-append xs ys in
-    let P : List ℕ → Type 0 = λ l. Appends s.told u.told l in
+    let P : List ℕ → Type 0 = λ l. Appends s.written u.written l in
     record {
-      appended = subst P (sym both) (Appends-trans s.told t.told u.told xs ys p.appended q.appended);
+      appended = subst P (sym both) (Appends-trans s.written t.written u.written xs ys p.appended q.appended);
       moved = omega (arith, p.moved, q.moved);
       tail = q.tail ∙ ap (drop (length ys)) p.tail ∙ drop-drop (length ys) (length xs) s.tail ∙ ap (λ n. drop n s.tail) (sym sum);
       stayed = λ _. tt;
@@ -38,23 +38,23 @@ both_put {xs = xs} {ys = ys} {s = s} {t = t} {u = u} C zs both lengths p q =
     }
 
 -- a device that failed in a later call has failed since an earlier one
-pub failed_since : (s t u w : Seen) → s.faults ≤ t.faults → w.faults ≡ u.faults → HasFailed t u → HasFailed s w
+pub failed_since : (s t u w : OutputState) → s.faults ≤ t.faults → w.faults ≡ u.faults → HasFailed t u → HasFailed s w
 failed_since s t u w before after (inl more) = inl (omega arith)
 failed_since s t u w before after (inr most) = inr (after ∙ most)
 
 -- xs were put, ys rejected, and xs taken back: so more than both was rejected
-pub refused : {A B : Type 0} {xs ys : List ℕ} {s t u w : Seen} {e : GenError} (C : Type 0) (zs : List ℕ) (at : ℕ) → at ≡ s.at → IsWhole s → length xs + length ys ≤ length zs → (C → B) → Writes true A xs s (Ok tt) t → Writes true B ys t (Err e) u → GoesBack at u w → Writes true C zs s (Err e) w
+pub refused : {A B : Type 0} {xs ys : List ℕ} {s t u w : OutputState} {e : GenError} (C : Type 0) (zs : List ℕ) (at : ℕ) → at ≡ s.position → IsWhole s → length xs + length ys ≤ length zs → (C → B) → Writes true A xs s (Ok tt) t → Writes true B ys t (Err e) u → Truncates at u w → Writes true C zs s (Err e) w
 refused {xs = xs} {ys = ys} {s = s} {t = t} {u = u} {w = w} {e = e} C zs at place whole long lengths p q back =
-    let kept : u.at ≡ t.at = q.stayed refl in
-    let told : u.told ≡ t.told = q.kept refl in
+    let kept : u.position ≡ t.position = q.stayed refl in
+    let told : u.written ≡ t.written = q.kept refl in
     let room : u.room ≡ t.room = q.room_kept refl in
-    let cut : u.at - at ≡ length xs = omega (arith, p.moved) in
+    let cut : u.position - at ≡ length xs = omega (arith, p.moved) in
     record {
       appended = tt;
       moved = tt;
       tail = tt;
       stayed = λ _. back.position ∙ place;
-      kept = λ _. told_back s.told t.told w.told s.at xs whole.counted whole.told p.appended (back.told ∙ (λ i. option_map (take (place i)) (told i)));
+      kept = λ _. told_back s.written t.written w.written s.position xs whole.counted whole.written p.appended (back.written ∙ (λ i. option_map (take (place i)) (told i)));
       room_kept = λ _. room_back s.room t.room w.room (length xs) p.room p.room_left (back.room ∙ (λ i. option_map (λ n. n + cut i) (room i)));
       fits = tt;
       room = tt;
@@ -70,7 +70,7 @@ refused {xs = xs} {ys = ys} {s = s} {t = t} {u = u} {w = w} {e = e} C zs at plac
     }
 
 -- a length that doesn't fit its field is rejected where nothing more was put
-pub refused_as_long : (s : Seen) (C : Type 0) → (C → ⊥) → Writes true C [] s (Err LengthTooLong) s
+pub refused_as_long : (s : OutputState) (C : Type 0) → (C → ⊥) → Writes true C [] s (Err LengthTooLong) s
 refused_as_long s C long = record {
   appended = tt;
   moved = tt;
@@ -92,13 +92,13 @@ refused_as_long s C long = record {
 }
 
 -- zeros were put, and then more; the zeros were overwritten
-pub filled_in : {A : Type 0} (zeros more : List ℕ) {s t : Seen} (C : Type 0) (ys : List ℕ) → IsWhole s → length zeros ≡ length ys → (A → C) → Writes true A (zeros ++ more) s (Ok tt) t → Writes true C (ys ++ more) s (Ok tt) (filled t s.at ys)
+pub filled_in : {A : Type 0} (zeros more : List ℕ) {s t : OutputState} (C : Type 0) (ys : List ℕ) → IsWhole s → length zeros ≡ length ys → (A → C) → Writes true A (zeros ++ more) s (Ok tt) t → Writes true C (ys ++ more) s (Ok tt) (filled t s.position ys)
 filled_in zeros more {s = s} {t = t} C ys whole same lengths p =
     let sum : length (ys ++ more) ≡ length (zeros ++ more) = length-append ys more ∙ ap (λ n. n + length more) (sym same) ∙ sym (length-append zeros more) in
     let Fit : ℕ → Type 0 = λ n. IfSome s.room (λ room. n ≤ room) in
     record {
-      appended = front_overwritten s.told t.told s.at zeros ys more whole.counted same p.appended;
-      moved = p.moved ∙ ap (λ n. s.at + n) (sym sum);
+      appended = front_overwritten s.written t.written s.position zeros ys more whole.counted same p.appended;
+      moved = p.moved ∙ ap (λ n. s.position + n) (sym sum);
       tail = p.tail ∙ ap (λ n. drop n s.tail) (sym sum);
       stayed = λ _. tt;
       kept = λ _. tt;
@@ -117,23 +117,23 @@ filled_in zeros more {s = s} {t = t} C ys whole same lengths p =
     }
 
 -- what a buffer wrote, whatever says that it is one
-pub by_buffer : {b : Bool} {A : Type 0} {xs : List ℕ} {s t : Seen} → b ≡ true → Writes b A xs s (Ok tt) t → Writes true A xs s (Ok tt) t
+pub by_buffer : {b : Bool} {A : Type 0} {xs : List ℕ} {s t : OutputState} → b ≡ true → Writes b A xs s (Ok tt) t → Writes true A xs s (Ok tt) t
 by_buffer {A = A} {xs = xs} {s = s} {t = t} e p =
     let P : Bool → Type 0 = λ c. Writes c A xs s (Ok tt) t in
     subst P e p
 
 -- after four reserved bytes some bytes of `all` were put, ys rejected, and all taken back
-pub refused_inside : {A B : Type 0} (some all : List ℕ) {ys : List ℕ} {s t u w : Seen} {e : GenError} (C : Type 0) (at : ℕ) → at ≡ s.at → IsWhole s → length some + length ys ≤ length all → (C → B) → Writes true A (replicate 4 0 ++ some) s (Ok tt) t → Writes true B ys t (Err e) u → GoesBack at u w → Writes true C (long_field all) s (Err e) w
+pub refused_inside : {A B : Type 0} (some all : List ℕ) {ys : List ℕ} {s t u w : OutputState} {e : GenError} (C : Type 0) (at : ℕ) → at ≡ s.position → IsWhole s → length some + length ys ≤ length all → (C → B) → Writes true A (replicate 4 0 ++ some) s (Ok tt) t → Writes true B ys t (Err e) u → Truncates at u w → Writes true C (long_field all) s (Err e) w
 refused_inside some all C at place whole long lengths p q back = refused C (long_field all) at place whole (omega arith) lengths p q back
 
 -- after four reserved bytes all were put; their number was filled in, or doesn't fit and all are
 -- taken back
-pub length_put : {A : Type 0} (all : List ℕ) {s t w : Seen} (r : Result (Unit {0}) GenError) (C : Type 0) (at : ℕ) → at ≡ s.at → IsWhole s → (2 ^ 32 ≤ length all → C → ⊥) → (length all < 2 ^ 32 → A → C) → Writes true A (replicate 4 0 ++ all) s (Ok tt) t → FillsLength at t r w → Writes true C (long_field all) s r w
+pub length_put : {A : Type 0} (all : List ℕ) {s t w : OutputState} (r : Result (Unit {0}) GenError) (C : Type 0) (at : ℕ) → at ≡ s.position → IsWhole s → (2 ^ 32 ≤ length all → C → ⊥) → (length all < 2 ^ 32 → A → C) → Writes true A (replicate 4 0 ++ all) s (Ok tt) t → PatchesLength at t r w → Writes true C (long_field all) s r w
 length_put all {s = s} {t = t} {w = w} (Ok _) C at place whole long short p f =
-    let count : t.at - at - 4 ≡ length all = omega (arith, p.moved) in
+    let count : t.position - at - 4 ≡ length all = omega (arith, p.moved) in
     let few : length all < 2 ^ 32 = omega (arith, f.fits) in
-    let end : filled t s.at (to_be_bytes w32 (length all)) ≡ w = (λ i. filled t (sym place i) (to_be_bytes w32 (sym count i))) ∙ sym f.filled in
-    let P : Seen → Type 0 = λ u. Writes true C (long_field all) s (Ok tt) u in
+    let end : filled t s.position (to_be_bytes w32 (length all)) ≡ w = (λ i. filled t (sym place i) (to_be_bytes w32 (sym count i))) ∙ sym f.filled in
+    let P : OutputState → Type 0 = λ u. Writes true C (long_field all) s (Ok tt) u in
     subst P end (filled_in (replicate 4 0) all C (to_be_bytes w32 (length all)) whole refl (short few) p)
 length_put all {s = s} {t = t} {w = w} (Err e) C at place whole long short p f =
     let many : 2 ^ 32 ≤ length all = omega (arith, p.moved, f.too_long) in

@@ -14,8 +14,8 @@ use Rattle.amqp_grammar.specs.Texts.{text, pairs, Fits}
 use Rattle.amqp_grammar.specs.Members.{EntriesFit}
 use Rattle.amqp_grammar.specs.InMemory.{IsValue, AreEntries}
 use Rattle.amqp_generation.specs.declared.error.GenError.{GenError}
-use Rattle.amqp_generation.specs.Outputs.{Seen, Writes}
-use Rattle.amqp_generation.specs.Buffers.{IsWhole, GoesBack, FillsLength}
+use Rattle.amqp_generation.specs.Outputs.{OutputState, Writes}
+use Rattle.amqp_generation.specs.BufferOutput.{IsWhole, Truncates, PatchesLength}
 use Rattle.amqp_generation.proofs.Steps.{both_put, refused, refused_inside, length_put}
 
 -- the entries of a table, with their values in memory
@@ -63,18 +63,18 @@ are_entries (e ∷ f ∷ es) rising p = (p.0.0, p.0.1, rising.0.0, are_entries (
 -- ---- writing
 
 -- of all entries some were put after four reserved bytes, and these are left
-pub record HasPut (all left : Stored) (s t : Seen) : Type 0 where
+pub record HasPut (all left : Stored) (s t : OutputState) : Type 0 where
   pub done : Stored
   pub split : done ++ left ≡ all
   pub written : Writes true (EntriesFit (entries done)) (replicate 4 0 ++ pairs (entries done)) s (Ok tt) t
   pub stored : AreStored done
 
 -- four bytes were reserved
-pub none_put : (all left : Stored) {s t : Seen} → left ≡ all → Writes true (Unit {0}) (replicate 4 0) s (Ok tt) t → HasPut all left s t
+pub none_put : (all left : Stored) {s t : OutputState} → left ≡ all → Writes true (Unit {0}) (replicate 4 0) s (Ok tt) t → HasPut all left s t
 none_put all left same p = record { done = []; split = same; written = p; stored = tt }
 
 -- one more entry was put
-pub one_more_put : {all left rest : Stored} (k : List ℕ) (v : AMQPValue) {s t u : Seen} → left ≡ (k, v) ∷ rest → IsShort k → IsValue (view v) → HasPut all left s t → Writes true (Fits (view v)) (short_field k ++ text (view v)) t (Ok tt) u → HasPut all rest s u
+pub one_more_put : {all left rest : Stored} (k : List ℕ) (v : AMQPValue) {s t u : OutputState} → left ≡ (k, v) ∷ rest → IsShort k → IsValue (view v) → HasPut all left s t → Writes true (Fits (view v)) (short_field k ++ text (view v)) t (Ok tt) u → HasPut all rest s u
 one_more_put {rest = rest} k v here is value p q =
     let done = p.done ++ (k, v) ∷ [] in
     let last : pairs (entries ((k, v) ∷ [])) ≡ short_field k ++ text (view v) = ap (λ l. short_field k ++ l) (append-nil (text (view v))) in
@@ -88,16 +88,16 @@ one_more_put {rest = rest} k v here is value p q =
     }
 
 -- an entry's key was put and its value rejected, and the key was taken back
-pub key_taken_back : {A : Type 0} (k name : List ℕ) (v : Tree) (at : ℕ) {s t u w : Seen} {e : GenError} → name ≡ k → at ≡ s.at → IsWhole s → Writes true A (short_field name) s (Ok tt) t → Writes true (Fits v) (text v) t (Err e) u → GoesBack at u w → Writes true (Fits v) (short_field k ++ text v) s (Err e) w
+pub key_taken_back : {A : Type 0} (k name : List ℕ) (v : Tree) (at : ℕ) {s t u w : OutputState} {e : GenError} → name ≡ k → at ≡ s.position → IsWhole s → Writes true A (short_field name) s (Ok tt) t → Writes true (Fits v) (text v) t (Err e) u → Truncates at u w → Writes true (Fits v) (short_field k ++ text v) s (Err e) w
 key_taken_back k name v at same place whole p q back =
     refused (Fits v) (short_field k ++ text v) at place whole (omega (arith, length-append k (text v), ap length same)) (λ fit. fit) p q back
 
 -- what a table's generator must promise
-abbrev pub Owes : Stored → Seen → Result (Unit {0}) GenError → Seen → Type 0
+abbrev pub Owes : Stored → OutputState → Result (Unit {0}) GenError → OutputState → Type 0
 Owes all s r w = Writes true (Fits (table (entries all))) (long_field (pairs (entries all))) s r w
 
 -- the next entry was rejected, and all was taken back
-pub entry_refused : {all left rest : Stored} (k : List ℕ) (v : AMQPValue) (at : ℕ) {s t u w : Seen} {e : GenError} → left ≡ (k, v) ∷ rest → at ≡ s.at → IsWhole s → HasPut all left s t → Writes true (Fits (view v)) (short_field k ++ text (view v)) t (Err e) u → GoesBack at u w → Owes all s (Err e) w
+pub entry_refused : {all left rest : Stored} (k : List ℕ) (v : AMQPValue) (at : ℕ) {s t u w : OutputState} {e : GenError} → left ≡ (k, v) ∷ rest → at ≡ s.position → IsWhole s → HasPut all left s t → Writes true (Fits (view v)) (short_field k ++ text (view v)) t (Err e) u → Truncates at u w → Owes all s (Err e) w
 entry_refused {rest = rest} k v at {s = s} {w = w} {e = e} here place whole p q back =
     let split : p.done ++ (k, v) ∷ rest ≡ _ = ap (λ l. p.done ++ l) (sym here) ∙ p.split in
     let some = pairs (entries p.done) in
@@ -107,18 +107,18 @@ entry_refused {rest = rest} k v at {s = s} {w = w} {e = e} here place whole p q 
     subst P split (refused_inside some _ _ at place whole long (λ fit. fit_behind p.done k v rest fit.1) p.written q back)
 
 -- all entries were put
-all_put : {all left : Stored} {s t : Seen} → left ≡ [] → (p : HasPut all left s t) → p.done ≡ all
+all_put : {all left : Stored} {s t : OutputState} → left ≡ [] → (p : HasPut all left s t) → p.done ≡ all
 all_put none p = sym (append-nil p.done) ∙ ap (λ l. p.done ++ l) (sym none) ∙ p.split
 
 -- their length was filled in, or rejected
-pub table_closed : {all left : Stored} (at : ℕ) {s t w : Seen} (r : Result (Unit {0}) GenError) → left ≡ [] → at ≡ s.at → IsWhole s → HasPut all left s t → FillsLength at t r w → Owes all s r w
+pub table_closed : {all left : Stored} (at : ℕ) {s t w : OutputState} (r : Result (Unit {0}) GenError) → left ≡ [] → at ≡ s.position → IsWhole s → HasPut all left s t → PatchesLength at t r w → Owes all s r w
 table_closed at {s = s} {w = w} r none place whole p f =
     let es = entries p.done in
     let P : Stored → Type 0 = λ fs. Owes fs s r w in
     subst P (all_put none p) (length_put (pairs es) r _ at place whole (λ many fit. omega (arith, fit.0)) (λ few fit. (omega arith, fit)) p.written f)
 
 -- all of them are a value, whatever comes of their length
-pub table_value : {all left from : Stored} {s t : Seen} (r : Result (Unit {0}) GenError) → left ≡ [] → from ≡ all → IsStrictlySortedBy (slice_cmp nat_cmp) (keys_of from) → HasPut all left s t → OnOk r (IsValue (table (entries all)))
+pub table_value : {all left from : Stored} {s t : OutputState} (r : Result (Unit {0}) GenError) → left ≡ [] → from ≡ all → IsStrictlySortedBy (slice_cmp nat_cmp) (keys_of from) → HasPut all left s t → OnOk r (IsValue (table (entries all)))
 table_value {all = all} (Ok _) none same rising p =
     let P : Stored → Type 0 = λ es. IsStrictlySortedBy (slice_cmp nat_cmp) (keys_of es) in
     are_entries all (subst P same rising) (subst AreStored (all_put none p) p.stored)

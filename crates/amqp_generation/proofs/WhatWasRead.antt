@@ -6,7 +6,7 @@ use Rattle.amqp_grammar.specs.Values.{Tree}
 use Rattle.amqp_grammar.specs.Texts.{text, Fits, payload}
 use Rattle.amqp_grammar.proofs.GrammarLaws.{bounded_wire, raw_bounds, what_raw_reads, length_of_payload}
 use Rattle.amqp_generation.specs.declared.error.GenError.{GenError}
-use Rattle.amqp_generation.specs.Outputs.{Seen, Writes}
+use Rattle.amqp_generation.specs.Outputs.{OutputState, Writes}
 use Rattle.amqp_generation.specs.Written.{WritesWhatWasRead, WritesPayloadRead}
 
 -- what succeeds where n bytes fit does where more do
@@ -15,7 +15,7 @@ in_more_room P None n m le h = tt
 in_more_room P (Some r) n m le h = λ fit. h (omega arith)
 
 -- what writes a value's text writes a value that was read
-pub writes_what_was_read : {v : Tree} {s t : Seen} {r : Result (Unit {0}) GenError} → Writes true (Fits v) (text v) s r t → WritesWhatWasRead v s r
+pub writes_what_was_read : {v : Tree} {s t : OutputState} {r : Result (Unit {0}) GenError} → Writes true (Fits v) (text v) s r t → WritesWhatWasRead v s r
 writes_what_was_read {v = v} {s = s} p = record {
   never_too_long = λ w q e. p.too_long e (bounded_wire w v q).fits;
   succeeds = λ w q.
@@ -24,7 +24,7 @@ writes_what_was_read {v = v} {s = s} p = record {
 }
 
 -- and what writes a payload of the type, a payload that was read
-pub writes_payload_read : {type : AMQPType} {v : Tree} {s t : Seen} {r : Result (Unit {0}) GenError} → type ≢ amqp.ShortString
+pub writes_payload_read : {type : AMQPType} {v : Tree} {s t : OutputState} {r : Result (Unit {0}) GenError} → type ≢ amqp.ShortString
     → Writes true (Fits v) (payload v) s r t → WritesPayloadRead type v s r
 writes_payload_read {type = type} {v = v} {s = s} other p = record {
   never_too_long = λ b q e. p.too_long e (what_raw_reads type b v other q).0;

@@ -1,8 +1,8 @@
 -- What a `WriteContext` is viewed as, and what calls do to it.
 use Rattle.std.specs.Prelude.{ℕ, ◌≡◌, Bool, List, Result}
 use Rattle.amqp_generation.specs.declared.error.GenError.{GenError}
-use Rattle.amqp_generation.specs.Outputs.{Seen}
-use Rattle.amqp_generation.specs.Buffers.{Puts}
+use Rattle.amqp_generation.specs.Outputs.{OutputState}
+use Rattle.amqp_generation.specs.BufferOutput.{AppendsBytes}
 use Rattle.amqp_generation.specs.declared.context.WriteContext.{WriteContext}
 
 -- the output in it
@@ -14,12 +14,12 @@ abbrev pub start_of : {W : Type 0} → WriteContext W → ℕ
 start_of x = x.start
 
 -- what its output is viewed as, by how outputs of the type are viewed
-abbrev pub shown : {W : Type 0} → (W → Seen) → WriteContext W → Seen
-shown seen x = seen x.output
+abbrev pub state_of : {W : Type 0} → (W → OutputState) → WriteContext W → OutputState
+state_of seen x = seen x.output
 
 -- a call put one piece of bytes through the context whole, or was rejected
-abbrev pub PutsThrough : {W : Type 0} → Bool → (W → Seen) → List ℕ → WriteContext W → Result (Unit {0}) GenError → WriteContext W → Type 0
-PutsThrough is_buffer seen bytes old result new = Puts is_buffer bytes (shown seen old) result (shown seen new)
+abbrev pub AppendsThrough : {W : Type 0} → Bool → (W → OutputState) → List ℕ → WriteContext W → Result (Unit {0}) GenError → WriteContext W → Type 0
+AppendsThrough is_buffer seen bytes old result new = AppendsBytes is_buffer bytes (state_of seen old) result (state_of seen new)
 
 -- the count of the context begins where it did
 abbrev pub KeepsStart : {W : Type 0} → WriteContext W → WriteContext W → Type 0

@@ -1,5 +1,5 @@
 pub mod Outputs
-pub mod Buffers
+pub mod BufferOutput
 pub mod Slices
 pub mod Contexts
 pub mod Written

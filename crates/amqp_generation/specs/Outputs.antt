@@ -7,11 +7,11 @@ use Rattle.amqp_generation.specs.declared.error.GenError.{GenError}
 use Rattle.amqp_generation.specs.declared.error.GenError.TheVariants.{BufferTooSmall, LengthTooLong, IoError, InvalidOffset, OutOfMemory}
 
 -- what an output is viewed as
-pub record Seen : Type 0 where
+pub record OutputState : Type 0 where
   -- the bytes put so far, where the output tells them
-  pub told : Option (List ℕ)
+  pub written : Option (List ℕ)
   -- its position
-  pub at : ℕ
+  pub position : ℕ
   -- how many more bytes fit; none where the room is open
   pub room : Option ℕ
   -- that many further bytes can't be rejected
@@ -22,21 +22,21 @@ pub record Seen : Type 0 where
   pub tail : List ℕ
 
 -- a device failed during a call, or its faults are no longer counted
-abbrev pub HasFailed : Seen → Seen → Type 0
+abbrev pub HasFailed : OutputState → OutputState → Type 0
 HasFailed before after = (before.faults < after.faults) ⊎ (after.faults ≡ 2 ^ 64 - 1)
 
 -- A call appended `bytes`, or was rejected. `lengths` says that each length in what it writes fits
 -- its field.
-pub record Writes (is_buffer : Bool) (lengths : Type 0) (bytes : List ℕ) (before : Seen) (result : Result (Unit {0}) GenError) (after : Seen) : Type 0 where
+pub record Writes (is_buffer : Bool) (lengths : Type 0) (bytes : List ℕ) (before : OutputState) (result : Result (Unit {0}) GenError) (after : OutputState) : Type 0 where
   -- the bytes were put, and they alone
-  pub appended : OnOk result (Appends before.told after.told bytes)
+  pub appended : OnOk result (Appends before.written after.written bytes)
   -- the position rose by their number
-  pub moved : OnOk result (after.at ≡ before.at + length bytes)
+  pub moved : OnOk result (after.position ≡ before.position + length bytes)
   -- what stood after the position is cut by as many
   pub tail : OnOk result (after.tail ≡ drop (length bytes) before.tail)
   -- an error leaves a buffer's position, bytes and room as they were
-  pub stayed : IsTrue is_buffer → OnErr result (after.at ≡ before.at)
-  pub kept : IsTrue is_buffer → OnErr result (after.told ≡ before.told)
+  pub stayed : IsTrue is_buffer → OnErr result (after.position ≡ before.position)
+  pub kept : IsTrue is_buffer → OnErr result (after.written ≡ before.written)
   pub room_kept : IsTrue is_buffer → OnErr result (after.room ≡ before.room)
   -- it succeeds only where each length fits its field, and the bytes fit the room
   pub fits : OnOk result lengths
@@ -48,7 +48,7 @@ pub record Writes (is_buffer : Bool) (lengths : Type 0) (bytes : List ℕ) (befo
   pub too_small : IsErrOf result BufferTooSmall → (room : ℕ) × (before.room ≡ Some room) × (room < length bytes)
   pub too_long : IsErrOf result LengthTooLong → lengths → ⊥
   pub failed : IfErr result (λ e. (kind : ErrorKind) → e ≡ IoError kind → HasFailed before after)
-  pub offset : IsErrOf result InvalidOffset → 2 ^ 64 ≤ before.at + length bytes
+  pub offset : IsErrOf result InvalidOffset → 2 ^ 64 ≤ before.position + length bytes
   -- a buffer alone may run out of memory; by `no_other` its room is open
   pub memory : IsErrOf result OutOfMemory → IsTrue is_buffer
   pub no_other : IsSome before.room → IfErr result (λ e. (e ≡ BufferTooSmall) ⊎ (e ≡ LengthTooLong))

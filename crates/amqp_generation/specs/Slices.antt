@@ -1,6 +1,6 @@
 -- A slice that is written from its start.
 use Rattle.std.specs.Prelude.{ℕ, List, Some, length}
-use Rattle.amqp_generation.specs.Outputs.{Seen}
+use Rattle.amqp_generation.specs.Outputs.{OutputState}
 
 -- the bytes that were written, and those after them
 pub record Sliced : Type 0 where
@@ -9,5 +9,5 @@ pub record Sliced : Type 0 where
 
 -- the output that it is viewed as: the room left is fixed and can't be rejected, and there is no
 -- device
-abbrev pub seen_slice : Sliced → Seen
-seen_slice s = record { told = Some s.put; at = length s.put; room = Some (length s.tail); promise = length s.tail; faults = 0; tail = s.tail }
+abbrev pub seen_slice : Sliced → OutputState
+seen_slice s = record { written = Some s.put; position = length s.put; room = Some (length s.tail); promise = length s.tail; faults = 0; tail = s.tail }

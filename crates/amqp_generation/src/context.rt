@@ -1,7 +1,7 @@
 ghost use Rattle.std.specs.Prelude.{◌≡◌, ◌-◌, ◌+◌, ◌≤◌, true, ⊤, IfOk, length, replicate};
-ghost use Rattle.amqp_generation.specs.Buffers.{IsWhole, Puts, MakesRoom, answer_of, filled, GoesBack};
+ghost use Rattle.amqp_generation.specs.BufferOutput.{IsWhole, AppendsBytes, MakesRoom, answer_of, filled, Truncates};
 ghost use Rattle.amqp_generation.specs.Outputs.{Writes};
-ghost use Rattle.amqp_generation.specs.Contexts.{output_of, start_of, shown};
+ghost use Rattle.amqp_generation.specs.Contexts.{output_of, start_of, state_of};
 
 use crate::{BackToTheBuffer, GenError, GenResult, Output};
 
@@ -16,7 +16,7 @@ impl<W: Output> From<W> for WriteContext<W> {
     ghost use Rattle.std.specs.Prelude.{◌≡◌};
     ghost use Rattle.amqp_generation.specs.Contexts.{output_of, start_of};
 
-    ghost from_gives = { λ w x. (output_of x ≡ w) × (start_of x ≡ (W.seen w).at) };
+    ghost from_gives = { λ w x. (output_of x ≡ w) × (start_of x ≡ (W.seen w).position) };
 
     fn from(output: W) -> Self {
         let start = output.position();
@@ -27,15 +27,15 @@ impl<W: Output> From<W> for WriteContext<W> {
 impl<W: Output> WriteContext<W> {
     /// The number of bytes written through this context.
     pub fn position(&self) -> u64
-        ensures { result ≡ (shown W.seen self.now).at - start_of self.now }
+        ensures { result ≡ (state_of W.seen self.now).position - start_of self.now }
     {
         self.output.position().saturating_sub(self.start)
     }
 
     /// Appends all of `bytes` to the output, or returns an error.
     pub fn put(&mut self, bytes: &[u8]) -> GenResult
-        ensures put { Puts W.is_buffer bytes.now
-            (shown W.seen self.old) result (shown W.seen self.new) }
+        ensures put { AppendsBytes W.is_buffer bytes.now
+            (state_of W.seen self.old) result (state_of W.seen self.new) }
         ensures start { start_of self.new ≡ start_of self.old }
     {
         self.output.put(bytes)
@@ -44,7 +44,7 @@ impl<W: Output> WriteContext<W> {
     // Makes room for `n` more bytes, so that a buffer won't reject them, or fails.
     pub(crate) fn make_room(&mut self, n: usize) -> GenResult
         ensures made { MakesRoom W.is_buffer n
-            (shown W.seen self.old) result (shown W.seen self.new) }
+            (state_of W.seen self.old) result (state_of W.seen self.new) }
         ensures start { start_of self.new ≡ start_of self.old }
     {
         self.output.make_room(n)
@@ -53,7 +53,7 @@ impl<W: Output> WriteContext<W> {
     /// Returns the output, and the number of bytes written through this context.
     pub fn into_inner(self) -> (W, u64)
         ensures output { result.0 ≡ output_of self }
-        ensures count { result.1 ≡ (shown W.seen self).at - start_of self }
+        ensures count { result.1 ≡ (state_of W.seen self).position - start_of self }
     {
         let count = self.position();
         (self.output, count)
@@ -63,8 +63,8 @@ impl<W: Output> WriteContext<W> {
 impl<W: BackToTheBuffer> WriteContext<W> {
     // The output's position.
     pub(crate) fn at(&self) -> u64
-        ensures at { result ≡ (shown W.seen self.now).at }
-        ensures whole { IsWhole (shown W.seen self.now) }
+        ensures at { result ≡ (state_of W.seen self.now).position }
+        ensures whole { IsWhole (state_of W.seen self.now) }
     {
         self.output.position()
     }
@@ -72,18 +72,18 @@ impl<W: BackToTheBuffer> WriteContext<W> {
     // Appends `n` bytes of 0 and returns the position before them, or fails.
     pub(crate) fn reserve(&mut self, n: usize) -> Result<u64, GenError>
         ensures written { Writes true ⊤ (replicate n 0)
-            (shown W.seen self.old) (answer_of result) (shown W.seen self.new) }
-        ensures place { IfOk result (λ at. at ≡ (shown W.seen self.old).at) }
+            (state_of W.seen self.old) (answer_of result) (state_of W.seen self.new) }
+        ensures place { IfOk result (λ at. at ≡ (state_of W.seen self.old).position) }
         ensures start { start_of self.new ≡ start_of self.old }
-        ensures whole { IsWhole (shown W.seen self.old) }
+        ensures whole { IsWhole (state_of W.seen self.old) }
     {
         self.output.reserve(n)
     }
 
     // Replaces the bytes from the output's position `at` on.
     pub(crate) fn fill(&mut self, at: u64, bytes: &[u8])
-        requires { at + length bytes.now ≤ (shown W.seen self.old).at }
-        ensures filled { shown W.seen self.new ≡ filled (shown W.seen self.old) at bytes.now }
+        requires { at + length bytes.now ≤ (state_of W.seen self.old).position }
+        ensures filled { state_of W.seen self.new ≡ filled (state_of W.seen self.old) at bytes.now }
         ensures start { start_of self.new ≡ start_of self.old }
     {
         self.output.fill(at, bytes);
@@ -91,8 +91,8 @@ impl<W: BackToTheBuffer> WriteContext<W> {
 
     // Takes back the bytes from the output's position `at` on.
     pub(crate) fn back_to(&mut self, at: u64)
-        requires { at ≤ (shown W.seen self.old).at }
-        ensures back { GoesBack at (shown W.seen self.old) (shown W.seen self.new) }
+        requires { at ≤ (state_of W.seen self.old).position }
+        ensures back { Truncates at (state_of W.seen self.old) (state_of W.seen self.new) }
         ensures start { start_of self.new ≡ start_of self.old }
     {
         self.output.back_to(at);

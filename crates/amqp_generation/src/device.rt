@@ -1,6 +1,6 @@
 ghost use Rattle.std.specs.Prelude.{◌≡◌, length, false, IsOk};
-ghost use Rattle.amqp_generation.specs.Buffers.{Puts, MakesRoom};
-ghost use Rattle.amqp_generation.specs.Devices.{seen_device, device_of, PutsToDevice};
+ghost use Rattle.amqp_generation.specs.BufferOutput.{AppendsBytes, MakesRoom};
+ghost use Rattle.amqp_generation.specs.Devices.{seen_device, device_of, AppendsToDevice};
 
 use crate::{GenError, GenResult, Output};
 use std::io::Write;
@@ -19,7 +19,7 @@ impl<W: Write> IoOutput<W> {
     /// Makes an output of the device, with nothing written and no fault counted.
     pub fn new(device: W) -> Self
         ensures device { device_of result ≡ device }
-        ensures at { (seen_device W.contents result).at ≡ 0 }
+        ensures at { (seen_device W.contents result).position ≡ 0 }
         ensures faults { (seen_device W.contents result).faults ≡ 0 }
     {
         IoOutput {
@@ -45,9 +45,9 @@ impl<W: Write> Output for IoOutput<W> {
 
     /// Writes all of `bytes` to the device.
     fn put(&mut self, bytes: &[u8]) -> GenResult
-        ensures put { Puts false bytes.now
+        ensures put { AppendsBytes false bytes.now
             (seen_device W.contents self.old) result (seen_device W.contents self.new) }
-        ensures device { PutsToDevice (length bytes.now)
+        ensures device { AppendsToDevice (length bytes.now)
             (seen_device W.contents self.old) result (seen_device W.contents self.new) }
     {
         let Some(end) = self.at.checked_add(bytes.len() as u64) else {

@@ -2,7 +2,7 @@
 
 ghost use Rattle.std.specs.Prelude.{⊤};
 ghost use Rattle.amqp_generation.specs.Outputs.{Writes};
-ghost use Rattle.amqp_generation.specs.Contexts.{shown, KeepsStart};
+ghost use Rattle.amqp_generation.specs.Contexts.{state_of, KeepsStart};
 ghost use Rattle.amqp_flags.specs.Flags.{flags_of, values_of, pack, AreFlagsReadBack};
 
 use crate::{GenResult, Output, WriteContext};
@@ -14,7 +14,7 @@ use amqp_flags::{AMQPFlags, byte_of};
 /// What is written is read back by the flags' names as the same flags, whatever follows.
 pub fn gen_flags<W: Output>(flags: &AMQPFlags, x: &mut WriteContext<W>) -> GenResult
     ensures written { Writes W.is_buffer ⊤ (pack (values_of (flags_of flags.now)))
-        (shown W.seen x.old) result (shown W.seen x.new) }
+        (state_of W.seen x.old) result (state_of W.seen x.new) }
     ensures read_back { AreFlagsReadBack (flags_of flags.now) }
     ensures start { KeepsStart x.old x.new }
 {

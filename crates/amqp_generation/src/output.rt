@@ -1,6 +1,6 @@
 ghost use Rattle.std.specs.Prelude.{◌≡◌, ◌+◌, ◌≤◌, Bool, true, ⊤, IfOk, length, replicate};
-ghost use Rattle.amqp_generation.specs.Outputs.{Seen, Writes};
-ghost use Rattle.amqp_generation.specs.Buffers.{IsWhole, Puts, MakesRoom, answer_of, filled, GoesBack};
+ghost use Rattle.amqp_generation.specs.Outputs.{OutputState, Writes};
+ghost use Rattle.amqp_generation.specs.BufferOutput.{IsWhole, AppendsBytes, MakesRoom, answer_of, filled, Truncates};
 
 use crate::{GenError, GenResult};
 
@@ -14,11 +14,11 @@ use crate::{GenError, GenResult};
 pub trait Output {
     ghost is_buffer: { Bool };
 
-    ghost seen: { Self → Seen };
+    ghost seen: { Self → OutputState };
 
     /// Appends all of `bytes`, or returns an error.
     fn put(&mut self, bytes: &[u8]) -> GenResult
-        ensures { Puts is_buffer bytes.now (seen self.old) result (seen self.new) };
+        ensures { AppendsBytes is_buffer bytes.now (seen self.old) result (seen self.new) };
 
     /// Reserves capacity for `n` more bytes, so that a buffer won't reject them, or returns an
     /// error.
@@ -27,7 +27,7 @@ pub trait Output {
 
     /// The number of bytes before the next one.
     fn position(&self) -> u64
-        ensures { result ≡ (seen self.now).at };
+        ensures { result ≡ (seen self.now).position };
 
     /// How often the device failed; it saturates at the greatest `u64`.
     fn faults(&self) -> u64
@@ -43,17 +43,17 @@ pub trait BackToTheBuffer: Output {
     fn reserve(&mut self, n: usize) -> Result<u64, GenError>
         ensures written { Writes true ⊤ (replicate n 0)
             (Self.seen self.old) (answer_of result) (Self.seen self.new) }
-        ensures place { IfOk result (λ at. at ≡ (Self.seen self.old).at) };
+        ensures place { IfOk result (λ at. at ≡ (Self.seen self.old).position) };
 
     /// Overwrites the bytes from `at` on with `bytes`.
     fn fill(&mut self, at: u64, bytes: &[u8])
-        requires { at + length bytes.now ≤ (Self.seen self.old).at }
+        requires { at + length bytes.now ≤ (Self.seen self.old).position }
         ensures { Self.seen self.new ≡ filled (Self.seen self.old) at bytes.now };
 
-    /// Truncates the buffer to the position `at`.
+    /// Cuts the buffer to the position `at`.
     fn back_to(&mut self, at: u64)
-        requires { at ≤ (Self.seen self.old).at }
-        ensures { GoesBack at (Self.seen self.old) (Self.seen self.new) };
+        requires { at ≤ (Self.seen self.old).position }
+        ensures { Truncates at (Self.seen self.old) (Self.seen self.new) };
 
     ghost is_one: { Self.is_buffer ≡ true };
 

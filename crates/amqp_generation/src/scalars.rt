@@ -5,8 +5,8 @@ ghost use Rattle.std.specs.Int.{w8, w16, w32, w64, to_be_bytes, cast_unsigned};
 ghost use Rattle.amqp_grammar.specs.Values.{boolean, decimal};
 ghost use Rattle.amqp_types.specs.Ids.{id_of};
 ghost use Rattle.amqp_grammar.specs.Layouts.{spelled};
-ghost use Rattle.amqp_types.specs.Shown.{float_bits, double_bits};
-ghost use Rattle.amqp_generation.specs.Contexts.{PutsThrough, KeepsStart};
+ghost use Rattle.amqp_types.specs.Contents.{float_bits, double_bits};
+ghost use Rattle.amqp_generation.specs.Contexts.{AppendsThrough, KeepsStart};
 
 use crate::{GenResult, Output, WriteContext};
 use amqp_value_core::types::{
@@ -16,7 +16,7 @@ use amqp_value_core::types::{
 
 /// Writes a type tag, one byte.
 pub fn gen_type<W: Output>(t: AMQPType, x: &mut WriteContext<W>) -> GenResult
-    ensures put { PutsThrough W.is_buffer W.seen (id_of t ∷ []) x.old result x.new }
+    ensures put { AppendsThrough W.is_buffer W.seen (id_of t ∷ []) x.old result x.new }
     ensures start { KeepsStart x.old x.new }
 {
     x.put(&[t.get_id() as u8])
@@ -24,7 +24,7 @@ pub fn gen_type<W: Output>(t: AMQPType, x: &mut WriteContext<W>) -> GenResult
 
 /// Writes the number of a class or of a method in two bytes, big-endian.
 pub fn gen_id<W: Output>(n: Identifier, x: &mut WriteContext<W>) -> GenResult
-    ensures put { PutsThrough W.is_buffer W.seen (to_be_bytes w16 n) x.old result x.new }
+    ensures put { AppendsThrough W.is_buffer W.seen (to_be_bytes w16 n) x.old result x.new }
     ensures start { KeepsStart x.old x.new }
 {
     gen_short_uint(n, x)
@@ -32,7 +32,7 @@ pub fn gen_id<W: Output>(n: Identifier, x: &mut WriteContext<W>) -> GenResult
 
 /// Writes a boolean in one byte, true as 1.
 pub fn gen_boolean<W: Output>(b: Boolean, x: &mut WriteContext<W>) -> GenResult
-    ensures put { PutsThrough W.is_buffer W.seen (spelled (boolean b)) x.old result x.new }
+    ensures put { AppendsThrough W.is_buffer W.seen (spelled (boolean b)) x.old result x.new }
     ensures start { KeepsStart x.old x.new }
 {
     x.put(&[u8::from(b)])
@@ -40,7 +40,7 @@ pub fn gen_boolean<W: Output>(b: Boolean, x: &mut WriteContext<W>) -> GenResult
 
 /// Writes a signed integer in one byte.
 pub fn gen_short_short_int<W: Output>(n: ShortShortInt, x: &mut WriteContext<W>) -> GenResult
-    ensures put { PutsThrough W.is_buffer W.seen (to_be_bytes w8 (cast_unsigned w8 n)) x.old result x.new }
+    ensures put { AppendsThrough W.is_buffer W.seen (to_be_bytes w8 (cast_unsigned w8 n)) x.old result x.new }
     ensures start { KeepsStart x.old x.new }
 {
     x.put(&i8::to_be_bytes(n))
@@ -48,7 +48,7 @@ pub fn gen_short_short_int<W: Output>(n: ShortShortInt, x: &mut WriteContext<W>)
 
 /// Writes an unsigned integer in one byte.
 pub fn gen_short_short_uint<W: Output>(n: ShortShortUInt, x: &mut WriteContext<W>) -> GenResult
-    ensures put { PutsThrough W.is_buffer W.seen (to_be_bytes w8 n) x.old result x.new }
+    ensures put { AppendsThrough W.is_buffer W.seen (to_be_bytes w8 n) x.old result x.new }
     ensures start { KeepsStart x.old x.new }
 {
     x.put(&u8::to_be_bytes(n))
@@ -56,7 +56,7 @@ pub fn gen_short_short_uint<W: Output>(n: ShortShortUInt, x: &mut WriteContext<W
 
 /// Writes a signed integer in two bytes, big-endian.
 pub fn gen_short_int<W: Output>(n: ShortInt, x: &mut WriteContext<W>) -> GenResult
-    ensures put { PutsThrough W.is_buffer W.seen (to_be_bytes w16 (cast_unsigned w16 n)) x.old result x.new }
+    ensures put { AppendsThrough W.is_buffer W.seen (to_be_bytes w16 (cast_unsigned w16 n)) x.old result x.new }
     ensures start { KeepsStart x.old x.new }
 {
     x.put(&i16::to_be_bytes(n))
@@ -64,7 +64,7 @@ pub fn gen_short_int<W: Output>(n: ShortInt, x: &mut WriteContext<W>) -> GenResu
 
 /// Writes an unsigned integer in two bytes, big-endian.
 pub fn gen_short_uint<W: Output>(n: ShortUInt, x: &mut WriteContext<W>) -> GenResult
-    ensures put { PutsThrough W.is_buffer W.seen (to_be_bytes w16 n) x.old result x.new }
+    ensures put { AppendsThrough W.is_buffer W.seen (to_be_bytes w16 n) x.old result x.new }
     ensures start { KeepsStart x.old x.new }
 {
     x.put(&u16::to_be_bytes(n))
@@ -72,7 +72,7 @@ pub fn gen_short_uint<W: Output>(n: ShortUInt, x: &mut WriteContext<W>) -> GenRe
 
 /// Writes a signed integer in four bytes, big-endian.
 pub fn gen_long_int<W: Output>(n: LongInt, x: &mut WriteContext<W>) -> GenResult
-    ensures put { PutsThrough W.is_buffer W.seen (to_be_bytes w32 (cast_unsigned w32 n)) x.old result x.new }
+    ensures put { AppendsThrough W.is_buffer W.seen (to_be_bytes w32 (cast_unsigned w32 n)) x.old result x.new }
     ensures start { KeepsStart x.old x.new }
 {
     x.put(&i32::to_be_bytes(n))
@@ -80,7 +80,7 @@ pub fn gen_long_int<W: Output>(n: LongInt, x: &mut WriteContext<W>) -> GenResult
 
 /// Writes an unsigned integer in four bytes, big-endian.
 pub fn gen_long_uint<W: Output>(n: LongUInt, x: &mut WriteContext<W>) -> GenResult
-    ensures put { PutsThrough W.is_buffer W.seen (to_be_bytes w32 n) x.old result x.new }
+    ensures put { AppendsThrough W.is_buffer W.seen (to_be_bytes w32 n) x.old result x.new }
     ensures start { KeepsStart x.old x.new }
 {
     x.put(&u32::to_be_bytes(n))
@@ -88,7 +88,7 @@ pub fn gen_long_uint<W: Output>(n: LongUInt, x: &mut WriteContext<W>) -> GenResu
 
 /// Writes a signed integer in eight bytes, big-endian.
 pub fn gen_long_long_int<W: Output>(n: LongLongInt, x: &mut WriteContext<W>) -> GenResult
-    ensures put { PutsThrough W.is_buffer W.seen (to_be_bytes w64 (cast_unsigned w64 n)) x.old result x.new }
+    ensures put { AppendsThrough W.is_buffer W.seen (to_be_bytes w64 (cast_unsigned w64 n)) x.old result x.new }
     ensures start { KeepsStart x.old x.new }
 {
     x.put(&i64::to_be_bytes(n))
@@ -96,7 +96,7 @@ pub fn gen_long_long_int<W: Output>(n: LongLongInt, x: &mut WriteContext<W>) -> 
 
 /// Writes an unsigned integer in eight bytes, big-endian.
 pub fn gen_long_long_uint<W: Output>(n: LongLongUInt, x: &mut WriteContext<W>) -> GenResult
-    ensures put { PutsThrough W.is_buffer W.seen (to_be_bytes w64 n) x.old result x.new }
+    ensures put { AppendsThrough W.is_buffer W.seen (to_be_bytes w64 n) x.old result x.new }
     ensures start { KeepsStart x.old x.new }
 {
     x.put(&u64::to_be_bytes(n))
@@ -104,7 +104,7 @@ pub fn gen_long_long_uint<W: Output>(n: LongLongUInt, x: &mut WriteContext<W>) -
 
 /// Writes the bits of a floating-point number in four bytes, big-endian.
 pub fn gen_float<W: Output>(f: Float, x: &mut WriteContext<W>) -> GenResult
-    ensures put { PutsThrough W.is_buffer W.seen (to_be_bytes w32 (float_bits f)) x.old result x.new }
+    ensures put { AppendsThrough W.is_buffer W.seen (to_be_bytes w32 (float_bits f)) x.old result x.new }
     ensures start { KeepsStart x.old x.new }
 {
     gen_long_uint(f.to_bits(), x)
@@ -112,7 +112,7 @@ pub fn gen_float<W: Output>(f: Float, x: &mut WriteContext<W>) -> GenResult
 
 /// Writes the bits of a floating-point number in eight bytes, big-endian.
 pub fn gen_double<W: Output>(f: Double, x: &mut WriteContext<W>) -> GenResult
-    ensures put { PutsThrough W.is_buffer W.seen (to_be_bytes w64 (double_bits f)) x.old result x.new }
+    ensures put { AppendsThrough W.is_buffer W.seen (to_be_bytes w64 (double_bits f)) x.old result x.new }
     ensures start { KeepsStart x.old x.new }
 {
     gen_long_long_uint(f.to_bits(), x)
@@ -120,7 +120,7 @@ pub fn gen_double<W: Output>(f: Double, x: &mut WriteContext<W>) -> GenResult
 
 /// Writes a time in eight bytes, big-endian.
 pub fn gen_timestamp<W: Output>(n: Timestamp, x: &mut WriteContext<W>) -> GenResult
-    ensures put { PutsThrough W.is_buffer W.seen (to_be_bytes w64 n) x.old result x.new }
+    ensures put { AppendsThrough W.is_buffer W.seen (to_be_bytes w64 n) x.old result x.new }
     ensures start { KeepsStart x.old x.new }
 {
     gen_long_long_uint(n, x)
@@ -129,7 +129,7 @@ pub fn gen_timestamp<W: Output>(n: Timestamp, x: &mut WriteContext<W>) -> GenRes
 /// Writes a decimal number: its scale in one byte, then its digits as an unsigned integer in four
 /// bytes, big-endian.
 pub fn gen_decimal_value<W: Output>(d: DecimalValue, x: &mut WriteContext<W>) -> GenResult
-    ensures put { PutsThrough W.is_buffer W.seen (spelled (decimal d.scale d.value)) x.old result x.new }
+    ensures put { AppendsThrough W.is_buffer W.seen (spelled (decimal d.scale d.value)) x.old result x.new }
     ensures start { KeepsStart x.old x.new }
 {
     let [a, b, c, e] = u32::to_be_bytes(d.value);

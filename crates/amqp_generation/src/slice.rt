@@ -76,7 +76,7 @@ impl<'a> BackToTheBuffer for SliceOutput<'a> {
 
     ghost is_one = { refl };
 
-    ghost whole = { λ s. record { told = refl; counted = refl; tail = refl } };
+    ghost whole = { λ s. record { written = refl; counted = refl; tail = refl } };
 
     fn reserve(&mut self, n: usize) -> Result<u64, GenError> {
         if n > self.slice.len() - self.at {

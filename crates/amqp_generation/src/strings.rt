@@ -2,10 +2,10 @@
 
 ghost use Rattle.std.specs.Prelude.{◌<◌, ◌≤◌, ◌^◌, length};
 ghost use Rattle.amqp_grammar.specs.Grammar.{short_field, long_field};
-ghost use Rattle.amqp_types.specs.Shown.{octets_of};
+ghost use Rattle.amqp_types.specs.Contents.{octets_of};
 ghost use Rattle.amqp_generation.specs.Outputs.{Writes};
-ghost use Rattle.amqp_generation.specs.Buffers.{RefusedAsLong};
-ghost use Rattle.amqp_generation.specs.Contexts.{shown, KeepsStart};
+ghost use Rattle.amqp_generation.specs.BufferOutput.{RefusedAsLong};
+ghost use Rattle.amqp_generation.specs.Contexts.{state_of, KeepsStart};
 
 use crate::{GenError, GenResult, Output, WriteContext};
 use amqp_value_core::types::ByteArray;
@@ -16,9 +16,9 @@ use amqp_value_core::types::ByteArray;
 /// capacity.
 pub fn gen_short_string<W: Output>(s: &str, x: &mut WriteContext<W>) -> GenResult
     ensures written { Writes W.is_buffer (length s.now ≤ 255) (short_field s.now)
-        (shown W.seen x.old) result (shown W.seen x.new) }
+        (state_of W.seen x.old) result (state_of W.seen x.new) }
     ensures too_long { 255 < length s.now
-        → RefusedAsLong (shown W.seen x.old) result (shown W.seen x.new) }
+        → RefusedAsLong (state_of W.seen x.old) result (state_of W.seen x.new) }
     ensures start { KeepsStart x.old x.new }
 {
     let Ok(n) = u8::try_from(s.len()) else {
@@ -34,9 +34,9 @@ pub fn gen_short_string<W: Output>(s: &str, x: &mut WriteContext<W>) -> GenResul
 /// More bytes are rejected with `LengthTooLong` before a byte is written, whatever the capacity.
 pub fn gen_long_string<W: Output>(s: &[u8], x: &mut WriteContext<W>) -> GenResult
     ensures written { Writes W.is_buffer (length s.now < 2 ^ 32) (long_field s.now)
-        (shown W.seen x.old) result (shown W.seen x.new) }
+        (state_of W.seen x.old) result (state_of W.seen x.new) }
     ensures too_long { 2 ^ 32 ≤ length s.now
-        → RefusedAsLong (shown W.seen x.old) result (shown W.seen x.new) }
+        → RefusedAsLong (state_of W.seen x.old) result (state_of W.seen x.new) }
     ensures start { KeepsStart x.old x.new }
 {
     let Ok(n) = u32::try_from(s.len()) else {
@@ -52,9 +52,9 @@ pub fn gen_long_string<W: Output>(s: &[u8], x: &mut WriteContext<W>) -> GenResul
 /// More bytes are rejected with `LengthTooLong` before a byte is written, whatever the capacity.
 pub fn gen_byte_array<W: Output>(a: &ByteArray, x: &mut WriteContext<W>) -> GenResult
     ensures written { Writes W.is_buffer (length (octets_of a.now) < 2 ^ 32) (long_field (octets_of a.now))
-        (shown W.seen x.old) result (shown W.seen x.new) }
+        (state_of W.seen x.old) result (state_of W.seen x.new) }
     ensures too_long { 2 ^ 32 ≤ length (octets_of a.now)
-        → RefusedAsLong (shown W.seen x.old) result (shown W.seen x.new) }
+        → RefusedAsLong (state_of W.seen x.old) result (state_of W.seen x.new) }
     ensures start { KeepsStart x.old x.new }
 {
     gen_long_string(a.as_slice(), x)

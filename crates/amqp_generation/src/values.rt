@@ -10,9 +10,9 @@ ghost use Rattle.amqp_grammar.specs.Readings.{read_back};
 ghost use Rattle.amqp_grammar.specs.Outcomes.{Outcome};
 ghost use Rattle.amqp_grammar.specs.Headline.{IsShortest, TellsApart, IsCanonical};
 ghost use Rattle.amqp_generation.specs.Outputs.{Writes};
-ghost use Rattle.amqp_generation.specs.Buffers.{FillsLength};
+ghost use Rattle.amqp_generation.specs.BufferOutput.{PatchesLength};
 ghost use Rattle.amqp_generation.specs.Written.{WritesWhatWasRead, WritesPayloadRead};
-ghost use Rattle.amqp_generation.specs.Contexts.{shown, KeepsStart};
+ghost use Rattle.amqp_generation.specs.Contexts.{state_of, KeepsStart};
 
 use crate::{
     BackToTheBuffer, GenError, GenResult, WriteContext, gen_boolean, gen_byte_array,
@@ -29,17 +29,17 @@ use amqp_value_core::value::AMQPValue;
 /// a value that was parsed, a buffer as long as the bytes it was parsed from is enough. A value
 /// that holds a `ShortString`, except as a key, has no encoding: it is written with the byte `_` as
 /// type tag, and the parsers reject it.
-#[tactic(auto, using(amqp_grammar::proofs::GrammarLaws::is_shortest, amqp_grammar::proofs::GrammarLaws::tells_apart, amqp_grammar::proofs::GrammarLaws::is_canonical, crate::proofs::WhatWasRead::writes_what_was_read))]
+#[tactic(auto, using(amqp_grammar::proofs::GrammarLaws::is_shortest, amqp_grammar::proofs::GrammarLaws::injective, amqp_grammar::proofs::GrammarLaws::is_canonical, crate::proofs::WhatWasRead::writes_what_was_read))]
 pub fn gen_value<W: BackToTheBuffer>(v: &AMQPValue, x: &mut WriteContext<W>) -> GenResult
     ensures written { Writes true (Fits (view v.now)) (text (view v.now))
-        (shown W.seen x.old) result (shown W.seen x.new) }
+        (state_of W.seen x.old) result (state_of W.seen x.new) }
     ensures start { KeepsStart x.old x.new }
     ensures value { OnOk result (IsValue (view v.now)) }
     ensures read_back { OnOk result ((rest : List ℕ) →
         Outcome (text (view v.now) ++ rest) (read_back (view v.now) rest)) }
-    ensures of_a_wire { WritesWhatWasRead (view v.now) (shown W.seen x.old) result }
+    ensures fits_input_size { WritesWhatWasRead (view v.now) (state_of W.seen x.old) result }
     ensures shortest { IsShortest (view v.now) }
-    ensures tells_apart { TellsApart (view v.now) }
+    ensures injective { TellsApart (view v.now) }
     ensures canonical { OnOk result (IsCanonical (view v.now)) }
 {
     write_value(v, x)
@@ -49,7 +49,7 @@ pub fn gen_value<W: BackToTheBuffer>(v: &AMQPValue, x: &mut WriteContext<W>) -> 
 #[cycle(values)]
 fn write_value<W: BackToTheBuffer>(v: &AMQPValue, x: &mut WriteContext<W>) -> GenResult
     ensures written { Writes true (Fits (view v.now)) (text (view v.now))
-        (shown W.seen x.old) result (shown W.seen x.new) }
+        (state_of W.seen x.old) result (state_of W.seen x.new) }
     ensures start { KeepsStart x.old x.new }
     ensures value { OnOk result (IsValue (view v.now)) }
 {
@@ -66,7 +66,7 @@ fn write_value<W: BackToTheBuffer>(v: &AMQPValue, x: &mut WriteContext<W>) -> Ge
 #[cycle(values)]
 pub fn gen_raw_value<W: BackToTheBuffer>(v: &AMQPValue, x: &mut WriteContext<W>) -> GenResult
     ensures written { Writes true (Fits (view v.now)) (payload (view v.now))
-        (shown W.seen x.old) result (shown W.seen x.new) }
+        (state_of W.seen x.old) result (state_of W.seen x.new) }
     ensures start { KeepsStart x.old x.new }
     ensures value { OnOk result (IsValue (view v.now)) }
 {
@@ -103,11 +103,11 @@ pub fn gen_raw_value<W: BackToTheBuffer>(v: &AMQPValue, x: &mut WriteContext<W>)
 pub fn gen_field_array<W: BackToTheBuffer>(a: &FieldArray, x: &mut WriteContext<W>) -> GenResult
     ensures written { Writes true (Fits (array (array_view a.now)))
         (payload (array (array_view a.now)))
-        (shown W.seen x.old) result (shown W.seen x.new) }
+        (state_of W.seen x.old) result (state_of W.seen x.new) }
     ensures start { KeepsStart x.old x.new }
     ensures value { OnOk result (IsValue (array (array_view a.now))) }
-    ensures of_a_wire { WritesPayloadRead AMQPType.FieldArray (array (array_view a.now))
-        (shown W.seen x.old) result }
+    ensures fits_input_size { WritesPayloadRead AMQPType.FieldArray (array (array_view a.now))
+        (state_of W.seen x.old) result }
 {
     let at = x.reserve(4)?;
     for v in a.as_slice() {
@@ -126,11 +126,11 @@ pub fn gen_field_array<W: BackToTheBuffer>(a: &FieldArray, x: &mut WriteContext<
 pub fn gen_field_table<W: BackToTheBuffer>(t: &FieldTable, x: &mut WriteContext<W>) -> GenResult
     ensures written { Writes true (Fits (table (table_view t.now)))
         (payload (table (table_view t.now)))
-        (shown W.seen x.old) result (shown W.seen x.new) }
+        (state_of W.seen x.old) result (state_of W.seen x.new) }
     ensures start { KeepsStart x.old x.new }
     ensures value { OnOk result (IsValue (table (table_view t.now))) }
-    ensures of_a_wire { WritesPayloadRead AMQPType.FieldTable (table (table_view t.now))
-        (shown W.seen x.old) result }
+    ensures fits_input_size { WritesPayloadRead AMQPType.FieldTable (table (table_view t.now))
+        (state_of W.seen x.old) result }
 {
     let at = x.reserve(4)?;
     for (k, v) in t.inner().iter() {
@@ -150,7 +150,7 @@ fn gen_entry<W: BackToTheBuffer>(
     x: &mut WriteContext<W>,
 ) -> GenResult
     ensures written { Writes true (Fits (view v.now)) (short_field k.now ++ text (view v.now))
-        (shown W.seen x.old) result (shown W.seen x.new) }
+        (state_of W.seen x.old) result (state_of W.seen x.new) }
     ensures start { KeepsStart x.old x.new }
     ensures key { IsShort k.now }
     ensures value { OnOk result (IsValue (view v.now)) }
@@ -166,8 +166,8 @@ fn gen_entry<W: BackToTheBuffer>(
 
 // Fills in how many bytes are after the four from `at` on, or takes all from `at` on back.
 pub(super) fn fill_length<W: BackToTheBuffer>(at: u64, x: &mut WriteContext<W>) -> GenResult
-    requires { at + 4 ≤ (shown W.seen x.old).at }
-    ensures filled { FillsLength at (shown W.seen x.old) result (shown W.seen x.new) }
+    requires { at + 4 ≤ (state_of W.seen x.old).position }
+    ensures filled { PatchesLength at (state_of W.seen x.old) result (state_of W.seen x.new) }
     ensures start { KeepsStart x.old x.new }
 {
     let Ok(n) = u32::try_from(x.at() - at - 4) else {

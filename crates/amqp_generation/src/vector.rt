@@ -1,5 +1,5 @@
 ghost use Rattle.std.specs.Prelude.{◌≡◌, ◌+◌, ⊤, true, IfOk, IfErr, length, replicate};
-ghost use Rattle.amqp_generation.specs.Buffers.{Puts, MakesRoom, answer_of};
+ghost use Rattle.amqp_generation.specs.BufferOutput.{AppendsBytes, MakesRoom, answer_of};
 ghost use Rattle.amqp_generation.specs.Outputs.{Writes};
 ghost use Rattle.amqp_generation.specs.Vectors.{seen_vector};
 ghost use Rattle.amqp_generation.specs.declared.error.GenError.TheVariants.{OutOfMemory};
@@ -23,7 +23,7 @@ impl Output for Vec<u8> {
     ghost seen = { seen_vector };
 
     fn put(&mut self, bytes: &[u8]) -> GenResult
-        ensures put { Puts true bytes.now (seen_vector self.old) result (seen_vector self.new) }
+        ensures put { AppendsBytes true bytes.now (seen_vector self.old) result (seen_vector self.new) }
         ensures refused { IfErr result (λ e. e ≡ OutOfMemory) }
     {
         Ok(self.extend_from_slice(bytes)?)
@@ -50,12 +50,12 @@ impl BackToTheBuffer for Vec<u8> {
 
     ghost is_one = { refl };
 
-    ghost whole = { λ v. record { told = refl; counted = refl; tail = tt } };
+    ghost whole = { λ v. record { written = refl; counted = refl; tail = tt } };
 
     fn reserve(&mut self, n: usize) -> Result<u64, GenError>
         ensures written { Writes true ⊤ (replicate n 0)
             (seen_vector self.old) (answer_of result) (seen_vector self.new) }
-        ensures place { IfOk result (λ at. at ≡ (seen_vector self.old).at) }
+        ensures place { IfOk result (λ at. at ≡ (seen_vector self.old).position) }
         ensures refused { IfErr result (λ e. e ≡ OutOfMemory) }
     {
         let at = self.len();

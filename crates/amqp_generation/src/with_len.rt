@@ -2,8 +2,8 @@ ghost use Rattle.std.specs.Prelude.{◌≡◌, Result, OnOk, OnErr, IfErr};
 ghost use Rattle.std.specs.Fn.{FnOnceReturnsAtMut};
 ghost use Rattle.amqp_generation.specs.declared.context.WriteContext.{WriteContext};
 ghost use Rattle.amqp_generation.specs.declared.error.GenError.{GenError};
-ghost use Rattle.amqp_generation.specs.Contexts.{shown};
-ghost use Rattle.amqp_generation.specs.Lengths.{OnlyAppends, PutsWithLength, RefusesWithLength};
+ghost use Rattle.amqp_generation.specs.Contexts.{state_of};
+ghost use Rattle.amqp_generation.specs.Lengths.{OnlyAppends, AppendsWithLength, RefusesWithLength};
 
 use crate::values::fill_length;
 use crate::{BackToTheBuffer, GenResult, WriteContext};
@@ -19,12 +19,12 @@ pub fn gen_with_len<W: BackToTheBuffer, F: FnOnce(&mut WriteContext<W>) -> GenRe
 ) -> GenResult
     requires callable { F.IsAlwaysCallable f }
     requires appends { (old new : WriteContext W) (r : Result (Unit {0}) GenError) →
-        FnOnceReturnsAtMut F.FnOnce f old r new → OnlyAppends (shown W.seen old) r (shown W.seen new) }
-    ensures ok { OnOk result (PutsWithLength W.seen (FnOnceReturnsAtMut F.FnOnce f) x.old x.new) }
+        FnOnceReturnsAtMut F.FnOnce f old r new → OnlyAppends (state_of W.seen old) r (state_of W.seen new) }
+    ensures ok { OnOk result (AppendsWithLength W.seen (FnOnceReturnsAtMut F.FnOnce f) x.old x.new) }
     ensures err { IfErr result (RefusesWithLength W.seen (FnOnceReturnsAtMut F.FnOnce f) x.old x.new) }
-    ensures kept { OnErr result ((shown W.seen x.new).told ≡ (shown W.seen x.old).told) }
-    ensures stayed { OnErr result ((shown W.seen x.new).at ≡ (shown W.seen x.old).at) }
-    ensures only { OnlyAppends (shown W.seen x.old) result (shown W.seen x.new) }
+    ensures kept { OnErr result ((state_of W.seen x.new).written ≡ (state_of W.seen x.old).written) }
+    ensures stayed { OnErr result ((state_of W.seen x.new).position ≡ (state_of W.seen x.old).position) }
+    ensures only { OnlyAppends (state_of W.seen x.old) result (state_of W.seen x.new) }
 {
     let at = x.reserve(4)?;
     if let Err(e) = f(x) {

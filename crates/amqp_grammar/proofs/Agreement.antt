@@ -7,7 +7,7 @@ use Rattle.amqp_types.specs.Ids.{kind}
 use Rattle.amqp_grammar.specs.Grammar.{Wire, Raw}
 use Rattle.amqp_grammar.specs.Nesting.{WireWithin, RawWithin, OutcomeWithin}
 use Rattle.amqp_types.specs.Inputs.{IsBytes}
-use Rattle.amqp_grammar.specs.Outcomes.{Reading, found, more, unknown, malformed, LacksOr, lack, FrontBy, Outcome}
+use Rattle.amqp_grammar.specs.Outcomes.{Reading, found, more, unknown, malformed, NeedsMoreOr, lack, FrontBy, Outcome}
 use Rattle.amqp_grammar.specs.Readings.{Front}
 use Rattle.amqp_grammar.specs.Payloads.{RawOutcome}
 use Rattle.amqp_grammar.specs.Decode.{outcome_by, meaning, outcome, raw_outcome}
@@ -46,7 +46,7 @@ same_front P s (more n) p finds here there = absurd here
 same_front P s unknown p finds here there = absurd here
 
 -- two outcomes are one, if they are where no byte lacks
-same_unless : (n : ℕ) (P Q : Type 0) (o p : Reading) → (P → Q → o ≡ p) → LacksOr n P o → LacksOr n Q p → o ≡ p
+same_unless : (n : ℕ) (P Q : Type 0) (o p : Reading) → (P → Q → o ≡ p) → NeedsMoreOr n P o → NeedsMoreOr n Q p → o ≡ p
 same_unless zero P Q o p same here there = same here there
 same_unless (suc n) P Q o p same here there = here ∙ sym there
 
@@ -67,8 +67,8 @@ outcome_by_ends : (depth : ℕ) (s : List ℕ) (o : Reading) → ((w rest : List
     → WireEnds depth s o → Outcome s o
 outcome_by_ends depth [] o finds ends = ends
 outcome_by_ends depth (c ∷ b) o finds ends = at_kind (kind c) ends where
-  at_kind : (k : Option AMQPType) → MatchOption k (o ≡ unknown) (λ type. LacksOr (lack type b) (Ends (WireWithin depth) (c ∷ b) o) o)
-      → MatchOption k (o ≡ unknown) (λ type. LacksOr (lack type b) (Front (c ∷ b) o) o)
+  at_kind : (k : Option AMQPType) → MatchOption k (o ≡ unknown) (λ type. NeedsMoreOr (lack type b) (Ends (WireWithin depth) (c ∷ b) o) o)
+      → MatchOption k (o ≡ unknown) (λ type. NeedsMoreOr (lack type b) (Front (c ∷ b) o) o)
   at_kind None is = is
   at_kind (Some type) ends = unless_weaker (lack type b) _ _ o (front_by Wire (WireWithin depth) (c ∷ b) o finds (λ w v q. q.0)) ends
 
@@ -77,8 +77,8 @@ same_outcome : (s : List ℕ) (o p : Reading) → ((w rest : List ℕ) (v : Tree
     → Outcome s o → Outcome s p → o ≡ p
 same_outcome [] o p finds here there = here ∙ sym there
 same_outcome (c ∷ b) o p finds here there = at_kind (kind c) here there where
-  at_kind : (k : Option AMQPType) → MatchOption k (o ≡ unknown) (λ type. LacksOr (lack type b) (Front (c ∷ b) o) o)
-      → MatchOption k (p ≡ unknown) (λ type. LacksOr (lack type b) (Front (c ∷ b) p) p) → o ≡ p
+  at_kind : (k : Option AMQPType) → MatchOption k (o ≡ unknown) (λ type. NeedsMoreOr (lack type b) (Front (c ∷ b) o) o)
+      → MatchOption k (p ≡ unknown) (λ type. NeedsMoreOr (lack type b) (Front (c ∷ b) p) p) → o ≡ p
   at_kind None here there = here ∙ sym there
   at_kind (Some type) here there = same_unless (lack type b) _ _ o p (same_front Wire (c ∷ b) o p finds) here there
 
@@ -109,8 +109,8 @@ within_by_ends : (d : ℕ) (s : List ℕ) (o : Reading) → ((w rest : List ℕ)
     → WireEnds d s o → OutcomeWithin d s o
 within_by_ends d [] o finds ends = ends
 within_by_ends d (c ∷ b) o finds ends = at_kind (kind c) ends where
-  at_kind : (k : Option AMQPType) → MatchOption k (o ≡ unknown) (λ type. LacksOr (lack type b) (Ends (WireWithin d) (c ∷ b) o) o)
-      → MatchOption k (o ≡ unknown) (λ type. LacksOr (lack type b) (FrontBy (WireWithin d) (c ∷ b) o) o)
+  at_kind : (k : Option AMQPType) → MatchOption k (o ≡ unknown) (λ type. NeedsMoreOr (lack type b) (Ends (WireWithin d) (c ∷ b) o) o)
+      → MatchOption k (o ≡ unknown) (λ type. NeedsMoreOr (lack type b) (FrontBy (WireWithin d) (c ∷ b) o) o)
   at_kind None is = is
   at_kind (Some type) ends = unless_weaker (lack type b) _ _ o (front_by (WireWithin d) (WireWithin d) (c ∷ b) o finds (λ w v q. q)) ends
 

@@ -8,9 +8,9 @@ use Rattle.std.specs.declared.cmp.Ordering.{Ordering}
 use Rattle.std.specs.declared.cmp.Ordering.TheVariants.{Less, Equal, Greater}
 use Rattle.amqp_types.specs.declared.amqp_type.AMQPType.{AMQPType}
 use Rattle.amqp_types.specs.declared.amqp_type.AMQPType.TheVariants as amqp
-use Rattle.amqp_grammar.specs.Values.{Tree, Trees, Entries, no_entries, entry, scalar_type, put, onto, depth, count}
+use Rattle.amqp_grammar.specs.Values.{Tree, Trees, Entries, no_entries, entry, scalar_type, insert, insert_all, depth, count}
 use Rattle.amqp_grammar.specs.Layouts.{Layout, fixed, width_of}
-use Rattle.amqp_grammar.specs.Grammar.{Wire, wire, Raw, raw_fixed, raw_short, raw_long, raw_octets, raw_array, raw_table, Body, no_values, value, Pairs, no_pairs, pair}
+use Rattle.amqp_grammar.specs.Grammar.{Wire, wire, Raw, raw_fixed, raw_short, raw_long, raw_octets, raw_array, raw_table, ArrayBody, no_values, value, TableBody, no_pairs, pair}
 use Rattle.amqp_grammar.specs.Texts.{size}
 use Rattle.amqp_grammar.proofs.Spelling.{size_of_scalar, body_size_more, pairs_size_more}
 use Rattle.amqp_grammar.specs.Members.{greatest_depth, entries_depth, count_all, entries_count, body_size, pairs_size}
@@ -25,25 +25,25 @@ pub record Within (bytes values deep : ℕ) (es : Entries) : Type 0 where
 
 -- entries grow by no more than is put
 put_within : (k : List ℕ) (v : Tree) (es : Entries)
-    → Within (1 + length k + (size v + pairs_size es)) (count v + entries_count es) (max (depth v) (entries_depth es)) (put k v es)
+    → Within (1 + length k + (size v + pairs_size es)) (count v + entries_count es) (max (depth v) (entries_depth es)) (insert k v es)
 put_within k v no_entries = record { size = omega (arith, pairs_size_more k v no_entries); count = omega arith; depth = omega arith }
 put_within k v (entry j u es) = by (slice_cmp nat_cmp k j) (put_within k v es)
   where
     by : (o : Ordering)
-        → Within (1 + length k + (size v + pairs_size es)) (count v + entries_count es) (max (depth v) (entries_depth es)) (put k v es)
+        → Within (1 + length k + (size v + pairs_size es)) (count v + entries_count es) (max (depth v) (entries_depth es)) (insert k v es)
         → Within (1 + length k + (size v + pairs_size (entry j u es))) (count v + entries_count (entry j u es)) (max (depth v) (entries_depth (entry j u es)))
-        (match_ordering o (entry k v (entry j u es)) (entry j v es) (entry j u (put k v es)))
+        (match_ordering o (entry k v (entry j u es)) (entry j v es) (entry j u (insert k v es)))
     by Less inner = record { size = omega (arith, pairs_size_more k v (entry j u es)); count = omega arith; depth = omega arith }
     by Equal inner = record { size = omega (arith, pairs_size_more j v es, pairs_size_more j u es); count = omega arith; depth = omega arith }
-    by Greater inner = record { size = omega (arith, inner.size, pairs_size_more j u (put k v es), pairs_size_more j u es); count = omega arith; depth = omega arith }
+    by Greater inner = record { size = omega (arith, inner.size, pairs_size_more j u (insert k v es), pairs_size_more j u es); count = omega arith; depth = omega arith }
 
 -- so they do where pairs are put one after another
 pub onto_within : (ps es : Entries)
-    → Within (pairs_size ps + pairs_size es) (entries_count ps + entries_count es) (max (entries_depth ps) (entries_depth es)) (onto es ps)
+    → Within (pairs_size ps + pairs_size es) (entries_count ps + entries_count es) (max (entries_depth ps) (entries_depth es)) (insert_all es ps)
 onto_within no_entries es = record { size = omega arith; count = omega arith; depth = omega arith }
 onto_within (entry k v ps) es =
     let first = put_within k v es in
-    let all = onto_within ps (put k v es) in
+    let all = onto_within ps (insert k v es) in
     record { size = omega (arith, pairs_size_more k v ps, first.size, all.size); count = omega (arith, first.count, all.count); depth = omega (arith, first.depth, all.depth) }
 
 -- ---- values of fixed width
@@ -96,7 +96,7 @@ mutual
       }
 
   -- an array's body is as long as its values are large
-  body_bounded : (body : List ℕ) (vs : Trees) → Body body vs → Bounded (length body) (body_size vs) (count_all vs) (greatest_depth vs)
+  body_bounded : (body : List ℕ) (vs : Trees) → ArrayBody body vs → Bounded (length body) (body_size vs) (count_all vs) (greatest_depth vs)
   body_bounded _ _ no_values = record { size = omega arith; count = omega arith; depth = omega arith }
   body_bounded _ _ (value w more v vs p all) =
       let first = wire_bounded w v p in
@@ -109,7 +109,7 @@ mutual
       }
 
   -- and a table's is as long as its pairs are
-  pairs_bounded : (body : List ℕ) (ps : Entries) → Pairs body ps → Bounded (length body) (pairs_size ps) (entries_count ps) (entries_depth ps)
+  pairs_bounded : (body : List ℕ) (ps : Entries) → TableBody body ps → Bounded (length body) (pairs_size ps) (entries_count ps) (entries_depth ps)
   pairs_bounded _ _ no_pairs = record { size = omega arith; count = omega arith; depth = omega arith }
   pairs_bounded _ _ (pair k w more v ps is p all) =
       let first = wire_bounded w v p in
@@ -123,10 +123,10 @@ mutual
       }
 
 -- what a table holds is no larger than the pairs that it was read from
-pub table_size : (body : List ℕ) (ps : Entries) → Pairs body ps → pairs_size (onto no_entries ps) ≤ length body
+pub table_size : (body : List ℕ) (ps : Entries) → TableBody body ps → pairs_size (insert_all no_entries ps) ≤ length body
 table_size body ps all = omega (arith, (onto_within ps no_entries).size, (pairs_bounded body ps all).size)
 
-pub array_size : (body : List ℕ) (vs : Trees) → Body body vs → body_size vs ≤ length body
+pub array_size : (body : List ℕ) (vs : Trees) → ArrayBody body vs → body_size vs ≤ length body
 array_size body vs all = (body_bounded body vs all).size
 
 -- the bounds of an encoding

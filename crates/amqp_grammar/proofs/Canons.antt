@@ -15,7 +15,7 @@ use Rattle.amqp_types.specs.Ids.{letters, kind, id_of}
 use Rattle.amqp_types.specs.Names.{read_as}
 use Rattle.amqp_grammar.specs.Layouts.{Layout, fixed, truth, spelled}
 use Rattle.amqp_types.specs.Strings.{IsShort}
-use Rattle.amqp_grammar.specs.Grammar.{short_field, long_field, Wire, wire, Raw, raw_fixed, raw_short, raw_long, raw_octets, raw_array, raw_table, Body, no_values, value, Pairs, no_pairs, pair}
+use Rattle.amqp_grammar.specs.Grammar.{short_field, long_field, Wire, wire, Raw, raw_fixed, raw_short, raw_long, raw_octets, raw_array, raw_table, ArrayBody, no_values, value, TableBody, no_pairs, pair}
 use Rattle.amqp_types.specs.Inputs.{IsBytes}
 use Rattle.amqp_grammar.specs.Maps.{IsRising}
 use Rattle.amqp_grammar.specs.Canonical.{IsStrict, IsCanon, IsCanonRaw, IsCanonBody, IsCanonPairs, Canon}
@@ -37,7 +37,7 @@ pub canon_fits : (w : List ℕ) (v : Tree) → Canon w v → Fits v × IsTrue (r
 canon_fits w v (p, is) = what_is_read w v p
 
 -- the keys of canonical pairs are ascending
-pub canon_rises : (body : List ℕ) (ps : Entries) (p : Pairs body ps) → IsCanonPairs body ps p → IsRising ps
+pub canon_rises : (body : List ℕ) (ps : Entries) (p : TableBody body ps) → IsCanonPairs body ps p → IsRising ps
 canon_rises _ _ no_pairs is = tt
 canon_rises _ _ (pair k w rest v ps key first others) is = (is.0, canon_rises rest ps others is.2)
 
@@ -208,13 +208,13 @@ mutual
       (refl, ap long_field (texts ∙ ap pairs (sym (rising_pairs ps (canon_rises b ps p all)))))
 
   -- canonical encodings one after another are the texts, joined
-  body_is_texts : (b : List ℕ) (vs : Trees) (p : Body b vs) → IsBytes b → IsCanonBody b vs p → b ≡ body vs
+  body_is_texts : (b : List ℕ) (vs : Trees) (p : ArrayBody b vs) → IsBytes b → IsCanonBody b vs p → b ≡ body vs
   body_is_texts _ _ no_values bytes all = refl
   body_is_texts _ _ (value w more v vs first others) bytes all =
       ap₂ ◌++◌ (wire_is_text w v first (bytes_front w more bytes) all.0) (body_is_texts more vs others (bytes_behind w more bytes) all.1)
 
   -- with keys before them too
-  pairs_are_keyed : (b : List ℕ) (ps : Entries) (p : Pairs b ps) → IsBytes b → IsCanonPairs b ps p → b ≡ pairs ps
+  pairs_are_keyed : (b : List ℕ) (ps : Entries) (p : TableBody b ps) → IsBytes b → IsCanonPairs b ps p → b ≡ pairs ps
   pairs_are_keyed _ _ no_pairs bytes all = refl
   pairs_are_keyed _ _ (pair k w more v ps key first others) bytes all =
       let behind = bytes_behind (short_field k) (w ++ more) bytes in

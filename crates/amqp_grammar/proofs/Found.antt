@@ -10,10 +10,10 @@ use Rattle.std.specs.Option.{IfSome}
 use Rattle.std.specs.Int.{Width, w32, byte_len, from_be_bytes, to_be_bytes}
 use Rattle.amqp_types.specs.declared.amqp_type.AMQPType.{AMQPType}
 use Rattle.amqp_types.specs.declared.amqp_type.AMQPType.TheVariants as amqp
-use Rattle.amqp_grammar.specs.Values.{Tree, scalar, short, long, octets, array, table, Trees, tree, Entries, no_entries, put, onto}
+use Rattle.amqp_grammar.specs.Values.{Tree, scalar, short, long, octets, array, table, Trees, tree, Entries, no_entries, insert, insert_all}
 use Rattle.amqp_grammar.specs.Layouts.{Layout, fixed}
 use Rattle.amqp_types.specs.Strings.{IsShort}
-use Rattle.amqp_grammar.specs.Grammar.{Wire, Raw, Body, Pairs, short_field, wire, raw_fixed, raw_short, raw_long, raw_octets, raw_array, raw_table, no_values, value, no_pairs, pair}
+use Rattle.amqp_grammar.specs.Grammar.{Wire, Raw, ArrayBody, TableBody, short_field, wire, raw_fixed, raw_short, raw_long, raw_octets, raw_array, raw_table, no_values, value, no_pairs, pair}
 use Rattle.amqp_grammar.specs.Nesting.{nesting, raw_nesting, body_nesting, pairs_nesting}
 use Rattle.amqp_grammar.specs.Outcomes.{Reading, found, more, unknown, malformed, length_field, counted, lack_of, frame_lack}
 use Rattle.amqp_grammar.specs.Decode.{Meaning, framed, raw_outcome_by, outcome_by, values_by, is_short, is_key, pairs_onto, meaning}
@@ -43,7 +43,7 @@ and_others read n o = elim o [ found v rest ↦ option_map (tree v) (values_by r
 
 -- by what is after the first of some keys
 abbrev pub and_pairs : (List ℕ → Reading) → ℕ → Entries → List ℕ → Reading → Option Entries
-and_pairs read n es k o = elim o [ found v rest ↦ pairs_onto read n (put k v es) rest | _ ↦ None ]
+and_pairs read n es k o = elim o [ found v rest ↦ pairs_onto read n (insert k v es) rest | _ ↦ None ]
 
 -- by whether the first of some keys is one
 abbrev pub and_key : Bool → Option Entries → Option Entries
@@ -137,7 +137,7 @@ array_means (suc depth) deep body vs within spelled = ap (option_map array) (spe
 
 -- what starts with a key and a value's encoding is that pair, and then the others
 pair_first : (read : List ℕ → Reading) (n : ℕ) (es : Entries) (k t rest : List ℕ) (v : Tree) → IsShort k → read t ≡ found v rest
-    → pairs_onto read (suc n) es (short_field k ++ t) ≡ pairs_onto read n (put k v es) rest
+    → pairs_onto read (suc n) es (short_field k ++ t) ≡ pairs_onto read n (insert k v es) rest
 pair_first read n es k t rest v key first =
     (λ i. and_key (is_key-true k t key i) (and_pairs read n es (take-append_seam k t i) (read (drop-append_seam k t i))))
     ∙ ap (and_pairs read n es k) first
@@ -170,12 +170,12 @@ mutual
       framed_found (meaning depth) amqp.FieldArray (to_be_bytes w32 (length body)) body rest (array vs) refl refl (from_be_bytes-to_be_bytes_4 (length body) fits)
       (array_means depth (body_nesting body vs entries) body vs within (λ inner deep. found_body inner (length body) body vs entries deep (omega arith)))
   found_raw depth _ _ rest _ (raw_table body ps fits entries) within =
-      framed_found (meaning depth) amqp.FieldTable (to_be_bytes w32 (length body)) body rest (table (onto no_entries ps)) refl refl (from_be_bytes-to_be_bytes_4 (length body) fits)
-      (table_means depth (pairs_nesting body ps entries) body (onto no_entries ps) within
+      framed_found (meaning depth) amqp.FieldTable (to_be_bytes w32 (length body)) body rest (table (insert_all no_entries ps)) refl refl (from_be_bytes-to_be_bytes_4 (length body) fits)
+      (table_means depth (pairs_nesting body ps entries) body (insert_all no_entries ps) within
       (λ inner deep. found_pairs inner (length body) no_entries body ps entries deep (omega arith)))
 
   -- and a body's values are those that it spells
-  pub found_body : (depth n : ℕ) (body : List ℕ) (vs : Trees) (p : Body body vs) → body_nesting body vs p ≤ depth → length body ≤ n
+  pub found_body : (depth n : ℕ) (body : List ℕ) (vs : Trees) (p : ArrayBody body vs) → body_nesting body vs p ≤ depth → length body ≤ n
       → values_by (outcome_by (meaning depth)) n body ≡ Some vs
   found_body depth n _ _ no_values within room = refl
   found_body depth zero _ _ (value w rest v vs first others) within room = absurd (omega (arith, length-append w rest, wire_starts w v first))
@@ -184,10 +184,10 @@ mutual
       ∙ ap (option_map (tree v)) (found_body depth n rest vs others (omega arith) (omega (arith, length-append w rest, wire_starts w v first)))
 
   -- and its pairs are put one after another
-  pub found_pairs : (depth n : ℕ) (es : Entries) (body : List ℕ) (ps : Entries) (p : Pairs body ps) → pairs_nesting body ps p ≤ depth → length body ≤ n
-      → pairs_onto (outcome_by (meaning depth)) n es body ≡ Some (onto es ps)
+  pub found_pairs : (depth n : ℕ) (es : Entries) (body : List ℕ) (ps : Entries) (p : TableBody body ps) → pairs_nesting body ps p ≤ depth → length body ≤ n
+      → pairs_onto (outcome_by (meaning depth)) n es body ≡ Some (insert_all es ps)
   found_pairs depth n es _ _ no_pairs within room = refl
   found_pairs depth zero es _ _ (pair k w rest v ps key first others) within room = absurd (omega arith)
   found_pairs depth (suc n) es _ _ (pair k w rest v ps key first others) within room =
       pair_first (outcome_by (meaning depth)) n es k (w ++ rest) rest v key (found_wire depth w rest v first (omega arith))
-      ∙ found_pairs depth n (put k v es) rest ps others (omega arith) (omega (arith, length-append k (w ++ rest), length-append w rest, wire_starts w v first))
+      ∙ found_pairs depth n (insert k v es) rest ps others (omega arith) (omega (arith, length-append k (w ++ rest), length-append w rest, wire_starts w v first))

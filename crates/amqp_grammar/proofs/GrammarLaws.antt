@@ -22,7 +22,7 @@ pub use Rattle.amqp_grammar.proofs.Shortest.{what_is_read, what_raw_reads, read_
 pub use Rattle.amqp_grammar.proofs.Canons.{canon_is_wire, canon_fits, canon_is_text, canonical_wire, canon, canon_array, canon_table, canon_value, canon_pair, canon_rises}
 pub use Rattle.amqp_grammar.proofs.TextCanon.{text_is_canon, is_canonical}
 -- the words of the headline
-pub use Rattle.amqp_grammar.proofs.Headlines.{found_front, bounded_wire, bounded_found, is_shortest, tells_apart}
+pub use Rattle.amqp_grammar.proofs.Headlines.{found_front, bounded_wire, bounded_found, is_shortest, injective}
 -- from a payload of the type that a first byte denotes to the value: the outcome, and that it
 -- takes memory
 pub use Rattle.amqp_grammar.proofs.Outcomes.{raw_to_value, value_to_raw, raw_to_heavy}

@@ -5,7 +5,7 @@ use Rattle.amqp_types.specs.declared.amqp_type.AMQPType.{AMQPType}
 use Rattle.amqp_grammar.specs.Values.{Tree}
 use Rattle.amqp_types.specs.Ids.{kind}
 use Rattle.amqp_grammar.specs.Grammar.{Wire}
-use Rattle.amqp_grammar.specs.Outcomes.{found, unknown, lack, LacksOr, Outcome}
+use Rattle.amqp_grammar.specs.Outcomes.{found, unknown, lack, NeedsMoreOr, Outcome}
 use Rattle.amqp_grammar.specs.Readings.{Front}
 use Rattle.amqp_grammar.specs.Texts.{text}
 use Rattle.amqp_grammar.specs.Headline.{IsWritableIn, IsShortest, TellsApart}
@@ -17,11 +17,11 @@ pub found_front : (s rest : List ℕ) (v : Tree) → Outcome s (found v rest) �
 found_front [] rest v x = absurd cc
 found_front (c ∷ b) rest v x = by (kind c) x
   where
-    decided : (n : ℕ) → LacksOr n (Front (c ∷ b) (found v rest)) (found v rest) → Front (c ∷ b) (found v rest)
+    decided : (n : ℕ) → NeedsMoreOr n (Front (c ∷ b) (found v rest)) (found v rest) → Front (c ∷ b) (found v rest)
     decided zero f = f
     decided (suc n) e = absurd cc
 
-    by : (k : Option AMQPType) → MatchOption k (found v rest ≡ unknown) (λ type. LacksOr (lack type b) (Front (c ∷ b) (found v rest)) (found v rest))
+    by : (k : Option AMQPType) → MatchOption k (found v rest ≡ unknown) (λ type. NeedsMoreOr (lack type b) (Front (c ∷ b) (found v rest)) (found v rest))
         → Front (c ∷ b) (found v rest)
     by None e = absurd cc
     by (Some type) f = decided (lack type b) f
@@ -45,5 +45,5 @@ pub is_shortest : (v : Tree) → IsShortest v
 is_shortest v w bytes p = shortest w v bytes p
 
 -- and is the text of no other value
-pub tells_apart : (v : Tree) → TellsApart v
-tells_apart v u w x bytes_w bytes_x p q = (λ e. same_text_same_value w x v u p q bytes_w bytes_x e, λ e. ap text e)
+pub injective : (v : Tree) → TellsApart v
+injective v u w x bytes_w bytes_x p q = (λ e. same_text_same_value w x v u p q bytes_w bytes_x e, λ e. ap text e)

@@ -5,7 +5,7 @@ use Rattle.amqp_types.specs.declared.amqp_type.AMQPType.{AMQPType}
 use Rattle.amqp_grammar.specs.Values.{Tree}
 use Rattle.amqp_types.specs.Ids.{kind}
 use Rattle.amqp_grammar.specs.Grammar.{Wire, wire, Raw}
-use Rattle.amqp_grammar.specs.Outcomes.{Reading, found, more, unknown, malformed, lack, LacksOr, FrontBy, RawOutcomeBy, OutcomeBy, Outcome}
+use Rattle.amqp_grammar.specs.Outcomes.{Reading, found, more, unknown, malformed, lack, NeedsMoreOr, FrontBy, RawOutcomeBy, OutcomeBy, Outcome}
 use Rattle.amqp_grammar.specs.Payloads.{RawOutcome}
 use Rattle.amqp_grammar.specs.Nesting.{nesting, WireWithin, RawWithin, OutcomeWithin, RawOutcomeWithin}
 use Rattle.amqp_grammar.proofs.Fronts.{one_held}
@@ -25,7 +25,7 @@ front_same P Q s (more n) there back f = absurd f
 front_same P Q s unknown there back f = absurd f
 
 -- what P decides Q does, where no byte lacks
-unless_same : (n : ℕ) (P Q : Type 0) (o : Reading) → (P → Q) → LacksOr n P o → LacksOr n Q o
+unless_same : (n : ℕ) (P Q : Type 0) (o : Reading) → (P → Q) → NeedsMoreOr n P o → NeedsMoreOr n Q o
 unless_same zero P Q o f x = f x
 unless_same (suc n) P Q o f x = x
 
@@ -38,13 +38,13 @@ pub outcome_same : (P Q : List ℕ → Tree → Type 0) (s : List ℕ) (o : Read
 outcome_same P Q [] o there back x = x
 outcome_same P Q (c ∷ b) o there back x = by (kind c) x
   where
-    by : (k : Option AMQPType) → MatchOption k (o ≡ unknown) (λ type. LacksOr (lack type b) (FrontBy P (c ∷ b) o) o)
-        → MatchOption k (o ≡ unknown) (λ type. LacksOr (lack type b) (FrontBy Q (c ∷ b) o) o)
+    by : (k : Option AMQPType) → MatchOption k (o ≡ unknown) (λ type. NeedsMoreOr (lack type b) (FrontBy P (c ∷ b) o) o)
+        → MatchOption k (o ≡ unknown) (λ type. NeedsMoreOr (lack type b) (FrontBy Q (c ∷ b) o) o)
     by None e = e
     by (Some type) y = unless_same (lack type b) (FrontBy P (c ∷ b) o) (FrontBy Q (c ∷ b) o) o (front_same P Q (c ∷ b) o there back) y
 
 -- what is found is at the start
-raw_front : (P : List ℕ → Tree → Type 0) (n : ℕ) (s rest : List ℕ) (v : Tree) → LacksOr n (FrontBy P s (found v rest)) (found v rest) → FrontBy P s (found v rest)
+raw_front : (P : List ℕ → Tree → Type 0) (n : ℕ) (s rest : List ℕ) (v : Tree) → NeedsMoreOr n (FrontBy P s (found v rest)) (found v rest) → FrontBy P s (found v rest)
 raw_front P zero s rest v f = f
 raw_front P (suc n) s rest v e = absurd cc
 
@@ -52,7 +52,7 @@ front_by : (P : List ℕ → Tree → Type 0) (s rest : List ℕ) (v : Tree) →
 front_by P [] rest v x = absurd cc
 front_by P (c ∷ b) rest v x = by (kind c) x
   where
-    by : (k : Option AMQPType) → MatchOption k (found v rest ≡ unknown) (λ type. LacksOr (lack type b) (FrontBy P (c ∷ b) (found v rest)) (found v rest))
+    by : (k : Option AMQPType) → MatchOption k (found v rest ≡ unknown) (λ type. NeedsMoreOr (lack type b) (FrontBy P (c ∷ b) (found v rest)) (found v rest))
         → FrontBy P (c ∷ b) (found v rest)
     by None e = absurd cc
     by (Some type) y = raw_front P (lack type b) (c ∷ b) rest v y
@@ -73,7 +73,7 @@ one_front_by P one s unknown p f g = absurd f
 one_front_by P one s o (more n) f g = absurd g
 one_front_by P one s o unknown f g = absurd g
 
-one_unless : (P : List ℕ → Tree → Type 0) → One P → (n : ℕ) (s : List ℕ) (o p : Reading) → LacksOr n (FrontBy P s o) o → LacksOr n (FrontBy P s p) p → o ≡ p
+one_unless : (P : List ℕ → Tree → Type 0) → One P → (n : ℕ) (s : List ℕ) (o p : Reading) → NeedsMoreOr n (FrontBy P s o) o → NeedsMoreOr n (FrontBy P s p) p → o ≡ p
 one_unless P one zero s o p f g = one_front_by P one s o p f g
 one_unless P one (suc n) s o p f g = f ∙ sym g
 
@@ -81,8 +81,8 @@ one_outcome_by : (P : List ℕ → Tree → Type 0) → One P → (s : List ℕ)
 one_outcome_by P one [] o p x y = x ∙ sym y
 one_outcome_by P one (c ∷ b) o p x y = by (kind c) x y
   where
-    by : (k : Option AMQPType) → MatchOption k (o ≡ unknown) (λ type. LacksOr (lack type b) (FrontBy P (c ∷ b) o) o)
-        → MatchOption k (p ≡ unknown) (λ type. LacksOr (lack type b) (FrontBy P (c ∷ b) p) p) → o ≡ p
+    by : (k : Option AMQPType) → MatchOption k (o ≡ unknown) (λ type. NeedsMoreOr (lack type b) (FrontBy P (c ∷ b) o) o)
+        → MatchOption k (p ≡ unknown) (λ type. NeedsMoreOr (lack type b) (FrontBy P (c ∷ b) p) p) → o ≡ p
     by None f g = f ∙ sym g
     by (Some type) f g = one_unless P one (lack type b) (c ∷ b) o p f g
 
@@ -122,12 +122,12 @@ front_from_raw d c type b unknown k f = absurd f
 -- reading a type tag and then its payload is reading the value
 pub raw_to_value_within : (d c : ℕ) (type : AMQPType) (b : List ℕ) (o : Reading) → kind c ≡ Some type → RawOutcomeWithin d type b o → OutcomeWithin d (c ∷ b) o
 raw_to_value_within d c type b o k x =
-    subst (λ (k : Option AMQPType). MatchOption k (o ≡ unknown) (λ type. LacksOr (lack type b) (FrontBy (WireWithin d) (c ∷ b) o) o)) (sym k)
+    subst (λ (k : Option AMQPType). MatchOption k (o ≡ unknown) (λ type. NeedsMoreOr (lack type b) (FrontBy (WireWithin d) (c ∷ b) o) o)) (sym k)
     (unless_same (lack type b) (FrontBy (RawWithin d type) b o) (FrontBy (WireWithin d) (c ∷ b) o) o (front_from_raw d c type b o k) x)
 
 -- a complete length-prefixed field results in what its prefix decides
 pub raw_whole_within : (d : ℕ) (type : AMQPType) (s : List ℕ) (o : Reading) → lack type s ≡ 0 → FrontBy (RawWithin d type) s o → RawOutcomeWithin d type s o
-raw_whole_within d type s o whole f = subst (λ (n : ℕ). LacksOr n (FrontBy (RawWithin d type) s o) o) (sym whole) f
+raw_whole_within d type s o whole f = subst (λ (n : ℕ). NeedsMoreOr n (FrontBy (RawWithin d type) s o) o) (sym whole) f
 
 -- a payload is found at the start
 pub raw_found_within : (d : ℕ) (type : AMQPType) (b rest : List ℕ) (v : Tree) → RawWithin d type b v → RawOutcomeWithin d type (b ++ rest) (found v rest)
@@ -163,18 +163,18 @@ pub malformed_append : (d : ℕ) (s t : List ℕ) → OutcomeWithin d s malforme
 malformed_append d [] t x = absurd cc
 malformed_append d (c ∷ b) t x = by (kind c) refl x
   where
-    decided : (type : AMQPType) → kind c ≡ Some type → (n : ℕ) → lack type b ≡ n → LacksOr n (FrontBy (WireWithin d) (c ∷ b) malformed) malformed
-        → LacksOr (lack type (b ++ t)) (FrontBy (WireWithin d) (c ∷ (b ++ t)) malformed) malformed
+    decided : (type : AMQPType) → kind c ≡ Some type → (n : ℕ) → lack type b ≡ n → NeedsMoreOr n (FrontBy (WireWithin d) (c ∷ b) malformed) malformed
+        → NeedsMoreOr (lack type (b ++ t)) (FrontBy (WireWithin d) (c ∷ (b ++ t)) malformed) malformed
     decided type k (suc n) whole is = absurd cc
     decided type k zero whole none =
-        subst (λ (n : ℕ). LacksOr n (FrontBy (WireWithin d) (c ∷ (b ++ t)) malformed) malformed) (sym (lack-whole type b t whole))
+        subst (λ (n : ℕ). NeedsMoreOr n (FrontBy (WireWithin d) (c ∷ (b ++ t)) malformed) malformed) (sym (lack-whole type b t whole))
         (λ w rest v p e.
         let r = raw_of_wire d c type (b ++ t) w rest v k p.0 p.1 e in
         let inside = raw_inside type b t r.0 rest v whole r.1.0 r.2 in
         none (c ∷ r.0) (drop (length r.0) b) v (wire_of_raw d c type r.0 v k r.1) (ap (λ (l : List ℕ). c ∷ l) inside))
 
-    by : (k : Option AMQPType) → kind c ≡ k → MatchOption k (malformed ≡ unknown) (λ type. LacksOr (lack type b) (FrontBy (WireWithin d) (c ∷ b) malformed) malformed)
-        → MatchOption k (malformed ≡ unknown) (λ type. LacksOr (lack type (b ++ t)) (FrontBy (WireWithin d) (c ∷ (b ++ t)) malformed) malformed)
+    by : (k : Option AMQPType) → kind c ≡ k → MatchOption k (malformed ≡ unknown) (λ type. NeedsMoreOr (lack type b) (FrontBy (WireWithin d) (c ∷ b) malformed) malformed)
+        → MatchOption k (malformed ≡ unknown) (λ type. NeedsMoreOr (lack type (b ++ t)) (FrontBy (WireWithin d) (c ∷ (b ++ t)) malformed) malformed)
     by None k e = e
     by (Some type) k y = decided type k (lack type b) refl y
 
@@ -183,11 +183,11 @@ pub unknown_append : (d : ℕ) (s t : List ℕ) → OutcomeWithin d s unknown �
 unknown_append d [] t x = absurd cc
 unknown_append d (c ∷ b) t x = by (kind c) x
   where
-    decided : (n : ℕ) → LacksOr n (FrontBy (WireWithin d) (c ∷ b) unknown) unknown → ⊥
+    decided : (n : ℕ) → NeedsMoreOr n (FrontBy (WireWithin d) (c ∷ b) unknown) unknown → ⊥
     decided zero f = f
     decided (suc n) e = absurd cc
 
-    by : (k : Option AMQPType) → MatchOption k (unknown ≡ unknown) (λ type. LacksOr (lack type b) (FrontBy (WireWithin d) (c ∷ b) unknown) unknown)
-        → MatchOption k (unknown ≡ unknown) (λ type. LacksOr (lack type (b ++ t)) (FrontBy (WireWithin d) (c ∷ (b ++ t)) unknown) unknown)
+    by : (k : Option AMQPType) → MatchOption k (unknown ≡ unknown) (λ type. NeedsMoreOr (lack type b) (FrontBy (WireWithin d) (c ∷ b) unknown) unknown)
+        → MatchOption k (unknown ≡ unknown) (λ type. NeedsMoreOr (lack type (b ++ t)) (FrontBy (WireWithin d) (c ∷ (b ++ t)) unknown) unknown)
     by None e = refl
     by (Some type) y = absurd (decided (lack type b) y)

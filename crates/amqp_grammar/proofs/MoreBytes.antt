@@ -5,7 +5,7 @@ use Rattle.amqp_types.specs.declared.amqp_type.AMQPType.{AMQPType}
 use Rattle.amqp_grammar.specs.Values.{Tree}
 use Rattle.amqp_types.specs.Ids.{kind}
 use Rattle.amqp_grammar.specs.Grammar.{Raw}
-use Rattle.amqp_grammar.specs.Outcomes.{Reading, found, more, unknown, malformed, lack, LacksOr, Outcome}
+use Rattle.amqp_grammar.specs.Outcomes.{Reading, found, more, unknown, malformed, lack, NeedsMoreOr, Outcome}
 use Rattle.amqp_grammar.specs.Payloads.{RawFront, RawOutcome}
 use Rattle.amqp_grammar.specs.Readings.{with_more, StillWaits}
 use Rattle.amqp_grammar.proofs.Fronts.{front_inside}
@@ -28,20 +28,20 @@ RawFront-append type s t (more n) whole f = absurd f
 RawFront-append type s t unknown whole f = absurd f
 
 -- where n bytes lack, that is the outcome
-LacksOr-more : (n : ℕ) (P : Type 0) → 0 < n → LacksOr n P (more n)
-LacksOr-more zero P lt = absurd (omega arith)
-LacksOr-more (suc n) P lt = refl
+NeedsMoreOr-more : (n : ℕ) (P : Type 0) → 0 < n → NeedsMoreOr n P (more n)
+NeedsMoreOr-more zero P lt = absurd (omega arith)
+NeedsMoreOr-more (suc n) P lt = refl
 
 -- reading a payload that is short by n bytes results in asking for them
 raw_lacks : (type : AMQPType) (s : List ℕ) (n : ℕ) → lack type s ≡ n → 0 < n → RawOutcome type s (more n)
 raw_lacks type s n e lt =
-    subst (λ (m : ℕ). LacksOr m (RawFront type s (more n)) (more n)) (sym e) (LacksOr-more n (RawFront type s (more n)) lt)
+    subst (λ (m : ℕ). NeedsMoreOr m (RawFront type s (more n)) (more n)) (sym e) (NeedsMoreOr-more n (RawFront type s (more n)) lt)
 
 -- the outcome of reading a payload, with more bytes
 pub more_raw_bytes : (type : AMQPType) (s t : List ℕ) (o : Reading) → RawOutcome type s o → StillWaits o t → RawOutcome type (s ++ t) (with_more o t)
 more_raw_bytes type s t o x waits = by (lack type s) refl x
   where
-    by : (n : ℕ) → lack type s ≡ n → LacksOr n (RawFront type s o) o → RawOutcome type (s ++ t) (with_more o t)
+    by : (n : ℕ) → lack type s ≡ n → NeedsMoreOr n (RawFront type s o) o → RawOutcome type (s ++ t) (with_more o t)
     by zero whole f = raw_whole type (s ++ t) (with_more o t) (lack-whole type s t whole) (RawFront-append type s t o whole f)
     by (suc n) e is =
         let less : length t < suc n = subst (λ (r : Reading). StillWaits r t) is waits in

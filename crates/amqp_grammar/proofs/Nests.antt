@@ -2,7 +2,7 @@
 use Rattle.std.proofs.Common.{ℕ, suc, ◌*◌, ◌≤◌, List, ◌++◌, length, arith, length-append}
 use Rattle.amqp_types.specs.declared.amqp_type.AMQPType.{AMQPType}
 use Rattle.amqp_grammar.specs.Values.{Tree, Trees, Entries}
-use Rattle.amqp_grammar.specs.Grammar.{Wire, Raw, Body, Pairs, wire, raw_fixed, raw_short, raw_long, raw_octets, raw_array, raw_table, no_values, value, no_pairs, pair}
+use Rattle.amqp_grammar.specs.Grammar.{Wire, Raw, ArrayBody, TableBody, wire, raw_fixed, raw_short, raw_long, raw_octets, raw_array, raw_table, no_values, value, no_pairs, pair}
 use Rattle.amqp_grammar.specs.Nesting.{nesting, raw_nesting, body_nesting, pairs_nesting}
 
 mutual
@@ -20,13 +20,13 @@ mutual
   raw_nesting-le _ _ _ (raw_table body ps fits entries) = omega (arith, pairs_nesting-le body ps entries)
 
   -- a body nests no deeper than one of its values
-  pub body_nesting-le : (body : List ℕ) (vs : Trees) (p : Body body vs) → 5 * body_nesting body vs p ≤ length body
+  pub body_nesting-le : (body : List ℕ) (vs : Trees) (p : ArrayBody body vs) → 5 * body_nesting body vs p ≤ length body
   body_nesting-le _ _ no_values = omega arith
   body_nesting-le _ _ (value w rest v vs first others) =
       omega (arith, length-append w rest, nesting-le w v first, body_nesting-le rest vs others)
 
   -- and pairs no deeper than one of their values
-  pub pairs_nesting-le : (body : List ℕ) (ps : Entries) (p : Pairs body ps) → 5 * pairs_nesting body ps p ≤ length body
+  pub pairs_nesting-le : (body : List ℕ) (ps : Entries) (p : TableBody body ps) → 5 * pairs_nesting body ps p ≤ length body
   pairs_nesting-le _ _ no_pairs = omega arith
   pairs_nesting-le _ _ (pair k w rest v ps key first others) =
       omega (arith, length-append k (w ++ rest), length-append w rest, nesting-le w v first, pairs_nesting-le rest ps others)

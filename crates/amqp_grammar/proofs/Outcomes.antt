@@ -4,7 +4,7 @@ use Rattle.amqp_types.specs.declared.amqp_type.AMQPType.{AMQPType}
 use Rattle.amqp_grammar.specs.Values.{Tree}
 use Rattle.amqp_types.specs.Ids.{kind}
 use Rattle.amqp_grammar.specs.Grammar.{Wire, wire, Raw}
-use Rattle.amqp_grammar.specs.Outcomes.{Reading, found, more, unknown, malformed, lack, LacksOr, Outcome, RawHeavy, Heavy}
+use Rattle.amqp_grammar.specs.Outcomes.{Reading, found, more, unknown, malformed, lack, NeedsMoreOr, Outcome, RawHeavy, Heavy}
 use Rattle.amqp_grammar.specs.Payloads.{RawFront, RawOutcome}
 use Rattle.amqp_grammar.specs.Readings.{Front}
 use Rattle.amqp_grammar.proofs.Fronts.{one_held}
@@ -40,24 +40,24 @@ raw_from_front c type b (more n) k f = absurd f
 raw_from_front c type b unknown k f = absurd f
 
 -- where no byte lacks, what P decides Q does
-LacksOr-weaker : (n : ℕ) (P Q : Type 0) (o : Reading) → (P → Q) → LacksOr n P o → LacksOr n Q o
-LacksOr-weaker zero P Q o f x = f x
-LacksOr-weaker (suc n) P Q o f x = x
+NeedsMoreOr-weaker : (n : ℕ) (P Q : Type 0) (o : Reading) → (P → Q) → NeedsMoreOr n P o → NeedsMoreOr n Q o
+NeedsMoreOr-weaker zero P Q o f x = f x
+NeedsMoreOr-weaker (suc n) P Q o f x = x
 
 -- the outcome of reading c and b, where k is what c denotes
 abbrev OutcomeAt : List ℕ → Reading → ℕ → Option AMQPType → Type 0
-OutcomeAt b o c k = MatchOption k (o ≡ unknown) (λ type. LacksOr (lack type b) (Front (c ∷ b) o) o)
+OutcomeAt b o c k = MatchOption k (o ≡ unknown) (λ type. NeedsMoreOr (lack type b) (Front (c ∷ b) o) o)
 
 -- reading a type tag and then its payload is reading the value
 pub raw_to_value : (c : ℕ) (type : AMQPType) (b : List ℕ) (o : Reading) → kind c ≡ Some type → RawOutcome type b o → Outcome (c ∷ b) o
 raw_to_value c type b o k x =
     subst (OutcomeAt b o c) (sym k)
-    (LacksOr-weaker (lack type b) (RawFront type b o) (Front (c ∷ b) o) o (front_from_raw c type b o k) x)
+    (NeedsMoreOr-weaker (lack type b) (RawFront type b o) (Front (c ∷ b) o) o (front_from_raw c type b o k) x)
 
 -- and the other way round
 pub value_to_raw : (c : ℕ) (type : AMQPType) (b : List ℕ) (o : Reading) → kind c ≡ Some type → Outcome (c ∷ b) o → RawOutcome type b o
 value_to_raw c type b o k x =
-    LacksOr-weaker (lack type b) (Front (c ∷ b) o) (RawFront type b o) o (raw_from_front c type b o k)
+    NeedsMoreOr-weaker (lack type b) (Front (c ∷ b) o) (RawFront type b o) o (raw_from_front c type b o k)
     (subst (OutcomeAt b o c) k x)
 
 -- where the first byte isn't a type tag, that is the outcome
@@ -72,7 +72,7 @@ raw_to_heavy c type b k x = subst (λ (k : Option AMQPType). MatchOption k ⊥ (
 
 -- a complete length-prefixed field results in what its prefix decides
 pub raw_whole : (type : AMQPType) (s : List ℕ) (o : Reading) → lack type s ≡ 0 → RawFront type s o → RawOutcome type s o
-raw_whole type s o whole f = subst (λ (n : ℕ). LacksOr n (RawFront type s o) o) (sym whole) f
+raw_whole type s o whole f = subst (λ (n : ℕ). NeedsMoreOr n (RawFront type s o) o) (sym whole) f
 
 -- a payload is found at the start
 pub raw_found : (type : AMQPType) (b rest : List ℕ) (v : Tree) → Raw type b v → RawOutcome type (b ++ rest) (found v rest)
@@ -101,7 +101,7 @@ one_front_outcome type s o unknown f g = absurd g
 pub one_raw_outcome : (type : AMQPType) (s : List ℕ) (o p : Reading) → RawOutcome type s o → RawOutcome type s p → o ≡ p
 one_raw_outcome type s o p x y = by (lack type s) x y
   where
-    by : (n : ℕ) → LacksOr n (RawFront type s o) o → LacksOr n (RawFront type s p) p → o ≡ p
+    by : (n : ℕ) → NeedsMoreOr n (RawFront type s o) o → NeedsMoreOr n (RawFront type s p) p → o ≡ p
     by zero f g = one_front_outcome type s o p f g
     by (suc n) f g = f ∙ sym g
 

@@ -7,7 +7,7 @@ use Rattle.amqp_types.specs.declared.amqp_type.AMQPType.TheVariants as amqp
 use Rattle.amqp_grammar.specs.Values.{Tree, scalar, short, long, octets, array, table, Trees, no_trees, tree, Entries, no_entries, entry, readable}
 use Rattle.amqp_types.specs.Ids.{kind, id_of}
 use Rattle.amqp_types.specs.Strings.{IsShort}
-use Rattle.amqp_grammar.specs.Grammar.{short_field, long_field, Wire, wire, Raw, raw_fixed, raw_short, raw_array, raw_table, Body, no_values, value, Pairs, no_pairs, pair}
+use Rattle.amqp_grammar.specs.Grammar.{short_field, long_field, Wire, wire, Raw, raw_fixed, raw_short, raw_array, raw_table, ArrayBody, no_values, value, TableBody, no_pairs, pair}
 use Rattle.amqp_grammar.specs.Nesting.{raw_nesting, body_nesting, pairs_nesting}
 use Rattle.amqp_grammar.specs.Texts.{text, body, pairs, Fits}
 use Rattle.amqp_grammar.specs.Members.{all_readable, entries_readable, AllFit, EntriesFit}
@@ -28,7 +28,7 @@ one_large s t x y short_s short_t e =
     same_fronts s t x y len (ap (drop 4) e)
 
 -- the payload of an array is a body after its length
-pub array_body : (s x b y : List ℕ) (z : Tree) → length s < 2 ^ 32 → Raw amqp.FieldArray b z → long_field s ++ x ≡ b ++ y → (us : Trees) × Body s us
+pub array_body : (s x b y : List ℕ) (z : Tree) → length s < 2 ^ 32 → Raw amqp.FieldArray b z → long_field s ++ x ≡ b ++ y → (us : Trees) × ArrayBody s us
 array_body s x _ y _ fits (raw_fixed type f b row len) e = absurd cc
 array_body s x _ y _ fits (raw_array c us room p) e =
     let same = one_large s c x y fits room e in
@@ -36,26 +36,26 @@ array_body s x _ y _ fits (raw_array c us room p) e =
 
 -- and one that nests no deeper than its payload, which counts one more
 pub array_body_within : (d : ℕ) (s x b y : List ℕ) (z : Tree) → length s < 2 ^ 32 → (p : Raw amqp.FieldArray b z) → raw_nesting amqp.FieldArray b z p ≤ d
-    → long_field s ++ x ≡ b ++ y → (us : Trees) × (q : Body s us) × (suc (body_nesting s us q) ≤ d)
+    → long_field s ++ x ≡ b ++ y → (us : Trees) × (q : ArrayBody s us) × (suc (body_nesting s us q) ≤ d)
 array_body_within d s x _ y _ fits (raw_fixed type f b row len) within e = absurd cc
 array_body_within d s x _ y _ fits (raw_array c us room p) within e =
     let same = one_large s c x y fits room e in
-    let at = subst (λ (t : List ℕ). (q : Body t us) × (suc (body_nesting t us q) ≤ d)) (sym same.0) (p, within) in
+    let at = subst (λ (t : List ℕ). (q : ArrayBody t us) × (suc (body_nesting t us q) ≤ d)) (sym same.0) (p, within) in
     (us, at.0, at.1)
 
 -- the payload of a table is pairs after their length
-pub table_body : (s x b y : List ℕ) (z : Tree) → length s < 2 ^ 32 → Raw amqp.FieldTable b z → long_field s ++ x ≡ b ++ y → (ps : Entries) × Pairs s ps
+pub table_body : (s x b y : List ℕ) (z : Tree) → length s < 2 ^ 32 → Raw amqp.FieldTable b z → long_field s ++ x ≡ b ++ y → (ps : Entries) × TableBody s ps
 table_body s x _ y _ fits (raw_fixed type f b row len) e = absurd cc
 table_body s x _ y _ fits (raw_table c ps room p) e =
     let same = one_large s c x y fits room e in
     (ps, rw same.0 p)
 
 pub table_body_within : (d : ℕ) (s x b y : List ℕ) (z : Tree) → length s < 2 ^ 32 → (p : Raw amqp.FieldTable b z) → raw_nesting amqp.FieldTable b z p ≤ d
-    → long_field s ++ x ≡ b ++ y → (ps : Entries) × (q : Pairs s ps) × (suc (pairs_nesting s ps q) ≤ d)
+    → long_field s ++ x ≡ b ++ y → (ps : Entries) × (q : TableBody s ps) × (suc (pairs_nesting s ps q) ≤ d)
 table_body_within d s x _ y _ fits (raw_fixed type f b row len) within e = absurd cc
 table_body_within d s x _ y _ fits (raw_table c ps room p) within e =
     let same = one_large s c x y fits room e in
-    let at = subst (λ (t : List ℕ). (q : Pairs t ps) × (suc (pairs_nesting t ps q) ≤ d)) (sym same.0) (p, within) in
+    let at = subst (λ (t : List ℕ). (q : TableBody t ps) × (suc (pairs_nesting t ps q) ≤ d)) (sym same.0) (p, within) in
     (ps, at.0, at.1)
 
 -- the payload of a short string is one after its length
@@ -96,7 +96,7 @@ mutual
       pairs_readable es (pairs es) b.0 is fits.1 b.1 refl
 
   -- and so are values whose joined texts are an array's body
-  pub body_readable : (vs : Trees) (b : List ℕ) (us : Trees) → AreValues vs → AllFit vs → Body b us → body vs ≡ b → IsTrue (all_readable vs)
+  pub body_readable : (vs : Trees) (b : List ℕ) (us : Trees) → AreValues vs → AllFit vs → ArrayBody b us → body vs ≡ b → IsTrue (all_readable vs)
   body_readable no_trees b us is fits p e = refl
   body_readable (tree v vs) _ _ is fits no_values e = absurd (no_empty_text v (body vs) e)
   body_readable (tree v vs) _ _ is fits (value w more z us p all) e =
@@ -105,7 +105,7 @@ mutual
       and_from (readable v) (all_readable vs) r (body_readable vs more us is.1 fits.1 all same.1)
 
   -- and those that with their keys are a table's pairs
-  pub pairs_readable : (es : Entries) (b : List ℕ) (ps : Entries) → AreEntries es → EntriesFit es → Pairs b ps → pairs es ≡ b → IsTrue (entries_readable es)
+  pub pairs_readable : (es : Entries) (b : List ℕ) (ps : Entries) → AreEntries es → EntriesFit es → TableBody b ps → pairs es ≡ b → IsTrue (entries_readable es)
   pairs_readable no_entries b ps are fits p e = refl
   pairs_readable (entry k v es) _ _ are fits no_pairs e = absurd cc
   pairs_readable (entry k v es) _ _ are fits (pair j w more z ps key p all) e =

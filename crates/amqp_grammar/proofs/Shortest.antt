@@ -6,13 +6,13 @@ use Rattle.std.specs.Int.{w32, to_be_bytes}
 use Rattle.std.proofs.lemmas.Bool.{and_from}
 use Rattle.amqp_types.specs.declared.amqp_type.AMQPType.{AMQPType}
 use Rattle.amqp_types.specs.declared.amqp_type.AMQPType.TheVariants as amqp
-use Rattle.amqp_grammar.specs.Values.{Tree, Trees, Entries, no_entries, entry, onto, readable}
+use Rattle.amqp_grammar.specs.Values.{Tree, Trees, Entries, no_entries, entry, insert_all, readable}
 use Rattle.amqp_types.specs.Ids.{kind}
 use Rattle.amqp_types.specs.Names.{read_as}
 use Rattle.amqp_types.proofs.Ids.{kind_read}
 use Rattle.amqp_grammar.specs.Layouts.{Layout, fixed}
 use Rattle.amqp_types.specs.Strings.{IsShort}
-use Rattle.amqp_grammar.specs.Grammar.{short_field, Wire, wire, Raw, raw_fixed, raw_short, raw_long, raw_octets, raw_array, raw_table, Body, no_values, value, Pairs, no_pairs, pair}
+use Rattle.amqp_grammar.specs.Grammar.{short_field, Wire, wire, Raw, raw_fixed, raw_short, raw_long, raw_octets, raw_array, raw_table, ArrayBody, no_values, value, TableBody, no_pairs, pair}
 use Rattle.amqp_grammar.specs.Texts.{text, Fits}
 use Rattle.amqp_grammar.specs.Members.{all_readable, entries_readable, AllFit, EntriesFit}
 use Rattle.amqp_grammar.specs.InMemory.{IsScalar, IsValue, AreValues, AreEntries}
@@ -63,18 +63,18 @@ mutual
   raw_written _ _ _ other (raw_table body ps fits all) =
       let each = each-onto (λ k v. IsWritten v) ps no_entries (pairs_written body ps all) tt in
       record {
-        fits = (omega (arith, fits, table_size body ps all), entries_fit (onto no_entries ps) each);
-        reads = entries_read (onto no_entries ps) each;
+        fits = (omega (arith, fits, table_size body ps all), entries_fit (insert_all no_entries ps) each);
+        reads = entries_read (insert_all no_entries ps) each;
       }
 
-  body_written : (body : List ℕ) (vs : Trees) → Body body vs → AllFit vs × IsTrue (all_readable vs)
+  body_written : (body : List ℕ) (vs : Trees) → ArrayBody body vs → AllFit vs × IsTrue (all_readable vs)
   body_written _ _ no_values = (tt, refl)
   body_written _ _ (value w more v vs p all) =
       let first = wire_written w v p in
       let others = body_written more vs all in
       ((first.fits, others.0), and_from (readable v) (all_readable vs) first.reads others.1)
 
-  pairs_written : (body : List ℕ) (ps : Entries) → Pairs body ps → Each (λ k v. IsWritten v) ps
+  pairs_written : (body : List ℕ) (ps : Entries) → TableBody body ps → Each (λ k v. IsWritten v) ps
   pairs_written _ _ no_pairs = tt
   pairs_written _ _ (pair k w more v ps is p all) = (wire_written w v p, pairs_written more ps all)
 
@@ -119,14 +119,14 @@ mutual
   raw_value _ _ _ bytes (raw_array body vs fits all) = body_values body vs (bytes_behind (to_be_bytes w32 (length body)) body bytes) all
   raw_value _ _ _ bytes (raw_table body ps fits all) =
       let pairs = pairs_values body ps (bytes_behind (to_be_bytes w32 (length body)) body bytes) all in
-      are_entries (onto no_entries ps) (each-onto (λ k v. IsShort k × IsValue v) ps no_entries pairs tt) (pairs_rise ps)
+      are_entries (insert_all no_entries ps) (each-onto (λ k v. IsShort k × IsValue v) ps no_entries pairs tt) (pairs_rise ps)
 
-  body_values : (body : List ℕ) (vs : Trees) → IsBytes body → Body body vs → AreValues vs
+  body_values : (body : List ℕ) (vs : Trees) → IsBytes body → ArrayBody body vs → AreValues vs
   body_values _ _ bytes no_values = tt
   body_values _ _ bytes (value w more v vs p all) =
       (wire_value w v (bytes_front w more bytes) p, body_values more vs (bytes_behind w more bytes) all)
 
-  pairs_values : (body : List ℕ) (ps : Entries) → IsBytes body → Pairs body ps → Each (λ k v. IsShort k × IsValue v) ps
+  pairs_values : (body : List ℕ) (ps : Entries) → IsBytes body → TableBody body ps → Each (λ k v. IsShort k × IsValue v) ps
   pairs_values _ _ bytes no_pairs = tt
   pairs_values _ _ bytes (pair k w more v ps is p all) =
       let behind = bytes_behind (short_field k) (w ++ more) bytes in

@@ -10,14 +10,14 @@ use Rattle.std.specs.Option.{IfSome}
 use Rattle.std.specs.Int.{Width, w8, w32, byte_len, from_be_bytes, to_be_bytes}
 use Rattle.amqp_types.specs.declared.amqp_type.AMQPType.{AMQPType}
 use Rattle.amqp_types.specs.declared.amqp_type.AMQPType.TheVariants as amqp
-use Rattle.amqp_grammar.specs.Values.{Tree, short, long, octets, array, table, Trees, tree, Entries, no_entries, entry, put, onto}
+use Rattle.amqp_grammar.specs.Values.{Tree, short, long, octets, array, table, Trees, tree, Entries, no_entries, entry, insert, insert_all}
 use Rattle.amqp_types.specs.Ids.{kind}
 use Rattle.amqp_grammar.specs.Layouts.{Layout, fixed}
 use Rattle.amqp_types.specs.Strings.{IsShort}
 use Rattle.amqp_grammar.specs.Grammar.{short_field, long_field, wire, raw_fixed, raw_short, raw_long, raw_octets, raw_array, raw_table, no_values, value, no_pairs, pair}
 use Rattle.amqp_grammar.specs.Nesting.{WireWithin, RawWithin, BodyWithin, PairsWithin}
 use Rattle.amqp_types.specs.Inputs.{IsBytes}
-use Rattle.amqp_grammar.specs.Outcomes.{Reading, found, more, unknown, malformed, LacksOr, length_field, counted, lack, lack_of, frame_lack}
+use Rattle.amqp_grammar.specs.Outcomes.{Reading, found, more, unknown, malformed, NeedsMoreOr, length_field, counted, lack, lack_of, frame_lack}
 use Rattle.amqp_grammar.specs.Decode.{Meaning, framed, raw_outcome_by, outcome_by, values_by, is_short, is_key, pairs_onto, meaning}
 use Rattle.amqp_grammar.proofs.Found.{by_kind, by_layout, by_lack, by_meaning, and_others, and_pairs, and_key}
 
@@ -55,13 +55,13 @@ IfFound P s _ = Unit {0}
 
 -- reading a payload says what is missing, otherwise finds a payload or fails
 abbrev pub RawEnds : ℕ → AMQPType → List ℕ → Reading → Type 0
-RawEnds depth type b o = LacksOr (lack type b) (Ends (RawWithin depth type) b o) o
+RawEnds depth type b o = NeedsMoreOr (lack type b) (Ends (RawWithin depth type) b o) o
 
 -- reading a value says what is missing, or that there is no type tag, otherwise finds an encoding
 -- or fails
 abbrev pub WireEnds : ℕ → List ℕ → Reading → Type 0
 WireEnds depth [] o = o ≡ more 1
-WireEnds depth (c ∷ b) o = MatchOption (kind c) (o ≡ unknown) (λ type. LacksOr (lack type b) (Ends (WireWithin depth) (c ∷ b) o) o)
+WireEnds depth (c ∷ b) o = MatchOption (kind c) (o ≡ unknown) (λ type. NeedsMoreOr (lack type b) (Ends (WireWithin depth) (c ∷ b) o) o)
 
 -- what some bytes mean has them for a payload, after each length field that counts them
 abbrev pub Means : ℕ → Meaning → Type 0
@@ -116,7 +116,7 @@ by_layout_ends depth mean type b means bytes (Some f) is whole =
 -- reading a payload
 pub raw_ends : (depth : ℕ) (mean : Meaning) → Means depth mean → (type : AMQPType) (b : List ℕ) → IsBytes b → RawEnds depth type b (raw_outcome_by mean type b)
 raw_ends depth mean means type b bytes = at_lack (lack type b) refl where
-  at_lack : (n : ℕ) → lack type b ≡ n → LacksOr n (Ends (RawWithin depth type) b (by_lack n mean type b)) (by_lack n mean type b)
+  at_lack : (n : ℕ) → lack type b ≡ n → NeedsMoreOr n (Ends (RawWithin depth type) b (by_lack n mean type b)) (by_lack n mean type b)
   at_lack (suc n) is = refl
   at_lack zero is = by_layout_ends depth mean type b means bytes (fixed type) refl is
 
@@ -128,7 +128,7 @@ id_before depth c type b (more n) is ends = ends
 id_before depth c type b unknown is ends = ends
 
 -- more is true where no byte lacks
-pub unless_weaker : (n : ℕ) (P Q : Type 0) (o : Reading) → (P → Q) → LacksOr n P o → LacksOr n Q o
+pub unless_weaker : (n : ℕ) (P Q : Type 0) (o : Reading) → (P → Q) → NeedsMoreOr n P o → NeedsMoreOr n Q o
 unless_weaker zero P Q o weaker here = weaker here
 unless_weaker (suc n) P Q o weaker here = here
 
@@ -137,7 +137,7 @@ pub wire_ends : (depth : ℕ) (mean : Meaning) → Means depth mean → (s : Lis
 wire_ends depth mean means [] bytes = refl
 wire_ends depth mean means (c ∷ b) bytes = at_kind (kind c) refl where
   at_kind : (k : Option AMQPType) → kind c ≡ k
-      → MatchOption k (by_kind k mean b ≡ unknown) (λ type. LacksOr (lack type b) (Ends (WireWithin depth) (c ∷ b) (by_kind k mean b)) (by_kind k mean b))
+      → MatchOption k (by_kind k mean b ≡ unknown) (λ type. NeedsMoreOr (lack type b) (Ends (WireWithin depth) (c ∷ b) (by_kind k mean b)) (by_kind k mean b))
   at_kind None is = refl
   at_kind (Some type) is =
       unless_weaker (lack type b) (Ends (RawWithin depth type) b (raw_outcome_by mean type b)) (Ends (WireWithin depth) (c ∷ b) (raw_outcome_by mean type b))
@@ -154,11 +154,11 @@ if_found P s malformed ends = tt
 wire_found : (depth : ℕ) (s : List ℕ) (o : Reading) → WireEnds depth s o → IfFound (WireWithin depth) s o
 wire_found depth [] o ends = subst (IfFound (WireWithin depth) []) (sym ends) tt
 wire_found depth (c ∷ b) o ends = at_kind (kind c) ends where
-  at_lack : (n : ℕ) → LacksOr n (Ends (WireWithin depth) (c ∷ b) o) o → IfFound (WireWithin depth) (c ∷ b) o
+  at_lack : (n : ℕ) → NeedsMoreOr n (Ends (WireWithin depth) (c ∷ b) o) o → IfFound (WireWithin depth) (c ∷ b) o
   at_lack (suc n) is = subst (IfFound (WireWithin depth) (c ∷ b)) (sym is) tt
   at_lack zero ends = if_found (WireWithin depth) (c ∷ b) o ends
 
-  at_kind : (k : Option AMQPType) → MatchOption k (o ≡ unknown) (λ type. LacksOr (lack type b) (Ends (WireWithin depth) (c ∷ b) o) o) → IfFound (WireWithin depth) (c ∷ b) o
+  at_kind : (k : Option AMQPType) → MatchOption k (o ≡ unknown) (λ type. NeedsMoreOr (lack type b) (Ends (WireWithin depth) (c ∷ b) o) o) → IfFound (WireWithin depth) (c ∷ b) o
   at_kind None is = subst (IfFound (WireWithin depth) (c ∷ b)) (sym is) tt
   at_kind (Some type) ends = at_lack (lack type b) ends
 
@@ -195,11 +195,11 @@ is_short-holds s is =
 
 -- pairs, put onto es
 abbrev PairsOnto : ℕ → Entries → List ℕ → Entries → Type 0
-PairsOnto depth es s fs = (ps : Entries) × PairsWithin depth s ps × (fs ≡ onto es ps)
+PairsOnto depth es s fs = (ps : Entries) × PairsWithin depth s ps × (fs ≡ insert_all es ps)
 
 -- a key and a value's encoding, and the other pairs after them
 pair_ends : (depth : ℕ) (es : Entries) (k t w rest : List ℕ) (v : Tree) (fs : Option Entries) → IsShort k → WireWithin depth w v → t ≡ w ++ rest
-    → IfSome fs (PairsOnto depth (put k v es) rest) → IfSome fs (PairsOnto depth es (short_field k ++ t))
+    → IfSome fs (PairsOnto depth (insert k v es) rest) → IfSome fs (PairsOnto depth es (short_field k ++ t))
 pair_ends depth es k t w rest v None key first is others = tt
 pair_ends depth es k t w rest v (Some fs) key (p, within) is (ps, (q, all_within), onto_es) =
     subst (λ x. PairsOnto depth es (short_field k ++ x) fs) (sym is) (entry k v ps, (pair k w rest v ps key p q, omega arith), onto_es)
@@ -209,7 +209,7 @@ pairs_behind : (depth : ℕ) (read : List ℕ → Reading) (n : ℕ) (es : Entri
     → ((fs : Entries) (rest : List ℕ) → IsBytes rest → IfSome (pairs_onto read n fs rest) (PairsOnto depth fs rest))
     → IfSome (and_pairs read n es k o) (PairsOnto depth es (short_field k ++ t))
 pairs_behind depth read n es k t (found v rest) key bytes (w, first, is) others =
-    pair_ends depth es k t w rest v (pairs_onto read n (put k v es) rest) key first is (others (put k v es) rest (IsBytes-behind w rest (subst IsBytes is bytes)))
+    pair_ends depth es k t w rest v (pairs_onto read n (insert k v es) rest) key first is (others (insert k v es) rest (IsBytes-behind w rest (subst IsBytes is bytes)))
 pairs_behind depth read n es k t (more m) key bytes ends others = tt
 pairs_behind depth read n es k t unknown key bytes ends others = tt
 pairs_behind depth read n es k t malformed key bytes ends others = tt
@@ -272,7 +272,7 @@ table_end : (depth : ℕ) (l s : List ℕ) → IsBytes l → length l ≡ 4 → 
 table_end depth l s bytes four counts None ends = tt
 table_end depth l s bytes four counts (Some es) (ps, (p, within), is) =
     subst (λ x. RawWithin (suc depth) amqp.FieldTable (l ++ s) (table x)) (sym is)
-    (large_end (λ b. RawWithin (suc depth) amqp.FieldTable b (table (onto no_entries ps))) l s bytes four counts (λ fits. (raw_table s ps fits p, omega arith)))
+    (large_end (λ b. RawWithin (suc depth) amqp.FieldTable b (table (insert_all no_entries ps))) l s bytes four counts (λ fits. (raw_table s ps fits p, omega arith)))
 
 -- what bytes mean, they spell
 pub means_spelled : (depth : ℕ) → Means depth (meaning depth)

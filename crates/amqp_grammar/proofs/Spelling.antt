@@ -10,7 +10,7 @@ use Rattle.amqp_grammar.specs.Texts.{payload, text, body, pairs, size, Fits}
 use Rattle.amqp_grammar.specs.Members.{all_readable, entries_readable, body_size, pairs_size, AllFit, EntriesFit}
 use Rattle.amqp_types.specs.Ids.{kind, id_of}
 use Rattle.amqp_grammar.specs.Layouts.{Layout, fixed, width_of, spelled}
-use Rattle.amqp_grammar.specs.Grammar.{long_field, Wire, wire, Raw, raw_fixed, raw_long, raw_octets, raw_array, raw_table, Body, no_values, value, Pairs, no_pairs, pair}
+use Rattle.amqp_grammar.specs.Grammar.{long_field, Wire, wire, Raw, raw_fixed, raw_long, raw_octets, raw_array, raw_table, ArrayBody, no_values, value, TableBody, no_pairs, pair}
 use Rattle.amqp_grammar.specs.InMemory.{IsNumber, IsScalar, IsValue, AreValues, AreEntries}
 use Rattle.amqp_grammar.proofs.Tables.{onto-rising}
 
@@ -99,7 +99,7 @@ scalar_raw x is =
 -- ---- all values
 
 -- pairs whose keys are ascending are the payload of a table that has them for entries
-rising_raw : (b : List ℕ) (es : Entries) → AreEntries es → length b < 2 ^ 32 → Pairs b es → Raw amqp.FieldTable (long_field b) (table es)
+rising_raw : (b : List ℕ) (es : Entries) → AreEntries es → length b < 2 ^ 32 → TableBody b es → Raw amqp.FieldTable (long_field b) (table es)
 rising_raw b es are fits all =
     subst (λ (fs : Entries). Raw amqp.FieldTable (long_field b) (table fs)) (onto-rising es are) (raw_table b es fits all)
 
@@ -119,14 +119,14 @@ mutual
       (rising_raw (pairs es) es is fits.0 (texts_are_pairs es is fits.1 r))
 
   -- texts that are joined are an array's body
-  pub texts_are_body : (vs : Trees) → AreValues vs → AllFit vs → IsTrue (all_readable vs) → Body (body vs) vs
+  pub texts_are_body : (vs : Trees) → AreValues vs → AllFit vs → IsTrue (all_readable vs) → ArrayBody (body vs) vs
   texts_are_body no_trees is fits r = no_values
   texts_are_body (tree v vs) is fits r =
       let both = and_parts (readable v) (all_readable vs) r in
       value (text v) (body vs) v vs (text_is_wire v is.0 fits.0 both.0) (texts_are_body vs is.1 fits.1 both.1)
 
   -- with keys before them they are a table's pairs
-  pub texts_are_pairs : (es : Entries) → AreEntries es → EntriesFit es → IsTrue (entries_readable es) → Pairs (pairs es) es
+  pub texts_are_pairs : (es : Entries) → AreEntries es → EntriesFit es → IsTrue (entries_readable es) → TableBody (pairs es) es
   texts_are_pairs no_entries are fits r = no_pairs
   texts_are_pairs (entry k v es) are fits r =
       let both = and_parts (readable v) (entries_readable es) r in

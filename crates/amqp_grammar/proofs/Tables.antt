@@ -7,7 +7,7 @@ use Rattle.std.specs.FinMap.{nat_cmp-IsAntisymmetric, slice_cmp-IsAntisymmetric}
 use Rattle.std.specs.declared.cmp.Ordering.{Ordering}
 use Rattle.std.specs.declared.cmp.Ordering.TheVariants.{Less, Equal, Greater}
 use Rattle.std.proofs.lemmas.Cmp.{nat_list_cmp_total}
-use Rattle.amqp_grammar.specs.Values.{Tree, Entries, no_entries, entry, put, onto, ComesBefore}
+use Rattle.amqp_grammar.specs.Values.{Tree, Entries, no_entries, entry, insert, insert_all, ComesBefore}
 use Rattle.amqp_grammar.specs.InMemory.{AreEntries}
 use Rattle.amqp_grammar.specs.Maps.{same_bytes, has_key, value_at, last_at, IsRising}
 
@@ -68,58 +68,58 @@ comes_before no_entries j k u v fs rises = rises.0
 comes_before (entry i w es) j k u v fs rises = nat_list_cmp_total.trans j i k rises.0 (comes_before es i k w v fs rises.1)
 
 -- a key after all others is put at the end
-put-last : (es : Entries) (k : List ℕ) (v : Tree) (fs : Entries) → IsRising (join es (entry k v fs)) → put k v es ≡ join es (entry k v no_entries)
+put-last : (es : Entries) (k : List ℕ) (v : Tree) (fs : Entries) → IsRising (join es (entry k v fs)) → insert k v es ≡ join es (entry k v no_entries)
 unfolding join
 put-last no_entries k v fs rises = refl
 put-last (entry j u es) k v fs rises =
     let behind = greater j k (comes_before es j k u v fs rises) in
-    ap (λ (o : Ordering). match_ordering o (entry k v (entry j u es)) (entry j v es) (entry j u (put k v es))) behind
+    ap (λ (o : Ordering). match_ordering o (entry k v (entry j u es)) (entry j v es) (entry j u (insert k v es))) behind
     ∙ ap (entry j u) (put-last es k v fs rises.1)
 
 -- sorted entries that are put after others are joined to them
-onto-join : (fs es : Entries) → IsRising (join es fs) → onto es fs ≡ join es fs
+onto-join : (fs es : Entries) → IsRising (join es fs) → insert_all es fs ≡ join es fs
 onto-join no_entries es rises = sym (join-none es)
 onto-join (entry k v fs) es rises =
-    ap (λ (x : Entries). onto x fs) (put-last es k v fs rises)
+    ap (λ (x : Entries). insert_all x fs) (put-last es k v fs rises)
     ∙ (onto-join fs (join es (entry k v no_entries)) (subst IsRising (sym (join-entry es k v fs)) rises) ∙ join-entry es k v fs)
 
 -- sorted entries, put one after another, are those entries
-pub rising_pairs : (es : Entries) → IsRising es → onto no_entries es ≡ es
+pub rising_pairs : (es : Entries) → IsRising es → insert_all no_entries es ≡ es
 unfolding join
 rising_pairs es rises = onto-join es no_entries rises
 
 -- so are those of a table
-pub onto-rising : (es : Entries) → AreEntries es → onto no_entries es ≡ es
+pub onto-rising : (es : Entries) → AreEntries es → insert_all no_entries es ≡ es
 onto-rising es are = rising_pairs es (entries_rise es are)
 
 -- what comes before a key and before the entries comes before them with the key
-before-put : (j k : List ℕ) (v : Tree) (es : Entries) → slice_cmp nat_cmp j k ≡ Less → ComesBefore j es → ComesBefore j (put k v es)
+before-put : (j k : List ℕ) (v : Tree) (es : Entries) → slice_cmp nat_cmp j k ≡ Less → ComesBefore j es → ComesBefore j (insert k v es)
 before-put j k v no_entries first before = first
 before-put j k v (entry i u es) first before = by (slice_cmp nat_cmp k i)
   where
-    by : (o : Ordering) → ComesBefore j (match_ordering o (entry k v (entry i u es)) (entry i v es) (entry i u (put k v es)))
+    by : (o : Ordering) → ComesBefore j (match_ordering o (entry k v (entry i u es)) (entry i v es) (entry i u (insert k v es)))
     by Less = first
     by Equal = before
     by Greater = before
 
 -- keys are still ascending where one is put
-rising-put : (k : List ℕ) (v : Tree) (es : Entries) → IsRising es → IsRising (put k v es)
+rising-put : (k : List ℕ) (v : Tree) (es : Entries) → IsRising es → IsRising (insert k v es)
 rising-put k v no_entries rises = (tt, tt)
 rising-put k v (entry j u es) rises = by (slice_cmp nat_cmp k j) refl (rising-put k v es rises.1)
   where
-    by : (o : Ordering) → slice_cmp nat_cmp k j ≡ o → IsRising (put k v es)
-        → IsRising (match_ordering o (entry k v (entry j u es)) (entry j v es) (entry j u (put k v es)))
+    by : (o : Ordering) → slice_cmp nat_cmp k j ≡ o → IsRising (insert k v es)
+        → IsRising (match_ordering o (entry k v (entry j u es)) (entry j v es) (entry j u (insert k v es)))
     by Less is inner = (is, rises)
     by Equal is inner = rises
     by Greater is inner = (before-put j k v es (less j k is) rises.0, inner)
 
 -- so they do where pairs are put one after another
-pub rising-onto : (ps es : Entries) → IsRising es → IsRising (onto es ps)
+pub rising-onto : (ps es : Entries) → IsRising es → IsRising (insert_all es ps)
 rising-onto no_entries es rises = rises
-rising-onto (entry k v ps) es rises = rising-onto ps (put k v es) (rising-put k v es rises)
+rising-onto (entry k v ps) es rises = rising-onto ps (insert k v es) (rising-put k v es rises)
 
 -- the keys of what pairs mean are ascending
-pub pairs_rise : (ps : Entries) → IsRising (onto no_entries ps)
+pub pairs_rise : (ps : Entries) → IsRising (insert_all no_entries ps)
 pairs_rise ps = rising-onto ps no_entries tt
 
 -- ---- what holds of each entry
@@ -130,41 +130,41 @@ Each P no_entries = Unit {0}
 Each P (entry k v es) = P k v × Each P es
 
 -- what holds of each entry, and of one that is put, holds of each then
-each-put : (P : List ℕ → Tree → Type 0) (k : List ℕ) (v : Tree) (es : Entries) → P k v → Each P es → Each P (put k v es)
+each-put : (P : List ℕ → Tree → Type 0) (k : List ℕ) (v : Tree) (es : Entries) → P k v → Each P es → Each P (insert k v es)
 each-put P k v no_entries here others = (here, tt)
 each-put P k v (entry j u es) here others = by (slice_cmp nat_cmp k j) refl (each-put P k v es here others.1)
   where
-    by : (o : Ordering) → slice_cmp nat_cmp k j ≡ o → Each P (put k v es)
-        → Each P (match_ordering o (entry k v (entry j u es)) (entry j v es) (entry j u (put k v es)))
+    by : (o : Ordering) → slice_cmp nat_cmp k j ≡ o → Each P (insert k v es)
+        → Each P (match_ordering o (entry k v (entry j u es)) (entry j v es) (entry j u (insert k v es)))
     by Less is inner = (here, others)
     by Equal is inner = (subst (λ (i : List ℕ). P i v) (equal_keys k j is) here, others.1)
     by Greater is inner = (others.0, inner)
 
 -- so does what holds of each pair
-pub each-onto : (P : List ℕ → Tree → Type 0) (ps es : Entries) → Each P ps → Each P es → Each P (onto es ps)
+pub each-onto : (P : List ℕ → Tree → Type 0) (ps es : Entries) → Each P ps → Each P es → Each P (insert_all es ps)
 each-onto P no_entries es pairs others = others
-each-onto P (entry k v ps) es pairs others = each-onto P ps (put k v es) pairs.1 (each-put P k v es pairs.0 others)
+each-onto P (entry k v ps) es pairs others = each-onto P ps (insert k v es) pairs.1 (each-put P k v es pairs.0 others)
 
 -- ---- a finite map
 
 -- a value is found at the key where it was put
-pub put_found : (k : List ℕ) (v : Tree) (es : Entries) → value_at k (put k v es) ≡ Some v
+pub put_found : (k : List ℕ) (v : Tree) (es : Entries) → value_at k (insert k v es) ≡ Some v
 put_found k v no_entries = ap (λ (t : Bool). if t then Some v else None) (same_itself k)
 put_found k v (entry j u es) = by (slice_cmp nat_cmp k j) refl (put_found k v es)
   where
-    by : (o : Ordering) → slice_cmp nat_cmp k j ≡ o → value_at k (put k v es) ≡ Some v
-        → value_at k (match_ordering o (entry k v (entry j u es)) (entry j v es) (entry j u (put k v es))) ≡ Some v
+    by : (o : Ordering) → slice_cmp nat_cmp k j ≡ o → value_at k (insert k v es) ≡ Some v
+        → value_at k (match_ordering o (entry k v (entry j u es)) (entry j v es) (entry j u (insert k v es))) ≡ Some v
     by Less is inner = ap (λ (t : Bool). if t then Some v else value_at k (entry j u es)) (same_itself k)
     by Equal is inner = ap (λ (t : Bool). if t then Some v else value_at k es) (same_by_order k j Equal is)
-    by Greater is inner = ap (λ (t : Bool). if t then Some u else value_at k (put k v es)) (same_by_order k j Greater is) ∙ inner
+    by Greater is inner = ap (λ (t : Bool). if t then Some u else value_at k (insert k v es)) (same_by_order k j Greater is) ∙ inner
 
 -- and every other key keeps its value
-pub put_other : (j k : List ℕ) (v : Tree) (es : Entries) → j ≢ k → value_at j (put k v es) ≡ value_at j es
+pub put_other : (j k : List ℕ) (v : Tree) (es : Entries) → j ≢ k → value_at j (insert k v es) ≡ value_at j es
 put_other j k v no_entries other = ap (λ (t : Bool). if t then Some v else None) (not_same j k other)
 put_other j k v (entry i u es) other = by (slice_cmp nat_cmp k i) refl (put_other j k v es other)
   where
-    by : (o : Ordering) → slice_cmp nat_cmp k i ≡ o → value_at j (put k v es) ≡ value_at j es
-        → value_at j (match_ordering o (entry k v (entry i u es)) (entry i v es) (entry i u (put k v es))) ≡ value_at j (entry i u es)
+    by : (o : Ordering) → slice_cmp nat_cmp k i ≡ o → value_at j (insert k v es) ≡ value_at j es
+        → value_at j (match_ordering o (entry k v (entry i u es)) (entry i v es) (entry i u (insert k v es))) ≡ value_at j (entry i u es)
     by Less is inner = ap (λ (t : Bool). if t then Some v else value_at j (entry i u es)) (not_same j k other)
     by Equal is inner =
         let apart : same_bytes j i ≡ false = not_same j i (λ e. other (e ∙ sym (equal_keys k i is))) in
@@ -181,11 +181,11 @@ key_has_value k (entry j u es) = by (same_bytes k j) (key_has_value k es)
     by false inner = inner
 
 -- the value at a key where one was put, by whether it is this key
-put_or : (k j : List ℕ) (v : Tree) (es : Entries) → value_at k (put j v es) ≡ option_or (if same_bytes k j then Some v else None) (value_at k es)
+put_or : (k j : List ℕ) (v : Tree) (es : Entries) → value_at k (insert j v es) ≡ option_or (if same_bytes k j then Some v else None) (value_at k es)
 put_or k j v es = by (same_bytes k j) refl
   where
-    by : (t : Bool) → same_bytes k j ≡ t → value_at k (put j v es) ≡ option_or (if t then Some v else None) (value_at k es)
-    by true is = ap (λ (i : List ℕ). value_at i (put j v es)) ((bytes_decides k j).0 is) ∙ put_found j v es
+    by : (t : Bool) → same_bytes k j ≡ t → value_at k (insert j v es) ≡ option_or (if t then Some v else None) (value_at k es)
+    by true is = ap (λ (i : List ℕ). value_at i (insert j v es)) ((bytes_decides k j).0 is) ∙ put_found j v es
     by false is = put_other k j v es (λ e. let same = (bytes_decides k j).1 e in cc)
 
 -- the first of three that is there
@@ -199,15 +199,15 @@ option_or-none None = refl
 option_or-none (Some x) = refl
 
 -- of pairs that are put one after another the last with the key decides
-onto_or : (k : List ℕ) (ps es : Entries) → value_at k (onto es ps) ≡ option_or (last_at k ps) (value_at k es)
+onto_or : (k : List ℕ) (ps es : Entries) → value_at k (insert_all es ps) ≡ option_or (last_at k ps) (value_at k es)
 onto_or k no_entries es = refl
 onto_or k (entry j v ps) es =
-    onto_or k ps (put j v es)
+    onto_or k ps (insert j v es)
     ∙ (ap (option_or (last_at k ps)) (put_or k j v es)
     ∙ sym (option_or-assoc (last_at k ps) (if same_bytes k j then Some v else None) (value_at k es)))
 
 -- of equal keys the last pair's value stays
-pub last_stays : (k : List ℕ) (ps : Entries) → value_at k (onto no_entries ps) ≡ last_at k ps
+pub last_stays : (k : List ℕ) (ps : Entries) → value_at k (insert_all no_entries ps) ≡ last_at k ps
 last_stays k ps = onto_or k ps no_entries ∙ option_or-none (last_at k ps)
 
 -- ---- equal tables

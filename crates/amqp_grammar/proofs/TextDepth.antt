@@ -3,10 +3,10 @@ use Rattle.std.proofs.Common.{◌≡◌, ◌≤◌, ◌+◌, ℕ, List, ◌∷�
 use Rattle.std.proofs.lemmas.Bool.{and_parts}
 use Rattle.amqp_types.specs.declared.amqp_type.AMQPType.{AMQPType}
 use Rattle.amqp_types.specs.declared.amqp_type.AMQPType.TheVariants as amqp
-use Rattle.amqp_grammar.specs.Values.{Scalar, Tree, scalar, short, long, octets, array, table, Trees, no_trees, tree, Entries, no_entries, entry, scalar_type, onto, depth, readable}
+use Rattle.amqp_grammar.specs.Values.{Scalar, Tree, scalar, short, long, octets, array, table, Trees, no_trees, tree, Entries, no_entries, entry, scalar_type, insert_all, depth, readable}
 use Rattle.amqp_types.specs.Ids.{id_of}
 use Rattle.amqp_grammar.specs.Layouts.{spelled}
-use Rattle.amqp_grammar.specs.Grammar.{long_field, Wire, wire, Raw, raw_fixed, raw_short, raw_long, raw_octets, raw_array, raw_table, Body, no_values, value, Pairs, no_pairs, pair}
+use Rattle.amqp_grammar.specs.Grammar.{long_field, Wire, wire, Raw, raw_fixed, raw_short, raw_long, raw_octets, raw_array, raw_table, ArrayBody, no_values, value, TableBody, no_pairs, pair}
 use Rattle.amqp_grammar.specs.Nesting.{nesting, raw_nesting, body_nesting, pairs_nesting, WireWithin, BodyWithin, PairsWithin}
 use Rattle.amqp_types.specs.Inputs.{IsBytes}
 use Rattle.amqp_grammar.proofs.Shortest.{what_is_read, read_is_value}
@@ -30,11 +30,11 @@ mutual
   raw_depth-le _ _ _ (raw_array body vs fits entries) = omega (arith, body_depth-le body vs entries)
   raw_depth-le _ _ _ (raw_table body ps fits entries) = omega (arith, pairs_depth-le body ps entries, (onto_within ps no_entries).depth)
 
-  pub body_depth-le : (body : List ℕ) (vs : Trees) (p : Body body vs) → greatest_depth vs ≤ body_nesting body vs p
+  pub body_depth-le : (body : List ℕ) (vs : Trees) (p : ArrayBody body vs) → greatest_depth vs ≤ body_nesting body vs p
   body_depth-le _ _ no_values = omega arith
   body_depth-le _ _ (value w rest v vs first others) = omega (arith, depth-le w v first, body_depth-le rest vs others)
 
-  pub pairs_depth-le : (body : List ℕ) (ps : Entries) (p : Pairs body ps) → entries_depth ps ≤ pairs_nesting body ps p
+  pub pairs_depth-le : (body : List ℕ) (ps : Entries) (p : TableBody body ps) → entries_depth ps ≤ pairs_nesting body ps p
   pairs_depth-le _ _ no_pairs = omega arith
   pairs_depth-le _ _ (pair k w rest v ps key first others) = omega (arith, depth-le w v first, pairs_depth-le rest ps others)
 
@@ -62,7 +62,7 @@ mutual
   text_within (table es) is fits r =
       let q = pairs_within es is fits.1 r in
       subst (λ (fs : Entries). WireWithin (1 + entries_depth es) (id_of amqp.FieldTable ∷ long_field (pairs es)) (table fs)) (onto-rising es is)
-      (wire (id_of amqp.FieldTable) amqp.FieldTable (long_field (pairs es)) (table (onto no_entries es)) refl (raw_table (pairs es) es fits.0 q.0), omega (arith, q.1))
+      (wire (id_of amqp.FieldTable) amqp.FieldTable (long_field (pairs es)) (table (insert_all no_entries es)) refl (raw_table (pairs es) es fits.0 q.0), omega (arith, q.1))
 
   pub texts_within : (vs : Trees) → AreValues vs → AllFit vs → IsTrue (all_readable vs) → BodyWithin (greatest_depth vs) (body vs) vs
   texts_within no_trees is fits r = (no_values, omega arith)

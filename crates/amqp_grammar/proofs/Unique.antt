@@ -1,10 +1,10 @@
 -- One reading: a list has at most one encoding at its start, and an encoding one meaning.
 use Rattle.std.proofs.Common.{◌≡◌, ℕ, List, [], ◌++◌, length, drop, refl, sym, ap, ap₂, ◌∙◌, subst}
 use Rattle.amqp_types.specs.declared.amqp_type.AMQPType.{AMQPType}
-use Rattle.amqp_grammar.specs.Values.{Tree, scalar, short, long, octets, array, table, Trees, tree, Entries, no_entries, entry, onto}
+use Rattle.amqp_grammar.specs.Values.{Tree, scalar, short, long, octets, array, table, Trees, tree, Entries, no_entries, entry, insert_all}
 use Rattle.amqp_types.specs.Ids.{kind}
 use Rattle.amqp_grammar.specs.Layouts.{Layout, fixed}
-use Rattle.amqp_grammar.specs.Grammar.{short_field, long_field, Wire, wire, Raw, raw_fixed, raw_short, raw_long, raw_octets, raw_array, raw_table, Body, no_values, value, Pairs, no_pairs, pair}
+use Rattle.amqp_grammar.specs.Grammar.{short_field, long_field, Wire, wire, Raw, raw_fixed, raw_short, raw_long, raw_octets, raw_array, raw_table, ArrayBody, no_values, value, TableBody, no_pairs, pair}
 use Rattle.amqp_grammar.proofs.Fronts.{same_fronts, one_held}
 use Rattle.amqp_grammar.proofs.Headers.{extent, extent-raw}
 
@@ -48,7 +48,7 @@ mutual
   one_raw_meaning _ _ _ _ _ (raw_array body vs fits all) (raw_array body2 us fits2 all2) e =
       ap array (one_body_meaning body body2 vs us all all2 (same_large body body2 e))
   one_raw_meaning _ _ _ _ _ (raw_table body ps fits all) (raw_table body2 qs fits2 all2) e =
-      ap (λ (rs : Entries). table (onto no_entries rs)) (one_pairs_meaning body body2 ps qs all all2 (same_large body body2 e))
+      ap (λ (rs : Entries). table (insert_all no_entries rs)) (one_pairs_meaning body body2 ps qs all all2 (same_large body body2 e))
 
   -- an encoding has one meaning
   pub one_meaning : (w u : List ℕ) (v z : Tree) → Wire w v → Wire u z → w ≡ u → v ≡ z
@@ -58,7 +58,7 @@ mutual
       one_raw_meaning type b b2 v z p (subst (λ (t : AMQPType). Raw t b2 z) same q) (cc)
 
   -- an array's body has one meaning
-  pub one_body_meaning : (b c : List ℕ) (vs us : Trees) → Body b vs → Body c us → b ≡ c → vs ≡ us
+  pub one_body_meaning : (b c : List ℕ) (vs us : Trees) → ArrayBody b vs → ArrayBody c us → b ≡ c → vs ≡ us
   one_body_meaning _ _ _ _ no_values no_values e = refl
   one_body_meaning _ _ _ _ no_values (value w more v us p all) e = absurd (no_empty_wire w more v p (sym e))
   one_body_meaning _ _ _ _ (value w more v vs p all) no_values e = absurd (no_empty_wire w more v p e)
@@ -67,7 +67,7 @@ mutual
       ap₂ tree (one_meaning w w2 v v2 p p2 same.0) (one_body_meaning more more2 vs us all all2 same.1)
 
   -- a table's body has one list of pairs
-  pub one_pairs_meaning : (b c : List ℕ) (ps qs : Entries) → Pairs b ps → Pairs c qs → b ≡ c → ps ≡ qs
+  pub one_pairs_meaning : (b c : List ℕ) (ps qs : Entries) → TableBody b ps → TableBody c qs → b ≡ c → ps ≡ qs
   one_pairs_meaning _ _ _ _ no_pairs no_pairs e = refl
   one_pairs_meaning _ _ _ _ no_pairs (pair k w more v qs is p all) e = absurd cc
   one_pairs_meaning _ _ _ _ (pair k w more v ps is p all) no_pairs e = absurd cc

@@ -5,7 +5,7 @@ use Rattle.std.specs.Prelude.{ℕ, ◌<◌, ◌≢◌, List, ◌∷◌}
 use Rattle.amqp_types.specs.declared.amqp_type.AMQPType.{AMQPType}
 use Rattle.amqp_types.specs.declared.amqp_type.AMQPType.TheVariants as amqp
 use Rattle.amqp_grammar.specs.Values.{Tree, Trees, Entries, ComesBefore}
-use Rattle.amqp_grammar.specs.Grammar.{Wire, Raw, Body, Pairs, wire, raw_fixed, raw_array, raw_table, no_values, value, no_pairs, pair}
+use Rattle.amqp_grammar.specs.Grammar.{Wire, Raw, ArrayBody, TableBody, wire, raw_fixed, raw_array, raw_table, no_values, value, no_pairs, pair}
 
 -- the byte of a boolean is 0 or 1
 abbrev pub IsStrict : AMQPType → List ℕ → Type 0
@@ -23,11 +23,11 @@ abbrev mutual
   IsCanonRaw _ _ _ (raw_table body ps fits all) = IsCanonPairs body ps all
   IsCanonRaw _ _ _ _ = Unit {0}
 
-  pub IsCanonBody : (body : List ℕ) (vs : Trees) → Body body vs → Type 0
+  pub IsCanonBody : (body : List ℕ) (vs : Trees) → ArrayBody body vs → Type 0
   IsCanonBody _ _ no_values = Unit {0}
   IsCanonBody _ _ (value w rest v vs first others) = IsCanon w v first × IsCanonBody rest vs others
 
-  pub IsCanonPairs : (body : List ℕ) (ps : Entries) → Pairs body ps → Type 0
+  pub IsCanonPairs : (body : List ℕ) (ps : Entries) → TableBody body ps → Type 0
   IsCanonPairs _ _ no_pairs = Unit {0}
   IsCanonPairs _ _ (pair k w rest v ps key first others) = ComesBefore k ps × IsCanon w v first × IsCanonPairs rest ps others
 

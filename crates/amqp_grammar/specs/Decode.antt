@@ -4,7 +4,7 @@ use Rattle.std.specs.Int.{Width, byte_len}
 use Rattle.std.specs.Str.{is_utf8}
 use Rattle.amqp_types.specs.declared.amqp_type.AMQPType.{AMQPType}
 use Rattle.amqp_types.specs.declared.amqp_type.AMQPType.TheVariants as amqp
-use Rattle.amqp_grammar.specs.Values.{Tree, scalar, short, long, octets, array, table, Trees, no_trees, tree, Entries, no_entries, put}
+use Rattle.amqp_grammar.specs.Values.{Tree, scalar, short, long, octets, array, table, Trees, no_trees, tree, Entries, no_entries, insert}
 use Rattle.amqp_types.specs.Ids.{kind}
 use Rattle.amqp_grammar.specs.Layouts.{fixed}
 use Rattle.amqp_grammar.specs.Outcomes.{Reading, found, more, unknown, malformed, length_field, counted, lack}
@@ -54,7 +54,7 @@ abbrev pub pairs_onto : (List ℕ → Reading) → ℕ → Entries → List ℕ 
 pairs_onto read n es [] = Some es
 pairs_onto read zero es (k ∷ s) = None
 pairs_onto read (suc n) es (k ∷ s) =
-    if is_key k s then elim (read (drop k s)) [ found v rest ↦ pairs_onto read n (put (take k s) v es) rest | _ ↦ None ] else None
+    if is_key k s then elim (read (drop k s)) [ found v rest ↦ pairs_onto read n (insert (take k s) v es) rest | _ ↦ None ] else None
 
 -- the meaning where containers nest at most `depth` deep
 abbrev pub meaning : ℕ → Meaning

@@ -4,7 +4,7 @@ use Rattle.std.specs.Prelude.{ℕ, ◌^◌, ◌<◌, ◌≡◌, Some, List, [], 
 use Rattle.std.specs.Int.{w32, to_be_bytes}
 use Rattle.amqp_types.specs.declared.amqp_type.AMQPType.{AMQPType}
 use Rattle.amqp_types.specs.declared.amqp_type.AMQPType.TheVariants as amqp
-use Rattle.amqp_grammar.specs.Values.{Tree, scalar, short, long, octets, array, table, Trees, no_trees, tree, Entries, no_entries, entry, onto}
+use Rattle.amqp_grammar.specs.Values.{Tree, scalar, short, long, octets, array, table, Trees, no_trees, tree, Entries, no_entries, entry, insert_all}
 use Rattle.amqp_types.specs.Ids.{kind}
 use Rattle.amqp_grammar.specs.Layouts.{Layout, fixed}
 use Rattle.amqp_types.specs.Strings.{IsShort}
@@ -31,17 +31,17 @@ mutual
     raw_long : (s : List ℕ) → length s < 2 ^ 32 → Raw amqp.LongString (long_field s) (long s)
     raw_octets : (s : List ℕ) → length s < 2 ^ 32 → Raw amqp.ByteArray (long_field s) (octets s)
     -- of an array: its body after the body's length
-    raw_array : (body : List ℕ) → (vs : Trees) → length body < 2 ^ 32 → Body body vs → Raw amqp.FieldArray (long_field body) (array vs)
+    raw_array : (body : List ℕ) → (vs : Trees) → length body < 2 ^ 32 → ArrayBody body vs → Raw amqp.FieldArray (long_field body) (array vs)
     -- of a table: its body after the body's length; of equal keys the last pair's value stays
-    raw_table : (body : List ℕ) → (ps : Entries) → length body < 2 ^ 32 → Pairs body ps → Raw amqp.FieldTable (long_field body) (table (onto no_entries ps))
+    raw_table : (body : List ℕ) → (ps : Entries) → length body < 2 ^ 32 → TableBody body ps → Raw amqp.FieldTable (long_field body) (table (insert_all no_entries ps))
 
   -- the bytes are encodings of these values, one after another, and nothing else
-  pub data Body : List ℕ → Trees → Type 0 where
-    no_values : Body [] no_trees
-    value : (w : List ℕ) → (rest : List ℕ) → (v : Tree) → (vs : Trees) → Wire w v → Body rest vs → Body (w ++ rest) (tree v vs)
+  pub data ArrayBody : List ℕ → Trees → Type 0 where
+    no_values : ArrayBody [] no_trees
+    value : (w : List ℕ) → (rest : List ℕ) → (v : Tree) → (vs : Trees) → Wire w v → ArrayBody rest vs → ArrayBody (w ++ rest) (tree v vs)
 
   -- the bytes are these pairs, one after another, and nothing else: each a key after its length,
   -- and an encoding of a value
-  pub data Pairs : List ℕ → Entries → Type 0 where
-    no_pairs : Pairs [] no_entries
-    pair : (k : List ℕ) → (w : List ℕ) → (rest : List ℕ) → (v : Tree) → (ps : Entries) → IsShort k → Wire w v → Pairs rest ps → Pairs (short_field k ++ (w ++ rest)) (entry k v ps)
+  pub data TableBody : List ℕ → Entries → Type 0 where
+    no_pairs : TableBody [] no_entries
+    pair : (k : List ℕ) → (w : List ℕ) → (rest : List ℕ) → (v : Tree) → (ps : Entries) → IsShort k → Wire w v → TableBody rest ps → TableBody (short_field k ++ (w ++ rest)) (entry k v ps)

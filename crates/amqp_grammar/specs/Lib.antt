@@ -31,6 +31,6 @@ pub mod Maps
 -- a value's type and its payload apart: what is written, and what reading a payload results in
 pub mod Payloads
 -- values that are kept without memory of their own
-pub mod Light
+pub mod NeedsNoAlloc
 -- for the worked examples alone: bytes as a person writes them
 pub mod Hexadecimal

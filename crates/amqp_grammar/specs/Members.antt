@@ -1,7 +1,7 @@
 -- What is said of a value, of all that are in a container.
 use Rattle.std.specs.Prelude.{ℕ, Bool, List, length}
 use Rattle.amqp_grammar.specs.Values.{Trees, Entries, walk_all, walk_entries, depths, counts, have_ids}
-use Rattle.amqp_grammar.specs.Grammar.{Body, Pairs}
+use Rattle.amqp_grammar.specs.Grammar.{ArrayBody, TableBody}
 use Rattle.amqp_grammar.specs.Texts.{body, pairs, fields_fit}
 use Rattle.amqp_grammar.specs.Canonical.{IsCanonBody, IsCanonPairs}
 
@@ -42,8 +42,8 @@ EntriesFit es = walk_entries fields_fit es
 
 -- the bytes are canonical encodings of these values, one after another
 abbrev pub CanonBody : List ℕ → Trees → Type 0
-CanonBody body vs = (p : Body body vs) × IsCanonBody body vs p
+CanonBody body vs = (p : ArrayBody body vs) × IsCanonBody body vs p
 
 -- the bytes are these pairs one after another, each key above the one before it
 abbrev pub CanonPairs : List ℕ → Entries → Type 0
-CanonPairs body es = (p : Pairs body es) × IsCanonPairs body es p
+CanonPairs body es = (p : TableBody body es) × IsCanonPairs body es p

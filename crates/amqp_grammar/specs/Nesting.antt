@@ -3,7 +3,7 @@ use Rattle.std.specs.Prelude.{ℕ, suc, max, ◌≤◌, List}
 use Rattle.amqp_types.specs.declared.amqp_type.AMQPType.{AMQPType}
 use Rattle.amqp_grammar.specs.Values.{Tree, Trees, Entries}
 use Rattle.amqp_grammar.specs.Outcomes.{Reading, RawOutcomeBy, OutcomeBy}
-use Rattle.amqp_grammar.specs.Grammar.{Wire, Raw, Body, Pairs, wire, raw_fixed, raw_short, raw_long, raw_octets, raw_array, raw_table, no_values, value, no_pairs, pair}
+use Rattle.amqp_grammar.specs.Grammar.{Wire, Raw, ArrayBody, TableBody, wire, raw_fixed, raw_short, raw_long, raw_octets, raw_array, raw_table, no_values, value, no_pairs, pair}
 
 -- a container counts 1 more than what nests deepest in its body, all that isn't a container 0
 abbrev mutual
@@ -18,11 +18,11 @@ abbrev mutual
   raw_nesting _ _ _ (raw_array body vs fits entries) = suc (body_nesting body vs entries)
   raw_nesting _ _ _ (raw_table body ps fits entries) = suc (pairs_nesting body ps entries)
 
-  pub body_nesting : (body : List ℕ) (vs : Trees) → Body body vs → ℕ
+  pub body_nesting : (body : List ℕ) (vs : Trees) → ArrayBody body vs → ℕ
   body_nesting _ _ no_values = 0
   body_nesting _ _ (value w rest v vs first others) = max (nesting w v first) (body_nesting rest vs others)
 
-  pub pairs_nesting : (body : List ℕ) (ps : Entries) → Pairs body ps → ℕ
+  pub pairs_nesting : (body : List ℕ) (ps : Entries) → TableBody body ps → ℕ
   pairs_nesting _ _ no_pairs = 0
   pairs_nesting _ _ (pair k w rest v ps key first others) = max (nesting w v first) (pairs_nesting rest ps others)
 
@@ -36,11 +36,11 @@ RawWithin depth type b v = (p : Raw type b v) × (raw_nesting type b v p ≤ dep
 
 -- the bytes are encodings of these values, and containers nest at most `depth` deep in each
 abbrev pub BodyWithin : ℕ → List ℕ → Trees → Type 0
-BodyWithin depth body vs = (p : Body body vs) × (body_nesting body vs p ≤ depth)
+BodyWithin depth body vs = (p : ArrayBody body vs) × (body_nesting body vs p ≤ depth)
 
 -- the bytes are these pairs, and containers nest at most `depth` deep in each
 abbrev pub PairsWithin : ℕ → List ℕ → Entries → Type 0
-PairsWithin depth body ps = (p : Pairs body ps) × (pairs_nesting body ps p ≤ depth)
+PairsWithin depth body ps = (p : TableBody body ps) × (pairs_nesting body ps p ≤ depth)
 
 -- reading a payload of the type, or a value, results in o where containers nest at most `depth`
 -- deep

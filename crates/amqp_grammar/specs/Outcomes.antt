@@ -48,9 +48,9 @@ abbrev pub lack : AMQPType → List ℕ → ℕ
 lack type b = lack_of (fixed type) (length_field type) b
 
 -- n more bytes are needed, or where n is 0 P decides
-abbrev pub LacksOr : ℕ → Type 0 → Reading → Type 0
-LacksOr zero P o = P
-LacksOr (suc n) P o = o ≡ more (suc n)
+abbrev pub NeedsMoreOr : ℕ → Type 0 → Reading → Type 0
+NeedsMoreOr zero P o = P
+NeedsMoreOr (suc n) P o = o ≡ more (suc n)
 
 -- P holds of a prefix of s and what is found, or of no prefix and no value
 abbrev pub FrontBy : (List ℕ → Tree → Type 0) → List ℕ → Reading → Type 0
@@ -60,14 +60,14 @@ FrontBy P s _ = ⊥
 
 -- reading a payload of the type from s results in o, where P says what its payloads are
 abbrev pub RawOutcomeBy : (List ℕ → Tree → Type 0) → AMQPType → List ℕ → Reading → Type 0
-RawOutcomeBy P type s o = LacksOr (lack type s) (FrontBy P s o) o
+RawOutcomeBy P type s o = NeedsMoreOr (lack type s) (FrontBy P s o) o
 
 -- reading a value from s results in o, by the first of these that holds: there is no byte, and one
 -- is needed; the first byte isn't a type tag; more bytes of the payload are needed; P holds of a
 -- prefix and a value; it holds of none
 abbrev pub OutcomeBy : (List ℕ → Tree → Type 0) → List ℕ → Reading → Type 0
 OutcomeBy P [] o = o ≡ more 1
-OutcomeBy P (c ∷ b) o = MatchOption (kind c) (o ≡ unknown) (λ type. LacksOr (lack type b) (FrontBy P (c ∷ b) o) o)
+OutcomeBy P (c ∷ b) o = MatchOption (kind c) (o ≡ unknown) (λ type. NeedsMoreOr (lack type b) (FrontBy P (c ∷ b) o) o)
 
 -- reading a value from s results in o
 abbrev pub Outcome : List ℕ → Reading → Type 0

@@ -64,14 +64,14 @@ entries_of (e ∷ es) = entry e.0 e.1 (entries_of es)
 
 -- the entries, with v at k: an equal key takes the value, and a new one goes to its place in the
 -- order
-abbrev pub put : List ℕ → Tree → Entries → Entries
-put k v no_entries = entry k v no_entries
-put k v (entry j u es) = match_ordering (slice_cmp nat_cmp k j) (entry k v (entry j u es)) (entry j v es) (entry j u (put k v es))
+abbrev pub insert : List ℕ → Tree → Entries → Entries
+insert k v no_entries = entry k v no_entries
+insert k v (entry j u es) = match_ordering (slice_cmp nat_cmp k j) (entry k v (entry j u es)) (entry j v es) (entry j u (insert k v es))
 
 -- the entries, with pairs put one after another: of equal keys the last pair's value stays
-abbrev pub onto : Entries → Entries → Entries
-onto es no_entries = es
-onto es (entry k v ps) = onto (put k v es) ps
+abbrev pub insert_all : Entries → Entries → Entries
+insert_all es no_entries = es
+insert_all es (entry k v ps) = insert_all (insert k v es) ps
 
 -- a way to go over a value and all that is in it
 pub record Walk {ℓ} (A : Type ℓ) : Type ℓ where

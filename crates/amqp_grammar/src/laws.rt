@@ -4,7 +4,7 @@
 
 ghost use Rattle.std.specs.Prelude.{◌≡◌, ◌↔◌, ◌+◌, ℕ, List, ◌∷◌, ◌++◌, length, IsTrue, Some, ◌≢◌, ◌≤◌, ◌*◌, is_some, ◌-◌};
 ghost use Rattle.amqp_types.specs.declared.amqp_type.AMQPType.{AMQPType};
-ghost use Rattle.amqp_grammar.specs.Values.{Scalar, Tree, scalar, short, long, octets, array, table, Trees, no_trees, tree, Entries, no_entries, entry, scalar_type, type_of, readable, put, onto, depth, count};
+ghost use Rattle.amqp_grammar.specs.Values.{Scalar, Tree, scalar, short, long, octets, array, table, Trees, no_trees, tree, Entries, no_entries, entry, scalar_type, type_of, readable, insert, insert_all, depth, count};
 ghost use Rattle.amqp_grammar.specs.Layouts.{width_of};
 ghost use Rattle.amqp_grammar.specs.Payloads.{RawOutcome};
 ghost use Rattle.amqp_grammar.specs.Texts.{payload, text, size, Fits};
@@ -102,9 +102,9 @@ pub fn value_from_payload()
 /// value, and there is a value where there is a key.
 #[tactic(auto, using(crate::proofs::GrammarLaws::put_found, crate::proofs::GrammarLaws::put_other, crate::proofs::GrammarLaws::key_has_value))]
 pub fn table_is_a_map()
-    ensures put { (k : List ℕ) (v : Tree) (es : Entries) → value_at k (put k v es) ≡ Some v }
+    ensures put { (k : List ℕ) (v : Tree) (es : Entries) → value_at k (insert k v es) ≡ Some v }
     ensures others { (j k : List ℕ) (v : Tree) (es : Entries) → j ≢ k
-        → value_at j (put k v es) ≡ value_at j es }
+        → value_at j (insert k v es) ≡ value_at j es }
     ensures keys { (k : List ℕ) (es : Entries) → has_key k es ≡ is_some (value_at k es) }
 {}
 
@@ -112,9 +112,9 @@ pub fn table_is_a_map()
 /// that rise. Where the pairs' own keys are ascending they are the table's entries unchanged.
 #[tactic(auto, using(crate::proofs::GrammarLaws::last_stays, crate::proofs::GrammarLaws::pairs_rise, crate::proofs::GrammarLaws::rising_pairs))]
 pub fn last_pair_stays()
-    ensures values { (k : List ℕ) (ps : Entries) → value_at k (onto no_entries ps) ≡ last_at k ps }
-    ensures keys { (ps : Entries) → IsRising (onto no_entries ps) }
-    ensures rising { (ps : Entries) → IsRising ps → onto no_entries ps ≡ ps }
+    ensures values { (k : List ℕ) (ps : Entries) → value_at k (insert_all no_entries ps) ≡ last_at k ps }
+    ensures keys { (ps : Entries) → IsRising (insert_all no_entries ps) }
+    ensures rising { (ps : Entries) → IsRising ps → insert_all no_entries ps ≡ ps }
 {}
 
 /// Tables are equal where they have the same value at each key. The keys of every table in memory
@@ -191,10 +191,10 @@ pub fn what_is_found()
 
 /// The canonical encoding of each value is a shortest one, if it has any, and among values that
 /// have encodings it is that of that value alone.
-#[tactic(auto, using(crate::proofs::GrammarLaws::is_shortest, crate::proofs::GrammarLaws::tells_apart))]
+#[tactic(auto, using(crate::proofs::GrammarLaws::is_shortest, crate::proofs::GrammarLaws::injective))]
 pub fn what_a_text_is()
     ensures shortest { (v : Tree) → IsShortest v }
-    ensures tells_apart { (v : Tree) → TellsApart v }
+    ensures injective { (v : Tree) → TellsApart v }
 {}
 
 /// Reading a value from any bytes has an outcome, it has no other, and the function `outcome`

@@ -23,7 +23,7 @@ use Rattle.amqp_grammar.specs.Members.{greatest_depth, entries_depth, CanonBody,
 use Rattle.amqp_grammar.specs.Layouts.{Layout, fixed}
 use Rattle.amqp_grammar.specs.Grammar.{short_field, long_field, Wire, wire, Raw, raw_fixed, raw_short, raw_long, raw_octets, raw_array, raw_table, no_values as no_value_there, value, no_pairs as no_pair_there, pair}
 use Rattle.amqp_grammar.specs.Nesting.{WireWithin, OutcomeWithin}
-use Rattle.amqp_grammar.specs.Outcomes.{found, more, unknown, lack, LacksOr, Outcome}
+use Rattle.amqp_grammar.specs.Outcomes.{found, more, unknown, lack, NeedsMoreOr, Outcome}
 use Rattle.amqp_grammar.specs.Payloads.{RawFront, RawOutcome, CanonRaw}
 use Rattle.amqp_grammar.specs.Canonical.{IsStrict, Canon}
 use Rattle.amqp_grammar.proofs.GrammarLaws.{one_reading, one_raw_reading, one_raw_outcome, raw_found, wire_found, wire_found_within, front_within, depth_within, text_within, text_is_canon, what_is_read, read_is_value, canon_is_wire, canon_fits, canon_is_text, canon, canon_array, canon_table, canon_value, canon_pair, canon_rises, rising_pairs, short_bytes, one_outcome, bytes_front}
@@ -35,9 +35,9 @@ use Rattle.amqp_parsing.specs.Limits.{Within, IsHeader}
 use Rattle.amqp_parsing.specs.declared.header.Header.{Header}
 use Rattle.amqp_parsing.specs.declared.header.Header.TheVariants as header
 use Rattle.amqp_parsing.proofs.ParsingLaws.{more_wanted}
-use Rattle.amqp_parsing.specs.Typed.{IsType}
+use Rattle.amqp_parsing.specs.PayloadResults.{IsType}
 use Rattle.amqp_parsing.specs.Refusals.{Refusal}
-use Rattle.amqp_parsing.specs.Answers.{Refuses}
+use Rattle.amqp_parsing.specs.ParseResults.{Refuses}
 use Rattle.amqp_in_place.specs.declared.head.Head.TheVariants as head
 use Rattle.amqp_in_place.specs.declared.refs.ValueRef.{ValueRef}
 use Rattle.amqp_in_place.specs.Refs.{plain_tree}
@@ -117,7 +117,7 @@ plain_payload _ _ _ (raw_table body ps fits all) plain none strict = absurd plai
 raw_front : (type : AMQPType) (s : List ℕ) (v : Tree) (rest : List ℕ) → RawOutcome type s (found v rest) → RawFront type s (found v rest)
 raw_front type s v rest x = by (lack type s) x
   where
-    by : (n : ℕ) → LacksOr n (RawFront type s (found v rest)) (found v rest) → RawFront type s (found v rest)
+    by : (n : ℕ) → NeedsMoreOr n (RawFront type s (found v rest)) (found v rest) → RawFront type s (found v rest)
     by zero f = f
     by (suc n) e = absurd cc
 

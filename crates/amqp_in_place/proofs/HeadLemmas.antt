@@ -6,10 +6,10 @@ use Rattle.std.proofs.lemmas.Bool.{le-ltb}
 use Rattle.amqp_types.specs.Strings.{IsShort}
 use Rattle.amqp_types.specs.declared.amqp_type.AMQPType.{AMQPType}
 use Rattle.amqp_types.specs.declared.amqp_type.AMQPType.TheVariants as amqp
-use Rattle.amqp_grammar.specs.Values.{Tree, Trees, Entries, no_entries, onto, short, array, table}
+use Rattle.amqp_grammar.specs.Values.{Tree, Trees, Entries, no_entries, insert_all, short, array, table}
 use Rattle.amqp_grammar.specs.Grammar.{short_field, long_field, Wire, raw_short, raw_array, raw_table}
 use Rattle.amqp_grammar.specs.Nesting.{nesting, RawWithin, BodyWithin, OutcomeWithin, RawOutcomeWithin}
-use Rattle.amqp_grammar.specs.Outcomes.{Reading, found, more, unknown, malformed, lack, frame_lack, counted, LacksOr, FrontBy, Outcome}
+use Rattle.amqp_grammar.specs.Outcomes.{Reading, found, more, unknown, malformed, lack, frame_lack, counted, NeedsMoreOr, FrontBy, Outcome}
 use Rattle.amqp_grammar.specs.Payloads.{RawFront, RawOutcome}
 use Rattle.amqp_grammar.proofs.GrammarLaws.{one_outcome_within, one_raw_reading, value_to_raw, raw_to_value_within, raw_whole, raw_found, wire_found, wire_found_within, array_body, table_body, short_bytes}
 use Rattle.amqp_types.specs.Inputs.{slice_bytes}
@@ -18,20 +18,20 @@ use Rattle.amqp_parsing.specs.declared.errors.Err.TheVariants.{Incomplete, Error
 use Rattle.amqp_parsing.specs.declared.errors.Needed.TheVariants.{Unknown, Size}
 use Rattle.amqp_parsing.specs.declared.errors.ErrorKind.TheVariants.{MapOpt, MapRes, Eof, OutOfMemory, TooLarge}
 use Rattle.amqp_parsing.specs.Refusals.{Refusal}
-use Rattle.amqp_parsing.specs.Typed.{IsType, IsNoType, OnlyLacks}
-use Rattle.amqp_parsing.specs.Bodies.{IsFrame, IsTable, IsNoBody, IsNoTable}
-use Rattle.amqp_parsing.specs.Answers.{Refuses}
+use Rattle.amqp_parsing.specs.PayloadResults.{IsType, IsNoType, OnlyLacks}
+use Rattle.amqp_parsing.specs.Bodies.{IsLengthPrefixed, IsTable, IsNoBody, IsNoTable}
+use Rattle.amqp_parsing.specs.ParseResults.{Refuses}
 use Rattle.amqp_parsing.proofs.ParsingLaws.{Refuses-weaker, unsigned_outcome, IsPlainPayload, plain_found, array_found, array_refused, array_too_deep, table_found, table_refused, table_too_deep}
 use Rattle.amqp_in_place.specs.declared.head.Head.{Head}
 use Rattle.amqp_in_place.specs.declared.head.Head.TheVariants as head
 use Rattle.amqp_in_place.specs.declared.refs.ValueRef.{ValueRef}
 use Rattle.amqp_in_place.specs.declared.refs.ValueRef.TheVariants as at
-use Rattle.amqp_in_place.specs.Refs.{plain_tree, Stands}
-use Rattle.amqp_in_place.specs.Answers.{HeadRefuses}
+use Rattle.amqp_in_place.specs.Refs.{plain_tree, Denotes}
+use Rattle.amqp_in_place.specs.InPlaceResults.{HeadRefuses}
 use Rattle.amqp_in_place.specs.Heads.{IsPlain, IsPlainType, RawHeadIs, IsHead, AtAnyDepth, Means, IsKeyFrame}
 
 -- a plain value denotes its tree
-pub plain_stands : (r : ValueRef) → IsPlain r → Stands r (plain_tree r)
+pub plain_stands : (r : ValueRef) → IsPlain r → Denotes r (plain_tree r)
 plain_stands (at.FieldArray a) p = absurd p
 plain_stands (at.FieldTable t) p = absurd p
 plain_stands _ p = refl
@@ -51,7 +51,7 @@ module _ (s mid : List ℕ) (type : AMQPType) (p : IsType s type mid) where
   typed_lack : (n : ℕ) → RawOutcome type mid (more n) → AtAnyDepth s (more n)
   typed_lack n x = λ d. typed d (more n) (by d (lack type mid) x)
     where
-      by : (d k : ℕ) → LacksOr k (RawFront type mid (more n)) (more n) → LacksOr k (FrontBy (RawWithin d type) mid (more n)) (more n)
+      by : (d k : ℕ) → NeedsMoreOr k (RawFront type mid (more n)) (more n) → NeedsMoreOr k (FrontBy (RawWithin d type) mid (more n)) (more n)
       by d zero f = absurd f
       by d (suc k) e = e
 
@@ -70,7 +70,7 @@ module _ (s mid : List ℕ) (type : AMQPType) (p : IsType s type mid) where
       let x : Outcome s (found v left) = subst (λ (t : List ℕ). Outcome t (found v left)) (sym e) (wire_found w left v q) in
       by (lack type mid) (value_to_raw p.0 type mid (found v left) p.2 (subst (λ (t : List ℕ). Outcome t (found v left)) p.1 x))
     where
-      by : (n : ℕ) → LacksOr n (RawFront type mid (found v left)) (found v left) → RawFront type mid (found v left)
+      by : (n : ℕ) → NeedsMoreOr n (RawFront type mid (found v left)) (found v left) → RawFront type mid (found v left)
       by zero f = f
       by (suc n) f = absurd cc
 
@@ -123,12 +123,12 @@ pub plain_read : (s : List ℕ) (r : ValueRef) (rest : List ℕ) → IsHead s (h
 plain_read s r rest (type, mid, p, q) = λ d.
     typed s mid type p d (found (plain_tree r) rest) (plain_found d type mid rest (plain_tree r) (plain_type type q.1) q.2)
 
-pub plain_meant : (s : List ℕ) (r : ValueRef) (rest : List ℕ) → IsHead s (head.Plain r) rest → Stands r (plain_tree r)
+pub plain_meant : (s : List ℕ) (r : ValueRef) (rest : List ℕ) → IsHead s (head.Plain r) rest → Denotes r (plain_tree r)
 plain_meant s r rest (type, mid, p, q) = plain_stands r q.0
 
 -- an array is what its body is
 module _ (d : ℕ) (s : List ℕ) (i : SliceInput) (rest : List ℕ) where
-  as_array : (h : IsHead s (head.FieldArray i) rest) (o : Reading) → ((mid : List ℕ) → IsFrame mid (slice_bytes i) rest → RawOutcomeWithin d amqp.FieldArray mid o) → OutcomeWithin d s o
+  as_array : (h : IsHead s (head.FieldArray i) rest) (o : Reading) → ((mid : List ℕ) → IsLengthPrefixed mid (slice_bytes i) rest → RawOutcomeWithin d amqp.FieldArray mid o) → OutcomeWithin d s o
   as_array (type, mid, p, q) o x =
       typed s mid type p d o (subst (λ (t : AMQPType). RawOutcomeWithin d t mid o) (sym q.0) (x mid q.1))
 
@@ -142,7 +142,7 @@ module _ (d : ℕ) (s : List ℕ) (i : SliceInput) (rest : List ℕ) where
   array_deep h none = as_array h malformed (λ mid f. array_too_deep d mid (slice_bytes i) rest f none)
 
   -- and so is a table
-  as_table : (h : IsHead s (head.FieldTable i) rest) (o : Reading) → ((mid : List ℕ) → IsFrame mid (slice_bytes i) rest → RawOutcomeWithin d amqp.FieldTable mid o) → OutcomeWithin d s o
+  as_table : (h : IsHead s (head.FieldTable i) rest) (o : Reading) → ((mid : List ℕ) → IsLengthPrefixed mid (slice_bytes i) rest → RawOutcomeWithin d amqp.FieldTable mid o) → OutcomeWithin d s o
   as_table (type, mid, p, q) o x =
       typed s mid type p d o (subst (λ (t : AMQPType). RawOutcomeWithin d t mid o) (sym q.0) (x mid q.1))
 
@@ -162,7 +162,7 @@ only s (head.Plain r) rest w left v (type, mid, p, q) x e =
     let here : OutcomeWithin d s (found v left) = subst (λ (t : List ℕ). OutcomeWithin d t (found v left)) (sym e) (wire_found_within d w left v x (omega arith)) in
     let same : found (plain_tree r) rest ≡ found v left = one_outcome_within d s _ _ (plain_read s r rest (type, mid, p, q) d) here in
     let one : plain_tree r ≡ v = cc in
-    (subst (Stands r) one (plain_stands r q.0), cc)
+    (subst (Denotes r) one (plain_stands r q.0), cc)
 only s (head.FieldArray i) rest w left v (type, mid, p, q) x e =
     let f = q.1 in
     let raw : RawFront amqp.FieldArray mid (found v left) = subst (λ (t : AMQPType). RawFront t mid (found v left)) q.0 (payload_front s mid type p w left v x e) in
@@ -173,7 +173,7 @@ only s (head.FieldTable i) rest w left v (type, mid, p, q) x e =
     let f = q.1 in
     let raw : RawFront amqp.FieldTable mid (found v left) = subst (λ (t : AMQPType). RawFront t mid (found v left)) q.0 (payload_front s mid type p w left v x e) in
     let b = table_body (slice_bytes i) rest raw.0 left v f.fits raw.1 (sym f.framed ∙ raw.2) in
-    let es = onto no_entries b.0 in
+    let es = insert_all no_entries b.0 in
     let same = one_raw_reading amqp.FieldTable raw.0 (long_field (slice_bytes i)) left rest v (table es) raw.1 (raw_table (slice_bytes i) b.0 f.fits b.1) (sym raw.2 ∙ f.framed) in
     ((es, (b.0, b.1, refl), same.1), same.2)
 

@@ -5,12 +5,12 @@ use Rattle.std.proofs.lemmas.List.{take_at, drop_at, take-append-drop}
 use Rattle.std.specs.Coded.{le_prop}
 use Rattle.std.specs.Borrow.{Bor}
 use Rattle.amqp_grammar.specs.Values.{Tree, Entries, entry}
-use Rattle.amqp_grammar.specs.Grammar.{Wire, Pairs, no_pairs, pair}
+use Rattle.amqp_grammar.specs.Grammar.{Wire, TableBody, no_pairs, pair}
 use Rattle.amqp_grammar.specs.Outcomes.{Outcome, found}
 use Rattle.amqp_grammar.proofs.GrammarLaws.{wire_found}
 use Rattle.amqp_parsing.specs.Headers.{extent}
 use Rattle.amqp_parsing.proofs.ParsingLaws.{wire_extent}
-use Rattle.amqp_in_place.specs.Answers.{IsLeft}
+use Rattle.amqp_in_place.specs.InPlaceResults.{IsLeft}
 use Rattle.amqp_in_place.specs.Bodies.{HasPairs}
 use Rattle.amqp_in_place.specs.Walks.{HasFront, NextKeyIs}
 use Rattle.amqp_in_place.proofs.Places.{left_of_left}
@@ -25,9 +25,9 @@ record FirstKey (named : List ℕ) (n : ℕ) (ps : Entries) : Type 0 where
   pub are : ps ≡ entry (take n named) value_there others
   pub few : n ≤ length named
   pub front : drop n named ≡ bytes ++ left
-  pub more_pairs : Pairs left others
+  pub more_pairs : TableBody left others
 
-first_key : (s named : List ℕ) (n : ℕ) (ps : Entries) → s ≡ n ∷ named → Pairs s ps → FirstKey named n ps
+first_key : (s named : List ℕ) (n : ℕ) (ps : Entries) → s ≡ n ∷ named → TableBody s ps → FirstKey named n ps
 first_key _ named n _ e no_pairs = absurd cc
 first_key _ named n _ e (pair k w left v ps is p all) =
     let size : length k ≡ n = ap (λ (t : List ℕ). get_or t 0 0) e in
@@ -80,17 +80,17 @@ module _ (s named : List ℕ) (n : ℕ) (e : s ≡ n ∷ named) where
         omega (arith, ap length (behind p.0 f), ap length f.front, length-append f.bytes f.left, length-drop n named, ap length e)),
     ∥∥₁_map has (λ (p : HasPairs s).
         let f = first_key s named n p.0 e p.1 in
-        (f.others, subst (λ (t : List ℕ). Pairs t f.others) (sym (behind p.0 f)) f.more_pairs)),
+        (f.others, subst (λ (t : List ℕ). TableBody t f.others) (sym (behind p.0 f)) f.more_pairs)),
   )
 
   -- the key that is given is that of the first pair
   pub key_given : (ps : Entries) (x : Bor (List ℕ) × Bor (List ℕ) × Bor (List ℕ)) → x.0.now ≡ take n named → x.1.now ≡ drop n named
-      → x.2.now ≡ drop (extent (drop n named)) (drop n named) → Pairs s ps → NextKeyIs ps (Some x)
+      → x.2.now ≡ drop (extent (drop n named)) (drop n named) → TableBody s ps → NextKeyIs ps (Some x)
   key_given ps x key value rest p =
       let f = first_key s named n ps e p in
       let here : Outcome x.1.now (found f.value_there x.2.now) = rw (value, rest, behind ps f) (value_here ps f) in
       let given : NextKeyIs (entry (take n named) f.value_there f.others) (Some x) =
-      (key, here, subst (λ (t : List ℕ). Pairs t f.others) (sym (rest ∙ behind ps f)) f.more_pairs) in
+      (key, here, subst (λ (t : List ℕ). TableBody t f.others) (sym (rest ∙ behind ps f)) f.more_pairs) in
       subst (λ (qs : Entries). NextKeyIs qs (Some x)) (sym f.are) given
 
   -- what is given is inside the bytes
@@ -101,6 +101,6 @@ module _ (s named : List ℕ) (n : ℕ) (e : s ≡ n ∷ named) where
   rest_left m = left_of_left s (drop n named) (drop m (drop n named)) value_left (take m (drop n named), sym (take-append-drop m (drop n named)))
 
 -- where no byte is left no key is
-pub no_key_given : (s : List ℕ) (ps : Entries) → length s ≡ 0 → Pairs s ps → NextKeyIs ps None
+pub no_key_given : (s : List ℕ) (ps : Entries) → length s ≡ 0 → TableBody s ps → NextKeyIs ps None
 no_key_given _ _ e no_pairs = tt
 no_key_given _ _ e (pair k w left v ps is p all) = absurd (omega arith)

@@ -4,14 +4,14 @@ use Rattle.std.specs.Option.{option_or, is_some}
 use Rattle.std.specs.Borrow.{Bor}
 use Rattle.amqp_grammar.specs.Values.{Tree, Trees, no_trees, tree, Entries, no_entries, entry}
 use Rattle.amqp_grammar.specs.Maps.{same_bytes, last_at, value_at, has_key}
-use Rattle.amqp_grammar.specs.Grammar.{Wire, wire, Body, no_values, value, Pairs, no_pairs, pair}
+use Rattle.amqp_grammar.specs.Grammar.{Wire, wire, ArrayBody, no_values, value, TableBody, no_pairs, pair}
 use Rattle.amqp_grammar.specs.Outcomes.{Outcome, found}
 use Rattle.amqp_grammar.proofs.GrammarLaws.{last_stays, key_has_value}
 use Rattle.amqp_types.specs.Inputs.{slice_bytes}
 use Rattle.amqp_types.specs.declared.input.SliceInput.{SliceInput}
 use Rattle.amqp_in_place.specs.Bodies.{HasEntries}
 use Rattle.amqp_in_place.specs.declared.refs.ValueRef.{ValueRef}
-use Rattle.amqp_in_place.specs.Refs.{Stands}
+use Rattle.amqp_in_place.specs.Refs.{Denotes}
 use Rattle.amqp_in_place.specs.Walks.{NextValueIs, NextKeyIs, BeginsAt, FoundIs, tree_at}
 
 -- ---- emptiness
@@ -20,12 +20,12 @@ length-wire : (w : List ℕ) (v : Tree) → Wire w v → 0 < length w
 length-wire _ _ (wire c type b v k p) = omega arith
 
 -- no pairs are written in no bytes, and only there
-pub no_pairs_at : (s : List ℕ) (ps : Entries) → Pairs s ps → (length s ≡ 0) ↔ (ps ≡ no_entries)
+pub no_pairs_at : (s : List ℕ) (ps : Entries) → TableBody s ps → (length s ≡ 0) ↔ (ps ≡ no_entries)
 no_pairs_at _ _ no_pairs = (λ _. refl, λ _. refl)
 no_pairs_at _ _ (pair k w left v ps is p all) = (λ e. absurd (omega arith), λ e. absurd cc)
 
 -- and no values
-pub no_values_at : (s : List ℕ) (vs : Trees) → Body s vs → (length s ≡ 0) ↔ (vs ≡ no_trees)
+pub no_values_at : (s : List ℕ) (vs : Trees) → ArrayBody s vs → (length s ≡ 0) ↔ (vs ≡ no_trees)
 no_values_at _ _ no_values = (λ _. refl, λ _. refl)
 no_values_at _ _ (value w left v vs p all) = (λ e. absurd (omega (arith, length-append w left, length-wire w v p)), λ e. absurd cc)
 
@@ -33,7 +33,7 @@ no_values_at _ _ (value w left v vs p all) = (λ e. absurd (omega (arith, length
 
 -- what was found so far, of the pairs before those that are left
 abbrev pub Looks : List ℕ → List ℕ → List ℕ → Option (Bor (List ℕ)) → Type 0
-Looks key s rest at = (ps : Entries) → Pairs s ps → (qs : Entries) × (seen : Option Tree) × Pairs rest qs × BeginsAt seen at × (last_at key ps ≡ option_or (last_at key qs) seen)
+Looks key s rest at = (ps : Entries) → TableBody s ps → (qs : Entries) × (seen : Option Tree) × TableBody rest qs × BeginsAt seen at × (last_at key ps ≡ option_or (last_at key qs) seen)
 
 pub or_none : (o : Option Tree) → o ≡ option_or o None
 or_none None = refl
@@ -48,7 +48,7 @@ Looks-start key s = λ ps p. (ps, None, p, tt, or_none (last_at key ps))
 
 -- one pair more
 pub Looks-step : (key s rest : List ℕ) (old new : Option (Bor (List ℕ))) (x : Bor (List ℕ) × Bor (List ℕ) × Bor (List ℕ)) (b : Bool)
-    → Looks key s rest old → ((qs : Entries) → Pairs rest qs → NextKeyIs qs (Some x)) → b ≡ same_bytes key x.0.now → new ≡ cond b (Some x.1) old
+    → Looks key s rest old → ((qs : Entries) → TableBody rest qs → NextKeyIs qs (Some x)) → b ≡ same_bytes key x.0.now → new ≡ cond b (Some x.1) old
     → Looks key s x.2.now new
 Looks-step key s rest old new x b before next is made = λ ps p.
     let at = before ps p in
@@ -58,8 +58,8 @@ Looks-step key s rest old new x b before next is made = λ ps p.
     pick true v seen here there = (x.2.now, here)
     pick false v seen here there = there
 
-    by : {o : Option Tree} (qs : Entries) (seen : Option Tree) → Pairs rest qs → NextKeyIs qs (Some x) → BeginsAt seen old → o ≡ option_or (last_at key qs) seen
-        → (rs : Entries) × (now : Option Tree) × Pairs x.2.now rs × BeginsAt now new × (o ≡ option_or (last_at key rs) now)
+    by : {o : Option Tree} (qs : Entries) (seen : Option Tree) → TableBody rest qs → NextKeyIs qs (Some x) → BeginsAt seen old → o ≡ option_or (last_at key qs) seen
+        → (rs : Entries) × (now : Option Tree) × TableBody x.2.now rs × BeginsAt now new × (o ≡ option_or (last_at key rs) now)
     by no_entries seen q given there e = absurd given
     by (entry k v rs) seen q given there e =
         let c = same_bytes key k in
@@ -69,7 +69,7 @@ Looks-step key s rest old new x b before next is made = λ ps p.
         (rs, now, given.2, begins, e ∙ or_or (last_at key rs) (cond c (Some v) None) seen)
 
 -- no pair more
-pub Looks-end : (key s rest : List ℕ) (at : Option (Bor (List ℕ))) → Looks key s rest at → ((qs : Entries) → Pairs rest qs → NextKeyIs qs None)
+pub Looks-end : (key s rest : List ℕ) (at : Option (Bor (List ℕ))) → Looks key s rest at → ((qs : Entries) → TableBody rest qs → NextKeyIs qs None)
     → (es : Entries) → HasEntries s es → BeginsAt (value_at key es) at
 Looks-end key s rest at looks next es (ps, p, is) =
     let end = looks ps p in
@@ -81,7 +81,7 @@ Looks-end key s rest at looks next es (ps, p, is) =
     by (entry k v qs) seen given = absurd given
 
 -- what is read where the value begins is the value
-pub found_at : (o : Option Tree) (at : Bor (List ℕ)) (r : ValueRef) → BeginsAt o (Some at) → ((v : Tree) (rest : List ℕ) → Outcome at.now (found v rest) → Stands r v) → FoundIs o (Some r)
+pub found_at : (o : Option Tree) (at : Bor (List ℕ)) (r : ValueRef) → BeginsAt o (Some at) → ((v : Tree) (rest : List ℕ) → Outcome at.now (found v rest) → Denotes r v) → FoundIs o (Some r)
 found_at None at r begins stands = absurd begins
 found_at (Some v) at r begins stands = stands v begins.0 begins.1
 
@@ -103,24 +103,24 @@ begins_has_key key es at begins = by (value_at key es) at begins ∙ sym (key_ha
 
 -- what is asked for stands among the values that are left
 abbrev pub Counts : ℕ → List ℕ → List ℕ → ℕ → Type 0
-Counts n s rest left = (vs : Trees) → Body s vs → (us : Trees) × Body rest us × (tree_at n vs ≡ tree_at left us)
+Counts n s rest left = (vs : Trees) → ArrayBody s vs → (us : Trees) × ArrayBody rest us × (tree_at n vs ≡ tree_at left us)
 
 pub Counts-start : (n : ℕ) (s : List ℕ) → Counts n s s n
 Counts-start n s = λ vs p. (vs, p, refl)
 
-pub Counts-step : (n : ℕ) (s rest : List ℕ) (left : ℕ) (x : ValueRef × SliceInput) → Counts n s rest (suc left) → ((us : Trees) → Body rest us → NextValueIs us (Some x))
+pub Counts-step : (n : ℕ) (s rest : List ℕ) (left : ℕ) (x : ValueRef × SliceInput) → Counts n s rest (suc left) → ((us : Trees) → ArrayBody rest us → NextValueIs us (Some x))
     → Counts n s (slice_bytes x.1) left
 Counts-step n s rest left x before next = λ vs p.
     let at = before vs p in
     by at.0 (next at.0 at.1) at.2
   where
-    by : {o : Option Tree} (us : Trees) → NextValueIs us (Some x) → o ≡ tree_at (suc left) us → (rs : Trees) × Body (slice_bytes x.1) rs × (o ≡ tree_at left rs)
+    by : {o : Option Tree} (us : Trees) → NextValueIs us (Some x) → o ≡ tree_at (suc left) us → (rs : Trees) × ArrayBody (slice_bytes x.1) rs × (o ≡ tree_at left rs)
     by no_trees given e = absurd given
     by (tree v us) given e = (us, given.1, e)
 
 -- it is the first of them
-pub Counts-here : (n : ℕ) (s rest : List ℕ) (x : ValueRef × SliceInput) → Counts n s rest 0 → ((us : Trees) → Body rest us → NextValueIs us (Some x))
-    → (vs : Trees) → Body s vs → FoundIs (tree_at n vs) (Some x.0)
+pub Counts-here : (n : ℕ) (s rest : List ℕ) (x : ValueRef × SliceInput) → Counts n s rest 0 → ((us : Trees) → ArrayBody rest us → NextValueIs us (Some x))
+    → (vs : Trees) → ArrayBody s vs → FoundIs (tree_at n vs) (Some x.0)
 Counts-here n s rest x counts next vs p =
     let at = counts vs p in
     by at.0 (next at.0 at.1) at.2
@@ -130,8 +130,8 @@ Counts-here n s rest x counts next vs p =
     by (tree v us) given e = subst (λ (o : Option Tree). FoundIs o (Some x.0)) (sym e) given.0
 
 -- or there is none
-pub Counts-end : (n : ℕ) (s rest : List ℕ) (left : ℕ) → Counts n s rest left → ((us : Trees) → Body rest us → NextValueIs us None)
-    → (vs : Trees) → Body s vs → FoundIs (tree_at n vs) None
+pub Counts-end : (n : ℕ) (s rest : List ℕ) (left : ℕ) → Counts n s rest left → ((us : Trees) → ArrayBody rest us → NextValueIs us None)
+    → (vs : Trees) → ArrayBody s vs → FoundIs (tree_at n vs) None
 Counts-end n s rest left counts next vs p =
     let at = counts vs p in
     by at.0 (next at.0 at.1) at.2

@@ -1,6 +1,6 @@
 -- What is referred to is one value.
 use Rattle.std.proofs.Common.{◌∙◌, refl, sym, ap}
-use Rattle.amqp_grammar.specs.Values.{array, table, no_entries, onto}
+use Rattle.amqp_grammar.specs.Values.{array, table, no_entries, insert_all}
 use Rattle.amqp_grammar.proofs.GrammarLaws.{one_body_meaning, one_pairs_meaning}
 use Rattle.amqp_in_place.specs.declared.refs.ValueRef.{ValueRef}
 use Rattle.amqp_in_place.specs.declared.refs.ValueRef.TheVariants as at
@@ -12,5 +12,5 @@ one_value (at.FieldArray a) u v x y =
     x.2 ∙ (ap array same ∙ sym y.2)
 one_value (at.FieldTable t) u v x y =
     let same = one_pairs_meaning (table_body t) (table_body t) x.1.0 y.1.0 x.1.1 y.1.1 refl in
-    x.2 ∙ (ap table (x.1.2 ∙ (ap (onto no_entries) same ∙ sym y.1.2)) ∙ sym y.2)
+    x.2 ∙ (ap table (x.1.2 ∙ (ap (insert_all no_entries) same ∙ sym y.1.2)) ∙ sym y.2)
 one_value _ u v x y = x ∙ sym y

@@ -8,7 +8,7 @@ use Rattle.amqp_parsing.specs.declared.errors.Needed.TheVariants.{Unknown, Size}
 use Rattle.amqp_parsing.specs.declared.errors.ErrorKind.{ErrorKind}
 use Rattle.amqp_parsing.specs.declared.errors.ErrorKind.TheVariants.{MapOpt, MapRes, Eof, OutOfMemory, TooLarge}
 use Rattle.amqp_parsing.specs.Refusals.{Refusal}
-use Rattle.amqp_parsing.specs.Answers.{Refuses}
+use Rattle.amqp_parsing.specs.ParseResults.{Refuses}
 use Rattle.amqp_parsing.specs.Bodies.{IsNoBody, IsTable, IsNoTable}
 use Rattle.amqp_in_place.specs.Bodies.{HasValues, HasPairs, HasEntries}
 

@@ -3,7 +3,7 @@ use Rattle.std.proofs.Common.{◌≡◌, ℕ, zero, suc, List, [], ◌∷◌, �
 use Rattle.amqp_types.specs.declared.amqp_type.AMQPType.{AMQPType}
 use Rattle.amqp_grammar.specs.Values.{Tree, long, octets}
 use Rattle.amqp_grammar.specs.Grammar.{short_field, long_field, Raw, raw_fixed, raw_short, raw_long, raw_octets, raw_array, raw_table}
-use Rattle.amqp_grammar.specs.Outcomes.{found, lack, LacksOr}
+use Rattle.amqp_grammar.specs.Outcomes.{found, lack, NeedsMoreOr}
 use Rattle.amqp_grammar.specs.Payloads.{RawFront, RawOutcome}
 use Rattle.amqp_grammar.proofs.GrammarLaws.{front_within}
 use Rattle.amqp_types.specs.Inputs.{slice_bytes}
@@ -13,7 +13,7 @@ use Rattle.amqp_in_place.specs.declared.head.Head.TheVariants as head
 use Rattle.amqp_in_place.specs.declared.refs.ValueRef.{ValueRef}
 use Rattle.amqp_in_place.specs.declared.refs.ValueRef.TheVariants as at
 use Rattle.amqp_in_place.specs.Refs.{plain_tree, array_body, table_body}
-use Rattle.amqp_in_place.specs.Answers.{IsLeft}
+use Rattle.amqp_in_place.specs.InPlaceResults.{IsLeft}
 use Rattle.amqp_in_place.specs.Heads.{IsHead, RefersTo}
 use Rattle.amqp_in_place.specs.Places.{IsFramed, LiesIn, LiesWithin, PairLiesIn}
 use Rattle.amqp_in_place.proofs.HeadLemmas.{plain_read}
@@ -39,7 +39,7 @@ octets_bytes _ _ _ b (raw_table s ps fits p) e = absurd cc
 payload_of : (type : AMQPType) (s rest : List ℕ) (v : Tree) → RawOutcome type s (found v rest) → (w : List ℕ) × Raw type w v × (s ≡ w ++ rest)
 payload_of type s rest v x = by (lack type s) x
   where
-    by : (n : ℕ) → LacksOr n (RawFront type s (found v rest)) (found v rest) → RawFront type s (found v rest)
+    by : (n : ℕ) → NeedsMoreOr n (RawFront type s (found v rest)) (found v rest) → RawFront type s (found v rest)
     by zero f = f
     by (suc n) f = absurd cc
 

@@ -3,16 +3,16 @@ use Rattle.std.proofs.Common.{◌≡◌, ◌<◌, ℕ, zero, suc, List, length, 
 use Rattle.amqp_types.specs.declared.amqp_type.AMQPType.TheVariants as amqp
 use Rattle.amqp_grammar.specs.Values.{Tree, Entries, short}
 use Rattle.amqp_grammar.specs.Nesting.{OutcomeWithin}
-use Rattle.amqp_grammar.specs.Outcomes.{Reading, found, unknown, malformed, lack, LacksOr, Heavy}
+use Rattle.amqp_grammar.specs.Outcomes.{Reading, found, unknown, malformed, lack, NeedsMoreOr, Heavy}
 use Rattle.amqp_grammar.specs.Payloads.{RawFront, RawOutcome}
 use Rattle.amqp_grammar.specs.Outcomes.{Outcome}
 use Rattle.amqp_grammar.proofs.GrammarLaws.{unlimited, front_within}
-use Rattle.amqp_in_place.specs.Answers.{IsLeft}
+use Rattle.amqp_in_place.specs.InPlaceResults.{IsLeft}
 use Rattle.amqp_parsing.specs.declared.errors.Err.TheVariants.{Incomplete, Error, Failure}
 use Rattle.amqp_parsing.specs.declared.errors.Needed.TheVariants.{Unknown, Size}
 use Rattle.amqp_parsing.specs.declared.errors.ErrorKind.TheVariants.{MapOpt, MapRes, Eof, OutOfMemory, TooLarge}
 use Rattle.amqp_parsing.specs.Refusals.{Refusal, inside}
-use Rattle.amqp_parsing.specs.Answers.{Refuses}
+use Rattle.amqp_parsing.specs.ParseResults.{Refuses}
 use Rattle.amqp_parsing.specs.Bodies.{IsNoBody, IsNoTable}
 use Rattle.amqp_parsing.proofs.ParsingLaws.{Refuses-weaker, Goes, Goes-refused, Walks, Walks-bad_key, Walks-bad_value}
 use Rattle.std.specs.Prelude.{All}
@@ -50,7 +50,7 @@ no_key_there d s es rest g h x = Walks-bad_key d s es rest (Error MapRes) g h (r
 no_unknown : (s : List ℕ) → RawOutcome amqp.ShortString s unknown → ⊥
 no_unknown s x = by (lack amqp.ShortString s) x
   where
-    by : (n : ℕ) → LacksOr n (RawFront amqp.ShortString s unknown) unknown → ⊥
+    by : (n : ℕ) → NeedsMoreOr n (RawFront amqp.ShortString s unknown) unknown → ⊥
     by zero f = f
     by (suc n) e = absurd cc
 

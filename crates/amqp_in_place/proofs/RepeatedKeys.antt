@@ -12,7 +12,7 @@ use Rattle.std.proofs.lemmas.Bool.{false≢true}
 use Rattle.std.proofs.lemmas.Cmp.{nat_list_cmp_total}
 use Rattle.amqp_grammar.specs.Values.{Tree, Entries, no_entries, entry, ComesBefore}
 use Rattle.amqp_grammar.specs.Maps.{same_bytes, IsRising}
-use Rattle.amqp_grammar.specs.Grammar.{Pairs}
+use Rattle.amqp_grammar.specs.Grammar.{TableBody}
 use Rattle.amqp_types.specs.Inputs.{slice_bytes}
 use Rattle.amqp_types.specs.declared.input.SliceInput.{SliceInput}
 use Rattle.amqp_in_place.specs.declared.refs.ValueRef.{ValueRef}
@@ -59,7 +59,7 @@ rising_once (entry j v ps) rises k = by (same_bytes k j) refl (rising_once ps ri
 
 -- the keys are ascending where those that are left rise, above the one before them
 abbrev pub Rises : List ℕ → List ℕ → Option (Bor (List ℕ)) → Type 0
-Rises s rest j = (ps : Entries) → Pairs s ps → (qs : Entries) × Pairs rest qs × (IsRising ps ↔ (AreAbove j qs × IsRising qs))
+Rises s rest j = (ps : Entries) → TableBody s ps → (qs : Entries) × TableBody rest qs × (IsRising ps ↔ (AreAbove j qs × IsRising qs))
 
 pub Rises-start : (s : List ℕ) → Rises s s None
 Rises-start s = λ ps p. (ps, p, (λ r. (tt, r), λ r. r.1))
@@ -74,14 +74,14 @@ above_none (Some i) = tt
 
 module _ (s rest : List ℕ) (j : Option (Bor (List ℕ))) (rises : Rises s rest j) where
   -- the next key is above it
-  pub Rises-step : (x : Bor (List ℕ) × ValueRef × SliceInput) (k : Bor (List ℕ)) → ((qs : Entries) → Pairs rest qs → NextPairIs qs (Some x)) → k.now ≡ x.0.now → IsAbove j k.now
+  pub Rises-step : (x : Bor (List ℕ) × ValueRef × SliceInput) (k : Bor (List ℕ)) → ((qs : Entries) → TableBody rest qs → NextPairIs qs (Some x)) → k.now ≡ x.0.now → IsAbove j k.now
       → Rises s (slice_bytes x.2) (Some k)
   Rises-step x k next same above = λ ps p.
       let at = rises ps p in
       by at.0 (next at.0 at.1) at.2
     where
       by : {P : Type 0} (qs : Entries) → NextPairIs qs (Some x) → P ↔ (AreAbove j qs × IsRising qs)
-          → (rs : Entries) × Pairs (slice_bytes x.2) rs × (P ↔ (AreAbove (Some k) rs × IsRising rs))
+          → (rs : Entries) × TableBody (slice_bytes x.2) rs × (P ↔ (AreAbove (Some k) rs × IsRising rs))
       by no_entries given iff = absurd given
       by (entry i v rs) given iff =
           let is : k.now ≡ i = same ∙ given.0 in
@@ -89,8 +89,8 @@ module _ (s rest : List ℕ) (j : Option (Bor (List ℕ))) (rises : Rises s rest
           (rs, given.2, (λ p. let r = iff.0 p in (subst (λ (t : List ℕ). ComesBefore t rs) (sym is) r.1.0, r.1.1), λ r. iff.1 (first, (subst (λ (t : List ℕ). ComesBefore t rs) is r.0, r.1))))
 
   -- the next key isn't above it
-  pub Rises-fall : (x : Bor (List ℕ) × ValueRef × SliceInput) (k : List ℕ) → ((qs : Entries) → Pairs rest qs → NextPairIs qs (Some x)) → k ≡ x.0.now → (IsAbove j k → ⊥)
-      → (ps : Entries) → Pairs s ps → IsRising ps → ⊥
+  pub Rises-fall : (x : Bor (List ℕ) × ValueRef × SliceInput) (k : List ℕ) → ((qs : Entries) → TableBody rest qs → NextPairIs qs (Some x)) → k ≡ x.0.now → (IsAbove j k → ⊥)
+      → (ps : Entries) → TableBody s ps → IsRising ps → ⊥
   Rises-fall x k next same falls = λ ps p r.
       let at = rises ps p in
       by at.0 (next at.0 at.1) (at.2.0 r).0
@@ -100,7 +100,7 @@ module _ (s rest : List ℕ) (j : Option (Bor (List ℕ))) (rises : Rises s rest
       by (entry i v rs) given are = falls (subst (IsAbove j) (sym (same ∙ given.0)) ((above_first j i v rs).1 are))
 
   -- no key is left
-  pub Rises-end : ((qs : Entries) → Pairs rest qs → NextPairIs qs None) → (ps : Entries) → Pairs s ps → IsRising ps
+  pub Rises-end : ((qs : Entries) → TableBody rest qs → NextPairIs qs None) → (ps : Entries) → TableBody s ps → IsRising ps
   Rises-end next ps p =
       let at = rises ps p in
       at.2.1 (by at.0 (next at.0 at.1))
@@ -121,7 +121,7 @@ by_bytes x y = slice_cmp nat_cmp x.now y.now
 
 -- a key stands once more than among the pairs that are left where the set has it
 abbrev pub Seen : List ℕ → List ℕ → BTreeSet (Bor (List ℕ)) → Type 0
-Seen s rest t = (ps : Entries) → Pairs s ps → (qs : Entries) × Pairs rest qs × ((k : List ℕ) → times_at k ps ≡ one_if (has t k) + times_at k qs)
+Seen s rest t = (ps : Entries) → TableBody s ps → (qs : Entries) × TableBody rest qs × ((k : List ℕ) → times_at k ps ≡ one_if (has t k) + times_at k qs)
 
 pub Seen-start : (s : List ℕ) (t : BTreeSet (Bor (List ℕ))) → IsEmpty t → Seen s s t
 Seen-start s t none = λ ps p. (
@@ -135,7 +135,7 @@ Seen-start s t none = λ ps p. (
 
 module _ (s rest : List ℕ) (t : BTreeSet (Bor (List ℕ))) (seen : Seen s rest t) where
   -- a new key comes to the set
-  pub Seen-step : (x : Bor (List ℕ) × ValueRef × SliceInput) (u : BTreeSet (Bor (List ℕ))) → ((qs : Entries) → Pairs rest qs → NextPairIs qs (Some x))
+  pub Seen-step : (x : Bor (List ℕ) × ValueRef × SliceInput) (u : BTreeSet (Bor (List ℕ))) → ((qs : Entries) → TableBody rest qs → NextPairIs qs (Some x))
       → contains by_bytes t x.0 ≡ false → Updates by_bytes t u x.0 true → Seen s (slice_bytes x.2) u
   Seen-step x u next new updates = λ ps p.
       let at = seen ps p in
@@ -158,7 +158,7 @@ module _ (s rest : List ℕ) (t : BTreeSet (Bor (List ℕ))) (seen : Seen s rest
           other false e = refl
 
       by : {n : List ℕ → ℕ} (qs : Entries) → NextPairIs qs (Some x) → ((k : List ℕ) → n k ≡ one_if (has t k) + times_at k qs)
-          → (rs : Entries) × Pairs (slice_bytes x.2) rs × ((k : List ℕ) → n k ≡ one_if (has u k) + times_at k rs)
+          → (rs : Entries) × TableBody (slice_bytes x.2) rs × ((k : List ℕ) → n k ≡ one_if (has u k) + times_at k rs)
       by no_entries given e = absurd given
       by (entry i v rs) given e = (
         rs,
@@ -169,8 +169,8 @@ module _ (s rest : List ℕ) (t : BTreeSet (Bor (List ℕ))) (seen : Seen s rest
       )
 
   -- a key that the set has stands twice
-  pub Seen-again : (x : Bor (List ℕ) × ValueRef × SliceInput) → ((qs : Entries) → Pairs rest qs → NextPairIs qs (Some x)) → contains by_bytes t x.0 ≡ true
-      → (ps : Entries) → Pairs s ps → RepeatedIs ps (Some x.0)
+  pub Seen-again : (x : Bor (List ℕ) × ValueRef × SliceInput) → ((qs : Entries) → TableBody rest qs → NextPairIs qs (Some x)) → contains by_bytes t x.0 ≡ true
+      → (ps : Entries) → TableBody s ps → RepeatedIs ps (Some x.0)
   Seen-again x next old ps p =
       let at = seen ps p in
       by at.0 (next at.0 at.1) (at.2 x.0.now)
@@ -183,7 +183,7 @@ module _ (s rest : List ℕ) (t : BTreeSet (Bor (List ℕ))) (seen : Seen s rest
           omega (arith, before, here, e)
 
   -- where no pair is left no key stands twice
-  pub Seen-end : ((qs : Entries) → Pairs rest qs → NextPairIs qs None) → (ps : Entries) → Pairs s ps → RepeatedIs ps None
+  pub Seen-end : ((qs : Entries) → TableBody rest qs → NextPairIs qs None) → (ps : Entries) → TableBody s ps → RepeatedIs ps None
   Seen-end next ps p =
       let at = seen ps p in
       λ k. by k at.0 (next at.0 at.1) (at.2 k)

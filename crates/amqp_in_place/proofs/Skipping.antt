@@ -9,13 +9,13 @@ use Rattle.amqp_grammar.specs.Outcomes.{Reading, more, unknown, Outcome}
 use Rattle.amqp_grammar.proofs.GrammarLaws.{found_front, front_within, unlimited}
 use Rattle.amqp_types.specs.Inputs.{slice_bytes}
 use Rattle.amqp_parsing.specs.Refusals.{Refusal}
-use Rattle.amqp_parsing.specs.Typed.{IsType}
-use Rattle.amqp_parsing.specs.Bodies.{IsFrame}
+use Rattle.amqp_parsing.specs.PayloadResults.{IsType}
+use Rattle.amqp_parsing.specs.Bodies.{IsLengthPrefixed}
 use Rattle.amqp_parsing.specs.declared.errors.Err.TheVariants.{Incomplete, Error, Failure}
 use Rattle.amqp_parsing.specs.declared.errors.Needed.TheVariants.{Unknown, Size}
 use Rattle.amqp_parsing.specs.Headers.{extent_of, extent_at, extent}
 use Rattle.amqp_parsing.proofs.ParsingLaws.{wire_extent}
-use Rattle.amqp_in_place.specs.Answers.{IsWidthOfFound, HeadRefuses}
+use Rattle.amqp_in_place.specs.InPlaceResults.{IsWidthOfFound, HeadRefuses}
 use Rattle.amqp_in_place.specs.declared.head.Head.{Head}
 use Rattle.amqp_in_place.specs.declared.head.Head.TheVariants as head
 use Rattle.amqp_in_place.specs.Refs.{plain_tree}
@@ -23,7 +23,7 @@ use Rattle.amqp_in_place.specs.Heads.{IsHead, AtAnyDepth}
 use Rattle.amqp_in_place.proofs.HeadLemmas.{plain_read}
 
 -- the extent of a length-prefixed field is that of a long string with the same bytes
-frame_extent : (s mid body rest : List ℕ) (type : AMQPType) → IsType s type mid → IsFrame mid body rest → extent_at (Some type) mid ≡ suc (extent_of None w32 mid)
+frame_extent : (s mid body rest : List ℕ) (type : AMQPType) → IsType s type mid → IsLengthPrefixed mid body rest → extent_at (Some type) mid ≡ suc (extent_of None w32 mid)
     → extent s + length rest ≡ length s
 frame_extent s mid body rest type p f is =
     let string = wire_extent (83 ∷ long_field body) rest (long body) (wire 83 amqp.LongString (long_field body) (long body) refl (raw_long body f.fits)) in

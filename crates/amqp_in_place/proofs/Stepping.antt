@@ -9,7 +9,7 @@ use Rattle.std.specs.Borrow.{Bor}
 use Rattle.amqp_types.specs.Strings.{IsShort}
 use Rattle.amqp_types.specs.declared.amqp_type.AMQPType.TheVariants as amqp
 use Rattle.amqp_grammar.specs.Values.{Tree, Trees, tree, Entries, entry, short}
-use Rattle.amqp_grammar.specs.Grammar.{short_field, Wire, wire, raw_short, Body, no_values, value, Pairs, no_pairs, pair}
+use Rattle.amqp_grammar.specs.Grammar.{short_field, Wire, wire, raw_short, ArrayBody, no_values, value, TableBody, no_pairs, pair}
 use Rattle.amqp_grammar.specs.Nesting.{nesting, OutcomeWithin}
 use Rattle.amqp_grammar.specs.Outcomes.{Reading, found, more, unknown, malformed, Outcome}
 use Rattle.amqp_grammar.specs.Payloads.{RawOutcome}
@@ -20,13 +20,13 @@ use Rattle.amqp_parsing.specs.declared.errors.Err.TheVariants.{Incomplete, Error
 use Rattle.amqp_parsing.specs.declared.errors.Needed.TheVariants.{Unknown, Size}
 use Rattle.amqp_parsing.specs.declared.errors.ErrorKind.TheVariants.{MapOpt, MapRes, Eof, OutOfMemory, TooLarge}
 use Rattle.amqp_parsing.specs.Refusals.{Refusal}
-use Rattle.amqp_parsing.specs.Answers.{Refuses}
+use Rattle.amqp_parsing.specs.ParseResults.{Refuses}
 use Rattle.amqp_in_place.specs.Bodies.{HasValues, HasPairs}
 use Rattle.amqp_in_place.specs.declared.head.Head.{Head}
 use Rattle.amqp_in_place.specs.declared.head.Head.TheVariants as head
 use Rattle.amqp_in_place.specs.declared.refs.ValueRef.{ValueRef}
-use Rattle.amqp_in_place.specs.Refs.{Stands}
-use Rattle.amqp_in_place.specs.Answers.{HeadRefuses}
+use Rattle.amqp_in_place.specs.Refs.{Denotes}
+use Rattle.amqp_in_place.specs.InPlaceResults.{HeadRefuses}
 use Rattle.amqp_in_place.specs.Heads.{IsHead, AtAnyDepth, Means, IsMeant, IsKeyFrame}
 use Rattle.amqp_in_place.specs.Walks.{HasFront, NextValueIs, NextPairIs}
 use Rattle.amqp_in_place.proofs.HeadLemmas.{only, head_refuses}
@@ -101,9 +101,9 @@ record FirstValue (s : List ℕ) (vs : Trees) : Type 0 where
   pub at : AtFront s
   pub others : Trees
   pub are : vs ≡ tree at.value_there others
-  pub more_values : Body at.left others
+  pub more_values : ArrayBody at.left others
 
-first_value : (s : List ℕ) (vs : Trees) → 0 < length s → Body s vs → FirstValue s vs
+first_value : (s : List ℕ) (vs : Trees) → 0 < length s → ArrayBody s vs → FirstValue s vs
 first_value _ _ some no_values = absurd (omega arith)
 first_value _ _ some (value w left v vs p all) =
     record { at = record { value_there = v; bytes = w; left = left; is_wire = p; front = refl }; others = vs; are = refl; more_values = all }
@@ -128,21 +128,21 @@ module _ (s : List ℕ) (h : Head) (rest : List ℕ) (some : 0 < length s) (is :
         omega (arith, ap length (meant s h rest is a).1, ap length a.front, length-append a.bytes a.left, length-wire a.bytes a.value_there a.is_wire)),
     ∥∥₁_map has (λ (p : HasValues s).
         let first = first_value s p.0 some p.1 in
-        (first.others, subst (λ (t : List ℕ). Body t first.others) (meant s h rest is first.at).1 first.more_values)),
+        (first.others, subst (λ (t : List ℕ). ArrayBody t first.others) (meant s h rest is first.at).1 first.more_values)),
   )
 
 -- the value that is given is the first
 pub value_given : (s : List ℕ) (h : Head) (vs : Trees) (x : ValueRef × SliceInput) → 0 < length s → IsHead s h (slice_bytes x.1)
-    → ((v : Tree) → Means h v → Stands x.0 v) → Body s vs → NextValueIs vs (Some x)
+    → ((v : Tree) → Means h v → Denotes x.0 v) → ArrayBody s vs → NextValueIs vs (Some x)
 value_given s h vs x some is stands p =
     let first = first_value s vs some p in
     let m = meant s h (slice_bytes x.1) is first.at in
     let given : NextValueIs (tree first.at.value_there first.others) (Some x) =
-    (stands first.at.value_there m.0, subst (λ (t : List ℕ). Body t first.others) m.1 first.more_values) in
+    (stands first.at.value_there m.0, subst (λ (t : List ℕ). ArrayBody t first.others) m.1 first.more_values) in
     subst (λ (us : Trees). NextValueIs us (Some x)) (sym first.are) given
 
 -- where no byte is left no value is
-pub no_value_given : (s : List ℕ) (vs : Trees) → length s ≡ 0 → Body s vs → NextValueIs vs None
+pub no_value_given : (s : List ℕ) (vs : Trees) → length s ≡ 0 → ArrayBody s vs → NextValueIs vs None
 no_value_given _ _ e no_values = tt
 no_value_given _ _ e (value w left v vs p all) = absurd (omega (arith, length-append w left, length-wire w v p))
 
@@ -153,7 +153,7 @@ pub key_there : (s : List ℕ) (e : Refusal) → 0 < length s → ∥ HasPairs s
 key_there s e some has x =
     ∥∥₁_elim has no_prop (λ (p : HasPairs s). refusal_of_none (RawOutcome amqp.ShortString s) (λ o y other. by s p.0 o some p.1 y other) e x)
   where
-    by : (s : List ℕ) (ps : Entries) (o : Reading) → 0 < length s → Pairs s ps → RawOutcome amqp.ShortString s o → ((v : Tree) (left : List ℕ) → o ≡ found v left → ⊥) → ⊥
+    by : (s : List ℕ) (ps : Entries) (o : Reading) → 0 < length s → TableBody s ps → RawOutcome amqp.ShortString s o → ((v : Tree) (left : List ℕ) → o ≡ found v left → ⊥) → ⊥
     by _ _ o some no_pairs y other = absurd (omega arith)
     by _ _ o some (pair k w left v ps is p all) y other =
         other (short k) (w ++ left)
@@ -167,9 +167,9 @@ record FirstPair (s key behind : List ℕ) (ps : Entries) : Type 0 where
   pub others : Entries
   pub are : ps ≡ entry key at.value_there others
   pub short_key : IsShort key
-  pub more_pairs : Pairs at.left others
+  pub more_pairs : TableBody at.left others
 
-first_pair : (s key behind : List ℕ) (ps : Entries) → IsKeyFrame s key behind → Pairs s ps → FirstPair s key behind ps
+first_pair : (s key behind : List ℕ) (ps : Entries) → IsKeyFrame s key behind → TableBody s ps → FirstPair s key behind ps
 first_pair _ key behind _ f no_pairs = let e = f.framed in absurd cc
 first_pair _ key behind _ f (pair k w left v ps is p all) =
     let here = short_bytes key behind (short_field k) (w ++ left) (short k) (raw_short k is) (sym f.framed) in
@@ -208,20 +208,20 @@ module _ (s key behind : List ℕ) (f : IsKeyFrame s key behind) where
         omega (arith, ap length (meant behind h rest is a).1, ap length a.front, length-append a.bytes a.left, ap length f.framed, length-append key behind)),
     ∥∥₁_map has (λ (p : HasPairs s).
         let first = first_pair s key behind p.0 f p.1 in
-        (first.others, subst (λ (t : List ℕ). Pairs t first.others) (meant behind h rest is first.at).1 first.more_pairs)),
+        (first.others, subst (λ (t : List ℕ). TableBody t first.others) (meant behind h rest is first.at).1 first.more_pairs)),
   )
 
 -- the pair that is given is the first
 pub pair_given : (s : List ℕ) (h : Head) (ps : Entries) (behind : List ℕ) (x : Bor (List ℕ) × ValueRef × SliceInput) → IsKeyFrame s x.0.now behind
-    → IsHead behind h (slice_bytes x.2) → ((v : Tree) → Means h v → Stands x.1 v) → Pairs s ps → NextPairIs ps (Some x)
+    → IsHead behind h (slice_bytes x.2) → ((v : Tree) → Means h v → Denotes x.1 v) → TableBody s ps → NextPairIs ps (Some x)
 pair_given s h ps behind x f is stands p =
     let first = first_pair s x.0.now behind ps f p in
     let m = meant behind h (slice_bytes x.2) is first.at in
     let given : NextPairIs (entry x.0.now first.at.value_there first.others) (Some x) =
-    (refl, stands first.at.value_there m.0, subst (λ (t : List ℕ). Pairs t first.others) m.1 first.more_pairs) in
+    (refl, stands first.at.value_there m.0, subst (λ (t : List ℕ). TableBody t first.others) m.1 first.more_pairs) in
     subst (λ (qs : Entries). NextPairIs qs (Some x)) (sym first.are) given
 
 -- where no byte is left no pair is
-pub no_pair_given : (s : List ℕ) (ps : Entries) → length s ≡ 0 → Pairs s ps → NextPairIs ps None
+pub no_pair_given : (s : List ℕ) (ps : Entries) → length s ≡ 0 → TableBody s ps → NextPairIs ps None
 no_pair_given _ _ e no_pairs = tt
 no_pair_given _ _ e (pair k w left v ps is p all) = absurd (omega arith)

@@ -3,18 +3,18 @@ use Rattle.std.specs.Prelude.{ℕ, ◌≤◌, ◌≡◌, List, length, ◌++◌}
 use Rattle.amqp_types.specs.declared.amqp_type.AMQPType.{AMQPType}
 use Rattle.amqp_types.specs.declared.amqp_type.AMQPType.TheVariants as amqp
 use Rattle.amqp_grammar.specs.Values.{Tree, Trees, Entries, array, table}
-use Rattle.amqp_grammar.specs.Grammar.{Body, short_field}
+use Rattle.amqp_grammar.specs.Grammar.{ArrayBody, short_field}
 use Rattle.amqp_grammar.specs.Outcomes.{Reading, found}
 use Rattle.amqp_grammar.specs.Payloads.{RawOutcome}
 use Rattle.amqp_grammar.specs.Nesting.{OutcomeWithin}
 use Rattle.amqp_types.specs.Inputs.{slice_bytes}
-use Rattle.amqp_parsing.specs.Typed.{IsType}
-use Rattle.amqp_parsing.specs.Bodies.{IsFrame}
+use Rattle.amqp_parsing.specs.PayloadResults.{IsType}
+use Rattle.amqp_parsing.specs.Bodies.{IsLengthPrefixed}
 use Rattle.amqp_in_place.specs.declared.head.Head.{Head}
 use Rattle.amqp_in_place.specs.declared.head.Head.TheVariants as head
 use Rattle.amqp_in_place.specs.declared.refs.ValueRef.{ValueRef}
 use Rattle.amqp_in_place.specs.declared.refs.ValueRef.TheVariants as at
-use Rattle.amqp_in_place.specs.Refs.{array_body, table_body, plain_tree, Stands}
+use Rattle.amqp_in_place.specs.Refs.{array_body, table_body, plain_tree, Denotes}
 use Rattle.amqp_in_place.specs.Bodies.{HasEntries}
 
 -- the value isn't a container
@@ -32,8 +32,8 @@ IsPlainType _ = Unit {0}
 -- the head of a payload of the type: a plain value, or the body of a container
 abbrev pub RawHeadIs : AMQPType → List ℕ → Head → List ℕ → Type 0
 RawHeadIs type s (head.Plain r) rest = IsPlain r × IsPlainType type × RawOutcome type s (found (plain_tree r) rest)
-RawHeadIs type s (head.FieldArray i) rest = (type ≡ amqp.FieldArray) × IsFrame s (slice_bytes i) rest
-RawHeadIs type s (head.FieldTable i) rest = (type ≡ amqp.FieldTable) × IsFrame s (slice_bytes i) rest
+RawHeadIs type s (head.FieldArray i) rest = (type ≡ amqp.FieldArray) × IsLengthPrefixed s (slice_bytes i) rest
+RawHeadIs type s (head.FieldTable i) rest = (type ≡ amqp.FieldTable) × IsLengthPrefixed s (slice_bytes i) rest
 
 -- the head of a value: that of the payload after its type tag
 abbrev pub IsHead : List ℕ → Head → List ℕ → Type 0
@@ -45,8 +45,8 @@ AtAnyDepth s o = (d : ℕ) → OutcomeWithin d s o
 
 -- v is what the head means
 abbrev pub Means : Head → Tree → Type 0
-Means (head.Plain r) v = Stands r v
-Means (head.FieldArray i) v = (vs : Trees) × Body (slice_bytes i) vs × (v ≡ array vs)
+Means (head.Plain r) v = Denotes r v
+Means (head.FieldArray i) v = (vs : Trees) × ArrayBody (slice_bytes i) vs × (v ≡ array vs)
 Means (head.FieldTable i) v = (es : Entries) × HasEntries (slice_bytes i) es × (v ≡ table es)
 
 -- the head means something

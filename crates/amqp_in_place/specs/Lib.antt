@@ -3,7 +3,7 @@ pub mod Refs
 pub mod Heads
 pub mod Walks
 pub mod Keys
-pub mod Answers
-pub mod Left
+pub mod InPlaceResults
+pub mod Suffix
 pub mod Places
 pub mod Canonicals

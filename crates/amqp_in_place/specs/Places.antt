@@ -4,7 +4,7 @@ use Rattle.amqp_grammar.specs.Grammar.{short_field, long_field}
 use Rattle.amqp_in_place.specs.declared.refs.ValueRef.{ValueRef}
 use Rattle.amqp_in_place.specs.declared.refs.ValueRef.TheVariants as at
 use Rattle.amqp_in_place.specs.Refs.{array_body, table_body}
-use Rattle.amqp_in_place.specs.Answers.{IsLeft}
+use Rattle.amqp_in_place.specs.InPlaceResults.{IsLeft}
 
 -- s is a type tag, the length of `body` in four bytes, `body`, and `rest`
 abbrev pub IsFramed : List ℕ → List ℕ → List ℕ → Type 0

@@ -2,9 +2,9 @@
 use Rattle.std.specs.Prelude.{ℕ, ◌≡◌, ◌<◌, List, length, Option, Some, None}
 use Rattle.std.specs.Int.{w8, w16, w32, w64, cast_unsigned}
 use Rattle.amqp_types.specs.declared.amqp_type.AMQPType.TheVariants as amqp
-use Rattle.amqp_types.specs.Shown.{float_bits, double_bits}
+use Rattle.amqp_types.specs.Contents.{float_bits, double_bits}
 use Rattle.amqp_grammar.specs.Values.{Tree, Trees, Entries, scalar, boolean, number, decimal, void, long, octets, array, table}
-use Rattle.amqp_grammar.specs.Grammar.{Body}
+use Rattle.amqp_grammar.specs.Grammar.{ArrayBody}
 use Rattle.amqp_types.specs.Inputs.{slice_bytes}
 use Rattle.amqp_in_place.specs.Bodies.{HasEntries}
 use Rattle.amqp_in_place.specs.declared.refs.ArrayRef.{ArrayRef}
@@ -38,19 +38,19 @@ plain_tree (at.ByteArray s) = octets s.now
 plain_tree _ = scalar void
 
 -- v is the value that is referred to: of a container what the grammar says of its body
-abbrev pub Stands : ValueRef → Tree → Type 0
-Stands (at.FieldArray a) v = (vs : Trees) × Body (array_body a) vs × (v ≡ array vs)
-Stands (at.FieldTable t) v = (es : Entries) × HasEntries (table_body t) es × (v ≡ table es)
-Stands r v = v ≡ plain_tree r
+abbrev pub Denotes : ValueRef → Tree → Type 0
+Denotes (at.FieldArray a) v = (vs : Trees) × ArrayBody (array_body a) vs × (v ≡ array vs)
+Denotes (at.FieldTable t) v = (es : Entries) × HasEntries (table_body t) es × (v ≡ table es)
+Denotes r v = v ≡ plain_tree r
 
 -- it is one value
 abbrev pub IsOneValue : ValueRef → Type 0
-IsOneValue r = (u v : Tree) → Stands r u → Stands r v → u ≡ v
+IsOneValue r = (u v : Tree) → Denotes r u → Denotes r v → u ≡ v
 
 -- an array of these values, or a table of these entries, is referred to, if there is one
 abbrev pub ArrayIs : Option Trees → Option ArrayRef → Type 0
 ArrayIs None None = Unit {0}
-ArrayIs (Some vs) (Some a) = Body (array_body a) vs
+ArrayIs (Some vs) (Some a) = ArrayBody (array_body a) vs
 ArrayIs _ _ = ⊥
 
 abbrev pub TableIs : Option Entries → Option TableRef → Type 0

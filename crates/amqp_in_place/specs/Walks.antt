@@ -2,18 +2,18 @@
 use Rattle.std.specs.Prelude.{ℕ, zero, suc, ◌≡◌, ◌<◌, List, length, Option, Some, None}
 use Rattle.std.specs.Borrow.{Bor}
 use Rattle.amqp_grammar.specs.Values.{Tree, Trees, no_trees, tree, Entries, no_entries, entry}
-use Rattle.amqp_grammar.specs.Grammar.{Pairs, Body}
+use Rattle.amqp_grammar.specs.Grammar.{TableBody, ArrayBody}
 use Rattle.amqp_grammar.specs.Outcomes.{Outcome, found}
 use Rattle.amqp_types.specs.Inputs.{slice_bytes}
 use Rattle.amqp_types.specs.declared.input.SliceInput.{SliceInput}
 use Rattle.amqp_in_place.specs.declared.refs.ValueRef.{ValueRef}
-use Rattle.amqp_in_place.specs.Refs.{Stands}
+use Rattle.amqp_in_place.specs.Refs.{Denotes}
 use Rattle.amqp_in_place.specs.Bodies.{HasValues, HasPairs}
 
 -- the first of the values is given, and the bytes of the others
 abbrev pub NextValueIs : Trees → Option (ValueRef × SliceInput) → Type 0
 NextValueIs no_trees None = Unit {0}
-NextValueIs (tree v vs) (Some x) = Stands x.0 v × Body (slice_bytes x.1) vs
+NextValueIs (tree v vs) (Some x) = Denotes x.0 v × ArrayBody (slice_bytes x.1) vs
 NextValueIs _ _ = ⊥
 
 -- after the value that is given stand fewer bytes than n, which are values
@@ -24,7 +24,7 @@ MoreValues n (Some x) = (length (slice_bytes x.1) < n) × ∥ HasValues (slice_b
 -- the first of the pairs is given, and the bytes of the others
 abbrev pub NextPairIs : Entries → Option (Bor (List ℕ) × ValueRef × SliceInput) → Type 0
 NextPairIs no_entries None = Unit {0}
-NextPairIs (entry k v ps) (Some x) = (x.0.now ≡ k) × Stands x.1 v × Pairs (slice_bytes x.2) ps
+NextPairIs (entry k v ps) (Some x) = (x.0.now ≡ k) × Denotes x.1 v × TableBody (slice_bytes x.2) ps
 NextPairIs _ _ = ⊥
 
 -- after the pair that is given stand fewer bytes than n, which are pairs
@@ -39,7 +39,7 @@ HasFront s = (v : Tree) × (rest : List ℕ) × Outcome s (found v rest)
 -- the first pair's key is given, the bytes from its value on, and those of the others
 abbrev pub NextKeyIs : Entries → Option (Bor (List ℕ) × Bor (List ℕ) × Bor (List ℕ)) → Type 0
 NextKeyIs no_entries None = Unit {0}
-NextKeyIs (entry k v ps) (Some x) = (x.0.now ≡ k) × Outcome x.1.now (found v x.2.now) × Pairs x.2.now ps
+NextKeyIs (entry k v ps) (Some x) = (x.0.now ≡ k) × Outcome x.1.now (found v x.2.now) × TableBody x.2.now ps
 NextKeyIs _ _ = ⊥
 
 -- after the pair whose key is given stand fewer bytes than n, which are pairs
@@ -55,20 +55,20 @@ BeginsAt _ _ = ⊥
 
 -- a step returns the first of the values, and leaves the others
 abbrev pub ValueStep : Trees → Option ValueRef → List ℕ → Type 0
-ValueStep no_trees None left = Body left no_trees
-ValueStep (tree v vs) (Some r) left = Stands r v × Body left vs
+ValueStep no_trees None left = ArrayBody left no_trees
+ValueStep (tree v vs) (Some r) left = Denotes r v × ArrayBody left vs
 ValueStep _ _ left = ⊥
 
 -- a step returns the first of the pairs, and leaves the others
 abbrev pub PairStep : Entries → Option (Bor (List ℕ) × ValueRef) → List ℕ → Type 0
-PairStep no_entries None left = Pairs left no_entries
-PairStep (entry k v ps) (Some x) left = (x.0.now ≡ k) × Stands x.1 v × Pairs left ps
+PairStep no_entries None left = TableBody left no_entries
+PairStep (entry k v ps) (Some x) left = (x.0.now ≡ k) × Denotes x.1 v × TableBody left ps
 PairStep _ _ left = ⊥
 
 -- what is found denotes the tree, if there is one
 abbrev pub FoundIs : Option Tree → Option ValueRef → Type 0
 FoundIs None None = Unit {0}
-FoundIs (Some v) (Some r) = Stands r v
+FoundIs (Some v) (Some r) = Denotes r v
 FoundIs _ _ = ⊥
 
 -- the value at a place of an array, counted from 0

@@ -2,7 +2,7 @@
 
 ghost use Rattle.std.specs.Prelude.{◌≡◌, ◌<◌, ◌↔◌, IsTrue, IfSome, length, MatchResult};
 ghost use Rattle.amqp_grammar.specs.Values.{Trees, no_trees};
-ghost use Rattle.amqp_grammar.specs.Grammar.{Body};
+ghost use Rattle.amqp_grammar.specs.Grammar.{ArrayBody};
 ghost use Rattle.amqp_value_core.specs.Containers.{array_view};
 ghost use Rattle.amqp_in_place.specs.Refs.{array_body};
 ghost use Rattle.amqp_in_place.specs.Walks.{FoundIs, tree_at};
@@ -11,7 +11,7 @@ ghost use Rattle.amqp_in_place.specs.Places.{LiesWithin};
 use super::refs::{ArrayRef, ValueRef};
 use super::steps::next_value;
 use amqp_parsing::Err;
-use amqp_parsing::values::parse_body;
+use amqp_parsing::values::parse_array_body;
 use amqp_types::ParsableInput;
 use amqp_value_core::types::FieldArray;
 use std::alloc::{AllocError, Global};
@@ -26,14 +26,14 @@ impl<'a> ArrayRef<'a> {
 
     /// Whether the array is empty.
     pub fn is_empty(self) -> bool
-        ensures { (vs : Trees) → Body (array_body self.entry) vs → IsTrue result ↔ (vs ≡ no_trees) }
+        ensures { (vs : Trees) → ArrayBody (array_body self.entry) vs → IsTrue result ↔ (vs ≡ no_trees) }
     {
         self.body().input_len() == 0
     }
 
     /// Returns the value at `index`, counted from 0. Iterates over the values before it.
     pub fn get(self, index: usize) -> Option<ValueRef<'a>>
-        ensures value { (vs : Trees) → Body (array_body self.entry) vs → FoundIs (tree_at index vs) result }
+        ensures value { (vs : Trees) → ArrayBody (array_body self.entry) vs → FoundIs (tree_at index vs) result }
         ensures lies { IfSome result (λ r. LiesWithin (array_body self.entry) r) }
     {
         let mut left = index;
@@ -52,11 +52,11 @@ impl<'a> ArrayRef<'a> {
     /// allocate. It uses stack for each level of nesting; docs/PROMISES.md has measurements.
     pub fn to_owned(self, alloc: Global) -> Result<FieldArray, AllocError>
         ensures { MatchResult result
-            (λ a. Body (array_body self.entry) (array_view a))
+            (λ a. ArrayBody (array_body self.entry) (array_view a))
             (λ _. 0 < length (array_body self.entry)) }
     {
         let body = self.body();
-        match parse_body(alloc, body, body.input_len()) {
+        match parse_array_body(alloc, body, body.input_len()) {
             Ok(array) => Ok(array),
             Err(Err::Failure(_)) => Err(AllocError),
             Err(Err::Incomplete(_)) => unreachable!(),

@@ -11,14 +11,14 @@ impl<'a> ValueRef<'a> {
     ghost use Rattle.std.specs.Prelude.{◌≡◌, option_map, is_some};
     ghost use Rattle.std.specs.Int.{w8, w16, w32, w64, cast_unsigned};
     ghost use Rattle.amqp_types.specs.declared.amqp_type.AMQPType.TheVariants as amqp;
-    ghost use Rattle.amqp_types.specs.Shown.{float_bits, double_bits};
+    ghost use Rattle.amqp_types.specs.Contents.{float_bits, double_bits};
     ghost use Rattle.amqp_grammar.specs.Values.{Tree, type_of};
     ghost use Rattle.amqp_value_core.specs.Getters.{truth_in, number_in, decimal_in, long_in, octets_in, array_in, table_in, is_void};
-    ghost use Rattle.amqp_in_place.specs.Refs.{Stands, ArrayIs, TableIs};
+    ghost use Rattle.amqp_in_place.specs.Refs.{Denotes, ArrayIs, TableIs};
 
     /// The type of the value.
     pub fn get_type(self) -> AMQPType
-        ensures { (v : Tree) → Stands self.entry v → result ≡ type_of v }
+        ensures { (v : Tree) → Denotes self.entry v → result ≡ type_of v }
     {
         match self {
             ValueRef::Boolean(_) => AMQPType::Boolean,
@@ -43,7 +43,7 @@ impl<'a> ValueRef<'a> {
 
     /// The boolean, of a `Boolean`.
     pub fn as_bool(self) -> Option<Boolean>
-        ensures { (v : Tree) → Stands self.entry v → result ≡ truth_in v }
+        ensures { (v : Tree) → Denotes self.entry v → result ≡ truth_in v }
     {
         match self {
             ValueRef::Boolean(b) => Some(b),
@@ -53,7 +53,7 @@ impl<'a> ValueRef<'a> {
 
     /// The number, of a `ShortShortInt`.
     pub fn as_short_short_int(self) -> Option<ShortShortInt>
-        ensures { (v : Tree) → Stands self.entry v
+        ensures { (v : Tree) → Denotes self.entry v
             → option_map (cast_unsigned w8) result ≡ number_in amqp.ShortShortInt v }
     {
         match self {
@@ -64,7 +64,7 @@ impl<'a> ValueRef<'a> {
 
     /// The number, of a `ShortShortUInt`.
     pub fn as_short_short_uint(self) -> Option<ShortShortUInt>
-        ensures { (v : Tree) → Stands self.entry v → result ≡ number_in amqp.ShortShortUInt v }
+        ensures { (v : Tree) → Denotes self.entry v → result ≡ number_in amqp.ShortShortUInt v }
     {
         match self {
             ValueRef::ShortShortUInt(n) => Some(n),
@@ -74,7 +74,7 @@ impl<'a> ValueRef<'a> {
 
     /// The number, of a `ShortInt`.
     pub fn as_short_int(self) -> Option<ShortInt>
-        ensures { (v : Tree) → Stands self.entry v
+        ensures { (v : Tree) → Denotes self.entry v
             → option_map (cast_unsigned w16) result ≡ number_in amqp.ShortInt v }
     {
         match self {
@@ -85,7 +85,7 @@ impl<'a> ValueRef<'a> {
 
     /// The number, of a `ShortUInt`.
     pub fn as_short_uint(self) -> Option<ShortUInt>
-        ensures { (v : Tree) → Stands self.entry v → result ≡ number_in amqp.ShortUInt v }
+        ensures { (v : Tree) → Denotes self.entry v → result ≡ number_in amqp.ShortUInt v }
     {
         match self {
             ValueRef::ShortUInt(n) => Some(n),
@@ -95,7 +95,7 @@ impl<'a> ValueRef<'a> {
 
     /// The number, of a `LongInt`.
     pub fn as_long_int(self) -> Option<LongInt>
-        ensures { (v : Tree) → Stands self.entry v
+        ensures { (v : Tree) → Denotes self.entry v
             → option_map (cast_unsigned w32) result ≡ number_in amqp.LongInt v }
     {
         match self {
@@ -106,7 +106,7 @@ impl<'a> ValueRef<'a> {
 
     /// The number, of a `LongUInt`.
     pub fn as_long_uint(self) -> Option<LongUInt>
-        ensures { (v : Tree) → Stands self.entry v → result ≡ number_in amqp.LongUInt v }
+        ensures { (v : Tree) → Denotes self.entry v → result ≡ number_in amqp.LongUInt v }
     {
         match self {
             ValueRef::LongUInt(n) => Some(n),
@@ -116,7 +116,7 @@ impl<'a> ValueRef<'a> {
 
     /// The number, of a `LongLongInt`.
     pub fn as_long_long_int(self) -> Option<LongLongInt>
-        ensures { (v : Tree) → Stands self.entry v
+        ensures { (v : Tree) → Denotes self.entry v
             → option_map (cast_unsigned w64) result ≡ number_in amqp.LongLongInt v }
     {
         match self {
@@ -127,7 +127,7 @@ impl<'a> ValueRef<'a> {
 
     /// The number, of a `Float`.
     pub fn as_float(self) -> Option<Float>
-        ensures { (v : Tree) → Stands self.entry v
+        ensures { (v : Tree) → Denotes self.entry v
             → option_map float_bits result ≡ number_in amqp.Float v }
     {
         match self {
@@ -138,7 +138,7 @@ impl<'a> ValueRef<'a> {
 
     /// The number, of a `Double`.
     pub fn as_double(self) -> Option<Double>
-        ensures { (v : Tree) → Stands self.entry v
+        ensures { (v : Tree) → Denotes self.entry v
             → option_map double_bits result ≡ number_in amqp.Double v }
     {
         match self {
@@ -149,7 +149,7 @@ impl<'a> ValueRef<'a> {
 
     /// The decimal number, of a `DecimalValue`.
     pub fn as_decimal_value(self) -> Option<DecimalValue>
-        ensures { (v : Tree) → Stands self.entry v
+        ensures { (v : Tree) → Denotes self.entry v
             → option_map (λ d. (d.scale, d.value)) result ≡ decimal_in v }
     {
         match self {
@@ -160,7 +160,7 @@ impl<'a> ValueRef<'a> {
 
     /// The bytes, of a `LongString`.
     pub fn as_long_string(self) -> Option<&'a [u8]>
-        ensures { (v : Tree) → Stands self.entry v → option_map (λ s. s.now) result ≡ long_in v }
+        ensures { (v : Tree) → Denotes self.entry v → option_map (λ s. s.now) result ≡ long_in v }
     {
         match self {
             ValueRef::LongString(s) => Some(s),
@@ -170,7 +170,7 @@ impl<'a> ValueRef<'a> {
 
     /// The array, of a `FieldArray`.
     pub fn as_array(self) -> Option<ArrayRef<'a>>
-        ensures { (v : Tree) → Stands self.entry v → ArrayIs (array_in v) result }
+        ensures { (v : Tree) → Denotes self.entry v → ArrayIs (array_in v) result }
     {
         match self {
             ValueRef::FieldArray(a) => Some(a),
@@ -180,7 +180,7 @@ impl<'a> ValueRef<'a> {
 
     /// The time, of a `Timestamp`.
     pub fn as_timestamp(self) -> Option<Timestamp>
-        ensures { (v : Tree) → Stands self.entry v → result ≡ number_in amqp.Timestamp v }
+        ensures { (v : Tree) → Denotes self.entry v → result ≡ number_in amqp.Timestamp v }
     {
         match self {
             ValueRef::Timestamp(n) => Some(n),
@@ -190,7 +190,7 @@ impl<'a> ValueRef<'a> {
 
     /// The table, of a `FieldTable`.
     pub fn as_field_table(self) -> Option<TableRef<'a>>
-        ensures { (v : Tree) → Stands self.entry v → TableIs (table_in v) result }
+        ensures { (v : Tree) → Denotes self.entry v → TableIs (table_in v) result }
     {
         match self {
             ValueRef::FieldTable(t) => Some(t),
@@ -200,7 +200,7 @@ impl<'a> ValueRef<'a> {
 
     /// The bytes, of a `ByteArray`.
     pub fn as_byte_array(self) -> Option<&'a [u8]>
-        ensures { (v : Tree) → Stands self.entry v
+        ensures { (v : Tree) → Denotes self.entry v
             → option_map (λ s. s.now) result ≡ octets_in v }
     {
         match self {
@@ -211,7 +211,7 @@ impl<'a> ValueRef<'a> {
 
     /// `Some(())`, of `Void`.
     pub fn as_void(self) -> Option<()>
-        ensures { (v : Tree) → Stands self.entry v → is_some result ≡ is_void v }
+        ensures { (v : Tree) → Denotes self.entry v → is_some result ≡ is_void v }
     {
         match self {
             ValueRef::Void => Some(()),

@@ -3,17 +3,17 @@
 ghost use Rattle.std.specs.Prelude.{◌≡◌, ◌≢◌, MatchResult};
 ghost use Rattle.amqp_grammar.specs.Payloads.{RawOutcome};
 ghost use Rattle.amqp_types.specs.Inputs.{slice_bytes};
-ghost use Rattle.amqp_parsing.specs.Typed.{OnlyLacks};
-ghost use Rattle.amqp_parsing.specs.Answers.{Refuses};
-ghost use Rattle.amqp_in_place.specs.Answers.{HeadRefuses};
+ghost use Rattle.amqp_parsing.specs.PayloadResults.{OnlyLacks};
+ghost use Rattle.amqp_parsing.specs.ParseResults.{Refuses};
+ghost use Rattle.amqp_in_place.specs.InPlaceResults.{HeadRefuses};
 ghost use Rattle.amqp_in_place.specs.Heads.{RawHeadIs, IsHead, IsKeyFrame, AtAnyDepth};
 
 use super::refs::ValueRef;
 use amqp_parsing::errors::lacks;
 use amqp_parsing::{
-    ParserResult, parse_boolean, parse_decimal_value, parse_double, parse_float, parse_frame,
-    parse_long_int, parse_long_long_int, parse_long_uint, parse_short_int, parse_short_short_int,
-    parse_short_short_uint, parse_short_uint, parse_timestamp, parse_type,
+    ParserResult, parse_boolean, parse_decimal_value, parse_double, parse_float,
+    parse_length_prefixed, parse_long_int, parse_long_long_int, parse_long_uint, parse_short_int,
+    parse_short_short_int, parse_short_short_uint, parse_short_uint, parse_timestamp, parse_type,
 };
 use amqp_types::{AMQPType, ParsableInput, SliceInput};
 
@@ -100,15 +100,15 @@ fn read_payload_head<'a>(
         }
         AMQPType::ShortString => unreachable!(),
         AMQPType::FieldArray => {
-            let (i, body) = parse_frame(i)?;
+            let (i, body) = parse_length_prefixed(i)?;
             Ok((i, Head::FieldArray(body)))
         }
         AMQPType::FieldTable => {
-            let (i, body) = parse_frame(i)?;
+            let (i, body) = parse_length_prefixed(i)?;
             Ok((i, Head::FieldTable(body)))
         }
         AMQPType::LongString => {
-            let (i, body) = parse_frame(i)?;
+            let (i, body) = parse_length_prefixed(i)?;
             Ok((i, Head::Plain(ValueRef::LongString(body.as_slice()))))
         }
         AMQPType::Timestamp => {
@@ -116,7 +116,7 @@ fn read_payload_head<'a>(
             Ok((i, Head::Plain(ValueRef::Timestamp(n))))
         }
         AMQPType::ByteArray => {
-            let (i, body) = parse_frame(i)?;
+            let (i, body) = parse_length_prefixed(i)?;
             Ok((i, Head::Plain(ValueRef::ByteArray(body.as_slice()))))
         }
         AMQPType::Void => Ok((i, Head::Plain(ValueRef::Void))),

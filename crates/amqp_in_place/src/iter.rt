@@ -25,7 +25,7 @@ pub struct TablePairs<'a> {
 impl<'a> ArrayRef<'a> {
     ghost use Rattle.std.specs.Prelude.{◌≡◌};
     ghost use Rattle.amqp_in_place.specs.Refs.{array_body};
-    ghost use Rattle.amqp_in_place.specs.Left.{values_left};
+    ghost use Rattle.amqp_in_place.specs.Suffix.{values_left};
 
     /// Iterates over the values, in order.
     pub fn iter(self) -> ArrayValues<'a>
@@ -40,7 +40,7 @@ impl<'a> ArrayRef<'a> {
 impl<'a> TableRef<'a> {
     ghost use Rattle.std.specs.Prelude.{◌≡◌};
     ghost use Rattle.amqp_in_place.specs.Refs.{table_body};
-    ghost use Rattle.amqp_in_place.specs.Left.{pairs_left};
+    ghost use Rattle.amqp_in_place.specs.Suffix.{pairs_left};
 
     /// Iterates over the pairs, in the order in which they are written; a key may occur more than
     /// once.
@@ -55,15 +55,15 @@ impl<'a> Iterator for ArrayValues<'a> {
     ghost use Rattle.std.specs.Prelude.{length, IfSome};
     ghost use Rattle.std.specs.Iterator.{at_most};
     ghost use Rattle.amqp_grammar.specs.Values.{Trees};
-    ghost use Rattle.amqp_grammar.specs.Grammar.{Body};
-    ghost use Rattle.amqp_in_place.specs.Left.{values_left};
+    ghost use Rattle.amqp_grammar.specs.Grammar.{ArrayBody};
+    ghost use Rattle.amqp_in_place.specs.Suffix.{values_left};
     ghost use Rattle.amqp_in_place.specs.Walks.{ValueStep};
     ghost use Rattle.amqp_in_place.specs.Places.{LiesIn};
 
     type Item = ValueRef<'a>;
 
     ghost next_gives = { λ s r t.
-        ((vs : Trees) → Body (values_left s) vs → ValueStep vs r (values_left t))
+        ((vs : Trees) → ArrayBody (values_left s) vs → ValueStep vs r (values_left t))
         × IfSome r (λ x. LiesIn (values_left s) x (values_left t)) };
 
     ghost remaining = { λ s. at_most (length (values_left s)) };
@@ -79,15 +79,15 @@ impl<'a> Iterator for TablePairs<'a> {
     ghost use Rattle.std.specs.Prelude.{length, IfSome};
     ghost use Rattle.std.specs.Iterator.{at_most};
     ghost use Rattle.amqp_grammar.specs.Values.{Entries};
-    ghost use Rattle.amqp_grammar.specs.Grammar.{Pairs};
-    ghost use Rattle.amqp_in_place.specs.Left.{pairs_left};
+    ghost use Rattle.amqp_grammar.specs.Grammar.{TableBody};
+    ghost use Rattle.amqp_in_place.specs.Suffix.{pairs_left};
     ghost use Rattle.amqp_in_place.specs.Walks.{PairStep};
     ghost use Rattle.amqp_in_place.specs.Places.{PairLiesIn};
 
     type Item = (&'a str, ValueRef<'a>);
 
     ghost next_gives = { λ s r t.
-        ((ps : Entries) → Pairs (pairs_left s) ps → PairStep ps r (pairs_left t))
+        ((ps : Entries) → TableBody (pairs_left s) ps → PairStep ps r (pairs_left t))
         × IfSome r (λ x. PairLiesIn (pairs_left s) x.0.now x.1 (pairs_left t)) };
 
     ghost remaining = { λ s. at_most (length (pairs_left s)) };
@@ -101,7 +101,7 @@ impl<'a> Iterator for TablePairs<'a> {
 
 impl<'a> ArrayValues<'a> {
     ghost use Rattle.std.specs.Prelude.{◌≡◌};
-    ghost use Rattle.amqp_in_place.specs.Left.{values_left};
+    ghost use Rattle.amqp_in_place.specs.Suffix.{values_left};
 
     /// The bytes of the remaining values: those of the array from the next value on.
     pub fn as_bytes(&self) -> &'a [u8]
@@ -113,7 +113,7 @@ impl<'a> ArrayValues<'a> {
 
 impl<'a> TablePairs<'a> {
     ghost use Rattle.std.specs.Prelude.{◌≡◌};
-    ghost use Rattle.amqp_in_place.specs.Left.{pairs_left};
+    ghost use Rattle.amqp_in_place.specs.Suffix.{pairs_left};
 
     /// The bytes of the remaining pairs: those of the table from the next key's length on.
     pub fn as_bytes(&self) -> &'a [u8]

@@ -2,7 +2,7 @@
 
 ghost use Rattle.std.specs.Prelude.{MatchResult};
 ghost use Rattle.amqp_value_core.specs.View.{view};
-ghost use Rattle.amqp_in_place.specs.Refs.{Stands, HasBytes};
+ghost use Rattle.amqp_in_place.specs.Refs.{Denotes, HasBytes};
 
 use super::refs::ValueRef;
 use amqp_parsing::copy_of;
@@ -15,7 +15,7 @@ impl<'a> ValueRef<'a> {
     /// Void and what is empty don't allocate. It uses stack for each level of nesting;
     /// docs/PROMISES.md has measurements.
     pub fn to_owned(self, alloc: Global) -> Result<AMQPValue, AllocError>
-        ensures { MatchResult result (λ v. Stands self.entry (view v)) (λ _. HasBytes self.entry) }
+        ensures { MatchResult result (λ v. Denotes self.entry (view v)) (λ _. HasBytes self.entry) }
     {
         match self {
             ValueRef::Boolean(b) => Ok(AMQPValue::Boolean(b)),

@@ -6,11 +6,11 @@ ghost use Rattle.amqp_grammar.specs.Values.{Tree, Trees, Entries};
 ghost use Rattle.amqp_grammar.specs.Nesting.{BodyWithin, PairsWithin, OutcomeWithin};
 ghost use Rattle.amqp_grammar.specs.Outcomes.{Outcome, found, malformed};
 ghost use Rattle.amqp_types.specs.Inputs.{slice_bytes};
-ghost use Rattle.amqp_parsing.specs.Answers.{Refuses};
+ghost use Rattle.amqp_parsing.specs.ParseResults.{Refuses};
 ghost use Rattle.amqp_parsing.specs.Bodies.{IsNoBody, IsTable, IsNoTable};
 ghost use Rattle.amqp_parsing.specs.Limits.{Within, RefusesWithin};
-ghost use Rattle.amqp_in_place.specs.Refs.{Stands, IsOneValue};
-ghost use Rattle.amqp_in_place.specs.Answers.{IsLeft, NeedsNoMemory};
+ghost use Rattle.amqp_in_place.specs.Refs.{Denotes, IsOneValue};
+ghost use Rattle.amqp_in_place.specs.InPlaceResults.{IsLeft, NeedsNoMemory};
 ghost use Rattle.amqp_in_place.specs.Places.{LiesIn};
 
 use super::head::{Head, read_head, read_key};
@@ -29,7 +29,7 @@ use simdutf8::basic::Utf8Error;
 #[tactic(auto, using(crate::proofs::OneValue::one_value, crate::proofs::Reading::left_behind))]
 pub fn read_in_place(bytes: &[u8], limits: Limits) -> Result<(ValueRef<'_>, &[u8]), ParserError>
     ensures within { MatchResult result
-        (λ x. (v : Tree) × Stands x.0 v × Within limits bytes.now (found v x.1.now))
+        (λ x. (v : Tree) × Denotes x.0 v × Within limits bytes.now (found v x.1.now))
         (RefusesWithin limits bytes.now) }
     ensures no_memory { IfErr result NeedsNoMemory }
     ensures one { IfOk result (λ x. IsOneValue x.0) }
@@ -56,7 +56,7 @@ pub fn read_in_place(bytes: &[u8], limits: Limits) -> Result<(ValueRef<'_>, &[u8
 #[tactic(auto, using(crate::proofs::OneValue::one_value, crate::proofs::Reading::left_behind))]
 pub fn read_in_place_unlimited(bytes: &[u8]) -> Result<(ValueRef<'_>, &[u8]), ParserError>
     ensures outcome { MatchResult result
-        (λ x. (v : Tree) × Stands x.0 v × Outcome bytes.now (found v x.1.now))
+        (λ x. (v : Tree) × Denotes x.0 v × Outcome bytes.now (found v x.1.now))
         (Refuses (Outcome bytes.now) ⊥) }
     ensures one { IfOk result (λ x. IsOneValue x.0) }
     ensures rest { IfOk result (λ x. IsLeft bytes.now x.1.now) }
@@ -72,7 +72,7 @@ pub fn read_in_place_unlimited(bytes: &[u8]) -> Result<(ValueRef<'_>, &[u8]), Pa
 #[tactic(auto, using(crate::proofs::HeadLemmas::head_within))]
 fn value_within<'a>(i: SliceInput<'a>, depth: usize) -> ParserResult<SliceInput<'a>, ValueRef<'a>>
     ensures outcome { MatchResult result
-        (λ x. (v : Tree) × Stands x.1 v × OutcomeWithin depth (slice_bytes i.entry) (found v (slice_bytes x.0)))
+        (λ x. (v : Tree) × Denotes x.1 v × OutcomeWithin depth (slice_bytes i.entry) (found v (slice_bytes x.0)))
         (Refuses (OutcomeWithin depth (slice_bytes i.entry)) ⊥) }
     ensures lies { IfOk result (λ x. LiesIn (slice_bytes i.entry) x.1 (slice_bytes x.0)) }
 {

@@ -2,7 +2,7 @@
 
 ghost use Rattle.std.specs.Prelude.{◌≡◌, true, false, IfOk, OnErr};
 ghost use Rattle.amqp_grammar.specs.Values.{Entries};
-ghost use Rattle.amqp_grammar.specs.Grammar.{Pairs};
+ghost use Rattle.amqp_grammar.specs.Grammar.{TableBody};
 ghost use Rattle.amqp_grammar.specs.Maps.{IsRising};
 ghost use Rattle.amqp_types.specs.Inputs.{slice_bytes};
 ghost use Rattle.amqp_in_place.specs.Bodies.{HasPairs};
@@ -24,8 +24,8 @@ impl<'a> TableRef<'a> {
     /// Otherwise keys are retained in a set, in at most some 40 bytes each, until one is repeated:
     /// n log n comparisons for n pairs, whoever picks the keys.
     pub fn repeated_key(self, alloc: Global) -> Result<Option<&'a str>, AllocError>
-        ensures repeated { IfOk result (λ key. (ps : Entries) → Pairs (table_body self.entry) ps → RepeatedIs ps key) }
-        ensures err { OnErr result ((ps : Entries) → Pairs (table_body self.entry) ps → IsRising ps → ⊥) }
+        ensures repeated { IfOk result (λ key. (ps : Entries) → TableBody (table_body self.entry) ps → RepeatedIs ps key) }
+        ensures err { OnErr result ((ps : Entries) → TableBody (table_body self.entry) ps → IsRising ps → ⊥) }
     {
         if keys_rise(self.body()) {
             return Ok(None);
@@ -45,8 +45,8 @@ impl<'a> TableRef<'a> {
 // Whether the keys of the pairs are ascending by their bytes.
 fn keys_rise<'a>(pairs: SliceInput<'a>) -> bool
     requires { ∥ HasPairs (slice_bytes pairs) ∥₁ }
-    ensures yes { result ≡ true → (ps : Entries) → Pairs (slice_bytes pairs.entry) ps → IsRising ps }
-    ensures no { result ≡ false → (ps : Entries) → Pairs (slice_bytes pairs.entry) ps → IsRising ps → ⊥ }
+    ensures yes { result ≡ true → (ps : Entries) → TableBody (slice_bytes pairs.entry) ps → IsRising ps }
+    ensures no { result ≡ false → (ps : Entries) → TableBody (slice_bytes pairs.entry) ps → IsRising ps → ⊥ }
 {
     let mut rest = pairs;
     let mut previous: Option<&[u8]> = None;

@@ -3,7 +3,7 @@
 ghost use Rattle.std.specs.Prelude.{◌≡◌, ◌<◌, ◌≤◌, length, IfErr, IfOk};
 ghost use Rattle.amqp_grammar.specs.Outcomes.{Outcome};
 ghost use Rattle.amqp_parsing.specs.Headers.{extent};
-ghost use Rattle.amqp_in_place.specs.Answers.{IsWidthOfFound, HeadRefuses};
+ghost use Rattle.amqp_in_place.specs.InPlaceResults.{IsWidthOfFound, HeadRefuses};
 
 use super::head::read_head;
 use amqp_parsing::ParserError;

@@ -2,14 +2,14 @@
 
 ghost use Rattle.std.specs.Prelude.{ℕ, List, length, IfSome};
 ghost use Rattle.amqp_grammar.specs.Values.{Tree, Trees, Entries};
-ghost use Rattle.amqp_grammar.specs.Grammar.{Body, Pairs};
+ghost use Rattle.amqp_grammar.specs.Grammar.{ArrayBody, TableBody};
 ghost use Rattle.amqp_grammar.specs.Outcomes.{Outcome, found};
 ghost use Rattle.amqp_types.specs.Inputs.{slice_bytes};
 ghost use Rattle.amqp_in_place.specs.Bodies.{HasValues, HasPairs};
-ghost use Rattle.amqp_in_place.specs.Refs.{Stands};
+ghost use Rattle.amqp_in_place.specs.Refs.{Denotes};
 ghost use Rattle.amqp_in_place.specs.Heads.{IsMeant, Means, RefersTo};
 ghost use Rattle.amqp_in_place.specs.Places.{LiesIn, PairLiesIn};
-ghost use Rattle.amqp_in_place.specs.Answers.{IsLeft};
+ghost use Rattle.amqp_in_place.specs.InPlaceResults.{IsLeft};
 ghost use Rattle.amqp_in_place.specs.Walks.{HasFront, NextValueIs, MoreValues, NextPairIs, MorePairs, NextKeyIs, MoreKeys};
 
 use super::head::{Head, read_head, read_key};
@@ -22,7 +22,7 @@ use std::str;
 #[inline(always)]
 fn value_of<'a>(head: Head<'a>) -> ValueRef<'a>
     requires { ∥ IsMeant head ∥₁ }
-    ensures means { (v : Tree) → Means head.entry v → Stands result v }
+    ensures means { (v : Tree) → Means head.entry v → Denotes result v }
     ensures refers { RefersTo head.entry result }
 {
     match head {
@@ -35,7 +35,7 @@ fn value_of<'a>(head: Head<'a>) -> ValueRef<'a>
 // The value at the start of bytes, where one stands.
 pub(crate) fn front_value<'a>(bytes: &'a [u8]) -> ValueRef<'a>
     requires { ∥ HasFront bytes.now ∥₁ }
-    ensures value { (v : Tree) (rest : List ℕ) → Outcome bytes.now (found v rest) → Stands result v }
+    ensures value { (v : Tree) (rest : List ℕ) → Outcome bytes.now (found v rest) → Denotes result v }
     ensures lies { (rest : List ℕ) × LiesIn bytes.now result rest }
 {
     let Ok((_, head)) = read_head(SliceInput::new(bytes)) else {
@@ -48,7 +48,7 @@ pub(crate) fn front_value<'a>(bytes: &'a [u8]) -> ValueRef<'a>
 #[inline(always)]
 pub(crate) fn next_value<'a>(bytes: SliceInput<'a>) -> Option<(ValueRef<'a>, SliceInput<'a>)>
     requires { ∥ HasValues (slice_bytes bytes) ∥₁ }
-    ensures value { (vs : Trees) → Body (slice_bytes bytes.entry) vs → NextValueIs vs result }
+    ensures value { (vs : Trees) → ArrayBody (slice_bytes bytes.entry) vs → NextValueIs vs result }
     ensures more { MoreValues (length (slice_bytes bytes.entry)) result }
     ensures lies { IfSome result (λ x. LiesIn (slice_bytes bytes.entry) x.0 (slice_bytes x.1)) }
 {
@@ -67,7 +67,7 @@ pub(crate) fn next_pair<'a>(
     bytes: SliceInput<'a>,
 ) -> Option<(&'a str, ValueRef<'a>, SliceInput<'a>)>
     requires { ∥ HasPairs (slice_bytes bytes) ∥₁ }
-    ensures pair { (ps : Entries) → Pairs (slice_bytes bytes.entry) ps → NextPairIs ps result }
+    ensures pair { (ps : Entries) → TableBody (slice_bytes bytes.entry) ps → NextPairIs ps result }
     ensures more { MorePairs (length (slice_bytes bytes.entry)) result }
     ensures lies { IfSome result (λ x. PairLiesIn (slice_bytes bytes.entry) x.0.now x.1 (slice_bytes x.2)) }
 {
@@ -89,7 +89,7 @@ pub(crate) fn next_pair<'a>(
 #[inline(always)]
 pub(crate) fn next_key<'a>(pairs: &'a [u8]) -> Option<(&'a [u8], &'a [u8], &'a [u8])>
     requires { ∥ HasPairs pairs.now ∥₁ }
-    ensures key { (ps : Entries) → Pairs pairs.now ps → NextKeyIs ps result }
+    ensures key { (ps : Entries) → TableBody pairs.now ps → NextKeyIs ps result }
     ensures more { MoreKeys (length pairs.now) result }
     ensures front { IfSome result (λ x. ∥ HasFront x.1.now ∥₁) }
     ensures value { IfSome result (λ x. IsLeft pairs.now x.1.now) }

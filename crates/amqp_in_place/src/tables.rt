@@ -3,9 +3,9 @@
 ghost use Rattle.std.specs.Prelude.{◌≡◌, ◌<◌, ◌↔◌, IsTrue, IfSome, length, MatchResult};
 ghost use Rattle.amqp_grammar.specs.Values.{Entries, no_entries};
 ghost use Rattle.amqp_grammar.specs.Maps.{has_key, value_at};
-ghost use Rattle.amqp_grammar.specs.Grammar.{Pairs};
+ghost use Rattle.amqp_grammar.specs.Grammar.{TableBody};
 ghost use Rattle.amqp_value_core.specs.Containers.{table_view};
-ghost use Rattle.amqp_in_place.specs.Answers.{IsLeft};
+ghost use Rattle.amqp_in_place.specs.InPlaceResults.{IsLeft};
 ghost use Rattle.amqp_in_place.specs.Bodies.{HasPairs, HasEntries};
 ghost use Rattle.amqp_in_place.specs.Refs.{table_body};
 ghost use Rattle.amqp_in_place.specs.Walks.{FoundIs, HasFront, BeginsAt};
@@ -14,7 +14,7 @@ ghost use Rattle.amqp_in_place.specs.Places.{LiesWithin};
 use super::refs::{TableRef, ValueRef};
 use super::steps::{front_value, next_key};
 use amqp_parsing::Err;
-use amqp_parsing::values::parse_pairs;
+use amqp_parsing::values::parse_table_body;
 use amqp_types::ParsableInput;
 use amqp_value_core::types::FieldTable;
 use std::alloc::{AllocError, Global};
@@ -30,7 +30,7 @@ impl<'a> TableRef<'a> {
     /// Whether the table is empty.
     #[tactic(auto, using(crate::proofs::Lookups::no_pairs_at))]
     pub fn is_empty(self) -> bool
-        ensures { (ps : Entries) → Pairs (table_body self.entry) ps → IsTrue result ↔ (ps ≡ no_entries) }
+        ensures { (ps : Entries) → TableBody (table_body self.entry) ps → IsTrue result ↔ (ps ≡ no_entries) }
     {
         self.body().input_len() == 0
     }
@@ -61,7 +61,7 @@ impl<'a> TableRef<'a> {
             (λ _. 0 < length (table_body self.entry)) }
     {
         let body = self.body();
-        match parse_pairs(alloc, body, body.input_len()) {
+        match parse_table_body(alloc, body, body.input_len()) {
             Ok(table) => Ok(table),
             Err(Err::Failure(_)) => Err(AllocError),
             Err(Err::Incomplete(_)) => unreachable!(),

@@ -5,7 +5,7 @@ use Rattle.std.proofs.lemmas.Str.{IsUtf8-from_is_utf8, is_utf8-from_IsUtf8}
 use Rattle.serde_json.specs.Data.{Data, string}
 use Rattle.amqp_types.specs.declared.amqp_type.AMQPType.TheVariants as amqp
 use Rattle.amqp_types.specs.declared.long_string.LongString.{LongString}
-use Rattle.amqp_types.specs.Shown.{long_bytes}
+use Rattle.amqp_types.specs.Contents.{long_bytes}
 use Rattle.amqp_value_core.specs.declared.value.AMQPValue.{the_lemmas}
 use Rattle.amqp_value_core.specs.declared.value.AMQPValue.TheVariants as value
 use Rattle.amqp_value_core.specs.View.{view}

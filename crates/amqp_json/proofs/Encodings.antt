@@ -10,7 +10,7 @@ use Rattle.amqp_parsing.specs.declared.errors.Err.TheVariants.{Incomplete, Error
 use Rattle.amqp_parsing.specs.declared.errors.Needed.TheVariants.{Unknown, Size}
 use Rattle.amqp_parsing.specs.declared.errors.ErrorKind.TheVariants.{MapOpt, MapRes, Eof, OutOfMemory, TooLarge}
 use Rattle.amqp_parsing.specs.Refusals.{Refusal}
-use Rattle.amqp_parsing.specs.Answers.{Refuses}
+use Rattle.amqp_parsing.specs.ParseResults.{Refuses}
 use Rattle.amqp_json.specs.Converts.{IsReadAs}
 
 -- what reading a text results in, whatever follows

@@ -11,7 +11,7 @@ use Rattle.serde_json.specs.declared.value.Value.{Value}
 use Rattle.serde_json.specs.View.{view as document, items_view, members_view}
 use Rattle.serde_json.proofs.Views.{Entry}
 use Rattle.amqp_value_core.specs.declared.value.AMQPValue.{AMQPValue}
-use Rattle.amqp_grammar.specs.Values.{Tree, Trees, no_trees, tree, Entries, no_entries, entry, put}
+use Rattle.amqp_grammar.specs.Values.{Tree, Trees, no_trees, tree, Entries, no_entries, entry, insert}
 use Rattle.amqp_value_core.specs.View.{view}
 use Rattle.amqp_value_core.specs.Containers.{trees}
 use Rattle.amqp_json.specs.Reading.{value_of, values_of, entries_of, with_entry}
@@ -106,12 +106,12 @@ short_key k h = grind (arith)
 -- one more member is read
 pub member_next : (done : List Entry) (e : Entry) (more : List Entry) (es : Entries) (x : Tree) → IsStrictlySortedBy string_cmp (keys_of (done ++ e ∷ more))
     → entries_of (members_view done) ≡ Some es → value_of (document e.1) ≡ Some x → nat_le (length (string_bytes e.0)) 255 ≡ true
-    → entries_of (members_view (done ++ e ∷ [])) ≡ Some (put (string_bytes e.0) x es)
+    → entries_of (members_view (done ++ e ∷ [])) ≡ Some (insert (string_bytes e.0) x es)
 unfolding IsStrictlySortedBy
 member_next [] e more es x rising p q short =
     let k = string_bytes e.0 in
     let none : no_entries ≡ es = cc in
-    ap (λ o. with_entry k o (Some no_entries)) q ∙ with_short k (Some x) (Some no_entries) short ∙ ap (λ fs. Some (put k x fs)) none
+    ap (λ o. with_entry k o (Some no_entries)) q ∙ with_short k (Some x) (Some no_entries) short ∙ ap (λ fs. Some (insert k x fs)) none
 member_next (first ∷ done) e more es x rising p q short =
     let k = string_bytes e.0 in
     let j = string_bytes first.0 in
@@ -119,11 +119,11 @@ member_next (first ∷ done) e more es x rising p q short =
     let above : slice_cmp nat_cmp k j ≡ Greater =
     nat_list_cmp_total.antisymm k j ∙ ap ordering_reverse (of_a_later_key (λ y. string_cmp first.0 y ≡ Less) done e more rising.0) in
     let later = member_next done e more f.rest x rising.1 f.others q short in
-    let behind : put k x (entry j f.first f.rest) ≡ entry j f.first (put k x f.rest) = rw above refl in
+    let behind : insert k x (entry j f.first f.rest) ≡ entry j f.first (insert k x f.rest) = rw above refl in
     ap (λ os. with_entry j (value_of (document first.1)) os) later
-    ∙ ap (λ o. with_entry j o (Some (put k x f.rest))) f.value
-    ∙ with_short j (Some f.first) (Some (put k x f.rest)) f.short
-    ∙ ap Some (sym (ap (put k x) f.whole ∙ behind))
+    ∙ ap (λ o. with_entry j o (Some (insert k x f.rest))) f.value
+    ∙ with_short j (Some f.first) (Some (insert k x f.rest)) f.short
+    ∙ ap Some (sym (ap (insert k x) f.whole ∙ behind))
 
 no_more : (k : List ℕ) (b : Bool) (o : Option Tree) (os : Option Entries) → nat_le (length k) 255 ≡ b → os ≡ None → with_entry k o os ≡ None
 no_more k true None os s e = rw s

@@ -11,7 +11,7 @@ use Rattle.amqp_grammar.specs.Headline.{IsWritableIn}
 use Rattle.amqp_grammar.specs.Texts.{text}
 use Rattle.amqp_types.specs.Inputs.{IsBytes}
 use Rattle.amqp_grammar.specs.Outcomes.{found, length_field}
-use Rattle.amqp_grammar.proofs.GrammarLaws.{front_within, bounded_wire, wire_found_within, text_within, text_again, depth_within, bounds, tells_apart, extent-raw, header_extent_of, bytes_front}
+use Rattle.amqp_grammar.proofs.GrammarLaws.{front_within, bounded_wire, wire_found_within, text_within, text_again, depth_within, bounds, injective, extent-raw, header_extent_of, bytes_front}
 use Rattle.amqp_parsing.specs.declared.limits.Limits.{Limits}
 use Rattle.amqp_parsing.specs.Refusals.{Refusal}
 use Rattle.amqp_parsing.specs.Headers.{extent_of, raw_extent, extent_at, extent}
@@ -39,7 +39,7 @@ pub shortest_within : (d : ℕ) (v : Tree) → IsShortestWithin d v
 shortest_within d v = λ w bytes p. (text_again d w v bytes p, (bounds w v p.0).0)
 
 pub tells_apart_within : (d : ℕ) (v : Tree) → TellsApartWithin d v
-tells_apart_within d v = λ u w x bytes_w bytes_x p q. tells_apart v u w x bytes_w bytes_x p.0 q.0
+tells_apart_within d v = λ u w x bytes_w bytes_x p q. injective v u w x bytes_w bytes_x p.0 q.0
 
 -- what was read within limits is read again within them
 read_again : (l : Limits) (s rest : List ℕ) (v : Tree) → IsBytes s → Within l s (found v rest) → IsReadAgain l v

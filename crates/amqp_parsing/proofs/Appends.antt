@@ -9,7 +9,7 @@ use Rattle.amqp_types.specs.Ids.{kind}
 use Rattle.amqp_grammar.specs.Layouts.{Layout, fixed}
 use Rattle.amqp_grammar.specs.Nesting.{WireWithin, OutcomeWithin}
 use Rattle.amqp_types.specs.Inputs.{IsBytes}
-use Rattle.amqp_grammar.specs.Outcomes.{Reading, found, more, unknown, malformed, length_field, counted, lack, lack_of, frame_lack, LacksOr, FrontBy}
+use Rattle.amqp_grammar.specs.Outcomes.{Reading, found, more, unknown, malformed, length_field, counted, lack, lack_of, frame_lack, NeedsMoreOr, FrontBy}
 use Rattle.amqp_grammar.specs.Readings.{StillWaits, with_more}
 use Rattle.amqp_grammar.specs.Decode.{outcome_by, meaning, outcome}
 use Rattle.amqp_grammar.proofs.GrammarLaws.{outcome_holds, outcome_is, within_holds, one_outcome_within, front_within, wire_found_within, malformed_append, unknown_append}
@@ -18,7 +18,7 @@ use Rattle.amqp_parsing.specs.declared.errors.ErrorKind.{ErrorKind}
 use Rattle.amqp_parsing.specs.declared.errors.ErrorKind.TheVariants.{MapOpt, MapRes, Eof, OutOfMemory, TooLarge}
 use Rattle.amqp_parsing.specs.declared.limits.Limits.{Limits}
 use Rattle.amqp_parsing.specs.Headers.{extent_of, raw_extent, extent_at, extent, wanted}
-use Rattle.amqp_parsing.specs.Answers.{HasOneOutcome}
+use Rattle.amqp_parsing.specs.ParseResults.{HasOneOutcome}
 use Rattle.amqp_parsing.specs.Limits.{Within, RefusesWithin, HasOneOutcomeWithin, KeepsOutcomeWithin}
 use Rattle.amqp_parsing.proofs.Again.{wire_extent}
 use Rattle.amqp_parsing.proofs.Waits.{more_wanted, wanted_more, wanted-append, extent-append}
@@ -70,11 +70,11 @@ malformed_extent : (d : ℕ) (s t : List ℕ) → OutcomeWithin d s malformed �
 malformed_extent d [] t x = absurd cc
 malformed_extent d (c ∷ b) t x = by (kind c) x
   where
-    decided : (type : AMQPType) → (n : ℕ) → lack type b ≡ n → LacksOr n (FrontBy (WireWithin d) (c ∷ b) malformed) malformed → raw_extent type (b ++ t) ≡ raw_extent type b
+    decided : (type : AMQPType) → (n : ℕ) → lack type b ≡ n → NeedsMoreOr n (FrontBy (WireWithin d) (c ∷ b) malformed) malformed → raw_extent type (b ++ t) ≡ raw_extent type b
     decided type (suc n) lacks is = absurd cc
     decided type zero whole none = raw_extent-whole (fixed type) (length_field type) b t whole
 
-    by : (k : Option AMQPType) → MatchOption k (malformed ≡ unknown) (λ type. LacksOr (lack type b) (FrontBy (WireWithin d) (c ∷ b) malformed) malformed)
+    by : (k : Option AMQPType) → MatchOption k (malformed ≡ unknown) (λ type. NeedsMoreOr (lack type b) (FrontBy (WireWithin d) (c ∷ b) malformed) malformed)
         → extent_at k (b ++ t) ≡ extent_at k b
     by None e = refl
     by (Some type) y = ap suc (decided type (lack type b) refl y)
@@ -83,11 +83,11 @@ unknown_extent : (d : ℕ) (s t : List ℕ) → OutcomeWithin d s unknown → ex
 unknown_extent d [] t x = absurd cc
 unknown_extent d (c ∷ b) t x = by (kind c) x
   where
-    decided : (n : ℕ) → LacksOr n (FrontBy (WireWithin d) (c ∷ b) unknown) unknown → ⊥
+    decided : (n : ℕ) → NeedsMoreOr n (FrontBy (WireWithin d) (c ∷ b) unknown) unknown → ⊥
     decided zero f = f
     decided (suc n) e = absurd cc
 
-    by : (k : Option AMQPType) → MatchOption k (unknown ≡ unknown) (λ type. LacksOr (lack type b) (FrontBy (WireWithin d) (c ∷ b) unknown) unknown)
+    by : (k : Option AMQPType) → MatchOption k (unknown ≡ unknown) (λ type. NeedsMoreOr (lack type b) (FrontBy (WireWithin d) (c ∷ b) unknown) unknown)
         → extent_at k (b ++ t) ≡ extent_at k b
     by None e = refl
     by (Some type) y = absurd (decided (lack type b) y)

@@ -2,7 +2,7 @@
 use Rattle.std.proofs.Common.{◌≡◌, ◌<◌, ◌≤◌, ℕ, List, [], ◌∷◌, ◌++◌, length, refl, sym, ap, subst, arith, length-append}
 use Rattle.std.proofs.lemmas.List.{nil_from_length}
 use Rattle.amqp_grammar.specs.Values.{Tree, Trees, no_trees, tree, trees_of}
-use Rattle.amqp_grammar.specs.Grammar.{Wire, wire, Body, no_values, value}
+use Rattle.amqp_grammar.specs.Grammar.{Wire, wire, ArrayBody, no_values, value}
 use Rattle.amqp_grammar.specs.Nesting.{body_nesting, BodyWithin, OutcomeWithin}
 use Rattle.amqp_grammar.specs.Outcomes.{Reading, found, more, unknown, malformed, Heavy}
 use Rattle.amqp_grammar.proofs.GrammarLaws.{one_reading, one_outcome_within, wire_found_within, front_within}
@@ -10,7 +10,7 @@ use Rattle.amqp_parsing.specs.declared.errors.Err.TheVariants.{Incomplete, Error
 use Rattle.amqp_parsing.specs.declared.errors.Needed.TheVariants.{Unknown, Size}
 use Rattle.amqp_parsing.specs.declared.errors.ErrorKind.TheVariants.{MapOpt, MapRes, Eof, OutOfMemory, TooLarge}
 use Rattle.amqp_parsing.specs.Refusals.{Refusal, inside}
-use Rattle.amqp_parsing.specs.Answers.{Refuses}
+use Rattle.amqp_parsing.specs.ParseResults.{Refuses}
 use Rattle.amqp_parsing.specs.Bodies.{IsNoBody}
 
 -- the values of a list, and others after them
@@ -41,7 +41,7 @@ length-wire : (w : List ℕ) (v : Tree) → Wire w v → 0 < length w
 length-wire _ _ (wire c type b v k p) = omega arith
 
 -- a body that isn't empty begins with a value
-body_found : (d : ℕ) (s : List ℕ) (vs : Trees) (p : Body s vs) → body_nesting s vs p ≤ d → 0 < length s → (v : Tree) × (rest : List ℕ) × OutcomeWithin d s (found v rest)
+body_found : (d : ℕ) (s : List ℕ) (vs : Trees) (p : ArrayBody s vs) → body_nesting s vs p ≤ d → 0 < length s → (v : Tree) × (rest : List ℕ) × OutcomeWithin d s (found v rest)
 body_found d _ _ no_values within h = absurd (omega arith)
 body_found d _ _ (value w left v vs p all) within h = (v, left, wire_found_within d w left v p (omega arith))
 
@@ -52,7 +52,7 @@ no_body d s vs o x other h p =
     other f.0 f.1 (one_outcome_within d s o (found f.0 f.1) x f.2)
 
 -- after the first value of a body stands a body
-body_behind : (d : ℕ) (s w rest : List ℕ) (v : Tree) (vs : Trees) → s ≡ w ++ rest → Wire w v → (q : Body s vs) → body_nesting s vs q ≤ d → (more : Trees) × BodyWithin d rest more
+body_behind : (d : ℕ) (s w rest : List ℕ) (v : Tree) (vs : Trees) → s ≡ w ++ rest → Wire w v → (q : ArrayBody s vs) → body_nesting s vs q ≤ d → (more : Trees) × BodyWithin d rest more
 body_behind d _ w rest v _ e p no_values within = let h = length-wire w v p in absurd (omega (arith, ap length e, length-append w rest))
 body_behind d _ w rest v _ e p (value u left z vs q all) within =
     let same = one_reading u w left rest z v q p e in

@@ -2,7 +2,7 @@
 use Rattle.std.proofs.Common.{◌≡◌, ℕ, Bool, true, false, if◌then◌else◌, nat_lt, refl, ◌≤◌, List, ◌++◌, length, take, ap, sym, ◌∙◌, arith}
 use Rattle.std.proofs.lemmas.Bool.{ltb-false}
 use Rattle.std.proofs.lemmas.List.{append-nil, nil_from_length, length-append, length-take}
-use Rattle.amqp_types.specs.Fronts.{IsFront}
+use Rattle.amqp_types.specs.Prefix.{IsFront}
 
 -- a prefix with as many bytes as there are is all of them
 pub whole_front : (a s : List ℕ) → IsFront a s → length a ≡ length s → a ≡ s

@@ -6,7 +6,7 @@ use Rattle.std.proofs.lemmas.Bool.{le-ltb}
 use Rattle.std.proofs.lemmas.List.{length-take-le}
 use Rattle.amqp_types.specs.declared.amqp_type.AMQPType.{AMQPType}
 use Rattle.amqp_types.specs.declared.amqp_type.AMQPType.TheVariants as amqp
-use Rattle.amqp_grammar.specs.Values.{Tree, Trees, Entries, no_entries, onto, short, long, octets, array, table}
+use Rattle.amqp_grammar.specs.Values.{Tree, Trees, Entries, no_entries, insert_all, short, long, octets, array, table}
 use Rattle.amqp_grammar.specs.Layouts.{fixed}
 use Rattle.amqp_types.specs.Strings.{IsShort}
 use Rattle.amqp_grammar.specs.Grammar.{short_field, long_field, Raw, raw_short, raw_long, raw_octets, raw_array, raw_table}
@@ -15,15 +15,15 @@ use Rattle.amqp_grammar.specs.Outcomes.{Reading, found, more, unknown, malformed
 use Rattle.amqp_grammar.specs.Payloads.{RawFront, RawOutcome}
 use Rattle.amqp_grammar.proofs.GrammarLaws.{array_body_within, table_body_within, raw_found_within, raw_whole_within, short_bytes, counted-long_field, lack_of-long_field, raw_found, raw_whole}
 use Rattle.amqp_parsing.specs.Refusals.{Refusal}
-use Rattle.amqp_parsing.specs.Answers.{Refuses}
-use Rattle.amqp_parsing.specs.Bodies.{IsFrame, IsNoBody, IsTable, IsNoTable}
-use Rattle.amqp_parsing.specs.Typed.{IsNumberRead}
+use Rattle.amqp_parsing.specs.ParseResults.{Refuses}
+use Rattle.amqp_parsing.specs.Bodies.{IsLengthPrefixed, IsNoBody, IsTable, IsNoTable}
+use Rattle.amqp_parsing.specs.PayloadResults.{IsNumberRead}
 use Rattle.amqp_parsing.proofs.Refused.{Refuses-weaker}
 
 -- ---- a length in four bytes
 
 -- s is a payload of the type, and `rest` after it: `body` after its length
-module _ (type : AMQPType) (s body rest : List ℕ) (row : fixed type ≡ None) (field : length_field type ≡ w32) (f : IsFrame s body rest) where
+module _ (type : AMQPType) (s body rest : List ℕ) (row : fixed type ≡ None) (field : length_field type ≡ w32) (f : IsLengthPrefixed s body rest) where
   -- the length-prefixed field is whole
   frame_whole : lack type s ≡ 0
   frame_whole =
@@ -59,7 +59,7 @@ module _ (type : AMQPType) (s body rest : List ℕ) (row : fixed type ≡ None) 
   pub frame_malformed : (d : ℕ) → FrontBy (RawWithin d type) s malformed → RawOutcomeWithin d type s malformed
   frame_malformed d none = raw_whole_within d type s malformed frame_whole none
 
-module _ (s body rest : List ℕ) (f : IsFrame s body rest) where
+module _ (s body rest : List ℕ) (f : IsLengthPrefixed s body rest) where
   -- a long string and a byte array are read
   pub long_found : RawOutcome amqp.LongString s (found (long body) rest)
   long_found = frame_found amqp.LongString s body rest refl refl f (long body) (raw_long body f.fits)
@@ -68,7 +68,7 @@ module _ (s body rest : List ℕ) (f : IsFrame s body rest) where
   octets_found = frame_found amqp.ByteArray s body rest refl refl f (octets body) (raw_octets body f.fits)
 
 -- containers, where they nest at most d deep
-module _ (d : ℕ) (s body rest : List ℕ) (f : IsFrame s body rest) where
+module _ (d : ℕ) (s body rest : List ℕ) (f : IsLengthPrefixed s body rest) where
   -- an array is read where the body is values that nest one less
   pub array_found : (vs : Trees) → 0 < d → BodyWithin (d - 1) body vs → RawOutcomeWithin d amqp.FieldArray s (found (array vs) rest)
   array_found vs some p = frame_found_within amqp.FieldArray s body rest refl refl f d (array vs) (raw_array body vs f.fits p.0, omega (arith, p.1))
@@ -94,7 +94,7 @@ module _ (d : ℕ) (s body rest : List ℕ) (f : IsFrame s body rest) where
   pub table_found : (es : Entries) → 0 < d → IsTable (d - 1) body es → RawOutcomeWithin d amqp.FieldTable s (found (table es) rest)
   table_found es some p =
       subst (λ (t : Entries). RawOutcomeWithin d amqp.FieldTable s (found (table t) rest)) (sym p.2)
-      (frame_found_within amqp.FieldTable s body rest refl refl f d (table (onto no_entries p.0)) (raw_table body p.0 f.fits p.1.0, omega (arith, p.1.1)))
+      (frame_found_within amqp.FieldTable s body rest refl refl f d (table (insert_all no_entries p.0)) (raw_table body p.0 f.fits p.1.0, omega (arith, p.1.1)))
 
   -- where the body isn't one, no prefix is a table
   no_table : (o : Reading) → IsNoTable (d - 1) body o → FrontBy (RawWithin d amqp.FieldTable) s o

@@ -1,11 +1,11 @@
 -- Pairs that are gathered.
 use Rattle.std.proofs.Common.{◌≡◌, ℕ, List, [], ◌∷◌, ◌++◌, refl}
 use Rattle.amqp_value_core.specs.declared.value.AMQPValue.{AMQPValue}
-use Rattle.amqp_grammar.specs.Values.{Entries, put, onto}
+use Rattle.amqp_grammar.specs.Values.{Entries, insert, insert_all}
 use Rattle.amqp_value_core.specs.View.{view}
 use Rattle.amqp_value_core.specs.Containers.{entries}
 
 -- one pair more is put onto what the others come to
-pub one_more : (ps : List (List ℕ × AMQPValue)) (es : Entries) (k : List ℕ) (v : AMQPValue) → onto es (entries (ps ++ (k, v) ∷ [])) ≡ put k (view v) (onto es (entries ps))
+pub one_more : (ps : List (List ℕ × AMQPValue)) (es : Entries) (k : List ℕ) (v : AMQPValue) → insert_all es (entries (ps ++ (k, v) ∷ [])) ≡ insert k (view v) (insert_all es (entries ps))
 one_more [] es k v = refl
-one_more (p ∷ ps) es k v = one_more ps (put p.0 (view p.1) es) k v
+one_more (p ∷ ps) es k v = one_more ps (insert p.0 (view p.1) es) k v

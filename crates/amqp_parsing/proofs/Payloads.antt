@@ -8,10 +8,10 @@ use Rattle.amqp_types.specs.declared.amqp_type.AMQPType.TheVariants as amqp
 use Rattle.amqp_grammar.specs.Values.{Tree, Scalar, boolean, number, decimal, void, scalar}
 use Rattle.amqp_grammar.specs.Layouts.{Layout, fixed, truth, whole_number}
 use Rattle.amqp_grammar.specs.Grammar.{Raw, raw_fixed}
-use Rattle.amqp_grammar.specs.Outcomes.{Reading, found, more, unknown, malformed, lack, LacksOr}
+use Rattle.amqp_grammar.specs.Outcomes.{Reading, found, more, unknown, malformed, lack, NeedsMoreOr}
 use Rattle.amqp_grammar.specs.Payloads.{RawFront, RawOutcome}
 use Rattle.amqp_grammar.proofs.GrammarLaws.{raw_found}
-use Rattle.amqp_parsing.specs.Typed.{IsNumberRead}
+use Rattle.amqp_parsing.specs.PayloadResults.{IsNumberRead}
 
 -- a payload of fixed width at the start is read
 pub fixed_found : (type : AMQPType) (f : Layout) (s b rest : List ℕ) → fixed type ≡ Some f → length b ≡ f.width → s ≡ b ++ rest
@@ -93,7 +93,7 @@ module _ (s : List ℕ) where
   pub unsigned_outcome : (o : Reading) → RawOutcome amqp.LongLongInt s o → RawOutcome amqp.LongLongUInt s o
   unsigned_outcome o x = by (lack amqp.LongLongInt s) x
     where
-      by : (n : ℕ) → LacksOr n (RawFront amqp.LongLongInt s o) o → LacksOr n (RawFront amqp.LongLongUInt s o) o
+      by : (n : ℕ) → NeedsMoreOr n (RawFront amqp.LongLongInt s o) o → NeedsMoreOr n (RawFront amqp.LongLongUInt s o) o
       by zero f = unsigned_front o f
       by (suc n) e = e
       -- and so is its error

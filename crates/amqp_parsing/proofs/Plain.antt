@@ -12,8 +12,8 @@ use Rattle.amqp_grammar.specs.Payloads.{RawOutcome}
 use Rattle.amqp_grammar.proofs.GrammarLaws.{raw_outcome_same, raw_unlimited}
 use Rattle.amqp_parsing.specs.declared.errors.ErrorKind.TheVariants.{Eof}
 use Rattle.amqp_parsing.specs.Refusals.{Refusal}
-use Rattle.amqp_parsing.specs.Answers.{Refuses}
-use Rattle.amqp_parsing.specs.Typed.{OnlyLacks, bad_kind, RawRefuses}
+use Rattle.amqp_parsing.specs.ParseResults.{Refuses}
+use Rattle.amqp_parsing.specs.PayloadResults.{OnlyLacks, bad_kind, RawRefuses}
 use Rattle.amqp_parsing.proofs.Payloads.{unsigned_outcome}
 use Rattle.amqp_parsing.proofs.Refused.{Refuses-weaker, OnlyLacks-refuses, raw_refused}
 

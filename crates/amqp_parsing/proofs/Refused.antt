@@ -1,15 +1,15 @@
 -- Refusals: what is right of a part is right of the whole.
 use Rattle.std.proofs.Common.{◌≡◌, ℕ, zero, suc, List, sym}
 use Rattle.amqp_types.specs.declared.amqp_type.AMQPType.{AMQPType}
-use Rattle.amqp_grammar.specs.Outcomes.{Reading, more, unknown, malformed, lack, LacksOr, RawHeavy}
+use Rattle.amqp_grammar.specs.Outcomes.{Reading, more, unknown, malformed, lack, NeedsMoreOr, RawHeavy}
 use Rattle.amqp_grammar.specs.Payloads.{RawFront, RawOutcome}
 use Rattle.amqp_parsing.specs.declared.errors.Err.TheVariants.{Incomplete, Error, Failure}
 use Rattle.amqp_parsing.specs.declared.errors.Needed.TheVariants.{Unknown, Size}
 use Rattle.amqp_parsing.specs.declared.errors.ErrorKind.{ErrorKind}
 use Rattle.amqp_parsing.specs.declared.errors.ErrorKind.TheVariants.{MapOpt, MapRes, Eof, OutOfMemory, TooLarge}
 use Rattle.amqp_parsing.specs.Refusals.{Refusal}
-use Rattle.amqp_parsing.specs.Answers.{RightKind, Refuses}
-use Rattle.amqp_parsing.specs.Typed.{OnlyLacks, bad_kind, RawRefuses}
+use Rattle.amqp_parsing.specs.ParseResults.{RightKind, Refuses}
+use Rattle.amqp_parsing.specs.PayloadResults.{OnlyLacks, bad_kind, RawRefuses}
 
 -- a kind stays right where what is read stays right
 RightKind-weaker : (Is Now : Reading → Type 0) (k : ErrorKind) → ((o : Reading) → Is o → Now o) → RightKind Is k → RightKind Now k
@@ -31,7 +31,7 @@ Refuses-weaker Is Now heavy now (Failure k) f h x = (x.0, h x.1)
 no_unknown : (type : AMQPType) (s : List ℕ) → RawOutcome type s unknown → ⊥
 no_unknown type s x = by (lack type s) x
   where
-    by : (n : ℕ) → LacksOr n (RawFront type s unknown) unknown → ⊥
+    by : (n : ℕ) → NeedsMoreOr n (RawFront type s unknown) unknown → ⊥
     by zero f = f
     by (suc n) e = absurd cc
 

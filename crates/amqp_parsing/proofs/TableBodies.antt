@@ -2,26 +2,26 @@
 use Rattle.std.proofs.Common.{◌≡◌, ◌<◌, ◌≤◌, ℕ, zero, suc, List, ◌++◌, length, refl, sym, ◌∙◌, ap, subst, arith, length-append}
 use Rattle.std.proofs.lemmas.List.{nil_from_length}
 use Rattle.amqp_types.specs.declared.amqp_type.AMQPType.TheVariants as amqp
-use Rattle.amqp_grammar.specs.Values.{Tree, short, Entries, no_entries, entry, put, onto}
+use Rattle.amqp_grammar.specs.Values.{Tree, short, Entries, no_entries, entry, insert, insert_all}
 use Rattle.amqp_types.specs.Strings.{IsShort}
-use Rattle.amqp_grammar.specs.Grammar.{short_field, Wire, Raw, raw_short, Pairs, no_pairs, pair}
+use Rattle.amqp_grammar.specs.Grammar.{short_field, Wire, Raw, raw_short, TableBody, no_pairs, pair}
 use Rattle.amqp_grammar.specs.Nesting.{pairs_nesting, PairsWithin, OutcomeWithin}
-use Rattle.amqp_grammar.specs.Outcomes.{Reading, found, more, unknown, malformed, lack, LacksOr, Heavy}
+use Rattle.amqp_grammar.specs.Outcomes.{Reading, found, more, unknown, malformed, lack, NeedsMoreOr, Heavy}
 use Rattle.amqp_grammar.specs.Payloads.{RawFront, RawOutcome}
 use Rattle.amqp_grammar.proofs.GrammarLaws.{one_reading, one_raw_reading, one_outcome_within, one_raw_outcome, raw_found, wire_found_within, front_within}
 use Rattle.amqp_parsing.specs.declared.errors.Err.TheVariants.{Incomplete, Error, Failure}
 use Rattle.amqp_parsing.specs.declared.errors.Needed.TheVariants.{Unknown, Size}
 use Rattle.amqp_parsing.specs.declared.errors.ErrorKind.TheVariants.{MapOpt, MapRes, Eof, OutOfMemory, TooLarge}
 use Rattle.amqp_parsing.specs.Refusals.{Refusal, inside}
-use Rattle.amqp_parsing.specs.Answers.{Refuses}
-use Rattle.amqp_parsing.specs.Typed.{RawRefuses}
+use Rattle.amqp_parsing.specs.ParseResults.{Refuses}
+use Rattle.amqp_parsing.specs.PayloadResults.{RawRefuses}
 use Rattle.amqp_parsing.specs.Bodies.{IsTable, IsNoTable}
 use Rattle.amqp_parsing.proofs.Bodies.{rest_shorter}
 
 -- es are the entries of what was read of the body s, and `rest` is left
 pub record Walks (d : ℕ) (s : List ℕ) (es : Entries) (rest : List ℕ) : Type 0 where
   -- the pairs of what is left, put onto those entries, are what the pairs of the body come to
-  pub whole : (ps : Entries) → PairsWithin d rest ps → (qs : Entries) × PairsWithin d s qs × (onto es ps ≡ onto no_entries qs)
+  pub whole : (ps : Entries) → PairsWithin d rest ps → (qs : Entries) × PairsWithin d s qs × (insert_all es ps ≡ insert_all no_entries qs)
   -- what is left has pairs if the body has
   pub only : (qs : Entries) → PairsWithin d s qs → (ps : Entries) × PairsWithin d rest ps
   pub shorter : length rest ≤ length s
@@ -36,7 +36,7 @@ key_front s k rest x =
     let key = key_of f.0 k f.1 in
     (f.2 ∙ ap (λ (b : List ℕ). b ++ rest) key.0, key.1)
   where
-    by : (n : ℕ) → LacksOr n (RawFront amqp.ShortString s (found (short k) rest)) (found (short k) rest)
+    by : (n : ℕ) → NeedsMoreOr n (RawFront amqp.ShortString s (found (short k) rest)) (found (short k) rest)
         → RawFront amqp.ShortString s (found (short k) rest)
     by zero f = f
     by (suc n) e = absurd cc
@@ -54,7 +54,7 @@ one_key k j x y p q e =
 
 -- pairs that aren't empty begin with a key that is read
 no_key : (s : List ℕ) (ps : Entries) (o : Reading) → RawOutcome amqp.ShortString s o → ((v : Tree) (rest : List ℕ) → o ≡ found v rest → ⊥)
-    → 0 < length s → Pairs s ps → ⊥
+    → 0 < length s → TableBody s ps → ⊥
 no_key _ _ o x other h no_pairs = absurd (omega arith)
 no_key _ _ o x other h (pair k w left v ps is p all) =
     other (short k) (w ++ left)
@@ -63,14 +63,14 @@ no_key _ _ o x other h (pair k w left v ps is p all) =
 
 -- and after it a value that is read
 no_value : (d : ℕ) (s k behind : List ℕ) (ps : Entries) (o : Reading) → IsShort k → s ≡ short_field k ++ behind → OutcomeWithin d behind o
-    → ((v : Tree) (rest : List ℕ) → o ≡ found v rest → ⊥) → (q : Pairs s ps) → pairs_nesting s ps q ≤ d → ⊥
+    → ((v : Tree) (rest : List ℕ) → o ≡ found v rest → ⊥) → (q : TableBody s ps) → pairs_nesting s ps q ≤ d → ⊥
 no_value d _ k behind _ o is e x other no_pairs within = absurd cc
 no_value d _ k behind _ o is e x other (pair j w left v ps at p all) within =
     let rest : behind ≡ w ++ left = one_key k j behind (w ++ left) is at (sym e) in
     other v left (one_outcome_within d behind o (found v left) x (subst (λ (t : List ℕ). OutcomeWithin d t (found v left)) (sym rest) (wire_found_within d w left v p (omega arith))))
 
 -- after the first pair stand pairs
-pairs_behind : (d : ℕ) (s k w rest : List ℕ) (v : Tree) (ps : Entries) → IsShort k → Wire w v → s ≡ short_field k ++ (w ++ rest) → (q : Pairs s ps) → pairs_nesting s ps q ≤ d
+pairs_behind : (d : ℕ) (s k w rest : List ℕ) (v : Tree) (ps : Entries) → IsShort k → Wire w v → s ≡ short_field k ++ (w ++ rest) → (q : TableBody s ps) → pairs_nesting s ps q ≤ d
     → (qs : Entries) × PairsWithin d rest qs
 pairs_behind d _ k w rest v _ is p e no_pairs within = absurd cc
 pairs_behind d _ k w rest v _ is p e (pair j u left z ps at q all) within =
@@ -84,7 +84,7 @@ Walks-start d s = record { whole = λ ps p. (ps, p, refl); only = λ qs p. (qs, 
 
 -- after one pair more
 pub Walks-step : (d : ℕ) (s : List ℕ) (es : Entries) (left k behind : List ℕ) (v : Tree) (rest : List ℕ) → Walks d s es left
-    → RawOutcome amqp.ShortString left (found (short k) behind) → OutcomeWithin d behind (found v rest) → Walks d s (put k v es) rest
+    → RawOutcome amqp.ShortString left (found (short k) behind) → OutcomeWithin d behind (found v rest) → Walks d s (insert k v es) rest
 Walks-step d s es left k behind v rest g x y =
     let key = key_front left k behind x in
     let f = front_within d behind rest v y in

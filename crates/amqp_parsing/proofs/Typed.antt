@@ -11,8 +11,8 @@ use Rattle.amqp_grammar.specs.Headline.{IsWritableIn}
 use Rattle.amqp_grammar.proofs.GrammarLaws.{raw_to_value_within, raw_to_heavy, bounded_found, unlimited}
 use Rattle.amqp_parsing.specs.declared.errors.ErrorKind.TheVariants.{Eof}
 use Rattle.amqp_parsing.specs.Refusals.{Refusal}
-use Rattle.amqp_parsing.specs.Typed.{IsType, bad_kind}
-use Rattle.amqp_parsing.specs.Answers.{Refuses}
+use Rattle.amqp_parsing.specs.PayloadResults.{IsType, bad_kind}
+use Rattle.amqp_parsing.specs.ParseResults.{Refuses}
 use Rattle.amqp_parsing.proofs.Refused.{Refuses-weaker}
 
 -- none of the types that are read is a short string

@@ -11,7 +11,7 @@ use Rattle.amqp_types.specs.Ids.{kind}
 use Rattle.amqp_grammar.specs.Layouts.{Layout, fixed}
 use Rattle.amqp_grammar.specs.Grammar.{Wire}
 use Rattle.amqp_grammar.specs.Nesting.{OutcomeWithin}
-use Rattle.amqp_grammar.specs.Outcomes.{found, more, unknown, length_field, counted, frame_lack, fields_lack, lack_of, lack, LacksOr, FrontBy, OutcomeBy, Outcome}
+use Rattle.amqp_grammar.specs.Outcomes.{found, more, unknown, length_field, counted, frame_lack, fields_lack, lack_of, lack, NeedsMoreOr, FrontBy, OutcomeBy, Outcome}
 use Rattle.amqp_grammar.specs.Readings.{Front}
 use Rattle.amqp_grammar.proofs.GrammarLaws.{more_bytes, wire_found, front_within}
 use Rattle.amqp_parsing.specs.Headers.{extent_of, extent_at, extent, wanted_at, wanted, IsWaiting}
@@ -24,12 +24,12 @@ pub more_wanted : (P : List ℕ → Tree → Type 0) (s : List ℕ) → 0 < want
 more_wanted P [] h = refl
 more_wanted P (c ∷ b) h = by (kind c) h
   where
-    at : (n : ℕ) (Q : Type 0) → 0 < n → LacksOr n Q (more n)
+    at : (n : ℕ) (Q : Type 0) → 0 < n → NeedsMoreOr n Q (more n)
     at zero Q lt = absurd (omega arith)
     at (suc n) Q lt = refl
 
     by : (k : Option AMQPType) → 0 < wanted_at k b
-        → MatchOption k (more (wanted_at k b) ≡ unknown) (λ type. LacksOr (lack type b) (FrontBy P (c ∷ b) (more (wanted_at k b))) (more (wanted_at k b)))
+        → MatchOption k (more (wanted_at k b) ≡ unknown) (λ type. NeedsMoreOr (lack type b) (FrontBy P (c ∷ b) (more (wanted_at k b))) (more (wanted_at k b)))
     by None lt = absurd (omega arith)
     by (Some type) lt = at (lack type b) _ lt
 
@@ -38,11 +38,11 @@ pub wanted_more : (P : List ℕ → Tree → Type 0) (s : List ℕ) (n : ℕ) �
 wanted_more P [] n x = cc
 wanted_more P (c ∷ b) n x = by (kind c) x
   where
-    at : (m : ℕ) → LacksOr m (FrontBy P (c ∷ b) (more n)) (more n) → m ≡ n
+    at : (m : ℕ) → NeedsMoreOr m (FrontBy P (c ∷ b) (more n)) (more n) → m ≡ n
     at zero none = absurd none
     at (suc m) is = cc
 
-    by : (k : Option AMQPType) → MatchOption k (more n ≡ unknown) (λ type. LacksOr (lack type b) (FrontBy P (c ∷ b) (more n)) (more n))
+    by : (k : Option AMQPType) → MatchOption k (more n ≡ unknown) (λ type. NeedsMoreOr (lack type b) (FrontBy P (c ∷ b) (more n)) (more n))
         → wanted_at k b ≡ n
     by None is = absurd cc
     by (Some type) y = at (lack type b) y
@@ -52,11 +52,11 @@ pub wanted_found : (s : List ℕ) (v : Tree) (rest : List ℕ) → Outcome s (fo
 wanted_found [] v rest x = absurd cc
 wanted_found (c ∷ b) v rest x = by (kind c) x
   where
-    at : (m : ℕ) → LacksOr m (Front (c ∷ b) (found v rest)) (found v rest) → m ≡ 0
+    at : (m : ℕ) → NeedsMoreOr m (Front (c ∷ b) (found v rest)) (found v rest) → m ≡ 0
     at zero front = refl
     at (suc m) is = absurd cc
 
-    by : (k : Option AMQPType) → MatchOption k (found v rest ≡ unknown) (λ type. LacksOr (lack type b) (Front (c ∷ b) (found v rest)) (found v rest))
+    by : (k : Option AMQPType) → MatchOption k (found v rest ≡ unknown) (λ type. NeedsMoreOr (lack type b) (Front (c ∷ b) (found v rest)) (found v rest))
         → wanted_at k b ≡ 0
     by None is = refl
     by (Some type) y = at (lack type b) y

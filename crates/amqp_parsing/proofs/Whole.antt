@@ -4,7 +4,7 @@ use Rattle.std.specs.Prelude.{MatchOption}
 use Rattle.amqp_types.specs.declared.amqp_type.AMQPType.{AMQPType}
 use Rattle.amqp_types.specs.Ids.{kind}
 use Rattle.amqp_grammar.specs.Values.{Tree}
-use Rattle.amqp_grammar.specs.Outcomes.{found, unknown, lack, LacksOr, FrontBy, OutcomeBy, RawHeavy, Heavy}
+use Rattle.amqp_grammar.specs.Outcomes.{found, unknown, lack, NeedsMoreOr, FrontBy, OutcomeBy, RawHeavy, Heavy}
 use Rattle.amqp_grammar.specs.Nesting.{WireWithin}
 use Rattle.amqp_parsing.specs.declared.errors.Err.TheVariants.{Failure}
 use Rattle.amqp_parsing.specs.declared.errors.ErrorKind.{ErrorKind}
@@ -17,11 +17,11 @@ pub found_whole : (P : List ℕ → Tree → Type 0) (s rest : List ℕ) (v : Tr
 found_whole P [] rest v x = absurd cc
 found_whole P (c ∷ b) rest v x = by (kind c) x
   where
-    decided : (n : ℕ) → LacksOr n (FrontBy P (c ∷ b) (found v rest)) (found v rest) → n ≡ 0
+    decided : (n : ℕ) → NeedsMoreOr n (FrontBy P (c ∷ b) (found v rest)) (found v rest) → n ≡ 0
     decided zero front = refl
     decided (suc n) e = absurd cc
 
-    by : (k : Option AMQPType) → MatchOption k (found v rest ≡ unknown) (λ type. LacksOr (lack type b) (FrontBy P (c ∷ b) (found v rest)) (found v rest))
+    by : (k : Option AMQPType) → MatchOption k (found v rest ≡ unknown) (λ type. NeedsMoreOr (lack type b) (FrontBy P (c ∷ b) (found v rest)) (found v rest))
         → (wanted_at k b ≡ 0) × (0 < extent_at k b)
     by None e = absurd cc
     by (Some type) y = (decided (lack type b) y, omega arith)

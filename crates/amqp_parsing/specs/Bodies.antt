@@ -1,20 +1,20 @@
 -- What reading a container returns on its way: a length-prefixed field, and its body's entries.
 use Rattle.std.specs.Prelude.{ℕ, ◌<◌, ◌^◌, ◌≡◌, List, ◌++◌, length}
 use Rattle.std.specs.Int.{w32}
-use Rattle.amqp_grammar.specs.Values.{Trees, Entries, no_entries, onto}
+use Rattle.amqp_grammar.specs.Values.{Trees, Entries, no_entries, insert_all}
 use Rattle.amqp_grammar.specs.Grammar.{long_field}
 use Rattle.amqp_grammar.specs.Nesting.{BodyWithin, PairsWithin}
 use Rattle.amqp_grammar.specs.Outcomes.{Reading, more, malformed, frame_lack}
 
 -- bytes after their length in four bytes are read from s, and `rest` is left
-pub record IsFrame (s body rest : List ℕ) : Type 0 where
+pub record IsLengthPrefixed (s body rest : List ℕ) : Type 0 where
   pub framed : s ≡ long_field body ++ rest
   pub fits : length body < 2 ^ 32
 
 -- the length-prefixed field isn't all there, and that many more bytes are needed: of its length, or
 -- of what that counts
-abbrev pub IsCutFrame : List ℕ → Reading → Type 0
-IsCutFrame s o = (0 < frame_lack w32 s) × (o ≡ more (frame_lack w32 s))
+abbrev pub IsCutLengthPrefixed : List ℕ → Reading → Type 0
+IsCutLengthPrefixed s o = (0 < frame_lack w32 s) × (o ≡ more (frame_lack w32 s))
 
 -- the bytes are no values one after another, with containers at most `depth` deep in each
 abbrev pub IsNoBody : ℕ → List ℕ → Reading → Type 0
@@ -24,7 +24,7 @@ IsNoBody depth s _ = ⊥
 -- the bytes are pairs one after another, and the entries are what they come to: of equal keys the
 -- last pair's value stays
 abbrev pub IsTable : ℕ → List ℕ → Entries → Type 0
-IsTable depth s es = (ps : Entries) × PairsWithin depth s ps × (es ≡ onto no_entries ps)
+IsTable depth s es = (ps : Entries) × PairsWithin depth s ps × (es ≡ insert_all no_entries ps)
 
 -- the bytes are no pairs one after another
 abbrev pub IsNoTable : ℕ → List ℕ → Reading → Type 0

@@ -1,9 +1,9 @@
 -- the errors of parsers
 pub mod Refusals
 -- what `parse_value` answers: the headline's words on reading
-pub mod Answers
+pub mod ParseResults
 -- what the parsers of one type answer
-pub mod Typed
+pub mod PayloadResults
 -- what those of types of fixed width answer
 pub mod Scalars
 -- what the steps of reading a container answer

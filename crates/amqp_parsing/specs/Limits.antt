@@ -14,7 +14,7 @@ use Rattle.amqp_parsing.specs.declared.header.Header.{Header}
 use Rattle.amqp_parsing.specs.declared.header.Header.TheVariants as header
 use Rattle.amqp_parsing.specs.declared.limits.Limits.{Limits}
 use Rattle.amqp_parsing.specs.Refusals.{Refusal}
-use Rattle.amqp_parsing.specs.Answers.{Refuses}
+use Rattle.amqp_parsing.specs.ParseResults.{Refuses}
 use Rattle.amqp_parsing.specs.Headers.{extent, wanted, IsWhole}
 
 -- reading s within limits results in o: the value has no more bytes than the limit `frame` allows,

@@ -6,8 +6,8 @@ use Rattle.amqp_grammar.specs.Values.{Scalar, scalar, number}
 use Rattle.amqp_grammar.specs.Payloads.{RawOutcome}
 use Rattle.amqp_grammar.specs.Outcomes.{found}
 use Rattle.amqp_parsing.specs.Refusals.{Refusal}
-use Rattle.amqp_parsing.specs.Answers.{Refuses}
-use Rattle.amqp_parsing.specs.Typed.{OnlyLacks, IsNumberRead, IsCut}
+use Rattle.amqp_parsing.specs.ParseResults.{Refuses}
+use Rattle.amqp_parsing.specs.PayloadResults.{OnlyLacks, IsNumberRead, IsCut}
 
 -- the answer is the unsigned number of the first bytes, big-endian, and what is left after them; or
 -- more bytes are needed, and it says how many

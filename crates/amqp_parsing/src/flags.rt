@@ -1,7 +1,7 @@
 //! The parser of flags.
 
 ghost use Rattle.std.specs.Prelude.{MatchResult, map, length};
-ghost use Rattle.amqp_parsing.specs.Answers.{Refuses};
+ghost use Rattle.amqp_parsing.specs.ParseResults.{Refuses};
 ghost use Rattle.amqp_flags.specs.Flags.{flags_of, AreFlagsRead, AreFlagsCut, AreFlagsHeavy};
 
 use super::errors::{ParserResult, lacks};

@@ -23,6 +23,6 @@ pub use scalars::{
     parse_long_long_int, parse_long_long_uint, parse_long_uint, parse_short_int,
     parse_short_short_int, parse_short_short_uint, parse_short_uint, parse_timestamp, parse_type,
 };
-pub use strings::{parse_byte_array, parse_frame, parse_long_string, parse_short_string};
+pub use strings::{parse_byte_array, parse_length_prefixed, parse_long_string, parse_short_string};
 pub use values::{parse_field_array, parse_field_table, parse_raw_value, parse_value};
 pub use within::parse_value_within;

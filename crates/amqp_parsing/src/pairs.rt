@@ -1,7 +1,7 @@
 //! Building a table of pairs: few are inserted one by one, many are collected first.
 
 ghost use Rattle.std.specs.Prelude.{◌≡◌, ◌≤◌, IfOk, OnOk, length};
-ghost use Rattle.amqp_grammar.specs.Values.{no_entries, put};
+ghost use Rattle.amqp_grammar.specs.Values.{no_entries, insert};
 ghost use Rattle.amqp_value_core.specs.View.{view};
 ghost use Rattle.amqp_value_core.specs.Containers.{table_view};
 ghost use Rattle.amqp_parsing.specs.Gathering.{kept};
@@ -21,35 +21,35 @@ const LEAST_PAIRS: usize = 512;
 
 // The pairs of a body that have been read so far.
 #[derive(Drop)]
-pub(crate) enum PairsSoFar {
-    // few, each put into the table as it was read
+pub(crate) enum TableBuilder {
+    // few, each insert into the table as it was read
     Few(FieldTable),
     // many, gathered in the order in which they were read
     Many(Vec<(ShortString, AMQPValue)>),
 }
 
-impl PairsSoFar {
+impl TableBuilder {
     // No pairs yet of the body. Doesn't allocate.
     #[inline(always)]
-    pub(crate) fn none_of<I: ParsableInput>(alloc: Global, body: I) -> Self
+    pub(crate) fn new<I: ParsableInput>(alloc: Global, body: I) -> Self
         ensures { kept result ≡ no_entries }
     {
         if may_have_many(body) {
-            PairsSoFar::Many(Vec::new(alloc))
+            TableBuilder::Many(Vec::new(alloc))
         } else {
-            PairsSoFar::Few(FieldTable::new_in(alloc))
+            TableBuilder::Few(FieldTable::new_in(alloc))
         }
     }
 
     // Keeps one pair more.
     #[inline(always)]
     #[tactic(auto, using(crate::proofs::Gathered::one_more))]
-    pub(crate) fn keep(&mut self, k: ShortString, v: AMQPValue) -> Result<(), AllocError>
-        ensures { OnOk result (kept self.new ≡ put k (view v) (kept self.old)) }
+    pub(crate) fn push(&mut self, k: ShortString, v: AMQPValue) -> Result<(), AllocError>
+        ensures { OnOk result (kept self.new ≡ insert k (view v) (kept self.old)) }
     {
         match self {
-            PairsSoFar::Few(table) => table.place(k, v),
-            PairsSoFar::Many(pairs) => {
+            TableBuilder::Few(table) => table.place(k, v),
+            TableBuilder::Many(pairs) => {
                 pairs.push((k, v))?;
                 Ok(())
             }
@@ -62,8 +62,8 @@ impl PairsSoFar {
         ensures { IfOk result (λ table. table_view table ≡ kept self) }
     {
         match self {
-            PairsSoFar::Few(table) => Ok(table),
-            PairsSoFar::Many(pairs) => FieldTable::from_pairs(alloc, pairs),
+            TableBuilder::Few(table) => Ok(table),
+            TableBuilder::Many(pairs) => FieldTable::from_pairs(alloc, pairs),
         }
     }
 }

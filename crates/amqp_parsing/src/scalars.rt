@@ -3,10 +3,10 @@
 ghost use Rattle.std.specs.Prelude.{◌≡◌, Some, IfOk, MatchResult};
 ghost use Rattle.std.specs.Int.{w8, w16, w32, w64, cast_unsigned};
 ghost use Rattle.amqp_types.specs.Names.{read_as};
-ghost use Rattle.amqp_types.specs.Shown.{float_bits, double_bits};
+ghost use Rattle.amqp_types.specs.Contents.{float_bits, double_bits};
 ghost use Rattle.amqp_grammar.specs.Values.{boolean, decimal};
-ghost use Rattle.amqp_parsing.specs.Answers.{Refuses};
-ghost use Rattle.amqp_parsing.specs.Typed.{IsType, IsNoType};
+ghost use Rattle.amqp_parsing.specs.ParseResults.{Refuses};
+ghost use Rattle.amqp_parsing.specs.PayloadResults.{IsType, IsNoType};
 ghost use Rattle.amqp_parsing.specs.Scalars.{ReadsUnsigned, ReadsScalar, ReadsNumber};
 
 use super::errors::{ErrorKind, ParserResult, lacks, refused};

@@ -2,12 +2,12 @@
 
 ghost use Rattle.std.specs.Prelude.{◌≡◌, ◌<◌, true, length, MatchResult, IfOk, OnErr, if◌then◌else◌};
 ghost use Rattle.amqp_grammar.specs.Values.{short, long, octets};
-ghost use Rattle.amqp_types.specs.Shown.{long_bytes, octets_of};
+ghost use Rattle.amqp_types.specs.Contents.{long_bytes, octets_of};
 ghost use Rattle.amqp_grammar.specs.Payloads.{RawOutcome};
 ghost use Rattle.amqp_grammar.specs.Outcomes.{RawHeavy, found};
-ghost use Rattle.amqp_parsing.specs.Answers.{Refuses};
-ghost use Rattle.amqp_parsing.specs.Typed.{OnlyLacks, RawRefuses};
-ghost use Rattle.amqp_parsing.specs.Bodies.{IsFrame, IsCutFrame};
+ghost use Rattle.amqp_parsing.specs.ParseResults.{Refuses};
+ghost use Rattle.amqp_parsing.specs.PayloadResults.{OnlyLacks, RawRefuses};
+ghost use Rattle.amqp_parsing.specs.Bodies.{IsLengthPrefixed, IsCutLengthPrefixed};
 
 use super::bytes::{copy_by_chunks, copy_of};
 use super::errors::{ErrorKind, ParserResult, lacks, out_of_memory, refused};
@@ -76,7 +76,7 @@ pub fn parse_long_string<I: ParsableInput>(alloc: Global, i: I) -> ParserResult<
         (λ x. RawOutcome AMQPType.LongString (I.bytes i) (found (long (long_bytes x.1)) (I.bytes x.0)))
         (OnlyLacks (RawOutcome AMQPType.LongString (I.bytes i)) (RawHeavy AMQPType.LongString (I.bytes i))) }
 {
-    let (i, body) = parse_frame(i)?;
+    let (i, body) = parse_length_prefixed(i)?;
     let bytes = copy_of(alloc, body)?;
     Ok((i, LongString::from(bytes)))
 }
@@ -89,7 +89,7 @@ pub fn parse_byte_array<I: ParsableInput>(alloc: Global, i: I) -> ParserResult<I
         (λ x. RawOutcome AMQPType.ByteArray (I.bytes i) (found (octets (octets_of x.1)) (I.bytes x.0)))
         (OnlyLacks (RawOutcome AMQPType.ByteArray (I.bytes i)) (RawHeavy AMQPType.ByteArray (I.bytes i))) }
 {
-    let (i, body) = parse_frame(i)?;
+    let (i, body) = parse_length_prefixed(i)?;
     let bytes = copy_of(alloc, body)?;
     Ok((i, ByteArray::from(bytes)))
 }
@@ -97,10 +97,10 @@ pub fn parse_byte_array<I: ParsableInput>(alloc: Global, i: I) -> ParserResult<I
 /// Parses a length-prefixed field: a length in four bytes, then as many bytes, if all of them are
 /// there.
 #[inline(always)]
-pub fn parse_frame<I: ParsableInput>(i: I) -> ParserResult<I, I>
+pub fn parse_length_prefixed<I: ParsableInput>(i: I) -> ParserResult<I, I>
     ensures { MatchResult result
-        (λ x. IsFrame (I.bytes i) (I.bytes x.1) (I.bytes x.0))
-        (Refuses (IsCutFrame (I.bytes i)) ⊥) }
+        (λ x. IsLengthPrefixed (I.bytes i) (I.bytes x.1) (I.bytes x.0))
+        (Refuses (IsCutLengthPrefixed (I.bytes i)) ⊥) }
 {
     let (i, len) = parse_long_uint(i)?;
     let len = len as usize;

@@ -8,18 +8,20 @@ ghost use Rattle.amqp_grammar.specs.Payloads.{RawOutcome};
 ghost use Rattle.amqp_value_core.specs.View.{view};
 ghost use Rattle.amqp_value_core.specs.Containers.{array_view, table_view};
 ghost use Rattle.amqp_grammar.specs.Headline.{IsWritableIn};
-ghost use Rattle.amqp_parsing.specs.Answers.{Refuses, HasOneOutcome, KeepsOutcome};
-ghost use Rattle.amqp_parsing.specs.Typed.{RawRefuses};
+ghost use Rattle.amqp_parsing.specs.ParseResults.{Refuses, HasOneOutcome, KeepsOutcome};
+ghost use Rattle.amqp_parsing.specs.PayloadResults.{RawRefuses};
 ghost use Rattle.amqp_parsing.specs.Bodies.{IsNoBody, IsTable, IsNoTable};
 
 use super::errors::{ErrorKind, ParserError, ParserResult, inside, refused};
-use super::pairs::PairsSoFar;
+use super::pairs::TableBuilder;
 use super::scalars::{
     parse_boolean, parse_decimal_value, parse_double, parse_float, parse_long_int,
     parse_long_long_int, parse_long_uint, parse_short_int, parse_short_short_int,
     parse_short_short_uint, parse_short_uint, parse_timestamp, parse_type,
 };
-use super::strings::{parse_byte_array, parse_frame, parse_long_string, parse_short_string};
+use super::strings::{
+    parse_byte_array, parse_length_prefixed, parse_long_string, parse_short_string,
+};
 use super::traits::ParsableInput;
 use amqp_value_core::types::{AMQPType, FieldArray, FieldTable};
 use amqp_value_core::value::AMQPValue;
@@ -196,18 +198,18 @@ fn array_within<I: ParsableInput>(alloc: Global, i: I, depth: usize) -> ParserRe
         (λ x. RawOutcomeWithin depth AMQPType.FieldArray (I.bytes i) (found (array (array_view x.1)) (I.bytes x.0)))
         (Refuses (RawOutcomeWithin depth AMQPType.FieldArray (I.bytes i)) (RawHeavy AMQPType.FieldArray (I.bytes i))) }
 {
-    let (i, body) = parse_frame(i)?;
+    let (i, body) = parse_length_prefixed(i)?;
     if depth == 0 {
         return Err(refused(ErrorKind::Eof));
     }
-    let array = parse_body(alloc, body, depth - 1)?;
+    let array = parse_array_body(alloc, body, depth - 1)?;
     Ok((i, array))
 }
 
 /// Parses the body of an array: values one after another, to its end.
 #[cycle(parser)]
 #[inline(never)]
-pub fn parse_body<I: ParsableInput>(
+pub fn parse_array_body<I: ParsableInput>(
     alloc: Global,
     body: I,
     depth: usize,
@@ -250,18 +252,18 @@ fn table_within<I: ParsableInput>(alloc: Global, i: I, depth: usize) -> ParserRe
         (λ x. RawOutcomeWithin depth AMQPType.FieldTable (I.bytes i) (found (table (table_view x.1)) (I.bytes x.0)))
         (Refuses (RawOutcomeWithin depth AMQPType.FieldTable (I.bytes i)) (RawHeavy AMQPType.FieldTable (I.bytes i))) }
 {
-    let (i, body) = parse_frame(i)?;
+    let (i, body) = parse_length_prefixed(i)?;
     if depth == 0 {
         return Err(refused(ErrorKind::Eof));
     }
-    let table = parse_pairs(alloc, body, depth - 1)?;
+    let table = parse_table_body(alloc, body, depth - 1)?;
     Ok((i, table))
 }
 
 /// Parses the body of a table: keys, each with a value, one after another, to its end.
 #[cycle(parser)]
 #[inline(never)]
-pub fn parse_pairs<I: ParsableInput>(
+pub fn parse_table_body<I: ParsableInput>(
     alloc: Global,
     body: I,
     depth: usize,
@@ -273,7 +275,7 @@ pub fn parse_pairs<I: ParsableInput>(
     if body.input_len() == 0 {
         return Ok(FieldTable::new_in(alloc));
     }
-    let mut pairs = PairsSoFar::none_of(alloc, body);
+    let mut pairs = TableBuilder::new(alloc, body);
     let mut rest = body;
     'pairs: while rest.input_len() > 0 {
         let (behind_key, key) = match parse_short_string(alloc, rest) {
@@ -284,7 +286,7 @@ pub fn parse_pairs<I: ParsableInput>(
             Ok(read) => read,
             Err(e) => return Err(inside(e)),
         };
-        pairs.keep(key, value)?;
+        pairs.push(key, value)?;
         rest = after;
     }
     Ok(pairs.into_table(alloc)?)

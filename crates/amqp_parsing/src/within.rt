@@ -41,7 +41,7 @@ pub fn parse_value_within<I: ParsableInput>(
     ensures read_again { IfOk result (λ x. IsReadAgain limits (view x.1)) }
     ensures read_back { ReadsBack limits }
     ensures shortest { IfOk result (λ x. IsShortestWithin limits.depth (view x.1)) }
-    ensures tells_apart { IfOk result (λ x. TellsApartWithin limits.depth (view x.1)) }
+    ensures injective { IfOk result (λ x. TellsApartWithin limits.depth (view x.1)) }
     ensures deep_enough { IsDeepEnough }
 {
     read_within(alloc, i, limits)

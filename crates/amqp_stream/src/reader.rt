@@ -31,7 +31,7 @@ impl<R: Read> ValueReader<R> {
         ensures reader { reader_of result ≡ reader }
         ensures limits { limits_of (values_of result) ≡ limits }
         ensures kept { kept (values_of result) ≡ [] }
-        ensures goes_on { has_failed (values_of result) ≡ false }
+        ensures not_failed { has_failed (values_of result) ≡ false }
     {
         ValueReader {
             values: Values::new(alloc, limits),

@@ -36,7 +36,7 @@ impl Values {
         requires { 0 < limits.frame }
         ensures limits { limits_of result ≡ limits }
         ensures kept { kept result ≡ [] }
-        ensures goes_on { has_failed result ≡ false }
+        ensures not_failed { has_failed result ≡ false }
     {
         Values {
             alloc,
@@ -60,7 +60,7 @@ impl Values {
 
     // Reads until the value is whole, or isn't one.
     fn read_value<R: Read>(&mut self, reader: &mut R) -> Result<Option<AMQPValue>, StreamError>
-        requires goes_on { has_failed self.old ≡ false }
+        requires not_failed { has_failed self.old ≡ false }
         ensures answer { (x : List ℕ)
             × Consumes (R.remaining reader.old) (R.remaining reader.new) x
             × Answers (limits_of self.old) (kept self.old ++ x) (R.remaining reader.new) (kept self.new) (has_failed self.new) result }
@@ -88,7 +88,7 @@ impl Values {
 
     // The value that is kept whole.
     fn whole(&mut self) -> Result<Option<AMQPValue>, StreamError>
-        requires goes_on { has_failed self.old ≡ false }
+        requires not_failed { has_failed self.old ≡ false }
         requires whole { IsWhole (kept self.old) }
         requires within { extent (kept self.old) ≤ self.old.limits.frame }
         ensures answer { (left : Option (List ℕ)) → Answers (limits_of self.old) (kept self.old) left (kept self.new) (has_failed self.new) result }
@@ -114,7 +114,7 @@ impl Values {
 
     // What is returned where the reader ended.
     fn ended(&mut self) -> Result<Option<AMQPValue>, StreamError>
-        requires goes_on { has_failed self.old ≡ false }
+        requires not_failed { has_failed self.old ≡ false }
         requires wants { 0 < wanted (kept self.old) }
         requires within { extent (kept self.old) ≤ self.old.limits.frame }
         ensures answer { (left : Option (List ℕ)) → IsAtEnd left → Answers (limits_of self.old) (kept self.old) left (kept self.new) (has_failed self.new) result }

@@ -1,7 +1,7 @@
 //! The inputs of parsers.
 
 ghost use Rattle.std.specs.Prelude.{◌≡◌, ◌<◌, ◌≤◌, List, ℕ, length, slice_index, take, drop};
-ghost use Rattle.amqp_types.specs.Fronts.{IsFront};
+ghost use Rattle.amqp_types.specs.Prefix.{IsFront};
 ghost use Rattle.amqp_types.specs.Inputs.{IsBytes};
 
 mod split;

@@ -10,8 +10,8 @@ use Rattle.amqp_value_core.specs.declared.types.field_array.FieldArray.{FieldArr
 use Rattle.amqp_value_core.specs.declared.types.field_table.FieldTable.{FieldTable}
 use Rattle.amqp_value_core.specs.declared.value.AMQPValue.{AMQPValue, the_lemmas}
 use Rattle.amqp_value_core.specs.declared.value.AMQPValue.TheVariants as value
-use Rattle.amqp_grammar.specs.Values.{no_trees, no_entries, entry, put, array, table}
-use Rattle.amqp_grammar.specs.Light.{IsLight}
+use Rattle.amqp_grammar.specs.Values.{no_trees, no_entries, entry, insert, array, table}
+use Rattle.amqp_grammar.specs.NeedsNoAlloc.{NeedsNoAlloc}
 use Rattle.amqp_value_core.specs.View.{view}
 use Rattle.amqp_value_core.specs.Containers.{trees, entries, array_items, array_view, table_entries, table_view}
 
@@ -25,7 +25,7 @@ comes_before k (x ∷ es) e more h = comes_before k es e more h.1
 
 -- an entry whose key is after all others is put at the end
 pub put_at_the_end : (done : List Pair) (e : Pair) (more : List Pair) → IsStrictlySortedBy (slice_cmp nat_cmp) (keys_of (done ++ e ∷ more))
-    → put e.0 (view e.1) (entries done) ≡ entries (done ++ e ∷ [])
+    → insert e.0 (view e.1) (entries done) ≡ entries (done ++ e ∷ [])
 unfolding IsStrictlySortedBy
 put_at_the_end [] e more h = refl
 put_at_the_end (first ∷ done) e more h =
@@ -49,12 +49,12 @@ no_pairs [] is = refl
 no_pairs (e ∷ es) is = absurd (cc is)
 
 -- so an array or a table that is kept with no memory is empty
-pub no_items_in : (v : AMQPValue) (a : FieldArray) → v ≡ value.FieldArray a → IsLight (view v) → array_items a ≡ []
+pub no_items_in : (v : AMQPValue) (a : FieldArray) → v ≡ value.FieldArray a → NeedsNoAlloc (view v) → array_items a ≡ []
 no_items_in v a is light =
     let shown : view (value.FieldArray a) ≡ array (array_view a) = search (rules, the_lemmas) in
-    no_items (array_items a) (subst IsLight (ap view is ∙ shown) light)
+    no_items (array_items a) (subst NeedsNoAlloc (ap view is ∙ shown) light)
 
-pub no_pairs_in : (v : AMQPValue) (t : FieldTable) → v ≡ value.FieldTable t → IsLight (view v) → table_entries t ≡ []
+pub no_pairs_in : (v : AMQPValue) (t : FieldTable) → v ≡ value.FieldTable t → NeedsNoAlloc (view v) → table_entries t ≡ []
 no_pairs_in v t is light =
     let shown : view (value.FieldTable t) ≡ table (table_view t) = search (rules, the_lemmas) in
-    no_pairs (table_entries t) (subst IsLight (ap view is ∙ shown) light)
+    no_pairs (table_entries t) (subst NeedsNoAlloc (ap view is ∙ shown) light)

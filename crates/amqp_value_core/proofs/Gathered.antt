@@ -8,7 +8,7 @@ use Rattle.std.specs.List.Sorted.{IsStrictlySortedBy}
 use Rattle.std.specs.Map.{keys_of, lookup, update, update_all}
 use Rattle.std.specs.BTreeMap.{is_at}
 use Rattle.amqp_value_core.specs.declared.value.AMQPValue.{AMQPValue}
-use Rattle.amqp_grammar.specs.Values.{Tree, no_entries, onto, ComesBefore}
+use Rattle.amqp_grammar.specs.Values.{Tree, no_entries, insert_all, ComesBefore}
 use Rattle.amqp_grammar.specs.Maps.{same_bytes, value_at, last_at, IsRising}
 use Rattle.amqp_value_core.specs.View.{view}
 use Rattle.amqp_value_core.specs.Containers.{entries}
@@ -56,7 +56,7 @@ rise (e ∷ es) h = (first es h, rise es h.1)
     first (x ∷ es) h = h.0.0
 
 -- the entries of a map in which each pair was put in turn are what the pairs come to
-pub made_of : (ps es : List Pair) → ((k : List ℕ) → lookup (is_at (order k)) es ≡ update_all (eq_by_cmp order) (λ _. None) ps k) → IsStrictlySortedBy order (keys_of es) → entries es ≡ onto no_entries (entries ps)
+pub made_of : (ps es : List Pair) → ((k : List ℕ) → lookup (is_at (order k)) es ≡ update_all (eq_by_cmp order) (λ _. None) ps k) → IsStrictlySortedBy order (keys_of es) → entries es ≡ insert_all no_entries (entries ps)
 made_of ps es found sorted =
     same_tables _ _ (rise es sorted) (pairs_rise (entries ps))
     (λ k. found_at k es ∙ ap (option_map view) (found k) ∙ last_put k ps (λ _. None) ∙ option_or-none (last_at k (entries ps)) ∙ sym (last_stays k (entries ps)))

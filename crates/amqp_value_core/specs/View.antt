@@ -7,7 +7,7 @@ use Rattle.amqp_value_core.specs.declared.types.field_table.FieldTable.{FieldTab
 use Rattle.amqp_value_core.specs.declared.value.AMQPValue.{AMQPValue, fold-AMQPValue}
 use Rattle.amqp_value_core.specs.declared.value.AMQPValue.TheOpen.{AMQPValue-F, FieldArray-F, FieldTable-F}
 use Rattle.amqp_grammar.specs.Values.{boolean, number, decimal, void, Tree, scalar, short, long, octets, array, table, Trees, trees_of, Entries, entries_of}
-use Rattle.amqp_types.specs.Shown.{float_bits, double_bits, long_bytes, octets_of}
+use Rattle.amqp_types.specs.Contents.{float_bits, double_bits, long_bytes, octets_of}
 
 -- one level, with each value inside already viewed as its tree
 abbrev pub view_step : AMQPValue-F Tree Trees Entries → Tree

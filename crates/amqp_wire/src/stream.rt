@@ -57,7 +57,7 @@ fn next_line<R: Read>(
     reader: &mut R,
 ) -> Result<(Vec<u8>, bool), WireFault>
     requires kept { kept values.old ≡ [] }
-    requires goes_on { has_failed values.old ≡ false }
+    requires not_failed { has_failed values.old ≡ false }
     ensures line { IfOk result (λ p. IfSome (R.remaining reader.old)
         (λ s. IsBytes s → IsLine (limits_of values.old) s (R.remaining reader.new) p.0.items p.1)) }
     ensures more { IfOk result (λ p. p.1 ≡ true → (kept values.new ≡ []) × (has_failed values.new ≡ false)) }

@@ -1,6 +1,6 @@
 //! Arrays and tables of a million entries, keys of 255 bytes, 100,000 equal keys.
 
-use crate::made::{MANY, WIDE, field, goes_everywhere, key, payload_of};
+use crate::fixtures::{MANY, WIDE, field, goes_everywhere, key, payload_of};
 use amq_protocol_types::generation::{WriteContext, gen_field_array, gen_field_table};
 use amq_protocol_types::in_place::{ValueRef, read_in_place};
 use amq_protocol_types::parsing::{SliceInput, parse_field_array, parse_field_table, parse_value};

@@ -1,6 +1,6 @@
 //! Five thousand containers, one in another: 8 MiB of stack carry less than ten thousand.
 
-use crate::made::{WIDE, goes_everywhere};
+use crate::fixtures::{WIDE, goes_everywhere};
 use amq_protocol_types::in_place::{read_in_place, read_in_place_unlimited};
 use amq_protocol_types::stream::Limits;
 use amqp_dissect::{End, dissect};

@@ -10,9 +10,9 @@ mod deep;
 #[cfg(test)]
 mod documents;
 #[cfg(test)]
-mod flags;
+mod fixtures;
 #[cfg(test)]
-mod made;
+mod flags;
 #[cfg(test)]
 mod strings;
 #[cfg(test)]

@@ -4,11 +4,11 @@ ghost use Rattle.std.specs.Prelude.{◌≡◌, ◌≤◌, ◌<◌, ◌+◌, ◌-
 ghost use Rattle.std.specs.Int.{w32};
 ghost use Rattle.amqp_grammar.specs.Layouts.{fixed};
 ghost use Rattle.amqp_grammar.specs.Outcomes.{frame_lack};
-ghost use Rattle.amqp_parsing.specs.Typed.{IsType};
+ghost use Rattle.amqp_parsing.specs.PayloadResults.{IsType};
 ghost use Rattle.amqp_dissect.specs.Ends.{Ends};
 ghost use Rattle.amqp_dissect.specs.Memory.{HasTypeTag, TakesMemory};
 ghost use Rattle.amqp_dissect.specs.Problems.{IsContainer, NoValue, NoValues, NoPairs};
-ghost use Rattle.amqp_dissect.specs.Walks.{ahead, CanReach, GoesOn, PassesValue, PassesEntries, IsKeyThen, IsAt, AreValues, ArePairs, HasFrame, HasHeader, IsLengthPrefixed, IsString, Puts, PutsValue, WithMemory};
+ghost use Rattle.amqp_dissect.specs.Walks.{ahead, CanReach, GoesOn, PassesValue, PassesEntries, IsKeyThen, IsAt, AreValues, ArePairs, HasFrame, HasHeader, HasLengthPrefix, IsString, Puts, PutsValue, WithMemory};
 ghost use Rattle.amqp_dissect.specs.PartsOf.{piece, parts_of, entries_at};
 
 use crate::dissection::End;
@@ -16,7 +16,7 @@ use crate::part::Field;
 use crate::problem::{Problem, Stop};
 use crate::walk::Walk;
 use amqp_parsing::header::{Header, header_of};
-use amqp_parsing::{Err, Limits, Needed, parse_frame};
+use amqp_parsing::{Err, Limits, Needed, parse_length_prefixed};
 use amqp_types::{AMQPType, ParsableInput, SliceInput};
 use std::alloc::AllocError;
 use std::str;
@@ -106,7 +106,7 @@ impl<'a> Walk<'a> {
     ) -> Result<usize, Stop>
         requires within { CanReach self.old end }
         requires tag { IsType (ahead self.old end) amqp_type payload.now }
-        requires prefixed { IsLengthPrefixed amqp_type }
+        requires prefixed { HasLengthPrefix amqp_type }
         ensures goes { GoesOn self.old end self.new }
         ensures parts { WithMemory result (PutsValue (self.old.depth - depth) self.old self.new) }
         ensures header { IfOk result (HasHeader (ahead self.old end) amqp_type self.old.at) }
@@ -267,7 +267,7 @@ fn body_len(payload: &[u8]) -> Result<usize, usize>
     ensures whole { IfOk result (HasFrame payload.now) }
     ensures cut { IfErr result (λ n. (0 < n) × (n ≡ frame_lack w32 payload.now)) }
 {
-    match parse_frame(SliceInput::new(payload)) {
+    match parse_length_prefixed(SliceInput::new(payload)) {
         Ok((_, body)) => Ok(body.input_len()),
         Err(Err::Incomplete(Needed::Size(lack))) => Err(lack),
         Err(_) => unreachable!(),

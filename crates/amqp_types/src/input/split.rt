@@ -33,7 +33,7 @@ impl<'a> SplitInput<'a> {
 }
 
 impl<'a> ParsableInput for SplitInput<'a> {
-    ghost use Rattle.amqp_types.specs.Fronts.{IsFront};
+    ghost use Rattle.amqp_types.specs.Prefix.{IsFront};
     ghost use Rattle.amqp_types.specs.Splits.{split_first, split_second};
 
     ghost bytes = { λ s. split_first s ++ split_second s };

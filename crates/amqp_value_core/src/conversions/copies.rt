@@ -4,7 +4,7 @@
 //! entries doesn't allocate.
 
 ghost use Rattle.std.specs.Prelude.{◌≡◌, [], IfOk, IsOk};
-ghost use Rattle.amqp_grammar.specs.Light.{IsLight};
+ghost use Rattle.amqp_grammar.specs.NeedsNoAlloc.{NeedsNoAlloc};
 ghost use Rattle.amqp_value_core.specs.View.{view};
 ghost use Rattle.amqp_value_core.specs.Containers.{trees, entries, array_items, array_view, table_entries, table_view};
 
@@ -38,7 +38,7 @@ impl AMQPValue {
     /// allocate.
     pub fn clone(&self, alloc: Global) -> Result<AMQPValue, AllocError>
         ensures same { IfOk result (λ v. view v ≡ view self.now) }
-        ensures light { IsLight (view self.now) → IsOk result }
+        ensures light { NeedsNoAlloc (view self.now) → IsOk result }
     {
         copy(alloc, self)
     }
@@ -47,7 +47,7 @@ impl AMQPValue {
 #[cycle(copies)]
 fn copy(alloc: Global, value: &AMQPValue) -> Result<AMQPValue, AllocError>
     ensures same { IfOk result (λ v. view v ≡ view value.now) }
-    ensures light { IsLight (view value.now) → IsOk result }
+    ensures light { NeedsNoAlloc (view value.now) → IsOk result }
 {
     match value {
         AMQPValue::Boolean(b) => Ok(AMQPValue::Boolean(*b)),

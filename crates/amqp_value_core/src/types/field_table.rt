@@ -1,6 +1,6 @@
 ghost use Rattle.std.specs.Prelude.{◌≡◌, [], OnOk, OnErr, IfOk, IsOk};
 ghost use Rattle.std.specs.Borrow.{sem};
-ghost use Rattle.amqp_grammar.specs.Values.{no_entries, put, onto};
+ghost use Rattle.amqp_grammar.specs.Values.{no_entries, insert, insert_all};
 ghost use Rattle.amqp_grammar.specs.Maps.{has_key};
 ghost use Rattle.amqp_value_core.specs.View.{view};
 ghost use Rattle.amqp_value_core.specs.Containers.{entries, table_entries, table_view};
@@ -49,7 +49,7 @@ impl FieldTable {
     pub fn insert(&mut self, k: ShortString, v: AMQPValue) -> Result<&mut FieldTable, AllocError>
         ensures* unchanged_at_err { sem 𝓛 (Rests self.entry result) }
         ensures same { IfOk result (λ r. r.ghost_name ≡ self.entry.ghost_name) }
-        ensures ok { IfOk result (λ r. table_view r.now ≡ put k (view v) (table_view self.old)) }
+        ensures ok { IfOk result (λ r. table_view r.now ≡ insert k (view v) (table_view self.old)) }
     {
         bare(self.lend(k, v))
     }
@@ -57,7 +57,7 @@ impl FieldTable {
     fn lend(&mut self, k: ShortString, v: AMQPValue) -> Result<Lent<'_>, AllocError>
         ensures* unchanged_at_err { sem 𝓛 (RestsIn self.entry result) }
         ensures same { IfOk result (λ r. r.table.ghost_name ≡ self.entry.ghost_name) }
-        ensures ok { IfOk result (λ r. table_view r.table.now ≡ put k (view v) (table_view self.old)) }
+        ensures ok { IfOk result (λ r. table_view r.table.now ≡ insert k (view v) (table_view self.old)) }
     {
         self.place(k, v)?;
         Ok(Lent { table: self })
@@ -66,7 +66,7 @@ impl FieldTable {
     /// Inserts a value at a key, as `insert` does, and returns nothing: for callers whose own
     /// contract is about the table after an error.
     pub fn place(&mut self, k: ShortString, v: AMQPValue) -> Result<(), AllocError>
-        ensures ok { OnOk result (table_view self.new ≡ put k (view v) (table_view self.old)) }
+        ensures ok { OnOk result (table_view self.new ≡ insert k (view v) (table_view self.old)) }
         ensures err { OnErr result (table_entries self.new ≡ table_entries self.old) }
     {
         drop(self.map.insert(k, v)?);
@@ -82,7 +82,7 @@ impl FieldTable {
         alloc: Global,
         pairs: Vec<(ShortString, AMQPValue)>,
     ) -> Result<FieldTable, AllocError>
-        ensures pairs { IfOk result (λ table. table_view table ≡ onto no_entries (entries pairs.items)) }
+        ensures pairs { IfOk result (λ table. table_view table ≡ insert_all no_entries (entries pairs.items)) }
         ensures empty { pairs.items ≡ [] → IsOk result }
     {
         if pairs.is_empty() {

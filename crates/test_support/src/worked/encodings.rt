@@ -5,7 +5,7 @@
 ghost use Rattle.std.specs.Prelude.{◌≡◌, List, [], ◌∷◌, ◌++◌, true, false, negsuc, Some, None, codes};
 ghost use Rattle.std.specs.Str.{byte};
 ghost use Rattle.std.specs.Int.{w8, w16, w32, w64, cast_unsigned};
-ghost use Rattle.amqp_grammar.specs.Values.{boolean, number, decimal, void, scalar, short, long, octets, array, trees_of, no_trees, table, entries_of, no_entries, put, depth, count, readable};
+ghost use Rattle.amqp_grammar.specs.Values.{boolean, number, decimal, void, scalar, short, long, octets, array, trees_of, no_trees, table, entries_of, no_entries, insert, depth, count, readable};
 ghost use Rattle.amqp_grammar.specs.Maps.{has_key, value_at};
 ghost use Rattle.amqp_types.specs.Ids.{kind, id_of};
 ghost use Rattle.amqp_types.specs.Names.{read_as};
@@ -288,13 +288,13 @@ pub fn keys_refused()
 /// A new key goes to its place in the order of bytes, in which a prefix comes first; an equal key
 /// takes the value.
 pub fn keys_put()
-    ensures first { put (codes "a") (scalar void) (entries_of ((codes "aa", scalar void) ∷ []))
+    ensures first { insert (codes "a") (scalar void) (entries_of ((codes "aa", scalar void) ∷ []))
         ≡ entries_of ((codes "a", scalar void) ∷ (codes "aa", scalar void) ∷ []) }
-    ensures between { put (codes "az") (scalar void) (entries_of ((codes "a", scalar void) ∷ (codes "b", scalar void) ∷ []))
+    ensures between { insert (codes "az") (scalar void) (entries_of ((codes "a", scalar void) ∷ (codes "b", scalar void) ∷ []))
         ≡ entries_of ((codes "a", scalar void) ∷ (codes "az", scalar void) ∷ (codes "b", scalar void) ∷ []) }
-    ensures last { put (hex "c3a9") (scalar void) (entries_of ((codes "z", scalar void) ∷ []))
+    ensures last { insert (hex "c3a9") (scalar void) (entries_of ((codes "z", scalar void) ∷ []))
         ≡ entries_of ((codes "z", scalar void) ∷ (hex "c3a9", scalar void) ∷ []) }
-    ensures again { put (codes "a") (scalar (boolean true)) (entries_of ((codes "a", scalar void) ∷ (codes "b", scalar void) ∷ []))
+    ensures again { insert (codes "a") (scalar (boolean true)) (entries_of ((codes "a", scalar void) ∷ (codes "b", scalar void) ∷ []))
         ≡ entries_of ((codes "a", scalar (boolean true)) ∷ (codes "b", scalar void) ∷ []) }
 {}
 

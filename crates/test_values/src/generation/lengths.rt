@@ -1,6 +1,6 @@
 //! A length before what a closure appends.
 
-ghost use Rattle.amqp_generation.specs.Contexts.{shown};
+ghost use Rattle.amqp_generation.specs.Contexts.{state_of};
 ghost use Rattle.amqp_generation.specs.Lengths.{OnlyAppends};
 
 use amq_protocol_types::AMQPType;
@@ -16,7 +16,7 @@ fn put_behind_two_lengths<W: BackToTheBuffer>(x: &mut WriteContext<W>) -> GenRes
 fn put_two_numbers<W: BackToTheBuffer>(x: &mut WriteContext<W>) -> GenResult {
     gen_with_len(
         |y: &mut WriteContext<W>| -> GenResult
-            ensures { OnlyAppends (shown W.seen y.old) result (shown W.seen y.new) }
+            ensures { OnlyAppends (state_of W.seen y.old) result (state_of W.seen y.new) }
         {
             gen_short_uint(1, y)?;
             gen_short_uint(2, y)

@@ -133,7 +133,7 @@ impl BackToTheBuffer for Recorder {
 
     ghost is_one = { refl };
 
-    ghost whole = { λ s. record { told = refl; counted = refl; tail = tt } };
+    ghost whole = { λ s. record { written = refl; counted = refl; tail = tt } };
 
     fn reserve(&mut self, n: usize) -> Result<u64, GenError> {
         let at = BackToTheBuffer::reserve(&mut self.inner, n)?;

@@ -1,6 +1,6 @@
 use Rattle.std.proofs.Common.{List, ℕ, length, Ok, subst, sym}
 use Rattle.amqp_grammar.specs.Outcomes.{Outcome, found}
-use Rattle.amqp_c.specs.Answers.{GivesFirst}
+use Rattle.amqp_c.specs.CallResults.{GivesFirst}
 use Rattle.amqp_c.specs.Entries.{IsAtFront, Lies}
 use Rattle.amqp_c.proofs.Stepping.{front_given, tagged_placed, told_placed}
 use Rattle.amqp_c.proofs.cursor.front_of.Goals as goal

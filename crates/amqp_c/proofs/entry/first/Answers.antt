@@ -1,9 +1,9 @@
 use Rattle.std.proofs.Common.{◌≡◌, ◌+◌, ◌-◌, ℕ, false, List, length, refl, sym, ap, ◌∙◌, subst, arith, length-append}
 use Rattle.std.proofs.lemmas.Result.{err_from_is_err_and}
 use Rattle.amqp_types.specs.Inputs.{slice_bytes}
-use Rattle.amqp_parsing.specs.Typed.{IsType}
+use Rattle.amqp_parsing.specs.PayloadResults.{IsType}
 use Rattle.amqp_grammar.specs.Grammar.{long_field}
-use Rattle.amqp_c_common.specs.Answers.{fault_of}
+use Rattle.amqp_c_common.specs.ReturnCodes.{fault_of}
 use Rattle.amqp_c.specs.declared.entry.Entry.{Entry}
 use Rattle.amqp_c.specs.Heads.{has_content}
 use Rattle.amqp_c.proofs.Fronts.{is_tagged, never_faulty, cut_fault, scalar_fault, frame_extent, found_extent, content_entry, scalar_entry, found_shorter}

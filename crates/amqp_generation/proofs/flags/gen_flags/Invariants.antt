@@ -1,6 +1,6 @@
 use Rattle.std.proofs.Common.{◌≡◌, ◌++◌, List, ℕ, length}
 use Rattle.std.specs.Slice.Iter.{chunks_rest, chunks_size}
-use Rattle.amqp_generation.specs.Contexts.{start_of, shown}
+use Rattle.amqp_generation.specs.Contexts.{start_of, state_of}
 use Rattle.amqp_flags.specs.Flags.{listed, values_of, flags_of, pack}
 use Rattle.amqp_generation.proofs.Puts.{PutSoFar}
 use Rattle.amqp_generation.proofs.flags.gen_flags.Given as goal
@@ -11,5 +11,5 @@ invariant-loop-eight g l =
     (chunks_size l.eight-iterator ≡ 8)
     × (start_of l.x ≡ start_of l.fn.x)
     × ((done : List ℕ)
-    × PutSoFar g.W.Output.is_buffer (length (pack (values_of (flags_of l.flags)))) done (shown g.W.Output.seen l.fn.x) (shown g.W.Output.seen l.x)
+    × PutSoFar g.W.Output.is_buffer (length (pack (values_of (flags_of l.flags)))) done (state_of g.W.Output.seen l.fn.x) (state_of g.W.Output.seen l.x)
     × (done ++ pack (values_of (listed (chunks_rest l.eight-iterator))) ≡ pack (values_of (flags_of l.flags))))

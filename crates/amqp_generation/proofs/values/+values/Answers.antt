@@ -88,14 +88,14 @@ pub gen_field_table-returns-clause-value : goal.gen_field_table-returns-clause-v
 gen_field_table-returns-clause-value g t c =
     table_value c.fill_length.result c.in-None.ensures.steps.0 c.inner.ensures c.iter-k-items.ensures.ordered c.loop-k.invariant.put
 
-pub gen_field_array-returns-in-Err-clause-of_a_wire : goal.gen_field_array-returns-in-Err-clause-of_a_wire
-gen_field_array-returns-in-Err-clause-of_a_wire g t c = writes_payload_read (λ e. cc) (gen_field_array-returns-in-Err-clause-written g t c)
+pub gen_field_array-returns-in-Err-clause-fits_input_size : goal.gen_field_array-returns-in-Err-clause-fits_input_size
+gen_field_array-returns-in-Err-clause-fits_input_size g t c = writes_payload_read (λ e. cc) (gen_field_array-returns-in-Err-clause-written g t c)
 
-pub gen_field_array-returns-clause-of_a_wire : goal.gen_field_array-returns-clause-of_a_wire
-gen_field_array-returns-clause-of_a_wire g t c = writes_payload_read (λ e. cc) (gen_field_array-returns-clause-written g t c)
+pub gen_field_array-returns-clause-fits_input_size : goal.gen_field_array-returns-clause-fits_input_size
+gen_field_array-returns-clause-fits_input_size g t c = writes_payload_read (λ e. cc) (gen_field_array-returns-clause-written g t c)
 
-pub gen_field_table-returns-in-Err-clause-of_a_wire : goal.gen_field_table-returns-in-Err-clause-of_a_wire
-gen_field_table-returns-in-Err-clause-of_a_wire g t c = writes_payload_read (λ e. cc) (gen_field_table-returns-in-Err-clause-written g t c)
+pub gen_field_table-returns-in-Err-clause-fits_input_size : goal.gen_field_table-returns-in-Err-clause-fits_input_size
+gen_field_table-returns-in-Err-clause-fits_input_size g t c = writes_payload_read (λ e. cc) (gen_field_table-returns-in-Err-clause-written g t c)
 
-pub gen_field_table-returns-clause-of_a_wire : goal.gen_field_table-returns-clause-of_a_wire
-gen_field_table-returns-clause-of_a_wire g t c = writes_payload_read (λ e. cc) (gen_field_table-returns-clause-written g t c)
+pub gen_field_table-returns-clause-fits_input_size : goal.gen_field_table-returns-clause-fits_input_size
+gen_field_table-returns-clause-fits_input_size g t c = writes_payload_read (λ e. cc) (gen_field_table-returns-clause-written g t c)

@@ -3,9 +3,9 @@ use Rattle.amqp_value_core.specs.Containers.{array_items, trees, table_entries}
 use Rattle.amqp_grammar.specs.Texts.{body}
 use Rattle.amqp_grammar.specs.Members.{AllFit}
 use Rattle.amqp_grammar.specs.InMemory.{AreValues}
-use Rattle.amqp_generation.specs.Buffers.{IsWhole}
+use Rattle.amqp_generation.specs.BufferOutput.{IsWhole}
 use Rattle.amqp_generation.specs.Outputs.{Writes}
-use Rattle.amqp_generation.specs.Contexts.{start_of, shown}
+use Rattle.amqp_generation.specs.Contexts.{start_of, state_of}
 use Rattle.amqp_generation.proofs.Tables.{HasPut}
 use Rattle.amqp_generation.proofs.values.+values.Given as goal
 
@@ -15,9 +15,9 @@ invariant-gen_field_array-loop-v g l =
     let done = trees (take l.v-index l.v-items) in
     record {
       items : l.v-items ≡ array_items l.fn.a;
-      whole : IsWhole (shown seen l.fn.x);
-      place : l.at ≡ (shown seen l.fn.x).at;
-      written : Writes true (AllFit done) (replicate 4 0 ++ body done) (shown seen l.fn.x) (Ok tt) (shown seen l.x);
+      whole : IsWhole (state_of seen l.fn.x);
+      place : l.at ≡ (state_of seen l.fn.x).position;
+      written : Writes true (AllFit done) (replicate 4 0 ++ body done) (state_of seen l.fn.x) (Ok tt) (state_of seen l.x);
       start : start_of l.x ≡ start_of l.fn.x;
       values : AreValues done;
     }
@@ -26,8 +26,8 @@ abbrev pub invariant-gen_field_table-loop-k : goal.invariant-gen_field_table-loo
 invariant-gen_field_table-loop-k g l =
     let seen = g.W.Output.seen in
     record {
-      whole : IsWhole (shown seen l.fn.x);
-      place : l.at ≡ (shown seen l.fn.x).at;
+      whole : IsWhole (state_of seen l.fn.x);
+      place : l.at ≡ (state_of seen l.fn.x).position;
       start : start_of l.x ≡ start_of l.fn.x;
-      put : HasPut (table_entries l.fn.t) l.k-iterator (shown seen l.fn.x) (shown seen l.x);
+      put : HasPut (table_entries l.fn.t) l.k-iterator (state_of seen l.fn.x) (state_of seen l.x);
     }

@@ -1,6 +1,6 @@
 use Rattle.std.proofs.Common.{ℕ, List, [], ◌∷◌, ◌++◌, refl, sym, subst, rules, arith}
 use Rattle.std.specs.Str.{IsUtf8}
-use Rattle.amqp_grammar.specs.Values.{no_entries, put, array, table, trees_of}
+use Rattle.amqp_grammar.specs.Values.{no_entries, insert, array, table, trees_of}
 use Rattle.amqp_types.specs.Inputs.{slice_bytes}
 use Rattle.amqp_parsing.proofs.ParsingLaws.{Goes-step, Goes-end, rest_shorter, Walks-start, Walks-step, Walks-end, key_shorter}
 use Rattle.amqp_in_place.specs.Heads.{IsHead}
@@ -52,7 +52,7 @@ are_pairs-pairs-preserved t c =
     let k = slice_bytes c.in-Ok.key in
     let behind = slice_bytes c.in-Ok.behind in
     let x = c.in-Ok-value_within.ensures.outcome in
-    (put k x.0 at.0, Walks-step c.args.depth (slice_bytes c.args.body) at.0 s k behind x.0 (slice_bytes c.in-Ok-value_within.after) at.1 (key_found s k behind c.in-Ok.ensures (subst IsUtf8 c.as_slice.ensures c.in-Ok-check_utf8.ensures)) x.2)
+    (insert k x.0 at.0, Walks-step c.args.depth (slice_bytes c.args.body) at.0 s k behind x.0 (slice_bytes c.in-Ok-value_within.after) at.1 (key_found s k behind c.in-Ok.ensures (subst IsUtf8 c.as_slice.ensures c.in-Ok-check_utf8.ensures)) x.2)
 
 pub are_pairs-returns-clause-yes : goal.are_pairs-returns-clause-yes
 are_pairs-returns-clause-yes t c = λ _.

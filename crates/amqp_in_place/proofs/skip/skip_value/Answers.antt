@@ -3,7 +3,7 @@ use Rattle.amqp_types.specs.Inputs.{slice_bytes}
 use Rattle.std.proofs.lemmas.Result.{err_from_is_err_and}
 use Rattle.amqp_grammar.specs.Outcomes.{Outcome}
 use Rattle.amqp_parsing.specs.Headers.{extent}
-use Rattle.amqp_in_place.specs.Answers.{HeadRefuses}
+use Rattle.amqp_in_place.specs.InPlaceResults.{HeadRefuses}
 use Rattle.amqp_in_place.proofs.Skipping.{skipped, width_of_found, refused_so}
 use Rattle.amqp_in_place.proofs.skip.skip_value.Goals as goal
 

@@ -1,6 +1,6 @@
 use Rattle.std.proofs.Common.{length, IfSome}
 use Rattle.amqp_in_place.specs.Bodies.{HasPairs}
-use Rattle.amqp_in_place.specs.Answers.{IsLeft}
+use Rattle.amqp_in_place.specs.InPlaceResults.{IsLeft}
 use Rattle.amqp_in_place.specs.Walks.{HasFront}
 use Rattle.amqp_in_place.proofs.Lookups.{Looks}
 use Rattle.amqp_in_place.proofs.tables.last_at.Given as goal

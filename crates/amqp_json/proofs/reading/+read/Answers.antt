@@ -7,7 +7,7 @@ use Rattle.std.specs.String.{string_cmp}
 use Rattle.serde_json.specs.View.{members_view}
 use Rattle.serde_json.proofs.Views.{Entry}
 use Rattle.amqp_value_core.specs.Containers.{array_items, trees, table_view}
-use Rattle.amqp_grammar.specs.Values.{put}
+use Rattle.amqp_grammar.specs.Values.{insert}
 use Rattle.amqp_value_core.specs.View.{view}
 use Rattle.amqp_json.specs.InMemory.{AreStored, EntriesStored}
 use Rattle.amqp_json.proofs.Walks.{trees_stored, put_stored}
@@ -35,7 +35,7 @@ read_members-loop-key-preserved t c =
     let put_at = c.in_ok-name.ensures.ok ∙ c.as_str.ensures.value in (
       done ++ e ∷ [],
       all ∙ sym (append_assoc done (e ∷ []) left),
-      member_next done e left (table_view l.table) (view c.in_ok-read.field-0) rising l.invariant.2 c.in_ok-read.ensures.ok (short_key _ fits) ∙ ap Some (sym (c.in_ok-place.ensures.ok ∙ ap (λ k. put k (view c.in_ok-read.field-0) (table_view l.table)) put_at)),
+      member_next done e left (table_view l.table) (view c.in_ok-read.field-0) rising l.invariant.2 c.in_ok-read.ensures.ok (short_key _ fits) ∙ ap Some (sym (c.in_ok-place.ensures.ok ∙ ap (λ k. insert k (view c.in_ok-read.field-0) (table_view l.table)) put_at)),
       subst EntriesStored (sym c.in_ok-place.ensures.ok) (put_stored _ (view c.in_ok-read.field-0) (table_view l.table) l.invariant.3 c.in_ok-name.ensures.short c.in_ok-read.ensures.stored),
     )
 

@@ -1,7 +1,7 @@
 use Rattle.std.proofs.Common.{refl, arith, rules}
 use Rattle.std.specs.Int.{w32}
 use Rattle.amqp_types.specs.declared.amqp_type.AMQPType.TheVariants as amqp
-use Rattle.amqp_parsing.specs.Typed.{IsNumberRead}
+use Rattle.amqp_parsing.specs.PayloadResults.{IsNumberRead}
 use Rattle.amqp_parsing.proofs.Payloads.{ReadsBack-32, number_found}
 use Rattle.amqp_parsing.proofs.scalars.parse_long_uint.Goals as goal
 

@@ -6,7 +6,7 @@ use Rattle.amqp_types.specs.declared.amqp_type.AMQPType.TheVariants as amqp
 use Rattle.amqp_value_core.specs.declared.value.AMQPValue.{the_lemmas}
 use Rattle.amqp_value_core.specs.declared.value.AMQPValue.TheVariants.{FieldArray, FieldTable}
 use Rattle.amqp_value_core.specs.declared.value.AMQPValue.TheVariants as value
-use Rattle.amqp_grammar.specs.Values.{Tree, scalar, void, array, table, no_entries, put}
+use Rattle.amqp_grammar.specs.Values.{Tree, scalar, void, array, table, no_entries, insert}
 use Rattle.amqp_value_core.specs.View.{view}
 use Rattle.amqp_value_core.specs.Containers.{array_items, array_view, entries, table_view}
 use Rattle.amqp_grammar.specs.Outcomes.{found}
@@ -22,57 +22,57 @@ use Rattle.amqp_parsing.proofs.Typed.{typed_answer}
 use Rattle.amqp_parsing.proofs.Views.{view-Void}
 use Rattle.amqp_parsing.proofs.values.+parser.Goals as goal
 
-pub parse_body-returns-in-Err : goal.parse_body-returns-in-Err
-parse_body-returns-in-Err g t c =
+pub parse_array_body-returns-in-Err : goal.parse_array_body-returns-in-Err
+parse_array_body-returns-in-Err g t c =
     rw c.inside.ensures
     (Goes-refused c.args.depth _ _ (g.I.ParsableInput.bytes c.entries.rest) c.in-Err.e c.entries.invariant (omega arith) c.in-Err.ensures)
 
-pub parse_body-entries-smaller : goal.parse_body-entries-smaller
-parse_body-entries-smaller g t c =
+pub parse_array_body-entries-smaller : goal.parse_array_body-entries-smaller
+parse_array_body-entries-smaller g t c =
     rest_shorter c.args.depth (g.I.ParsableInput.bytes c.entries.rest) (view c.in-Ok.read.1) (g.I.ParsableInput.bytes c.in-Ok.read.0) c.in-Ok.ensures
 
-pub parse_body-entries-preserved : goal.parse_body-entries-preserved
-parse_body-entries-preserved g t c =
+pub parse_array_body-entries-preserved : goal.parse_array_body-entries-preserved
+parse_array_body-entries-preserved g t c =
     let grown : array_items c.push.new.self ≡ array_items c.entries.array ++ c.in-Ok.read.1 ∷ [] = search rules in
     rw (grown, map_push)
     (Goes-step c.args.depth _ _ (g.I.ParsableInput.bytes c.entries.rest) (view c.in-Ok.read.1) _ c.entries.invariant c.in-Ok.ensures)
 
-pub parse_body-returns : goal.parse_body-returns
-parse_body-returns g t c =
+pub parse_array_body-returns : goal.parse_array_body-returns
+parse_array_body-returns g t c =
     Goes-end c.args.depth (g.I.ParsableInput.bytes c.args.body) (map view (array_items c.entries.array)) (g.I.ParsableInput.bytes c.entries.rest) c.entries.invariant (omega arith)
 
-pub parse_pairs-returns-in-Err : goal.parse_pairs-returns-in-Err
-parse_pairs-returns-in-Err g t c =
+pub parse_table_body-returns-in-Err : goal.parse_table_body-returns-in-Err
+parse_table_body-returns-in-Err g t c =
     rw c.inside.ensures
     (Walks-bad_key c.args.depth _ (kept c.pairs.pairs) (g.I.ParsableInput.bytes c.pairs.rest) c.in-Err.e c.pairs.invariant (omega arith) c.in-Err.ensures)
 
-pub parse_pairs-returns-in-Err-value_within : goal.parse_pairs-returns-in-Err-value_within
-parse_pairs-returns-in-Err-value_within g t c =
+pub parse_table_body-returns-in-Err-value_within : goal.parse_table_body-returns-in-Err-value_within
+parse_table_body-returns-in-Err-value_within g t c =
     rw c.inside-in-Err-value_within.ensures
     (Walks-bad_value c.args.depth _ (kept c.pairs.pairs) (g.I.ParsableInput.bytes c.pairs.rest) c.in-Ok.read.1 (g.I.ParsableInput.bytes c.in-Ok.read.0) c.in-Err-value_within.e
     c.pairs.invariant c.in-Ok.ensures c.in-Err-value_within.ensures)
 
-pub parse_pairs-pairs-smaller : goal.parse_pairs-pairs-smaller
-parse_pairs-pairs-smaller g t c =
+pub parse_table_body-pairs-smaller : goal.parse_table_body-pairs-smaller
+parse_table_body-pairs-smaller g t c =
     let rest = g.I.ParsableInput.bytes c.pairs.rest in
     let behind = g.I.ParsableInput.bytes c.in-Ok.read.0 in
     let after = g.I.ParsableInput.bytes c.in-Ok-value_within.read.0 in
     omega (arith, key_shorter rest c.in-Ok.read.1 behind c.in-Ok.ensures, rest_shorter c.args.depth behind (view c.in-Ok-value_within.read.1) after c.in-Ok-value_within.ensures)
 
-pub parse_pairs-pairs-preserved : goal.parse_pairs-pairs-preserved
-parse_pairs-pairs-preserved g t c =
-    let grown : kept c.keep.new.self ≡ put c.in-Ok.read.1 (view c.in-Ok-value_within.read.1) (kept c.pairs.pairs) = search rules in
+pub parse_table_body-pairs-preserved : goal.parse_table_body-pairs-preserved
+parse_table_body-pairs-preserved g t c =
+    let grown : kept c.push.new.self ≡ insert c.in-Ok.read.1 (view c.in-Ok-value_within.read.1) (kept c.pairs.pairs) = search rules in
     rw grown
     (Walks-step c.args.depth _ (kept c.pairs.pairs) (g.I.ParsableInput.bytes c.pairs.rest) c.in-Ok.read.1 (g.I.ParsableInput.bytes c.in-Ok.read.0)
     (view c.in-Ok-value_within.read.1) _ c.pairs.invariant c.in-Ok.ensures c.in-Ok-value_within.ensures)
 
-pub parse_pairs-returns : goal.parse_pairs-returns
-parse_pairs-returns g t c =
+pub parse_table_body-returns : goal.parse_table_body-returns
+parse_table_body-returns g t c =
     rw c.in_ok-into_table.ensures
     (Walks-end c.args.depth (g.I.ParsableInput.bytes c.args.body) (kept c.pairs.pairs) (g.I.ParsableInput.bytes c.pairs.rest) c.pairs.invariant (omega arith))
 
-pub parse_pairs-returns-then-input_len-eq0 : goal.parse_pairs-returns-then-input_len-eq0
-parse_pairs-returns-then-input_len-eq0 g t c =
+pub parse_table_body-returns-then-input_len-eq0 : goal.parse_table_body-returns-then-input_len-eq0
+parse_table_body-returns-then-input_len-eq0 g t c =
     let s = g.I.ParsableInput.bytes c.args.body in
     let none : table_view c.new_in.result ≡ no_entries = ap entries c.new_in.ensures in
     rw none (Walks-end c.args.depth s no_entries s (Walks-start c.args.depth s) (omega arith))
@@ -116,8 +116,8 @@ table_within-returns-then-depth-eq0 g t c =
     rw c.refused.ensures
     (table_too_deep c.args.depth (g.I.ParsableInput.bytes c.args.i) (g.I.ParsableInput.bytes c.in_ok-i.body) (g.I.ParsableInput.bytes c.in_ok-i.i) c.in_ok-i.ensures c.if-depth-eq0.true)
 
-pub parse_body-entries-init : goal.parse_body-entries-init
-parse_body-entries-init g t c = rw c.new_in-array.ensures (Goes-start c.args.depth (g.I.ParsableInput.bytes c.args.body))
+pub parse_array_body-entries-init : goal.parse_array_body-entries-init
+parse_array_body-entries-init g t c = rw c.new_in-array.ensures (Goes-start c.args.depth (g.I.ParsableInput.bytes c.args.body))
 
 pub payload_within-returns-in_ok-i-in-FieldArray : goal.payload_within-returns-in_ok-i-in-FieldArray
 payload_within-returns-in_ok-i-in-FieldArray g t c =

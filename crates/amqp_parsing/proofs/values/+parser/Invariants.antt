@@ -16,25 +16,25 @@ decreases-payload_within g l = 4 * length (g.I.ParsableInput.bytes l.i) + 2
 abbrev pub decreases-array_within : goal.decreases-array_within
 decreases-array_within g l = 4 * length (g.I.ParsableInput.bytes l.i) + 1
 
-abbrev pub decreases-parse_body : goal.decreases-parse_body
-decreases-parse_body g l = 4 * length (g.I.ParsableInput.bytes l.body) + 1
+abbrev pub decreases-parse_array_body : goal.decreases-parse_array_body
+decreases-parse_array_body g l = 4 * length (g.I.ParsableInput.bytes l.body) + 1
 
-abbrev pub invariant-parse_body-entries : goal.invariant-parse_body-entries
-invariant-parse_body-entries g l =
+abbrev pub invariant-parse_array_body-entries : goal.invariant-parse_array_body-entries
+invariant-parse_array_body-entries g l =
     Goes l.fn.depth (g.I.ParsableInput.bytes l.fn.body) (map view (array_items l.array)) (g.I.ParsableInput.bytes l.rest)
 
-abbrev pub decreases-parse_body-entries : goal.decreases-parse_body-entries
-decreases-parse_body-entries g l = length (g.I.ParsableInput.bytes l.rest)
+abbrev pub decreases-parse_array_body-entries : goal.decreases-parse_array_body-entries
+decreases-parse_array_body-entries g l = length (g.I.ParsableInput.bytes l.rest)
 
 abbrev pub decreases-table_within : goal.decreases-table_within
 decreases-table_within g l = 4 * length (g.I.ParsableInput.bytes l.i) + 1
 
-abbrev pub decreases-parse_pairs : goal.decreases-parse_pairs
-decreases-parse_pairs g l = 4 * length (g.I.ParsableInput.bytes l.body) + 1
+abbrev pub decreases-parse_table_body : goal.decreases-parse_table_body
+decreases-parse_table_body g l = 4 * length (g.I.ParsableInput.bytes l.body) + 1
 
-abbrev pub invariant-parse_pairs-pairs : goal.invariant-parse_pairs-pairs
-invariant-parse_pairs-pairs g l =
+abbrev pub invariant-parse_table_body-pairs : goal.invariant-parse_table_body-pairs
+invariant-parse_table_body-pairs g l =
     Walks l.fn.depth (g.I.ParsableInput.bytes l.fn.body) (kept l.pairs) (g.I.ParsableInput.bytes l.rest)
 
-abbrev pub decreases-parse_pairs-pairs : goal.decreases-parse_pairs-pairs
-decreases-parse_pairs-pairs g l = length (g.I.ParsableInput.bytes l.rest)
+abbrev pub decreases-parse_table_body-pairs : goal.decreases-parse_table_body-pairs
+decreases-parse_table_body-pairs g l = length (g.I.ParsableInput.bytes l.rest)

@@ -26,5 +26,5 @@ returns-clause-read_back g c = reads_back c.args.limits
 pub returns-clause-shortest : goal.returns-clause-shortest
 returns-clause-shortest g c = elim c.read_within.result as (λ r. IfOk r (λ x. IsShortestWithin c.args.limits.depth (view x.1))) [ Ok x ↦ shortest_within c.args.limits.depth (view x.1) | Err e ↦ tt ]
 
-pub returns-clause-tells_apart : goal.returns-clause-tells_apart
-returns-clause-tells_apart g c = elim c.read_within.result as (λ r. IfOk r (λ x. TellsApartWithin c.args.limits.depth (view x.1))) [ Ok x ↦ tells_apart_within c.args.limits.depth (view x.1) | Err e ↦ tt ]
+pub returns-clause-injective : goal.returns-clause-injective
+returns-clause-injective g c = elim c.read_within.result as (λ r. IfOk r (λ x. TellsApartWithin c.args.limits.depth (view x.1))) [ Ok x ↦ tells_apart_within c.args.limits.depth (view x.1) | Err e ↦ tt ]

@@ -2,7 +2,7 @@ use Rattle.std.proofs.Common.{length}
 use Rattle.amqp_types.specs.Inputs.{slice_bytes}
 use Rattle.amqp_in_place.specs.Bodies.{HasValues}
 use Rattle.amqp_in_place.specs.Refs.{array_body}
-use Rattle.amqp_in_place.specs.Answers.{IsLeft}
+use Rattle.amqp_in_place.specs.InPlaceResults.{IsLeft}
 use Rattle.amqp_in_place.proofs.Lookups.{Counts}
 use Rattle.amqp_in_place.proofs.refs.ArrayRef.get.Given as goal
 

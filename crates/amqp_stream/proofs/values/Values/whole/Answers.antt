@@ -18,4 +18,4 @@ returns-in-Ok-clause-answer c = λ left.
     let none : rest ≡ [] = nothing_behind r.limits.frame d s (view c.in-Ok.value) rest r.waiting x in
     let f = front_within d s rest (view c.in-Ok.value) x in
     let all : f.0 ≡ s = sym (f.2 ∙ ap (λ (t : List ℕ). f.0 ++ t) none ∙ append-nil f.0) in
-    (subst (λ (t : List ℕ). WireWithin d t (view c.in-Ok.value)) all f.1, kept_within r.limits.frame s r.some r.waiting, search rules, c.requires.goes_on)
+    (subst (λ (t : List ℕ). WireWithin d t (view c.in-Ok.value)) all f.1, kept_within r.limits.frame s r.some r.waiting, search rules, c.requires.not_failed)

@@ -3,7 +3,7 @@ use Rattle.std.specs.BTreeMap.{insert_entry}
 use Rattle.std.specs.Cmp.Lexicographic.{slice_cmp}
 use Rattle.std.specs.Ordering.{nat_cmp, match_ordering}
 use Rattle.amqp_value_core.specs.declared.value.AMQPValue.{AMQPValue}
-use Rattle.amqp_grammar.specs.Values.{put}
+use Rattle.amqp_grammar.specs.Values.{insert}
 use Rattle.amqp_value_core.specs.View.{view}
 use Rattle.amqp_value_core.specs.Containers.{entries}
 use Rattle.amqp_value_core.proofs.types.field_table.FieldTable.place.Goals as goal
@@ -17,7 +17,7 @@ entries-match_ordering Equal a b c = refl
 entries-match_ordering Greater a b c = refl
 
 -- the map's insert is the tree's put
-entries-insert_entry : (es : Pairs) (k : List ℕ) (v : AMQPValue) → entries (insert_entry (slice_cmp nat_cmp) es k v) ≡ put k (view v) (entries es)
+entries-insert_entry : (es : Pairs) (k : List ℕ) (v : AMQPValue) → entries (insert_entry (slice_cmp nat_cmp) es k v) ≡ insert k (view v) (entries es)
 entries-insert_entry [] k v = refl
 entries-insert_entry (e ∷ es) k v = entries-match_ordering (slice_cmp nat_cmp k e.0) _ _ _ ∙ rw (entries-insert_entry es k v)
 

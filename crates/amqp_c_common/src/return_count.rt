@@ -1,7 +1,7 @@
 //! The numbers that are returned.
 
 ghost use Rattle.std.specs.Prelude.{◌≡◌};
-ghost use Rattle.amqp_c_common.specs.Answers.{answer_of, count_of};
+ghost use Rattle.amqp_c_common.specs.ReturnCodes.{answer_of, count_of};
 
 use crate::fault::Fault;
 
@@ -11,7 +11,7 @@ const OK: i32 = 0;
 /// Leaves how many bytes were written, are needed or have to have room, else 0, and returns the
 /// number that denotes what was done.
 #[inline]
-pub fn answer_count(done: Result<usize, Fault>, count: &mut usize) -> i32
+pub fn return_count(done: Result<usize, Fault>, count: &mut usize) -> i32
     ensures answer { result ≡ answer_of done }
     ensures count { count.new ≡ count_of done }
 {

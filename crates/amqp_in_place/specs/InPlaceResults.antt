@@ -4,7 +4,7 @@ use Rattle.amqp_grammar.specs.Values.{Tree}
 use Rattle.amqp_grammar.specs.Outcomes.{Reading, found, unknown, Outcome}
 use Rattle.amqp_parsing.specs.declared.errors.Err.TheVariants.{Failure}
 use Rattle.amqp_parsing.specs.declared.errors.ErrorKind.TheVariants.{MapOpt}
-use Rattle.amqp_parsing.specs.Answers.{RefusesAs}
+use Rattle.amqp_parsing.specs.ParseResults.{RefusesAs}
 use Rattle.amqp_parsing.specs.Refusals.{Refusal}
 
 -- an error tells of the input, and of no memory

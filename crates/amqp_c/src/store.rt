@@ -1,9 +1,9 @@
 //! What a call returns and leaves behind its pointers.
 
 ghost use Rattle.std.specs.Prelude.{◌≡◌};
-ghost use Rattle.amqp_c_common.specs.Answers.{answer_of};
-ghost use Rattle.amqp_c.specs.BuildCalls.{container_or};
-ghost use Rattle.amqp_c.specs.Answers.{answer_if_any, given_or, found_or, entry_or, cursor_or};
+ghost use Rattle.amqp_c_common.specs.ReturnCodes.{answer_of};
+ghost use Rattle.amqp_c.specs.BuildCalls.{container_or_old};
+ghost use Rattle.amqp_c.specs.CallResults.{answer_if_any, ok_or_old, found_or_old, entry_or_old, cursor_or_old};
 
 use crate::container::Container;
 use crate::cursor::Cursor;
@@ -16,9 +16,9 @@ const OK: i32 = 0;
 const NONE: i32 = 1;
 
 /// Leaves the entry that is given.
-pub fn answer_entry(done: Result<Entry, Fault>, entry: &mut Entry) -> i32
+pub fn store_entry(done: Result<Entry, Fault>, entry: &mut Entry) -> i32
     ensures answer { result ≡ answer_of done }
-    ensures entry { entry.new ≡ given_or entry.old done }
+    ensures entry { entry.new ≡ ok_or_old entry.old done }
 {
     match done {
         Ok(given) => {
@@ -30,9 +30,9 @@ pub fn answer_entry(done: Result<Entry, Fault>, entry: &mut Entry) -> i32
 }
 
 /// Leaves the cursor that is given.
-pub fn answer_cursor(done: Result<Cursor, Fault>, cursor: &mut Cursor) -> i32
+pub fn store_cursor(done: Result<Cursor, Fault>, cursor: &mut Cursor) -> i32
     ensures answer { result ≡ answer_of done }
-    ensures cursor { cursor.new ≡ given_or cursor.old done }
+    ensures cursor { cursor.new ≡ ok_or_old cursor.old done }
 {
     match done {
         Ok(given) => {
@@ -44,9 +44,9 @@ pub fn answer_cursor(done: Result<Cursor, Fault>, cursor: &mut Cursor) -> i32
 }
 
 /// Leaves the entry that is found.
-pub fn answer_found(done: Result<Option<Entry>, Fault>, entry: &mut Entry) -> i32
+pub fn store_found(done: Result<Option<Entry>, Fault>, entry: &mut Entry) -> i32
     ensures answer { result ≡ answer_if_any done }
-    ensures entry { entry.new ≡ found_or entry.old done }
+    ensures entry { entry.new ≡ found_or_old entry.old done }
 {
     match done {
         Ok(Some(found)) => {
@@ -59,14 +59,14 @@ pub fn answer_found(done: Result<Option<Entry>, Fault>, entry: &mut Entry) -> i3
 }
 
 /// Leaves the entry and the cursor that a step returns.
-pub fn answer_step(
+pub fn store_step(
     done: Result<Option<(Entry, Cursor)>, Fault>,
     cursor: &mut Cursor,
     entry: &mut Entry,
 ) -> i32
     ensures answer { result ≡ answer_if_any done }
-    ensures cursor { cursor.new ≡ cursor_or cursor.old done }
-    ensures entry { entry.new ≡ entry_or entry.old done }
+    ensures cursor { cursor.new ≡ cursor_or_old cursor.old done }
+    ensures entry { entry.new ≡ entry_or_old entry.old done }
 {
     match done {
         Ok(Some((next, rest))) => {
@@ -80,9 +80,9 @@ pub fn answer_step(
 }
 
 /// Leaves the container that is given.
-pub fn answer_container(done: Result<Container, Fault>, container: &mut Container) -> i32
+pub fn store_container(done: Result<Container, Fault>, container: &mut Container) -> i32
     ensures answer { result ≡ answer_of done }
-    ensures container { container.new ≡ container_or container.old done }
+    ensures container { container.new ≡ container_or_old container.old done }
 {
     match done {
         Ok(given) => {

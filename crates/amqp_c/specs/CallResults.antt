@@ -4,7 +4,7 @@ use Rattle.amqp_grammar.specs.Values.{Tree}
 use Rattle.amqp_grammar.specs.Outcomes.{Reading, found, more, unknown, malformed, Outcome}
 use Rattle.amqp_grammar.specs.Nesting.{OutcomeWithin}
 use Rattle.amqp_parsing.specs.declared.limits.Limits.{Limits}
-use Rattle.amqp_parsing.specs.Answers.{Refuses}
+use Rattle.amqp_parsing.specs.ParseResults.{Refuses}
 use Rattle.amqp_parsing.specs.Headers.{extent}
 use Rattle.amqp_parsing.specs.Limits.{Within}
 use Rattle.amqp_parsing.specs.Refusals.{Refusal}
@@ -12,7 +12,7 @@ use Rattle.amqp_c.specs.declared.cursor.Cursor.{Cursor}
 use Rattle.amqp_c.specs.declared.entry.Entry.{Entry}
 use Rattle.amqp_c_common.specs.declared.fault.Fault.{Fault}
 use Rattle.amqp_c_common.specs.declared.fault.Fault.TheVariants.{More, UnknownTag, Malformed, TooLarge}
-use Rattle.amqp_c_common.specs.Answers.{fault_of, code_of}
+use Rattle.amqp_c_common.specs.ReturnCodes.{fault_of, code_of}
 use Rattle.amqp_c.specs.Entries.{IsEntry}
 
 -- it is what an error that is right of reading s is told as
@@ -53,19 +53,19 @@ answer_if_any (Ok None) = pos 1
 answer_if_any (Err f) = code_of f
 
 -- what is given, or what stood there
-abbrev pub given_or : {T : Type 0} → T → Result T Fault → T
-given_or old (Ok x) = x
-given_or old (Err f) = old
+abbrev pub ok_or_old : {T : Type 0} → T → Result T Fault → T
+ok_or_old old (Ok x) = x
+ok_or_old old (Err f) = old
 
-abbrev pub found_or : {T : Type 0} → T → Result (Option T) Fault → T
-found_or old (Ok (Some x)) = x
-found_or old _ = old
+abbrev pub found_or_old : {T : Type 0} → T → Result (Option T) Fault → T
+found_or_old old (Ok (Some x)) = x
+found_or_old old _ = old
 
 -- the entry and the cursor that a step returns, or what stood there
-abbrev pub entry_or : Entry → Result (Option (Entry × Cursor)) Fault → Entry
-entry_or old (Ok (Some x)) = x.0
-entry_or old _ = old
+abbrev pub entry_or_old : Entry → Result (Option (Entry × Cursor)) Fault → Entry
+entry_or_old old (Ok (Some x)) = x.0
+entry_or_old old _ = old
 
-abbrev pub cursor_or : Cursor → Result (Option (Entry × Cursor)) Fault → Cursor
-cursor_or old (Ok (Some x)) = x.1
-cursor_or old _ = old
+abbrev pub cursor_or_old : Cursor → Result (Option (Entry × Cursor)) Fault → Cursor
+cursor_or_old old (Ok (Some x)) = x.1
+cursor_or_old old _ = old

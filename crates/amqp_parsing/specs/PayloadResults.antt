@@ -9,7 +9,7 @@ use Rattle.amqp_grammar.specs.Payloads.{RawOutcome}
 use Rattle.amqp_parsing.specs.declared.errors.ErrorKind.{ErrorKind}
 use Rattle.amqp_parsing.specs.declared.errors.ErrorKind.TheVariants.{MapRes, Eof}
 use Rattle.amqp_parsing.specs.Refusals.{Refusal}
-use Rattle.amqp_parsing.specs.Answers.{RefusesAs}
+use Rattle.amqp_parsing.specs.ParseResults.{RefusesAs}
 
 -- an error is right that comes only where more bytes are needed, or where an allocation failed
 abbrev pub OnlyLacks : (Reading → Type 0) → Type 0 → Refusal → Type 0

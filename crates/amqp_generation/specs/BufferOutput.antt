@@ -5,7 +5,7 @@ use Rattle.std.specs.Int.{w32, to_be_bytes}
 use Rattle.std.specs.declared.io.ErrorKind.{ErrorKind}
 use Rattle.amqp_generation.specs.declared.error.GenError.{GenError}
 use Rattle.amqp_generation.specs.declared.error.GenError.TheVariants.{BufferTooSmall, LengthTooLong, IoError, InvalidOffset, OutOfMemory}
-use Rattle.amqp_generation.specs.Outputs.{Seen, HasFailed, Writes}
+use Rattle.amqp_generation.specs.Outputs.{OutputState, HasFailed, Writes}
 
 -- the answer of a call that writes, without what it returns
 abbrev pub answer_of : {T : Type 0} → Result T GenError → Result (Unit {0}) GenError
@@ -14,29 +14,29 @@ answer_of (Err e) = Err e
 
 -- what a buffer is viewed as: its bytes, as many as its position says, and after them as many as it
 -- has room
-pub record IsWhole (s : Seen) : Type 0 where
-  pub told : IsSome s.told
-  pub counted : IfSome s.told (λ put. length put ≡ s.at)
+pub record IsWhole (s : OutputState) : Type 0 where
+  pub written : IsSome s.written
+  pub counted : IfSome s.written (λ put. length put ≡ s.position)
   pub tail : IfSome s.room (λ room. length s.tail ≡ room)
 
 -- One piece of bytes was put whole, or rejected.
-pub record Puts (is_buffer : Bool) (bytes : List ℕ) (before : Seen) (result : Result (Unit {0}) GenError) (after : Seen) : Type 0 where
+pub record AppendsBytes (is_buffer : Bool) (bytes : List ℕ) (before : OutputState) (result : Result (Unit {0}) GenError) (after : OutputState) : Type 0 where
   pub written : Writes is_buffer ⊤ bytes before result after
   -- an error leaves the position as it was
-  pub stayed : OnErr result (after.at ≡ before.at)
+  pub stayed : OnErr result (after.position ≡ before.position)
   -- it isn't rejected within what was promised, and takes no more of that than its length
   pub promised : length bytes ≤ before.promise → IsOk result
   pub promise : OnOk result (before.promise ≤ after.promise + length bytes)
 
 -- A length doesn't fit its field: the call is rejected for that, and nothing was put.
-pub record RefusedAsLong (before : Seen) (result : Result (Unit {0}) GenError) (after : Seen) : Type 0 where
+pub record RefusedAsLong (before : OutputState) (result : Result (Unit {0}) GenError) (after : OutputState) : Type 0 where
   pub is : result ≡ Err LengthTooLong
   pub unchanged : after ≡ before
 
 -- Room was made for n more bytes, or the call failed; nothing else changed.
-pub record MakesRoom (is_buffer : Bool) (n : ℕ) (before : Seen) (result : Result (Unit {0}) GenError) (after : Seen) : Type 0 where
-  pub told : after.told ≡ before.told
-  pub at : after.at ≡ before.at
+pub record MakesRoom (is_buffer : Bool) (n : ℕ) (before : OutputState) (result : Result (Unit {0}) GenError) (after : OutputState) : Type 0 where
+  pub written : after.written ≡ before.written
+  pub position : after.position ≡ before.position
   pub room : after.room ≡ before.room
   pub tail : after.tail ≡ before.tail
   -- a buffer now promises that many
@@ -48,7 +48,7 @@ pub record MakesRoom (is_buffer : Bool) (n : ℕ) (before : Seen) (result : Resu
   pub too_small : IsErrOf result BufferTooSmall → (room : ℕ) × (before.room ≡ Some room) × (room < n)
   pub too_long : IsErrOf result LengthTooLong → ⊥
   pub failed : IfErr result (λ e. (kind : ErrorKind) → e ≡ IoError kind → HasFailed before after)
-  pub offset : IsErrOf result InvalidOffset → 2 ^ 64 ≤ before.at + n
+  pub offset : IsErrOf result InvalidOffset → 2 ^ 64 ≤ before.position + n
   -- a buffer alone may run out of memory; by `no_other` its room is open
   pub memory : IsErrOf result OutOfMemory → IsTrue is_buffer
   pub no_other : IsSome before.room → IfErr result (λ e. e ≡ BufferTooSmall)
@@ -60,21 +60,21 @@ abbrev pub overwrite : List ℕ → ℕ → List ℕ → List ℕ
 overwrite put at bytes = take at put ++ (bytes ++ drop (at + length bytes) put)
 
 -- what an output is viewed as once bytes that were put are replaced
-abbrev pub filled : Seen → ℕ → List ℕ → Seen
-filled s at bytes = record s { told = option_map (λ put. overwrite put at bytes) s.told }
+abbrev pub filled : OutputState → ℕ → List ℕ → OutputState
+filled s at bytes = record s { written = option_map (λ put. overwrite put at bytes) s.written }
 
 -- The bytes put were cut to the first `at`, and the room grew by what was cut.
-pub record GoesBack (at : ℕ) (before : Seen) (after : Seen) : Type 0 where
-  pub told : after.told ≡ option_map (take at) before.told
-  pub position : after.at ≡ at
-  pub room : after.room ≡ option_map (λ room. room + (before.at - at)) before.room
+pub record Truncates (at : ℕ) (before : OutputState) (after : OutputState) : Type 0 where
+  pub written : after.written ≡ option_map (take at) before.written
+  pub position : after.position ≡ at
+  pub room : after.room ≡ option_map (λ room. room + (before.position - at)) before.room
   pub faults : after.faults ≡ before.faults
 
 -- The number of the bytes put after the four from `at` on was filled in there, big-endian; where it
 -- doesn't fit, all from `at` on was taken back.
-pub record FillsLength (at : ℕ) (before : Seen) (result : Result (Unit {0}) GenError) (after : Seen) : Type 0 where
-  pub fits : OnOk result (before.at - at - 4 < 2 ^ 32)
-  pub filled : OnOk result (after ≡ filled before at (to_be_bytes w32 (before.at - at - 4)))
-  pub too_long : OnErr result (2 ^ 32 ≤ before.at - at - 4)
+pub record PatchesLength (at : ℕ) (before : OutputState) (result : Result (Unit {0}) GenError) (after : OutputState) : Type 0 where
+  pub fits : OnOk result (before.position - at - 4 < 2 ^ 32)
+  pub filled : OnOk result (after ≡ filled before at (to_be_bytes w32 (before.position - at - 4)))
+  pub too_long : OnErr result (2 ^ 32 ≤ before.position - at - 4)
   pub refused : IfErr result (λ e. e ≡ LengthTooLong)
-  pub back : OnErr result (GoesBack at before after)
+  pub back : OnErr result (Truncates at before after)
