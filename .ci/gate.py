@@ -14,9 +14,9 @@ from lib import TEST_CRATES, Steps, copy_repository
 KIT_LINE = "rattle-kit-13b"
 # What each step needs beside the kit; `python3`, `cc` and `c++` can't be left out.
 ALWAYS = ("git", "python3", "cc", "c++")
-NEEDS = {"docs": (), "test": (), "oracle": (), "show": (), "alloc-failures": (), "sizes": (), "c": ("nm",), "wrong": ()}
-KEYS = ".ci/refused-keys"
-REFUSED = re.compile(r"(\d+) refused now, (\d+) carried over from an earlier run, (\d+) not refused")
+NEEDS = {"docs": (), "test": (), "oracle": (), "show": (), "alloc-failures": (), "sizes": (), "c": ("nm",), "mutants": ()}
+KEYS = ".ci/mutant-keys"
+REJECTED = re.compile(r"(\d+) rejected now, (\d+) carried over from an earlier run, (\d+) not rejected")
 
 
 def missing(without):
@@ -28,10 +28,10 @@ def missing(without):
     yield from (f"{it} is missing (.ci/setup installs it)" for it in needs if not shutil.which(it))
 
 
-def by_refused(step):
-    """How many wrong bodies were refused and not, by the last line."""
+def by_rejected(step):
+    """How many mutants were rejected and not, by the last line."""
     last = step.out.read_text(errors="replace").rstrip("\n").split("\n")[-1]
-    if not (found := REFUSED.fullmatch(last)):
+    if not (found := REJECTED.fullmatch(last)):
         return 0, 1, f"ended with status {step.status} and no last line that counts"
     return int(found[1]), int(found[3]), last
 
@@ -62,20 +62,20 @@ def gate(name, words):
             "alloc-failures": ([scripts / "alloc-failures"], (proved,)),
             "sizes": ([scripts / "sizes"], (proved,)),
             "c": ([scripts / "c", "--built"], (proved,)),
-            "wrong": ([scripts / "wrong", "--built", "--record", TOP / KEYS, *["--all"] * tries_all], (proved,)),
+            "mutants": ([scripts / "mutants", "--built", "--record", TOP / KEYS, *["--all"] * tries_all], (proved,)),
         }
         if tries_all:
             # rt ci has run the tests and the stored runs
             del words["test"]
         for step, (command, after) in words.items():
             if step not in without:
-                is_wrong = step == "wrong"
-                how = {"judge": by_refused, "tells": r"^\w+: tried$|NOT REFUSED|NOT TRIED|^changed.*"} if is_wrong else {}
+                tries_mutants = step == "mutants"
+                how = {"judge": by_rejected, "tells": r"^\w+: tried$|NOT REJECTED|NOT TRIED|self test: FAILED|^changed.*"} if tries_mutants else {}
                 steps.add(step, command, cwd=copy if command[0].parent == scripts else TOP, after=after, **how)
         os.environ["COMMIT_NUMBER"] = said_by("git", "-C", str(TOP), "rev-list", "--count", "HEAD")
         steps.run()
         steps.notes += [f"left out: {it}" for it in without]
-        steps.notes += [it.last_line for it in steps.steps if it.name == "wrong"]
+        steps.notes += [it.last_line for it in steps.steps if it.name == "mutants"]
         return steps.ended()
 
 
