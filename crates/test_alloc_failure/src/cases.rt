@@ -100,9 +100,9 @@ const VOIDS_JSON: &[Piece] = &[Bytes(b"["), Times(3999, b"null,"), Bytes(b"null]
 /// A length of 0, and a long one.
 const LENGTHS: &[&[u8]] = &[&[0, 0, 0, 0], &[255, 255, 255, 255]];
 
-/// The cases.
-pub const CASES: &[Case] = cases! {
-    // parse_value
+/// `parse_value`.
+fn values() -> &'static [Case] {
+    const CASES: &[Case] = cases! {
     "value_of_a_table" PARSER [Parse(Parser::Value, &[Bytes(TABLE)])]
     "value_of_a_table_in_two" PARSER [ParseSplit(Parser::Value, &[Bytes(TABLE)], 99)]
     "value_of_many_keys" PARSER [Parse(Parser::Value, &[Bytes(b"F\0\0\x01\x90"), Pairs])]
@@ -120,7 +120,13 @@ pub const CASES: &[Case] = cases! {
     ]
     "value_of_many_bytes" PARSER [Parse(Parser::Value, &[Bytes(b"x\0\x01\x11\x70"), Times(70_000, b"a")])]
     "value_that_is_refused" PARSER [Parse(Parser::NoValue, &[Bytes(b"A\0\0\0\x03VI\0")])]
-    // parse_raw_value
+    };
+    CASES
+}
+
+/// `parse_raw_value`.
+fn payloads() -> &'static [Case] {
+    const CASES: &[Case] = cases! {
     "payload_of_a_short_string" PARSER [
         Parse(Parser::Raw(AMQPType::ShortString), &[Bytes(b"\x02hi")]),
         Parse(Parser::Raw(AMQPType::ShortString), &[Bytes(&[255]), Times(255, b"a")]),
@@ -132,7 +138,13 @@ pub const CASES: &[Case] = cases! {
     "payload_of_a_byte_array" PARSER [Parse(Parser::Raw(AMQPType::ByteArray), &[Bytes(b"\0\0\0\x02hi")])]
     "payload_of_an_array" PARSER [Parse(Parser::Raw(AMQPType::FieldArray), &[Bytes(b"\0\0\0\x01V")])]
     "payload_of_a_table" PARSER [Parse(Parser::Raw(AMQPType::FieldTable), &[Bytes(b"\0\0\0\x03\x01aV")])]
-    // the parsers of strings, byte arrays and containers
+    };
+    CASES
+}
+
+/// The parsers of strings, byte arrays and containers.
+fn strings() -> &'static [Case] {
+    const CASES: &[Case] = cases! {
     "short_string" PARSER [Parse(Parser::ShortString, &[Bytes(b"\x02\xc3\xa9")])]
     "short_string_in_two" PARSER [ParseSplit(Parser::ShortString, &[Bytes(b"\x02\xc3\xa9")], 2)]
     "long_string" PARSER [Parse(Parser::LongString, &[Bytes(b"\0\0\0\x04test")])]
@@ -141,7 +153,13 @@ pub const CASES: &[Case] = cases! {
     "byte_array_in_two" PARSER [ParseSplit(Parser::ByteArray, &[Bytes(&[0, 0, 0, 4, 42, 1, 2, 3])], 5)]
     "field_array" PARSER [Parse(Parser::FieldArray, &[Bytes(b"\0\0\0\x07VS\0\0\0\x01a")])]
     "field_table" PARSER [Parse(Parser::FieldTable, &[Bytes(b"\0\0\0\x0b\x01aA\0\0\0\x01V\x01bV")])]
-    // parsers that don't allocate
+    };
+    CASES
+}
+
+/// Parsers that don't allocate.
+fn parsers_without() -> &'static [Case] {
+    const CASES: &[Case] = cases! {
     "values_without_memory" NO_ALLOC [
         ParseValues(&[
             b"", b"z", b"D", b"A\0", b"A\0\0\0\0", b"A\0\0\0\x0az", b"A\xff\xff\xff\xff", b"F\0\0\0\0",
@@ -184,7 +202,13 @@ pub const CASES: &[Case] = cases! {
             Parser::Number(Number::Decimal),
         ], &[&[], &[73], &[73, 0, 0, 0, 1, 0, 0, 0, 2]]),
     ]
-    // flags
+    };
+    CASES
+}
+
+/// Flags.
+fn of_flags() -> &'static [Case] {
+    const CASES: &[Case] = cases! {
     "parse_flags" PARSER [
         Parse(Parser::Flags(&NAMES), &[Bytes(&[221, 2])]),
         Parse(Parser::Flags(&[""; 30]), &[Bytes(&[1, 2, 3, 4])]),
@@ -199,7 +223,13 @@ pub const CASES: &[Case] = cases! {
         FlagsFromBytes(&[], &[221]), ParseEach(&[Parser::Flags(&[]), Parser::Flags(&NAMES)], &[&[221]]),
         GetFlag("b"), GetFlag("z"),
     ]
-    // constructors and appends
+    };
+    CASES
+}
+
+/// Constructors and appends.
+fn constructed() -> &'static [Case] {
+    const CASES: &[Case] = cases! {
     "try_copy" MEMORY [Construct(Constructor::TryCopy, 4), Construct(Constructor::TryCopy, 255)]
     "from_text" ALLOC [Construct(Constructor::FromText, 4), Construct(Constructor::FromText, 70_000)]
     "long_string_from_slice" ALLOC [Construct(Constructor::LongString, 4), Construct(Constructor::LongString, 70_000)]
@@ -217,7 +247,13 @@ pub const CASES: &[Case] = cases! {
         Construct(Constructor::LongString, 0), Construct(Constructor::ByteArray, 0), FromPairs(0),
     ]
     "looked_at_without_memory" NO_ALLOC [Inspect]
-    // clone
+    };
+    CASES
+}
+
+/// Clone.
+fn cloned() -> &'static [Case] {
+    const CASES: &[Case] = cases! {
     "clone_of_a_short_string" ALLOC [CloneAll(&[Of(Kind::ShortString, 4), Of(Kind::ShortString, 255)])]
     "clone_of_a_long_string" ALLOC [CloneAll(&[Of(Kind::LongString, 4), Of(Kind::LongString, 70_000)])]
     "clone_of_a_byte_array" ALLOC [CloneAll(&[Of(Kind::ByteArray, 3), Of(Kind::ByteArray, 70_000)])]
@@ -251,7 +287,13 @@ pub const CASES: &[Case] = cases! {
             ValueOf(Kind::FieldTable, 0),
         ]),
     ]
-    // AMQPValue::try_from
+    };
+    CASES
+}
+
+/// AMQPValue::try_from.
+fn converted() -> &'static [Case] {
+    const CASES: &[Case] = cases! {
     "try_from_to_a_short_string" ALLOC [TryFrom(&[AMQPType::ShortString], &[Text(4), Text(255)])]
     "try_from_to_a_long_string" ALLOC [TryFrom(&[AMQPType::LongString], &[Text(4), Text(70_000)])]
     "try_from_without_memory" NO_ALLOC [
@@ -265,7 +307,13 @@ pub const CASES: &[Case] = cases! {
         TryFrom(&[AMQPType::ShortString, AMQPType::FieldArray], &[Text(256)]),
         TryFrom(&[AMQPType::Void], &[Null]),
     ]
-    // generators
+    };
+    CASES
+}
+
+/// Generators.
+fn generated() -> &'static [Case] {
+    const CASES: &[Case] = cases! {
     "gen_value" MEMORY [Generate(&[Wire(TABLE), ValueOf(Kind::LongString, 70_000)])]
     "gen_raw_value" MEMORY [GeneratePayloads(&[Wire(TABLE), ValueOf(Kind::LongString, 70_000)])]
     "gen_field_array" MEMORY [Generate(&[Of(Kind::FieldArray, 1), Of(Kind::FieldArray, 4000)])]
@@ -285,12 +333,24 @@ pub const CASES: &[Case] = cases! {
     "promised_without_memory" NO_ALLOC [
         FillVector(9, &[Fill::Put(&[1, 2, 3, 4, 5, 6, 7, 8]), Fill::Put(&[10]), Fill::FillAndCut]),
     ]
-    // limits, and readers of values
+    };
+    CASES
+}
+
+/// Limits, and readers of values.
+fn streamed() -> &'static [Case] {
+    const CASES: &[Case] = cases! {
     "value_within_limits" PARSER [Parse(Parser::Within(LIMITS), &[Bytes(TABLE)])]
     "next_value" MEMORY [Next(usize::MAX)]
     "next_value_byte_by_byte" MEMORY [Next(1)]
     "streams_without_memory" NO_ALLOC [ParseEach(&[Parser::Within(NARROW)], &[TABLE]), NextAfterFailure]
-    // values in place
+    };
+    CASES
+}
+
+/// Values in place.
+fn in_place_values() -> &'static [Case] {
+    const CASES: &[Case] = cases! {
     "value_in_place_to_owned" ALLOC [ToOwned(&[TABLE, b"S\0\0\0\x02hi", b"x\0\0\0\x02\xff\0"])]
     // 17 keys, descending, and the first again; and two that differ
     "repeated_key_in_place" ALLOC [
@@ -304,7 +364,13 @@ pub const CASES: &[Case] = cases! {
         Skip(TABLE), RepeatedKey(&[TABLE]),
         ToOwned(&[b"t\x01", b"S\0\0\0\0", b"A\0\0\0\0", b"F\0\0\0\0", b"V"]),
     ]
-    // JSON, dissect and escape
+    };
+    CASES
+}
+
+/// JSON, dissect and escape.
+fn of_texts() -> &'static [Case] {
+    const CASES: &[Case] = cases! {
     "to_json" ALLOC [OfText(TextCall::ToJson, ONE_NUMBER), OfText(TextCall::ToJson, VOIDS)]
     "from_json" MEMORY [OfText(TextCall::FromJson, ONE_NUMBER_JSON), OfText(TextCall::FromJson, VOIDS_JSON)]
     "json_of_encoding" MEMORY [OfText(TextCall::JsonOfEncoding, ONE_NUMBER), OfText(TextCall::JsonOfEncoding, VOIDS)]
@@ -314,7 +380,31 @@ pub const CASES: &[Case] = cases! {
     "dissect" ALLOC [OfText(TextCall::Dissect, ONE_NUMBER), OfText(TextCall::Dissect, VOIDS)]
     "escape" ALLOC [OfText(TextCall::Escape, &[Bytes(b"a\0\"")]), OfText(TextCall::Escape, &[Times(70_000, b"a")])]
     "texts_without_memory" NO_ALLOC [OfText(TextCall::Dissect, &[]), OfText(TextCall::Escape, &[])]
-};
+    };
+    CASES
+}
+
+/// The nth section of the table, a function each, since a proof reads a constant whole.
+pub fn section(n: u8) -> &'static [Case] {
+    match n {
+        0 => values(),
+        1 => payloads(),
+        2 => strings(),
+        3 => parsers_without(),
+        4 => of_flags(),
+        5 => constructed(),
+        6 => cloned(),
+        7 => converted(),
+        8 => generated(),
+        9 => streamed(),
+        10 => in_place_values(),
+        11 => of_texts(),
+        _ => &[],
+    }
+}
+
+/// The number of sections.
+pub const SECTIONS: u8 = 12;
 
 impl Case {
     /// Runs the case. If its calls allocate, one that fails is made once more.

@@ -20,7 +20,7 @@ mod stream;
 mod texts;
 mod values;
 
-use self::cases::CASES;
+use self::cases::{SECTIONS, section};
 use std::alloc::Global;
 use std::process::ExitCode;
 use std::rt::Env;
@@ -43,11 +43,13 @@ fn run<R: Env + Alloc + Print + Eprint>(rt: &R, alloc: Global) -> io::Result<boo
         return Ok(true);
     }
     let mut is_found = false;
-    for case in CASES {
-        if name.is_none_or(|it| it == case.name) {
-            println!(rt; "case {}", case.name)?;
-            case.run(rt, alloc)?;
-            is_found = true;
+    for n in 0..SECTIONS {
+        for case in section(n) {
+            if name.is_none_or(|it| it == case.name) {
+                println!(rt; "case {}", case.name)?;
+                case.run(rt, alloc)?;
+                is_found = true;
+            }
         }
     }
     Ok(is_found)
@@ -55,12 +57,14 @@ fn run<R: Env + Alloc + Print + Eprint>(rt: &R, alloc: Global) -> io::Result<boo
 
 /// Prints each case's name, and the errors of its calls after tabs.
 fn list<R: Print>(rt: &R) -> io::Result<()> {
-    for case in CASES {
-        print!(rt; "{}", case.name)?;
-        for error in case.errors {
-            print!(rt; "\t{error}")?;
+    for n in 0..SECTIONS {
+        for case in section(n) {
+            print!(rt; "{}", case.name)?;
+            for error in case.errors {
+                print!(rt; "\t{error}")?;
+            }
+            println!(rt; "")?;
         }
-        println!(rt; "")?;
     }
     Ok(())
 }
