@@ -10,6 +10,8 @@ pub mod Walks
 pub mod Texts
 -- what stands where a dissection ends
 pub mod Ends
+-- what a dissection is
+pub mod Dissections
 -- where a dissection takes memory
 pub mod Memory
 -- values that are no containers

@@ -1,10 +1,7 @@
 //! The dissection of an encoding.
 
-ghost use Rattle.std.specs.Prelude.{◌≡◌, ◌≤◌, IsTrue, IfOk, OnErr, length, map, take};
-ghost use Rattle.std.specs.List.{list_all};
-ghost use Rattle.amqp_dissect.specs.Parts.{has_bytes, joined, HaveOffsets};
-ghost use Rattle.amqp_dissect.specs.PartsOf.{piece, parts_of};
-ghost use Rattle.amqp_dissect.specs.Ends.{Ends};
+ghost use Rattle.std.specs.Prelude.{IfOk, OnErr};
+ghost use Rattle.amqp_dissect.specs.Dissections.{IsDissection};
 ghost use Rattle.amqp_dissect.specs.Memory.{TakesMemory};
 
 use crate::part::Part;
@@ -45,13 +42,7 @@ pub fn dissect<'a>(
     input: &'a [u8],
     limits: Limits,
 ) -> Result<Dissection<'a>, AllocError>
-    ensures joined { IfOk result (λ d. joined d.parts.items ≡ take d.offset input.entry.now) }
-    ensures offsets { IfOk result (λ d. HaveOffsets d.parts.items) }
-    ensures parts { IfOk result
-        (λ d. map piece d.parts.items ≡ parts_of (take d.offset input.entry.now)) }
-    ensures bytes { IfOk result (λ d. IsTrue (list_all has_bytes d.parts.items)) }
-    ensures within { IfOk result (λ d. d.offset ≤ length input.entry.now) }
-    ensures end { IfOk result (λ d. Ends limits input.entry.now d.offset d.end) }
+    ensures dissection { IfOk result (IsDissection limits input.entry.now) }
     ensures memory { OnErr result (TakesMemory limits input.entry.now) }
 {
     let mut walk = Walk::new(alloc, input, limits.depth);
