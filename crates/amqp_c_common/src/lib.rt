@@ -3,11 +3,11 @@
 #![tactic(auto)]
 
 mod fault;
-mod return_count;
+mod returns;
 mod room;
 mod span;
 
 pub use fault::Fault;
-pub use return_count::return_count;
+pub use returns::return_count;
 pub use room::put;
 pub use span::Span;
