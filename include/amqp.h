@@ -14,14 +14,17 @@
  *   amqp_open) need not be initialised.
  * - `length` bytes can be read at `bytes` or `text`, and `key_length` at `key`. `capacity` bytes can be
  *   written at `buffer`, and by the building functions also read. None of these exceeds PTRDIFF_MAX.
- * - A struct that is written, and the buffer, overlap neither the bytes, nor the key, nor each other,
- *   nor another struct of the call. No other thread writes any of these during the call.
+ * - What a function writes (a struct, a count, the buffer) overlaps neither the bytes, nor the text,
+ *   nor the key, nor another struct or count of the call. During the call no other thread writes any of
+ *   these, nor reads what the function writes.
+ * - The stack suffices for the nesting that the limits of the call allow.
+ * - Three functions that allocate have one more, stated before them.
  *
  * There are no others: a cursor, an entry or a container may hold any numbers, since each call checks
  * them. A corrupted one results in wrong entries, AMQP_NONE, AMQP_MALFORMED or AMQP_INVALID, or in a
- * write elsewhere in the buffer. No byte outside of `bytes`, `key` and `buffer` is accessed, and every
- * span that is returned is inside of them. Offsets count from `bytes`, or from `buffer`: structs can be
- * copied, stored, and used after the bytes were moved.
+ * write elsewhere in the buffer. No memory of the caller is accessed but what is passed. Every span that
+ * is returned is inside `bytes`, or that of a container inside `buffer`. Offsets count from these, so
+ * structs can be copied, stored, and used after the bytes were moved.
  */
 #ifndef MAOLKINT_AMQP_H
 #define MAOLKINT_AMQP_H
@@ -128,8 +131,9 @@ int32_t amqp_read(const uint8_t *bytes, size_t length, uint32_t frame, uint32_t 
 /*
  * Returns the entry of the value at the start of the bytes, by its type tag and its length only.
  *
- * Returns AMQP_OK, AMQP_MORE or AMQP_UNKNOWN_TAG. Takes constant time. AMQP_OK doesn't mean that the
- * body of an array or a table is well-formed: amqp_read checks that.
+ * Returns AMQP_OK, AMQP_MORE (it doesn't return how many bytes are missing) or AMQP_UNKNOWN_TAG. Takes
+ * constant time. AMQP_OK doesn't mean that the body of an array or a table is well-formed: amqp_read
+ * checks that.
  */
 int32_t amqp_first(const uint8_t *bytes, size_t length, amqp_entry *entry);
 
@@ -142,7 +146,7 @@ int32_t amqp_enter(const uint8_t *bytes, size_t length, const amqp_entry *entry,
 
 /*
  * Returns the next entry, and sets the cursor after it. Pairs come in the order in which they are
- * written, equal keys each time.
+ * written, each of several equal keys too.
  *
  * Returns AMQP_OK, AMQP_NONE at the end, AMQP_MALFORMED if no complete entry comes next, or
  * AMQP_INVALID. If the value was read with AMQP_OK, and the cursor is from it, only the first two.
@@ -163,8 +167,10 @@ int32_t amqp_find(const uint8_t *bytes, size_t length, const amqp_cursor *cursor
                   size_t key_length, amqp_entry *entry);
 
 /*
- * The next three functions allocate by malloc, realloc and free, and free all of it. These must be of
- * one allocator that aligns as C requires, and the functions must not be called from a signal handler.
+ * The next three functions allocate by malloc, realloc and free, and free all of it before they return.
+ * Their precondition: malloc, realloc and free are of one allocator that aligns as C requires, and the
+ * three functions aren't called from a signal handler.
+ *
  * They never return AMQP_INVALID. The buffer after the bytes that are written stays unchanged.
  */
 
