@@ -233,7 +233,8 @@ int32_t amqp_from_json(const uint8_t *text, size_t length, uint32_t nesting, uin
  * only that. Each takes constant time, except for what it copies and reads.
  *
  * They return AMQP_INVALID if `into` isn't inside the buffer or has another tag, if the key isn't
- * allowed, or if what is put is no such value, and AMQP_NO_ROOM if the entry doesn't fit.
+ * allowed, or if what is put is no such value, and AMQP_NO_ROOM if there is no other error and the
+ * entry doesn't fit.
  */
 
 /*
