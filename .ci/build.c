@@ -1,15 +1,14 @@
 /*
- * Tries the calls of include/amqp.h that put containers together, beside a writer in plain C.
+ * Tries the functions of include/amqp.h that build containers, next to a writer in plain C.
  *
- * The room lies against a page that can't be touched, with its end or with its front, so a byte
- * that is touched outside of it ends the program. After each call the room and the structs are those
- * that the writer here leaves, byte for byte, and so is the answer; what isn't AMQP_OK leaves all as
- * it was.
+ * The buffer's end or its start is next to a page that can't be accessed, so an access outside of it
+ * ends the program. After each call the buffer and the structs are those that the writer here leaves,
+ * byte for byte, and so is the result; what isn't AMQP_OK leaves all unchanged.
  *
- * It tries every type tag with numbers about its type's ends, keys of every kind, each of some
- * values in rooms of every size, containers and bodies that were corrupted, and random entries that
- * are put together, read back by amqp_read and amqp_next, and made canonical. It prints how many
- * calls it made.
+ * It tries every type tag with numbers about the ends of its type's range, keys of every kind, each of
+ * some values in buffers of every size, containers and bodies that were corrupted, and random entries
+ * that are built, read back by amqp_read and amqp_next, and made canonical. It prints how many calls
+ * it made.
  */
 #include "check.h"
 
@@ -17,7 +16,7 @@
 
 static uint8_t *page;
 
-/* The room as the library and as the writer here leave it. */
+/* The buffer as the library and as the writer here leave it. */
 static uint8_t *room;
 static uint8_t model[MOST];
 static size_t room_length;
@@ -53,7 +52,7 @@ static int takes_key(uint8_t tag, const uint8_t *key, size_t length) {
     return tag == AMQP_ARRAY ? length == 0 : tag == AMQP_TABLE && length <= 255 && is_utf8(key, length);
 }
 
-/* Puts the key and these bytes behind what the container has, and says what is answered. */
+/* Appends the key and these bytes to the container, and returns what the library must return. */
 static int32_t model_append(amqp_container *into, const uint8_t *key, size_t key_length, const uint8_t *bytes,
                             size_t length) {
     size_t end = into->written.offset + into->written.length;
@@ -80,7 +79,7 @@ static size_t big_endian(uint8_t *bytes, size_t width, uint64_t n) {
     return width;
 }
 
-/* The encoding of a value of fixed width, and how many bytes it has; 0 where there is none. */
+/* The encoding of a value of fixed width, and how many bytes it has; 0 if there is none. */
 static size_t model_scalar(uint8_t *bytes, uint8_t tag, uint64_t bits, uint8_t scale) {
     int64_t n = (int64_t)bits;
     bytes[0] = tag;
@@ -107,7 +106,7 @@ static size_t model_scalar(uint8_t *bytes, uint8_t tag, uint64_t bits, uint8_t s
     }
 }
 
-/* ---- the library beside it */
+/* ---- the library next to it */
 
 /* A container between bytes that no call may write. */
 typedef struct held {
@@ -123,7 +122,7 @@ static held hold(amqp_container it) {
     return all;
 }
 
-/* After a call the answer, the container, the room and its surroundings are as they have to be. */
+/* After a call the result, the container, the buffer and its surroundings are as they have to be. */
 static int32_t check(const held *all, amqp_container wanted, int32_t answer, int32_t right) {
     calls++;
     CHECK(answer == right);
@@ -137,7 +136,7 @@ static int32_t check(const held *all, amqp_container wanted, int32_t answer, int
     return answer;
 }
 
-/* Gives the room so many bytes, all of them the same, at the end of the page or at its front. */
+/* Gives the buffer n bytes, all of them the same, at the end of the page or at its start. */
 static void new_room(size_t length, int at_front) {
     memset(page, 0xa5, page_size);
     room_length = length;
@@ -195,7 +194,7 @@ static int32_t open_in(const amqp_container *into, const uint8_t *key, size_t ke
     return check(&all, *body, amqp_open(room, room_length, into, key, key_length, tag, &all.it), right);
 }
 
-/* Whether the body begins behind a key, its type tag and four bytes, at the end of `into`. */
+/* Whether the body begins after a key, its type tag and four bytes, at the end of `into`. */
 static int is_open(const amqp_container *into, const amqp_container *body) {
     size_t at = into->written.offset + into->written.length, key_length = 0;
     int is_container = body->tag == AMQP_ARRAY || body->tag == AMQP_TABLE;
@@ -287,7 +286,7 @@ static void try_keys(void) {
 static const char *const values[] = {"t\1", "S\0\0\0\2hi", "A\0\0\0\3Vt\7", "F\0\0\0\3\1kV", "F\0\0\0\1", "z", "A\0\0\0\1z"};
 static const size_t lengths[] = {2, 7, 8, 8, 5, 1, 6};
 
-/* Entries of every kind in rooms of every size, behind what is there already. */
+/* Entries of every kind in buffers of every size, after what is there already. */
 static void try_rooms(void) {
     for (size_t length = 0; length <= 40; length++) {
         for (size_t before = 0; before <= length; before += 3) {
@@ -342,7 +341,7 @@ static void try_corrupt(size_t length) {
     }
 }
 
-/* Bodies that were corrupted, and containers beside them, over bytes as amqp_open leaves them. */
+/* Bodies that were corrupted, and containers next to them, over bytes as amqp_open leaves them. */
 static void try_corrupt_bodies(const uint8_t *bytes, size_t length) {
     size_t small = length + 2, count = small + 4;
     new_room(length, 0);
@@ -360,7 +359,7 @@ static void try_corrupt_bodies(const uint8_t *bytes, size_t length) {
     }
 }
 
-/* A room and a body of more than 2^32 bytes, of which no more is touched than the first. */
+/* A buffer and a body of more than 2^32 bytes, of which only the first is accessed. */
 static void try_large(void) {
     size_t large = ((size_t)1 << 32) + page_size;
     uint8_t *bytes = mmap(NULL, large, PROT_READ | PROT_WRITE, MAP_PRIVATE | MAP_ANONYMOUS | MAP_NORESERVE, -1, 0);
@@ -382,7 +381,7 @@ static void try_large(void) {
     munmap(bytes, large);
 }
 
-/* Puts random entries into a container, and into containers in it. */
+/* Appends random entries to a container, and to containers in it. */
 static void fill(amqp_container *into, int depth) {
     static const uint8_t every[] = "tbBsuIilfdDTV";
     for (uint64_t entries = random_number() % 6; entries > 0; entries--) {
@@ -410,7 +409,7 @@ static void fill(amqp_container *into, int depth) {
     }
 }
 
-/* Puts what a cursor steps through together again, in the other room, by what each entry tells. */
+/* Builds what a cursor iterates over again, in the other buffer, from each entry. */
 static void copy_entries(const uint8_t *bytes, size_t length, amqp_cursor cursor, amqp_container *into) {
     amqp_entry entry;
     while (amqp_next(bytes, length, &cursor, &entry) == AMQP_OK) {
@@ -429,7 +428,7 @@ static void copy_entries(const uint8_t *bytes, size_t length, amqp_cursor cursor
     }
 }
 
-/* What is put together is read, entry by entry what was put, and has a canonical encoding. */
+/* What was built is read, entry by entry what was appended, and has a canonical encoding. */
 static void try_random(void) {
     static uint8_t first[MOST], canonical[MOST], again[MOST];
     amqp_container top = whole, body = whole;

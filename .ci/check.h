@@ -1,6 +1,6 @@
 /*
  * What the programs that try the calls for C share: a check, allocations that fail, pages that can't
- * be touched, numbers to try, and calls that write to a buffer.
+ * be accessed, numbers to try, and calls that write to a buffer.
  * Linked with -Wl,--wrap=malloc, realloc and free.
  */
 #ifndef CHECK_H
@@ -55,7 +55,7 @@ void __wrap_free(void *block) {
 
 static size_t page_size;
 
-/* So many pages, between two that can't be touched. */
+/* That many pages, between two that can't be accessed. */
 static inline uint8_t *pages_between(size_t count) {
     page_size = (size_t)sysconf(_SC_PAGESIZE);
     uint8_t *pages = mmap(NULL, (count + 2) * page_size, PROT_NONE, MAP_PRIVATE | MAP_ANONYMOUS, -1, 0);
@@ -108,7 +108,7 @@ static inline void try_changes(void (*try)(const uint8_t *, size_t), const char 
 #define DEPTH 8
 #define FILLED 0x5a
 
-/* What is passed and the buffer each end with pages that can't be touched behind them. Of the buffer's
+/* What is passed and the buffer each end with pages that can't be accessed after them. Of the buffer's
    pages the last `watched` bytes before it are checked too. */
 static uint8_t *given_end, *buffer_start, *buffer_end;
 static size_t watched = 64;

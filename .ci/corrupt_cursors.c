@@ -4,7 +4,7 @@
  * The bytes are next to a page that can't be touched, once with their end and once with their
  * start, so a byte that is read outside of them ends the program. Of each result it checks what the
  * header says: what is returned is inside the bytes, a step goes on, what isn't AMQP_OK leaves the entry
- * and the cursor as they were, and nothing beside the structs is written.
+ * and the cursor unchanged, and nothing but the structs is written.
  *
  * It tries every cursor of small numbers over small inputs, each prefix of them and each change of
  * one byte to one of some, and then random cursors over random bytes. It prints how many calls
@@ -86,7 +86,7 @@ static void walk(const uint8_t *bytes, size_t length, amqp_cursor cursor) {
     }
 }
 
-/* Reads the value, and enters what a corrupt entry tells. */
+/* Reads the value, and enters the container that a corrupted entry denotes. */
 static void front(const uint8_t *bytes, size_t length, amqp_cursor cursor) {
     size_t count = 77;
     int32_t answer = amqp_read(bytes, length, 64, 3, &count);
@@ -140,7 +140,7 @@ static void all_cursors(const uint8_t *bytes, size_t length) {
     }
 }
 
-/* Puts the bytes against the page's end, then against its front. */
+/* Moves the bytes to the page's end, then to its start. */
 static void at_both_ends(const uint8_t *input, size_t length, void (*try)(const uint8_t *, size_t)) {
     uint8_t *places[] = {page + page_size - length, page};
     for (int i = 0; i < 2; i++) {

@@ -17,7 +17,7 @@
 
 #define MANY 256
 
-/* Texts that mean a value, and how deep they nest: a bracket in a string is none. */
+/* Texts that denote a value, and how deep they nest: brackets in strings don't count. */
 static const struct {
     const char *text;
     uint32_t nesting;
@@ -62,7 +62,7 @@ static const struct {
 static const uint8_t other_bytes[] = {0, 1, 2, 'A', 'F', 'L', 'S', 'U', 'V', 'b', 't', 127, 128, 255};
 static const uint8_t other_characters[] = {0, ' ', '"', '-', '.', '0', '9', ',', ':', '[', '\\', ']', 'e', '{', '}', 128, 255};
 
-/* Texts that mean nothing, and texts that mean what has no encoding. */
+/* Texts that denote nothing, and texts that denote a value without encoding. */
 static const char *const not_json[] = {
     "", " ", "nul", "1.0", "-0", "1e3", "9223372036854775808", "\"\377\"", "[1", "[1]]", "{\"a\":1,}", "\"\\ud800\"",
     "{\"LongLongInt\":5}", "{\"Void\":null}", "{\"FieldTable\":{\"a\":1}}", "{\"LongString\":\"6869\"}",
@@ -72,7 +72,7 @@ static const char *const not_encoded[] = {"{\"ShortString\":\"\"}", "[null,{\"Sh
 
 static const way there = {TO_JSON, FRAME, DEPTH, 0}, back = {FROM_JSON, 0, 0, AMQP_JSON_NESTING};
 
-/* A text is refused, or means a value: the encoding that it gives is canonical, and its JSON gives it again. */
+/* A text is rejected, or denotes a value: its encoding is canonical, and the JSON of that yields it again. */
 static void try_text(const uint8_t *given, size_t length) {
     uint8_t encoding[MANY], text[MANY];
     size_t count, again;
@@ -88,7 +88,7 @@ static void try_text(const uint8_t *given, size_t length) {
     }
 }
 
-/* Bytes are read as amqp_read reads them, and the JSON of a value gives its canonical encoding. */
+/* Bytes are read as amqp_read reads them, and the JSON of a value yields its canonical encoding. */
 static void try_bytes(const uint8_t *given, size_t length) {
     uint8_t text[MANY], canonical[MANY];
     size_t wanted, count, again, written;
@@ -114,7 +114,7 @@ static void try_limits(void) {
     CHECK(write_to((way){TO_JSON, 10, 1, 0}, nested, 10, MANY, &count) == AMQP_MALFORMED);
 }
 
-/* A text is read where it may nest as deep as it does, and refused where it may not. */
+/* A text is read if it may nest as deep as it does, and otherwise rejected. */
 static void try_nesting(const char *text, uint32_t nesting) {
     size_t length = strlen(text), count;
     for (uint32_t most = 0; most < nesting + 2; most++) {
@@ -123,7 +123,7 @@ static void try_nesting(const char *text, uint32_t nesting) {
     }
 }
 
-/* A text that nests so deep. */
+/* A text that nests that deep. */
 static void try_deep(size_t deep, uint32_t nesting, int32_t wanted) {
     uint8_t text[MANY];
     size_t count;

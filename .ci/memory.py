@@ -1,7 +1,7 @@
 """Where the sources make up that memory ran out.
 
 No clause can say that an allocation failed. A body that answers OutOfMemory above some size keeps its contract, so its
-form is what is refused: OutOfMemory, of whatever error, and AllocError are made by From<AllocError>, which `?` calls,
+form is what is rejected: OutOfMemory, of whatever error, and AllocError are made by From<AllocError>, which `?` calls,
 or on the right of a match arm with no guard, each alternative of whose pattern names such an error. Failure and
 out_of_memory() are what amqp_parsing calls it.
 """
@@ -13,7 +13,7 @@ from crates import TOP
 # Tests, and programs that provoke such errors.
 LEFT_OUT = set("""
     test_values test_readers test_large test_alloc_failure test_malformed test_support""".split())
-# The lines that stand otherwise, each once in its file, and why.
+# The lines that are otherwise, each once in its file, and why.
 LISTED = {
     ("amqp_json/src/text.rt", "Err(e) if e.is_memory() => return Err(JsonError::OutOfMemory),"):
         "the kit's error has no variants: a call tells that it is of memory",
@@ -59,7 +59,7 @@ def brackets(code, at):
 
 
 def before(code, at):
-    """What stands before a place in its arm, statement or argument."""
+    """What is before a place in its arm, statement or argument."""
     depth = 0
     for it in range(at - 1, -1, -1):
         depth += (code[it] in ")]") - (code[it] in "([")
@@ -69,7 +69,7 @@ def before(code, at):
 
 
 def is_pattern(code, at):
-    """Whether what stands here is part of a pattern."""
+    """Whether what is here is part of a pattern."""
     end = at
     for it in brackets(code, at):
         if code[it] == "{":
@@ -82,7 +82,7 @@ def is_pattern(code, at):
 
 
 def is_passed_on(code, at):
-    """Whether it stands in an arm that only such an error comes to."""
+    """Whether it is in an arm that only such an error reaches."""
     for place in (at, *brackets(code, at)):
         pattern, arrow, _ = before(code, place).rpartition("=>")
         if arrow and not re.search(r"\bif\b", pattern) and all(re.search(NAMED, it) for it in pattern.split("|")):

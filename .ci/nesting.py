@@ -22,7 +22,7 @@ KEY = b"\x04Void"
 
 
 def encoding(form, depth):
-    """An encoding that nests so deep."""
+    """An encoding that nests that deep."""
     parts, length = [b"V"], 1
     for tag in reversed((form * depth)[:depth]):
         key = KEY if tag == "F" else b""
@@ -51,7 +51,7 @@ DEEP, OF_JSON = (LIMIT, 1000), (LIMIT, 127)
 DEEPEST = (LIMIT, 1000, 10_000)
 REFUSED = "Error(ParserErrors { kind: Eof })"
 NO_JSON = "Syntax(Error(invalid JSON at "
-# Each call: what it is made on, how deep, and how its answer begins where a limit refuses that. No depth: it doesn't recurse.
+# Each call: what it is made on, how deep, and how its result begins if a limit rejects that. No depth: it doesn't recurse.
 CALLS = {
     "parse_value": (encoding, DEEPEST, None),
     "parse_value_within": (encoding, DEEP, REFUSED),
@@ -90,7 +90,7 @@ def table():
 
 
 def answer(program, name, depth, given, stack):
-    """What a call answers on a stack of so many bytes, or how the program ended."""
+    """What a call returns on a stack of that many bytes, or how the program ended."""
     limit = lambda: resource.setrlimit(resource.RLIMIT_STACK, (stack, stack))
     how = {"input": given, "capture_output": True, "env": {}, "preexec_fn": limit, "timeout": 60}
     done = subprocess.run([program, name, str(depth)], **how)
@@ -104,7 +104,7 @@ def long_input(make, form):
 
 
 def judged(program):
-    """Yields the name of each check, and what was answered in place of what should be."""
+    """Yields the name of each check, and what was returned instead of what should be."""
     figures, besides = table()
     for name, (make, depths, refusal) in CALLS.items():
         halves = []

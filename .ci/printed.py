@@ -26,7 +26,7 @@ TYPES = {
     "A": ("FieldArray", None), "F": ("FieldTable", None), "T": ("Timestamp", 8), "V": ("Void", 0),
 }
 SIGNED = ("ShortShortInt", "ShortInt", "LongInt", "LongLongInt")
-# How many digits at most stand before a point, and zeros behind it, with no exponent.
+# How many digits are at most before a point, and zeros after it, without an exponent.
 LAYOUT = {"Float": (13, 5), "Double": (16, 4)}
 LAST_DATE = 253402207200
 UNPRINTABLE = {*range(0x20), *range(0x7F, 0xA0), 0x61C, 0x200E, 0x200F, *range(0x202A, 0x202F), *range(0x2066, 0x206A)}
@@ -73,7 +73,7 @@ def lack(tag, data):
 
 
 def extent(data):
-    """How many bytes the value at the front has at least."""
+    """How many bytes the value at the start has at least."""
     if not data or chr(data[0]) not in TYPES:
         return 0
     width = TYPES[chr(data[0])][1]
@@ -83,7 +83,7 @@ def extent(data):
 
 
 class Dissection:
-    """The parts of the value at the front of some bytes, up to its end or to where it fails, and what is cut by the bytes' end."""
+    """The parts of the value at the start of some bytes, up to its end or to where it fails, and what is cut by the bytes' end."""
 
     def __init__(self, data, frame=FRAME, depth=DEPTH):
         self.data, self.parts, self.cut, self.failure, self.end = data, [], set(), "", 0
@@ -162,12 +162,12 @@ class Dissection:
 
 
 def following(data, end, frame=FRAME):
-    """How many bytes stand behind a value. No more than the limit and one are read."""
+    """How many bytes are after a value. No more than the limit and one are read."""
     return f"at least {frame + 1 - end}" if len(data) > frame else str(len(data) - end)
 
 
 def outcome(data, dissection, frame=FRAME):
-    """What reading within the limits comes to."""
+    """What reading within the limits results in."""
     if not data:
         return "truncated; more bytes needed: 1"
     if chr(data[0]) not in TYPES:
@@ -297,7 +297,7 @@ def value_at(parts, at):
 
 
 def repeated(parts):
-    """A line for each key that comes again in its table."""
+    """A line for each key that is repeated in its table."""
     key, tables, found = None, [], {}
     for at, part in enumerate(parts):
         if part.kind == "key length":
@@ -370,7 +370,7 @@ def printed_json(data):
 
 
 def streamed(values):
-    """What `amqp_show --stream --keep-going` prints of values and refused ones, one after another, and with `--json` on either output."""
+    """What `amqp_show --stream --keep-going` prints of values and rejected ones, one after another, and with `--json` on either output."""
     text, json, said, offset = [], [], [], 0
     for data in values:
         (*lines, last), status = printed(data)[0].splitlines(keepends=True), printed(data)[1]
@@ -469,5 +469,5 @@ def inputs():
 
 
 def stream():
-    """The inputs whose length is known, each up to its end, refused ones too, and at last one that is cut."""
+    """The inputs whose length is known, each up to its end, rejected ones too, and at last one that is cut."""
     return [*(data[: extent(data)] for data in inputs() if 0 < extent(data) <= len(data)), max(captured(), key=len)[:100]]

@@ -1,6 +1,6 @@
 /*
- * Puts the arguments of a queue together, a table in which a table and an array stand, and prints
- * its encoding in hexadecimal. With a number as argument the room has so many bytes.
+ * Builds the arguments of a queue, a table that contains a table and an array, and prints its encoding
+ * in hexadecimal. A number as argument is the buffer's capacity.
  */
 #include "amqp.h"
 #include "why.h"
@@ -12,7 +12,7 @@
 static uint8_t room[256];
 static size_t room_length = sizeof room;
 
-/* The first answer that isn't AMQP_OK; then nothing more is put. */
+/* The first result that isn't AMQP_OK; then nothing more is appended. */
 static int32_t answer;
 
 static const uint8_t *bytes_of(const char *text) {

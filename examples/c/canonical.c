@@ -1,6 +1,6 @@
 /*
  * Prints the canonical encoding of the value that is given in hexadecimal on standard input, in
- * hexadecimal. With a number as argument the room has so many bytes.
+ * hexadecimal. A number as argument is the buffer's capacity.
  */
 #include "amqp.h"
 #include "hexadecimal.h"
@@ -9,7 +9,7 @@
 #define FRAME 131072
 #define DEPTH 64
 
-/* Never more bytes than the value was read from, so this is room enough. */
+/* Never more bytes than the value was read from, so this capacity is enough. */
 static uint8_t bytes[FRAME];
 static uint8_t room[FRAME];
 

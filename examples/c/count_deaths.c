@@ -7,7 +7,7 @@
 
 #include <inttypes.h>
 
-/* The count of the first death, or -1 where the headers have none. `headers` is a table with its type tag. */
+/* The count of the first death, or -1 if the headers have none. `headers` is a table with its type tag. */
 static int64_t deaths(const uint8_t *headers, size_t length) {
     size_t taken;
     amqp_entry entry;

@@ -1,6 +1,6 @@
 /*
  * Finds a header of a message: prints the value at a key of a table, which is given in hexadecimal
- * on standard input. The entries before and behind it aren't copied, and no memory is taken.
+ * on standard input. The entries before and after it aren't copied, and nothing is allocated.
  */
 #include "amqp.h"
 #include "hexadecimal.h"

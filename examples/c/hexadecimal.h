@@ -1,4 +1,4 @@
-/* Reading bytes as a person writes them: hexadecimal digits, with spaces, and notes behind `#`. */
+/* Reading bytes as a person writes them: hexadecimal digits, with spaces, and comments after `#`. */
 #ifndef HEXADECIMAL_H
 #define HEXADECIMAL_H
 
@@ -6,7 +6,7 @@
 #include <stdio.h>
 #include <stdlib.h>
 
-/* Reads at most `room` bytes from a file, and returns how many. It ends the program on anything else. */
+/* Reads at most `room` bytes from a file, and returns how many. Anything else ends the program. */
 static size_t read_hexadecimal(FILE *file, unsigned char *bytes, size_t room) {
     size_t digits = 0;
     int c;

@@ -2,7 +2,7 @@
  * Prints the JSON of the value that is given in hexadecimal on standard input. With the word `back` it
  * prints the canonical encoding of the value whose JSON is given, in hexadecimal.
  *
- * How much room is needed is asked first, with no room at all.
+ * It asks for the capacity that is needed first, with a capacity of 0.
  */
 #include "amqp.h"
 #include "hexadecimal.h"

@@ -1,5 +1,5 @@
 /*
- * Prints the value that stands at the front of some bytes, which are given in hexadecimal on
+ * Prints the value at the start of some bytes, which are given in hexadecimal on
  * standard input: a line for each entry, deeper by two spaces in each container.
  */
 #include "amqp.h"
@@ -26,7 +26,7 @@ int main(void) {
     }
     printf("%zu bytes\n", count);
 
-    /* The cursors of the containers that are open, the innermost last, and one that no container takes. */
+    /* The cursors of the containers that are open, the innermost last, and a spare one. */
     amqp_cursor open[DEPTH + 1];
     size_t depth = 0;
     amqp_entry entry;
@@ -38,7 +38,7 @@ int main(void) {
             printf(": ");
         }
         show_value(bytes, &entry);
-        /* amqp_read has seen that no more than DEPTH containers nest */
+        /* amqp_read has checked that no more than DEPTH containers nest */
         if (amqp_enter(bytes, length, &entry, &open[depth]) == AMQP_OK) {
             depth++;
         }

@@ -1,5 +1,5 @@
 #!/usr/bin/env python3
-"""Prints the value at the front of some bytes in hexadecimal, as print_value.c does: print_value.py LIBRARY < BYTES
+"""Prints the value at the start of some bytes in hexadecimal, as print_value.c does: print_value.py LIBRARY < BYTES
 
 LIBRARY is a shared object of the static library:
 cc -shared -o libamqp.so -Wl,--whole-archive crates/amqp_c/out/libamqp_c.a -Wl,--no-whole-archive
@@ -46,7 +46,7 @@ def floating(form, bits):
 
 
 def shown(data, entry):
-    """The type and the value, of a container its type alone."""
+    """The type and the value, of a container only its type."""
     content = text(entry.content.of(data))
     return {
         "t": f"Boolean {'true' if entry.bits else 'false'}",
@@ -62,7 +62,7 @@ def shown(data, entry):
 
 
 def entries(library, data, container):
-    """The entries of an array or a table, in order; none of any other value."""
+    """The entries of an array or a table, in order; of any other value none."""
     cursor, entry = Cursor(), Entry()
     if library.amqp_enter(data, len(data), ctypes.byref(container), ctypes.byref(cursor)) != OK:
         return

@@ -1,4 +1,4 @@
-/* Printing what an entry tells. */
+/* Printing an entry. */
 #ifndef SHOW_H
 #define SHOW_H
 
@@ -9,7 +9,7 @@
 #include <stdio.h>
 #include <string.h>
 
-/* Prints bytes in quotes, those that are no printable ASCII as `\xNN`. */
+/* Prints bytes in quotes, those that aren't printable ASCII as `\xNN`. */
 static void show_text(const uint8_t *bytes, amqp_span span) {
     putchar('"');
     for (size_t i = 0; i < span.length; i++) {
@@ -36,7 +36,7 @@ static double double_of(uint64_t bits) {
     return number;
 }
 
-/* Prints the type and the value, of a container its type alone. */
+/* Prints the type and the value, of a container only its type. */
 static void show_value(const uint8_t *bytes, const amqp_entry *entry) {
     switch (entry->tag) {
     case AMQP_BOOLEAN: printf("Boolean %s", entry->bits ? "true" : "false"); break;

@@ -1,10 +1,10 @@
-/* Words for what a call answers. */
+/* Words for what a function returns. */
 #ifndef WHY_H
 #define WHY_H
 
 #include "amqp.h"
 
-/* Says why nothing is given. */
+/* Says why there is no result. */
 static const char *why(int32_t answer) {
     switch (answer) {
     case AMQP_OK: return "given";
