@@ -222,8 +222,8 @@ int32_t amqp_from_json(const uint8_t *text, size_t length, uint32_t nesting, uin
                        size_t capacity, size_t *count);
 
 /*
- * The functions below build an array or a table in a buffer, entry by entry. At first the buffer is the
- * body of an array:
+ * The functions below build an array or a table in a buffer, entry by entry. A body is the entries of an
+ * array or a table, without its type tag and length. At first the buffer is the body of an array:
  *
  *     amqp_container top = {{0, 0}, AMQP_ARRAY};
  *
