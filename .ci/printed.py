@@ -1,17 +1,15 @@
-"""What amqp_show must print of some bytes, by docs/SHOW.md and docs/GRAMMAR.md, and inputs for it.
+"""What amqp_show must print of some bytes, by docs/SHOW.md, docs/GRAMMAR.md and docs/JSON.md, and inputs for it.
 
-It shares nothing with the crates; JSON is by .ci/oracle.
+It has a separate reader and writer of values, and shares nothing with the crates.
 """
 
+import json
 import random
 import struct
 from dataclasses import dataclass
 from datetime import datetime, timedelta
 from decimal import Decimal
 from fractions import Fraction
-from functools import cache
-from importlib.machinery import SourceFileLoader
-from importlib.util import module_from_spec, spec_from_loader
 
 from crates import TOP
 
@@ -25,23 +23,120 @@ TYPES = {
     "f": ("Float", 4), "d": ("Double", 8), "D": ("DecimalValue", 5), "S": ("LongString", None), "x": ("ByteArray", None),
     "A": ("FieldArray", None), "F": ("FieldTable", None), "T": ("Timestamp", 8), "V": ("Void", 0),
 }
+# The tags that are written as another.
+ALTERNATE = {"U": "s", "L": "l"}
 SIGNED = ("ShortShortInt", "ShortInt", "LongInt", "LongLongInt")
-# How many digits are at most before a point, and zeros after it, without an exponent.
+# The types that a JSON object's only name may be, for which it means a value of that type.
+NAMES = {*(name for name, _ in TYPES.values()), "LongLongUInt", "ShortString"}
+# The types with a length before their content.
+COUNTED = "SxAF"
+# How many digits at most stand before a point, and zeros behind it, with no exponent.
 LAYOUT = {"Float": (13, 5), "Double": (16, 4)}
 LAST_DATE = 253402207200
 UNPRINTABLE = {*range(0x20), *range(0x7F, 0xA0), 0x61C, 0x200E, 0x200F, *range(0x202A, 0x202F), *range(0x2066, 0x206A)}
 
 
-@cache
-def oracle():
-    """The reader and the writer of JSON of .ci/oracle."""
-    loader = SourceFileLoader("oracle", str(TOP / ".ci/oracle"))
-    module = module_from_spec(spec_from_loader("oracle", loader))
-    loader.exec_module(module)
-    return module
+def extent(data):
+    """How many bytes the value at the start has at least."""
+    if not data or chr(data[0]) not in TYPES:
+        return 0
+    width = TYPES[chr(data[0])][1]
+    if width is not None:
+        return 1 + width
+    return 5 + int.from_bytes(data[1:5], "big") if len(data) >= 5 else 5
 
 
-# The parts
+def lack(data):
+    """How many more bytes the field needs that is being read: the type tag, or a field of the payload."""
+    return 1 if data in (b"", b"D") else max(0, extent(data) - len(data))
+
+
+# Values: the type tag that each is written with, and its content
+
+
+class Unread(Exception):
+    """Why there is no value, as amqp_wire prints it."""
+
+
+def read(data):
+    """Returns the value at the start of some bytes, and what is left after it."""
+    if needs := lack(data):
+        raise Unread(f"more {needs}")
+    tag, end = chr(data[0]), extent(data)
+    if tag not in TYPES:
+        raise Unread("refused MapOpt")
+    content, rest = data[5 if tag in COUNTED else 1 : end], data[end:]
+    if tag == "t":
+        content = bytes([content != b"\0"])
+    try:
+        content = items(content) if tag == "A" else entries(content) if tag == "F" else content
+    except (Unread, UnicodeDecodeError):
+        raise Unread("refused Eof") from None
+    return (ALTERNATE.get(tag, tag), content), rest
+
+
+def items(body):
+    found = []
+    while body:
+        value, body = read(body)
+        found.append(value)
+    return found
+
+
+def entries(body):
+    found = {}
+    while body:
+        key, body = body[: 1 + body[0]], body[1 + body[0] :]
+        if len(key) <= key[0]:
+            raise Unread("cut")
+        key[1:].decode("utf-8")
+        found[key[1:]], body = read(body)
+    return found
+
+
+def write(value):
+    """The bytes of a value."""
+    tag, content = value
+    if tag == "A":
+        content = b"".join(map(write, content))
+    if tag == "F":
+        content = b"".join(bytes([len(key)]) + key + write(it) for key, it in sorted(content.items()))
+    return field(tag.encode(), content) if tag in COUNTED else tag.encode() + content
+
+
+def json_of(value):
+    """The JSON of a value."""
+    tag, content = value
+    name = TYPES[tag][0]
+    if tag == "V":
+        return None
+    if tag == "t":
+        return content != b"\0"
+    if tag == "A":
+        return [json_of(it) for it in content]
+    if tag == "F":
+        found = {key.decode(): json_of(it) for key, it in sorted(content.items())}
+        return {name: found} if len(found) == 1 and found.keys() <= NAMES else found
+    if tag == "S":
+        try:
+            return content.decode("utf-8")
+        except UnicodeDecodeError:
+            return {name: content.hex()}
+    if tag == "D":
+        return {name: {"scale": content[0], "value": int.from_bytes(content[1:], "big")}}
+    if tag in "fdx":
+        return {name: content.hex()}
+    number = int.from_bytes(content, "big", signed=name in SIGNED)
+    return number if tag == "l" else {name: number}
+
+
+def json_text(value):
+    """The JSON of a value as amqp_show prints it."""
+    text = json.dumps(json_of(value), ensure_ascii=False, separators=(",", ":"))
+    return "".join(f"\\u{ord(c):04x}" if ord(c) in UNPRINTABLE else c for c in text)
+
+
+# Parts
 
 
 class Failure(Exception):
@@ -58,130 +153,123 @@ class Part:
     kind: str
     type: str
     bytes: bytes
+    # What the tree has of a type tag and of a key's length, and what isn't canonical here.
+    text: str = "?"
+    note: str = ""
+    is_cut: bool = False
 
-
-def lack(tag, data):
-    """How many more bytes the field of a payload needs that is being read."""
-    name, width = TYPES[tag]
-    if width is None:
-        if len(data) < 4:
-            return 4 - len(data)
-        return max(0, 4 + struct.unpack(">I", data[:4])[0] - len(data))
-    if name == "DecimalValue" and not data:
-        return 1
-    return max(0, width - len(data))
-
-
-def extent(data):
-    """How many bytes the value at the start has at least."""
-    if not data or chr(data[0]) not in TYPES:
-        return 0
-    width = TYPES[chr(data[0])][1]
-    if width is not None:
-        return 1 + width
-    return 5 + (struct.unpack(">I", data[1:5])[0] if len(data) >= 5 else 0)
+    def noted(self, asks_notes):
+        """That what begins here is cut, or what isn't canonical, if notes are asked for."""
+        return " (cut)" if self.is_cut else f" (not canonical: {self.note})" if self.note and asks_notes else ""
 
 
 class Dissection:
     """The parts of the value at the start of some bytes, up to its end or to where it fails, and what is cut by the bytes' end."""
 
-    def __init__(self, data, frame=FRAME, depth=DEPTH):
-        self.data, self.parts, self.cut, self.failure, self.end = data, [], set(), "", 0
+    def __init__(self, data):
+        self.data, self.parts, self.failure, self.end = data, [], "", 0
+        # The type tags at each key of each table.
+        self.tags = {}
         try:
-            if extent(data) > frame:
+            if extent(data) > FRAME:
                 raise Failure(0, "the value has more bytes than --frame allows")
-            self.end = self.value(0, len(data), 0, depth, True)
+            self.end = self.value(0, len(data), 0, DEPTH, True)
         except Failure as why:
             self.failure = self.failure or str(why)
 
-    def part(self, at, level, kind, type, count):
-        if count:
-            self.parts.append(Part(at, level, kind, type, self.data[at : at + count]))
-        return at + count
+    def part(self, at, end, level, kind, type=""):
+        part = Part(at, level, kind, type, self.data[at:end])
+        self.parts += [part] if at < end else []
+        return part
 
-    def value(self, at, end, level, depth, is_open):
-        """Takes a value apart that begins at an offset, and returns where it ends. What is open ends where the bytes do."""
+    def value(self, at, end, level, depth, is_open, key=None):
+        """Takes a value apart that begins at an offset, and returns where it ends.
+
+        What is open ends where the bytes do. If it is cut there it is taken apart as far as it has come; what the
+        outermost one needs is the failure.
+        """
         if at == end:
             raise Failure(at, "a type tag is expected; nothing is left")
         tag = chr(self.data[at])
         if tag not in TYPES:
             raise Failure(at, f"a type tag is expected; {self.data[at]:02x} is none")
-        name, width = TYPES[tag]
-        needs = lack(tag, self.data[at + 1 : end])
+        (name, width), needs = TYPES[tag], lack(self.data[at:end])
         if not needs and tag in "AF" and not depth:
             raise Failure(at, "containers nest deeper than --depth allows")
-        if needs and is_open:
-            self.cut_value(at, level, depth, needs)
-        at = self.part(at, level, "tag", name, 1)
+        value = self.part(at, at + 1, level, "tag", name)
+        value.text, value.is_cut = name, needs > 0 and is_open
+        value.note = f"{tag} is a second spelling of {ALTERNATE[tag]}" if tag in ALTERNATE else ""
+        if key is not None:
+            self.tags.setdefault(key, []).append(value)
+        failure = Failure(at + 1, f"the payload of a {name} is expected; more bytes needed: {needs}")
+        if value.is_cut:
+            self.failure = self.failure or str(failure)
+        has_length = tag in COUNTED and at + 5 <= end
+        if needs and not (is_open and has_length and (depth or tag in "Sx")):
+            raise failure
+        end = min(end, at + extent(self.data[at : at + 5]))
+        at += 1
+        if has_length:
+            self.part(at, at + 4, level, "length", name)
+            at += 4
+        if tag in "AF":
+            self.entries(tag, at, end, level, depth, value.is_cut)
+        else:
+            self.payload(value, self.part(at, end, level, "payload", name), needs)
         if needs:
-            raise Failure(at, f"the payload of a {name} is expected; more bytes needed: {needs}")
-        if width is not None:
-            return self.part(at, level, "payload", name, width)
-        (count,) = struct.unpack(">I", self.data[at : at + 4])
-        at = self.part(at, level, "length", name, 4)
-        if tag in "Sx":
-            return self.part(at, level, "payload", name, count)
-        return self.entries(tag, at, at + count, level, depth, False)
+            raise failure
+        return end
+
+    def payload(self, value, part, needs):
+        if part.bytes or value.type in ("LongString", "ByteArray") and not needs:
+            value.text = f"{value.type} {text_of(value.type, part.bytes)}"
+        if value.type == "Boolean" and part.bytes not in (b"\0", b"\1"):
+            part.note = "true is written as 01"
 
     def entries(self, tag, at, end, level, depth, is_open):
+        table, key = at, None
         while at < end:
             if tag == "F":
-                at = self.key(at, end, level + 1, is_open)
-            at = self.value(at, end, level + 1, depth - 1, is_open)
-        return at
+                at, key = self.key(at, end, level + 1, is_open, key)
+            at = self.value(at, end, level + 1, depth - 1, is_open, (table, key) if tag == "F" else None)
 
-    def cut_value(self, at, level, depth, needs):
-        """Takes a value apart as far as it has come. What the outermost one needs is the failure."""
-        tag, end = chr(self.data[at]), len(self.data)
-        name, width = TYPES[tag]
-        why = Failure(at + 1, f"the payload of a {name} is expected; more bytes needed: {needs}")
-        self.failure = self.failure or str(why)
-        self.cut.add(at)
-        at = self.part(at, level, "tag", name, 1)
-        if width is None and at + 4 <= end and (depth or tag in "Sx"):
-            at = self.part(at, level, "length", name, 4)
-            if tag in "Sx":
-                self.part(at, level, "payload", name, end - at)
-            else:
-                self.entries(tag, at, end, level, depth, True)
-        raise why
-
-    def key(self, at, end, level, is_open):
-        count = self.data[at]
-        if is_open and at + 1 + count > end:
-            self.cut.add(at)
-            count = end - at - 1
-        if at + 1 + count > end:
-            raise Failure(at, f"a key is expected; more bytes needed: {at + 1 + count - end}")
-        at = self.part(at, level, "key length", "", 1)
+    def key(self, at, end, level, is_open, last):
+        """Takes a key apart, and returns where it ends, and the key."""
+        count, stop = self.data[at], at + 1 + self.data[at]
+        is_cut = is_open and stop > end
+        if stop > end and not is_cut:
+            raise Failure(at, f"a key is expected; more bytes needed: {stop - end}")
+        length, at = self.part(at, at + 1, level, "key length"), at + 1
+        length.is_cut = is_cut
         try:
-            self.data[at : at + count].decode("utf-8")
+            self.data[at : min(stop, end)].decode("utf-8")
         except UnicodeDecodeError:
             raise Failure(at, "a key is expected; the bytes aren't UTF-8") from None
-        return self.part(at, level, "key", "", count)
+        key = self.part(at, min(stop, end), level, "key").bytes
+        if key or not count:
+            length.text = quoted(key)
+        if last is not None and key <= last:
+            length.note = "the key comes again" if key == last else "the key comes after a greater one"
+        return min(stop, end), key
 
 
-def following(data, end, frame=FRAME):
-    """How many bytes are after a value. No more than the limit and one are read."""
-    return f"at least {frame + 1 - end}" if len(data) > frame else str(len(data) - end)
+def following(data, end):
+    """How many bytes follow a value. No more than the limit and one are read."""
+    return f"at least {FRAME + 1 - end}" if len(data) > FRAME else str(len(data) - end)
 
 
-def outcome(data, dissection, frame=FRAME):
+def outcome(data, dissection):
     """What reading within the limits results in."""
-    if not data:
-        return "truncated; more bytes needed: 1"
-    if chr(data[0]) not in TYPES:
-        return "refused, MapOpt"
-    if extent(data) > frame:
+    if not dissection.failure:
+        return f"a value of {dissection.end} bytes, {following(data, dissection.end)} follow"
+    if extent(data) > FRAME:
         return "refused, TooLarge"
-    if needs := lack(chr(data[0]), data[1:]):
+    if needs := lack(data):
         return f"truncated; more bytes needed: {needs}"
-    if dissection.failure:
-        return "refused, Eof"
-    return f"a value of {dissection.end} bytes, {following(data, dissection.end, frame)} follow"
+    return "refused, Eof" if chr(data[0]) in TYPES else "refused, MapOpt"
 
 
-# The texts
+# Strings
 
 
 def escaped(c):
@@ -257,89 +345,33 @@ def text_of(name, data):
     return str(number)
 
 
-def notes(parts, asked, cut):
-    """That what begins with a part is cut, or what isn't canonical at it, where notes are asked for, or nothing."""
-    before, found = {}, []
-    for at, part in enumerate(parts):
-        note = ""
-        if part.kind == "length":
-            before[part.level + 1] = None
-        if part.kind == "key length":
-            key = key_at(parts, at)
-            last = before.get(part.level)
-            if key is not None and last is not None and key <= last:
-                note = "the key comes again" if key == last else "the key comes after a greater one"
-            before[part.level] = key if key is not None else last
-        if part.kind == "tag" and part.bytes in (b"U", b"L"):
-            note = f"{part.bytes.decode()} is a second spelling of {'s' if part.bytes == b'U' else 'l'}"
-        if part.kind == "payload" and part.type == "Boolean" and part.bytes not in (b"\0", b"\1"):
-            note = "true is written as 01"
-        found.append(" (cut)" if part.offset in cut else f" (not canonical: {note})" if note and asked else "")
-    return found
-
-
-def key_at(parts, at):
-    """The key of which the length is part `at`, or none."""
-    follows = parts[at + 1 : at + 2]
-    return follows[0].bytes if follows and follows[0].kind == "key" else b"" if parts[at].bytes == b"\0" else None
-
-
-def value_at(parts, at):
-    """The type and the text of the value whose type tag is part `at`."""
-    part, follows = parts[at], parts[at + 1 : at + 3]
-    if part.type in ("FieldArray", "FieldTable"):
-        return part.type
-    payload = [it for it in follows[: 2 if TYPES[chr(part.bytes[0])][1] is None else 1] if it.kind == "payload" and it.type == part.type]
-    if payload:
-        return f"{part.type} {text_of(part.type, payload[0].bytes)}"
-    is_empty = part.type in ("LongString", "ByteArray") and follows and follows[0].kind == "length" and not any(follows[0].bytes)
-    return f"{part.type} {text_of(part.type, b'')}" if is_empty else part.type
-
-
-def repeated(parts):
-    """A line for each key that is repeated in its table."""
-    key, tables, found = None, [], {}
-    for at, part in enumerate(parts):
-        if part.kind == "key length":
-            key = key_at(parts, at)
-        if part.kind == "tag":
-            del tables[part.level :]
-            if key is not None:
-                found.setdefault((tables[-1], key), []).append(at)
-            tables.append(part.offset)
-            key = None
-    for (_, key), places in sorted(found.items()):
-        if len(places) > 1:
-            first, last = (f"{value_at(parts, at)} at {parts[at].offset}" for at in (places[0], places[-1]))
+def repeated(tags):
+    """A line for each key that comes again in its table."""
+    for (_, key), found in sorted(tags.items()):
+        if len(found) > 1:
+            first, last = (f"{it.text} at {it.offset}" for it in (found[0], found[-1]))
             ends = "this library takes the last, RabbitMQ the first"
-            yield f"* the key {quoted(key)} comes {len(places)} times: first {first}, last {last}; {ends}"
+            yield f"* the key {quoted(key)} comes {len(found)} times: first {first}, last {last}; {ends}"
 
 
 def indentation(level):
     return "  " * level if level <= 32 else f"{'  ' * 32}[{level}] "
 
 
-def tree(parts, cut, canonical=False):
+def tree(parts, asks_notes):
     lines, has_key = [], False
-    for at, (part, note) in enumerate(zip(parts, notes(parts, canonical, cut))):
-        if part.kind == "key length":
-            key = key_at(parts, at)
-            lines.append(indentation(part.level) + ("?" if key is None else quoted(key)) + note)
-            has_key = True
-        elif part.kind == "tag":
-            line = value_at(parts, at)
-            if has_key:
-                lines[-1] += f": {line}{note}"
-            else:
-                lines.append(indentation(part.level) + line + note)
-            has_key = False
-        elif note:
-            lines[-1] += note
+    for part in parts:
+        if part.kind == "tag" and has_key:
+            lines[-1] += f": {part.text}"
+        elif part.kind in ("tag", "key length"):
+            lines.append(indentation(part.level) + part.text)
+        lines[-1] += part.noted(asks_notes)
+        has_key = part.kind in ("key length", "key")
     return lines
 
 
-def part_lines(parts, cut, canonical=False):
-    for part, note in zip(parts, notes(parts, canonical, cut)):
+def part_lines(parts, asks_notes):
+    for part in parts:
         digits = part.bytes[:8].hex() + (".." if len(part.bytes) > 8 else "")
         what = {
             "tag": lambda: f"type tag {part.bytes.decode('latin-1')}, {part.type}",
@@ -348,39 +380,42 @@ def part_lines(parts, cut, canonical=False):
             "key": lambda: f"key {quoted(part.bytes)}",
             "payload": lambda: text_of(part.type, part.bytes),
         }[part.kind]()
-        yield f"{part.offset:>6}  {digits:<18}  {indentation(part.level)}{what}{note}"
+        yield f"{part.offset:>6}  {digits:<18}  {indentation(part.level)}{what}{part.noted(asks_notes)}"
 
 
-def printed(data, canonical=False):
-    """What `amqp_show --tree --bytes` prints of some bytes, with `--canonical` or without it, and its status."""
+# What a run of amqp_show prints: standard output, standard error and the status
+
+
+def printed(data, asks_notes=False):
+    """Of `amqp_show --tree --bytes`, with `--canonical` or without it."""
     found = Dissection(data)
-    lines = [*tree(found.parts, found.cut, canonical), *part_lines(found.parts, found.cut, canonical), *repeated(found.parts)]
+    lines = [*tree(found.parts, asks_notes), *part_lines(found.parts, asks_notes), *repeated(found.tags)]
     lines += [f"! {found.failure}"] if found.failure else []
-    return "".join(f"{line}\n" for line in [*lines, f"= {outcome(data, found)}"]), int(bool(found.failure))
+    return "".join(f"{line}\n" for line in [*lines, f"= {outcome(data, found)}"]), "", int(bool(found.failure))
 
 
 def printed_json(data):
-    """What `amqp_show --json` prints, what it says on standard error, and its status."""
-    found, other = Dissection(data), oracle()
+    """Of `amqp_show --json`."""
+    found = Dissection(data)
     if found.failure:
         return "", f'amqp_show: "-": {found.failure}; {outcome(data, found)}\n', 1
-    value, rest = other.read(data)
+    value, rest = read(data)
     said = f'amqp_show: "-": {following(data, found.end)} bytes follow the value\n' if rest else ""
-    return f"{other.json_text(value)}\n", said, 0
+    return f"{json_text(value)}\n", said, 0
 
 
 def streamed(values):
-    """What `amqp_show --stream --keep-going` prints of values and rejected ones, one after another, and with `--json` on either output."""
-    text, json, said, offset = [], [], [], 0
+    """Of `amqp_show --stream --keep-going` on values and rejected ones, one after another: with `--tree --bytes`, and with `--json`."""
+    trees, texts, said, offset = "", "", "", 0
     for data in values:
-        (*lines, last), status = printed(data)[0].splitlines(keepends=True), printed(data)[1]
-        place = f"= no value at {offset}: {last[2:]}" if status else f"= a value of {len(data)} bytes at {offset}\n"
-        text += [*lines, place]
-        line, why, _ = printed_json(data)
-        json.append(line)
-        said.append(why.replace('"-": ', f'"-": no value at {offset}: ', 1))
+        shown, _, status = printed(data)
+        *lines, last = shown.splitlines(keepends=True)
+        trees += "".join(lines) + (f"= no value at {offset}: {last[2:]}" if status else f"= a value of {len(data)} bytes at {offset}\n")
+        text, why, _ = printed_json(data)
+        texts += text
+        said += why.replace('"-": ', f'"-": no value at {offset}: ', 1)
         offset += len(data)
-    return "".join(text), "".join(json), "".join(said)
+    return (trees, "", 1), (texts, said, 1)
 
 
 # Inputs
