@@ -1,4 +1,5 @@
-"""What the scripts of .ci share: a copy of the repository, processes that are ended, and steps that run side by side."""
+"""What the scripts of .ci share: a copy of the repository, checks that are counted, processes that are ended, and steps
+that run side by side."""
 
 import ctypes
 import os
@@ -26,6 +27,40 @@ def copy_repository(to, without=()):
             shutil.copy2(TOP / name, to / name)
     lines = (TOP / "crates.txt").read_text().splitlines(True)
     (to / "crates.txt").write_text("".join(it for it in lines if it.partition(":")[0] not in without))
+
+
+def is_up_to_date(built, crates, name, parts):
+    """Whether a file made of a crate and those below it is there, and nothing in these folders of theirs has changed since."""
+    sources = [it for each in crates.needed(name) for part in parts for it in (crates.folder(each) / part).glob("**/*")]
+    return built.is_file() and all(it.stat().st_mtime <= built.stat().st_mtime for it in sources if it.is_file())
+
+
+def content(path):
+    return path.read_bytes() if path.exists() else b""
+
+
+def given(case):
+    """What a case of examples/show has on standard input."""
+    digits = case.with_suffix(".hex")
+    return bytes.fromhex(digits.read_text()) if digits.exists() else content(case.with_suffix(".in"))
+
+
+class Checks:
+    """Prints a line for each check of a script, and counts them."""
+
+    def __init__(self, name):
+        self.name, self.passed, self.failed = name, 0, 0
+
+    def tell(self, what, wrong=""):
+        """Takes what is wrong, if anything is, and returns whether nothing is."""
+        print(f"{self.name} {what}: {f'FAILED: {wrong}' if wrong else 'passed'}", flush=True)
+        self.passed, self.failed = self.passed + (not wrong), self.failed + bool(wrong)
+        return not wrong
+
+    def ended(self):
+        """Prints the last line, and returns the exit status."""
+        print(f"{self.passed} passed, {self.failed} failed")
+        return 1 if self.failed or not self.passed else 0
 
 
 # Processes
