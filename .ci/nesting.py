@@ -9,6 +9,7 @@ import resource
 import struct
 import subprocess
 import sys
+from bisect import bisect
 
 from crates import TOP
 
@@ -32,8 +33,9 @@ def encoding(form, depth):
 
 
 def json_text(form, depth):
-    opened = "".join("[" if it == "A" else '{"a":' for it in (form * depth)[:depth])
-    return (opened + "null" + "".join("]" if it == "[" else "}" for it in reversed(re.findall(r"[\[{]", opened)))).encode()
+    tags = (form * depth)[:depth]
+    opened, closed = ("".join(of[tag] for tag in tags) for of in ({"A": "[", "F": '{"a":'}, {"A": "]", "F": "}"}))
+    return f"{opened}null{closed[::-1]}".encode()
 
 
 def type_tags(form, depth):
@@ -51,27 +53,16 @@ DEEP, OF_JSON = (LIMIT, 1000), (LIMIT, 127)
 DEEPEST = (LIMIT, 1000, 10_000)
 REFUSED = "Error(ParserErrors { kind: Eof })"
 NO_JSON = "Syntax(Error(invalid JSON at "
-# Each call: what it is made on, how deep, and how its result begins if a limit rejects that. No depth: it doesn't recurse.
+# Calls: what they are made on, how deep, and how what they return begins if a limit rejects that. No depth: it doesn't recurse.
 CALLS = {
-    "parse_value": (encoding, DEEPEST, None),
-    "parse_value_within": (encoding, DEEP, REFUSED),
-    "SplitInput": (encoding, DEEP, REFUSED),
+    **dict.fromkeys(("parse_value", "read_in_place_unlimited"), (encoding, DEEPEST, None)),
+    **dict.fromkeys(("parse_value_within", "SplitInput", "read_in_place", "iter", "to_owned"), (encoding, DEEP, REFUSED)),
     "ValueReader::next": (encoding, DEEP, "Refused(ParserErrors { kind: Eof })"),
-    "read_in_place": (encoding, DEEP, REFUSED),
-    "read_in_place_unlimited": (encoding, DEEPEST, None),
-    "iter": (encoding, DEEP, REFUSED),
-    "is_canonical": (encoding, DEEP, "refused"),
-    "canonical_len": (encoding, DEEP, "refused"),
+    **dict.fromkeys(("is_canonical", "canonical_len"), (encoding, DEEP, "refused")),
     "skip_value": (encoding, (), "done"),
-    "to_owned": (encoding, DEEP, REFUSED),
     "dissect": (encoding, DEEP, "Problem(TooDeep)"),
     "json_of_encoding": (encoding, DEEP, f"Refused({REFUSED}"),
-    "gen_value": (type_tags, DEEPEST, None),
-    "clone": (type_tags, DEEPEST, None),
-    "==": (type_tags, DEEPEST, None),
-    "drop": (type_tags, DEEPEST, None),
-    "to_value": (type_tags, DEEPEST, None),
-    "to_json": (type_tags, DEEPEST, None),
+    **dict.fromkeys(("gen_value", "clone", "==", "drop", "to_value", "to_json"), (type_tags, DEEPEST, None)),
     "from_value": (brackets, DEEPEST, None),
     "from_json": (json_text, OF_JSON, NO_JSON),
     "encoding_of_json": (json_text, OF_JSON, f"Json({NO_JSON}"),
@@ -90,7 +81,7 @@ def table():
 
 
 def answer(program, name, depth, given, stack):
-    """What a call returns on a stack of that many bytes, or how the program ended."""
+    """What a call returns on a stack of n bytes, or how the program ended."""
     limit = lambda: resource.setrlimit(resource.RLIMIT_STACK, (stack, stack))
     how = {"input": given, "capture_output": True, "env": {}, "preexec_fn": limit, "timeout": 60}
     done = subprocess.run([program, name, str(depth)], **how)
@@ -107,29 +98,23 @@ def judged(program):
     """Yields the name of each check, and what was returned instead of what should be."""
     figures, besides = table()
     for name, (make, depths, refusal) in CALLS.items():
-        halves = []
         for said, form in FORMS.items():
             for depth in depths:
                 got = answer(program, name, depth, make(form, depth), besides + depth * figures[name])
                 yield f"{name}, {depth} {said}", "" if got == "done" else got
-            if depths:
-                halves.append(answer(program, name, depths[-1], make(form, depths[-1]), besides + depths[-1] * figures[name] // 2))
             if refusal:
                 got = answer(program, name, LIMIT, long_input(make, form), SMALL)
                 yield f"{name}, {LONG} bytes of {said}", "" if got.startswith(refusal) else got
         if depths:
+            deep, stack = depths[-1], besides + depths[-1] * figures[name] // 2
+            halves = [answer(program, name, deep, make(form, deep), stack) for form in FORMS.values()]
             yield f"{name}, half of the stack", "it is enough" if "status -11" not in halves else ""
 
 
 def least(program, name, depth):
     """The least stack, of those that the kernel tells apart, on which a call is done, whatever the form."""
-    make = CALLS[name][0]
-    low, high = 0, 1 << 11
-    while high - low > 1:
-        middle = (low + high) // 2
-        is_enough = all(answer(program, name, depth, make(form, depth), middle << 12) == "done" for form in FORMS.values())
-        low, high = (low, middle) if is_enough else (middle, high)
-    return high << 12
+    make, is_done = CALLS[name][0], lambda form, pages: answer(program, name, depth, make(form, depth), pages << 12) == "done"
+    return bisect(range(1 << 11), False, key=lambda pages: all(is_done(form, pages) for form in FORMS.values())) << 12
 
 
 def main():
