@@ -1,7 +1,8 @@
 /*
  * What the programs that try the calls for C share: a check, allocations that fail, pages that can't
- * be accessed, numbers to try, and calls that write to a buffer.
- * Linked with -Wl,--wrap=malloc, realloc and free.
+ * be touched, numbers to try, and calls that write to a buffer. What is passed and a buffer are next to
+ * such a page, so a byte that is touched outside of them ends the program. Each program prints how many
+ * calls it made. Linked with -Wl,--wrap=malloc, realloc and free.
  */
 #ifndef CHECK_H
 #define CHECK_H
@@ -24,6 +25,12 @@
         }                                                                     \
     } while (0)
 #define COUNT(array) (sizeof(array) / sizeof *(array))
+
+typedef struct slice {
+    const uint8_t *at;
+    size_t length;
+} slice;
+#define SLICE(text) {(const uint8_t *)(text), sizeof(text) - 1}
 
 /* ---- allocations */
 
@@ -87,17 +94,16 @@ static inline uint64_t random_number(void) {
 }
 
 /* The bytes, each prefix of them, and each change of one to one of the others. */
-static inline void try_changes(void (*try)(const uint8_t *, size_t), const char *bytes, size_t length,
-                               const uint8_t *others, size_t kinds) {
+static inline void try_changes(void (*try)(slice), slice given, slice others) {
     uint8_t changed[256];
-    for (size_t n = 0; n <= length; n++) {
-        try((const uint8_t *)bytes, n);
+    for (size_t n = 0; n <= given.length; n++) {
+        try((slice){given.at, n});
     }
-    for (size_t n = 0; n < length; n++) {
-        memcpy(changed, bytes, length);
-        for (size_t k = 0; k < kinds; k++) {
-            changed[n] = others[k];
-            try(changed, length);
+    for (size_t n = 0; n < given.length; n++) {
+        memcpy(changed, given.at, given.length);
+        for (size_t k = 0; k < others.length; k++) {
+            changed[n] = others.at[k];
+            try((slice){changed, given.length});
         }
     }
 }
@@ -126,9 +132,10 @@ typedef struct way {
 } way;
 
 /* Calls with the bytes and the buffer against the ends of their pages, and checks what is left. */
-static inline int32_t write_to(way by, const uint8_t *given, size_t length, size_t buffer_length, size_t *count) {
+static inline int32_t write_to(way by, slice given, size_t buffer_length, size_t *count) {
+    size_t length = given.length;
     uint8_t *bytes = given_end - length, *buffer = buffer_end - buffer_length;
-    memcpy(bytes, given, length);
+    memcpy(bytes, given.at, length);
     uint8_t *from = (size_t)(buffer - buffer_start) > watched ? buffer - watched : buffer_start;
     memset(from, FILLED, (size_t)(buffer_end - from));
     *count = 77;
@@ -137,7 +144,7 @@ static inline int32_t write_to(way by, const uint8_t *given, size_t length, size
                      : by.call == TO_JSON ? amqp_to_json(bytes, length, by.frame, by.depth, buffer, buffer_length, count)
                                           : amqp_from_json(bytes, length, by.nesting, buffer, buffer_length, count);
     calls++;
-    CHECK(memcmp(bytes, given, length) == 0);
+    CHECK(memcmp(bytes, given.at, length) == 0);
     size_t written = answer == AMQP_OK ? *count : 0;
     CHECK(written <= buffer_length && (answer != AMQP_OK || written > 0));
     for (uint8_t *it = from; it < buffer; it++) {
@@ -155,18 +162,24 @@ static inline int32_t write_to(way by, const uint8_t *given, size_t length, size
     return answer;
 }
 
-/* What is at the start of a buffer of that length. */
-static inline const uint8_t *in_buffer(size_t buffer_length) {
-    return buffer_end - buffer_length;
+/* Whether a buffer of that length begins with these bytes. */
+static inline int is_in_buffer(size_t buffer_length, slice wanted) {
+    return memcmp(buffer_end - buffer_length, wanted.at, wanted.length) == 0;
+}
+
+/* Copies the first bytes of a buffer of that length. */
+static inline slice taken(uint8_t *to, size_t buffer_length, size_t count) {
+    memcpy(to, buffer_end - buffer_length, count);
+    return (slice){to, count};
 }
 
 /* Each allocation failing in turn: the call reports that, and nothing else. */
-static inline void try_memory(way by, const uint8_t *given, size_t length, size_t needed, uint64_t step) {
+static inline void try_memory(way by, slice given, size_t needed, uint64_t step) {
     for (uint64_t nth = 1;; nth += step) {
         uint64_t before = requests;
         size_t count;
         failing = requests + nth;
-        int32_t answer = write_to(by, given, length, needed, &count);
+        int32_t answer = write_to(by, given, needed, &count);
         failing = 0;
         if (requests - before < nth) {
             CHECK(answer == AMQP_OK && count == needed);
@@ -177,17 +190,17 @@ static inline void try_memory(way by, const uint8_t *given, size_t length, size_
 }
 
 /* Buffers of every size, and each allocation failing in turn. Canonical bytes are copied without any. */
-static inline void try_buffers(way by, const uint8_t *given, size_t length, const uint8_t *wanted, size_t needed) {
-    int is_canonical = length == needed && memcmp(given, wanted, length) == 0;
-    size_t count;
+static inline void try_buffers(way by, slice given, slice wanted) {
+    size_t count, needed = wanted.length;
+    int is_canonical = given.length == needed && memcmp(given.at, wanted.at, needed) == 0;
     for (size_t n = 0; n <= needed + 1; n++) {
         uint64_t before = requests;
-        int32_t answer = write_to(by, given, length, n, &count);
+        int32_t answer = write_to(by, given, n, &count);
         CHECK(count == needed && answer == (n < needed ? AMQP_NO_ROOM : AMQP_OK));
-        CHECK(answer != AMQP_OK || memcmp(in_buffer(n), wanted, needed) == 0);
+        CHECK(answer != AMQP_OK || is_in_buffer(n, wanted));
         CHECK(by.call != CANONICAL || (requests == before) == is_canonical);
     }
-    try_memory(by, given, length, needed, 1);
+    try_memory(by, given, needed, 1);
 }
 
 #endif

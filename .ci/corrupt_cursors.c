@@ -1,25 +1,24 @@
 /*
- * Tries the calls of include/amqp.h with cursors and entries that were corrupted.
+ * Tries the calls of include/amqp.h with cursors and entries that were corrupted, over bytes with their
+ * end and with their start at a page's. Of each result it checks what the header says: what is returned
+ * is inside the bytes, a step goes on, what isn't AMQP_OK leaves the entry and the cursor as they were,
+ * and nothing next to the structs is written.
  *
- * The bytes are next to a page that can't be touched, once with their end and once with their
- * start, so a byte that is read outside of them ends the program. Of each result it checks what the
- * header says: what is returned is inside the bytes, a step goes on, what isn't AMQP_OK leaves the entry
- * and the cursor unchanged, and nothing but the structs is written.
- *
- * It tries every cursor of small numbers over small inputs, each prefix of them and each change of
- * one byte to one of some, and then random cursors over random bytes. It prints how many calls
- * it made.
+ * It tries every cursor of small numbers over small inputs, each prefix of them and each change of one
+ * byte to one of some, and then random cursors over random bytes.
  */
 #include "check.h"
 
 static uint8_t *page;
 
 static void check_entry(const amqp_entry *entry, size_t length) {
-    CHECK(is_inside(entry->key, length));
-    CHECK(is_inside(entry->value, length));
-    CHECK(is_inside(entry->content, length));
+    CHECK(is_inside(entry->key, length) && is_inside(entry->value, length) && is_inside(entry->content, length));
     CHECK(entry->value.length > 0);
     CHECK(memchr("tbBsuIilfdDSxAFTV", entry->tag, 17) != NULL);
+}
+
+static int is_container(uint8_t tag) {
+    return tag == AMQP_ARRAY || tag == AMQP_TABLE;
 }
 
 /* An entry and a cursor between bytes that no call may write. */
@@ -48,7 +47,7 @@ static void check_rest(const held *new, const held *old, int32_t answer) {
 
 /* Steps to the end by the cursor, and looks keys up. */
 static void walk(const uint8_t *bytes, size_t length, amqp_cursor cursor) {
-    int is_valid = is_inside(cursor.left, length) && (cursor.tag == AMQP_ARRAY || cursor.tag == AMQP_TABLE);
+    int is_valid = is_inside(cursor.left, length) && is_container(cursor.tag);
     held it = fresh(cursor);
     for (size_t steps = 0;; steps++) {
         held old = it;
@@ -70,7 +69,7 @@ static void walk(const uint8_t *bytes, size_t length, amqp_cursor cursor) {
         answer = amqp_enter(bytes, length, &it.entry, &in.cursor);
         calls++;
         check_rest(&in, &was, answer);
-        CHECK((answer == AMQP_OK) == (it.entry.tag == AMQP_ARRAY || it.entry.tag == AMQP_TABLE));
+        CHECK((answer == AMQP_OK) == is_container(it.entry.tag));
     }
     for (size_t n = 0; n < 2; n++) {
         held old = it = fresh(cursor);
@@ -115,80 +114,66 @@ static void front(const uint8_t *bytes, size_t length, amqp_cursor cursor) {
     answer = amqp_enter(bytes, length, &corrupt, &it.cursor);
     calls++;
     CHECK(it.before == old.before && it.between == old.between && it.behind == old.behind);
-    CHECK((answer == AMQP_OK) == (is_inside(cursor.left, length) && (cursor.tag == AMQP_ARRAY || cursor.tag == AMQP_TABLE)));
+    CHECK((answer == AMQP_OK) == (is_inside(cursor.left, length) && is_container(cursor.tag)));
 }
 
-static void try_cursor(const uint8_t *bytes, size_t length, size_t offset, size_t left, uint8_t tag) {
+static void try_cursor(slice bytes, size_t offset, size_t left, uint8_t tag) {
     amqp_cursor cursor;
     memset(&cursor, 0, sizeof cursor);
-    cursor.left.offset = offset;
-    cursor.left.length = left;
+    cursor.left = (amqp_span){offset, left};
     cursor.tag = tag;
-    walk(bytes, length, cursor);
-    front(bytes, length, cursor);
+    walk(bytes.at, bytes.length, cursor);
+    front(bytes.at, bytes.length, cursor);
 }
 
 /* Tries every cursor of small numbers, and of some large ones. */
-static void all_cursors(const uint8_t *bytes, size_t length) {
-    size_t numbers = length + 3 + 6;
-    for (size_t t = 0; t < sizeof tags; t++) {
-        for (size_t i = 0; i < numbers; i++) {
-            for (size_t j = 0; j < numbers; j++) {
-                try_cursor(bytes, length, number(i, length + 3), number(j, length + 3), tags[t]);
-            }
-        }
+static void all_cursors(slice bytes) {
+    size_t small = bytes.length + 3, numbers = small + 6;
+    for (size_t k = 0; k < sizeof tags * numbers * numbers; k++) {
+        try_cursor(bytes, number(k / numbers % numbers, small), number(k % numbers, small), tags[k / numbers / numbers]);
     }
 }
 
-/* Moves the bytes to the page's end, then to its start. */
-static void at_both_ends(const uint8_t *input, size_t length, void (*try)(const uint8_t *, size_t)) {
-    uint8_t *places[] = {page + page_size - length, page};
-    for (int i = 0; i < 2; i++) {
-        memcpy(places[i], input, length);
-        try(places[i], length);
-        CHECK(memcmp(places[i], input, length) == 0);
-    }
-}
-
-static void random_cursors(const uint8_t *bytes, size_t length) {
+static void random_cursors(slice bytes) {
     for (int i = 0; i < 200; i++) {
-        uint64_t offset = random_number() % 8 ? random_number() % (length + 1) : random_number();
-        uint64_t left = random_number() % 8 ? random_number() % (length + 1) : random_number();
-        try_cursor(bytes, length, offset, left, tags[random_number() % 2]);
+        uint64_t offset = random_number() % 8 ? random_number() % (bytes.length + 1) : random_number();
+        uint64_t left = random_number() % 8 ? random_number() % (bytes.length + 1) : random_number();
+        try_cursor(bytes, offset, left, tags[random_number() % 2]);
     }
 }
 
-#define INPUT(text) {text, sizeof text - 1}
-
-static const struct {
-    const char *bytes;
-    size_t length;
-} inputs[] = {
-    INPUT("F\0\0\0\0"),
-    INPUT("F\0\0\0\3\1aV"),
-    INPUT("F\0\0\0\12\1bV\1at\7\1aV"),
-    INPUT("A\0\0\0\7t\1A\0\0\0\0"),
-    INPUT("F\0\0\0\10\1aS\0\0\0\1z"),
-    INPUT("x\0\0\0\2\0\1"),
-};
-static const uint8_t others[] = {0, 1, 2, 5, 'A', 'F', 'S', 'V', 't', 'z', 127, 128, 255};
-
-static void try_bytes(const uint8_t *input, size_t length) {
-    at_both_ends(input, length, all_cursors);
+/* Puts the bytes against the page's end, then against its start. */
+static void at_both_ends(slice input, void (*try)(slice)) {
+    uint8_t *places[] = {page + page_size - input.length, page};
+    for (int i = 0; i < 2; i++) {
+        memcpy(places[i], input.at, input.length);
+        try((slice){places[i], input.length});
+        CHECK(memcmp(places[i], input.at, input.length) == 0);
+    }
 }
+
+static void try_bytes(slice input) {
+    at_both_ends(input, all_cursors);
+}
+
+static const slice inputs[] = {
+    SLICE("F\0\0\0\0"), SLICE("F\0\0\0\3\1aV"), SLICE("F\0\0\0\12\1bV\1at\7\1aV"), SLICE("A\0\0\0\7t\1A\0\0\0\0"),
+    SLICE("F\0\0\0\10\1aS\0\0\0\1z"), SLICE("x\0\0\0\2\0\1"),
+};
+static const slice others = SLICE("\0\1\2\5AFSVtz\177\200\377");
 
 int main(void) {
     page = pages_between(1);
     for (size_t i = 0; i < COUNT(inputs); i++) {
-        try_changes(try_bytes, inputs[i].bytes, inputs[i].length, others, sizeof others);
+        try_changes(try_bytes, inputs[i], others);
     }
     uint8_t input[64];
     for (int i = 0; i < 2000; i++) {
         size_t length = random_number() % sizeof input;
         for (size_t n = 0; n < length; n++) {
-            input[n] = random_number() % 2 ? others[random_number() % sizeof others] : (uint8_t)random_number();
+            input[n] = random_number() % 2 ? others.at[random_number() % others.length] : (uint8_t)random_number();
         }
-        at_both_ends(input, length, random_cursors);
+        at_both_ends((slice){input, length}, random_cursors);
     }
     printf("%" PRIu64 " calls\n", calls);
     return 0;
