@@ -1,14 +1,12 @@
 /*
- * Tries the functions of include/amqp.h that build containers, next to a writer in plain C.
+ * Tries the calls of include/amqp.h that put containers together, next to a writer in plain C.
  *
- * The buffer's end or its start is next to a page that can't be accessed, so an access outside of it
- * ends the program. After each call the buffer and the structs are those that the writer here leaves,
- * byte for byte, and so is the result; what isn't AMQP_OK leaves all unchanged.
+ * After each call the buffer and the structs are those that the writer here leaves, byte for byte, and
+ * so is what is returned; what isn't AMQP_OK leaves all as it was.
  *
- * It tries every type tag with numbers about the ends of its type's range, keys of every kind, each of
- * some values in buffers of every size, containers and bodies that were corrupted, and random entries
- * that are built, read back by amqp_read and amqp_next, and made canonical. It prints how many calls
- * it made.
+ * It tries every type tag with numbers about its type's ends, keys of every kind, each of some values
+ * in buffers of every size, containers and bodies that were corrupted, and random entries that are put
+ * together, read back by amqp_read and amqp_next, and made canonical.
  */
 #include "check.h"
 
@@ -16,7 +14,7 @@
 
 static uint8_t *page;
 
-/* The buffer as the library and as the writer here leave it. */
+/* The buffer as the library and as the writer here leave it, at the end of the page or at its start. */
 static uint8_t *room;
 static uint8_t model[MOST];
 static size_t room_length;
@@ -24,51 +22,48 @@ static size_t room_length;
 /* ---- a writer in plain C */
 
 /* Whether bytes are UTF-8: no overlong form, no surrogate, nothing above U+10FFFF. */
-static int is_utf8(const uint8_t *it, size_t length) {
-    size_t i = 0;
-    while (i < length) {
-        uint32_t c = it[i];
-        size_t more = c < 0x80 ? 0 : c < 0xe0 ? 1 : c < 0xf0 ? 2 : 3;
-        if ((c >= 0x80 && c < 0xc2) || c >= 0xf5 || length - i <= more) {
+static int is_utf8(slice text) {
+    static const uint32_t least[] = {0, 0x80, 0x800, 0x10000};
+    for (size_t i = 0, more; i < text.length; i += more + 1) {
+        uint32_t c = text.at[i];
+        more = c < 0x80 ? 0 : c < 0xe0 ? 1 : c < 0xf0 ? 2 : 3;
+        if ((c >= 0x80 && c < 0xc0) || c >= 0xf8 || text.length - i <= more) {
             return 0;
         }
         c = more ? c & (0x3fu >> more) : c;
         for (size_t k = 1; k <= more; k++) {
-            if ((it[i + k] & 0xc0) != 0x80) {
+            if ((text.at[i + k] & 0xc0) != 0x80) {
                 return 0;
             }
-            c = c << 6 | (it[i + k] & 0x3fu);
+            c = c << 6 | (text.at[i + k] & 0x3fu);
         }
-        int is_surrogate = c >= 0xd800 && c < 0xe000;
-        if ((more == 2 && (c < 0x800 || is_surrogate)) || (more == 3 && (c < 0x10000 || c > 0x10ffff))) {
+        if (c < least[more] || (c >= 0xd800 && c < 0xe000) || c > 0x10ffff) {
             return 0;
         }
-        i += more + 1;
     }
     return 1;
 }
 
-static int takes_key(uint8_t tag, const uint8_t *key, size_t length) {
-    return tag == AMQP_ARRAY ? length == 0 : tag == AMQP_TABLE && length <= 255 && is_utf8(key, length);
+static int takes_key(uint8_t tag, slice key) {
+    return tag == AMQP_ARRAY ? key.length == 0 : tag == AMQP_TABLE && key.length <= 255 && is_utf8(key);
 }
 
-/* Appends the key and these bytes to the container, and returns what the library must return. */
-static int32_t model_append(amqp_container *into, const uint8_t *key, size_t key_length, const uint8_t *bytes,
-                            size_t length) {
+/* Puts the key and these bytes behind what the container has, and says what is returned. */
+static int32_t model_append(amqp_container *into, slice key, slice bytes) {
     size_t end = into->written.offset + into->written.length;
-    size_t named = into->tag == AMQP_TABLE ? 1 + key_length : 0;
-    if (!is_inside(into->written, room_length) || !takes_key(into->tag, key, key_length)) {
+    size_t named = into->tag == AMQP_TABLE ? 1 + key.length : 0;
+    if (!is_inside(into->written, room_length) || !takes_key(into->tag, key)) {
         return AMQP_INVALID;
     }
-    if (room_length - end < named + length) {
+    if (room_length - end < named + bytes.length) {
         return AMQP_NO_ROOM;
     }
     if (named) {
-        model[end] = (uint8_t)key_length;
-        memcpy(model + end + 1, key, key_length);
+        model[end] = (uint8_t)key.length;
+        memcpy(model + end + 1, key.at, key.length);
     }
-    memcpy(model + end + named, bytes, length);
-    into->written.length += named + length;
+    memcpy(model + end + named, bytes.at, bytes.length);
+    into->written.length += named + bytes.length;
     return AMQP_OK;
 }
 
@@ -122,7 +117,7 @@ static held hold(amqp_container it) {
     return all;
 }
 
-/* After a call the result, the container, the buffer and its surroundings are as they have to be. */
+/* After a call what it returned, the container, the buffer and its surroundings are as they have to be. */
 static int32_t check(const held *all, amqp_container wanted, int32_t answer, int32_t right) {
     calls++;
     CHECK(answer == right);
@@ -136,7 +131,7 @@ static int32_t check(const held *all, amqp_container wanted, int32_t answer, int
     return answer;
 }
 
-/* Gives the buffer n bytes, all of them the same, at the end of the page or at its start. */
+/* Has the buffer be n bytes, all of them the same. */
 static void new_room(size_t length, int at_front) {
     memset(page, 0xa5, page_size);
     room_length = length;
@@ -145,66 +140,60 @@ static void new_room(size_t length, int at_front) {
     memset(model, 0x33, sizeof model);
 }
 
-static int32_t put(amqp_container *into, const uint8_t *key, size_t key_length, uint8_t tag, uint64_t bits,
-                   uint8_t scale) {
+static int32_t put(amqp_container *into, slice key, uint8_t tag, uint64_t bits, uint8_t scale) {
     uint8_t bytes[16];
     held all = hold(*into);
     size_t length = model_scalar(bytes, tag, bits, scale);
-    int32_t right = length ? model_append(into, key, key_length, bytes, length) : AMQP_INVALID;
-    return check(&all, *into, amqp_put(room, room_length, &all.it, key, key_length, tag, bits, scale), right);
+    int32_t right = length ? model_append(into, key, (slice){bytes, length}) : AMQP_INVALID;
+    return check(&all, *into, amqp_put(room, room_length, &all.it, key.at, key.length, tag, bits, scale), right);
 }
 
-static int32_t put_bytes(amqp_container *into, const uint8_t *key, size_t key_length, uint8_t tag,
-                         const uint8_t *content, size_t length) {
+static int32_t put_bytes(amqp_container *into, slice key, uint8_t tag, slice content) {
     static uint8_t bytes[MOST + 5];
     held all = hold(*into);
     bytes[0] = tag;
-    big_endian(bytes + 1, 4, length);
-    memcpy(bytes + 5, content, length);
+    big_endian(bytes + 1, 4, content.length);
+    memcpy(bytes + 5, content.at, content.length);
     int is_string = tag == AMQP_LONG_STRING || tag == AMQP_BYTE_ARRAY;
-    int32_t right = is_string ? model_append(into, key, key_length, bytes, 5 + length) : AMQP_INVALID;
-    return check(&all, *into, amqp_put_bytes(room, room_length, &all.it, key, key_length, tag, content, length), right);
+    int32_t right = is_string ? model_append(into, key, (slice){bytes, 5 + content.length}) : AMQP_INVALID;
+    int32_t answer = amqp_put_bytes(room, room_length, &all.it, key.at, key.length, tag, content.at, content.length);
+    return check(&all, *into, answer, right);
 }
 
-static int32_t put_value(amqp_container *into, const uint8_t *key, size_t key_length, const uint8_t *bytes,
-                         size_t length) {
-    size_t taken;
+static int32_t put_value(amqp_container *into, slice key, slice value) {
+    size_t count;
     held all = hold(*into);
-    int is_place = is_inside(into->written, room_length) && takes_key(into->tag, key, key_length);
-    int32_t read = amqp_read(bytes, length, FRAME, DEPTH, &taken);
+    int is_place = is_inside(into->written, room_length) && takes_key(into->tag, key);
+    int32_t read = amqp_read(value.at, value.length, FRAME, DEPTH, &count);
     int32_t right = !is_place ? AMQP_INVALID : read;
     if (right == AMQP_OK) {
-        right = model_append(into, key, key_length, bytes, taken);
+        right = model_append(into, key, (slice){value.at, count});
     }
-    return check(&all, *into, amqp_put_value(room, room_length, &all.it, key, key_length, bytes, length, FRAME, DEPTH), right);
+    int32_t answer = amqp_put_value(room, room_length, &all.it, key.at, key.length, value.at, value.length, FRAME, DEPTH);
+    return check(&all, *into, answer, right);
 }
 
-static int32_t open_in(const amqp_container *into, const uint8_t *key, size_t key_length, uint8_t tag,
-                       amqp_container *body) {
+static int32_t open_in(const amqp_container *into, slice key, uint8_t tag, amqp_container *body) {
     const uint8_t bytes[] = {tag, 0, 0, 0, 0};
     amqp_container grown = *into;
     held all = hold(*body);
-    int is_container = tag == AMQP_ARRAY || tag == AMQP_TABLE;
-    int32_t right = is_container ? model_append(&grown, key, key_length, bytes, sizeof bytes) : AMQP_INVALID;
+    int32_t right = is_container(tag) ? model_append(&grown, key, (slice){bytes, sizeof bytes}) : AMQP_INVALID;
     if (right == AMQP_OK) {
-        body->written.offset = grown.written.offset + grown.written.length;
-        body->written.length = 0;
-        body->tag = tag;
+        *body = (amqp_container){{grown.written.offset + grown.written.length, 0}, tag};
     }
-    return check(&all, *body, amqp_open(room, room_length, into, key, key_length, tag, &all.it), right);
+    return check(&all, *body, amqp_open(room, room_length, into, key.at, key.length, tag, &all.it), right);
 }
 
 /* Whether the body begins after a key, its type tag and four bytes, at the end of `into`. */
 static int is_open(const amqp_container *into, const amqp_container *body) {
     size_t at = into->written.offset + into->written.length, key_length = 0;
-    int is_container = body->tag == AMQP_ARRAY || body->tag == AMQP_TABLE;
-    if (!is_inside(into->written, room_length) || !is_inside(body->written, room_length) || !is_container) {
+    if (!is_inside(into->written, room_length) || !is_inside(body->written, room_length) || !is_container(body->tag)) {
         return 0;
     }
     if (into->tag == AMQP_TABLE && at < room_length) {
         key_length = model[at++];
     }
-    return room_length - at >= key_length + 5 && takes_key(into->tag, model + at, key_length)
+    return room_length - at >= key_length + 5 && takes_key(into->tag, (slice){model + at, key_length})
            && model[at + key_length] == body->tag && body->written.offset == at + key_length + 5;
 }
 
@@ -220,9 +209,9 @@ static int32_t close_in(amqp_container *into, const amqp_container *body) {
 
 /* ---- what is tried */
 
-static const uint8_t none[1];
+static const slice none = SLICE(""), k = SLICE("k");
 
-static const amqp_container whole = {{0, 0}, AMQP_ARRAY};
+static const amqp_container whole = {{0, 0}, AMQP_ARRAY}, table_of_none = {{0, 0}, AMQP_TABLE};
 
 static const uint64_t numbers[] = {
     0, 1, 2, 127, 128, 255, 256, 32767, 32768, 65535, 65536, 2147483647, 2147483648u, 4294967295u, 4294967296u,
@@ -237,85 +226,89 @@ static void try_types(void) {
             for (int scale = 0; scale < 256; scale += scale < 2 ? 1 : 253) {
                 amqp_container array = whole, table = {{3, 0}, AMQP_TABLE};
                 new_room(16, tag % 2);
-                put(&array, none, 0, (uint8_t)tag, numbers[i], (uint8_t)scale);
-                put(&table, (const uint8_t *)"k", 1, (uint8_t)tag, numbers[i], (uint8_t)scale);
+                put(&array, none, (uint8_t)tag, numbers[i], (uint8_t)scale);
+                put(&table, k, (uint8_t)tag, numbers[i], (uint8_t)scale);
             }
         }
         for (size_t length = 0; length <= 16; length++) {
-            amqp_container table = {{0, 0}, AMQP_TABLE}, body = whole;
+            amqp_container body = whole;
             new_room(length, tag % 2);
-            open_in(&whole, none, 0, (uint8_t)tag, &body);
-            open_in(&table, (const uint8_t *)"k", 1, (uint8_t)tag, &body);
+            open_in(&whole, none, (uint8_t)tag, &body);
+            open_in(&table_of_none, k, (uint8_t)tag, &body);
         }
     }
 }
 
 /* Every key of at most two bytes, some longer ones, and those about 255 bytes. */
 static void try_keys(void) {
-    static const char *others[] = {
-        "\xe0\xa0\x80", "\xe0\x9f\xbf", "\xed\x9f\xbf", "\xed\xa0\x80", "\xef\xbf\xbf", "\xe2\x82", "\xf0\x90\x80\x80",
-        "\xf0\x8f\xbf\xbf", "\xf4\x8f\xbf\xbf", "\xf4\x90\x80\x80", "\xf0\x9f\x98", "a\xc3\xa4z", "a\x80z",
+    static const slice others[] = {
+        SLICE("\xe0\xa0\x80"), SLICE("\xe0\x9f\xbf"), SLICE("\xed\x9f\xbf"), SLICE("\xed\xa0\x80"), SLICE("\xef\xbf\xbf"),
+        SLICE("\xe2\x82"), SLICE("\xf0\x90\x80\x80"), SLICE("\xf0\x8f\xbf\xbf"), SLICE("\xf4\x8f\xbf\xbf"),
+        SLICE("\xf4\x90\x80\x80"), SLICE("\xf0\x9f\x98"), SLICE("a\xc3\xa4z"), SLICE("a\x80z"),
     };
     uint8_t key[300];
     for (size_t length = 0; length <= 2; length++) {
         for (unsigned n = 0; n < 1u << 8 * length; n++) {
-            amqp_container table = {{0, 0}, AMQP_TABLE};
-            key[0] = (uint8_t)(length == 2 ? n >> 8 : n);
-            key[1] = (uint8_t)n;
+            amqp_container table = table_of_none;
+            big_endian(key, length, n);
             new_room(8, n % 2);
-            put(&table, key, length, AMQP_VOID, 0, 0);
+            put(&table, (slice){key, length}, AMQP_VOID, 0, 0);
         }
     }
     for (size_t i = 0; i < COUNT(others); i++) {
-        amqp_container table = {{0, 0}, AMQP_TABLE}, body = whole;
+        amqp_container table = table_of_none, body = whole;
         new_room(16, 0);
-        put(&table, (const uint8_t *)others[i], strlen(others[i]), AMQP_VOID, 0, 0);
-        put_bytes(&table, (const uint8_t *)others[i], strlen(others[i]), AMQP_LONG_STRING, none, 0);
-        open_in(&table, (const uint8_t *)others[i], strlen(others[i]), AMQP_ARRAY, &body);
+        put(&table, others[i], AMQP_VOID, 0, 0);
+        put_bytes(&table, others[i], AMQP_LONG_STRING, none);
+        open_in(&table, others[i], AMQP_ARRAY, &body);
     }
     memset(key, 'k', sizeof key);
     for (size_t length = 0; length <= sizeof key; length += length < 253 ? 11 : 1) {
-        for (int tag = AMQP_ARRAY; tag <= AMQP_TABLE; tag += AMQP_TABLE - AMQP_ARRAY) {
-            amqp_container into = {{0, 0}, (uint8_t)tag};
-            new_room(400, 0);
-            put(&into, key, length, AMQP_BOOLEAN, 1, 0);
-        }
+        amqp_container array = whole, table = table_of_none;
+        new_room(400, 0);
+        put(&array, (slice){key, length}, AMQP_BOOLEAN, 1, 0);
+        new_room(400, 0);
+        put(&table, (slice){key, length}, AMQP_BOOLEAN, 1, 0);
     }
 }
 
-static const char *const values[] = {"t\1", "S\0\0\0\2hi", "A\0\0\0\3Vt\7", "F\0\0\0\3\1kV", "F\0\0\0\1", "z", "A\0\0\0\1z"};
-static const size_t lengths[] = {2, 7, 8, 8, 5, 1, 6};
+static const slice values[] = {
+    SLICE("t\1"), SLICE("S\0\0\0\2hi"), SLICE("A\0\0\0\3Vt\7"), SLICE("F\0\0\0\3\1kV"), SLICE("F\0\0\0\1"), SLICE("z"),
+    SLICE("A\0\0\0\1z"),
+};
 
-/* Entries of every kind in buffers of every size, after what is there already. */
+/* Entries of every kind, behind what is in the buffer already. */
+static void try_entries(amqp_container start, slice key) {
+    amqp_container into = start, body = whole;
+    put(&into, key, AMQP_DECIMAL, 314, 2);
+    for (size_t i = 0; i < COUNT(values); i++) {
+        uint8_t bytes[16];
+        size_t length = values[i].length;
+        memcpy(bytes, values[i].at, length);
+        bytes[length] = 'V';
+        into = start;
+        put_value(&into, key, (slice){bytes, length + 1});
+        put_value(&into, key, (slice){bytes, length - 1});
+    }
+    for (size_t length = 0; length < 9; length++) {
+        into = start;
+        put_bytes(&into, key, length % 2 ? AMQP_BYTE_ARRAY : AMQP_LONG_STRING, (slice){(const uint8_t *)"contents", length});
+    }
+    into = start;
+    if (open_in(&into, key, AMQP_TABLE, &body) == AMQP_OK) {
+        put(&body, (slice)SLICE("x"), AMQP_LONG_INT, 7, 0);
+        CHECK(close_in(&into, &body) == AMQP_OK);
+    }
+}
+
+/* Entries of every kind in buffers of every size. */
 static void try_rooms(void) {
     for (size_t length = 0; length <= 40; length++) {
         for (size_t before = 0; before <= length; before += 3) {
-            for (int tag = AMQP_ARRAY; tag <= AMQP_TABLE; tag += AMQP_TABLE - AMQP_ARRAY) {
-                const uint8_t *key = (const uint8_t *)(tag == AMQP_TABLE ? "key" : "");
-                size_t key_length = tag == AMQP_TABLE ? 3 : 0;
-                amqp_container into, start = {{0, before}, (uint8_t)tag}, body = whole;
-                new_room(length, (int)(before % 2));
-                into = start;
-                put(&into, key, key_length, AMQP_DECIMAL, 314, 2);
-                for (size_t i = 0; i < COUNT(lengths); i++) {
-                    uint8_t bytes[16];
-                    memcpy(bytes, values[i], lengths[i]);
-                    bytes[lengths[i]] = 'V';
-                    into = start;
-                    put_value(&into, key, key_length, bytes, lengths[i] + 1);
-                    put_value(&into, key, key_length, bytes, lengths[i] - 1);
-                }
-                for (size_t content = 0; content < 9; content++) {
-                    into = start;
-                    uint8_t type = content % 2 ? AMQP_BYTE_ARRAY : AMQP_LONG_STRING;
-                    put_bytes(&into, key, key_length, type, (const uint8_t *)"contents", content);
-                }
-                into = start;
-                if (open_in(&into, key, key_length, AMQP_TABLE, &body) == AMQP_OK) {
-                    put(&body, (const uint8_t *)"x", 1, AMQP_LONG_INT, 7, 0);
-                    CHECK(close_in(&into, &body) == AMQP_OK);
-                }
-            }
+            new_room(length, (int)(before % 2));
+            try_entries((amqp_container){{0, before}, AMQP_ARRAY}, none);
+            new_room(length, (int)(before % 2));
+            try_entries((amqp_container){{0, before}, AMQP_TABLE}, (slice)SLICE("key"));
         }
     }
 }
@@ -323,43 +316,40 @@ static void try_rooms(void) {
 /* Containers that were corrupted: all kinds of numbers, and of type tags. */
 static void try_corrupt(size_t length) {
     size_t small = length + 2, count = small + 4;
-    for (size_t i = 0; i < count; i++) {
-        for (size_t j = 0; j < count; j++) {
-            for (size_t t = 0; t < sizeof tags; t++) {
-                for (size_t key_length = 0; key_length < 2; key_length++) {
-                    new_room(length, (int)(i % 2));
-                    amqp_container corrupt = {{number(i, small), number(j, small)}, tags[t]}, into = corrupt, body = corrupt;
-                    put(&into, (const uint8_t *)"k", key_length, AMQP_SHORT_INT, 5, 0);
-                    into = corrupt;
-                    put_bytes(&into, (const uint8_t *)"k", key_length, AMQP_BYTE_ARRAY, (const uint8_t *)"ab", 2);
-                    into = corrupt;
-                    put_value(&into, (const uint8_t *)"k", key_length, (const uint8_t *)"t\7V", 3);
-                    open_in(&corrupt, (const uint8_t *)"k", key_length, tags[t], &body);
-                }
-            }
-        }
+    for (size_t n = 0; n < count * count * sizeof tags * 2; n++) {
+        size_t i = n / 2 / sizeof tags / count, j = n / 2 / sizeof tags % count;
+        uint8_t tag = tags[n / 2 % sizeof tags];
+        slice key = {k.at, n % 2};
+        new_room(length, (int)(i % 2));
+        amqp_container corrupt = {{number(i, small), number(j, small)}, tag}, into = corrupt, body = corrupt;
+        put(&into, key, AMQP_SHORT_INT, 5, 0);
+        into = corrupt;
+        put_bytes(&into, key, AMQP_BYTE_ARRAY, (slice)SLICE("ab"));
+        into = corrupt;
+        put_value(&into, key, (slice)SLICE("t\7V"));
+        open_in(&corrupt, key, tag, &body);
     }
 }
 
-/* Bodies that were corrupted, and containers next to them, over bytes as amqp_open leaves them. */
-static void try_corrupt_bodies(const uint8_t *bytes, size_t length) {
-    size_t small = length + 2, count = small + 4;
-    new_room(length, 0);
-    for (size_t k = 0; k < count * count * count * count; k++) {
-        amqp_container into = {{number(k % count, small), number(k / count % count, small)}, 0};
-        amqp_container body = {{number(k / count / count % count, small), number(k / count / count / count, small)}, 0};
+/* Bodies that were corrupted, and containers with them, over bytes as amqp_open leaves them. */
+static void try_corrupt_bodies(slice bytes) {
+    size_t small = bytes.length + 2, count = small + 4;
+    new_room(bytes.length, 0);
+    for (size_t n = 0; n < count * count * count * count; n++) {
+        amqp_container into = {{number(n % count, small), number(n / count % count, small)}, 0};
+        amqp_container body = {{number(n / count / count % count, small), number(n / count / count / count, small)}, 0};
         for (size_t t = 0; t < 9; t++) {
             amqp_container grown = into;
             grown.tag = tags[t % 3];
             body.tag = tags[t / 3];
-            memcpy(room, bytes, length);
-            memcpy(model, bytes, length);
+            memcpy(room, bytes.at, bytes.length);
+            memcpy(model, bytes.at, bytes.length);
             close_in(&grown, &body);
         }
     }
 }
 
-/* A buffer and a body of more than 2^32 bytes, of which only the first is accessed. */
+/* A buffer and a body of more than 2^32 bytes, of which no more is touched than the first. */
 static void try_large(void) {
     size_t large = ((size_t)1 << 32) + page_size;
     uint8_t *bytes = mmap(NULL, large, PROT_READ | PROT_WRITE, MAP_PRIVATE | MAP_ANONYMOUS | MAP_NORESERVE, -1, 0);
@@ -367,13 +357,13 @@ static void try_large(void) {
     for (size_t length = ((size_t)1 << 32) - 1; length <= ((size_t)1 << 32) + 1; length++) {
         amqp_container into = whole, body = whole, old = whole;
         int is_too_large = length > UINT32_MAX;
-        CHECK(amqp_open(bytes, large, &into, none, 0, AMQP_ARRAY, &body) == AMQP_OK);
+        CHECK(amqp_open(bytes, large, &into, none.at, 0, AMQP_ARRAY, &body) == AMQP_OK);
         body.written.length = length;
         CHECK(amqp_close(bytes, large, &into, &body) == (is_too_large ? AMQP_TOO_LARGE : AMQP_OK));
         CHECK(into.written.length == (is_too_large ? 0 : length + 5));
         CHECK(bytes[0] == 'A' && bytes[1] == (is_too_large ? 0 : 0xff) && bytes[4] == bytes[1] && bytes[5] == 0);
         new_room(64, 0);
-        CHECK(amqp_put_bytes(room, room_length, &old, none, 0, AMQP_BYTE_ARRAY, bytes, length)
+        CHECK(amqp_put_bytes(room, room_length, &old, none.at, 0, AMQP_BYTE_ARRAY, bytes, length)
               == (is_too_large ? AMQP_TOO_LARGE : AMQP_NO_ROOM));
         CHECK(old.written.length == 0 && memcmp(room, model, room_length) == 0);
         calls += 3;
@@ -385,23 +375,22 @@ static void try_large(void) {
 static void fill(amqp_container *into, int depth) {
     static const uint8_t every[] = "tbBsuIilfdDTV";
     for (uint64_t entries = random_number() % 6; entries > 0; entries--) {
-        uint8_t key[4] = {'a', 'b', 'c', 'd'};
-        size_t key_length = into->tag == AMQP_TABLE ? random_number() % 4 : 0;
-        key[0] = (uint8_t)('a' + random_number() % 5);
+        uint8_t letters[4] = {'a', 'b', 'c', 'd'};
+        slice key = {letters, into->tag == AMQP_TABLE ? random_number() % 4 : 0};
+        letters[0] = (uint8_t)('a' + random_number() % 5);
         uint64_t kind = random_number() % 8;
         uint64_t bits = numbers[random_number() % COUNT(numbers)];
         if (kind < 3) {
-            put(into, key, key_length, every[random_number() % 13], bits, (uint8_t)(random_number() % 4 ? 0 : 3));
+            put(into, key, every[random_number() % 13], bits, (uint8_t)(random_number() % 4 ? 0 : 3));
         } else if (kind < 4) {
             uint8_t type = random_number() % 2 ? AMQP_BYTE_ARRAY : AMQP_LONG_STRING;
-            put_bytes(into, key, key_length, type, key, random_number() % 5);
+            put_bytes(into, key, type, (slice){letters, random_number() % 5});
         } else if (kind < 5) {
-            size_t i = random_number() % COUNT(lengths);
-            put_value(into, key, key_length, (const uint8_t *)values[i], lengths[i]);
+            put_value(into, key, values[random_number() % COUNT(values)]);
         } else if (depth > 0) {
             amqp_container body = whole;
             uint8_t type = random_number() % 2 ? AMQP_TABLE : AMQP_ARRAY;
-            if (open_in(into, key, key_length, type, &body) == AMQP_OK) {
+            if (open_in(into, key, type, &body) == AMQP_OK) {
                 fill(&body, depth - 1);
                 CHECK(close_in(into, &body) == AMQP_OK);
             }
@@ -409,21 +398,22 @@ static void fill(amqp_container *into, int depth) {
     }
 }
 
-/* Builds what a cursor iterates over again, in the other buffer, from each entry. */
+/* Puts what a cursor steps through together again, in the other buffer, by what each entry tells. */
 static void copy_entries(const uint8_t *bytes, size_t length, amqp_cursor cursor, amqp_container *into) {
     amqp_entry entry;
     while (amqp_next(bytes, length, &cursor, &entry) == AMQP_OK) {
-        const uint8_t *key = bytes + entry.key.offset, *content = bytes + entry.content.offset;
+        slice key = {bytes + entry.key.offset, entry.key.length};
         amqp_cursor inner;
         amqp_container body = whole;
         if (amqp_enter(bytes, length, &entry, &inner) == AMQP_OK) {
-            CHECK(open_in(into, key, entry.key.length, entry.tag, &body) == AMQP_OK);
+            CHECK(open_in(into, key, entry.tag, &body) == AMQP_OK);
             copy_entries(bytes, length, inner, &body);
             CHECK(close_in(into, &body) == AMQP_OK);
         } else if (entry.tag == AMQP_LONG_STRING || entry.tag == AMQP_BYTE_ARRAY) {
-            CHECK(put_bytes(into, key, entry.key.length, entry.tag, content, entry.content.length) == AMQP_OK);
+            slice content = {bytes + entry.content.offset, entry.content.length};
+            CHECK(put_bytes(into, key, entry.tag, content) == AMQP_OK);
         } else {
-            CHECK(put(into, key, entry.key.length, entry.tag, entry.bits, entry.scale) == AMQP_OK);
+            CHECK(put(into, key, entry.tag, entry.bits, entry.scale) == AMQP_OK);
         }
     }
 }
@@ -437,7 +427,7 @@ static void try_random(void) {
     size_t count, others;
     new_room(random_number() % 300, (int)(random_number() % 2));
     uint8_t tag = random_number() % 2 ? AMQP_TABLE : AMQP_ARRAY;
-    if (open_in(&top, none, 0, tag, &body) != AMQP_OK) {
+    if (open_in(&top, none, tag, &body) != AMQP_OK) {
         return;
     }
     fill(&body, 3);
@@ -449,7 +439,7 @@ static void try_random(void) {
     CHECK(amqp_first(first, length, &entry) == AMQP_OK && amqp_enter(first, length, &entry, &cursor) == AMQP_OK);
     new_room(length, 0);
     top = whole;
-    CHECK(open_in(&top, none, 0, tag, &body) == AMQP_OK);
+    CHECK(open_in(&top, none, tag, &body) == AMQP_OK);
     copy_entries(first, length, cursor, &body);
     CHECK(close_in(&top, &body) == AMQP_OK && top.written.length == length);
     CHECK(amqp_canonical(room, length, FRAME, DEPTH, again, sizeof again, &others) == AMQP_OK);
@@ -457,8 +447,9 @@ static void try_random(void) {
 }
 
 int main(void) {
-    static const uint8_t opened[][12] = {
-        "A\0\0\0\0AVtV", "\1kF\0\0\0\0\1aV", "\0A\0\0\0\0A\0\0\0\0", "\1\x80""A\0\0\0\0VV", "F\0\0\0\0FFFF",
+    static const slice opened[] = {
+        SLICE("A\0\0\0\0AVtV\0"), SLICE("\1kF\0\0\0\0\1aV"), SLICE("\0A\0\0\0\0A\0\0\0"), SLICE("\1\x80""A\0\0\0\0VV\0"),
+        SLICE("F\0\0\0\0FFFF\0"),
     };
     page = pages_between(1);
     try_types();
@@ -468,7 +459,7 @@ int main(void) {
         try_corrupt(length);
     }
     for (size_t i = 0; i < COUNT(opened); i++) {
-        try_corrupt_bodies(opened[i], 10);
+        try_corrupt_bodies(opened[i]);
     }
     try_large();
     for (int i = 0; i < 100000; i++) {

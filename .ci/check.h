@@ -75,6 +75,10 @@ static inline int is_inside(amqp_span span, size_t length) {
     return span.offset <= length && span.length <= length - span.offset;
 }
 
+static inline int is_container(uint8_t tag) {
+    return tag == AMQP_ARRAY || tag == AMQP_TABLE;
+}
+
 static const uint8_t tags[] = {AMQP_TABLE, AMQP_ARRAY, AMQP_LONG_STRING, 0, 255};
 
 /* The number i below `small`, and from there on one of six large ones. */

@@ -17,10 +17,6 @@ static void check_entry(const amqp_entry *entry, size_t length) {
     CHECK(memchr("tbBsuIilfdDSxAFTV", entry->tag, 17) != NULL);
 }
 
-static int is_container(uint8_t tag) {
-    return tag == AMQP_ARRAY || tag == AMQP_TABLE;
-}
-
 /* An entry and a cursor between bytes that no call may write. */
 typedef struct held {
     uint64_t before;
