@@ -112,11 +112,6 @@ typedef struct held {
 
 #define SPARE 0x5a5a5a5a5a5a5a5au
 
-static held hold(amqp_container it) {
-    held all = {SPARE, it, SPARE};
-    return all;
-}
-
 /* After a call what it returned, the container, the buffer and its surroundings are as they have to be. */
 static int32_t check(const held *all, amqp_container wanted, int32_t answer, int32_t right) {
     calls++;
@@ -142,7 +137,7 @@ static void new_room(size_t length, int at_front) {
 
 static int32_t put(amqp_container *into, slice key, uint8_t tag, uint64_t bits, uint8_t scale) {
     uint8_t bytes[16];
-    held all = hold(*into);
+    held all = {SPARE, *into, SPARE};
     size_t length = model_scalar(bytes, tag, bits, scale);
     int32_t right = length ? model_append(into, key, (slice){bytes, length}) : AMQP_INVALID;
     return check(&all, *into, amqp_put(room, room_length, &all.it, key.at, key.length, tag, bits, scale), right);
@@ -150,7 +145,7 @@ static int32_t put(amqp_container *into, slice key, uint8_t tag, uint64_t bits, 
 
 static int32_t put_bytes(amqp_container *into, slice key, uint8_t tag, slice content) {
     static uint8_t bytes[MOST + 5];
-    held all = hold(*into);
+    held all = {SPARE, *into, SPARE};
     bytes[0] = tag;
     big_endian(bytes + 1, 4, content.length);
     memcpy(bytes + 5, content.at, content.length);
@@ -162,13 +157,10 @@ static int32_t put_bytes(amqp_container *into, slice key, uint8_t tag, slice con
 
 static int32_t put_value(amqp_container *into, slice key, slice value) {
     size_t count;
-    held all = hold(*into);
+    held all = {SPARE, *into, SPARE};
     int is_place = is_inside(into->written, room_length) && takes_key(into->tag, key);
     int32_t read = amqp_read(value.at, value.length, FRAME, DEPTH, &count);
-    int32_t right = !is_place ? AMQP_INVALID : read;
-    if (right == AMQP_OK) {
-        right = model_append(into, key, (slice){value.at, count});
-    }
+    int32_t right = !is_place ? AMQP_INVALID : read != AMQP_OK ? read : model_append(into, key, (slice){value.at, count});
     int32_t answer = amqp_put_value(room, room_length, &all.it, key.at, key.length, value.at, value.length, FRAME, DEPTH);
     return check(&all, *into, answer, right);
 }
@@ -176,7 +168,7 @@ static int32_t put_value(amqp_container *into, slice key, slice value) {
 static int32_t open_in(const amqp_container *into, slice key, uint8_t tag, amqp_container *body) {
     const uint8_t bytes[] = {tag, 0, 0, 0, 0};
     amqp_container grown = *into;
-    held all = hold(*body);
+    held all = {SPARE, *body, SPARE};
     int32_t right = is_container(tag) ? model_append(&grown, key, (slice){bytes, sizeof bytes}) : AMQP_INVALID;
     if (right == AMQP_OK) {
         *body = (amqp_container){{grown.written.offset + grown.written.length, 0}, tag};
@@ -198,7 +190,7 @@ static int is_open(const amqp_container *into, const amqp_container *body) {
 }
 
 static int32_t close_in(amqp_container *into, const amqp_container *body) {
-    held all = hold(*into);
+    held all = {SPARE, *into, SPARE};
     int32_t right = is_open(into, body) ? AMQP_OK : AMQP_INVALID;
     if (right == AMQP_OK) {
         big_endian(model + body->written.offset - 4, 4, body->written.length);

@@ -142,8 +142,8 @@ def json_text(value):
 class Failure(Exception):
     """Where a value fails, and why."""
 
-    def __init__(self, offset, why):
-        super().__init__(f"offset {offset}: {why}")
+    def __str__(self):
+        return "offset {}: {}".format(*self.args)
 
 
 @dataclass
@@ -215,16 +215,14 @@ class Dissection:
         if tag in "AF":
             self.entries(tag, at, end, level, depth, value.is_cut)
         else:
-            self.payload(value, self.part(at, end, level, "payload", name), needs)
+            payload = self.part(at, end, level, "payload", name)
+            if payload.bytes or tag in "Sx" and not needs:
+                value.text = f"{name} {text_of(name, payload.bytes)}"
+            if tag == "t" and payload.bytes not in (b"\0", b"\1"):
+                payload.note = "true is written as 01"
         if needs:
             raise failure
         return end
-
-    def payload(self, value, part, needs):
-        if part.bytes or value.type in ("LongString", "ByteArray") and not needs:
-            value.text = f"{value.type} {text_of(value.type, part.bytes)}"
-        if value.type == "Boolean" and part.bytes not in (b"\0", b"\1"):
-            part.note = "true is written as 01"
 
     def entries(self, tag, at, end, level, depth, is_open):
         table, key = at, None
