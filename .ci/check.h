@@ -151,11 +151,8 @@ static inline int32_t write_to(way by, slice given, size_t buffer_length, size_t
     CHECK(memcmp(bytes, given.at, length) == 0);
     size_t written = answer == AMQP_OK ? *count : 0;
     CHECK(written <= buffer_length && (answer != AMQP_OK || written > 0));
-    for (uint8_t *it = from; it < buffer; it++) {
-        CHECK(*it == FILLED);
-    }
-    for (uint8_t *it = buffer + written; it < buffer_end; it++) {
-        CHECK(*it == FILLED);
+    for (uint8_t *it = from; it < buffer_end; it++) {
+        CHECK(*it == FILLED || (it >= buffer && it < buffer + written));
     }
     CHECK((answer == AMQP_OK || answer == AMQP_MORE || answer == AMQP_NO_ROOM) == (*count > 0));
     CHECK(answer != AMQP_NO_ROOM || *count > buffer_length);
