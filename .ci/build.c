@@ -1,12 +1,12 @@
 /*
- * Tries the calls of include/amqp.h that put containers together, next to a writer in plain C.
+ * Tries the functions of include/amqp.h that build containers, next to a writer in plain C.
  *
  * After each call the buffer and the structs are those that the writer here leaves, byte for byte, and
- * so is what is returned; what isn't AMQP_OK leaves all as it was.
+ * so is what is returned; what isn't AMQP_OK leaves all unchanged.
  *
- * It tries every type tag with numbers about its type's ends, keys of every kind, each of some values
- * in buffers of every size, containers and bodies that were corrupted, and random entries that are put
- * together, read back by amqp_read and amqp_next, and made canonical.
+ * It tries every type tag with numbers about its type's range, keys of every kind, each of some values
+ * in buffers of every size, containers and bodies that were corrupted, and random entries that are
+ * built, read back by amqp_read and amqp_next, and made canonical.
  */
 #include "check.h"
 
@@ -48,7 +48,7 @@ static int takes_key(uint8_t tag, slice key) {
     return tag == AMQP_ARRAY ? key.length == 0 : tag == AMQP_TABLE && key.length <= 255 && is_utf8(key);
 }
 
-/* Puts the key and these bytes behind what the container has, and says what is returned. */
+/* Appends the key and these bytes to the container, and returns what the library must return. */
 static int32_t model_append(amqp_container *into, slice key, slice bytes) {
     size_t end = into->written.offset + into->written.length;
     size_t named = into->tag == AMQP_TABLE ? 1 + key.length : 0;
@@ -112,7 +112,7 @@ typedef struct held {
 
 #define SPARE 0x5a5a5a5a5a5a5a5au
 
-/* After a call what it returned, the container, the buffer and its surroundings are as they have to be. */
+/* After a call the result, the container, the buffer and its surroundings are as they have to be. */
 static int32_t check(const held *all, amqp_container wanted, int32_t answer, int32_t right) {
     calls++;
     CHECK(answer == right);
@@ -269,7 +269,7 @@ static const slice values[] = {
     SLICE("A\0\0\0\1z"),
 };
 
-/* Entries of every kind, behind what is in the buffer already. */
+/* Entries of every kind, after what is in the buffer already. */
 static void try_entries(amqp_container start, slice key) {
     amqp_container into = start, body = whole;
     put(&into, key, AMQP_DECIMAL, 314, 2);
@@ -323,7 +323,7 @@ static void try_corrupt(size_t length) {
     }
 }
 
-/* Bodies that were corrupted, and containers with them, over bytes as amqp_open leaves them. */
+/* Bodies that were corrupted, and containers next to them, over bytes as amqp_open leaves them. */
 static void try_corrupt_bodies(slice bytes) {
     size_t small = bytes.length + 2, count = small + 4;
     new_room(bytes.length, 0);
@@ -341,7 +341,7 @@ static void try_corrupt_bodies(slice bytes) {
     }
 }
 
-/* A buffer and a body of more than 2^32 bytes, of which no more is touched than the first. */
+/* A buffer and a body of more than 2^32 bytes, of which only the first is accessed. */
 static void try_large(void) {
     size_t large = ((size_t)1 << 32) + page_size;
     uint8_t *bytes = mmap(NULL, large, PROT_READ | PROT_WRITE, MAP_PRIVATE | MAP_ANONYMOUS | MAP_NORESERVE, -1, 0);
@@ -390,7 +390,7 @@ static void fill(amqp_container *into, int depth) {
     }
 }
 
-/* Puts what a cursor steps through together again, in the other buffer, by what each entry tells. */
+/* Builds what a cursor iterates over again, in the other buffer, from each entry. */
 static void copy_entries(const uint8_t *bytes, size_t length, amqp_cursor cursor, amqp_container *into) {
     amqp_entry entry;
     while (amqp_next(bytes, length, &cursor, &entry) == AMQP_OK) {

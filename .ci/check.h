@@ -1,7 +1,7 @@
 /*
  * What the programs that try the calls for C share: a check, allocations that fail, pages that can't
- * be touched, numbers to try, and calls that write to a buffer. What is passed and a buffer are next to
- * such a page, so a byte that is touched outside of them ends the program. Each program prints how many
+ * be accessed, numbers to try, and calls that write to a buffer. What is passed and a buffer are next to
+ * such a page, so an access outside of them ends the program. Each program prints how many
  * calls it made. Linked with -Wl,--wrap=malloc, realloc and free.
  */
 #ifndef CHECK_H

@@ -1,8 +1,8 @@
 /*
  * Tries the calls of include/amqp.h with cursors and entries that were corrupted, over bytes with their
  * end and with their start at a page's. Of each result it checks what the header says: what is returned
- * is inside the bytes, a step goes on, what isn't AMQP_OK leaves the entry and the cursor as they were,
- * and nothing next to the structs is written.
+ * is inside the bytes, a step goes on, what isn't AMQP_OK leaves the entry and the cursor unchanged,
+ * and nothing but the structs is written.
  *
  * It tries every cursor of small numbers over small inputs, each prefix of them and each change of one
  * byte to one of some, and then random cursors over random bytes.
@@ -138,7 +138,7 @@ static void random_cursors(slice bytes) {
     }
 }
 
-/* Puts the bytes against the page's end, then against its start. */
+/* Moves the bytes to the page's end, then to its start. */
 static void at_both_ends(slice input, void (*try)(slice)) {
     uint8_t *places[] = {page + page_size - input.length, page};
     for (int i = 0; i < 2; i++) {

@@ -52,7 +52,7 @@ static const struct {
 static const slice other_bytes = SLICE("\0\1\2AFLSUVbt\177\200\377");
 static const slice other_characters = SLICE("\0 \"-.09,:[\\]e{}\200\377");
 
-/* Texts that mean nothing, and texts that mean what has no encoding. */
+/* Texts that denote nothing, and texts that denote a value without encoding. */
 static const slice not_json[] = {
     SLICE(""), SLICE(" "), SLICE("nul"), SLICE("1.0"), SLICE("-0"), SLICE("1e3"), SLICE("9223372036854775808"),
     SLICE("\"\377\""), SLICE("[1"), SLICE("[1]]"), SLICE("{\"a\":1,}"), SLICE("\"\\ud800\""),
@@ -66,7 +66,7 @@ static const slice not_encoded[] = {
 
 static const way there = {TO_JSON, FRAME, DEPTH, 0}, back = {FROM_JSON, 0, 0, AMQP_JSON_NESTING};
 
-/* A text is refused, or means a value: the encoding that it gives is canonical, and its JSON gives it again. */
+/* A text is rejected, or denotes a value: its encoding is canonical, and the JSON of that yields it again. */
 static void try_text(slice given) {
     uint8_t bytes[MANY], text[MANY];
     size_t count, again;
@@ -80,7 +80,7 @@ static void try_text(slice given) {
     }
 }
 
-/* Bytes are read as amqp_read reads them, and the JSON of a value gives its canonical encoding. */
+/* Bytes are read as amqp_read reads them, and the JSON of a value yields its canonical encoding. */
 static void try_bytes(slice given) {
     uint8_t text[MANY], canonical[MANY];
     size_t wanted, count, again, written;
@@ -105,7 +105,7 @@ static void try_limits(void) {
     CHECK(write_to((way){TO_JSON, 10, 1, 0}, nested, MANY, &count) == AMQP_MALFORMED);
 }
 
-/* A text is read where it may nest as deep as it does, and refused where it may not. */
+/* A text is read if it may nest as deep as it does, and otherwise rejected. */
 static void try_nesting(slice text, uint32_t nesting) {
     size_t count;
     for (uint32_t most = 0; most < nesting + 2; most++) {

@@ -81,7 +81,7 @@ def table():
 
 
 def answer(program, name, depth, given, stack):
-    """What a call returns on a stack of n bytes, or how the program ended."""
+    """What a call returns on a stack of that many bytes, or how the program ended."""
     limit = lambda: resource.setrlimit(resource.RLIMIT_STACK, (stack, stack))
     how = {"input": given, "capture_output": True, "env": {}, "preexec_fn": limit, "timeout": 60}
     done = subprocess.run([program, name, str(depth)], **how)

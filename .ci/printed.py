@@ -30,7 +30,7 @@ SIGNED = ("ShortShortInt", "ShortInt", "LongInt", "LongLongInt")
 NAMES = {*(name for name, _ in TYPES.values()), "LongLongUInt", "ShortString"}
 # The types with a length before their content.
 COUNTED = "SxAF"
-# How many digits at most stand before a point, and zeros behind it, with no exponent.
+# How many digits are at most before a point, and zeros after it, without an exponent.
 LAYOUT = {"Float": (13, 5), "Double": (16, 4)}
 LAST_DATE = 253402207200
 UNPRINTABLE = {*range(0x20), *range(0x7F, 0xA0), 0x61C, 0x200E, 0x200F, *range(0x202A, 0x202F), *range(0x2066, 0x206A)}
@@ -252,7 +252,7 @@ class Dissection:
 
 
 def following(data, end):
-    """How many bytes follow a value. No more than the limit and one are read."""
+    """How many bytes are after a value. No more than the limit and one are read."""
     return f"at least {FRAME + 1 - end}" if len(data) > FRAME else str(len(data) - end)
 
 
@@ -344,7 +344,7 @@ def text_of(name, data):
 
 
 def repeated(tags):
-    """A line for each key that comes again in its table."""
+    """A line for each key that is repeated in its table."""
     for (_, key), found in sorted(tags.items()):
         if len(found) > 1:
             first, last = (f"{it.text} at {it.offset}" for it in (found[0], found[-1]))
