@@ -80,11 +80,15 @@ def table():
     return figures, int(besides[1]) << 10
 
 
-def answer(program, name, depth, given, stack):
-    """What a call returns on a stack of that many bytes, or how the program ended."""
+def on_stack(stack, words, given):
+    """Runs a program on a stack of n bytes."""
     limit = lambda: resource.setrlimit(resource.RLIMIT_STACK, (stack, stack))
-    how = {"input": given, "capture_output": True, "env": {}, "preexec_fn": limit, "timeout": 60}
-    done = subprocess.run([program, name, str(depth)], **how)
+    return subprocess.run(words, input=given, capture_output=True, env={}, preexec_fn=limit, timeout=60, check=False)
+
+
+def answer(program, name, depth, given, stack):
+    """What a call returns on a stack of n bytes, or how the program ended."""
+    done = on_stack(stack, [program, name, str(depth)], given)
     return f"status {done.returncode}" if done.returncode else done.stdout.decode().strip()
 
 
