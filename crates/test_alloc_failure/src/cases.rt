@@ -21,6 +21,7 @@ use std::alloc::Global;
 use std::io;
 use test_support::TABLE;
 
+/// A case: its calls, and how they may end.
 pub struct Case {
     pub name: &'static str,
     /// Each error that its calls may return if an allocation fails. None: they don't allocate.
