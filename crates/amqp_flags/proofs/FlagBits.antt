@@ -164,7 +164,7 @@ next_flag names s i d t byte fs more all few is there of new so_far =
     ∙ (λ k. fs ++ (sym is k, bit_at (sym of k) (i % 8) == 1) ∷ zip behind left) in
     ap (λ l. l ++ zip behind left) new ∙ append_assoc fs ((t, bit_at byte (i % 8) == 1) ∷ []) (zip behind left) ∙ sym split ∙ so_far
 
--- where the names or the bits end, so do the flags
+-- the flags end if the names or the bits end
 pub names_end : (names : List (Bor (List ℕ))) (bs : List Bool) (i : ℕ) (fs all : List Flag) → length names ≤ i → fs ++ zip (map (λ n. n.now) (drop i names)) bs ≡ all → fs ≡ all
 names_end names bs i fs all past so_far =
     let none : drop i names ≡ [] = nil_from_length (drop i names) (omega (arith, length-drop i names)) in
@@ -178,7 +178,7 @@ pub bits_end : (ns : List (List ℕ)) (s : List ℕ) (i : ℕ) (fs all : List Fl
 bits_end ns s i fs all past so_far =
     sym (append-nil fs) ∙ ap (λ l. fs ++ l) (sym (no_zip ns (drop i (bits s)) (no_bit s i past))) ∙ so_far
 
--- where there is a name and a bit, there is a flag
+-- there is a flag if there is a name and a bit
 pub some_flag : (names : List (Bor (List ℕ))) (s : List ℕ) (i : ℕ) → i < length names → i / 8 < length s → 0 < length (unpack (map (λ n. n.now) names) s)
 some_flag names s i name bit =
     let count = length-zip (map (λ n. n.now) names) (bits s) in

@@ -60,7 +60,7 @@ impl AMQPFlags {
     }
 
     /// Unpacks a flag for each name that has a bit, in order, the lowest bit of a byte first. If
-    /// there are none it doesn't allocate.
+    /// there is no such name it doesn't allocate.
     pub fn from_bytes<I: ParsableInput>(
         alloc: Global,
         names: &[&str],

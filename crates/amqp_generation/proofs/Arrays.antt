@@ -1,5 +1,5 @@
 -- Lemmas on an array that is written after its length.
-use Rattle.std.proofs.Common.{◌≡◌, ℕ, ◌<◌, ◌≤◌, true, Result, Ok, Err, List, ◌++◌, length, get_or, take, replicate, subst, arith}
+use Rattle.std.proofs.Common.{◌≡◌, ℕ, ◌<◌, ◌≤◌, true, Result, Ok, Err, List, ◌++◌, length, get_or, take, replicate, subst, OnOk, arith}
 use Rattle.std.proofs.lemmas.List.{take_all}
 use Rattle.amqp_value_core.specs.declared.value.AMQPValue.{AMQPValue}
 use Rattle.amqp_grammar.specs.Values.{array}
@@ -7,6 +7,7 @@ use Rattle.amqp_grammar.specs.Grammar.{long_field}
 use Rattle.amqp_value_core.specs.View.{view}
 use Rattle.amqp_value_core.specs.Containers.{trees}
 use Rattle.amqp_grammar.specs.Texts.{text, body, Fits}
+use Rattle.amqp_grammar.specs.InMemory.{IsValue, AreValues}
 use Rattle.amqp_grammar.specs.Members.{AllFit}
 use Rattle.amqp_generation.specs.declared.error.GenError.{GenError}
 use Rattle.amqp_generation.specs.Outputs.{OutputState, Writes}
@@ -39,3 +40,10 @@ pub array_closed : (vs items : List AMQPValue) (k at : ℕ) {s t w : OutputState
 array_closed vs items k at {s = s} {t = t} {w = w} r all done place whole p f =
     let P : List AMQPValue → Type 0 = λ us. Owes us s r w in
     subst P all (length_put (body (trees vs)) r _ at place whole (λ many fit. omega (arith, fit.0)) (λ few fit. (omega arith, fit)) (all_put vs k s t done p) f)
+
+-- all of them are a value, whatever comes of their length
+pub array_value : (vs items : List AMQPValue) (k : ℕ) (r : Result (Unit {0}) GenError) → vs ≡ items → length vs ≤ k → AreValues (trees (take k vs)) → OnOk r (IsValue (array (trees items)))
+array_value vs items k (Ok _) all done is =
+    let P : List AMQPValue → Type 0 = λ us. AreValues (trees us) in
+    subst P all (subst P (take_all k vs done) is)
+array_value vs items k (Err _) all done is = tt

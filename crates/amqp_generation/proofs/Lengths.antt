@@ -27,7 +27,7 @@ behind {s = s} {t = t} here there o =
     let n = counted s.written t.written s.position t.position o.more here.written here.counted there.written there.counted o.appended in
     omega arith
 
--- nothing was appended where the bytes are as they were
+-- nothing was appended if the bytes are as they were
 pub nothing_appended : (a b : Option (List ℕ)) → b ≡ a → Appends a b []
 nothing_appended None b e = tt
 nothing_appended (Some put) b e = subst (λ (o : Option (List ℕ)). Appends (Some put) o []) (sym e) (sym (append-nil put))
@@ -112,7 +112,7 @@ module _ {W : Type 0} (seen : W → OutputState) (may : WriteContext W → Resul
     tail : w.tail ≡ drop (length (long_field o.more)) s.tail
     tail = ap (λ (x : OutputState). x.tail) number ∙ rest
 
-  -- where the number fits, it is put before what was appended
+  -- if the number fits, it is put before what was appended
   pub put_with_length : (r : Result (Unit {0}) GenError) → PatchesLength at u r w → start_of new ≡ start_of after → OnOk r (AppendsWithLength seen may old new)
   put_with_length (Ok _) f start = record {
     before = before;
@@ -129,7 +129,7 @@ module _ {W : Type 0} (seen : W → OutputState) (may : WriteContext W → Resul
   }
   put_with_length (Err e) f start = tt
 
-  -- where it doesn't fit, the call may pass it
+  -- if it doesn't fit, the call may pass it
   pub too_long : (r : Result (Unit {0}) GenError) → PatchesLength at u r w → start_of new ≡ start_of after → IfErr r (RefusesWithLength seen may old new)
   too_long (Ok _) f start = tt
   too_long (Err e) f start = inr (inr (

@@ -29,7 +29,7 @@ none_fit : (room : Option ℕ) → IfSome room (λ n. 0 ≤ n)
 none_fit None = tt
 none_fit (Some n) = omega arith
 
--- room was made, and nothing is put yet
+-- the buffer was grown, and nothing is written yet
 pub room_made : {b : Bool} {n m : ℕ} {s t : OutputState} → n ≡ m → MakesRoom b n s (Ok tt) t → PutSoFar b m [] s t
 room_made {s = s} {t = t} same m = record {
   written = record {
@@ -54,7 +54,7 @@ room_made {s = s} {t = t} same m = record {
   promise = λ is. omega (arith, m.promise is);
 }
 
--- room for the bytes was rejected
+-- growing the buffer for the bytes was rejected
 pub room_refused : {b : Bool} {n : ℕ} {s t : OutputState} {e : GenError} (all : List ℕ) → n ≡ length all → MakesRoom b n s (Err e) t → Writes b (Unit {0}) all s (Err e) t
 room_refused {b = b} {n = n} {s = s} {t = t} {e = e} all count m =
     let P : ℕ → Type 0 = λ k. MakesRoom b k s (Err e) t in

@@ -1,11 +1,11 @@
--- Lemmas on a room that is fixed or open, and on bytes that are told or not.
+-- Lemmas on a capacity that is fixed or open, and on bytes that are known or not.
 use Rattle.std.proofs.Common.{◌≡◌, ℕ, ◌+◌, ◌-◌, ◌<◌, ◌≤◌, Option, Some, None, IsSome, IfSome, is_some, List, ◌++◌, length, take, drop, refl, sym, ap, ◌∙◌, subst, arith, append_assoc, length-append}
 use Rattle.std.specs.Option.{option_map}
 use Rattle.std.specs.Io.KnownBytes.{Appends}
 use Rattle.std.proofs.lemmas.List.{take_at, drop_at}
 use Rattle.amqp_generation.specs.BufferOutput.{overwrite}
 
--- a bytes fit the room, and then b the room left: so both fit
+-- a bytes fit the capacity, and then b what is left of it: so both fit
 pub both_fit : (room left : Option ℕ) (a b c : ℕ) → c ≡ a + b → IfSome room (λ n. a ≤ n) → left ≡ option_map (λ n. n - a) room → IfSome left (λ n. b ≤ n) → IfSome room (λ n. c ≤ n)
 both_fit None left a b c sum p e q = tt
 both_fit (Some n) left a b c sum p e q =
@@ -13,21 +13,21 @@ both_fit (Some n) left a b c sum p e q =
     let second : b ≤ n - a = subst Q e q in
     omega arith
 
--- the room left after a bytes and then b
+-- the capacity left after a bytes and then b
 pub both_left : (room left last : Option ℕ) (a b c : ℕ) → c ≡ a + b → left ≡ option_map (λ n. n - a) room → last ≡ option_map (λ n. n - b) left → last ≡ option_map (λ n. n - c) room
 both_left None left last a b c sum e f = f ∙ ap (option_map (λ n. n - b)) e
 both_left (Some n) left last a b c sum e f =
     let same : n - a - b ≡ n - c = omega arith in
     f ∙ ap (option_map (λ n. n - b)) e ∙ ap Some same
 
--- the room after a bytes were put and taken back
+-- the capacity after a bytes were written and taken back
 pub room_back : (room left last : Option ℕ) (a : ℕ) → IfSome room (λ n. a ≤ n) → left ≡ option_map (λ n. n - a) room → last ≡ option_map (λ n. n + a) left → last ≡ room
 room_back None left last a p e f = f ∙ ap (option_map (λ n. n + a)) e
 room_back (Some n) left last a p e f =
     let same : n - a + a ≡ n = omega arith in
     f ∙ ap (option_map (λ n. n + a)) e ∙ ap Some same
 
--- b bytes don't fit the room left after a: so both don't fit
+-- b bytes don't fit the capacity left after a: so both don't fit
 pub both_too_many : (room left : Option ℕ) (a b c : ℕ) → a + b ≤ c → IfSome room (λ n. a ≤ n) → left ≡ option_map (λ n. n - a) room → (m : ℕ) × (left ≡ Some m) × (m < b) → (n : ℕ) × (room ≡ Some n) × (n < c)
 both_too_many None left a b c sum p e (m, is, few) = cc
 both_too_many (Some n) left a b c sum p e (m, is, few) =
@@ -35,19 +35,19 @@ both_too_many (Some n) left a b c sum p e (m, is, few) =
     let same' : n - a ≡ m = cc in
     (n, refl, omega arith)
 
--- where the room is fixed, so is the room left
+-- if the capacity is fixed, so is what is left of it
 pub still_fixed : (room left : Option ℕ) (a : ℕ) → left ≡ option_map (λ n. n - a) room → IsSome room → IsSome left
 still_fixed None left a e h = cc
 still_fixed (Some n) left a e h = ap is_some e
 
--- where both would fit, b bytes fit the room left after a
+-- if both would fit, b bytes fit the capacity left after a
 pub rest_fits : (P : Type 0) (room left : Option ℕ) (a b c : ℕ) → a + b ≤ c → left ≡ option_map (λ n. n - a) room → IfSome left (λ n. b ≤ n → P) → IfSome room (λ n. c ≤ n → P)
 rest_fits P None left a b c sum e h = tt
 rest_fits P (Some n) left a b c sum e h =
     let Q : Option ℕ → Type 0 = λ o. IfSome o (λ m. b ≤ m → P) in
     λ fit. subst Q e h (omega arith)
 
--- what was appended and then cut away leaves the told bytes as they were
+-- what was appended and then cut away leaves the known bytes as they were
 pub told_back : (told more last : Option (List ℕ)) (at : ℕ) (bytes : List ℕ) → IfSome told (λ put. length put ≡ at) → IsSome told → Appends told more bytes → last ≡ option_map (take at) more → last ≡ told
 told_back None more last at bytes long h p e = absurd cc
 told_back (Some put) None last at bytes long h p e = absurd p
@@ -64,7 +64,7 @@ front_overwritten (Some put) (Some all) at zeros ys rest long same p =
     let behind : drop n all ≡ rest = ap (drop n) (p ∙ sym (append_assoc put zeros rest)) ∙ drop_at (put ++ zeros) rest n count in
     λ i. front i ++ (ys ++ behind i)
 
--- what holds anyway holds in any room
+-- what holds anyway holds in any capacity
 pub any_room : (P : Type 0) (room : Option ℕ) (a : ℕ) → P → IfSome room (λ n. a ≤ n → P)
 any_room P None a h = tt
 any_room P (Some n) a h = λ _. h

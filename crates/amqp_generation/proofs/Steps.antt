@@ -69,7 +69,7 @@ refused {xs = xs} {ys = ys} {s = s} {t = t} {u = u} {w = w} {e = e} C zs at plac
       faults = omega (arith, p.faults, q.faults, back.faults);
     }
 
--- a length that doesn't fit its field is rejected where nothing more was put
+-- a length that doesn't fit its field is rejected if nothing more was written
 pub refused_as_long : (s : OutputState) (C : Type 0) → (C → ⊥) → Writes true C [] s (Err LengthTooLong) s
 refused_as_long s C long = record {
   appended = tt;
@@ -116,7 +116,7 @@ filled_in zeros more {s = s} {t = t} C ys whole same lengths p =
       faults = p.faults;
     }
 
--- what a buffer wrote, whatever says that it is one
+-- what a buffer wrote, whatever shows that it is one
 pub by_buffer : {b : Bool} {A : Type 0} {xs : List ℕ} {s t : OutputState} → b ≡ true → Writes b A xs s (Ok tt) t → Writes true A xs s (Ok tt) t
 by_buffer {A = A} {xs = xs} {s = s} {t = t} e p =
     let P : Bool → Type 0 = λ c. Writes c A xs s (Ok tt) t in

@@ -24,7 +24,7 @@ Stored = List (List ℕ × AMQPValue)
 
 -- ---- some entries, and others after them
 
--- the texts of both
+-- the encodings of both
 pairs-append : (es fs : Stored) → pairs (entries (es ++ fs)) ≡ pairs (entries es) ++ pairs (entries fs)
 pairs-append [] fs = refl
 pairs-append (e ∷ es) fs =
@@ -32,12 +32,12 @@ pairs-append (e ∷ es) fs =
     ∙ ap (λ l. short_field e.0 ++ l) (sym (append_assoc (text (view e.1)) (pairs (entries es)) (pairs (entries fs))))
     ∙ sym (append_assoc (short_field e.0) (text (view e.1) ++ pairs (entries es)) (pairs (entries fs)))
 
--- where one more fits, all do
+-- if one more fits, all do
 fit_more : (es : Stored) (k : List ℕ) (v : AMQPValue) → EntriesFit (entries es) → Fits (view v) → EntriesFit (entries (es ++ (k, v) ∷ []))
 fit_more [] k v p q = (q, tt)
 fit_more (e ∷ es) k v p q = (p.0, fit_more es k v p.1 q)
 
--- where all fit, each does
+-- if all fit, each does
 fit_behind : (es : Stored) (k : List ℕ) (v : AMQPValue) (fs : Stored) → EntriesFit (entries (es ++ (k, v) ∷ fs)) → Fits (view v)
 fit_behind [] k v fs p = p.0
 fit_behind (e ∷ es) k v fs p = fit_behind es k v fs p.1

@@ -11,7 +11,7 @@ use Rattle.amqp_value_core.specs.View.{view}
 use Rattle.amqp_value_core.specs.Containers.{trees}
 use Rattle.amqp_grammar.specs.InMemory.{IsValue, AreValues}
 
--- a type tag and the payload are the text
+-- a type tag and the payload are the canonical encoding
 pub text_of : (v : Tree) (type : AMQPType) → type ≡ type_of v → text v ≡ id_of type ∷ [] ++ payload v
 text_of v type e = ap (λ t. id_of t ∷ payload v) (sym e)
 
@@ -24,17 +24,17 @@ longer_by_id (octets s) = omega arith
 longer_by_id (array vs) = omega arith
 longer_by_id (table es) = omega arith
 
--- the texts of some values, and then that of one more
+-- the canonical encodings of some values, and then that of one more
 body_more : (vs : List AMQPValue) (v : AMQPValue) → body (trees (vs ++ v ∷ [])) ≡ body (trees vs) ++ text (view v)
 body_more [] v = append-nil (text (view v))
 body_more (u ∷ vs) v = ap (λ l. text (view u) ++ l) (body_more vs v) ∙ sym (append_assoc (text (view u)) (body (trees vs)) (text (view v)))
 
--- where one more fits, all do
+-- if one more fits, all do
 fit_more : (vs : List AMQPValue) (v : AMQPValue) → AllFit (trees vs) → Fits (view v) → AllFit (trees (vs ++ v ∷ []))
 fit_more [] v p q = (q, tt)
 fit_more (u ∷ vs) v p q = (p.0, fit_more vs v p.1 q)
 
--- where one more is a value, all are
+-- if one more is a value, all are
 values_more : (vs : List AMQPValue) (v : AMQPValue) → AreValues (trees vs) → IsValue (view v) → AreValues (trees (vs ++ v ∷ []))
 values_more [] v p q = (q, tt)
 values_more (u ∷ vs) v p q = (p.0, values_more vs v p.1 q)
@@ -43,7 +43,7 @@ values_more (u ∷ vs) v p q = (p.0, values_more vs v p.1 q)
 taken_more : (vs : List AMQPValue) (k : ℕ) (v : AMQPValue) → k < length vs → v ≡ get_or vs k v → take k vs ++ v ∷ [] ≡ take (k + 1) vs
 taken_more vs k v h e = ap (λ u. take k vs ++ u ∷ []) e ∙ sym (take_more vs k v h)
 
--- their texts, after four reserved bytes
+-- their canonical encodings, after four reserved bytes
 pub body_next : (vs : List AMQPValue) (k : ℕ) (v : AMQPValue) → k < length vs → v ≡ get_or vs k v → replicate 4 0 ++ body (trees (take (k + 1) vs)) ≡ replicate 4 0 ++ body (trees (take k vs)) ++ text (view v)
 body_next vs k v h e = ap (λ l. replicate 4 0 ++ l) (ap (λ us. body (trees us)) (sym (taken_more vs k v h e)) ∙ body_more (take k vs) v)
 
@@ -57,13 +57,13 @@ values_next vs k v h e p q =
     let P : List AMQPValue → Type 0 = λ us. AreValues (trees us) in
     subst P (taken_more vs k v h e) (values_more (take k vs) v p q)
 
--- where all fit, each does
+-- if all fit, each does
 fits_at : (vs : List AMQPValue) (k : ℕ) (d : AMQPValue) → k < length vs → AllFit (trees vs) → Fits (view (get_or vs k d))
 fits_at [] k d h p = absurd (omega arith)
 fits_at (v ∷ vs) zero d h p = p.0
 fits_at (v ∷ vs) (suc k) d h p = fits_at vs k d (omega arith) p.1
 
--- the texts of the first values and that of the next are no longer than all of them
+-- the encodings of the first values and that of the next are no longer than all of them
 within_at : (vs : List AMQPValue) (k : ℕ) (d : AMQPValue) → k < length vs → length (body (trees (take k vs))) + length (text (view (get_or vs k d))) ≤ length (body (trees vs))
 within_at [] k d h = absurd (omega arith)
 within_at (v ∷ vs) zero d h = omega (arith, length-append (text (view v)) (body (trees vs)))

@@ -1,4 +1,4 @@
--- A value that was read finds the room that its encoding took.
+-- A value that was read fits the capacity that its encoding took.
 use Rattle.std.proofs.Common.{ℕ, ◌≢◌, ◌≤◌, Option, Some, None, IfSome, length, Result, true, arith}
 use Rattle.amqp_types.specs.declared.amqp_type.AMQPType.{AMQPType}
 use Rattle.amqp_types.specs.declared.amqp_type.AMQPType.TheVariants as amqp
@@ -9,12 +9,12 @@ use Rattle.amqp_generation.specs.declared.error.GenError.{GenError}
 use Rattle.amqp_generation.specs.Outputs.{OutputState, Writes}
 use Rattle.amqp_generation.specs.Written.{WritesWhatWasRead, WritesPayloadRead}
 
--- what succeeds where n bytes fit does where more do
+-- what succeeds if n bytes fit does if more do
 in_more_room : (P : Type 0) (room : Option ℕ) (n m : ℕ) → n ≤ m → IfSome room (λ r. n ≤ r → P) → IfSome room (λ r. m ≤ r → P)
 in_more_room P None n m le h = tt
 in_more_room P (Some r) n m le h = λ fit. h (omega arith)
 
--- what writes a value's text writes a value that was read
+-- what writes a value's canonical encoding writes a value that was read
 pub writes_what_was_read : {v : Tree} {s t : OutputState} {r : Result (Unit {0}) GenError} → Writes true (Fits v) (text v) s r t → WritesWhatWasRead v s r
 writes_what_was_read {v = v} {s = s} p = record {
   never_too_long = λ w q e. p.too_long e (bounded_wire w v q).fits;

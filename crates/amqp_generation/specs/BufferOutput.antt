@@ -1,4 +1,4 @@
--- What a buffer's calls do to it: bytes, room, going back, and a length that is filled in.
+-- What a buffer's calls do to it: bytes, capacity, truncation, and a length that is filled in.
 use Rattle.std.specs.Prelude.{ℕ, ◌≡◌, ◌+◌, ◌-◌, ◌^◌, ◌<◌, ◌≤◌, ⊤, Bool, IsTrue, Some, IsSome, IfSome, Result, Ok, Err, IsOk, IfErr, OnOk, OnErr, IsErrOf, List, ◌++◌, length, take, drop}
 use Rattle.std.specs.Option.{option_map}
 use Rattle.std.specs.Int.{w32, to_be_bytes}
@@ -7,19 +7,19 @@ use Rattle.amqp_generation.specs.declared.error.GenError.{GenError}
 use Rattle.amqp_generation.specs.declared.error.GenError.TheVariants.{BufferTooSmall, LengthTooLong, IoError, InvalidOffset, OutOfMemory}
 use Rattle.amqp_generation.specs.Outputs.{OutputState, HasFailed, Writes}
 
--- the answer of a call that writes, without what it returns
+-- whether a call that writes succeeded, or its error, without the value that it returns
 abbrev pub answer_of : {T : Type 0} → Result T GenError → Result (Unit {0}) GenError
 answer_of (Ok _) = Ok tt
 answer_of (Err e) = Err e
 
--- what a buffer is viewed as: its bytes, as many as its position says, and after them as many as it
--- has room
+-- what a buffer is viewed as: its bytes, as many as its position counts, and after them as many as
+-- its capacity is
 pub record IsWhole (s : OutputState) : Type 0 where
   pub written : IsSome s.written
   pub counted : IfSome s.written (λ put. length put ≡ s.position)
   pub tail : IfSome s.room (λ room. length s.tail ≡ room)
 
--- One piece of bytes was put whole, or rejected.
+-- One piece of bytes was written completely, or rejected.
 pub record AppendsBytes (is_buffer : Bool) (bytes : List ℕ) (before : OutputState) (result : Result (Unit {0}) GenError) (after : OutputState) : Type 0 where
   pub written : Writes is_buffer ⊤ bytes before result after
   -- an error leaves the position as it was
@@ -33,7 +33,7 @@ pub record RefusedAsLong (before : OutputState) (result : Result (Unit {0}) GenE
   pub is : result ≡ Err LengthTooLong
   pub unchanged : after ≡ before
 
--- Room was made for n more bytes, or the call failed; nothing else changed.
+-- The capacity was made sufficient for n more bytes, or the call failed; nothing else changed.
 pub record MakesRoom (is_buffer : Bool) (n : ℕ) (before : OutputState) (result : Result (Unit {0}) GenError) (after : OutputState) : Type 0 where
   pub written : after.written ≡ before.written
   pub position : after.position ≡ before.position
@@ -41,15 +41,15 @@ pub record MakesRoom (is_buffer : Bool) (n : ℕ) (before : OutputState) (result
   pub tail : after.tail ≡ before.tail
   -- a buffer now promises that many
   pub promise : IsTrue is_buffer → OnOk result (n ≤ after.promise)
-  -- with fixed room it succeeds exactly where they fit
+  -- with fixed capacity it succeeds exactly when they fit
   pub fits : OnOk result (IfSome before.room (λ room. n ≤ room))
   pub succeeds : IfSome before.room (λ room. n ≤ room → IsOk result)
-  -- the errors: where each may come
+  -- the errors: when each may come
   pub too_small : IsErrOf result BufferTooSmall → (room : ℕ) × (before.room ≡ Some room) × (room < n)
   pub too_long : IsErrOf result LengthTooLong → ⊥
   pub failed : IfErr result (λ e. (kind : ErrorKind) → e ≡ IoError kind → HasFailed before after)
   pub offset : IsErrOf result InvalidOffset → 2 ^ 64 ≤ before.position + n
-  -- a buffer alone may run out of memory; by `no_other` its room is open
+  -- only a buffer may run out of memory; by `no_other` its capacity is open
   pub memory : IsErrOf result OutOfMemory → IsTrue is_buffer
   pub no_other : IsSome before.room → IfErr result (λ e. e ≡ BufferTooSmall)
   -- faults are never taken back
@@ -63,14 +63,14 @@ overwrite put at bytes = take at put ++ (bytes ++ drop (at + length bytes) put)
 abbrev pub filled : OutputState → ℕ → List ℕ → OutputState
 filled s at bytes = record s { written = option_map (λ put. overwrite put at bytes) s.written }
 
--- The bytes put were cut to the first `at`, and the room grew by what was cut.
+-- The bytes written were cut to the first `at`, and the capacity grew by what was cut.
 pub record Truncates (at : ℕ) (before : OutputState) (after : OutputState) : Type 0 where
   pub written : after.written ≡ option_map (take at) before.written
   pub position : after.position ≡ at
   pub room : after.room ≡ option_map (λ room. room + (before.position - at)) before.room
   pub faults : after.faults ≡ before.faults
 
--- The number of the bytes put after the four from `at` on was filled in there, big-endian; where it
+-- The number of the bytes written after the four at `at` was filled in there, big-endian; if it
 -- doesn't fit, all from `at` on was taken back.
 pub record PatchesLength (at : ℕ) (before : OutputState) (result : Result (Unit {0}) GenError) (after : OutputState) : Type 0 where
   pub fits : OnOk result (before.position - at - 4 < 2 ^ 32)

@@ -17,10 +17,10 @@ start_of x = x.start
 abbrev pub state_of : {W : Type 0} → (W → OutputState) → WriteContext W → OutputState
 state_of seen x = seen x.output
 
--- a call put one piece of bytes through the context whole, or was rejected
+-- a call wrote one piece of bytes through the context completely, or was rejected
 abbrev pub AppendsThrough : {W : Type 0} → Bool → (W → OutputState) → List ℕ → WriteContext W → Result (Unit {0}) GenError → WriteContext W → Type 0
 AppendsThrough is_buffer seen bytes old result new = AppendsBytes is_buffer bytes (state_of seen old) result (state_of seen new)
 
--- the count of the context begins where it did
+-- the start of the context's count is unchanged
 abbrev pub KeepsStart : {W : Type 0} → WriteContext W → WriteContext W → Type 0
 KeepsStart old new = start_of new ≡ start_of old

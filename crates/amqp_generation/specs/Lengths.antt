@@ -10,12 +10,12 @@ use Rattle.amqp_generation.specs.Contexts.{start_of, state_of}
 use Rattle.amqp_generation.specs.Outputs.{OutputState, Writes}
 use Rattle.amqp_generation.specs.BufferOutput.{filled}
 
--- A call only appends, whatever it answers: the bytes put before it are a prefix of those after it.
+-- A call only appends, whatever it returns: the bytes before it are a prefix of those after it.
 pub record OnlyAppends (before : OutputState) (result : Result (Unit {0}) GenError) (after : OutputState) : Type 0 where
   -- what comes after them
   pub more : List ℕ
   pub appended : Appends before.written after.written more
-  -- where it answers Ok, what stood after the position is cut by as many
+  -- if it returns Ok, what was after the position is cut by as many
   pub tail : OnOk result (after.tail ≡ drop (length more) before.tail)
 
 -- Four bytes of 0 were put to `old`, and `before` is the context then.
@@ -23,8 +23,8 @@ pub record Reserved {W : Type 0} (seen : W → OutputState) (old before : WriteC
   pub zeros : Writes true ⊤ (replicate 4 0) (state_of seen old) (Ok tt) (state_of seen before)
   pub start : start_of before ≡ start_of old
 
--- Bytes were put after their length in four bytes. They are what a call appended, of those that
--- `may` says: from which context, with which answer, to which.
+-- Bytes were written after their length in four bytes. They are what a call appended, of those that
+-- `may` allows: from which context, with which result, to which.
 pub record AppendsWithLength {W : Type 0} (seen : W → OutputState) (may : WriteContext W → Result (Unit {0}) GenError → WriteContext W → Type 0) (old new : WriteContext W) : Type 0 where
   -- the context before the call and that after it
   pub before : WriteContext W
@@ -42,7 +42,7 @@ pub record AppendsWithLength {W : Type 0} (seen : W → OutputState) (may : Writ
   pub filled : state_of seen new ≡ filled (state_of seen after) (state_of seen old).position (to_be_bytes w32 (length more))
   pub start : start_of new ≡ start_of after
 
--- a call may answer the error; the count of the context begins where the call left it
+-- a call may return the error; the start of the context's count is as the call left it
 pub record MayRefuse {W : Type 0} (seen : W → OutputState) (may : WriteContext W → Result (Unit {0}) GenError → WriteContext W → Type 0) (old new : WriteContext W) (e : GenError) : Type 0 where
   pub before : WriteContext W
   pub after : WriteContext W
@@ -50,8 +50,8 @@ pub record MayRefuse {W : Type 0} (seen : W → OutputState) (may : WriteContext
   pub called : may before (Err e) after
   pub start : start_of new ≡ start_of after
 
--- a call may append more than four bytes count; the count of the context begins where the call left
--- it
+-- a call may append more than four bytes count; the start of the context's count is as the call
+-- left it
 pub record MayPassLength {W : Type 0} (seen : W → OutputState) (may : WriteContext W → Result (Unit {0}) GenError → WriteContext W → Type 0) (old new : WriteContext W) : Type 0 where
   pub before : WriteContext W
   pub after : WriteContext W

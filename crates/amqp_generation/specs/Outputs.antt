@@ -8,48 +8,48 @@ use Rattle.amqp_generation.specs.declared.error.GenError.TheVariants.{BufferTooS
 
 -- what an output is viewed as
 pub record OutputState : Type 0 where
-  -- the bytes put so far, where the output tells them
+  -- the bytes written so far, if the output reports them
   pub written : Option (List ℕ)
   -- its position
   pub position : ℕ
-  -- how many more bytes fit; none where the room is open
+  -- how many more bytes fit; `None` if the capacity is open
   pub room : Option ℕ
   -- that many further bytes can't be rejected
   pub promise : ℕ
   -- how often its device failed
   pub faults : ℕ
-  -- the bytes after the position, where the room is fixed
+  -- the bytes after the position, if the capacity is fixed
   pub tail : List ℕ
 
 -- a device failed during a call, or its faults are no longer counted
 abbrev pub HasFailed : OutputState → OutputState → Type 0
 HasFailed before after = (before.faults < after.faults) ⊎ (after.faults ≡ 2 ^ 64 - 1)
 
--- A call appended `bytes`, or was rejected. `lengths` says that each length in what it writes fits
+-- A call appended `bytes`, or was rejected. `lengths` means that each length in what it writes fits
 -- its field.
 pub record Writes (is_buffer : Bool) (lengths : Type 0) (bytes : List ℕ) (before : OutputState) (result : Result (Unit {0}) GenError) (after : OutputState) : Type 0 where
-  -- the bytes were put, and they alone
+  -- the bytes were written, and only they
   pub appended : OnOk result (Appends before.written after.written bytes)
-  -- the position rose by their number
+  -- the position grew by their number
   pub moved : OnOk result (after.position ≡ before.position + length bytes)
-  -- what stood after the position is cut by as many
+  -- what was after the position is cut by as many
   pub tail : OnOk result (after.tail ≡ drop (length bytes) before.tail)
-  -- an error leaves a buffer's position, bytes and room as they were
+  -- an error leaves a buffer's position, bytes and capacity as they were
   pub stayed : IsTrue is_buffer → OnErr result (after.position ≡ before.position)
   pub kept : IsTrue is_buffer → OnErr result (after.written ≡ before.written)
   pub room_kept : IsTrue is_buffer → OnErr result (after.room ≡ before.room)
-  -- it succeeds only where each length fits its field, and the bytes fit the room
+  -- it succeeds only if each length fits its field, and the bytes fit the capacity
   pub fits : OnOk result lengths
   pub room : OnOk result (IfSome before.room (λ room. length bytes ≤ room))
   pub room_left : OnOk result (after.room ≡ option_map (λ room. room - length bytes) before.room)
-  -- with fixed room it succeeds wherever they do
+  -- with fixed capacity it succeeds whenever they do
   pub succeeds : lengths → IfSome before.room (λ room. length bytes ≤ room → IsOk result)
-  -- the errors: where each may come
+  -- the errors: when each may come
   pub too_small : IsErrOf result BufferTooSmall → (room : ℕ) × (before.room ≡ Some room) × (room < length bytes)
   pub too_long : IsErrOf result LengthTooLong → lengths → ⊥
   pub failed : IfErr result (λ e. (kind : ErrorKind) → e ≡ IoError kind → HasFailed before after)
   pub offset : IsErrOf result InvalidOffset → 2 ^ 64 ≤ before.position + length bytes
-  -- a buffer alone may run out of memory; by `no_other` its room is open
+  -- only a buffer may run out of memory; by `no_other` its capacity is open
   pub memory : IsErrOf result OutOfMemory → IsTrue is_buffer
   pub no_other : IsSome before.room → IfErr result (λ e. (e ≡ BufferTooSmall) ⊎ (e ≡ LengthTooLong))
   -- faults are never taken back

@@ -7,7 +7,7 @@ pub record Sliced : Type 0 where
   pub put : List ℕ
   pub tail : List ℕ
 
--- the output that it is viewed as: the room left is fixed and can't be rejected, and there is no
+-- the output that it is viewed as: the capacity left is fixed and can't be rejected, and it is no
 -- device
 abbrev pub seen_slice : Sliced → OutputState
 seen_slice s = record { written = Some s.put; position = length s.put; room = Some (length s.tail); promise = length s.tail; faults = 0; tail = s.tail }

@@ -1,14 +1,20 @@
--- What a generator must promise of a value that was read.
-use Rattle.std.specs.Prelude.{ℕ, ◌≤◌, List, length, Result, IsOk, IsErrOf}
+-- What is promised of a value that was read, and of one that was written.
+use Rattle.std.specs.Prelude.{ℕ, ◌≤◌, List, ◌++◌, length, Result, IsOk, IsErrOf}
 use Rattle.std.specs.Option.{IfSome}
 use Rattle.amqp_grammar.specs.Values.{Tree}
+use Rattle.amqp_grammar.specs.Texts.{text, payload}
+use Rattle.amqp_grammar.specs.InMemory.{IsValue}
+use Rattle.amqp_grammar.specs.Outcomes.{Outcome}
+use Rattle.amqp_grammar.specs.Payloads.{RawOutcome}
+use Rattle.amqp_grammar.specs.Readings.{read_back}
+use Rattle.amqp_grammar.specs.Headline.{IsShortest, TellsApart, IsCanonical}
 use Rattle.amqp_types.specs.declared.amqp_type.AMQPType.{AMQPType}
 use Rattle.amqp_grammar.specs.Grammar.{Wire, Raw}
 use Rattle.amqp_generation.specs.declared.error.GenError.{GenError}
 use Rattle.amqp_generation.specs.declared.error.GenError.TheVariants.{LengthTooLong}
 use Rattle.amqp_generation.specs.Outputs.{OutputState}
 
--- Where some bytes are as `Is` says, no length in what is written is rejected, and fixed room for
+-- If some bytes are as `Is` states, no length in what is written is rejected, and a capacity of
 -- as many bytes is enough.
 pub record WritesWhatIs (Is : List ℕ → Type 0) (before : OutputState) (result : Result (Unit {0}) GenError) : Type 0 where
   pub never_too_long : (w : List ℕ) → Is w → IsErrOf result LengthTooLong → ⊥
@@ -21,3 +27,21 @@ WritesWhatWasRead v before result = WritesWhatIs (λ w. Wire w v) before result
 -- and with its payloads
 abbrev pub WritesPayloadRead : AMQPType → Tree → OutputState → Result (Unit {0}) GenError → Type 0
 WritesPayloadRead type v before result = WritesWhatIs (λ b. Raw type b v) before result
+
+-- what holds of a value whose encoding was written
+pub record IsWritten (v : Tree) : Type 0 where
+  -- it is a value in memory
+  pub value : IsValue v
+  -- its encoding is read as it, whatever follows, or rejected if the value isn't readable
+  pub read_back : (rest : List ℕ) → Outcome (text v ++ rest) (read_back v rest)
+  pub canonical : IsCanonical v
+
+-- the payload that was written of v, of that type, is read as v, whatever follows, or rejected if v isn't
+-- readable
+abbrev pub IsPayloadReadBack : AMQPType → Tree → Type 0
+IsPayloadReadBack type v = (rest : List ℕ) → RawOutcome type (payload v ++ rest) (read_back v rest)
+
+-- the canonical encoding of v is a shortest one, and no other value's
+pub record IsShortestAndUnique (v : Tree) : Type 0 where
+  pub shortest : IsShortest v
+  pub injective : TellsApart v

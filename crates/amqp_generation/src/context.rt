@@ -41,7 +41,7 @@ impl<W: Output> WriteContext<W> {
         self.output.put(bytes)
     }
 
-    // Makes room for `n` more bytes, so that a buffer won't reject them, or fails.
+    // Reserves capacity for `n` more bytes, so that a buffer won't reject them, or fails.
     pub(crate) fn make_room(&mut self, n: usize) -> GenResult
         ensures made { MakesRoom W.is_buffer n
             (state_of W.seen self.old) result (state_of W.seen self.new) }

@@ -72,7 +72,7 @@ impl<W: Write> Output for IoOutput<W> {
         ensures ok { IsOk result }
         ensures unchanged { self.new ≡ self.old }
     {
-        // a device has no room to make
+        // a device has no capacity to reserve
         Ok(())
     }
 

@@ -6,12 +6,9 @@ ghost use Rattle.amqp_types.specs.Strings.{IsShort};
 ghost use Rattle.amqp_grammar.specs.Grammar.{short_field};
 ghost use Rattle.amqp_grammar.specs.Texts.{text, Fits, payload};
 ghost use Rattle.amqp_grammar.specs.InMemory.{IsValue};
-ghost use Rattle.amqp_grammar.specs.Readings.{read_back};
-ghost use Rattle.amqp_grammar.specs.Outcomes.{Outcome};
-ghost use Rattle.amqp_grammar.specs.Headline.{IsShortest, TellsApart, IsCanonical};
 ghost use Rattle.amqp_generation.specs.Outputs.{Writes};
 ghost use Rattle.amqp_generation.specs.BufferOutput.{PatchesLength};
-ghost use Rattle.amqp_generation.specs.Written.{WritesWhatWasRead, WritesPayloadRead};
+ghost use Rattle.amqp_generation.specs.Written.{WritesWhatWasRead, WritesPayloadRead, IsWritten, IsPayloadReadBack, IsShortestAndUnique};
 ghost use Rattle.amqp_generation.specs.Contexts.{state_of, KeepsStart};
 
 use crate::{
@@ -34,13 +31,9 @@ pub fn gen_value<W: BackToTheBuffer>(v: &AMQPValue, x: &mut WriteContext<W>) -> 
     ensures written { Writes true (Fits (view v.now)) (text (view v.now))
         (state_of W.seen x.old) result (state_of W.seen x.new) }
     ensures start { KeepsStart x.old x.new }
-    ensures value { OnOk result (IsValue (view v.now)) }
-    ensures read_back { OnOk result ((rest : List ℕ) →
-        Outcome (text (view v.now) ++ rest) (read_back (view v.now) rest)) }
     ensures fits_input_size { WritesWhatWasRead (view v.now) (state_of W.seen x.old) result }
-    ensures shortest { IsShortest (view v.now) }
-    ensures injective { TellsApart (view v.now) }
-    ensures canonical { OnOk result (IsCanonical (view v.now)) }
+    ensures encoding { IsShortestAndUnique (view v.now) }
+    ensures ok { OnOk result (IsWritten (view v.now)) }
 {
     write_value(v, x)
 }
@@ -106,6 +99,7 @@ pub fn gen_field_array<W: BackToTheBuffer>(a: &FieldArray, x: &mut WriteContext<
         (state_of W.seen x.old) result (state_of W.seen x.new) }
     ensures start { KeepsStart x.old x.new }
     ensures value { OnOk result (IsValue (array (array_view a.now))) }
+    ensures read_back { OnOk result (IsPayloadReadBack AMQPType.FieldArray (array (array_view a.now))) }
     ensures fits_input_size { WritesPayloadRead AMQPType.FieldArray (array (array_view a.now))
         (state_of W.seen x.old) result }
 {
@@ -129,6 +123,7 @@ pub fn gen_field_table<W: BackToTheBuffer>(t: &FieldTable, x: &mut WriteContext<
         (state_of W.seen x.old) result (state_of W.seen x.new) }
     ensures start { KeepsStart x.old x.new }
     ensures value { OnOk result (IsValue (table (table_view t.now))) }
+    ensures read_back { OnOk result (IsPayloadReadBack AMQPType.FieldTable (table (table_view t.now))) }
     ensures fits_input_size { WritesPayloadRead AMQPType.FieldTable (table (table_view t.now))
         (state_of W.seen x.old) result }
 {

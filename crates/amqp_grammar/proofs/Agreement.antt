@@ -26,7 +26,7 @@ raw_outcome_at : (type : AMQPType) (s b rest : List ℕ) (v : Tree) → Raw type
 raw_outcome_at type s b rest v p is =
     subst (λ x. raw_outcome type x ≡ found v rest) (sym is) (found_raw (length (b ++ rest)) type b rest v p (omega (arith, raw_nesting-le type b v p, length-append b rest)))
 
--- where each P at the start is the outcome, an error says that there is none
+-- if each P at the start is the outcome, an error means that there is no such P
 front_by : (P Q : List ℕ → Tree → Type 0) (s : List ℕ) (o : Reading) → ((w rest : List ℕ) (v : Tree) → P w v → s ≡ w ++ rest → o ≡ found v rest)
     → ((w : List ℕ) (v : Tree) → Q w v → P w v) → Ends Q s o → FrontBy P s o
 front_by P Q s (found v rest) finds forget (w, q, is) = (w, forget w v q, is)
@@ -34,7 +34,7 @@ front_by P Q s malformed finds forget ends = λ w rest v p is. let e = finds w r
 front_by P Q s (more n) finds forget ends = ends
 front_by P Q s unknown finds forget ends = ends
 
--- two outcomes of one list are one, where each P at the start is the second
+-- two outcomes of one list are one, if each P at the start is the second
 same_front : (P : List ℕ → Tree → Type 0) (s : List ℕ) (o p : Reading) → ((w rest : List ℕ) (v : Tree) → P w v → s ≡ w ++ rest → p ≡ found v rest)
     → FrontBy P s o → FrontBy P s p → o ≡ p
 same_front P s (found v rest) p finds (w, q, is) there = sym (finds w rest v q is)
@@ -45,12 +45,12 @@ same_front P s malformed unknown finds none there = absurd there
 same_front P s (more n) p finds here there = absurd here
 same_front P s unknown p finds here there = absurd here
 
--- two outcomes are one, if they are where no byte lacks
+-- two outcomes are one, if they are when no byte is missing
 same_unless : (n : ℕ) (P Q : Type 0) (o p : Reading) → (P → Q → o ≡ p) → NeedsMoreOr n P o → NeedsMoreOr n Q p → o ≡ p
 same_unless zero P Q o p same here there = same here there
 same_unless (suc n) P Q o p same here there = here ∙ sym there
 
--- reading a payload results in what the function says
+-- reading a payload results in what the function returns
 pub raw_outcome_holds : (type : AMQPType) (s : List ℕ) → IsBytes s → RawOutcome type s (raw_outcome type s)
 raw_outcome_holds type s bytes =
     unless_weaker (lack type s) _ _ (raw_outcome type s)
@@ -62,7 +62,7 @@ raw_outcome_only : (type : AMQPType) (s : List ℕ) (o : Reading) → IsBytes s 
 raw_outcome_only type s o bytes here =
     same_unless (lack type s) _ _ o (raw_outcome type s) (same_front (Raw type) s o (raw_outcome type s) (raw_outcome_at type s)) here (raw_outcome_holds type s bytes)
 
--- reading that finds encodings alone, and each encoding at the start, results in this outcome
+-- reading that finds only encodings, and each encoding at the start, results in this outcome
 outcome_by_ends : (depth : ℕ) (s : List ℕ) (o : Reading) → ((w rest : List ℕ) (v : Tree) → Wire w v → s ≡ w ++ rest → o ≡ found v rest)
     → WireEnds depth s o → Outcome s o
 outcome_by_ends depth [] o finds ends = ends
@@ -72,7 +72,7 @@ outcome_by_ends depth (c ∷ b) o finds ends = at_kind (kind c) ends where
   at_kind None is = is
   at_kind (Some type) ends = unless_weaker (lack type b) _ _ o (front_by Wire (WireWithin depth) (c ∷ b) o finds (λ w v q. q.0)) ends
 
--- two outcomes of one list are one, where each encoding at the start is the second
+-- two outcomes of one list are one, if each encoding at the start is the second
 same_outcome : (s : List ℕ) (o p : Reading) → ((w rest : List ℕ) (v : Tree) → Wire w v → s ≡ w ++ rest → p ≡ found v rest)
     → Outcome s o → Outcome s p → o ≡ p
 same_outcome [] o p finds here there = here ∙ sym there
@@ -82,7 +82,7 @@ same_outcome (c ∷ b) o p finds here there = at_kind (kind c) here there where
   at_kind None here there = here ∙ sym there
   at_kind (Some type) here there = same_unless (lack type b) _ _ o p (same_front Wire (c ∷ b) o p finds) here there
 
--- reading a value results in what the function says
+-- reading a value results in what the function returns
 pub outcome_holds : (s : List ℕ) → IsBytes s → Outcome s (outcome s)
 outcome_holds s bytes =
     outcome_by_ends (length s) s (outcome s) (outcome_at s) (wire_ends (length s) (meaning (length s)) (means_spelled (length s)) s bytes)
@@ -114,7 +114,7 @@ within_by_ends d (c ∷ b) o finds ends = at_kind (kind c) ends where
   at_kind None is = is
   at_kind (Some type) ends = unless_weaker (lack type b) _ _ o (front_by (WireWithin d) (WireWithin d) (c ∷ b) o finds (λ w v q. q)) ends
 
--- reading within a depth results in what the function says, with containers at most that deep
+-- reading within a depth results in what the function returns, with containers at most that deep
 pub within_holds : (d : ℕ) (s : List ℕ) → IsBytes s → OutcomeWithin d s (outcome_by (meaning d) s)
 within_holds d s bytes = within_by_ends d s (outcome_by (meaning d) s) (within_at d s) (wire_ends d (meaning d) (means_spelled d) s bytes)
 

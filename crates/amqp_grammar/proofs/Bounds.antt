@@ -1,5 +1,5 @@
--- Bounds: an encoding has at least as many bytes as its value's text, one for each value in it, and
--- five for each container.
+-- Bounds: an encoding has at least as many bytes as its value's canonical one, one for each value,
+-- and five for each container.
 use Rattle.std.proofs.Common.{◌≡◌, ◌≤◌, ◌+◌, ◌*◌, ℕ, suc, max, List, ◌++◌, length, Option, Some, refl, subst, arith, length-append}
 use Rattle.std.specs.Option.{IfSome}
 use Rattle.std.specs.Ordering.{nat_cmp, match_ordering}
@@ -37,7 +37,7 @@ put_within k v (entry j u es) = by (slice_cmp nat_cmp k j) (put_within k v es)
     by Equal inner = record { size = omega (arith, pairs_size_more j v es, pairs_size_more j u es); count = omega arith; depth = omega arith }
     by Greater inner = record { size = omega (arith, inner.size, pairs_size_more j u (insert k v es), pairs_size_more j u es); count = omega arith; depth = omega arith }
 
--- so they do where pairs are put one after another
+-- so they do if pairs are inserted one after another
 pub onto_within : (ps es : Entries)
     → Within (pairs_size ps + pairs_size es) (entries_count ps + entries_count es) (max (entries_depth ps) (entries_depth es)) (insert_all es ps)
 onto_within no_entries es = record { size = omega arith; count = omega arith; depth = omega arith }
@@ -48,7 +48,7 @@ onto_within (entry k v ps) es =
 
 -- ---- values of fixed width
 
--- each row's width is that of what its bytes mean
+-- the width of each line of the table is that of what its bytes mean
 abbrev IsWide : Option Layout → Type 0
 IsWide o = IfSome o (λ f. (b : List ℕ) → width_of (scalar_type (f.denotes b)) ≡ f.width)
 

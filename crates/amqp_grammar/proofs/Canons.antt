@@ -1,4 +1,4 @@
--- Canonical encodings: each is an encoding, and of bytes each is the text of its value.
+-- Canonical encodings: each is an encoding, and if it is bytes it is `text` of its value.
 use Rattle.std.proofs.Common.{◌≡◌, ◌≢◌, ◌<◌, ◌^◌, ℕ, zero, suc, Bool, true, false, cond, nat_eq, List, [], ◌∷◌, ◌++◌, length, take, drop, Option, Some, IsTrue, refl, sym, ap, ap₂, ◌∙◌, subst, arith}
 use Rattle.std.specs.Map.{lookup}
 use Rattle.std.specs.List.{AllByRecursion}
@@ -67,7 +67,7 @@ canon_pair k w rest v es key (p, is) before (ps, are) = (pair k w rest v es key 
 
 -- ---- type tags
 
--- what holds of each row of a table holds of what is found at a letter
+-- what holds of each line of a table holds of what is found at a letter
 row_at : (P : ℕ → AMQPType → Type 0) (c : ℕ) (rows : List (ℕ × AMQPType)) → AllByRecursion (λ r. P r.0 r.1) rows → IfSome (lookup (nat_eq c) rows) (P c)
 row_at P c [] all = tt
 row_at P c (r ∷ rows) all = by (nat_eq c r.0) refl (row_at P c rows all.1)
@@ -139,13 +139,13 @@ kind_first c type k = subst (λ (o : Option AMQPType). IfSome o (IsFirst c)) k (
 
 -- ---- payloads of fixed width
 
--- one byte is spelled unchanged
+-- one byte is encoded unchanged
 be_byte : (b : List ℕ) → length b ≡ 1 → IsBytes b → bytes_high_first 1 (from_be_bytes w8 b) ≡ b
 be_byte [] one bytes = absurd (omega arith)
 be_byte (c ∷ []) one bytes = ap (λ (n : ℕ). n ∷ []) (omega (arith, bytes.0))
 be_byte (c ∷ d ∷ b) one bytes = absurd (omega arith)
 
--- 0 and 1 are spelled unchanged
+-- 0 and 1 are encoded unchanged
 be_truth : (b : List ℕ) → length b ≡ 1 → IsStrict amqp.Boolean b → spelled (boolean (truth (from_be_bytes w8 b))) ≡ b
 be_truth [] one strict = absurd (omega arith)
 be_truth (zero ∷ []) one strict = refl
@@ -153,14 +153,14 @@ be_truth (suc zero ∷ []) one strict = refl
 be_truth (suc (suc n) ∷ []) one strict = absurd (omega arith)
 be_truth (c ∷ d ∷ b) one strict = absurd (omega arith)
 
--- a scale and a number are spelled unchanged
+-- a scale and a number are encoded unchanged
 be_decimal : (b : List ℕ) → length b ≡ 5 → IsBytes b
     → bytes_high_first 1 (from_be_bytes w8 (take 1 b)) ++ bytes_high_first 4 (from_be_bytes w32 (drop 1 b)) ≡ b
 be_decimal [] five bytes = absurd (omega arith)
 be_decimal (c ∷ b) five bytes =
     ap₂ ◌++◌ (be_byte (c ∷ []) refl (bytes.0, tt)) (be_bytes_4 b (from_be_bytes w32 b) (omega arith) (byte_at b bytes.1) refl)
 
--- bytes of a row of the layouts are spelled for what they mean, and that has the row's type
+-- bytes of a line of the layouts are encoded for what they mean, and that has the line's type
 abbrev IsUndone : AMQPType → Option Layout → Type 0
 IsUndone type o = IfSome o (λ f. (b : List ℕ) → length b ≡ f.width → IsStrict type b → IsBytes b
     → (type ≡ scalar_type (f.denotes b)) × (spelled (f.denotes b) ≡ b))
@@ -183,10 +183,10 @@ rows_undone amqp.DecimalValue read = λ b len strict bytes. (refl, be_decimal b 
 rows_undone amqp.Void read = λ b len strict bytes. (refl, sym (nil_from_length b len))
 rows_undone _ read = tt
 
--- ---- they are texts
+-- ---- they are `text`
 
 mutual
-  -- a canonical encoding of bytes is the text of its value
+  -- a canonical encoding of bytes is `text` of its value
   wire_is_text : (w : List ℕ) (v : Tree) (p : Wire w v) → IsBytes w → IsCanon w v p → w ≡ text v
   wire_is_text _ _ (wire c type b v k p) bytes is =
       let same = raw_is_payload type b v p (kind_read c type k) bytes.1 is.2 in
@@ -207,7 +207,7 @@ mutual
       let texts = pairs_are_keyed b ps p (bytes_behind (to_be_bytes w32 (length b)) b bytes) all in
       (refl, ap long_field (texts ∙ ap pairs (sym (rising_pairs ps (canon_rises b ps p all)))))
 
-  -- canonical encodings one after another are the texts, joined
+  -- canonical encodings one after another are `text` of the values, joined
   body_is_texts : (b : List ℕ) (vs : Trees) (p : ArrayBody b vs) → IsBytes b → IsCanonBody b vs p → b ≡ body vs
   body_is_texts _ _ no_values bytes all = refl
   body_is_texts _ _ (value w more v vs first others) bytes all =

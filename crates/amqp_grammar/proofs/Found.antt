@@ -1,5 +1,5 @@
 -- What has an encoding is found: reading as a function finds each value of the grammar, whatever
--- stands after its encoding.
+-- follows its encoding.
 use Rattle.std.proofs.Common.{ℕ, suc, zero, ◌+◌, ◌-◌, ◌≤◌, ◌≡◌, ◌∙◌, ap, sym, refl, subst, Bool, true, ◌&&◌, Option, Some, None, option_map, List, [], ◌∷◌, ◌++◌, length, take, drop, arith, append_assoc, length-append}
 use Rattle.std.proofs.Math.Seq.{take-append_seam, drop-append_seam}
 use Rattle.std.proofs.lemmas.Bool.{le-ltb, le-leb}
@@ -70,7 +70,7 @@ first_fits _ = tt
 first-le : (type : AMQPType) (f : Layout) → fixed type ≡ Some f → f.first ≤ f.width
 first-le type f is = subst (λ o. IfSome o (λ f. f.first ≤ f.width)) is (first_fits type)
 
--- whole fields lack nothing
+-- complete fields have no missing byte
 fixed_lack-whole : (f : Layout) (w : Width) (b : List ℕ) → f.first ≤ f.width → f.width ≤ length b → lack_of (Some f) w b ≡ 0
 fixed_lack-whole f w b first fields =
     ap (λ t. cond t (f.first - length b) (f.width - length b)) (le-ltb (length b) f.first (omega arith)) ∙ omega arith
@@ -90,7 +90,7 @@ fixed_found mean type f b rest is wide =
     ap (λ n. by_lack n mean type (b ++ rest)) (ap (λ o. lack_of o (length_field type) (b ++ rest)) is ∙ whole)
     ∙ (ap (λ o. by_layout o mean type (b ++ rest)) is ∙ λ i. found (scalar (f.denotes (front i))) (behind i))
 
--- a payload with a length field is found, where the bytes that it counts have a meaning
+-- a payload with a length field is found, if the bytes that it counts have a meaning
 framed_found : (mean : Meaning) (type : AMQPType) (l s rest : List ℕ) (v : Tree) → fixed type ≡ None
     → length l ≡ byte_len (length_field type) → from_be_bytes (length_field type) l ≡ length s → mean type s ≡ Some v
     → raw_outcome_by mean type ((l ++ s) ++ rest) ≡ found v rest
@@ -128,7 +128,7 @@ value_first : (read : List ℕ → Reading) (n : ℕ) (w rest : List ℕ) (v : T
     → read (w ++ rest) ≡ found v rest → values_by read (suc n) (w ++ rest) ≡ option_map (tree v) (values_by read n rest)
 value_first read n _ rest _ (wire c type b v is raw) room first = ap (and_others read n) first
 
--- a body means the array of its values, where they are found one level further in
+-- a body means the array of its values, if they are found one level further in
 array_means : (depth deep : ℕ) (body : List ℕ) (vs : Trees) → suc deep ≤ depth
     → ((inner : ℕ) → deep ≤ inner → values_by (outcome_by (meaning inner)) (length body) body ≡ Some vs)
     → meaning depth amqp.FieldArray body ≡ Some (array vs)
@@ -142,7 +142,7 @@ pair_first read n es k t rest v key first =
     (λ i. and_key (is_key-true k t key i) (and_pairs read n es (take-append_seam k t i) (read (drop-append_seam k t i))))
     ∙ ap (and_pairs read n es k) first
 
--- a body means the table of its pairs, where they are found one level further in
+-- a body means the table of its pairs, if they are found one level further in
 table_means : (depth deep : ℕ) (body : List ℕ) (es : Entries) → suc deep ≤ depth
     → ((inner : ℕ) → deep ≤ inner → pairs_onto (outcome_by (meaning inner)) (length body) no_entries body ≡ Some es)
     → meaning depth amqp.FieldTable body ≡ Some (table es)
@@ -174,7 +174,7 @@ mutual
       (table_means depth (pairs_nesting body ps entries) body (insert_all no_entries ps) within
       (λ inner deep. found_pairs inner (length body) no_entries body ps entries deep (omega arith)))
 
-  -- and a body's values are those that it spells
+  -- and a body's values are those that it encodes
   pub found_body : (depth n : ℕ) (body : List ℕ) (vs : Trees) (p : ArrayBody body vs) → body_nesting body vs p ≤ depth → length body ≤ n
       → values_by (outcome_by (meaning depth)) n body ≡ Some vs
   found_body depth n _ _ no_values within room = refl

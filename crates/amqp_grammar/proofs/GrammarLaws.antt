@@ -3,9 +3,9 @@
 
 -- one reading for each list
 pub use Rattle.amqp_grammar.proofs.Unique.{one_reading, one_raw_reading, one_body_meaning, one_pairs_meaning}
--- texts: their length, and that they are encodings
+-- canonical encodings: their length, and that they are encodings
 pub use Rattle.amqp_grammar.proofs.Spelling.{size_of_scalar, size_of_array, size_of_table, length_of_payload, text_is_wire, payload_is_raw}
--- outcomes: of a text, with more bytes, and that there is one
+-- outcomes: of a canonical encoding, with more bytes, and that there is one
 pub use Rattle.amqp_grammar.proofs.Reading.{reading_back}
 pub use Rattle.amqp_grammar.proofs.MoreBytes.{more_bytes, more_raw_bytes}
 pub use Rattle.amqp_grammar.proofs.Outcomes.{one_outcome, one_raw_outcome}
@@ -15,26 +15,26 @@ pub use Rattle.amqp_grammar.proofs.Whole.{never_malformed}
 pub use Rattle.amqp_grammar.proofs.Agreement.{outcome_holds, outcome_is, raw_outcome_holds, raw_outcome_is}
 -- tables as finite maps, and what pairs mean
 pub use Rattle.amqp_grammar.proofs.Tables.{put_found, put_other, key_has_value, last_stays, option_or-none, pairs_rise, rising_pairs, same_tables, entries_rise}
--- what an encoding bounds, what is read from it, and that the text is a shortest encoding
+-- what an encoding bounds, what is read from it, and that the canonical one is a shortest
 pub use Rattle.amqp_grammar.proofs.Bounds.{bounds, raw_bounds}
 pub use Rattle.amqp_grammar.proofs.Shortest.{what_is_read, what_raw_reads, read_is_value, raw_value, shortest, same_text_same_value}
--- canonical encodings: each is an encoding and, of bytes, the text
+-- canonical encodings by their bytes: each is an encoding and, of bytes, `text`
 pub use Rattle.amqp_grammar.proofs.Canons.{canon_is_wire, canon_fits, canon_is_text, canonical_wire, canon, canon_array, canon_table, canon_value, canon_pair, canon_rises}
 pub use Rattle.amqp_grammar.proofs.TextCanon.{text_is_canon, is_canonical}
 -- the words of the headline
 pub use Rattle.amqp_grammar.proofs.Headlines.{found_front, bounded_wire, bounded_found, is_shortest, injective}
 -- from a payload of the type that a first byte denotes to the value: the outcome, and that it
--- takes memory
+-- may allocate
 pub use Rattle.amqp_grammar.proofs.Outcomes.{raw_to_value, value_to_raw, raw_to_heavy}
 -- from what is at the start to the outcome
 pub use Rattle.amqp_grammar.proofs.Outcomes.{raw_whole, raw_found, wire_found}
--- bytes after their length: the number is theirs, the length-prefixed field is whole, and as a
+-- bytes after their length: the number is theirs, the length-prefixed field is complete, and as a
 -- payload they are an array's body, a table's pairs or a short string
 pub use Rattle.amqp_grammar.proofs.Headers.{counted-long_field, lack_of-long_field}
 pub use Rattle.amqp_grammar.proofs.Headers.{counted-short_field, lack_of-short_field}
 pub use Rattle.amqp_grammar.proofs.Reading.{array_body}
 pub use Rattle.amqp_grammar.proofs.Reading.{table_body, short_bytes}
--- reading where containers nest at most that deep
+-- reading if containers nest at most that deep
 pub use Rattle.amqp_grammar.proofs.Limited.{one_outcome_within, front_within, raw_to_value_within, raw_whole_within, raw_found_within, wire_found_within, raw_outcome_same, unlimited, raw_unlimited, deep_enough}
 pub use Rattle.amqp_grammar.proofs.Reading.{array_body_within, table_body_within}
 pub use Rattle.amqp_grammar.proofs.TextDepth.{text_within, text_again, depth_within}

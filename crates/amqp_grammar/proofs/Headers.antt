@@ -1,4 +1,4 @@
--- Headers: how many bytes a payload has is known from its type or its length field alone.
+-- Headers: how many bytes a payload has is known from its type or its length field only.
 use Rattle.std.proofs.Common.{◌≡◌, ℕ, ◌+◌, ◌-◌, ◌^◌, ◌<◌, ◌≤◌, List, ◌++◌, length, Option, Some, None, refl, sym, ap, ◌∙◌, arith, inl, inr, length-append}
 use Rattle.std.specs.Int.{Width, w8, w32, byte_len}
 use Rattle.std.specs.Option.{IfSome}
@@ -18,7 +18,7 @@ abbrev pub extent_of : Option Layout → Width → List ℕ → ℕ
 extent_of (Some f) w b = f.width
 extent_of None w b = byte_len w + counted w b
 
--- how many bytes a payload of the type has, by the header alone
+-- how many bytes a payload of the type has, by the header only
 abbrev pub extent : AMQPType → List ℕ → ℕ
 extent type b = extent_of (fixed type) (length_field type) b
 
@@ -26,7 +26,7 @@ extent type b = extent_of (fixed type) (length_field type) b
 abbrev FirstWithin : Option Layout → Type 0
 FirstWithin o = IfSome o (λ f. f.first ≤ f.width)
 
--- so it is in every row of the table
+-- so it is in every line of the table
 first_within : (type : AMQPType) → FirstWithin (fixed type)
 first_within amqp.ShortString = tt
 first_within amqp.LongString = tt
@@ -35,27 +35,27 @@ first_within amqp.FieldArray = tt
 first_within amqp.FieldTable = tt
 first_within _ = omega arith
 
--- what a first field lacks that is cut short
+-- what is missing of a first field that is cut short
 fields_lack_cut : (f : Layout) (b : List ℕ) → length b < f.first → fields_lack f b ≡ f.first - length b
 fields_lack_cut f b lt = rw (lt-ltb (length b) f.first lt) refl
 
--- what the fields lack whose first one is whole
+-- what is missing of the fields if the first one is complete
 fields_lack_known : (f : Layout) (b : List ℕ) → f.first ≤ length b → fields_lack f b ≡ f.width - length b
 fields_lack_known f b le = rw (le-ltb (length b) f.first le) refl
 
--- what a length field lacks that is cut short
+-- what is missing of a length field that is cut short
 frame_lack_cut : (w : Width) (b : List ℕ) → length b < byte_len w → frame_lack w b ≡ byte_len w - length b
 frame_lack_cut w b lt = rw (lt-ltb (length b) (byte_len w) lt) refl
 
--- what a length-prefixed field lacks whose length field is whole
+-- what is missing of a length-prefixed field if its length field is complete
 frame_lack_known : (w : Width) (b : List ℕ) → byte_len w ≤ length b → frame_lack w b ≡ byte_len w + counted w b - length b
 frame_lack_known w b le = rw (le-ltb (length b) (byte_len w) le) refl
 
--- bytes after a whole length field don't change its number
+-- bytes after a complete length field don't change its number
 counted-append : (w : Width) (b t : List ℕ) → byte_len w ≤ length b → counted w (b ++ t) ≡ counted w b
 counted-append w b t le = rw (take-append-le (byte_len w) b t le) refl
 
--- a length-prefixed field that lacks nothing reaches its extent
+-- a length-prefixed field with no byte missing reaches its extent
 extent_of-whole : (o : Option Layout) (w : Width) (b : List ℕ) → lack_of o w b ≡ 0 → extent_of o w b ≤ length b
 extent_of-whole (Some f) w b e = elim (cases_lt (length b) f.first) [
   | inl cut ↦ absurd (omega (arith, fields_lack_cut f b cut))
@@ -66,7 +66,7 @@ extent_of-whole None w b e = elim (cases_lt (length b) (byte_len w)) [
   | inr known ↦ omega (arith, frame_lack_known w b known)
 ]
 
--- a length-prefixed field that reaches its extent lacks nothing
+-- a length-prefixed field that reaches its extent has no byte missing
 lack_of-none : (o : Option Layout) (w : Width) (b : List ℕ) → FirstWithin o → extent_of o w b ≤ length b → lack_of o w b ≡ 0
 lack_of-none (Some f) w b within le = omega (arith, fields_lack_known f b (omega arith))
 lack_of-none None w b within le = omega (arith, frame_lack_known w b (omega arith))
@@ -76,7 +76,7 @@ extent_of-append : (o : Option Layout) (w : Width) (b t : List ℕ) → lack_of 
 extent_of-append (Some f) w b t e = refl
 extent_of-append None w b t e = ap (λ n. byte_len w + n) (counted-append w b t (omega (arith, extent_of-whole None w b e)))
 
--- fewer bytes than a field lacks are what it lacks less
+-- of a field with fewer bytes than are missing, the others are missing
 lack_of-append : (o : Option Layout) (w : Width) (b t : List ℕ) → length t < lack_of o w b → lack_of o w (b ++ t) ≡ lack_of o w b - length t
 lack_of-append (Some f) w b t lt = elim (cases_lt (length b) f.first) [
   | inl cut ↦
@@ -97,7 +97,7 @@ lack_of-append None w b t lt = elim (cases_lt (length b) (byte_len w)) [
 pub extent-whole : (type : AMQPType) (b : List ℕ) → lack type b ≡ 0 → extent type b ≤ length b
 extent-whole type b e = extent_of-whole (fixed type) (length_field type) b e
 
--- a length-prefixed field that reaches its extent is whole
+-- a length-prefixed field that reaches its extent is complete
 pub lack-none : (type : AMQPType) (b : List ℕ) → extent type b ≤ length b → lack type b ≡ 0
 lack-none type b le = lack_of-none (fixed type) (length_field type) b (first_within type) le
 
@@ -105,12 +105,12 @@ lack-none type b le = lack_of-none (fixed type) (length_field type) b (first_wit
 pub extent-append : (type : AMQPType) (b t : List ℕ) → lack type b ≡ 0 → extent type (b ++ t) ≡ extent type b
 extent-append type b t e = extent_of-append (fixed type) (length_field type) b t e
 
--- a complete length-prefixed field stays whole
+-- a complete length-prefixed field stays complete
 pub lack-whole : (type : AMQPType) (b t : List ℕ) → lack type b ≡ 0 → lack type (b ++ t) ≡ 0
 lack-whole type b t e =
     lack-none type (b ++ t) (omega (arith, extent-append type b t e, extent-whole type b e, length-append b t))
 
--- fewer bytes than lack leave the others lacking
+-- after fewer bytes than are missing, the others are missing
 pub lack-append : (type : AMQPType) (b t : List ℕ) → length t < lack type b → lack type (b ++ t) ≡ lack type b - length t
 lack-append type b t lt = lack_of-append (fixed type) (length_field type) b t lt
 
@@ -137,6 +137,6 @@ extent-raw _ _ rest _ (raw_octets s fits) = omega (arith, counted-long_field s r
 extent-raw _ _ rest _ (raw_array body vs fits all) = omega (arith, counted-long_field body rest fits)
 extent-raw _ _ rest _ (raw_table body ps fits all) = omega (arith, counted-long_field body rest fits)
 
--- the length-prefixed field of a payload is whole, whatever follows
+-- the length-prefixed field of a payload is complete, whatever follows
 pub lack-raw : (type : AMQPType) (b rest : List ℕ) (v : Tree) → Raw type b v → lack type (b ++ rest) ≡ 0
 lack-raw type b rest v p = lack-none type (b ++ rest) (omega (arith, extent-raw type b rest v p, length-append b rest))

@@ -1,5 +1,5 @@
 -- Headlines: what was read keeps to its encoding's length, and what is written is a shortest
--- encoding that tells its value.
+-- encoding that determines its value.
 use Rattle.std.proofs.Common.{◌≡◌, ◌-◌, ℕ, zero, suc, List, [], ◌∷◌, length, Option, Some, None, MatchOption, ap, subst, arith, length-append}
 use Rattle.amqp_types.specs.declared.amqp_type.AMQPType.{AMQPType}
 use Rattle.amqp_grammar.specs.Values.{Tree}
@@ -40,10 +40,10 @@ bounded_found s rest v x =
     let taken : length front.0 ≡ length s - length rest = omega (arith, ap length front.2, length-append front.0 rest) in
     subst (λ (n : ℕ). IsWritableIn n v) taken (bounded_wire front.0 v front.1)
 
--- the text is a shortest encoding
+-- the canonical encoding is a shortest encoding
 pub is_shortest : (v : Tree) → IsShortest v
 is_shortest v w bytes p = shortest w v bytes p
 
--- and is the text of no other value
+-- and is that of no other value
 pub injective : (v : Tree) → TellsApart v
 injective v u w x bytes_w bytes_x p q = (λ e. same_text_same_value w x v u p q bytes_w bytes_x e, λ e. ap text e)

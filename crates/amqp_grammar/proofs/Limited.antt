@@ -1,4 +1,4 @@
--- Reading where containers nest at most that deep: the laws of reading, with that limit.
+-- Reading if containers nest at most that deep: the laws of reading, with that limit.
 use Rattle.std.proofs.Common.{◌≡◌, ◌↔◌, ◌≤◌, ◌*◌, ◌+◌, ◌/◌, ℕ, zero, suc, List, [], ◌∷◌, ◌++◌, length, drop, Option, Some, None, refl, sym, ap, ap₂, ◌∙◌, subst, arith, length-append}
 use Rattle.std.specs.Prelude.{MatchOption}
 use Rattle.amqp_types.specs.declared.amqp_type.AMQPType.{AMQPType}
@@ -16,7 +16,7 @@ use Rattle.amqp_grammar.proofs.Nests.{nesting-le, raw_nesting-le}
 
 -- ---- of any P
 
--- P decides what Q does, where they hold of the same prefixes
+-- P decides what Q does, if they hold of the same prefixes
 front_same : (P Q : List ℕ → Tree → Type 0) (s : List ℕ) (o : Reading) → ((b rest : List ℕ) (v : Tree) → s ≡ b ++ rest → P b v → Q b v)
     → ((b rest : List ℕ) (v : Tree) → s ≡ b ++ rest → Q b v → P b v) → FrontBy P s o → FrontBy Q s o
 front_same P Q s (found v rest) there back (b, p, e) = (b, there b rest v e p, e)
@@ -24,7 +24,7 @@ front_same P Q s malformed there back none = λ b rest v q e. none b rest v (bac
 front_same P Q s (more n) there back f = absurd f
 front_same P Q s unknown there back f = absurd f
 
--- what P decides Q does, where no byte lacks
+-- what P decides Q does, if no byte is missing
 unless_same : (n : ℕ) (P Q : Type 0) (o : Reading) → (P → Q) → NeedsMoreOr n P o → NeedsMoreOr n Q o
 unless_same zero P Q o f x = f x
 unless_same (suc n) P Q o f x = x
@@ -158,7 +158,7 @@ deep_enough w v = (λ p d le. (p, omega (arith, nesting-le w v p)), λ all. (all
 
 -- ---- more bytes
 
--- where no prefix is an encoding that nests at most d deep, none is with more bytes
+-- if no prefix is an encoding that nests at most d deep, no prefix is one with more bytes
 pub malformed_append : (d : ℕ) (s t : List ℕ) → OutcomeWithin d s malformed → OutcomeWithin d (s ++ t) malformed
 malformed_append d [] t x = absurd cc
 malformed_append d (c ∷ b) t x = by (kind c) refl x

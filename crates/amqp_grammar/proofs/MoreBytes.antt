@@ -12,7 +12,7 @@ use Rattle.amqp_grammar.proofs.Fronts.{front_inside}
 use Rattle.amqp_grammar.proofs.Headers.{extent, extent-whole, extent-append, extent-raw, lack-whole, lack-append}
 use Rattle.amqp_grammar.proofs.Outcomes.{raw_whole, value_to_raw, raw_to_value, unknown_outcome}
 
--- a payload at the start of a joined list is in its first part, where that is a complete
+-- a payload at the start of a joined list is in its first part, if that is a complete
 -- length-prefixed field
 pub raw_inside : (type : AMQPType) (s t b rest : List ℕ) (v : Tree) → lack type s ≡ 0 → Raw type b v → s ++ t ≡ b ++ rest → s ≡ b ++ drop (length b) s
 raw_inside type s t b rest v whole p e =
@@ -27,7 +27,7 @@ RawFront-append type s t malformed whole f = λ b rest v p e.
 RawFront-append type s t (more n) whole f = absurd f
 RawFront-append type s t unknown whole f = absurd f
 
--- where n bytes lack, that is the outcome
+-- if n bytes are missing, that is the outcome
 NeedsMoreOr-more : (n : ℕ) (P : Type 0) → 0 < n → NeedsMoreOr n P (more n)
 NeedsMoreOr-more zero P lt = absurd (omega arith)
 NeedsMoreOr-more (suc n) P lt = refl

@@ -13,7 +13,7 @@ use Rattle.amqp_grammar.proofs.Unique.{one_raw_reading}
 
 -- ---- a value and its payload
 
--- an encoding at the start of c and b, where c is a type tag: a payload of c's type is at the start
+-- an encoding at the start of c and b, if c is a type tag: a payload of c's type is at the start
 -- of b
 pub raw_of_wire : (c : ℕ) (type : AMQPType) (b w rest : List ℕ) (v : Tree) → kind c ≡ Some type → Wire w v → c ∷ b ≡ w ++ rest
     → (p : List ℕ) × Raw type p v × (b ≡ p ++ rest)
@@ -39,12 +39,12 @@ raw_from_front c type b malformed k f = λ p rest v q e.
 raw_from_front c type b (more n) k f = absurd f
 raw_from_front c type b unknown k f = absurd f
 
--- where no byte lacks, what P decides Q does
+-- if no byte is missing, what P decides Q does
 NeedsMoreOr-weaker : (n : ℕ) (P Q : Type 0) (o : Reading) → (P → Q) → NeedsMoreOr n P o → NeedsMoreOr n Q o
 NeedsMoreOr-weaker zero P Q o f x = f x
 NeedsMoreOr-weaker (suc n) P Q o f x = x
 
--- the outcome of reading c and b, where k is what c denotes
+-- the outcome of reading c and b, if k is what c denotes
 abbrev OutcomeAt : List ℕ → Reading → ℕ → Option AMQPType → Type 0
 OutcomeAt b o c k = MatchOption k (o ≡ unknown) (λ type. NeedsMoreOr (lack type b) (Front (c ∷ b) o) o)
 
@@ -60,15 +60,15 @@ value_to_raw c type b o k x =
     NeedsMoreOr-weaker (lack type b) (Front (c ∷ b) o) (RawFront type b o) o (raw_from_front c type b o k)
     (subst (OutcomeAt b o c) k x)
 
--- where the first byte isn't a type tag, that is the outcome
+-- if the first byte isn't a type tag, that is the outcome
 pub unknown_outcome : (c : ℕ) (b : List ℕ) (o : Reading) → kind c ≡ None → (Outcome (c ∷ b) o → o ≡ unknown) × (o ≡ unknown → Outcome (c ∷ b) o)
 unknown_outcome c b o k = (λ x. subst (OutcomeAt b o c) k x, λ x. subst (OutcomeAt b o c) (sym k) x)
 
--- a value takes memory where its payload does
+-- a value allocates if its payload does
 pub raw_to_heavy : (c : ℕ) (type : AMQPType) (b : List ℕ) → kind c ≡ Some type → RawHeavy type b → Heavy (c ∷ b)
 raw_to_heavy c type b k x = subst (λ (k : Option AMQPType). MatchOption k ⊥ (λ type. RawHeavy type b)) (sym k) x
 
--- ---- whole length-prefixed fields
+-- ---- complete length-prefixed fields
 
 -- a complete length-prefixed field results in what its prefix decides
 pub raw_whole : (type : AMQPType) (s : List ℕ) (o : Reading) → lack type s ≡ 0 → RawFront type s o → RawOutcome type s o
@@ -84,7 +84,7 @@ wire_found _ rest _ (wire c type b v k p) = raw_to_value c type (b ++ rest) (fou
 
 -- ---- one outcome
 
--- a list has one prefix that is a payload, or none
+-- a list has at most one prefix that is a payload
 one_front_outcome : (type : AMQPType) (s : List ℕ) (o p : Reading) → RawFront type s o → RawFront type s p → o ≡ p
 one_front_outcome type s (found v rest) (found u left) f g =
     let same = one_raw_reading type f.0 g.0 rest left v u f.1 g.1 (sym f.2 ∙ g.2) in

@@ -1,4 +1,4 @@
--- Reading back: the text of a value is read as that value, where it is readable.
+-- Reading back: the canonical encoding of a value is read as that value, if it is readable.
 use Rattle.std.proofs.Common.{◌≡◌, ◌<◌, ◌≤◌, ◌^◌, ℕ, suc, subst, List, [], ◌∷◌, ◌++◌, length, drop, Some, None, Bool, true, false, refl, sym, ap, ◌∙◌, IsTrue, if◌then◌else◌}
 use Rattle.std.specs.Int.{w32}
 use Rattle.std.proofs.lemmas.Bool.{and_from, both_ways}
@@ -70,7 +70,7 @@ no_wire c b _ rest _ none (wire d type p v k q) e =
     let both : None ≡ Some type = sym none ∙ (ap kind head ∙ k) in
     cc
 
--- a text has a first byte
+-- a canonical encoding has a first byte
 no_empty_text : (v : Tree) (x : List ℕ) → text v ++ x ≡ [] → ⊥
 no_empty_text (scalar s) x e = cc
 no_empty_text (short s) x e = cc
@@ -80,7 +80,7 @@ no_empty_text (array vs) x e = cc
 no_empty_text (table es) x e = cc
 
 mutual
-  -- a value whose text is an encoding, of whatever value, is readable
+  -- a value whose canonical encoding is an encoding, of whatever value, is readable
   pub text_readable : (v : Tree) (x w y : List ℕ) (z : Tree) → IsValue v → Fits v → Wire w z → text v ++ x ≡ w ++ y → IsTrue (readable v)
   text_readable (scalar s) x w y z is fits p e = refl
   text_readable (short s) x w y z is fits p e = absurd (no_wire (id_of amqp.ShortString) (short_field s ++ x) w y z refl p e)
@@ -95,7 +95,7 @@ mutual
       let b = table_body (pairs es) x r.0 y z fits.0 r.1 r.2 in
       pairs_readable es (pairs es) b.0 is fits.1 b.1 refl
 
-  -- and so are values whose joined texts are an array's body
+  -- and so are values whose joined encodings are an array's body
   pub body_readable : (vs : Trees) (b : List ℕ) (us : Trees) → AreValues vs → AllFit vs → ArrayBody b us → body vs ≡ b → IsTrue (all_readable vs)
   body_readable no_trees b us is fits p e = refl
   body_readable (tree v vs) _ _ is fits no_values e = absurd (no_empty_text v (body vs) e)
@@ -114,26 +114,26 @@ mutual
       let same = one_front (text v) w (pairs es) more v z (text_is_wire v are.1 fits.0 r) p behind.1 in
       and_from (readable v) (entries_readable es) r (pairs_readable es more ps are.3 fits.1 all same.1)
 
--- where a value of an array is not readable, no prefix is a payload of an array
+-- if a value of an array is not readable, no prefix is a payload of an array
 no_array : (vs : Trees) (rest : List ℕ) → AreValues vs → Fits (array vs) → all_readable vs ≡ false → RawFront amqp.FieldArray (long_field (body vs) ++ rest) malformed
 no_array vs rest is fits r b y z p e =
     let found = array_body (body vs) rest b y z fits.0 p e in
     both_ways (all_readable vs) r (body_readable vs (body vs) found.0 is fits.1 found.1 refl)
 
--- where a value of a table is not readable, no prefix is a payload of a table
+-- if a value of a table is not readable, no prefix is a payload of a table
 no_table : (es : Entries) (rest : List ℕ) → AreEntries es → Fits (table es) → entries_readable es ≡ false → RawFront amqp.FieldTable (long_field (pairs es) ++ rest) malformed
 no_table es rest are fits r b y z p e =
     let found = table_body (pairs es) rest b y z fits.0 p e in
     both_ways (entries_readable es) r (pairs_readable es (pairs es) found.0 are fits.1 found.1 refl)
 
--- a complete length-prefixed field after a type tag is malformed, where no prefix of it is a
+-- a complete length-prefixed field after a type tag is malformed, if no prefix of it is a
 -- payload
 malformed_frame : (type : AMQPType) (s rest : List ℕ) → kind (id_of type) ≡ Some type → lack type (long_field s ++ rest) ≡ 0
     → RawFront type (long_field s ++ rest) malformed → Outcome (id_of type ∷ (long_field s ++ rest)) malformed
 malformed_frame type s rest k whole none =
     raw_to_value (id_of type) type (long_field s ++ rest) malformed k (raw_whole type (long_field s ++ rest) malformed whole none)
 
--- the text of a value that is not readable is rejected
+-- the canonical encoding of a value that is not readable is rejected
 unreadable : (v : Tree) (rest : List ℕ) → IsValue v → Fits v → readable v ≡ false → Outcome (text v ++ rest) (unread v)
 unreadable (scalar s) rest is fits r = absurd cc
 unreadable (short s) rest is fits r = refl
@@ -144,8 +144,8 @@ unreadable (array vs) rest is fits r =
 unreadable (table es) rest is fits r =
     malformed_frame amqp.FieldTable (pairs es) rest refl (lack_of-long_field (pairs es) rest fits.0) (no_table es rest is fits r)
 
--- the text of a value, with `rest` after it, is read as that value, or rejected where it is not
--- readable
+-- the canonical encoding of a value, with `rest` after it, is read as that value, or rejected if it
+-- is not readable
 pub reading_back : (v : Tree) (rest : List ℕ) → IsValue v → Fits v → Outcome (text v ++ rest) (read_back v rest)
 reading_back v rest is fits = by (readable v) refl
   where

@@ -1,5 +1,5 @@
 -- Shortest: what is read is a value that can be written again, and no encoding of it is shorter
--- than its text.
+-- than its canonical one.
 use Rattle.std.proofs.Common.{◌≡◌, ◌≢◌, ◌≤◌, ℕ, List, ◌++◌, length, take, drop, Option, Some, None, IsTrue, refl, sym, ap, ◌∙◌, subst, arith}
 use Rattle.std.specs.Option.{IfSome}
 use Rattle.std.specs.Int.{w32, to_be_bytes}
@@ -80,7 +80,7 @@ mutual
 
 -- ---- what is read of bytes is a value
 
--- each row's bytes mean a scalar
+-- the bytes of each line of the table mean a scalar
 abbrev IsRanged : Option Layout → Type 0
 IsRanged o = IfSome o (λ f. (b : List ℕ) → IsBytes b → IsScalar (f.denotes b))
 
@@ -101,13 +101,13 @@ rows_ranged amqp.DecimalValue = λ b bytes. (below_1 (take 1 b) (bytes_take 1 b 
 rows_ranged amqp.Void = λ b bytes. tt
 rows_ranged _ = tt
 
--- entries whose keys and values are such are a table's, where the keys are ascending
+-- entries whose keys and values are such are a table's, if the keys are ascending
 are_entries : (es : Entries) → Each (λ k v. IsShort k × IsValue v) es → IsRising es → AreEntries es
 are_entries no_entries each rises = tt
 are_entries (entry k v es) each rises = (each.0.0, each.0.1, rises.0, are_entries es each.1 rises.1)
 
 mutual
-  -- the value of an encoding is one, where that is bytes
+  -- the value of an encoding is one, if that is bytes
   wire_value : (w : List ℕ) (v : Tree) → IsBytes w → Wire w v → IsValue v
   wire_value _ _ bytes (wire c type b v k p) = raw_value type b v bytes.1 p
 
@@ -145,17 +145,17 @@ what_raw_reads type b v other p =
     let is = raw_written type b v other p in
     (is.fits, is.reads)
 
--- and it is a value, where its encoding is bytes
+-- and it is a value, if its encoding is bytes
 pub read_is_value : (w : List ℕ) (v : Tree) → IsBytes w → Wire w v → IsValue v
 read_is_value w v bytes p = wire_value w v bytes p
 
--- its text is an encoding of it, and no longer
+-- its canonical encoding is an encoding of it, and no longer
 pub shortest : (w : List ℕ) (v : Tree) → IsBytes w → Wire w v → Wire (text v) v × (length (text v) ≤ length w)
 shortest w v bytes p =
     let is = wire_written w v p in
     (text_is_wire v (wire_value w v bytes p) is.fits is.reads, (bounds w v p).0)
 
--- and is the text of no other
+-- and is that of no other
 pub same_text_same_value : (w u : List ℕ) (v z : Tree) → Wire w v → Wire u z → IsBytes w → IsBytes u → text v ≡ text z → v ≡ z
 same_text_same_value w u v z p q bytes_w bytes_u e =
     one_meaning (text v) (text z) v z (shortest w v bytes_w p).0 (shortest u z bytes_u q).0 e

@@ -53,11 +53,11 @@ abbrev pub IfFound : (List ℕ → Tree → Type 0) → List ℕ → Reading →
 IfFound P s (found v rest) = (b : List ℕ) × P b v × (s ≡ b ++ rest)
 IfFound P s _ = Unit {0}
 
--- reading a payload says what is missing, otherwise finds a payload or fails
+-- reading a payload returns what is missing, otherwise finds a payload or fails
 abbrev pub RawEnds : ℕ → AMQPType → List ℕ → Reading → Type 0
 RawEnds depth type b o = NeedsMoreOr (lack type b) (Ends (RawWithin depth type) b o) o
 
--- reading a value says what is missing, or that there is no type tag, otherwise finds an encoding
+-- reading a value returns what is missing, or that there is no type tag, else finds an encoding
 -- or fails
 abbrev pub WireEnds : ℕ → List ℕ → Reading → Type 0
 WireEnds depth [] o = o ≡ more 1
@@ -68,7 +68,7 @@ abbrev pub Means : ℕ → Meaning → Type 0
 Means depth mean = (type : AMQPType) (l s : List ℕ) → IsBytes l → length l ≡ byte_len (length_field type)
     → from_be_bytes (length_field type) l ≡ length s → IsBytes s → IfSome (mean type s) (RawWithin depth type (l ++ s))
 
--- fields that lack nothing are whole
+-- fields with no byte missing are complete
 fixed_lack-zero : (f : Layout) (w : Width) (b : List ℕ) → lack_of (Some f) w b ≡ 0 → f.width ≤ length b
 fixed_lack-zero f w b whole = at_test (nat_lt (length b) f.first) refl whole where
   at_test : (t : Bool) → nat_lt (length b) f.first ≡ t → cond t (f.first - length b) (f.width - length b) ≡ 0 → f.width ≤ length b
@@ -105,7 +105,7 @@ framed_ends depth mean type b means bytes whole =
     by_meaning_ends (RawWithin depth type) b (l ++ s) (drop n behind) (mean type s)
     (means type l s (IsBytes-take (byte_len w) b bytes) wide counts (IsBytes-take n behind (IsBytes-drop (byte_len w) b bytes))) is
 
--- reading a payload that lacks nothing
+-- reading a payload with no byte missing
 by_layout_ends : (depth : ℕ) (mean : Meaning) (type : AMQPType) (b : List ℕ) → Means depth mean → IsBytes b
     → (f : Option Layout) → fixed type ≡ f → lack_of f (length_field type) b ≡ 0 → Ends (RawWithin depth type) b (by_layout f mean type b)
 by_layout_ends depth mean type b means bytes None is whole = framed_ends depth mean type b means bytes whole
@@ -127,7 +127,7 @@ id_before depth c type b malformed is ends = tt
 id_before depth c type b (more n) is ends = ends
 id_before depth c type b unknown is ends = ends
 
--- more is true where no byte lacks
+-- more is true if no byte is missing
 pub unless_weaker : (n : ℕ) (P Q : Type 0) (o : Reading) → (P → Q) → NeedsMoreOr n P o → NeedsMoreOr n Q o
 unless_weaker zero P Q o weaker here = weaker here
 unless_weaker (suc n) P Q o weaker here = here
@@ -274,7 +274,7 @@ table_end depth l s bytes four counts (Some es) (ps, (p, within), is) =
     subst (λ x. RawWithin (suc depth) amqp.FieldTable (l ++ s) (table x)) (sym is)
     (large_end (λ b. RawWithin (suc depth) amqp.FieldTable b (table (insert_all no_entries ps))) l s bytes four counts (λ fits. (raw_table s ps fits p, omega arith)))
 
--- what bytes mean, they spell
+-- what bytes mean, they encode
 pub means_spelled : (depth : ℕ) → Means depth (meaning depth)
 means_spelled depth amqp.ShortString l s field one counts bytes = short_end depth l s one counts (is_short s) refl
 means_spelled depth amqp.LongString l s field four counts bytes =

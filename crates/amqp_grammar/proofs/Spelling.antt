@@ -1,4 +1,4 @@
--- Spelling: the text of a value has the value's size, and is an encoding of it.
+-- Spelling: the canonical encoding of a value has the value's size, and is an encoding of it.
 use Rattle.std.proofs.Common.{◌≡◌, ◌<◌, ◌+◌, ◌^◌, ℕ, zero, suc, List, ◌++◌, length, true, false, Some, refl, ap, ap₂, subst, arith, length-append, IsTrue}
 use Rattle.std.specs.Int.{w8, from_be_bytes, bytes_high_first}
 use Rattle.std.proofs.lemmas.Bool.{and_parts}
@@ -21,7 +21,7 @@ length-bytes_high_first : (k n : ℕ) → length (bytes_high_first k n) ≡ k
 length-bytes_high_first zero n = refl
 length-bytes_high_first (suc k) n = ap suc (length-bytes_high_first k n)
 
--- a scalar is spelled in as many bytes as its type has
+-- a scalar is encoded in as many bytes as its type has
 length-spelled : (x : Scalar) → length (spelled x) ≡ width_of (scalar_type x)
 length-spelled (boolean true) = refl
 length-spelled (boolean false) = refl
@@ -29,7 +29,7 @@ length-spelled (number type n) = length-bytes_high_first (width_of type) n
 length-spelled (decimal scale n) = refl
 length-spelled void = refl
 
--- the text of a scalar has the width of its type, and one byte
+-- the canonical encoding of a scalar has the width of its type, and one byte
 pub size_of_scalar : (x : Scalar) → size (scalar x) ≡ 1 + width_of (scalar_type x)
 size_of_scalar x = omega (arith, length-spelled x)
 
@@ -48,13 +48,13 @@ size_of_array v vs = omega (arith, body_size_more v vs)
 pub size_of_table : (k : List ℕ) (v : Tree) (es : Entries) → size (table (entry k v es)) ≡ 1 + length k + size v + size (table es)
 size_of_table k v es = omega (arith, pairs_size_more k v es)
 
--- the payload is one byte shorter than the text
+-- the payload is one byte shorter than the canonical encoding
 pub length_of_payload : (v : Tree) → length (payload v) + 1 ≡ size v
 length_of_payload v = omega arith
 
 -- ---- values of fixed width
 
--- x has the layout of its type, is what its spelling means, and has a type tag that is read
+-- x has the layout of its type, is what its bytes mean, and has a type tag that is read
 pub record IsSpelled (x : Scalar) : Type 0 where
   pub layout : Layout
   pub row : fixed (scalar_type x) ≡ Some layout
@@ -62,7 +62,7 @@ pub record IsSpelled (x : Scalar) : Type 0 where
   pub means : layout.denotes (spelled x) ≡ x
   pub id : kind (id_of (scalar_type x)) ≡ Some (scalar_type x)
 
--- the number that one byte spells
+-- the number that one byte encodes
 one_byte : (n : ℕ) → n < 2 ^ 8 → from_be_bytes w8 (bytes_high_first 1 n) ≡ n
 one_byte n lt = omega arith
 
@@ -89,7 +89,7 @@ scalar_spelled (decimal scale n) is =
     record { layout = _; row = refl; width = refl; means = ap₂ decimal (one_byte scale is.0) (from_be_bytes-to_be_bytes_4 n is.1); id = refl }
 scalar_spelled void _ = record { layout = _; row = refl; width = refl; means = refl; id = refl }
 
--- what is spelled for a scalar is a payload of it
+-- what encodes a scalar is a payload of it
 pub scalar_raw : (x : Scalar) → IsScalar x → Raw (scalar_type x) (spelled x) (scalar x)
 scalar_raw x is =
     let s = scalar_spelled x is in
@@ -104,7 +104,7 @@ rising_raw b es are fits all =
     subst (λ (fs : Entries). Raw amqp.FieldTable (long_field b) (table fs)) (onto-rising es are) (raw_table b es fits all)
 
 mutual
-  -- the text of a value is an encoding of it
+  -- the canonical encoding of a value is an encoding of it
   pub text_is_wire : (v : Tree) → IsValue v → Fits v → IsTrue (readable v) → Wire (text v) v
   text_is_wire (scalar x) is fits r =
       wire (id_of (scalar_type x)) (scalar_type x) (spelled x) (scalar x) (scalar_spelled x is).id (scalar_raw x is)
@@ -118,7 +118,7 @@ mutual
       wire (id_of amqp.FieldTable) amqp.FieldTable (long_field (pairs es)) (table es) refl
       (rising_raw (pairs es) es is fits.0 (texts_are_pairs es is fits.1 r))
 
-  -- texts that are joined are an array's body
+  -- canonical encodings that are joined are an array's body
   pub texts_are_body : (vs : Trees) → AreValues vs → AllFit vs → IsTrue (all_readable vs) → ArrayBody (body vs) vs
   texts_are_body no_trees is fits r = no_values
   texts_are_body (tree v vs) is fits r =

@@ -25,7 +25,7 @@ less j k greater = nat_list_cmp_total.antisymm j k ∙ ap ordering_reverse great
 equal_keys : (j k : List ℕ) → slice_cmp nat_cmp j k ≡ Equal → j ≡ k
 equal_keys j k tie = slice_cmp-IsAntisymmetric nat_cmp-IsAntisymmetric j k tie
 
--- the order says whether keys are the same bytes
+-- the order determines whether keys are the same bytes
 same_by_order : (j k : List ℕ) (o : Ordering) → slice_cmp nat_cmp j k ≡ o → same_bytes j k ≡ is_eq o
 same_by_order j k o is = texts_ties j k ∙ ap is_eq is
 
@@ -61,7 +61,7 @@ unfolding join
 join-entry no_entries k v fs = refl
 join-entry (entry j u es) k v fs = ap (entry j u) (join-entry es k v fs)
 
--- where keys are ascending, the first comes before a later one
+-- if keys are ascending, the first comes before a later one
 comes_before : (es : Entries) (j k : List ℕ) (u v : Tree) (fs : Entries) → IsRising (entry j u (join es (entry k v fs))) → slice_cmp nat_cmp j k ≡ Less
 unfolding join
 comes_before no_entries j k u v fs rises = rises.0
@@ -102,7 +102,7 @@ before-put j k v (entry i u es) first before = by (slice_cmp nat_cmp k i)
     by Equal = before
     by Greater = before
 
--- keys are still ascending where one is put
+-- keys are still ascending if one is inserted
 rising-put : (k : List ℕ) (v : Tree) (es : Entries) → IsRising es → IsRising (insert k v es)
 rising-put k v no_entries rises = (tt, tt)
 rising-put k v (entry j u es) rises = by (slice_cmp nat_cmp k j) refl (rising-put k v es rises.1)
@@ -113,7 +113,7 @@ rising-put k v (entry j u es) rises = by (slice_cmp nat_cmp k j) refl (rising-pu
     by Equal is inner = rises
     by Greater is inner = (before-put j k v es (less j k is) rises.0, inner)
 
--- so they do where pairs are put one after another
+-- so they do if pairs are inserted one after another
 pub rising-onto : (ps es : Entries) → IsRising es → IsRising (insert_all es ps)
 rising-onto no_entries es rises = rises
 rising-onto (entry k v ps) es rises = rising-onto ps (insert k v es) (rising-put k v es rises)
@@ -147,7 +147,7 @@ each-onto P (entry k v ps) es pairs others = each-onto P ps (insert k v es) pair
 
 -- ---- a finite map
 
--- a value is found at the key where it was put
+-- a value is found at the key at which it was inserted
 pub put_found : (k : List ℕ) (v : Tree) (es : Entries) → value_at k (insert k v es) ≡ Some v
 put_found k v no_entries = ap (λ (t : Bool). if t then Some v else None) (same_itself k)
 put_found k v (entry j u es) = by (slice_cmp nat_cmp k j) refl (put_found k v es)
@@ -171,7 +171,7 @@ put_other j k v (entry i u es) other = by (slice_cmp nat_cmp k i) refl (put_othe
         ap (λ (t : Bool). if t then Some v else value_at j es) apart ∙ sym (ap (λ (t : Bool). if t then Some u else value_at j es) apart)
     by Greater is inner = ap (λ (x : Option Tree). if same_bytes j i then Some u else x) inner
 
--- there is a value where there is a key
+-- there is a value if there is a key
 pub key_has_value : (k : List ℕ) (es : Entries) → has_key k es ≡ is_some (value_at k es)
 key_has_value k no_entries = refl
 key_has_value k (entry j u es) = by (same_bytes k j) (key_has_value k es)
@@ -180,7 +180,7 @@ key_has_value k (entry j u es) = by (same_bytes k j) (key_has_value k es)
     by true inner = refl
     by false inner = inner
 
--- the value at a key where one was put, by whether it is this key
+-- the value at a key if one was inserted, by whether it is this key
 put_or : (k j : List ℕ) (v : Tree) (es : Entries) → value_at k (insert j v es) ≡ option_or (if same_bytes k j then Some v else None) (value_at k es)
 put_or k j v es = by (same_bytes k j) refl
   where
@@ -238,7 +238,7 @@ same_others k v u es fs r s same i = by (same_bytes i k) refl (same i)
         subst (λ (x : List ℕ). value_at x es ≡ value_at x fs) (sym ((bytes_decides i k).0 is)) (none_before k es r.0 r.1 ∙ sym (none_before k fs s.0 s.1))
     by false is e = e
 
--- with one first key they are equal where the others are
+-- with one first key they are equal if the others are
 same_tables-at : (k j : List ℕ) (v u : Tree) (es fs : Entries) → k ≡ j → IsRising (entry k v es) → IsRising (entry j u fs)
     → ((i : List ℕ) → value_at i (entry k v es) ≡ value_at i (entry j u fs)) → (((i : List ℕ) → value_at i es ≡ value_at i fs) → es ≡ fs)
     → entry k v es ≡ entry j u fs

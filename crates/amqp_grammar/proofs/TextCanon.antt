@@ -1,4 +1,4 @@
--- The text of a value is its canonical encoding, and the only one that is bytes.
+-- `text` of a value is its canonical encoding, and the only one that is bytes.
 use Rattle.std.proofs.Common.{◌≢◌, ℕ, true, false, List, IsTrue, refl, sym, subst, arith}
 use Rattle.std.specs.Int.{bytes_high_first}
 use Rattle.std.proofs.lemmas.Bool.{and_parts}
@@ -31,7 +31,7 @@ number_strict : (type : AMQPType) (n : ℕ) → IsNumber type n → IsStrict typ
 number_strict amqp.Boolean n none = absurd none
 number_strict _ n is = tt
 
--- a boolean is spelled 0 or 1
+-- a boolean is encoded as 0 or 1
 spelled_strict : (x : Scalar) → IsScalar x → IsStrict (scalar_type x) (spelled x)
 spelled_strict (boolean true) is = omega arith
 spelled_strict (boolean false) is = omega arith
@@ -39,7 +39,7 @@ spelled_strict (number type n) is = number_strict type n is
 spelled_strict (decimal scale n) is = tt
 spelled_strict void is = tt
 
--- what is spelled for a scalar is the canonical payload of it
+-- what encodes a scalar is the canonical payload of it
 spelled_canon : (x : Scalar) → IsScalar x → CanonRaw (scalar_type x) (spelled x) (scalar x)
 spelled_canon x is =
     let s = scalar_spelled x is in
@@ -47,7 +47,7 @@ spelled_canon x is =
     (raw_fixed (scalar_type x) s.layout (spelled x) s.row s.width, spelled_strict x is)
 
 mutual
-  -- the text of a value is a canonical encoding of it
+  -- `text` of a value is a canonical encoding of it
   pub text_is_canon : (v : Tree) → IsValue v → Fits v → IsTrue (readable v) → Canon (text v) v
   text_is_canon (scalar x) is fits r =
       canon (id_of (scalar_type x)) (scalar_type x) (spelled x) (scalar x) (scalar_spelled x is).id (not_U (scalar_type x)) (not_L (scalar_type x)) (spelled_canon x is)
@@ -63,7 +63,7 @@ mutual
       canon (id_of amqp.FieldTable) amqp.FieldTable (long_field (pairs es)) (table es) refl (not_U amqp.FieldTable) (not_L amqp.FieldTable)
       (canon_table (pairs es) es fits.0 (keyed_are_canon es is fits.1 r))
 
-  -- texts that are joined are canonical encodings one after another
+  -- `text` of values, joined, is canonical encodings one after another
   texts_are_canon : (vs : Trees) → AreValues vs → AllFit vs → IsTrue (all_readable vs) → CanonBody (body vs) vs
   texts_are_canon no_trees is fits r = (no_values, tt)
   texts_are_canon (tree v vs) is fits r =
@@ -77,7 +77,7 @@ mutual
       let both = and_parts (readable v) (entries_readable es) r in
       canon_pair k (text v) (pairs es) v es are.0 (text_is_canon v are.1 fits.0 both.0) are.2 (keyed_are_canon es are.3 fits.1 both.1)
 
--- a list is a canonical encoding of a value exactly where it is the text of a readable one
+-- a list is a canonical encoding of a value exactly when it is `text` of a readable one
 pub is_canonical : (v : Tree) → IsValue v → Fits v → IsCanonical v
 is_canonical v is fits w bytes = (
   λ p. ((canon_fits w v p).1, canon_is_text w v bytes p),

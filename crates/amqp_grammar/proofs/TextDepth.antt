@@ -1,4 +1,4 @@
--- How deep a text nests: as deep as its value, which is no deeper than any encoding of it.
+-- How deep `text` nests: as deep as its value, which is no deeper than any encoding of it.
 use Rattle.std.proofs.Common.{◌≡◌, ◌≤◌, ◌+◌, ℕ, List, ◌∷◌, refl, subst, arith, IsTrue}
 use Rattle.std.proofs.lemmas.Bool.{and_parts}
 use Rattle.amqp_types.specs.declared.amqp_type.AMQPType.{AMQPType}
@@ -38,7 +38,7 @@ mutual
   pairs_depth-le _ _ no_pairs = omega arith
   pairs_depth-le _ _ (pair k w rest v ps key first others) = omega (arith, depth-le w v first, pairs_depth-le rest ps others)
 
--- what is spelled for a scalar nests nothing
+-- what encodes a scalar nests nothing
 scalar_flat : (type : AMQPType) (b : List ℕ) (v : Tree) (x : Scalar) (p : Raw type b v) → v ≡ scalar x → raw_nesting type b v p ≡ 0
 scalar_flat _ _ _ x (raw_fixed type f b is wide) e = refl
 scalar_flat _ _ _ x (raw_short s is) e = refl
@@ -48,7 +48,7 @@ scalar_flat _ _ _ x (raw_array body vs fits all) e = absurd cc
 scalar_flat _ _ _ x (raw_table body ps fits all) e = absurd cc
 
 mutual
-  -- the text of a value is an encoding of it that nests as deep as the value
+  -- `text` of a value is an encoding of it that nests as deep as the value
   pub text_within : (v : Tree) → IsValue v → Fits v → IsTrue (readable v) → WireWithin (depth v) (text v) v
   text_within (scalar x) is fits r =
       let p = scalar_raw x is in
@@ -80,7 +80,7 @@ mutual
       let others = pairs_within es are.3 fits.1 both.1 in
       (pair k (text v) (pairs es) v es are.0 first.0 others.0, omega (arith, first.1, others.1))
 
--- so the text of what was read within a depth is read within it, and so is the value
+-- so `text` of what was read within a depth is read within it, and so is the value
 pub text_again : (d : ℕ) (w : List ℕ) (v : Tree) → IsBytes w → WireWithin d w v → WireWithin d (text v) v
 text_again d w v bytes (p, within) =
     let read = what_is_read w v p in

@@ -14,7 +14,7 @@ abbrev IsAnswered : Reading → Type 0
 IsAnswered malformed = ⊥
 IsAnswered _ = Unit {0}
 
--- each whole payload has a value
+-- each complete payload has a value
 by_layout_answers : (n : ℕ) (type : AMQPType) (b : List ℕ) → type ≢ amqp.ShortString → type ≢ amqp.FieldArray → type ≢ amqp.FieldTable
     → IsAnswered (by_layout (fixed type) (meaning n) type b)
 by_layout_answers n amqp.ShortString b no_short no_array no_table = absurd (no_short refl)

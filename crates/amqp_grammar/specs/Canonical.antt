@@ -1,5 +1,5 @@
--- Canonical encodings: those that are told by their bytes alone as the ones that are written. No
--- alternate tag, a boolean's byte is 0 or 1, and each key of a table stands above
+-- Canonical encodings: those that are known by their bytes alone as the ones that are written. No
+-- alternate tag, a boolean's byte is 0 or 1, and each key of a table is above
 -- the one before it.
 use Rattle.std.specs.Prelude.{ℕ, ◌<◌, ◌≢◌, List, ◌∷◌}
 use Rattle.amqp_types.specs.declared.amqp_type.AMQPType.{AMQPType}

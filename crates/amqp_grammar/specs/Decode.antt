@@ -35,7 +35,7 @@ abbrev pub outcome_by : Meaning → List ℕ → Reading
 outcome_by mean [] = more 1
 outcome_by mean (c ∷ b) = elim (kind c) [ None ↦ unknown | Some type ↦ raw_outcome_by mean type b ]
 
--- the values that bytes spell one after another, at most n of them
+-- the values that bytes encode one after another, at most n of them
 abbrev pub values_by : (List ℕ → Reading) → ℕ → List ℕ → Option Trees
 values_by read n [] = Some no_trees
 values_by read zero (c ∷ b) = None
@@ -49,14 +49,14 @@ is_short s = nat_le (length s) 255 && is_utf8 s
 abbrev pub is_key : ℕ → List ℕ → Bool
 is_key n s = nat_le n (length s) && is_short (take n s)
 
--- the pairs that bytes spell one after another, at most n of them, put onto es
+-- the pairs that bytes encode one after another, at most n of them, inserted into es
 abbrev pub pairs_onto : (List ℕ → Reading) → ℕ → Entries → List ℕ → Option Entries
 pairs_onto read n es [] = Some es
 pairs_onto read zero es (k ∷ s) = None
 pairs_onto read (suc n) es (k ∷ s) =
     if is_key k s then elim (read (drop k s)) [ found v rest ↦ pairs_onto read n (insert (take k s) v es) rest | _ ↦ None ] else None
 
--- the meaning where containers nest at most `depth` deep
+-- the meaning if containers nest at most `depth` deep
 abbrev pub meaning : ℕ → Meaning
 meaning depth amqp.ShortString s = if is_short s then Some (short s) else None
 meaning depth amqp.LongString s = Some (long s)

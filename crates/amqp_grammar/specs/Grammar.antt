@@ -1,4 +1,4 @@
--- The grammar: which bytes are a value's encoding. It says what the bytes are, and not how they are
+-- The grammar: which bytes are a value's encoding. It defines what the bytes are, not how they are
 -- read. AMQP 0-9-1, section 4.2.5.5; the length of a container is that of its body in bytes.
 use Rattle.std.specs.Prelude.{ℕ, ◌^◌, ◌<◌, ◌≡◌, Some, List, [], ◌∷◌, ◌++◌, length}
 use Rattle.std.specs.Int.{w32, to_be_bytes}

@@ -1,4 +1,4 @@
--- The words of the headline that speak of sizes and of what is written.
+-- The words of the headline about sizes and about what is written.
 use Rattle.std.specs.Prelude.{ℕ, ◌*◌, ◌≤◌, ◌≡◌, ◌↔◌, IsTrue, List, length}
 use Rattle.amqp_grammar.specs.Values.{Tree, readable, depth, count}
 use Rattle.amqp_grammar.specs.Grammar.{Wire}
@@ -22,10 +22,10 @@ pub record IsWritableIn (n : ℕ) (v : Tree) : Type 0 where
 abbrev pub IsShortest : Tree → Type 0
 IsShortest v = (w : List ℕ) → IsBytes w → Wire w v → Wire (text v) v × (length (text v) ≤ length w)
 
--- among values that have encodings the canonical one of v is that of v alone
+-- among values that have encodings the canonical one of v is that of no other
 abbrev pub TellsApart : Tree → Type 0
 TellsApart v = (u : Tree) (w x : List ℕ) → IsBytes w → IsBytes x → Wire w v → Wire x u → (text v ≡ text u) ↔ (v ≡ u)
 
--- w is canonical for v by its bytes (`Canon`) exactly where it is `text v`, and v is readable
+-- w is canonical for v by its bytes (`Canon`) exactly when it is `text v`, and v is readable
 abbrev pub IsCanonical : Tree → Type 0
 IsCanonical v = (w : List ℕ) → IsBytes w → Canon w v ↔ (IsTrue (readable v) × (w ≡ text v))

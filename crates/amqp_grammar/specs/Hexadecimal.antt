@@ -13,6 +13,6 @@ noted (c ∷ s) true = elim (nat_eq c 39) [ true ↦ noted s false | false ↦ c
 noted (c ∷ []) false = []
 noted (c ∷ d ∷ s) false = elim (nat_eq c 39) [ true ↦ noted (d ∷ s) true | false ↦ elim (nat_eq c 32) [ true ↦ noted (d ∷ s) false | false ↦ (16 * digit c + digit d) ∷ noted s false ] ]
 
--- two digits are a byte, an ASCII text between quotes is its bytes, and spaces denote nothing
+-- two digits are a byte, an ASCII string between quotes is its bytes, and spaces denote nothing
 abbrev pub hex : String → List ℕ
 hex s = noted (codes s) false

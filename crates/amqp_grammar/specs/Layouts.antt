@@ -39,7 +39,7 @@ fixed amqp.DecimalValue = Some (record { first = 1; width = 5; denotes = λ b. d
 fixed amqp.Void = Some (record { first = 0; width = 0; denotes = λ b. void })
 fixed _ = None
 
--- the bytes of a layout, 0 where there is none
+-- the bytes of a layout, 0 if there is no layout
 abbrev pub width_in : Option Layout → ℕ
 width_in (Some f) = f.width
 width_in None = 0

@@ -2,7 +2,7 @@
 -- Two of `amqp_types` come before them: *Ids*, which byte denotes which type, and *Strings*,
 -- which bytes a short string may have.
 
--- what a value is, without where it lies in memory
+-- what a value is, without its place in memory
 pub mod Values
 -- payloads of fixed width
 pub mod Layouts
@@ -12,15 +12,15 @@ pub mod Grammar
 pub mod Outcomes
 -- what a value is written as
 pub mod Texts
--- which encoding is the canonical one, told by its bytes alone
+-- which encoding is the canonical one, determined by its bytes alone
 pub mod Canonical
--- the words of the headline that speak of sizes and of what is written
+-- the words of the headline about sizes and about what is written
 pub mod Headline
--- what is said of a value, of all that are in a container
+-- what holds of a value, of all that are in a container
 pub mod Members
 -- what every value in memory is
 pub mod InMemory
--- what reading results in where more bytes follow, and of what was written
+-- what reading results in if more bytes follow, and of what was written
 pub mod Readings
 -- the same outcomes as a function
 pub mod Decode
@@ -30,7 +30,7 @@ pub mod Nesting
 pub mod Maps
 -- a value's type and its payload apart: what is written, and what reading a payload results in
 pub mod Payloads
--- values that are kept without memory of their own
+-- values that are stored without an allocation
 pub mod NeedsNoAlloc
--- for the worked examples alone: bytes as a person writes them
+-- only for the worked examples: bytes as a person writes them
 pub mod Hexadecimal

@@ -1,4 +1,4 @@
--- What is said of a value, of all that are in a container.
+-- What holds of a value, of all that are in a container.
 use Rattle.std.specs.Prelude.{ℕ, Bool, List, length}
 use Rattle.amqp_grammar.specs.Values.{Trees, Entries, walk_all, walk_entries, depths, counts, have_ids}
 use Rattle.amqp_grammar.specs.Grammar.{ArrayBody, TableBody}

@@ -1,8 +1,8 @@
--- Values that are kept without memory of their own.
+-- Values that are stored without an allocation.
 use Rattle.std.specs.Prelude.{◌≡◌, []}
 use Rattle.amqp_grammar.specs.Values.{Tree, scalar, short, long, octets, array, table, no_trees, no_entries}
 
--- v is kept without memory of its own: it has a fixed width, or it is empty
+-- v is stored without an allocation: it has a fixed width, or it is empty
 abbrev pub NeedsNoAlloc : Tree → Type 0
 NeedsNoAlloc (scalar x) = Unit {0}
 NeedsNoAlloc (short s) = s ≡ []

@@ -42,7 +42,7 @@ BodyWithin depth body vs = (p : ArrayBody body vs) × (body_nesting body vs p �
 abbrev pub PairsWithin : ℕ → List ℕ → Entries → Type 0
 PairsWithin depth body ps = (p : TableBody body ps) × (pairs_nesting body ps p ≤ depth)
 
--- reading a payload of the type, or a value, results in o where containers nest at most `depth`
+-- reading a payload of the type, or a value, results in o if containers nest at most `depth`
 -- deep
 abbrev pub RawOutcomeWithin : ℕ → AMQPType → List ℕ → Reading → Type 0
 RawOutcomeWithin depth type s o = RawOutcomeBy (RawWithin depth type) type s o

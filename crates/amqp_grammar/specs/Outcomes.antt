@@ -15,7 +15,7 @@ pub data Reading : Type 0 where
   more : ℕ → Reading
   -- the first byte isn't a type tag
   unknown : Reading
-  -- the outermost length-prefixed field is whole, and no prefix is an encoding
+  -- the outermost length-prefixed field is complete, and no prefix is an encoding
   malformed : Reading
 
 -- the width of the length field of a type that has one
@@ -27,13 +27,13 @@ length_field _ = w32
 abbrev pub counted : Width → List ℕ → ℕ
 counted w b = from_be_bytes w (take (byte_len w) b)
 
--- how many more bytes are needed of a length field, and once it is whole of what it counts
+-- how many more bytes are needed of a length field, and once it is complete of what it counts
 abbrev pub frame_lack : Width → List ℕ → ℕ
 frame_lack w b =
     if nat_lt (length b) (byte_len w) then byte_len w - length b
     else byte_len w + counted w b - length b
 
--- how many more bytes are needed of a layout's first field, and once it is whole of all its fields
+-- how many more bytes a layout's first field needs, and once it is complete all its fields
 abbrev pub fields_lack : Layout → List ℕ → ℕ
 fields_lack f b = if nat_lt (length b) f.first then f.first - length b else f.width - length b
 
@@ -42,12 +42,12 @@ abbrev pub lack_of : Option Layout → Width → List ℕ → ℕ
 lack_of (Some f) w b = fields_lack f b
 lack_of None w b = frame_lack w b
 
--- how many more bytes are needed for the field that is being read, by the header alone; 0 where the
+-- how many more bytes are needed for the field that is being read, by the header only; 0 if the
 -- bytes of the payload are all there
 abbrev pub lack : AMQPType → List ℕ → ℕ
 lack type b = lack_of (fixed type) (length_field type) b
 
--- n more bytes are needed, or where n is 0 P decides
+-- n more bytes are needed, or if n is 0 P decides
 abbrev pub NeedsMoreOr : ℕ → Type 0 → Reading → Type 0
 NeedsMoreOr zero P o = P
 NeedsMoreOr (suc n) P o = o ≡ more (suc n)
@@ -58,13 +58,13 @@ FrontBy P s (found v rest) = (b : List ℕ) × P b v × (s ≡ b ++ rest)
 FrontBy P s malformed = (b rest : List ℕ) (v : Tree) → P b v → s ≡ b ++ rest → ⊥
 FrontBy P s _ = ⊥
 
--- reading a payload of the type from s results in o, where P says what its payloads are
+-- reading a payload of the type from s results in o, if P holds of its payloads
 abbrev pub RawOutcomeBy : (List ℕ → Tree → Type 0) → AMQPType → List ℕ → Reading → Type 0
 RawOutcomeBy P type s o = NeedsMoreOr (lack type s) (FrontBy P s o) o
 
 -- reading a value from s results in o, by the first of these that holds: there is no byte, and one
 -- is needed; the first byte isn't a type tag; more bytes of the payload are needed; P holds of a
--- prefix and a value; it holds of none
+-- prefix and a value; it holds of no prefix
 abbrev pub OutcomeBy : (List ℕ → Tree → Type 0) → List ℕ → Reading → Type 0
 OutcomeBy P [] o = o ≡ more 1
 OutcomeBy P (c ∷ b) o = MatchOption (kind c) (o ≡ unknown) (λ type. NeedsMoreOr (lack type b) (FrontBy P (c ∷ b) o) o)
@@ -73,11 +73,11 @@ OutcomeBy P (c ∷ b) o = MatchOption (kind c) (o ≡ unknown) (λ type. NeedsMo
 abbrev pub Outcome : List ℕ → Reading → Type 0
 Outcome s o = OutcomeBy Wire s o
 
--- a payload of the type takes memory: its length counts at least one byte, and all have come
+-- a payload of the type allocates: its length counts at least one byte, and all have come
 abbrev pub RawHeavy : AMQPType → List ℕ → Type 0
 RawHeavy type s = (fixed type ≡ None) × (lack type s ≡ 0) × (0 < counted (length_field type) s)
 
--- a value takes memory
+-- a value allocates
 abbrev pub Heavy : List ℕ → Type 0
 Heavy [] = ⊥
 Heavy (c ∷ b) = MatchOption (kind c) ⊥ (λ type. RawHeavy type b)

@@ -6,7 +6,7 @@ use Rattle.amqp_grammar.specs.Grammar.{Raw}
 use Rattle.amqp_grammar.specs.Canonical.{IsCanonRaw}
 use Rattle.amqp_grammar.specs.Outcomes.{Reading, FrontBy, RawOutcomeBy}
 
--- a prefix of s is a payload of the type, or none is
+-- a prefix of s is a payload of the type, or no prefix is
 abbrev pub RawFront : AMQPType → List ℕ → Reading → Type 0
 RawFront type s o = FrontBy (Raw type) s o
 

@@ -1,4 +1,4 @@
--- Values: what an `AMQPValue` is, without where it lies in memory.
+-- Values: what an `AMQPValue` is, without its place in memory.
 -- AMQP 0-9-1, section 4.2.5.5 (field tables), in the reading of RabbitMQ's errata, section 3.
 use Rattle.std.specs.Prelude.{ℕ, ◌+◌, ◌≡◌, max, Bool, true, false, ◌&&◌, List, [], ◌∷◌}
 use Rattle.std.specs.Ordering.{nat_cmp, match_ordering}
@@ -73,17 +73,17 @@ abbrev pub insert_all : Entries → Entries → Entries
 insert_all es no_entries = es
 insert_all es (entry k v ps) = insert_all (insert k v es) ps
 
--- a way to go over a value and all that is in it
+-- a way to traverse a value and all that is in it
 pub record Walk {ℓ} (A : Type ℓ) : Type ℓ where
-  -- what a value gives by itself
+  -- what a value yields by itself
   pub own : Tree → A
-  -- what a container gives: from its own, and what the values in it give
+  -- what a container yields: from its own, and what the values in it yield
   pub holding : A → A → A
-  -- what no values give, and what a value gives with those after it; keys give nothing
+  -- what no values yield, and what a value yields with those after it; keys yield nothing
   pub none : A
   pub beside : A → A → A
 
--- what a value gives, the values of an array, and those of a table
+-- what a value yields, the values of an array, and those of a table
 abbrev mutual
   pub walk {ℓ} : {A : Type ℓ} → Walk A → Tree → A
   walk way (array vs) = way.holding (way.own (array vs)) (walk_all way vs)
@@ -124,14 +124,14 @@ has_id (short s) = false
 has_id _ = true
 
 -- whether a value that is written can be read: each value in it has a type tag that is read, so
--- none is a short string; keys don't count
+-- no value in it is a short string; keys don't count
 abbrev pub have_ids : Walk Bool
 have_ids = record { own = has_id; holding = ◌&&◌; none = true; beside = ◌&&◌ }
 
 abbrev pub readable : Tree → Bool
 readable v = walk have_ids v
 
--- the key comes before each key of the entries, where their keys are ascending
+-- the key comes before each key of the entries, if their keys are ascending
 abbrev pub ComesBefore : List ℕ → Entries → Type 0
 ComesBefore k no_entries = Unit {0}
 ComesBefore k (entry j u es) = slice_cmp nat_cmp k j ≡ Less

@@ -1,6 +1,6 @@
 //! The laws of the grammar: what its definitions imply, for every list of bytes and every value.
 //!
-//! Each function is a law. It does nothing, and its contract says what holds.
+//! Each function is a law. It does nothing, and its contract states what holds.
 
 ghost use Rattle.std.specs.Prelude.{◌≡◌, ◌↔◌, ◌+◌, ℕ, List, ◌∷◌, ◌++◌, length, IsTrue, Some, ◌≢◌, ◌≤◌, ◌*◌, is_some, ◌-◌};
 ghost use Rattle.amqp_types.specs.declared.amqp_type.AMQPType.{AMQPType};
@@ -36,7 +36,7 @@ pub fn one_raw_reading()
 {}
 
 /// What a canonical encoding takes: the type tag and a payload of the type's width, or a length in
-/// one or four bytes and as many bytes as it counts. A value in an array takes what it takes alone,
+/// one or four bytes and as many bytes as it counts. A value in an array takes as much as outside,
 /// and in a table its key more, after a length in one byte.
 #[tactic(auto, using(crate::proofs::GrammarLaws::size_of_scalar, crate::proofs::GrammarLaws::size_of_array, crate::proofs::GrammarLaws::size_of_table))]
 pub fn sizes()
@@ -63,7 +63,7 @@ pub fn text_is_wire()
 {}
 
 /// Whatever follows it, the canonical encoding of a value is read as that value, and what follows
-/// is left. Where the value is not readable, its encoding is rejected.
+/// is left. If the value is not readable, its encoding is rejected.
 #[tactic(auto, using(crate::proofs::GrammarLaws::reading_back))]
 pub fn reading_back()
     ensures { (v : Tree) (rest : List ℕ) → IsValue v → Fits v
@@ -80,7 +80,7 @@ pub fn more_bytes()
         → StillWaits o t → RawOutcome type (s ++ t) (with_more o t) }
 {}
 
-/// Reading a list comes to at most one outcome.
+/// Reading a list has at most one outcome.
 #[tactic(auto, using(crate::proofs::GrammarLaws::one_outcome, crate::proofs::GrammarLaws::one_raw_outcome))]
 pub fn one_outcome()
     ensures value { (s : List ℕ) (o p : Reading) → Outcome s o → Outcome s p → o ≡ p }
@@ -88,8 +88,8 @@ pub fn one_outcome()
         → RawOutcome type s p → o ≡ p }
 {}
 
-/// Reading a value is reading the payload of the type that its first byte denotes, and takes
-/// memory where that does.
+/// Reading a value is reading the payload of the type that its first byte denotes, and may allocate
+/// if that may.
 #[tactic(auto, using(crate::proofs::GrammarLaws::raw_to_value, crate::proofs::GrammarLaws::raw_to_heavy))]
 pub fn value_from_payload()
     ensures outcome { (c : ℕ) (type : AMQPType) (b : List ℕ) (o : Reading) → kind c ≡ Some type
@@ -98,8 +98,8 @@ pub fn value_from_payload()
         → RawHeavy type b → Heavy (c ∷ b) }
 {}
 
-/// A table is a finite map: a value is found at the key where it was put, every other key keeps its
-/// value, and there is a value where there is a key.
+/// A table is a finite map: a value is found at the key at which it was inserted, every other key
+/// keeps its value, and there is a value if there is a key.
 #[tactic(auto, using(crate::proofs::GrammarLaws::put_found, crate::proofs::GrammarLaws::put_other, crate::proofs::GrammarLaws::key_has_value))]
 pub fn table_is_a_map()
     ensures put { (k : List ℕ) (v : Tree) (es : Entries) → value_at k (insert k v es) ≡ Some v }
@@ -109,7 +109,7 @@ pub fn table_is_a_map()
 {}
 
 /// What the pairs of an encoding mean: at each key the value of the last pair with it, under keys
-/// that rise. Where the pairs' own keys are ascending they are the table's entries unchanged.
+/// that are ascending. If the pairs' own keys are ascending they are the table's entries unchanged.
 #[tactic(auto, using(crate::proofs::GrammarLaws::last_stays, crate::proofs::GrammarLaws::pairs_rise, crate::proofs::GrammarLaws::rising_pairs))]
 pub fn last_pair_stays()
     ensures values { (k : List ℕ) (ps : Entries) → value_at k (insert_all no_entries ps) ≡ last_at k ps }
@@ -117,8 +117,8 @@ pub fn last_pair_stays()
     ensures rising { (ps : Entries) → IsRising ps → insert_all no_entries ps ≡ ps }
 {}
 
-/// Tables are equal where they have the same value at each key. The keys of every table in memory
-/// rise.
+/// Tables are equal if they have the same value at each key. The keys of every table in memory
+/// are ascending.
 #[tactic(auto, using(crate::proofs::GrammarLaws::same_tables, crate::proofs::GrammarLaws::entries_rise))]
 pub fn same_tables()
     ensures equal { (es fs : Entries) → IsRising es → IsRising fs
@@ -138,7 +138,7 @@ pub fn bounds()
 {}
 
 /// What an encoding means can be written and read again: its lengths fit their fields, and each
-/// value in it has a type tag that is read. Where the encoding is bytes, what it means is a value.
+/// value in it has a type tag that is read. If the encoding is bytes, what it means is a value.
 /// The same holds of a payload, but a short string's, which no type tag denotes.
 #[tactic(auto, using(crate::proofs::GrammarLaws::what_is_read, crate::proofs::GrammarLaws::what_raw_reads, crate::proofs::GrammarLaws::read_is_value, crate::proofs::GrammarLaws::raw_value))]
 pub fn what_is_read()
@@ -157,16 +157,16 @@ pub fn shortest()
         → Wire (text v) v × (length (text v) ≤ length w) }
 {}
 
-/// Values that are read from bytes have the same canonical encoding only where they are equal.
+/// Values that are read from bytes have the same canonical encoding only if they are equal.
 #[tactic(auto, using(crate::proofs::GrammarLaws::same_text_same_value))]
 pub fn same_text_same_value()
     ensures { (w u : List ℕ) (v z : Tree) → Wire w v → Wire u z → IsBytes w → IsBytes u
         → text v ≡ text z → v ≡ z }
 {}
 
-/// A canonical encoding is told by its bytes alone: no alternate tag, no boolean but 0
+/// A canonical encoding is known by its bytes alone: no alternate tag, no boolean but 0
 /// or 1, and keys that are ascending. Bytes are such an encoding of a value in memory, whose
-/// lengths fit their fields, exactly where each value in it has a type tag that is read and they
+/// lengths fit their fields, exactly when each value in it has a type tag that is read and they
 /// are what is written for it.
 #[tactic(auto, using(crate::proofs::GrammarLaws::is_canonical))]
 pub fn canonical()
@@ -174,7 +174,7 @@ pub fn canonical()
 {}
 
 /// A canonical encoding of any value is an encoding, its value fits its fields and is readable, and
-/// where it is bytes, it is what is written for the value.
+/// if it is bytes, it is what is written for the value.
 #[tactic(auto, using(crate::proofs::GrammarLaws::canonical_wire))]
 pub fn canonical_wire()
     ensures { (w : List ℕ) (v : Tree) → Canon w v → IsBytes w
@@ -190,7 +190,7 @@ pub fn what_is_found()
 {}
 
 /// The canonical encoding of each value is a shortest one, if it has any, and among values that
-/// have encodings it is that of that value alone.
+/// have encodings it is that of no other.
 #[tactic(auto, using(crate::proofs::GrammarLaws::is_shortest, crate::proofs::GrammarLaws::injective))]
 pub fn what_a_text_is()
     ensures shortest { (v : Tree) → IsShortest v }

@@ -2,9 +2,7 @@
 use Rattle.std.proofs.Common.{◌≡◌, ◌≤◌, ◌-◌, ℕ, suc, List, ◌++◌, length, Option, Some, None, Result, Ok, Err, MatchResult, IfOk, ap, ◌∙◌, subst, arith, length-append}
 use Rattle.std.specs.Int.{Width, byte_len}
 use Rattle.std.proofs.lemmas.Bool.{le-ltb}
-use Rattle.amqp_value_core.specs.declared.value.AMQPValue.{AMQPValue}
-use Rattle.amqp_value_core.specs.View.{view}
-use Rattle.amqp_grammar.specs.Values.{Tree, depth}
+use Rattle.amqp_grammar.specs.Values.{Tree}
 use Rattle.amqp_grammar.specs.Layouts.{Layout, fixed}
 use Rattle.amqp_grammar.specs.Grammar.{Wire, wire}
 use Rattle.amqp_grammar.specs.Headline.{IsWritableIn}
@@ -15,9 +13,9 @@ use Rattle.amqp_grammar.proofs.GrammarLaws.{front_within, bounded_wire, wire_fou
 use Rattle.amqp_parsing.specs.declared.limits.Limits.{Limits}
 use Rattle.amqp_parsing.specs.Refusals.{Refusal}
 use Rattle.amqp_parsing.specs.Headers.{extent_of, raw_extent, extent_at, extent}
-use Rattle.amqp_parsing.specs.Limits.{Within, RefusesWithin, IsReadAgain, ReadsBack, IsShortestWithin, TellsApartWithin}
+use Rattle.amqp_parsing.specs.Limits.{Within, RefusesWithin, IsReadAgain, ReadsBack, IsShortestWithin, TellsApartWithin, IsReadWithin}
 
--- where the length field is whole, a payload's least extent is its extent
+-- if the length field is complete, a payload's least extent is its extent
 whole_extent : (o : Option Layout) (w : Width) (b : List ℕ) (n : ℕ) → header_extent_of o w b ≡ n → n ≤ length b → extent_of o w b ≡ n
 whole_extent (Some f) w b n e le = e
 whole_extent None w b n e le = rw (le-ltb (length b) (byte_len w) (omega arith)) e
@@ -28,17 +26,17 @@ wire_extent _ t _ (wire c type b v k p) =
     let raw : raw_extent type (b ++ t) ≡ length b = whole_extent (fixed type) (length_field type) (b ++ t) (length b) (extent-raw type b t v p) (omega (arith, length-append b t)) in
     ap (λ o. extent_at o (b ++ t)) k ∙ ap suc raw
 
--- a text that keeps to the limits is read within them
+-- a canonical encoding that keeps to the limits is read within them
 pub reads_back : (l : Limits) → ReadsBack l
 reads_back l v is fits readable deep small = λ t.
     let p = text_within v is fits readable in
     (omega (arith, small, wire_extent (text v) t v p.0), wire_found_within l.depth (text v) t v p.0 (omega (arith, p.1, deep)))
 
--- the text is a shortest encoding of its value within a depth, and of no other value
-pub shortest_within : (d : ℕ) (v : Tree) → IsShortestWithin d v
+-- the canonical encoding is a shortest encoding of its value within a depth, and of no other value
+shortest_within : (d : ℕ) (v : Tree) → IsShortestWithin d v
 shortest_within d v = λ w bytes p. (text_again d w v bytes p, (bounds w v p.0).0)
 
-pub tells_apart_within : (d : ℕ) (v : Tree) → TellsApartWithin d v
+tells_apart_within : (d : ℕ) (v : Tree) → TellsApartWithin d v
 tells_apart_within d v = λ u w x bytes_w bytes_x p q. injective v u w x bytes_w bytes_x p.0 q.0
 
 -- what was read within limits is read again within them
@@ -50,22 +48,22 @@ read_again l s rest v bytes (few, x) = λ t.
     let small : extent s ≡ length w = ap extent f.2 ∙ wire_extent w rest v f.1.0 in
     (omega (arith, few, small, wire_extent (text v) t v again.0, (bounds w v f.1.0).0), wire_found_within l.depth (text v) t v again.0 again.1)
 
--- so of what a parser answers
-module _ {I : Type 0} (bytes : I → List ℕ) (l : Limits) (s : List ℕ) where
-  pub again_answer : (r : Result (I × AMQPValue) Refusal) → MatchResult r (λ x. Within l s (found (view x.1) (bytes x.0))) (RefusesWithin l s)
-      → IsBytes s → IfOk r (λ x. IsReadAgain l (view x.1))
-  again_answer (Ok x) p is = read_again l s (bytes x.0) (view x.1) is p
-  again_answer (Err e) p is = tt
+-- what was read within limits keeps them, and the bytes that it was read from bound it
+what_was_read : (l : Limits) (s rest : List ℕ) (v : Tree) → IsBytes s → Within l s (found v rest) → IsReadWithin l (length s - length rest) v
+what_was_read l s rest v bytes x =
+    let f = front_within l.depth s rest v x.1 in
+    let taken : length f.0 ≡ length s - length rest = omega (arith, ap length f.2, length-append f.0 rest) in
+    record {
+      bounded = subst (λ (n : ℕ). IsWritableIn n v) taken (bounded_wire f.0 v f.1.0);
+      depth = depth_within l.depth f.0 v f.1;
+      read_again = read_again l s rest v bytes x;
+      shortest = shortest_within l.depth v;
+      injective = tells_apart_within l.depth v;
+    }
 
-  pub depth_answer : (r : Result (I × AMQPValue) Refusal) → MatchResult r (λ x. Within l s (found (view x.1) (bytes x.0))) (RefusesWithin l s)
-      → IfOk r (λ x. depth (view x.1) ≤ l.depth)
-  depth_answer (Ok x) p = let f = front_within l.depth s (bytes x.0) (view x.1) p.1 in depth_within l.depth f.0 (view x.1) f.1
-  depth_answer (Err e) p = tt
-
-  pub bounded_within : (r : Result (I × AMQPValue) Refusal) → MatchResult r (λ x. Within l s (found (view x.1) (bytes x.0))) (RefusesWithin l s)
-      → IfOk r (λ x. IsWritableIn (length s - length (bytes x.0)) (view x.1))
-  bounded_within (Ok x) p =
-      let f = front_within l.depth s (bytes x.0) (view x.1) p.1 in
-      let taken : length f.0 ≡ length s - length (bytes x.0) = omega (arith, ap length f.2, length-append f.0 (bytes x.0)) in
-      subst (λ (n : ℕ). IsWritableIn n (view x.1)) taken (bounded_wire f.0 (view x.1) f.1.0)
-  bounded_within (Err e) p = tt
+-- so of what a parser returns, which `value` views as a tree
+pub read_answer : {I V : Type 0} (bytes : I → List ℕ) (value : V → Tree) (l : Limits) (s : List ℕ) (r : Result (I × V) Refusal)
+    → MatchResult r (λ x. Within l s (found (value x.1) (bytes x.0))) (RefusesWithin l s) → IsBytes s
+    → IfOk r (λ x. IsReadWithin l (length s - length (bytes x.0)) (value x.1))
+read_answer bytes value l s (Ok x) p is = what_was_read l s (bytes x.0) (value x.1) is p
+read_answer bytes value l s (Err e) p is = tt

@@ -12,15 +12,15 @@ use Rattle.amqp_types.specs.Inputs.{IsBytes}
 use Rattle.amqp_grammar.specs.Outcomes.{Reading, found, more, unknown, malformed, length_field, counted, lack, lack_of, frame_lack, NeedsMoreOr, FrontBy}
 use Rattle.amqp_grammar.specs.Readings.{StillWaits, with_more}
 use Rattle.amqp_grammar.specs.Decode.{outcome_by, meaning, outcome}
-use Rattle.amqp_grammar.proofs.GrammarLaws.{outcome_holds, outcome_is, within_holds, one_outcome_within, front_within, wire_found_within, malformed_append, unknown_append}
+use Rattle.amqp_grammar.proofs.GrammarLaws.{outcome_holds, outcome_is, within_holds, one_outcome_within, front_within, wire_found_within, malformed_append, unknown_append, deep_enough}
 use Rattle.amqp_parsing.specs.declared.errors.Err.TheVariants.{Error}
 use Rattle.amqp_parsing.specs.declared.errors.ErrorKind.{ErrorKind}
 use Rattle.amqp_parsing.specs.declared.errors.ErrorKind.TheVariants.{MapOpt, MapRes, Eof, OutOfMemory, TooLarge}
 use Rattle.amqp_parsing.specs.declared.limits.Limits.{Limits}
 use Rattle.amqp_parsing.specs.Headers.{extent_of, raw_extent, extent_at, extent, wanted}
 use Rattle.amqp_parsing.specs.ParseResults.{HasOneOutcome}
-use Rattle.amqp_parsing.specs.Limits.{Within, RefusesWithin, HasOneOutcomeWithin, KeepsOutcomeWithin}
-use Rattle.amqp_parsing.proofs.Again.{wire_extent}
+use Rattle.amqp_parsing.specs.Limits.{Within, RefusesWithin, HasOneOutcomeWithin, KeepsOutcomeWithin, LawsWithin}
+use Rattle.amqp_parsing.proofs.Again.{wire_extent, reads_back}
 use Rattle.amqp_parsing.proofs.Waits.{more_wanted, wanted_more, wanted-append, extent-append}
 
 -- more bytes don't make an extent smaller
@@ -123,15 +123,24 @@ refused_append l s t Eof x = within_append l s t malformed x tt
 refused_append l s t MapRes (few, x) = absurd x
 refused_append l s t OutOfMemory (few, x) = absurd x
 
-pub keeps_outcome_within : (l : Limits) (s : List ℕ) → KeepsOutcomeWithin l s
+keeps_outcome_within : (l : Limits) (s : List ℕ) → KeepsOutcomeWithin l s
 keeps_outcome_within l s = (λ o t x waits. within_append l s t o x waits, λ t large. too_large_append l s t large)
 
 -- there is one outcome at most
-pub has_one_outcome_within : (l : Limits) (s : List ℕ) → IsBytes s → HasOneOutcomeWithin l s
+has_one_outcome_within : (l : Limits) (s : List ℕ) → IsBytes s → HasOneOutcomeWithin l s
 has_one_outcome_within l s bytes =
     let o = outcome_by (meaning l.depth) s in
     let here = within_holds l.depth s bytes in
     (λ small. (o, (small, here), λ p x. one_outcome_within l.depth s p o x.1 here), λ o large x. omega (arith, large, x.0))
+
+-- so the laws of reading within limits are
+pub laws_within : (l : Limits) (s : List ℕ) → IsBytes s → LawsWithin l s
+laws_within l s bytes = record {
+  one = has_one_outcome_within l s bytes;
+  more_bytes = keeps_outcome_within l s;
+  read_back = reads_back l;
+  deep_enough = deep_enough;
+}
 
 -- and without limits
 pub has_one_outcome : (s : List ℕ) → IsBytes s → HasOneOutcome s

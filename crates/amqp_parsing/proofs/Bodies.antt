@@ -51,7 +51,7 @@ no_body d s vs o x other h p =
     let f = body_found d s vs p.0 p.1 h in
     other f.0 f.1 (one_outcome_within d s o (found f.0 f.1) x f.2)
 
--- after the first value of a body stands a body
+-- after the first value of a body is a body
 body_behind : (d : ℕ) (s w rest : List ℕ) (v : Tree) (vs : Trees) → s ≡ w ++ rest → Wire w v → (q : ArrayBody s vs) → body_nesting s vs q ≤ d → (more : Trees) × BodyWithin d rest more
 body_behind d _ w rest v _ e p no_values within = let h = length-wire w v p in absurd (omega (arith, ap length e, length-append w rest))
 body_behind d _ w rest v _ e p (value u left z vs q all) within =
@@ -87,7 +87,7 @@ Goes-end d s xs rest g e =
     subst (BodyWithin d s) (behind-nothing xs)
     (g.whole no_trees (subst (λ (t : List ℕ). BodyWithin d t no_trees) (sym (nil_from_length rest e)) (no_values, omega arith)))
 
--- where a value can't be read there are no values
+-- if a value can't be read there are no values
 Goes-stuck : (d : ℕ) (s : List ℕ) (xs : List Tree) (rest : List ℕ) (o : Reading) → Goes d s xs rest → 0 < length rest → OutcomeWithin d rest o
     → ((v : Tree) (left : List ℕ) → o ≡ found v left → ⊥) → IsNoBody d s malformed
 Goes-stuck d s xs rest o g h x other = λ vs p. let m = g.only vs p in no_body d rest m.0 o x other h m.1

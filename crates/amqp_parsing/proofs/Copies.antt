@@ -1,4 +1,4 @@
--- Fronts that are as long as the whole.
+-- Prefixes that are as long as all.
 use Rattle.std.proofs.Common.{◌≡◌, ℕ, Bool, true, false, if◌then◌else◌, nat_lt, refl, ◌≤◌, List, ◌++◌, length, take, ap, sym, ◌∙◌, arith}
 use Rattle.std.proofs.lemmas.Bool.{ltb-false}
 use Rattle.std.proofs.lemmas.List.{append-nil, nil_from_length, length-append, length-take}
@@ -10,13 +10,13 @@ whole_front a s (rest, e) same =
     let none = nil_from_length rest (omega (arith, length-append a rest, ap length e)) in
     sym (append-nil a) ∙ ap (λ l. a ++ l) (sym none) ∙ sym e
 
--- the same of the first n bytes, where n are there
+-- the same of the first n bytes, if n are there
 pub whole_taken : (a body left : List ℕ) (n : ℕ) → IsFront a body → body ≡ take n left → n ≤ length left → n ≤ length a → a ≡ take n left
 whole_taken a body left n (rest, e) is there enough =
     let size = length-take n left in
     whole_front a body (rest, e) (omega (arith, length-append a rest, ap length e, ap length is, size)) ∙ is
 
--- what was joined where a prefix is shorter than n, and else the prefix, is the first n bytes
+-- what was joined if a prefix is shorter than n, and else the prefix, is the first n bytes
 pub whole_or_joined : (a joined body left whole : List ℕ) (n : ℕ) (short : Bool) → IsFront a body → body ≡ take n left → n ≤ length left → short ≡ nat_lt (length a) n → (short ≡ true → joined ≡ body) → whole ≡ (if short then joined else a) → whole ≡ take n left
 whole_or_joined a joined body left whole n true front is there test made e = e ∙ made refl ∙ is
 whole_or_joined a joined body left whole n false front is there test made e = e ∙ whole_taken a body left n front is there (ltb-false (length a) n (sym test))

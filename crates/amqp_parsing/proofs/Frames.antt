@@ -24,7 +24,7 @@ use Rattle.amqp_parsing.proofs.Refused.{Refuses-weaker}
 
 -- s is a payload of the type, and `rest` after it: `body` after its length
 module _ (type : AMQPType) (s body rest : List ℕ) (row : fixed type ≡ None) (field : length_field type ≡ w32) (f : IsLengthPrefixed s body rest) where
-  -- the length-prefixed field is whole
+  -- the length-prefixed field is complete
   frame_whole : lack type s ≡ 0
   frame_whole =
       ap₂ (λ o w. lack_of o w s) row field ∙ (ap (lack_of None w32) f.framed ∙ lack_of-long_field body rest f.fits)
@@ -33,7 +33,7 @@ module _ (type : AMQPType) (s body rest : List ℕ) (row : fixed type ≡ None) 
   pub frame_found : (v : Tree) → Raw type (long_field body) v → RawOutcome type s (found v rest)
   frame_found v p = rw f.framed (raw_found type (long_field body) rest v p)
 
-  -- it takes memory where its body has a byte
+  -- it allocates if its body has a byte
   frame_heavy : 0 < length body → RawHeavy type s
   frame_heavy h =
       (row, frame_whole, omega (arith, ap₂ counted field f.framed, counted-long_field body rest f.fits))
@@ -45,7 +45,7 @@ module _ (type : AMQPType) (s body rest : List ℕ) (row : fixed type ≡ None) 
       Refuses-weaker Is (RawOutcome type s) (0 < length body) (RawHeavy type s) r
       (λ o y. raw_whole type s o frame_whole (front o y)) frame_heavy x
 
-  -- the same, where containers nest at most d deep
+  -- the same, if containers nest at most d deep
   pub frame_found_within : (d : ℕ) (v : Tree) → RawWithin d type (long_field body) v → RawOutcomeWithin d type s (found v rest)
   frame_found_within d v p = rw f.framed (raw_found_within d type (long_field body) rest v p)
 
@@ -67,13 +67,13 @@ module _ (s body rest : List ℕ) (f : IsLengthPrefixed s body rest) where
   pub octets_found : RawOutcome amqp.ByteArray s (found (octets body) rest)
   octets_found = frame_found amqp.ByteArray s body rest refl refl f (octets body) (raw_octets body f.fits)
 
--- containers, where they nest at most d deep
+-- containers, if they nest at most d deep
 module _ (d : ℕ) (s body rest : List ℕ) (f : IsLengthPrefixed s body rest) where
-  -- an array is read where the body is values that nest one less
+  -- an array is read if the body is values that nest one less
   pub array_found : (vs : Trees) → 0 < d → BodyWithin (d - 1) body vs → RawOutcomeWithin d amqp.FieldArray s (found (array vs) rest)
   array_found vs some p = frame_found_within amqp.FieldArray s body rest refl refl f d (array vs) (raw_array body vs f.fits p.0, omega (arith, p.1))
 
-  -- where the body isn't one, no prefix is an array
+  -- if the body isn't one, no prefix is an array
   no_array : (o : Reading) → IsNoBody (d - 1) body o → FrontBy (RawWithin d amqp.FieldArray) s o
   no_array malformed none = λ b left v p e. let r = array_body_within d body rest b left v f.fits p.0 p.1 (sym f.framed ∙ e) in none r.0 (r.1, omega (arith, r.2))
   no_array (found v left) none = absurd none
@@ -84,19 +84,19 @@ module _ (d : ℕ) (s body rest : List ℕ) (f : IsLengthPrefixed s body rest) w
   pub array_refused : (r : Refusal) → Refuses (IsNoBody (d - 1) body) (0 < length body) r → Refuses (RawOutcomeWithin d amqp.FieldArray s) (RawHeavy amqp.FieldArray s) r
   array_refused r x = frame_refused_within amqp.FieldArray s body rest refl refl f d (IsNoBody (d - 1) body) no_array r x
 
-  -- where no container may be, there is no array
+  -- if no container may be there, there is no array
   pub array_too_deep : d ≡ 0 → RawOutcomeWithin d amqp.FieldArray s malformed
   array_too_deep none =
       frame_malformed amqp.FieldArray s body rest refl refl f d
       (λ b left v p e. let r = array_body_within d body rest b left v f.fits p.0 p.1 (sym f.framed ∙ e) in absurd (omega (arith, r.2)))
 
-  -- a table is read where the body is pairs that nest one less
+  -- a table is read if the body is pairs that nest one less
   pub table_found : (es : Entries) → 0 < d → IsTable (d - 1) body es → RawOutcomeWithin d amqp.FieldTable s (found (table es) rest)
   table_found es some p =
       subst (λ (t : Entries). RawOutcomeWithin d amqp.FieldTable s (found (table t) rest)) (sym p.2)
       (frame_found_within amqp.FieldTable s body rest refl refl f d (table (insert_all no_entries p.0)) (raw_table body p.0 f.fits p.1.0, omega (arith, p.1.1)))
 
-  -- where the body isn't one, no prefix is a table
+  -- if the body isn't one, no prefix is a table
   no_table : (o : Reading) → IsNoTable (d - 1) body o → FrontBy (RawWithin d amqp.FieldTable) s o
   no_table malformed none = λ b left v p e. let r = table_body_within d body rest b left v f.fits p.0 p.1 (sym f.framed ∙ e) in none r.0 (r.1, omega (arith, r.2))
   no_table (found v left) none = absurd none
@@ -123,7 +123,7 @@ module _ (s left : List ℕ) (n : ℕ) (few : n < 256) (e : IsNumberRead w8 s n 
       let low : n % 256 ≡ length (take n left) = omega arith in
       e ∙ ap₂ (λ (k : ℕ) (t : List ℕ). k ∷ t) low (sym (take-append-drop n left))
 
-  -- the length-prefixed field is whole
+  -- the length-prefixed field is complete
   small_whole : lack amqp.ShortString s ≡ 0
   small_whole =
       let size : length s ≡ 1 + length left = ap length e ∙ omega arith in
@@ -131,13 +131,13 @@ module _ (s left : List ℕ) (n : ℕ) (few : n < 256) (e : IsNumberRead w8 s n 
       let count : counted w8 s ≡ n = ap (counted w8) e ∙ omega arith in
       omega arith
 
-  -- a short string is read where they are UTF-8
+  -- a short string is read if they are UTF-8
   pub short_found : IsUtf8 (take n left) → RawOutcome amqp.ShortString s (found (short (take n left)) (drop n left))
   short_found utf8 =
       let is : IsShort (take n left) = record { few = omega (arith, length-take-le n left there); utf8 = utf8 } in
       rw split_small (raw_found amqp.ShortString (short_field (take n left)) (drop n left) (short (take n left)) (raw_short (take n left) is))
 
-  -- where they aren't, no prefix is a short string
+  -- if they aren't, no prefix is a short string
   pub short_refused : (IsUtf8 (take n left) → ⊥) → RawOutcome amqp.ShortString s malformed
   short_refused none =
       raw_whole amqp.ShortString s malformed small_whole

@@ -12,4 +12,5 @@ mod Plain
 mod Again
 mod Appends
 mod Whole
+mod Untagged
 pub mod ParsingLaws

@@ -1,15 +1,15 @@
 -- The laws of reading within limits, for the proofs of other crates to cite.
 
--- what asks for more bytes: which, how many its header says at most, and that nothing is left after
--- it
+-- what asks for more bytes: which, how many its header counts at most, and that nothing is left
+-- after it
 pub use Rattle.amqp_parsing.proofs.Waits.{more_wanted, wanted_more, wanted_within, waits_more, nothing_behind, kept_within}
--- a value within a depth has at most as many bytes as its header says
+-- a value within a depth has at most as many bytes as its header counts
 pub use Rattle.amqp_parsing.proofs.Again.{wire_extent}
--- where the bytes of a value are all there
+-- when the bytes of a value are all there
 pub use Rattle.amqp_parsing.proofs.Whole.{found_all, failed_all}
 -- what is rejected stays rejected, whatever follows
 pub use Rattle.amqp_parsing.proofs.Appends.{refused_append}
--- what an error of one reading says of another
+-- what an error of one reading means for another
 pub use Rattle.amqp_parsing.proofs.Refused.{Refuses-weaker}
 -- payloads: of types of fixed width, and of a container once its body is read
 pub use Rattle.amqp_parsing.proofs.Payloads.{unsigned_outcome, void_found}

@@ -72,7 +72,7 @@ decimal_found s middle rest scale n first second d e =
     subst (λ (x : Scalar). RawOutcome amqp.DecimalValue s (found (scalar x) rest)) (ap₂ decimal first.back second.back)
     (fixed_found amqp.DecimalValue _ s (to_be_bytes w8 scale ++ to_be_bytes w32 n) rest refl refl (d ∙ ap (λ (t : List ℕ). to_be_bytes w8 scale ++ t) e))
 
--- nothing is read where no byte is wanted
+-- nothing is read if no byte is asked for
 pub void_found : (s : List ℕ) → RawOutcome amqp.Void s (found (scalar void) s)
 void_found s = fixed_found amqp.Void _ s [] s refl refl refl
 

@@ -1,4 +1,4 @@
--- Payloads that are no container, and answers without a limit.
+-- Payloads that are no container, and results without a limit.
 use Rattle.std.proofs.Common.{◌≡◌, ◌≢◌, ℕ, List, length, Result, Ok, Err, MatchResult, refl, subst, arith}
 use Rattle.amqp_types.specs.declared.amqp_type.AMQPType.{AMQPType}
 use Rattle.amqp_types.specs.declared.amqp_type.AMQPType.TheVariants as amqp
@@ -36,12 +36,16 @@ IsPlain amqp.FieldArray = ⊥
 IsPlain amqp.FieldTable = ⊥
 IsPlain _ = Unit {0}
 
--- what reading it comes to is the same within any depth
+-- what reading it results in is the same within any depth
 plain_within : (d : ℕ) (type : AMQPType) (s : List ℕ) (o : Reading) → IsPlain type → RawOutcome type s o → RawOutcomeWithin d type s o
 plain_within d type s o plain x = plain_outcome d type s o (λ e. subst IsPlain e plain) (λ e. subst IsPlain e plain) x
 
 pub plain_found : (d : ℕ) (type : AMQPType) (s rest : List ℕ) (v : Tree) → IsPlain type → RawOutcome type s (found v rest) → RawOutcomeWithin d type s (found v rest)
 plain_found d type s rest v plain x = plain_within d type s (found v rest) plain x
+
+-- so it is of a type that is known to be `plain`
+pub plain_arm : (d : ℕ) (plain type : AMQPType) (s rest : List ℕ) (v : Tree) → type ≡ plain → IsPlain plain → RawOutcome plain s (found v rest) → RawOutcomeWithin d type s (found v rest)
+plain_arm d plain type s rest v is no_container x = rw is (plain_found d plain s rest v no_container x)
 
 pub plain_refuses : (d : ℕ) (type : AMQPType) (s : List ℕ) (heavy : Type 0) (e : Refusal) → IsPlain type → (heavy → RawHeavy type s) → Refuses (RawOutcome type s) heavy e
     → Refuses (RawOutcomeWithin d type s) (RawHeavy type s) e
@@ -63,7 +67,7 @@ eof_of_type : (type : AMQPType) → type ≢ amqp.ShortString → bad_kind type 
 eof_of_type amqp.ShortString no_short = absurd (no_short refl)
 eof_of_type _ no_short = refl
 
--- a depth that the bytes can't pass limits no answer
+-- a depth that the bytes can't pass limits no result
 pub raw_unlimited_answer : {I V : Type 0} (bytes : I → List ℕ) (value : V → Tree) (type : AMQPType) (d : ℕ) (s : List ℕ) (r : Result (I × V) Refusal) → d ≡ length s
     → MatchResult r (λ x. RawOutcomeWithin d type s (found (value x.1) (bytes x.0))) (Refuses (RawOutcomeWithin d type s) (RawHeavy type s))
     → MatchResult r (λ x. RawOutcome type s (found (value x.1) (bytes x.0))) (Refuses (RawOutcome type s) (RawHeavy type s))

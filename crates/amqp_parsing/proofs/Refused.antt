@@ -1,4 +1,4 @@
--- Refusals: what is right of a part is right of the whole.
+-- Rejections: what is right of a part is right of all.
 use Rattle.std.proofs.Common.{◌≡◌, ℕ, zero, suc, List, sym}
 use Rattle.amqp_types.specs.declared.amqp_type.AMQPType.{AMQPType}
 use Rattle.amqp_grammar.specs.Outcomes.{Reading, more, unknown, malformed, lack, NeedsMoreOr, RawHeavy}
@@ -11,7 +11,7 @@ use Rattle.amqp_parsing.specs.Refusals.{Refusal}
 use Rattle.amqp_parsing.specs.ParseResults.{RightKind, Refuses}
 use Rattle.amqp_parsing.specs.PayloadResults.{OnlyLacks, bad_kind, RawRefuses}
 
--- a kind stays right where what is read stays right
+-- a kind stays right if what is read stays right
 RightKind-weaker : (Is Now : Reading → Type 0) (k : ErrorKind) → ((o : Reading) → Is o → Now o) → RightKind Is k → RightKind Now k
 RightKind-weaker Is Now MapOpt f x = f unknown x
 RightKind-weaker Is Now Eof f x = f malformed x
@@ -19,7 +19,7 @@ RightKind-weaker Is Now MapRes f x = x
 RightKind-weaker Is Now OutOfMemory f x = x
 RightKind-weaker Is Now TooLarge f x = x
 
--- an error stays right where what is read and what takes memory stay right
+-- an error stays right if what is read and when it allocates stay right
 pub Refuses-weaker : (Is Now : Reading → Type 0) (heavy now : Type 0) (e : Refusal) → ((o : Reading) → Is o → Now o) → (heavy → now)
     → Refuses Is heavy e → Refuses Now now e
 Refuses-weaker Is Now heavy now (Incomplete Unknown) f h x = x
@@ -35,7 +35,7 @@ no_unknown type s x = by (lack type s) x
     by zero f = f
     by (suc n) e = absurd cc
 
--- the error of a payload, where it isn't a short string, and what takes memory takes it
+-- the error of a payload, if it isn't a short string, and it allocates if the payload does
 pub raw_refused : (type : AMQPType) (s : List ℕ) (heavy : Type 0) (e : Refusal) → bad_kind type ≡ Eof → (heavy → RawHeavy type s)
     → Refuses (RawOutcome type s) heavy e → RawRefuses type s e
 raw_refused type s heavy (Incomplete Unknown) kind f x = absurd x
@@ -47,7 +47,7 @@ raw_refused type s heavy (Error OutOfMemory) kind f x = absurd x
 raw_refused type s heavy (Error TooLarge) kind f x = absurd x
 raw_refused type s heavy (Failure k) kind f x = (x.0, f x.1)
 
--- an error that comes only where bytes lack is an error
+-- an error that comes only if bytes are missing is an error
 pub OnlyLacks-refuses : (Is : Reading → Type 0) (heavy : Type 0) (e : Refusal) → OnlyLacks Is heavy e → Refuses Is heavy e
 OnlyLacks-refuses Is heavy (Incomplete lack) x = x
 OnlyLacks-refuses Is heavy (Error kind) x = absurd x

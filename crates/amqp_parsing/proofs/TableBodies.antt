@@ -20,7 +20,7 @@ use Rattle.amqp_parsing.proofs.Bodies.{rest_shorter}
 
 -- es are the entries of what was read of the body s, and `rest` is left
 pub record Walks (d : ℕ) (s : List ℕ) (es : Entries) (rest : List ℕ) : Type 0 where
-  -- the pairs of what is left, put onto those entries, are what the pairs of the body come to
+  -- the pairs of what is left, inserted into those entries, are what the body's pairs result in
   pub whole : (ps : Entries) → PairsWithin d rest ps → (qs : Entries) × PairsWithin d s qs × (insert_all es ps ≡ insert_all no_entries qs)
   -- what is left has pairs if the body has
   pub only : (qs : Entries) → PairsWithin d s qs → (ps : Entries) × PairsWithin d rest ps
@@ -69,7 +69,7 @@ no_value d _ k behind _ o is e x other (pair j w left v ps at p all) within =
     let rest : behind ≡ w ++ left = one_key k j behind (w ++ left) is at (sym e) in
     other v left (one_outcome_within d behind o (found v left) x (subst (λ (t : List ℕ). OutcomeWithin d t (found v left)) (sym rest) (wire_found_within d w left v p (omega arith))))
 
--- after the first pair stand pairs
+-- after the first pair are pairs
 pairs_behind : (d : ℕ) (s k w rest : List ℕ) (v : Tree) (ps : Entries) → IsShort k → Wire w v → s ≡ short_field k ++ (w ++ rest) → (q : TableBody s ps) → pairs_nesting s ps q ≤ d
     → (qs : Entries) × PairsWithin d rest qs
 pairs_behind d _ k w rest v _ is p e no_pairs within = absurd cc
@@ -99,7 +99,7 @@ Walks-step d s es left k behind v rest g x y =
 pub Walks-end : (d : ℕ) (s : List ℕ) (es : Entries) (rest : List ℕ) → Walks d s es rest → length rest ≡ 0 → IsTable d s es
 Walks-end d s es rest g e = g.whole no_entries (subst (λ (t : List ℕ). PairsWithin d t no_entries) (sym (nil_from_length rest e)) (no_pairs, omega arith))
 
--- where a key can't be read there are no pairs
+-- if a key can't be read there are no pairs
 stuck_at_key : (d : ℕ) (s : List ℕ) (es : Entries) (rest : List ℕ) (o : Reading) → Walks d s es rest → 0 < length rest → RawOutcome amqp.ShortString rest o
     → ((v : Tree) (left : List ℕ) → o ≡ found v left → ⊥) → IsNoTable d s malformed
 stuck_at_key d s es rest o g h x other = λ qs p. let m = g.only qs p in no_key rest m.0 o x other h m.1.0
@@ -112,7 +112,7 @@ Walks-bad_key d s es rest (Incomplete (Size n)) g h x = stuck_at_key d s es rest
 Walks-bad_key d s es rest (Error k) g h x = stuck_at_key d s es rest malformed g h x.1 (λ v left e. cc)
 Walks-bad_key d s es rest (Failure k) g h x = (x.0, omega (arith, g.shorter))
 
--- where a value can't be read after its key there are no pairs
+-- if a value can't be read after its key there are no pairs
 stuck_at_value : (d : ℕ) (s : List ℕ) (es : Entries) (rest k behind : List ℕ) (o : Reading) → Walks d s es rest
     → RawOutcome amqp.ShortString rest (found (short k) behind) → OutcomeWithin d behind o
     → ((v : Tree) (left : List ℕ) → o ≡ found v left → ⊥) → IsNoTable d s malformed

@@ -15,7 +15,7 @@ use Rattle.amqp_parsing.specs.PayloadResults.{IsType, bad_kind}
 use Rattle.amqp_parsing.specs.ParseResults.{Refuses}
 use Rattle.amqp_parsing.proofs.Refused.{Refuses-weaker}
 
--- none of the types that are read is a short string
+-- no type that is read is a short string
 abbrev AreEof : List (ℕ × AMQPType) → Type 0
 AreEof [] = Unit {0}
 AreEof (x ∷ xs) = (bad_kind x.1 ≡ Eof) × AreEof xs
@@ -39,11 +39,11 @@ module _ (d : ℕ) (s rest : List ℕ) (type : AMQPType) (p : IsType s type rest
   typed_outcome : (o : Reading) → RawOutcomeWithin d type rest o → OutcomeWithin d s o
   typed_outcome o x = subst (λ (t : List ℕ). OutcomeWithin d t o) (sym p.1) (raw_to_value_within d p.0 type rest o p.2 x)
 
-  -- the value takes memory where the payload does
+  -- the value allocates if the payload does
   typed_heavy : RawHeavy type rest → Heavy s
   typed_heavy x = subst Heavy (sym p.1) (raw_to_heavy p.0 type rest p.2 x)
 
-  -- what the parser of the payload answers, over an input that shows `bytes`, is right of the value
+  -- what the parser of the payload returns, over an input that shows `bytes`, is right of the value
   pub typed_answer : {I : Type 0} (bytes : I → List ℕ) (r : Result (I × AMQPValue) Refusal)
       → MatchResult r (λ x. RawOutcomeWithin d type rest (found (view x.1) (bytes x.0))) (Refuses (RawOutcomeWithin d type rest) (RawHeavy type rest))
       → MatchResult r (λ x. OutcomeWithin d s (found (view x.1) (bytes x.0))) (Refuses (OutcomeWithin d s) (Heavy s))
@@ -51,7 +51,7 @@ module _ (d : ℕ) (s rest : List ℕ) (type : AMQPType) (p : IsType s type rest
   typed_answer bytes (Err e) p =
       Refuses-weaker (RawOutcomeWithin d type rest) (OutcomeWithin d s) (RawHeavy type rest) (Heavy s) e typed_outcome typed_heavy p
 
--- a depth that the bytes can't pass limits no answer
+-- a depth that the bytes can't pass limits no result
 pub unlimited_answer : {I : Type 0} (bytes : I → List ℕ) (d : ℕ) (s : List ℕ) (r : Result (I × AMQPValue) Refusal) → d ≡ length s
     → MatchResult r (λ x. OutcomeWithin d s (found (view x.1) (bytes x.0))) (Refuses (OutcomeWithin d s) (Heavy s))
     → MatchResult r (λ x. Outcome s (found (view x.1) (bytes x.0))) (Refuses (Outcome s) (Heavy s))

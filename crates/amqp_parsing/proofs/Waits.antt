@@ -1,4 +1,4 @@
--- What lacks of a value that hasn't all come, as more of it comes.
+-- What is missing of a value that hasn't all come, as more of it comes.
 use Rattle.std.proofs.Common.{◌≡◌, ◌<◌, ◌≤◌, ◌+◌, ◌-◌, ℕ, zero, suc, List, [], ◌∷◌, ◌++◌, length, take, Option, Some, None, MatchOption, refl, ap, ap₂, ◌∙◌, subst, arith, inl, inr, length-append}
 use Rattle.std.specs.Option.{IfSome}
 use Rattle.amqp_types.specs.declared.amqp_type.AMQPType.TheVariants as amqp
@@ -19,7 +19,7 @@ use lib.Seq.{take-add}
 
 -- ---- what is missing, and the outcome
 
--- where bytes lack, that many are asked for
+-- if bytes are missing, that many are asked for
 pub more_wanted : (P : List ℕ → Tree → Type 0) (s : List ℕ) → 0 < wanted s → OutcomeBy P s (more (wanted s))
 more_wanted P [] h = refl
 more_wanted P (c ∷ b) h = by (kind c) h
@@ -33,7 +33,7 @@ more_wanted P (c ∷ b) h = by (kind c) h
     by None lt = absurd (omega arith)
     by (Some type) lt = at (lack type b) _ lt
 
--- what is asked for lacks
+-- what is asked for is missing
 pub wanted_more : (P : List ℕ → Tree → Type 0) (s : List ℕ) (n : ℕ) → OutcomeBy P s (more n) → wanted s ≡ n
 wanted_more P [] n x = cc
 wanted_more P (c ∷ b) n x = by (kind c) x
@@ -47,7 +47,7 @@ wanted_more P (c ∷ b) n x = by (kind c) x
     by None is = absurd cc
     by (Some type) y = at (lack type b) y
 
--- where a value is found, nothing lacks
+-- if a value is found, nothing is missing
 pub wanted_found : (s : List ℕ) (v : Tree) (rest : List ℕ) → Outcome s (found v rest) → wanted s ≡ 0
 wanted_found [] v rest x = absurd cc
 wanted_found (c ∷ b) v rest x = by (kind c) x
@@ -61,13 +61,13 @@ wanted_found (c ∷ b) v rest x = by (kind c) x
     by None is = refl
     by (Some type) y = at (lack type b) y
 
--- fewer bytes than lack leave the others lacking
+-- after fewer bytes than are missing, the others are missing
 pub wanted-append : (s m : List ℕ) → length m < wanted s → wanted (s ++ m) ≡ wanted s - length m
 wanted-append s m lt = wanted_more Wire (s ++ m) (wanted s - length m) (more_bytes s m (more (wanted s)) (more_wanted Wire s (omega arith)) lt)
 
 -- ---- the least extent
 
--- fewer bytes than a payload lacks don't change its extent
+-- fewer bytes than are missing of a payload don't change its extent
 extent_of-append : (o : Option Layout) (w : Width) (b m : List ℕ) → length m < lack_of o w b → extent_of o w (b ++ m) ≡ extent_of o w b
 extent_of-append (Some f) w b m lt = refl
 extent_of-append None w b m lt = elim (cases_lt (length b) (byte_len w)) [
@@ -95,7 +95,7 @@ extent-append (c ∷ b) m lt = by (kind c) lt
 
 -- ---- waiting
 
--- the first n bytes of two lists, where n reaches the second
+-- the first n bytes of two lists, if n reaches the second
 take_behind : (s m : List ℕ) (n : ℕ) → length s ≤ n → take n (s ++ m) ≡ s ++ take (n - length s) m
 take_behind s m n le =
     let j = n - length s in
@@ -120,7 +120,7 @@ waits_more frame s m waits within few n lt = elim (cases_lt n (length s)) [
       rw front (omega (arith, len, wanted-append s part (omega (arith, len, length-append s m)), length-append s m), omega (arith, extent-append s part (omega (arith, len, length-append s m))))
 ]
 
--- a value that is found where all has waited is all that came
+-- a value that is found when all before had to wait is all that came
 pub nothing_behind : (frame d : ℕ) (s : List ℕ) (v : Tree) (rest : List ℕ) → IsWaiting frame s → OutcomeWithin d s (found v rest) → rest ≡ []
 nothing_behind frame d s v rest waits x =
     let f = front_within d s rest v x in
@@ -146,7 +146,7 @@ first_fits amqp.FieldArray = tt
 first_fits amqp.FieldTable = tt
 first_fits _ = omega arith
 
--- what a payload lacks is within its extent
+-- what is missing of a payload is within its extent
 lack_within : (o : Option Layout) (w : Width) (b : List ℕ) → IfSome o (λ f. f.first ≤ f.width) → 0 < lack_of o w b → length b + lack_of o w b ≤ extent_of o w b
 lack_within (Some f) w b fits lt = elim (cases_lt (length b) f.first) [
   | inl cut ↦

@@ -1,4 +1,4 @@
--- Where the bytes of the value at the start are all there.
+-- When the bytes of the value at the start are all there.
 use Rattle.std.proofs.Common.{◌≡◌, ◌<◌, ◌≤◌, ℕ, zero, suc, List, [], ◌∷◌, Option, Some, None, refl, arith}
 use Rattle.std.specs.Prelude.{MatchOption}
 use Rattle.amqp_types.specs.declared.amqp_type.AMQPType.{AMQPType}
@@ -12,7 +12,7 @@ use Rattle.amqp_parsing.specs.declared.limits.Limits.{Limits}
 use Rattle.amqp_parsing.specs.Headers.{extent_at, extent, wanted_at, IsWhole}
 use Rattle.amqp_parsing.specs.Limits.{Within, RefusesWithin}
 
--- they are where a value is read
+-- they are if a value is read
 pub found_whole : (P : List ℕ → Tree → Type 0) (s rest : List ℕ) (v : Tree) → OutcomeBy P s (found v rest) → IsWhole s
 found_whole P [] rest v x = absurd cc
 found_whole P (c ∷ b) rest v x = by (kind c) x
@@ -26,7 +26,7 @@ found_whole P (c ∷ b) rest v x = by (kind c) x
     by None e = absurd cc
     by (Some type) y = (decided (lack type b) y, omega arith)
 
--- and where reading takes memory
+-- and if reading allocates
 pub heavy_whole : (s : List ℕ) → Heavy s → IsWhole s
 heavy_whole [] h = absurd h
 heavy_whole (c ∷ b) h = by (kind c) h
@@ -35,7 +35,7 @@ heavy_whole (c ∷ b) h = by (kind c) h
     by None none = absurd none
     by (Some type) heavy = (heavy.1, omega arith)
 
--- so they are wherever reading within limits takes memory, or gives a value
+-- so they are whenever reading within limits allocates, or returns a value
 pub found_all : (l : Limits) (s rest : List ℕ) (v : Tree) → Within l s (found v rest) → (extent s ≤ l.frame) × IsWhole s
 found_all l s rest v x = (x.0, found_whole (WireWithin l.depth) s rest v x.1)
 

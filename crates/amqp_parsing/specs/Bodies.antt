@@ -21,7 +21,7 @@ abbrev pub IsNoBody : ℕ → List ℕ → Reading → Type 0
 IsNoBody depth s malformed = (vs : Trees) → BodyWithin depth s vs → ⊥
 IsNoBody depth s _ = ⊥
 
--- the bytes are pairs one after another, and the entries are what they come to: of equal keys the
+-- the bytes are pairs one after another, and the entries are what they result in: of equal keys the
 -- last pair's value stays
 abbrev pub IsTable : ℕ → List ℕ → Entries → Type 0
 IsTable depth s es = (ps : Entries) × PairsWithin depth s ps × (es ≡ insert_all no_entries ps)

@@ -4,7 +4,7 @@ use Rattle.amqp_value_core.specs.Containers.{entries, table_view}
 use Rattle.amqp_parsing.specs.declared.pairs.TableBuilder.{TableBuilder}
 use Rattle.amqp_parsing.specs.declared.pairs.TableBuilder.TheVariants.{Few, Many}
 
--- what the pairs so far come to: those that are in the table, or those that were gathered
+-- what the pairs so far result in: those that are in the table, or those that were gathered
 abbrev pub kept : TableBuilder → Entries
 kept (Few table) = table_view table
 kept (Many pairs) = insert_all no_entries (entries pairs.items)

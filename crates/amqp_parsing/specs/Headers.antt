@@ -1,4 +1,4 @@
--- What the type tag and the length field of a value tell, whatever has come after them.
+-- What the type tag and the length field of a value determine, whatever has come after them.
 use Rattle.std.specs.Prelude.{ℕ, suc, ◌+◌, ◌<◌, ◌≤◌, ◌≡◌, Option, Some, None, List, [], ◌∷◌, length, take, nat_lt, if◌then◌else◌}
 use Rattle.std.specs.Int.{Width, byte_len}
 use Rattle.amqp_types.specs.declared.amqp_type.AMQPType.{AMQPType}
@@ -7,7 +7,7 @@ use Rattle.amqp_grammar.specs.Layouts.{Layout, fixed}
 use Rattle.amqp_grammar.specs.Outcomes.{length_field, counted, lack}
 
 -- how many bytes a payload has at least: those of its fields, or of its length field until that is
--- whole, and then what it counts too
+-- complete, and then what it counts too
 abbrev pub extent_of : Option Layout → Width → List ℕ → ℕ
 extent_of (Some f) w b = f.width
 extent_of None w b = if nat_lt (length b) (byte_len w) then byte_len w else byte_len w + counted w b
@@ -20,7 +20,7 @@ abbrev pub extent_at : Option AMQPType → List ℕ → ℕ
 extent_at None b = 0
 extent_at (Some type) b = suc (raw_extent type b)
 
--- how many bytes the value at the start has at least; 0 where no type tag tells
+-- how many bytes the value at the start has at least; 0 if there is no type tag
 abbrev pub extent : List ℕ → ℕ
 extent [] = 0
 extent (c ∷ b) = extent_at (kind c) b
@@ -30,8 +30,8 @@ abbrev pub wanted_at : Option AMQPType → List ℕ → ℕ
 wanted_at None b = 0
 wanted_at (Some type) b = lack type b
 
--- how many more bytes are needed for the field that is being read; 0 where the bytes of the payload
--- are all there, or no type tag tells
+-- how many more bytes are needed for the field that is being read; 0 if the bytes of the payload
+-- are all there, or there is no type tag
 abbrev pub wanted : List ℕ → ℕ
 wanted [] = 1
 wanted (c ∷ b) = wanted_at (kind c) b
@@ -45,6 +45,6 @@ abbrev pub first_of : Option Layout → Width → ℕ
 first_of (Some f) w = f.first
 first_of None w = byte_len w
 
--- every shorter prefix of s asks for more, and is of a value that is within the limit `frame`
+-- every shorter prefix of s asks for more, and is of a value within the limit `frame`
 abbrev pub IsWaiting : ℕ → List ℕ → Type 0
 IsWaiting frame s = (n : ℕ) → n < length s → (0 < wanted (take n s)) × (extent (take n s) ≤ frame)

@@ -1,16 +1,18 @@
 -- the errors of parsers
 pub mod Refusals
--- what `parse_value` answers: the headline's words on reading
+-- what `parse_value` returns: the headline's words on reading
 pub mod ParseResults
--- what the parsers of one type answer
+-- what the parsers of one type return
 pub mod PayloadResults
--- what those of types of fixed width answer
+-- what those of types of fixed width return
 pub mod Scalars
--- what the steps of reading a container answer
+-- what the steps of reading a container return
 pub mod Bodies
 -- pairs on their way into a table
 pub mod Gathering
--- what the first bytes of a value tell
+-- what the first bytes of a value determine
 pub mod Headers
 -- what reading within limits results in
 pub mod Limits
+-- and of an array or a table without its type tag
+pub mod Untagged

@@ -2,6 +2,7 @@
 use Rattle.std.specs.Prelude.{ℕ, ◌<◌, ◌≤◌, ◌≡◌, ◌/◌, ◌↔◌, IsTrue, List, ◌++◌, length}
 use Rattle.amqp_grammar.specs.Values.{Tree, readable, depth}
 use Rattle.amqp_grammar.specs.Grammar.{Wire}
+use Rattle.amqp_grammar.specs.Headline.{IsWritableIn}
 use Rattle.amqp_grammar.specs.Nesting.{WireWithin, OutcomeWithin}
 use Rattle.amqp_types.specs.Inputs.{IsBytes}
 use Rattle.amqp_grammar.specs.Outcomes.{Reading, found, unknown, Outcome, Heavy}
@@ -27,7 +28,7 @@ abbrev pub RefusesWithin : Limits → List ℕ → Refusal → Type 0
 RefusesWithin l s (Error TooLarge) = l.frame < extent s
 RefusesWithin l s e = (extent s ≤ l.frame) × Refuses (OutcomeWithin l.depth s) (Heavy s) e
 
--- reading s within limits results in exactly one outcome, and in none where the value is too large
+-- reading s within limits results in exactly one outcome, and in none if the value is too large
 abbrev pub HasOneOutcomeWithin : Limits → List ℕ → Type 0
 HasOneOutcomeWithin l s =
     (extent s ≤ l.frame → (o : Reading) × Within l s o × ((p : Reading) → Within l s p → p ≡ o))
@@ -52,16 +53,37 @@ ReadsBack l = (v : Tree) → IsValue v → Fits v → IsTrue (readable v) → de
 abbrev pub IsShortestWithin : ℕ → Tree → Type 0
 IsShortestWithin d v = (w : List ℕ) → IsBytes w → WireWithin d w v → WireWithin d (text v) v × (length (text v) ≤ length w)
 
--- among values that have encodings within a depth the canonical one of v is that of v alone
+-- among values that have encodings within a depth the canonical one of v is that of no other
 abbrev pub TellsApartWithin : ℕ → Tree → Type 0
 TellsApartWithin d v = (u : Tree) (w x : List ℕ) → IsBytes w → IsBytes x → WireWithin d w v → WireWithin d x u → (text v ≡ text u) ↔ (v ≡ u)
 
--- bytes are an encoding exactly where they are one within each depth from a fifth of their length
+-- bytes are an encoding exactly when they are one within each depth from a fifth of their length
 -- on
 abbrev pub IsDeepEnough : Type 0
 IsDeepEnough = (w : List ℕ) (v : Tree) → Wire w v ↔ ((d : ℕ) → length w / 5 ≤ d → WireWithin d w v)
 
--- what a header tells, where none may have more than `frame` bytes
+-- laws of reading s within limits, whatever the result is
+pub record LawsWithin (l : Limits) (s : List ℕ) : Type 0 where
+  -- it has one outcome, which more bytes keep
+  pub one : HasOneOutcomeWithin l s
+  pub more_bytes : KeepsOutcomeWithin l s
+  -- what is written of a value that keeps the limits is read back
+  pub read_back : ReadsBack l
+  -- a depth of a fifth of an encoding's length is no limit
+  pub deep_enough : IsDeepEnough
+
+-- what v is that was read within limits from an encoding of n bytes
+pub record IsReadWithin (l : Limits) (n : ℕ) (v : Tree) : Type 0 where
+  -- it is no larger than that, and nests at most as deep as the limit allows
+  pub bounded : IsWritableIn n v
+  pub depth : depth v ≤ l.depth
+  -- its canonical encoding is read as it within the limits, is a shortest one, and is that of no
+  -- other value
+  pub read_again : IsReadAgain l v
+  pub shortest : IsShortestWithin l.depth v
+  pub injective : TellsApartWithin l.depth v
+
+-- what a header determines, if none may have more than `frame` bytes
 abbrev pub IsHeader : ℕ → List ℕ → Header → Type 0
 IsHeader frame s header.Unknown = Outcome s unknown × (extent s ≤ frame)
 IsHeader frame s header.TooLarge = frame < extent s

@@ -8,14 +8,14 @@ use Rattle.amqp_parsing.specs.declared.errors.ErrorKind.{ErrorKind}
 use Rattle.amqp_parsing.specs.declared.errors.ErrorKind.TheVariants.{MapOpt, Eof, OutOfMemory}
 use Rattle.amqp_parsing.specs.Refusals.{Refusal}
 
--- an error of the kind is right: the input reads as the kind says
+-- an error of the kind is right: the input reads as the kind states
 abbrev pub RightKind : (Reading → Type 0) → ErrorKind → Type 0
 RightKind Is MapOpt = Is unknown
 RightKind Is Eof = Is malformed
 RightKind Is _ = ⊥
 
--- an error is right, where `IsError` says which kinds of `Error` are, `Is` what reading the input
--- results in, and memory may run out only where `heavy` holds
+-- an error is right, if `IsError` states which kinds of `Error` are, `Is` what reading the input
+-- results in, and memory may run out only if `heavy` holds
 abbrev pub RefusesAs : (ErrorKind → Type 0) → (Reading → Type 0) → Type 0 → Refusal → Type 0
 RefusesAs IsError Is heavy (Incomplete Unknown) = ⊥
 RefusesAs IsError Is heavy (Incomplete (Size n)) = Is (more n)

@@ -1,4 +1,4 @@
--- What the parsers of one type answer.
+-- What the parsers of one type return.
 use Rattle.std.specs.Prelude.{ℕ, ◌<◌, ◌-◌, ◌≡◌, Some, None, List, [], ◌∷◌, ◌++◌, length}
 use Rattle.std.specs.Int.{Width, byte_len, to_be_bytes}
 use Rattle.amqp_types.specs.declared.amqp_type.AMQPType.{AMQPType}
@@ -11,11 +11,11 @@ use Rattle.amqp_parsing.specs.declared.errors.ErrorKind.TheVariants.{MapRes, Eof
 use Rattle.amqp_parsing.specs.Refusals.{Refusal}
 use Rattle.amqp_parsing.specs.ParseResults.{RefusesAs}
 
--- an error is right that comes only where more bytes are needed, or where an allocation failed
+-- an error is right that comes only if more bytes are needed, or if an allocation failed
 abbrev pub OnlyLacks : (Reading → Type 0) → Type 0 → Refusal → Type 0
 OnlyLacks Is heavy e = RefusesAs (λ _. ⊥) Is heavy e
 
--- the kind of error where a length-prefixed field is whole and is no payload of the type: a short
+-- the kind of error if a length-prefixed field is complete and isn't a payload of the type: a short
 -- string's bytes aren't UTF-8, and a container's aren't entries
 abbrev pub bad_kind : AMQPType → ErrorKind
 bad_kind amqp.ShortString = MapRes

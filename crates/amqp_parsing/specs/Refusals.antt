@@ -30,7 +30,7 @@ refused kind = Error kind
 abbrev pub out_of_memory : Refusal
 out_of_memory = Failure OutOfMemory
 
--- what the error of an entry means for the container round it, whose body is whole: a failed
+-- what the error of an entry means for the container round it, whose body is complete: a failed
 -- allocation stays one, and whatever else keeps the entry from being read keeps the body from being
 -- a concatenation of entries
 abbrev pub inside : Refusal → Refusal

@@ -1,4 +1,4 @@
--- What the parsers of types of fixed width answer.
+-- What the parsers of types of fixed width return.
 use Rattle.std.specs.Prelude.{ℕ, List, Result, MatchResult}
 use Rattle.std.specs.Int.{Width}
 use Rattle.amqp_types.specs.declared.amqp_type.AMQPType.{AMQPType}
@@ -9,15 +9,15 @@ use Rattle.amqp_parsing.specs.Refusals.{Refusal}
 use Rattle.amqp_parsing.specs.ParseResults.{Refuses}
 use Rattle.amqp_parsing.specs.PayloadResults.{OnlyLacks, IsNumberRead, IsCut}
 
--- the answer is the unsigned number of the first bytes, big-endian, and what is left after them; or
--- more bytes are needed, and it says how many
+-- the result is the unsigned number of the first bytes, big-endian, and what is left after them; or
+-- more bytes are needed, and it counts how many
 abbrev pub ReadsUnsigned : {I : Type 0} → Width → (I → List ℕ) → I → Result (I × ℕ) Refusal → Type 0
 ReadsUnsigned w bytes i result = MatchResult result
     (λ x. IsNumberRead w (bytes i) x.1 (bytes x.0))
     (Refuses (IsCut w (bytes i)) ⊥)
 
--- the answer is what a payload of the type at the start means, as viewed by `shown`, and what is
--- left after it; or more bytes are needed, and it says how many
+-- the result is what a payload of the type at the start means, as viewed by `shown`, and what is
+-- left after it; or more bytes are needed, and it counts how many
 abbrev pub ReadsScalar : {I T : Type 0} → AMQPType → (T → Scalar) → (I → List ℕ) → I → Result (I × T) Refusal → Type 0
 ReadsScalar type shown bytes i result = MatchResult result
     (λ x. RawOutcome type (bytes i) (found (scalar (shown x.1)) (bytes x.0)))

@@ -24,7 +24,7 @@ pub fn copy_of<I: ParsableInput>(alloc: Global, input: I) -> Result<Vec<u8>, All
     copy_by_chunks(alloc, input)
 }
 
-// A copy of all bytes of the input, by its chunks, and byte by byte where there is none.
+// A copy of all bytes of the input, by its chunks, and byte by byte if a chunk is empty.
 pub(crate) fn copy_by_chunks<I: ParsableInput>(
     alloc: Global,
     input: I,

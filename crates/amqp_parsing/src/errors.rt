@@ -90,7 +90,7 @@ impl Error for ParserErrors {}
 /// What a parser returns instead of a value: an error, or how many more bytes it needs.
 pub type ParserError = Err<ParserErrors>;
 
-/// What a parser returns: the remaining input and a value, or why there is none.
+/// What a parser returns: the remaining input and a value, or why there is no value.
 pub type ParserResult<I, T> = Result<(I, T), ParserError>;
 
 /// Makes `Incomplete`: `n` more bytes are needed for the field that is being read.
@@ -131,7 +131,7 @@ impl From<AllocError> for ParserError {
     }
 }
 
-// what the error of an entry means for the container round it, whose body is whole
+// what the error of an entry means for the container round it, whose body is complete
 pub(crate) fn inside(e: ParserError) -> ParserError
     ensures { result ≡ inside e }
 {

@@ -1,10 +1,11 @@
 //! What a value's type tag and length determine.
 
-ghost use Rattle.std.specs.Prelude.{◌≡◌, ◌≢◌, ◌<◌, ◌≤◌, ◌+◌, option_map};
+ghost use Rattle.std.specs.Prelude.{◌≡◌, ◌≢◌, ◌<◌, ◌≤◌, ◌+◌, None, option_map};
+ghost use Rattle.std.specs.Int.{w32};
 ghost use Rattle.amqp_grammar.specs.Layouts.{fixed};
 ghost use Rattle.amqp_types.specs.Inputs.{IsBytes};
 ghost use Rattle.amqp_grammar.specs.Outcomes.{length_field};
-ghost use Rattle.amqp_parsing.specs.Headers.{extent, raw_extent, first_of};
+ghost use Rattle.amqp_parsing.specs.Headers.{extent, extent_of, raw_extent, first_of};
 ghost use Rattle.amqp_parsing.specs.Limits.{IsHeader};
 
 use super::scalars::{parse_long_uint, parse_type};
@@ -56,13 +57,23 @@ fn payload_of<I: ParsableInput>(amqp_type: AMQPType, i: I) -> (usize, usize)
     if let Some(fields) = fields_of(amqp_type) {
         return fields;
     }
+    (4, counted_len(i))
+}
+
+// How many bytes a payload with a length in four bytes has at least, by that length only.
+#[inline(always)]
+pub(crate) fn counted_len<I: ParsableInput>(i: I) -> usize
+    ensures extent { result ≡ extent_of None w32 (I.bytes i) }
+    ensures small { result ≤ 4294967299 }
+    ensures bytes { IsBytes (I.bytes i) }
+{
     match parse_long_uint(i) {
-        Ok((_, len)) => (4, 4 + len as usize),
-        Err(_) => (4, 4),
+        Ok((_, len)) => 4 + len as usize,
+        Err(_) => 4,
     }
 }
 
-/// The least length of the value at the start of the input, by its type tag and length alone, and 0
+/// The least length of the value at the start of the input, by its type tag and length only, and 0
 /// if there is no type tag. It takes constant time.
 #[inline(always)]
 pub fn value_len<I: ParsableInput>(i: I) -> usize

@@ -25,4 +25,4 @@ pub use scalars::{
 };
 pub use strings::{parse_byte_array, parse_length_prefixed, parse_long_string, parse_short_string};
 pub use values::{parse_field_array, parse_field_table, parse_raw_value, parse_value};
-pub use within::parse_value_within;
+pub use within::{parse_field_array_within, parse_field_table_within, parse_value_within};

@@ -4,6 +4,7 @@ ghost use Rattle.std.specs.Prelude.{◌≡◌, Some, IfOk, MatchResult};
 ghost use Rattle.std.specs.Int.{w8, w16, w32, w64, cast_unsigned};
 ghost use Rattle.amqp_types.specs.Names.{read_as};
 ghost use Rattle.amqp_types.specs.Contents.{float_bits, double_bits};
+ghost use Rattle.amqp_types.specs.Inputs.{IsBytes};
 ghost use Rattle.amqp_grammar.specs.Values.{boolean, decimal};
 ghost use Rattle.amqp_parsing.specs.ParseResults.{Refuses};
 ghost use Rattle.amqp_parsing.specs.PayloadResults.{IsType, IsNoType};
@@ -79,6 +80,7 @@ pub fn parse_short_uint<I: ParsableInput>(i: I) -> ParserResult<I, ShortUInt>
 pub fn parse_long_uint<I: ParsableInput>(i: I) -> ParserResult<I, LongUInt>
     ensures number { ReadsUnsigned w32 I.bytes i result }
     ensures payload { ReadsNumber AMQPType.LongUInt (λ n. n) I.bytes i result }
+    ensures bytes { IsBytes (I.bytes i) }
 {
     let there = i.input_len();
     if there < 4 {

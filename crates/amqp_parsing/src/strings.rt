@@ -33,7 +33,7 @@ pub fn parse_short_string<I: ParsableInput>(alloc: Global, i: I) -> ParserResult
     }
     let body = i.take(len);
     let chunk = body.chunk();
-    // bytes that don't lie in one piece are put together first
+    // bytes that aren't contiguous are joined first
     let in_pieces = chunk.len() < len;
     let joined = joined(alloc, body, in_pieces)?;
     let Ok(text) = str::from_utf8(whole(in_pieces, joined.as_slice(), chunk)) else {
@@ -46,7 +46,7 @@ pub fn parse_short_string<I: ParsableInput>(alloc: Global, i: I) -> ParserResult
     }
 }
 
-// A copy of an input's bytes where they lie in pieces, and no byte where they don't.
+// A copy of an input's bytes if they aren't contiguous, and no byte if they are.
 #[inline(always)]
 fn joined<I: ParsableInput>(alloc: Global, input: I, in_pieces: bool) -> Result<Vec<u8>, AllocError>
     ensures ok { IfOk result (λ bytes. in_pieces ≡ true → bytes.items ≡ I.bytes input) }
@@ -59,7 +59,7 @@ fn joined<I: ParsableInput>(alloc: Global, input: I, in_pieces: bool) -> Result<
     }
 }
 
-// The bytes that were joined, where they lie in pieces, otherwise the chunk that has all of them.
+// The bytes that were joined, if they aren't contiguous, otherwise the chunk that has all of them.
 #[inline(always)]
 fn whole<'a>(in_pieces: bool, joined: &'a [u8], chunk: &'a [u8]) -> &'a [u8]
     ensures { result.now ≡ if in_pieces then joined.now else chunk.now }

@@ -193,7 +193,11 @@ pub fn parse_field_array<I: ParsableInput>(alloc: Global, i: I) -> ParserResult<
 // Reads an array in which containers nest at most `depth` deep, itself included.
 #[cycle(parser)]
 #[inline(always)]
-fn array_within<I: ParsableInput>(alloc: Global, i: I, depth: usize) -> ParserResult<I, FieldArray>
+pub(crate) fn array_within<I: ParsableInput>(
+    alloc: Global,
+    i: I,
+    depth: usize,
+) -> ParserResult<I, FieldArray>
     ensures { MatchResult result
         (λ x. RawOutcomeWithin depth AMQPType.FieldArray (I.bytes i) (found (array (array_view x.1)) (I.bytes x.0)))
         (Refuses (RawOutcomeWithin depth AMQPType.FieldArray (I.bytes i)) (RawHeavy AMQPType.FieldArray (I.bytes i))) }
@@ -247,7 +251,11 @@ pub fn parse_field_table<I: ParsableInput>(alloc: Global, i: I) -> ParserResult<
 // Reads a table in which containers nest at most `depth` deep, itself included.
 #[cycle(parser)]
 #[inline(always)]
-fn table_within<I: ParsableInput>(alloc: Global, i: I, depth: usize) -> ParserResult<I, FieldTable>
+pub(crate) fn table_within<I: ParsableInput>(
+    alloc: Global,
+    i: I,
+    depth: usize,
+) -> ParserResult<I, FieldTable>
     ensures { MatchResult result
         (λ x. RawOutcomeWithin depth AMQPType.FieldTable (I.bytes i) (found (table (table_view x.1)) (I.bytes x.0)))
         (Refuses (RawOutcomeWithin depth AMQPType.FieldTable (I.bytes i)) (RawHeavy AMQPType.FieldTable (I.bytes i))) }

@@ -1,18 +1,20 @@
-//! Parsing a value within limits.
+//! Parsing within limits.
 
-ghost use Rattle.std.specs.Prelude.{◌≡◌, ◌-◌, ◌≤◌, length, MatchResult, IfOk};
-ghost use Rattle.amqp_grammar.specs.Headline.{IsWritableIn};
+ghost use Rattle.std.specs.Prelude.{suc, ◌≡◌, ◌-◌, ◌≤◌, length, MatchResult, IfOk};
 ghost use Rattle.amqp_types.specs.Inputs.{IsBytes};
 ghost use Rattle.amqp_grammar.specs.Outcomes.{found};
-ghost use Rattle.amqp_grammar.specs.Values.{depth};
+ghost use Rattle.amqp_grammar.specs.Values.{array, table};
 ghost use Rattle.amqp_value_core.specs.View.{view};
-ghost use Rattle.amqp_parsing.specs.Limits.{Within, RefusesWithin, HasOneOutcomeWithin, KeepsOutcomeWithin, IsReadAgain, ReadsBack, IsShortestWithin, TellsApartWithin, IsDeepEnough};
+ghost use Rattle.amqp_value_core.specs.Containers.{array_view, table_view};
+ghost use Rattle.amqp_parsing.specs.Limits.{Within, RefusesWithin, LawsWithin, IsReadWithin};
+ghost use Rattle.amqp_parsing.specs.Untagged.{tagged, UntaggedWithin, RefusesUntagged, IsPayloadWithin, ReadsPayloadsBack};
 
 use super::errors::{ErrorKind, ParserResult, lacks, refused};
-use super::header::{Header, header_of};
+use super::header::{Header, counted_len, header_of};
 use super::limits::Limits;
 use super::traits::ParsableInput;
-use super::values::value_within;
+use super::values::{array_within, table_within, value_within};
+use amqp_value_core::types::{AMQPType, FieldArray, FieldTable};
 use amqp_value_core::value::AMQPValue;
 use std::alloc::Global;
 
@@ -24,7 +26,6 @@ use std::alloc::Global;
 /// field that isn't a value; each entry that is written counts, even if its key occurs again. By
 /// measurements it uses stack for at most `limits.depth` levels; docs/PROMISES.md has what one
 /// takes.
-#[tactic(auto, using(amqp_grammar::proofs::GrammarLaws::deep_enough))]
 pub fn parse_value_within<I: ParsableInput>(
     alloc: Global,
     i: I,
@@ -33,21 +34,14 @@ pub fn parse_value_within<I: ParsableInput>(
     ensures within { MatchResult result
         (λ x. Within limits (I.bytes i) (found (view x.1) (I.bytes x.0)))
         (RefusesWithin limits (I.bytes i)) }
-    ensures one { HasOneOutcomeWithin limits (I.bytes i) }
-    ensures more_bytes { KeepsOutcomeWithin limits (I.bytes i) }
-    ensures bounded { IfOk result (λ x.
-        IsWritableIn (length (I.bytes i) - length (I.bytes x.0)) (view x.1)) }
-    ensures depth { IfOk result (λ x. depth (view x.1) ≤ limits.depth) }
-    ensures read_again { IfOk result (λ x. IsReadAgain limits (view x.1)) }
-    ensures read_back { ReadsBack limits }
-    ensures shortest { IfOk result (λ x. IsShortestWithin limits.depth (view x.1)) }
-    ensures injective { IfOk result (λ x. TellsApartWithin limits.depth (view x.1)) }
-    ensures deep_enough { IsDeepEnough }
+    ensures laws { LawsWithin limits (I.bytes i) }
+    ensures value { IfOk result (λ x.
+        IsReadWithin limits (length (I.bytes i) - length (I.bytes x.0)) (view x.1)) }
 {
     read_within(alloc, i, limits)
 }
 
-// Reads a value once its header tells that it is whole, and within the limit `frame`.
+// Reads a value once its header shows that it is complete, and within the limit `frame`.
 fn read_within<I: ParsableInput>(alloc: Global, i: I, limits: Limits) -> ParserResult<I, AMQPValue>
     ensures within { MatchResult result
         (λ x. Within limits (I.bytes i) (found (view x.1) (I.bytes x.0)))
@@ -60,4 +54,81 @@ fn read_within<I: ParsableInput>(alloc: Global, i: I, limits: Limits) -> ParserR
         Header::Lacks(n) => Err(lacks(n)),
         Header::Whole => value_within(alloc, i, limits.depth as usize),
     }
+}
+
+/// Parses an array as `parse_field_array` does, within limits.
+///
+/// They count it as `parse_value_within` does with its type tag: `frame` includes that byte, and
+/// `depth` the array itself. Errors and memory are as there.
+pub fn parse_field_array_within<I: ParsableInput>(
+    alloc: Global,
+    i: I,
+    limits: Limits,
+) -> ParserResult<I, FieldArray>
+    ensures within { MatchResult result
+        (λ x. UntaggedWithin limits AMQPType.FieldArray (I.bytes i) (found (array (array_view x.1)) (I.bytes x.0)))
+        (RefusesUntagged limits AMQPType.FieldArray (I.bytes i)) }
+    ensures payload { IsPayloadWithin limits AMQPType.FieldArray (I.bytes i) }
+    ensures read_back { ReadsPayloadsBack limits AMQPType.FieldArray }
+    ensures laws { LawsWithin limits (tagged AMQPType.FieldArray (I.bytes i)) }
+    ensures value { IfOk result (λ x.
+        IsReadWithin limits (suc (length (I.bytes i)) - length (I.bytes x.0)) (array (array_view x.1))) }
+{
+    read_array_within(alloc, i, limits)
+}
+
+// Reads an array once its length shows that it is within the limit `frame`.
+fn read_array_within<I: ParsableInput>(
+    alloc: Global,
+    i: I,
+    limits: Limits,
+) -> ParserResult<I, FieldArray>
+    ensures within { MatchResult result
+        (λ x. UntaggedWithin limits AMQPType.FieldArray (I.bytes i) (found (array (array_view x.1)) (I.bytes x.0)))
+        (RefusesUntagged limits AMQPType.FieldArray (I.bytes i)) }
+    ensures bytes { IsBytes (I.bytes i) }
+{
+    if counted_len(i) >= limits.frame as usize {
+        return Err(refused(ErrorKind::TooLarge));
+    }
+    array_within(alloc, i, limits.depth as usize)
+}
+
+/// Parses a table as `parse_field_table` does, within limits: for the tables of methods and content
+/// headers from untrusted peers.
+///
+/// They count it as `parse_value_within` does with its type tag: `frame` includes that byte, and
+/// `depth` the table itself. Errors and memory are as there.
+pub fn parse_field_table_within<I: ParsableInput>(
+    alloc: Global,
+    i: I,
+    limits: Limits,
+) -> ParserResult<I, FieldTable>
+    ensures within { MatchResult result
+        (λ x. UntaggedWithin limits AMQPType.FieldTable (I.bytes i) (found (table (table_view x.1)) (I.bytes x.0)))
+        (RefusesUntagged limits AMQPType.FieldTable (I.bytes i)) }
+    ensures payload { IsPayloadWithin limits AMQPType.FieldTable (I.bytes i) }
+    ensures read_back { ReadsPayloadsBack limits AMQPType.FieldTable }
+    ensures laws { LawsWithin limits (tagged AMQPType.FieldTable (I.bytes i)) }
+    ensures value { IfOk result (λ x.
+        IsReadWithin limits (suc (length (I.bytes i)) - length (I.bytes x.0)) (table (table_view x.1))) }
+{
+    read_table_within(alloc, i, limits)
+}
+
+// Reads a table once its length shows that it is within the limit `frame`.
+fn read_table_within<I: ParsableInput>(
+    alloc: Global,
+    i: I,
+    limits: Limits,
+) -> ParserResult<I, FieldTable>
+    ensures within { MatchResult result
+        (λ x. UntaggedWithin limits AMQPType.FieldTable (I.bytes i) (found (table (table_view x.1)) (I.bytes x.0)))
+        (RefusesUntagged limits AMQPType.FieldTable (I.bytes i)) }
+    ensures bytes { IsBytes (I.bytes i) }
+{
+    if counted_len(i) >= limits.frame as usize {
+        return Err(refused(ErrorKind::TooLarge));
+    }
+    table_within(alloc, i, limits.depth as usize)
 }

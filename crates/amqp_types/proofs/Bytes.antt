@@ -1,4 +1,4 @@
--- Bytes: parts of some bytes are bytes, and the numbers that they spell are as small as their
+-- Bytes: parts of some bytes are bytes, and the numbers that they encode are as small as their
 -- width.
 use Rattle.std.proofs.Common.{ℕ, suc, zero, ◌<◌, ◌^◌, sym, subst, List, [], ◌∷◌, ◌++◌, get_or, take, drop, arith}
 use Rattle.std.proofs.lemmas.List.{take-append-drop}

@@ -7,7 +7,7 @@ use Rattle.amqp_types.specs.declared.amqp_type.AMQPType.{AMQPType}
 use Rattle.amqp_types.specs.Ids.{letters, kind}
 use Rattle.amqp_types.specs.Names.{read_as}
 
--- what holds of each row of a table holds of what is found in it
+-- what holds of each line of a table holds of what is found in it
 pub row_holds : (P : AMQPType → Type 0) (test : ℕ → Bool) (rows : List (ℕ × AMQPType)) → AllByRecursion (λ r. P r.1) rows → IfSome (lookup test rows) P
 row_holds P test [] all = tt
 row_holds P test (r ∷ rows) all = by (test r.0) (row_holds P test rows all.1)

@@ -14,7 +14,7 @@ drop_both (suc n) (x ∷ xs) ys =
     let fewer : suc n - suc (length xs) ≡ n - length xs = omega arith in
     ap (λ k. drop n xs ++ drop k ys) fewer ∙ drop_both n xs ys
 
--- what is left of a list from place a on, where that is n or its end
+-- what is left of a list from place a on, if that is n or its end
 left_from : (n a : ℕ) (xs : List ℕ) → a ≡ min n (length xs) → take (length xs - a) (drop a xs) ≡ drop n xs
 left_from n a xs e = same_lists _ _ (search (rules, places)) (λ n d l. grind (arith, places))
 

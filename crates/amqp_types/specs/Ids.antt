@@ -29,7 +29,7 @@ letters =
     ∷ (86, amqp.Void)  -- V
     ∷ []
 
--- the type that a byte denotes; every byte that isn't in the table has none
+-- the type that a byte denotes; a byte that isn't in the table denotes no type
 abbrev pub kind : ℕ → Option AMQPType
 kind c = lookup (nat_eq c) letters
 

@@ -9,11 +9,11 @@ use Rattle.amqp_types.specs.declared.short_string.TryCopyError.TheVariants.{TooL
 abbrev pub refused_length : ShortStringError → ℕ
 refused_length e = e.length
 
--- a string is rejected for its length, which the error tells
+-- a string is rejected for its length, which the error reports
 abbrev pub IsTooLong : List ℕ → ShortStringError → Type 0
 IsTooLong s e = (255 < length s) × (refused_length e ≡ length s)
 
--- a copy is rejected for the string's length, or for a failed allocation where the string has at
+-- a copy is rejected for the string's length, or for a failed allocation if the string has at
 -- most 255 bytes and isn't empty
 abbrev pub IsCopyRefused : List ℕ → TryCopyError → Type 0
 IsCopyRefused s (TooLong e) = IsTooLong s e

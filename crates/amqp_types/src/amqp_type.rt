@@ -38,7 +38,7 @@ pub enum AMQPType {
     /// A string of at most 255 bytes. It has no type tag: it is a table's key, and the parsers
     /// reject one that is written as a value.
     ShortString,
-    /// Arbitrary bytes, which most peers take for text.
+    /// Arbitrary bytes, which most peers take for a string.
     LongString,
     /// A list of values, each with its type.
     FieldArray,

@@ -36,7 +36,7 @@ pub trait ParsableInput: Copy {
         requires { n ≤ length (bytes self.now) }
         ensures { bytes result ≡ drop n (bytes self.now) };
 
-    /// A prefix of the bytes as a slice: as many as are contiguous, possibly none. Parsers copy
+    /// A prefix of the bytes as a slice: as many as are contiguous, possibly zero. Parsers copy
     /// bytes chunk by chunk, and byte by byte if a chunk is empty. An implementor may leave it out.
     fn chunk(&self) -> &[u8]
         ensures { IsFront result.now (bytes self.now) }

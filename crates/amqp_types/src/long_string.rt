@@ -6,7 +6,7 @@ use serde::{Deserialize, Serialize};
 use std::alloc::{AllocError, Global};
 use std::fmt;
 
-/// Arbitrary bytes, of which at most 4294967295 can be written. Most peers take them for text.
+/// Arbitrary bytes, of which at most 4294967295 can be written. Most peers take them for a string.
 ///
 /// Order, equality and hash are those of its bytes.
 #[derive(Debug, PartialEq, Eq, PartialOrd, Ord, Hash, Serialize, Deserialize, Drop)]

@@ -1,4 +1,4 @@
--- Copies: a walk over sorted entries puts each after the ones before it.
+-- Copies: an iteration over sorted entries puts each after the ones before it.
 use Rattle.std.proofs.Common.{◌≡◌, ℕ, List, [], ◌∷◌, ◌++◌, Less, Greater, refl, ap, subst, ◌∙◌, rules}
 use Rattle.std.proofs.lemmas.Cmp.{nat_list_cmp_total}
 use Rattle.std.specs.Cmp.Lexicographic.{slice_cmp}
@@ -18,7 +18,7 @@ use Rattle.amqp_value_core.specs.Containers.{trees, entries, array_items, array_
 abbrev pub Pair : Type 0
 Pair = List ℕ × AMQPValue
 
--- where keys are ascending, the first comes before a later one
+-- if keys are ascending, the first comes before a later one
 comes_before : (k : List ℕ) (es : List Pair) (e : Pair) (more : List Pair) → AllByRecursion (λ j. slice_cmp nat_cmp k j ≡ Less) (keys_of (es ++ e ∷ more)) → slice_cmp nat_cmp k e.0 ≡ Less
 comes_before k [] e more h = h.0
 comes_before k (x ∷ es) e more h = comes_before k es e more h.1
@@ -33,7 +33,7 @@ put_at_the_end (first ∷ done) e more h =
     nat_list_cmp_total.antisymm e.0 first.0 ∙ ap ordering_reverse (comes_before first.0 done e more h.0) in
     rw behind (ap (entry first.0 (view first.1)) (put_at_the_end done e more h.1))
 
--- two tables are the same value where their entries are
+-- two tables are the same value if their entries are
 pub table_again : (v : AMQPValue) (t u : FieldTable) (es : List Pair) → v ≡ value.FieldTable t → es ≡ table_entries t → table_view u ≡ entries es → view (value.FieldTable u) ≡ view v
 table_again v t u es is inner same =
     let shown : (w : FieldTable) → view (value.FieldTable w) ≡ table (table_view w) = λ w. search (rules, the_lemmas) in
@@ -48,7 +48,7 @@ no_pairs : (es : List Pair) → entries es ≡ no_entries → es ≡ []
 no_pairs [] is = refl
 no_pairs (e ∷ es) is = absurd (cc is)
 
--- so an array or a table that is kept with no memory is empty
+-- so an array or a table that is stored without an allocation is empty
 pub no_items_in : (v : AMQPValue) (a : FieldArray) → v ≡ value.FieldArray a → NeedsNoAlloc (view v) → array_items a ≡ []
 no_items_in v a is light =
     let shown : view (value.FieldArray a) ≡ array (array_view a) = search (rules, the_lemmas) in

@@ -1,5 +1,5 @@
--- Pairs that are gathered: the map that is made of them at once is the one that they come to, put
--- one after another.
+-- Pairs that are gathered: the map made of them at once is the one that inserting them, one after
+-- another, results in.
 use Rattle.std.proofs.Common.{◌≡◌, ℕ, List, [], ◌∷◌, Bool, true, false, cond, Option, Some, None, if◌then◌else◌, Ordering, refl, sym, ap, ◌∙◌}
 use Rattle.std.specs.Option.{option_or, option_map}
 use Rattle.std.specs.Ordering.{nat_cmp, eq_by_cmp}
@@ -55,7 +55,7 @@ rise (e ∷ es) h = (first es h, rise es h.1)
     first [] h = tt
     first (x ∷ es) h = h.0.0
 
--- the entries of a map in which each pair was put in turn are what the pairs come to
+-- the entries of a map into which each pair was inserted in turn are what the pairs result in
 pub made_of : (ps es : List Pair) → ((k : List ℕ) → lookup (is_at (order k)) es ≡ update_all (eq_by_cmp order) (λ _. None) ps k) → IsStrictlySortedBy order (keys_of es) → entries es ≡ insert_all no_entries (entries ps)
 made_of ps es found sorted =
     same_tables _ _ (rise es sorted) (pairs_rise (entries ps))

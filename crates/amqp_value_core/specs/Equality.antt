@@ -5,7 +5,7 @@ use Rattle.amqp_types.specs.declared.amqp_type.AMQPType.TheVariants as amqp
 use Rattle.amqp_grammar.specs.Values.{Scalar, boolean, number, decimal, void, Tree, scalar, short, long, octets, array, table, Trees, no_trees, tree, Entries, no_entries, entry}
 use Rattle.amqp_grammar.specs.Maps.{same_bytes}
 
--- where a type is in the list of types
+-- the place of a type in the list of types
 abbrev pub place_of : AMQPType → ℕ
 place_of amqp.Boolean = 0
 place_of amqp.ShortShortInt = 1

@@ -1,4 +1,4 @@
--- What a value of a given type has inside; a value of any other type has none of it.
+-- What a value of a given type has inside, which a value of any other type doesn't have.
 use Rattle.std.specs.Prelude.{ℕ, Bool, true, false, Option, Some, None, List, ◌==◌, if◌then◌else◌}
 use Rattle.amqp_types.specs.declared.amqp_type.AMQPType.{AMQPType}
 use Rattle.amqp_grammar.specs.Values.{boolean, number, decimal, void, Tree, scalar, short, long, octets, array, table, Trees, Entries}

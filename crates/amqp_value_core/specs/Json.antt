@@ -7,7 +7,7 @@ use Rattle.amqp_types.specs.declared.amqp_type.AMQPType.{AMQPType}
 use Rattle.amqp_types.specs.declared.amqp_type.AMQPType.TheVariants as amqp
 use Rattle.amqp_grammar.specs.Values.{boolean, number, void, Tree, scalar, short, long}
 
--- the integer that the JSON value is, where a signed number of 64 bits holds it, and where an
+-- the integer that the JSON value is, if a signed number of 64 bits holds it, and if an
 -- unsigned one does; a number with a point or an exponent isn't one
 abbrev pub signed : Data → Option ℤ
 signed d = option_and_then as_i64 (as_number d)
@@ -15,24 +15,24 @@ signed d = option_and_then as_i64 (as_number d)
 abbrev pub unsigned : Data → Option ℕ
 unsigned d = option_and_then as_u64 (as_number d)
 
--- whether z lies from -half to half - 1; negsuc n is -(n + 1)
+-- whether z is from -half to half - 1; negsuc n is -(n + 1)
 abbrev pub is_within : ℕ → ℤ → Bool
 is_within half (pos n) = nat_lt n half
 is_within half (negsuc n) = nat_lt n half
 
--- the integer, where it lies there
+-- the integer, if it is in that range
 abbrev pub signed_within : ℕ → Data → Option ℤ
 signed_within half d = option_and_then (λ z. if is_within half z then Some z else None) (signed d)
 
--- the integer, where it is below the limit
+-- the integer, if it is below the limit
 abbrev pub unsigned_below : ℕ → Data → Option ℕ
 unsigned_below limit d = option_and_then (λ n. if nat_lt n limit then Some n else None) (unsigned d)
 
--- the text's bytes, where it is a text of at most 255
+-- the string's bytes, if it is a string of at most 255
 abbrev pub short_text : Data → Option (List ℕ)
 short_text d = option_and_then (λ s. if nat_le (length s) 255 then Some s else None) (as_str d)
 
--- the value of the type; a LongLongUInt gives the signed number of the same bits
+-- the value of the type; of a LongLongUInt it is the signed number of the same bits
 abbrev pub json : Data → AMQPType → Option Tree
 json d amqp.Boolean = option_map (λ b. scalar (boolean b)) (as_bool d)
 json d amqp.ShortShortInt = option_map (λ z. scalar (number amqp.ShortShortInt (cast_unsigned w8 z))) (signed_within (2 ^ 7) d)
@@ -49,12 +49,12 @@ json d amqp.LongString = option_map long (as_str d)
 json d amqp.Void = option_map (λ none. scalar void) (as_null d)
 json d _ = None
 
--- the text that is copied for the value
+-- the string that is copied for the value
 abbrev pub copied : Data → AMQPType → Option (List ℕ)
 copied d amqp.ShortString = short_text d
 copied d amqp.LongString = as_str d
 copied d _ = None
 
--- a text is copied that isn't empty: what takes memory
+-- a string is copied that isn't empty: what allocates
 abbrev pub TakesMemory : Data → AMQPType → Type 0
 TakesMemory d type = (s : List ℕ) × (copied d type ≡ Some s) × (0 < length s)

@@ -1,4 +1,4 @@
--- A table that is lent whole: what becomes of it where a call fails.
+-- A table that is lent completely: what becomes of it if a call fails.
 use Rattle.std.specs.Prelude.{◌≡◌, Result, Ok, Err}
 use Rattle.std.specs.Borrow.{Fml, MutBor, RestsIfErr}
 use Rattle.amqp_value_core.specs.declared.types.field_table.FieldTable.{FieldTable}
@@ -11,7 +11,7 @@ module _ (s : MutBor FieldTable) {E : Type 0} where
   abbrev pub Rests : Result (MutBor FieldTable) E → Fml
   Rests r = RestsIfErr the_row s (λ t. t.ghost_name) r (λ last. table_view last ≡ table_view s.now)
 
-  -- the same, where what was lent is in a struct
+  -- the same, if what was lent is in a struct
   abbrev pub RestsIn : Result Lent E → Fml
   RestsIn r = RestsIfErr the_row s (λ h. h.table.ghost_name) r (λ last. table_view last ≡ table_view s.now)
 

@@ -34,7 +34,7 @@ pub enum AMQPValue {
     DecimalValue(DecimalValue),
     /// A string of at most 255 bytes. It can be written, but the parsers reject what is written.
     ShortString(ShortString),
-    /// Arbitrary bytes, which most peers take for text.
+    /// Arbitrary bytes, which most peers take for a string.
     LongString(LongString),
     /// A list of values, each with its type.
     FieldArray(FieldArray),

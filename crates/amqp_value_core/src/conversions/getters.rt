@@ -7,7 +7,7 @@ use crate::types::{
 };
 use crate::value::AMQPValue;
 
-/// Each getter returns the field of its own variant, and `None` for every other.
+/// Each getter returns the field of its variant, and `None` for every other.
 impl AMQPValue {
     ghost use Rattle.std.specs.Prelude.{◌≡◌, option_map, is_some};
     ghost use Rattle.std.specs.Int.{w8, w16, w32, w64, cast_unsigned};

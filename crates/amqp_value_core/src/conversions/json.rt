@@ -12,7 +12,7 @@ use serde_json::Value;
 use std::alloc::{AllocError, Global};
 
 impl AMQPValue {
-    /// Converts a JSON value to a value of the type, or returns `None` if it has none.
+    /// Converts a JSON value to a value of the type, or returns `None` if it isn't one.
     ///
     /// A number becomes a value of a type that holds it, and for `LongLongUInt` the `LongLongInt`
     /// of the same bits. A string becomes a `LongString`, or a `ShortString` if it has at most 255

@@ -1,13 +1,14 @@
 use Rattle.std.proofs.Common.{◌++◌, sym, ap, ◌∙◌, arith}
 use Rattle.amqp_value_core.specs.View.{view}
-use Rattle.amqp_value_core.specs.Containers.{array_items}
 use Rattle.amqp_grammar.specs.Grammar.{short_field}
 use Rattle.amqp_grammar.specs.Texts.{text, Fits}
-use Rattle.amqp_generation.proofs.Arrays.{value_refused, array_closed}
+use Rattle.amqp_generation.proofs.Arrays.{value_refused, array_closed, array_value}
 use Rattle.amqp_generation.proofs.Tables.{none_put, one_more_put, key_taken_back, entry_refused, table_closed, table_value}
 use Rattle.amqp_generation.proofs.Texts.{text_of, longer_by_id, body_next, fit_next, values_next}
 use Rattle.amqp_generation.proofs.Steps.{both_put, refused, by_buffer}
 use Rattle.amqp_generation.proofs.WhatWasRead.{writes_payload_read}
+use Rattle.amqp_generation.proofs.ReadBack.{array_read_back, table_read_back}
+use Rattle.amqp_value_core.specs.Containers.{array_items, array_view, table_view}
 use Rattle.amqp_generation.proofs.values.+values.Goals as goal
 
 pub write_value-returns-clause-written : goal.write_value-returns-clause-written
@@ -99,3 +100,15 @@ gen_field_table-returns-in-Err-clause-fits_input_size g t c = writes_payload_rea
 
 pub gen_field_table-returns-clause-fits_input_size : goal.gen_field_table-returns-clause-fits_input_size
 gen_field_table-returns-clause-fits_input_size g t c = writes_payload_read (λ e. cc) (gen_field_table-returns-clause-written g t c)
+
+pub gen_field_array-returns-clause-value : goal.gen_field_array-returns-clause-value
+gen_field_array-returns-clause-value g t c =
+    array_value c.as_slice-v-items.result.now (array_items c.args.a.now) c.loop-v.v-index c.fill_length.result c.loop-v.invariant.items (omega arith) c.loop-v.invariant.values
+
+pub gen_field_array-returns-clause-read_back : goal.gen_field_array-returns-clause-read_back
+gen_field_array-returns-clause-read_back g t c =
+    array_read_back (array_view c.args.a.now) c.fill_length.result (gen_field_array-returns-clause-value g t c) (gen_field_array-returns-clause-written g t c).fits
+
+pub gen_field_table-returns-clause-read_back : goal.gen_field_table-returns-clause-read_back
+gen_field_table-returns-clause-read_back g t c =
+    table_read_back (table_view c.args.t.now) c.fill_length.result (gen_field_table-returns-clause-value g t c) (gen_field_table-returns-clause-written g t c).fits

@@ -1,4 +1,4 @@
--- `o` says of the call of f that it only appended.
+-- `o` shows that the call of f only appended.
 use Rattle.std.proofs.Common.{refl, inl, inr, arith}
 use Rattle.amqp_generation.proofs.Lengths.{refusal_appends, taken_back, put_with_length, too_long, all_back, length_appends, behind}
 use Rattle.amqp_generation.proofs.with_len.gen_with_len.Goals as goal

@@ -16,7 +16,7 @@ use Rattle.amqp_parsing.proofs.Bodies.{Goes-start, Goes-step, Goes-end, Goes-ref
 use Rattle.amqp_parsing.proofs.TableBodies.{Walks-start, Walks-step, Walks-end, Walks-bad_key, Walks-bad_value, key_shorter}
 use Rattle.amqp_parsing.proofs.Frames.{array_found, array_refused, array_too_deep, table_found, table_refused, table_too_deep}
 use Rattle.amqp_grammar.specs.Nesting.{RawOutcomeWithin}
-use Rattle.amqp_parsing.proofs.Plain.{plain_found, unsigned_refuses}
+use Rattle.amqp_parsing.proofs.Plain.{plain_found, plain_arm, unsigned_refuses}
 use Rattle.amqp_parsing.proofs.Payloads.{unsigned_outcome, void_found}
 use Rattle.amqp_parsing.proofs.Typed.{typed_answer}
 use Rattle.amqp_parsing.proofs.Views.{view-Void}
@@ -134,128 +134,72 @@ payload_within-returns-in_ok-i-in-FieldTable g t c =
 pub payload_within-returns-in_ok-i-in-Boolean : goal.payload_within-returns-in_ok-i-in-Boolean
 payload_within-returns-in_ok-i-in-Boolean g t c =
     let a = c.in_ok-i-in-Boolean in
-    let s = g.I.ParsableInput.bytes c.args.i in
-    let v = view (value.Boolean a.b) in
-    let rest = g.I.ParsableInput.bytes a.i in
-    let x : RawOutcome amqp.Boolean s (found v rest) = search (rules, the_lemmas) in
-    rw c.in-Boolean.is (plain_found c.args.depth amqp.Boolean s rest v tt x)
+    plain_arm c.args.depth amqp.Boolean _ (g.I.ParsableInput.bytes c.args.i) (g.I.ParsableInput.bytes a.i) (view (value.Boolean a.b)) c.in-Boolean.is tt (search (rules, the_lemmas))
 
 pub payload_within-returns-in_ok-i-in-ShortShortInt : goal.payload_within-returns-in_ok-i-in-ShortShortInt
 payload_within-returns-in_ok-i-in-ShortShortInt g t c =
     let a = c.in_ok-i-in-ShortShortInt in
-    let s = g.I.ParsableInput.bytes c.args.i in
-    let v = view (value.ShortShortInt (cast_signed w8 (cast_unsigned w8 a.n))) in
-    let rest = g.I.ParsableInput.bytes a.i in
-    let x : RawOutcome amqp.ShortShortInt s (found v rest) = search (rules, the_lemmas) in
-    rw c.in-ShortShortInt.is (plain_found c.args.depth amqp.ShortShortInt s rest v tt x)
+    plain_arm c.args.depth amqp.ShortShortInt _ (g.I.ParsableInput.bytes c.args.i) (g.I.ParsableInput.bytes a.i) (view (value.ShortShortInt (cast_signed w8 (cast_unsigned w8 a.n)))) c.in-ShortShortInt.is tt (search (rules, the_lemmas))
 
 pub payload_within-returns-in_ok-i-in-ShortShortUInt : goal.payload_within-returns-in_ok-i-in-ShortShortUInt
 payload_within-returns-in_ok-i-in-ShortShortUInt g t c =
     let a = c.in_ok-i-in-ShortShortUInt in
-    let s = g.I.ParsableInput.bytes c.args.i in
-    let v = view (value.ShortShortUInt a.n) in
-    let rest = g.I.ParsableInput.bytes a.i in
-    let x : RawOutcome amqp.ShortShortUInt s (found v rest) = search (rules, the_lemmas) in
-    rw c.in-ShortShortUInt.is (plain_found c.args.depth amqp.ShortShortUInt s rest v tt x)
+    plain_arm c.args.depth amqp.ShortShortUInt _ (g.I.ParsableInput.bytes c.args.i) (g.I.ParsableInput.bytes a.i) (view (value.ShortShortUInt a.n)) c.in-ShortShortUInt.is tt (search (rules, the_lemmas))
 
 pub payload_within-returns-in_ok-i-in-ShortInt : goal.payload_within-returns-in_ok-i-in-ShortInt
 payload_within-returns-in_ok-i-in-ShortInt g t c =
     let a = c.in_ok-i-in-ShortInt in
-    let s = g.I.ParsableInput.bytes c.args.i in
-    let v = view (value.ShortInt (cast_signed w16 (cast_unsigned w16 a.n))) in
-    let rest = g.I.ParsableInput.bytes a.i in
-    let x : RawOutcome amqp.ShortInt s (found v rest) = search (rules, the_lemmas) in
-    rw c.in-ShortInt.is (plain_found c.args.depth amqp.ShortInt s rest v tt x)
+    plain_arm c.args.depth amqp.ShortInt _ (g.I.ParsableInput.bytes c.args.i) (g.I.ParsableInput.bytes a.i) (view (value.ShortInt (cast_signed w16 (cast_unsigned w16 a.n)))) c.in-ShortInt.is tt (search (rules, the_lemmas))
 
 pub payload_within-returns-in_ok-i-in-ShortUInt : goal.payload_within-returns-in_ok-i-in-ShortUInt
 payload_within-returns-in_ok-i-in-ShortUInt g t c =
     let a = c.in_ok-i-in-ShortUInt in
-    let s = g.I.ParsableInput.bytes c.args.i in
-    let v = view (value.ShortUInt a.n) in
-    let rest = g.I.ParsableInput.bytes a.i in
-    let x : RawOutcome amqp.ShortUInt s (found v rest) = search (rules, the_lemmas) in
-    rw c.in-ShortUInt.is (plain_found c.args.depth amqp.ShortUInt s rest v tt x)
+    plain_arm c.args.depth amqp.ShortUInt _ (g.I.ParsableInput.bytes c.args.i) (g.I.ParsableInput.bytes a.i) (view (value.ShortUInt a.n)) c.in-ShortUInt.is tt (search (rules, the_lemmas))
 
 pub payload_within-returns-in_ok-i-in-LongInt : goal.payload_within-returns-in_ok-i-in-LongInt
 payload_within-returns-in_ok-i-in-LongInt g t c =
     let a = c.in_ok-i-in-LongInt in
-    let s = g.I.ParsableInput.bytes c.args.i in
-    let v = view (value.LongInt (cast_signed w32 (cast_unsigned w32 a.n))) in
-    let rest = g.I.ParsableInput.bytes a.i in
-    let x : RawOutcome amqp.LongInt s (found v rest) = search (rules, the_lemmas) in
-    rw c.in-LongInt.is (plain_found c.args.depth amqp.LongInt s rest v tt x)
+    plain_arm c.args.depth amqp.LongInt _ (g.I.ParsableInput.bytes c.args.i) (g.I.ParsableInput.bytes a.i) (view (value.LongInt (cast_signed w32 (cast_unsigned w32 a.n)))) c.in-LongInt.is tt (search (rules, the_lemmas))
 
 pub payload_within-returns-in_ok-i-in-LongUInt : goal.payload_within-returns-in_ok-i-in-LongUInt
 payload_within-returns-in_ok-i-in-LongUInt g t c =
     let a = c.in_ok-i-in-LongUInt in
-    let s = g.I.ParsableInput.bytes c.args.i in
-    let v = view (value.LongUInt a.n) in
-    let rest = g.I.ParsableInput.bytes a.i in
-    let x : RawOutcome amqp.LongUInt s (found v rest) = search (rules, the_lemmas) in
-    rw c.in-LongUInt.is (plain_found c.args.depth amqp.LongUInt s rest v tt x)
+    plain_arm c.args.depth amqp.LongUInt _ (g.I.ParsableInput.bytes c.args.i) (g.I.ParsableInput.bytes a.i) (view (value.LongUInt a.n)) c.in-LongUInt.is tt (search (rules, the_lemmas))
 
 pub payload_within-returns-in_ok-i-in-LongLongInt : goal.payload_within-returns-in_ok-i-in-LongLongInt
 payload_within-returns-in_ok-i-in-LongLongInt g t c =
     let a = c.in_ok-i-in-LongLongInt in
-    let s = g.I.ParsableInput.bytes c.args.i in
-    let v = view (value.LongLongInt (cast_signed w64 (cast_unsigned w64 a.n))) in
-    let rest = g.I.ParsableInput.bytes a.i in
-    let x : RawOutcome amqp.LongLongInt s (found v rest) = search (rules, the_lemmas) in
-    rw c.in-LongLongInt.is (plain_found c.args.depth amqp.LongLongInt s rest v tt x)
+    plain_arm c.args.depth amqp.LongLongInt _ (g.I.ParsableInput.bytes c.args.i) (g.I.ParsableInput.bytes a.i) (view (value.LongLongInt (cast_signed w64 (cast_unsigned w64 a.n)))) c.in-LongLongInt.is tt (search (rules, the_lemmas))
 
 pub payload_within-returns-in_ok-i-in-Float : goal.payload_within-returns-in_ok-i-in-Float
 payload_within-returns-in_ok-i-in-Float g t c =
     let a = c.in_ok-i-in-Float in
-    let s = g.I.ParsableInput.bytes c.args.i in
-    let v = view (value.Float a.f) in
-    let rest = g.I.ParsableInput.bytes a.i in
-    let x : RawOutcome amqp.Float s (found v rest) = search (rules, the_lemmas) in
-    rw c.in-Float.is (plain_found c.args.depth amqp.Float s rest v tt x)
+    plain_arm c.args.depth amqp.Float _ (g.I.ParsableInput.bytes c.args.i) (g.I.ParsableInput.bytes a.i) (view (value.Float a.f)) c.in-Float.is tt (search (rules, the_lemmas))
 
 pub payload_within-returns-in_ok-i-in-Double : goal.payload_within-returns-in_ok-i-in-Double
 payload_within-returns-in_ok-i-in-Double g t c =
     let a = c.in_ok-i-in-Double in
-    let s = g.I.ParsableInput.bytes c.args.i in
-    let v = view (value.Double a.f) in
-    let rest = g.I.ParsableInput.bytes a.i in
-    let x : RawOutcome amqp.Double s (found v rest) = search (rules, the_lemmas) in
-    rw c.in-Double.is (plain_found c.args.depth amqp.Double s rest v tt x)
+    plain_arm c.args.depth amqp.Double _ (g.I.ParsableInput.bytes c.args.i) (g.I.ParsableInput.bytes a.i) (view (value.Double a.f)) c.in-Double.is tt (search (rules, the_lemmas))
 
 pub payload_within-returns-in_ok-i-in-DecimalValue : goal.payload_within-returns-in_ok-i-in-DecimalValue
 payload_within-returns-in_ok-i-in-DecimalValue g t c =
     let a = c.in_ok-i-in-DecimalValue in
-    let s = g.I.ParsableInput.bytes c.args.i in
-    let v = view (value.DecimalValue a.d) in
-    let rest = g.I.ParsableInput.bytes a.i in
-    let x : RawOutcome amqp.DecimalValue s (found v rest) = search (rules, the_lemmas) in
-    rw c.in-DecimalValue.is (plain_found c.args.depth amqp.DecimalValue s rest v tt x)
+    plain_arm c.args.depth amqp.DecimalValue _ (g.I.ParsableInput.bytes c.args.i) (g.I.ParsableInput.bytes a.i) (view (value.DecimalValue a.d)) c.in-DecimalValue.is tt (search (rules, the_lemmas))
 
 pub payload_within-returns-in_ok-i-in-LongString : goal.payload_within-returns-in_ok-i-in-LongString
 payload_within-returns-in_ok-i-in-LongString g t c =
     let a = c.in_ok-i-in-LongString in
-    let s = g.I.ParsableInput.bytes c.args.i in
-    let v = view (value.LongString a.s) in
-    let rest = g.I.ParsableInput.bytes a.i in
-    let x : RawOutcome amqp.LongString s (found v rest) = search (rules, the_lemmas) in
-    rw c.in-LongString.is (plain_found c.args.depth amqp.LongString s rest v tt x)
+    plain_arm c.args.depth amqp.LongString _ (g.I.ParsableInput.bytes c.args.i) (g.I.ParsableInput.bytes a.i) (view (value.LongString a.s)) c.in-LongString.is tt (search (rules, the_lemmas))
 
 pub payload_within-returns-in_ok-i-in-Timestamp : goal.payload_within-returns-in_ok-i-in-Timestamp
 payload_within-returns-in_ok-i-in-Timestamp g t c =
     let a = c.in_ok-i-in-Timestamp in
-    let s = g.I.ParsableInput.bytes c.args.i in
-    let v = view (value.Timestamp a.n) in
-    let rest = g.I.ParsableInput.bytes a.i in
-    let x : RawOutcome amqp.Timestamp s (found v rest) = search (rules, the_lemmas) in
-    rw c.in-Timestamp.is (plain_found c.args.depth amqp.Timestamp s rest v tt x)
+    plain_arm c.args.depth amqp.Timestamp _ (g.I.ParsableInput.bytes c.args.i) (g.I.ParsableInput.bytes a.i) (view (value.Timestamp a.n)) c.in-Timestamp.is tt (search (rules, the_lemmas))
 
 pub payload_within-returns-in_ok-i-in-ByteArray : goal.payload_within-returns-in_ok-i-in-ByteArray
 payload_within-returns-in_ok-i-in-ByteArray g t c =
     let a = c.in_ok-i-in-ByteArray in
-    let s = g.I.ParsableInput.bytes c.args.i in
-    let v = view (value.ByteArray a.bytes) in
-    let rest = g.I.ParsableInput.bytes a.i in
-    let x : RawOutcome amqp.ByteArray s (found v rest) = search (rules, the_lemmas) in
-    rw c.in-ByteArray.is (plain_found c.args.depth amqp.ByteArray s rest v tt x)
+    plain_arm c.args.depth amqp.ByteArray _ (g.I.ParsableInput.bytes c.args.i) (g.I.ParsableInput.bytes a.i) (view (value.ByteArray a.bytes)) c.in-ByteArray.is tt (search (rules, the_lemmas))
 
 pub payload_within-returns-in_err-i-in-LongLongUInt : goal.payload_within-returns-in_err-i-in-LongLongUInt
 payload_within-returns-in_err-i-in-LongLongUInt g t c =

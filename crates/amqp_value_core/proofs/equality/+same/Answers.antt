@@ -15,7 +15,7 @@ use Rattle.amqp_value_core.proofs.equality.+same.Goals.{same_pairs-then-ne-via-t
 abbrev Pairs : Type 0
 Pairs = List (List ℕ × AMQPValue)
 
--- where the shorter of two lists ended, what is left is the same exactly where both ended
+-- if the shorter of two lists ended, what is left is the same exactly when both ended
 ends : (m n : ℕ) (a b : List AMQPValue) → length a ≡ m - min m n → length b ≡ n - min m n → nat_eq m n ≡ same_trees (trees a) (trees b)
 ends m n [] [] p q = let e : m ≡ n = omega arith in grind (arith, nat_tests)
 ends m n [] (y ∷ b) p q = grind (arith, nat_tests)
@@ -33,7 +33,7 @@ same_items-returns t c =
 view-FieldTable : (t : FieldTable) → view (value.FieldTable t) ≡ table (table_view t)
 view-FieldTable t = search (rules, the_lemmas)
 
--- two tables are the same values where their entries are
+-- two tables are the same values if their entries are
 of_tables : (r : Bool) (x y : AMQPValue) (a b : FieldTable) (es fs : Pairs) → x ≡ value.FieldTable a → y ≡ value.FieldTable b → es ≡ table_entries a → fs ≡ table_entries b → r ≡ same_entries (entries es) (entries fs) → r ≡ same_tree (view x) (view y)
 of_tables r x y a b es fs p q d e h = rw (p, q, view-FieldTable a, view-FieldTable b, ← d, ← e) h
 
@@ -50,7 +50,7 @@ turn k j v u es fs xs ys b p q h = sym (ap (λ (zs : Pairs). same_entries (entri
 fewer : (e f : List ℕ × AMQPValue) (es fs xs ys : Pairs) (m n : ℕ) → xs ≡ e ∷ es → ys ≡ f ∷ fs → length xs + n ≡ length ys + m → length es + n ≡ length fs + m
 fewer e f es fs xs ys m n p q h = omega (arith, ap length p, ap length q)
 
--- where one map has no entry left, the maps are the same exactly where both have none
+-- if one map has no entry left, the maps are the same exactly when neither has
 left : (m n : ℕ) (xs ys : Pairs) (b : Bool) → (xs ≡ []) ⊎ (ys ≡ []) → length xs + n ≡ length ys + m → same_entries (entries xs) (entries ys) ≡ b → nat_eq m n ≡ b
 left m n [] [] b d e h = let is : m ≡ n = omega arith in grind (arith, nat_tests)
 left m n [] (y ∷ ys) b d e h = grind (arith, nat_tests)
@@ -58,7 +58,7 @@ left m n (x ∷ xs) [] b d e h = grind (arith, nat_tests)
 left m n (x ∷ xs) (y ∷ ys) b (inl e) f h = cc
 left m n (x ∷ xs) (y ∷ ys) b (inr e) f h = cc
 
--- the walk over two maps ends where one has no entry left
+-- the iteration over two maps ends if one has no entry left
 one_ended : (xs ys : Pairs) → ((zs : Pairs) × ((xs ≡ []) × (zs ≡ []))) ⊎ ((zs : Pairs) × ((ys ≡ []) × (zs ≡ []))) → (xs ≡ []) ⊎ (ys ≡ [])
 one_ended xs ys (inl w) = inl w.1.0
 one_ended xs ys (inr w) = inr w.1.0

@@ -28,7 +28,7 @@ copy_entries-loop-key-preserved t c =
       c.in_ok-place.ensures.ok ∙ rw (c.in_ok-name.ensures.same, c.in_ok-copy.ensures.same, l.invariant.2) last,
     )
 
--- what is kept with no memory is no array with values, and no table with entries
+-- what is stored without an allocation is no array with values, and no table with entries
 pub copy-returns-in_err-copy_items-in-FieldArray-clause-light : goal.copy-returns-in_err-copy_items-in-FieldArray-clause-light
 copy-returns-in_err-copy_items-in-FieldArray-clause-light t c = λ light.
     let none = c.as_slice.ensures ∙ no_items_in c.args.value.now c.in-FieldArray.a c.in-FieldArray.is light in

@@ -61,7 +61,7 @@ module _ {M : Type 1} (𝓤 : Ura M) (𝓛 : Logic 𝓤) (𝓜 : Model 𝓤 𝓛
     abbrev Owes : (s : Res f.signature y.0.0) → Lasts f.ended y.0.0 y.0.3 → SProp 𝓤
     Owes s ws = (c y.0.0 y.0.3).ensures tt s (at_exit f.ended y.0.0 y.0.3 ws)
 
-    -- what is owed of the table is what is given of it in its struct
+    -- what must hold of the table follows from what holds of it in its struct
     cases : (x : Res g.signature y.0.0) (ws : Lasts f.ended y.0.0 y.0.3) → ent 𝓤 (Gives x ws) (Owes (bare_of x) ws)
     cases (Ok x) ws = id⊢ 𝓤 (Gives (Ok x) ws)
     cases (Err e) ws = id⊢ 𝓤 (Gives (Err e) ws)
@@ -87,7 +87,7 @@ module _ {M : Type 1} (𝓤 : Ura M) (𝓛 : Logic 𝓤) (𝓜 : Model 𝓤 𝓛
         use1 𝓛 (later (some (λ (x : Res g.signature y.0.0). (raw (alive 𝓛 g.signature y.0.0 y.0.1) ⊛ ‵ ((type_at g.signature.result y.0.0).own_val x (lent ∷ [])))
         ⊛ some (λ (ws : Lasts g.ended y.0.0 y.0.3). ‵ (lasts g.ended y.0.0 y.0.3 ws) ⊛ raw (Gives x ws))))) (id⊢ 𝓤 _) $
         await ! tt $ pick ! (λ x. split ! $ split ! $ move ! (2 ∷ []) $ pick ! (λ ws. split ! $ drop ! $ move ! (2 ∷ []) $
-        -- [what was lent; what is said of it; the token]
+        -- [what was lent; what holds of it; the token]
         peeks ! (type_at g.signature.result y.0.0) (lend_kinds.r.is.Is y.0.0) ((lend_kinds.r.laws M 𝓤 𝓛).seen y.0.0) x (lent ∷ []) (λ is.
         lands_as ! refl refl ((lend_kinds.r.laws M 𝓤 𝓛).typed y.0.0 x lent is [] (spot_of 𝓤 𝓛.H (env code.function.locals l) 4).0 refl) $
         let b : B.Ghost = ((y.0.0, y.0.1, y.0.2, (x, tt), (lent ∷ [], tt)), tt) in
@@ -99,7 +99,7 @@ module _ {M : Type 1} (𝓤 : Ura M) (𝓛 : Logic 𝓤) (𝓜 : Model 𝓤 𝓛
         await ! tt $ pick ! (λ s. split ! $ split ! $ move ! (2 ∷ []) $ pick ! (λ us. split ! $ drop ! $ heard ! _ (λ same. move ! (1 ∷ []) $
         peeks ! (type_at h.signature.result y.0.0) (bare_kinds.r.is.Is y.0.0) ((bare_kinds.r.laws M 𝓤 𝓛).seen y.0.0) s (out ∷ []) (λ is_bare.
         lands_as ! refl refl ((bare_kinds.r.laws M 𝓤 𝓛).typed y.0.0 s out is_bare [] (spot_of 𝓤 𝓛.H (env code.function.locals l) 0).0 refl) $
-        -- [the table; the token; what is said of it in its struct]
+        -- [the table; the token; what holds of it in its struct]
         returns ! (look_at ! 0 refl) $ free_all ! refl $
         move ! (2 ∷ []) $ use1 𝓛 (raw (Owes s ws)) (told x s ws same) $ move ! (2 ∷ 1 ∷ 0 ∷ []) $
         suffices ! _ (leaves 𝓛 f.ended stayed c (At vss) out s ws (tt, (tt, (tt, tt)))) $

@@ -1,0 +1,23 @@
+use Rattle.std.proofs.Common.{refl, arith}
+use Rattle.amqp_types.specs.declared.amqp_type.AMQPType.TheVariants as amqp
+use Rattle.amqp_grammar.specs.Values.{table}
+use Rattle.amqp_value_core.specs.Containers.{table_view}
+use Rattle.amqp_parsing.specs.Untagged.{tagged}
+use Rattle.amqp_parsing.proofs.Again.{read_answer}
+use Rattle.amqp_parsing.proofs.Appends.{laws_within}
+use Rattle.amqp_parsing.proofs.Untagged.{payload_within, reads_payloads_back}
+use Rattle.amqp_parsing.proofs.within.parse_field_table_within.Goals as goal
+
+pub returns-clause-payload : goal.returns-clause-payload
+returns-clause-payload g c = payload_within c.args.limits amqp.FieldTable refl (g.I.ParsableInput.bytes c.args.i)
+
+pub returns-clause-read_back : goal.returns-clause-read_back
+returns-clause-read_back g c = reads_payloads_back c.args.limits amqp.FieldTable
+
+pub returns-clause-laws : goal.returns-clause-laws
+returns-clause-laws g c = laws_within c.args.limits (tagged amqp.FieldTable (g.I.ParsableInput.bytes c.args.i)) (omega arith, c.read_table_within.ensures.bytes)
+
+pub returns-clause-value : goal.returns-clause-value
+returns-clause-value g c =
+    read_answer g.I.ParsableInput.bytes (λ x. table (table_view x)) c.args.limits (tagged amqp.FieldTable (g.I.ParsableInput.bytes c.args.i)) c.read_table_within.result c.read_table_within.ensures.within
+    (omega arith, c.read_table_within.ensures.bytes)

@@ -1,0 +1,38 @@
+-- Arrays and tables without their type tag, as AMQP's methods and content headers have tables.
+use Rattle.std.specs.Prelude.{ℕ, ◌<◌, ◌≤◌, ◌≡◌, ◌↔◌, IsTrue, List, ◌∷◌, ◌++◌}
+use Rattle.amqp_types.specs.declared.amqp_type.AMQPType.{AMQPType}
+use Rattle.amqp_types.specs.Ids.{id_of}
+use Rattle.amqp_grammar.specs.Values.{Tree, type_of, readable, depth}
+use Rattle.amqp_grammar.specs.Nesting.{RawOutcomeWithin}
+use Rattle.amqp_grammar.specs.Outcomes.{Reading, found}
+use Rattle.amqp_grammar.specs.Texts.{payload, size, Fits}
+use Rattle.amqp_grammar.specs.InMemory.{IsValue}
+use Rattle.amqp_parsing.specs.declared.limits.Limits.{Limits}
+use Rattle.amqp_parsing.specs.Refusals.{Refusal}
+use Rattle.amqp_parsing.specs.Headers.{raw_extent}
+use Rattle.amqp_parsing.specs.Limits.{Within, RefusesWithin}
+
+-- the bytes after the type tag that is written for the type
+abbrev pub tagged : AMQPType → List ℕ → List ℕ
+tagged type s = id_of type ∷ s
+
+-- reading a payload of the type from s within limits results in o, as reading the value after its
+-- type tag does: `frame` counts the tag too, and `depth` the container itself
+abbrev pub UntaggedWithin : Limits → AMQPType → List ℕ → Reading → Type 0
+UntaggedWithin l type s o = Within l (tagged type s) o
+
+-- an error of it is right
+abbrev pub RefusesUntagged : Limits → AMQPType → List ℕ → Refusal → Type 0
+RefusesUntagged l type s e = RefusesWithin l (tagged type s) e
+
+-- that is what reading the payload results in, if it has fewer bytes than `frame`, by what has come
+-- of it, and containers nest within the depth
+abbrev pub IsPayloadWithin : Limits → AMQPType → List ℕ → Type 0
+IsPayloadWithin l type s = (o : Reading) → UntaggedWithin l type s o ↔ ((raw_extent type s < l.frame) × RawOutcomeWithin l.depth type s o)
+
+-- the payload that is written of a value of the type, which can be read and keeps the limits, is
+-- read as it, whatever follows
+abbrev pub ReadsPayloadsBack : Limits → AMQPType → Type 0
+ReadsPayloadsBack l type =
+    (v : Tree) (t : List ℕ) → type_of v ≡ type → IsValue v → Fits v → IsTrue (readable v) → depth v ≤ l.depth → size v ≤ l.frame
+    → UntaggedWithin l type (payload v ++ t) (found v t)
