@@ -1,4 +1,4 @@
--- What the calls from C answer: a number of bytes, or a negative number.
+-- What the calls from C return: a number of bytes, or a negative number.
 use Rattle.std.specs.Prelude.{ℕ, ◌≡◌, ◌+◌, ◌<◌, ◌≤◌, ◌⊎◌, ℤ, pos, negsuc, Bool, false, if◌then◌else◌, List, length, Result, Ok, Err, MatchResult}
 use Rattle.amqp_grammar.specs.Values.{Tree, table}
 use Rattle.amqp_grammar.specs.Maps.{has_key}
@@ -15,7 +15,7 @@ code_of OutOfMemory = negsuc 2
 code_of TooSmall = negsuc 3
 
 -- why no number of bytes is returned for s: more bytes are needed, s is rejected, an allocation
--- failed where the value takes memory, or there is no room
+-- failed if the value allocates, or the buffer is too small
 abbrev pub IsFault : List ℕ → Type 0 → Fault → Type 0
 IsFault s no_room Incomplete = (n : ℕ) × Outcome s (more n)
 IsFault s no_room Refused = Outcome s unknown ⊎ Outcome s malformed
@@ -27,7 +27,7 @@ abbrev pub answer_of : Result ℕ Fault → ℤ
 answer_of (Ok n) = pos n
 answer_of (Err f) = code_of f
 
--- an answer for s: it denotes a number of bytes that is right, or a fault that is
+-- a result for s: it denotes a number of bytes that is right, or a fault that is
 abbrev pub Answers : List ℕ → (ℕ → Type 0) → Type 0 → ℤ → Type 0
 Answers s IsRight no_room z = (done : Result ℕ Fault) × (z ≡ answer_of done) × MatchResult done IsRight (IsFault s no_room)
 
@@ -48,8 +48,8 @@ is_keyed key _ = false
 abbrev pub IsLookedUp : List ℕ → List ℕ → ℕ → Type 0
 IsLookedUp key s n = (v : Tree) × (taken : ℕ) × IsRead s taken v × (n ≡ if is_keyed key v then 0 else taken)
 
--- a value is read from s and written that many times to room for that many bytes: n is 0 where that
--- is no time, and else the length of its canonical encoding, and no more than there is room
+-- a value is read from s and written that many times to a buffer of that many bytes: n is 0 if zero
+-- times, and else the length of its canonical encoding, and no more than the buffer holds
 abbrev pub IsWritten : ℕ → List ℕ → ℕ → ℕ → Type 0
 IsWritten times s room n =
     (v : Tree) × (rest : List ℕ) × Outcome s (found v rest) × (times ≡ 0 → n ≡ 0) × (0 < times → n ≡ length (text v)) × (n ≤ room)
@@ -58,6 +58,6 @@ IsWritten times s room n =
 abbrev pub HasNoRoom : List ℕ → ℕ → Type 0
 HasNoRoom s n = (v : Tree) × (rest : List ℕ) × Outcome s (found v rest) × (n < length (text v))
 
--- n bytes are no room for the canonical encoding of v, and the fault says so
+-- n bytes are too few for the canonical encoding of v, and the fault reports it
 abbrev pub IsTooSmall : ℕ → Tree → Fault → Type 0
 IsTooSmall n v f = (f ≡ TooSmall) × (n < length (text v))

@@ -61,7 +61,7 @@ pub fn scan(bytes: &[u8]) -> Result<usize, Fault>
     Ok(taken)
 }
 
-/// Reads a value in place, and returns how many bytes it took, or 0 where it is a table
+/// Reads a value in place, and returns how many bytes it took, or 0 if it is a table
 /// with a value at the key.
 pub fn find(bytes: &[u8], key: &str) -> Result<usize, Fault>
     ensures taken { MatchResult result (IsLookedUp key.now bytes.now) (IsFault bytes.now ⊥) }
@@ -98,8 +98,8 @@ fn read_in_place(bytes: &[u8]) -> Result<(usize, ValueRef<'_>), Fault>
     }
 }
 
-/// Writes a value `times` times, and returns how many bytes were written the last time, 0 where it
-/// is written no time.
+/// Writes a value `times` times, and returns how many bytes were written the last time, 0 if it
+/// is written zero times.
 fn write_often(value: &AMQPValue, out: &mut [u8], times: u64) -> Result<usize, Fault>
     requires { Fits (view value.now) }
     ensures none { IfOk result (λ n. times ≡ 0 → n ≡ 0) }

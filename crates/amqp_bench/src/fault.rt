@@ -12,7 +12,7 @@ pub enum Fault {
     Refused,
     /// An allocation failed.
     OutOfMemory,
-    /// The value's canonical encoding doesn't fit the room.
+    /// The value's canonical encoding doesn't fit the buffer.
     TooSmall,
 }
 

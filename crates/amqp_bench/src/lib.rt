@@ -1,7 +1,7 @@
 //! The codec as a C library: what goes in and out are bytes and numbers.
 //!
-//! Each call returns a number of bytes, or -1 where more bytes are needed, -2 where the bytes begin
-//! with no value, -3 where an allocation failed, and -4 where the canonical encoding of the value
+//! Each call returns a number of bytes, or -1 if more bytes are needed, -2 if the bytes begin
+//! with no value, -3 if an allocation failed, and -4 if the canonical encoding of the value
 //! doesn't fit. It is for benchmarks: nothing of a value is returned.
 #![tactic(auto)]
 
@@ -35,7 +35,7 @@ pub extern "C" fn amqp_bench_scan(bytes: &[u8]) -> i64
 }
 
 /// Reads a value in place, looks the key `-` up in it, and returns how many bytes it
-/// took, or 0 where it is a table with a value at that key.
+/// took, or 0 if it is a table with a value at that key.
 #[unsafe(no_mangle)]
 pub extern "C" fn amqp_bench_find(bytes: &[u8]) -> i64
     ensures { Answers bytes.now (IsLookedUp (codes "-") bytes.now) ⊥ result }
@@ -53,7 +53,7 @@ pub extern "C" fn amqp_bench_roundtrip(alloc: Global, bytes: &[u8], out: &mut [u
 }
 
 /// Reads a value from the start of `bytes`, writes it `times` times from the start of `out`, and
-/// returns how many bytes were written the last time, 0 where it is written no time.
+/// returns how many bytes were written the last time, 0 if it is written zero times.
 #[unsafe(no_mangle)]
 pub extern "C" fn amqp_bench_encode_n(
     alloc: Global,

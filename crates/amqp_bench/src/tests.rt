@@ -14,9 +14,9 @@ fn takes_no_value(rt: HostRuntime) {
     assert_eq!(rt; amqp_bench_decode(rt.alloc(), &[b'z']), -2);
 }
 
-/// No contract says that the caller's room then holds the bytes of the value: this shows it.
+/// No contract states that the caller's buffer then holds the bytes of the value: this shows it.
 #[test]
-fn writes_to_the_room(rt: HostRuntime) {
+fn writes_to_the_buffer(rt: HostRuntime) {
     let mut room = [9; 4];
     assert_eq!(rt; amqp_bench_roundtrip(rt.alloc(), &[b't', 7], &mut room), 2);
     assert_eq!(rt; room, [b't', 1, 9, 9]);
@@ -26,7 +26,7 @@ fn writes_to_the_room(rt: HostRuntime) {
     );
 }
 
-/// No contract says that the caller's room stays as it was where nothing is written: this shows it.
+/// No contract states that the caller's buffer is unchanged if nothing is written: this shows it.
 #[test]
 fn writes_often(rt: HostRuntime) {
     let mut room = [9; 4];

@@ -1,4 +1,4 @@
--- Bytes that are a text, and hexadecimal digits.
+-- Bytes that are UTF-8, and hexadecimal digits.
 use Rattle.std.proofs.Common.{◌≡◌, ℕ, List, Bool, true, false, Some, refl, rules}
 use Rattle.std.specs.Str.{IsUtf8, is_utf8}
 use Rattle.std.proofs.lemmas.Str.{IsUtf8-from_is_utf8, is_utf8-from_IsUtf8}
@@ -13,7 +13,7 @@ use Rattle.amqp_grammar.specs.Values.{long}
 use Rattle.amqp_json.specs.Reading.{bytes_in, value_under, value_of}
 use Rattle.amqp_json.specs.Json.{under, long_json, hexadecimal}
 
--- a long string that is a text is that text
+-- a long string that is UTF-8 is that string
 pub text_is_plain : (s : List ℕ) → IsUtf8 s → long_json s ≡ string s
 text_is_plain s h = rw (is_utf8-from_IsUtf8 s h)
 
@@ -31,11 +31,11 @@ bytes_are_named s h = rw (not_utf8 s h)
 pub utf8 : (s : List ℕ) → IsUtf8 s → is_utf8 s ≡ true
 utf8 s h = is_utf8-from_IsUtf8 s h
 
--- a text is read as a long string
+-- a string is read as a long string
 pub text_is_read : (s : List ℕ) → IsUtf8 s → value_of (string s) ≡ Some (long s)
 text_is_read s h = rw (is_utf8-from_IsUtf8 s h)
 
--- bytes that are no text are read under the type's name
+-- bytes that aren't UTF-8 are read under the type's name
 pub long_is_read : (d : Data) (b : List ℕ) → bytes_in d ≡ Some b → (IsUtf8 b → ⊥) → value_under amqp.LongString d ≡ Some (long b)
 long_is_read d b e h = rw (e, not_utf8 b h)
 

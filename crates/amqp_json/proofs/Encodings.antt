@@ -13,7 +13,7 @@ use Rattle.amqp_parsing.specs.Refusals.{Refusal}
 use Rattle.amqp_parsing.specs.ParseResults.{Refuses}
 use Rattle.amqp_json.specs.Converts.{IsReadAs}
 
--- what reading a text results in, whatever follows
+-- what reading a canonical encoding results in, whatever follows
 abbrev Back : Tree → Type 0
 Back v = (rest : List ℕ) → Outcome (text v ++ rest) (read_back v rest)
 
@@ -29,7 +29,7 @@ found_readable : (b : Bool) (v u : Tree) (rest : List ℕ) → cond b (found v [
 found_readable true v u rest e = refl
 found_readable false v u rest e = absurd (no_value v u rest e)
 
--- nothing but a value is read from the text of a readable one
+-- nothing but a value is read from the canonical encoding of a readable one
 is_found : (b : Bool) (v : Tree) (o : Reading) → b ≡ true → cond b (found v []) (unread v) ≡ o → found v [] ≡ o
 is_found true v o t e = e
 is_found false v o t e = absurd (cc t)
@@ -37,7 +37,7 @@ is_found false v o t e = absurd (cc t)
 here : (v : Tree) → Back v → Outcome (text v) (read_back v [])
 here v back = subst (λ s. Outcome s (read_back v [])) (append-nil (text v)) (back [])
 
--- where a value is read from the text of v, v is read from it, whatever follows
+-- if a value is read from v's canonical encoding, v is read from it, whatever follows
 pub again : (v u : Tree) (rest : List ℕ) → Back v → Outcome (text v) (found u rest) → IsReadAs (text v) v
 again v u rest back o =
     let same = one_outcome (text v) (read_back v []) (found u rest) (here v back) o in
@@ -50,7 +50,7 @@ refused v o true is back at other =
     let same = one_outcome (text v) (read_back v []) o (here v back) at in
     absurd (other (sym (is_found (readable v) v o is same)))
 
--- where no value is read from the text of v, v isn't readable
+-- if no value is read from v's canonical encoding, v isn't readable
 pub not_again : (v : Tree) (e : Refusal) → Back v → Refuses (Outcome (text v)) ⊥ e → readable v ≡ false
 not_again v (Incomplete Unknown) back h = absurd h
 not_again v (Incomplete (Size n)) back h = refused v (more n) (readable v) refl back h (λ e. absurd (cc e))

@@ -28,7 +28,7 @@ use Rattle.amqp_json.specs.Names.{types, type_named}
 use Rattle.amqp_json.specs.Json.{under, natural, integer, hexadecimal, sole_type, table_json, long_json, json, items_json, members_json}
 use Rattle.amqp_json.specs.Reading.{is_capital, text_without_capitals, long_long, is_natural_as_negative, plain_in, decimal_in, bytes_in, sized_in, long_of, value_under, value_named, value_in, ambiguous_in, ambiguous_table, first_ambiguous, value_of, values_of, entries_of}
 
--- ---- what a `Some` says
+-- ---- what a `Some` means
 
 some_map : {A B : Type 0} (f : A → B) (o : Option A) (y : B) → option_map f o ≡ Some y → (x : A) × (o ≡ Some x) × (f x ≡ y)
 some_map f None y h = absurd (cc h)
@@ -76,30 +76,15 @@ signed_is half (number (negative (negsuc n))) z held h =
     let c = if_some (is_within half (negsuc n)) (Some (negsuc n)) z h in
     let e = inside (negsuc n) z c.1 in
     (ap (λ y. number (of_integer y)) (sym e), subst (λ y. is_within half y ≡ true) e c.0)
-signed_is half (number (float x)) z held h = absurd (cc h)
-signed_is half null z held h = absurd (cc h)
-signed_is half (boolean b) z held h = absurd (cc h)
-signed_is half (string s) z held h = absurd (cc h)
-signed_is half (array ds) z held h = absurd (cc h)
-signed_is half (object ms) z held h = absurd (cc h)
+signed_is half _ z held h = absurd (cc h)
 
 below_is : (limit : ℕ) (d : Data) (n : ℕ) → unsigned_below limit d ≡ Some n → natural n ≡ d
 below_is limit (number (unsigned m)) n h = ap natural (sym (inside m n (if_some (nat_lt m limit) (Some m) n h).1))
-below_is limit (number (negative z)) n h = absurd (cc h)
-below_is limit (number (float x)) n h = absurd (cc h)
-below_is limit null n h = absurd (cc h)
-below_is limit (boolean b) n h = absurd (cc h)
-below_is limit (string s) n h = absurd (cc h)
-below_is limit (array ds) n h = absurd (cc h)
-below_is limit (object ms) n h = absurd (cc h)
+below_is limit _ n h = absurd (cc h)
 
 text_is : (d : Data) (s : List ℕ) → as_str d ≡ Some s → string s ≡ d
 text_is (string t) s h = ap string (sym (inside t s h))
-text_is (number x) s h = absurd (cc h)
-text_is null s h = absurd (cc h)
-text_is (boolean b) s h = absurd (cc h)
-text_is (array ds) s h = absurd (cc h)
-text_is (object ms) s h = absurd (cc h)
+text_is _ s h = absurd (cc h)
 
 -- a number with no type's name
 long_long_is : (x : Num) (t : Tree) → long_long x ≡ Some t → json t ≡ number x
@@ -110,18 +95,11 @@ long_long_is (unsigned n) t h =
 long_long_is (negative (negsuc n)) t h =
     let c = if_some (nat_lt n (2 ^ 63)) (Some (scalar (values.number amqp.LongLongInt (cast_unsigned w64 (negsuc n))))) t h in
     ap json (sym (inside _ t c.1)) ∙ ap (λ z. number (of_integer z)) (from_its_bits w64 (negsuc n) c.0)
-long_long_is (negative (pos n)) t h = absurd (cc h)
-long_long_is (float x) t h = absurd (cc h)
+long_long_is _ t h = absurd (cc h)
 
 unsigned_is : (d : Data) (n : ℕ) → core.unsigned d ≡ Some n → natural n ≡ d
 unsigned_is (number (unsigned m)) n h = ap natural (sym (inside m n h))
-unsigned_is (number (negative z)) n h = absurd (cc h)
-unsigned_is (number (float x)) n h = absurd (cc h)
-unsigned_is null n h = absurd (cc h)
-unsigned_is (boolean b) n h = absurd (cc h)
-unsigned_is (string s) n h = absurd (cc h)
-unsigned_is (array ds) n h = absurd (cc h)
-unsigned_is (object ms) n h = absurd (cc h)
+unsigned_is _ n h = absurd (cc h)
 
 -- an integer under the name of a type: `how` it is read, and its JSON
 signed_under : (type : AMQPType) (w : Width) (d : Data) (t : Tree) → core.json d type ≡ option_map (λ z. scalar (values.number type (cast_unsigned w z))) (signed_within (2 ^ hbits w) d)
@@ -283,14 +261,7 @@ is_decimal (object (member a x (member b y no_members))) t h =
     ∙ ap (λ u. under amqp.DecimalValue (object (member (codes "scale") x (member (codes "value") u no_members)))) (below_is (2 ^ 32) y n.0 n.1)
     ∙ ap (λ u. under amqp.DecimalValue (object (member u x (member (codes "value") y no_members)))) (sym k)
     ∙ ap (λ u. under amqp.DecimalValue (object (member a x (member u y no_members)))) (sym j)
-is_decimal (object no_members) t h = absurd (cc h)
-is_decimal (object (member a x no_members)) t h = absurd (cc h)
-is_decimal (object (member a x (member b y (member c z ms)))) t h = absurd (cc h)
-is_decimal null t h = absurd (cc h)
-is_decimal (boolean b) t h = absurd (cc h)
-is_decimal (number n) t h = absurd (cc h)
-is_decimal (string s) t h = absurd (cc h)
-is_decimal (array ds) t h = absurd (cc h)
+is_decimal _ t h = absurd (cc h)
 
 is_under : (type : AMQPType) (d : Data) (t : Tree) → value_under type d ≡ Some t → json t ≡ under type d
 is_under amqp.ShortShortInt d t h = signed_under amqp.ShortShortInt w8 d t refl (λ n. refl) h
@@ -306,39 +277,17 @@ is_under amqp.Double d t h = is_Double d t h
 is_under amqp.DecimalValue d t h = is_decimal d t h
 is_under amqp.LongString d t h = is_LongString d t h
 is_under amqp.ByteArray d t h = is_ByteArray d t h
-is_under amqp.Boolean d t h = absurd (cc h)
-is_under amqp.LongLongInt d t h = absurd (cc h)
-is_under amqp.LongLongUInt d t h = absurd (cc h)
-is_under amqp.FieldArray d t h = absurd (cc h)
-is_under amqp.FieldTable d t h = absurd (cc h)
-is_under amqp.Void d t h = absurd (cc h)
+is_under _ d t h = absurd (cc h)
 
 -- ---- values
 
--- what is under a type's name, where an object that is a table is that table's
+-- what is under a type's name, if an object that is a table is that table's
 abbrev Ambiguous : Data → Type 0
 Ambiguous d = (t : Tree) → ambiguous_table d ≡ Some t → json t ≡ under amqp.FieldTable d
 
 is_named : (type : AMQPType) (d : Data) (t : Tree) → Ambiguous d → value_named type d (ambiguous_table d) ≡ Some t → json t ≡ under type d
 is_named amqp.FieldTable d t inner h = inner t h
-is_named amqp.ShortShortInt d t inner h = is_under amqp.ShortShortInt d t h
-is_named amqp.ShortShortUInt d t inner h = is_under amqp.ShortShortUInt d t h
-is_named amqp.ShortInt d t inner h = is_under amqp.ShortInt d t h
-is_named amqp.ShortUInt d t inner h = is_under amqp.ShortUInt d t h
-is_named amqp.LongInt d t inner h = is_under amqp.LongInt d t h
-is_named amqp.LongUInt d t inner h = is_under amqp.LongUInt d t h
-is_named amqp.Timestamp d t inner h = is_under amqp.Timestamp d t h
-is_named amqp.ShortString d t inner h = is_under amqp.ShortString d t h
-is_named amqp.Float d t inner h = is_under amqp.Float d t h
-is_named amqp.Double d t inner h = is_under amqp.Double d t h
-is_named amqp.DecimalValue d t inner h = is_under amqp.DecimalValue d t h
-is_named amqp.LongString d t inner h = is_under amqp.LongString d t h
-is_named amqp.ByteArray d t inner h = is_under amqp.ByteArray d t h
-is_named amqp.Boolean d t inner h = absurd (cc h)
-is_named amqp.LongLongInt d t inner h = absurd (cc h)
-is_named amqp.LongLongUInt d t inner h = absurd (cc h)
-is_named amqp.FieldArray d t inner h = absurd (cc h)
-is_named amqp.Void d t inner h = absurd (cc h)
+is_named type d t inner h = is_under type d t h
 
 -- a table that no type's name is taken for, and one that is
 plain_table : (ms : Members) (es : Option Entries) (t : Tree) → sole_type ms ≡ None → ((fs : Entries) → es ≡ Some fs → members_json fs ≡ ms) → option_map table es ≡ Some t → json t ≡ object ms
@@ -357,8 +306,7 @@ in_object : (ms : Members) (o : Option AMQPType) (t : Tree) → sole_type ms ≡
 in_object ms None t o later inner h = plain_table ms (entries_of ms) t o later h
 in_object (member k d no_members) (Some type) t o later inner h =
     is_named type d t (inner k d no_members refl) h ∙ ap (λ j. object (member j d no_members)) (sym (is_name k type o))
-in_object no_members (Some type) t o later inner h = absurd (cc h)
-in_object (member k d (member j e ms)) (Some type) t o later inner h = absurd (cc h)
+in_object _ (Some type) t o later inner h = absurd (cc h)
 
 mutual
   -- what is read as a value is its JSON
@@ -381,11 +329,7 @@ mutual
 
   only_ambiguous : (d : Data) → Ambiguous d
   only_ambiguous (object ms) t h = named_table ms (entries_of ms) t _ refl (only_members ms) h
-  only_ambiguous null t h = absurd (cc h)
-  only_ambiguous (boolean b) t h = absurd (cc h)
-  only_ambiguous (number x) t h = absurd (cc h)
-  only_ambiguous (string s) t h = absurd (cc h)
-  only_ambiguous (array ds) t h = absurd (cc h)
+  only_ambiguous _ t h = absurd (cc h)
 
   only_items : (ds : Items) (ts : Trees) → values_of ds ≡ Some ts → items_json ts ≡ ds
   only_items no_items ts h = ap items_json (sym (inside no_trees ts h))

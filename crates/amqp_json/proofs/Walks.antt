@@ -1,4 +1,4 @@
--- Walks over values and entries: what was taken so far, and one more.
+-- Iterating over values and entries: what was taken so far, and one more.
 use Rattle.std.proofs.Common.{◌≡◌, ℕ, ◌<◌, List, [], ◌∷◌, ◌++◌, ◌+◌, length, take, get_or, Less, Greater, refl, sym, ap, ◌∙◌, subst, rules}
 use Rattle.std.proofs.lemmas.List.{take_more}
 use Rattle.std.proofs.lemmas.Cmp.{nat_list_cmp_total}

@@ -33,27 +33,27 @@ IsEncodingOf t bytes = (v : Tree) × IsMeant t v × (bytes ≡ text v)
 abbrev pub IsReadAs : List ℕ → Tree → Type 0
 IsReadAs bytes v = (rest : List ℕ) → Outcome (bytes ++ rest) (found v rest)
 
--- an error says why a value has no encoding that is read as it
+-- an error reports why a value has no encoding that is read as it
 abbrev pub HasNoEncoding : Tree → EncodeError → Type 0
 HasNoEncoding v encode.NoTypeTag = readable v ≡ false
 HasNoEncoding v encode.TooLong = Fits v → ⊥
 HasNoEncoding v encode.OutOfMemory = Unit {0}
 HasNoEncoding v (encode.Json e) = ⊥
 
--- an error says why a text has no encoding: no value is meant, or the one that is has none
+-- an error reports why a text has no encoding: no value is meant, or the one that is has none
 abbrev pub IsRefused : List ℕ → EncodeError → Type 0
 IsRefused t (encode.Json e) = Tells e (read t)
 IsRefused t encode.OutOfMemory = Unit {0}
 IsRefused t e = (v : Tree) × IsMeant t v × HasNoEncoding v e
 
 -- a text is the JSON text of the value at the start of s, as reading within the limits has it, with
--- `rest` after it; where the JSON doesn't nest deeper than texts are read, the text means the value
+-- `rest` after it; if the JSON doesn't nest deeper than texts are read, the text means the value
 abbrev pub IsJsonOf : Limits → List ℕ → List ℕ → List ℕ → Type 0
 IsJsonOf l s t rest =
     (v : Tree) × Within l s (found v rest) × (t ≡ compact_text (json v)) × (depth (json v) ≤ max_depth → Means t v)
 
--- an error says why no text is made of the value at the start of s: it isn't read; or memory ran
--- out, where all of its bytes are there, and no more than the limit `frame` allows
+-- an error reports why no text is made of the value at the start of s: it isn't read; or memory ran
+-- out, if all of its bytes are there, and no more than the limit `frame` allows
 abbrev pub IsNotRead : Limits → List ℕ → DecodeError → Type 0
 IsNotRead l s (decode.Refused e) = RefusesWithin l s e
 IsNotRead l s decode.OutOfMemory = (extent s ≤ l.frame) × IsWhole s

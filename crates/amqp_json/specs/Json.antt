@@ -1,4 +1,4 @@
--- The JSON of a value: plain where that tells the type, and else under the type's name.
+-- The JSON of a value: plain if that determines the type, and else under the type's name.
 use Rattle.std.specs.Prelude.{ℕ, List, codes, if◌then◌else◌, Option, None, is_some}
 use Rattle.std.specs.Int.{Width, w8, w16, w32, w64, cast_signed, to_be_bytes}
 use Rattle.std.specs.Str.{is_utf8}
@@ -23,7 +23,7 @@ natural n = number (unsigned n)
 abbrev pub integer : Width → ℕ → Data
 integer w n = number (of_integer (cast_signed w n))
 
--- bytes, as a text of two hexadecimal digits each, in lower case
+-- bytes, as a string of two hexadecimal digits each, in lower case
 abbrev pub hexadecimal : List ℕ → Data
 hexadecimal bytes = string (encode_lower bytes)
 
@@ -52,11 +52,11 @@ abbrev pub sole_type : Members → Option AMQPType
 sole_type (member k d no_members) = type_named k
 sole_type _ = None
 
--- an object, under its type's name where it would be taken for another type
+-- an object, under its type's name if it would be taken for another type
 abbrev pub table_json : Members → Data
 table_json ms = if is_some (sole_type ms) then under amqp.FieldTable (object ms) else object ms
 
--- a long string: its text, where it is UTF-8
+-- a long string: its string, if it is UTF-8
 abbrev pub long_json : List ℕ → Data
 long_json s = if is_utf8 s then string s else under amqp.LongString (hexadecimal s)
 

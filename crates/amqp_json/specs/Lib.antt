@@ -8,5 +8,5 @@ pub mod InMemory
 pub mod Refusals
 -- for private clauses: reading as a function
 pub mod Reading
--- what converting says
+-- what converting returns
 pub mod Converts

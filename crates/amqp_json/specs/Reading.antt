@@ -25,19 +25,19 @@ long_long _ = None
 abbrev pub is_capital : ℕ → Bool
 is_capital c = nat_le 65 c && nat_le c 90
 
--- the text, where it has no capital letter
+-- the string, if it has no capital letter
 abbrev pub text_without_capitals : Data → Option (List ℕ)
 text_without_capitals d = option_and_then (λ s. if list_any is_capital s then None else Some s) (as_str d)
 
--- the bytes of a text of hexadecimal digits in lower case
+-- the bytes of a string of hexadecimal digits in lower case
 abbrev pub bytes_in : Data → Option (List ℕ)
 bytes_in d = option_and_then (λ s. result_ok (decode_of s)) (text_without_capitals d)
 
--- n such bytes, where it is a text of twice as many digits
+-- n such bytes, if it is a string of twice as many digits
 abbrev pub sized_in : ℕ → Data → Option (List ℕ)
 sized_in n d = option_and_then (λ s. result_ok (decode_sized s n)) (text_without_capitals d)
 
--- bytes that are no text
+-- bytes that aren't UTF-8
 abbrev pub long_of : List ℕ → Option Tree
 long_of b = if is_utf8 b then None else Some (long b)
 
@@ -68,7 +68,7 @@ IsNarrow _ = ⊥
 abbrev pub plain_in : AMQPType → Data → Option Tree
 plain_in type d = if is_natural_as_negative d then None else core.json d type
 
--- what is under a type's name, where that isn't a table
+-- what is under a type's name, if that isn't a table
 abbrev pub value_under : AMQPType → Data → Option Tree
 value_under amqp.ShortShortInt d = plain_in amqp.ShortShortInt d
 value_under amqp.ShortShortUInt d = plain_in amqp.ShortShortUInt d
@@ -85,7 +85,7 @@ value_under amqp.LongString d = option_and_then long_of (bytes_in d)
 value_under amqp.ByteArray d = option_map octets (bytes_in d)
 value_under _ d = None
 
--- a key is a text of at most 255 bytes
+-- a key is a string of at most 255 bytes
 abbrev pub with_entry : List ℕ → Option Tree → Option Entries → Option Entries
 with_entry k v es = if nat_le (length k) 255 then option_and_then (λ x. option_map (entry k x) es) v else None
 
@@ -100,7 +100,7 @@ value_in None ms es inner = option_map table es
 value_in (Some type) (member k d no_members) es inner = value_named type d inner
 value_in (Some type) _ es inner = None
 
--- the table of these entries, where the name of a type is its only key
+-- the table of these entries, if the name of a type is its only key
 abbrev pub ambiguous_in : Option AMQPType → Option Entries → Option Tree
 ambiguous_in None es = None
 ambiguous_in (Some type) es = option_map table es
@@ -115,7 +115,7 @@ abbrev mutual
   value_of (array ds) = option_map values.array (values_of ds)
   value_of (object ms) = value_in (sole_type ms) ms (entries_of ms) (first_ambiguous ms)
 
-  -- the table that would be taken for a value of another type: it is under the name of its own
+  -- the table that would be taken for a value of another type: it is under its type's name
   pub ambiguous_table : Data → Option Tree
   ambiguous_table (object ms) = ambiguous_in (sole_type ms) (entries_of ms)
   ambiguous_table _ = None

@@ -15,7 +15,7 @@ IsOnly v d = (u : Tree) → IsStored u → json u ≡ d → u ≡ v
 abbrev pub IsOfNone : Data → Type 0
 IsOfNone d = (u : Tree) → IsStored u → json u ≢ d
 
--- what an error says of what a text was read as: the text is no JSON, or the JSON of no value
+-- what an error means for what a text was read as: the text is no JSON, or the JSON of no value
 abbrev pub Tells : JsonError → Option Data → Type 0
 Tells OutOfMemory read = Unit {0}
 Tells (Syntax e) read = read ≡ None

@@ -1,6 +1,6 @@
 //! The law of the JSON of values: what its definition implies, for every value.
 //!
-//! The function is a law. It does nothing, and its contract says what holds.
+//! The function is a law. It does nothing, and its contract states what holds.
 
 ghost use Rattle.std.specs.Prelude.{◌≡◌};
 ghost use Rattle.amqp_grammar.specs.Values.{Tree};

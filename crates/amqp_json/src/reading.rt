@@ -41,7 +41,7 @@ pub fn from_value(alloc: Global, value: &Value) -> Result<AMQPValue, ValueError>
     read(alloc, value)
 }
 
-// the text, where it has no capital letter
+// the string, if it has no capital letter
 fn text_without_capitals(value: &Value) -> Option<&str>
     ensures { option_map (λ s. s.now) result ≡ text_without_capitals (document value.now) }
 {
@@ -59,7 +59,7 @@ fn has_capital(text: &[u8]) -> bool
     text.iter().any(|b| b.is_ascii_uppercase())
 }
 
-// the bytes of a text of hexadecimal digits in lower case
+// the bytes of a string of hexadecimal digits in lower case
 fn bytes(alloc: Global, value: &Value) -> Result<Vec<u8>, ValueError>
     ensures ok { IfOk result (λ b. bytes_in (document value.now) ≡ Some b.items) }
     ensures all { IfOk result (λ b. IsBytes b.items) }
@@ -166,7 +166,7 @@ fn short_string(alloc: Global, value: &Value) -> Result<AMQPValue, ValueError>
     Ok(AMQPValue::ShortString(short(alloc, text)?))
 }
 
-// bytes that are no text
+// bytes that aren't UTF-8
 #[tactic(auto, using(crate::proofs::Bytes::utf8))]
 fn long_bytes(alloc: Global, value: &Value) -> Result<AMQPValue, ValueError>
     ensures ok { IfOk result (λ v. value_under amqp.LongString (document value.now)
@@ -182,7 +182,7 @@ fn long_bytes(alloc: Global, value: &Value) -> Result<AMQPValue, ValueError>
     }
 }
 
-// what is under the name of a type, where that isn't a table
+// what is under the name of a type, if that isn't a table
 fn under_type(alloc: Global, amqp_type: AMQPType, value: &Value) -> Result<AMQPValue, ValueError>
     ensures ok { IfOk result (λ v. value_under amqp_type (document value.now) ≡ Some (view v)) }
     ensures stored { IfOk result (λ v. IsStored (view v)) }
@@ -215,7 +215,7 @@ fn under_type(alloc: Global, amqp_type: AMQPType, value: &Value) -> Result<AMQPV
     }
 }
 
-// a long string that is a text
+// a long string that is UTF-8
 #[tactic(auto, using(crate::proofs::Bytes::text_is_read))]
 fn long_text(alloc: Global, text: &str) -> Result<AMQPValue, ValueError>
     ensures ok { IfOk result (λ v. value_of (string text.now) ≡ Some (view v)) }

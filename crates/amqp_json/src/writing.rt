@@ -42,7 +42,7 @@ fn digits(alloc: Global, bytes: &[u8]) -> Result<Value, AllocError>
     Ok(Value::String(hex::encode(alloc, bytes)?))
 }
 
-// a long string, as its text where it is one
+// a long string, as a string if it is UTF-8
 #[tactic(auto, using(crate::proofs::Bytes::text_is_plain, crate::proofs::Bytes::bytes_are_named))]
 fn long_string(alloc: Global, bytes: &[u8]) -> Result<Value, AllocError>
     ensures json { IfOk result (λ r. document r ≡ long_json bytes.now) }

@@ -25,7 +25,7 @@ pub joined : (old mid new : Option (List ℕ)) (k s now x more : List ℕ) → C
 joined old mid new k s now x more came is comes all =
     (x ++ more, Consumes-trans old mid new x more came comes, all ∙ ap (λ (t : List ℕ). t ++ more) is ∙ append_assoc k x more)
 
--- an answer by all that came
+-- a result by all that came
 pub answered : {R : Type 0} (remaining : R → Option (List ℕ)) (r : Result (Option AMQPValue) StreamError) (frame limit : Limits) (old last gone : R) (k s : List ℕ) (kept : List ℕ) (failed : Bool)
     → frame ≡ limit → gone ≡ last → (y : List ℕ) × Consumes (remaining old) (remaining last) y × (s ≡ k ++ y) → Answers frame s (remaining gone) kept failed r
     → (y : List ℕ) × Consumes (remaining old) (remaining gone) y × Answers limit (k ++ y) (remaining gone) kept failed r

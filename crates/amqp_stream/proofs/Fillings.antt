@@ -3,13 +3,13 @@ use Rattle.std.proofs.Common.{◌≡◌, ◌+◌, ◌≤◌, ℕ, zero, suc, Lis
 use Rattle.std.proofs.lemmas.List.{length-take-le}
 use lib.Seq.{take-add}
 
--- where there are n bytes after the first k, these are as many
+-- if there are n bytes after the first k, these are as many
 pub length_behind : (k n : ℕ) (s : List ℕ) → k + n ≤ length s → length (take n (drop k s)) ≡ n
 length_behind zero n s h = length-take-le n s (omega (arith, h))
 length_behind (suc k) n [] h = omega (arith, h)
 length_behind (suc k) n (c ∷ s) h = length_behind k n s (omega (arith, h))
 
--- what was kept is in front as before, where room was made and a read left the prefix alone
+-- what was retained is a prefix as before, if the buffer grew and a read left the prefix unchanged
 pub still_kept : (k : ℕ) (kept old made new : List ℕ) → take k old ≡ kept → take k made ≡ take k old → take k new ≡ take k made → take k new ≡ kept
 still_kept k kept old made new is same front = front ∙ same ∙ is
 

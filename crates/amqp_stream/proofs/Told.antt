@@ -19,7 +19,7 @@ use Rattle.amqp_parsing.proofs.ParsingLaws.{wire_extent, refused_append}
 wire_told : (l : Limits) (s t : List ℕ) (v : Tree) → WireWithin l.depth s v → length s ≤ l.frame → Within l (s ++ t) (found v t)
 wire_told l s t v p few = (omega (arith, few, wire_extent s t v p.0), wire_found_within l.depth s t v p.0 p.1)
 
--- an answer by what came is one by all that the reader held
+-- a result by what came is one by all that the reader held
 all_told : (l : Limits) (k x y z now : List ℕ) (failed : Bool) (r : Result (Option AMQPValue) StreamError) → z ≡ x ++ y → Answers l (k ++ x) (Some y) now failed r
     → AnswersAll l (k ++ z) (Some y) r
 all_told l k x y z now failed r e a = subst (λ (t : List ℕ). AnswersAll l t (Some y) r) (append_assoc k x y ∙ ap (λ (t : List ℕ). k ++ t) (sym e)) (by r a)

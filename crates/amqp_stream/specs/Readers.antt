@@ -1,4 +1,4 @@
--- What readers of values keep and answer.
+-- What readers of values retain and return.
 use Rattle.std.specs.Prelude.{ℕ, ◌<◌, ◌≤◌, ◌≡◌, ◌++◌, Bool, true, false, Option, Some, None, IfSome, Result, Ok, Err, List, [], length}
 use Rattle.std.specs.Io.KnownBytes.{Consumes, IsAtEnd}
 use Rattle.amqp_value_core.specs.declared.value.AMQPValue.{AMQPValue}
@@ -14,7 +14,7 @@ use Rattle.amqp_stream.specs.declared.values.Values.{Values}
 use Rattle.amqp_parsing.specs.Headers.{IsWaiting}
 use Rattle.amqp_parsing.specs.Limits.{Within, RefusesWithin}
 
--- the bytes that are kept of a value that hasn't all come
+-- the bytes that are retained of a value that hasn't all come
 abbrev pub kept : Values → List ℕ
 kept r = r.pending
 
@@ -31,11 +31,11 @@ values_of r = r.values
 abbrev pub reader_of : {R : Type 0} → ValueReader R → R
 reader_of r = r.reader
 
--- a call for the next value may answer this, where s is what was kept and then what came (of a
--- reader that tells no bytes, any list), `left` is what the reader has left, `now` is kept
--- afterwards, and `failed` says whether it gives none from then on: a value, which s encodes; none,
--- where nothing was kept or came, and the reader is at its end; that s is rejected, as no shorter
--- prefix is; that s is cut, where the reader is at its end; a fault, where all of s is kept
+-- a call for the next value may return this, if s is what was retained and then what came (of a
+-- reader that reports no bytes, any list), `left` is what the reader has left, `now` is retained
+-- afterwards, and `failed` is whether it returns none from then on: a value, which s encodes; none,
+-- if nothing was retained or came, and the reader is at its end; that s is rejected, as no shorter
+-- prefix is; that s is cut, if the reader is at its end; a fault, if all of s is retained
 abbrev pub Answers : Limits → List ℕ → Option (List ℕ) → List ℕ → Bool → Result (Option AMQPValue) StreamError → Type 0
 Answers l s left now failed (Ok (Some v)) = WireWithin l.depth s (view v) × (length s ≤ l.frame) × (now ≡ []) × (failed ≡ false)
 Answers l s left now failed (Ok None) = (s ≡ []) × (now ≡ []) × (failed ≡ false) × IsAtEnd left
@@ -45,12 +45,12 @@ Answers l s left now failed (Err (stream.Read kind)) = (now ≡ s) × (failed �
 Answers l s left now failed (Err stream.OutOfMemory) = (now ≡ s) × (failed ≡ false)
 Answers l s left now failed (Err stream.Failed) = ⊥
 
--- the answer is that an earlier call failed for good
+-- the result is that an earlier call failed for good
 abbrev pub IsFailed : Result (Option AMQPValue) StreamError → Type 0
 IsFailed (Err stream.Failed) = Unit {0}
 IsFailed _ = ⊥
 
--- a call for the next value may answer this, where the reader tells its bytes, s is what was kept
+-- a call for the next value may return this, if the reader reports its bytes, s is what was kept
 -- and then all that the reader held, and `left` is what it has left: what reading s within the
 -- limits results in, however the reader cuts its bytes, and with all after the value unread
 abbrev pub AnswersAll : Limits → List ℕ → Option (List ℕ) → Result (Option AMQPValue) StreamError → Type 0
@@ -62,13 +62,13 @@ AnswersAll l s left (Err (stream.Read kind)) = Unit {0}
 AnswersAll l s left (Err stream.OutOfMemory) = Unit {0}
 AnswersAll l s left (Err stream.Failed) = ⊥
 
--- a call for the next value: from the state `old` and the reader `from` to `new` and `to`, where
--- `remaining` says what bytes a reader has left, if it tells them
+-- a call for the next value: from the state `old` and the reader `from` to `new` and `to`;
+-- `remaining` is what bytes a reader has left, if it reports them
 pub record ReadsNext {R : Type 0} (remaining : R → Option (List ℕ)) (old : Values) (from : R) (result : Result (Option AMQPValue) StreamError) (new : Values) (to : R) : Type 0 where
-  -- what came, and the answer by it
+  -- what came, and the result by it
   pub answer : has_failed old ≡ false → (x : List ℕ) × Consumes (remaining from) (remaining to) x
       × Answers (limits_of old) (kept old ++ x) (remaining to) (kept new) (has_failed new) result
-  -- the answer by all that the reader held
+  -- the result by all that the reader held
   pub told : has_failed old ≡ false → IfSome (remaining from) (λ z. AnswersAll (limits_of old) (kept old ++ z) (remaining to) result)
   -- after an error for good nothing is read or changed
   pub failed : has_failed old ≡ true → IsFailed result × (new ≡ old) × (to ≡ from)

@@ -3,7 +3,7 @@ use std::alloc::AllocError;
 use std::io;
 use thiserror::Error;
 
-/// Why a reader of values returned none. Clauses state what it says of the bytes that came for
+/// Why a reader of values returned none. Clauses state what it means for the bytes that came for
 /// readers whose model has their bytes, as a slice's has, and tests show it for others.
 #[derive(Clone, Debug, PartialEq, Drop, Error)]
 pub enum StreamError {

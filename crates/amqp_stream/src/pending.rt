@@ -10,14 +10,14 @@ use std::io;
 use std::io::Read;
 use std::marker::Model;
 
-// The first room is for that many bytes.
+// The first capacity is for that many bytes.
 const BLOCK: usize = 8192;
 
-// That many bytes of new room are filled at once, at most: they are still in the processor's cache
-// when the reader writes over them.
+// That many bytes of new capacity are filled at once, at most: they are still in the processor's
+// cache when the reader writes over them.
 const FILLED: usize = 65_536;
 
-// The first bytes of a buffer, as many as `count` says. What is after them is room that is filled
+// The first bytes of a buffer, as many as `count`. What is after them is capacity that is filled
 // already, since what isn't filled yet can't be read into.
 #[derive(Drop)]
 pub(super) struct Pending {
@@ -33,8 +33,8 @@ impl Model for Pending {
     ghost invariant = { λ p. p.count ≤ vec_len p.buffer };
 }
 
-// Makes room for some of `most` bytes, where there is none: as much again as there is, whatever a
-// length claims. Returns for how many there is room.
+// Grows the buffer by some of `most` bytes, if it is full: by as much again as it has, whatever a
+// length claims. Returns how many bytes may be read into it.
 fn make_room(buffer: &mut Vec<u8>, count: usize, most: usize) -> Result<usize, AllocError>
     requires some { 0 < most }
     requires within { count ≤ vec_len buffer.old }
@@ -52,7 +52,7 @@ fn make_room(buffer: &mut Vec<u8>, count: usize, most: usize) -> Result<usize, A
     Ok(most.min(buffer.len() - count))
 }
 
-// Asks the reader once for at most `room` bytes, and puts those that it gives after the first
+// Asks the reader once for at most `room` bytes, and puts those that it returns after the first
 // `count`.
 fn read_behind<R: Read>(
     bytes: &mut [u8],
@@ -107,14 +107,14 @@ impl Pending {
         &self.buffer[..self.count]
     }
 
-    // Keeps no byte. The room stays.
+    // Retains no byte. The capacity stays.
     pub(super) fn clear(&mut self)
         ensures { self.new ≡ [] }
     {
         self.count = 0;
     }
 
-    // Asks the reader once for at most `most` bytes, and keeps those that it gives.
+    // Asks the reader once for at most `most` bytes, and retains those that it returns.
     pub(super) fn fill_from<R: Read>(
         &mut self,
         reader: &mut R,

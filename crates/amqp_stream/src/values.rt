@@ -58,7 +58,7 @@ impl Values {
         self.read_value(reader)
     }
 
-    // Reads until the value is whole, or isn't one.
+    // Reads until the value is complete, or isn't one.
     fn read_value<R: Read>(&mut self, reader: &mut R) -> Result<Option<AMQPValue>, StreamError>
         requires not_failed { has_failed self.old ≡ false }
         ensures answer { (x : List ℕ)
@@ -86,7 +86,7 @@ impl Values {
         }
     }
 
-    // The value that is kept whole.
+    // The value that is retained completely.
     fn whole(&mut self) -> Result<Option<AMQPValue>, StreamError>
         requires not_failed { has_failed self.old ≡ false }
         requires whole { IsWhole (kept self.old) }
@@ -112,7 +112,7 @@ impl Values {
         }
     }
 
-    // What is returned where the reader ended.
+    // What is returned if the reader ended.
     fn ended(&mut self) -> Result<Option<AMQPValue>, StreamError>
         requires not_failed { has_failed self.old ≡ false }
         requires wants { 0 < wanted (kept self.old) }

@@ -1,10 +1,10 @@
--- Prefixes of a text, written one after another.
+-- Prefixes of an output, written one after another.
 use Rattle.std.proofs.Common.{◌≡◌, ℕ, Option, List, [], ◌∷◌, ◌++◌, take, drop, ap, ◌∙◌, sym, append_assoc, take-append-drop}
 use Rattle.std.specs.Io.KnownBytes.{Appends}
 use Rattle.std.proofs.KnownBytes.{Appends-trans}
 use Rattle.amqp_wire.specs.Lines.{line_by, lines_by, AppendsFront}
 
--- a prefix of the text was appended, and this is the rest
+-- a prefix of the output was appended, and this is the rest
 abbrev pub Written : Option (List ℕ) → Option (List ℕ) → List ℕ → List ℕ → Type 0
 Written a b text rest = (front : List ℕ) × (text ≡ front ++ rest) × Appends a b front
 
@@ -27,7 +27,7 @@ written_part a b c text rest more left (front, e, p) e' (part, missing, e'', q) 
   Appends-trans a b c front part p q,
 )
 
--- the answers that are left begin with the answer to the first line that is left
+-- the results that are left begin with the result of the first line that is left
 pub first_answer : (say : List ℕ → List ℕ) (left next : List (List ℕ)) (b more : List ℕ) → left ≡ b ∷ next → more ≡ line_by say b ++ 10 ∷ []
     → lines_by say left ≡ more ++ lines_by say next
 first_answer say left next b more e e' = ap (lines_by say) e ∙ ap (λ l. l ++ lines_by say next) (sym e')

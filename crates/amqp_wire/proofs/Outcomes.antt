@@ -1,4 +1,4 @@
--- What is said of an outcome.
+-- What is printed of an outcome.
 use Rattle.std.proofs.Common.{◌≡◌, ◌<◌, ℕ, suc, Some, None, List, [], ◌∷◌, cond, slice_index, Fits, w8, inl, inr, ap, sym, ◌∙◌}
 use Rattle.std.proofs.lemmas.Bool.{cases_lt, le-ltb, lt-ltb}
 use Rattle.amqp_types.specs.Inputs.{IsBytes}
@@ -23,11 +23,11 @@ bytes_fit (c ∷ s) fit = ((fit 0).fits, bytes_fit s (λ i. fit (suc i)))
 
 -- ---- any value
 
--- what is said of an outcome of bytes is what is said of the one that is computed
+-- what is printed of an outcome of bytes is what is printed of the one that is computed
 pub said_of_outcome : (s : List ℕ) (o : Reading) → IsBytes s → Outcome s o → said o ≡ said (outcome s)
 said_of_outcome s o fit here = ap said ((outcome_is s o fit).0 here)
 
--- and what is said of an error
+-- and what is printed of an error
 pub said_of_refusal : (s : List ℕ) (e : Refusal) (t : List ℕ) → IsBytes s → Refuses (Outcome s) (Heavy s) e → IsSaid e t → t ≡ said (outcome s)
 said_of_refusal s (Incomplete Unknown) t fit right is = absurd right
 said_of_refusal s (Incomplete (Size n)) t fit right is = is ∙ said_of_outcome s (more n) fit right
@@ -38,7 +38,7 @@ said_of_refusal s (Failure kind) t fit right is = absurd is
 
 -- ---- within limits
 
--- what reading results in, the function says
+-- what reading results in, the function returns
 pub read_is : (l : Limits) (s : List ℕ) (o : Reading) → IsBytes s → Within l s o → read_within l s ≡ Some o
 read_is l s o bytes (few, x) =
     ap (λ b. cond b None (Some (outcome_by (meaning l.depth) s))) (le-ltb l.frame (extent s) few) ∙ ap Some (sym ((within_is l.depth s o bytes).0 x))

@@ -45,7 +45,7 @@ begins_found : (l : Limits) (s w rest : List ℕ) (v : Tree) → s ≡ w ++ rest
 begins_found l s w rest v e p few =
     subst (λ (t : List ℕ). Within l t (found v rest)) (sym e) (omega (arith, few, wire_extent w rest v p.0), wire_found_within l.depth w rest v p.0 p.1)
 
--- where reading results in no value, none is there
+-- if reading results in no value, none is there
 abbrev NoValue : Option Reading → Type 0
 NoValue o = (v : Tree) (rest : List ℕ) → o ≡ Some (found v rest) → ⊥
 
@@ -57,7 +57,7 @@ no_value l s bytes none = λ v rest e.
     let b = found_begins l s rest v (read_holds l s (found v rest) bytes e) in
     none b.0 b.1 v b.2 b.3 b.4
 
--- a value or none
+-- a value or no value
 value_or_none : (o : Option Reading) → ((v : Tree) × (rest : List ℕ) × (o ≡ Some (found v rest))) ⊎ NoValue o
 value_or_none None = inr (λ v rest e. cc)
 value_or_none (Some (found v rest)) = inl (v, rest, refl)
@@ -74,7 +74,7 @@ begins_unique l s a b (u ∷ us) (v ∷ vs) (w, rest, is, p, few, others) (x, le
     let same = one_reading w x rest left u v p.0 q.0 (sym is ∙ is') in
     begins_unique l left a b us vs (subst (λ (t : List ℕ). BeginsWith l t us a) same.2 others) others' (omega (arith, e))
 
--- and where none follows there are no more
+-- and if no value follows there are no more
 begins_more : (l : Limits) (s a b : List ℕ) (us vs : List Tree) → BeginsWith l s us a → BeginsNone l a → BeginsWith l s vs b → length us < length vs → ⊥
 begins_more l s a b us [] p none q lt = omega (arith, lt)
 begins_more l s a b [] (v ∷ vs) p none (x, left, is, q, few, others) lt = none x left v (sym p ∙ is) q few
@@ -118,7 +118,7 @@ are_lines l (suc n) s bytes (v ∷ vs) left ((w, rest, is, p, few, others), none
 some_byte : (w : List ℕ) (v : Tree) → Wire w v → 0 < length w
 some_byte _ _ (wire c type b v k p) = omega arith
 
--- a stream has values, if only none
+-- a stream has values, if only zero
 has_values : (l : Limits) (n : ℕ) (s : List ℕ) → IsBytes s → length s < n → (vs : List Tree) × (left : List ℕ) × AreValues l s vs left
 has_values l zero s bytes lt = absurd (omega (arith, lt))
 has_values l (suc n) s bytes lt = elim (value_or_none (read_within l s)) [
@@ -132,7 +132,7 @@ has_values l (suc n) s bytes lt = elim (value_or_none (read_within l s)) [
 pub has_lines : (l : Limits) (most : ℕ) → HasLines l most
 has_lines l most = λ s bytes. (has_values l (suc (length s)) s bytes (omega arith), are_lines l most s bytes)
 
--- ---- each answer's line
+-- ---- each result's line
 
 pub value_told : (l : Limits) (s : List ℕ) (left : Option (List ℕ)) (v : AMQPValue) (line : List ℕ) → line ≡ value_line (view v) → IsBytes s → AnswersAll l s left (Ok (Some v)) → IsLine l s left line true
 value_told l s left v line e bytes (rest, x, is) =
@@ -158,7 +158,7 @@ refused_told l s left line TooLarge e bytes x = last_told l s left line None byt
 refused_told l s left line MapRes e bytes x = absurd x.1
 refused_told l s left line OutOfMemory e bytes x = absurd x.1
 
--- of all that the reader held, where nothing was kept
+-- of all that the reader held, if nothing was retained
 pub line_told : (l : Limits) (k : List ℕ) (old left : Option (List ℕ)) (line : List ℕ) (b : Bool) (r : Result (Option AMQPValue) StreamError)
     → ((s : List ℕ) → IsBytes s → AnswersAll l s left r → IsLine l s left line b) → k ≡ []
     → IfSome old (λ z. AnswersAll l (k ++ z) left r) → IfSome old (λ s. IsBytes s → IsLine l s left line b)
@@ -202,7 +202,7 @@ on_err l most left (Some s) now new a b c line t lt p told front = λ bytes.
     let first = line_first l left rest new line t lt rest_bytes (told_at l now new line rest t is rest_bytes told) in
     written_part a b c (stream_text l most s) (stream_text l left rest) line first.0 written first.1 front
 
--- where no line was to be written, a prefix was
+-- if no line was to be written, a prefix was
 pub on_fault : (l : Limits) (most left : ℕ) (held now a b : Option (List ℕ)) → Progress l most left held now a b → IfSome held (λ s. IsBytes s → AppendsFront a b (stream_text l most s))
 on_fault l most left None now a b p = tt
 on_fault l most left (Some s) now a b p = λ bytes.
@@ -218,7 +218,7 @@ on_last l most (suc n) (Some s) now new a b c line lt p told all = λ bytes.
     let last : stream_text l (suc n) rest ≡ line = last_is l n rest line new rest_bytes (told_at l now new line rest false is rest_bytes told) in
     subst (λ (u : List ℕ). Appends a c u) (sym (whole ∙ ap (λ (u : List ℕ). front ++ u) last)) (Appends-trans a b c front line before all)
 
--- fewer values than `most` stood there
+-- fewer values than `most` were there
 pub on_last_left : (l : Limits) (most left : ℕ) (held now new end a b : Option (List ℕ)) (line : List ℕ) → 0 < left → Progress l most left held now a b → LineTold l now new line false
     → IfSome held (λ s. IsBytes s → Leaves l most s end)
 on_last_left l most left None now new end a b line lt p told = tt

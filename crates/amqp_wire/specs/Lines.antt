@@ -14,41 +14,41 @@ use Rattle.amqp_parsing.specs.declared.limits.Limits.{Limits}
 use Rattle.amqp_wire.specs.declared.line.Form.{Form}
 use Rattle.amqp_wire.specs.declared.line.Form.TheVariants as form
 
--- what is said of a value after which n bytes are left: its canonical encoding in hexadecimal, n
+-- what is printed of a value after which n bytes are left: its canonical encoding in hexadecimal, n
 abbrev pub said_of_value : Tree → ℕ → List ℕ
 said_of_value v n = codes "value " ++ (encode_lower (text v) ++ (codes " rest " ++ decimal n))
 
--- what is said of a reading
+-- what is printed of a reading
 abbrev pub said : Reading → List ℕ
 said (found v rest) = said_of_value v (length rest)
 said (more n) = codes "more " ++ decimal n
 said unknown = codes "refused MapOpt"
 said malformed = codes "refused Eof"
 
--- what reading s within limits results in, and none where the value is too large
+-- what reading s within limits results in, and `None` if the value is too large
 abbrev pub read_within : Limits → List ℕ → Option Reading
 read_within l s = if nat_lt l.frame (extent s) then None else Some (outcome_by (meaning l.depth) s)
 
--- and what is said of that
+-- and what is printed of that
 abbrev pub said_within : Option Reading → List ℕ
 said_within None = codes "refused TooLarge"
 said_within (Some o) = said o
 
--- what is said of bytes that are read in a form
+-- what is printed of bytes that are read in a form
 abbrev pub said_in : Form → List ℕ → List ℕ
 said_in (form.Within l) s = said_within (read_within l s)
 said_in _ s = said (outcome s)
 
--- what is said of the bytes that a hexadecimal text spells, if it spells any
+-- what is printed of the bytes that hexadecimal denotes, if it denotes any
 abbrev pub said_of : (List ℕ → List ℕ) → Result (List ℕ) FromHexError → List ℕ
 said_of say (Ok s) = say s
 said_of say (Err e) = codes "not hex"
 
--- the answer to a line, without its end
+-- the result of a line, without its end
 abbrev pub line_by : (List ℕ → List ℕ) → List ℕ → List ℕ
 line_by say b = said_of say (decode_of b)
 
--- the answers to some lines, each with a line feed at its end
+-- the results of some lines, each with a line feed at its end
 abbrev pub lines_by : (List ℕ → List ℕ) → List (List ℕ) → List ℕ
 lines_by say [] = []
 lines_by say (b ∷ bs) = (line_by say b ++ 10 ∷ []) ++ lines_by say bs
@@ -57,19 +57,19 @@ lines_by say (b ∷ bs) = (line_by say b ++ 10 ∷ []) ++ lines_by say bs
 abbrev pub output_by : (List ℕ → List ℕ) → List ℕ → List ℕ
 output_by say xs = lines_by say (map without_terminator (lines_of xs))
 
--- where a value may be of any length and depth
+-- if a value may be of any length and depth
 abbrev pub output : List ℕ → List ℕ
 output xs = output_by (λ s. said (outcome s)) xs
 
--- where values are read within limits
+-- if values are read within limits
 abbrev pub output_within : Limits → List ℕ → List ℕ
 output_within l xs = output_by (λ s. said_within (read_within l s)) xs
 
--- known bytes grow by a prefix of the text
+-- known bytes grow by a prefix of the output
 abbrev pub AppendsFront : Option (List ℕ) → Option (List ℕ) → List ℕ → Type 0
 AppendsFront old new text = (front : List ℕ) × (rest : List ℕ) × (text ≡ front ++ rest) × Appends old new front
 
--- where what is left to be read is known, what was written grows by the answer to it
+-- if what is left to be read is known, what was written grows by its result
 abbrev pub Answers : (List ℕ → List ℕ) → Option (List ℕ) → Option (List ℕ) → Option (List ℕ) → Type 0
 Answers answer input old new = IfSome input (λ xs. Appends old new (answer xs))
 

@@ -1,4 +1,4 @@
--- What is said of an error, for functions of this crate alone.
+-- What is printed of an error, for functions of this crate only.
 use Rattle.std.specs.Prelude.{◌≡◌, List, ℕ, ◌++◌, codes}
 use Rattle.std.specs.Fmt.{decimal}
 use Rattle.amqp_parsing.specs.Refusals.{Refusal}
@@ -15,14 +15,14 @@ kind_name Eof = codes "Eof"
 kind_name OutOfMemory = codes "OutOfMemory"
 kind_name TooLarge = codes "TooLarge"
 
--- a text says what an error is; none says that memory ran out
+-- a string describes an error; no string means that memory ran out
 abbrev pub IsSaid : Refusal → List ℕ → Type 0
 IsSaid (Incomplete Unknown) t = ⊥
 IsSaid (Incomplete (Size n)) t = t ≡ codes "more " ++ decimal n
 IsSaid (Error kind) t = t ≡ codes "refused " ++ kind_name kind
 IsSaid (Failure kind) t = ⊥
 
--- a parser tells how many more bytes are needed
+-- a parser returns how many more bytes are needed
 abbrev pub IsTold : Refusal → Type 0
 IsTold (Incomplete Unknown) = ⊥
 IsTold _ = Unit {0}

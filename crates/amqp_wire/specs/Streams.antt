@@ -13,7 +13,7 @@ use Rattle.amqp_wire.specs.Lines.{read_within}
 abbrev pub value_line : Tree → List ℕ
 value_line v = codes "value " ++ (encode_lower (text v) ++ 10 ∷ [])
 
--- the last line, where no value begins: nothing is left, or a value is cut, or it is rejected
+-- the last line, if no value begins: nothing is left, or a value is cut, or it is rejected
 abbrev pub cut_line : List ℕ → List ℕ
 cut_line [] = codes "end\n"
 cut_line (c ∷ s) = codes "truncated\n"
@@ -31,7 +31,7 @@ abbrev pub stream_step : (List ℕ → List ℕ) → List ℕ → Option Reading
 stream_step others s (Some (found v rest)) = value_line v ++ others rest
 stream_step others s o = last_line s o
 
--- the lines of a stream: of at most n values, and a last line where there are fewer
+-- the lines of a stream: of at most n values, and a last line if there are fewer
 abbrev pub stream_text : Limits → ℕ → List ℕ → List ℕ
 stream_text l zero s = []
 stream_text l (suc n) s = stream_step (stream_text l n) s (read_within l s)
@@ -57,18 +57,18 @@ abbrev pub value_lines : List Tree → List ℕ
 value_lines [] = []
 value_lines (v ∷ vs) = value_line v ++ value_lines vs
 
--- the lines of a stream are those of its first values, or where there are fewer those of all and a
+-- the lines of a stream are those of its first values, or if there are fewer those of all and a
 -- last line
 abbrev pub AreLines : Limits → ℕ → List ℕ → Type 0
 AreLines l most s = (vs : List Tree) (left : List ℕ) → AreValues l s vs left
     → (most ≤ length vs → stream_text l most s ≡ value_lines (take most vs))
     × (length vs < most → stream_text l most s ≡ value_lines vs ++ last_line left (read_within l left))
 
--- each stream has values, if only none, and its lines are theirs
+-- each stream has values, if only zero, and its lines are theirs
 abbrev pub HasLines : Limits → ℕ → Type 0
 HasLines l most = (s : List ℕ) → IsBytes s → ((vs : List Tree) × (left : List ℕ) × AreValues l s vs left) × AreLines l most s
 
--- where s begins with n values, all after them is left
+-- if s begins with n values, all after them is left
 abbrev pub Leaves : Limits → ℕ → List ℕ → Option (List ℕ) → Type 0
 Leaves l n s now = (vs : List Tree) (left : List ℕ) → BeginsWith l s vs left → length vs ≡ n → now ≡ Some left
 

@@ -15,7 +15,7 @@ use thiserror::Error;
 /// A fault of memory, or of the reader or the writer.
 #[derive(Clone, Copy, Debug, PartialEq, Eq, Error)]
 pub enum WireFault {
-    /// An allocation failed, or the reader or the writer said so of one of its own.
+    /// An allocation failed, or the reader or the writer reported that one did.
     #[error("out of memory")]
     OutOfMemory,
     /// The reader or the writer failed in any other way.

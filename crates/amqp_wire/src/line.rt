@@ -1,4 +1,4 @@
-//! The answer to one line.
+//! The result of one line.
 
 ghost use Rattle.std.specs.Prelude.{◌≡◌, ◌-◌, ◌≤◌, ◌++◌, ◌∷◌, [], length, IfOk, string_bytes};
 ghost use Rattle.amqp_grammar.specs.Decode.{outcome};
@@ -20,19 +20,19 @@ use amq_protocol_types::stream::{Limits, parse_value_within};
 use hex::FromHexError;
 use std::alloc::{AllocError, Global};
 
-/// How the bytes that a line spells are read.
+/// How the bytes that a line denotes are read.
 #[derive(Clone, Copy, Debug)]
 pub enum Form {
     /// As one slice.
     Whole,
-    /// As two slices, cut after that many bytes, or after the last where there are fewer.
+    /// As two slices, cut after that many bytes, or after the last if there are fewer.
     Split(usize),
     /// As one slice, within limits.
     Within(Limits),
 }
 
-/// The canonical encoding of a value in hexadecimal. It is written to `room` bytes first, which
-/// hold it.
+/// The canonical encoding of a value in hexadecimal. It is first written to a buffer of `room`
+/// bytes, which holds it.
 fn hex_of(alloc: Global, value: &AMQPValue, room: usize) -> Result<String, AllocError>
     requires fits { Fits (view value.now) }
     requires room { size (view value.now) ≤ room }
@@ -45,8 +45,8 @@ fn hex_of(alloc: Global, value: &AMQPValue, room: usize) -> Result<String, Alloc
     hex::encode(alloc, output.written())
 }
 
-/// What is said of a value that was read from `count` bytes, of which `rest` is left after it. It
-/// is written to as much room as it was read from.
+/// What is printed of a value that was read from `count` bytes, of which `rest` is left after it.
+/// It is written to a buffer of as many bytes as it was read from.
 fn value_answer<I: ParsableInput>(
     alloc: Global,
     value: &AMQPValue,
@@ -74,7 +74,7 @@ pub fn name_of(kind: ErrorKind) -> &'static str
     }
 }
 
-/// What is said of an error.
+/// What is printed of an error.
 fn refusal_answer(alloc: Global, error: ParserError) -> Result<String, WireFault>
     requires { IsTold error }
     ensures { IfOk result (λ answer. IsSaid error (string_bytes answer)) }
@@ -90,7 +90,7 @@ fn refusal_answer(alloc: Global, error: ParserError) -> Result<String, WireFault
     }
 }
 
-/// What is said of the bytes that a line spells.
+/// What is printed of the bytes that a line denotes.
 fn answer_to_bytes<I: ParsableInput>(alloc: Global, bytes: I) -> Result<String, WireFault>
     ensures { IfOk result (λ answer. string_bytes answer ≡ said (outcome (I.bytes bytes))) }
 {
@@ -101,7 +101,7 @@ fn answer_to_bytes<I: ParsableInput>(alloc: Global, bytes: I) -> Result<String, 
     }
 }
 
-/// What is said of them where they are read within limits.
+/// What is printed of them if they are read within limits.
 fn answer_within<I: ParsableInput>(
     alloc: Global,
     bytes: I,
@@ -116,7 +116,7 @@ fn answer_within<I: ParsableInput>(
     }
 }
 
-/// What is said of the bytes that a line spells, read as `form` says.
+/// What is printed of the bytes that a line denotes, read in the form `form`.
 fn answer_in_form(alloc: Global, bytes: &[u8], form: Form) -> Result<String, WireFault>
     ensures { IfOk result (λ answer. string_bytes answer ≡ said_in form bytes.now) }
 {
@@ -130,7 +130,7 @@ fn answer_in_form(alloc: Global, bytes: &[u8], form: Form) -> Result<String, Wir
     }
 }
 
-/// The answer to a line, without its end.
+/// The result of a line, without its end.
 fn answer_to(alloc: Global, input: &[u8], form: Form) -> Result<String, WireFault>
     ensures { IfOk result (λ answer. string_bytes answer ≡ line_by (said_in form) input.now) }
 {
@@ -141,7 +141,7 @@ fn answer_to(alloc: Global, input: &[u8], form: Form) -> Result<String, WireFaul
     }
 }
 
-/// The answer to a line, with a line feed at its end.
+/// The result of a line, with a line feed at its end.
 pub fn ended_answer_to(alloc: Global, input: &[u8], form: Form) -> Result<Vec<u8>, WireFault>
     ensures { IfOk result (λ bytes. bytes.items ≡ line_by (said_in form) input.now ++ 10 ∷ []) }
 {

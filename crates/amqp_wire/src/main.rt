@@ -1,4 +1,4 @@
-//! Reads lines of hexadecimal text from standard input, and answers each with a line that says what
+//! Reads lines of hexadecimal from standard input, and prints for each a line that states what
 //! its bytes are read as: a value, how many more bytes are needed, or an error.
 #![tactic(auto)]
 
@@ -15,7 +15,7 @@ fn main(rt: HostRuntime) -> ExitCode {
     match run::run(rt.alloc(), &mut rt.stdin(), &mut rt.stdout()) {
         Ok(()) => ExitCode::SUCCESS,
         Err(fault) => {
-            // Where the message can't be written, the status still says what happened.
+            // If the message can't be written, the status still reports what happened.
             let _ = eprintln!(rt; "amqp_wire: {fault}");
             ExitCode::from(fault)
         }

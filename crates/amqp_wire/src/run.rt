@@ -11,8 +11,8 @@ use bstr::ByteSlice;
 use std::alloc::Global;
 use std::io::{Read, Write};
 
-/// Reads all that the reader has, and answers each line of it with a line. A line ends at `\n` or
-/// `\r\n`, or with the input, and is the hexadecimal text of bytes, in either case.
+/// Reads all that the reader has, and writes a line for each line of it. A line ends at `\n` or
+/// `\r\n`, or with the input, and is bytes in hexadecimal, in either case.
 pub fn run<R: Read, W: Write>(
     alloc: Global,
     reader: &mut R,
@@ -28,7 +28,7 @@ pub fn run<R: Read, W: Write>(
 }
 
 /// Does what `run` does, and passes the parser the bytes of each line as two slices, cut after `at`
-/// bytes, or after the last where there are fewer.
+/// bytes, or after the last if there are fewer.
 pub fn run_split<R: Read, W: Write>(
     alloc: Global,
     reader: &mut R,
@@ -61,7 +61,7 @@ pub fn run_within<R: Read, W: Write>(
     run_in_form(alloc, reader, writer, Form::Within(limits))
 }
 
-/// Reads all that the reader has, and answers each line of it.
+/// Reads all that the reader has, and writes the result of each line of it.
 fn run_in_form<R: Read, W: Write>(
     alloc: Global,
     reader: &mut R,
@@ -79,7 +79,7 @@ fn run_in_form<R: Read, W: Write>(
     write_answers(alloc, input.as_slice(), writer, form)
 }
 
-/// Writes the answers to the lines of `input`.
+/// Writes the results of the lines of `input`.
 fn write_answers<W: Write>(
     alloc: Global,
     input: &[u8],
@@ -96,7 +96,7 @@ fn write_answers<W: Write>(
     Ok(())
 }
 
-/// Writes all of the bytes. Each error of the writer ends it, and so does a writer that takes none.
+/// Writes all of the bytes. Each error of the writer ends it, and so does one that accepts zero.
 pub fn write_out<W: Write>(bytes: &[u8], writer: &mut W) -> Result<(), WireFault>
     ensures ok { OnOk result (Appends (W.contents writer.old) (W.contents writer.new) bytes.now) }
     ensures err { OnErr result (AppendsFront (W.contents writer.old) (W.contents writer.new) bytes.now) }

@@ -35,7 +35,7 @@ fn line_of(alloc: Global, value: &AMQPValue) -> Result<Vec<u8>, WireFault>
     Ok(format!(in alloc; "value {hex}\n")?.into_bytes())
 }
 
-/// The last line where a value is rejected.
+/// The last line if a value is rejected.
 fn refused_line(alloc: Global, kind: ErrorKind) -> Result<Vec<u8>, AllocError>
     ensures { IfOk result (λ line. line.items ≡ codes "refused " ++ (kind_name kind ++ 10 ∷ [])) }
 {
@@ -43,7 +43,7 @@ fn refused_line(alloc: Global, kind: ErrorKind) -> Result<Vec<u8>, AllocError>
     Ok(format!(in alloc; "refused {name}\n")?.into_bytes())
 }
 
-/// A line of its own.
+/// The string's bytes.
 fn text_of(alloc: Global, text: &str) -> Result<Vec<u8>, AllocError>
     ensures { IfOk result (λ line. line.items ≡ text.now) }
 {
@@ -75,8 +75,8 @@ fn next_line<R: Read>(
 }
 
 /// Reads values from the reader within the limits until there are `most`, and writes a line for
-/// each. Where there are fewer a last line says why: the reader ended, or ended inside a value, or
-/// what came is rejected. Where the reader tells its bytes, none after the last value is read.
+/// each. If there are fewer a last line reports why: the reader ended, or ended inside a value, or
+/// what came is rejected. If the reader reports its bytes, none after the last value is read.
 pub fn run_stream<R: Read, W: Write>(
     alloc: Global,
     reader: &mut R,

@@ -1,4 +1,4 @@
-//! Lines are answered while the process has no memory left.
+//! Lines get their results while the process has no memory left.
 
 use crate::fault::WireFault;
 use crate::run::run;
@@ -8,7 +8,7 @@ use std::test::Fail;
 /// Lines of each kind.
 const LINES: &str = "\n7a\n41000000027300\n560a\n550005\n5\nxy\n";
 
-/// The answers to them.
+/// The results.
 const ANSWERS: &str =
     "more 1\nrefused MapOpt\nrefused Eof\nvalue 56 rest 1\nvalue 730005 rest 0\nnot hex\nnot hex\n";
 
@@ -33,7 +33,7 @@ fn take_blocks(alloc: Global, blocks: &mut Vec<Vec<u8>>, size: usize) {
 }
 
 #[test]
-fn lines_are_answered_once_there_is_memory(rt: HostRuntime) -> Result<(), Fail> {
+fn lines_have_results_once_there_is_memory(rt: HostRuntime) -> Result<(), Fail> {
     let alloc = rt.alloc();
     let mut out = Vec::with_capacity(alloc, ANSWERS.len())?;
     let mut blocks = Vec::with_capacity(alloc, BLOCKS)?;

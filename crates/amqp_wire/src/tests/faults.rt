@@ -7,7 +7,7 @@ use std::io;
 use std::io::ErrorKind;
 use std::test::Fail;
 
-/// Gives the bytes of a text, at most 3 at a time, and then answers an error.
+/// Yields the bytes of a string, at most 3 at a time, and then returns an error.
 #[derive(Drop)]
 struct BrokenReader<'a> {
     text: &'a [u8],
@@ -57,7 +57,7 @@ impl Write for BrokenWriter {
     }
 }
 
-/// What is run, what is read until the reader fails, how, what is answered, and what is written.
+/// What is run, what is read until the reader fails, how, what is returned, and what is written.
 const READERS: &[(Program, &[u8], ErrorKind, Result<(), WireFault>, &str)] = &[
     (
         Lines,
@@ -140,7 +140,7 @@ const WRITERS: &[(Program, &[u8], &str, usize)] = &[
     (Stream(9, 2, 9), BYTES, LINES, 11),
 ];
 
-/// How a writer fails, and what is answered.
+/// How a writer fails, and what is returned.
 const FAILINGS: &[(Failing, WireFault)] = &[
     (With(ErrorKind::BrokenPipe), WireFault::Io),
     (With(ErrorKind::Interrupted), WireFault::Io),
@@ -148,7 +148,7 @@ const FAILINGS: &[(Failing, WireFault)] = &[
     (With(ErrorKind::OutOfMemory), WireFault::OutOfMemory),
 ];
 
-// Until the writer fails it takes the beginning of what is written, and where it doesn't, all.
+// Until the writer fails it takes the beginning of what is written, and if it doesn't, all.
 fn is_taken(
     rt: &impl Abort,
     alloc: Global,

@@ -13,7 +13,7 @@ const MIXED: &[u8] = b"\n7a\n41000000027300\n560a\n550005\n5\nxy\n41ffffffff\n41
 
 /// What is run, what is read, what is written and how many bytes stay in the reader.
 const ROWS: &[(Program, &[u8], &str, usize)] = &[
-    // a line is answered by a line
+    // a line results in a line
     (
         Lines,
         b"4100000003740756\n",
@@ -68,7 +68,7 @@ const ROWS: &[(Program, &[u8], &str, usize)] = &[
         0,
     ),
     (Lines, b"7400\r\n", "value 7400 rest 0\n", 0),
-    // lines are answered in order
+    // lines result in lines, in order
     (
         Lines,
         b"56\n\n7a\r\n56",
@@ -148,7 +148,7 @@ const ROWS: &[(Program, &[u8], &str, usize)] = &[
         0,
     ),
     (Within(9, 2), b"", "", 0),
-    // where no limit is passed the lines are those without limits
+    // if no limit is passed the lines are those without limits
     (
         Within(4294967295, 1),
         MIXED,
@@ -166,7 +166,7 @@ const ROWS: &[(Program, &[u8], &str, usize)] = &[
     ),
     (Stream(9, 2, 1), BYTES, "value 56\n", 14),
     (Stream(9, 2, 0), BYTES, "", 15),
-    // the last line says why there are no more
+    // the last line reports why there are no more
     (Stream(9, 2, 9), &[], "end\n", 0),
     (Stream(9, 2, 9), &[86], "value 56\nend\n", 0),
     (Stream(9, 2, 9), &[65, 0], "truncated\n", 0),
@@ -229,7 +229,7 @@ fn answers(
 }
 
 #[test]
-fn what_is_read_is_answered(rt: HostRuntime) {
+fn what_is_read_has_its_result(rt: HostRuntime) {
     for (program, input, written, left) in ROWS {
         answers(&rt, rt.alloc(), *program, input, written.as_bytes(), *left);
     }

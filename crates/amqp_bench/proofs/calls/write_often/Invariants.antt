@@ -3,7 +3,7 @@ use Rattle.amqp_grammar.specs.Texts.{text}
 use Rattle.amqp_value_core.specs.View.{view}
 use Rattle.amqp_bench.proofs.calls.write_often.Given as goal
 
--- before the first time nothing is counted, and then the text; the room stays as it is
+-- before the first time nothing is counted, then the canonical encoding; the buffer stays as it is
 abbrev pub invariant-loop : goal.invariant-loop
 invariant-loop l =
     (l.counter ≡ 0 → l.written ≡ 0)

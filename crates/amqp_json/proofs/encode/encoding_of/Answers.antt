@@ -11,4 +11,4 @@ returns-in-Err-read_in_place_unlimited-clause-refused c =
     let v = view c.args.value.now in
     let e = c.in-Err-read_in_place_unlimited._refusal in
     let is : c.as_slice.result.now ≡ text v = search rules in
-    not_again v e c.in-Ok.ensures.read_back (subst (λ s. Refuses (Outcome s) ⊥ e) is c.in-Err-read_in_place_unlimited.ensures.outcome)
+    not_again v e c.in-Ok.ensures.ok.read_back (subst (λ s. Refuses (Outcome s) ⊥ e) is c.in-Err-read_in_place_unlimited.ensures.outcome)

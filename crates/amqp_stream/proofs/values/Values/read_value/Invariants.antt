@@ -3,7 +3,7 @@ use Rattle.std.specs.Io.KnownBytes.{Consumes}
 use Rattle.amqp_stream.specs.Readers.{kept, has_failed}
 use Rattle.amqp_stream.proofs.values.Values.read_value.Given as goal
 
--- what came is kept after what was kept
+-- what came is retained after what was retained
 abbrev pub invariant-reads : goal.invariant-reads
 invariant-reads g l =
     ((x : List ℕ) × Consumes (g.R.Read.remaining l.initial.reader) (g.R.Read.remaining l.reader) x × (kept l.self ≡ kept l.initial.self ++ x))
