@@ -9,6 +9,7 @@
 //! | [`parsing`] | owned values from bytes; incomplete input is distinguished from malformed |
 //! | [`stream`] | the same from untrusted peers: limits on length and nesting; readers |
 //! | [`in_place`] | borrowed views with the same limits; reading and look-ups don't allocate |
+//! | [`rabbitmq`] | what RabbitMQ closes the connection for, before it is sent |
 //! | [`generation`] | bytes from values, always in the canonical encoding |
 //! | [`flags`] | named booleans packed eight to a byte, as in method arguments |
 //!
@@ -42,6 +43,7 @@ pub mod flags;
 pub mod generation;
 pub mod in_place;
 pub mod parsing;
+pub mod rabbitmq;
 pub mod stream;
 
 pub use amqp_value_core::types::{

@@ -94,7 +94,7 @@ strict_payload _ _ _ (raw_octets s fits, all) e rest = absurd cc
 strict_payload _ _ _ (raw_array body vs fits p, all) e rest = absurd cc
 strict_payload _ _ _ (raw_table body es fits p, all) e rest = absurd cc
 
--- a canonical encoding is spelled so
+-- a canonical encoding begins with no alternate tag
 canon_spelling : (w rest : List ℕ) (v : Tree) → Canon w v → IsFirstSpelling (w ++ rest)
 canon_spelling _ rest _ (wire c type b v k p, is) =
     (is.0, is.1, λ e. strict_payload type b v (p, is.2) (same_Some type amqp.Boolean (sym k ∙ ap kind e)) rest)
@@ -102,9 +102,9 @@ canon_spelling _ rest _ (wire c type b v k p, is) =
 pub front_spelling : (d : ℕ) (s rest : List ℕ) → CanonFront d s rest → IsFirstSpelling s
 front_spelling d s rest (w, v, x, deep, e) = subst IsFirstSpelling (sym e) (canon_spelling w rest v x)
 
--- ---- plain values
+-- ---- values that are no containers
 
--- a payload of a plain type is canonical where a boolean's byte is 0 or 1
+-- a payload of a type of no container is canonical if a boolean's byte is 0 or 1
 plain_payload : (type : AMQPType) (b : List ℕ) (v : Tree) → Raw type b v → IsPlainType type → (type ≡ amqp.ShortString → ⊥) → IsStrict type b → CanonRaw type b v × (depth v ≡ 0)
 plain_payload _ _ _ (raw_fixed type f b row len) plain none strict = ((raw_fixed type f b row len, strict), refl)
 plain_payload _ _ _ (raw_short s is) plain none strict = absurd (none refl)
@@ -121,7 +121,7 @@ raw_front type s v rest x = by (lack type s) x
     by zero f = f
     by (suc n) e = absurd cc
 
--- so a plain value in its first spelling is canonical
+-- so a value with no alternate tag that is no container is canonical
 pub plain_front : (d : ℕ) (s : List ℕ) (r : ValueRef) (rest : List ℕ) → IsHead s (head.Plain r) rest → IsFirstSpelling s → CanonFront d s rest
 plain_front d s r rest (type, mid, (c, here, k), q) spelled =
     let f = raw_front type mid (plain_tree r) rest q.2 in
@@ -171,7 +171,7 @@ canon_table_body _ _ _ (raw_array a vs fits p, x) t body rest left few e = absur
 canon_table_body _ _ _ (raw_table a es fits p, x) t body rest left few e =
     record { entries = es; all = subst (λ (b : List ℕ). CanonPairs b es) (one_large a body left rest fits few e) (p, x); is = ap table (rising_pairs es (canon_rises a es p x)) }
 
--- the type tag that stands first, and the canonical payload after it
+-- the type tag that is first, and the canonical payload after it
 record CanonTyped (type : AMQPType) (mid left : List ℕ) (v : Tree) : Type 0 where
   pub payload : List ℕ
   pub is_canon : CanonRaw type payload v
@@ -185,7 +185,7 @@ canon_typed s mid type _ left _ (c, here, k) (wire d type2 b v k2 p, is) e =
     record { payload = b; is_canon = subst (λ (t : AMQPType). CanonRaw t b v) same (p, is.2); front = cc }
 
 module _ (d : ℕ) (s : List ℕ) (i : SliceInput) (rest : List ℕ) where
-  -- an array in its first spelling is canonical where its body is
+  -- an array with no alternate tag is canonical if its body is
   pub array_front : IsHead s (head.FieldArray i) rest → IsFirstSpelling s → 0 < d → CanonValues (d - 1) (slice_bytes i) → CanonFront d s rest
   array_front (type, mid, (c, here, k), q) spelled some (vs, all, deep) =
       let body = slice_bytes i in
@@ -218,7 +218,7 @@ module _ (d : ℕ) (s : List ℕ) (i : SliceInput) (rest : List ℕ) where
 pub canon_at : (d : ℕ) (s left : List ℕ) → CanonFront d s left → AtFront s
 canon_at d s left (w, v, x, deep, e) = record { value_there = v; bytes = w; left = left; is_wire = canon_is_wire w v x; front = e }
 
--- the rest is returned where a test holds
+-- the rest is returned if a test holds
 pub some_rest : (d : ℕ) (s : List ℕ) (i : SliceInput) (b : Bool) (r : Option SliceInput) → r ≡ then_some b i → (b ≡ true → CanonFront d s (slice_bytes i))
     → IfSome r (λ (rest : SliceInput). CanonFront d s (slice_bytes rest))
 some_rest d s i true r is f = subst (λ (o : Option SliceInput). IfSome o (λ (rest : SliceInput). CanonFront d s (slice_bytes rest))) (sym is) (f refl)
@@ -235,7 +235,7 @@ no_rest d s i false r is f none = f refl
 pub rest_shorter : (d : ℕ) (s rest : List ℕ) → CanonFront d s rest → length rest < length s
 rest_shorter d s rest (_, _, (wire c type b v k p, is), deep, e) = omega (arith, ap length e, length-append b rest)
 
--- where no byte is left no value is
+-- if no byte is left there is no value
 pub no_values : (d : ℕ) (s : List ℕ) → length s ≡ 0 → CanonValues d s
 no_values d s none = subst (CanonValues d) (sym (nil_from_length s none)) (no_trees, (no_value_there, tt), omega arith)
 
@@ -249,13 +249,13 @@ one_rest : (d : ℕ) (s x y : List ℕ) → CanonFront d s x → CanonFront d s 
 one_rest d s x y (w, v, p, deep, e) (u, z, q, deep2, f) = (one_reading w u x y v z (canon_is_wire w v p) (canon_is_wire u z q) (sym e ∙ f)).2
 
 module _ (d : ℕ) (s after : List ℕ) (front : CanonFront d s after) where
-  -- after the first value the others are values, where all of them are
+  -- after the first value the others are values, if all of them are
   pub values_after : CanonValues d s → CanonValues d after
   values_after all =
       let first = first_value d s (omega (arith, rest_shorter d s after front)) all in
       subst (CanonValues d) (one_rest d s first.0 after first.1 front) first.2
 
-  -- and all of them are, where they are
+  -- and all of them are, if they are
   pub values_before : CanonValues d after → CanonValues d s
   values_before (vs, all, deep) = by front
     where
@@ -264,7 +264,7 @@ module _ (d : ℕ) (s after : List ℕ) (front : CanonFront d s after) where
 
 -- ---- keys
 
--- `<` of two slices tells whether the first comes before the second
+-- `<` of two slices decides whether the first comes before the second
 pub told_less : (x y : List ℕ) (b : Bool) → b ≡ is_some_and is_lt (slice_partial_cmp (λ (i j : ℕ). Some (nat_cmp i j)) x y)
     → (b ≡ true → slice_cmp nat_cmp x y ≡ Less) × (b ≡ false → slice_cmp nat_cmp x y ≡ Less → ⊥)
 told_less x y b is = by (slice_cmp nat_cmp x y) (is ∙ ap (is_some_and is_lt) (lists_agrees {C = λ (i j : ℕ). Some (nat_cmp i j)} (λ i j. refl) x y))
@@ -276,7 +276,7 @@ told_less x y b is = by (slice_cmp nat_cmp x y) (is ∙ ap (is_some_and is_lt) (
 
 -- ---- pairs
 
--- where no byte is left no pair is
+-- if no byte is left there is no pair
 pub no_pairs : (d : ℕ) (j : Option (Bor (List ℕ))) (s : List ℕ) → length s ≡ 0 → CanonEntries d j s
 no_pairs d j s none = subst (CanonEntries d j) (sym (nil_from_length s none)) (no_entries, (no_pair_there, tt), by j, omega arith)
   where
@@ -313,7 +313,7 @@ first_pair d j _ some (_, (pair k w left v es key first pairs, is), above, deep)
     by None y = tt
     by (Some i) y = y
 
--- where pairs stand, and not none, a key is read
+-- if there are pairs, and not zero, a key is read
 pub key_there : (d : ℕ) (j : Option (Bor (List ℕ))) (s : List ℕ) (e : Refusal) → 0 < length s → CanonEntries d j s → Refuses (RawOutcome amqp.ShortString s) ⊥ e → ⊥
 key_there d j s e some all x =
     let p = first_pair d j s some all in
@@ -338,7 +338,7 @@ module _ (d : ℕ) (j : Option (Bor (List ℕ))) (s key behind : List ℕ) (f : 
       let p = first_pair d j s there all in
       subst IsUtf8 (same_key p).0 p.short_key.utf8
 
-  -- it stands above the one before it
+  -- it is above the one before it
   pub key_above : CanonEntries d j s → IsAbove j key
   key_above all =
       let p = first_pair d j s there all in
@@ -351,7 +351,7 @@ module _ (d : ℕ) (j : Option (Bor (List ℕ))) (s key behind : List ℕ) (f : 
       (p.left, subst (λ (t : List ℕ). CanonFront d t p.left) (same_key p).1 p.front)
 
   module _ (after : List ℕ) (front : CanonFront d behind after) where
-    -- after the first pair the others are pairs, where all of them are
+    -- after the first pair the others are pairs, if all of them are
     pub pairs_after : (k : Bor (List ℕ)) → k.now ≡ key → CanonEntries d j s → CanonEntries d (Some k) after
     pairs_after k e all =
         let p = first_pair d j s there all in
@@ -359,7 +359,7 @@ module _ (d : ℕ) (j : Option (Bor (List ℕ))) (s key behind : List ℕ) (f : 
         let here : CanonFront d behind p.left = subst (λ (t : List ℕ). CanonFront d t p.left) same.1 p.front in
         subst (CanonEntries d (Some k)) (one_rest d behind p.left after here front) (p.others k (e ∙ sym same.0))
 
-    -- and all of them are, where they are
+    -- and all of them are, if they are
     pub pairs_before : (k : Bor (List ℕ)) → k.now ≡ key → IsUtf8 key → IsAbove j key → CanonEntries d (Some k) after → CanonEntries d j s
     pairs_before k e utf8 above (es, all, before, deep) = by front
       where
@@ -405,7 +405,7 @@ module _ (l : Limits) (s : List ℕ) where
       let f = front_within l.depth s rest v within.1 in
       (rest, (w, v, x, depth_within l.depth f.0 v f.1, e))
 
-  -- its header tells that it is there
+  -- its header shows that it is there
   pub len_header : (h : Header) (n : ℕ) → IsHeader l.frame s h → IsCanonicalLen l s n → h ≡ header.Whole
   len_header h n is (w, rest, v, e, size, x, within) =
       by h is (subst (λ (t : List ℕ). Outcome t (found v rest)) (sym e) (wire_found w rest v (canon_is_wire w v x)))
@@ -434,7 +434,7 @@ module _ (l : Limits) (s : List ℕ) where
   pub all_len : IsCanonicalWithin l s → IsCanonicalLen l s (length s)
   all_len (v, x, within) = (s, [], v, sym (append-nil s), refl, x, within)
 
-  -- they are canonical exactly where they are what is written for the value
+  -- they are canonical exactly when they are what is written for the value
   pub as_written : IsBytes s → IsCanonicalWithin l s → IsReadAsWritten l s
   as_written bytes (v, x, within) = (v, within, canon_is_text s v bytes x)
 
@@ -445,7 +445,7 @@ module _ (l : Limits) (s : List ℕ) where
       let is = read_is_value f.0 v (bytes_front f.0 [] (subst IsBytes f.2 bytes)) f.1.0 in
       (v, subst (λ (t : List ℕ). Canon t v) (sym e) (text_is_canon v is read.0 read.1), within)
 
-  -- so a length tells, and its absence
+  -- so a length decides, and its absence
   pub told_by_len : (r : Option ℕ) (b : Bool) → b ≡ option_eq eqb r (Some (length s)) → IfSome r (λ n. IsCanonicalLen l s n) → (r ≡ None → (n : ℕ) → IsCanonicalLen l s n → ⊥)
       → (b ≡ true → IsCanonicalWithin l s) × (b ≡ false → IsCanonicalWithin l s → ⊥)
   told_by_len None b is some none = (λ t. absurd (false≢true (sym is ∙ t)), λ f x. none refl (length s) (all_len x))

@@ -30,7 +30,7 @@ use Rattle.amqp_in_place.specs.Refs.{plain_tree, Denotes}
 use Rattle.amqp_in_place.specs.InPlaceResults.{HeadRefuses}
 use Rattle.amqp_in_place.specs.Heads.{IsPlain, IsPlainType, RawHeadIs, IsHead, AtAnyDepth, Means, IsKeyFrame}
 
--- a plain value denotes its tree
+-- a value that is no container denotes its tree
 pub plain_stands : (r : ValueRef) → IsPlain r → Denotes r (plain_tree r)
 plain_stands (at.FieldArray a) p = absurd p
 plain_stands (at.FieldTable t) p = absurd p
@@ -55,7 +55,7 @@ module _ (s mid : List ℕ) (type : AMQPType) (p : IsType s type mid) where
       by d zero f = absurd f
       by d (suc k) e = e
 
-  -- the answer for the payload is the value's
+  -- the result for the payload is the value's
   pub head_answer : (r : Result (SliceInput × Head) Refusal) → MatchResult r (λ x. RawHeadIs type mid x.1 (slice_bytes x.0)) (OnlyLacks (RawOutcome type mid) ⊥)
       → MatchResult r (λ x. IsHead s x.1 (slice_bytes x.0)) (HeadRefuses (AtAnyDepth s))
   head_answer (Ok x) q = (type, mid, p, q)
@@ -64,7 +64,7 @@ module _ (s mid : List ℕ) (type : AMQPType) (p : IsType s type mid) where
   head_answer (Err (Error k)) q = absurd q
   head_answer (Err (Failure k)) q = q
 
-  -- what is at the start of the value, where an encoding is
+  -- what is at the start of the value, if there is an encoding
   payload_front : (w left : List ℕ) (v : Tree) → Wire w v → s ≡ w ++ left → RawFront type mid (found v left)
   payload_front w left v q e =
       let x : Outcome s (found v left) = subst (λ (t : List ℕ). Outcome t (found v left)) (sym e) (wire_found w left v q) in
@@ -81,7 +81,7 @@ unsigned_lacks s (Incomplete (Size n)) x = unsigned_outcome s (more n) x
 unsigned_lacks s (Error k) x = x
 unsigned_lacks s (Failure k) x = x
 
--- where no type is read, no value is
+-- if no type is read, no value is
 none_there : (s : List ℕ) (o : Reading) → IsNoType s o → AtAnyDepth s o
 none_there [] o x = λ d. x
 none_there (c ∷ b) o x = λ d. rw x.1 x.0
@@ -118,7 +118,7 @@ head_within d s e x =
 
 -- ---- what a head is found to mean
 
--- a plain value is found, whatever the limit on depth
+-- a value that is no container is found, whatever the limit on depth
 pub plain_read : (s : List ℕ) (r : ValueRef) (rest : List ℕ) → IsHead s (head.Plain r) rest → AtAnyDepth s (found (plain_tree r) rest)
 plain_read s r rest (type, mid, p, q) = λ d.
     typed s mid type p d (found (plain_tree r) rest) (plain_found d type mid rest (plain_tree r) (plain_type type q.1) q.2)
@@ -187,13 +187,13 @@ module _ (s body rest : List ℕ) (f : IsKeyFrame s body rest) where
       let count : counted w8 s ≡ length body = ap (counted w8) f.framed ∙ omega (arith, f.few) in
       omega arith
 
-  -- a key whose bytes are no text is rejected
+  -- a key whose bytes aren't UTF-8 is rejected
   pub key_refused : (IsUtf8 body → ⊥) → RawOutcome amqp.ShortString s malformed
   key_refused none =
       let front : RawFront amqp.ShortString s malformed = λ b left v p d. none (short_bytes body rest b left v p (sym f.framed ∙ d)).utf8 in
       raw_whole amqp.ShortString s malformed key_whole front
 
-  -- a key whose bytes are text is found
+  -- a key whose bytes are UTF-8 is found
   pub key_found : IsUtf8 body → RawOutcome amqp.ShortString s (found (short body) rest)
   key_found utf8 =
       let is : IsShort body = record { few = f.few; utf8 = utf8 } in

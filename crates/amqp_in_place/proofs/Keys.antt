@@ -44,9 +44,9 @@ first_key _ named n _ e (pair k w left v ps is p all) =
       more_pairs = all;
     }
 
--- where the key's length stands first
+-- if the key's length is first
 module _ (s named : List ℕ) (n : ℕ) (e : s ≡ n ∷ named) where
-  -- its value takes what its header says
+  -- its value takes as many bytes as its header counts
   wide : (ps : Entries) (f : FirstKey named n ps) → extent (drop n named) ≡ length f.bytes
   wide ps f = ap extent f.front ∙ wire_extent f.bytes f.left f.value_there f.is_wire
 
@@ -100,7 +100,7 @@ module _ (s named : List ℕ) (n : ℕ) (e : s ≡ n ∷ named) where
   pub rest_left : (m : ℕ) → IsLeft s (drop m (drop n named))
   rest_left m = left_of_left s (drop n named) (drop m (drop n named)) value_left (take m (drop n named), sym (take-append-drop m (drop n named)))
 
--- where no byte is left no key is
+-- if no byte is left there is no key
 pub no_key_given : (s : List ℕ) (ps : Entries) → length s ≡ 0 → TableBody s ps → NextKeyIs ps None
 no_key_given _ _ e no_pairs = tt
 no_key_given _ _ e (pair k w left v ps is p all) = absurd (omega arith)

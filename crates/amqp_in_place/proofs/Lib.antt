@@ -1,6 +1,7 @@
 pub mod HeadLemmas
 pub mod Reading
 pub mod Stepping
+pub mod Written
 pub mod Lookups
 pub mod Owning
 pub mod OneValue
@@ -9,3 +10,8 @@ pub mod Places
 pub mod Canonicals
 pub mod RepeatedKeys
 pub mod Keys
+pub mod Paths
+pub mod FirstProblems
+pub mod Untagged
+pub mod Measuring
+pub mod CanonicalTables

@@ -5,14 +5,13 @@ use Rattle.std.specs.Borrow.{Bor}
 use Rattle.amqp_grammar.specs.Values.{Tree, Trees, no_trees, tree, Entries, no_entries, entry}
 use Rattle.amqp_grammar.specs.Maps.{same_bytes, last_at, value_at, has_key}
 use Rattle.amqp_grammar.specs.Grammar.{Wire, wire, ArrayBody, no_values, value, TableBody, no_pairs, pair}
-use Rattle.amqp_grammar.specs.Outcomes.{Outcome, found}
 use Rattle.amqp_grammar.proofs.GrammarLaws.{last_stays, key_has_value}
 use Rattle.amqp_types.specs.Inputs.{slice_bytes}
 use Rattle.amqp_types.specs.declared.input.SliceInput.{SliceInput}
 use Rattle.amqp_in_place.specs.Bodies.{HasEntries}
 use Rattle.amqp_in_place.specs.declared.refs.ValueRef.{ValueRef}
-use Rattle.amqp_in_place.specs.Refs.{Denotes}
-use Rattle.amqp_in_place.specs.Walks.{NextValueIs, NextKeyIs, BeginsAt, FoundIs, tree_at}
+use Rattle.amqp_in_place.specs.Walks.{NextValueBy, IsReadAt, NextKeyBy, BeginsBy, BeginsAt, FoundBy, tree_at}
+use Rattle.amqp_in_place.specs.Written.{WrittenPairs, WrittenAt}
 
 -- ---- emptiness
 
@@ -31,9 +30,19 @@ no_values_at _ _ (value w left v vs p all) = (λ e. absurd (omega (arith, length
 
 -- ---- tables
 
--- what was found so far, of the pairs before those that are left
+-- what was found so far, of the pairs before those that are left: a value by `Is`, bytes by `Body`
+abbrev pub LooksBy : (Tree → List ℕ → List ℕ → Type 0) → (List ℕ → Entries → Type 0) → List ℕ → List ℕ → List ℕ → Option (Bor (List ℕ)) → Type 0
+LooksBy Is Body key s rest at = (ps : Entries) → Body s ps → (qs : Entries) × (seen : Option Tree) × Body rest qs × BeginsBy Is seen at × (last_at key ps ≡ option_or (last_at key qs) seen)
+
 abbrev pub Looks : List ℕ → List ℕ → List ℕ → Option (Bor (List ℕ)) → Type 0
-Looks key s rest at = (ps : Entries) → TableBody s ps → (qs : Entries) × (seen : Option Tree) × TableBody rest qs × BeginsAt seen at × (last_at key ps ≡ option_or (last_at key qs) seen)
+Looks key s rest at = LooksBy IsReadAt TableBody key s rest at
+
+abbrev pub WrittenLooks : List ℕ → List ℕ → List ℕ → Option (Bor (List ℕ)) → Type 0
+WrittenLooks key s rest at = LooksBy WrittenAt WrittenPairs key s rest at
+
+-- none of the pairs before those that are left has the key
+abbrev pub PassesBy : (List ℕ → Entries → Type 0) → List ℕ → List ℕ → List ℕ → Type 0
+PassesBy Body key s rest = (ps : Entries) → Body s ps → (qs : Entries) × Body rest qs × (value_at key ps ≡ value_at key qs)
 
 pub or_none : (o : Option Tree) → o ≡ option_or o None
 or_none None = refl
@@ -43,51 +52,100 @@ pub or_or : (a b c : Option Tree) → option_or (option_or a b) c ≡ option_or 
 or_or None b c = refl
 or_or (Some v) b c = refl
 
-pub Looks-start : (key s : List ℕ) → Looks key s s None
-Looks-start key s = λ ps p. (ps, None, p, tt, or_none (last_at key ps))
+module _ (Is : Tree → List ℕ → List ℕ → Type 0) (Body : List ℕ → Entries → Type 0) where
+  pub looks-start : (key s : List ℕ) → LooksBy Is Body key s s None
+  looks-start key s = λ ps p. (ps, None, p, tt, or_none (last_at key ps))
 
--- one pair more
-pub Looks-step : (key s rest : List ℕ) (old new : Option (Bor (List ℕ))) (x : Bor (List ℕ) × Bor (List ℕ) × Bor (List ℕ)) (b : Bool)
-    → Looks key s rest old → ((qs : Entries) → TableBody rest qs → NextKeyIs qs (Some x)) → b ≡ same_bytes key x.0.now → new ≡ cond b (Some x.1) old
-    → Looks key s x.2.now new
-Looks-step key s rest old new x b before next is made = λ ps p.
-    let at = before ps p in
-    by at.0 at.1 at.2 (next at.0 at.2) at.3 at.4
-  where
-    pick : (c : Bool) (v : Tree) (seen : Option Tree) → Outcome x.1.now (found v x.2.now) → BeginsAt seen old → BeginsAt (option_or (cond c (Some v) None) seen) (cond c (Some x.1) old)
-    pick true v seen here there = (x.2.now, here)
-    pick false v seen here there = there
+  -- one pair more
+  pub looks-step : (key s rest : List ℕ) (old new : Option (Bor (List ℕ))) (x : Bor (List ℕ) × Bor (List ℕ) × Bor (List ℕ)) (b : Bool)
+      → LooksBy Is Body key s rest old → ((qs : Entries) → Body rest qs → NextKeyBy Is Body qs (Some x)) → b ≡ same_bytes key x.0.now → new ≡ cond b (Some x.1) old
+      → LooksBy Is Body key s x.2.now new
+  looks-step key s rest old new x b before next is made = λ ps p.
+      let at = before ps p in
+      by at.0 at.1 at.2 (next at.0 at.2) at.3 at.4
+    where
+      pick : (c : Bool) (v : Tree) (seen : Option Tree) → Is v x.1.now x.2.now → BeginsBy Is seen old → BeginsBy Is (option_or (cond c (Some v) None) seen) (cond c (Some x.1) old)
+      pick true v seen here there = (x.2.now, here)
+      pick false v seen here there = there
 
-    by : {o : Option Tree} (qs : Entries) (seen : Option Tree) → TableBody rest qs → NextKeyIs qs (Some x) → BeginsAt seen old → o ≡ option_or (last_at key qs) seen
-        → (rs : Entries) × (now : Option Tree) × TableBody x.2.now rs × BeginsAt now new × (o ≡ option_or (last_at key rs) now)
-    by no_entries seen q given there e = absurd given
-    by (entry k v rs) seen q given there e =
-        let c = same_bytes key k in
-        let same : b ≡ c = is ∙ ap (same_bytes key) given.0 in
-        let now = option_or (cond c (Some v) None) seen in
-        let begins : BeginsAt now new = subst (BeginsAt now) (sym (made ∙ ap (λ d. cond d (Some x.1) old) same)) (pick c v seen given.1 there) in
-        (rs, now, given.2, begins, e ∙ or_or (last_at key rs) (cond c (Some v) None) seen)
+      by : {o : Option Tree} (qs : Entries) (seen : Option Tree) → Body rest qs → NextKeyBy Is Body qs (Some x) → BeginsBy Is seen old → o ≡ option_or (last_at key qs) seen
+          → (rs : Entries) × (now : Option Tree) × Body x.2.now rs × BeginsBy Is now new × (o ≡ option_or (last_at key rs) now)
+      by no_entries seen q given there e = absurd given
+      by (entry k v rs) seen q given there e =
+          let c = same_bytes key k in
+          let same : b ≡ c = is ∙ ap (same_bytes key) given.0 in
+          let now = option_or (cond c (Some v) None) seen in
+          let begins : BeginsBy Is now new = subst (BeginsBy Is now) (sym (made ∙ ap (λ d. cond d (Some x.1) old) same)) (pick c v seen given.1 there) in
+          (rs, now, given.2, begins, e ∙ or_or (last_at key rs) (cond c (Some v) None) seen)
 
--- no pair more
-pub Looks-end : (key s rest : List ℕ) (at : Option (Bor (List ℕ))) → Looks key s rest at → ((qs : Entries) → TableBody rest qs → NextKeyIs qs None)
-    → (es : Entries) → HasEntries s es → BeginsAt (value_at key es) at
-Looks-end key s rest at looks next es (ps, p, is) =
-    let end = looks ps p in
-    let last : last_at key ps ≡ end.1 = end.4 ∙ by end.0 end.1 (next end.0 end.2) in
-    subst (λ (o : Option Tree). BeginsAt o at) (sym (ap (value_at key) is ∙ last_stays key ps ∙ last)) end.3
-  where
-    by : (qs : Entries) (seen : Option Tree) → NextKeyIs qs None → option_or (last_at key qs) seen ≡ seen
-    by no_entries seen given = refl
-    by (entry k v qs) seen given = absurd given
+  -- no pair more
+  pub looks-end : (key s rest : List ℕ) (at : Option (Bor (List ℕ))) → LooksBy Is Body key s rest at → ((qs : Entries) → Body rest qs → NextKeyBy Is Body qs None)
+      → (ps : Entries) → Body s ps → BeginsBy Is (last_at key ps) at
+  looks-end key s rest at looks next ps p =
+      let end = looks ps p in
+      let last : last_at key ps ≡ end.1 = end.4 ∙ by end.0 end.1 (next end.0 end.2) in
+      subst (λ (o : Option Tree). BeginsBy Is o at) (sym last) end.3
+    where
+      by : (qs : Entries) (seen : Option Tree) → NextKeyBy Is Body qs None → option_or (last_at key qs) seen ≡ seen
+      by no_entries seen given = refl
+      by (entry k v qs) seen given = absurd given
 
--- what is read where the value begins is the value
-pub found_at : (o : Option Tree) (at : Bor (List ℕ)) (r : ValueRef) → BeginsAt o (Some at) → ((v : Tree) (rest : List ℕ) → Outcome at.now (found v rest) → Denotes r v) → FoundIs o (Some r)
-found_at None at r begins stands = absurd begins
-found_at (Some v) at r begins stands = stands v begins.0 begins.1
+  pub passes-start : (key s : List ℕ) → PassesBy Body key s s
+  passes-start key s = λ ps p. (ps, p, refl)
 
-pub found_nowhere : (o : Option Tree) → BeginsAt o None → FoundIs o None
-found_nowhere None begins = tt
-found_nowhere (Some v) begins = absurd begins
+  -- a pair whose key is another
+  pub passes-step : (key s rest : List ℕ) (x : Bor (List ℕ) × Bor (List ℕ) × Bor (List ℕ)) → PassesBy Body key s rest
+      → ((qs : Entries) → Body rest qs → NextKeyBy Is Body qs (Some x)) → false ≡ same_bytes key x.0.now → PassesBy Body key s x.2.now
+  passes-step key s rest x before next is = λ ps p.
+      let at = before ps p in
+      by at.0 (next at.0 at.1) at.2
+    where
+      by : {o : Option Tree} (qs : Entries) → NextKeyBy Is Body qs (Some x) → o ≡ value_at key qs → (rs : Entries) × Body x.2.now rs × (o ≡ value_at key rs)
+      by no_entries given e = absurd given
+      by (entry k v rs) given e =
+          let same : same_bytes key k ≡ false = ap (same_bytes key) (sym given.0) ∙ sym is in
+          (rs, given.2, e ∙ ap (λ (d : Bool). cond d (Some v) (value_at key rs)) same)
+
+  -- a pair with the key
+  pub passes-here : (key s rest : List ℕ) (x : Bor (List ℕ) × Bor (List ℕ) × Bor (List ℕ)) → PassesBy Body key s rest
+      → ((qs : Entries) → Body rest qs → NextKeyBy Is Body qs (Some x)) → true ≡ same_bytes key x.0.now
+      → (ps : Entries) → Body s ps → BeginsBy Is (value_at key ps) (Some x.1)
+  passes-here key s rest x before next is ps p =
+      let at = before ps p in
+      by at.0 (next at.0 at.1) at.2
+    where
+      by : {o : Option Tree} (qs : Entries) → NextKeyBy Is Body qs (Some x) → o ≡ value_at key qs → BeginsBy Is o (Some x.1)
+      by no_entries given e = absurd given
+      by (entry k v rs) given e =
+          let same : same_bytes key k ≡ true = ap (same_bytes key) (sym given.0) ∙ sym is in
+          let found = e ∙ ap (λ (d : Bool). cond d (Some v) (value_at key rs)) same in
+          subst (λ (a : Option Tree). BeginsBy Is a (Some x.1)) (sym found) (x.2.now, given.1)
+
+  -- no pair more
+  pub passes-end : (key s rest : List ℕ) → PassesBy Body key s rest → ((qs : Entries) → Body rest qs → NextKeyBy Is Body qs None)
+      → (ps : Entries) → Body s ps → BeginsBy Is (value_at key ps) None
+  passes-end key s rest before next ps p =
+      let at = before ps p in
+      by at.0 (next at.0 at.1) at.2
+    where
+      by : {o : Option Tree} (qs : Entries) → NextKeyBy Is Body qs None → o ≡ value_at key qs → BeginsBy Is o None
+      by no_entries given e = subst (λ (a : Option Tree). BeginsBy Is a None) (sym e) tt
+      by (entry k v qs) given e = absurd given
+
+-- of equal keys the last pair's value is the entry's
+pub last_is_value : (key s : List ℕ) (at : Option (Bor (List ℕ))) → ((ps : Entries) → TableBody s ps → BeginsAt (last_at key ps) at) → (es : Entries) → HasEntries s es
+    → BeginsAt (value_at key es) at
+last_is_value key s at last es (ps, p, is) = subst (λ (o : Option Tree). BeginsAt o at) (sym (ap (value_at key) is ∙ last_stays key ps)) (last ps p)
+
+-- what is read from the value's first byte on is the value
+module _ (At : Tree → List ℕ → List ℕ → Type 0) (Is : ValueRef → Tree → Type 0) where
+  pub found_by : (o : Option Tree) (at : Bor (List ℕ)) (r : ValueRef) → BeginsBy At o (Some at) → ((v : Tree) (rest : List ℕ) → At v at.now rest → Is r v) → FoundBy Is o (Some r)
+  found_by None at r begins stands = absurd begins
+  found_by (Some v) at r begins stands = stands v begins.0 begins.1
+
+  pub found_nowhere : (o : Option Tree) → BeginsBy At o None → FoundBy Is o None
+  found_nowhere None begins = tt
+  found_nowhere (Some v) begins = absurd begins
 
 -- whether it begins somewhere is whether the key is there
 pub begins_has_key : (key : List ℕ) (es : Entries) (at : Option (Bor (List ℕ))) → BeginsAt (value_at key es) at → is_some at ≡ has_key key es
@@ -101,41 +159,42 @@ begins_has_key key es at begins = by (value_at key es) at begins ∙ sym (key_ha
 
 -- ---- arrays
 
--- what is asked for stands among the values that are left
-abbrev pub Counts : ℕ → List ℕ → List ℕ → ℕ → Type 0
-Counts n s rest left = (vs : Trees) → ArrayBody s vs → (us : Trees) × ArrayBody rest us × (tree_at n vs ≡ tree_at left us)
+-- what is asked for is among the values that are left
+abbrev pub CountsBy : (List ℕ → Trees → Type 0) → ℕ → List ℕ → List ℕ → ℕ → Type 0
+CountsBy Body n s rest left = (vs : Trees) → Body s vs → (us : Trees) × Body rest us × (tree_at n vs ≡ tree_at left us)
 
-pub Counts-start : (n : ℕ) (s : List ℕ) → Counts n s s n
-Counts-start n s = λ vs p. (vs, p, refl)
+module _ (Is : ValueRef → Tree → Type 0) (Body : List ℕ → Trees → Type 0) where
+  pub counts-start : (n : ℕ) (s : List ℕ) → CountsBy Body n s s n
+  counts-start n s = λ vs p. (vs, p, refl)
 
-pub Counts-step : (n : ℕ) (s rest : List ℕ) (left : ℕ) (x : ValueRef × SliceInput) → Counts n s rest (suc left) → ((us : Trees) → ArrayBody rest us → NextValueIs us (Some x))
-    → Counts n s (slice_bytes x.1) left
-Counts-step n s rest left x before next = λ vs p.
-    let at = before vs p in
-    by at.0 (next at.0 at.1) at.2
-  where
-    by : {o : Option Tree} (us : Trees) → NextValueIs us (Some x) → o ≡ tree_at (suc left) us → (rs : Trees) × ArrayBody (slice_bytes x.1) rs × (o ≡ tree_at left rs)
-    by no_trees given e = absurd given
-    by (tree v us) given e = (us, given.1, e)
+  pub counts-step : (n : ℕ) (s rest : List ℕ) (left : ℕ) (x : ValueRef × SliceInput) → CountsBy Body n s rest (suc left) → ((us : Trees) → Body rest us → NextValueBy Is Body us (Some x))
+      → CountsBy Body n s (slice_bytes x.1) left
+  counts-step n s rest left x before next = λ vs p.
+      let at = before vs p in
+      by at.0 (next at.0 at.1) at.2
+    where
+      by : {o : Option Tree} (us : Trees) → NextValueBy Is Body us (Some x) → o ≡ tree_at (suc left) us → (rs : Trees) × Body (slice_bytes x.1) rs × (o ≡ tree_at left rs)
+      by no_trees given e = absurd given
+      by (tree v us) given e = (us, given.1, e)
 
--- it is the first of them
-pub Counts-here : (n : ℕ) (s rest : List ℕ) (x : ValueRef × SliceInput) → Counts n s rest 0 → ((us : Trees) → ArrayBody rest us → NextValueIs us (Some x))
-    → (vs : Trees) → ArrayBody s vs → FoundIs (tree_at n vs) (Some x.0)
-Counts-here n s rest x counts next vs p =
-    let at = counts vs p in
-    by at.0 (next at.0 at.1) at.2
-  where
-    by : {o : Option Tree} (us : Trees) → NextValueIs us (Some x) → o ≡ tree_at 0 us → FoundIs o (Some x.0)
-    by no_trees given e = absurd given
-    by (tree v us) given e = subst (λ (o : Option Tree). FoundIs o (Some x.0)) (sym e) given.0
+  -- it is the first of them
+  pub counts-here : (n : ℕ) (s rest : List ℕ) (x : ValueRef × SliceInput) → CountsBy Body n s rest 0 → ((us : Trees) → Body rest us → NextValueBy Is Body us (Some x))
+      → (vs : Trees) → Body s vs → FoundBy Is (tree_at n vs) (Some x.0)
+  counts-here n s rest x counts next vs p =
+      let at = counts vs p in
+      by at.0 (next at.0 at.1) at.2
+    where
+      by : {o : Option Tree} (us : Trees) → NextValueBy Is Body us (Some x) → o ≡ tree_at 0 us → FoundBy Is o (Some x.0)
+      by no_trees given e = absurd given
+      by (tree v us) given e = subst (λ (o : Option Tree). FoundBy Is o (Some x.0)) (sym e) given.0
 
--- or there is none
-pub Counts-end : (n : ℕ) (s rest : List ℕ) (left : ℕ) → Counts n s rest left → ((us : Trees) → ArrayBody rest us → NextValueIs us None)
-    → (vs : Trees) → ArrayBody s vs → FoundIs (tree_at n vs) None
-Counts-end n s rest left counts next vs p =
-    let at = counts vs p in
-    by at.0 (next at.0 at.1) at.2
-  where
-    by : {o : Option Tree} (us : Trees) → NextValueIs us None → o ≡ tree_at left us → FoundIs o None
-    by no_trees given e = subst (λ (o : Option Tree). FoundIs o None) (sym e) tt
-    by (tree v us) given e = absurd given
+  -- or it isn't there
+  pub counts-end : (n : ℕ) (s rest : List ℕ) (left : ℕ) → CountsBy Body n s rest left → ((us : Trees) → Body rest us → NextValueBy Is Body us None)
+      → (vs : Trees) → Body s vs → FoundBy Is (tree_at n vs) None
+  counts-end n s rest left counts next vs p =
+      let at = counts vs p in
+      by at.0 (next at.0 at.1) at.2
+    where
+      by : {o : Option Tree} (us : Trees) → NextValueBy Is Body us None → o ≡ tree_at left us → FoundBy Is o None
+      by no_trees given e = subst (λ (o : Option Tree). FoundBy Is o None) (sym e) tt
+      by (tree v us) given e = absurd given

@@ -15,7 +15,7 @@ use Rattle.amqp_in_place.specs.Bodies.{HasValues, HasPairs, HasEntries}
 no_prop : IsProp ⊥
 no_prop x y = absurd x
 
--- where bytes are values, only memory can lack
+-- if bytes are values, the only error is out of memory
 pub values_there : (d : ℕ) (s : List ℕ) (e : Refusal) → length s ≤ d → ∥ HasValues s ∥₁ → Refuses (IsNoBody d s) (0 < length s) e → ((k : ErrorKind) → e ≡ Failure k → ⊥) → ⊥
 values_there d s (Incomplete Unknown) deep has x other = absurd x
 values_there d s (Incomplete (Size n)) deep has x other = absurd x
@@ -27,7 +27,7 @@ values_there d s (Error OutOfMemory) deep has x other = absurd x
 values_there d s (Error TooLarge) deep has x other = absurd x
 values_there d s (Failure k) deep has x other = other k refl
 
--- and where they are pairs
+-- and if they are pairs
 pub pairs_there : (d : ℕ) (s : List ℕ) (e : Refusal) → length s ≤ d → ∥ HasPairs s ∥₁ → Refuses (IsNoTable d s) (0 < length s) e → ((k : ErrorKind) → e ≡ Failure k → ⊥) → ⊥
 pairs_there d s (Incomplete Unknown) deep has x other = absurd x
 pairs_there d s (Incomplete (Size n)) deep has x other = absurd x

@@ -1,4 +1,4 @@
--- Where a value that is read lies.
+-- The place of a value that is read.
 use Rattle.std.proofs.Common.{◌≡◌, ℕ, zero, suc, List, [], ◌∷◌, ◌++◌, refl, sym, ap, ◌∙◌, subst, append_assoc}
 use Rattle.amqp_types.specs.declared.amqp_type.AMQPType.{AMQPType}
 use Rattle.amqp_grammar.specs.Values.{Tree, long, octets}
@@ -36,7 +36,7 @@ octets_bytes _ _ _ b (raw_array s vs fits p) e = absurd cc
 octets_bytes _ _ _ b (raw_table s ps fits p) e = absurd cc
 
 -- what a payload is that is found
-payload_of : (type : AMQPType) (s rest : List ℕ) (v : Tree) → RawOutcome type s (found v rest) → (w : List ℕ) × Raw type w v × (s ≡ w ++ rest)
+pub payload_of : (type : AMQPType) (s rest : List ℕ) (v : Tree) → RawOutcome type s (found v rest) → (w : List ℕ) × Raw type w v × (s ≡ w ++ rest)
 payload_of type s rest v x = by (lack type s) x
   where
     by : (n : ℕ) → NeedsMoreOr n (RawFront type s (found v rest)) (found v rest) → RawFront type s (found v rest)
@@ -92,7 +92,7 @@ left_of_left s mid rest a b = (a.0 ++ b.0, a.1 ∙ (ap (λ (t : List ℕ). a.0 +
 pub nothing_before : (s : List ℕ) → IsLeft s s
 nothing_before s = ([], refl)
 
--- one step of a walk over s, of which `rest` is left
+-- one step of an iteration over s, of which `rest` is left
 module _ (s rest behind : List ℕ) (r : ValueRef) (left : IsLeft s rest) where
   pub value_left : LiesIn rest r behind → IsLeft s behind
   value_left x = left_of_left s rest behind left (lies_before rest r behind x)

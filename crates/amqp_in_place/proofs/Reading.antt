@@ -27,7 +27,7 @@ ascii_is_utf8 s ascii = IsUtf8-from_ascii s (IsAscii-from_all s ascii)
 no_heavy : (Is : Reading → Type 0) (heavy : Type 0) (e : Refusal) → Refuses Is ⊥ e → Refuses Is heavy e
 no_heavy Is heavy e x = Refuses-weaker Is Is ⊥ heavy e (λ o y. y) (λ h. absurd h) x
 
--- the error of what is in a body, where memory is never wanted: the body isn't one
+-- the error of what is in a body, if nothing is allocated: the body isn't one
 told : (Is Now : Reading → Type 0) (heavy : Type 0) (e : Refusal) → Refuses Is ⊥ e → Refuses Now heavy (inside e) → Now malformed
 told Is Now heavy (Incomplete m) x y = y
 told Is Now heavy (Error k) x y = y

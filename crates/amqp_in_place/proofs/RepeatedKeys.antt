@@ -1,4 +1,4 @@
--- Keys that stand more than once, and keys that are ascending.
+-- Keys that occur more than once, and keys that are ascending.
 use Rattle.std.proofs.Common.{◌≡◌, ◌<◌, ◌≤◌, ◌+◌, ◌↔◌, ℕ, Bool, true, false, cond, List, Option, Some, None, refl, sym, ap, ◌∙◌, subst, arith}
 use Rattle.std.specs.List.{list_any}
 use Rattle.std.specs.Borrow.{Bor}
@@ -20,13 +20,13 @@ use Rattle.amqp_in_place.specs.Canonicals.{IsAbove, AreAbove}
 use Rattle.amqp_in_place.specs.Keys.{times_at, RepeatedIs}
 use Rattle.amqp_in_place.specs.Walks.{NextPairIs}
 
--- one where something holds
+-- one place at which something holds
 abbrev one_if : Bool → ℕ
 one_if b = cond b 1 0
 
--- ---- keys that are ascending stand once
+-- ---- keys that are ascending occur once
 
--- a key below the first of sorted keys is none of them
+-- a key below the first of sorted keys isn't one of them
 times-below : (j k : List ℕ) (ps : Entries) → slice_cmp nat_cmp j k ≡ Less → ComesBefore k ps → IsRising ps → times_at j ps ≡ 0
 times-below j k no_entries less before rises = refl
 times-below j k (entry i v ps) less before rises =
@@ -55,9 +55,9 @@ rising_once (entry j v ps) rises k = by (same_bytes k j) refl (rising_once ps ri
         omega (arith, none)
     by false is few = omega arith
 
--- ---- the walk that looks whether keys are ascending
+-- ---- the iteration that checks whether keys are ascending
 
--- the keys are ascending where those that are left rise, above the one before them
+-- the keys are ascending if those that are left are, above the one before them
 abbrev pub Rises : List ℕ → List ℕ → Option (Bor (List ℕ)) → Type 0
 Rises s rest j = (ps : Entries) → TableBody s ps → (qs : Entries) × TableBody rest qs × (IsRising ps ↔ (AreAbove j qs × IsRising qs))
 
@@ -109,7 +109,7 @@ module _ (s rest : List ℕ) (j : Option (Bor (List ℕ))) (rises : Rises s rest
       by no_entries given = (above_none j, tt)
       by (entry i v rs) given = absurd given
 
--- ---- the walk that keeps the keys in a set
+-- ---- the iteration that collects the keys in a set
 
 -- whether the set has the key
 abbrev pub has : BTreeSet (Bor (List ℕ)) → List ℕ → Bool
@@ -119,7 +119,7 @@ has t k = contains_by (λ (j : Bor (List ℕ)). slice_cmp nat_cmp k j.now) t
 abbrev by_bytes : Bor (List ℕ) → Bor (List ℕ) → Ordering
 by_bytes x y = slice_cmp nat_cmp x.now y.now
 
--- a key stands once more than among the pairs that are left where the set has it
+-- a key occurs once more than among the pairs that are left if the set has it
 abbrev pub Seen : List ℕ → List ℕ → BTreeSet (Bor (List ℕ)) → Type 0
 Seen s rest t = (ps : Entries) → TableBody s ps → (qs : Entries) × TableBody rest qs × ((k : List ℕ) → times_at k ps ≡ one_if (has t k) + times_at k qs)
 
@@ -134,7 +134,7 @@ Seen-start s t none = λ ps p. (
 )
 
 module _ (s rest : List ℕ) (t : BTreeSet (Bor (List ℕ))) (seen : Seen s rest t) where
-  -- a new key comes to the set
+  -- a new key is added to the set
   pub Seen-step : (x : Bor (List ℕ) × ValueRef × SliceInput) (u : BTreeSet (Bor (List ℕ))) → ((qs : Entries) → TableBody rest qs → NextPairIs qs (Some x))
       → contains by_bytes t x.0 ≡ false → Updates by_bytes t u x.0 true → Seen s (slice_bytes x.2) u
   Seen-step x u next new updates = λ ps p.
@@ -168,7 +168,7 @@ module _ (s rest : List ℕ) (t : BTreeSet (Bor (List ℕ))) (seen : Seen s rest
             omega (arith, here, e k),
       )
 
-  -- a key that the set has stands twice
+  -- a key that the set has occurs twice
   pub Seen-again : (x : Bor (List ℕ) × ValueRef × SliceInput) → ((qs : Entries) → TableBody rest qs → NextPairIs qs (Some x)) → contains by_bytes t x.0 ≡ true
       → (ps : Entries) → TableBody s ps → RepeatedIs ps (Some x.0)
   Seen-again x next old ps p =
@@ -182,7 +182,7 @@ module _ (s rest : List ℕ) (t : BTreeSet (Bor (List ℕ))) (seen : Seen s rest
           let here : one_if (same_bytes x.0.now i) ≡ 1 = ap one_if ((bytes_decides x.0.now i).1 given.0) in
           omega (arith, before, here, e)
 
-  -- where no pair is left no key stands twice
+  -- if no pair is left no key occurs twice
   pub Seen-end : ((qs : Entries) → TableBody rest qs → NextPairIs qs None) → (ps : Entries) → TableBody s ps → RepeatedIs ps None
   Seen-end next ps p =
       let at = seen ps p in

@@ -39,13 +39,13 @@ skipped s (head.Plain r) rest is =
 skipped s (head.FieldArray i) rest (type, mid, p, q) = frame_extent s mid (slice_bytes i) rest type p q.1 (ap (λ t. extent_at (Some t) mid) q.0)
 skipped s (head.FieldTable i) rest (type, mid, p, q) = frame_extent s mid (slice_bytes i) rest type p q.1 (ap (λ t. extent_at (Some t) mid) q.0)
 
--- where a value is found it takes that many
+-- if a value is found it takes that many
 pub width_of_found : (s : List ℕ) (n : ℕ) → n ≡ extent s → IsWidthOfFound s n
 width_of_found s n e v rest x =
     let f = found_front s rest v x in
     omega (arith, e, ap extent f.2, wire_extent f.0 rest v f.1, ap length f.2, length-append f.0 rest)
 
--- what is rejected whatever the limit on depth is rejected with none
+-- what is rejected whatever the limit on depth is rejected without a limit
 at_no_depth : (s : List ℕ) (o : Reading) → AtAnyDepth s o → Outcome s o
 at_no_depth s o y = unlimited (length s) s o (omega arith) (y (length s))
 

@@ -35,7 +35,7 @@ use Rattle.amqp_in_place.proofs.HeadLemmas.{only, head_refuses}
 no_prop : IsProp ⊥
 no_prop x y = absurd x
 
--- where reading finds something it isn't rejected
+-- if reading finds something it isn't rejected
 pub refusal_of_none : (Is : Reading → Type 0) → ((o : Reading) → Is o → ((v : Tree) (left : List ℕ) → o ≡ found v left → ⊥) → ⊥) → (e : Refusal) → Refuses Is ⊥ e → ⊥
 refusal_of_none Is f (Incomplete Unknown) x = x
 refusal_of_none Is f (Incomplete (Size n)) x = f (more n) x (λ v left e. cc)
@@ -141,14 +141,14 @@ value_given s h vs x some is stands p =
     (stands first.at.value_there m.0, subst (λ (t : List ℕ). ArrayBody t first.others) m.1 first.more_values) in
     subst (λ (us : Trees). NextValueIs us (Some x)) (sym first.are) given
 
--- where no byte is left no value is
+-- if no byte is left there is no value
 pub no_value_given : (s : List ℕ) (vs : Trees) → length s ≡ 0 → ArrayBody s vs → NextValueIs vs None
 no_value_given _ _ e no_values = tt
 no_value_given _ _ e (value w left v vs p all) = absurd (omega (arith, length-append w left, length-wire w v p))
 
 -- ---- pairs
 
--- where pairs stand, and not none, a key is read
+-- if there are pairs, and not zero, a key is read
 pub key_there : (s : List ℕ) (e : Refusal) → 0 < length s → ∥ HasPairs s ∥₁ → Refuses (RawOutcome amqp.ShortString s) ⊥ e → ⊥
 key_there s e some has x =
     ∥∥₁_elim has no_prop (λ (p : HasPairs s). refusal_of_none (RawOutcome amqp.ShortString s) (λ o y other. by s p.0 o some p.1 y other) e x)
@@ -184,7 +184,7 @@ first_pair _ key behind _ f (pair k w left v ps is p all) =
     }
 
 module _ (s key behind : List ℕ) (f : IsKeyFrame s key behind) where
-  -- the key is text
+  -- the key is UTF-8
   pub key_utf8 : ∥ HasPairs s ∥₁ → IsUtf8 key
   key_utf8 has =
       IsUtf8-from_is_utf8 key (∥∥₁_elim has (Bool-set _ _) (λ (p : HasPairs s). is_utf8-from_IsUtf8 key (first_pair s key behind p.0 f p.1).short_key.utf8))
@@ -221,7 +221,7 @@ pair_given s h ps behind x f is stands p =
     (refl, stands first.at.value_there m.0, subst (λ (t : List ℕ). TableBody t first.others) m.1 first.more_pairs) in
     subst (λ (qs : Entries). NextPairIs qs (Some x)) (sym first.are) given
 
--- where no byte is left no pair is
+-- if no byte is left there is no pair
 pub no_pair_given : (s : List ℕ) (ps : Entries) → length s ≡ 0 → TableBody s ps → NextPairIs ps None
 no_pair_given _ _ e no_pairs = tt
 no_pair_given _ _ e (pair k w left v ps is p all) = absurd (omega arith)

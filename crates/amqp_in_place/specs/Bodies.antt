@@ -11,6 +11,6 @@ HasValues s = (vs : Trees) × ArrayBody s vs
 abbrev pub HasPairs : List ℕ → Type 0
 HasPairs s = (ps : Entries) × TableBody s ps
 
--- the bytes are pairs that come to these entries: of equal keys the last pair's value stays
+-- the bytes are pairs that result in these entries: of equal keys the last pair's value stays
 abbrev pub HasEntries : List ℕ → Entries → Type 0
 HasEntries s es = (ps : Entries) × TableBody s ps × (es ≡ insert_all no_entries ps)

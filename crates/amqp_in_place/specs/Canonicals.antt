@@ -33,12 +33,12 @@ CanonFront d s rest = (w : List ℕ) × (v : Tree) × Canon w v × (depth v ≤ 
 abbrev pub CanonValues : ℕ → List ℕ → Type 0
 CanonValues d s = (vs : Trees) × CanonBody s vs × (greatest_depth vs ≤ d)
 
--- the key stands above the one before it, if there is one
+-- the key is above the one before it, if there is one
 abbrev pub IsAbove : Option (Bor (List ℕ)) → List ℕ → Type 0
 IsAbove None k = Unit {0}
 IsAbove (Some j) k = slice_cmp nat_cmp j.now k ≡ Less
 
--- the first key stands above the one before it, if there are both
+-- the first key is above the one before it, if there are both
 abbrev pub AreAbove : Option (Bor (List ℕ)) → Entries → Type 0
 AreAbove None es = Unit {0}
 AreAbove (Some j) es = ComesBefore j.now es
@@ -47,7 +47,7 @@ AreAbove (Some j) es = ComesBefore j.now es
 abbrev pub CanonEntries : ℕ → Option (Bor (List ℕ)) → List ℕ → Type 0
 CanonEntries d j s = (es : Entries) × CanonPairs s es × AreAbove j es × (entries_depth es ≤ d)
 
--- no alternate tag stands first, and after a boolean's 0 or 1
+-- no alternate tag is first, and after a boolean's 0 or 1
 abbrev pub IsFirstSpelling : List ℕ → Type 0
 IsFirstSpelling [] = Unit {0}
 IsFirstSpelling (c ∷ b) = (c ≢ 85) × (c ≢ 76) × (c ≡ 116 → IsStrict amqp.Boolean b)

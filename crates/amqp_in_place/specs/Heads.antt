@@ -23,13 +23,13 @@ IsPlain (at.FieldArray a) = ⊥
 IsPlain (at.FieldTable t) = ⊥
 IsPlain _ = Unit {0}
 
--- the type is none of a container
+-- the type isn't one of a container
 abbrev pub IsPlainType : AMQPType → Type 0
 IsPlainType amqp.FieldArray = ⊥
 IsPlainType amqp.FieldTable = ⊥
 IsPlainType _ = Unit {0}
 
--- the head of a payload of the type: a plain value, or the body of a container
+-- the head of a payload of the type: a scalar or a string, or the body of a container
 abbrev pub RawHeadIs : AMQPType → List ℕ → Head → List ℕ → Type 0
 RawHeadIs type s (head.Plain r) rest = IsPlain r × IsPlainType type × RawOutcome type s (found (plain_tree r) rest)
 RawHeadIs type s (head.FieldArray i) rest = (type ≡ amqp.FieldArray) × IsLengthPrefixed s (slice_bytes i) rest

@@ -7,12 +7,12 @@ use Rattle.amqp_parsing.specs.declared.errors.ErrorKind.TheVariants.{MapOpt}
 use Rattle.amqp_parsing.specs.ParseResults.{RefusesAs}
 use Rattle.amqp_parsing.specs.Refusals.{Refusal}
 
--- an error tells of the input, and of no memory
+-- an error reports the input, and no memory
 abbrev pub NeedsNoMemory : Refusal → Type 0
 NeedsNoMemory (Failure kind) = ⊥
 NeedsNoMemory _ = Unit {0}
 
--- an error of reading a type tag and a length is right: where enough bytes are there, the type tag
+-- an error of reading a type tag and a length is right: if enough bytes are there, the type tag
 -- denotes no type
 abbrev pub HeadRefuses : (Reading → Type 0) → Refusal → Type 0
 HeadRefuses Is e = RefusesAs (λ kind. (kind ≡ MapOpt) × Is unknown) Is ⊥ e
@@ -21,6 +21,6 @@ HeadRefuses Is e = RefusesAs (λ kind. (kind ≡ MapOpt) × Is unknown) Is ⊥ e
 abbrev pub IsLeft : List ℕ → List ℕ → Type 0
 IsLeft s rest = (w : List ℕ) × (s ≡ w ++ rest)
 
--- n bytes are before what is left after the value at the beginning, where there is one
+-- n bytes are before what is left after the value at the beginning, if there is one
 abbrev pub IsWidthOfFound : List ℕ → ℕ → Type 0
 IsWidthOfFound s n = (v : Tree) (rest : List ℕ) → Outcome s (found v rest) → length s ≡ n + length rest

@@ -1,9 +1,14 @@
 pub mod Bodies
 pub mod Refs
 pub mod Heads
+pub mod Written
 pub mod Walks
 pub mod Keys
 pub mod InPlaceResults
 pub mod Suffix
 pub mod Places
 pub mod Canonicals
+pub mod Paths
+pub mod Rabbitmq
+pub mod RabbitmqResults
+pub mod Measures

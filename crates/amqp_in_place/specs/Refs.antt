@@ -37,7 +37,7 @@ plain_tree (at.Timestamp n) = scalar (number amqp.Timestamp n)
 plain_tree (at.ByteArray s) = octets s.now
 plain_tree _ = scalar void
 
--- v is the value that is referred to: of a container what the grammar says of its body
+-- v is the value that is referred to: of a container what the grammar defines of its body
 abbrev pub Denotes : ValueRef → Tree → Type 0
 Denotes (at.FieldArray a) v = (vs : Trees) × ArrayBody (array_body a) vs × (v ≡ array vs)
 Denotes (at.FieldTable t) v = (es : Entries) × HasEntries (table_body t) es × (v ≡ table es)
@@ -46,6 +46,10 @@ Denotes r v = v ≡ plain_tree r
 -- it is one value
 abbrev pub IsOneValue : ValueRef → Type 0
 IsOneValue r = (u v : Tree) → Denotes r u → Denotes r v → u ≡ v
+
+-- it is one table
+abbrev pub IsOneTable : TableRef → Type 0
+IsOneTable t = (es fs : Entries) → HasEntries (table_body t) es → HasEntries (table_body t) fs → es ≡ fs
 
 -- an array of these values, or a table of these entries, is referred to, if there is one
 abbrev pub ArrayIs : Option Trees → Option ArrayRef → Type 0

@@ -9,14 +9,22 @@ use Rattle.amqp_types.specs.declared.input.SliceInput.{SliceInput}
 use Rattle.amqp_in_place.specs.declared.refs.ValueRef.{ValueRef}
 use Rattle.amqp_in_place.specs.Refs.{Denotes}
 use Rattle.amqp_in_place.specs.Bodies.{HasValues, HasPairs}
+use Rattle.amqp_in_place.specs.Written.{IsWritten, WrittenValues, WrittenPairs, WrittenAt}
 
--- the first of the values is given, and the bytes of the others
+-- the first of the values is returned, and the bytes of the others: a value by `Is`, bytes by
+-- `Body`
+abbrev pub NextValueBy : (ValueRef → Tree → Type 0) → (List ℕ → Trees → Type 0) → Trees → Option (ValueRef × SliceInput) → Type 0
+NextValueBy Is Body no_trees None = Unit {0}
+NextValueBy Is Body (tree v vs) (Some x) = Is x.0 v × Body (slice_bytes x.1) vs
+NextValueBy Is Body _ _ = ⊥
+
 abbrev pub NextValueIs : Trees → Option (ValueRef × SliceInput) → Type 0
-NextValueIs no_trees None = Unit {0}
-NextValueIs (tree v vs) (Some x) = Denotes x.0 v × ArrayBody (slice_bytes x.1) vs
-NextValueIs _ _ = ⊥
+NextValueIs vs x = NextValueBy Denotes ArrayBody vs x
 
--- after the value that is given stand fewer bytes than n, which are values
+abbrev pub NextWrittenIs : Trees → Option (ValueRef × SliceInput) → Type 0
+NextWrittenIs ts x = NextValueBy IsWritten WrittenValues ts x
+
+-- after the value that is returned are fewer bytes than n, which are values
 abbrev pub MoreValues : ℕ → Option (ValueRef × SliceInput) → Type 0
 MoreValues n None = Unit {0}
 MoreValues n (Some x) = (length (slice_bytes x.1) < n) × ∥ HasValues (slice_bytes x.1) ∥₁
@@ -27,7 +35,7 @@ NextPairIs no_entries None = Unit {0}
 NextPairIs (entry k v ps) (Some x) = (x.0.now ≡ k) × Denotes x.1 v × TableBody (slice_bytes x.2) ps
 NextPairIs _ _ = ⊥
 
--- after the pair that is given stand fewer bytes than n, which are pairs
+-- after the pair that is returned are fewer bytes than n, which are pairs
 abbrev pub MorePairs : ℕ → Option (Bor (List ℕ) × ValueRef × SliceInput) → Type 0
 MorePairs n None = Unit {0}
 MorePairs n (Some x) = (length (slice_bytes x.2) < n) × ∥ HasPairs (slice_bytes x.2) ∥₁
@@ -36,22 +44,38 @@ MorePairs n (Some x) = (length (slice_bytes x.2) < n) × ∥ HasPairs (slice_byt
 abbrev pub HasFront : List ℕ → Type 0
 HasFront s = (v : Tree) × (rest : List ℕ) × Outcome s (found v rest)
 
--- the first pair's key is given, the bytes from its value on, and those of the others
-abbrev pub NextKeyIs : Entries → Option (Bor (List ℕ) × Bor (List ℕ) × Bor (List ℕ)) → Type 0
-NextKeyIs no_entries None = Unit {0}
-NextKeyIs (entry k v ps) (Some x) = (x.0.now ≡ k) × Outcome x.1.now (found v x.2.now) × TableBody x.2.now ps
-NextKeyIs _ _ = ⊥
+-- the value is read from the start of s, and `rest` is left
+abbrev pub IsReadAt : Tree → List ℕ → List ℕ → Type 0
+IsReadAt v s rest = Outcome s (found v rest)
 
--- after the pair whose key is given stand fewer bytes than n, which are pairs
+-- the first pair's key is given, the bytes from its value on, and those of the others
+abbrev pub NextKeyBy : (Tree → List ℕ → List ℕ → Type 0) → (List ℕ → Entries → Type 0) → Entries → Option (Bor (List ℕ) × Bor (List ℕ) × Bor (List ℕ)) → Type 0
+NextKeyBy Is Body no_entries None = Unit {0}
+NextKeyBy Is Body (entry k v ps) (Some x) = (x.0.now ≡ k) × Is v x.1.now x.2.now × Body x.2.now ps
+NextKeyBy Is Body _ _ = ⊥
+
+abbrev pub NextKeyIs : Entries → Option (Bor (List ℕ) × Bor (List ℕ) × Bor (List ℕ)) → Type 0
+NextKeyIs ps x = NextKeyBy IsReadAt TableBody ps x
+
+abbrev pub NextWrittenKeyIs : Entries → Option (Bor (List ℕ) × Bor (List ℕ) × Bor (List ℕ)) → Type 0
+NextWrittenKeyIs ps x = NextKeyBy WrittenAt WrittenPairs ps x
+
+-- after the pair whose key is returned are fewer bytes than n, which are pairs
 abbrev pub MoreKeys : ℕ → Option (Bor (List ℕ) × Bor (List ℕ) × Bor (List ℕ)) → Type 0
 MoreKeys n None = Unit {0}
 MoreKeys n (Some x) = (length x.2.now < n) × ∥ HasPairs x.2.now ∥₁
 
 -- the bytes begin with an encoding of the tree, if there is one
+abbrev pub BeginsBy : (Tree → List ℕ → List ℕ → Type 0) → Option Tree → Option (Bor (List ℕ)) → Type 0
+BeginsBy Is None None = Unit {0}
+BeginsBy Is (Some v) (Some at) = (rest : List ℕ) × Is v at.now rest
+BeginsBy Is _ _ = ⊥
+
 abbrev pub BeginsAt : Option Tree → Option (Bor (List ℕ)) → Type 0
-BeginsAt None None = Unit {0}
-BeginsAt (Some v) (Some at) = (rest : List ℕ) × Outcome at.now (found v rest)
-BeginsAt _ _ = ⊥
+BeginsAt v at = BeginsBy IsReadAt v at
+
+abbrev pub WrittenBegins : Option Tree → Option (Bor (List ℕ)) → Type 0
+WrittenBegins t at = BeginsBy WrittenAt t at
 
 -- a step returns the first of the values, and leaves the others
 abbrev pub ValueStep : Trees → Option ValueRef → List ℕ → Type 0
@@ -65,11 +89,19 @@ PairStep no_entries None left = TableBody left no_entries
 PairStep (entry k v ps) (Some x) left = (x.0.now ≡ k) × Denotes x.1 v × TableBody left ps
 PairStep _ _ left = ⊥
 
+-- what is found is the tree, if there is one
+abbrev pub FoundBy : (ValueRef → Tree → Type 0) → Option Tree → Option ValueRef → Type 0
+FoundBy Is None None = Unit {0}
+FoundBy Is (Some v) (Some r) = Is r v
+FoundBy Is _ _ = ⊥
+
 -- what is found denotes the tree, if there is one
 abbrev pub FoundIs : Option Tree → Option ValueRef → Type 0
-FoundIs None None = Unit {0}
-FoundIs (Some v) (Some r) = Denotes r v
-FoundIs _ _ = ⊥
+FoundIs v r = FoundBy Denotes v r
+
+-- what is found is the tree as it is written, if there is one
+abbrev pub WrittenIs : Option Tree → Option ValueRef → Type 0
+WrittenIs t r = FoundBy IsWritten t r
 
 -- the value at a place of an array, counted from 0
 abbrev pub tree_at : ℕ → Trees → Option Tree

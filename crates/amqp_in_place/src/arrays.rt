@@ -5,7 +5,8 @@ ghost use Rattle.amqp_grammar.specs.Values.{Trees, no_trees};
 ghost use Rattle.amqp_grammar.specs.Grammar.{ArrayBody};
 ghost use Rattle.amqp_value_core.specs.Containers.{array_view};
 ghost use Rattle.amqp_in_place.specs.Refs.{array_body};
-ghost use Rattle.amqp_in_place.specs.Walks.{FoundIs, tree_at};
+ghost use Rattle.amqp_in_place.specs.Walks.{FoundIs, WrittenIs, tree_at};
+ghost use Rattle.amqp_in_place.specs.Written.{WrittenValues};
 ghost use Rattle.amqp_in_place.specs.Places.{LiesWithin};
 
 use super::refs::{ArrayRef, ValueRef};
@@ -34,6 +35,7 @@ impl<'a> ArrayRef<'a> {
     /// Returns the value at `index`, counted from 0. Iterates over the values before it.
     pub fn get(self, index: usize) -> Option<ValueRef<'a>>
         ensures value { (vs : Trees) → ArrayBody (array_body self.entry) vs → FoundIs (tree_at index vs) result }
+        ensures written { (ts : Trees) → WrittenValues (array_body self.entry) ts → WrittenIs (tree_at index ts) result }
         ensures lies { IfSome result (λ r. LiesWithin (array_body self.entry) r) }
     {
         let mut left = index;

@@ -1,14 +1,15 @@
 //! Canonical encodings, checked in place.
 
-ghost use Rattle.std.specs.Prelude.{◌≡◌, true, false, ℕ, List, length, None, IfSome};
+ghost use Rattle.std.specs.Prelude.{◌≡◌, ◌+◌, true, false, ℕ, List, length, None, IfSome};
 ghost use Rattle.amqp_types.specs.Inputs.{slice_bytes};
+ghost use Rattle.amqp_parsing.specs.Untagged.{tagged};
 ghost use Rattle.amqp_in_place.specs.Canonicals.{IsCanonicalLen, IsCanonicalWithin, IsReadAsWritten, CanonFront, CanonValues, CanonEntries, IsAbove, IsFirstSpelling};
 
-use super::head::{Head, read_head, read_key};
+use super::head::{Head, read_head, read_key, read_table_head};
 use super::read::check_utf8;
 use amqp_parsing::Limits;
 use amqp_parsing::header::{Header, header_of};
-use amqp_types::{ParsableInput, SliceInput};
+use amqp_types::{AMQPType, ParsableInput, SliceInput};
 
 /// Whether the bytes are exactly the canonical encoding of a value within the limits. It doesn't
 /// allocate.
@@ -40,6 +41,35 @@ pub fn canonical_len(bytes: &[u8], limits: Limits) -> Option<usize>
     };
     let rest = after_canonical(i, limits.depth as usize)?;
     Some(bytes.len() - rest.input_len())
+}
+
+/// Whether the bytes are exactly the canonical encoding of a table within the limits, without its
+/// type tag: its length, then its pairs. It doesn't allocate.
+///
+/// The limits count the type tag as if it were there.
+pub fn is_canonical_table(bytes: &[u8], limits: Limits) -> bool
+    ensures yes { result ≡ true → IsCanonicalWithin limits (tagged AMQPType.FieldTable bytes.now) }
+    ensures no { result ≡ false → IsCanonicalWithin limits (tagged AMQPType.FieldTable bytes.now) → ⊥ }
+    ensures written { result ≡ true → IsReadAsWritten limits (tagged AMQPType.FieldTable bytes.now) }
+    ensures not_written { result ≡ false → IsReadAsWritten limits (tagged AMQPType.FieldTable bytes.now) → ⊥ }
+{
+    canonical_table_len(bytes, limits) == Some(bytes.len())
+}
+
+/// The length of the canonical encoding of a table at the start of the bytes, without its type tag,
+/// or `None` if there is none within the limits.
+///
+/// The limits count the type tag as if it were there, and the result doesn't. It checks what
+/// `canonical_len` does, in one pass, and doesn't allocate.
+pub fn canonical_table_len(bytes: &[u8], limits: Limits) -> Option<usize>
+    ensures len { IfSome result (λ n. IsCanonicalLen limits (tagged AMQPType.FieldTable bytes.now) (1 + n)) }
+    ensures none { result ≡ None → (n : ℕ) → IsCanonicalLen limits (tagged AMQPType.FieldTable bytes.now) n → ⊥ }
+{
+    let Ok((rest, body)) = read_table_head(SliceInput::new(bytes), limits) else {
+        return None;
+    };
+    let depth = (limits.depth as usize).checked_sub(1)?;
+    are_canonical_pairs(body, depth).then_some(bytes.len() - rest.input_len())
 }
 
 // What is after a canonical encoding in which containers nest at most `depth` deep.
@@ -109,7 +139,7 @@ fn are_canonical_pairs<'a>(body: SliceInput<'a>, depth: usize) -> bool
     true
 }
 
-// Whether a key stands above the one before it.
+// Whether a key is above the one before it.
 pub(crate) fn is_above(previous: Option<&[u8]>, key: &[u8]) -> bool
     ensures yes { result ≡ true → IsAbove previous.entry key.now }
     ensures no { result ≡ false → IsAbove previous.entry key.now → ⊥ }
@@ -120,7 +150,7 @@ pub(crate) fn is_above(previous: Option<&[u8]>, key: &[u8]) -> bool
     }
 }
 
-// Whether no alternate tag stands first, and after a boolean's 0 or 1.
+// Whether no alternate tag is first, and after a boolean's 0 or 1.
 fn is_first_spelling(bytes: &[u8]) -> bool
     ensures yes { result ≡ true → IsFirstSpelling bytes.now }
     ensures no { result ≡ false → IsFirstSpelling bytes.now → ⊥ }

@@ -6,7 +6,7 @@ use amqp_types::{
     ShortShortInt, ShortShortUInt, ShortUInt, Timestamp,
 };
 
-/// Each getter returns the field of its own variant, and `None` for every other.
+/// Each getter returns the field of its variant, and `None` for every other.
 impl<'a> ValueRef<'a> {
     ghost use Rattle.std.specs.Prelude.{◌≡◌, option_map, is_some};
     ghost use Rattle.std.specs.Int.{w8, w16, w32, w64, cast_unsigned};

@@ -1,17 +1,20 @@
 //! What follows a type tag, one level deep.
 
-ghost use Rattle.std.specs.Prelude.{◌≡◌, ◌≢◌, MatchResult};
+ghost use Rattle.std.specs.Prelude.{◌≡◌, ◌≢◌, ◌≤◌, MatchResult, IfErr, IfOk};
 ghost use Rattle.amqp_grammar.specs.Payloads.{RawOutcome};
 ghost use Rattle.amqp_types.specs.Inputs.{slice_bytes};
 ghost use Rattle.amqp_parsing.specs.PayloadResults.{OnlyLacks};
 ghost use Rattle.amqp_parsing.specs.ParseResults.{Refuses};
-ghost use Rattle.amqp_in_place.specs.InPlaceResults.{HeadRefuses};
+ghost use Rattle.amqp_parsing.specs.Bodies.{IsLengthPrefixed};
+ghost use Rattle.amqp_parsing.specs.Headers.{extent};
+ghost use Rattle.amqp_parsing.specs.Untagged.{tagged, RefusesUntagged};
+ghost use Rattle.amqp_in_place.specs.InPlaceResults.{HeadRefuses, NeedsNoMemory};
 ghost use Rattle.amqp_in_place.specs.Heads.{RawHeadIs, IsHead, IsKeyFrame, AtAnyDepth};
 
 use super::refs::ValueRef;
-use amqp_parsing::errors::lacks;
+use amqp_parsing::errors::{lacks, refused};
 use amqp_parsing::{
-    ParserResult, parse_boolean, parse_decimal_value, parse_double, parse_float,
+    ErrorKind, Limits, ParserResult, parse_boolean, parse_decimal_value, parse_double, parse_float,
     parse_length_prefixed, parse_long_int, parse_long_long_int, parse_long_uint, parse_short_int,
     parse_short_short_int, parse_short_short_uint, parse_short_uint, parse_timestamp, parse_type,
 };
@@ -120,6 +123,34 @@ fn read_payload_head<'a>(
             Ok((i, Head::Plain(ValueRef::ByteArray(body.as_slice()))))
         }
         AMQPType::Void => Ok((i, Head::Plain(ValueRef::Void))),
+    }
+}
+
+// Reads a table that has no type tag, one level deep: its body isn't looked at. The limits count
+// the type tag as if it were there.
+#[tactic(auto, using(crate::proofs::Untagged::cut_table))]
+pub(crate) fn read_table_head<'a>(
+    i: SliceInput<'a>,
+    limits: Limits,
+) -> ParserResult<SliceInput<'a>, SliceInput<'a>>
+    ensures body { IfOk result (λ x. IsLengthPrefixed (slice_bytes i.entry) (slice_bytes x.1) (slice_bytes x.0)) }
+    ensures fits { IfOk result (λ _. extent (tagged AMQPType.FieldTable (slice_bytes i.entry)) ≤ limits.frame) }
+    ensures err { IfErr result (RefusesUntagged limits AMQPType.FieldTable (slice_bytes i.entry)) }
+    ensures no_memory { IfErr result NeedsNoMemory }
+{
+    if tagged_table_len(i) > limits.frame as usize {
+        return Err(refused(ErrorKind::TooLarge));
+    }
+    parse_length_prefixed(i)
+}
+
+// The least length of a table with its type tag, by its length field only.
+fn tagged_table_len<'a>(i: SliceInput<'a>) -> usize
+    ensures { result ≡ extent (tagged AMQPType.FieldTable (slice_bytes i.entry)) }
+{
+    match parse_long_uint(i) {
+        Ok((_, len)) => 5 + len as usize,
+        Err(_) => 5,
     }
 }
 

@@ -1,24 +1,27 @@
 //! Reading a value in place.
 
 ghost use Rattle.std.specs.Str.{IsUtf8};
-ghost use Rattle.std.specs.Prelude.{◌≡◌, true, false, length, MatchResult, IfErr, IfOk};
-ghost use Rattle.amqp_grammar.specs.Values.{Tree, Trees, Entries};
+ghost use Rattle.std.specs.Prelude.{◌≡◌, ◌++◌, true, false, length, MatchResult, IfErr, IfOk};
+ghost use Rattle.amqp_grammar.specs.Values.{Tree, Trees, Entries, table};
+ghost use Rattle.amqp_grammar.specs.Grammar.{long_field};
 ghost use Rattle.amqp_grammar.specs.Nesting.{BodyWithin, PairsWithin, OutcomeWithin};
 ghost use Rattle.amqp_grammar.specs.Outcomes.{Outcome, found, malformed};
 ghost use Rattle.amqp_types.specs.Inputs.{slice_bytes};
 ghost use Rattle.amqp_parsing.specs.ParseResults.{Refuses};
 ghost use Rattle.amqp_parsing.specs.Bodies.{IsNoBody, IsTable, IsNoTable};
 ghost use Rattle.amqp_parsing.specs.Limits.{Within, RefusesWithin};
-ghost use Rattle.amqp_in_place.specs.Refs.{Denotes, IsOneValue};
+ghost use Rattle.amqp_parsing.specs.Untagged.{UntaggedWithin, RefusesUntagged};
+ghost use Rattle.amqp_in_place.specs.Bodies.{HasEntries};
+ghost use Rattle.amqp_in_place.specs.Refs.{table_body, Denotes, IsOneValue, IsOneTable};
 ghost use Rattle.amqp_in_place.specs.InPlaceResults.{IsLeft, NeedsNoMemory};
 ghost use Rattle.amqp_in_place.specs.Places.{LiesIn};
 
-use super::head::{Head, read_head, read_key};
+use super::head::{Head, read_head, read_key, read_table_head};
 use super::refs::{ArrayRef, TableRef, ValueRef};
 use amqp_parsing::errors::{lacks, refused};
 use amqp_parsing::header::{Header, header_of};
 use amqp_parsing::{ErrorKind, Limits, ParserError, ParserResult};
-use amqp_types::{ParsableInput, SliceInput};
+use amqp_types::{AMQPType, ParsableInput, SliceInput};
 use simdutf8::basic::Utf8Error;
 
 /// Reads a value in place: returns what `parse_value_within` does within the same limits, except
@@ -64,6 +67,35 @@ pub fn read_in_place_unlimited(bytes: &[u8]) -> Result<(ValueRef<'_>, &[u8]), Pa
 {
     let (rest, value) = value_within(SliceInput::new(bytes), bytes.len())?;
     Ok((value, rest.as_slice()))
+}
+
+/// Reads a table without its type tag in place, as AMQP methods and content headers have it: its
+/// length, then its pairs.
+///
+/// It returns what `read_in_place` does of the type tag `F` and the bytes, within the same limits:
+/// `frame` counts the type tag, and `depth` the table. Nothing is copied or allocated. It recurses
+/// at most `limits.depth` levels deep, as `read_in_place` does.
+pub fn read_table_in_place(
+    bytes: &[u8],
+    limits: Limits,
+) -> Result<(TableRef<'_>, &[u8]), ParserError>
+    ensures within { MatchResult result
+        (λ x. (es : Entries) × HasEntries (table_body x.0) es
+        × UntaggedWithin limits AMQPType.FieldTable bytes.now (found (table es) x.1.now))
+        (RefusesUntagged limits AMQPType.FieldTable bytes.now) }
+    ensures no_memory { IfErr result NeedsNoMemory }
+    ensures one { IfOk result (λ x. IsOneTable x.0) }
+    ensures rest { IfOk result (λ x. IsLeft bytes.now x.1.now) }
+    ensures lies { IfOk result (λ x. bytes.now ≡ long_field (table_body x.0) ++ x.1.now) }
+{
+    let (rest, body) = read_table_head(SliceInput::new(bytes), limits)?;
+    if limits.depth == 0 {
+        return Err(refused(ErrorKind::Eof));
+    }
+    if !are_pairs(body, limits.depth as usize - 1) {
+        return Err(refused(ErrorKind::Eof));
+    }
+    Ok((TableRef::of(body), rest.as_slice()))
 }
 
 // Reads a value in which containers nest at most `depth` deep.

@@ -48,7 +48,7 @@ pub enum ValueRef<'a> {
     Double(Double),
     /// A decimal number.
     DecimalValue(DecimalValue),
-    /// Arbitrary bytes, which most peers take for text.
+    /// Arbitrary bytes, which most peers take for a string.
     LongString(&'a [u8]),
     /// A list of values, each with its type.
     FieldArray(ArrayRef<'a>),

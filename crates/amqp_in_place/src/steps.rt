@@ -10,7 +10,8 @@ ghost use Rattle.amqp_in_place.specs.Refs.{Denotes};
 ghost use Rattle.amqp_in_place.specs.Heads.{IsMeant, Means, RefersTo};
 ghost use Rattle.amqp_in_place.specs.Places.{LiesIn, PairLiesIn};
 ghost use Rattle.amqp_in_place.specs.InPlaceResults.{IsLeft};
-ghost use Rattle.amqp_in_place.specs.Walks.{HasFront, NextValueIs, MoreValues, NextPairIs, MorePairs, NextKeyIs, MoreKeys};
+ghost use Rattle.amqp_in_place.specs.Walks.{HasFront, NextValueIs, NextWrittenIs, MoreValues, NextPairIs, MorePairs, NextKeyIs, NextWrittenKeyIs, MoreKeys};
+ghost use Rattle.amqp_in_place.specs.Written.{IsWritten, WrittenAt, WrittenValues, WrittenPairs};
 
 use super::head::{Head, read_head, read_key};
 use super::refs::{ArrayRef, TableRef, ValueRef};
@@ -32,10 +33,11 @@ fn value_of<'a>(head: Head<'a>) -> ValueRef<'a>
     }
 }
 
-// The value at the start of bytes, where one stands.
+// The value at the start of bytes, if there is one.
 pub(crate) fn front_value<'a>(bytes: &'a [u8]) -> ValueRef<'a>
     requires { ∥ HasFront bytes.now ∥₁ }
     ensures value { (v : Tree) (rest : List ℕ) → Outcome bytes.now (found v rest) → Denotes result v }
+    ensures written { (t : Tree) (rest : List ℕ) → WrittenAt t bytes.now rest → IsWritten result t }
     ensures lies { (rest : List ℕ) × LiesIn bytes.now result rest }
 {
     let Ok((_, head)) = read_head(SliceInput::new(bytes)) else {
@@ -44,11 +46,12 @@ pub(crate) fn front_value<'a>(bytes: &'a [u8]) -> ValueRef<'a>
     value_of(head)
 }
 
-// Takes the first value off bytes that are values, and gives those after it.
+// Takes the first value off bytes that are values, and returns those after it.
 #[inline(always)]
 pub(crate) fn next_value<'a>(bytes: SliceInput<'a>) -> Option<(ValueRef<'a>, SliceInput<'a>)>
     requires { ∥ HasValues (slice_bytes bytes) ∥₁ }
     ensures value { (vs : Trees) → ArrayBody (slice_bytes bytes.entry) vs → NextValueIs vs result }
+    ensures written { (ts : Trees) → WrittenValues (slice_bytes bytes.entry) ts → NextWrittenIs ts result }
     ensures more { MoreValues (length (slice_bytes bytes.entry)) result }
     ensures lies { IfSome result (λ x. LiesIn (slice_bytes bytes.entry) x.0 (slice_bytes x.1)) }
 {
@@ -61,7 +64,7 @@ pub(crate) fn next_value<'a>(bytes: SliceInput<'a>) -> Option<(ValueRef<'a>, Sli
     Some((value_of(head), rest))
 }
 
-// Takes the first pair off bytes that are pairs, and gives those after it.
+// Takes the first pair off bytes that are pairs, and returns those after it.
 #[inline(always)]
 pub(crate) fn next_pair<'a>(
     bytes: SliceInput<'a>,
@@ -84,12 +87,13 @@ pub(crate) fn next_pair<'a>(
     Some((key, value_of(head), rest))
 }
 
-// Takes the key of the first pair off bytes that are pairs, and gives the bytes from its value on,
-// and those after it: by the lengths and the type tag alone.
+// Takes the key of the first pair off bytes that are pairs, and returns the bytes from its value,
+// and those after it: by the lengths and the type tag only.
 #[inline(always)]
 pub(crate) fn next_key<'a>(pairs: &'a [u8]) -> Option<(&'a [u8], &'a [u8], &'a [u8])>
     requires { ∥ HasPairs pairs.now ∥₁ }
     ensures key { (ps : Entries) → TableBody pairs.now ps → NextKeyIs ps result }
+    ensures written { (ps : Entries) → WrittenPairs pairs.now ps → NextWrittenKeyIs ps result }
     ensures more { MoreKeys (length pairs.now) result }
     ensures front { IfSome result (λ x. ∥ HasFront x.1.now ∥₁) }
     ensures value { IfSome result (λ x. IsLeft pairs.now x.1.now) }

@@ -2,13 +2,15 @@
 
 ghost use Rattle.std.specs.Prelude.{◌≡◌, ◌<◌, ◌↔◌, IsTrue, IfSome, length, MatchResult};
 ghost use Rattle.amqp_grammar.specs.Values.{Entries, no_entries};
-ghost use Rattle.amqp_grammar.specs.Maps.{has_key, value_at};
+ghost use Rattle.amqp_grammar.specs.Maps.{has_key, value_at, last_at};
 ghost use Rattle.amqp_grammar.specs.Grammar.{TableBody};
 ghost use Rattle.amqp_value_core.specs.Containers.{table_view};
 ghost use Rattle.amqp_in_place.specs.InPlaceResults.{IsLeft};
 ghost use Rattle.amqp_in_place.specs.Bodies.{HasPairs, HasEntries};
 ghost use Rattle.amqp_in_place.specs.Refs.{table_body};
-ghost use Rattle.amqp_in_place.specs.Walks.{FoundIs, HasFront, BeginsAt};
+ghost use Rattle.amqp_in_place.specs.Walks.{FoundIs, WrittenIs, HasFront, BeginsAt, WrittenBegins};
+ghost use Rattle.amqp_in_place.specs.Written.{WrittenPairs};
+ghost use Rattle.amqp_in_place.specs.Keys.{first_at};
 ghost use Rattle.amqp_in_place.specs.Places.{LiesWithin};
 
 use super::refs::{TableRef, ValueRef};
@@ -39,9 +41,21 @@ impl<'a> TableRef<'a> {
     /// lengths, and reads the value that is found.
     pub fn get(self, key: &str) -> Option<ValueRef<'a>>
         ensures value { (es : Entries) → HasEntries (table_body self.entry) es → FoundIs (value_at key.now es) result }
+        ensures written { (ps : Entries) → WrittenPairs (table_body self.entry) ps → WrittenIs (last_at key.now ps) result }
         ensures lies { IfSome result (λ r. LiesWithin (table_body self.entry) r) }
     {
         let at = last_at(self.as_bytes(), key.as_bytes())?;
+        Some(front_value(at))
+    }
+
+    /// Returns the value of the first pair with the key, as RabbitMQ does; `get` returns the last
+    /// pair's. Skips over the pairs before it by their lengths, and reads none after it.
+    pub fn get_first(self, key: &str) -> Option<ValueRef<'a>>
+        ensures value { (ps : Entries) → TableBody (table_body self.entry) ps → FoundIs (first_at key.now ps) result }
+        ensures written { (ps : Entries) → WrittenPairs (table_body self.entry) ps → WrittenIs (first_at key.now ps) result }
+        ensures lies { IfSome result (λ r. LiesWithin (table_body self.entry) r) }
+    {
+        let at = first_at(self.as_bytes(), key.as_bytes())?;
         Some(front_value(at))
     }
 
@@ -74,6 +88,7 @@ impl<'a> TableRef<'a> {
 fn last_at<'a>(pairs: &'a [u8], key: &[u8]) -> Option<&'a [u8]>
     requires { ∥ HasPairs pairs.now ∥₁ }
     ensures value { (es : Entries) → HasEntries pairs.now es → BeginsAt (value_at key.now es) result }
+    ensures written { (ps : Entries) → WrittenPairs pairs.now ps → WrittenBegins (last_at key.now ps) result }
     ensures front { IfSome result (λ at. ∥ HasFront at.now ∥₁) }
     ensures left { IfSome result (λ at. IsLeft pairs.now at.now) }
 {
@@ -86,4 +101,22 @@ fn last_at<'a>(pairs: &'a [u8], key: &[u8]) -> Option<&'a [u8]>
         rest = behind;
     }
     at
+}
+
+// The bytes from the first value at the key on, in bytes that are pairs.
+fn first_at<'a>(pairs: &'a [u8], key: &[u8]) -> Option<&'a [u8]>
+    requires { ∥ HasPairs pairs.now ∥₁ }
+    ensures value { (ps : Entries) → TableBody pairs.now ps → BeginsAt (first_at key.now ps) result }
+    ensures written { (ps : Entries) → WrittenPairs pairs.now ps → WrittenBegins (first_at key.now ps) result }
+    ensures front { IfSome result (λ at. ∥ HasFront at.now ∥₁) }
+    ensures left { IfSome result (λ at. IsLeft pairs.now at.now) }
+{
+    let mut rest = pairs;
+    'pairs: while let Some((name, value, behind)) = next_key(rest) {
+        if key == name {
+            return Some(value);
+        }
+        rest = behind;
+    }
+    None
 }

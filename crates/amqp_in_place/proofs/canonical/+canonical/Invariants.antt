@@ -13,7 +13,7 @@ decreases-are_canonical_values l = 2 * length (slice_bytes l.body) + 1
 abbrev pub decreases-are_canonical_pairs : goal.decreases-are_canonical_pairs
 decreases-are_canonical_pairs l = 2 * length (slice_bytes l.body) + 1
 
--- the body is as asked for exactly where what is left of it is, and that is no longer
+-- the body is as asked for exactly when what is left of it is, and that is no longer
 abbrev pub invariant-are_canonical_values-values : goal.invariant-are_canonical_values-values
 invariant-are_canonical_values-values l =
     (CanonValues l.fn.depth (slice_bytes l.fn.body) → CanonValues l.fn.depth (slice_bytes l.rest))

@@ -4,7 +4,7 @@ use Rattle.amqp_in_place.specs.Bodies.{HasPairs}
 use Rattle.amqp_in_place.proofs.RepeatedKeys.{Rises}
 use Rattle.amqp_in_place.proofs.repeated.keys_rise.Given as goal
 
--- pairs are left, and the keys before them rise up to the previous one
+-- pairs are left, and the keys before them are ascending up to the previous one
 abbrev pub invariant-pairs : goal.invariant-pairs
 invariant-pairs l = record {
   pairs : ∥ HasPairs (slice_bytes l.rest) ∥₁;

@@ -4,6 +4,7 @@ use Rattle.amqp_in_place.specs.Heads.{IsHead}
 use Rattle.amqp_in_place.specs.Walks.{HasFront}
 use Rattle.amqp_in_place.proofs.Stepping.{front_there, front_means, front_meant}
 use Rattle.amqp_in_place.proofs.Places.{lies}
+use Rattle.amqp_in_place.proofs.Written.{front_written}
 use Rattle.amqp_in_place.proofs.steps.front_value.Goals as goal
 
 pub unreachable-requires : goal.unreachable-requires
@@ -24,3 +25,9 @@ returns-clause-lies c =
     let rest = slice_bytes c.in-Ok.field-0-0 in
     let is = subst (λ (t : List ℕ). IsHead t c.in-Ok.head rest) c.new.ensures c.in-Ok.ensures in
     (rest, lies c.args.bytes.now c.in-Ok.head c.value_of.result rest is c.value_of.ensures.refers)
+
+pub returns-clause-written : goal.returns-clause-written
+returns-clause-written c = λ t left x.
+    let rest = slice_bytes c.in-Ok.field-0-0 in
+    let is = subst (λ (s : List ℕ). IsHead s c.in-Ok.head rest) c.new.ensures c.in-Ok.ensures in
+    front_written c.args.bytes.now c.in-Ok.head c.value_of.result rest left t is c.value_of.ensures.refers x

@@ -2,6 +2,7 @@ use Rattle.std.proofs.Common.{arith}
 use Rattle.amqp_types.specs.Inputs.{slice_bytes}
 use Rattle.amqp_in_place.proofs.Stepping.{value_there, value_meant, value_given, values_behind}
 use Rattle.amqp_in_place.proofs.Places.{lies}
+use Rattle.amqp_in_place.proofs.Written.{value_written, no_value_written}
 use Rattle.amqp_in_place.proofs.steps.next_value.Goals as goal
 
 pub unreachable-requires : goal.unreachable-requires
@@ -13,6 +14,13 @@ value_of-requires c = value_meant (slice_bytes c.args.bytes) c.in-Ok.head (slice
 pub returns-clause-value : goal.returns-clause-value
 returns-clause-value c = λ vs p.
     value_given (slice_bytes c.args.bytes) c.in-Ok.head vs (c.value_of.result, c.in-Ok.rest) (omega arith) c.in-Ok.ensures c.value_of.ensures.means p
+
+pub returns-clause-written : goal.returns-clause-written
+returns-clause-written c = λ ts p.
+    value_written (slice_bytes c.args.bytes) c.in-Ok.head (c.value_of.result, c.in-Ok.rest) ts (omega arith) c.in-Ok.ensures c.value_of.ensures.refers p
+
+pub returns-then-input_len-eq0-clause-written : goal.returns-then-input_len-eq0-clause-written
+returns-then-input_len-eq0-clause-written c = λ ts p. no_value_written (slice_bytes c.args.bytes) ts (omega arith) p
 
 pub returns-clause-more : goal.returns-clause-more
 returns-clause-more c = values_behind (slice_bytes c.args.bytes) c.in-Ok.head (slice_bytes c.in-Ok.rest) (omega arith) c.in-Ok.ensures c.requires

@@ -1,16 +1,35 @@
 use Rattle.std.proofs.Common.{Some, Bool, cond, sym, ap}
-use Rattle.amqp_in_place.proofs.Lookups.{Looks-step, Looks-end}
-use Rattle.amqp_in_place.proofs.Places.{left_of_left}
+use Rattle.amqp_grammar.specs.Grammar.{TableBody}
+use Rattle.amqp_in_place.specs.Walks.{IsReadAt}
+use Rattle.amqp_in_place.specs.Written.{WrittenAt, WrittenPairs}
+use Rattle.amqp_in_place.proofs.Lookups.{looks-start, looks-step, looks-end, last_is_value}
+use Rattle.amqp_in_place.proofs.Places.{left_of_left, nothing_before}
 use Rattle.amqp_in_place.proofs.tables.last_at.Goals as goal
+
+pub pairs-init : goal.pairs-init
+pairs-init c =
+    let s = c.args.pairs.now in
+    let key = c.args.key.now in
+    record {
+      pairs = c.requires;
+      looks = looks-start IsReadAt TableBody key s;
+      written = looks-start WrittenAt WrittenPairs key s;
+      left = nothing_before s;
+      front = tt;
+      lies = tt;
+    }
 
 pub pairs-preserved-then-eq : goal.pairs-preserved-then-eq
 pairs-preserved-then-eq c =
     let s = c.args.pairs.now in
     let rest = c.pairs.rest.now in
+    let key = c.args.key.now in
     let x = c.in-Some in
+    let made = ap (λ (b : Bool). cond b (Some x.value) c.pairs.at) (sym c.if-eq.true) in
     record {
       pairs = x.ensures.more.1;
-      looks = Looks-step c.args.key.now s rest c.pairs.at (Some x.value) (x.name, x.value, x.behind) c.eq.result c.pairs.invariant.looks x.ensures.key c.eq.ensures (ap (λ (b : Bool). cond b (Some x.value) c.pairs.at) (sym c.if-eq.true));
+      looks = looks-step IsReadAt TableBody key s rest c.pairs.at (Some x.value) (x.name, x.value, x.behind) c.eq.result c.pairs.invariant.looks x.ensures.key c.eq.ensures made;
+      written = looks-step WrittenAt WrittenPairs key s rest c.pairs.at (Some x.value) (x.name, x.value, x.behind) c.eq.result c.pairs.invariant.written x.ensures.written c.eq.ensures made;
       left = left_of_left s rest x.behind.now c.pairs.invariant.left x.ensures.left;
       front = x.ensures.front;
       lies = left_of_left s rest x.value.now c.pairs.invariant.left x.ensures.value;
@@ -20,14 +39,23 @@ pub pairs-preserved : goal.pairs-preserved
 pairs-preserved c =
     let s = c.args.pairs.now in
     let rest = c.pairs.rest.now in
+    let key = c.args.key.now in
     let x = c.in-Some in
+    let made = ap (λ (b : Bool). cond b (Some x.value) c.pairs.at) (sym c.if-eq.false) in
     record {
       pairs = x.ensures.more.1;
-      looks = Looks-step c.args.key.now s rest c.pairs.at c.pairs.at (x.name, x.value, x.behind) c.eq.result c.pairs.invariant.looks x.ensures.key c.eq.ensures (ap (λ (b : Bool). cond b (Some x.value) c.pairs.at) (sym c.if-eq.false));
+      looks = looks-step IsReadAt TableBody key s rest c.pairs.at c.pairs.at (x.name, x.value, x.behind) c.eq.result c.pairs.invariant.looks x.ensures.key c.eq.ensures made;
+      written = looks-step WrittenAt WrittenPairs key s rest c.pairs.at c.pairs.at (x.name, x.value, x.behind) c.eq.result c.pairs.invariant.written x.ensures.written c.eq.ensures made;
       left = left_of_left s rest x.behind.now c.pairs.invariant.left x.ensures.left;
       front = c.pairs.invariant.front;
       lies = c.pairs.invariant.lies;
     }
 
 pub returns-clause-value : goal.returns-clause-value
-returns-clause-value c = Looks-end c.args.key.now c.args.pairs.now c.pairs.rest.now c.pairs.at c.pairs.invariant.looks c.in_default.ensures.key
+returns-clause-value c =
+    last_is_value c.args.key.now c.args.pairs.now c.pairs.at
+    (looks-end IsReadAt TableBody c.args.key.now c.args.pairs.now c.pairs.rest.now c.pairs.at c.pairs.invariant.looks c.in_default.ensures.key)
+
+pub returns-clause-written : goal.returns-clause-written
+returns-clause-written c =
+    looks-end WrittenAt WrittenPairs c.args.key.now c.args.pairs.now c.pairs.rest.now c.pairs.at c.pairs.invariant.written c.in_default.ensures.written

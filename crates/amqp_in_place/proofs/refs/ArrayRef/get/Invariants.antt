@@ -1,16 +1,19 @@
 use Rattle.std.proofs.Common.{length}
 use Rattle.amqp_types.specs.Inputs.{slice_bytes}
+use Rattle.amqp_grammar.specs.Grammar.{ArrayBody}
 use Rattle.amqp_in_place.specs.Bodies.{HasValues}
 use Rattle.amqp_in_place.specs.Refs.{array_body}
 use Rattle.amqp_in_place.specs.InPlaceResults.{IsLeft}
-use Rattle.amqp_in_place.proofs.Lookups.{Counts}
+use Rattle.amqp_in_place.specs.Written.{WrittenValues}
+use Rattle.amqp_in_place.proofs.Lookups.{CountsBy}
 use Rattle.amqp_in_place.proofs.refs.ArrayRef.get.Given as goal
 
--- values are left, and what is asked for stands among them
+-- values are left, and what is asked for is among them
 abbrev pub invariant-values : goal.invariant-values
 invariant-values l = record {
   values : ∥ HasValues (slice_bytes l.rest) ∥₁;
-  counts : Counts l.fn.index (array_body l.fn.self) (slice_bytes l.rest) l.left;
+  counts : CountsBy ArrayBody l.fn.index (array_body l.fn.self) (slice_bytes l.rest) l.left;
+  written : CountsBy WrittenValues l.fn.index (array_body l.fn.self) (slice_bytes l.rest) l.left;
   left : IsLeft (array_body l.fn.self) (slice_bytes l.rest);
 }
 

@@ -1,0 +1,129 @@
+-- Looking for the first problem in a value.
+use Rattle.std.proofs.Common.{◌≡◌, ◌<◌, ◌≤◌, ◌+◌, ◌-◌, ◌^◌, ℕ, zero, suc, Option, Some, None, List, [], ◌∷◌, length, take, drop, Bool, true, false, nat_lt, refl, sym, ap, ◌∙◌, subst, arith, rules}
+use Rattle.std.specs.Prelude.{option_map, if◌then◌else◌}
+use Rattle.std.specs.Int.{Width, w8, w32, byte_len}
+use Rattle.std.proofs.lemmas.Bool.{le-ltb}
+use Rattle.std.proofs.lemmas.List.{take_all, length-drop, drop-drop, drop_all}
+use Rattle.amqp_types.specs.declared.amqp_type.AMQPType.{AMQPType}
+use Rattle.amqp_types.specs.declared.amqp_type.AMQPType.TheVariants as amqp
+use Rattle.amqp_grammar.specs.Layouts.{fixed}
+use Rattle.amqp_grammar.specs.Outcomes.{length_field, counted}
+use Rattle.amqp_parsing.specs.Headers.{extent, extent_of, raw_extent, first_of}
+use Rattle.amqp_in_place.specs.declared.rabbitmq.problems.Problem.{Problem}
+use Rattle.amqp_in_place.specs.Rabbitmq.{Search, or_else, further, in_entries, in_payload, in_value, in_pair, pair_len, inside}
+
+-- two steps further on are one
+further_twice : (m n : ℕ) (x : Option Problem) → option_map (further m) (option_map (further n) x) ≡ option_map (further (m + n)) x
+further_twice m n None = refl
+further_twice m n (Some p) = ap (λ (k : ℕ). Some (record { offset = k; kind = p.kind })) (omega arith)
+
+further_again : (n : ℕ) (x : Option Problem) → option_map (further 1) (option_map (further n) x) ≡ option_map (further (suc n)) x
+further_again n None = refl
+further_again n (Some p) = ap (λ (k : ℕ). Some (record { offset = k; kind = p.kind })) (omega arith)
+
+further_none : (x : Option Problem) → option_map (further 0) x ≡ x
+further_none None = refl
+further_none (Some p) = ap (λ (k : ℕ). Some (record { offset = k; kind = p.kind })) (omega arith)
+
+-- a length field is there in what is counted
+counted_there : (w : Width) (b : List ℕ) → byte_len w ≤ extent_of None w b
+counted_there w b = by (nat_lt (length b) (byte_len w))
+  where
+    by : (less : Bool) → byte_len w ≤ (if less then byte_len w else byte_len w + counted w b)
+    by true = omega arith
+    by false = omega arith
+
+-- a slice of all that is after n bytes
+left_over : (n : ℕ) (s : List ℕ) → take (length s - n) (drop n s) ≡ drop n s
+left_over n s = take_all (length s - n) (drop n s) (omega (arith, length-drop n s))
+
+module _ (first : Search) (len : List ℕ → ℕ) where
+  -- what is left of an entry is passed over
+  passed_over : (n : ℕ) (s : List ℕ) → in_entries first len n s ≡ option_map (further n) (in_entries first len 0 (drop n s))
+  passed_over zero s = sym (further_none (in_entries first len 0 s))
+  passed_over (suc n) [] = refl
+  passed_over (suc n) (c ∷ s) = ap (option_map (further 1)) (passed_over n s) ∙ further_again n (in_entries first len 0 (drop n s))
+
+  -- after an entry without a problem the first one is that of the entries after it
+  entry_passed : (s : List ℕ) (n : ℕ) → first s ≡ None → n ≡ len s → 0 < n → n ≤ length s
+      → in_entries first len 0 s ≡ option_map (further n) (in_entries first len 0 (drop n s))
+  entry_passed [] n none is some most = absurd (omega (arith, some, most))
+  entry_passed (c ∷ s) zero none is some most = absurd (omega (arith, some))
+  entry_passed (c ∷ s) (suc n) none is some most =
+      let e : len (c ∷ s) - 1 ≡ n = omega (arith, is) in
+      rw (none, e) (ap (option_map (further 1)) (passed_over n s) ∙ further_again n (in_entries first len 0 (drop n s)))
+
+  entry_stops : (s : List ℕ) (p : Problem) → 0 < length s → first s ≡ Some p → in_entries first len 0 s ≡ Some p
+  entry_stops [] p some found = absurd (omega (arith, some))
+  entry_stops (c ∷ s) p some found = rw found refl
+
+  -- the first n bytes of s are entries without a problem
+  pub record Reached (s : List ℕ) (n : ℕ) : Type 0 where
+    pub within : n ≤ length s
+    pub same : in_entries first len 0 s ≡ option_map (further n) (in_entries first len 0 (drop n s))
+
+  pub Reached-start : (s : List ℕ) → Reached s 0
+  Reached-start s = record { within = omega arith; same = sym (further_none (in_entries first len 0 s)) }
+
+  pub Reached-step : (s t : List ℕ) (n m : ℕ) → Reached s n → t ≡ drop n s → first t ≡ None → m ≡ len t → 0 < m → m ≤ length t → Reached s (n + m)
+  Reached-step s t n m at e none is some most = record {
+    within = omega (arith, at.within, most, ap length e, length-drop n s);
+    same =
+        let more : in_entries first len 0 (drop n s) ≡ option_map (further m) (in_entries first len 0 (drop (n + m) s)) =
+        ap (in_entries first len 0) (sym e) ∙ (entry_passed t m none is some most ∙ ap (λ u. option_map (further m) (in_entries first len 0 u)) (ap (drop m) e ∙ drop-drop m n s)) in
+        at.same ∙ (ap (option_map (further n)) more ∙ further_twice n m (in_entries first len 0 (drop (n + m) s)));
+  }
+
+  -- likewise if the bytes that are left are taken as a slice
+  pub Reached-next : (s : List ℕ) (n m : ℕ) → Reached s n → first (take (length s - n) (drop n s)) ≡ None → m ≡ len (take (length s - n) (drop n s))
+      → 0 < m → m ≤ length (take (length s - n) (drop n s)) → Reached s (n + m)
+  Reached-next s n m at = Reached-step s (take (length s - n) (drop n s)) n m at (left_over n s)
+
+  pub Reached-stop : (s t : List ℕ) (n : ℕ) (p : Problem) → Reached s n → t ≡ drop n s → 0 < length t → first t ≡ Some p → in_entries first len 0 s ≡ Some (further n p)
+  Reached-stop s t n p at e some found =
+      at.same ∙ ap (option_map (further n)) (ap (in_entries first len 0) (sym e) ∙ entry_stops t p some found)
+
+  pub Reached-end : (s : List ℕ) (n : ℕ) → Reached s n → length s ≤ n → in_entries first len 0 s ≡ None
+  Reached-end s n at all = at.same ∙ ap (λ t. option_map (further n) (in_entries first len 0 t)) (drop_all n s all)
+
+-- a payload has at least the bytes of its first field
+pub first_there : (type : AMQPType) (b : List ℕ) → first_of (fixed type) (length_field type) ≤ raw_extent type b
+first_there amqp.Boolean b = search arith
+first_there amqp.ShortShortInt b = search arith
+first_there amqp.ShortShortUInt b = search arith
+first_there amqp.ShortInt b = search arith
+first_there amqp.ShortUInt b = search arith
+first_there amqp.LongInt b = search arith
+first_there amqp.LongUInt b = search arith
+first_there amqp.LongLongInt b = search arith
+first_there amqp.LongLongUInt b = search arith
+first_there amqp.Float b = search arith
+first_there amqp.Double b = search arith
+first_there amqp.DecimalValue b = search arith
+first_there amqp.Timestamp b = search arith
+first_there amqp.Void b = search arith
+first_there amqp.ShortString b = counted_there w8 b
+first_there amqp.LongString b = counted_there w32 b
+first_there amqp.ByteArray b = counted_there w32 b
+first_there amqp.FieldArray b = counted_there w32 b
+first_there amqp.FieldTable b = counted_there w32 b
+
+-- a payload that is all there has the problem that is in its bytes, if there is one
+pub payload_there : (within : AMQPType → Search) (type : AMQPType) (b : List ℕ) (n : ℕ) → n ≡ raw_extent type b → n ≤ length b
+    → within type (take n b) ≡ in_payload within type b
+payload_there within type b n is most = rw (is, le-ltb (length b) (raw_extent type b) (omega (arith, is, most))) refl
+
+-- and in a container that is in its entries, which begin five bytes after the type tag
+pub array_inside : (depth : ℕ) (type : AMQPType) (b : List ℕ) (x : Option Problem) → type ≡ amqp.FieldArray → 0 < depth
+    → x ≡ in_entries (in_value (inside (depth - 1))) extent 0 (take (length b - 4) (drop 4 b)) → option_map (further 5) x ≡ inside depth type b
+array_inside zero type b x is some e = absurd (omega (arith, some))
+array_inside (suc depth) type b x is some e =
+    let less : suc depth - 1 ≡ depth = omega arith in
+    rw (is, e, less, left_over 4 b) refl
+
+pub table_inside : (depth : ℕ) (type : AMQPType) (b : List ℕ) (x : Option Problem) → type ≡ amqp.FieldTable → 0 < depth
+    → x ≡ in_entries (in_pair (in_value (inside (depth - 1)))) pair_len 0 (take (length b - 4) (drop 4 b)) → option_map (further 5) x ≡ inside depth type b
+table_inside zero type b x is some e = absurd (omega (arith, some))
+table_inside (suc depth) type b x is some e =
+    let less : suc depth - 1 ≡ depth = omega arith in
+    rw (is, e, less, left_over 4 b) refl

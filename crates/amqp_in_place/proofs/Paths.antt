@@ -1,0 +1,103 @@
+-- Following a path step by step.
+use Rattle.std.proofs.Common.{◌≡◌, ◌<◌, ℕ, zero, suc, List, [], ◌∷◌, ◌++◌, length, drop, get_or, Option, Some, None, refl, sym, ap, ◌∙◌, subst, arith, append_assoc, append-nil, drop-cons}
+use Rattle.std.specs.Prelude.{option_and_then}
+use Rattle.std.specs.Borrow.{Bor}
+use Rattle.std.specs.Int.{w32, to_be_bytes}
+use Rattle.amqp_grammar.specs.Values.{Tree, Entries, no_entries, insert_all}
+use Rattle.amqp_grammar.specs.Maps.{value_at, last_at, IsRising}
+use Rattle.amqp_grammar.specs.Grammar.{long_field}
+use Rattle.amqp_grammar.proofs.GrammarLaws.{last_stays, pairs_rise, rising_pairs}
+use Rattle.amqp_in_place.specs.declared.refs.TableRef.{TableRef}
+use Rattle.amqp_in_place.specs.declared.refs.ValueRef.{ValueRef}
+use Rattle.amqp_in_place.specs.declared.refs.ValueRef.TheVariants as at
+use Rattle.amqp_in_place.specs.declared.path.PathStep.{PathStep}
+use Rattle.amqp_in_place.specs.declared.path.PathStep.TheVariants as step
+use Rattle.amqp_in_place.specs.declared.path.EqualKeys.{EqualKeys}
+use Rattle.amqp_in_place.specs.declared.path.EqualKeys.TheVariants as equal
+use Rattle.amqp_in_place.specs.Bodies.{HasEntries}
+use Rattle.amqp_in_place.specs.Refs.{array_body, table_body, Denotes}
+use Rattle.amqp_in_place.specs.Walks.{FoundBy, FoundIs}
+use Rattle.amqp_in_place.specs.Places.{IsFramed, LiesIn, LiesWithin}
+use Rattle.amqp_in_place.specs.Paths.{pair_at, at_step, at_path, content}
+
+-- ---- one step
+
+-- the last pair's value is that of the map
+pub last_found : (of : EqualKeys) (k : Bor (List ℕ)) (b : TableRef) (result : Option ValueRef) → of ≡ equal.Last
+    → ((es : Entries) → HasEntries (table_body b) es → FoundIs (value_at k.now es) result) → (v : Tree) → Denotes (at.FieldTable b) v → FoundIs (at_step of (step.Key k) v) result
+last_found of k b result is found v (es, p, e) =
+    let rises : insert_all no_entries es ≡ es = rising_pairs es (subst (λ (qs : Entries). IsRising qs) (sym p.2) (pairs_rise p.0)) in
+    let same : value_at k.now es ≡ last_at k.now es = sym (ap (value_at k.now) rises) ∙ last_stays k.now es in
+    let here : FoundIs (pair_at equal.Last k.now es) result = subst (λ (o : Option Tree). FoundIs o result) same (found es p) in
+    subst (λ (u : Tree). FoundIs (at_step of (step.Key k) u) result) (sym e) (subst (λ (o : EqualKeys). FoundIs (pair_at o k.now es) result) (sym is) here)
+
+-- ---- the path
+
+-- the rest of the path leads from here to what the path leads to from r
+abbrev pub Follows : (ValueRef → Tree → Type 0) → EqualKeys → List PathStep → List PathStep → ValueRef → ValueRef → Type 0
+Follows Is of path left r here = (t : Tree) → Is r t → (u : Tree) × Is here u × (at_path of path t ≡ at_path of left u)
+
+module _ (Is : ValueRef → Tree → Type 0) (of : EqualKeys) (path : List PathStep) (r : ValueRef) where
+  -- a step that finds something
+  follows-step : (s : PathStep) (left : List PathStep) (here next : ValueRef) → Follows Is of path (s ∷ left) r here
+      → ((u : Tree) → Is here u → FoundBy Is (at_step of s u) (Some next)) → Follows Is of path left r next
+  follows-step s left here next before found = λ t is.
+      let x = before t is in
+      by (at_step of s x.0) (found x.0 x.1) x.2
+    where
+      by : {o : Option Tree} (found : Option Tree) → FoundBy Is found (Some next) → o ≡ option_and_then (at_path of left) found → (u : Tree) × Is next u × (o ≡ at_path of left u)
+      by None y e = absurd y
+      by (Some u) y e = (u, y, e)
+
+  pub follows-next : (i j : ℕ) (d : PathStep) (here next : ValueRef) → i < length path → j ≡ suc i → Follows Is of path (drop i path) r here
+      → ((u : Tree) → Is here u → FoundBy Is (at_step of (get_or path i d) u) (Some next)) → Follows Is of path (drop j path) r next
+  follows-next i j d here next few after before found =
+      let s = get_or path i d in
+      let first = subst (λ (left : List PathStep). Follows Is of path left r here) (drop-cons path i d few) before in
+      subst (λ (n : ℕ). Follows Is of path (drop n path) r next) (sym after) (follows-step s (drop (suc i) path) here next first found)
+
+-- ---- the bytes that it is in
+
+-- what is in a part of some bytes is in them
+lies_before_more : (s more rest : List ℕ) (r : ValueRef) → LiesIn s r rest → LiesIn (s ++ more) r (rest ++ more)
+lies_before_more s more rest r x = by r x
+  where
+    framed : (body : List ℕ) → IsFramed s body rest → IsFramed (s ++ more) body (rest ++ more)
+    framed body f = (f.0, ap (λ (t : List ℕ). t ++ more) f.1 ∙ ap (λ (t : List ℕ). f.0 ∷ t) (append_assoc (long_field body) rest more))
+
+    by : (r : ValueRef) → LiesIn s r rest → LiesIn (s ++ more) r (rest ++ more)
+    by (at.LongString b) y = framed b.now y
+    by (at.ByteArray b) y = framed b.now y
+    by (at.FieldArray a) y = framed (array_body a) y
+    by (at.FieldTable t) y = framed (table_body t) y
+    by _ y = (y.0, ap (λ (t : List ℕ). t ++ more) y.1 ∙ append_assoc y.0 rest more)
+
+within_part : (before part after : List ℕ) (r : ValueRef) → LiesWithin part r → LiesWithin (before ++ (part ++ after)) r
+within_part before part after r (ahead, behind, rest, e, x) = (
+  before ++ ahead,
+  behind ++ after,
+  rest ++ after,
+  ap (λ (t : List ℕ). before ++ (t ++ after)) e ∙ (ap (λ (t : List ℕ). before ++ t) (append_assoc ahead behind after) ∙ sym (append_assoc before ahead (behind ++ after))),
+  lies_before_more behind after rest r x,
+)
+
+-- what is in a container that is in some bytes is in them
+lies_deeper : (s : List ℕ) (r q : ValueRef) → LiesWithin s r → LiesWithin (content r) q → LiesWithin s q
+lies_deeper s r q x y = by r x y
+  where
+    inside : (b before behind rest : List ℕ) → s ≡ before ++ behind → IsFramed behind b rest → LiesWithin b q → LiesWithin s q
+    inside b before behind rest e f z =
+        let prefix = f.0 ∷ to_be_bytes w32 (length b) in
+        let parts : s ≡ (before ++ prefix) ++ (b ++ rest) =
+        e ∙ (ap (λ (t : List ℕ). before ++ t) (f.1 ∙ ap (λ (t : List ℕ). f.0 ∷ t) (append_assoc (to_be_bytes w32 (length b)) b rest)) ∙ sym (append_assoc before prefix (b ++ rest))) in
+        subst (λ (t : List ℕ). LiesWithin t q) (sym parts) (within_part (before ++ prefix) b rest q z)
+
+    by : (r : ValueRef) → LiesWithin s r → LiesWithin (content r) q → LiesWithin s q
+    by (at.FieldArray a) (before, behind, rest, e, f) z = inside (array_body a) before behind rest e f z
+    by (at.FieldTable t) (before, behind, rest, e, f) z = inside (table_body t) before behind rest e f z
+    by _ x z = subst (λ (t : List ℕ). LiesWithin t q) (append-nil s) (within_part s [] [] q z)
+
+-- so is what a path leads to, of which i steps were taken
+pub lies_step : (i : ℕ) (r here next : ValueRef) → (i ≡ 0 → here ≡ r) → (0 < i → LiesWithin (content r) here) → LiesWithin (content here) next → LiesWithin (content r) next
+lies_step zero r here next start within x = subst (λ (q : ValueRef). LiesWithin (content q) next) (start refl) x
+lies_step (suc i) r here next start within x = lies_deeper (content r) here next (within (omega arith)) x

@@ -1,0 +1,42 @@
+use Rattle.std.proofs.Common.{ℕ, List, sym, ◌∙◌, subst, rules, arith}
+use Rattle.amqp_types.specs.declared.amqp_type.AMQPType.TheVariants as amqp
+use Rattle.amqp_grammar.specs.Values.{table}
+use Rattle.amqp_grammar.specs.Grammar.{long_field}
+use Rattle.amqp_grammar.specs.Outcomes.{found, malformed}
+use Rattle.amqp_types.specs.Inputs.{slice_bytes}
+use Rattle.amqp_parsing.specs.Untagged.{UntaggedWithin}
+use Rattle.amqp_in_place.proofs.OneValue.{one_table}
+use Rattle.amqp_in_place.proofs.Untagged.{untagged_read, untagged_bad, untagged_deep}
+use Rattle.amqp_in_place.proofs.read.read_table_in_place.Goals as goal
+
+pub returns-then-limits-eq0-clause-within : goal.returns-then-limits-eq0-clause-within
+returns-then-limits-eq0-clause-within c =
+    let s = slice_bytes c.new.result in
+    let h = c.in_ok-rest.ensures in
+    rw c.refused.ensures
+    (subst (λ (t : List ℕ). UntaggedWithin c.args.limits amqp.FieldTable t malformed) c.new.ensures
+    (untagged_deep c.args.limits s c.in_ok-rest.body (slice_bytes c.in_ok-rest.rest) h.body h.fits c.if-limits-eq0.true))
+
+pub returns-then-not-are_pairs-clause-within : goal.returns-then-not-are_pairs-clause-within
+returns-then-not-are_pairs-clause-within c =
+    let s = slice_bytes c.new.result in
+    let h = c.in_ok-rest.ensures in
+    rw c.refused-then-not-are_pairs.ensures
+    (subst (λ (t : List ℕ). UntaggedWithin c.args.limits amqp.FieldTable t malformed) c.new.ensures
+    (untagged_bad c.args.limits s c.in_ok-rest.body (slice_bytes c.in_ok-rest.rest) h.body h.fits (c.are_pairs.ensures.no (search rules))))
+
+pub returns-clause-within : goal.returns-clause-within
+returns-clause-within c =
+    let s = slice_bytes c.new.result in
+    let rest = slice_bytes c.in_ok-rest.rest in
+    let h = c.in_ok-rest.ensures in
+    let x = c.are_pairs.ensures.yes (search rules) in
+    let read = untagged_read c.args.limits s c.in_ok-rest.body rest h.body h.fits x.0 (omega arith) x.1 in
+    (x.0, (x.1.0, rw c.of.ensures x.1.1.0, x.1.2), rw c.as_slice.ensures (subst (λ (t : List ℕ). UntaggedWithin c.args.limits amqp.FieldTable t (found (table x.0) rest)) c.new.ensures read))
+
+pub returns-clause-one : goal.returns-clause-one
+returns-clause-one c = one_table c.of.result
+
+pub returns-clause-rest : goal.returns-clause-rest
+returns-clause-rest c =
+    rw c.as_slice.ensures (long_field (slice_bytes c.in_ok-rest.body), sym c.new.ensures ∙ c.in_ok-rest.ensures.body.framed)

@@ -1,0 +1,17 @@
+use Rattle.std.proofs.Common.{◌≡◌, ◌<◌, drop}
+use Rattle.amqp_in_place.specs.declared.path.EqualKeys.TheVariants as equal
+use Rattle.amqp_in_place.specs.Refs.{Denotes}
+use Rattle.amqp_in_place.specs.Written.{IsWritten}
+use Rattle.amqp_in_place.specs.Places.{LiesWithin}
+use Rattle.amqp_in_place.specs.Paths.{content}
+use Rattle.amqp_in_place.proofs.Paths.{Follows}
+use Rattle.amqp_in_place.proofs.refs.ValueRef.get_path.Given as goal
+
+-- the rest of the path leads from here to what the path leads to
+abbrev pub invariant-loop-step : goal.invariant-loop-step
+invariant-loop-step l = record {
+  written : Follows IsWritten l.fn.of_equal l.fn.path (drop l.step-index l.fn.path) l.fn.self l.at;
+  last : l.fn.of_equal ≡ equal.Last → Follows Denotes l.fn.of_equal l.fn.path (drop l.step-index l.fn.path) l.fn.self l.at;
+  start : l.step-index ≡ 0 → l.at ≡ l.fn.self;
+  lies : 0 < l.step-index → LiesWithin (content l.fn.self) l.at;
+}

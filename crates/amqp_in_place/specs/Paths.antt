@@ -1,0 +1,35 @@
+-- What a path of keys and positions leads to.
+use Rattle.std.specs.Prelude.{ℕ, List, [], ◌∷◌, Option, Some, None, option_and_then}
+use Rattle.amqp_grammar.specs.Values.{Tree, array, table, Entries}
+use Rattle.amqp_grammar.specs.Maps.{last_at}
+use Rattle.amqp_in_place.specs.declared.refs.ValueRef.{ValueRef}
+use Rattle.amqp_in_place.specs.declared.refs.ValueRef.TheVariants as at
+use Rattle.amqp_in_place.specs.declared.path.PathStep.{PathStep}
+use Rattle.amqp_in_place.specs.declared.path.PathStep.TheVariants as step
+use Rattle.amqp_in_place.specs.declared.path.EqualKeys.{EqualKeys}
+use Rattle.amqp_in_place.specs.declared.path.EqualKeys.TheVariants as equal
+use Rattle.amqp_in_place.specs.Refs.{array_body, table_body}
+use Rattle.amqp_in_place.specs.Keys.{first_at}
+use Rattle.amqp_in_place.specs.Walks.{tree_at}
+
+-- the value of the pair with the key that counts
+abbrev pub pair_at : EqualKeys → List ℕ → Entries → Option Tree
+pair_at equal.First k ps = first_at k ps
+pair_at equal.Last k ps = last_at k ps
+
+-- what a step leads to: a key in a table, or a position in an array
+abbrev pub at_step : EqualKeys → PathStep → Tree → Option Tree
+at_step of (step.Key k) (table ps) = pair_at of k.now ps
+at_step of (step.Index n) (array vs) = tree_at n vs
+at_step of _ _ = None
+
+-- what a path leads to: step by step, and no steps to the value itself
+abbrev pub at_path : EqualKeys → List PathStep → Tree → Option Tree
+at_path of [] v = Some v
+at_path of (s ∷ path) v = option_and_then (at_path of path) (at_step of s v)
+
+-- the bytes of a container's body; none of any other value
+abbrev pub content : ValueRef → List ℕ
+content (at.FieldArray a) = array_body a
+content (at.FieldTable t) = table_body t
+content _ = []

@@ -1,0 +1,47 @@
+-- Values as they are written: their tables with every pair, in the order in which they are written.
+use Rattle.std.specs.Prelude.{ℕ, ◌≡◌, List, ◌++◌}
+use Rattle.amqp_types.specs.declared.amqp_type.AMQPType.{AMQPType}
+use Rattle.amqp_grammar.specs.Values.{Tree, scalar, short, long, octets, array, table, Trees, no_trees, tree, Entries, no_entries, entry}
+use Rattle.amqp_grammar.specs.Grammar.{Wire, Raw, ArrayBody, TableBody, wire, raw_fixed, raw_short, raw_long, raw_octets, raw_array, raw_table, no_values, value, no_pairs, pair}
+use Rattle.amqp_in_place.specs.declared.refs.ValueRef.{ValueRef}
+use Rattle.amqp_in_place.specs.declared.refs.ValueRef.TheVariants as at
+use Rattle.amqp_in_place.specs.Refs.{array_body, table_body, plain_tree}
+
+-- the value of an encoding as it is written
+abbrev mutual
+  pub written : (w : List ℕ) (v : Tree) → Wire w v → Tree
+  written _ _ (wire c type b v is raw) = raw_written type b v raw
+
+  pub raw_written : (type : AMQPType) (b : List ℕ) (v : Tree) → Raw type b v → Tree
+  raw_written _ _ _ (raw_fixed type f b is wide) = scalar (f.denotes b)
+  raw_written _ _ _ (raw_short s is) = short s
+  raw_written _ _ _ (raw_long s fits) = long s
+  raw_written _ _ _ (raw_octets s fits) = octets s
+  raw_written _ _ _ (raw_array body vs fits all) = array (values_written body vs all)
+  raw_written _ _ _ (raw_table body ps fits all) = table (pairs_written body ps all)
+
+  pub values_written : (body : List ℕ) (vs : Trees) → ArrayBody body vs → Trees
+  values_written _ _ no_values = no_trees
+  values_written _ _ (value w rest v vs first others) = tree (written w v first) (values_written rest vs others)
+
+  pub pairs_written : (body : List ℕ) (ps : Entries) → TableBody body ps → Entries
+  pairs_written _ _ no_pairs = no_entries
+  pairs_written _ _ (pair k w rest v ps key first others) = entry k (written w v first) (pairs_written rest ps others)
+
+-- the bytes are encodings of these values one after another, each as it is written
+abbrev pub WrittenValues : List ℕ → Trees → Type 0
+WrittenValues s ts = (vs : Trees) × (p : ArrayBody s vs) × (ts ≡ values_written s vs p)
+
+-- the bytes are these pairs one after another, each value as it is written
+abbrev pub WrittenPairs : List ℕ → Entries → Type 0
+WrittenPairs s ps = (es : Entries) × (p : TableBody s es) × (ps ≡ pairs_written s es p)
+
+-- t is the value that is referred to, as it is written
+abbrev pub IsWritten : ValueRef → Tree → Type 0
+IsWritten (at.FieldArray a) t = (ts : Trees) × WrittenValues (array_body a) ts × (t ≡ array ts)
+IsWritten (at.FieldTable b) t = (ps : Entries) × WrittenPairs (table_body b) ps × (t ≡ table ps)
+IsWritten r t = t ≡ plain_tree r
+
+-- an encoding is at the start of s and `rest` after it; t is its value, as it is written
+abbrev pub WrittenAt : Tree → List ℕ → List ℕ → Type 0
+WrittenAt t s rest = (w : List ℕ) × (v : Tree) × (p : Wire w v) × (s ≡ w ++ rest) × (t ≡ written w v p)

@@ -1,0 +1,91 @@
+//! Look-ups by a path of keys and positions.
+
+ghost use Rattle.std.specs.Prelude.{◌≡◌, ◌≢◌, [], Some, IfSome};
+ghost use Rattle.amqp_grammar.specs.Values.{Tree};
+ghost use Rattle.amqp_in_place.specs.declared.refs.ValueRef.TheVariants as at;
+ghost use Rattle.amqp_in_place.specs.Refs.{Denotes, table_body};
+ghost use Rattle.amqp_in_place.specs.Walks.{FoundIs, WrittenIs};
+ghost use Rattle.amqp_in_place.specs.Written.{IsWritten};
+ghost use Rattle.amqp_in_place.specs.Places.{LiesWithin};
+ghost use Rattle.amqp_in_place.specs.Paths.{at_step, at_path, content};
+
+use super::refs::{TableRef, ValueRef};
+
+/// A step from a container to a value in it.
+#[derive(Clone, Copy, Debug)]
+pub enum PathStep<'p> {
+    /// To the value at this key of a table.
+    Key(&'p str),
+    /// To the value at this position of an array, counted from 0.
+    Index(usize),
+}
+
+/// Which of several pairs with an equal key a look-up takes.
+#[derive(Clone, Copy, Debug, PartialEq, Eq)]
+pub enum EqualKeys {
+    /// The first pair, as RabbitMQ takes: [`TableRef::get_first`].
+    First,
+    /// The last pair, as this library and the Rust crate take: [`TableRef::get`].
+    Last,
+}
+
+impl<'a> ValueRef<'a> {
+    /// Returns the value that the steps lead to, one after another from this value on; no steps
+    /// lead to the value itself. `None` if a step finds nothing: no such key, no such position, or
+    /// no table or array. Each step iterates over the pairs or values of one container, by their
+    /// lengths; it doesn't recurse.
+    pub fn get_path(self, path: &[PathStep<'_>], of_equal: EqualKeys) -> Option<ValueRef<'a>>
+        ensures written { (t : Tree) → IsWritten self.entry t → WrittenIs (at_path of_equal path.now t) result }
+        ensures last { of_equal ≡ EqualKeys.Last → (v : Tree) → Denotes self.entry v
+            → FoundIs (at_path of_equal path.now v) result }
+        ensures itself { path.now ≡ [] → result ≡ Some self.entry }
+        ensures lies { path.now ≢ [] → IfSome result (λ r. LiesWithin (content self.entry) r) }
+    {
+        let mut at = self;
+        for step in path {
+            at = at.step(*step, of_equal)?;
+        }
+        Some(at)
+    }
+
+    // The value that one step leads to.
+    fn step(self, step: PathStep<'_>, of_equal: EqualKeys) -> Option<ValueRef<'a>>
+        ensures written { (t : Tree) → IsWritten self.entry t → WrittenIs (at_step of_equal step.entry t) result }
+        ensures last { of_equal ≡ EqualKeys.Last → (v : Tree) → Denotes self.entry v
+            → FoundIs (at_step of_equal step.entry v) result }
+        ensures lies { IfSome result (λ r. LiesWithin (content self.entry) r) }
+    {
+        match step {
+            PathStep::Key(key) => {
+                let ValueRef::FieldTable(table) = self else {
+                    return None;
+                };
+                match of_equal {
+                    EqualKeys::First => table.get_first(key),
+                    EqualKeys::Last => table.get(key),
+                }
+            }
+            PathStep::Index(index) => {
+                let ValueRef::FieldArray(array) = self else {
+                    return None;
+                };
+                array.get(index)
+            }
+        }
+    }
+}
+
+impl<'a> TableRef<'a> {
+    /// Returns the value that the steps lead to, the first of them a key of this table; otherwise as
+    /// [`ValueRef::get_path`].
+    pub fn get_path(self, path: &[PathStep<'_>], of_equal: EqualKeys) -> Option<ValueRef<'a>>
+        ensures written { (t : Tree) → IsWritten (at.FieldTable self.entry) t
+            → WrittenIs (at_path of_equal path.now t) result }
+        ensures last { of_equal ≡ EqualKeys.Last → (v : Tree) → Denotes (at.FieldTable self.entry) v
+            → FoundIs (at_path of_equal path.now v) result }
+        ensures itself { path.now ≡ [] → result ≡ Some (at.FieldTable self.entry) }
+        ensures lies { path.now ≢ [] → IfSome result (λ r. LiesWithin (table_body self.entry) r) }
+    {
+        ValueRef::FieldTable(self).get_path(path, of_equal)
+    }
+}

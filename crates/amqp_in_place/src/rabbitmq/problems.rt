@@ -1,0 +1,240 @@
+//! What RabbitMQ closes the connection for.
+
+ghost use Rattle.std.specs.Prelude.{◌≡◌, ◌<◌, ◌≤◌, ◌+◌, ◌^◌, suc, not, IfSome, length};
+ghost use Rattle.std.specs.Int.{w32, w64, from_be_bytes};
+ghost use Rattle.amqp_grammar.specs.Layouts.{fixed};
+ghost use Rattle.amqp_grammar.specs.Outcomes.{length_field};
+ghost use Rattle.amqp_parsing.specs.Headers.{extent, raw_extent, first_of};
+ghost use Rattle.amqp_in_place.specs.Rabbitmq.{known, are_ones, here, further, untagged, in_entries, in_payload, in_value, in_pair, pair_len, inside, problem_of, problem_in_table_of};
+ghost use Rattle.amqp_in_place.specs.RabbitmqResults.{GoesOver};
+
+use amqp_parsing::Limits;
+use amqp_parsing::header::value_len;
+use amqp_types::{AMQPType, SliceInput, SplitInput};
+
+/// Something in a value that RabbitMQ closes the connection for, or that is beyond the limits.
+#[derive(Clone, Copy, Debug, PartialEq, Eq)]
+pub struct Problem {
+    /// The number of bytes before the value with the problem, or before the pair if its key is cut.
+    pub offset: usize,
+    /// What it is.
+    pub kind: ProblemKind,
+}
+
+/// What is wrong with a value, or with a key.
+#[derive(Clone, Copy, Debug, PartialEq, Eq)]
+pub enum ProblemKind {
+    /// RabbitMQ doesn't know this type tag.
+    UnknownTag(u8),
+    /// The number in a Float or a Double is an infinity or a NaN.
+    NotFinite,
+    /// The value, by its type tag and its length, goes past the end of its container or of the
+    /// input; or there is no value, after a key or in an empty input.
+    Cut,
+    /// The key goes past the end of its table.
+    KeyCut,
+    /// The container nests deeper than the limit. RabbitMQ has no such limit.
+    TooDeep,
+    /// The value is longer than the limit `frame`.
+    TooLarge,
+}
+
+impl Problem {
+    fn here(kind: ProblemKind) -> Self
+        ensures { result ≡ here kind }
+    {
+        Problem { offset: 0, kind }
+    }
+
+    // The same problem, with this many bytes more before it.
+    fn further(self, count: usize) -> Self
+        requires { self.offset + count < 2 ^ 64 }
+        ensures { result ≡ further count self }
+    {
+        Problem {
+            offset: count + self.offset,
+            kind: self.kind,
+        }
+    }
+
+    // The same problem, without the type tag before it.
+    fn untagged(self) -> Self
+        ensures { result ≡ untagged self }
+    {
+        Problem {
+            offset: self.offset.saturating_sub(1),
+            kind: self.kind,
+        }
+    }
+}
+
+/// The first problem, by its offset, in the value at the start of the bytes, or `None` if RabbitMQ
+/// takes it and it is within the limits. It doesn't allocate.
+///
+/// A value longer than `limits.frame` is `TooLarge`, and nothing in it is looked at. A complete
+/// container deeper than `limits.depth` is `TooDeep`, and it recurses no deeper. Keys may be any
+/// bytes, a boolean any byte. What RabbitMQ takes was found by tests.
+pub fn first_problem(bytes: &[u8], limits: Limits) -> Option<Problem>
+    ensures first { result ≡ problem_of limits bytes.now }
+    ensures inside { IfSome result (λ p. p.offset ≤ length bytes.now) }
+{
+    if value_len(SliceInput::new(bytes)) > limits.frame as usize {
+        return Some(Problem::here(ProblemKind::TooLarge));
+    }
+    value(bytes, limits.depth).err()
+}
+
+/// The first problem in a table without its type tag, which begins with its length, as in methods
+/// and content headers. It doesn't allocate.
+///
+/// It is what `first_problem` returns for the table with its type tag, but for the offset, which
+/// counts from the length on, and is 0 for the table itself. The limit `frame` counts the type tag
+/// too.
+pub fn first_problem_in_table(table: &[u8], limits: Limits) -> Option<Problem>
+    ensures first { result ≡ problem_in_table_of limits table.now }
+    ensures inside { IfSome result (λ p. p.offset ≤ length table.now) }
+{
+    let len = value_len(SplitInput::new(b"F", table));
+    if len > limits.frame as usize {
+        return Some(Problem::here(ProblemKind::TooLarge));
+    }
+    match payload(AMQPType::FieldTable, table, len, limits.depth) {
+        Ok(_) => None,
+        Err(problem) => Some(problem.untagged()),
+    }
+}
+
+// The length of the value at the start, or the first problem in it.
+#[cycle(problems)]
+fn value(bytes: &[u8], depth: u32) -> Result<usize, Problem>
+    ensures { GoesOver (in_value (inside depth) bytes.now) (extent bytes.now) (length bytes.now) result }
+{
+    let Some((tag, behind)) = bytes.split_first() else {
+        return Err(Problem::here(ProblemKind::Cut));
+    };
+    let Some(amqp_type) = known_type(*tag) else {
+        return Err(Problem::here(ProblemKind::UnknownTag(*tag)));
+    };
+    payload(amqp_type, behind, value_len(SliceInput::new(bytes)), depth)
+}
+
+// The same of a value by its payload, if it has `len` bytes with its type tag.
+#[cycle(problems)]
+fn payload(amqp_type: AMQPType, bytes: &[u8], len: usize, depth: u32) -> Result<usize, Problem>
+    requires { len ≡ suc (raw_extent amqp_type bytes.now) }
+    ensures { GoesOver (in_payload (inside depth) amqp_type bytes.now) len (suc (length bytes.now)) result }
+{
+    if bytes.len() < len - 1 {
+        return Err(Problem::here(ProblemKind::Cut));
+    }
+    match inside(amqp_type, &bytes[..len - 1], depth) {
+        None => Ok(len),
+        Some(problem) => Err(problem),
+    }
+}
+
+// The first problem in a payload that is complete, with offsets from its type tag on.
+#[cycle(problems)]
+fn inside(amqp_type: AMQPType, bytes: &[u8], depth: u32) -> Option<Problem>
+    requires { first_of (fixed amqp_type) (length_field amqp_type) ≤ length bytes.now }
+    ensures first { result ≡ inside depth amqp_type bytes.now }
+    ensures inside { IfSome result (λ p. p.offset ≤ suc (length bytes.now)) }
+{
+    match amqp_type {
+        AMQPType::Float if !is_finite_float(bytes) => Some(Problem::here(ProblemKind::NotFinite)),
+        AMQPType::Double if !is_finite_double(bytes) => Some(Problem::here(ProblemKind::NotFinite)),
+        AMQPType::FieldArray => {
+            if depth == 0 {
+                return Some(Problem::here(ProblemKind::TooDeep));
+            }
+            Some(values(&bytes[4..], depth - 1)?.further(5))
+        }
+        AMQPType::FieldTable => {
+            if depth == 0 {
+                return Some(Problem::here(ProblemKind::TooDeep));
+            }
+            Some(pairs(&bytes[4..], depth - 1)?.further(5))
+        }
+        _ => None,
+    }
+}
+
+// The first problem in values one after another.
+#[cycle(problems)]
+fn values(body: &[u8], depth: u32) -> Option<Problem>
+    ensures first { result ≡ in_entries (in_value (inside depth)) extent 0 body.now }
+    ensures inside { IfSome result (λ p. p.offset ≤ length body.now) }
+{
+    let mut at = 0;
+    'values: while at < body.len() {
+        match value(&body[at..], depth) {
+            Ok(len) => at += len,
+            Err(problem) => return Some(problem.further(at)),
+        }
+    }
+    None
+}
+
+// The first problem in pairs one after another.
+#[cycle(problems)]
+fn pairs(body: &[u8], depth: u32) -> Option<Problem>
+    ensures first { result ≡ in_entries (in_pair (in_value (inside depth))) pair_len 0 body.now }
+    ensures inside { IfSome result (λ p. p.offset ≤ length body.now) }
+{
+    let mut at = 0;
+    'pairs: while at < body.len() {
+        match pair(&body[at..], depth) {
+            Ok(len) => at += len,
+            Err(problem) => return Some(problem.further(at)),
+        }
+    }
+    None
+}
+
+// The length of the pair at the start, or the first problem in it.
+#[cycle(problems)]
+fn pair(bytes: &[u8], depth: u32) -> Result<usize, Problem>
+    ensures { GoesOver (in_pair (in_value (inside depth)) bytes.now) (pair_len bytes.now) (length bytes.now) result }
+{
+    let Some((count, named)) = bytes.split_first() else {
+        return Err(Problem::here(ProblemKind::KeyCut));
+    };
+    let count = usize::from(*count);
+    if named.len() < count {
+        return Err(Problem::here(ProblemKind::KeyCut));
+    }
+    match value(&named[count..], depth) {
+        Ok(len) => Ok(1 + count + len),
+        Err(problem) => Err(problem.further(1 + count)),
+    }
+}
+
+// The type of a type tag that RabbitMQ knows.
+fn known_type(tag: u8) -> Option<AMQPType>
+    ensures { result ≡ known tag }
+{
+    if tag == b'U' {
+        return None;
+    }
+    AMQPType::from_id(char::from(tag))
+}
+
+// Whether a Float's number is finite: its exponent bits aren't all ones.
+fn is_finite_float(bytes: &[u8]) -> bool
+    requires { 4 ≤ length bytes.now }
+    ensures { are_ones 23 8 (from_be_bytes w32 bytes.now) ≡ not result }
+{
+    let bits = u32::from_be_bytes([bytes[0], bytes[1], bytes[2], bytes[3]]);
+    bits >> 23 & 0xff != 0xff
+}
+
+// Whether a Double's number is finite: its exponent bits aren't all ones.
+fn is_finite_double(bytes: &[u8]) -> bool
+    requires { 8 ≤ length bytes.now }
+    ensures { are_ones 52 11 (from_be_bytes w64 bytes.now) ≡ not result }
+{
+    let bits = u64::from_be_bytes([
+        bytes[0], bytes[1], bytes[2], bytes[3], bytes[4], bytes[5], bytes[6], bytes[7],
+    ]);
+    bits >> 52 & 0x7ff != 0x7ff
+}
