@@ -12,12 +12,14 @@
  * - No pointer is NULL, even if a length is 0. A pointer to a struct or a count points to one that is
  *   aligned. What a function only writes (an entry, a count, the cursor of amqp_enter, the body of
  *   amqp_open) need not be initialised.
- * - `length` bytes can be read at `bytes` or `text`, and `key_length` at `key`. `capacity` bytes can be
- *   written at `buffer`, and by the building functions also read. None of these exceeds PTRDIFF_MAX.
+ * - `length` bytes can be read at `bytes` or `text`, `key_length` at `key`, also that of a step, and
+ *   `step_count` steps at `steps`. `capacity` bytes can be written at `buffer`, and by the building
+ *   functions also read. None of these exceeds PTRDIFF_MAX bytes.
  * - What a function writes (a struct, a count, the buffer) overlaps neither the bytes, nor the text,
- *   nor the key, nor another struct or count of the call. During the call no other thread writes any of
- *   these, nor reads what the function writes.
- * - The stack suffices for the nesting that the limits of the call allow.
+ *   nor the key, nor a step or its key, nor another struct or count of the call. During the call no
+ *   other thread writes any of these, nor reads what the function writes.
+ * - The stack suffices for the nesting that the limits of the call allow: docs/PROMISES.md has the bytes
+ *   for each level.
  * - Three functions that allocate have one more, stated before them.
  *
  * There are no others: a cursor, an entry or a container may hold any numbers, since each call checks
@@ -45,16 +47,16 @@ extern "C" {
 /* What a function returns. */
 enum {
     AMQP_OK = 0,           /* done */
-    AMQP_NONE = 1,         /* no entry is left, or none has the key */
+    AMQP_NONE = 1,         /* no entry is left, none has the key, or the path leads to none */
     AMQP_MORE = -1,        /* the bytes end before the value does: more are needed */
     AMQP_UNKNOWN_TAG = -2, /* the first byte is no type tag */
     AMQP_MALFORMED = -3,   /* the bytes are complete and no value, or one that nests deeper than
                               `depth`; or an entry is truncated or has no type tag */
     AMQP_TOO_LARGE = -4,   /* the value has more than `frame` bytes; or what is put, or the body that is
                               closed, has 2^32 bytes or more */
-    AMQP_INVALID = -5,     /* a struct isn't inside the bytes or the buffer, or is of no container (for
-                              amqp_find: of no table); or no such entry can be put, or no such body be
-                              closed, there */
+    AMQP_INVALID = -5,     /* a struct isn't inside the bytes or the buffer, or is of no container (to
+                              find a key: of no table); a step's tag or `equal_keys` is another number;
+                              or no such entry can be put, or no such body be closed, there */
     AMQP_NO_MEMORY = -6,   /* out of memory (only functions that allocate) */
     AMQP_NO_ROOM = -7,     /* the buffer is too small (only functions that write to one) */
     AMQP_NOT_JSON = -8,    /* the text isn't UTF-8, nests too deep, is no JSON, or the JSON of no value
@@ -110,6 +112,21 @@ typedef struct amqp_cursor {
     uint8_t tag;    /* AMQP_ARRAY or AMQP_TABLE */
 } amqp_cursor;
 
+/* A step of a path: into a table by a key, or into an array by an index. */
+typedef struct amqp_step {
+    const uint8_t *key; /* into a table: the key; into an array it isn't looked at, and isn't NULL either */
+    size_t key_length;
+    size_t index; /* into an array: how many values are before the one that is meant */
+    uint8_t tag;  /* what the step is into: AMQP_TABLE or AMQP_ARRAY */
+} amqp_step;
+
+/* Initializers of steps, by a key that is a string literal, and by an index. */
+#define AMQP_KEY(literal) {(const uint8_t *)(literal), sizeof(literal) - 1, 0, AMQP_TABLE}
+#define AMQP_INDEX(index) {(const uint8_t *)"", 0, (index), AMQP_ARRAY}
+
+/* Which of equal keys counts: the last, as for amqp_find, or the first, as for amqp_find_first. */
+enum { AMQP_LAST_KEY = 0, AMQP_FIRST_KEY = 1 };
+
 /* An array or a table that is being built in a buffer. */
 typedef struct amqp_container {
     amqp_span written; /* its body, as far as it is written; the offset counts from `buffer` */
@@ -119,8 +136,7 @@ typedef struct amqp_container {
 /*
  * Reads the value at the start of the bytes within limits, and checks all of it, the UTF-8 of keys
  * included: at most `frame` bytes, and containers nested at most `depth` deep. For untrusted bytes
- * 131072 and 64 are suitable. One pass, which doesn't look at the bytes of strings and byte arrays. It
- * takes as much stack as read_in_place: docs/PROMISES.md has measurements.
+ * 131072 and 64 are suitable. One pass, which doesn't look at the bytes of strings and byte arrays.
  *
  * `count` becomes how many bytes the value has (AMQP_OK), or how many more the field that is being
  * read needs (AMQP_MORE; with these it may ask for more again), else 0. Also returns
@@ -167,6 +183,33 @@ int32_t amqp_find(const uint8_t *bytes, size_t length, const amqp_cursor *cursor
                   size_t key_length, amqp_entry *entry);
 
 /*
+ * As amqp_find, but of equal keys the first, which RabbitMQ takes. It looks at no byte after the value
+ * that it returns.
+ *
+ * Returns AMQP_OK, also if what comes after that value is malformed; AMQP_NONE if none has the key;
+ * AMQP_MALFORMED if none has it before the first entry that isn't complete; or AMQP_INVALID, also for
+ * the cursor of an array.
+ */
+int32_t amqp_find_first(const uint8_t *bytes, size_t length, const amqp_cursor *cursor,
+                        const uint8_t *key, size_t key_length, amqp_entry *entry);
+
+/*
+ * Returns the entry that a path leads to from `from`, an array or a table: what amqp_enter, and then
+ * amqp_find, amqp_find_first or `index` + 1 calls of amqp_next return, for each step in its turn. With
+ * no step it is `from` itself. `equal_keys` is AMQP_LAST_KEY or AMQP_FIRST_KEY. `entry` isn't the struct
+ * `from`. It doesn't recurse, and looks only at keys, headers, and a number that it returns.
+ *
+ * Returns AMQP_OK. Returns AMQP_NONE if a step finds nothing, also if it is at a value of another type:
+ * a step by a key at an array or a string, or one by an index at a table. Returns AMQP_MALFORMED if a
+ * step's look-up does, as amqp_find, amqp_find_first or amqp_next. Returns AMQP_INVALID if
+ * `equal_keys` is another number, if a span of `from` isn't inside the bytes, or if a step that is
+ * taken has another tag.
+ */
+int32_t amqp_find_path(const uint8_t *bytes, size_t length, const amqp_entry *from,
+                       const amqp_step *steps, size_t step_count, uint32_t equal_keys,
+                       amqp_entry *entry);
+
+/*
  * The next three functions allocate by malloc, realloc and free, and free all of it before they return.
  * Their precondition: malloc, realloc and free are of one allocator that aligns as C requires, and the
  * three functions aren't called from a signal handler.
@@ -184,8 +227,7 @@ int32_t amqp_find(const uint8_t *bytes, size_t length, const amqp_cursor *cursor
  * `count` becomes how many bytes were written (AMQP_OK), how many more the field that is being read
  * needs (AMQP_MORE), or which capacity is needed (AMQP_NO_ROOM), else 0. Also returns
  * AMQP_UNKNOWN_TAG, AMQP_MALFORMED, AMQP_TOO_LARGE or AMQP_NO_MEMORY. Bytes that are canonical already
- * are copied after one pass, without allocating; for others a tree and the encoding are allocated. It
- * takes as much stack as canonical_len, parse_value_within and gen_value: docs/PROMISES.md.
+ * are copied after one pass, without allocating; for others a tree and the encoding are allocated.
  */
 int32_t amqp_canonical(const uint8_t *bytes, size_t length, uint32_t frame, uint32_t depth,
                        uint8_t *buffer, size_t capacity, size_t *count);
@@ -198,7 +240,7 @@ int32_t amqp_canonical(const uint8_t *bytes, size_t length, uint32_t frame, uint
  * `count` becomes how many bytes were written (AMQP_OK), how many more the field that is being read
  * needs (AMQP_MORE), or which capacity is needed (AMQP_NO_ROOM), else 0. Also returns
  * AMQP_UNKNOWN_TAG, AMQP_MALFORMED, AMQP_TOO_LARGE or AMQP_NO_MEMORY. It allocates a tree and a JSON
- * value. It takes as much stack as json_of_encoding: docs/PROMISES.md.
+ * value.
  */
 int32_t amqp_to_json(const uint8_t *bytes, size_t length, uint32_t frame, uint32_t depth,
                      uint8_t *buffer, size_t capacity, size_t *count);
@@ -210,8 +252,7 @@ int32_t amqp_to_json(const uint8_t *bytes, size_t length, uint32_t frame, uint32
  * was written for, if it nests at most `nesting` deep.
  *
  * A text with more than `nesting` arrays and objects open at once, or with more than
- * AMQP_JSON_NESTING, is AMQP_NOT_JSON: brackets are counted before anything else. It takes as much
- * stack as encoding_of_json: docs/PROMISES.md.
+ * AMQP_JSON_NESTING, is AMQP_NOT_JSON: brackets are counted before anything else.
  *
  * `count` becomes how many bytes were written (AMQP_OK), or which capacity is needed (AMQP_NO_ROOM),
  * else 0. Also returns AMQP_NOT_JSON, AMQP_NO_MEMORY, or AMQP_NO_ENCODING if the value contains a
@@ -257,7 +298,7 @@ int32_t amqp_put_bytes(uint8_t *buffer, size_t capacity, amqp_container *into, c
 
 /*
  * Appends the value at the start of other bytes: reads it within limits as amqp_read does, and copies
- * its encoding as it is. Bytes after it aren't looked at. It takes as much stack as amqp_read.
+ * its encoding as it is. Bytes after it aren't looked at.
  *
  * Returns AMQP_OK, AMQP_NO_ROOM, AMQP_INVALID, or what amqp_read returns for the bytes.
  */
@@ -278,7 +319,7 @@ int32_t amqp_open(uint8_t *buffer, size_t capacity, const amqp_container *into, 
 
 /*
  * Ends the entry that amqp_open began in `into`: writes the length of `body` to the four bytes before
- * it, and `into` then ends where the body does.
+ * it, and the end of `into` is then that of the body.
  *
  * Returns AMQP_OK, AMQP_TOO_LARGE if the body has 2^32 bytes or more, or AMQP_INVALID if `body` isn't
  * inside the buffer, or if a key that is allowed there, the body's tag and four bytes aren't between

@@ -15,7 +15,7 @@ use Rattle.amqp_grammar.specs.Values.{Scalar, number, decimal, scalar}
 use Rattle.amqp_c_common.specs.Scalars.{widened}
 use Rattle.amqp_c.specs.BuiltEntries.{TellsOf}
 
--- what a conversion gave that went well
+-- what a conversion returned that succeeded
 pub converted : {T E : Type 0} (r : Result T E) (o : Option T) (x v : T) (P : Type 0) → o ≡ Some x → o ≡ result_ok r → OkIff r P v → P × (x ≡ v)
 converted (Ok y) o x v P is ok holds = let e : Some x ≡ Some y = sym is ∙ ok in let same : x ≡ y = cc in (holds.0, same ∙ holds.1)
 converted (Err e) o x v P is ok holds = absurd cc
@@ -29,7 +29,7 @@ small_signed w n y z lt is fits =
     let small : FitsSigned w z = subst (FitsSigned w) (sym fits.1) fits.0 in
     ((Fits-of_z {w = w} {z = z} small).fits, sym (of_z-to_z w64 n lt) ∙ ap (cast_unsigned w64) (sym same ∙ sym (to_z-of_z w z small)))
 
--- the number of a type is told by its bits
+-- the number of a type is determined by its bits
 pub number_told : (type its : AMQPType) (n b scale : ℕ) (e payload : List ℕ) → type ≡ its → scale ≡ 0 → IsNumber its n → b ≡ widened its n
     → e ≡ id_of its ∷ payload → payload ≡ spelled (number its n) → (x : Scalar) × TellsOf type b scale x × (e ≡ text (scalar x))
 number_told type its n b scale e payload typed zero range same written is =

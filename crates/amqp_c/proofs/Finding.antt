@@ -40,22 +40,28 @@ pub record Split (value name : List ℕ) (ps : List (List ℕ × List ℕ)) : Ty
   pub whole : IsHeaded value
   pub left : ArePairs (drop (extent value) value) others
 
+-- bytes determine a key and what is after it
+pub one_pair : (k name v value : List ℕ) → short_field k ++ v ≡ short_field name ++ value → (k ≡ name) × (v ≡ value)
+one_pair k name v value e =
+    let size : length k ≡ length name = ap (λ (t : List ℕ). get_or t 0 0) e in (
+      sym (take_at k v (length name) size) ∙ (ap (λ (t : List ℕ). take (length name) (drop 1 t)) e ∙ take_at name value (length name) refl),
+      sym (drop_at k v (length name) size) ∙ (ap (drop (suc (length name))) e ∙ drop_at name value (length name) refl),
+    )
+
 pub pairs_split : (left name value : List ℕ) (ps : List (List ℕ × List ℕ)) → left ≡ short_field name ++ value → ArePairs left ps → Split value name ps
 pairs_split _ name value _ e none_left = absurd cc
 pairs_split _ name value _ e (one_left k v ps whole all) =
-    let size : length k ≡ length name = ap (λ (t : List ℕ). get_or t 0 0) e in
-    let key : k ≡ name = sym (take_at k v (length name) size) ∙ (ap (λ (t : List ℕ). take (length name) (drop 1 t)) e ∙ take_at name value (length name) refl) in
-    let same : v ≡ value = sym (drop_at k v (length name) size) ∙ (ap (drop (suc (length name))) e ∙ drop_at name value (length name) refl) in
+    let (key, same) = one_pair k name v value e in
     subst (λ (j : List ℕ). Split value j ((k, take (extent v) v) ∷ ps)) key
     (subst (λ (t : List ℕ). Split t k ((k, take (extent v) v) ∷ ps)) same record { others = ps; are = refl; whole = whole; left = all })
 
--- before pairs stands a pair
+-- before pairs is a pair
 pub pairs_join : (left name value behind : List ℕ) (ps : List (List ℕ × List ℕ)) → left ≡ short_field name ++ value → IsHeaded value → behind ≡ drop (extent value) value → ArePairs behind ps
     → ArePairs left ((name, take (extent value) value) ∷ ps)
 pairs_join left name value behind ps e whole is all =
     subst (λ (t : List ℕ). ArePairs t ((name, take (extent value) value) ∷ ps)) (sym e) (one_left name value ps whole (subst (λ (t : List ℕ). ArePairs t ps) is all))
 
--- no bytes are none
+-- no bytes are no pairs
 pub no_pairs_left : (left : List ℕ) → length left ≡ 0 → ArePairs left []
 no_pairs_left left none = subst (λ (t : List ℕ). ArePairs t []) (sym (nil_from_length left none)) none_left
 
@@ -68,19 +74,30 @@ pub pairs_keyed : (left : List ℕ) (ps : List (List ℕ × List ℕ)) → HasNo
 pairs_keyed _ _ none some none_left = omega arith
 pairs_keyed _ _ none some (one_left k value ps whole all) = none k value refl (omega (arith, whole.0, whole.1))
 
--- where the pair's value stands
-pub value_stands : (s : List ℕ) (p : Span) (e : Entry) (key value : List ℕ) → SpanLies (length s) p → Lies (length s) e → StandsKeyed s p e → EndsIn p e → part s p ≡ short_field key ++ value
-    → part s e.value ≡ take (extent value) value
-value_stands s p e key value in_s lies (at, next, begins, whole) ends is =
-    let named : part s e.key ≡ key = one_key (part s e.key) key (part s p) begins (value, is) in
-    let size : e.key.length ≡ length key = sym (part_length s e.key lies.key) ∙ ap length named in
-    let there : suc (length key) ≤ p.length = omega (arith, ap length is, part_length s p in_s, length-append key value) in
-    let after : part s (behind p e.key) ≡ value =
-    part_after s p e.key (suc (length key)) (omega (arith, at, size)) there ∙ (ap (drop (suc (length key))) is ∙ drop_at key value (length key) refl) in
-    let few : e.value.length ≤ p.offset + p.length - (e.key.offset + e.key.length) = omega (arith, next, ends.1) in
-    let cut : part s e.value ≡ take e.value.length (part s (behind p e.key)) =
-    ap (λ (o : ℕ). take e.value.length (drop o s)) next ∙ sym (take-take e.value.length (p.offset + p.length - (e.key.offset + e.key.length)) (drop (e.key.offset + e.key.length) s) few) in
-    cut ∙ (ap (take e.value.length) after ∙ ap (λ (n : ℕ). take n value) (whole ∙ ap extent after))
+-- the place of the pair's value
+module _ (s : List ℕ) (p : Span) (e : Entry) (key value : List ℕ) (in_s : SpanLies (length s) p) (lies : Lies (length s) e) (stands : StandsKeyed s p e) (ends : EndsIn p e) (is : part s p ≡ short_field key ++ value) where
+  key_size : e.key.length ≡ length key
+  key_size = sym (part_length s e.key lies.key) ∙ ap length (one_key (part s e.key) key (part s p) stands.2 (value, is))
+
+  after_key : part s (behind p e.key) ≡ value
+  after_key =
+      let there : suc (length key) ≤ p.length = omega (arith, ap length is, part_length s p in_s, length-append key value) in
+      part_after s p e.key (suc (length key)) (omega (arith, stands.0, key_size)) there ∙ (ap (drop (suc (length key))) is ∙ drop_at key value (length key) refl)
+
+  pub value_stands : part s e.value ≡ take (extent value) value
+  value_stands =
+      let few : e.value.length ≤ p.offset + p.length - (e.key.offset + e.key.length) = omega (arith, stands.1, ends.1) in
+      let cut : part s e.value ≡ take e.value.length (part s (behind p e.key)) =
+      ap (λ (o : ℕ). take e.value.length (drop o s)) stands.1 ∙ sym (take-take e.value.length (p.offset + p.length - (e.key.offset + e.key.length)) (drop (e.key.offset + e.key.length) s) few) in
+      cut ∙ (ap (take e.value.length) after_key ∙ ap (λ (n : ℕ). take n value) (stands.3 ∙ ap extent after_key))
+
+  -- and that it is there
+  pub value_headed : IsHeaded value
+  value_headed =
+      let size : e.value.length ≡ extent value = stands.3 ∙ ap extent after_key in (
+        omega (arith, size, lies.some),
+        omega (arith, size, stands.0, stands.1, key_size, ends.1, ap length is, part_length s p in_s, length-append key value),
+      )
 
 -- ---- the pairs that are left
 
@@ -102,7 +119,7 @@ left_behind all left rest from fewer (n, some, in_left, e) =
       omega arith,
     )
 
--- what holds where a test was true, and before it
+-- what holds at the place at which a test was true, and before it
 pub if_some : (P : ℕ → Type 0) (b : Bool) (n : ℕ) (old new : Option ℕ) → new ≡ cond b (Some n) old → (b ≡ true → P n) → IfSome old P → IfSome new P
 if_some P true n old new is here before = subst (λ (o : Option ℕ). IfSome o P) (sym is) (here refl)
 if_some P false n old new is here before = subst (λ (o : Option ℕ). IfSome o P) (sym is) before
@@ -156,7 +173,7 @@ pub gives_none : (s key all : List ℕ) (o : Option (List ℕ)) → Seen key all
 gives_none s key all None x = tt
 gives_none s key all (Some w) x = absurd x
 
--- the entry is told where the pair stands
+-- the entry is determined by the place of the pair
 pub gives_some : (s key all : List ℕ) (p : Span) (n : ℕ) (e : Entry) (o : Option (List ℕ)) → part s p ≡ drop (length all - n) all
     → ((value : List ℕ) → part s p ≡ short_field key ++ value → part s e.value ≡ take (extent value) value) → Seen key all o (Some n) → GivesLast s o (Ok (Some e))
 gives_some s key all p n e None same stands x = absurd x
@@ -174,7 +191,7 @@ seen_pair key all there n at o same is seen = by o (subst (Seen key all o) is se
 -- ---- pairs that are encoded
 
 -- the bytes are those of the value, if there is one
-abbrev AreOf : Option (List ℕ) → Option Tree → Type 0
+abbrev pub AreOf : Option (List ℕ) → Option Tree → Type 0
 AreOf None None = Unit {0}
 AreOf (Some w) (Some v) = Wire w v
 AreOf _ _ = ⊥
@@ -185,18 +202,29 @@ or_of (Some w) b (Some v) y p q = p
 or_of None b (Some v) y p q = absurd p
 or_of (Some w) b None y p q = absurd p
 
+-- an encoding, by its type tag and its length
+pub record Headed (w rest : List ℕ) : Type 0 where
+  pub whole : IsHeaded (w ++ rest)
+  pub front : take (extent (w ++ rest)) (w ++ rest) ≡ w
+  pub after : drop (extent (w ++ rest)) (w ++ rest) ≡ rest
+
+pub headed : (w rest : List ℕ) (v : Tree) → Wire w v → Headed w rest
+headed w rest v q =
+    let wide : extent (w ++ rest) ≡ length w = wire_extent w rest v q in record {
+      whole = (omega (arith, wide, length-wire w v q), omega (arith, wide, length-append w rest));
+      front = take_at w rest (extent (w ++ rest)) (sym wide);
+      after = drop_at w rest (extent (w ++ rest)) (sym wide);
+    }
+
 -- they are pairs by their lengths, and the last value at a key is that of the same pair
 laid : (key t : List ℕ) (ps : Entries) → TableBody t ps → (qs : List (List ℕ × List ℕ)) × ArePairs t qs × AreOf (last_of key qs) (last_at key ps)
 laid key _ _ no_pairs = ([], none_left, tt)
 laid key _ _ (pair k w rest v ps is q all) =
     let (qs, are, same) = laid key rest ps all in
-    let wide : extent (w ++ rest) ≡ length w = wire_extent w rest v q in
-    let whole : IsHeaded (w ++ rest) = (omega (arith, wide, length-wire w v q), omega (arith, wide, length-append w rest)) in
-    let front : take (extent (w ++ rest)) (w ++ rest) ≡ w = take_at w rest (extent (w ++ rest)) (sym wide) in
-    let after : drop (extent (w ++ rest)) (w ++ rest) ≡ rest = drop_at w rest (extent (w ++ rest)) (sym wide) in
-    let here = one_left k (w ++ rest) qs whole (subst (λ (t : List ℕ). ArePairs t qs) (sym after) are) in (
+    let x = headed w rest v q in
+    let here = one_left k (w ++ rest) qs x.whole (subst (λ (t : List ℕ). ArePairs t qs) (sym x.after) are) in (
       (k, w) ∷ qs,
-      subst (λ (u : List ℕ). ArePairs (short_field k ++ (w ++ rest)) ((k, u) ∷ qs)) front here,
+      subst (λ (u : List ℕ). ArePairs (short_field k ++ (w ++ rest)) ((k, u) ∷ qs)) x.front here,
       or_of (last_of key qs) (cond (same_bytes key k) (Some w) None) (last_at key ps) (cond (same_bytes key k) (Some v) None) same (pick (same_bytes key k)),
     )
   where
@@ -204,34 +232,35 @@ laid key _ _ (pair k w rest v ps is q all) =
     pick true = q
     pick false = tt
 
--- so the look-up finds the value
+-- so if a value's bytes are found, the value is
+pub found_by : (s : List ℕ) (a : Option (List ℕ)) (b : Option Tree) (r : Result (Option Entry) Fault) → GivesLast s a r → AreOf a b → IfOk r (λ o. IfSome o (IsTrueTo s)) → GivesFound s b r
+found_by s None None (Ok None) g m t = tt
+found_by s (Some w) (Some v) (Ok (Some e)) g m t = t v (subst (λ (u : List ℕ). Wire u v) (sym g) m)
+found_by s None (Some v) _ g m t = absurd m
+found_by s (Some w) None _ g m t = absurd m
+found_by s None None _ g m t = absurd g
+found_by s (Some w) (Some v) _ g m t = absurd g
+
 pub found_of : (s all key : List ℕ) (r : Result (Option Entry) Fault) → ((ps : List (List ℕ × List ℕ)) → ArePairs all ps → GivesLast s (last_of key ps) r) → IfOk r (λ o. IfSome o (IsTrueTo s))
     → (es : Entries) → HasEntries all es → GivesFound s (value_at key es) r
 found_of s all key r gives told es (ps, p, is) =
     let (qs, are, same) = laid key all ps p in
-    subst (λ (o : Option Tree). GivesFound s o r) (sym (ap (value_at key) is ∙ last_stays key ps)) (by (last_of key qs) (last_at key ps) r (gives qs are) same told)
-  where
-    by : (a : Option (List ℕ)) (b : Option Tree) (r : Result (Option Entry) Fault) → GivesLast s a r → AreOf a b → IfOk r (λ o. IfSome o (IsTrueTo s)) → GivesFound s b r
-    by None None (Ok None) g m t = tt
-    by (Some w) (Some v) (Ok (Some e)) g m t = t v (subst (λ (u : List ℕ). Wire u v) (sym g) m)
-    by None (Some v) _ g m t = absurd m
-    by (Some w) None _ g m t = absurd m
-    by None None _ g m t = absurd g
-    by (Some w) (Some v) _ g m t = absurd g
+    subst (λ (o : Option Tree). GivesFound s o r) (sym (ap (value_at key) is ∙ last_stays key ps)) (found_by s (last_of key qs) (last_at key ps) r (gives qs are) same told)
+
+-- what is found is true to the values
+pub found_true : (s : List ℕ) (c : Cursor) (key : List ℕ) (r : Result (Option Entry) Fault) → IfOk r (λ o. IfSome o (IsFoundIn s c key)) → IfOk r (λ o. IfSome o (IsTrueTo s))
+found_true s c key (Ok (Some e)) h = h.told
+found_true s c key (Ok None) h = tt
+found_true s c key (Err f) h = tt
 
 -- a look-up, by the last pair that it finds
 pub looked_up : (s : List ℕ) (c : Cursor) (key : List ℕ) (r : Result (Option Entry) Fault) → ((ps : List (List ℕ × List ℕ)) → ArePairs (part s c.left) ps → GivesLast s (last_of key ps) r)
     → IfOk r (λ o. IfSome o (IsFoundIn s c key)) → IfOk r (λ _. IsOfTable (length s) c × (ps : List (List ℕ × List ℕ)) × ArePairs (part s c.left) ps)
     → IfErr r (RefusedBy (IsOfTable (length s) c) (IsOfTable (length s) c × ((ps : List (List ℕ × List ℕ)) → ArePairs (part s c.left) ps → ⊥))) → LooksUp s c key r
 looked_up s c key r last entry valid refused = record {
-  found = λ es table is. found_of s (part s c.left) key r last (true_to r entry) es is;
+  found = λ es table is. found_of s (part s c.left) key r last (found_true s c key r entry) es is;
   last = λ ps table are. last ps are;
   entry = entry;
   valid = valid;
   refused = refused;
 }
-  where
-    true_to : (r : Result (Option Entry) Fault) → IfOk r (λ o. IfSome o (IsFoundIn s c key)) → IfOk r (λ o. IfSome o (IsTrueTo s))
-    true_to (Ok (Some e)) h = h.told
-    true_to (Ok None) h = tt
-    true_to (Err f) h = tt

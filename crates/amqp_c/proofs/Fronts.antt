@@ -53,7 +53,7 @@ found_wire s rest v n x e =
 
 -- ---- faults
 
--- where a value is found no fault is right
+-- if a value is found no fault is right
 pub never_faulty : (s rest : List ℕ) (v : Tree) (f : Fault) → Outcome s (found v rest) → HeaderFaults (Outcome s) f → ⊥
 never_faulty s rest v (More n) x y = let e = one_outcome s (found v rest) (more n) x y in cc
 never_faulty s rest v UnknownTag x y = let e = one_outcome s (found v rest) unknown x y in cc
@@ -90,7 +90,7 @@ no_extent c b x = by (kind c) x
     by None is = refl
     by (Some type) y = absurd (at (lack type b) y)
 
--- where one is right, not as many bytes are there as a header tells
+-- if one is right, fewer bytes are there than a header counts
 pub cut_header : (s : List ℕ) (f : Fault) → HeaderFaults (Outcome s) f → IsHeaded s → ⊥
 cut_header [] f x h = omega (arith, h.0)
 cut_header (c ∷ b) (More n) x h =
@@ -115,7 +115,7 @@ has_frame amqp.FieldArray mid h = refl
 has_frame amqp.FieldTable mid h = refl
 has_frame _ mid h = absurd cc
 
--- where the field isn't whole more bytes are needed
+-- if the field isn't complete more bytes are needed
 cut : (s mid : List ℕ) (type : AMQPType) → IsType s type mid → has_content type ≡ true → (o : Reading) → IsCutLengthPrefixed mid o → Outcome s o
 cut s mid type p h o x =
     subst (λ (t : List ℕ). Outcome t o) (sym p.1) (raw_to_value p.0 type mid o p.2 (by (lack type mid) (has_frame type mid h)))
@@ -221,7 +221,7 @@ id_in (Some f) b = id_of (scalar_type (f.denotes b))
 id_in None b = 0
 
 -- the type tag of what a payload of fixed width means is that of its type
-fixed_tag : (type : AMQPType) (f : Layout) (b : List ℕ) → fixed type ≡ Some f → id_of (scalar_type (f.denotes b)) ≡ id_of type
+pub fixed_tag : (type : AMQPType) (f : Layout) (b : List ℕ) → fixed type ≡ Some f → id_of (scalar_type (f.denotes b)) ≡ id_of type
 unfolding id_in
 fixed_tag amqp.LongString f b is = absurd cc
 fixed_tag amqp.ShortString f b is = absurd cc
@@ -283,7 +283,7 @@ scalar_fault s mid type p h r (Error kind.OutOfMemory) x = absurd x
 scalar_fault s mid type p h r (Error kind.TooLarge) x = absurd x
 scalar_fault s mid type p h r (Failure k) x = absurd x.1
 
--- a value that is found has the extent that its header tells
+-- a value that is found has the extent that its header determines
 pub found_extent : (s rest : List ℕ) (v : Tree) → Outcome s (found v rest) → extent s + length rest ≡ length s
 found_extent s rest v x =
     let f = found_front s rest v x in

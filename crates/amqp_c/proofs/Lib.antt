@@ -3,6 +3,9 @@ mod Parts
 mod Fronts
 mod Stepping
 mod Finding
+mod FirstFinding
+mod NthFinding
+mod Paths
 mod Growing
 mod BuiltNumbers
 mod Opened

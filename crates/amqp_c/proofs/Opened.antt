@@ -13,7 +13,7 @@ same_before a b x y e =
     let count : length a ≡ length b = omega (arith, ap length e, length-append a (x ∷ []), length-append b (y ∷ [])) in
     sym (take_at a (x ∷ []) (length a) refl) ∙ (ap (take (length a)) e ∙ take_at b (y ∷ []) (length a) (sym count))
 
--- between what `into` has and the four bytes before the body stand a name and the body's type tag
+-- between what `into` has and the four bytes before the body are a name and the body's type tag
 pub is_open : (room name : List ℕ) (into body : Container) (at tag : ℕ) (yes : Bool) → at ≡ end_of into → SpanLies (length room) into.written → SpanLies (length room) body.written
     → IsContainerTag body.tag → at + 4 ≤ body.written.offset → take (body.written.offset - 4 - at) (drop at room) ≡ name ++ tag ∷ [] → tag ≡ body.tag
     → MatchBool yes ((k : List ℕ) × IsKeyOf into k × (name ≡ named into.tag k)) ((k : List ℕ) → IsKeyOf into k → name ≡ named into.tag k → ⊥)

@@ -15,7 +15,7 @@ use Rattle.amqp_c_common.specs.Spans.{part, moved, behind, SpanLies}
 use Rattle.amqp_c.specs.Steps.{IsHeaded, HasNoPair, IsFrontIn, IsValueIn, IsPairIn, BeginsWithKey, StandsKeyed}
 use Rattle.amqp_c.proofs.Parts.{part_front, part_within, part_after, part_length}
 
--- the entry, where the bytes that it was read from begin at the span
+-- the entry, if the bytes that it was read from begin at the span
 abbrev pub placed : Span → Span → Entry → Entry
 placed p key e = record { key = key; value = moved p.offset e.value; content = moved p.offset e.content; bits = e.bits; tag = e.tag; scale = e.scale }
 
@@ -133,7 +133,7 @@ module _ (s : List ℕ) (p : Span) (n : ℕ) (r : Option Entry) (in_s : SpanLies
       let room : suc n ≤ p.length = omega (arith, ap length e, part_length s p in_s, length-append k rest) in
       part_after s p key (suc n) (omega arith) room ∙ (ap (drop (suc n)) e ∙ drop_at k rest n (sym size))
 
-  -- where no value is there, no pair is here
+  -- if no value is there, no pair is here
   pub pair_cut : (o : Option Entry) → IfNone o (IsHeaded (part s (behind p key)) → ⊥) → IfNone o (HasNoPair (part s p))
   pair_cut None none = λ k value e whole. none (subst IsHeaded (sym (front_at k value e)) whole)
   pair_cut (Some x) none = tt

@@ -1,4 +1,4 @@
--- What each call from C returns, and leaves in the buffer and behind its pointers.
+-- What each call from C returns, and leaves in the buffer and at its pointers.
 use Rattle.std.specs.Prelude.{ℕ, ◌≡◌, ℤ, List, Result, Ok, Err, IfErr, MatchResult}
 use Rattle.amqp_grammar.specs.Values.{Tree, Scalar}
 use Rattle.amqp_c_common.specs.declared.fault.Fault.{Fault}
@@ -10,12 +10,12 @@ use Rattle.amqp_c.specs.BuiltEntries.{Tells, IsTold, IsStringTag, IsOfBytes, IsF
 use Rattle.amqp_c.specs.Faults.{Refuses, NoOther, IsTooLong, IsReadFaultInPlace, RefusesToEnd}
 use Rattle.amqp_c.specs.Growth.{IsPut, IsBegun, IsEnded}
 
--- what is given, or what stood there
+-- what is returned, or what was there
 abbrev pub container_or_old : Container → Result Container Fault → Container
 container_or_old was (Ok c) = c
 container_or_old was (Err f) = was
 
--- an entry is put or rejected, where `Gives` says of which encoding and value it may be; after a
+-- an entry is written or rejected; `Gives` defines of which encoding and value it may be; after an
 -- error the buffer and the container are as they were
 pub record Puts (valid : Type 0) (Gives : List ℕ → Tree → Type 0) (Other : Fault → Type 0) (old : List ℕ) (into : Container) (k : List ℕ) (answer : ℤ) (new : List ℕ) (grown : Container) : Type 0 where
   pub done : Result Container Fault

@@ -13,21 +13,21 @@ use Rattle.amqp_in_place.specs.Bodies.{HasEntries}
 use Rattle.amqp_c_common.specs.Scalars.{scalar_bits, scalar_scale}
 use Rattle.amqp_c.specs.Containers.{array_tag, table_tag}
 
--- the type tag, the bits and the scale tell x, as those of an entry do
+-- the type tag, the bits and the scale determine x, as those of an entry do
 pub record Tells (tag bits scale : ℕ) (x : Scalar) : Type 0 where
   pub in_range : IsScalar x
   pub same_tag : tag ≡ id_of (scalar_type x)
   pub same_bits : bits ≡ scalar_bits x
   pub same_scale : scale ≡ scalar_scale x
 
--- the bits and the scale tell x, which is of this type
+-- the bits and the scale determine x, which is of this type
 pub record TellsOf (type : AMQPType) (bits scale : ℕ) (x : Scalar) : Type 0 where
   pub in_range : IsScalar x
   pub same_type : scalar_type x ≡ type
   pub same_bits : bits ≡ scalar_bits x
   pub same_scale : scale ≡ scalar_scale x
 
--- w is the canonical encoding of v, a value of fixed width that these tell
+-- w is the canonical encoding of v, a value of fixed width that these determine
 abbrev pub IsTold : ℕ → ℕ → ℕ → List ℕ → Tree → Type 0
 IsTold tag bits scale w v = (x : Scalar) × Tells tag bits scale x × (v ≡ scalar x) × (w ≡ text v)
 

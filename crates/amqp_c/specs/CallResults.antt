@@ -15,11 +15,11 @@ use Rattle.amqp_c_common.specs.declared.fault.Fault.TheVariants.{More, UnknownTa
 use Rattle.amqp_c_common.specs.ReturnCodes.{fault_of, code_of}
 use Rattle.amqp_c.specs.Entries.{IsEntry}
 
--- it is what an error that is right of reading s is told as
+-- it is what an error that is right of reading s is reported as
 abbrev pub IsRefusalOf : List ℕ → Fault → Type 0
 IsRefusalOf s f = (e : Refusal) × (f ≡ fault_of e) × Refuses (Outcome s) ⊥ e
 
--- a fault is right, where `Is` says what reading the bytes results in
+-- a fault is right, if `Is` states what reading the bytes results in
 abbrev pub Faults : (Reading → Type 0) → Fault → Type 0
 Faults Is (More n) = Is (more n)
 Faults Is UnknownTag = Is unknown
@@ -46,13 +46,13 @@ abbrev pub GivesFirst : List ℕ → Tree → List ℕ → Result Entry Fault �
 GivesFirst s v rest (Ok e) = IsEntry s e v × (e.value.offset ≡ 0) × (e.value.length + length rest ≡ length s)
 GivesFirst s v rest (Err f) = ⊥
 
--- the number that denotes a result: 0 where something is given, 1 where there is nothing
+-- the number that denotes a result: 0 if something is returned, 1 if there is nothing
 abbrev pub answer_if_any : {T : Type 0} → Result (Option T) Fault → ℤ
 answer_if_any (Ok (Some x)) = pos 0
 answer_if_any (Ok None) = pos 1
 answer_if_any (Err f) = code_of f
 
--- what is given, or what stood there
+-- what is returned, or what was there
 abbrev pub ok_or_old : {T : Type 0} → T → Result T Fault → T
 ok_or_old old (Ok x) = x
 ok_or_old old (Err f) = old
@@ -61,7 +61,7 @@ abbrev pub found_or_old : {T : Type 0} → T → Result (Option T) Fault → T
 found_or_old old (Ok (Some x)) = x
 found_or_old old _ = old
 
--- the entry and the cursor that a step returns, or what stood there
+-- the entry and the cursor that a step returns, or what was there
 abbrev pub entry_or_old : Entry → Result (Option (Entry × Cursor)) Fault → Entry
 entry_or_old old (Ok (Some x)) = x.0
 entry_or_old old _ = old

@@ -1,19 +1,24 @@
--- What each call from C answers and leaves behind its pointers.
-use Rattle.std.specs.Prelude.{ℕ, ◌≡◌, ℤ, List, length, Option, Result, IfOk, IfErr, MatchResult}
+-- What each call from C returns and leaves at its pointers.
+use Rattle.std.specs.Prelude.{ℕ, ◌≡◌, ℤ, List, length, Option, Result, Err, IfOk, IfErr, MatchResult}
 use Rattle.amqp_grammar.specs.Values.{Tree, Trees, Entries}
 use Rattle.amqp_grammar.specs.Grammar.{ArrayBody, TableBody}
 use Rattle.amqp_grammar.specs.Outcomes.{Outcome, found}
 use Rattle.amqp_c.specs.declared.cursor.Cursor.{Cursor}
 use Rattle.amqp_c.specs.declared.entry.Entry.{Entry}
 use Rattle.amqp_c_common.specs.declared.fault.Fault.{Fault}
+use Rattle.amqp_c_common.specs.declared.fault.Fault.TheVariants.{Invalid}
 use Rattle.amqp_c_common.specs.Reading.{limits}
 use Rattle.amqp_c_common.specs.Spans.{part, SpanLies}
 use Rattle.amqp_c.specs.Entries.{IsAtFront, Lies}
 use Rattle.amqp_c.specs.Steps.{array_tag, table_tag, contents, IsOfContainer, StepsIn, IsCut, RefusedBy, GivesValue, GivesPair, LooksUp}
+use Rattle.amqp_c.specs.FirstPairs.{LooksUpFirst}
+use Rattle.amqp_c.specs.declared.path.EqualKeys.{EqualKeys}
+use Rattle.amqp_c.specs.declared.path.Step.{Step}
+use Rattle.amqp_c.specs.Paths.{number_of, LooksUpOn}
 use Rattle.amqp_c_common.specs.ReturnCodes.{answer_of, count_of}
 use Rattle.amqp_c.specs.CallResults.{IsTaken, HeaderFaults, FaultsWithin, GivesFirst, answer_if_any, ok_or_old, found_or_old, entry_or_old, cursor_or_old}
 
--- reading s within limits: the answer and the number of bytes are those of a value that is read, or
+-- reading s within limits: the result and the number of bytes are those of a value that is read, or
 -- of a fault that is right
 pub record Reads (frame depth : ℕ) (s : List ℕ) (answer : ℤ) (count : ℕ) : Type 0 where
   pub done : Result ℕ Fault
@@ -31,7 +36,7 @@ pub record Firsts (s : List ℕ) (old : Entry) (answer : ℤ) (new : Entry) : Ty
   pub lies : IfOk done (Lies (length s))
   pub refused : IfErr done (HeaderFaults (Outcome s))
 
--- a container is entered exactly where the entry is of one, and its contents are in s
+-- a container is entered exactly when the entry is of one, and its contents are in s
 pub record Enters (s : List ℕ) (e : Entry) (old : Cursor) (answer : ℤ) (new : Cursor) : Type 0 where
   pub done : Result Cursor Fault
   pub answered : answer ≡ answer_of done
@@ -39,8 +44,8 @@ pub record Enters (s : List ℕ) (e : Entry) (old : Cursor) (answer : ℤ) (new 
   pub entered : IfOk done (λ c. (c ≡ contents e) × IsOfContainer (length s) c)
   pub refused : IfErr done (RefusedBy (IsOfContainer (length s) (contents e)) ⊥)
 
--- a step: the first of what is left is given, where it is values or pairs, and whatever it is, what
--- goes out is inside s; what is left is malformed only where no entry is at its start
+-- a step: the first of what is left is returned, if it is values or pairs, and whatever it is, what
+-- goes out is inside s; what is left is malformed only if no entry is at its start
 pub record Steps (s : List ℕ) (c : Cursor) (old : Entry) (answer : ℤ) (new : Cursor) (e : Entry) : Type 0 where
   pub done : Result (Option (Entry × Cursor)) Fault
   pub answered : answer ≡ answer_if_any done
@@ -57,3 +62,18 @@ pub record Finds (s : List ℕ) (c : Cursor) (key : List ℕ) (old : Entry) (ans
   pub answered : answer ≡ answer_if_any done
   pub entry : new ≡ found_or_old old done
   pub looked_up : LooksUp s c key done
+
+-- and of equal keys the first
+pub record FindsFirst (s : List ℕ) (c : Cursor) (key : List ℕ) (old : Entry) (answer : ℤ) (new : Entry) : Type 0 where
+  pub done : Result (Option Entry) Fault
+  pub answered : answer ≡ answer_if_any done
+  pub entry : new ≡ found_or_old old done
+  pub looked_up : LooksUpFirst s c key done
+
+-- a look-up by a path, with a number that denotes which of equal keys counts
+pub record FindsPath (s : List ℕ) (from : Entry) (steps : List Step) (number : ℕ) (old : Entry) (answer : ℤ) (new : Entry) : Type 0 where
+  pub done : Result (Option Entry) Fault
+  pub answered : answer ≡ answer_if_any done
+  pub entry : new ≡ found_or_old old done
+  pub looked_up : (equal : EqualKeys) → number_of equal ≡ number → LooksUpOn s from steps equal done
+  pub other : ((equal : EqualKeys) → number_of equal ≡ number → ⊥) → done ≡ Err Invalid

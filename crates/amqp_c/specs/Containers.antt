@@ -15,11 +15,11 @@ table_tag = 70
 abbrev pub IsContainerTag : ℕ → Type 0
 IsContainerTag tag = (tag ≡ array_tag) ⊎ (tag ≡ table_tag)
 
--- where what is written of a container ends
+-- the end of what is written of a container
 abbrev pub end_of : Container → ℕ
 end_of c = c.written.offset + c.written.length
 
--- an entry of the container may have this key: in an array none, in a table each short string
+-- an entry of the container may have this key: in an array no key, in a table each short string
 abbrev pub IsKeyOf : Container → List ℕ → Type 0
 IsKeyOf c k = ((c.tag ≡ array_tag) × (k ≡ [])) ⊎ ((c.tag ≡ table_tag) × IsShort k)
 
@@ -35,7 +35,7 @@ named tag k = if tag == table_tag then short_field k else []
 abbrev pub entry_of : Container → List ℕ → List ℕ → List ℕ
 entry_of c k w = named c.tag k ++ w
 
--- where the entry ends that is put after what is written
+-- the end of an entry that is put after what is written
 abbrev pub end_with : Container → List ℕ → List ℕ → ℕ
 end_with c k w = end_of c + length (entry_of c k w)
 
@@ -43,6 +43,6 @@ end_with c k w = end_of c + length (entry_of c k w)
 abbrev pub empty_at : ℕ → ℕ → Container
 empty_at at tag = record { written = record { offset = at; length = 0 }; tag = tag }
 
--- the container, where what is written ends there
+-- the container, if what is written ends there
 abbrev pub up_to : ℕ → Container → Container
 up_to at c = record { written = record { offset = c.written.offset; length = at - c.written.offset }; tag = c.tag }

@@ -1,4 +1,4 @@
--- What an entry tells of the bytes that it was read from.
+-- What an entry holds of the bytes that it was read from.
 use Rattle.std.specs.Prelude.{ℕ, ◌≡◌, ◌<◌, true, Some, List, [], ◌∷◌}
 use Rattle.amqp_types.specs.declared.amqp_type.AMQPType.{AMQPType}
 use Rattle.amqp_types.specs.Ids.{kind, id_of}
@@ -15,8 +15,8 @@ use Rattle.amqp_c_common.specs.Spans.{part, SpanLies}
 abbrev pub HasNoNumber : Entry → Type 0
 HasNoNumber e = (e.bits ≡ 0) × (e.scale ≡ 0)
 
--- the entry says what v is: a value of fixed width by its bits and its scale, and any other by
--- where its bytes, or those of its body, lie
+-- the entry determines what v is: a value of fixed width by its bits and its scale, any other by
+-- the place of its bytes, or of those of its body
 abbrev pub Says : List ℕ → Entry → Tree → Type 0
 Says s e (scalar x) = (e.bits ≡ scalar_bits x) × (e.scale ≡ scalar_scale x) × (e.content.length ≡ 0)
 Says s e (short b) = ⊥
@@ -25,14 +25,14 @@ Says s e (octets b) = (part s e.content ≡ b) × HasNoNumber e
 Says s e (array vs) = ArrayBody (part s e.content) vs × HasNoNumber e
 Says s e (table es) = HasEntries (part s e.content) es × HasNoNumber e
 
--- the entry is that of v, in s: where an encoding of v lies, the type tag that is written for it,
+-- the entry is that of v, in s: the place of an encoding of v, the type tag that is written for it,
 -- and what it is
 pub record IsEntry (s : List ℕ) (e : Entry) (v : Tree) : Type 0 where
   pub encoding : Wire (part s e.value) v
   pub tag : e.tag ≡ id_of (type_of v)
   pub says : Says s e v
 
--- whatever value is encoded where the entry's value lies, the entry is that value's
+-- whatever value is encoded at the place of the entry's value, the entry is that value's
 abbrev pub IsTrueTo : List ℕ → Entry → Type 0
 IsTrueTo s e = (v : Tree) → Wire (part s e.value) v → IsEntry s e v
 
@@ -43,7 +43,7 @@ IsTagged [] e = ⊥
 IsTagged (c ∷ b) e = (type : AMQPType) × (kind c ≡ Some type) × (e.tag ≡ id_of type) × (has_content type ≡ true → HasNoNumber e)
 
 -- the entry has no key, its value begins at the start of s and reaches as far as its type tag and
--- its length tell, and its type is the one that the type tag denotes
+-- its length count, and its type is the one that the type tag denotes
 abbrev pub IsAtFront : List ℕ → Entry → Type 0
 IsAtFront s e = (e.key.length ≡ 0) × (e.value.offset ≡ 0) × (e.value.length ≡ extent s) × IsTagged s e
 

@@ -35,7 +35,7 @@ abbrev pub IsReadFaultInPlace : Limits → List ℕ → Fault → Type 0
 IsReadFaultInPlace l s OutOfMemory = ⊥
 IsReadFaultInPlace l s f = IsReadFault l s f
 
--- a fault of ending an entry is right: the body is of none that was begun there, or has too many
+-- a fault of ending an entry is right: the body isn't of one that was begun there, or has too many
 -- bytes
 abbrev pub RefusesToEnd : List ℕ → Container → Container → Fault → Type 0
 RefusesToEnd room into body Invalid = (k : List ℕ) → IsOpen room into body k → ⊥

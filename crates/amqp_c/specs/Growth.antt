@@ -26,12 +26,12 @@ pub record IsAppended (old : List ℕ) (into : Container) (k w new : List ℕ) :
   pub room : end_with into k w ≤ length old
   pub written : new ≡ with_bytes (end_of into) (entry_of into k w) old
 
--- where values or pairs were written of a container, they are written now with v after them
+-- if values or pairs were written of a container, they are written now with v after them
 pub record Grows (old : List ℕ) (into : Container) (k : List ℕ) (v : Tree) (new : List ℕ) (grown : Container) : Type 0 where
   pub values : (vs : Trees) → into.tag ≡ array_tag → ArrayBody (part old into.written) vs → ArrayBody (part new grown.written) (and_value vs v)
   pub pairs : (ps : Entries) → into.tag ≡ table_tag → TableBody (part old into.written) ps → TableBody (part new grown.written) (and_pair ps k v)
 
--- an entry is put, with an encoding of a value that `Gives` holds of, and the container grows by it
+-- an entry is written, with an encoding of a value that `Gives` holds of; the container grows by it
 pub record IsPut (Gives : List ℕ → Tree → Type 0) (old : List ℕ) (into : Container) (k new : List ℕ) (grown : Container) : Type 0 where
   pub encoding : List ℕ
   pub meaning : Tree

@@ -2,6 +2,9 @@ pub mod Scalars
 pub mod Entries
 pub mod Heads
 pub mod Steps
+pub mod FirstPairs
+pub mod NthValues
+pub mod Paths
 pub mod CallResults
 pub mod Calls
 pub mod Containers

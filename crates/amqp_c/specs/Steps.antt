@@ -33,7 +33,7 @@ IsOfContainer n c = SpanLies n c.left × ((c.tag ≡ array_tag) ⊎ (c.tag ≡ t
 abbrev pub IsOfTable : ℕ → Cursor → Type 0
 IsOfTable n c = SpanLies n c.left × (c.tag ≡ table_tag)
 
--- a type tag is at the start, and as many bytes as it and the length after it tell
+-- a type tag is at the start, and as many bytes as it and the length after it count
 abbrev pub IsHeaded : List ℕ → Type 0
 IsHeaded s = (0 < extent s) × (extent s ≤ length s)
 
@@ -57,13 +57,13 @@ abbrev pub last_of : List ℕ → List (List ℕ × List ℕ) → Option (List �
 last_of k [] = None
 last_of k (p ∷ ps) = option_or (last_of k ps) (if same_bytes k p.0 then Some p.1 else None)
 
--- at the start of the bytes that p spans, the entry of a value stands: it has no key, and as many
--- bytes as its type tag and its length tell
+-- at the start of the bytes that p spans is the entry of a value: it has no key, and as many
+-- bytes as its type tag and its length count
 abbrev pub StandsAlone : List ℕ → Span → Entry → Type 0
 StandsAlone s p e = (e.key.length ≡ 0) × (e.value.offset ≡ p.offset) × (e.value.length ≡ extent (part s p))
 
 -- the entry of a pair is there: its key after the key's length in one byte, and right after
--- the key the value, as many bytes as its type tag and its length tell
+-- the key the value, as many bytes as its type tag and its length count
 abbrev pub StandsKeyed : List ℕ → Span → Entry → Type 0
 StandsKeyed s p e =
     (e.key.offset ≡ p.offset + 1) × (e.value.offset ≡ e.key.offset + e.key.length)
@@ -73,14 +73,14 @@ StandsKeyed s p e =
 abbrev pub EndsIn : Span → Entry → Type 0
 EndsIn p e = (p.offset ≤ e.value.offset) × (e.value.offset + e.value.length ≤ p.offset + p.length)
 
--- it stands where the last n bytes of p begin, and its value ends in them
+-- it is at the beginning of the last n bytes of p, and its value ends in them
 abbrev pub StandsIn : List ℕ → Span → Entry → Type 0
 StandsIn s p e = (n : ℕ) × (n ≤ p.length) × StandsKeyed s (last p n) e × EndsIn (last p n) e
 
--- a step of the cursor c in s, whatever they hold: the entry is inside s and stands where the
--- cursor is, with the type of its type tag, and is that of the value if one is encoded there; the
--- cursor becomes one of the same container that begins right after the entry's value, ends where c
--- does, and has less left
+-- a step of the cursor c in s, whatever they hold: the entry is inside s and begins at the
+-- cursor, with the type of its type tag, and is that of the value if one is encoded there; the
+-- cursor becomes one of the same container that begins right after the entry's value, has c's end,
+-- and has less left
 pub record IsStep (s : List ℕ) (c : Cursor) (e : Entry) (next : Cursor) : Type 0 where
   pub valid : IsOfContainer (length s) c
   pub lies : Lies (length s) e
@@ -99,7 +99,7 @@ abbrev pub StepsIn : List ℕ → Cursor → Option (Entry × Cursor) → Type 0
 StepsIn s c None = IsOfContainer (length s) c × (c.left.length ≡ 0)
 StepsIn s c (Some x) = IsStep s c x.0 x.1
 
--- no entry stands where the cursor is, whose container has values or pairs
+-- no entry is at the cursor, whose container has values or pairs
 abbrev pub IsCut : List ℕ → Cursor → Type 0
 IsCut s c = (c.tag ≡ array_tag → IsHeaded (part s c.left) → ⊥) × (c.tag ≡ table_tag → HasNoPair (part s c.left))
 
@@ -127,14 +127,14 @@ GivesFound s None (Ok None) = Unit {0}
 GivesFound s (Some v) (Ok (Some e)) = IsEntry s e v
 GivesFound s _ _ = ⊥
 
--- and it is told where the value's bytes lie
+-- and it is determined by the place of the value's bytes
 abbrev pub GivesLast : List ℕ → Option (List ℕ) → Result (Option Entry) Fault → Type 0
 GivesLast s None (Ok None) = Unit {0}
 GivesLast s (Some w) (Ok (Some e)) = part s e.value ≡ w
 GivesLast s _ _ = ⊥
 
 -- an entry found by its key, whatever is left: it has the key and the type of its type tag, is that of
--- the value if one is encoded there, and stands in what the cursor c has left
+-- the value if one is encoded there, and is in what the cursor c has left
 pub record IsFoundIn (s : List ℕ) (c : Cursor) (key : List ℕ) (e : Entry) : Type 0 where
   pub keyed : part s e.key ≡ key
   pub typed : IsTagged (part s e.value) e
@@ -142,9 +142,9 @@ pub record IsFoundIn (s : List ℕ) (c : Cursor) (key : List ℕ) (e : Entry) : 
   pub stands : StandsIn s c.left e
   pub lies : Lies (length s) e
 
--- a look-up, in what a table has left: where pairs are left, the value at the key is found, of equal
--- keys the last; what is left is malformed exactly where it isn't pairs by their lengths and type
--- tags, and of such pairs the last with the key is found, whatever stands in their values
+-- a look-up, in what a table has left: if pairs are left, the value at the key is found, of equal
+-- keys the last; what is left is malformed exactly when it isn't pairs by their lengths and type
+-- tags, and of such pairs the last with the key is found, whatever is in their values
 pub record LooksUp (s : List ℕ) (c : Cursor) (key : List ℕ) (done : Result (Option Entry) Fault) : Type 0 where
   pub found : (es : Entries) → IsOfTable (length s) c → HasEntries (part s c.left) es → GivesFound s (value_at key es) done
   pub last : (ps : List (List ℕ × List ℕ)) → IsOfTable (length s) c → ArePairs (part s c.left) ps → GivesLast s (last_of key ps) done

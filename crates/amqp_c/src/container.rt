@@ -37,7 +37,7 @@ impl Container {
         }
     }
 
-    /// Where the next entry goes, if in a buffer of that many bytes one with this key can be put.
+    /// The end of the next entry, if in a buffer of that many bytes one with this key can be put.
     pub fn place(self, room_length: usize, key: &[u8]) -> Option<usize>
         ensures { MatchOption result
             (IsPlace room_length self key.now → ⊥)
@@ -49,7 +49,7 @@ impl Container {
         self.written.end_in(room_length)
     }
 
-    /// Whether an entry may have this key: in an array none, in a table each short string.
+    /// Whether an entry may have this key: in an array no key, in a table each short string.
     fn has_key(self, key: &[u8]) -> bool
         ensures { MatchBool result (IsKeyOf self key.now) (IsKeyOf self key.now → ⊥) }
     {
@@ -75,7 +75,7 @@ impl Container {
         usize::from(*length) == key.len() && self.has_key(key)
     }
 
-    /// The container, where what is written ends there.
+    /// The container, if what is written ends there.
     pub fn up_to(self, at: usize) -> Container
         requires { self.written.offset ≤ at }
         ensures { result ≡ up_to at self }

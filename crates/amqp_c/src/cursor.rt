@@ -7,7 +7,7 @@ ghost use Rattle.amqp_grammar.specs.Outcomes.{Outcome, found};
 ghost use Rattle.amqp_parsing.specs.Headers.{extent};
 ghost use Rattle.amqp_c_common.specs.Spans.{part, SpanLies};
 ghost use Rattle.amqp_c.specs.Entries.{IsTagged, IsTrueTo, Lies};
-ghost use Rattle.amqp_c.specs.Steps.{array_tag, table_tag, contents, IsOfContainer, IsHeaded, HasNoPair, StepsIn, IsCut, RefusedBy, IsFrontIn, IsValueIn, IsPairIn, EndsIn, GivesValue, GivesPair, HasNoKey, StandsAlone, StandsKeyed, LooksUp};
+ghost use Rattle.amqp_c.specs.Steps.{array_tag, table_tag, contents, IsOfContainer, IsOfTable, IsHeaded, HasNoPair, StepsIn, IsCut, RefusedBy, IsFrontIn, IsValueIn, IsPairIn, EndsIn, GivesValue, GivesPair, HasNoKey, StandsAlone, StandsKeyed, LooksUp};
 
 use crate::entry::{Entry, first};
 use amqp_c_common::{Fault, Span};
@@ -25,15 +25,22 @@ pub struct Cursor {
 }
 
 impl Entry {
+    /// The cursor over its content, whatever that is.
+    pub fn contents(&self) -> Cursor
+        ensures { result ≡ contents self.now }
+    {
+        Cursor {
+            left: self.content,
+            tag: self.tag,
+        }
+    }
+
     /// A cursor before the first entry of the container.
     pub fn enter(self, bytes: &[u8]) -> Result<Cursor, Fault>
         ensures entered { IfOk result (λ c. (c ≡ contents self) × IsOfContainer (length bytes.now) c) }
         ensures refused { IfErr result (RefusedBy (IsOfContainer (length bytes.now) (contents self)) ⊥) }
     {
-        let cursor = Cursor {
-            left: self.content,
-            tag: self.tag,
-        };
+        let cursor = self.contents();
         match cursor.body(bytes) {
             Some(_) => Ok(cursor),
             None => Err(Fault::Invalid),
@@ -42,7 +49,7 @@ impl Entry {
 }
 
 impl Cursor {
-    /// The bytes that are left, where they are in `bytes` and are of a container.
+    /// The bytes that are left, if they are in `bytes` and are of a container.
     fn body(self, bytes: &[u8]) -> Option<&[u8]>
         ensures { MatchOption result
             (IsOfContainer (length bytes.now) self → ⊥)
@@ -55,7 +62,7 @@ impl Cursor {
     }
 
     /// The next entry, and a cursor after it. It looks at the key's length, the type tag and the
-    /// length after it alone, so it takes constant time.
+    /// length after it only, so it takes constant time.
     pub fn next(self, bytes: &[u8]) -> Result<Option<(Entry, Cursor)>, Fault>
         ensures values { (vs : Trees) → SpanLies (length bytes.now) self.left → self.tag ≡ array_tag
             → ArrayBody (part bytes.now self.left) vs → GivesValue bytes.now vs result }
@@ -86,15 +93,24 @@ impl Cursor {
         Ok(Some((entry, rest)))
     }
 
-    /// The entry at the key: of equal keys the last. It walks all entries that are left, and tells
-    /// one.
+    /// The pairs that are left, if the cursor is of a table and inside `bytes`.
+    pub fn table_body(self, bytes: &[u8]) -> Option<&[u8]>
+        ensures { MatchOption result
+            (IsOfTable (length bytes.now) self → ⊥)
+            (λ body. IsOfTable (length bytes.now) self × (body.now ≡ part bytes.now self.left)) }
+    {
+        if self.tag != b'F' {
+            return None;
+        }
+        self.left.of(bytes)
+    }
+
+    /// The entry at the key: of equal keys the last. It traverses all entries that are left, and
+    /// returns one.
     pub fn find(self, bytes: &[u8], key: &[u8]) -> Result<Option<Entry>, Fault>
         ensures { LooksUp bytes.now self key.now result }
     {
-        if self.tag != b'F' {
-            return Err(Fault::Invalid);
-        }
-        let Some(body) = self.left.of(bytes) else {
+        let Some(body) = self.table_body(bytes) else {
             return Err(Fault::Invalid);
         };
         let mut at = None;
@@ -123,7 +139,7 @@ impl Cursor {
 
 /// The key of the pair at the start, and the bytes from its value on.
 #[inline(always)]
-fn split_key(pairs: &[u8]) -> Option<(&[u8], &[u8])>
+pub fn split_key(pairs: &[u8]) -> Option<(&[u8], &[u8])>
     ensures { MatchOption result
         (HasNoKey pairs.now)
         (λ x. (pairs.now ≡ short_field x.0.now ++ x.1.now) × (0 < length x.1.now)) }
@@ -136,9 +152,9 @@ fn split_key(pairs: &[u8]) -> Option<(&[u8], &[u8])>
     Some(named.split_at(length))
 }
 
-/// What is after the value at the start, by its header alone.
+/// What is after the value at the start, by its header only.
 #[inline(always)]
-fn behind_value(value: &[u8]) -> Option<&[u8]>
+pub fn behind_value(value: &[u8]) -> Option<&[u8]>
     ensures { MatchOption result
         (IsHeaded value.now → ⊥)
         (λ rest. (rest.now ≡ drop (extent value.now) value.now) × IsHeaded value.now) }
@@ -152,7 +168,7 @@ fn behind_value(value: &[u8]) -> Option<&[u8]>
 }
 
 /// The entry of the value at the start of the span.
-fn first_value(bytes: &[u8], left: Span) -> Option<Entry>
+pub fn first_value(bytes: &[u8], left: Span) -> Option<Entry>
     requires left { SpanLies (length bytes.now) left }
     ensures value { (vs : Trees) → 0 < left.length → ArrayBody (part bytes.now left) vs → IsValueIn bytes.now left vs result }
     ensures stands { IfSome result (StandsAlone bytes.now left) }
@@ -165,7 +181,7 @@ fn first_value(bytes: &[u8], left: Span) -> Option<Entry>
 }
 
 /// The entry of the pair at the start of the span.
-fn first_pair(bytes: &[u8], left: Span) -> Option<Entry>
+pub fn first_pair(bytes: &[u8], left: Span) -> Option<Entry>
     requires left { SpanLies (length bytes.now) left }
     ensures pair { (ps : Entries) → 0 < left.length → TableBody (part bytes.now left) ps → IsPairIn bytes.now left ps result }
     ensures stands { IfSome result (StandsKeyed bytes.now left) }

@@ -1,4 +1,4 @@
-//! What is at the start of some bytes, told by offsets.
+//! What is at the start of some bytes, by offsets.
 
 ghost use Rattle.std.specs.Prelude.{◌≡◌, ◌+◌, ◌<◌, ℕ, List, length, IfErr, IfOk, MatchResult};
 ghost use Rattle.amqp_grammar.specs.Values.{Tree};
@@ -10,21 +10,20 @@ ghost use Rattle.amqp_c.specs.Entries.{IsAtFront, Lies};
 ghost use Rattle.amqp_c.specs.CallResults.{GivesFirst, HeaderFaults, IsRefusalOf};
 ghost use Rattle.amqp_c.specs.Heads.{has_content};
 
-use amq_protocol_types::AMQPType;
-use amq_protocol_types::in_place::{ValueRef, read_in_place_unlimited};
 use amqp_c_common::{Fault, Span};
+use amqp_in_place::{ValueRef, read_in_place_unlimited};
 use amqp_parsing::{parse_length_prefixed, parse_type};
-use amqp_types::{ParsableInput, SliceInput};
+use amqp_types::{AMQPType, ParsableInput, SliceInput};
 
 /// A value, and in a table its key, by position.
 #[repr(C)]
 #[derive(Clone, Copy)]
 pub struct Entry {
-    /// The bytes of the key, without their length; none in an array, and of the value at the start.
+    /// The bytes of the key, without their length; empty in an array and of the value at the start.
     pub key: Span,
     /// The encoding of the value, its type tag included.
     pub value: Span,
-    /// The bytes of a string or byte array, or the body of a container; none of any other value.
+    /// The bytes of a string or byte array, or the body of a container; empty of any other value.
     pub content: Span,
     /// A boolean as 0 or 1, a number's bits, a signed one's in two's complement; else 0.
     pub bits: u64,
@@ -34,7 +33,7 @@ pub struct Entry {
     pub scale: u8,
 }
 
-/// The entry of the value at the start of the bytes, by its type tag and its length alone: what
+/// The entry of the value at the start of the bytes, by its type tag and its length only: what
 /// is in a container isn't looked at.
 #[inline(always)]
 pub fn first(bytes: &[u8]) -> Result<Entry, Fault>
@@ -75,7 +74,7 @@ pub fn first(bytes: &[u8]) -> Result<Entry, Fault>
     })
 }
 
-/// What a value of fixed width tells.
+/// What is stored of a value of fixed width.
 #[derive(Clone, Copy)]
 struct Fixed {
     /// How many bytes its encoding has.
@@ -87,7 +86,7 @@ struct Fixed {
 }
 
 /// Reads the value at the start. It isn't written in line, so that `first` passes its entry on in
-/// registers where nothing is to be read.
+/// registers if nothing is to be read.
 #[inline(never)]
 fn read_fixed(bytes: &[u8]) -> Result<Fixed, Fault>
     ensures { MatchResult result (IsFixed bytes.now) (IsRefusalOf bytes.now) }

@@ -8,30 +8,33 @@
 #![tactic(auto)]
 
 ghost use Rattle.amqp_c.specs.BuildCalls.{PutsScalar, PutsBytes, PutsValue, Begins, Ends};
-ghost use Rattle.amqp_c.specs.Calls.{Reads, Firsts, Enters, Steps, Finds};
+ghost use Rattle.amqp_c.specs.Calls.{Reads, Firsts, Enters, Steps, Finds, FindsFirst, FindsPath};
 
 mod container;
 mod cursor;
 mod entry;
+mod lookup;
 mod nest;
 mod number;
+mod path;
 mod put;
 mod read;
 mod room;
 mod store;
 
-use amqp_c_common::return_count;
+use amqp_c_common::{Fault, return_count};
 use amqp_parsing::Limits;
 use container::Container;
 use cursor::Cursor;
 use entry::{Entry, first};
 use nest::{begin, end};
+use path::{EqualKeys, Step, find_path};
 use put::{put_bytes, put_scalar, put_value};
 use read::read;
 use store::{store_container, store_cursor, store_entry, store_found, store_step};
 
-/// Reads the value at the start within limits, and checks all of it. Of the stack it
-/// takes what `read_in_place` does: docs/PROMISES.md has the runs of that.
+/// Reads the value at the start within limits, and checks all of it. docs/PROMISES.md has what a
+/// level of nesting takes of the stack.
 ///
 /// `count` becomes how many bytes the value takes, or how many more the field that is being read
 /// needs, otherwise 0.
@@ -42,7 +45,7 @@ pub extern "C" fn amqp_read(bytes: &[u8], frame: u32, depth: u32, count: &mut us
     return_count(read(bytes, Limits { frame, depth }), count)
 }
 
-/// Gives the entry of the value at the start, by its type tag and its length alone, in constant
+/// Returns the entry of the value at the start, by its type tag and its length only, in constant
 /// time.
 #[unsafe(no_mangle)]
 pub extern "C" fn amqp_first(bytes: &[u8], entry: &mut Entry) -> i32
@@ -51,7 +54,7 @@ pub extern "C" fn amqp_first(bytes: &[u8], entry: &mut Entry) -> i32
     store_entry(first(bytes), entry)
 }
 
-/// Gives a cursor before the first entry of an array or a table, in constant time.
+/// Returns a cursor before the first entry of an array or a table, in constant time.
 #[unsafe(no_mangle)]
 pub extern "C" fn amqp_enter(bytes: &[u8], entry: &Entry, cursor: &mut Cursor) -> i32
     ensures { Enters bytes.now entry.now cursor.old result cursor.new }
@@ -59,7 +62,7 @@ pub extern "C" fn amqp_enter(bytes: &[u8], entry: &Entry, cursor: &mut Cursor) -
     store_cursor(entry.enter(bytes), cursor)
 }
 
-/// Gives the next entry and sets the cursor after it, in constant time.
+/// Returns the next entry and sets the cursor after it, in constant time.
 #[unsafe(no_mangle)]
 pub extern "C" fn amqp_next(bytes: &[u8], cursor: &mut Cursor, entry: &mut Entry) -> i32
     ensures { Steps bytes.now cursor.old entry.old result cursor.new entry.new }
@@ -67,8 +70,8 @@ pub extern "C" fn amqp_next(bytes: &[u8], cursor: &mut Cursor, entry: &mut Entry
     store_step(cursor.next(bytes), cursor, entry)
 }
 
-/// Gives the entry at a key of the table, of those that the cursor has left: of equal keys the
-/// last. It walks all of them.
+/// Returns the entry at a key of the table, of those that the cursor has left: of equal keys the
+/// last. It traverses all of them.
 #[unsafe(no_mangle)]
 pub extern "C" fn amqp_find(bytes: &[u8], cursor: &Cursor, key: &[u8], entry: &mut Entry) -> i32
     ensures { Finds bytes.now cursor.now key.now entry.old result entry.new }
@@ -76,8 +79,40 @@ pub extern "C" fn amqp_find(bytes: &[u8], cursor: &Cursor, key: &[u8], entry: &m
     store_found(cursor.find(bytes, key), entry)
 }
 
+/// Returns the entry at a key of the table, of those that the cursor has left: of equal keys the
+/// first. It looks at no byte after that entry.
+#[unsafe(no_mangle)]
+pub extern "C" fn amqp_find_first(
+    bytes: &[u8],
+    cursor: &Cursor,
+    key: &[u8],
+    entry: &mut Entry,
+) -> i32
+    ensures { FindsFirst bytes.now cursor.now key.now entry.old result entry.new }
+{
+    store_found(cursor.find_first(bytes, key), entry)
+}
+
+/// Returns the entry that a path leads to from another, by a look-up for each step. Of equal keys
+/// the last counts (0), or the first (1).
+#[unsafe(no_mangle)]
+pub extern "C" fn amqp_find_path(
+    bytes: &[u8],
+    from: &Entry,
+    steps: &[Step<'_>],
+    equal_keys: u32,
+    entry: &mut Entry,
+) -> i32
+    ensures { FindsPath bytes.now from.now steps.now equal_keys entry.old result entry.new }
+{
+    let Some(equal) = EqualKeys::of(equal_keys) else {
+        return store_found(Err(Fault::Invalid), entry);
+    };
+    store_found(find_path(bytes, from, steps, equal), entry)
+}
+
 /// Puts an entry after what is written: a value of fixed width, by its type tag, its bits and its
-/// scale, as an entry tells them.
+/// scale, as an entry has them.
 #[unsafe(no_mangle)]
 pub extern "C" fn amqp_put(
     room: &mut [u8],
@@ -107,8 +142,7 @@ pub extern "C" fn amqp_put_bytes(
 }
 
 /// Puts an entry after what is written: the encoding at the start of other bytes, read within
-/// limits and copied unchanged. Of the stack it takes what `read_in_place` does:
-/// docs/PROMISES.md has the runs of that.
+/// limits and copied unchanged. docs/PROMISES.md has what a level of nesting takes of the stack.
 #[unsafe(no_mangle)]
 pub extern "C" fn amqp_put_value(
     room: &mut [u8],

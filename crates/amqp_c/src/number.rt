@@ -48,21 +48,21 @@ impl Encoding {
     }
 }
 
-/// The encoding of the value of fixed width that these tell, as those of an entry do.
+/// The encoding of the value of fixed width that these determine, as those of an entry do.
 pub fn encoding_by_tag(tag: u8, bits: u64, scale: u8) -> Option<Encoding>
     ensures { MatchOption result
         ((x : Scalar) → Tells tag bits scale x → ⊥)
         (λ e. (x : Scalar) × Tells tag bits scale x × (e ≡ text (scalar x))) }
 {
     let amqp_type = AMQPType::from_id(tag as char)?;
-    // `U` and `L` are alternate tags, which no entry tells
+    // `U` and `L` are alternate tags, which no entry has
     if amqp_type.get_id() as u8 != tag {
         return None;
     }
     encoding_by_type(amqp_type, bits, scale)
 }
 
-/// The encoding of the value of this type that the bits and the scale tell.
+/// The encoding of the value of this type that the bits and the scale determine.
 fn encoding_by_type(amqp_type: AMQPType, bits: u64, scale: u8) -> Option<Encoding>
     ensures { MatchOption result
         ((x : Scalar) → TellsOf amqp_type bits scale x → ⊥)

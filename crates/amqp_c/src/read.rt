@@ -3,8 +3,8 @@
 ghost use Rattle.std.specs.Prelude.{MatchResult};
 ghost use Rattle.amqp_c.specs.CallResults.{IsTaken, FaultsWithin};
 
-use amq_protocol_types::in_place::read_in_place;
 use amqp_c_common::Fault;
+use amqp_in_place::read_in_place;
 use amqp_parsing::Limits;
 
 /// Reads a value within limits, checks all of it, and returns how many bytes it takes.

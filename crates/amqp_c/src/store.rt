@@ -1,4 +1,4 @@
-//! What a call returns and leaves behind its pointers.
+//! What a call returns and leaves at its pointers.
 
 ghost use Rattle.std.specs.Prelude.{◌≡◌};
 ghost use Rattle.amqp_c_common.specs.ReturnCodes.{answer_of};
@@ -12,7 +12,7 @@ use amqp_c_common::Fault;
 
 /// Something is given.
 const OK: i32 = 0;
-/// No entry is left, or none has the key.
+/// No entry is left, or no entry has the key.
 const NONE: i32 = 1;
 
 /// Leaves the entry that is given.

@@ -34,7 +34,7 @@ put_value l s bytes old new rest v (Ok n) x is put = (v, rest, is_read l s rest 
 put_value l s bytes old new rest v (Err f) x is (e, less) =
     subst (IsFault l s (length old)) (sym e) (v, rest, is_read l s rest v x, ap length is, less)
 
--- and it is what is at the start, where that is canonical
+-- and it is what is at the start, if that is canonical
 pub put_front : (l : Limits) (s old new : List ℕ) (n : ℕ) (r : Result ℕ Fault) → IsBytes s → IsCanonicalLen l s n
     → MatchResult r (IsPut (take n s) old new) (HasNoRoom (take n s) (length old)) → MatchResult r (IsWritten l s old new) (IsFault l s (length old))
 put_front l s old new n r bytes (w, rest, v, e, size, is, x) put =
@@ -42,11 +42,11 @@ put_front l s old new n r bytes (w, rest, v, e, size, is, x) put =
     let of_bytes : IsBytes w = bytes_front w rest (subst IsBytes e bytes) in
     put_value l s (take n s) old new rest v r x (front ∙ canon_is_text w v of_bytes is) put
 
--- memory runs out only where the prefix isn't canonical, and all of the value is there
+-- memory runs out only if the prefix isn't canonical, and all of the value is there
 pub none_canonical : (l : Limits) (s rest : List ℕ) (v : Tree) (room : ℕ) → Within l s (found v rest) → IsNotCanonical l s → IsFault l s room OutOfMemory
 none_canonical l s rest v room x none = (none, found_all l s rest v x)
 
--- an error of reading is told as it is
+-- an error of reading is reported as it is
 pub refused_so : (l : Limits) (s : List ℕ) (room : ℕ) (e : Refusal) → RefusesWithin l s e → IsNotCanonical l s → IsFault l s room (fault_of e)
 refused_so l s room (Failure k) x none = (none, told_as_it_is l s (Failure k) x)
 refused_so l s room (Incomplete Unknown) x none = told_as_it_is l s (Incomplete Unknown) x

@@ -21,7 +21,7 @@ put_meant most t bytes old new v (Ok n) x made same is back put =
 put_meant most t bytes old new v (Err f) x made same is back (e, less) =
     subst (IsEncodingFault most t (length old)) (sym e) (v, x, subst (λ (b : List ℕ). IsReadAs b v) is back, ap length (same ∙ is), less)
 
--- why a text has no encoding is told as it is
+-- why a JSON text has no encoding is reported as it is
 pub told_text : (most : ℕ) (t : List ℕ) (room : ℕ) (e : EncodeError) → IsUtf8 t → IsRefused t e → IsEncodingFault most t room (text_fault e)
 told_text most t room encode.OutOfMemory u x = u
 told_text most t room (encode.Json json.OutOfMemory) u x = u

@@ -27,8 +27,8 @@ abbrev pub IsNotCanonical : Limits → List ℕ → Type 0
 IsNotCanonical l s = (n : ℕ) → IsCanonicalLen l s n → ⊥
 
 -- a fault is right, for s and a buffer of that many bytes: the canonical encoding of the value that
--- is read has more bytes than the buffer, and as many as the fault tells; or what reading results
--- in, where memory runs out only if no canonical encoding is at the start
+-- is read has more bytes than the buffer, and as many as the fault reports; or what reading results
+-- in, and memory runs out only if no canonical encoding is at the start
 abbrev pub IsFault : Limits → List ℕ → ℕ → Fault → Type 0
 IsFault l s room (NoRoom n) = (v : Tree) × (rest : List ℕ) × IsRead l s v rest × (n ≡ length (text v)) × (room < n)
 IsFault l s room OutOfMemory = IsNotCanonical l s × IsReadFault l s OutOfMemory

@@ -1,4 +1,4 @@
--- What the calls between encodings and JSON texts answer, and leave in the buffer.
+-- What the calls between encodings and JSON texts return, and leave in the buffer.
 use Rattle.std.specs.Prelude.{ℕ, ◌≡◌, ◌<◌, ◌⊎◌, ℤ, false, List, length, Result, Err, IfErr, MatchResult}
 use Rattle.std.specs.Str.{IsUtf8}
 use Rattle.amqp_grammar.specs.Values.{Tree}
@@ -23,7 +23,7 @@ abbrev pub IsJsonPut : Limits → List ℕ → List ℕ → List ℕ → ℕ →
 IsJsonPut l s old new n = (t : List ℕ) × (rest : List ℕ) × IsJsonOf l s t rest × IsPut t old new n
 
 -- a fault is right, for s and a buffer of that many bytes: the JSON text of the value that is read
--- has more bytes than the buffer, and as many as the fault tells; or what reading results in
+-- has more bytes than the buffer, and as many as the fault reports; or what reading results in
 abbrev pub IsJsonFault : Limits → List ℕ → ℕ → Fault → Type 0
 IsJsonFault l s room (NoRoom n) = (t : List ℕ) × (rest : List ℕ) × IsJsonOf l s t rest × (n ≡ length t) × (room < n)
 IsJsonFault l s room f = IsReadFault l s f
@@ -58,7 +58,7 @@ IsEncodingPut t old new n = (v : Tree) × IsTextOf t v × IsReadAs (text v) v ×
 
 -- a fault is right, for a text, how deep it may nest and a buffer of that many bytes: the text
 -- nests deeper, or means no value; or one that has no encoding; or one whose canonical encoding has
--- more bytes than the buffer, and as many as the fault tells; memory runs out only where the text
+-- more bytes than the buffer, and as many as the fault reports; memory runs out only if the text
 -- is UTF-8
 abbrev pub IsEncodingFault : ℕ → List ℕ → ℕ → Fault → Type 0
 IsEncodingFault most t room NotJson = (nests_within most t ≡ false) ⊎ MeansNothing t
@@ -67,7 +67,7 @@ IsEncodingFault most t room (NoRoom n) = (v : Tree) × IsTextOf t v × IsReadAs 
 IsEncodingFault most t room OutOfMemory = IsUtf8 t
 IsEncodingFault most t room _ = ⊥
 
--- what is told of a text for which there is no encoding
+-- what is reported of a text for which there is no encoding
 abbrev pub text_fault : EncodeError → Fault
 text_fault encode.OutOfMemory = OutOfMemory
 text_fault (encode.Json json.OutOfMemory) = OutOfMemory

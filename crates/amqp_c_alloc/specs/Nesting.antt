@@ -3,7 +3,7 @@ use Rattle.std.specs.Prelude.{ℕ, suc, ◌-◌, ◌==◌, ◌||◌, ◌&&◌, n
 use Rattle.amqp_c_alloc.specs.declared.nesting.Place.{Place}
 use Rattle.amqp_c_alloc.specs.declared.nesting.Place.TheVariants.{Outside, InString, Escaped}
 
--- where the byte after c stands: a quote begins a string, and ends it but after a backslash
+-- the place of the byte after c: a quote begins a string, and ends it but after a backslash
 abbrev pub place_behind : Place → ℕ → Place
 place_behind Outside c = if c == 34 then InString else Outside
 place_behind InString c = if c == 34 then Outside else (if c == 92 then Escaped else InString)

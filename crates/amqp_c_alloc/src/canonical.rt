@@ -14,7 +14,7 @@ use amqp_types::SliceInput;
 use amqp_value_core::value::AMQPValue;
 use std::alloc::Global;
 
-/// Writes the canonical encoding of the value at the start from the start of `room`, and answers
+/// Writes the canonical encoding of the value at the start from the start of `room`, and returns
 /// how many bytes it has.
 ///
 /// Bytes that are canonical already are copied, with no memory.

@@ -38,7 +38,7 @@ pub fn put_encoding(
     }
 }
 
-// What is told of a text for which there is no encoding.
+// What is reported of a text for which there is no encoding.
 fn fault_of(error: EncodeError) -> Fault
     ensures { result ≡ text_fault error }
 {

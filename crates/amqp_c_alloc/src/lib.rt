@@ -1,7 +1,7 @@
 //! Calls for C that allocate: the canonical encoding of a value, and between encodings and JSON
 //! texts.
 //!
-//! They allocate by C's `malloc`, `realloc` and `free` (the canonical encoding only where the bytes
+//! They allocate by C's `malloc`, `realloc` and `free` (the canonical encoding only if the bytes
 //! aren't canonical already), and free all of it. They keep no state, print nothing and never end
 //! the process. `include/amqp.h` declares them.
 #![tactic(auto)]

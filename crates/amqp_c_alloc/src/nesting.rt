@@ -3,7 +3,7 @@
 ghost use Rattle.std.specs.Prelude.{◌≡◌, ◌≤◌, ◌<◌, MatchOption};
 ghost use Rattle.amqp_c_alloc.specs.Nesting.{nests_within, open_behind, place_behind};
 
-/// Where a byte of a JSON text stands.
+/// The place of a byte in a JSON text.
 #[derive(Clone, Copy)]
 pub enum Place {
     Outside,
@@ -28,7 +28,7 @@ pub fn nests_within(text: &[u8], most: u32) -> bool
     true
 }
 
-// How many are open after a byte, with that many open before it; `None` where these are more than
+// How many are open after a byte, with that many open before it; `None` if these are more than
 // `most`.
 fn open_behind(place: Place, byte: u8, count: u32, most: u32) -> Option<u32>
     requires { count ≤ most }
@@ -44,7 +44,7 @@ fn open_behind(place: Place, byte: u8, count: u32, most: u32) -> Option<u32>
     }
 }
 
-// Where the byte after another one stands.
+// The place of the byte after another one.
 fn place_behind(place: Place, byte: u8) -> Place
     ensures { result ≡ place_behind place byte }
 {

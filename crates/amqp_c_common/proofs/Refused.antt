@@ -1,4 +1,4 @@
--- What an error of reading within limits is told as.
+-- What an error of reading within limits is reported as.
 use Rattle.std.proofs.Common.{ℕ, List}
 use Rattle.amqp_parsing.specs.declared.errors.Err.TheVariants.{Incomplete, Error, Failure}
 use Rattle.amqp_parsing.specs.declared.errors.Needed.TheVariants.{Unknown, Size}
@@ -10,7 +10,7 @@ use Rattle.amqp_parsing.proofs.ParsingLaws.{failed_all}
 use Rattle.amqp_c_common.specs.ReturnCodes.{fault_of}
 use Rattle.amqp_c_common.specs.Reading.{IsReadFault}
 
--- each error is told as it is
+-- each error is reported as it is
 pub told_as_it_is : (l : Limits) (s : List ℕ) (e : Refusal) → RefusesWithin l s e → IsReadFault l s (fault_of e)
 told_as_it_is l s (Incomplete Unknown) x = absurd x.1
 told_as_it_is l s (Incomplete (Size n)) x = x

@@ -1,4 +1,4 @@
--- What a fault says of reading within limits.
+-- What a fault of reading within limits means.
 use Rattle.std.specs.Prelude.{ℕ, ◌<◌, ◌≤◌, List}
 use Rattle.amqp_grammar.specs.Outcomes.{more, unknown, malformed}
 use Rattle.amqp_parsing.specs.declared.limits.Limits.{Limits}
@@ -11,7 +11,7 @@ use Rattle.amqp_c_common.specs.declared.fault.Fault.TheVariants.{More, UnknownTa
 abbrev pub limits : ℕ → ℕ → Limits
 limits frame depth = record { frame = frame; depth = depth }
 
--- a fault is right, for reading s within the limits; memory runs out only where all the bytes of the
+-- a fault is right, for reading s within the limits; memory runs out only if all the bytes of the
 -- value at the start are there, and no more than the limit `frame` allows
 abbrev pub IsReadFault : Limits → List ℕ → Fault → Type 0
 IsReadFault l s (More n) = Within l s (more n)

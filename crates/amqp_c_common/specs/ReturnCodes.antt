@@ -7,7 +7,7 @@ use Rattle.amqp_parsing.specs.Refusals.{Refusal}
 use Rattle.amqp_c_common.specs.declared.fault.Fault.{Fault}
 use Rattle.amqp_c_common.specs.declared.fault.Fault.TheVariants.{More, UnknownTag, Malformed, TooLarge, Invalid, OutOfMemory, NoRoom, NotJson, NoEncoding}
 
--- what a parser's error is told as
+-- what a parser's error is reported as
 abbrev pub fault_of : Refusal → Fault
 fault_of (Incomplete (Size n)) = More n
 fault_of (Incomplete Unknown) = More 1
@@ -28,12 +28,12 @@ code_of (NoRoom n) = negsuc 6
 code_of NotJson = negsuc 7
 code_of NoEncoding = negsuc 8
 
--- the number that denotes a result: 0 where it is done
+-- the number that denotes a result: 0 if it is done
 abbrev pub answer_of : {T : Type 0} → Result T Fault → ℤ
 answer_of (Ok x) = pos 0
 answer_of (Err f) = code_of f
 
--- a number of bytes that were written, are needed or have to have room, else 0
+-- a number of bytes that were written, are needed or must fit the buffer, else 0
 abbrev pub count_of : Result ℕ Fault → ℕ
 count_of (Ok n) = n
 count_of (Err (More n)) = n

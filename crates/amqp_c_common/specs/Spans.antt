@@ -1,4 +1,4 @@
--- Spans: bytes by where they begin and how many there are.
+-- Spans: bytes by the offset of the first and their number.
 use Rattle.std.specs.Prelude.{ℕ, ◌+◌, ◌-◌, ◌≤◌, List, take, drop}
 use Rattle.amqp_c_common.specs.declared.span.Span.{Span}
 
@@ -10,7 +10,7 @@ part s p = take p.length (drop p.offset s)
 abbrev pub SpanLies : ℕ → Span → Type 0
 SpanLies n p = p.offset + p.length ≤ n
 
--- the same bytes, where n more are before them
+-- the same bytes, if n more are before them
 abbrev pub moved : ℕ → Span → Span
 moved n p = record { offset = p.offset + n; length = p.length }
 

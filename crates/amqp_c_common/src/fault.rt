@@ -22,7 +22,7 @@ pub enum Fault {
     OutOfMemory,
     /// What is to be written has that many bytes, more than the buffer.
     NoRoom(usize),
-    /// The text is no JSON, or the JSON of no value.
+    /// What should be a JSON text is no JSON, or the JSON of no value.
     NotJson,
     /// The value has no encoding.
     NoEncoding,

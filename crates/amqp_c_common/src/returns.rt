@@ -8,7 +8,7 @@ use crate::fault::Fault;
 /// It is done.
 const OK: i32 = 0;
 
-/// Leaves how many bytes were written, are needed or have to have room, else 0, and returns the
+/// Stores how many bytes were written, are needed or must fit the buffer, else 0, and returns the
 /// number that denotes what was done.
 #[inline]
 pub fn return_count(done: Result<usize, Fault>, count: &mut usize) -> i32

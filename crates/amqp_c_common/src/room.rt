@@ -5,8 +5,7 @@ ghost use Rattle.amqp_c_common.specs.Rooms.{IsPut, HasNoRoom};
 
 use crate::fault::Fault;
 
-/// Puts the bytes at the start of the buffer, where there is room for them, and returns how many
-/// they are.
+/// Puts the bytes at the start of the buffer, if they fit it, and returns how many they are.
 pub fn put(bytes: &[u8], room: &mut [u8]) -> Result<usize, Fault>
     ensures put { MatchResult result
         (IsPut bytes.now room.old room.new)

@@ -20,7 +20,7 @@ impl Span {
         length: 0,
     };
 
-    /// The bytes of the span, where it is inside `bytes`.
+    /// The bytes of the span, if it is inside `bytes`.
     #[inline]
     pub fn of(self, bytes: &[u8]) -> Option<&[u8]>
         ensures { MatchOption result
@@ -33,7 +33,7 @@ impl Span {
         Some(&bytes[self.offset..self.offset + self.length])
     }
 
-    /// Where the span ends, where it is inside that many bytes.
+    /// The end of the span, if it is inside that many bytes.
     #[inline]
     pub fn end_in(self, count: usize) -> Option<usize>
         ensures { MatchOption result

@@ -2,7 +2,7 @@ use Rattle.std.proofs.Common.{◌≡◌, ◌-◌, ◌<◌, ◌≤◌, ℕ, Bool,
 use Rattle.std.proofs.lemmas.Grind.{common_steps}
 use Rattle.amqp_c_common.specs.declared.span.Span.{Span}
 use Rattle.amqp_c_common.specs.Spans.{part, SpanLies}
-use Rattle.amqp_c.specs.Steps.{table_tag, ArePairs, StandsKeyed, EndsIn}
+use Rattle.amqp_c.specs.Steps.{ArePairs, StandsKeyed, EndsIn}
 use Rattle.amqp_c.proofs.Parts.{part_length, part_last}
 use Rattle.amqp_c.proofs.Stepping.{one_key}
 use Rattle.amqp_c.proofs.Finding.{pairs_split, pairs_join, pairs_keyed, no_pairs_left, value_stands, left_behind, pair_behind, if_some, looks_step, last_seen, gives_none, gives_some, seen_pair, looked_up}
@@ -17,20 +17,19 @@ returns-in_default-at c =
     let key = c.args.key.now in
     let all = part s c.args.self.left in
     let left = c.pairs.left.now in
-    let tag : c.args.self.tag ≡ table_tag = grind (arith, common_steps) in
     let none : length left ≡ 0 = grind (arith, common_steps) in
     let (ps, are) = c.pairs.invariant.also [] (no_pairs_left left none) in
     looked_up s c.args.self key _
     (λ ps are. let seen = last_seen key all left c.pairs.at c.pairs.invariant.looks none ps are in gives_none s key all _ (rw c.in_default-at.is at seen))
-    tt ((c.in-Some.ensures.0, tag), ps, are) tt
+    tt (c.in-Some.ensures.0, ps, are) tt
 
 -- ---- the last pair that has it
 
--- where it stands
+-- its place
 last_part : (c : goal.In-Some-first_pair) → part c.args.bytes.now c.last.result ≡ drop (length (part c.args.bytes.now c.args.self.left) - c.in-Some-at.count) (part c.args.bytes.now c.args.self.left)
 last_part c =
     let few = rw c.in-Some-at.is at c.pairs.invariant.at in
-    ap (part c.args.bytes.now) c.last.ensures ∙ part_last c.args.bytes.now c.args.self.left c.in-Some-at.count c.in-Some.ensures.0 (omega (arith, few))
+    ap (part c.args.bytes.now) c.last.ensures ∙ part_last c.args.bytes.now c.args.self.left c.in-Some-at.count c.in-Some.ensures.0.0 (omega (arith, few))
 
 pub returns-in-Some-first_pair : goal.returns-in-Some-first_pair
 returns-in-Some-first_pair c =
@@ -41,10 +40,9 @@ returns-in-Some-first_pair c =
     let p = c.last.result in
     let e = c.in-Some-first_pair.entry in
     let is = c.in-Some-first_pair.ensures in
-    let tag : c.args.self.tag ≡ table_tag = grind (arith, common_steps) in
     let none : length left ≡ 0 = grind (arith, common_steps) in
     let few = rw c.in-Some-at.is at c.pairs.invariant.at in
-    let in_s : SpanLies (length s) p = subst (SpanLies (length s)) (sym c.last.ensures) (omega (arith, few, c.in-Some.ensures.0)) in
+    let in_s : SpanLies (length s) p = subst (SpanLies (length s)) (sym c.last.ensures) (omega (arith, few, c.in-Some.ensures.0.0)) in
     let (ps, are) = c.pairs.invariant.also [] (no_pairs_left left none) in
     let there = seen_pair key all (part s p) c.in-Some-at.count c.pairs.at _ (last_part c) c.in-Some-at.is (last_seen key all left c.pairs.at c.pairs.invariant.looks none ps are) in
     looked_up s c.args.self key _
@@ -57,7 +55,7 @@ returns-in-Some-first_pair c =
       told = is.faithful;
       stands = (c.in-Some-at.count, few, subst (λ (q : Span). StandsKeyed s q e) c.last.ensures is.stands, subst (λ (q : Span). EndsIn q e) c.last.ensures is.lies.1);
       lies = is.lies.0;
-    } ((c.in-Some.ensures.0, tag), ps, are) tt
+    } (c.in-Some.ensures.0, ps, are) tt
 
 -- ---- bytes that are no pairs
 
@@ -65,18 +63,16 @@ pub returns-in_default-split_key : goal.returns-in_default-split_key
 returns-in_default-split_key c =
     let left = c.pairs.left.now in
     let some : 0 < length left = grind (arith, common_steps) in
-    let tag : c.args.self.tag ≡ table_tag = grind (arith, common_steps) in
     let bad : (ps : List (List ℕ × List ℕ)) → ArePairs (part c.args.bytes.now c.args.self.left) ps → ⊥ =
     λ ps are. let x = c.pairs.invariant.looks ps are in pairs_keyed left x.0 c.in_default-split_key.ensures some x.2 in
-    looked_up c.args.bytes.now c.args.self c.args.key.now _ (λ ps are. absurd (bad ps are)) tt tt ((c.in-Some.ensures.0, tag), bad)
+    looked_up c.args.bytes.now c.args.self c.args.key.now _ (λ ps are. absurd (bad ps are)) tt tt (c.in-Some.ensures.0, bad)
 
 pub returns-in_default-behind_value : goal.returns-in_default-behind_value
 returns-in_default-behind_value c =
     let x = c.in-Some-split_key in
-    let tag : c.args.self.tag ≡ table_tag = grind (arith, common_steps) in
     let bad : (ps : List (List ℕ × List ℕ)) → ArePairs (part c.args.bytes.now c.args.self.left) ps → ⊥ =
     λ ps are. let q = c.pairs.invariant.looks ps are in c.in_default-behind_value.ensures (pairs_split c.pairs.left.now x.name.now x.value.now q.0 x.ensures.0 q.2).whole in
-    looked_up c.args.bytes.now c.args.self c.args.key.now _ (λ ps are. absurd (bad ps are)) tt tt ((c.in-Some.ensures.0, tag), bad)
+    looked_up c.args.bytes.now c.args.self c.args.key.now _ (λ ps are. absurd (bad ps are)) tt tt (c.in-Some.ensures.0, bad)
 
 -- what was seen is a pair
 never : (c : goal.In-None) → ⊥
@@ -86,7 +82,7 @@ never c =
     let none : length c.pairs.left.now ≡ 0 = grind (arith, common_steps) in
     let few = rw c.in-Some-at.is at c.pairs.invariant.at in
     let same : part s c.last.result ≡ drop (length all - c.in-Some-at.count) all =
-    ap (part s) c.last.ensures ∙ part_last s c.args.self.left c.in-Some-at.count c.in-Some.ensures.0 (omega (arith, few)) in
+    ap (part s) c.last.ensures ∙ part_last s c.args.self.left c.in-Some-at.count c.in-Some.ensures.0.0 (omega (arith, few)) in
     let (ps, are) = c.pairs.invariant.also [] (no_pairs_left c.pairs.left.now none) in
     let seen = last_seen c.args.key.now all c.pairs.left.now c.pairs.at c.pairs.invariant.looks none ps are in
     let x = seen_pair c.args.key.now all (part s c.last.result) c.in-Some-at.count c.pairs.at _ same c.in-Some-at.is seen in
@@ -114,7 +110,7 @@ pairs-preserved c =
       behind = next.0;
       fewer = next.1;
       at = if_some (λ (n : ℕ). n ≤ c.args.self.left.length) c.eq.result (length left) c.pairs.at c.if-eq.at now
-          (λ b. omega (arith, i.fewer, part_length c.args.bytes.now c.args.self.left c.in-Some.ensures.0)) i.at;
+          (λ b. omega (arith, i.fewer, part_length c.args.bytes.now c.args.self.left c.in-Some.ensures.0.0)) i.at;
       also = λ qs are. i.also _ (pairs_join left x.name.now x.value.now rest.now qs x.ensures.0 is.1 is.0 are);
       looks = looks_step c.args.key.now all left x.name.now x.value.now x.ensures.0 rest.now c.pairs.at c.if-eq.at c.eq.result i.behind is.0 c.eq.ensures now i.looks;
     }

@@ -5,7 +5,7 @@ use Rattle.amqp_c.specs.Steps.{ArePairs}
 use Rattle.amqp_c.proofs.Finding.{Looks}
 use Rattle.amqp_c.proofs.cursor.Cursor.find.Given as goal
 
--- what was seen is what the pairs before those that are left say, and these with more pairs after
+-- what was seen is determined by the pairs before those that are left, and these with more pairs
 -- them are pairs
 abbrev pub invariant-pairs : goal.invariant-pairs
 invariant-pairs l = record {

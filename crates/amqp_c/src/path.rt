@@ -1,0 +1,98 @@
+//! Looking a value up by a path of keys and indexes.
+
+ghost use Rattle.std.specs.Prelude.{◌≡◌, length, MatchBool, MatchOption, Err, List, ℕ};
+ghost use Rattle.amqp_c_common.specs.declared.fault.Fault.TheVariants.{Invalid};
+ghost use Rattle.amqp_c.specs.Paths.{number_of, IsInside, Leads, LooksUpOn};
+
+use crate::entry::Entry;
+use amqp_c_common::Fault;
+
+/// A step of a path: into a table by a key, or into an array by an index.
+#[repr(C)]
+#[derive(Clone, Copy)]
+pub struct Step<'a> {
+    /// Of a table: the key of the pair.
+    pub key: &'a [u8],
+    /// Of an array: how many values are before the one that is meant.
+    pub index: usize,
+    /// The type tag of what it is a step into: `A` of an array, `F` of a table.
+    pub tag: u8,
+}
+
+/// Which of equal keys counts.
+#[derive(Clone, Copy)]
+pub enum EqualKeys {
+    /// The last, as in the Rust crate.
+    Last,
+    /// The first, as in RabbitMQ.
+    First,
+}
+
+impl EqualKeys {
+    /// The one that the number denotes.
+    pub fn of(number: u32) -> Option<EqualKeys>
+        ensures { MatchOption result
+            ((equal : EqualKeys) → number_of equal ≡ number → ⊥)
+            (λ equal. number_of equal ≡ number) }
+    {
+        match number {
+            0 => Some(EqualKeys::Last),
+            1 => Some(EqualKeys::First),
+            _ => None,
+        }
+    }
+}
+
+impl Entry {
+    /// Whether its offsets are inside that many bytes.
+    fn is_inside(&self, count: usize) -> bool
+        ensures { MatchBool result (IsInside count self.now) (IsInside count self.now → ⊥) }
+    {
+        self.key.end_in(count).is_some()
+            && self.value.end_in(count).is_some()
+            && self.content.end_in(count).is_some()
+    }
+
+    /// The entry that a step leads to.
+    #[tactic(auto, using(crate::proofs::Paths::leads_invalid, crate::proofs::Paths::leads_none, crate::proofs::Paths::leads_nth, crate::proofs::Paths::leads_by))]
+    fn step(&self, bytes: &[u8], step: &Step<'_>, equal: EqualKeys) -> Result<Option<Entry>, Fault>
+        ensures { Leads bytes.now equal step.now self.now result }
+    {
+        if step.tag != b'A' && step.tag != b'F' {
+            return Err(Fault::Invalid);
+        }
+        if self.tag != step.tag {
+            return Ok(None);
+        }
+        let contents = self.contents();
+        if step.tag == b'A' {
+            return contents.nth(bytes, step.index);
+        }
+        match equal {
+            EqualKeys::Last => contents.find(bytes, step.key),
+            EqualKeys::First => contents.find_first(bytes, step.key),
+        }
+    }
+}
+
+/// The entry that a path leads to, step by step, from an entry.
+pub fn find_path(
+    bytes: &[u8],
+    from: &Entry,
+    steps: &[Step<'_>],
+    equal: EqualKeys,
+) -> Result<Option<Entry>, Fault>
+    ensures { LooksUpOn bytes.now from.now steps.now equal result }
+{
+    if !from.is_inside(bytes.len()) {
+        return Err(Fault::Invalid);
+    }
+    let mut at = *from;
+    for step in steps {
+        match at.step(bytes, step, equal)? {
+            Some(next) => at = next,
+            None => return Ok(None),
+        }
+    }
+    Ok(Some(at))
+}
