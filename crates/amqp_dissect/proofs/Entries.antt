@@ -124,7 +124,7 @@ string_read d s type at behind (c, body, rest, k, is, fits, b) string =
     let r = string_raw d type body string fits in
     (c ∷ long_field body, r.0, rest, (wire c type (long_field body) r.0 k r.1.0, r.1.1), is, omega (arith, length_large body))
 
--- ---- a walk over a value
+-- ---- traversing a value
 
 pub offset_is : (d : ℕ) (s : List ℕ) (o m a : ℕ) (p : Problem) → NoValue d s o p → m ≡ a + o → NoValue d s (m - a) p
 offset_is d s o m a p x e = subst (λ k. NoValue d s k p) (let z : o ≡ m - a = omega arith in z) x
@@ -166,7 +166,7 @@ is_at_weaker P Q f (At p) x = f p x
 -- ---- a container
 
 -- what such entries are as the body of a container: they make its payload, and one that isn't one
--- stands 5 bytes later in the value
+-- is 5 bytes later in the value
 pub record IsBodyOf (type : AMQPType) (Are : ℕ → List ℕ → Type 0) (Fail : ℕ → List ℕ → ℕ → Problem → Type 0) : Type 0 where
   pub raw : (d : ℕ) (body : List ℕ) → length body < 2 ^ 32 → Are d body → (v : Tree) × RawWithin (suc d) type (long_field body) v
   pub fail : (d c : ℕ) (body rest : List ℕ) (o : ℕ) (p : Problem) → kind c ≡ Some type → length body < 2 ^ 32 → Fail d body o p → NoValue (suc d) (c ∷ (long_field body ++ rest)) (5 + o) p
@@ -201,7 +201,7 @@ module _ (type : AMQPType) (Are : ℕ → List ℕ → Type 0) (Fail : ℕ → L
   body_ahead =
       ap₂ (λ (i : Bor (List ℕ)) k. slice_range i.now k behind) same start ∙ body_window old.input.now old.at end behind type h can.at can.inside
 
-  -- a walk over the entries of a container covers the container
+  -- traversing the entries of a container covers the container
   pub container : (r : Result (Unit {0}) Stop) → PassesEntries (Are (d - 1)) (Fail (d - 1)) mid behind r new → PassesValue d old end r new
   container (Ok u) es =
       let v = of.raw (d - 1) h.1 h.5 (subst (Are (d - 1)) body_ahead es.entries) in
@@ -223,7 +223,7 @@ module _ (type : AMQPType) (Are : ℕ → List ℕ → Type 0) (Fail : ℕ → L
 
 -- ---- entries one after another
 
--- the walk has come from `old` to `now` over whole entries: what holds of the rest tells of all
+-- from `old` to `now` complete entries were traversed: what holds of the rest decides about all
 pub record Passed (Are : List ℕ → Type 0) (Fail : List ℕ → ℕ → Problem → Type 0) (old : Walk) (end : ℕ) (now : Walk) : Type 0 where
   pub goes : GoesOn old end now
   pub all : Are (ahead now end) → Are (ahead old end)
@@ -232,7 +232,7 @@ pub record Passed (Are : List ℕ → Type 0) (Fail : List ℕ → ℕ → Probl
 on_again : (old mid new : Walk) (end : ℕ) → GoesOn old end mid → GoesOn mid end new → GoesOn old end new
 on_again old mid new end g h = record { input = h.input ∙ g.input; depth = h.depth ∙ g.depth; order = omega (arith, g.order, h.order); within = h.within }
 
--- how long what a walk covered is
+-- how many bytes were traversed
 pub front_size : (now next : Walk) (end : ℕ) (w : List ℕ) → end ≤ length now.input.now → GoesOn now end next → ahead now end ≡ w ++ ahead next end → now.at + length w ≡ next.at
 front_size now next end w in_xs goes is =
     let here : end ≤ length next.input.now = subst (λ (i : Bor (List ℕ)). end ≤ length i.now) (sym goes.input) in_xs in
@@ -352,7 +352,7 @@ module _ (d : ℕ) (old now mid next : Walk) (end : ℕ) (can : CanReach old end
 pub pairs_end : (d : ℕ) (old now : Walk) (end : ℕ) (u : Unit {0}) → CanReach old end → Passed (ArePairs d) (NoPairs d) old end now → end ≤ now.at → PassesEntries (ArePairs d) (NoPairs d) old end (Ok u) now
 pairs_end d old now end u can g none = entries_end (ArePairs d) (NoPairs d) old end now can g u none (no_entries, (no_pairs, omega arith))
 
--- ---- the whole input
+-- ---- the complete input
 
 pub not_large : (frame : ℕ) (s : List ℕ) (h : Header) → IsHeaderOf frame s h → (h ≡ header.TooLarge → ⊥) → extent s ≤ frame
 not_large frame s header.Unknown x not = x.1

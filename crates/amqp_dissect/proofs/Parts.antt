@@ -21,19 +21,19 @@ offsets_last : (ps : List Part) (p : Part) → map (λ q. q.offset) (ps ++ p ∷
 offsets_last [] p = refl
 offsets_last (q ∷ ps) p = ap (λ s. q.offset ∷ s) (offsets_last ps p)
 
--- the bytes of a part that begins where the parts end join them
+-- the bytes of a part that begins at the end of the parts join theirs
 pub joined_more : (xs : List ℕ) (at n : ℕ) (ps : List Part) (p : Part) → joined ps ≡ take at xs → p.bytes.now ≡ slice_range xs at (at + n) → joined (ps ++ p ∷ []) ≡ take (at + n) xs
 joined_more xs at n ps p so is =
     let count : at + n - at ≡ n = omega arith in
     joined_last ps p ∙ (ap₂ (λ s t. s ++ t) so (is ∙ ap (λ k. take k (drop at xs)) count) ∙ sym (take-add at n xs))
 
--- and its offset is where it begins
+-- and its offset is that of its first byte
 pub offsets_more : (xs : List ℕ) (at : ℕ) (ps : List Part) (p : Part) → joined ps ≡ take at xs → at ≤ length xs → p.offset ≡ at → HaveOffsets ps → HaveOffsets (ps ++ p ∷ [])
 offsets_more xs at ps p so within is have =
     let long : length (joined ps) ≡ at = ap length so ∙ length-take-le at xs within in
     offsets_last ps p ∙ (ap₂ (λ s k. s ++ k ∷ []) have (is ∙ sym long) ∙ sym (starts_last 0 ps p ∙ ap (λ k. starts 0 ps ++ k ∷ []) (omega arith)))
 
--- where it has a byte, still all have
+-- if it has a byte, still all have
 pub bytes_more : (ps : List Part) (p : Part) → IsTrue (list_all has_bytes ps) → 0 < length p.bytes.now → IsTrue (list_all has_bytes (ps ++ p ∷ []))
 bytes_more ps p all some =
     let one : has_bytes p ≡ true = grind (arith) in

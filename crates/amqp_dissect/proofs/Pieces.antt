@@ -81,7 +81,7 @@ table_at : (n level c : ℕ) (t : List ℕ) → entries_parts (suc n) amqp.Field
 unfolding entries_parts
 table_at n level c t = refl
 
--- where no type tag stands nothing does
+-- if there is no type tag, there is nothing
 stuck : (n level : ℕ) (s : List ℕ) → extent s ≡ 0 → entries_parts n amqp.FieldArray level s ≡ []
 unfolding entries_parts
 stuck zero level s e = refl
@@ -215,7 +215,7 @@ unfixed amqp.FieldArray p = refl
 unfixed amqp.FieldTable p = refl
 unfixed _ p = absurd p
 
--- a type tag alone
+-- only a type tag
 pub tag_only : (level c : ℕ) (type : AMQPType) → kind c ≡ Some type → value_at level (c ∷ []) ≡ part (TypeTag type) level (c ∷ [])
 tag_only level c type k =
     value_known (entries_parts 1) level c type [] k

@@ -1,4 +1,4 @@
--- What a walk put down: one part, a value, and entries one after another.
+-- What a traversal appended: one part, a value, and entries one after another.
 use Rattle.std.proofs.Common.{◌≡◌, ◌≤◌, ◌<◌, ◌+◌, ◌-◌, ℕ, suc, Result, Ok, Err, Some, List, [], ◌∷◌, ◌++◌, length, map, take, drop, slice_range, refl, sym, ap, ap₂, ◌∙◌, subst, arith, append_assoc, append-nil}
 use Rattle.std.specs.Borrow.{Bor}
 use Rattle.std.specs.Int.{w32, to_be_bytes}
@@ -26,7 +26,7 @@ use Rattle.amqp_dissect.proofs.Windows.{window_front}
 use Rattle.amqp_dissect.proofs.Entries.{Passed, still, front_size}
 use Rattle.amqp_dissect.proofs.Pieces.{value_nothing, entries_nothing, array_first, array_last, key_only, pair_first, pair_last, tag_only, number_parts, header_parts, string_parts, array_parts, table_parts, one_tag, one_number, one_framed}
 
--- ---- two walks in a row
+-- ---- two traversals in a row
 
 range_split : (xs : List ℕ) (a b c : ℕ) → a ≤ b → b ≤ c → slice_range xs a c ≡ slice_range xs a b ++ slice_range xs b c
 range_split xs a b c ab bc =
@@ -70,7 +70,7 @@ unfolding part
 part_more ps p field level [] f l is some = absurd (omega arith)
 part_more ps p field level (c ∷ b) f l is some = map-append piece ps (p ∷ []) ∙ ap (λ (x : Piece). map piece ps ++ x ∷ []) cc
 
--- none more
+-- no further one
 pub part_none : (ps : List Part) (field : Field) (level : ℕ) (b : List ℕ) → length b ≡ 0 → map piece ps ≡ map piece ps ++ part field level b
 unfolding part
 part_none ps field level [] none = sym (append-nil (map piece ps))
@@ -132,7 +132,7 @@ module _ (d : ℕ) (old mid new : Walk) (end : ℕ) (type : AMQPType) (same : mi
         one = subst (λ (t : List ℕ). length t ≤ extent t) (sym all) (one_framed c type (length body) [] k p fits (omega arith));
       }
 
-  -- a type tag, a length, and what is put down of the bytes that it counts
+  -- a type tag, a length, and what is appended of the bytes that it counts
   framed_puts : (P : List ℕ → List Piece) (behind : ℕ) → HasHeader (ahead old end) type old.at behind → HasLengthPrefix type → mid.at ≡ old.at + 5 → mid.at ≤ new.at → new.at ≤ behind
       → PutsValue (old.depth - d) old mid → Puts P mid new
       → ((c : ℕ) (l g : List ℕ) → kind c ≡ Some type → length l ≡ 4 → value_at (old.depth - d) (c ∷ (l ++ g)) ≡ value_at (old.depth - d) (c ∷ l) ++ P g) → PutsValue (old.depth - d) old new
@@ -189,7 +189,7 @@ pub no_key_puts : (level : ℕ) (w : Walk) → Puts (entries_at amqp.FieldTable 
 no_key_puts level w =
     sym (append-nil (map piece w.parts.items)) ∙ ap (λ (t : List Piece). map piece w.parts.items ++ t) (sym (ap (entries_at amqp.FieldTable level) (none_between w) ∙ entries_nothing 0 amqp.FieldTable level))
 
--- the length of a key alone
+-- only the length of a key
 pub key_length_puts : (level : ℕ) (old new : Walk) (end l : ℕ) (bytes : List ℕ) → ahead old end ≡ l ∷ bytes → new.at ≡ old.at + 1 → Puts (part KeyLength level) old new → Puts (entries_at amqp.FieldTable level) old new
 unfolding part
 key_length_puts level old new end l bytes is at x =
@@ -207,7 +207,7 @@ key_puts d old mid new end l n bytes same deep is e at then x y =
     puts_then (part KeyLength level) (part Key level) (entries_at amqp.FieldTable level) old mid new same (omega arith) (omega arith) x (same_level (part Key) d old mid new deep y)
     (subst (λ (t : List ℕ). entries_at amqp.FieldTable level (t ++ g) ≡ part KeyLength level t ++ part Key level g) (sym here) (key_only level l g (between_length mid new l (omega arith))))
 
--- ---- the whole input
+-- ---- the complete input
 
 pub start_puts : (xs : List ℕ) (ps : List Part) (at : ℕ) → ps ≡ [] → at ≡ 0 → map piece ps ≡ parts_of (take at xs)
 start_puts xs ps at none zero_is =
@@ -222,7 +222,7 @@ whole_puts d old new zero_is deep none x =
 
 -- ---- entries one after another
 
--- a walk put down whole entries: those of the bytes that follow are their own
+-- a traversal appended complete entries: those of the bytes that follow are separate
 pub record Put (type : AMQPType) (level : ℕ) (old now : Walk) : Type 0 where
   pub parts : Puts (entries_at type level) old now
   pub more : (s : List ℕ) → entries_at type level (between old now ++ s) ≡ entries_at type level (between old now) ++ entries_at type level s

@@ -1,4 +1,4 @@
--- What reading results in where the first entry that isn't one is known.
+-- What reading results in if the first entry that isn't one is known.
 use Rattle.std.proofs.Common.{◌≡◌, ◌≤◌, ◌<◌, ◌+◌, ◌-◌, ◌^◌, Some, ℕ, zero, suc, List, [], ◌∷◌, ◌++◌, length, refl, ◌∙◌, subst, arith, length-append}
 use Rattle.std.specs.Int.{w8}
 use Rattle.std.specs.Str.{IsUtf8}
@@ -54,7 +54,7 @@ deep_container c amqp.FieldTable body rest k is fits =
     raw_to_value_within 0 c amqp.FieldTable (long_field body ++ rest) malformed k (table_too_deep 0 (long_field body ++ rest) body rest (record { framed = refl; fits = fits }) refl)
 deep_container c _ body rest k is fits = absurd is
 
--- a key whose bytes are no text is rejected, and one that is cut lacks what is missing
+-- a key whose bytes aren't UTF-8 is rejected, and one that is cut needs the bytes that are missing
 short_lack : (n : ℕ) (s : List ℕ) → lack amqp.ShortString (n ∷ s) ≡ n - length s
 short_lack n s =
     let known : frame_lack w8 (n ∷ s) ≡ 1 + counted w8 (n ∷ s) - length (n ∷ s) = rw (le-ltb (length (n ∷ s)) 1 (omega arith)) refl in

@@ -8,7 +8,7 @@ use Rattle.amqp_dissect.specs.PartsOf.{piece, parts_of}
 use Rattle.amqp_dissect.specs.Ends.{Ends}
 
 -- d is a dissection of s within limits: its parts are those of the first bytes of s, in order and
--- without a gap, each with bytes and its offset; and what stands behind them ends it
+-- without a gap, each with bytes and its offset; and what is after them ends it
 pub record IsDissection (l : Limits) (s : List ℕ) (d : Dissection) : Type 0 where
   pub joined : bytes_of d.parts.items ≡ take d.offset s
   pub offsets : HaveOffsets d.parts.items

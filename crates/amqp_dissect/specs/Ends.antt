@@ -1,4 +1,4 @@
--- What stands where a dissection ends.
+-- What is at the end of a dissection.
 use Rattle.std.specs.Prelude.{ℕ, zero, suc, ◌≡◌, ◌<◌, ◌≤◌, List, drop}
 use Rattle.amqp_grammar.specs.Values.{Tree}
 use Rattle.amqp_grammar.specs.Outcomes.{found}
@@ -15,17 +15,17 @@ use Rattle.amqp_dissect.specs.declared.problem.Problem.{Problem}
 use Rattle.amqp_dissect.specs.declared.problem.Problem.TheVariants.{NoTypeTag, UnknownTypeTag, Cut}
 use Rattle.amqp_dissect.specs.Problems.{NoValue}
 
--- the error that reading answers where the first entry that isn't one is at the offset: of the
--- value itself what its type tag or payload lacks, or that its first byte isn't a type tag; for all
--- that is in a body that it isn't entries
+-- the error that reading returns if the first entry that isn't one is at the offset: of the value
+-- itself what is missing of its type tag or payload, or that its first byte isn't a type tag; for
+-- all that is in a body that it isn't entries
 abbrev pub refusal_of : ℕ → Problem → Refusal
 refusal_of zero NoTypeTag = lacks 1
 refusal_of zero (UnknownTypeTag c) = refused MapOpt
 refusal_of (suc zero) (Cut type n) = lacks n
 refusal_of _ _ = refused Eof
 
--- after n bytes of s its value ends, as reading within the limits has it; or there stands the first
--- entry that isn't one, and reading answers that error; or, where n is 0, the value is too large
+-- after n bytes of s its value ends, as reading within the limits has it; or the first entry that
+-- isn't one is there, and reading returns that error; or, if n is 0, the value is too large
 abbrev pub Ends : Limits → List ℕ → ℕ → End → Type 0
 Ends l s n end.Value = (v : Tree) × Within l s (found v (drop n s))
 Ends l s n (end.Problem p) = (extent s ≤ l.frame) × NoValue l.depth s n p × Refuses (OutcomeWithin l.depth s) ⊥ (refusal_of n p)

@@ -4,15 +4,15 @@ pub mod Parts
 pub mod PartsOf
 -- the first entry that isn't one
 pub mod Problems
--- what a walk over an encoding answers
+-- what traversing an encoding returns
 pub mod Walks
--- escaped text
+-- escaped strings
 pub mod Texts
--- what stands where a dissection ends
+-- what is at the end of a dissection
 pub mod Ends
 -- what a dissection is
 pub mod Dissections
--- where a dissection takes memory
+-- when a dissection allocates
 pub mod Memory
 -- values that are no containers
 pub mod Leaves

@@ -1,4 +1,4 @@
--- Where a dissection takes memory: for its parts, the first of which is a type tag.
+-- When a dissection allocates: for its parts, the first of which is a type tag.
 use Rattle.std.specs.Prelude.{ℕ, ◌≤◌, List}
 use Rattle.amqp_types.specs.declared.amqp_type.AMQPType.{AMQPType}
 use Rattle.amqp_parsing.specs.Headers.{extent}

@@ -11,7 +11,7 @@ abbrev pub joined : List Part → List ℕ
 joined [] = []
 joined (p ∷ ps) = p.bytes.now ++ joined ps
 
--- where each part begins, the first one at n
+-- each part begins at the end of the one before it, the first one at n
 abbrev pub starts : ℕ → List Part → List ℕ
 starts n [] = []
 starts n (p ∷ ps) = n ∷ starts (n + length p.bytes.now) ps

@@ -1,5 +1,5 @@
 -- The parts of an encoding as a function of its bytes: what each part is, in how many containers it
--- stands, and its bytes. Where the bytes break off, so do the parts.
+-- is, and its bytes. If the bytes break off, so do the parts.
 use Rattle.std.specs.Prelude.{ℕ, zero, suc, Some, None, List, [], ◌∷◌, ◌++◌, length, take, drop}
 use Rattle.amqp_types.specs.declared.amqp_type.AMQPType.{AMQPType}
 use Rattle.amqp_types.specs.declared.amqp_type.AMQPType.TheVariants as amqp
@@ -10,14 +10,14 @@ use Rattle.amqp_dissect.specs.declared.part.Part.{Part}
 use Rattle.amqp_dissect.specs.declared.part.Field.{Field}
 use Rattle.amqp_dissect.specs.declared.part.Field.TheVariants.{TypeTag, Length, KeyLength, Key, Payload}
 
--- what a part is, in how many containers it stands, and its bytes
+-- what a part is, in how many containers it is, and its bytes
 abbrev pub Piece : Type 0
 Piece = Field × ℕ × List ℕ
 
 abbrev pub piece : Part → Piece
 piece p = (p.field, p.level, p.bytes.now)
 
--- bytes that belong together are one part; no bytes are none
+-- bytes that belong together are one part; no bytes are no part
 unfoldable pub part : Field → ℕ → List ℕ → List Piece
 part field level [] = []
 part field level (c ∷ b) = (field, level, c ∷ b) ∷ []
@@ -59,7 +59,7 @@ key_extent [] = 0
 key_extent (n ∷ s) = suc n
 
 -- the entries of a container, one after another, at most n: in a table each is a key and a value, in
--- an array a value; how long a value is its type tag and its length tell (`extent`)
+-- an array a value; a value's type tag and its length determine how long it is (`extent`)
 unfoldable pub entries_parts : ℕ → Inside
 entries_parts zero type level s = []
 entries_parts (suc n) amqp.FieldTable level s =

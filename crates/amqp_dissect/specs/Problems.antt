@@ -1,4 +1,4 @@
--- The first entry that isn't one: where a value should be and none does, and why.
+-- The first entry that isn't one: the place at which a value should be and isn't, and why.
 use Rattle.std.specs.Prelude.{ℕ, suc, ◌+◌, ◌-◌, ◌^◌, ◌<◌, ◌≡◌, Some, None, List, [], ◌∷◌, ◌++◌, length}
 use Rattle.std.specs.Str.{IsUtf8}
 use Rattle.amqp_types.specs.declared.amqp_type.AMQPType.{AMQPType}
@@ -28,7 +28,7 @@ mutual
     unknown_type_tag : (depth : ℕ) → (c : ℕ) → (b : List ℕ) → kind c ≡ None → NoValue depth (c ∷ b) 0 (UnknownTypeTag c)
     -- the payload isn't all there: of its field that is being read n more bytes are needed
     cut : (depth : ℕ) → (c : ℕ) → (type : AMQPType) → (b : List ℕ) → (n : ℕ) → kind c ≡ Some type → 0 < n → lack type b ≡ n → NoValue depth (c ∷ b) 1 (Cut type n)
-    -- a container that is all there stands where none may
+    -- a complete container is at a place at which none may be
     too_deep : (c : ℕ) → (type : AMQPType) → (body : List ℕ) → (rest : List ℕ) → kind c ≡ Some type → IsContainer type → length body < 2 ^ 32 → NoValue 0 (c ∷ (long_field body ++ rest)) 0 TooDeep
     -- in the body of an array, or a table, an entry isn't one
     in_array : (depth : ℕ) → (c : ℕ) → (body : List ℕ) → (rest : List ℕ) → (offset : ℕ) → (p : Problem) → kind c ≡ Some amqp.FieldArray → length body < 2 ^ 32 → NoValues depth body offset p → NoValue (suc depth) (c ∷ (long_field body ++ rest)) (5 + offset) p

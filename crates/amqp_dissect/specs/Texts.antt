@@ -1,4 +1,4 @@
--- Escaped text.
+-- Escaped strings.
 use Rattle.std.specs.Prelude.{ℕ, ◌<◌, ◌≤◌, ◌/◌, ◌%◌, ◌==◌, ◌||◌, ◌&&◌, nat_le, nat_lt, List, [], ◌++◌, ◌∷◌, if◌then◌else◌}
 use Rattle.std.specs.Char.{digit_char}
 

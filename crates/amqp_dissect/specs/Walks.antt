@@ -1,4 +1,4 @@
--- What a walk over an encoding does.
+-- What traversing an encoding does.
 use Rattle.std.specs.Prelude.{ℕ, ◌+◌, ◌-◌, ◌^◌, ◌<◌, ◌≤◌, ◌≡◌, List, ◌∷◌, ◌++◌, length, map, slice_range, Some, Result, Ok, Err, OnOk, IfErr}
 use Rattle.amqp_types.specs.declared.amqp_type.AMQPType.{AMQPType}
 use Rattle.amqp_types.specs.declared.amqp_type.AMQPType.TheVariants as amqp
@@ -31,7 +31,7 @@ AreValues depth s = (vs : Trees) × BodyWithin depth s vs
 abbrev pub ArePairs : ℕ → List ℕ → Type 0
 ArePairs depth s = (ps : Entries) × PairsWithin depth s ps
 
--- where memory sufficed P holds of the problem
+-- if memory sufficed P holds of the problem
 abbrev pub IsAt : (Problem → Type 0) → Stop → Type 0
 IsAt P OutOfMemory = Unit {0}
 IsAt P (At p) = P p
@@ -54,34 +54,34 @@ HasLengthPrefix amqp.FieldArray = Unit {0}
 HasLengthPrefix amqp.FieldTable = Unit {0}
 HasLengthPrefix _ = ⊥
 
--- s begins with a type tag of the type and a length, and what that counts ends at `behind`, where s
+-- s begins with a type tag of the type and a length, and what that counts ends at `behind`, if s
 -- begins at `at`
 abbrev pub HasHeader : List ℕ → AMQPType → ℕ → ℕ → Type 0
 HasHeader s type at behind = (c : ℕ) × (body : List ℕ) × (rest : List ℕ) × (kind c ≡ Some type) × (s ≡ c ∷ (long_field body ++ rest)) × (length body < 2 ^ 32) × (behind ≡ at + 5 + length body)
 
--- ---- walks
+-- ---- traversals
 
 -- the bytes before `end` that are still to be gone over
 abbrev pub ahead : Walk → ℕ → List ℕ
 ahead w end = slice_range w.input.now w.at end
 
--- a walk may go on up to `end`, which is inside the input
+-- a traversal may go on up to `end`, which is inside the input
 pub record CanReach (w : Walk) (end : ℕ) : Type 0 where
   pub at : w.at ≤ end
   pub inside : end ≤ length w.input.now
 
--- a walk went on in its input, up to `end` at most
+-- a traversal went on in its input, up to `end` at most
 pub record GoesOn (old : Walk) (end : ℕ) (new : Walk) : Type 0 where
   pub input : new.input ≡ old.input
   pub depth : new.depth ≡ old.depth
   pub order : old.at ≤ new.at
   pub within : new.at ≤ end
 
--- the bytes that a walk covered
+-- the bytes that were traversed
 abbrev pub between : Walk → Walk → List ℕ
 between old new = slice_range old.input.now old.at new.at
 
--- a walk put down the parts of the bytes that it covered: what they are `of` says
+-- a traversal appended the parts of the bytes that it covered: `of` determines what they are
 abbrev pub Puts : (List ℕ → List Piece) → Walk → Walk → Type 0
 Puts of old new = map piece new.parts.items ≡ map piece old.parts.items ++ of (between old new)
 
@@ -96,7 +96,7 @@ WithMemory (Ok x) P = P
 WithMemory (Err OutOfMemory) P = Unit {0}
 WithMemory (Err (At p)) P = P
 
--- A walk covered the value that is before `end`, with containers at most `depth` deep in it,
+-- A traversal covered the value that is before `end`, with containers at most `depth` deep in it,
 -- or stopped at the first entry that isn't one.
 pub record PassesValue (depth : ℕ) (old : Walk) (end : ℕ) (result : Result (Unit {0}) Stop) (new : Walk) : Type 0 where
   pub goes : GoesOn old end new
@@ -104,8 +104,8 @@ pub record PassesValue (depth : ℕ) (old : Walk) (end : ℕ) (result : Result (
   pub value : OnOk result (IsValueThen depth (ahead old end) (ahead new end))
   pub problem : IfErr result (IsAt (NoValue depth (ahead old end) (new.at - old.at)))
 
--- A walk covered the entries that are before `end`, or stopped at the first that isn't one: `Are`
--- says that bytes are such entries, and `Fail` where they aren't, and why.
+-- A traversal covered the entries that are before `end`, or stopped at the first that isn't one:
+-- `Are` holds of bytes that are such entries, and `Fail` of the place of what isn't one, and why.
 pub record PassesEntries (Are : List ℕ → Type 0) (Fail : List ℕ → ℕ → Problem → Type 0) (old : Walk) (end : ℕ) (result : Result (Unit {0}) Stop) (new : Walk) : Type 0 where
   pub goes : GoesOn old end new
   pub whole : OnOk result (new.at ≡ end)

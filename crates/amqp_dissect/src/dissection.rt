@@ -26,9 +26,9 @@ pub enum End {
 pub struct Dissection<'a> {
     /// The parts, in order and without gaps.
     pub parts: Vec<Part<'a>>,
-    /// The number of bytes before the end. For a problem it is where it is detected: after the type
-    /// tag of a payload that is cut, after the length of a key that isn't UTF-8, otherwise where
-    /// the value or the pair begins.
+    /// The number of bytes before the end. A problem's end is after the type tag of a payload that
+    /// is cut, after the length of a key that isn't UTF-8, otherwise at the start of the value or
+    /// the pair.
     pub offset: usize,
     /// What it ends at.
     pub end: End,

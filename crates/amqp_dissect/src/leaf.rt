@@ -37,7 +37,7 @@ pub fn first_leaf<'a>(parts: &[Part<'a>]) -> Option<Leaf<'a>>
     None
 }
 
-// The payload after a length of these bytes, which the first of the parts is, or none where it
+// The payload after a length of these bytes, which the first of the parts is, or `None` if it
 // isn't there. An empty payload has no part.
 fn payload_behind<'a>(amqp_type: AMQPType, len: &[u8], parts: &[Part<'a>]) -> Option<&'a [u8]>
     ensures { IfSome result (λ payload. IsBehind amqp_type len.now parts.now payload.now) }

@@ -1,5 +1,5 @@
-//! Dissecting an encoding: its parts, each with its offset, up to the end of the value or to where
-//! it is malformed; and text that is safe to print.
+//! Dissecting an encoding: its parts, each with its offset, up to the end of the value or the place
+//! at which it is malformed; and strings that are safe to print.
 //!
 //! The function `parts_of` in `specs` defines the parts.
 #![tactic(auto)]

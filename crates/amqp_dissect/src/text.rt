@@ -1,4 +1,4 @@
-//! Text that is safe to print.
+//! Strings that are safe to print.
 
 ghost use Rattle.std.specs.Prelude.{◌≡◌, ◌<◌, ◌++◌, IfOk, OnOk, OnErr, length, string_bytes};
 ghost use Rattle.std.specs.List.{AllByRecursion};
@@ -7,7 +7,7 @@ ghost use Rattle.amqp_dissect.specs.Texts.{IsPrintable, escaped, escaped_byte};
 
 use std::alloc::{AllocError, Global};
 
-/// Escapes bytes as ASCII text that a terminal prints and doesn't interpret. A quote and a
+/// Escapes bytes as an ASCII string that a terminal prints and doesn't interpret. A quote and a
 /// backslash are escaped by a backslash, and bytes that aren't printable by `\x` and two digits.
 pub fn escape(alloc: Global, bytes: &[u8]) -> Result<String, AllocError>
     ensures escaped { IfOk result (λ text. string_bytes text ≡ escaped bytes.now) }

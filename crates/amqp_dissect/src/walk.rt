@@ -51,7 +51,7 @@ impl<'a> Walk<'a> {
         (self.at, self.parts)
     }
 
-    // Goes over the next `count` bytes, and puts them down as a part, if there are any.
+    // Covers the next `count` bytes, and appends them as a part, if there are any.
     fn pass(&mut self, count: usize, field: Field, depth: u32) -> Result<(), AllocError>
         requires { self.old.at + count ≤ length self.old.input.now }
         ensures input { self.new.input ≡ self.old.input }

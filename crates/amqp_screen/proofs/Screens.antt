@@ -1,4 +1,4 @@
--- Text that is added to what a terminal shows.
+-- Strings that are appended to what a terminal shows.
 use Rattle.std.proofs.Common.{◌≡◌, ◌==◌, ◌||◌, ◌&&◌, ℕ, Bool, true, false, cond, IsTrue, List, [], ◌∷◌, ◌++◌, refl, sym, ap, ◌∙◌, subst, append-nil, codes, ◌^◌, ◌<◌, ◌≤◌, arith}
 use Rattle.std.proofs.lemmas.Bool.Decides.{nat_tests}
 use Rattle.std.proofs.lemmas.Bool.{and_parts, and_from}
@@ -67,7 +67,7 @@ pub line_end : (colours : Bool) → IsShowable colours (10 ∷ [])
 unfolding chars
 line_end colours = refl
 
--- colours, where there are any
+-- colours, if there are any
 pub key_colour : (colours : Bool) → colours ≡ true → IsShowable colours (27 ∷ 91 ∷ 51 ∷ 54 ∷ 109 ∷ [])
 unfolding chars
 key_colour colours e = rw e refl

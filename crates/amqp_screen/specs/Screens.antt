@@ -22,11 +22,11 @@ begins_with (c ∷ cs) (d ∷ s) = c == d && begins_with cs s
 abbrev pub names_colour : List ℕ → Bool
 names_colour s = begins_with (codes "[36m") s || (begins_with (codes "[33m") s || (begins_with (codes "[31m") s || begins_with (codes "[0m") s))
 
--- each character prints, ends a line, or begins or ends a colour, where there are colours
+-- each character prints, ends a line, or begins or ends a colour, if there are colours
 abbrev pub is_showable : Bool → List ℕ → Bool
 is_showable colours [] = true
 is_showable colours (c ∷ s) = (prints c || (c == 10 || (colours && (c == 27 && names_colour s)))) && is_showable colours s
 
--- the same of a text in UTF-8
+-- the same of a string in UTF-8
 abbrev pub IsShowable : Bool → List ℕ → Type 0
 IsShowable colours text = IsTrue (is_showable colours (chars text))

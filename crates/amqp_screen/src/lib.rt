@@ -1,4 +1,4 @@
-//! What `amqp_show` prints and ends with: text that a terminal shows and doesn't obey, and exit
+//! What `amqp_show` prints and ends with: strings that a terminal shows and doesn't obey, and exit
 //! statuses.
 #![tactic(auto)]
 

@@ -8,22 +8,22 @@ use std::alloc::{AllocError, Global};
 use std::io;
 use std::io::{ErrorKind, IsTerminal, Write};
 
-/// The error where nobody reads the output any more.
+/// The error if nobody reads the output any more.
 pub const CLOSED: &str = "nobody reads the output";
 
-/// What stands out.
+/// What is emphasised.
 #[derive(Clone, Copy, Debug)]
 pub enum Colour {
     /// A key.
     Key,
     /// What isn't canonical.
     Note,
-    /// Where a value fails.
+    /// The place at which a value fails.
     Failure,
 }
 
-/// Text that is to be printed: characters that a terminal shows and doesn't obey, line ends, and
-/// colours if they are asked for. What it is given and doesn't print is escaped.
+/// A string to be printed: characters that a terminal shows and doesn't obey, line ends, and
+/// colours if they are asked for. What is added to it and doesn't print is escaped.
 #[derive(Drop)]
 pub struct Screen {
     has_colours: bool,
@@ -66,8 +66,8 @@ impl Screen {
         Ok(())
     }
 
-    /// Adds a JSON text in a line. It stays the same JSON: what doesn't print is in its
-    /// strings alone, where it may be escaped.
+    /// Adds a JSON text in a line. It stays the same JSON: what doesn't print is only in its
+    /// strings, in which it may be escaped.
     pub fn push_json(&mut self, json: &str) -> Result<(), AllocError> {
         for c in json.chars() {
             if does_print(c) {
@@ -91,14 +91,14 @@ impl Screen {
         self.append("\n")
     }
 
-    /// Writes the text to the standard output.
+    /// Writes the string to the standard output.
     pub fn print(&mut self, rt: &HostRuntime) -> Result<()> {
         write_out(rt, self.text.as_bytes())?;
         self.text.clear();
         Ok(())
     }
 
-    /// Writes the text to the standard error.
+    /// Writes the string to the standard error.
     pub fn print_error(&mut self, rt: &HostRuntime) -> io::Result<()> {
         rt.stderr().write_all(self.text.as_bytes())?;
         self.text.clear();
@@ -126,14 +126,14 @@ impl Screen {
         self.text.push(c)
     }
 
-    // Adds a text that may be shown as it is.
+    // Adds a string that may be shown as it is.
     fn append(&mut self, text: &str) -> Result<(), AllocError>
         requires { IsShowable self.old.has_colours text.now }
     {
         self.text.push_str(text)
     }
 
-    // Adds a character that doesn't print, as `\x` and two digits where it is ASCII, and else as
+    // Adds a character that doesn't print, as `\x` and two digits if it is ASCII, otherwise as
     // `\u{`, four digits and `}`.
     fn push_escape(&mut self, c: char) -> Result<(), AllocError>
         requires { IsFalse (prints c) }

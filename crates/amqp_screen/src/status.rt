@@ -10,7 +10,7 @@ pub enum Status {
     Read,
     /// One was rejected, or is truncated.
     Refused,
-    /// A mistake in the arguments, a file that can't be read, text that isn't hexadecimal, output
+    /// A mistake in the arguments, a file that can't be read, input that isn't hexadecimal, output
     /// that can't be written, or out of memory.
     Mistake,
 }

@@ -4,7 +4,7 @@ use amq_protocol_types::stream::Limits;
 use clap::{Arg, ArgAction, ArgMatches, Command, value_parser};
 use std::alloc::{AllocError, Global};
 
-// RabbitMQ's usual frame of 128 KiB, and a depth that no known peer comes near.
+// RabbitMQ's usual `frame_max` of 128 KiB, and a depth that no known peer comes near.
 const FRAME: u32 = 131_072;
 
 const DEPTH: u32 = 64;
@@ -13,11 +13,15 @@ const DEPTH: u32 = 64;
 // programs usually have 8 MiB.
 const DEEPEST: i64 = 1_000;
 
+// The peers of which it is known what they close the connection for.
+const PEERS: &[&str] = &["rabbitmq"];
+
 const EXAMPLES: &str = "\
 Examples:
   echo 4600000007 0161 7401 0162 56 | amqp_show --hex
   echo 4600000007 0161 7401 0162 56 | amqp_show --hex --bytes
   echo 4600000007 0161 7401 0162 56 | amqp_show --hex --json
+  echo 00000007 0161 7401 0162 56 | amqp_show --hex --table
   echo '{\"a\":true,\"b\":null}' | amqp_show --encode
   echo '{\"a\":true,\"b\":null}' | amqp_show --encode --raw | amqp_show
   cat one.bin two.bin | amqp_show --stream --json
@@ -36,7 +40,7 @@ pub enum Task {
         /// Whether a rejected value is passed over.
         keep_going: bool,
     },
-    /// It is the JSON of a value, which is encoded: as it is where it is wanted raw, and else in
+    /// It is the JSON of a value, which is encoded: as it is if it is wanted raw, and else in
     /// hexadecimal.
     Encode {
         /// Whether it is wanted raw.
@@ -44,10 +48,42 @@ pub enum Task {
     },
 }
 
+/// What an input is, or what JSON is encoded as.
+#[derive(Clone, Copy, Debug, PartialEq, Eq)]
+pub enum Subject {
+    /// A value.
+    Value,
+    /// A table without its type tag.
+    Table,
+}
+
+impl Subject {
+    /// What it is called.
+    pub fn name(self) -> &'static str {
+        match self {
+            Subject::Value => "value",
+            Subject::Table => "table",
+        }
+    }
+
+    /// How many bytes of its value's encoding it is without: those of the type tag.
+    pub fn left_out(self) -> usize {
+        match self {
+            Subject::Value => 0,
+            Subject::Table => 1,
+        }
+    }
+
+    /// The offset in it of what is at an offset of its value's encoding.
+    pub fn offset(self, offset: usize) -> usize {
+        offset.saturating_sub(self.left_out())
+    }
+}
+
 /// How a value is shown.
 #[derive(Clone, Copy, Debug)]
 pub enum Form {
-    /// As text for people.
+    /// As a tree for people.
     Text {
         /// As a tree.
         tree: bool,
@@ -58,6 +94,8 @@ pub enum Form {
     },
     /// As JSON, in a line.
     Json,
+    /// By what RabbitMQ makes of it.
+    Check,
 }
 
 /// What is done, how a value is shown, and within which limits it is read.
@@ -65,22 +103,25 @@ pub enum Form {
 pub struct Settings {
     /// What is done.
     pub task: Task,
-    /// The input is hexadecimal text.
+    /// What an input is.
+    pub subject: Subject,
+    /// The input is hexadecimal.
     pub hex: bool,
     /// How a value is shown.
     pub form: Form,
     /// The output is a terminal that is to have colours.
     pub colours: bool,
-    /// A value is rejected where it has more bytes, or nests deeper.
+    /// A value is rejected if it has more bytes, or nests deeper.
     pub limits: Limits,
 }
 
 impl Settings {
-    /// What the arguments say, where the output is to have colours or not. Without `--bytes` and
+    /// What the arguments ask for, if the output is to have colours or not. Without `--bytes` and
     /// `--json` a value is shown as a tree.
     pub fn from_matches(matches: &ArgMatches<'_>, colours: bool) -> Settings {
         Settings {
             task: task_of(matches),
+            subject: subject_of(matches),
             hex: matches.get_flag("hex"),
             form: form_of(matches),
             colours,
@@ -104,9 +145,19 @@ fn task_of(matches: &ArgMatches<'_>) -> Task {
     }
 }
 
+fn subject_of(matches: &ArgMatches<'_>) -> Subject {
+    if matches.get_flag("table") {
+        return Subject::Table;
+    }
+    Subject::Value
+}
+
 fn form_of(matches: &ArgMatches<'_>) -> Form {
     if matches.get_flag("json") {
         return Form::Json;
+    }
+    if matches.get_str("check").is_some() {
+        return Form::Check;
     }
     let bytes = matches.get_flag("bytes");
     let tree = matches.get_flag("tree") || !bytes;
@@ -131,6 +182,12 @@ pub fn command<'a>(alloc: Global) -> Result<Command<'a>, AllocError> {
         ))?
         .arg(flag(
             alloc,
+            "table",
+            "The input is a table without its type tag; with --encode the output is",
+        )
+        .conflicts_with("stream")?)?
+        .arg(flag(
+            alloc,
             "tree",
             "Show a value as a tree, with types (the default)",
         ))?
@@ -149,6 +206,18 @@ pub fn command<'a>(alloc: Global) -> Result<Command<'a>, AllocError> {
                 .conflicts_with("tree")?
                 .conflicts_with("bytes")?
                 .conflicts_with("canonical")?,
+        )?
+        .arg(
+            Arg::new(alloc, "check")
+                .long("check")
+                .value_name("PEER")
+                .value_parser(PEERS)
+                .help("Show the first thing for which a peer closes the connection")
+                .conflicts_with("tree")?
+                .conflicts_with("bytes")?
+                .conflicts_with("canonical")?
+                .conflicts_with("json")?
+                .conflicts_with("stream")?,
         )?
         .arg(flag(
             alloc,
@@ -172,6 +241,7 @@ pub fn command<'a>(alloc: Global) -> Result<Command<'a>, AllocError> {
             .conflicts_with("bytes")?
             .conflicts_with("canonical")?
             .conflicts_with("json")?
+            .conflicts_with("check")?
             .conflicts_with("stream")?,
         )?
         .arg(flag(alloc, "raw", "With --encode: write bytes as they are").requires_arg("encode")?)?

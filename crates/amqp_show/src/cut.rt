@@ -8,15 +8,15 @@ use amqp_screen::{Colour, Screen};
 use std::alloc::{AllocError, Global};
 
 /// A copy of an encoding that is cut, in which each length that counts more bytes than there are
-/// counts those that are there: so a dissection of it goes on to where the input ends.
+/// counts those that are there: so a dissection of it goes on to the input's end.
 #[derive(Drop)]
 pub struct Cut {
     bytes: Vec<u8>,
-    // where what is cut begins, from the outermost value inwards: type tags, and a key's length
+    // the offsets of what is cut, from the outermost value inwards: type tags, and a key's length
     offsets: Vec<usize>,
 }
 
-// What is cut inside a container that is cut, and where it begins: its type tag, or its length.
+// What is cut inside a container that is cut, and its offset: its type tag, or its length.
 #[derive(Clone, Copy)]
 enum Inside {
     Value(AMQPType, usize),
@@ -47,7 +47,7 @@ impl Cut {
         Ok(Some(cut))
     }
 
-    /// Where what is cut begins, in order: type tags, and a key's length.
+    /// The offsets of what is cut, in order: type tags, and a key's length.
     pub fn offsets(&self) -> &[usize] {
         self.offsets.as_slice()
     }
@@ -102,7 +102,7 @@ impl Cut {
         Ok(())
     }
 
-    // Shortens the length of the value at an offset, and answers what is cut inside it.
+    // Shortens the length of the value at an offset, and returns what is cut inside it.
     fn mend_value(
         &mut self,
         alloc: Global,
@@ -188,7 +188,7 @@ fn is_string(amqp_type: AMQPType) -> bool {
     matches!(amqp_type, AMQPType::LongString | AMQPType::ByteArray)
 }
 
-/// Whether what begins with a part is cut, where what is cut begins at these offsets.
+/// Whether what begins with a part is cut, if what is cut begins at these offsets.
 pub fn is_cut(part: &Part<'_>, offsets: &[usize]) -> bool {
     offsets.binary_search(&part.offset).is_ok()
 }

@@ -1,4 +1,4 @@
-//! Bytes that come as hexadecimal text.
+//! Bytes that come as hexadecimal.
 
 use crate::dump::Dump;
 use std::alloc::{AllocError, Global};
@@ -14,9 +14,9 @@ enum Half {
     Backslash,
 }
 
-/// The bytes that a reader's text denotes, two digits each. White space, `,`, `:`, what stands
-/// after `#` in a line, and `0x` or `\x` before a byte are skipped, and the offsets and texts of a
-/// dump. What isn't hexadecimal is a failure of the kind `InvalidData`.
+/// The bytes that a reader's hexadecimal denotes, two digits each. White space, `,`, `:`, what is
+/// after `#` in a line, and `0x` or `\x` before a byte are skipped, and a dump's offsets and
+/// characters. What isn't hexadecimal is a failure of the kind `InvalidData`.
 #[derive(Drop)]
 pub struct Digits<R> {
     text: Dump<R>,
@@ -40,7 +40,7 @@ impl<R: Read> Digits<R> {
         }
     }
 
-    // The next byte of the text, or none at its end.
+    // The next byte of the input, or `None` at its end.
     fn next(&mut self) -> io::Result<Option<u8>> {
         let next = self.text.next()?;
         match next {
@@ -50,7 +50,7 @@ impl<R: Read> Digits<R> {
         Ok(next)
     }
 
-    // Takes a byte of the text, and gives the one that is whole with it, if one is.
+    // Takes a byte of the input, and returns the one that is complete with it, if there is one.
     fn take(&mut self, byte: u8) -> io::Result<Option<u8>> {
         if byte == b'\n' {
             self.line = self.line.saturating_add(1);
@@ -81,7 +81,7 @@ impl<R: Read> Digits<R> {
 }
 
 impl<R> Digits<R> {
-    /// Why the text isn't hexadecimal, after that was found.
+    /// Why the input isn't hexadecimal, after that was found.
     pub fn fault(&self, alloc: Global) -> Result<String, AllocError> {
         if self.has_ended {
             return format!(in alloc; "the hexadecimal ends inside a byte");

@@ -3,23 +3,23 @@
 use std::io;
 use std::io::Read;
 
-// As many bytes tell whether a text is a dump.
+// As many bytes determine whether an input is a dump.
 const HEAD: usize = 10;
 
-// What a text is.
+// What an input is.
 #[derive(Clone, Copy, Debug)]
 enum Kind {
     // not known yet
     Unknown,
     // no dump
     Plain,
-    // of `hexdump -C`: its texts are after `|`
+    // of `hexdump -C`: its characters are after `|`
     Hexdump,
-    // of `xxd`: its texts are after two spaces
+    // of `xxd`: its characters are after two spaces
     Xxd,
 }
 
-// Where in a line of a dump it is.
+// The place in a line of a dump.
 #[derive(Clone, Copy, Debug)]
 enum Place {
     Margin,
@@ -37,12 +37,12 @@ enum Fault {
     OtherOffset,
 }
 
-/// The text that a reader yields. Of a dump spaces stand where offsets and texts do.
+/// The input that a reader yields. Of a dump the offsets and characters are replaced by spaces.
 #[derive(Drop)]
 pub struct Dump<R> {
     text: R,
     kind: Kind,
-    // what was read to tell the kind: how much of it there is, and was given
+    // what was read to determine the kind: how much of it there is, and was returned
     head: [u8; HEAD],
     read: usize,
     given: usize,
@@ -78,7 +78,7 @@ impl<R> Dump<R> {
         }
     }
 
-    // What denotes a byte of a dump: the byte, a space, or `!` where an offset is wrong.
+    // What denotes a byte of a dump: the byte, a space, or `!` if an offset is wrong.
     fn shown(&mut self, byte: u8) -> u8 {
         match self.place {
             Place::Offset if !byte.is_ascii_hexdigit() => self.end_offset(byte),
@@ -97,7 +97,7 @@ impl<R> Dump<R> {
         shown
     }
 
-    // Takes a byte before which there are spaces alone.
+    // Takes a byte before which there are only spaces.
     fn begin_line(&mut self, byte: u8) -> u8 {
         if byte == b'*' {
             self.fault = Fault::LinesLeftOut;
@@ -128,7 +128,7 @@ impl<R> Dump<R> {
         self.go(Place::Bytes { is_space: false }, byte)
     }
 
-    // Takes a byte after the offset, where the text of the line may begin.
+    // Takes a byte after the offset, at which the characters of the line may begin.
     fn shown_of_bytes(&mut self, byte: u8, is_space: bool) -> u8 {
         match (self.kind, byte) {
             (Kind::Hexdump, b'|') => return self.go(Place::Text, b' '),
@@ -144,7 +144,7 @@ impl<R> Dump<R> {
 }
 
 impl<R: Read> Dump<R> {
-    /// The next byte of the text, or none at its end.
+    /// The next byte of the input, or `None` at its end.
     pub fn next(&mut self) -> io::Result<Option<u8>> {
         self.tell_kind()?;
         let Some(byte) = self.next_byte()? else {
@@ -156,7 +156,7 @@ impl<R: Read> Dump<R> {
         }))
     }
 
-    // Reads on while the text may be a dump and may be none.
+    // Reads on while the input may be a dump and may not be one.
     fn tell_kind(&mut self) -> io::Result<()> {
         for _ in self.read..HEAD {
             let Kind::Unknown = self.kind else {
@@ -170,7 +170,7 @@ impl<R: Read> Dump<R> {
         Ok(())
     }
 
-    // What the text is, by its first bytes and the next one.
+    // What the input is, by its first bytes and the next one.
     fn kind_with(&mut self, byte: u8) -> Kind {
         if let Some(place) = self.head.get_mut(self.read) {
             *place = byte;
@@ -190,7 +190,7 @@ impl<R: Read> Dump<R> {
     }
 }
 
-// What a text is that begins so.
+// What an input is that begins so.
 fn kind_of(head: &[u8]) -> Kind {
     let (hexdump, xxd): (&[u8], &[u8]) = (b"00000000  ", b"00000000: ");
     if head == hexdump {
@@ -205,7 +205,7 @@ fn kind_of(head: &[u8]) -> Kind {
     Kind::Plain
 }
 
-// The next byte of a reader, or none at its end.
+// The next byte of a reader, or `None` at its end.
 fn next_of<R: Read>(reader: &mut R) -> io::Result<Option<u8>> {
     let mut byte = [0];
     if reader.read(&mut byte)? == 0 {

@@ -1,59 +1,112 @@
 //! What is read.
 
-use crate::arguments::Settings;
+use crate::arguments::{Settings, Subject};
 use crate::digits::Digits;
-use anyhow::{Context, Result, anyhow};
-use std::fs;
+use crate::messages::why_unread;
+use anyhow::Result;
+use std::alloc::Global;
 use std::fs::File;
-use std::io::{BufReader, ErrorKind, Read};
+use std::io;
+use std::io::{BufReader, ErrorKind, Read, Stdin};
 
 /// That many bytes of a stream are read at once, at most.
 pub const BLOCK: usize = 65_536;
 
-/// The bytes of a file, or of the standard input where it is called `-`.
-pub fn read_file(rt: &HostRuntime, file: &str) -> Result<Vec<u8>> {
-    if file != "-" {
-        return fs::read(rt, file).context("can't be read");
-    }
-    let mut input = Vec::new(rt.alloc());
-    rt.stdin().read_to_end(&mut input).context("can't be read")?;
-    Ok(input)
+/// What is read of a file, or why it can't be read.
+pub type Content<T> = Result<T, String>;
+
+/// A file, or the standard input.
+#[derive(Drop)]
+pub enum Input {
+    File(File),
+    Stdin(Stdin),
 }
 
-/// The bytes of a file, or those that its text denotes where that is hexadecimal: no more than
-/// the limit and one, so that it can be told whether there are more.
-pub fn read_input(rt: &HostRuntime, file: &str, settings: Settings) -> Result<Vec<u8>> {
-    if file == "-" {
-        return read_within(rt, rt.stdin(), settings);
+impl Input {
+    /// Opens a file, or the standard input if it is called `-`.
+    pub fn open(rt: &HostRuntime, file: &str) -> io::Result<Self> {
+        if file == "-" {
+            return Ok(Input::Stdin(rt.stdin()));
+        }
+        Ok(Input::File(File::open(rt, file)?))
     }
-    let opened = File::open(rt, file).context("can't be read")?;
-    read_within(rt, opened, settings)
 }
 
-fn read_within<R: Read + Drop>(rt: &HostRuntime, reader: R, settings: Settings) -> Result<Vec<u8>> {
-    let most = u64::from(settings.limits.frame).saturating_add(1);
-    if settings.hex {
-        let text = BufReader::with_capacity(rt.alloc(), BLOCK, reader)?;
-        return bytes_of(rt, text, most);
+impl Read for Input {
+    fn read(&mut self, buf: &mut [u8]) -> io::Result<usize> {
+        match self {
+            Input::File(file) => file.read(buf),
+            Input::Stdin(stdin) => stdin.read(buf),
+        }
     }
+}
+
+/// The bytes of an input, and the type tag of a table before them.
+#[derive(Drop)]
+pub struct Tagged {
+    bytes: Vec<u8>,
+}
+
+impl Tagged {
+    // The bytes that a reader yields until it ends, after the type tag.
+    fn read<R: Read + Drop>(alloc: Global, mut reader: R) -> io::Result<Self> {
+        let mut bytes = Vec::new(alloc);
+        bytes.push(b'F')?;
+        reader.read_to_end(&mut bytes)?;
+        Ok(Tagged { bytes })
+    }
+
+    /// The encoding that is read: the bytes, for a table with the type tag.
+    pub fn encoding(&self, subject: Subject) -> &[u8] {
+        match subject {
+            Subject::Value => self.bytes.get(1..).unwrap_or(&[]),
+            Subject::Table => self.bytes.as_slice(),
+        }
+    }
+}
+
+/// All bytes of a file.
+pub fn read_file(rt: &HostRuntime, file: &str) -> Result<Content<Vec<u8>>> {
+    content_of(rt.alloc(), all_of(rt, file))
+}
+
+fn all_of(rt: &HostRuntime, file: &str) -> io::Result<Vec<u8>> {
     let mut bytes = Vec::new(rt.alloc());
-    reader
-        .take(most)
-        .read_to_end(&mut bytes)
-        .context("can't be read")?;
+    Input::open(rt, file)?.read_to_end(&mut bytes)?;
     Ok(bytes)
 }
 
-// The bytes that hexadecimal text denotes, at most that many.
-fn bytes_of<R: Read + Drop>(rt: &HostRuntime, text: R, most: u64) -> Result<Vec<u8>> {
+/// The bytes of a file, or those that it denotes if it is hexadecimal: as many that the encoding
+/// has at most the limit and one byte, so that it is known whether there are more.
+pub fn read_input(rt: &HostRuntime, file: &str, settings: Settings) -> Result<Content<Tagged>> {
+    let input = match Input::open(rt, file) {
+        Ok(input) => input,
+        Err(error) => return Ok(Err(why_unread(rt.alloc(), &error)?)),
+    };
+    let left_out = settings.subject.left_out() as u64;
+    let most = u64::from(settings.limits.frame)
+        .saturating_add(1)
+        .saturating_sub(left_out);
+    if settings.hex {
+        let text = BufReader::with_capacity(rt.alloc(), BLOCK, input)?;
+        return bytes_of(rt.alloc(), text, most);
+    }
+    content_of(rt.alloc(), Tagged::read(rt.alloc(), input.take(most)))
+}
+
+// The bytes that hexadecimal denotes, at most that many.
+fn bytes_of<R: Read + Drop>(alloc: Global, text: R, most: u64) -> Result<Content<Tagged>> {
     let mut digits = Digits::new(text);
-    let mut bytes = Vec::new(rt.alloc());
-    match digits.by_ref().take(most).read_to_end(&mut bytes) {
-        Ok(_) => Ok(bytes),
-        Err(error) if error.kind() == ErrorKind::InvalidData => Err(anyhow!(
-            "{}",
-            digits.fault(rt.alloc())?
-        )),
-        Err(error) => Err(error).context("can't be read"),
+    match Tagged::read(alloc, digits.by_ref().take(most)) {
+        Err(error) if error.kind() == ErrorKind::InvalidData => Ok(Err(digits.fault(alloc)?)),
+        read => content_of(alloc, read),
+    }
+}
+
+// What was read, or why it can't be.
+fn content_of<T: Drop>(alloc: Global, read: io::Result<T>) -> Result<Content<T>> {
+    match read {
+        Ok(content) => Ok(Ok(content)),
+        Err(error) => Ok(Err(why_unread(alloc, &error)?)),
     }
 }

@@ -1,45 +1,72 @@
 //! A value as JSON.
 
-use crate::messages::complain;
+use crate::arguments::Settings;
+use crate::input::Tagged;
+use crate::messages::{complain, out_of_memory};
 use crate::texts::{count_text, failure_text, outcome_text};
+use crate::untagged::{LACKS_TYPE_TAG, lacks_type_tag};
 use amq_protocol_types::stream::Limits;
 use amqp_dissect::dissect;
 use amqp_json::{DecodeError, json_of_encoding};
 use amqp_screen::{Screen, Status};
-use anyhow::{Result, anyhow};
+use anyhow::Result;
 use std::alloc::{AllocError, Global};
 
-// Readers of JSON take texts that nest that deep, `--encode` among them.
+// Readers of JSON texts take those that nest that deep, `--encode` among them.
 const DEEPEST: u32 = 127;
 
-/// Prints the JSON of the value at the beginning of a file's bytes on a line, and says what is
-/// amiss: that there is none, or that bytes follow it.
-pub fn show_input(rt: &HostRuntime, file: &str, input: &[u8], limits: Limits) -> Result<Status> {
-    match json_of_encoding(rt.alloc(), input, limits) {
+/// Prints the JSON of the value at the beginning of a file's bytes on a line, and reports what is
+/// amiss: that there is no value, or that bytes follow it.
+pub fn show_input(
+    rt: &HostRuntime,
+    file: &str,
+    input: &Tagged,
+    settings: Settings,
+) -> Result<Status> {
+    let (encoding, limits) = (input.encoding(settings.subject), settings.limits);
+    match json_of_encoding(rt.alloc(), encoding, limits) {
         Ok((json, rest)) => {
             let status = print_json(rt, file, json.as_str(), limits)?;
             if !rest.is_empty() {
-                let count = count_text(rt.alloc(), input, rest, limits)?;
-                let why = format!(in rt.alloc(); "{count} bytes follow the value")?;
+                let count = count_text(rt.alloc(), encoding, rest, limits)?;
+                let name = settings.subject.name();
+                let why = format!(in rt.alloc(); "{count} bytes follow the {name}")?;
                 complain(rt, file, why.as_str())?;
             }
             Ok(status)
         }
         Err(DecodeError::Refused(_)) => {
-            print_failure(rt, file, input, limits)?;
+            print_failure(rt, file, encoding, settings)?;
+            if lacks_type_tag(input, settings) {
+                complain(rt, file, LACKS_TYPE_TAG)?;
+            }
             Ok(Status::Refused)
         }
-        Err(DecodeError::OutOfMemory) => Err(anyhow!("out of memory")),
+        Err(DecodeError::OutOfMemory) => Err(out_of_memory()),
     }
 }
 
-/// Says where the value at the beginning of the bytes fails, and why.
-pub fn print_failure(rt: &HostRuntime, file: &str, input: &[u8], limits: Limits) -> Result<()> {
-    let alloc = rt.alloc();
-    let failure = failure_text(alloc, &dissect(alloc, input, limits)?)?;
-    let outcome = outcome_text(alloc, input, limits)?;
-    let why = format!(in alloc; "{failure}; {outcome}")?;
+/// Reports at which offset the value at the beginning of an encoding fails, and why.
+pub fn print_failure(
+    rt: &HostRuntime,
+    file: &str,
+    encoding: &[u8],
+    settings: Settings,
+) -> Result<()> {
+    let why = why_refused(rt.alloc(), encoding, settings)?;
     complain(rt, file, why.as_str())
+}
+
+/// At which offset the value at the beginning of an encoding fails, why, and the outcome.
+pub fn why_refused(
+    alloc: Global,
+    encoding: &[u8],
+    settings: Settings,
+) -> Result<String, AllocError> {
+    let dissection = dissect(alloc, encoding, settings.limits)?;
+    let failure = failure_text(alloc, &dissection, settings.subject)?;
+    let outcome = outcome_text(alloc, encoding, settings)?;
+    format!(in alloc; "{failure}; {outcome}")
 }
 
 /// Prints a JSON text on a line, if it nests no deeper than its readers take, or the limits go
@@ -58,7 +85,7 @@ pub fn print_json(rt: &HostRuntime, file: &str, json: &str, limits: Limits) -> R
     Ok(Status::Read)
 }
 
-/// Says how deep a JSON text nests, if that is deeper than its readers take.
+/// Reports how deep a JSON text nests, if that is deeper than its readers take.
 pub fn too_deep(alloc: Global, json: &str) -> Result<Option<String>, AllocError> {
     let depth = nesting(json);
     if depth <= DEEPEST {

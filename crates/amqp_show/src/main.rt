@@ -1,9 +1,10 @@
-//! Shows AMQP field-table values to people and programs: as a tree, byte by byte up to where one
-//! fails, or as JSON, one or a stream of them; and encodes the values that JSON denotes.
+//! Shows AMQP field-table values to people and programs: as a tree, byte by byte up to the place at
+//! which one fails, or as JSON, one or a stream of them; and encodes the values that JSON denotes.
 #![tactic(auto)]
 
 mod arguments;
 mod bytes;
+mod check;
 mod cut;
 mod digits;
 mod dump;
@@ -20,17 +21,19 @@ mod show;
 mod stream;
 mod texts;
 mod tree;
+mod untagged;
 
 use amqp_screen::{Screen, Status, exit_status, is_terminal, worse};
 use anyhow::Result;
 use arguments::{Settings, Task};
-use messages::{complain, fail};
+use clap::error::ErrorKind;
+use messages::{fail, out_of_memory};
 use std::env;
 use std::process::ExitCode;
 
 fn main(rt: HostRuntime) -> ExitCode {
     let status = run(&rt).unwrap_or_else(|error| {
-        // Where the message can't be written, the status still says what happened.
+        // If the message can't be written, the status still reports what happened.
         let _ = fail(&rt, &error);
         Status::Mistake
     });
@@ -50,8 +53,8 @@ fn run(rt: &HostRuntime) -> Result<Status> {
     for file in matches.get_strs("FILE").unwrap_or(&["-"]) {
         let shown = match settings.task {
             Task::Show => show::show_file(rt, *file, settings)?,
-            Task::Stream { .. } => stream::show_file(rt, *file, settings)?,
-            Task::Encode { raw } => encode::encode_file(rt, *file, raw)?,
+            Task::Stream { .. } => stream::show_stream(rt, *file, settings)?,
+            Task::Encode { raw } => encode::encode_file(rt, *file, raw, settings.subject)?,
         };
         status = worse(status, shown);
     }
@@ -60,6 +63,10 @@ fn run(rt: &HostRuntime) -> Result<Status> {
 
 // Prints what the arguments ask for, or why they can't be understood.
 fn answer(rt: &HostRuntime, error: &clap::Error) -> Result<Status> {
+    match error.kind() {
+        ErrorKind::OutOfMemory => return Err(out_of_memory()),
+        _ => {}
+    }
     let text = format!(in rt.alloc(); "{error}")?;
     let mut screen = Screen::new(rt.alloc(), false);
     screen.push_lines(text.as_str())?;
@@ -71,7 +78,7 @@ fn answer(rt: &HostRuntime, error: &clap::Error) -> Result<Status> {
     Ok(Status::Read)
 }
 
-// Whether there may be colours. A variable `NO_COLOR` that isn't empty is a wish for none.
+// Whether there may be colours. A variable `NO_COLOR` that isn't empty is a wish for no colours.
 fn allows_colours(rt: &HostRuntime) -> bool {
     match env::var(rt, "NO_COLOR") {
         Ok(text) => text.is_empty(),

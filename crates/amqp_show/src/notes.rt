@@ -6,7 +6,7 @@ use amqp_screen::{Colour, Screen};
 use std::alloc::{AllocError, Global};
 use std::cmp::Ordering;
 
-/// The keys that came last, in each container that is open, where notes are asked for.
+/// The keys that came last, in each container that is open, if notes are asked for.
 #[derive(Drop)]
 pub struct Keys<'a> {
     asked: bool,
@@ -14,7 +14,7 @@ pub struct Keys<'a> {
 }
 
 impl<'a> Keys<'a> {
-    /// No key yet. Unless notes are asked for there are none.
+    /// No key yet. Unless notes are asked for there are no keys.
     pub fn new(alloc: Global, asked: bool) -> Self {
         Keys {
             asked,
@@ -45,8 +45,8 @@ impl<'a> Keys<'a> {
         }
     }
 
-    // Forgets the keys of the containers that are closed, in which a value of this level stands no
-    // more, and has a place for those of the value itself.
+    // Forgets the keys of the containers that are closed, in which a value of this level no longer
+    // is, and has a place for those of the value itself.
     fn enter(&mut self, level: u32) -> Result<(), AllocError> {
         self.last.truncate(level as usize);
         self.last.push(None)?;
@@ -67,8 +67,8 @@ impl<'a> Keys<'a> {
     }
 }
 
-/// The key whose length is `length` and after which `next` stands, or none where its bytes aren't
-/// a key. An empty key has no part of its own.
+/// The key whose length is `length` and after which `next` is, or `None` if its bytes aren't
+/// a key. An empty key has no part.
 pub fn key_of<'a>(length: &[u8], next: Option<&Part<'a>>) -> Option<&'a [u8]> {
     match next {
         Some(next) if next.field == Field::Key => Some(next.bytes),

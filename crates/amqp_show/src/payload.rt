@@ -1,4 +1,4 @@
-//! The text of a payload.
+//! A payload as a string.
 
 use crate::texts::quoted;
 use amq_protocol_types::AMQPType;
@@ -8,8 +8,8 @@ use ryu::Buffer;
 use std::alloc::{AllocError, Global};
 use std::num::{f32_from_bits_with_nan, f64_from_bits_with_nan};
 
-/// The value as text: a Float and a Double with their bits, a Timestamp with its date. Nothing
-/// where the payload isn't as wide as the type.
+/// The value as a string: a Float and a Double with their bits, a Timestamp with its date. `None`
+/// if the payload isn't as wide as the type.
 pub fn leaf_text(alloc: Global, leaf: Leaf<'_>) -> Result<String, AllocError> {
     match (leaf.amqp_type, leaf.payload) {
         (AMQPType::LongString, text) => quoted(alloc, text),
@@ -32,7 +32,7 @@ pub fn leaf_text(alloc: Global, leaf: Leaf<'_>) -> Result<String, AllocError> {
     }
 }
 
-// A decimal with that many digits after its point, and no point where there are none.
+// A decimal with that many digits after its point, and no point if there are zero.
 fn decimal_text(alloc: Global, number: u32, scale: u8) -> Result<String, AllocError> {
     let digits = format!(in alloc; "{number}")?;
     let before = digits.len().saturating_sub(usize::from(scale));
@@ -88,7 +88,7 @@ fn double_text(alloc: Global, bits: u64) -> Result<String, AllocError> {
     format!(in alloc; "{number} (bits {bits:016x})")
 }
 
-// Seconds since 1970, and the date in UTC where the calendar reaches so far.
+// Seconds since 1970, and the date in UTC if the calendar reaches so far.
 fn timestamp_text(alloc: Global, seconds: u64) -> Result<String, AllocError> {
     match instant_of(seconds) {
         Some(instant) => format!(in alloc; "{seconds} ({instant})"),

@@ -1,9 +1,10 @@
-//! Why JSON has no encoding, and where.
+//! Why JSON has no encoding, and at which place.
 
 use crate::json::too_deep;
+use crate::messages::out_of_memory;
 use crate::texts::quoted;
 use amqp_json::{EncodeError, JsonError, encoding_of_json};
-use anyhow::{Result, anyhow};
+use anyhow::Result;
 use serde_json::{Map, Value};
 use std::alloc::{AllocError, Global};
 
@@ -15,23 +16,19 @@ a Double is its bits, as {\"Double\":\"3ff0000000000000\"}";
 
 const TOO_LONG: &str = "it is longer than a length of 32 bits says";
 
-/// Why a text has no encoding, after `encoding_of_json` has said so, and where.
+/// Why a text has no encoding, after `encoding_of_json` has reported so, and at which place.
 pub fn reason(alloc: Global, json: &str, error: &EncodeError) -> Result<String> {
     match error {
-        EncodeError::OutOfMemory | EncodeError::Json(JsonError::OutOfMemory) => Err(no_memory()),
+        EncodeError::OutOfMemory | EncodeError::Json(JsonError::OutOfMemory) => Err(
+            out_of_memory(),
+        ),
         EncodeError::Json(JsonError::Syntax(error)) => Ok(syntax_text(alloc, json, error)?),
         EncodeError::Json(JsonError::NotAValue) | EncodeError::NoTypeTag | EncodeError::TooLong => {
             // It has been read before: only memory can be wanting.
-            let Ok(value) = Value::from_str(alloc, json) else {
-                return Err(no_memory());
-            };
+            let value = Value::from_str(alloc, json)?;
             reason_in(alloc, String::from_str(alloc, "$")?, &value)
         }
     }
-}
-
-fn no_memory() -> anyhow::Error {
-    anyhow!("out of memory")
 }
 
 // Why a text isn't JSON that is read.
@@ -42,7 +39,7 @@ fn syntax_text(alloc: Global, json: &str, error: &serde_json::Error) -> Result<S
     }
 }
 
-// Where in a value without encoding the fault is, and what it is. The path leads to the value.
+// The path to the fault in a value without encoding, and why it is one.
 #[cycle(reason_in)]
 fn reason_in(alloc: Global, path: String, value: &Value) -> Result<String> {
     match value {
@@ -99,7 +96,7 @@ fn has_encoding(alloc: Global, value: &Value) -> Result<bool> {
     match encoding_of_json(alloc, json.as_str()) {
         Ok(_) => Ok(true),
         Err(EncodeError::OutOfMemory | EncodeError::Json(JsonError::OutOfMemory)) => {
-            Err(no_memory())
+            Err(out_of_memory())
         }
         Err(_) => Ok(false),
     }
@@ -143,12 +140,12 @@ fn wanted_under(name: &str) -> Option<&'static str> {
     })
 }
 
-// What is to be said of the value at the end of a path.
+// What is reported of the value at the end of a path.
 fn at(alloc: Global, path: &String, why: &str) -> Result<String, AllocError> {
     format!(in alloc; "{path}: {why}")
 }
 
-// The path with a key: `.a`, or `["a b"]` where it has more than letters, digits and `_`.
+// The path with a key: `.a`, or `["a b"]` if it has more than letters, digits and `_`.
 fn step(alloc: Global, path: &String, key: &str) -> Result<String, AllocError> {
     if !key.is_empty() && key.bytes().all(|b| b.is_ascii_alphanumeric() || b == b'_') {
         return format!(in alloc; "{path}.{key}");

@@ -1,10 +1,10 @@
-//! A reader that keeps what it gave.
+//! A reader that retains what it yielded.
 
 use std::alloc::Global;
 use std::io;
 use std::io::Read;
 
-/// A reader, and the bytes that it gave since it was told to forget them.
+/// A reader, and the bytes that it yielded since the last call to forget them.
 #[derive(Drop)]
 pub struct Recorder<R> {
     reader: R,
@@ -12,7 +12,7 @@ pub struct Recorder<R> {
 }
 
 impl<R: Read> Recorder<R> {
-    /// A reader that has given nothing yet.
+    /// A reader that has yielded nothing yet.
     pub fn new(alloc: Global, reader: R) -> Self {
         Recorder {
             reader,
@@ -20,7 +20,7 @@ impl<R: Read> Recorder<R> {
         }
     }
 
-    /// The bytes that it gave.
+    /// The bytes that it yielded.
     pub fn as_slice(&self) -> &[u8] {
         self.bytes.as_slice()
     }
@@ -37,15 +37,15 @@ impl<R: Read> Recorder<R> {
         passes(self, missing as u64)
     }
 
-    /// Forgets what it gave, and reads what is left of a value of that many bytes, of which nothing
-    /// is kept. Returns whether it is there: the reader may end before.
+    /// Forgets what it yielded, and reads what is left of a value of that many bytes, of which it
+    /// retains nothing. Returns whether it is there: the reader may end before.
     pub fn pass_over(&mut self, len: usize) -> io::Result<bool> {
         let missing = len.saturating_sub(self.bytes.len());
         self.forget();
         passes(&mut self.reader, missing as u64)
     }
 
-    /// Forgets them. Their room stays.
+    /// Forgets them. Their capacity stays.
     pub fn forget(&mut self) {
         self.bytes.clear();
     }
@@ -59,7 +59,7 @@ fn passes<R: Read>(reader: &mut R, count: u64) -> io::Result<bool> {
 
 impl<R: Read> Read for Recorder<R> {
     fn read(&mut self, buf: &mut [u8]) -> io::Result<usize> {
-        // Room comes first: nothing that the reader yields is lost when memory runs out.
+        // Capacity comes first: nothing that the reader yields is lost when memory runs out.
         self.bytes.try_reserve(buf.len())?;
         let n = self.reader.read(buf)?;
         self.bytes.extend_from_slice(&buf[..n])?;

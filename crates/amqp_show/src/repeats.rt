@@ -1,5 +1,6 @@
 //! Keys that come again in their table.
 
+use crate::arguments::Subject;
 use crate::notes::key_of;
 use crate::texts::{quoted, typed_text};
 use amqp_dissect::{Field, Part};
@@ -9,7 +10,7 @@ use std::alloc::{AllocError, Global};
 // Which of equal keys counts.
 const TAKEN: &str = "this library takes the last, RabbitMQ the first";
 
-// A key after which a value begins: where its table begins, and which part the value's type tag is.
+// A key after which a value begins: the place of its table, and which part the value's type tag is.
 #[derive(Clone, Copy, Debug, PartialEq, Eq, PartialOrd, Ord)]
 struct Entry<'a> {
     table: usize,
@@ -22,13 +23,14 @@ pub fn push_repeats(
     alloc: Global,
     screen: &mut Screen,
     parts: &[Part<'_>],
+    subject: Subject,
 ) -> Result<(), AllocError> {
     let mut entries = entries_of(alloc, parts)?;
     entries.sort_unstable();
     let same = |a: &Entry<'_>, b: &Entry<'_>| a.table == b.table && a.key == b.key;
     for entries in entries.as_slice().chunk_by(same) {
         if let [first, .., last] = entries {
-            let line = repeat_text(alloc, parts, entries.len(), *first, *last)?;
+            let line = repeat_text(alloc, parts, entries.len(), *first, *last, subject)?;
             screen.push_coloured(line.as_str(), Colour::Note)?;
             screen.end_line()?;
         }
@@ -36,24 +38,25 @@ pub fn push_repeats(
     Ok(())
 }
 
-// What is said of a key that comes that many times, first and last in these entries.
+// What is reported of a key that comes that many times, first and last in these entries.
 fn repeat_text(
     alloc: Global,
     parts: &[Part<'_>],
     times: usize,
     first: Entry<'_>,
     last: Entry<'_>,
+    subject: Subject,
 ) -> Result<String, AllocError> {
     let key = quoted(alloc, first.key)?;
-    let first = value_text(alloc, parts, first.value)?;
-    let last = value_text(alloc, parts, last.value)?;
+    let first = value_text(alloc, parts, first.value, subject)?;
+    let last = value_text(alloc, parts, last.value, subject)?;
     format!(in alloc; "* the key {key} comes {times} times: first {first}, last {last}; {TAKEN}")
 }
 
-// The entries of all tables, in the order in which they stand.
+// The entries of all tables, in order.
 fn entries_of<'a>(alloc: Global, parts: &[Part<'a>]) -> Result<Vec<Entry<'a>>, AllocError> {
     let mut entries = Vec::new(alloc);
-    // Where the containers begin in which a value stands.
+    // The places of the containers that the value is in.
     let mut open: Vec<usize> = Vec::new(alloc);
     let mut last_key = None;
     for (value, part) in parts.iter().enumerate() {
@@ -76,8 +79,13 @@ fn entries_of<'a>(alloc: Global, parts: &[Part<'a>]) -> Result<Vec<Entry<'a>>, A
     Ok(entries)
 }
 
-// The value whose type tag is the part of this number, and where it begins.
-fn value_text(alloc: Global, parts: &[Part<'_>], value: usize) -> Result<String, AllocError> {
+// The value whose type tag is the part of this number, and its offset.
+fn value_text(
+    alloc: Global,
+    parts: &[Part<'_>],
+    value: usize,
+    subject: Subject,
+) -> Result<String, AllocError> {
     let parts = parts.get(value..).unwrap_or(&[]);
     match parts.first() {
         Some(
@@ -88,6 +96,7 @@ fn value_text(alloc: Global, parts: &[Part<'_>], value: usize) -> Result<String,
             },
         ) => {
             let text = typed_text(alloc, *amqp_type, parts)?;
+            let offset = subject.offset(*offset);
             format!(in alloc; "{text} at {offset}")
         }
         _ => Ok(String::new(alloc)),

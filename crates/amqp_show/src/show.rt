@@ -2,13 +2,15 @@
 
 use crate::arguments::{Form, Settings};
 use crate::bytes::push_bytes;
+use crate::check::check_input;
 use crate::cut::Cut;
-use crate::input::read_input;
+use crate::input::{Tagged, read_input};
 use crate::json;
 use crate::messages::unreadable;
 use crate::repeats::push_repeats;
 use crate::texts::{failure_text, outcome_text};
 use crate::tree::push_tree;
+use crate::untagged::{LACKS_TYPE_TAG, lacks_type_tag};
 use amqp_dissect::{End, Part, dissect};
 use amqp_screen::{Colour, Screen, Status};
 use anyhow::Result;
@@ -16,23 +18,28 @@ use std::alloc::{AllocError, Global};
 
 /// Shows the value at the beginning of a file.
 pub fn show_file(rt: &HostRuntime, file: &str, settings: Settings) -> Result<Status> {
-    let input = match read_input(rt, file, settings) {
+    let input = match read_input(rt, file, settings)? {
         Ok(input) => input,
-        Err(error) => return unreadable(rt, file, &error),
+        Err(why) => return unreadable(rt, file, why.as_str()),
     };
     match settings.form {
-        Form::Json => json::show_input(rt, file, input.as_slice(), settings.limits),
-        Form::Text { .. } => show_input(rt, file, input.as_slice(), settings),
+        Form::Check => check_input(rt, file, &input, settings),
+        Form::Json => json::show_input(rt, file, &input, settings),
+        Form::Text { .. } => show_input(rt, file, &input, settings),
     }
 }
 
-// Shows the value at the beginning of a file's bytes as text.
-fn show_input(rt: &HostRuntime, file: &str, input: &[u8], settings: Settings) -> Result<Status> {
+// Shows the value at the beginning of a file's bytes as a tree or by its bytes.
+fn show_input(rt: &HostRuntime, file: &str, input: &Tagged, settings: Settings) -> Result<Status> {
     let alloc = rt.alloc();
     let mut screen = Screen::new(alloc, settings.colours);
     push_name(&mut screen, file)?;
-    let status = push_value(alloc, &mut screen, input, settings)?;
-    let outcome = outcome_text(alloc, input, settings.limits)?;
+    let encoding = input.encoding(settings.subject);
+    let status = push_value(alloc, &mut screen, encoding, settings)?;
+    if lacks_type_tag(input, settings) {
+        push_failure(alloc, &mut screen, LACKS_TYPE_TAG)?;
+    }
+    let outcome = outcome_text(alloc, encoding, settings)?;
     screen.push_text("= ")?;
     screen.push_line(outcome.as_str())?;
     screen.print(rt)?;
@@ -48,8 +55,8 @@ pub fn push_name(screen: &mut Screen, file: &str) -> Result<(), AllocError> {
     Ok(())
 }
 
-/// Adds the value at the beginning of the input, up to where it fails. Returns whether it is one
-/// within the limits.
+/// Adds the value at the beginning of the input, up to the place at which it fails. Returns whether
+/// it is one within the limits.
 pub fn push_value(
     alloc: Global,
     screen: &mut Screen,
@@ -60,53 +67,46 @@ pub fn push_value(
     match Cut::of(alloc, input, &dissection, settings.limits)? {
         Some(cut) => {
             let parts = cut.parts(alloc, input, settings.limits)?;
-            push_parts(
-                alloc,
-                screen,
-                parts.as_slice(),
-                cut.offsets(),
-                settings.form,
-            )?;
+            push_parts(alloc, screen, parts.as_slice(), cut.offsets(), settings)?;
         }
-        None => push_parts(
-            alloc,
-            screen,
-            dissection.parts.as_slice(),
-            &[],
-            settings.form,
-        )?,
+        None => push_parts(alloc, screen, dissection.parts.as_slice(), &[], settings)?,
     }
     if dissection.end == End::Value {
         return Ok(Status::Read);
     }
-    let failure = failure_text(alloc, &dissection)?;
-    let line = format!(in alloc; "! {failure}")?;
-    screen.push_coloured(line.as_str(), Colour::Failure)?;
-    screen.end_line()?;
+    let failure = failure_text(alloc, &dissection, settings.subject)?;
+    push_failure(alloc, screen, failure.as_str())?;
     Ok(Status::Refused)
 }
 
-// Adds parts in a form. What is cut begins at the offsets of `cut`.
+/// Adds a line about a failure.
+pub fn push_failure(alloc: Global, screen: &mut Screen, why: &str) -> Result<(), AllocError> {
+    let line = format!(in alloc; "! {why}")?;
+    screen.push_coloured(line.as_str(), Colour::Failure)?;
+    screen.end_line()
+}
+
+// Adds parts in the form that is set. What is cut begins at the offsets of `cut`.
 fn push_parts(
     alloc: Global,
     screen: &mut Screen,
     parts: &[Part<'_>],
     cut: &[usize],
-    form: Form,
+    settings: Settings,
 ) -> Result<(), AllocError> {
     if let Form::Text {
         tree,
         bytes,
         canonical,
-    } = form
+    } = settings.form
     {
         if tree {
             push_tree(alloc, screen, parts, canonical, cut)?;
         }
         if bytes {
-            push_bytes(alloc, screen, parts, canonical, cut)?;
+            push_bytes(alloc, screen, parts, canonical, cut, settings.subject)?;
         }
-        push_repeats(alloc, screen, parts)?;
+        push_repeats(alloc, screen, parts, settings.subject)?;
     }
     Ok(())
 }

@@ -2,48 +2,33 @@
 
 use crate::arguments::{Form, Settings, Task};
 use crate::digits::Digits;
-use crate::input::BLOCK;
-use crate::json::{print_failure, print_json};
-use crate::messages::{complain, unreadable};
+use crate::input::{BLOCK, Input};
+use crate::json::{print_failure, print_json, why_refused};
+use crate::messages::{complain, out_of_memory, unreadable, why_unread};
 use crate::recorder::Recorder;
 use crate::show::{push_name, push_value};
-use crate::texts::{failure_text, outcome_text};
+use crate::texts::outcome_text;
 use amq_protocol_types::AMQPValue;
 use amq_protocol_types::stream::{StreamError, Values};
-use amqp_dissect::dissect;
 use amqp_json::to_json;
 use amqp_parsing::SliceInput;
 use amqp_parsing::header::value_len;
 use amqp_screen::{Screen, Status, worse};
-use anyhow::{Context, Result, anyhow};
-use std::alloc::{AllocError, Global};
-use std::fs::File;
+use anyhow::{Result, anyhow};
+use std::alloc::Global;
 use std::io;
 use std::io::{BufReader, ErrorKind, Read};
 
-// How many bytes tell how long a value is, at most: its type tag and its length.
+// How many bytes determine how long a value is, at most: its type tag and its length.
 const HEADER: usize = 5;
 
 /// Shows the values of a file, each as it comes.
-pub fn show_file(rt: &HostRuntime, file: &str, settings: Settings) -> Result<Status> {
-    if file == "-" {
-        let reader = BufReader::with_capacity(rt.alloc(), BLOCK, rt.stdin())?;
-        return show_reader(rt, file, reader, settings);
-    }
-    let opened = match File::open(rt, file).context("can't be read") {
-        Ok(opened) => opened,
-        Err(error) => return unreadable(rt, file, &error),
+pub fn show_stream(rt: &HostRuntime, file: &str, settings: Settings) -> Result<Status> {
+    let input = match Input::open(rt, file) {
+        Ok(input) => input,
+        Err(error) => return unreadable(rt, file, why_unread(rt.alloc(), &error)?.as_str()),
     };
-    let reader = BufReader::with_capacity(rt.alloc(), BLOCK, opened)?;
-    show_reader(rt, file, reader, settings)
-}
-
-fn show_reader<R: Read + Drop>(
-    rt: &HostRuntime,
-    file: &str,
-    reader: R,
-    settings: Settings,
-) -> Result<Status> {
+    let reader = BufReader::with_capacity(rt.alloc(), BLOCK, input)?;
     if let Form::Text { .. } = settings.form {
         let mut screen = Screen::new(rt.alloc(), settings.colours);
         push_name(&mut screen, file)?;
@@ -66,10 +51,10 @@ enum Source<R> {
 
 impl<R> Source<R> {
     // Why it can't be read, after an error of this kind.
-    fn fault(&self, alloc: Global, kind: ErrorKind) -> Result<String, AllocError> {
+    fn fault(&self, alloc: Global, kind: ErrorKind) -> Result<String> {
         match self {
-            Source::Text(digits) if kind == ErrorKind::InvalidData => digits.fault(alloc),
-            _ => format!(in alloc; "can't be read: {}", io::Error::from(kind)),
+            Source::Text(digits) if kind == ErrorKind::InvalidData => Ok(digits.fault(alloc)?),
+            _ => why_unread(alloc, &io::Error::from(kind)),
         }
     }
 }
@@ -83,7 +68,7 @@ impl<R: Read> Read for Source<R> {
     }
 }
 
-// Shows the values that a reader yields. No more of them is kept than the one that is being read.
+// Shows the values that a reader yields. No more of them is retained than the one being read.
 fn show_values<R: Read + Drop>(
     rt: &HostRuntime,
     file: &str,
@@ -108,7 +93,7 @@ fn show_values<R: Read + Drop>(
             Ok(None) => return Ok(status),
             Err(StreamError::Read(ErrorKind::Interrupted)) => {}
             Err(StreamError::Read(kind)) => return unread(rt, file, recorder.reader(), kind),
-            Err(StreamError::OutOfMemory) => return Err(anyhow!("out of memory")),
+            Err(StreamError::OutOfMemory) => return Err(out_of_memory()),
             Err(StreamError::Refused(_)) if keeps_going(settings) => {
                 show_failure(rt, file, recorder.as_slice(), offset, settings)?;
                 status = Status::Refused;
@@ -128,11 +113,9 @@ fn show_values<R: Read + Drop>(
     Ok(status)
 }
 
-// Says why a source can't be read, after an error of this kind.
+// Reports why a source can't be read, after an error of this kind.
 fn unread<R>(rt: &HostRuntime, file: &str, source: &Source<R>, kind: ErrorKind) -> Result<Status> {
-    let why = source.fault(rt.alloc(), kind)?;
-    complain(rt, file, why.as_str())?;
-    Ok(Status::Mistake)
+    unreadable(rt, file, source.fault(rt.alloc(), kind)?.as_str())
 }
 
 // Whether a rejected value is passed over.
@@ -140,8 +123,8 @@ fn keeps_going(settings: Settings) -> bool {
     matches!(settings.task, Task::Stream { keep_going: true })
 }
 
-// Reads what hasn't come of the value whose first bytes the recorder gave, and forgets it. Answers
-// how many bytes it has, or none where nothing tells or the reader ends inside it.
+// Reads what hasn't come of the value whose first bytes the recorder yielded, and forgets it.
+// Returns how many bytes it has, or `None` if nothing determines it or the reader ends inside it.
 fn pass_over<R: Read>(recorder: &mut Recorder<R>) -> io::Result<Option<usize>> {
     let header = value_len(SliceInput::new(recorder.as_slice())).min(HEADER);
     if header == 0 || !recorder.read_up_to(header)? {
@@ -187,14 +170,14 @@ fn show_failure(
     }
     let mut screen = Screen::new(alloc, settings.colours);
     let _ = push_value(alloc, &mut screen, bytes, settings)?;
-    let outcome = outcome_text(alloc, bytes, settings.limits)?;
+    let outcome = outcome_text(alloc, bytes, settings)?;
     let line = format!(in alloc; "= no value at {offset}: {outcome}")?;
     screen.push_line(line.as_str())?;
     screen.print(rt)?;
     Ok(())
 }
 
-// The same in a message, which tells the value's offset where another value may follow.
+// The same in a message, which has the value's offset if another value may follow.
 fn complain_of_value(
     rt: &HostRuntime,
     file: &str,
@@ -203,11 +186,10 @@ fn complain_of_value(
     settings: Settings,
 ) -> Result<()> {
     if !keeps_going(settings) {
-        return print_failure(rt, file, bytes, settings.limits);
+        return print_failure(rt, file, bytes, settings);
     }
     let alloc = rt.alloc();
-    let failure = failure_text(alloc, &dissect(alloc, bytes, settings.limits)?)?;
-    let outcome = outcome_text(alloc, bytes, settings.limits)?;
-    let why = format!(in alloc; "no value at {offset}: {failure}; {outcome}")?;
+    let refused = why_refused(alloc, bytes, settings)?;
+    let why = format!(in alloc; "no value at {offset}: {refused}")?;
     complain(rt, file, why.as_str())
 }

@@ -1,5 +1,6 @@
 //! Words for what is shown.
 
+use crate::arguments::{Settings, Subject};
 use crate::payload::leaf_text;
 use amq_protocol_types::AMQPType;
 use amq_protocol_types::in_place::read_in_place;
@@ -10,11 +11,14 @@ use amqp_screen::Screen;
 use std::alloc::{AllocError, Global};
 use std::str;
 
+/// What is reported of a container that is too deep.
+pub const TOO_DEEP: &str = "containers nest deeper than --depth allows";
+
 // As many levels are indented.
 const INDENTED: u32 = 32;
 
 /// What is before a line of this level: two spaces for each of the first levels, and the level
-/// where it is deeper.
+/// if it is deeper.
 pub fn push_indent(alloc: Global, screen: &mut Screen, level: u32) -> Result<(), AllocError> {
     screen.indent(level.min(INDENTED))?;
     if level > INDENTED {
@@ -60,8 +64,8 @@ pub fn typed_text(
     }
 }
 
-/// The bytes in quotes, as text where they are UTF-8: a quote and a backslash are after a
-/// backslash, and what doesn't print is escaped where it is shown. Other bytes are all escaped.
+/// The bytes in quotes, as a string if they are UTF-8: a quote and a backslash are after a
+/// backslash, and what doesn't print is escaped when it is shown. Other bytes are all escaped.
 pub fn quoted(alloc: Global, bytes: &[u8]) -> Result<String, AllocError> {
     let Ok(words) = str::from_utf8(bytes) else {
         let text = escape(alloc, bytes)?;
@@ -79,19 +83,30 @@ pub fn quoted(alloc: Global, bytes: &[u8]) -> Result<String, AllocError> {
     Ok(text)
 }
 
-/// Where a value fails, and why.
-pub fn failure_text(alloc: Global, dissection: &Dissection<'_>) -> Result<String, AllocError> {
-    let why = end_text(alloc, dissection.end)?;
-    format!(in alloc; "offset {}: {why}", dissection.offset)
+/// The offset at which a value fails, and why.
+pub fn failure_text(
+    alloc: Global,
+    dissection: &Dissection<'_>,
+    subject: Subject,
+) -> Result<String, AllocError> {
+    let why = end_text(alloc, dissection.end, subject)?;
+    let offset = subject.offset(dissection.offset);
+    format!(in alloc; "offset {offset}: {why}")
 }
 
-/// What the library returns about the value at the beginning of the input.
-pub fn outcome_text(alloc: Global, input: &[u8], limits: Limits) -> Result<String, AllocError> {
-    match read_in_place(input, limits) {
+/// What the library returns about the value at the beginning of an encoding.
+pub fn outcome_text(
+    alloc: Global,
+    encoding: &[u8],
+    settings: Settings,
+) -> Result<String, AllocError> {
+    let (subject, limits) = (settings.subject, settings.limits);
+    match read_in_place(encoding, limits) {
         Ok((_, rest)) => {
-            let len = input.len().saturating_sub(rest.len());
-            let count = count_text(alloc, input, rest, limits)?;
-            format!(in alloc; "a value of {len} bytes, {count} follow")
+            let len = subject.offset(encoding.len().saturating_sub(rest.len()));
+            let count = count_text(alloc, encoding, rest, limits)?;
+            let name = subject.name();
+            format!(in alloc; "a {name} of {len} bytes, {count} follow")
         }
         Err(error) => refusal_text(alloc, error),
     }
@@ -111,7 +126,7 @@ pub fn count_text(
     format!(in alloc; "{}", rest.len())
 }
 
-// What an error says.
+// What an error means.
 fn refusal_text(alloc: Global, error: ParserError) -> Result<String, AllocError> {
     match error {
         Err::Incomplete(Needed::Size(n)) => format!(in alloc; "truncated; more bytes needed: {n}"),
@@ -130,12 +145,17 @@ fn refusal_text(alloc: Global, error: ParserError) -> Result<String, AllocError>
 }
 
 // What ends a dissection, and what should be there.
-fn end_text(alloc: Global, end: End) -> Result<String, AllocError> {
+fn end_text(alloc: Global, end: End, subject: Subject) -> Result<String, AllocError> {
     match end {
-        End::Value => format!(in alloc; "the end of the value"),
-        End::TooLarge => format!(in alloc; "the value has more bytes than --frame allows"),
+        End::Value => format!(in alloc; "the end of the {}", subject.name()),
+        End::TooLarge => too_large_text(alloc, subject),
         End::Problem(problem) => problem_text(alloc, problem),
     }
+}
+
+/// What is reported of a value, or a table, that is too large.
+pub fn too_large_text(alloc: Global, subject: Subject) -> Result<String, AllocError> {
+    format!(in alloc; "the {} has more bytes than --frame allows", subject.name())
 }
 
 fn problem_text(alloc: Global, problem: Problem) -> Result<String, AllocError> {
@@ -149,7 +169,7 @@ fn problem_text(alloc: Global, problem: Problem) -> Result<String, AllocError> {
         ),
         Problem::KeyCut(n) => format!(in alloc; "a key is expected; more bytes needed: {n}"),
         Problem::KeyNotUtf8 => format!(in alloc; "a key is expected; the bytes aren't UTF-8"),
-        Problem::TooDeep => format!(in alloc; "containers nest deeper than --depth allows"),
+        Problem::TooDeep => format!(in alloc; "{TOO_DEEP}"),
     }
 }
 

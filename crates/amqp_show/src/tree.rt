@@ -7,8 +7,8 @@ use amqp_dissect::{Field, Part};
 use amqp_screen::{Colour, Screen};
 use std::alloc::{AllocError, Global};
 
-/// Adds a line for each value: its key in a table, its type, and what it is; indented by how deep
-/// it stands; with what isn't canonical, if that is asked for. What is cut begins at the offsets
+/// Adds a line for each value: its key in a table, its type, and what it is; indented by its depth;
+/// with what isn't canonical, if that is asked for. What is cut begins at the offsets
 /// of `cut`.
 pub fn push_tree(
     alloc: Global,
@@ -68,7 +68,7 @@ fn begin_line(
     push_indent(alloc, screen, level)
 }
 
-// Adds a key, or a mark where its bytes aren't one.
+// Adds a key, or a mark if its bytes aren't one.
 fn push_key(alloc: Global, screen: &mut Screen, key: Option<&[u8]>) -> Result<(), AllocError> {
     match key {
         Some(key) => screen.push_coloured(quoted(alloc, key)?.as_str(), Colour::Key),

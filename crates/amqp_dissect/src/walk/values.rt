@@ -68,7 +68,7 @@ impl<'a> Walk<'a> {
         }
     }
 
-    // Goes over a value of a type of fixed width.
+    // Traverses a value of a type of fixed width.
     fn number(
         &mut self,
         amqp_type: AMQPType,
@@ -95,7 +95,7 @@ impl<'a> Walk<'a> {
         Ok(())
     }
 
-    // Goes over the type tag and the length of a string, a byte array or a container, and gives
+    // Traverses the type tag and the length of a string, a byte array or a container, and returns
     // the offset at which it ends.
     fn header(
         &mut self,
@@ -129,7 +129,7 @@ impl<'a> Walk<'a> {
         }
     }
 
-    // Goes over a long string or a byte array.
+    // Traverses a long string or a byte array.
     fn string(
         &mut self,
         amqp_type: AMQPType,
@@ -148,7 +148,7 @@ impl<'a> Walk<'a> {
         Ok(())
     }
 
-    // Goes over an array.
+    // Traverses an array.
     #[cycle(walk)]
     fn array(&mut self, payload: &[u8], end: usize, depth: u32) -> Result<(), Stop>
         requires within { CanReach self.old end }
@@ -161,7 +161,7 @@ impl<'a> Walk<'a> {
         self.values(behind, depth - 1)
     }
 
-    // Goes over a table.
+    // Traverses a table.
     #[cycle(walk)]
     fn table(&mut self, payload: &[u8], end: usize, depth: u32) -> Result<(), Stop>
         requires within { CanReach self.old end }
@@ -174,7 +174,7 @@ impl<'a> Walk<'a> {
         self.pairs(behind, depth - 1)
     }
 
-    // Goes over the values of an array, up to `end`.
+    // Traverses the values of an array, up to `end`.
     #[cycle(walk)]
     fn values(&mut self, end: usize, depth: u32) -> Result<(), Stop>
         requires within { CanReach self.old end }
@@ -189,7 +189,7 @@ impl<'a> Walk<'a> {
         Ok(())
     }
 
-    // Goes over the pairs of a table, up to `end`.
+    // Traverses the pairs of a table, up to `end`.
     #[cycle(walk)]
     fn pairs(&mut self, end: usize, depth: u32) -> Result<(), Stop>
         requires within { CanReach self.old end }
@@ -205,7 +205,7 @@ impl<'a> Walk<'a> {
         Ok(())
     }
 
-    // Goes over a key.
+    // Traverses a key.
     fn key(&mut self, end: usize, depth: u32) -> Result<(), Stop>
         requires within { CanReach self.old end }
         requires some { self.old.at < end }
