@@ -41,7 +41,7 @@ impl From<GenError> for Fault {
     }
 }
 
-/// A parser's `Err` is no `Error`: it says whether more bytes would help, and a caller decides.
+/// A parser's `Err` is no `Error`: it shows whether more bytes would help, and a caller decides.
 impl From<ParserError> for Fault {
     fn from(_error: ParserError) -> Fault {
         Fault::Read

@@ -20,7 +20,7 @@ fn value_at<'a>(table: &'a FieldTable, key: &str) -> Option<&'a AMQPValue> {
     None
 }
 
-/// How often the message was dead-lettered for the first reason that is told.
+/// How often the message was dead-lettered for the first reason that is named.
 fn deaths(headers: &FieldTable) -> Option<i64> {
     let entries = value_at(headers, "x-death")?.as_array()?;
     let first = entries.as_slice().first()?.as_field_table()?;

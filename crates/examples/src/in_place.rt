@@ -4,7 +4,7 @@ use crate::fault::Fault;
 use crate::headers::HEADERS;
 use amq_protocol_types::in_place::{Limits, TableRef, is_canonical, read_in_place};
 
-/// How often the message was dead-lettered for the first reason that is told.
+/// How often the message was dead-lettered for the first reason that is named.
 fn deaths(headers: TableRef<'_>) -> Option<i64> {
     let first = headers.get("x-death")?.as_array()?.get(0)?;
     first.as_field_table()?.get("count")?.as_long_long_int()

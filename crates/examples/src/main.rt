@@ -1,5 +1,5 @@
 //! What a client does with the codec: a queue's arguments, a message's headers, values of a stream,
-//! and a value of a JSON text. Prints what comes of each.
+//! and a value of a JSON text. Prints each result.
 #![tactic(auto)]
 
 mod arguments;
@@ -17,7 +17,7 @@ fn main(rt: HostRuntime) -> ExitCode {
     match run(&rt, rt.alloc()) {
         Ok(()) => ExitCode::SUCCESS,
         Err(fault) => {
-            // Where the message can't be written, the status still says that something failed.
+            // If the message can't be written, the status still reports that something failed.
             let _ = eprintln!(rt; "examples: {fault}");
             ExitCode::FAILURE
         }

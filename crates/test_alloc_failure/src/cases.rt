@@ -11,12 +11,13 @@ use crate::flags::FromBytes;
 use crate::generation::Fill;
 use crate::harness::Harness;
 use crate::parsing::{Number, Parser};
-use crate::stream::{LIMITS, NARROW};
+use crate::stream::{LIMITS, NARROW, TIGHT};
 use crate::texts::TextCall;
 use crate::{
     appends, constructors, conversions, flags, generation, in_place, parsing, stream, texts,
 };
 use amq_protocol_types::AMQPType;
+use amq_protocol_types::in_place::{EqualKeys, PathStep};
 use std::alloc::Global;
 use std::io;
 use test_support::TABLE;
@@ -71,21 +72,27 @@ enum Step {
     GeneratePayloads(&'static [Plan]),
     /// Generators into a slice of that length.
     GenerateSlice(usize, &'static [Plan]),
-    /// A vector with capacity for so many bytes more is filled.
+    /// A vector with capacity for n more bytes is filled.
     FillVector(usize, &'static [Fill]),
-    /// `ValueReader::next`, with a source that yields at most so many bytes at a time.
+    /// `ValueReader::next`, with a source that yields at most n bytes at a time.
     Next(usize),
     NextAfterFailure,
     ToOwned(&'static [&'static [u8]]),
     RepeatedKey(&'static [&'static [u8]]),
+    /// The first problem of each value, and of a table without its type tag.
+    FirstProblem(&'static [&'static [u8]], &'static [u8]),
     Skip(&'static [u8]),
+    GetFirst(&'static [u8], &'static str),
+    GetPath(&'static [u8], &'static [PathStep<'static>], EqualKeys),
+    CountUntagged(&'static [u8]),
     OfText(TextCall, &'static [Piece]),
 }
 
 use self::Step::{
-    AppendEach, CloneAll, Construct, FillVector, FlagsFromBytes, FromPairs, Generate,
-    GeneratePayloads, GenerateSlice, GetBytes, GetFlag, Inspect, Next, NextAfterFailure, OfText,
-    Parse, ParseEach, ParseSplit, ParseValues, RepeatedKey, Skip, ToOwned, TryFrom,
+    AppendEach, CloneAll, Construct, CountUntagged, FillVector, FirstProblem, FlagsFromBytes,
+    FromPairs, Generate, GeneratePayloads, GenerateSlice, GetBytes, GetFirst, GetFlag, GetPath,
+    Inspect, Next, NextAfterFailure, OfText, Parse, ParseEach, ParseSplit, ParseValues,
+    RepeatedKey, Skip, ToOwned, TryFrom,
 };
 
 /// A table with the LongLongInt 1 at `a`, and its JSON.
@@ -97,6 +104,9 @@ const ONE_NUMBER_JSON: &[Piece] = &[Bytes(b"{\"a\":1}")];
 const VOIDS: &[Piece] = &[Bytes(b"A\0\0\x0f\xa0"), Times(4000, b"V")];
 
 const VOIDS_JSON: &[Piece] = &[Bytes(b"["), Times(3999, b"null,"), Bytes(b"null]")];
+
+/// A table with the key `a` twice: the number 7, then an array of the number 8.
+const TWICE: &[u8] = b"F\0\0\0\x0d\x01aB\x07\x01aA\0\0\0\x02B\x08";
 
 /// A length of 0, and a long one.
 const LENGTHS: &[&[u8]] = &[&[0, 0, 0, 0], &[255, 255, 255, 255]];
@@ -115,12 +125,12 @@ fn values() -> &'static [Case] {
     ]
     "value_of_many_values" PARSER [Parse(Parser::Value, VOIDS)]
     "value_of_nested_arrays" PARSER [Parse(Parser::Value, &[Bytes(b"A\0\0\0\x0bVA\0\0\0\x04t\x01t\0V")])]
-    "value_of_a_long_text" PARSER [Parse(Parser::Value, &[Bytes(b"S\0\x01\x11\x70"), Times(70_000, b"a")])]
-    "value_of_a_long_text_in_two" PARSER [
+    "value_of_a_long_string" PARSER [Parse(Parser::Value, &[Bytes(b"S\0\x01\x11\x70"), Times(70_000, b"a")])]
+    "value_of_a_long_string_in_two" PARSER [
         ParseSplit(Parser::Value, &[Bytes(b"S\0\x01\x11\x70"), Times(70_000, b"a")], 35_005),
     ]
     "value_of_many_bytes" PARSER [Parse(Parser::Value, &[Bytes(b"x\0\x01\x11\x70"), Times(70_000, b"a")])]
-    "value_that_is_refused" PARSER [Parse(Parser::NoValue, &[Bytes(b"A\0\0\0\x03VI\0")])]
+    "value_that_is_rejected" PARSER [Parse(Parser::NoValue, &[Bytes(b"A\0\0\0\x03VI\0")])]
     };
     CASES
 }
@@ -342,9 +352,18 @@ fn generated() -> &'static [Case] {
 fn streamed() -> &'static [Case] {
     const CASES: &[Case] = cases! {
     "value_within_limits" PARSER [Parse(Parser::Within(LIMITS), &[Bytes(TABLE)])]
+    "array_within_limits" PARSER [Parse(Parser::ArrayWithin(LIMITS), &[Bytes(b"\0\0\0\x07VS\0\0\0\x01a")])]
+    "table_within_limits" PARSER [Parse(Parser::TableWithin(LIMITS), &[Bytes(b"\0\0\0\x0b\x01aA\0\0\0\x01V\x01bV")])]
     "next_value" MEMORY [Next(usize::MAX)]
     "next_value_byte_by_byte" MEMORY [Next(1)]
     "streams_without_memory" NO_ALLOC [ParseEach(&[Parser::Within(NARROW)], &[TABLE]), NextAfterFailure]
+    "untagged_without_memory" NO_ALLOC [
+        ParseEach(&[Parser::ArrayWithin(TIGHT), Parser::TableWithin(TIGHT)], &[
+            b"\0\0\0\0", b"\0\0", b"\0\0\0\x03\x01a", b"\0\0\0\x0b", b"\xff\xff\xff\xff",
+        ]),
+        Parse(Parser::ArrayWithin(TIGHT), &[Bytes(b"\0\0\0\x0bVVVVVS\0\0\0\x01a")]),
+        Parse(Parser::TableWithin(TIGHT), &[Bytes(b"\0\0\0\x0b\x01aA\0\0\0\x01V\x01bV")]),
+    ]
     };
     CASES
 }
@@ -362,8 +381,17 @@ fn in_place_values() -> &'static [Case] {
         ]),
     ]
     "in_place_without_memory" NO_ALLOC [
-        Skip(TABLE), RepeatedKey(&[TABLE]),
+        Skip(TABLE), CountUntagged(TABLE), RepeatedKey(&[TABLE]),
         ToOwned(&[b"t\x01", b"S\0\0\0\0", b"A\0\0\0\0", b"F\0\0\0\0", b"V"]),
+        GetFirst(TWICE, "a"), GetPath(TWICE, &[PathStep::Key("a")], EqualKeys::First),
+        GetPath(TWICE, &[PathStep::Key("a"), PathStep::Index(0)], EqualKeys::Last),
+        GetPath(TWICE, &[PathStep::Key("a"), PathStep::Index(1)], EqualKeys::Last),
+    ]
+    "first_problem_without_memory" NO_ALLOC [
+        FirstProblem(
+            &[TABLE, b"A\0\0\0\x0aF\0\0\0\x05\x01aU\0\x01", b"S\xff\xff\xff\xffhi"],
+            b"\0\0\0\x07\x01af\x7f\x80\0\0",
+        ),
     ]
     };
     CASES
@@ -385,7 +413,7 @@ fn of_texts() -> &'static [Case] {
     CASES
 }
 
-/// The nth section of the table, a function each, since a proof reads a constant whole.
+/// The nth section of the table, a function each, since a proof reads a complete constant.
 pub fn section(n: u8) -> &'static [Case] {
     match n {
         0 => values(),
@@ -447,7 +475,11 @@ impl Step {
             NextAfterFailure => stream::next_after_failure(h),
             ToOwned(all) => in_place::to_owned(h, all),
             RepeatedKey(all) => in_place::repeated_key(h, all),
+            FirstProblem(values, table) => in_place::first_problems(h, values, table),
             Skip(bytes) => in_place::count_and_skip(h, bytes),
+            GetFirst(bytes, key) => in_place::get_first(h, bytes, key),
+            GetPath(bytes, path, of_equal) => in_place::get_path(h, bytes, path, of_equal),
+            CountUntagged(bytes) => in_place::count_untagged(h, bytes),
             OfText(call, pieces) => texts::run(h, call, pieces),
         }
     }

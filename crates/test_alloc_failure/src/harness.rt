@@ -39,7 +39,7 @@ impl<R: Print + Eprint> Harness<'_, R> {
         for _ in 0..2 {
             call.prepare(alloc)?;
             let before = call.state(alloc)?;
-            // Where nothing can be printed, whoever counts allocations finds none.
+            // If nothing can be printed, whoever counts allocations finds none.
             let _ = eprintln!(rt; "begin");
             let result = call.call(alloc);
             let _ = eprintln!(rt; "end");

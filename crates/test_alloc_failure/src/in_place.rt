@@ -3,8 +3,12 @@
 use crate::harness::{Call, Harness};
 use crate::stream::LIMITS;
 use crate::values::AnyValue;
-use amq_protocol_types::in_place::{TableRef, ValueRef, read_in_place, skip_value};
+use amq_protocol_types::in_place::{
+    EqualKeys, PathStep, TableRef, ValueRef, canonical_table_len, measure_table, measure_value,
+    read_in_place, read_table_in_place, skip_value,
+};
 use amq_protocol_types::parsing::ParserError;
+use amq_protocol_types::rabbitmq::{Problem, first_problem, first_problem_in_table};
 use std::alloc::{AllocError, Global};
 use std::io;
 
@@ -52,6 +56,132 @@ impl Call for Skip {
     }
 }
 
+/// The first problem that RabbitMQ has with a value.
+#[derive(Drop)]
+struct FirstProblem {
+    bytes: &'static [u8],
+}
+
+impl Call for FirstProblem {
+    type Error = AllocError;
+
+    fn call(&mut self, _alloc: Global) -> Result<AnyValue, AllocError> {
+        Ok(offset_of(first_problem(self.bytes, LIMITS)))
+    }
+}
+
+/// The first problem that RabbitMQ has with a table without its type tag.
+#[derive(Drop)]
+struct FirstProblemInTable {
+    table: &'static [u8],
+}
+
+impl Call for FirstProblemInTable {
+    type Error = AllocError;
+
+    fn call(&mut self, _alloc: Global) -> Result<AnyValue, AllocError> {
+        Ok(offset_of(first_problem_in_table(self.table, LIMITS)))
+    }
+}
+
+fn offset_of(problem: Option<Problem>) -> AnyValue {
+    problem.map_or(AnyValue::NoValue, |it| AnyValue::Number(it.offset as i128))
+}
+
+#[derive(Drop)]
+struct GetFirst {
+    table: TableRef<'static>,
+    key: &'static str,
+}
+
+impl Call for GetFirst {
+    type Error = AllocError;
+
+    fn call(&mut self, _alloc: Global) -> Result<AnyValue, AllocError> {
+        Ok(number(self.table.get_first(self.key)))
+    }
+}
+
+#[derive(Drop)]
+struct GetPath {
+    table: TableRef<'static>,
+    path: &'static [PathStep<'static>],
+    of_equal: EqualKeys,
+}
+
+impl Call for GetPath {
+    type Error = AllocError;
+
+    fn call(&mut self, _alloc: Global) -> Result<AnyValue, AllocError> {
+        Ok(number(self.table.get_path(self.path, self.of_equal)))
+    }
+}
+
+// The number of one byte that was found.
+fn number(found: Option<ValueRef<'_>>) -> AnyValue {
+    found
+        .and_then(|value| value.as_short_short_uint())
+        .map_or(AnyValue::NoValue, |n| AnyValue::Number(i128::from(n)))
+}
+
+/// `read_table_in_place` of a table without its type tag, whose pairs are counted.
+#[derive(Drop)]
+struct CountUntagged {
+    table: &'static [u8],
+}
+
+impl Call for CountUntagged {
+    type Error = ParserError;
+
+    fn call(&mut self, _alloc: Global) -> Result<AnyValue, ParserError> {
+        let (table, _) = read_table_in_place(self.table, LIMITS)?;
+        Ok(AnyValue::Number(table.iter().count() as i128))
+    }
+}
+
+/// The number of values in a table.
+#[derive(Drop)]
+struct CountValues {
+    bytes: &'static [u8],
+}
+
+impl Call for CountValues {
+    type Error = ParserError;
+
+    fn call(&mut self, _alloc: Global) -> Result<AnyValue, ParserError> {
+        Ok(AnyValue::Number(measure_value(self.bytes, LIMITS)?.values as i128))
+    }
+}
+
+/// The same of a table without its type tag.
+#[derive(Drop)]
+struct CountUntaggedValues {
+    table: &'static [u8],
+}
+
+impl Call for CountUntaggedValues {
+    type Error = ParserError;
+
+    fn call(&mut self, _alloc: Global) -> Result<AnyValue, ParserError> {
+        Ok(AnyValue::Number(measure_table(self.table, LIMITS)?.values as i128))
+    }
+}
+
+/// The length of the canonical encoding of a table without its type tag.
+#[derive(Drop)]
+struct CanonicalTableLen {
+    table: &'static [u8],
+}
+
+impl Call for CanonicalTableLen {
+    type Error = ParserError;
+
+    fn call(&mut self, _alloc: Global) -> Result<AnyValue, ParserError> {
+        let len = canonical_table_len(self.table, LIMITS);
+        Ok(len.map_or(AnyValue::NoValue, |len| AnyValue::Number(len as i128)))
+    }
+}
+
 #[derive(Drop)]
 struct RepeatedKey {
     table: TableRef<'static>,
@@ -81,6 +211,62 @@ pub fn to_owned<R: Print + Eprint>(h: &Harness<R>, all: &[&'static [u8]]) -> io:
 pub fn count_and_skip<R: Print + Eprint>(h: &Harness<R>, bytes: &'static [u8]) -> io::Result<()> {
     h.run(&mut CountPairs { bytes })?;
     h.run(&mut Skip { bytes })
+}
+
+/// The value of the first pair with the key, in this table.
+pub fn get_first<R: Print + Eprint>(
+    h: &Harness<R>,
+    bytes: &'static [u8],
+    key: &'static str,
+) -> io::Result<()> {
+    if let Ok((value, _)) = read_in_place(bytes, LIMITS)
+        && let Some(table) = value.as_field_table()
+    {
+        h.run(&mut GetFirst { table, key })?;
+    }
+    Ok(())
+}
+
+/// The value that the path leads to, in this table.
+pub fn get_path<R: Print + Eprint>(
+    h: &Harness<R>,
+    bytes: &'static [u8],
+    path: &'static [PathStep<'static>],
+    of_equal: EqualKeys,
+) -> io::Result<()> {
+    if let Ok((value, _)) = read_in_place(bytes, LIMITS)
+        && let Some(table) = value.as_field_table()
+    {
+        h.run(&mut GetPath {
+            table,
+            path,
+            of_equal,
+        })?;
+    }
+    Ok(())
+}
+
+/// The first problem of each of these values is found, and of this table without its type tag.
+pub fn first_problems<R: Print + Eprint>(
+    h: &Harness<R>,
+    values: &[&'static [u8]],
+    table: &'static [u8],
+) -> io::Result<()> {
+    for bytes in values {
+        h.run(&mut FirstProblem { bytes })?;
+    }
+    h.run(&mut FirstProblemInTable { table })
+}
+
+/// The pairs and the values of this table are counted, with its type tag and without.
+pub fn count_untagged<R: Print + Eprint>(h: &Harness<R>, bytes: &'static [u8]) -> io::Result<()> {
+    h.run(&mut CountValues { bytes })?;
+    let [_, table @ ..] = bytes else {
+        return Ok(());
+    };
+    h.run(&mut CountUntagged { table })?;
+    h.run(&mut CountUntaggedValues { table })?;
+    h.run(&mut CanonicalTableLen { table })
 }
 
 /// A key that each of these tables has more than once.

@@ -1,6 +1,6 @@
 //! Cases of calls that may allocate, and of calls that never do, to be run with one allocation
-//! failing. The argument names the case. With none all cases are run; with `--list` each is printed
-//! with what its calls return if an allocation fails.
+//! failing. The argument names the case. With no argument all cases are run; with `--list` each is
+//! printed with what its calls return if an allocation fails.
 //!
 //! Around each call two lines go to standard error, `begin` and `end`, so that whoever makes
 //! allocations fail knows which of them are the call's.
@@ -34,7 +34,7 @@ fn main(rt: HostRuntime) -> ExitCode {
     }
 }
 
-/// Does what the argument says. Returns whether it is known.
+/// Does what the argument asks for. Returns whether it is known.
 fn run<R: Env + Alloc + Print + Eprint>(rt: &R, alloc: Global) -> io::Result<bool> {
     let argument = env::args(rt)?.nth(1);
     let name = argument.as_ref().map(|it| it.as_str());

@@ -13,7 +13,9 @@ use amq_protocol_types::parsing::{
     parse_short_short_uint, parse_short_string, parse_short_uint, parse_timestamp, parse_type,
     parse_value,
 };
-use amq_protocol_types::stream::{Limits, parse_value_within};
+use amq_protocol_types::stream::{
+    Limits, parse_field_array_within, parse_field_table_within, parse_value_within,
+};
 use amq_protocol_types::{AMQPType, AMQPValue};
 use std::alloc::Global;
 use std::io;
@@ -25,6 +27,8 @@ pub enum Parser {
     /// `parse_value` of what begins with no value. Returns the kind of its error.
     NoValue,
     Within(Limits),
+    ArrayWithin(Limits),
+    TableWithin(Limits),
     Raw(AMQPType),
     ShortString,
     LongString,
@@ -87,6 +91,12 @@ fn parse<I: ParsableInput>(alloc: Global, parser: Parser, i: I) -> Result<AnyVal
         Parser::Value => AnyValue::Value(parse_value(alloc, i)?.1),
         Parser::NoValue => kind_of(parse_value(alloc, i))?,
         Parser::Within(limits) => AnyValue::Value(parse_value_within(alloc, i, limits)?.1),
+        Parser::ArrayWithin(limits) => AnyValue::FieldArray(
+            parse_field_array_within(alloc, i, limits)?.1,
+        ),
+        Parser::TableWithin(limits) => AnyValue::FieldTable(
+            parse_field_table_within(alloc, i, limits)?.1,
+        ),
         Parser::Raw(of_type) => AnyValue::Value(parse_raw_value(alloc, of_type, i)?.1),
         Parser::ShortString => AnyValue::ShortString(parse_short_string(alloc, i)?.1),
         Parser::LongString => AnyValue::LongString(parse_long_string(alloc, i)?.1),

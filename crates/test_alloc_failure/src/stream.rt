@@ -20,7 +20,13 @@ pub const NARROW: Limits = Limits {
     depth: 3,
 };
 
-/// Yields at most so many bytes at a time.
+/// Limits that allow 14 bytes after a type tag.
+pub const TIGHT: Limits = Limits {
+    frame: 15,
+    depth: 3,
+};
+
+/// Yields at most n bytes at a time.
 #[derive(Drop)]
 struct Slow {
     bytes: &'static [u8],
@@ -51,7 +57,7 @@ impl Call for Next {
     }
 }
 
-/// The table from a reader that yields at most so many bytes at a time, and then its end: the call
+/// The table from a reader that yields at most n bytes at a time, and then its end: the call
 /// after a failed allocation goes on.
 pub fn next_values<R: Print + Eprint>(h: &Harness<R>, most: usize) -> io::Result<()> {
     let bytes = TABLE;

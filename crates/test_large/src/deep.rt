@@ -11,7 +11,7 @@ use std::test::Fail;
 
 const LEVELS: u32 = 5_000;
 
-// The containers, each after a key in the one around it where they are tables, and the innermost
+// The containers, each after a key in the one around it if they are tables, and the innermost
 // empty.
 fn nested(alloc: Global, tag: u8, key: &[u8]) -> Result<Vec<u8>, Fail> {
     let step = u32::try_from(key.len())?.saturating_add(5);

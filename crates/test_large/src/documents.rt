@@ -17,7 +17,7 @@ fn comes_back(rt: &impl Abort, alloc: Global, value: &AMQPValue) -> Result<(), F
 }
 
 #[test]
-fn a_long_text_comes_back(rt: HostRuntime) -> Result<(), Fail> {
+fn a_long_json_text_comes_back(rt: HostRuntime) -> Result<(), Fail> {
     let alloc = rt.alloc();
     let body = bytes(alloc, LARGE)?;
     let text = LongString::from_text(alloc, str::from_utf8(body.as_slice())?)?;

@@ -87,7 +87,7 @@ fn is_it<I: Drop>(read: ParserResult<I, AMQPValue>, value: &AMQPValue) -> bool {
     }
 }
 
-// whether a reader of the bytes gives this value
+// whether a reader of the bytes yields this value
 fn is_next(alloc: Global, wire: &[u8], value: &AMQPValue) -> bool {
     match ValueReader::new(alloc, wire, WIDE).next() {
         Ok(Some(again)) => again == *value,
@@ -115,7 +115,7 @@ fn is_read(rt: &impl Abort, alloc: Global, wire: &[u8]) -> Result<AMQPValue, Fai
     Ok(value)
 }
 
-// It is written to a vector, into as much room as it needs, and as a payload.
+// It is written to a vector, into a buffer as large as it needs, and as a payload.
 fn is_written(rt: &impl Abort, alloc: Global, value: &AMQPValue, wire: &[u8]) -> Result<(), Fail> {
     let mut context = WriteContext::from(Vec::new(alloc));
     gen_value(value, &mut context)?;
@@ -130,7 +130,7 @@ fn is_written(rt: &impl Abort, alloc: Global, value: &AMQPValue, wire: &[u8]) ->
     Ok(())
 }
 
-// It is read in place, told to be canonical, and made a value of its own.
+// It is read in place, reported as canonical, and made an owned value.
 fn is_in_place(rt: &impl Abort, alloc: Global, value: &AMQPValue, wire: &[u8]) -> Result<(), Fail> {
     assert!(rt; is_canonical(wire, WIDE));
     assert!(rt; canonical_len(wire, WIDE) == Some(wire.len()));
@@ -142,7 +142,7 @@ fn is_in_place(rt: &impl Abort, alloc: Global, value: &AMQPValue, wire: &[u8]) -
     Ok(())
 }
 
-/// A device of open room takes these pieces.
+/// A device of open capacity takes these pieces.
 pub fn device(alloc: Global) -> WriteContext<IoOutput<Vec<u8>>> {
     WriteContext::from(IoOutput::new(Vec::new(alloc)))
 }

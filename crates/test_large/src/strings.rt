@@ -73,7 +73,7 @@ fn a_short_string_of_255_bytes(rt: HostRuntime) -> Result<(), Fail> {
 }
 
 #[test]
-fn a_body_is_written_behind_its_length(rt: HostRuntime) -> Result<(), Fail> {
+fn a_body_is_written_after_its_length(rt: HostRuntime) -> Result<(), Fail> {
     let alloc = rt.alloc();
     let body = bytes(alloc, LARGE)?;
     let whole = field(alloc, b'S', body.as_slice())?;

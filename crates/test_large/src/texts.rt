@@ -9,7 +9,7 @@ use std::test::Fail;
 const LONG: usize = 16 << 20;
 
 #[test]
-fn the_json_of_a_long_text_and_back(rt: HostRuntime) -> Result<(), Fail> {
+fn the_json_of_a_long_string_and_back(rt: HostRuntime) -> Result<(), Fail> {
     let alloc = rt.alloc();
     let body = vec![in alloc; b'a'; LONG]?;
     let wire = field(alloc, b'S', body.as_slice())?;
@@ -47,7 +47,7 @@ fn a_long_array_of_json_and_back(rt: HostRuntime) -> Result<(), Fail> {
 }
 
 #[test]
-fn a_mistake_late_in_a_text_is_told_as_one(rt: HostRuntime) -> Result<(), Fail> {
+fn a_mistake_late_in_a_text_is_reported(rt: HostRuntime) -> Result<(), Fail> {
     let alloc = rt.alloc();
     let mut text = String::from_str(alloc, "[")?;
     for _ in 0..100_000u32 {

@@ -68,7 +68,7 @@ fn generate<W: Output>(name: &str, made: &Made, x: &mut WriteContext<W>) -> GenR
     }
 }
 
-/// Prints what a generator answers where the device fails once n calls have been made.
+/// Prints what a generator returns if the device fails once n calls have been made.
 /// Returns whether it failed.
 fn fails<P: Print>(
     rt: &P,
@@ -93,7 +93,7 @@ fn fails<P: Print>(
     Ok(failed)
 }
 
-/// Prints what each generator answers where each call of the device fails in turn.
+/// Prints what each generator returns if each call of the device fails in turn.
 pub fn run<P: Print>(rt: &P, alloc: Global) -> io::Result<()> {
     let mut flags = AMQPFlags::new_in(alloc);
     for (name, flag) in [

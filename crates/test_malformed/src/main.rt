@@ -1,11 +1,11 @@
-//! What hostile input, small rooms and failing devices come to, a line for each.
+//! What hostile input, small buffers and failing devices result in, a line for each.
 //!
 //! Standard input has a line of hexadecimal, the encoding of a value. What is made of it here: each
-//! prefix of it, each of its bytes replaced, each room that is too small for it, and each call of a
+//! prefix of it, each of its bytes replaced, each buffer that is too small, and each call of a
 //! device that writes it failed.
 //!
-//! With two words, the name of a call and how deep containers may nest, that call alone is made, on
-//! what standard input has.
+//! With three words, what a call is made on, its name, and how deep containers may nest, only
+//! that call is made, on what standard input has.
 #![tactic(auto)]
 
 mod devices;
@@ -32,10 +32,11 @@ fn main(rt: HostRuntime) -> ExitCode {
 fn run(rt: &HostRuntime) -> io::Result<()> {
     let mut words = env::args(rt)?.skip(1);
     let mut input = rt.stdin();
-    match (words.next(), words.next()) {
-        (Some(name), Some(depth)) => {
+    match (words.next(), words.next(), words.next()) {
+        (Some(kind), Some(name), Some(depth)) => {
             let depth = depth.parse().map_err(unmade)?;
-            nested::run(rt, rt.alloc(), name.as_str(), depth, &mut input)
+            let call = (kind.as_str(), name.as_str());
+            nested::run(rt, rt.alloc(), call, depth, &mut input)
         }
         _ => run_all(rt, rt.alloc(), &mut input),
     }
@@ -52,7 +53,7 @@ fn run_all<P: Print, R: Read>(rt: &P, alloc: Global, input: &mut R) -> io::Resul
     devices::run(rt, alloc)
 }
 
-/// The bytes that the input's line spells.
+/// The bytes that the input's line denotes.
 fn encoding<R: Read>(alloc: Global, input: &mut R) -> io::Result<Vec<u8>> {
     let mut text = Vec::new(alloc);
     input.read_to_end(&mut text)?;

@@ -1,12 +1,18 @@
-//! Calls that recurse, each by its name, on what nests deep. Who runs this says on which stack.
+//! Calls on what nests deep, each by its name. Who runs this sets the stack.
+//!
+//! A call is an arm of `of_encoding` or one of the functions after it. `.ci/nesting.py` reads these
+//! arms: it runs each, and one with `limits` is a call that a limit on depth bounds.
 
 use amq_protocol_types::generation::{WriteContext, gen_value};
 use amq_protocol_types::in_place::{
-    TableRef, ValueRef, canonical_len, is_canonical, read_in_place, read_in_place_unlimited,
-    skip_value,
+    TableRef, ValueRef, canonical_len, canonical_table_len, is_canonical, measure_table,
+    measure_value, read_in_place, read_in_place_unlimited, read_table_in_place, skip_value,
 };
-use amq_protocol_types::parsing::{SliceInput, SplitInput, parse_value};
-use amq_protocol_types::stream::{Limits, ValueReader, parse_value_within};
+use amq_protocol_types::parsing::{SliceInput, SplitInput, parse_field_table, parse_value};
+use amq_protocol_types::rabbitmq::{first_problem, first_problem_in_table};
+use amq_protocol_types::stream::{
+    Limits, ValueReader, parse_field_table_within, parse_value_within,
+};
 use amq_protocol_types::{AMQPValue, FieldArray, FieldTable, ShortString};
 use amqp_dissect::{End, dissect};
 use amqp_json::{encoding_of_json, from_json, from_value, json_of_encoding, to_json, to_value};
@@ -22,11 +28,11 @@ const KEY: &str = "Void";
 /// As many bytes as a value may have.
 const FRAME: u32 = u32::MAX;
 
-/// Calls the function of this name on what standard input has, and prints what it answers.
+/// Makes the call of this name on what standard input has, and prints "done" or what it returned.
 pub fn run<P: Print, R: Read>(
     rt: &P,
     alloc: Global,
-    name: &str,
+    (kind, name): (&str, &str),
     depth: u32,
     input: &mut R,
 ) -> io::Result<()> {
@@ -37,24 +43,18 @@ pub fn run<P: Print, R: Read>(
         frame: FRAME,
         depth,
     };
-    let answer = match name {
-        "drop" | "clone" | "==" | "gen_value" | "to_value" | "to_json" => of_tree(
-            alloc,
-            name,
-            &tree(alloc, bytes)?,
-        ),
-        "from_value" => said(alloc, from_value(alloc, &document(alloc, bytes)?)),
-        "from_json" | "encoding_of_json" => of_text(alloc, name, text(bytes)?),
-        "parse_value" | "parse_value_within" | "SplitInput" | "ValueReader::next" => of_parser(
-            alloc, name, bytes, depth,
-        ),
-        "dissect" => dissected(alloc, bytes, limits),
-        _ => of_encoding(alloc, name, bytes, limits),
+    let answer = match kind {
+        "encoding" => of_encoding(alloc, name, bytes, limits),
+        "payload" => of_payload(alloc, name, bytes, limits),
+        "tree" => of_tree(alloc, name, &tree(alloc, bytes)?),
+        "document" => of_document(alloc, name, &document(alloc, bytes)?),
+        "text" => of_text(alloc, name, str::from_utf8(bytes).map_err(crate::unmade)?),
+        _ => unknown(),
     }?;
     println!(rt; "{answer}")
 }
 
-/// Whether a call gave what it was asked for, otherwise its error.
+/// "done" if a call succeeded, otherwise its error.
 fn said<T: Drop, E: Debug + Drop>(alloc: Global, answer: Result<T, E>) -> io::Result<String> {
     match answer {
         Ok(_) => told(alloc, true),
@@ -62,73 +62,57 @@ fn said<T: Drop, E: Debug + Drop>(alloc: Global, answer: Result<T, E>) -> io::Re
     }
 }
 
-/// The same of a call that tells no error.
+/// The same of a call that returns no error.
 fn told(alloc: Global, is_done: bool) -> io::Result<String> {
     Ok(String::from_str(alloc, if is_done { "done" } else { "refused" })?)
 }
 
-fn text(bytes: &[u8]) -> io::Result<&str> {
-    str::from_utf8(bytes).map_err(crate::unmade)
+/// There is no call of that name.
+fn unknown() -> io::Result<String> {
+    Err(io::Error::from(ErrorKind::InvalidInput))
 }
 
-/// Calls that read an encoding into memory.
-fn of_parser(alloc: Global, name: &str, bytes: &[u8], depth: u32) -> io::Result<String> {
-    let limits = Limits {
-        frame: FRAME,
-        depth,
-    };
-    match name {
-        "parse_value" => said(alloc, parse_value(alloc, SliceInput::new(bytes))),
-        "parse_value_within" => {
-            let input = SliceInput::new(bytes);
-            said(alloc, parse_value_within(alloc, input, limits))
-        }
-        "ValueReader::next" => said(alloc, ValueReader::new(alloc, bytes, limits).next()),
-        _ => {
-            let (first, second) = bytes.split_at(bytes.len() / 2);
-            let input = SplitInput::new(first, second);
-            said(alloc, parse_value_within(alloc, input, limits))
-        }
-    }
-}
-
-/// Calls that look at an encoding where it lies, or make something else of it.
+/// Calls on an encoding.
 fn of_encoding(alloc: Global, name: &str, bytes: &[u8], limits: Limits) -> io::Result<String> {
+    let input = SliceInput::new(bytes);
     match name {
+        "parse_value" => said(alloc, parse_value(alloc, input)),
+        "parse_value_within" => said(alloc, parse_value_within(alloc, input, limits)),
+        "SplitInput" => said(alloc, parse_value_within(alloc, in_two(bytes), limits)),
+        "ValueReader::next" => next_of(alloc, bytes, limits.depth),
         "read_in_place" => said(alloc, read_in_place(bytes, limits)),
         "read_in_place_unlimited" => said(alloc, read_in_place_unlimited(bytes)),
-        "to_owned" | "iter" => match read_in_place(bytes, limits) {
-            Ok((value, _)) if name == "iter" => walked(alloc, value, limits.depth),
-            Ok((value, _)) => said(alloc, value.to_owned(alloc)),
-            Err(e) => said(alloc, Err::<(), _>(e)),
-        },
+        "to_owned" => owned(alloc, bytes, limits),
+        "iter" => iterated(alloc, bytes, limits),
         "skip_value" => said(alloc, skip_value(bytes)),
         "is_canonical" => told(alloc, is_canonical(bytes, limits)),
         "canonical_len" => told(alloc, canonical_len(bytes, limits).is_some()),
+        "measure_value" => said(alloc, measure_value(bytes, limits)),
+        "first_problem" => told(alloc, first_problem(bytes, limits).is_none()),
+        "dissect" => dissected(alloc, bytes, limits),
         "json_of_encoding" => said(alloc, json_of_encoding(alloc, bytes, limits)),
-        _ => Err(io::Error::from(ErrorKind::InvalidInput)),
+        _ => unknown(),
     }
 }
 
-/// The end of a dissection.
-fn dissected(alloc: Global, bytes: &[u8], limits: Limits) -> io::Result<String> {
-    match dissect(alloc, bytes, limits)?.end {
-        End::Value => told(alloc, true),
-        end => Ok(format!(in alloc; "{end:?}")?),
-    }
-}
-
-/// Calls that read a JSON text.
-fn of_text(alloc: Global, name: &str, text: &str) -> io::Result<String> {
+/// Calls on what follows the type tag of a table.
+fn of_payload(alloc: Global, name: &str, bytes: &[u8], limits: Limits) -> io::Result<String> {
+    let input = SliceInput::new(bytes);
     match name {
-        "from_json" => said(alloc, from_json(alloc, text)),
-        _ => said(alloc, encoding_of_json(alloc, text)),
+        "parse_field_table" => said(alloc, parse_field_table(alloc, input)),
+        "parse_field_table_within" => said(alloc, parse_field_table_within(alloc, input, limits)),
+        "read_table_in_place" => said(alloc, read_table_in_place(bytes, limits)),
+        "canonical_table_len" => told(alloc, canonical_table_len(bytes, limits).is_some()),
+        "measure_table" => said(alloc, measure_table(bytes, limits)),
+        "first_problem_in_table" => told(alloc, first_problem_in_table(bytes, limits).is_none()),
+        _ => unknown(),
     }
 }
 
-/// Calls on a value in memory.
+/// Calls on a value in memory, which is dropped after them.
 fn of_tree(alloc: Global, name: &str, value: &AMQPValue) -> io::Result<String> {
     match name {
+        "drop" => told(alloc, true),
         "clone" => said(alloc, value.clone(alloc)),
         "==" => told(alloc, *value == *value),
         "gen_value" => {
@@ -137,7 +121,63 @@ fn of_tree(alloc: Global, name: &str, value: &AMQPValue) -> io::Result<String> {
         }
         "to_value" => said(alloc, to_value(alloc, value)),
         "to_json" => said(alloc, to_json(alloc, value)),
-        _ => told(alloc, true),
+        _ => unknown(),
+    }
+}
+
+/// Calls on a JSON value.
+fn of_document(alloc: Global, name: &str, value: &Value) -> io::Result<String> {
+    match name {
+        "from_value" => said(alloc, from_value(alloc, value)),
+        _ => unknown(),
+    }
+}
+
+/// Calls on a JSON text.
+fn of_text(alloc: Global, name: &str, text: &str) -> io::Result<String> {
+    match name {
+        "from_json" => said(alloc, from_json(alloc, text)),
+        "encoding_of_json" => said(alloc, encoding_of_json(alloc, text)),
+        _ => unknown(),
+    }
+}
+
+/// The bytes as an input of two slices.
+fn in_two(bytes: &[u8]) -> SplitInput<'_> {
+    let (first, second) = bytes.split_at(bytes.len() / 2);
+    SplitInput::new(first, second)
+}
+
+/// Reads the first value of a stream.
+fn next_of(alloc: Global, bytes: &[u8], depth: u32) -> io::Result<String> {
+    let limits = Limits {
+        frame: FRAME,
+        depth,
+    };
+    said(alloc, ValueReader::new(alloc, bytes, limits).next())
+}
+
+/// Reads a value in place, and has it be owned.
+fn owned(alloc: Global, bytes: &[u8], limits: Limits) -> io::Result<String> {
+    match read_in_place(bytes, limits) {
+        Ok((value, _)) => said(alloc, value.to_owned(alloc)),
+        Err(e) => said(alloc, Err::<(), _>(e)),
+    }
+}
+
+/// Reads a value in place, and goes inwards.
+fn iterated(alloc: Global, bytes: &[u8], limits: Limits) -> io::Result<String> {
+    match read_in_place(bytes, limits) {
+        Ok((value, _)) => walked(alloc, value, limits.depth),
+        Err(e) => said(alloc, Err::<(), _>(e)),
+    }
+}
+
+/// The end of a dissection.
+fn dissected(alloc: Global, bytes: &[u8], limits: Limits) -> io::Result<String> {
+    match dissect(alloc, bytes, limits)?.end {
+        End::Value => told(alloc, true),
+        end => Ok(format!(in alloc; "{end:?}")?),
     }
 }
 
@@ -184,7 +224,7 @@ fn object_of(alloc: Global, value: Value) -> Result<Value, AllocError> {
     Ok(Value::Object(members))
 }
 
-/// Walks n containers inwards by the last entry of each, which it looks up too.
+/// Enters n containers by the last entry of each, which it looks up too.
 fn walked(alloc: Global, value: ValueRef<'_>, depth: u32) -> io::Result<String> {
     let mut inner = Some(value);
     for _ in 0..depth {

@@ -1,4 +1,4 @@
-//! Rooms that are too small, and what is left after an error.
+//! Buffers that are too small, and what is left after an error.
 
 use crate::shown;
 use amq_protocol_types::AMQPValue;
@@ -8,13 +8,13 @@ use amq_protocol_types::generation::{
 use std::alloc::Global;
 use std::io;
 
-/// A text of what a generator answered.
+/// What a generator returned, as a string.
 fn said(alloc: Global, answer: GenResult) -> io::Result<String> {
     Ok(format!(in alloc; "{answer:?}")?)
 }
 
-/// Prints what writing a value results in, in room for n bytes, each 170, after those that were
-/// put before. Where the value is written, prints how many bytes after it are still so.
+/// Prints what writing a value results in, in a buffer of n bytes, each 170, after those that were
+/// written before. If the value is written, prints how many bytes after it are unchanged.
 fn in_room<P: Print>(
     rt: &P,
     alloc: Global,
@@ -51,7 +51,7 @@ fn puts_and_refuses<W: BackToTheBuffer>(x: &mut WriteContext<W>) -> GenResult {
     )
 }
 
-/// Prints what is left of a vector and of a slice where what has a length fails.
+/// Prints what is left of a vector and of a slice if what has a length fails.
 fn with_length<P: Print>(rt: &P, alloc: Global) -> io::Result<()> {
     let mut x = WriteContext::from(Vec::from_slice(alloc, &[9])?);
     let answer = said(alloc, puts_and_refuses(&mut x))?;

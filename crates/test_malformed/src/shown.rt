@@ -1,4 +1,4 @@
-//! Texts of what is returned.
+//! Strings of what is returned.
 
 use amq_protocol_types::AMQPValue;
 use amq_protocol_types::generation::{SliceOutput, WriteContext, gen_value};
@@ -31,7 +31,7 @@ fn are_read_as(alloc: Global, bytes: &[u8], value: &AMQPValue) -> bool {
     }
 }
 
-/// A value that was read from n bytes is written to as much room, and read again.
+/// A value that was read from n bytes is written to a buffer of n bytes, and read again.
 fn written(alloc: Global, value: &AMQPValue, taken: usize) -> io::Result<String> {
     let mut room = vec![in alloc; 0; taken]?;
     let mut x = WriteContext::from(SliceOutput::new(room.as_mut_slice()));
@@ -62,7 +62,7 @@ fn answer<I: ParsableInput>(alloc: Global, input: I) -> io::Result<String> {
     }
 }
 
-/// Prints what reading some bytes results in. Where it differs for the same bytes in two slices,
+/// Prints what reading some bytes results in. If it differs for the same bytes in two slices,
 /// cut in the middle, prints that too.
 pub fn tell<P: Print>(rt: &P, alloc: Global, name: &str, bytes: &[u8]) -> io::Result<()> {
     let whole = answer(alloc, SliceInput::new(bytes))?;

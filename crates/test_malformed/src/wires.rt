@@ -7,7 +7,7 @@ use std::io;
 /// That many containers are in one another.
 const DEPTH: u32 = 200;
 
-/// Arrays in one another, the innermost with this body. Each has five bytes beside what it holds.
+/// Arrays in one another, the innermost with this body. Each has five bytes and what it holds.
 fn arrays(alloc: Global, body: &[u8]) -> io::Result<Vec<u8>> {
     let held = u32::try_from(body.len()).unwrap_or(u32::MAX);
     let mut bytes = Vec::new(alloc);
@@ -21,7 +21,7 @@ fn arrays(alloc: Global, body: &[u8]) -> io::Result<Vec<u8>> {
 }
 
 /// Tables in one another, the innermost empty. Each other has Void at the empty key and then the
-/// next table at the same key: three bytes and the type tag beside what the next one holds.
+/// next table at the same key: three bytes, the type tag and what the next one holds.
 fn tables(alloc: Global) -> io::Result<Vec<u8>> {
     let mut bytes = Vec::new(alloc);
     for inside in (0..DEPTH).rev() {
@@ -85,7 +85,7 @@ pub fn fronts<P: Print>(rt: &P, alloc: Global, bytes: &[u8]) -> io::Result<()> {
     Ok(())
 }
 
-/// Prints what some bytes come to, each of them replaced in turn.
+/// Prints what some bytes result in, each of them replaced in turn.
 pub fn replaced<P: Print>(rt: &P, alloc: Global, bytes: &[u8]) -> io::Result<()> {
     for at in 0..bytes.len() {
         for byte in [0, 122, 255] {

@@ -104,7 +104,7 @@ fn needs(bytes: &[u8]) -> Option<usize> {
     }
 }
 
-// whether the copy of a value in place is what `parse_value` gives
+// whether the copy of a value in place is what `parse_value` returns
 fn is_copied(alloc: Global, bytes: &[u8]) -> Result<bool, Fail> {
     let Ok((value, _)) = read_in_place(bytes, LIMITS) else {
         return Ok(false);
@@ -117,7 +117,7 @@ fn is_copied(alloc: Global, bytes: &[u8]) -> Result<bool, Fail> {
 }
 
 #[test]
-fn each_type_is_told(rt: HostRuntime) {
+fn each_type_is_returned(rt: HostRuntime) {
     for (bytes, amqp_type) in EACH {
         let Some(value) = value(bytes) else {
             panic!(&rt; "no value")
@@ -187,7 +187,7 @@ fn others_are_got(rt: HostRuntime) {
 }
 
 #[test]
-fn arrays_are_walked(rt: HostRuntime) {
+fn arrays_are_iterated(rt: HostRuntime) {
     let Some(array) = value(b"A\0\0\0\x05B\x07VB\x08").and_then(|v| v.as_array()) else {
         panic!(&rt; "no array")
     };
@@ -203,7 +203,7 @@ fn arrays_are_walked(rt: HostRuntime) {
 }
 
 #[test]
-fn what_is_empty_is_walked(rt: HostRuntime) {
+fn what_is_empty_is_iterated(rt: HostRuntime) {
     let Some(array) = value(b"A\0\0\0\0").and_then(|v| v.as_array()) else {
         panic!(&rt; "no array")
     };
@@ -305,7 +305,7 @@ fn limits_are_kept(rt: HostRuntime) {
 const SORTED: &[u8] = b"F\0\0\0\x07\x01at\x01\x01bV";
 
 #[test]
-fn canonical_encodings_are_told(rt: HostRuntime) {
+fn canonical_encodings_are_recognized(rt: HostRuntime) {
     assert!(rt; is_canonical(SORTED, LIMITS));
     // the empty key, a key that begins another, a longer key before one above it, and UTF-8
     assert!(rt; is_canonical(b"F\0\0\0\x05\0V\x01aV", LIMITS));
@@ -329,7 +329,7 @@ fn other_encodings_are_not_canonical(rt: HostRuntime) {
     assert!(rt; !is_canonical(b"F\0\0\0\x07\x01bV\x01at\x01", LIMITS));
     assert!(rt; !is_canonical(b"F\0\0\0\x06\x01aV\x01aV", LIMITS));
     assert!(rt; !is_canonical(b"F\0\0\0\x04\0V\0V", LIMITS));
-    // the third key is above the first alone
+    // only the third key is above the first
     assert!(rt; !is_canonical(b"F\0\0\0\x09\x01aV\x01cV\x01bV", LIMITS));
     // alternate tags, and a boolean's byte
     assert!(rt; !is_canonical(b"L\0\0\0\0\0\0\0\x02", LIMITS));
@@ -369,7 +369,7 @@ fn what_is_cut_asks_for_more(rt: HostRuntime) {
 }
 
 #[test]
-fn what_is_no_value_is_refused(rt: HostRuntime) {
+fn what_is_no_value_is_rejected(rt: HostRuntime) {
     assert_eq!(rt; refusal(b"z", LIMITS), Some(ErrorKind::MapOpt));
     // a key that isn't UTF-8, an unknown type tag in a table, and a cut value in an array
     assert_eq!(rt;

@@ -4,6 +4,14 @@
 #[cfg(test)]
 mod in_place;
 #[cfg(test)]
+mod lookups;
+#[cfg(test)]
+mod measuring;
+#[cfg(test)]
+mod rabbitmq;
+#[cfg(test)]
 mod repeated_keys;
 #[cfg(test)]
 mod stream;
+#[cfg(test)]
+mod untagged;

@@ -1,4 +1,4 @@
-//! Keys that stand more than once in a table in place.
+//! Keys that occur more than once in a table in place.
 
 use amq_protocol_types::in_place::{TableRef, read_in_place_unlimited};
 use std::alloc::{AllocError, Global};
@@ -36,7 +36,7 @@ fn table(bytes: &[u8]) -> Option<TableRef<'_>> {
     }
 }
 
-// whether the bytes are a table of which this is told
+// whether the bytes are a table of which this is returned
 fn is_told(alloc: Global, bytes: &[u8], want: Option<&str>) -> Result<bool, Fail> {
     let Some(table) = table(bytes) else {
         return Ok(false);
@@ -68,7 +68,7 @@ fn many_pairs(alloc: Global, last: &str) -> Result<Vec<u8>, AllocError> {
 }
 
 #[test]
-fn a_repeated_key_is_told(rt: HostRuntime) -> Result<(), Fail> {
+fn a_repeated_key_is_reported(rt: HostRuntime) -> Result<(), Fail> {
     for (bytes, key) in TABLES {
         assert!(rt; is_told(rt.alloc(), bytes, key)?);
     }
@@ -76,7 +76,7 @@ fn a_repeated_key_is_told(rt: HostRuntime) -> Result<(), Fail> {
 }
 
 #[test]
-fn the_last_of_many_keys_is_told(rt: HostRuntime) -> Result<(), Fail> {
+fn the_last_of_many_keys_is_reported(rt: HostRuntime) -> Result<(), Fail> {
     for key in ["0", "1500", "2999"] {
         let bytes = many_pairs(rt.alloc(), key)?;
         assert!(rt; is_told(rt.alloc(), &bytes, Some(key))?);

@@ -8,6 +8,7 @@ mod memory;
 mod reader;
 mod requests;
 mod texts;
+mod untagged;
 
 use amq_protocol_types::AMQPValue;
 use amq_protocol_types::parsing::{ErrorKind, SliceInput, parse_value};
@@ -25,7 +26,7 @@ enum Event<'a> {
     Ends,
 }
 
-/// Does the events in turn, and then ends. It gives at most `most` bytes at a time.
+/// Does the events in turn, and then ends. It yields at most `most` bytes at a time.
 #[derive(Drop)]
 struct Script<'a> {
     events: &'a [Event<'a>],
@@ -44,7 +45,7 @@ impl<'a> Script<'a> {
         }
     }
 
-    // What it would give next.
+    // What it would yield next.
     fn left(&self) -> &[u8] {
         match self.events.get(self.done) {
             Some(Event::Gives(bytes)) => bytes.split_at(self.given.min(bytes.len())).1,
@@ -128,7 +129,7 @@ fn answers(
     }
 }
 
-/// What is returned to what a reader does, call by call, and which bytes it would give next.
+/// What a reader of values returns at each call, and which bytes its source would yield next.
 #[derive(Clone, Copy)]
 struct Row<'a> {
     says: &'a str,
@@ -138,8 +139,8 @@ struct Row<'a> {
     left: &'a [u8],
 }
 
-// A reader of values, and values of a reader that is the caller's, answer as the case says, and
-// leave what it says, where the reader yields at most n bytes at a time.
+// A reader of values, and values of a reader that is the caller's, return what the case has, and
+// leave what it has, if the reader yields at most n bytes at a time.
 fn holds_for(rt: &impl Abort, alloc: Global, row: Row<'_>, most: usize) {
     assert!(rt; 0 < row.limits.frame);
     let mut owner = ValueReader::new(alloc, Script::new(row.events, most), row.limits);
@@ -158,7 +159,7 @@ fn holds_for(rt: &impl Abort, alloc: Global, row: Row<'_>, most: usize) {
     assert_eq!(rt; reader.left(), row.left, "{}", row.says);
 }
 
-// Both answer as the case says, however the reader cuts what it gives.
+// Both return what the case has, however the reader cuts what it yields.
 fn holds(rt: &impl Abort, alloc: Global, row: Row<'_>) {
     for most in [1, 2, 3, 7, 4096] {
         holds_for(rt, alloc, row, most);

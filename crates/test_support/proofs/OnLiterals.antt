@@ -23,17 +23,17 @@ pub e_acute : is_utf8 (195 ∷ 169 ∷ []) ≡ true
 unfolding is_utf8 chars encode
 e_acute = refl
 
--- the first byte of that letter alone
+-- only the first byte of that letter
 pub cut_letter : is_utf8 (195 ∷ []) ≡ false
 unfolding is_utf8 chars encode
 cut_letter = refl
 
--- a byte that is in no text
+-- a byte that is in no UTF-8
 pub byte_255 : is_utf8 (255 ∷ []) ≡ false
 unfolding is_utf8 chars encode
 byte_255 = refl
 
--- the number 0 in two bytes, where one is enough
+-- the number 0 in two bytes, of which one would be enough
 pub overlong : is_utf8 (192 ∷ 128 ∷ []) ≡ false
 unfolding is_utf8 chars encode
 overlong = refl

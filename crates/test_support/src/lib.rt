@@ -78,7 +78,7 @@ pub const KINDS: [ErrorKind; 42] = [
     ErrorKind::Uncategorized,
 ];
 
-/// Takes one byte a call, n calls, and then answers each with a broken pipe.
+/// Takes one byte a call, n calls, and then returns a broken pipe from each.
 #[derive(Drop)]
 pub struct OneByte {
     /// What it has taken.

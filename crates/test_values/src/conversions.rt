@@ -1,4 +1,4 @@
-//! Conversions of JSON, and strings of bytes, where they succeed.
+//! Conversions of JSON, and strings of bytes, that succeed.
 
 use amqp_value_core::types::{AMQPType, ByteArray, LongString, ShortString};
 use amqp_value_core::value::AMQPValue;
@@ -12,7 +12,7 @@ fn converted(alloc: Global, text: &str, amqp_type: AMQPType) -> Result<Option<AM
     Ok(AMQPValue::try_from(alloc, &value, amqp_type)?)
 }
 
-// whether the JSON text gives this value
+// whether the JSON text results in this value
 fn gives(alloc: Global, text: &str, amqp_type: AMQPType, value: &AMQPValue) -> Result<bool, Fail> {
     Ok(match converted(alloc, text, amqp_type)? {
         Some(made) => made == *value,
@@ -20,7 +20,7 @@ fn gives(alloc: Global, text: &str, amqp_type: AMQPType, value: &AMQPValue) -> R
     })
 }
 
-/// JSON texts that give no value of the type.
+/// JSON texts that result in no value of the type.
 const REFUSED: &[(&str, AMQPType)] = &[
     ("256", AMQPType::ShortShortUInt),
     ("-129", AMQPType::ShortShortInt),
@@ -38,7 +38,7 @@ const REFUSED: &[(&str, AMQPType)] = &[
 ];
 
 #[test]
-fn some_json_gives_no_value(rt: HostRuntime) -> Result<(), Fail> {
+fn some_json_has_no_value(rt: HostRuntime) -> Result<(), Fail> {
     for (text, amqp_type) in REFUSED {
         let made = converted(rt.alloc(), text, *amqp_type)?;
         assert!(rt; made.is_none(), "{text} as {amqp_type}");
@@ -47,7 +47,7 @@ fn some_json_gives_no_value(rt: HostRuntime) -> Result<(), Fail> {
 }
 
 #[test]
-fn json_gives_values_without_memory(rt: HostRuntime) -> Result<(), Fail> {
+fn json_converts_without_allocating(rt: HostRuntime) -> Result<(), Fail> {
     let rows = [
         (
             "255",
@@ -100,13 +100,13 @@ fn json_gives_values_without_memory(rt: HostRuntime) -> Result<(), Fail> {
 }
 
 #[test]
-fn json_gives_a_text(rt: HostRuntime) -> Result<(), Fail> {
+fn json_converts_to_a_string(rt: HostRuntime) -> Result<(), Fail> {
     let long = AMQPValue::LongString(LongString::from_text(rt.alloc(), "test")?);
     assert!(rt; gives(rt.alloc(), "\"test\"", AMQPType::LongString, &long)?);
     Ok(())
 }
 
-// a text of n letters, in quotes
+// a string of n letters, in quotes
 fn letters(alloc: Global, n: usize) -> Result<String, AllocError> {
     let mut text = String::new(alloc);
     text.push('"')?;
@@ -118,7 +118,7 @@ fn letters(alloc: Global, n: usize) -> Result<String, AllocError> {
 }
 
 #[test]
-fn short_texts_of_json(rt: HostRuntime) -> Result<(), Fail> {
+fn short_strings_of_json(rt: HostRuntime) -> Result<(), Fail> {
     for (n, fits) in [(255, true), (256, false)] {
         let text = letters(rt.alloc(), n)?;
         let made = converted(rt.alloc(), text.as_str(), AMQPType::ShortString)?;
@@ -128,7 +128,7 @@ fn short_texts_of_json(rt: HostRuntime) -> Result<(), Fail> {
 }
 
 #[test]
-fn long_strings_are_made_of_texts(rt: HostRuntime) -> Result<(), Fail> {
+fn long_strings_are_made_of_strs(rt: HostRuntime) -> Result<(), Fail> {
     let copied = LongString::from_text(rt.alloc(), "bytes")?;
     let owned = LongString::from(String::from_str(rt.alloc(), "bytes")?);
     assert_eq!(rt; copied.as_bytes(), b"bytes".as_slice());

@@ -46,7 +46,7 @@ fn packs_flags(rt: HostRuntime) -> Result<(), Fail> {
     Ok(())
 }
 
-// each flag is under its name, and none under another
+// each flag is under its name, and under no other
 fn has_its_flags(rt: &impl Abort, flags: &AMQPFlags, values: &[Boolean]) {
     for (name, value) in NAMES.iter().zip(values) {
         assert_eq!(rt; flags.get_flag(name), Some(*value), "{name}");
@@ -68,7 +68,7 @@ fn shows_flags_in_order(rt: HostRuntime) -> Result<(), Fail> {
 }
 
 #[test]
-fn tells_flags(rt: HostRuntime) -> Result<(), Fail> {
+fn returns_flags(rt: HostRuntime) -> Result<(), Fail> {
     let five = flags_of(rt.alloc(), FIVE)?;
     let ten = flags_of(rt.alloc(), OTHERS)?;
     has_its_flags(&rt, &five, FIVE);
@@ -145,7 +145,7 @@ fn writes_flags(rt: HostRuntime) -> Result<(), Fail> {
     Ok(())
 }
 
-// what is read of the bytes is written so, in as much room as that takes
+// what is read of the bytes is written so, to a buffer of as many bytes as that takes
 fn is_written_as(rt: &impl Abort, alloc: Global, bytes: &[u8], names: &[&str], written: [u8; 2]) {
     let mut room = [7; 2];
     let mut x = WriteContext::from(SliceOutput::new(&mut room));

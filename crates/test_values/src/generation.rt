@@ -45,13 +45,13 @@ fn put<W: BackToTheBuffer>(piece: Piece<'_>, x: &mut WriteContext<W>) -> GenResu
     }
 }
 
-// The bytes put are the expected ones, and as many as the position says.
+// The bytes written are the expected ones, and as many as the position counts.
 fn has_put(rt: &impl Abort, x: WriteContext<SliceOutput<'_>>, bytes: &[u8]) {
     assert_eq!(rt; x.position(), bytes.len() as u64);
     assert_eq!(rt; x.into_inner().0.written(), bytes);
 }
 
-// In n bytes of room a generator answers this, and puts these bytes.
+// In a buffer of n bytes a generator returns this, and writes these bytes.
 fn room_holds(rt: &impl Abort, piece: Piece<'_>, room: usize, answer: GenResult, bytes: &[u8]) {
     let mut slice = [7u8; 255];
     assert!(rt; room <= 255);
@@ -60,21 +60,21 @@ fn room_holds(rt: &impl Abort, piece: Piece<'_>, room: usize, answer: GenResult,
     has_put(rt, x, bytes);
 }
 
-// They fill as much room, and aren't put into a byte less.
-fn fills_its_room(rt: &impl Abort, piece: Piece<'_>, bytes: &[u8]) {
+// They fill a buffer of as many bytes, and aren't written to one of a byte less.
+fn fills_its_buffer(rt: &impl Abort, piece: Piece<'_>, bytes: &[u8]) {
     let less = bytes.len().saturating_sub(1);
     room_holds(rt, piece, bytes.len(), Ok(()), bytes);
     room_holds(rt, piece, less, Err(GenError::BufferTooSmall), &[]);
 }
 
 // So do those of a value, and those of its payload after its type tag.
-fn value_fills_its_room(rt: &impl Abort, value: &AMQPValue, bytes: &[u8]) {
-    fills_its_room(rt, Value(value), bytes);
-    fills_its_room(rt, Payload(value), bytes.split_at(bytes.len().min(1)).1);
+fn value_fills_its_buffer(rt: &impl Abort, value: &AMQPValue, bytes: &[u8]) {
+    fills_its_buffer(rt, Value(value), bytes);
+    fills_its_buffer(rt, Payload(value), bytes.split_at(bytes.len().min(1)).1);
 }
 
 #[test]
-fn strings_fill_their_room(rt: HostRuntime) {
+fn strings_fill_their_buffer(rt: HostRuntime) {
     let rows: [(Piece<'_>, &[u8]); 4] = [
         (Short(""), &[0]),
         (Short("test"), &[4, 116, 101, 115, 116]),
@@ -82,7 +82,7 @@ fn strings_fill_their_room(rt: HostRuntime) {
         (Long(b"test"), &[0, 0, 0, 4, 116, 101, 115, 116]),
     ];
     for (piece, bytes) in rows {
-        fills_its_room(&rt, piece, bytes);
+        fills_its_buffer(&rt, piece, bytes);
     }
 }
 
@@ -97,20 +97,20 @@ fn short_strings_have_at_most_255_bytes(rt: HostRuntime) -> Result<(), Fail> {
 }
 
 #[test]
-fn byte_arrays_fill_their_room(rt: HostRuntime) -> Result<(), Fail> {
+fn byte_arrays_fill_their_buffer(rt: HostRuntime) -> Result<(), Fail> {
     let rows: &[(&[u8], &[u8])] = &[
         (&[1, 2, 255], &[0, 0, 0, 3, 1, 2, 255]),
         (&[42, 1, 2, 3], &[0, 0, 0, 4, 42, 1, 2, 3]),
     ];
     for (bytes, written) in rows {
         let made = ByteArray::from_slice(rt.alloc(), bytes)?;
-        fills_its_room(&rt, Bytes(&made), written);
+        fills_its_buffer(&rt, Bytes(&made), written);
     }
     Ok(())
 }
 
 #[test]
-fn values_fill_their_room(rt: HostRuntime) {
+fn values_fill_their_buffer(rt: HostRuntime) {
     let decimal = DecimalValue {
         scale: 2,
         value: 42,
@@ -121,18 +121,18 @@ fn values_fill_their_room(rt: HostRuntime) {
         (AMQPValue::from(decimal), &[68, 2, 0, 0, 0, 42]),
     ];
     for (value, bytes) in &rows {
-        value_fills_its_room(&rt, value, bytes);
+        value_fills_its_buffer(&rt, value, bytes);
     }
 }
 
 #[test]
-fn values_of_bytes_fill_their_room(rt: HostRuntime) -> Result<(), Fail> {
+fn values_of_bytes_fill_their_buffer(rt: HostRuntime) -> Result<(), Fail> {
     let text = AMQPValue::from(LongString::from_text(rt.alloc(), "test")?);
-    value_fills_its_room(&rt, &text, &[83, 0, 0, 0, 4, 116, 101, 115, 116]);
+    value_fills_its_buffer(&rt, &text, &[83, 0, 0, 0, 4, 116, 101, 115, 116]);
     let bytes = AMQPValue::from(ByteArray::from_slice(rt.alloc(), &[42, 1, 2, 3])?);
-    value_fills_its_room(&rt, &bytes, &[120, 0, 0, 0, 4, 42, 1, 2, 3]);
+    value_fills_its_buffer(&rt, &bytes, &[120, 0, 0, 0, 4, 42, 1, 2, 3]);
     let short = AMQPValue::ShortString(ShortString::try_copy(rt.alloc(), "x")?);
-    value_fills_its_room(&rt, &short, &[95, 1, 120]);
+    value_fills_its_buffer(&rt, &short, &[95, 1, 120]);
     Ok(())
 }
 
@@ -141,14 +141,14 @@ fn array_of(alloc: Global, v: AMQPValue) -> Result<FieldArray, AllocError> {
 }
 
 #[test]
-fn arrays_fill_their_room(rt: HostRuntime) -> Result<(), Fail> {
+fn arrays_fill_their_buffer(rt: HostRuntime) -> Result<(), Fail> {
     let empty = FieldArray::new_in(rt.alloc());
-    fills_its_room(&rt, Array(&empty), &[0, 0, 0, 0]);
+    fills_its_buffer(&rt, Array(&empty), &[0, 0, 0, 0]);
     let of_true = array_of(rt.alloc(), AMQPValue::Boolean(true))?;
-    fills_its_room(&rt, Array(&of_true), &[0, 0, 0, 2, 116, 1]);
+    fills_its_buffer(&rt, Array(&of_true), &[0, 0, 0, 2, 116, 1]);
     let x = ShortString::try_copy(rt.alloc(), "x")?;
     let of_x = array_of(rt.alloc(), AMQPValue::ShortString(x))?;
-    fills_its_room(&rt, Array(&of_x), &[0, 0, 0, 3, 95, 1, 120]);
+    fills_its_buffer(&rt, Array(&of_x), &[0, 0, 0, 3, 95, 1, 120]);
     Ok(())
 }
 
@@ -158,30 +158,30 @@ const ENTRIES: &[u8] = &[
 ];
 
 #[test]
-fn tables_fill_their_room(rt: HostRuntime) -> Result<(), Fail> {
+fn tables_fill_their_buffer(rt: HostRuntime) -> Result<(), Fail> {
     let mut entries = FieldTable::new_in(rt.alloc());
-    fills_its_room(&rt, Table(&entries), &[0, 0, 0, 0]);
+    fills_its_buffer(&rt, Table(&entries), &[0, 0, 0, 0]);
     let last = ShortString::try_copy(rt.alloc(), "test2")?;
     entries.place(last, AMQPValue::Boolean(false))?;
     let first = ShortString::try_copy(rt.alloc(), "test")?;
     entries.place(first, AMQPValue::Float(Float::from_bits(0x4229_ae14)))?;
-    fills_its_room(&rt, Table(&entries), &ENTRIES[1..]);
+    fills_its_buffer(&rt, Table(&entries), &ENTRIES[1..]);
     Ok(())
 }
 
 #[test]
-fn a_table_of_a_map_fills_its_room(rt: HostRuntime) -> Result<(), Fail> {
+fn a_table_of_a_map_fills_its_buffer(rt: HostRuntime) -> Result<(), Fail> {
     let mut map: BTreeMap<ShortString, AMQPValue> = BTreeMap::new(rt.alloc());
     let first = ShortString::try_copy(rt.alloc(), "test")?;
     drop(map.insert(first, AMQPValue::from(Float::from_bits(1_110_027_796)))?);
     let last = ShortString::try_copy(rt.alloc(), "test2")?;
     drop(map.insert(last, AMQPValue::from(false))?);
-    value_fills_its_room(&rt, &AMQPValue::from(FieldTable::from(map)), ENTRIES);
+    value_fills_its_buffer(&rt, &AMQPValue::from(FieldTable::from(map)), ENTRIES);
     Ok(())
 }
 
 #[test]
-fn texts_of_errors(rt: HostRuntime) -> Result<(), Fail> {
+fn messages_of_errors(rt: HostRuntime) -> Result<(), Fail> {
     for (error, text) in [
         (GenError::BufferTooSmall, "buffer too small"),
         (GenError::LengthTooLong, "length too long"),

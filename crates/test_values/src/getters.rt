@@ -39,7 +39,7 @@ fn types_have_letters(rt: HostRuntime) {
     assert_eq!(rt; AMQPType::from_id('L'), Some(AMQPType::LongLongInt));
 }
 
-// which getters answer a field, in the order of the types
+// which getters return a field, in the order of the types
 fn answered(value: &AMQPValue) -> [bool; 18] {
     [
         value.as_bool().is_some(),
@@ -64,7 +64,7 @@ fn answered(value: &AMQPValue) -> [bool; 18] {
 }
 
 #[test]
-fn a_getter_answers_for_its_own_type_alone(rt: HostRuntime) {
+fn a_getter_returns_only_its_type(rt: HostRuntime) {
     let alloc = rt.alloc();
     let decimal = DecimalValue { scale: 1, value: 2 };
     let values = [
@@ -105,7 +105,7 @@ fn a_number_is_the_field_of_its_type(rt: HostRuntime) {
 }
 
 #[test]
-fn a_text_is_the_field_of_its_type(rt: HostRuntime) -> Result<(), Fail> {
+fn a_string_is_the_field_of_its_type(rt: HostRuntime) -> Result<(), Fail> {
     let text = AMQPValue::from(ShortString::try_copy(rt.alloc(), "test")?);
     match text.as_short_string() {
         Some(short) => assert_eq!(rt; short.as_str(), "test"),

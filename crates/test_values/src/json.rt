@@ -6,7 +6,7 @@ use serde::{Deserialize, Serialize};
 use std::alloc::Global;
 use std::test::Fail;
 
-// written as this text, and read from it again
+// written as this JSON text, and read from it again
 fn goes_both_ways<'a, T: Serialize + Deserialize<'a> + PartialEq + Drop>(
     alloc: Global,
     value: &T,
@@ -39,7 +39,7 @@ fn strings_of_bytes_go_both_ways(rt: HostRuntime) -> Result<(), Fail> {
     Ok(())
 }
 
-// whether no text is read as a value
+// whether no JSON text is read as a value
 fn all_refused<'a, T: Deserialize<'a> + Drop>(alloc: Global, texts: &[&'a str]) -> bool {
     for text in texts {
         let read: Result<T, serde_json::Error> = serde_json::from_str(alloc, text);
@@ -51,7 +51,7 @@ fn all_refused<'a, T: Deserialize<'a> + Drop>(alloc: Global, texts: &[&'a str]) 
 }
 
 #[test]
-fn bad_texts_are_refused(rt: HostRuntime) {
+fn bad_texts_are_rejected(rt: HostRuntime) {
     let alloc = rt.alloc();
     assert!(rt; all_refused::<AMQPType>(alloc, &["\"boolean\"", "1", "", "[]"]));
     assert!(rt;

@@ -8,7 +8,7 @@ use amqp_value_core::value::AMQPValue;
 use std::alloc::Global;
 use std::test::Fail;
 
-/// Whether the value is written as this text, and read from it again.
+/// Whether the value is written as this JSON text, and read from it again.
 pub(crate) fn goes_both_ways(alloc: Global, value: &AMQPValue, text: &str) -> Result<bool, Fail> {
     let written = to_json(alloc, value)?;
     let read = from_json(alloc, text)?;

@@ -1,5 +1,5 @@
-//! What no clause says: that calls which take memory succeed where there is memory, and printed
-//! texts.
+//! What no clause states: that calls which allocate succeed if there is memory, and printed
+//! strings.
 
 use amqp_value_core::types::{
     AMQPType, ByteArray, DecimalValue, Double, FieldArray, FieldTable, Float, LongString,
@@ -12,7 +12,7 @@ use std::fmt::Display;
 use std::hash::{DefaultHasher, Hash, Hasher};
 use std::test::Fail;
 
-// a text of n letters
+// a string of n letters
 fn letters(alloc: Global, n: usize) -> Result<String, AllocError> {
     let mut text = String::new(alloc);
     for _ in 0..n {
@@ -62,7 +62,7 @@ fn values_of_two_types_differ(rt: HostRuntime) {
     assert!(rt; AMQPValue::FieldArray(FieldArray::new_in(rt.alloc())) != AMQPValue::Void);
 }
 
-// the length of a short string of this text, or the length that its error tells
+// the length of a short string of this string, or the length that its error reports
 fn length_of(text: String) -> Result<usize, usize> {
     match ShortString::try_new(text) {
         Ok(short) => Ok(short.as_str().len()),
@@ -80,7 +80,7 @@ fn short_strings_have_at_most_255_bytes(rt: HostRuntime) -> Result<(), Fail> {
 }
 
 #[test]
-fn short_strings_stand_in_the_order_of_their_bytes(rt: HostRuntime) -> Result<(), Fail> {
+fn short_strings_are_ordered_by_their_bytes(rt: HostRuntime) -> Result<(), Fail> {
     let upper = key(rt.alloc(), "Zug")?;
     let lower = key(rt.alloc(), "am")?;
     assert!(rt; upper.cmp(&lower) == Ordering::Less && upper != lower);
@@ -146,7 +146,7 @@ fn a_table_is_made_of_pairs(rt: HostRuntime) -> Result<(), Fail> {
 }
 
 #[test]
-fn a_key_is_its_whole_text(rt: HostRuntime) -> Result<(), Fail> {
+fn a_key_is_its_complete_string(rt: HostRuntime) -> Result<(), Fail> {
     let mut table = FieldTable::new_in(rt.alloc());
     for name in ["aa", "b"] {
         put(rt.alloc(), &mut table, name, AMQPValue::Void)?;
@@ -183,7 +183,7 @@ fn types_and_strings_print(rt: HostRuntime) -> Result<(), Fail> {
 }
 
 #[test]
-fn refusals_print(rt: HostRuntime) -> Result<(), Fail> {
+fn errors_print(rt: HostRuntime) -> Result<(), Fail> {
     let long = letters(rt.alloc(), 256)?;
     match ShortString::try_copy(rt.alloc(), long.as_str()) {
         Ok(_copied) => assert!(rt; false),
@@ -276,14 +276,14 @@ fn a_copy_equals_what_is_copied(rt: HostRuntime) -> Result<(), Fail> {
     Ok(())
 }
 
-// what a value gives a hasher
+// what a value feeds a hasher
 fn hash_of<T: Hash>(value: &T) -> u64 {
     let mut hasher = DefaultHasher::default();
     value.hash(&mut hasher);
     hasher.finish()
 }
 
-// what a text gives a hasher as a short string, as a long one and as a byte array
+// what a string feeds a hasher as a short string, as a long one and as a byte array
 fn hashes_of(alloc: Global, text: &str) -> Result<[u64; 3], Fail> {
     let short = hash_of(&key(alloc, text)?);
     let long = hash_of(&LongString::from_slice(alloc, text.as_bytes())?);

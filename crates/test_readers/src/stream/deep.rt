@@ -16,7 +16,7 @@ fn arrays(alloc: Global) -> Result<Vec<u8>, AllocError> {
     Ok(bytes)
 }
 
-// A reader that gives the bytes is answered so, and an input of them results in that.
+// A reader that yields the bytes returns this, and an input of them results in that.
 fn are_answered(
     rt: &impl Abort,
     alloc: Global,

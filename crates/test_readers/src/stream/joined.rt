@@ -41,7 +41,7 @@ pub(super) fn joined(alloc: Global) -> Result<Vec<u8>, AllocError> {
     Ok(bytes)
 }
 
-// Within a limit `frame` of n bytes they are answered so, and this is left.
+// Within a limit `frame` of n bytes this is returned of them, and this is left.
 fn are_answered(
     rt: &impl Abort,
     alloc: Global,
@@ -71,9 +71,9 @@ fn are_read_one_by_one(rt: HostRuntime) -> Result<(), Fail> {
     Ok(())
 }
 
-/// Each value is the one that is read of its encoding alone.
+/// Each value is the one that is read of its encoding by itself.
 #[test]
-fn are_read_as_alone(rt: HostRuntime) -> Result<(), Fail> {
+fn are_read_as_by_themselves(rt: HostRuntime) -> Result<(), Fail> {
     let bytes = joined(rt.alloc())?;
     let mut reader = bytes.as_slice();
     let limits = Limits {

@@ -11,7 +11,7 @@ fn long_wire(alloc: Global) -> Result<Vec<u8>, AllocError> {
     Ok(bytes)
 }
 
-// whether a value is a text of n bytes 7
+// whether a value is a string of n bytes 7
 fn is_text_of_sevens(answer: Result<Option<AMQPValue>, StreamError>, length: usize) -> bool {
     match answer {
         Ok(Some(AMQPValue::LongString(text))) => {
@@ -33,7 +33,7 @@ fn gives_it(rt: &impl Abort, alloc: Global, reader: impl Read + Drop) {
 }
 
 #[test]
-fn a_long_frame_is_read_byte_by_byte_and_at_once(rt: HostRuntime) -> Result<(), Fail> {
+fn a_long_field_is_read_byte_by_byte_and_at_once(rt: HostRuntime) -> Result<(), Fail> {
     let bytes = long_wire(rt.alloc())?;
     assert_eq!(rt; bytes.len(), 1048576);
     let events = [Event::Gives(bytes.as_slice())];

@@ -17,7 +17,7 @@ const DEEP_FIRST: &[u8] = &[
     70, 0, 0, 0, 15, 1, 97, 65, 0, 0, 0, 5, 65, 0, 0, 0, 0, 1, 97, 86,
 ];
 
-/// The other way round, and what is kept of that.
+/// The other way round, and what is retained of that.
 const DEEP_LAST: &[u8] = &[
     70, 0, 0, 0, 15, 1, 97, 86, 1, 97, 65, 0, 0, 0, 5, 65, 0, 0, 0, 0,
 ];
@@ -55,14 +55,14 @@ const CASES: &[(u32, u32, &[u8], Outcome<'static>)] = &[
     (20, 2, DEEP_FIRST, Refused(ErrorKind::Eof)),
     (20, 3, DEEP_LAST, Value(KEPT, 0)),
     (20, 2, DEEP_LAST, Refused(ErrorKind::Eof)),
-    // how many bytes are needed is told before what is wrong inside, and that a value is too large
-    // before how many are needed
+    // how many bytes are needed is reported before what is malformed inside, and that a value is
+    // too large before how many are needed
     (10, 1, &[65], Needs(4)),
     (10, 0, &[65, 0, 0, 0, 5, 122], Needs(4)),
     (9, 0, &[65, 0, 0, 0, 5, 122], Refused(ErrorKind::TooLarge)),
     (10, 0, &[65, 0, 0, 0, 1, 122, 86], Refused(ErrorKind::Eof)),
     (1, 0, &[], Needs(1)),
-    // a fixed width is told by the type tag alone
+    // a fixed width is known by the type tag only
     (8, 0, &[84], Refused(ErrorKind::TooLarge)),
     (9, 0, &[84, 1], Needs(7)),
     (5, 0, &[68], Refused(ErrorKind::TooLarge)),
@@ -115,7 +115,7 @@ fn answers_over_each_cut(
 }
 
 #[test]
-fn inputs_are_answered_within_limits(rt: HostRuntime) {
+fn inputs_have_results_within_limits(rt: HostRuntime) {
     for (frame, depth, bytes, outcome) in CASES {
         let limits = Limits {
             frame: *frame,

@@ -8,7 +8,7 @@ const BYTES: &[u8] = &[
     70, 0, 0, 0, 11, 1, 97, 83, 0, 0, 0, 4, 116, 101, 115, 116, 86,
 ];
 
-// whether a value is a table of one key, with a text
+// whether a value is a table of one key, with a string
 fn is_table_of(value: &AMQPValue, key: &str, text: &[u8]) -> bool {
     let AMQPValue::FieldTable(table) = value else {
         return false;
@@ -32,9 +32,9 @@ fn patient_next(
     }
 }
 
-/// The call after one that ran out of memory gives the value.
+/// The call after one that ran out of memory returns the value.
 #[test]
-fn want_of_memory_loses_nothing(rt: HostRuntime) {
+fn out_of_memory_loses_nothing(rt: HostRuntime) {
     let events = [Event::Gives(BYTES)];
     let mut reader = Script::new(&events, 3);
     let mut values = Values::new(
@@ -59,7 +59,7 @@ fn want_of_memory_loses_nothing(rt: HostRuntime) {
 
 /// A value past the limit is rejected with no allocation.
 #[test]
-fn a_refusal_takes_no_memory(rt: HostRuntime) {
+fn a_rejection_does_not_allocate(rt: HostRuntime) {
     let limits = Limits { frame: 9, depth: 2 };
     let input = SliceInput::new(&[65, 0, 0, 0, 5, 65, 0, 0, 0, 0]);
     match parse_value_within(rt.alloc(), input, limits) {

@@ -183,7 +183,7 @@ const ROWS: &[Row<'static>] = &[
 ];
 
 #[test]
-fn readers_are_answered(rt: HostRuntime) {
+fn readers_have_results(rt: HostRuntime) {
     for row in ROWS {
         holds(&rt, rt.alloc(), *row);
     }
@@ -218,7 +218,7 @@ fn it_goes_on_after_a_fault(rt: HostRuntime) {
 }
 
 #[test]
-fn a_text_is_what_came(rt: HostRuntime) {
+fn a_string_is_what_came(rt: HostRuntime) {
     let events = [Gives(TEST)];
     let limits = Limits { frame: 9, depth: 0 };
     let mut values = ValueReader::new(rt.alloc(), Script::new(&events, 1), limits);

@@ -5,7 +5,7 @@ use super::*;
 use std::test::Fail;
 
 /// How many more bytes are needed for the field that's being read, once these have come of a value.
-/// It is 0 where the value is whole, and where no more bytes would help.
+/// It is 0 if the value is complete, and if no more bytes would help.
 fn lack(bytes: &[u8]) -> usize {
     let wanted = match bytes {
         [] | [b'V', ..] => 1,
@@ -25,7 +25,7 @@ fn lack(bytes: &[u8]) -> usize {
 }
 
 #[test]
-fn lack_is_by_fields(rt: HostRuntime) {
+fn missing_bytes_are_by_fields(rt: HostRuntime) {
     let rows: &[(&[u8], usize)] = &[
         (&[], 1),
         (&[86], 0),
@@ -47,7 +47,7 @@ struct Request {
     lack: usize,
 }
 
-/// Gives the bytes, at most `most` at a time, and notes each request.
+/// Yields the bytes, at most `most` at a time, and notes each request.
 #[derive(Drop)]
 struct Noting<'a> {
     bytes: &'a [u8],
@@ -91,7 +91,7 @@ fn are_modest(requests: &[Request]) -> bool {
 }
 
 // Requests for the values of these bytes, which are n, and for what isn't a value after them
-// are modest, where at most n bytes come at a time.
+// are modest, if at most n bytes come at a time.
 fn asks_modestly_for(
     rt: &impl Abort,
     alloc: Global,
@@ -173,7 +173,7 @@ fn are_at_most(requests: &[Request], most: usize) -> bool {
     requests.iter().all(|request| request.most <= most)
 }
 
-/// No room is made for what a length claims: while few bytes have come, a request is for few.
+/// No buffer grows for what a length claims: while few bytes have come, a request is for few.
 #[test]
 fn are_small_whatever_a_length_claims(rt: HostRuntime) {
     let bytes = [83, 255, 255, 255, 250, 1, 2, 3];

@@ -1,9 +1,9 @@
-//! Texts of errors.
+//! Errors as strings.
 
 use super::*;
 use std::test::Fail;
 
-// Why the first call gives no value of these bytes.
+// Why the first call returns no value of these bytes.
 fn error_of(alloc: Global, bytes: &[u8], limits: Limits) -> Option<StreamError> {
     if limits.frame == 0 {
         return None;
@@ -12,7 +12,7 @@ fn error_of(alloc: Global, bytes: &[u8], limits: Limits) -> Option<StreamError> 
 }
 
 #[test]
-fn a_refusal_has_the_text_of_its_kind(rt: HostRuntime) -> Result<(), Fail> {
+fn an_error_has_the_message_of_its_kind(rt: HostRuntime) -> Result<(), Fail> {
     let rows: &[(u32, u32, &[u8], &str)] = &[
         (9, 2, &[65, 0, 0, 0, 5], "Parser error: Nom(TooLarge)"),
         (9, 2, &[122], "Parser error: Nom(MapOpt)"),
@@ -31,7 +31,7 @@ fn a_refusal_has_the_text_of_its_kind(rt: HostRuntime) -> Result<(), Fail> {
 }
 
 #[test]
-fn other_errors_have_texts_of_their_own(rt: HostRuntime) -> Result<(), Fail> {
+fn other_errors_have_their_own_messages(rt: HostRuntime) -> Result<(), Fail> {
     for (error, text) in [
         (StreamError::Truncated, "truncated"),
         (StreamError::Read(io::ErrorKind::TimedOut), "read failed"),
@@ -44,7 +44,7 @@ fn other_errors_have_texts_of_their_own(rt: HostRuntime) -> Result<(), Fail> {
 }
 
 #[test]
-fn a_kind_has_a_text(rt: HostRuntime) -> Result<(), Fail> {
+fn a_kind_has_a_message(rt: HostRuntime) -> Result<(), Fail> {
     let limits = Limits { frame: 4, depth: 0 };
     match error_of(rt.alloc(), &[65], limits) {
         Some(StreamError::Refused(e)) => {

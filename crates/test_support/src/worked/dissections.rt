@@ -1,7 +1,7 @@
 //! Worked examples: the parts of some bytes.
 //!
-//! Bytes stand as `hex` reads them: two digits a byte, type tags and texts between quotes. Of each
-//! part stand what it is, in how many containers it stands, and its bytes.
+//! Bytes are written as `hex` reads them: two digits a byte, type tags and strings in quotes. Of
+//! each part are listed what it is, in how many containers it is, and its bytes.
 #![tactic(auto, unfolding(amqp_dissect::specs::PartsOf::part, amqp_dissect::specs::PartsOf::key_parts, amqp_dissect::specs::PartsOf::counted_parts, amqp_dissect::specs::PartsOf::payload_parts, amqp_dissect::specs::PartsOf::value_parts, amqp_dissect::specs::PartsOf::entries_parts))]
 
 ghost use Rattle.std.specs.Prelude.{◌≡◌, [], ◌∷◌};
@@ -11,7 +11,7 @@ ghost use Rattle.amqp_dissect.specs.PartsOf.{parts_of};
 use amqp_dissect::Field;
 use amqp_types::AMQPType;
 
-/// A payload of fixed width is one part, a decimal's with its scale; Void has none.
+/// A payload of fixed width is one part, a decimal's with its scale; Void has no payload.
 pub fn values_of_fixed_width()
     ensures boolean { parts_of (hex "'t' 07")
         ≡ (Field.TypeTag AMQPType.Boolean, 0, hex "'t'")
@@ -28,7 +28,7 @@ pub fn values_of_fixed_width()
     ensures void { parts_of (hex "'V'") ≡ (Field.TypeTag AMQPType.Void, 0, hex "'V'") ∷ [] }
 {}
 
-/// A string has its length, and a payload where it isn't empty.
+/// A string has its length, and a payload if it isn't empty.
 pub fn strings()
     ensures some { parts_of (hex "'S' 00000003 'abc'")
         ≡ (Field.TypeTag AMQPType.LongString, 0, hex "'S'")
@@ -57,8 +57,8 @@ pub fn arrays()
         ∷ (Field.TypeTag AMQPType.Void, 1, hex "'V'") ∷ [] }
 {}
 
-/// The pairs of a table, as they are written: a key stands at the level of its value, and an empty
-/// one has its length alone.
+/// The pairs of a table, as they are written: a key has the level of its value, and an empty
+/// one has only its length.
 pub fn tables()
     ensures pairs { parts_of (hex "'F' 0000000b 02 'ab' 'B' 40 00 'F' 00000000")
         ≡ (Field.TypeTag AMQPType.FieldTable, 0, hex "'F'")
@@ -82,8 +82,8 @@ pub fn tables()
         ∷ (Field.TypeTag AMQPType.Void, 1, hex "'V'") ∷ [] }
 {}
 
-/// Where a dissection ends at a problem its bytes break off: behind a type tag whose payload is cut,
-/// behind the length of a key that isn't UTF-8, or where an entry should begin.
+/// A dissection that ends at a problem ends with the bytes: after a type tag whose payload is cut,
+/// after the length of a key that isn't UTF-8, or at the place at which an entry should begin.
 pub fn bytes_that_break_off()
     ensures nothing { parts_of [] ≡ [] }
     ensures payload { parts_of (hex "'A' 00000002 'I'")

@@ -1,6 +1,6 @@
-//! Worked examples: what the definitions say of some bytes and of some values.
+//! Worked examples: what the definitions state of some bytes and of some values.
 //!
-//! Bytes stand as `hex` reads them: two digits a byte, type tags and texts between quotes.
+//! Bytes are written as `hex` reads them: two digits a byte, type tags and strings between quotes.
 
 ghost use Rattle.std.specs.Prelude.{◌≡◌, List, [], ◌∷◌, ◌++◌, true, false, negsuc, Some, None, codes};
 ghost use Rattle.std.specs.Str.{byte};
@@ -26,7 +26,7 @@ pub fn booleans()
     ensures writes_false { text (scalar (boolean false)) ≡ hex "'t' 00" }
 {}
 
-/// Numbers of one byte and of two, big-endian: where each byte is 255 a signed number is -1.
+/// Numbers of one byte and of two, big-endian: if each byte is 255 a signed number is -1.
 pub fn numbers_of_few_bytes()
     ensures byte { outcome (hex "'b' ff")
         ≡ found (scalar (number AMQPType.ShortShortInt (cast_unsigned w8 (negsuc 0)))) [] }
@@ -48,7 +48,7 @@ pub fn numbers_of_four_bytes()
     ensures writes_unsigned { text (scalar (number AMQPType.LongUInt 66666)) ≡ hex "'i' 0001046a" }
 {}
 
-/// A number below 0 stands as its two's complement: -2 in four bytes, and -53.
+/// A number below 0 is written as its two's complement: -2 in four bytes, and -53.
 pub fn a_negative_number()
     ensures reads { outcome (hex "'I' fffffffe")
         ≡ found (scalar (number AMQPType.LongInt (cast_unsigned w32 (negsuc 1)))) [] }
@@ -74,7 +74,7 @@ pub fn a_timestamp()
 {}
 
 /// Two types have a second type tag, which is read and never written.
-pub fn second_spellings()
+pub fn alternate_tags()
     ensures two_bytes { outcome (hex "'U' 0005") ≡ found (scalar (number AMQPType.ShortInt 5)) [] }
     ensures writes_two { text (scalar (number AMQPType.ShortInt 5)) ≡ hex "'s' 0005" }
     ensures eight_bytes { outcome (hex "'L' ffffffffffffffff")
@@ -124,7 +124,7 @@ pub fn byte_arrays()
     ensures writes { text (octets (hex "2a010203")) ≡ hex "'x' 00000004 2a010203" }
 {}
 
-/// A short string is written with a type tag that is not read, so that it is rejected alone, and
+/// A short string is written with a type tag that is not read, so that it is rejected outside, and
 /// inside an array as that array.
 pub fn short_strings_written()
     ensures writes { text (short (codes "x")) ≡ hex "'_' 01 'x'" }
@@ -134,7 +134,7 @@ pub fn short_strings_written()
     ensures not_readable { readable (array (trees_of (short (codes "x") ∷ []))) ≡ false }
 {}
 
-/// A short string is read as a payload alone: at most 255 bytes of UTF-8 after their length.
+/// A short string is read only as a payload: at most 255 bytes of UTF-8 after their length.
 #[tactic(auto, using(crate::proofs::OnLiterals::empty_text, crate::proofs::OnLiterals::word_test, crate::proofs::OnLiterals::e_acute))]
 pub fn short_strings_read()
     ensures empty { raw_outcome AMQPType.ShortString (hex "00 07") ≡ found (short []) (hex "07") }
@@ -142,7 +142,7 @@ pub fn short_strings_read()
     ensures two_bytes { raw_outcome AMQPType.ShortString (hex "02 c3a9") ≡ found (short (hex "c3a9")) [] }
 {}
 
-/// Bytes that aren't UTF-8 are rejected once they have come: a byte that is in no text, a
+/// Bytes that aren't UTF-8 are rejected once they have come: a byte that is in no UTF-8, a
 /// character that is cut, an overlong form, a surrogate.
 #[tactic(auto, using(crate::proofs::OnLiterals::byte_255, crate::proofs::OnLiterals::cut_letter, crate::proofs::OnLiterals::overlong, crate::proofs::OnLiterals::surrogate))]
 pub fn short_strings_refused()
@@ -154,7 +154,7 @@ pub fn short_strings_refused()
     ensures no_byte { raw_outcome AMQPType.ShortString [] ≡ more 1 }
 {}
 
-/// An array of true and nothing is found; the boolean is spelled 7, and 1 is written for it.
+/// An array of true and nothing is found; the boolean is written 7, and 1 is written for it.
 pub fn an_array()
     ensures reads { outcome (hex "'A' 00000003 't' 07 'V'")
         ≡ found (array (trees_of (scalar (boolean true) ∷ scalar void ∷ []))) [] }
@@ -275,7 +275,7 @@ pub fn other_keys()
         ≡ found (table (entries_of ((hex "c3a9", scalar void) ∷ []))) [] }
 {}
 
-/// A whole table is malformed where a key isn't UTF-8, and where the body cuts a key or its value.
+/// A complete table is malformed if a key isn't UTF-8, and if the body cuts a key or its value.
 #[tactic(auto, using(crate::proofs::OnLiterals::byte_255, crate::proofs::OnLiterals::letter_a))]
 pub fn keys_refused()
     ensures no_text { outcome (hex "'F' 00000003 01 ff 'V'") ≡ malformed }
@@ -298,7 +298,7 @@ pub fn keys_put()
         ≡ entries_of ((codes "a", scalar (boolean true)) ∷ (codes "b", scalar void) ∷ []) }
 {}
 
-/// A value is found at its own key alone.
+/// A value is found only at its key.
 pub fn keys_looked_up()
     ensures there { value_at (codes "b") (entries_of ((codes "a", scalar void) ∷ (codes "b", long (codes "c")) ∷ []))
         ≡ Some (long (codes "c")) }
@@ -308,7 +308,7 @@ pub fn keys_looked_up()
     ensures has { has_key (codes "a") (entries_of ((codes "a", scalar void) ∷ [])) ≡ true }
 {}
 
-/// Where there is no byte one is needed, and of a length of four bytes those that haven't come.
+/// If there is no byte one is needed, and of a length of four bytes those that haven't come.
 pub fn cut_headers()
     ensures no_byte { outcome [] ≡ more 1 }
     ensures array { outcome (hex "'A' 00") ≡ more 3 }
@@ -347,18 +347,18 @@ pub fn an_unknown_id()
     ensures with_rest { outcome (hex "c8 'V'") ≡ unknown }
 {}
 
-/// An unknown type tag in a body that has come whole is malformed.
+/// An unknown type tag in a body that has come completely is malformed.
 pub fn an_unknown_id_inside()
     ensures { outcome (hex "'A' 00000001 'z'") ≡ malformed }
 {}
 
-/// A value that the end of a whole body cuts is malformed, and asks for no more bytes.
+/// A value that the end of a complete body cuts is malformed, and asks for no more bytes.
 pub fn a_cut_value_inside()
     ensures refused { outcome (hex "'A' 00000002 's' 00") ≡ malformed }
     ensures with_rest { outcome (hex "'A' 00000002 'I' 00 00002a") ≡ malformed }
 {}
 
-/// An inner length-prefixed field that ends after the outer one is malformed, though it is whole.
+/// An inner length-prefixed field that ends after the outer one is malformed, though complete.
 pub fn a_frame_past_its_body()
     ensures array { outcome (hex "'A' 00000006 'A' 00000002 't' 00") ≡ malformed }
     ensures string { outcome (hex "'A' 00000006 'S' 00000002 't' 00") ≡ malformed }
@@ -389,7 +389,7 @@ pub fn measures_of_arrays()
 {}
 
 /// An empty table at one key and a long string at another: two deep, three values; keys count as
-/// bytes alone.
+/// bytes only.
 pub fn measures_of_a_table()
     ensures deep { depth (table (entries_of ((codes "a", table no_entries) ∷ (codes "bb", long (codes "cc")) ∷ [])))
         ≡ 2 }
@@ -415,7 +415,7 @@ pub fn payloads()
     ensures refused { raw_outcome AMQPType.FieldArray (hex "00000001 'z'") ≡ malformed }
 {}
 
-/// An unsigned number of eight bytes is a payload alone, and means the signed number of the same
+/// An unsigned number of eight bytes is only a payload, and means the signed number of the same
 /// bits.
 pub fn unsigned_numbers_of_eight_bytes()
     ensures unsigned { raw_outcome AMQPType.LongLongUInt (hex "2a2a2a2a2a2a2a2a")
@@ -427,7 +427,7 @@ pub fn unsigned_numbers_of_eight_bytes()
 {}
 
 /// The nineteen type tags that are read, and the types that they denote; `_`, `z`, 0 and 200
-/// denote none.
+/// denote no type.
 pub fn ids()
     ensures boolean { kind (byte "t") ≡ Some AMQPType.Boolean }
     ensures short_short_int { kind (byte "b") ≡ Some AMQPType.ShortShortInt }
@@ -477,15 +477,15 @@ pub fn ids_written()
     ensures void { id_of AMQPType.Void ≡ byte "V" }
 {}
 
-/// The type that is read where the type tag of a type was written: a signed number of eight bytes
-/// for an unsigned one, none for a short string, and the type itself for every other.
+/// The type that is read if the type tag of a type was written: a signed number of eight bytes
+/// for an unsigned one, no type for a short string, and the type itself for every other.
 pub fn types_read_back()
     ensures long_long_uint { read_as AMQPType.LongLongUInt ≡ Some AMQPType.LongLongInt }
     ensures short_string { read_as AMQPType.ShortString ≡ None }
     ensures other { read_as AMQPType.DecimalValue ≡ Some AMQPType.DecimalValue }
 {}
 
-/// Memory is taken only for a whole length-prefixed field of at least one byte, whatever it holds.
+/// Only a complete length-prefixed field of at least one byte allocates, whatever it holds.
 pub fn memory()
     ensures body { Heavy (hex "'A' 00000001 'z'") }
     ensures string { Heavy (hex "'S' 00000001 'z'") }
@@ -507,7 +507,7 @@ pub fn memory_of_payloads()
     ensures decimal { ¬ RawHeavy AMQPType.DecimalValue (hex "02 0000002a") }
 {}
 
-/// The grammar says the same: what is found has an encoding, and what is malformed has no prefix
+/// The grammar agrees: what is found has an encoding, and what is malformed has no prefix
 /// that is one.
 pub fn by_the_grammar()
     ensures array { Outcome (hex "'A' 00000003 't' 07 'V'") (found (array (trees_of (scalar (boolean true) ∷ scalar void ∷ []))) []) }

@@ -4,7 +4,7 @@ ghost use Rattle.std.specs.Prelude.{◌≡◌, true, false, [], ◌∷◌, codes
 ghost use Rattle.amqp_grammar.specs.Hexadecimal.{hex};
 ghost use Rattle.amqp_flags.specs.Flags.{pack, unpack};
 
-/// Flags stand eight to a byte, the first one's bit the lowest, and the bits left over are 0.
+/// Flags are packed eight to a byte, the first one's bit the lowest, and the bits left over are 0.
 pub fn packed_flags()
     ensures five { pack (true ∷ false ∷ false ∷ true ∷ true ∷ []) ≡ hex "19" }
     ensures ten { pack (true ∷ false ∷ false ∷ true ∷ true ∷ true ∷ false ∷ false ∷ true ∷ true ∷ []) ≡ hex "3903" }

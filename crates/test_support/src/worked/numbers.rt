@@ -1,4 +1,4 @@
-//! Worked examples: what the definitions say of some values in memory.
+//! Worked examples: what the definitions state of some values in memory.
 
 ghost use Rattle.std.specs.Prelude.{◌≡◌, negsuc};
 ghost use Rattle.amqp_grammar.specs.Values.{number, scalar};
@@ -7,7 +7,7 @@ ghost use Rattle.amqp_value_core.specs.View.{view};
 use amqp_value_core::types::AMQPType;
 use amqp_value_core::value::AMQPValue;
 
-/// A number below 0 stands as its two's complement: -2 in four bytes.
+/// A number below 0 is written as its two's complement: -2 in four bytes.
 pub fn a_negative_number()
     ensures { view (AMQPValue.LongInt (negsuc 1)) ≡ scalar (number AMQPType.LongInt 0xfffffffe) }
 {}

@@ -14,7 +14,7 @@ use std::process::Abort;
 use std::test::Fail;
 use test_support::KINDS;
 
-/// Takes one byte a call, but answers the call after n with a fault of this kind.
+/// Takes one byte a call, but returns a fault of this kind from the call after n.
 #[derive(Drop)]
 struct FailingOnce {
     taken: Vec<u8>,
@@ -83,7 +83,7 @@ fn passes_faults_on(rt: &impl Abort, alloc: Global, part: Part<'_>, bytes: &[u8]
 }
 
 #[test]
-fn each_kind_of_fault_is_answered(rt: HostRuntime) -> Result<(), Fail> {
+fn each_kind_of_fault_is_returned(rt: HostRuntime) -> Result<(), Fail> {
     let alloc = rt.alloc();
     for (field, bytes) in WRITTEN {
         passes_faults_on(&rt, alloc, Fixed(*field), bytes);

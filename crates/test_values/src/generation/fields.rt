@@ -1,7 +1,7 @@
 //! Fields of fixed width, and the bytes that each is written as.
 
 use super::Piece::Number;
-use super::{fills_its_room, has_put};
+use super::{fills_its_buffer, has_put};
 use crate::field::Field;
 use Field::*;
 use amq_protocol_types::generation::*;
@@ -90,9 +90,9 @@ pub(super) fn put<W: Output>(field: Field, x: &mut WriteContext<W>) -> GenResult
 }
 
 #[test]
-fn fields_fill_their_room(rt: HostRuntime) {
+fn fields_fill_their_buffer(rt: HostRuntime) {
     for (field, bytes) in WRITTEN {
-        fills_its_room(&rt, Number(*field), bytes);
+        fills_its_buffer(&rt, Number(*field), bytes);
     }
 }
 
@@ -104,7 +104,7 @@ pub(super) fn put_all<W: Output>(rt: &impl Abort, x: &mut WriteContext<W>) {
 }
 
 #[test]
-fn fields_stand_behind_one_another(rt: HostRuntime) -> Result<(), Fail> {
+fn fields_follow_one_another(rt: HostRuntime) -> Result<(), Fail> {
     let mut bytes = Vec::new(rt.alloc());
     for (_, written) in WRITTEN {
         bytes.extend_from_slice(written)?;

@@ -59,7 +59,7 @@ fn a_generator_is_a_body(rt: HostRuntime) -> Result<(), Fail> {
 }
 
 #[test]
-fn a_refused_body_is_taken_back(rt: HostRuntime) -> Result<(), Fail> {
+fn a_rejected_body_is_taken_back(rt: HostRuntime) -> Result<(), Fail> {
     let mut x = WriteContext::from(Vec::from_slice(rt.alloc(), &[9])?);
     let answer = gen_with_len(
         |y| {
@@ -75,7 +75,7 @@ fn a_refused_body_is_taken_back(rt: HostRuntime) -> Result<(), Fail> {
 }
 
 #[test]
-fn a_length_without_room_calls_nothing(rt: HostRuntime) {
+fn a_length_without_capacity_calls_nothing(rt: HostRuntime) {
     let mut slice = [7u8; 3];
     let mut x = WriteContext::from(SliceOutput::new(&mut slice));
     let mut called = false;
@@ -92,7 +92,7 @@ fn a_length_without_room_calls_nothing(rt: HostRuntime) {
 }
 
 #[test]
-fn a_body_without_room_is_taken_back(rt: HostRuntime) {
+fn a_body_without_capacity_is_taken_back(rt: HostRuntime) {
     let mut slice = [7u8; 5];
     let mut x = WriteContext::from(SliceOutput::new(&mut slice));
     assert_eq!(rt;

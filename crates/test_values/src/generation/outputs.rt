@@ -22,7 +22,7 @@ fn a_vector_is_written_at_its_end(rt: HostRuntime) -> Result<(), Fail> {
 }
 
 #[test]
-fn a_device_is_handed_what_is_put(rt: HostRuntime) -> Result<(), Fail> {
+fn a_device_gets_what_is_put(rt: HostRuntime) -> Result<(), Fail> {
     let mut x = WriteContext::from(IoOutput::new(Vec::new(rt.alloc())));
     assert_eq!(rt; gen_long_string(b"test", &mut x), Ok(()));
     assert_eq!(rt; x.position(), 8);
@@ -181,7 +181,7 @@ fn array_of_a_table(alloc: Global) -> Result<AMQPValue, Fail> {
 }
 
 #[test]
-fn lengths_are_filled_in_behind(rt: HostRuntime) -> Result<(), Fail> {
+fn lengths_are_filled_in_afterwards(rt: HostRuntime) -> Result<(), Fail> {
     let value = array_of_a_table(rt.alloc())?;
     let mut x = WriteContext::from(Recorder::new(rt.alloc()));
     assert_eq!(rt; gen_value(&value, &mut x), Ok(()));

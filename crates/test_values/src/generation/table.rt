@@ -1,7 +1,7 @@
 //! A table with an entry of nearly every type, written and read back.
 
 use super::outputs::Recorder;
-use super::value_fills_its_room;
+use super::value_fills_its_buffer;
 use amq_protocol_types::generation::{WriteContext, gen_value};
 use amq_protocol_types::parsing::{SliceInput, parse_value};
 use amq_protocol_types::{
@@ -43,7 +43,7 @@ fn put_numbers(alloc: Global, table: &mut FieldTable) -> Result<(), Fail> {
     Ok(())
 }
 
-/// Puts what takes memory.
+/// Writes what allocates.
 fn put_strings(alloc: Global, table: &mut FieldTable) -> Result<(), Fail> {
     let bytes = Vec::from_slice(alloc, &[42, 1, 2, 3])?;
     put(
@@ -98,8 +98,8 @@ fn table(alloc: Global) -> Result<AMQPValue, Fail> {
 }
 
 #[test]
-fn fills_its_room(rt: HostRuntime) -> Result<(), Fail> {
-    value_fills_its_room(&rt, &table(rt.alloc())?, TABLE);
+fn fills_its_buffer(rt: HostRuntime) -> Result<(), Fail> {
+    value_fills_its_buffer(&rt, &table(rt.alloc())?, TABLE);
     Ok(())
 }
 

@@ -86,7 +86,7 @@ fn reads_values_that_are_containers(rt: HostRuntime) {
 }
 
 #[test]
-fn tells_why_there_is_no_container(rt: HostRuntime) {
+fn reports_why_there_is_no_container(rt: HostRuntime) {
     let array = parse_field_array(rt.alloc(), SliceInput::new(&[0, 0, 0, 1]));
     assert!(rt; needs(array, 1));
     let table = parse_field_table(rt.alloc(), SliceInput::new(&[0, 0, 0, 1, 7]));

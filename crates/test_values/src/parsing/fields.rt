@@ -91,7 +91,7 @@ fn fields_are_read(rt: HostRuntime) {
 }
 
 #[test]
-fn fields_lack_bytes(rt: HostRuntime) {
+fn fields_need_bytes(rt: HostRuntime) {
     let rows: &[(&[u8], usize)] = &[(&[], 1), (&[7], 4), (&[7, 0, 0, 0], 1)];
     for (bytes, lack) in rows {
         assert!(rt;

@@ -6,7 +6,7 @@ use amq_protocol_types::{AMQPValue, LongString};
 use std::test::Fail;
 
 #[test]
-fn a_value_goes_over_the_cut(rt: HostRuntime) -> Result<(), Fail> {
+fn a_value_crosses_the_cut(rt: HostRuntime) -> Result<(), Fail> {
     let text = AMQPValue::LongString(LongString::from_slice(rt.alloc(), b"test")?);
     let input = SplitInput::new(&[83, 0, 0], &[0, 4, 116, 101, 115, 116, 9]);
     match parse_value(rt.alloc(), input) {
@@ -20,7 +20,7 @@ fn a_value_goes_over_the_cut(rt: HostRuntime) -> Result<(), Fail> {
 }
 
 #[test]
-fn a_letter_goes_over_the_cut(rt: HostRuntime) {
+fn a_letter_crosses_the_cut(rt: HostRuntime) {
     match parse_short_string(rt.alloc(), SplitInput::new(&[2, 195], &[169])) {
         Ok((rest, text)) => {
             assert_eq!(rt; text.as_str().as_bytes(), [195, 169].as_slice());
@@ -44,7 +44,7 @@ fn a_byte_stays_in_its_part(rt: HostRuntime) {
 }
 
 #[test]
-fn two_slices_are_refused_as_one(rt: HostRuntime) {
+fn two_slices_are_rejected_as_one(rt: HostRuntime) {
     let alloc = rt.alloc();
     let nothing = parse_value(alloc, SplitInput::new(&[], &[]));
     assert!(rt; matches!(nothing, Err(Err::Incomplete(Needed::Size(1)))));

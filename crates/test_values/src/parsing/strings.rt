@@ -40,7 +40,7 @@ fn reads_strings(rt: HostRuntime) {
 }
 
 #[test]
-fn tells_why_there_is_no_string(rt: HostRuntime) {
+fn reports_why_there_is_no_string(rt: HostRuntime) {
     let alloc = rt.alloc();
     let bad = parse_short_string(alloc, SliceInput::new(&[1, 255]));
     assert!(rt; refuses(bad, ErrorKind::MapRes));

@@ -1,0 +1,145 @@
+//! The first problem that RabbitMQ has with a value, by worked bytes.
+
+use amq_protocol_types::in_place::Limits;
+use amq_protocol_types::rabbitmq::ProblemKind::{
+    Cut, KeyCut, NotFinite, TooDeep, TooLarge, UnknownTag,
+};
+use amq_protocol_types::rabbitmq::{Problem, ProblemKind, first_problem, first_problem_in_table};
+
+const LIMITS: Limits = Limits {
+    frame: 131_072,
+    depth: 64,
+};
+
+/// Values that RabbitMQ takes.
+const TAKEN: [&[u8]; 22] = [
+    b"t\x07",
+    b"b\xfe",
+    b"B\xfe",
+    b"s\xff\xfe",
+    b"u\xff\xfe",
+    b"I\xff\xff\xff\xfe",
+    b"i\xff\xff\xff\xfe",
+    b"l\xff\xff\xff\xff\xff\xff\xff\xfe",
+    b"L\0\0\0\0\0\0\0\x02",
+    b"D\x02\xff\xff\xff\xff",
+    b"T\xff\xff\xff\xff\xff\xff\xff\xff",
+    b"V",
+    b"S\0\0\0\x02\xff\0",
+    b"x\0\0\0\x02\xff\0",
+    // the greatest finite numbers, the least one and the negative zero
+    b"f\x7f\x7f\xff\xff",
+    b"d\x7f\xef\xff\xff\xff\xff\xff\xff",
+    b"d\0\0\0\0\0\0\0\x01",
+    b"f\x80\0\0\0",
+    // keys in Latin-1, equal keys, empty keys, and bytes after the value
+    b"F\0\0\0\x18\x05gr\xf6\xdfeS\0\0\0\x015\x05otherS\0\0\0\x016",
+    b"F\0\0\0\x06\x01aV\x01aV",
+    b"F\0\0\0\x04\0V\0V",
+    b"A\0\0\0\x02VVU",
+];
+
+/// Values that RabbitMQ closes the connection for.
+const REJECTED: [(&[u8], usize, ProblemKind); 29] = [
+    // type tags
+    (b"U\0\x01", 0, UnknownTag(b'U')),
+    (b"\0", 0, UnknownTag(0)),
+    (b"_\x02hi", 0, UnknownTag(b'_')),
+    (b"A\0\0\0\x05VVU\0\x01", 7, UnknownTag(b'U')),
+    // NaNs and infinities
+    (b"f\x7f\xc0\0\0", 0, NotFinite),
+    (b"f\x7f\x80\0\x01", 0, NotFinite),
+    (b"f\x7f\x80\0\0", 0, NotFinite),
+    (b"f\xff\x80\0\0", 0, NotFinite),
+    (b"d\x7f\xf8\0\0\0\0\0\0", 0, NotFinite),
+    (b"d\x7f\xf0\0\0\0\0\0\x01", 0, NotFinite),
+    (b"d\x7f\xf0\0\0\0\0\0\0", 0, NotFinite),
+    (b"d\xff\xf0\0\0\0\0\0\0", 0, NotFinite),
+    (b"F\0\0\0\x0b\x01ad\x7f\xf8\0\0\0\0\0\0", 7, NotFinite),
+    // lengths that don't fit the input
+    (b"", 0, Cut),
+    (b"t", 0, Cut),
+    (b"l\0\0\0\0\0\0\0", 0, Cut),
+    (b"D\x02\0\0\0", 0, Cut),
+    (b"S\0\0\0", 0, Cut),
+    (b"x\0\0\0\x02h", 0, Cut),
+    (b"A\0\0\0\x03UV", 0, Cut),
+    (b"F\0\0\xff\xff", 0, Cut),
+    // lengths that don't fit the container, and bytes after it
+    (b"A\0\0\0\x03t\x01I\0\0\0\x01", 7, Cut),
+    (b"A\0\0\0\x06S\0\0\0\x02hi", 5, Cut),
+    (b"F\0\0\0\x02\x01aV", 7, Cut),
+    (b"F\0\0\0\x05\x01aV\x02bV", 8, KeyCut),
+    (b"F\0\0\0\x01\x01", 5, KeyCut),
+    // in the last entry of the second and of the third level, and the first of two
+    (
+        b"F\0\0\0\x10\x01aV\x01bA\0\0\0\x06VB\x07U\0\x01",
+        18,
+        UnknownTag(b'U'),
+    ),
+    (
+        b"F\0\0\0\x0f\x01aF\0\0\0\x08\x01bA\0\0\0\x01_",
+        19,
+        UnknownTag(b'_'),
+    ),
+    (b"A\0\0\0\x09f\x7f\x80\0\0U\0\x01V", 5, NotFinite),
+];
+
+// the first problem, as its offset and kind
+fn seen(bytes: &[u8], limits: Limits) -> Option<(usize, ProblemKind)> {
+    let Problem { offset, kind } = first_problem(bytes, limits)?;
+    Some((offset, kind))
+}
+
+fn seen_in_table(table: &[u8], limits: Limits) -> Option<(usize, ProblemKind)> {
+    let Problem { offset, kind } = first_problem_in_table(table, limits)?;
+    Some((offset, kind))
+}
+
+fn limits(frame: u32, depth: u32) -> Limits {
+    Limits { frame, depth }
+}
+
+#[test]
+fn what_rabbitmq_takes_has_no_problem(rt: HostRuntime) {
+    for bytes in TAKEN {
+        assert_eq!(rt; seen(bytes, LIMITS), None);
+    }
+}
+
+#[test]
+fn the_first_problem_is_found(rt: HostRuntime) {
+    for (bytes, offset, kind) in REJECTED {
+        assert_eq!(rt; seen(bytes, LIMITS), Some((offset, kind)));
+    }
+}
+
+#[test]
+fn a_table_has_no_type_tag(rt: HostRuntime) {
+    assert_eq!(rt; seen_in_table(b"\0\0\0\0", LIMITS), None);
+    assert_eq!(rt; seen_in_table(b"\0\0\0\x03\x01aVU", LIMITS), None);
+    assert_eq!(rt;
+        seen_in_table(b"\0\0\0\x0b\x01ad\x7f\xf8\0\0\0\0\0\0", LIMITS),
+        Some((6, NotFinite))
+    );
+    assert_eq!(rt;
+        seen_in_table(b"\0\0\0\x05\x01aV\x02b", LIMITS),
+        Some((7, KeyCut))
+    );
+    for cut in [b"".as_slice(), b"\0\0\0", b"\0\0\0\x04\x01aV"] {
+        assert_eq!(rt; seen_in_table(cut, LIMITS), Some((0, Cut)));
+    }
+}
+
+#[test]
+fn limits_are_kept(rt: HostRuntime) {
+    let nested = b"A\0\0\0\x05A\0\0\0\0";
+    assert_eq!(rt; seen(nested, limits(10, 2)), None);
+    assert_eq!(rt; seen(nested, limits(10, 1)), Some((5, TooDeep)));
+    assert_eq!(rt; seen(nested, limits(10, 0)), Some((0, TooDeep)));
+    assert_eq!(rt; seen(nested, limits(9, 2)), Some((0, TooLarge)));
+    let table = b"\0\0\0\x03\x01aV";
+    assert_eq!(rt; seen_in_table(table, limits(8, 1)), None);
+    assert_eq!(rt; seen_in_table(table, limits(7, 1)), Some((0, TooLarge)));
+    assert_eq!(rt; seen_in_table(table, limits(8, 0)), Some((0, TooDeep)));
+}
