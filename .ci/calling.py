@@ -53,7 +53,7 @@ def shape(lines):
 
 
 def contracts():
-    """The text between the two markers."""
+    """The lines between the two markers."""
     known, lines = functions(), []
     for file in [CRATE / "src/lib.rt", *sorted(set((CRATE / "src").glob("**/*.rt")) - {CRATE / "src/lib.rt"})]:
         module = file.relative_to(CRATE / "src").with_suffix("").as_posix().replace("/", "::")

@@ -118,10 +118,9 @@ static inline void try_changes(void (*try)(slice), slice given, slice others) {
 #define DEPTH 8
 #define FILLED 0x5a
 
-/* What is passed and the buffer each end with pages that can't be accessed after them. Of the buffer's
-   pages the last `watched` bytes before it are checked too. */
+/* What is passed and the buffer each end with pages that can't be accessed after them. The buffer's pages
+   before it are checked too. */
 static uint8_t *given_end, *buffer_start, *buffer_end;
-static size_t watched = 64;
 
 static inline void new_pages(size_t count) {
     given_end = pages_between(count) + count * page_size;
@@ -140,8 +139,7 @@ static inline int32_t write_to(way by, slice given, size_t buffer_length, size_t
     size_t length = given.length;
     uint8_t *bytes = given_end - length, *buffer = buffer_end - buffer_length;
     memcpy(bytes, given.at, length);
-    uint8_t *from = (size_t)(buffer - buffer_start) > watched ? buffer - watched : buffer_start;
-    memset(from, FILLED, (size_t)(buffer_end - from));
+    memset(buffer_start, FILLED, (size_t)(buffer_end - buffer_start));
     *count = 77;
     uint64_t before = requests;
     int32_t answer = by.call == CANONICAL ? amqp_canonical(bytes, length, by.frame, by.depth, buffer, buffer_length, count)
@@ -151,7 +149,7 @@ static inline int32_t write_to(way by, slice given, size_t buffer_length, size_t
     CHECK(memcmp(bytes, given.at, length) == 0);
     size_t written = answer == AMQP_OK ? *count : 0;
     CHECK(written <= buffer_length && (answer != AMQP_OK || written > 0));
-    for (uint8_t *it = from; it < buffer_end; it++) {
+    for (uint8_t *it = buffer_start; it < buffer_end; it++) {
         CHECK(*it == FILLED || (it >= buffer && it < buffer + written));
     }
     CHECK((answer == AMQP_OK || answer == AMQP_MORE || answer == AMQP_NO_ROOM) == (*count > 0));

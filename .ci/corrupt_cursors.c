@@ -1,8 +1,8 @@
 /*
  * Tries the calls of include/amqp.h with cursors and entries that were corrupted, over bytes with their
- * end and with their start at a page's. Of each result it checks what the header says: what is returned
- * is inside the bytes, a step goes on, what isn't AMQP_OK leaves the entry and the cursor unchanged,
- * and nothing but the structs is written.
+ * end and with their start at a page's. Of each result it checks what the header states: what is returned
+ * is inside the bytes, a step goes on, a look-up finds what steps find, what isn't AMQP_OK leaves the
+ * entry and the cursor unchanged, and nothing but the structs is written.
  *
  * It tries every cursor of small numbers over small inputs, each prefix of them and each change of one
  * byte to one of some, and then random cursors over random bytes.
@@ -33,7 +33,9 @@ static held fresh(amqp_cursor cursor) {
     return it;
 }
 
+/* After a call nothing else is written, and nothing at all if it isn't AMQP_OK. */
 static void check_rest(const held *new, const held *old, int32_t answer) {
+    calls++;
     CHECK(new->before == old->before && new->between == old->between && new->behind == old->behind);
     if (answer != AMQP_OK) {
         CHECK(memcmp(&new->entry, &old->entry, sizeof old->entry) == 0);
@@ -41,43 +43,131 @@ static void check_rest(const held *new, const held *old, int32_t answer) {
     }
 }
 
-/* Steps to the end by the cursor, and looks keys up. */
-static void walk(const uint8_t *bytes, size_t length, amqp_cursor cursor) {
+static int is_same(amqp_span one, amqp_span other) {
+    return one.offset == other.offset && one.length == other.length;
+}
+
+static int is_same_entry(const amqp_entry *one, const amqp_entry *other) {
+    return is_same(one->key, other->key) && is_same(one->value, other->value) && is_same(one->content, other->content)
+           && one->bits == other->bits && one->tag == other->tag && one->scale == other->scale;
+}
+
+/* The keys that are looked up: the first bytes of it. */
+static const uint8_t key[] = "a";
+#define KEYS 2
+
+/* What steps by a cursor return: the last result, and of each key the first and the last entry. */
+typedef struct seen {
+    int32_t end;
+    size_t counts[KEYS];
+    amqp_entry first[KEYS], last[KEYS];
+} seen;
+
+static void see(seen *seen, const uint8_t *bytes, const amqp_entry *entry) {
+    for (size_t n = 0; n < KEYS; n++) {
+        if (entry->key.length == n && memcmp(bytes + entry->key.offset, key, n) == 0) {
+            seen->last[n] = *entry;
+            if (seen->counts[n]++ == 0) {
+                seen->first[n] = *entry;
+            }
+        }
+    }
+}
+
+/* Steps to the end by the cursor. */
+static seen walk(const uint8_t *bytes, size_t length, amqp_cursor cursor) {
     int is_valid = is_inside(cursor.left, length) && is_container(cursor.tag);
     held it = fresh(cursor);
+    seen seen = {0};
     for (size_t steps = 0;; steps++) {
         held old = it;
         int32_t answer = amqp_next(bytes, length, &it.cursor, &it.entry);
-        calls++;
         check_rest(&it, &old, answer);
         CHECK(is_valid == (answer != AMQP_INVALID));
         if (answer != AMQP_OK) {
             CHECK(answer == AMQP_INVALID || answer == AMQP_MALFORMED || (answer == AMQP_NONE && it.cursor.left.length == 0));
-            break;
+            seen.end = answer;
+            return seen;
         }
         check_entry(&it.entry, length);
         CHECK(steps < length && it.cursor.tag == old.cursor.tag && it.cursor.left.length < old.cursor.left.length);
         CHECK(it.cursor.left.offset + it.cursor.left.length == old.cursor.left.offset + old.cursor.left.length);
         CHECK(it.entry.value.offset + it.entry.value.length == it.cursor.left.offset);
+        see(&seen, bytes, &it.entry);
 
         held in = fresh(cursor);
         held was = in;
         answer = amqp_enter(bytes, length, &it.entry, &in.cursor);
-        calls++;
         check_rest(&in, &was, answer);
         CHECK((answer == AMQP_OK) == is_container(it.entry.tag));
     }
-    for (size_t n = 0; n < 2; n++) {
-        held old = it = fresh(cursor);
-        int32_t answer = amqp_find(bytes, length, &it.cursor, (const uint8_t *)"a", n, &it.entry);
-        calls++;
+}
+
+/* Looks keys up: what is found is the last entry that steps return, or the first. */
+static void find(const uint8_t *bytes, size_t length, amqp_cursor cursor, const seen *seen) {
+    for (size_t i = 0; i < 2 * KEYS; i++) {
+        size_t n = i / 2;
+        held it = fresh(cursor), old = it;
+        int32_t answer = (i % 2 ? amqp_find_first : amqp_find)(bytes, length, &it.cursor, key, n, &it.entry);
         check_rest(&it, &old, answer);
         CHECK(memcmp(&it.cursor, &old.cursor, sizeof it.cursor) == 0);
-        CHECK((answer == AMQP_INVALID) == !(is_valid && cursor.tag == AMQP_TABLE));
+        int is_found = seen->counts[n] && (i % 2 || seen->end == AMQP_NONE);
+        CHECK(answer == (cursor.tag != AMQP_TABLE ? AMQP_INVALID : is_found ? AMQP_OK : seen->end));
         if (answer == AMQP_OK) {
             check_entry(&it.entry, length);
-            CHECK(it.entry.key.length == n && memcmp(bytes + it.entry.key.offset, "a", n) == 0);
+            CHECK(is_same_entry(&it.entry, i % 2 ? &seen->first[n] : &seen->last[n]));
         }
+    }
+}
+
+/* What the calls for single steps return. */
+static int32_t step_by_step(const uint8_t *bytes, size_t length, amqp_entry at, const amqp_step *steps, size_t count,
+                            uint32_t equal_keys, amqp_entry *entry) {
+    for (const amqp_step *step = steps; step < steps + count; step++) {
+        amqp_cursor cursor;
+        if (!is_container(step->tag)) {
+            return AMQP_INVALID;
+        }
+        if (at.tag != step->tag) {
+            return AMQP_NONE;
+        }
+        int32_t answer = amqp_enter(bytes, length, &at, &cursor);
+        if (answer == AMQP_OK && step->tag == AMQP_TABLE) {
+            answer = (equal_keys == AMQP_FIRST_KEY ? amqp_find_first : amqp_find)(bytes, length, &cursor, step->key,
+                                                                                  step->key_length, &at);
+        } else {
+            for (size_t n = 0; answer == AMQP_OK && n <= step->index; n++) {
+                answer = amqp_next(bytes, length, &cursor, &at);
+            }
+        }
+        if (answer != AMQP_OK) {
+            return answer;
+        }
+    }
+    *entry = at;
+    return AMQP_OK;
+}
+
+static const amqp_step steps[] = {
+    AMQP_KEY("a"), AMQP_INDEX(0), AMQP_KEY("a"), AMQP_KEY(""), AMQP_INDEX(1), AMQP_INDEX(SIZE_MAX), {key, 1, 0, 'S'},
+};
+static const struct path {
+    size_t from, count;
+} paths[] = {{0, 0}, {0, 1}, {0, 2}, {0, 3}, {1, 2}, {3, 1}, {4, 1}, {5, 1}, {6, 1}};
+
+/* Looks paths up from a corrupted entry: what is found is what single steps find. */
+static void find_paths(const uint8_t *bytes, size_t length, amqp_entry from) {
+    int is_valid = is_inside(from.key, length) && is_inside(from.value, length) && is_inside(from.content, length);
+    for (size_t i = 0; i < COUNT(paths) * 3; i++) {
+        struct path path = paths[i / 3];
+        amqp_entry wanted;
+        uint32_t equal_keys = i % 3 == 2 ? (uint32_t)random_number() | 2 : i % 3;
+        int32_t answer = is_valid && i % 3 != 2 ? step_by_step(bytes, length, from, steps + path.from, path.count, equal_keys, &wanted)
+                                                : AMQP_INVALID;
+        held it = fresh((amqp_cursor){{0, 0}, 0}), old = it;
+        CHECK(amqp_find_path(bytes, length, &from, steps + path.from, path.count, equal_keys, &it.entry) == answer);
+        check_rest(&it, &old, answer);
+        CHECK(answer != AMQP_OK || is_same_entry(&it.entry, &wanted));
     }
 }
 
@@ -93,7 +183,6 @@ static void front(const uint8_t *bytes, size_t length, amqp_cursor cursor) {
     held it = fresh(cursor);
     held old = it;
     int32_t first = amqp_first(bytes, length, &it.entry);
-    calls++;
     check_rest(&it, &old, first);
     CHECK(answer != AMQP_OK || first == AMQP_OK);
     if (first == AMQP_OK) {
@@ -118,8 +207,12 @@ static void try_cursor(slice bytes, size_t offset, size_t left, uint8_t tag) {
     memset(&cursor, 0, sizeof cursor);
     cursor.left = (amqp_span){offset, left};
     cursor.tag = tag;
-    walk(bytes.at, bytes.length, cursor);
+    seen seen = walk(bytes.at, bytes.length, cursor);
+    find(bytes.at, bytes.length, cursor, &seen);
     front(bytes.at, bytes.length, cursor);
+    find_paths(bytes.at, bytes.length, (amqp_entry){.content = cursor.left, .tag = tag});
+    find_paths(bytes.at, bytes.length, (amqp_entry){.key = cursor.left, .tag = tag});
+    find_paths(bytes.at, bytes.length, (amqp_entry){.value = cursor.left, .tag = tag});
 }
 
 /* Tries every cursor of small numbers, and of some large ones. */

@@ -1,4 +1,4 @@
-"""The figure of the crates in CONTRIBUTING.md, made from crates.txt: python3 .ci/figure.py prints it; .ci/docs checks it."""
+"""The figure of the crates in CONTRIBUTING.md, made from crates.txt; .ci/docs checks it."""
 
 from crates import TOP, Crates
 
@@ -43,7 +43,3 @@ def faults(write=False):
         PAGE.write_text(head + begin + figure(crates) + end + tail)
     elif not end or old != figure(crates):
         yield "CONTRIBUTING.md: the figure isn't that of crates.txt (.ci/docs --write writes it)"
-
-
-if __name__ == "__main__":
-    print(figure(Crates()), end="")

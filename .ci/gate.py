@@ -7,25 +7,36 @@ import shutil
 import subprocess
 import sys
 
+from clients import PYTHON
 from crates import TOP, said_by
 from lib import TEST_CRATES, Steps, copy_repository
+from rabbitmq import BIN
 
 # The kit that all of this is proved with.
-KIT_LINE = "rattle-kit-13b"
-# What each step needs beside the kit; `python3`, `cc` and `c++` can't be left out.
+KIT_LINE = "rattle-kit-13f"
+# What each step needs besides the kit; `python3`, `cc` and `c++` can't be left out.
 ALWAYS = ("git", "python3", "cc", "c++")
-NEEDS = {"docs": (), "test": (), "oracle": (), "show": (), "alloc-failures": (), "sizes": (), "c": ("nm",), "mutants": ()}
+NEEDS = {
+    "docs": (), "test": (), "oracle": (), "show": (), "alloc-failures": (), "sizes": (), "c": ("nm",),
+    "broker": (f"{BIN}/rabbitmq-server", "epmd", "amqp-publish", PYTHON), "mutants": (),
+}
+# The modules that the clients of .ci/broker need, and how many tables are sent in .ci/run and .ci/whole.
+MODULES = ("pika", "amqp")
+TABLES = {"run": 500, "whole": 10000}
 KEYS = ".ci/mutant-keys"
 REJECTED = re.compile(r"(\d+) rejected now, (\d+) carried over from an earlier run, (\d+) not rejected")
 
 
 def missing(without):
-    """Says what is missing, before anything is begun."""
+    """Yields what is missing, before anything is begun."""
     line = said_by("rt", "version")
     if not line.startswith(KIT_LINE):
         yield f"rt version prints {line or 'nothing'}, and not {KIT_LINE}"
     needs = [*ALWAYS, *(it for step, words in NEEDS.items() if step not in without for it in words)]
-    yield from (f"{it} is missing (.ci/setup installs it)" for it in needs if not shutil.which(it))
+    lacks = [it for it in needs if not shutil.which(it)]
+    if "broker" not in without and PYTHON not in lacks:
+        lacks += [f"the module {it} of {PYTHON}" for it in MODULES if subprocess.run([PYTHON, "-c", f"import {it}"], capture_output=True).returncode]
+    yield from (f"{it} is missing (.ci/setup installs it)" for it in lacks)
 
 
 def by_rejected(step):
@@ -45,7 +56,8 @@ def gate(name, words):
     reader.add_argument("--without", action="append", default=[], choices=[*NEEDS], metavar="NAME")
     without = reader.parse_args(words).without
     if os.environ.get("CI"):
-        subprocess.run([TOP / ".ci/setup"], check=True)
+        # what it couldn't install is missing below
+        subprocess.run([TOP / ".ci/setup", *(["--without", "broker"] if "broker" in without else [])])
     if lacks := [*missing(without)]:
         print("\n".join([*lacks, f"0 passed, {len(lacks)} failed"]))
         return 1
@@ -53,7 +65,7 @@ def gate(name, words):
         copy = steps.folder / "copy"
         copy_repository(copy, left_out)
         scripts = copy / ".ci"
-        proved = steps.add("rt ci", ["rt", "ci"], cwd=copy, tells=r"(?<=^rt: )\w+(: its tests)? (proved|NOT PROVED|ran)\b|: NOT REFUSED|BAD EDIT")
+        proved = steps.add("rt ci", ["rt", "ci", *["--anew"] * tries_all], cwd=copy, tells=r"(?<=^rt: )\w+(: its tests)? (proved|NOT PROVED|ran|is kept)\b|: NOT REFUSED|BAD EDIT")
         words = {
             "docs": ([TOP / ".ci/docs"], ()),
             "test": ([TOP / ".ci/test", "--jobs", 2], ()),
@@ -62,6 +74,7 @@ def gate(name, words):
             "alloc-failures": ([scripts / "alloc-failures"], (proved,)),
             "sizes": ([scripts / "sizes"], (proved,)),
             "c": ([scripts / "c", "--built"], (proved,)),
+            "broker": ([scripts / "broker", "--built", "--tables", TABLES[name]], (proved,)),
             "mutants": ([scripts / "mutants", "--built", "--record", TOP / KEYS, *["--all"] * tries_all], (proved,)),
         }
         if tries_all:

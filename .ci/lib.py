@@ -2,20 +2,25 @@
 that run side by side."""
 
 import ctypes
+import fcntl
 import os
 import re
+import resource
 import shutil
 import signal
 import subprocess
 import sys
 import tempfile
 import time
+from contextlib import suppress
 from pathlib import Path
 
-from crates import TOP, said_by
+from crates import TOP, kit, said_by
 
 # The crates that have nothing but tests: .ci/test runs them, but for the last, and .ci/whole proves them too.
 TEST_CRATES = ("test_values", "test_readers", "test_large")
+# The crates of the calls for C: those that don't allocate, and those that do.
+CALLS_FOR_C = ("amqp_c", "amqp_c_alloc")
 
 
 def copy_repository(to, without=()):
@@ -35,6 +40,34 @@ def is_up_to_date(built, crates, name, parts):
     return built.is_file() and all(it.stat().st_mtime <= built.stat().st_mtime for it in sources if it.is_file())
 
 
+def archive(crates, name):
+    """The path of a crate's static library."""
+    return crates.folder(name) / f"out/lib{name}.a"
+
+
+def build_archive(crates, name, is_built):
+    """Builds a crate's static library, unless it is newer than what it is made of; one script at a time does so.
+
+    It proves the crate, or takes the libraries that `rt ci` has left.
+    """
+    folder, path = crates.folder(name), archive(crates, name)
+    path.parent.mkdir(exist_ok=True)
+    lock = os.open(path.parent, os.O_RDONLY)
+    try:
+        fcntl.flock(lock, fcntl.LOCK_EX)
+        libraries = [crates.library(it) for it in crates.needed(name)[:-1]] if is_built else []
+        is_there = is_up_to_date(path, crates, name, ("src", "specs", "proofs"))
+        if is_there and all(it.is_file() and it.stat().st_mtime <= path.stat().st_mtime for it in libraries):
+            words = ["true"]
+        elif is_built:
+            words = [f"{kit()}/bin/rattle", "build", *crates.words(name), "--toolchain", f"{kit()}/toolchain", "-o", str(path)]
+        else:
+            words = ["rt", "lib"]
+        return subprocess.run(words, cwd=folder, capture_output=True, text=True)
+    finally:
+        os.close(lock)
+
+
 def content(path):
     return path.read_bytes() if path.exists() else b""
 
@@ -43,6 +76,12 @@ def given(case):
     """What a case of examples/show has on standard input."""
     digits = case.with_suffix(".hex")
     return bytes.fromhex(digits.read_text()) if digits.exists() else content(case.with_suffix(".in"))
+
+
+def within(kind, most, words, given):
+    """Runs a program that may have at most n of a resource, such as resource.RLIMIT_STACK."""
+    limit = lambda: resource.setrlimit(kind, (most, most))
+    return subprocess.run(words, input=given, capture_output=True, env={}, preexec_fn=limit, timeout=60, check=False)
 
 
 class Checks:
@@ -69,13 +108,10 @@ class Checks:
 def descendants():
     """The processes that this one started, and those that they did."""
     parents = {}
-    for it in filter(str.isdigit, os.listdir("/proc")):
-        try:
-            state, parent = Path(f"/proc/{it}/stat").read_text().rpartition(")")[2].split()[:2]
-        except OSError:
-            continue
-        if state != "Z":
-            parents[int(it)] = int(parent)
+    for it in Path("/proc").glob("[0-9]*/stat"):
+        with suppress(OSError):
+            state, parent = it.read_text().rpartition(")")[2].split()[:2]
+            parents |= {int(it.parent.name): int(parent)} if state != "Z" else {}
     found, more = set(), {os.getpid()}
     while more:
         more = {it for it, parent in parents.items() if parent in more} - found
@@ -87,10 +123,8 @@ def end_descendants():
     """Ends all that this process started, also what left its group."""
     while left := descendants():
         for it in left:
-            try:
+            with suppress(ProcessLookupError):
                 os.kill(it, signal.SIGKILL)
-            except ProcessLookupError:
-                pass
         time.sleep(0.05)
 
 
@@ -101,7 +135,7 @@ def end_on_signals(first=lambda: None):
         first()
         sys.exit(128 + number)
 
-    # PR_SET_CHILD_SUBREAPER: what a child leaves behind becomes this process's own
+    # PR_SET_CHILD_SUBREAPER: what a child leaves when it ends becomes this process's own
     ctypes.CDLL(None).prctl(36, 1, 0, 0, 0)
     for number in (signal.SIGINT, signal.SIGTERM, signal.SIGHUP):
         signal.signal(number, end)
@@ -126,7 +160,7 @@ class Step:
 
     def __init__(self, name, words, cwd=TOP, after=(), given=None, judge=by_last_line, tells=None):
         self.name, self.words, self.cwd, self.given = name, [str(it) for it in words], cwd, given
-        # the steps that it waits for; how it is judged; which of its lines are told, by their first group
+        # the steps that it waits for; how it is judged; its lines to be printed, by their first group
         self.after, self.judge, self.tells = after, judge, tells and re.compile(tells)
         self.process = self.status = self.out = self.err = None
         self.passed = self.failed = self.told = self.read = 0
@@ -145,7 +179,7 @@ class Step:
             self.process = subprocess.Popen(self.words, stdin=given, stdout=out, stderr=err, **how)
 
     def has_ended(self):
-        """Says whether it has ended, and then judges it."""
+        """Returns whether it has ended, and then judges it."""
         pid, status, used = os.wait4(self.process.pid, os.WNOHANG)
         if not pid:
             return False
@@ -159,7 +193,7 @@ class Step:
         return True
 
     def new_lines(self):
-        """The lines, since this was asked last, that are to be told."""
+        """The lines, since this was asked last, that are to be printed."""
         if not self.tells:
             return
         with open(self.out, "rb") as out:
@@ -174,7 +208,7 @@ class Step:
 
 
 class Steps:
-    """Runs steps side by side, tells how far they are, and ends all of them where it is ended itself."""
+    """Runs steps side by side, reports how far they are, and ends all of them if it is ended itself."""
 
     def __init__(self, name):
         self.name, self.begun, self.steps, self.notes = name, time.time(), [], []
@@ -242,7 +276,7 @@ class Steps:
 
 
 def show_end(step):
-    """Prints the end of what a failed step printed, without what says that something is proved or passed."""
+    """Prints the end of what a failed step printed, without the lines of what is proved or passed."""
     text = step.out.read_text(errors="replace") + step.err.read_text(errors="replace")
     lines = [it for it in text.split("\n") if not re.search(r": (proved|passed|ok)$|(refused|rejected), as it must be|modules loaded=", it)]
     print("\n".join(f"    {it}" for it in lines[-60:]), flush=True)

@@ -1,6 +1,6 @@
-"""Where the sources make up that memory ran out.
+"""The places at which the sources make up that memory ran out.
 
-No clause can say that an allocation failed. A body that answers OutOfMemory above some size keeps its contract, so its
+No clause can state that an allocation failed. A body that returns OutOfMemory above a size keeps its contract, so its
 form is what is rejected: OutOfMemory, of whatever error, and AllocError are made by From<AllocError>, which `?` calls,
 or on the right of a match arm with no guard, each alternative of whose pattern names such an error. Failure and
 out_of_memory() are what amqp_parsing calls it.
@@ -28,7 +28,7 @@ MAKER = r"\bimpl From<AllocError> for [^{]*\{|\bpub fn out_of_memory\(\)[^{]*\{"
 
 
 def end_of(code, at, ends):
-    """Behind the first of `ends` from here on in no bracket that opens after here, or where the one round it closes."""
+    """After the first of `ends` from here on in no bracket that opens after here, or at the end of the one round it."""
     depth = 0
     for it in range(at, len(code)):
         depth += (code[it] in "([{") - (code[it] in ")]}")
@@ -113,7 +113,7 @@ def made_up(text):
 
 
 def faults():
-    """Yields where the sources make it up, by file and line."""
+    """Yields the places at which the sources make it up, by file and line."""
     listed = set(LISTED)
     for file in sorted(TOP.glob("crates/*/src/**/*.rt")):
         name, text = file.relative_to(TOP / "crates").as_posix(), file.read_text()

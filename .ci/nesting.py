@@ -1,5 +1,5 @@
 #!/usr/bin/env python3
-"""What nesting takes of the stack: the table of docs/PROMISES.md, and the runs that .ci/sizes holds it by.
+"""What nesting takes of the stack: the table of docs/PROMISES.md, and the runs by which .ci/sizes and .ci/c hold it.
 
 By itself it measures: .ci/nesting.py PROGRAM NAME.. prints what a level takes of each call, and the call besides.
 """
@@ -7,11 +7,14 @@ import functools
 import re
 import resource
 import struct
-import subprocess
 import sys
 from bisect import bisect
+from collections.abc import Callable
+from typing import NamedTuple
 
 from crates import TOP
+from lib import within
+from printed import nested
 
 PAGE, HEADING = TOP / "docs/PROMISES.md", "## What nesting takes of the stack"
 # How many bytes an input has that no limit lets through, and the limit and the stack that it is read with.
@@ -22,14 +25,20 @@ FORMS = {"arrays in arrays": "A", "tables in tables": "F", "arrays and tables": 
 KEY = b"\x04Void"
 
 
-def encoding(form, depth):
+def encoding(form, depth, innermost=b"V"):
     """An encoding that nests that deep."""
-    parts, length = [b"V"], 1
-    for tag in reversed((form * depth)[:depth]):
-        key = KEY if tag == "F" else b""
-        parts.append(tag.encode() + struct.pack(">I", len(key) + length) + key)
-        length += len(parts[-1])
-    return b"".join(reversed(parts))
+    return nested(form, depth, innermost, KEY)
+
+
+def payload(form, depth):
+    """What follows the type tag of a table that has a pair, and nests that deep."""
+    inner = KEY + encoding(form, depth - 1)
+    return struct.pack(">I", len(inner)) + inner
+
+
+def not_canonical(form, depth):
+    """An encoding whose innermost boolean shows that it isn't canonical."""
+    return encoding(form, depth, b"t\x07")
 
 
 def json_text(form, depth):
@@ -48,25 +57,36 @@ def brackets(form, depth):
     return type_tags(form, depth).translate(bytes.maketrans(b"AF", b"[{"))
 
 
-DEEP, OF_JSON = (LIMIT, 1000), (LIMIT, 127)
-# Where there is no limit.
-DEEPEST = (LIMIT, 1000, 10_000)
-REFUSED = "Error(ParserErrors { kind: Eof })"
-NO_JSON = "Syntax(Error(invalid JSON at "
-# Calls: what they are made on, how deep, and how what they return begins if a limit rejects that. No depth: it doesn't recurse.
-CALLS = {
-    **dict.fromkeys(("parse_value", "read_in_place_unlimited"), (encoding, DEEPEST, None)),
-    **dict.fromkeys(("parse_value_within", "SplitInput", "read_in_place", "iter", "to_owned"), (encoding, DEEP, REFUSED)),
-    "ValueReader::next": (encoding, DEEP, "Refused(ParserErrors { kind: Eof })"),
-    **dict.fromkeys(("is_canonical", "canonical_len"), (encoding, DEEP, "refused")),
-    "skip_value": (encoding, (), "done"),
-    "dissect": (encoding, DEEP, "Problem(TooDeep)"),
-    "json_of_encoding": (encoding, DEEP, f"Refused({REFUSED}"),
-    **dict.fromkeys(("gen_value", "clone", "==", "drop", "to_value", "to_json"), (type_tags, DEEPEST, None)),
-    "from_value": (brackets, DEEPEST, None),
-    "from_json": (json_text, OF_JSON, NO_JSON),
-    "encoding_of_json": (json_text, OF_JSON, f"Json({NO_JSON}"),
+class Call(NamedTuple):
+    """The words that have a program make it, what it is made on, and how deep; JSON has a limit by itself."""
+
+    words: list
+    make: Callable
+    depths: tuple
+
+
+DEEP, OF_JSON, UNLIMITED = (LIMIT, 1000), (LIMIT, 127), (LIMIT, 1000, 10_000)
+# What a call returns that rejects the nesting.
+REJECTED = re.compile(r"kind: Eof|TooDeep|invalid JSON at|refused|AMQP_MALFORMED|AMQP_NOT_JSON")
+# The calls of nested.c, the third on what has it read, write and compare.
+FOR_C = {
+    **{name: Call([name], encoding, DEEP) for name in ("amqp_read", "amqp_put_value", "amqp_to_json")},
+    "amqp_canonical": Call(["amqp_canonical"], not_canonical, DEEP),
+    "amqp_from_json": Call(["amqp_from_json"], json_text, OF_JSON),
 }
+MADE = {"encoding": encoding, "payload": payload, "tree": type_tags, "document": brackets, "text": json_text}
+
+
+def calls():
+    """Yields the calls of test_malformed, by name: the arms of its functions of_encoding and so on."""
+    text = (TOP / "crates/test_malformed/src/nested.rt").read_text()
+    for kind, make in MADE.items():
+        body = re.search(rf"(?ms)^fn of_{kind}\(.*?^}}", text)[0]
+        for name, arm in re.findall(r'(?m)^ {8}"(\S+)" => (.*(?:\n {9}.*)*)', body):
+            yield name, Call([kind, name], make, OF_JSON if kind == "text" else DEEP if "limits" in arm else UNLIMITED)
+
+
+CALLS = dict(calls())
 
 
 def table():
@@ -74,21 +94,15 @@ def table():
     section = PAGE.read_text().partition(HEADING)[2].partition("\n## ")[0]
     rows = re.findall(r"(?m)^\| (.*) \| ([\d,]+) \|$", section)
     figures = {name: int(figure.replace(",", "")) for cell, figure in rows for name in re.findall(r"`([^`]+)`", cell)}
-    besides = re.search(r"(\d+) KiB besides", section)
-    if not besides or set(figures) != {name for name, how in CALLS.items() if how[1]}:
-        sys.exit(f"refused: {HEADING[3:]} of {PAGE.name} names other calls than nesting.py, or doesn't say what they take besides")
+    besides, wrong = re.search(r"(\d+) KiB besides", section), set(figures) - set(CALLS) - set(FOR_C)
+    if not besides or wrong:
+        sys.exit(f"refused: {HEADING[3:]} of {PAGE.name} names {wrong}, which nothing makes, or lacks what calls take besides")
     return figures, int(besides[1]) << 10
 
 
-def on_stack(stack, words, given):
-    """Runs a program on a stack of n bytes."""
-    limit = lambda: resource.setrlimit(resource.RLIMIT_STACK, (stack, stack))
-    return subprocess.run(words, input=given, capture_output=True, env={}, preexec_fn=limit, timeout=60, check=False)
-
-
-def answer(program, name, depth, given, stack):
+def answer(program, call, depth, given, stack):
     """What a call returns on a stack of n bytes, or how the program ended."""
-    done = on_stack(stack, [program, name, str(depth)], given)
+    done = within(resource.RLIMIT_STACK, stack, [program, *call.words, str(depth)], given)
     return f"status {done.returncode}" if done.returncode else done.stdout.decode().strip()
 
 
@@ -98,34 +112,40 @@ def long_input(make, form):
     return make(form, int(LONG / a_level) + 1)
 
 
-def judged(program):
-    """Yields the name of each check, and what was returned instead of what should be."""
+def judged(program, made):
+    """Yields the name of each check of these calls, and what was returned instead of what should be.
+
+    A call that isn't in the page's table doesn't recurse: it is done on what no limit lets through, on the small stack.
+    """
     figures, besides = table()
-    for name, (make, depths, refusal) in CALLS.items():
+    for name, call in made.items():
+        figure = figures.get(name)
         for said, form in FORMS.items():
-            for depth in depths:
-                got = answer(program, name, depth, make(form, depth), besides + depth * figures[name])
+            for depth in call.depths if figure else ():
+                got = answer(program, call, depth, call.make(form, depth), besides + depth * figure)
                 yield f"{name}, {depth} {said}", "" if got == "done" else got
-            if refusal:
-                got = answer(program, name, LIMIT, long_input(make, form), SMALL)
-                yield f"{name}, {LONG} bytes of {said}", "" if got.startswith(refusal) else got
-        if depths:
-            deep, stack = depths[-1], besides + depths[-1] * figures[name] // 2
-            halves = [answer(program, name, deep, make(form, deep), stack) for form in FORMS.values()]
+            if not figure or call.depths != UNLIMITED:
+                got = answer(program, call, LIMIT, long_input(call.make, form), SMALL)
+                is_well = REJECTED.search(got) if figure else got == "done"
+                yield f"{name}, {LONG} bytes of {said}", "" if is_well else got or "nothing"
+        if figure:
+            deep, stack = call.depths[-1], besides + call.depths[-1] * figure // 2
+            halves = [answer(program, call, deep, call.make(form, deep), stack) for form in FORMS.values()]
             yield f"{name}, half of the stack", "it is enough" if "status -11" not in halves else ""
 
 
-def least(program, name, depth):
+def least(program, call, depth):
     """The least stack, of those that the kernel tells apart, on which a call is done, whatever the form."""
-    make, is_done = CALLS[name][0], lambda form, pages: answer(program, name, depth, make(form, depth), pages << 12) == "done"
+    is_done = lambda form, pages: answer(program, call, depth, call.make(form, depth), pages << 12) == "done"
     return bisect(range(1 << 11), False, key=lambda pages: all(is_done(form, pages) for form in FORMS.values())) << 12
 
 
 def main():
     program, *names = sys.argv[1:]
     for name in names:
-        deepest = CALLS[name][1][-1]
-        few, many = least(program, name, deepest // 2), least(program, name, deepest)
+        call = {**CALLS, **FOR_C}[name]
+        deepest = call.depths[-1]
+        few, many = least(program, call, deepest // 2), least(program, call, deepest)
         a_level = (many - few) / (deepest - deepest // 2)
         print(f"{name}: {a_level:.0f} bytes a level, {many - a_level * deepest:.0f} besides", flush=True)
 

@@ -4,6 +4,7 @@ It has a separate reader and writer of values, and shares nothing with the crate
 """
 
 import json
+import math
 import random
 import struct
 from dataclasses import dataclass
@@ -16,7 +17,7 @@ from crates import TOP
 # Tables as brokers and clients sent them, with their type tag: a name, and hexadecimal.
 CAPTURED = TOP / "examples/captured/tables.txt"
 FRAME, DEPTH = 131072, 64
-# Each type tag's type, and the width of its payload, or none where a length counts it.
+# Each type tag's type, and the width of its payload, or None if a length counts it.
 TYPES = {
     "t": ("Boolean", 1), "b": ("ShortShortInt", 1), "B": ("ShortShortUInt", 1), "s": ("ShortInt", 2), "U": ("ShortInt", 2),
     "u": ("ShortUInt", 2), "I": ("LongInt", 4), "i": ("LongUInt", 4), "l": ("LongLongInt", 8), "L": ("LongLongInt", 8),
@@ -140,10 +141,7 @@ def json_text(value):
 
 
 class Failure(Exception):
-    """Where a value fails, and why."""
-
-    def __str__(self):
-        return "offset {}: {}".format(*self.args)
+    """The offset at which a value fails, and why."""
 
 
 @dataclass
@@ -164,18 +162,31 @@ class Part:
 
 
 class Dissection:
-    """The parts of the value at the start of some bytes, up to its end or to where it fails, and what is cut by the bytes' end."""
+    """The parts of the value at the start of some bytes, up to its end or to its fault, and what is cut by the bytes' end.
 
-    def __init__(self, data):
-        self.data, self.parts, self.failure, self.end = data, [], "", 0
+    A table is read as if its type tag came before the bytes, and offsets are those of the bytes.
+    """
+
+    def __init__(self, data, subject="value"):
+        self.subject, self.left_out = subject, int(subject == "table")
+        self.data = data = b"F" * self.left_out + data
+        self.parts, self.failure, self.end = [], None, 0
         # The type tags at each key of each table.
         self.tags = {}
         try:
             if extent(data) > FRAME:
-                raise Failure(0, "the value has more bytes than --frame allows")
+                raise Failure(0, f"the {subject} has more bytes than --frame allows")
             self.end = self.value(0, len(data), 0, DEPTH, True)
         except Failure as why:
-            self.failure = self.failure or str(why)
+            self.failure = self.failure or why
+
+    def offset(self, at):
+        return max(0, at - self.left_out)
+
+    def failed(self):
+        """The offset at which it fails, and why."""
+        at, why = self.failure.args
+        return f"offset {self.offset(at)}: {why}"
 
     def part(self, at, end, level, kind, type=""):
         part = Part(at, level, kind, type, self.data[at:end])
@@ -183,9 +194,9 @@ class Dissection:
         return part
 
     def value(self, at, end, level, depth, is_open, key=None):
-        """Takes a value apart that begins at an offset, and returns where it ends.
+        """Takes a value apart that begins at an offset, and returns the offset of its end.
 
-        What is open ends where the bytes do. If it is cut there it is taken apart as far as it has come; what the
+        What is open ends at the bytes' end. If it is cut there it is taken apart as far as it has come; what the
         outermost one needs is the failure.
         """
         if at == end:
@@ -203,7 +214,7 @@ class Dissection:
             self.tags.setdefault(key, []).append(value)
         failure = Failure(at + 1, f"the payload of a {name} is expected; more bytes needed: {needs}")
         if value.is_cut:
-            self.failure = self.failure or str(failure)
+            self.failure = self.failure or failure
         has_length = tag in COUNTED and at + 5 <= end
         if needs and not (is_open and has_length and (depth or tag in "Sx")):
             raise failure
@@ -232,7 +243,7 @@ class Dissection:
             at = self.value(at, end, level + 1, depth - 1, is_open, (table, key) if tag == "F" else None)
 
     def key(self, at, end, level, is_open, last):
-        """Takes a key apart, and returns where it ends, and the key."""
+        """Takes a key apart, and returns the offset of its end, and the key."""
         count, stop = self.data[at], at + 1 + self.data[at]
         is_cut = is_open and stop > end
         if stop > end and not is_cut:
@@ -256,15 +267,26 @@ def following(data, end):
     return f"at least {FRAME + 1 - end}" if len(data) > FRAME else str(len(data) - end)
 
 
-def outcome(data, dissection):
+def outcome(dissection):
     """What reading within the limits results in."""
+    data = dissection.data
     if not dissection.failure:
-        return f"a value of {dissection.end} bytes, {following(data, dissection.end)} follow"
+        length, follow = dissection.offset(dissection.end), following(data, dissection.end)
+        return f"a {dissection.subject} of {length} bytes, {follow} follow"
     if extent(data) > FRAME:
         return "refused, TooLarge"
     if needs := lack(data):
         return f"truncated; more bytes needed: {needs}"
     return "refused, Eof" if chr(data[0]) in TYPES else "refused, MapOpt"
+
+
+def hints(data, subject):
+    """That bytes which aren't a value, by the first of them, are a table without its type tag."""
+    if subject == "table" or data and chr(data[0]) in TYPES:
+        return []
+    table = Dissection(data, "table")
+    is_table = not table.failure and table.end == len(table.data)
+    return ["the input is a table without its type tag; --table reads it"] if is_table else []
 
 
 # Strings
@@ -324,7 +346,7 @@ def number_of(name, data):
 
 
 def text_of(name, data):
-    """The text of a payload."""
+    """A payload as a string."""
     if name == "Boolean":
         return "false" if data == b"\0" else "true"
     if name in ("Float", "Double"):
@@ -343,11 +365,11 @@ def text_of(name, data):
     return str(number)
 
 
-def repeated(tags):
+def repeated(dissection):
     """A line for each key that is repeated in its table."""
-    for (_, key), found in sorted(tags.items()):
+    for (_, key), found in sorted(dissection.tags.items()):
         if len(found) > 1:
-            first, last = (f"{it.text} at {it.offset}" for it in (found[0], found[-1]))
+            first, last = (f"{it.text} at {dissection.offset(it.offset)}" for it in (found[0], found[-1]))
             ends = "this library takes the last, RabbitMQ the first"
             yield f"* the key {quoted(key)} comes {len(found)} times: first {first}, last {last}; {ends}"
 
@@ -368,8 +390,8 @@ def tree(parts, asks_notes):
     return lines
 
 
-def part_lines(parts, asks_notes):
-    for part in parts:
+def part_lines(dissection, asks_notes):
+    for part in dissection.parts[dissection.left_out :]:
         digits = part.bytes[:8].hex() + (".." if len(part.bytes) > 8 else "")
         what = {
             "tag": lambda: f"type tag {part.bytes.decode('latin-1')}, {part.type}",
@@ -378,27 +400,29 @@ def part_lines(parts, asks_notes):
             "key": lambda: f"key {quoted(part.bytes)}",
             "payload": lambda: text_of(part.type, part.bytes),
         }[part.kind]()
-        yield f"{part.offset:>6}  {digits:<18}  {indentation(part.level)}{what}{part.noted(asks_notes)}"
+        at = dissection.offset(part.offset)
+        yield f"{at:>6}  {digits:<18}  {indentation(part.level)}{what}{part.noted(asks_notes)}"
 
 
 # What a run of amqp_show prints: standard output, standard error and the status
 
 
-def printed(data, asks_notes=False):
-    """Of `amqp_show --tree --bytes`, with `--canonical` or without it."""
-    found = Dissection(data)
-    lines = [*tree(found.parts, asks_notes), *part_lines(found.parts, asks_notes), *repeated(found.tags)]
-    lines += [f"! {found.failure}"] if found.failure else []
-    return "".join(f"{line}\n" for line in [*lines, f"= {outcome(data, found)}"]), "", int(bool(found.failure))
+def printed(data, asks_notes=False, subject="value"):
+    """Of `amqp_show --tree --bytes`, with `--canonical` and with `--table`, or without them."""
+    found = Dissection(data, subject)
+    lines = [*tree(found.parts, asks_notes), *part_lines(found, asks_notes), *repeated(found)]
+    lines += [f"! {it}" for it in [found.failed(), *hints(data, subject)]] if found.failure else []
+    return "".join(f"{line}\n" for line in [*lines, f"= {outcome(found)}"]), "", int(bool(found.failure))
 
 
-def printed_json(data):
-    """Of `amqp_show --json`."""
-    found = Dissection(data)
+def printed_json(data, subject="value"):
+    """Of `amqp_show --json`, with `--table` or without it."""
+    found = Dissection(data, subject)
     if found.failure:
-        return "", f'amqp_show: "-": {found.failure}; {outcome(data, found)}\n', 1
-    value, rest = read(data)
-    said = f'amqp_show: "-": {following(data, found.end)} bytes follow the value\n' if rest else ""
+        said = [f"{found.failed()}; {outcome(found)}", *hints(data, subject)]
+        return "", "".join(f'amqp_show: "-": {it}\n' for it in said), 1
+    value, rest = read(found.data)
+    said = f'amqp_show: "-": {following(found.data, found.end)} bytes follow the {subject}\n' if rest else ""
     return f"{json_text(value)}\n", said, 0
 
 
@@ -414,6 +438,43 @@ def streamed(values):
         said += why.replace('"-": ', f'"-": no value at {offset}: ', 1)
         offset += len(data)
     return (trees, "", 1), (texts, said, 1)
+
+
+def checked(data, subject="value"):
+    """Of `amqp_show --check rabbitmq`, with `--table` or without it."""
+    left_out = int(subject == "table")
+    data = b"F" * left_out + data
+    try:
+        if extent(data) > FRAME:
+            raise Failure(0, f"the {subject} has more bytes than --frame allows")
+        end = taken(data, 0, len(data), DEPTH)
+        return f"= RabbitMQ 3.10.8 takes a {subject} of {end - left_out} bytes, {following(data, end)} follow\n", "", 0
+    except Failure as failure:
+        at, why = failure.args
+        verdict = "not checked beyond the limits" if " allow" in why else "RabbitMQ 3.10.8 closes the connection"
+        return f"! offset {max(0, at - left_out)}: {why}\n= {verdict}\n", "", 1
+
+
+def taken(data, at, end, depth):
+    """Returns the offset of the end of a value that RabbitMQ takes, or fails at the first thing that it doesn't."""
+    begin, stop = at, at + extent(data[at:end][:5])
+    if at == end or chr(data[at]) in TYPES and stop > end and chr(data[at]) != "U":
+        raise Failure(at, "a value is expected; too few bytes are left")
+    tag = chr(data[at])
+    if tag not in TYPES or tag == "U":
+        raise Failure(at, f"a type tag is expected; RabbitMQ knows no {data[at]:02x}")
+    if tag in "fd" and not math.isfinite(struct.unpack(f">{tag}", data[at + 1 : stop])[0]):
+        raise Failure(at, "the number is an infinity or a NaN")
+    if tag in "AF" and not depth:
+        raise Failure(at, "containers nest deeper than --depth allows")
+    at += 5
+    while tag in "AF" and at < stop:
+        if tag == "F":
+            if at + 1 + data[at] > stop:
+                raise Failure(at, "a key is expected; too few bytes are left")
+            at += 1 + data[at]
+        at = taken(data, at, stop, depth - 1)
+    return begin + extent(data[begin : begin + 5])
 
 
 # Inputs
@@ -441,10 +502,14 @@ def table_of(make, values):
     return field(b"F", b"".join(bytes([len(key)]) + key + it for key, it in zip(keys, values)))
 
 
-def nested(tag, count, inside):
-    for _ in range(count):
-        inside = field(b"A", inside) if tag == "A" else field(b"F", b"\1k" + inside)
-    return inside
+def nested(form, depth, inside, key=b"\1k"):
+    """An encoding of n containers, each in the one before, with the type tags of the form again and again."""
+    parts, length = [inside], len(inside)
+    for tag in reversed((form * depth)[:depth]):
+        named = key if tag == "F" else b""
+        parts.append(tag.encode() + struct.pack(">I", len(named) + length) + named)
+        length += len(parts[-1])
+    return b"".join(reversed(parts))
 
 
 def numbers(make):
@@ -499,6 +564,11 @@ def inputs():
         yield from (table, damaged(make, table), table_of(make, [table, b"V", table, b"V"]))
     keys = (b"\4%04x" % (it % 10000) for it in range(20000))
     yield field(b"F", b"".join(it + b"V" for it in keys))
+
+
+def untagged():
+    """The tables among them without their type tag: also cut and damaged ones, and some that bytes follow."""
+    return [it[1:] for it in inputs() if it[:1] == b"F"]
 
 
 def stream():

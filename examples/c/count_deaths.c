@@ -9,19 +9,14 @@
 
 /* The count of the first death, or -1 if the headers have none. `headers` is a table with its type tag. */
 static int64_t deaths(const uint8_t *headers, size_t length) {
+    static const amqp_step path[] = {AMQP_KEY("x-death"), AMQP_INDEX(0), AMQP_KEY("count")};
     size_t taken;
-    amqp_entry entry;
-    amqp_cursor cursor;
+    amqp_entry table, count;
     if (amqp_read(headers, length, 131072, 64, &taken) == AMQP_OK
-        && amqp_first(headers, length, &entry) == AMQP_OK
-        && amqp_enter(headers, length, &entry, &cursor) == AMQP_OK
-        && amqp_find(headers, length, &cursor, (const uint8_t *)"x-death", 7, &entry) == AMQP_OK
-        && amqp_enter(headers, length, &entry, &cursor) == AMQP_OK
-        && amqp_next(headers, length, &cursor, &entry) == AMQP_OK
-        && amqp_enter(headers, length, &entry, &cursor) == AMQP_OK
-        && amqp_find(headers, length, &cursor, (const uint8_t *)"count", 5, &entry) == AMQP_OK
-        && entry.tag == AMQP_LONG_LONG_INT) {
-        return (int64_t)entry.bits;
+        && amqp_first(headers, length, &table) == AMQP_OK
+        && amqp_find_path(headers, length, &table, path, 3, AMQP_FIRST_KEY, &count) == AMQP_OK
+        && count.tag == AMQP_LONG_LONG_INT) {
+        return (int64_t)count.bits;
     }
     return -1;
 }

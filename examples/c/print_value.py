@@ -62,7 +62,7 @@ def shown(data, entry):
 
 
 def entries(library, data, container):
-    """The entries of an array or a table, in order; of any other value none."""
+    """The entries of an array or a table, in order; of any other value no entry."""
     cursor, entry = Cursor(), Entry()
     if library.amqp_enter(data, len(data), ctypes.byref(container), ctypes.byref(cursor)) != OK:
         return

@@ -4,7 +4,7 @@
 
 #include "amqp.h"
 
-/* Says why there is no result. */
+/* Prints why there is no result. */
 static const char *why(int32_t answer) {
     switch (answer) {
     case AMQP_OK: return "given";

@@ -1,0 +1,54 @@
+/*
+ * Makes a call of include/amqp.h that recurses, on what standard input has: nested NAME DEPTH. It is made
+ * in a thread whose stack has as many bytes as this program's may have (RLIMIT_STACK), in pages after one
+ * that can't be accessed. DEPTH is the limit on depth. Prints `done`, or which code was returned instead.
+ * .ci/nesting.py has the inputs and the stacks.
+ */
+#include "check.h"
+
+#include <pthread.h>
+#include <sys/resource.h>
+
+static uint8_t given[16 << 20], buffer[1 << 20];
+static size_t length;
+static const char *name;
+static uint32_t depth;
+static int32_t answer = AMQP_INVALID;
+
+static int is_called(const char *other) {
+    return strcmp(name, other) == 0;
+}
+
+static void *make_call(void *unused) {
+    amqp_container top = {{0, 0}, AMQP_ARRAY};
+    size_t count;
+    if (is_called("amqp_read")) {
+        answer = amqp_read(given, length, UINT32_MAX, depth, &count);
+    } else if (is_called("amqp_put_value")) {
+        answer = amqp_put_value(buffer, sizeof buffer, &top, given, 0, given, length, UINT32_MAX, depth);
+    } else if (is_called("amqp_canonical")) {
+        answer = amqp_canonical(given, length, UINT32_MAX, depth, buffer, sizeof buffer, &count);
+    } else if (is_called("amqp_to_json")) {
+        answer = amqp_to_json(given, length, UINT32_MAX, depth, buffer, sizeof buffer, &count);
+    } else if (is_called("amqp_from_json")) {
+        answer = amqp_from_json(given, length, depth, buffer, sizeof buffer, &count);
+    }
+    return unused;
+}
+
+int main(int words, char **word) {
+    struct rlimit stack;
+    pthread_attr_t how;
+    pthread_t thread;
+    CHECK(words == 3 && getrlimit(RLIMIT_STACK, &stack) == 0);
+    name = word[1];
+    depth = (uint32_t)atol(word[2]);
+    length = fread(given, 1, sizeof given, stdin);
+    size_t pages = stack.rlim_cur / (size_t)sysconf(_SC_PAGESIZE);
+    CHECK(length < sizeof given && pthread_attr_init(&how) == 0);
+    uint8_t *lowest = pages_between(pages);
+    CHECK(pthread_attr_setstack(&how, lowest, pages * page_size) == 0);
+    CHECK(pthread_create(&thread, &how, make_call, NULL) == 0 && pthread_join(thread, NULL) == 0);
+    puts(answer == AMQP_OK ? "done" : answer == AMQP_MALFORMED ? "AMQP_MALFORMED" : answer == AMQP_NOT_JSON ? "AMQP_NOT_JSON" : "another code");
+    return 0;
+}

@@ -1,0 +1,146 @@
+"""A RabbitMQ of Debian 12 in a fresh folder, on free ports of 127.0.0.1, that ends with the process that started it."""
+
+import ctypes
+import json
+import signal
+import socket
+import subprocess
+import time
+from pathlib import Path
+
+from wire import Closed, Connection
+
+BIN = Path("/usr/lib/rabbitmq/bin")
+PLUGINS = "[rabbitmq_shovel,rabbitmq_federation]."
+# A virtual host whose messages the broker also reports to amq.rabbitmq.trace.
+TRACED = "traced"
+# Two processors at most, no waiting in a loop, and its port for other nodes on 127.0.0.1 too.
+ERLANG = f"+S 2:2 +sbwt none +sbwtdcpu none +sbwtdio none -kernel inet_dist_use_interface {{127,0,0,1}} -rabbit trace_vhosts [<<\"{TRACED}\">>]"
+# How often it is tried, since another process may take a port that was free, and the seconds for each try, and for an expression.
+TRIES, SECONDS = 3, 200
+
+
+def free_ports(count):
+    """Ports that nobody uses now; all are bound at once, so that they differ."""
+    sockets = [socket.create_server(("127.0.0.1", 0)) for _ in range(count)]
+    ports = [it.getsockname()[1] for it in sockets]
+    for it in sockets:
+        it.close()
+    return ports
+
+
+def ends_with_us():
+    """Has a child killed as soon as this process ends, however it ends (PR_SET_PDEATHSIG); what it execs keeps that."""
+    ctypes.CDLL(None).prctl(1, signal.SIGKILL, 0, 0, 0)
+
+
+def definitions(port):
+    """What the broker begins with: its virtual hosts, one user, a shovel, and an exchange that is federated."""
+    uri = f"amqp://127.0.0.1:{port}"
+    shovel = {"src-protocol": "amqp091", "src-uri": uri, "src-queue": "shovel from", "dest-protocol": "amqp091", "dest-uri": uri}
+    shovel |= {"dest-queue": "shovel to", "dest-add-forward-headers": True, "dest-add-timestamp-header": True, "reconnect-delay": 1}
+    upstream = {"uri": uri, "exchange": "upstream", "reconnect-delay": 1}
+    return {
+        "vhosts": [{"name": it} for it in ("/", TRACED)],
+        "users": [{"name": "guest", "password": "guest", "tags": "administrator"}],
+        "permissions": [{"user": "guest", "vhost": it, "configure": ".*", "write": ".*", "read": ".*"} for it in ("/", TRACED)],
+        "parameters": [
+            {"vhost": "/", "component": "federation-upstream", "name": "up", "value": upstream},
+            {"vhost": "/", "component": "shovel", "name": "moving", "value": shovel},
+        ],
+        "policies": [
+            {"vhost": "/", "name": "federated", "pattern": "^downstream$", "apply-to": "exchanges", "definition": {"federation-upstream": "up"}}
+        ],
+    }
+
+
+class Broker:
+    """A running broker; a with statement ends it."""
+
+    def __init__(self, folder):
+        self.folder, self.processes, self.port = Path(folder), [], 0
+
+    def __enter__(self):
+        for number in range(TRIES):
+            begun = time.time()
+            self.start(self.folder / f"broker{number}")
+            while time.time() < begun + SECONDS and not self.has_ended():
+                if self.is_ready():
+                    self.seconds = time.time() - begun
+                    return self
+                time.sleep(0.2)
+            self.end()
+        raise RuntimeError(f"the broker didn't start: {self.printed()}")
+
+    def __exit__(self, *_):
+        self.end()
+
+    def start(self, home):
+        self.home = home
+        home.mkdir()
+        self.port, between, names = free_ports(3)
+        (home / "plugins").write_text(PLUGINS)
+        (home / "definitions.json").write_text(json.dumps(definitions(self.port)))
+        settings = [f"load_definitions = {home}/definitions.json", "log.file = false", "log.console = true", "log.console.level = critical"]
+        (home / "rabbitmq.conf").write_text("\n".join([*settings, ""]))
+        (home / "rabbitmq-env.conf").touch()
+        # no variable of the machine's counts; in HOME Erlang makes its cookie
+        self.environment = {
+            "PATH": "/usr/sbin:/usr/bin:/sbin:/bin", "LC_ALL": "C.UTF-8", "HOME": f"{home}", "TMPDIR": f"{home}",
+            "RABBITMQ_NODENAME": f"maolkint{self.port}@localhost", "RABBITMQ_NODE_IP_ADDRESS": "127.0.0.1",
+            "RABBITMQ_NODE_PORT": f"{self.port}", "RABBITMQ_DIST_PORT": f"{between}",
+            "RABBITMQ_BASE": f"{home}", "RABBITMQ_MNESIA_BASE": f"{home}/mnesia", "RABBITMQ_LOG_BASE": f"{home}/log",
+            "RABBITMQ_PID_FILE": f"{home}/pid", "RABBITMQ_ENABLED_PLUGINS_FILE": f"{home}/plugins",
+            "RABBITMQ_CONF_ENV_FILE": f"{home}/rabbitmq-env.conf", "RABBITMQ_CONFIG_FILE": f"{home}/rabbitmq.conf",
+            "RABBITMQ_ADVANCED_CONFIG_FILE": f"{home}/none.config", "RABBITMQ_GENERATED_CONFIG_DIR": f"{home}/config",
+            "RABBITMQ_FEATURE_FLAGS_FILE": f"{home}/feature_flags", "RABBITMQ_SERVER_ADDITIONAL_ERL_ARGS": ERLANG,
+            "ERL_EPMD_ADDRESS": "127.0.0.1", "ERL_EPMD_PORT": f"{names}", "ERL_CRASH_DUMP": f"{home}/erl_crash.dump",
+            # its script becomes the broker then, instead of a parent of it
+            "RUNNING_UNDER_SYSTEMD": "true",
+        }
+        self.run("epmd", "-port", names, "-address", "127.0.0.1")
+        self.run(BIN / "rabbitmq-server")
+
+    def run(self, *words):
+        """Starts a process that ends with this one."""
+        how = {"cwd": self.home, "env": self.environment, "preexec_fn": ends_with_us, "start_new_session": True}
+        with open(self.home / "printed", "ab") as out:
+            words = [str(it) for it in words]
+            self.processes.append(subprocess.Popen(words, stdin=subprocess.DEVNULL, stdout=out, stderr=out, **how))
+
+    def has_ended(self):
+        return any(it.poll() is not None for it in self.processes)
+
+    def printed(self):
+        """The end of what it printed."""
+        return (self.home / "printed").read_text(errors="replace")[-3000:]
+
+    def is_ready(self):
+        """Whether it takes connections."""
+        try:
+            self.connection().close()
+        except (OSError, Closed):
+            return False
+        return True
+
+    def connection(self, **how):
+        return Connection(self.port, **how)
+
+    def asked(self, expression):
+        """What an Erlang expression prints in a node next to the broker, in which R(module, function, arguments) is called.
+
+        As `rabbitmqctl eval`, which takes several times as long.
+        """
+        call = f"R = fun(M, F, A) -> rpc:call('{self.environment['RABBITMQ_NODENAME']}', M, F, A) end"
+        words = ["erl", "-noinput", "-hidden", "-boot", "no_dot_erlang", "-start_epmd", "false", "-sname", "asking@localhost"]
+        words += ["-kernel", "inet_dist_use_interface", "{127,0,0,1}", "-eval", f"{call}, {expression}, halt()."]
+        done = subprocess.run(words, env=self.environment, cwd=self.home, capture_output=True, text=True, timeout=SECONDS)
+        if done.returncode:
+            raise RuntimeError(f"erl: {done.stdout[-1000:]}{done.stderr[-1000:]}")
+        return done.stdout.strip()
+
+    def end(self):
+        for it in reversed(self.processes):
+            it.kill()
+            it.wait()
+        self.processes.clear()

@@ -1,0 +1,238 @@
+"""Tables to send to a broker, in the form of printed.py, and what RabbitMQ makes of tables, predicted."""
+
+import struct
+from fractions import Fraction
+
+from printed import COUNTED, SIGNED, TYPES, field
+
+PLAIN = "tbBsuIilfdDSxTV"
+INTEGERS = "bBsuIil"
+# How RabbitMQ calls each type in Erlang.
+ERLANG = {
+    "t": "bool", "b": "byte", "B": "unsignedbyte", "s": "short", "u": "unsignedshort", "I": "signedint", "i": "unsignedint",
+    "l": "long", "f": "float", "d": "double", "D": "decimal", "S": "longstr", "x": "binary", "A": "array", "F": "table",
+    "T": "timestamp", "V": "void",
+}
+# Of keys; with no capitals of ASCII none is CC or BCC, which the broker takes for names of queues.
+LETTERS = "abcdefghijklmnopqrstuvwxyz0123456789-_. ÄÖäöüßéñλΩж漢字🐇"
+
+
+# Values
+
+
+def number(tag, value):
+    """A value of an integer type, a Boolean or a Timestamp."""
+    return tag, value.to_bytes(TYPES[tag][1], "big", signed=TYPES[tag][0] in SIGNED)
+
+
+def float_of(tag, value):
+    return tag, struct.pack(">f" if tag == "f" else ">d", value)
+
+
+def decimal(scale, value):
+    return "D", struct.pack(">BI", scale, value)
+
+
+def text(value):
+    return "S", value.encode()
+
+
+def table(**entries):
+    """A table of these entries; `_` in a name is `-` in its key."""
+    return "F", {key.replace("_", "-").encode(): value for key, value in entries.items()}
+
+
+def integer_of(value):
+    """The number of an integer, or of a Timestamp."""
+    return int.from_bytes(value[1], "big", signed=TYPES[value[0]][0] in SIGNED)
+
+
+# A value of every type, and both kinds of container inside each other.
+EVERY_TYPE = table(
+    boolean=number("t", 1), byte=number("b", -2), unsigned_byte=number("B", 254), short=number("s", -300), unsigned_short=number("u", 65000),
+    int=number("I", -70000), unsigned_int=number("i", 4 * 10**9), long=number("l", -(2**40)), float=float_of("f", 1.5), double=float_of("d", -0.25),
+    decimal=decimal(2, 314), text=text("grüß 漢"), bytes=("x", b"\0\xff"), time=number("T", 1_800_000_000), nothing=("V", b""),
+    list=("A", [number("I", 1), table(inner=("A", []))]), table=table(z=text(""), a=table()),
+)
+
+
+def random_value(make, depth):
+    """A value of any type; numbers are finite."""
+    tag = make.choice(PLAIN + "AF" * 2 if depth else PLAIN)
+    if tag == "A":
+        return tag, [random_value(make, depth - 1) for _ in range(make.randrange(5))]
+    if tag == "F":
+        return random_table(make, depth - 1)
+    if tag in "Sx":
+        return tag, make.choice([b"", random_key(make), make.randbytes(make.randrange(40))])
+    if tag == "t":
+        return tag, make.choice([b"\0", b"\1"])
+    width = TYPES[tag][1]
+    content = make.choice([b"\0" * width, b"\x80" + b"\0" * width, b"\x7f" + b"\xff" * width, b"\xff" * width, make.randbytes(width)])[:width]
+    return random_value(make, depth) if oddity_of(tag, content) else (tag, content)
+
+
+def random_table(make, depth=3):
+    return "F", {random_key(make): random_value(make, depth) for _ in range(make.choice([0, 1, 2, 3, 5, 8]))}
+
+
+def random_key(make):
+    """UTF-8 of at most 255 bytes."""
+    if make.random() < 0.02:
+        return make.choice([b"", b"k" * 255, "漢".encode() * 85])
+    return "".join(make.choice(LETTERS) for _ in range(make.randrange(1, 12))).encode()
+
+
+def types_in(value):
+    """The type tag of a value, and of each in it."""
+    tag, content = value
+    yield tag
+    for it in content.values() if tag == "F" else content if tag == "A" else ():
+        yield from types_in(it)
+
+
+def oddity_of(tag, content):
+    """Whether it is a NaN or an infinity, in which case RabbitMQ takes it for no number."""
+    if tag not in "fd":
+        return ""
+    (found,) = struct.unpack(">f" if tag == "f" else ">d", content)
+    return "NaN" if found != found else "infinity" if abs(found) == float("inf") else ""
+
+
+# What RabbitMQ makes of them
+
+
+def oddities(data):
+    """What is odd in the value that some bytes should be, as far as it can be followed.
+
+    `NaN`, `infinity` and `U` here are values; `key` (one that isn't UTF-8) RabbitMQ takes as any other.
+    """
+    tag = chr(data[0]) if data else ""
+    if tag not in TYPES:
+        yield "no type tag" if tag else "cut"
+        return
+    body, length = value_end(data)
+    if length != len(data):
+        yield "cut"
+        return
+    if found := "U" if tag == "U" else oddity_of(tag, data[body:]):
+        yield found
+    if tag in "AF":
+        yield from oddities_inside(tag, data[body:])
+
+
+def value_end(data):
+    """The offset of the content of the value at the start, and the value's end by its type tag and length."""
+    tag = chr(data[0])
+    if tag in COUNTED:
+        return 5, 5 + int.from_bytes(data[1:5], "big") if len(data) >= 5 else len(data) + 1
+    return 1, 1 + TYPES[tag][1]
+
+
+def oddities_inside(tag, body):
+    while body:
+        if tag == "F":
+            key, body = body[1 : 1 + body[0]], body[1 + body[0] :]
+            try:
+                key.decode("utf-8")
+            except UnicodeDecodeError:
+                yield "key"
+        end = value_end(body)[1] if body and chr(body[0]) in TYPES else len(body)
+        found = [*oddities(body[:end])]
+        yield from found
+        if {"no type tag", "cut"} & {*found}:
+            return
+        body = body[end:]
+
+
+def closes(data):
+    """Why RabbitMQ closes the connection that sends a table, or nothing."""
+    return {*oddities(data)} - {"key"}
+
+
+def is_unread(data):
+    """Why no value of these bytes is read here, or nothing."""
+    return {*oddities(data)} & {"key", "no type tag", "cut"}
+
+
+def term(value):
+    """What RabbitMQ compares of a value: numbers by their value, strings by their bytes, what is nested with its types."""
+    tag, content = value
+    if tag in INTEGERS or tag == "T":
+        return "number", Fraction(integer_of(value))
+    if tag in "fd":
+        return "number", Fraction(struct.unpack(">f" if tag == "f" else ">d", content)[0])
+    if tag == "A":
+        return "list", [(it[0], term(it)) for it in content]
+    if tag == "F":
+        return "list", [(key, it[0], term(it)) for key, it in content.items()]
+    return "string" if tag in "Sx" else tag, content
+
+
+def matches(argument, header):
+    """Whether the argument of a binding to a headers exchange matches a header."""
+    return argument[0] == "V" or term(argument) == term(header)
+
+
+def erlang(value):
+    """A value as Erlang prints it by ~w."""
+    tag, content = value
+    if tag in "Sx":
+        return binary(content)
+    if tag == "A":
+        return "[" + ",".join(f"{{{ERLANG[it[0]]},{erlang(it)}}}" for it in content) + "]"
+    if tag == "F":
+        return "[" + ",".join(f"{{{binary(key)},{ERLANG[it[0]]},{erlang(it)}}}" for key, it in content.items()) + "]"
+    if tag in "fd":
+        return repr(struct.unpack(">f" if tag == "f" else ">d", content)[0])
+    if tag == "D":
+        return f"{{{content[0]},{int.from_bytes(content[1:], 'big')}}}"
+    return {"t": "true" if content == b"\1" else "false", "V": "undefined"}.get(tag) or str(integer_of(value))
+
+
+def binary(data):
+    return f"<<{','.join(map(str, data))}>>"
+
+
+# Bytes that are odd
+
+NAN = [bytes.fromhex(it) for it in ("667fc00000", "66ffc00000", "667f800001", "667fffffff", "647ff8000000000000", "64fff0000000000001", "647fffffffffffffff")]
+INFINITY = [bytes.fromhex(it) for it in ("667f800000", "66ff800000", "647ff0000000000000", "64fff0000000000000")]
+NO_TAG = [b"\0", b"_\1a", b"z", b"\xff", b"n\0"]
+# What is odd and taken: other bytes for true, the alternate tag L, keys that aren't UTF-8, equal keys.
+TAKEN = [b"t\7", b"t\xff", b"L" + b"\xff" * 8, b"L" + b"\0" * 8, field(b"F", b"\2\xff\xfeV"), field(b"F", b"\1aV\1aI\0\0\0\1")]
+
+
+def odd_table(make):
+    """A table with something odd or cut somewhere in it, or one of its bytes changed, or none of these."""
+    kinds = [NAN, INFINITY, [b"U\xff\xfe"], NO_TAG, TAKEN, TAKEN, TAKEN]
+    kind = make.randrange(len(kinds) + 3)
+    value = make.choice(kinds[kind]) if kind < len(kinds) else raw(random_value(make, 1))
+    for _ in range(make.randrange(3)):
+        value = contained(make, make.choice("AF"), value)
+    data = contained(make, "F", value)
+    if kind == len(kinds):
+        at = make.randrange(5, len(data))
+        change = make.choice([data[:at], data[:at] + make.randbytes(1) + data[at + 1 :], data[:at] + data[at + 1 :]])
+        data = field(b"F", change[5:])
+    return data
+
+
+def contained(make, tag, value):
+    """A container with a value among others."""
+    values = [raw(random_value(make, 1)) for _ in range(make.randrange(3))]
+    values.insert(make.randrange(len(values) + 1), value)
+    if tag == "A":
+        return field(b"A", b"".join(values))
+    keys = [random_key(make) for _ in values]
+    return field(b"F", b"".join(bytes([len(key)]) + key + it for key, it in zip(keys, values)))
+
+
+def raw(value):
+    """The bytes of a value, with the keys of tables in their order."""
+    tag, content = value
+    if tag == "A":
+        content = b"".join(map(raw, content))
+    if tag == "F":
+        content = b"".join(bytes([len(key)]) + key + raw(it) for key, it in content.items())
+    return field(tag.encode(), content) if tag in COUNTED else tag.encode() + content

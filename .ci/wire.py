@@ -1,0 +1,252 @@
+"""A small connection of AMQP 0-9-1: frames, methods, content headers. Field tables stay bytes, with their type tag F.
+
+On the wire a table has no type tag: `bare` removes it, and `Arguments.table` adds it.
+"""
+
+import socket
+import struct
+
+# The properties of a message in the order of their bits, from the highest.
+PROPERTIES = {
+    "content_type": "s", "content_encoding": "s", "headers": "F", "delivery_mode": "o", "priority": "o",
+    "correlation_id": "s", "reply_to": "s", "expiration": "s", "message_id": "s", "timestamp": "T",
+    "type": "s", "user_id": "s", "app_id": "s", "cluster_id": "s",
+}
+EMPTY = b"F\0\0\0\0"
+FRAME_MAX, SECONDS = 131072, 60
+METHOD, HEADER, BODY, HEARTBEAT, END = 1, 2, 3, 8, b"\xce"
+# Methods by class and number.
+START, START_OK, TUNE, TUNE_OK, OPEN, OPEN_OK = (10, 10), (10, 11), (10, 30), (10, 31), (10, 40), (10, 41)
+CLOSE, CLOSE_OK, CHANNEL_OPEN, CHANNEL_OPEN_OK, CHANNEL_CLOSE = (10, 50), (10, 51), (20, 10), (20, 11), (20, 40)
+EXCHANGE_DECLARE, EXCHANGE_DECLARE_OK = (40, 10), (40, 11)
+QUEUE_DECLARE, QUEUE_DECLARE_OK, BIND, BIND_OK = (50, 10), (50, 11), (50, 20), (50, 21)
+CONSUME, CONSUME_OK, CANCEL, CANCEL_OK, PUBLISH, DELIVER = (60, 20), (60, 21), (60, 30), (60, 31), (60, 40), (60, 60)
+GET, GET_OK, GET_EMPTY, ACK, REJECT, NACK = (60, 70), (60, 71), (60, 72), (60, 80), (60, 90), (60, 120)
+CONFIRM, CONFIRM_OK = (85, 10), (85, 11)
+
+
+class Closed(Exception):
+    """The broker closed the socket (code 0), or by a method the connection or the channel."""
+
+    def __init__(self, what, code=0, text=""):
+        super().__init__(f"the {what} was closed: {code} {text}")
+        self.what, self.code, self.text = what, code, text
+
+
+def short(text):
+    data = text.encode() if isinstance(text, str) else text
+    return bytes([len(data)]) + data
+
+
+def long(data):
+    return struct.pack(">I", len(data)) + data
+
+
+def bare(table):
+    assert table[:1] == b"F", table[:5]
+    return table[1:]
+
+
+class Arguments:
+    """The fields of a method or of a content header, taken from the start."""
+
+    def __init__(self, data):
+        self.data, self.at = data, 0
+
+    def take(self, count):
+        piece = self.data[self.at : self.at + count]
+        assert len(piece) == count, "a field is cut"
+        self.at += count
+        return piece
+
+    def number(self, form):
+        return struct.unpack(f">{form}", self.take(struct.calcsize(f">{form}")))[0]
+
+    def short(self):
+        return self.take(self.number("B"))
+
+    def long(self):
+        return self.take(self.number("I"))
+
+    def table(self):
+        return b"F" + long(self.long())
+
+    def properties(self):
+        """The size of a body, and a message's properties."""
+        _, _, size, flags = self.number("H"), self.number("H"), self.number("Q"), self.number("H")
+        take = {"s": self.short, "F": self.table, "o": lambda: self.number("B"), "T": lambda: self.number("Q")}
+        return size, {name: take[form]() for at, (name, form) in enumerate(PROPERTIES.items()) if flags >> 15 - at & 1}
+
+
+def header_of(size, properties):
+    """The content header of a message."""
+    put = {"s": short, "F": bare, "o": lambda it: bytes([it]), "T": lambda it: struct.pack(">Q", it)}
+    flags = sum(1 << 15 - at for at, name in enumerate(PROPERTIES) if name in properties)
+    fields = (put[form](properties[name]) for name, form in PROPERTIES.items() if name in properties)
+    return struct.pack(">HHQH", 60, 0, size, flags) + b"".join(fields)
+
+
+class Message:
+    """A message as it came, to a consumer or since it was asked for."""
+
+    def __init__(self, method, header, body):
+        fields = Arguments(method)
+        self.consumer = fields.short() if header.is_delivery else b""
+        self.tag, self.is_again = fields.number("Q"), fields.number("B")
+        self.exchange, self.key, self.properties, self.body = fields.short(), fields.short(), header.properties, body
+        self.frame = header.frame
+
+    @property
+    def headers(self):
+        return self.properties.get("headers", EMPTY)
+
+
+class Header:
+    """A content header, and how many bytes its frame had."""
+
+    def __init__(self, payload, is_delivery):
+        self.is_delivery, self.frame = is_delivery, len(payload) + 8
+        self.size, self.properties = Arguments(payload).properties()
+
+
+class Connection:
+    """A connection with one channel. What comes while something else is waited for is kept."""
+
+    def __init__(self, port, client_properties=EMPTY, vhost="/"):
+        self.socket = socket.create_connection(("127.0.0.1", port), SECONDS)
+        self.socket.setsockopt(socket.IPPROTO_TCP, socket.TCP_NODELAY, 1)
+        self.file, self.inbox = self.socket.makefile("rb"), []
+        self.socket.sendall(b"AMQP\0\0\x09\x01")
+        start = Arguments(self.wait(START))
+        start.take(2)
+        self.server_properties = start.table()
+        self.call(START_OK, bare(client_properties) + short("PLAIN") + long(b"\0guest\0guest") + short("en_US"), TUNE, channel=0)
+        self.send(TUNE_OK, struct.pack(">HIH", 8, FRAME_MAX, 0), channel=0)
+        self.call(OPEN, short(vhost) + short("") + b"\0", OPEN_OK, channel=0)
+        self.call(CHANNEL_OPEN, short(""), CHANNEL_OPEN_OK)
+
+    # Frames
+
+    def frame(self, kind, payload, channel=1):
+        return struct.pack(">BHI", kind, channel, len(payload)) + payload + END
+
+    def send(self, method, arguments, channel=1):
+        self.write(self.frame(METHOD, struct.pack(">HH", *method) + arguments, channel))
+
+    def write(self, data):
+        try:
+            self.socket.sendall(data)
+        except (BrokenPipeError, ConnectionResetError):
+            # what the broker sent before it closed is still to be read
+            pass
+
+    def read(self, count):
+        try:
+            data = self.file.read(count)
+        except ConnectionResetError:
+            data = b""
+        if len(data) < count:
+            raise Closed("socket")
+        return data
+
+    def read_frame(self):
+        kind, _, size = struct.unpack(">BHI", self.read(7))
+        payload = self.read(size)
+        assert self.read(1) == END
+        return (kind, payload) if kind != HEARTBEAT else self.read_frame()
+
+    def event(self):
+        """The next method and its arguments, or the message that it begins."""
+        kind, payload = self.read_frame()
+        assert kind == METHOD, kind
+        method, rest = struct.unpack(">HH", payload[:4]), payload[4:]
+        if method in (CLOSE, CHANNEL_CLOSE):
+            fields = Arguments(rest)
+            raise Closed("connection" if method == CLOSE else "channel", fields.number("H"), fields.short().decode(errors="replace"))
+        if method not in (DELIVER, GET_OK):
+            return method, rest
+        header, body = Header(self.read_frame()[1], method == DELIVER), b""
+        while len(body) < header.size:
+            body += self.read_frame()[1]
+        return method, Message(rest, header, body)
+
+    def wait(self, *methods):
+        """The arguments of the next of these methods, or its message."""
+        for at, (method, rest) in enumerate(self.inbox):
+            if method in methods:
+                del self.inbox[at]
+                return rest
+        while True:
+            method, rest = self.event()
+            if method in methods:
+                return rest
+            self.inbox.append((method, rest))
+
+    def call(self, method, arguments, *replies, channel=1):
+        self.send(method, arguments, channel)
+        return self.wait(*replies)
+
+    def close(self):
+        try:
+            self.call(CLOSE, struct.pack(">H", 200) + short("") + struct.pack(">HH", 0, 0), CLOSE_OK, channel=0)
+        except (Closed, OSError):
+            pass
+        self.drop()
+
+    def drop(self):
+        """Closes the socket, and nothing more."""
+        self.file.close()
+        self.socket.close()
+
+    # Methods
+
+    def exchange(self, name, kind, arguments=EMPTY):
+        self.call(EXCHANGE_DECLARE, b"\0\0" + short(name) + short(kind) + b"\0" + bare(arguments), EXCHANGE_DECLARE_OK)
+
+    def queue(self, name="", arguments=EMPTY, is_durable=False):
+        """Declares a queue that goes with the broker, and returns its name."""
+        fields = b"\0\0" + short(name) + bytes([2 * is_durable]) + bare(arguments)
+        return Arguments(self.call(QUEUE_DECLARE, fields, QUEUE_DECLARE_OK)).short().decode()
+
+    def count(self, queue):
+        """How many messages are ready in a queue (which has to be there)."""
+        fields = Arguments(self.call(QUEUE_DECLARE, b"\0\0" + short(queue) + b"\1" + bare(EMPTY), QUEUE_DECLARE_OK))
+        fields.short()
+        return fields.number("I")
+
+    def bind(self, queue, exchange, key="", arguments=EMPTY):
+        self.call(BIND, b"\0\0" + short(queue) + short(exchange) + short(key) + b"\0" + bare(arguments), BIND_OK)
+
+    def confirms(self):
+        """Has the broker confirm each message that is published from now on."""
+        self.call(CONFIRM, b"\0", CONFIRM_OK)
+
+    def confirmed(self):
+        self.wait(ACK)
+
+    def message(self, exchange, key, headers=EMPTY, properties=(), body=b""):
+        """The frames of a message to publish."""
+        header = header_of(len(body), {"headers": headers, **dict(properties)})
+        method = struct.pack(">HH", *PUBLISH) + b"\0\0" + short(exchange) + short(key) + b"\0"
+        return self.frame(METHOD, method) + self.frame(HEADER, header) + (self.frame(BODY, body) if body else b"")
+
+    def publish(self, *message, **more):
+        self.write(self.message(*message, **more))
+
+    def get(self, queue, keeps=False):
+        """A message, or None; if it is kept, it has to be acknowledged or rejected."""
+        found = self.call(GET, b"\0\0" + short(queue) + bytes([not keeps]), GET_OK, GET_EMPTY)
+        return found if isinstance(found, Message) else None
+
+    def consume(self, queue, arguments=EMPTY, consumer=""):
+        """Has the messages of a queue delivered, which are acknowledged by that."""
+        return Arguments(self.call(CONSUME, b"\0\0" + short(queue) + short(consumer) + b"\2" + bare(arguments), CONSUME_OK)).short()
+
+    def cancel(self, consumer):
+        self.call(CANCEL, short(consumer) + b"\0", CANCEL_OK)
+
+    def delivery(self):
+        return self.wait(DELIVER)
+
+    def reject(self, message, goes_back=False):
+        self.send(REJECT, struct.pack(">QB", message.tag, goes_back))
