@@ -57,7 +57,7 @@ def build_archive(crates, name, is_built):
         fcntl.flock(lock, fcntl.LOCK_EX)
         libraries = [crates.library(it) for it in crates.needed(name)[:-1]] if is_built else []
         is_there = is_up_to_date(path, crates, name, ("src", "specs", "proofs"))
-        if is_there and all(it.is_file() and it.stat().st_mtime <= path.stat().st_mtime for it in libraries):
+        if is_there and all(it.exists() and it.stat().st_mtime <= path.stat().st_mtime for it in libraries):
             words = ["true"]
         elif is_built:
             words = [f"{kit()}/bin/rattle", "build", *crates.words(name), "--toolchain", f"{kit()}/toolchain", "-o", str(path)]
