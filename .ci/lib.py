@@ -31,7 +31,7 @@ def copy_repository(to, without=()):
             (to / name).parent.mkdir(parents=True, exist_ok=True)
             shutil.copy2(TOP / name, to / name)
     lines = (TOP / "crates.txt").read_text().splitlines(True)
-    (to / "crates.txt").write_text("".join(it for it in lines if it.partition(":")[0] not in without))
+    (to / "crates.txt").write_text("".join(it for it in lines if it.partition(":")[0].partition(" ")[0] not in without))
 
 
 def is_up_to_date(built, crates, name, parts):

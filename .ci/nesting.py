@@ -30,10 +30,15 @@ def encoding(form, depth, innermost=b"V"):
     return nested(form, depth, innermost, KEY)
 
 
-def payload(form, depth):
+def payload(form, depth, key=KEY):
     """What follows the type tag of a table that has a pair, and nests that deep."""
-    inner = KEY + encoding(form, depth - 1)
+    inner = key + encoding(form, depth - 1)
     return struct.pack(">I", len(inner)) + inner
+
+
+def values(form, depth):
+    """The same of an array."""
+    return payload(form, depth, b"")
 
 
 def not_canonical(form, depth):
@@ -74,7 +79,7 @@ FOR_C = {
     "amqp_canonical": Call(["amqp_canonical"], not_canonical, DEEP),
     "amqp_from_json": Call(["amqp_from_json"], json_text, OF_JSON),
 }
-MADE = {"encoding": encoding, "payload": payload, "tree": type_tags, "document": brackets, "text": json_text}
+MADE = {"encoding": encoding, "payload": payload, "values": values, "tree": type_tags, "document": brackets, "text": json_text}
 
 
 def calls():

@@ -6,7 +6,7 @@
  * Every function returns an AMQP_* code. With any code but AMQP_OK the entry, the cursor, the
  * container and the buffer stay unchanged; a `count` is always set. No function keeps state, prints
  * or ends the process, and calls in several threads don't affect each other. Only amqp_canonical,
- * amqp_to_json and amqp_from_json allocate: these are in libamqp_c_alloc.a, all others in libamqp_c.a.
+ * amqp_to_json and amqp_from_json allocate.
  *
  * Preconditions:
  * - No pointer is NULL, even if a length is 0. A pointer to a struct or a count points to one that is

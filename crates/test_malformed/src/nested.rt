@@ -5,13 +5,14 @@
 
 use amq_protocol_types::generation::{WriteContext, gen_value};
 use amq_protocol_types::in_place::{
-    TableRef, ValueRef, canonical_len, canonical_table_len, is_canonical, measure_table,
-    measure_value, read_in_place, read_in_place_unlimited, read_table_in_place, skip_value,
+    TableRef, ValueRef, canonical_len, canonical_table_len, is_canonical, is_canonical_table,
+    measure_table, measure_value, read_in_place, read_in_place_unlimited, read_table_in_place,
+    skip_value,
 };
 use amq_protocol_types::parsing::{SliceInput, SplitInput, parse_field_table, parse_value};
 use amq_protocol_types::rabbitmq::{first_problem, first_problem_in_table};
 use amq_protocol_types::stream::{
-    Limits, ValueReader, parse_field_table_within, parse_value_within,
+    Limits, ValueReader, parse_field_array_within, parse_field_table_within, parse_value_within,
 };
 use amq_protocol_types::{AMQPValue, FieldArray, FieldTable, ShortString};
 use amqp_dissect::{End, dissect};
@@ -46,6 +47,7 @@ pub fn run<P: Print, R: Read>(
     let answer = match kind {
         "encoding" => of_encoding(alloc, name, bytes, limits),
         "payload" => of_payload(alloc, name, bytes, limits),
+        "values" => of_values(alloc, name, bytes, limits),
         "tree" => of_tree(alloc, name, &tree(alloc, bytes)?),
         "document" => of_document(alloc, name, &document(alloc, bytes)?),
         "text" => of_text(alloc, name, str::from_utf8(bytes).map_err(crate::unmade)?),
@@ -102,9 +104,19 @@ fn of_payload(alloc: Global, name: &str, bytes: &[u8], limits: Limits) -> io::Re
         "parse_field_table" => said(alloc, parse_field_table(alloc, input)),
         "parse_field_table_within" => said(alloc, parse_field_table_within(alloc, input, limits)),
         "read_table_in_place" => said(alloc, read_table_in_place(bytes, limits)),
+        "is_canonical_table" => told(alloc, is_canonical_table(bytes, limits)),
         "canonical_table_len" => told(alloc, canonical_table_len(bytes, limits).is_some()),
         "measure_table" => said(alloc, measure_table(bytes, limits)),
         "first_problem_in_table" => told(alloc, first_problem_in_table(bytes, limits).is_none()),
+        _ => unknown(),
+    }
+}
+
+/// Calls on what follows the type tag of an array.
+fn of_values(alloc: Global, name: &str, bytes: &[u8], limits: Limits) -> io::Result<String> {
+    let input = SliceInput::new(bytes);
+    match name {
+        "parse_field_array_within" => said(alloc, parse_field_array_within(alloc, input, limits)),
         _ => unknown(),
     }
 }
