@@ -28,7 +28,7 @@ use Rattle.amqp_c_common.specs.declared.fault.Fault.{Fault}
 use Rattle.amqp_c_common.specs.declared.fault.Fault.TheVariants.{More, UnknownTag, Malformed, TooLarge, Invalid, OutOfMemory, NoRoom, NotJson, NoEncoding}
 use Rattle.amqp_c_common.specs.ReturnCodes.{fault_of}
 use Rattle.amqp_c.specs.CallResults.{HeaderFaults}
-use Rattle.amqp_c.specs.Entries.{HasNoNumber, Says, IsEntry, IsTagged}
+use Rattle.amqp_c.specs.Entries.{HasNoNumber, Says, IsEntry, HoldsContent, IsTagged}
 use Rattle.amqp_c.specs.Heads.{has_content}
 use Rattle.amqp_c.specs.Steps.{IsHeaded}
 use Rattle.amqp_c_common.specs.Scalars.{bits_in, scale_in}
@@ -210,9 +210,16 @@ content_entry s mid body rest type p f h e at size from count tag none v left x 
       c.2,
     )
 
--- the entry has the type that was read
-pub is_tagged : (s mid : List ℕ) (type : AMQPType) → IsType s type mid → (e : Entry) → e.tag ≡ id_of type → (has_content type ≡ true → HasNoNumber e) → IsTagged s e
-is_tagged s mid type p e tag none = subst (λ (t : List ℕ). IsTagged t e) (sym p.1) (type, p.2, tag, none)
+-- the entry has the type that was read, and its content
+pub is_tagged : (s mid : List ℕ) (type : AMQPType) → IsType s type mid → (e : Entry) → e.tag ≡ id_of type → (b : Bool) → has_content type ≡ b → HoldsContent b e → IsTagged s e
+is_tagged s mid type p e tag b is holds =
+    subst (λ (t : List ℕ). IsTagged t e) (sym p.1) (type, p.2, tag, subst (λ (b : Bool). HoldsContent b e) (sym is) holds)
+
+-- a field that is read takes five bytes more than what it counts, with the type tag
+pub frame_length : (s mid body rest : List ℕ) (type : AMQPType) → IsType s type mid → IsLengthPrefixed mid body rest → length s ≡ 5 + length body + length rest
+frame_length s mid body rest type p f =
+    let field : length (long_field body) ≡ 4 + length body = omega arith in
+    omega (arith, ap length p.1, ap length f.framed, length-append (long_field body) rest, field)
 
 -- ---- values of fixed width
 

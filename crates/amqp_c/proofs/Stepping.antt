@@ -1,5 +1,5 @@
 -- Entries in the body of a container.
-use Rattle.std.proofs.Common.{◌≡◌, ◌+◌, ◌-◌, ◌<◌, ◌≤◌, ℕ, zero, suc, Option, Some, None, IfNone, IfSome, List, [], ◌∷◌, ◌++◌, Ok, length, take, drop, get_or, refl, sym, ap, ◌∙◌, subst, arith, length-append}
+use Rattle.std.proofs.Common.{◌≡◌, ◌+◌, ◌-◌, ◌<◌, ◌≤◌, ℕ, zero, suc, Bool, true, false, Option, Some, None, IfNone, IfSome, List, [], ◌∷◌, ◌++◌, Ok, length, take, drop, get_or, refl, sym, ap, ◌∙◌, subst, arith, length-append}
 use Rattle.std.proofs.lemmas.List.{take_at, drop_at, take-append-drop, length-take-le}
 use Rattle.amqp_grammar.specs.Values.{Tree, scalar, short, long, octets, array, table, Trees, Entries}
 use Rattle.amqp_grammar.specs.Grammar.{short_field, Wire, ArrayBody, no_values, value, TableBody, no_pairs, pair}
@@ -10,7 +10,8 @@ use Rattle.amqp_in_place.specs.Bodies.{HasEntries}
 use Rattle.amqp_c.specs.declared.entry.Entry.{Entry}
 use Rattle.amqp_c_common.specs.declared.span.Span.{Span}
 use Rattle.amqp_c.specs.CallResults.{GivesFirst}
-use Rattle.amqp_c.specs.Entries.{Says, IsAtFront, IsTagged, IsTrueTo, Lies}
+use Rattle.amqp_c.specs.Entries.{Says, IsAtFront, HoldsContent, IsTagged, IsTrueTo, Lies}
+use Rattle.amqp_c.specs.Heads.{has_content}
 use Rattle.amqp_c_common.specs.Spans.{part, moved, behind, SpanLies}
 use Rattle.amqp_c.specs.Steps.{IsHeaded, HasNoPair, IsFrontIn, IsValueIn, IsPairIn, BeginsWithKey, StandsKeyed}
 use Rattle.amqp_c.proofs.Parts.{part_front, part_within, part_after, part_length}
@@ -46,11 +47,16 @@ front_given s p key e in_s in_part v rest x (is, at, whole) =
       after ∙ (ap (drop e.value.length) f.2 ∙ drop_at f.0 rest e.value.length taken),
     )
 
+-- its content is as far from its value
+content_placed : (b : Bool) (p key : Span) (e : Entry) → HoldsContent b e → HoldsContent b (placed p key e)
+content_placed true p key e (at, size, none) = (omega (arith, at), size, none)
+content_placed false p key e none = none
+
 -- its first byte is the one that was read
 tagged_front : (t : List ℕ) (n : ℕ) (p key : Span) (e : Entry) → 0 < n → IsTagged t e → IsTagged (take n t) (placed p key e)
 tagged_front [] n p key e some x = absurd x
 tagged_front (c ∷ b) zero p key e some x = absurd (omega arith)
-tagged_front (c ∷ b) (suc n) p key e some x = x
+tagged_front (c ∷ b) (suc n) p key e some x = (x.0, x.1, x.2, content_placed (has_content x.0) p key e x.3)
 
 pub tagged_placed : (s : List ℕ) (p key : Span) (e : Entry) → SpanLies (length s) p → Lies (length (part s p)) e → IsAtFront (part s p) e → IsTagged (part s (moved p.offset e.value)) (placed p key e)
 tagged_placed s p key e in_s lies front =

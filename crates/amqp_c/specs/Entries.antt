@@ -1,5 +1,5 @@
 -- What an entry holds of the bytes that it was read from.
-use Rattle.std.specs.Prelude.{ℕ, ◌≡◌, ◌<◌, true, Some, List, [], ◌∷◌}
+use Rattle.std.specs.Prelude.{ℕ, ◌≡◌, ◌+◌, ◌<◌, Bool, true, false, Some, List, [], ◌∷◌}
 use Rattle.amqp_types.specs.declared.amqp_type.AMQPType.{AMQPType}
 use Rattle.amqp_types.specs.Ids.{kind, id_of}
 use Rattle.amqp_grammar.specs.Values.{Tree, scalar, short, long, octets, array, table, type_of}
@@ -36,11 +36,17 @@ pub record IsEntry (s : List ℕ) (e : Entry) (v : Tree) : Type 0 where
 abbrev pub IsTrueTo : List ℕ → Entry → Type 0
 IsTrueTo s e = (v : Tree) → Wire (part s e.value) v → IsEntry s e v
 
--- the first byte of s is a type tag, and the entry has the one that is written for its type; of a
--- type with bytes after a length it has no number
+-- of a type with bytes after a length, the entry has these as content, after the type tag and four bytes
+-- of length, and no number; of another no content
+abbrev pub HoldsContent : Bool → Entry → Type 0
+HoldsContent true e = (e.content.offset ≡ e.value.offset + 5) × (e.value.length ≡ 5 + e.content.length) × HasNoNumber e
+HoldsContent false e = e.content.length ≡ 0
+
+-- the first byte of s is a type tag, and the entry has the one that is written for its type, and its
+-- content, whether or not s is a value
 abbrev pub IsTagged : List ℕ → Entry → Type 0
 IsTagged [] e = ⊥
-IsTagged (c ∷ b) e = (type : AMQPType) × (kind c ≡ Some type) × (e.tag ≡ id_of type) × (has_content type ≡ true → HasNoNumber e)
+IsTagged (c ∷ b) e = (type : AMQPType) × (kind c ≡ Some type) × (e.tag ≡ id_of type) × HoldsContent (has_content type) e
 
 -- the entry has no key, its value begins at the start of s and reaches as far as its type tag and
 -- its length count, and its type is the one that the type tag denotes

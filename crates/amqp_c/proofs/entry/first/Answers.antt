@@ -1,4 +1,4 @@
-use Rattle.std.proofs.Common.{◌≡◌, ◌+◌, ◌-◌, ℕ, false, List, length, refl, sym, ap, ◌∙◌, subst, arith, length-append}
+use Rattle.std.proofs.Common.{◌≡◌, ◌+◌, ◌-◌, ℕ, true, false, List, length, refl, sym, ap, ◌∙◌, subst, arith, length-append}
 use Rattle.std.proofs.lemmas.Result.{err_from_is_err_and}
 use Rattle.amqp_types.specs.Inputs.{slice_bytes}
 use Rattle.amqp_parsing.specs.PayloadResults.{IsType}
@@ -6,7 +6,7 @@ use Rattle.amqp_grammar.specs.Grammar.{long_field}
 use Rattle.amqp_c_common.specs.ReturnCodes.{fault_of}
 use Rattle.amqp_c.specs.declared.entry.Entry.{Entry}
 use Rattle.amqp_c.specs.Heads.{has_content}
-use Rattle.amqp_c.proofs.Fronts.{is_tagged, never_faulty, cut_fault, scalar_fault, frame_extent, found_extent, content_entry, scalar_entry, found_shorter}
+use Rattle.amqp_c.proofs.Fronts.{is_tagged, never_faulty, cut_fault, scalar_fault, frame_extent, frame_length, found_extent, content_entry, scalar_entry, found_shorter}
 use Rattle.amqp_c.proofs.entry.first.Goals as goal
 
 pub returns-in_err-rest-clause-refused : goal.returns-in_err-rest-clause-refused
@@ -50,8 +50,13 @@ returns-then-has_content-clause-front c =
     let s = c.args.bytes.now in
     let mid = slice_bytes c.in_ok-payload.payload in
     let p = subst (λ (t : List ℕ). IsType t c.in_ok-payload.amqp_type mid) c.new.ensures c.in_ok-payload.ensures.id in
-    let e = frame_extent s mid (slice_bytes c.in_ok-rest.body) (slice_bytes c.in_ok-rest.rest) c.in_ok-payload.amqp_type p c.in_ok-rest.ensures (sym c.has_content.ensures ∙ c.if-has_content.true) in
-    (refl, refl, omega (arith, c.input_len.ensures.count), is_tagged s mid c.in_ok-payload.amqp_type p _ c.get_id.ensures.id (λ h. (refl, refl)))
+    let body = slice_bytes c.in_ok-rest.body in
+    let rest = slice_bytes c.in_ok-rest.rest in
+    let has = sym c.has_content.ensures ∙ c.if-has_content.true in
+    let e = frame_extent s mid body rest c.in_ok-payload.amqp_type p c.in_ok-rest.ensures has in
+    let whole = frame_length s mid body rest c.in_ok-payload.amqp_type p c.in_ok-rest.ensures in
+    let size : length s - c.input_len.result ≡ 5 + c.input_len-then-has_content.result = omega (arith, whole, c.input_len.ensures.count, c.input_len-then-has_content.ensures.count) in
+    (refl, refl, omega (arith, c.input_len.ensures.count), is_tagged s mid c.in_ok-payload.amqp_type p _ c.get_id.ensures.id true has (refl, size, (refl, refl)))
 
 pub returns-in_err-fixed-clause-told : goal.returns-in_err-fixed-clause-told
 returns-in_err-fixed-clause-told c = λ v rest x.
@@ -78,7 +83,7 @@ returns-clause-front c =
     let x = c.in_ok-fixed.ensures in
     let e = found_extent s x.1 x.0 x.2 in
     let plain : has_content c.in_ok-payload.amqp_type ≡ false = sym c.has_content.ensures ∙ c.if-has_content.false in
-    (refl, refl, omega (arith, e, x.3), is_tagged s mid c.in_ok-payload.amqp_type p _ c.get_id-2.ensures.id (λ h. absurd (let no = sym h ∙ plain in cc)))
+    (refl, refl, omega (arith, e, x.3), is_tagged s mid c.in_ok-payload.amqp_type p _ c.get_id-2.ensures.id false plain refl)
 
 pub returns-clause-lies : goal.returns-clause-lies
 returns-clause-lies c =
