@@ -1,18 +1,23 @@
 -- What the calls return.
 use Rattle.std.specs.Prelude.{ℕ, ◌≡◌, ◌+◌, ◌<◌, ◌≤◌, ℤ, pos, List, length, Option, Some, None, Result, Ok, Err}
-use Rattle.amqp_grammar.specs.Values.{Tree}
+use Rattle.amqp_types.specs.declared.amqp_type.AMQPType.TheVariants.{FieldTable}
+use Rattle.amqp_types.specs.Ids.{id_of}
+use Rattle.amqp_grammar.specs.Values.{Tree, table, Entries}
 use Rattle.amqp_grammar.specs.Outcomes.{Reading, found, more, unknown, malformed, Outcome}
 use Rattle.amqp_grammar.specs.Nesting.{OutcomeWithin}
 use Rattle.amqp_parsing.specs.declared.limits.Limits.{Limits}
 use Rattle.amqp_parsing.specs.ParseResults.{Refuses}
 use Rattle.amqp_parsing.specs.Headers.{extent}
 use Rattle.amqp_parsing.specs.Limits.{Within}
+use Rattle.amqp_parsing.specs.Untagged.{UntaggedWithin}
 use Rattle.amqp_parsing.specs.Refusals.{Refusal}
+use Rattle.amqp_in_place.specs.Bodies.{HasEntries}
 use Rattle.amqp_c.specs.declared.cursor.Cursor.{Cursor}
 use Rattle.amqp_c.specs.declared.entry.Entry.{Entry}
 use Rattle.amqp_c_common.specs.declared.fault.Fault.{Fault}
 use Rattle.amqp_c_common.specs.declared.fault.Fault.TheVariants.{More, UnknownTag, Malformed, TooLarge}
-use Rattle.amqp_c_common.specs.ReturnCodes.{fault_of, code_of}
+use Rattle.amqp_c_common.specs.ReturnCodes.{fault_of, code_of, count_of}
+use Rattle.amqp_c_common.specs.Spans.{part}
 use Rattle.amqp_c.specs.Entries.{IsEntry}
 
 -- it is what an error that is right of reading s is reported as
@@ -41,6 +46,20 @@ FaultsWithin l s f = (extent s ≤ l.frame) × Faults (OutcomeWithin l.depth s) 
 abbrev pub IsTaken : Limits → List ℕ → ℕ → Type 0
 IsTaken l s n = (v : Tree) × (rest : List ℕ) × Within l s (found v rest) × (n + length rest ≡ length s)
 
+-- the entry of a table without its type tag at the start, whose body has n bytes after its length
+abbrev pub untagged_table : ℕ → Entry
+untagged_table n = record { key = record { offset = 0; length = 0 }; value = record { offset = 0; length = 4 + n }; content = record { offset = 4; length = n }; bits = 0; tag = id_of FieldTable; scale = 0 }
+
+-- a table without its type tag is read within limits from the start of s: e is its entry, and has its
+-- pairs as content
+pub record IsTableTaken (l : Limits) (s : List ℕ) (e : Entry) : Type 0 where
+  pub entries : Entries
+  pub rest : List ℕ
+  pub read : UntaggedWithin l FieldTable s (found (table entries) rest)
+  pub taken : e.value.length + length rest ≡ length s
+  pub pairs : HasEntries (part s e.content) entries
+  pub entry : e ≡ untagged_table e.content.length
+
 -- the entry of the value at the start is given, wherever there is one
 abbrev pub GivesFirst : List ℕ → Tree → List ℕ → Result Entry Fault → Type 0
 GivesFirst s v rest (Ok e) = IsEntry s e v × (e.value.offset ≡ 0) × (e.value.length + length rest ≡ length s)
@@ -51,6 +70,11 @@ abbrev pub answer_if_any : {T : Type 0} → Result (Option T) Fault → ℤ
 answer_if_any (Ok (Some x)) = pos 0
 answer_if_any (Ok None) = pos 1
 answer_if_any (Err f) = code_of f
+
+-- a number of bytes that were read or are needed, else 0
+abbrev pub count_by : {T : Type 0} → (T → ℕ) → Result T Fault → ℕ
+count_by size (Ok x) = size x
+count_by size (Err f) = count_of (Err f)
 
 -- what is returned, or what was there
 abbrev pub ok_or_old : {T : Type 0} → T → Result T Fault → T

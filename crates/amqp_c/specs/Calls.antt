@@ -1,10 +1,14 @@
 -- What each call from C returns and leaves at its pointers.
 use Rattle.std.specs.Prelude.{ℕ, ◌≡◌, ℤ, List, length, Option, Result, Err, IfOk, IfErr, MatchResult}
+use Rattle.amqp_types.specs.declared.amqp_type.AMQPType.TheVariants.{FieldTable}
 use Rattle.amqp_grammar.specs.Values.{Tree, Trees, Entries}
 use Rattle.amqp_grammar.specs.Grammar.{ArrayBody, TableBody}
 use Rattle.amqp_grammar.specs.Outcomes.{Outcome, found}
+use Rattle.amqp_parsing.specs.Untagged.{tagged}
 use Rattle.amqp_c.specs.declared.cursor.Cursor.{Cursor}
 use Rattle.amqp_c.specs.declared.entry.Entry.{Entry}
+use Rattle.amqp_c.specs.declared.measure.Measure.{Measure}
+use Rattle.amqp_c.specs.Measures.{IsMeasured}
 use Rattle.amqp_c_common.specs.declared.fault.Fault.{Fault}
 use Rattle.amqp_c_common.specs.declared.fault.Fault.TheVariants.{Invalid}
 use Rattle.amqp_c_common.specs.Reading.{limits}
@@ -16,7 +20,7 @@ use Rattle.amqp_c.specs.declared.path.EqualKeys.{EqualKeys}
 use Rattle.amqp_c.specs.declared.path.Step.{Step}
 use Rattle.amqp_c.specs.Paths.{number_of, LooksUpOn}
 use Rattle.amqp_c_common.specs.ReturnCodes.{answer_of, count_of}
-use Rattle.amqp_c.specs.CallResults.{IsTaken, HeaderFaults, FaultsWithin, GivesFirst, answer_if_any, ok_or_old, found_or_old, entry_or_old, cursor_or_old}
+use Rattle.amqp_c.specs.CallResults.{IsTaken, IsTableTaken, HeaderFaults, FaultsWithin, GivesFirst, answer_if_any, count_by, ok_or_old, found_or_old, entry_or_old, cursor_or_old}
 
 -- reading s within limits: the result and the number of bytes are those of a value that is read, or
 -- of a fault that is right
@@ -25,6 +29,26 @@ pub record Reads (frame depth : ℕ) (s : List ℕ) (answer : ℤ) (count : ℕ)
   pub answered : answer ≡ answer_of done
   pub counted : count ≡ count_of done
   pub right : MatchResult done (IsTaken (limits frame depth) s) (FaultsWithin (limits frame depth) s)
+
+-- and what is returned of it: `Is` states so, and `size` how many bytes were read; after a fault it is
+-- as it was
+pub record ReadsAs {T : Type 0} (Is : T → Type 0) (size : T → ℕ) (frame depth : ℕ) (s : List ℕ) (old : T) (answer : ℤ) (new : T) (count : ℕ) : Type 0 where
+  pub done : Result T Fault
+  pub answered : answer ≡ answer_of done
+  pub given : new ≡ ok_or_old old done
+  pub counted : count ≡ count_by size done
+  pub right : MatchResult done Is (FaultsWithin (limits frame depth) s)
+
+-- the entry of the table without its type tag at the start of s, which is read as after its type tag
+abbrev pub ReadsTable : ℕ → ℕ → List ℕ → Entry → ℤ → Entry → ℕ → Type 0
+ReadsTable frame depth s = ReadsAs (IsTableTaken (limits frame depth) s) (λ e. e.value.length) frame depth (tagged FieldTable s)
+
+-- how large the value at the start of s is, and the table without its type tag
+abbrev pub MeasuresValue : ℕ → ℕ → List ℕ → Measure → ℤ → Measure → ℕ → Type 0
+MeasuresValue frame depth s = ReadsAs (IsMeasured (limits frame depth) s s) (λ m. m.length) frame depth s
+
+abbrev pub MeasuresTable : ℕ → ℕ → List ℕ → Measure → ℤ → Measure → ℕ → Type 0
+MeasuresTable frame depth s = ReadsAs (IsMeasured (limits frame depth) s (tagged FieldTable s)) (λ m. m.length) frame depth (tagged FieldTable s)
 
 -- the value at the start of s: its entry is given, or the fault is right and the entry as it was
 pub record Firsts (s : List ℕ) (old : Entry) (answer : ℤ) (new : Entry) : Type 0 where

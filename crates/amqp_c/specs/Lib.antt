@@ -6,6 +6,8 @@ pub mod FirstPairs
 pub mod NthValues
 pub mod Paths
 pub mod CallResults
+pub mod Measures
+pub mod Problems
 pub mod Calls
 pub mod Containers
 pub mod Rooms

@@ -7,31 +7,43 @@
 //! error the buffer and the container are as they were. `include/amqp.h` declares the calls.
 #![tactic(auto)]
 
+ghost use Rattle.std.specs.Prelude.{length};
+ghost use Rattle.amqp_in_place.specs.Rabbitmq.{problem_of, problem_in_table_of};
+ghost use Rattle.amqp_c_common.specs.Reading.{limits};
+ghost use Rattle.amqp_c.specs.Problems.{FindsProblem};
 ghost use Rattle.amqp_c.specs.BuildCalls.{PutsScalar, PutsBytes, PutsValue, Begins, Ends};
-ghost use Rattle.amqp_c.specs.Calls.{Reads, Firsts, Enters, Steps, Finds, FindsFirst, FindsPath};
+ghost use Rattle.amqp_c.specs.Calls.{Reads, ReadsTable, MeasuresValue, MeasuresTable, Firsts, Enters, Steps, Finds, FindsFirst, FindsPath};
 
 mod container;
 mod cursor;
 mod entry;
 mod lookup;
+mod measure;
 mod nest;
 mod number;
 mod path;
+mod problem;
 mod put;
 mod read;
 mod room;
 mod store;
 
 use amqp_c_common::{Fault, return_count};
+use amqp_in_place::rabbitmq::{first_problem, first_problem_in_table};
 use amqp_parsing::Limits;
 use container::Container;
 use cursor::Cursor;
 use entry::{Entry, first};
+use measure::{Measure, measured_table, measured_value};
 use nest::{begin, end};
 use path::{EqualKeys, Step, find_path};
+use problem::Problem;
 use put::{put_bytes, put_scalar, put_value};
-use read::read;
-use store::{store_container, store_cursor, store_entry, store_found, store_step};
+use read::{read, read_table};
+use store::{
+    store_container, store_cursor, store_entry, store_found, store_measure, store_problem,
+    store_step, store_table,
+};
 
 /// Reads the value at the start within limits, and checks all of it. docs/PROMISES.md has what a
 /// level of nesting takes of the stack.
@@ -43,6 +55,91 @@ pub extern "C" fn amqp_read(bytes: &[u8], frame: u32, depth: u32, count: &mut us
     ensures { Reads frame depth bytes.now result count.new }
 {
     return_count(read(bytes, Limits { frame, depth }), count)
+}
+
+/// Reads the table without its type tag at the start, and returns its entry, whose content is its
+/// pairs. The limits count the type tag as if it were there; `count` is as for `amqp_read`, and of
+/// the bytes that are there.
+#[unsafe(no_mangle)]
+pub extern "C" fn amqp_read_table(
+    bytes: &[u8],
+    frame: u32,
+    depth: u32,
+    entry: &mut Entry,
+    count: &mut usize,
+) -> i32
+    ensures { ReadsTable frame depth bytes.now entry.old result entry.new count.new }
+{
+    store_table(read_table(bytes, Limits { frame, depth }), entry, count)
+}
+
+/// Measures the value at the start, which is read within limits as by `amqp_read`. docs/PROMISES.md
+/// has what a level of nesting takes of the stack.
+#[unsafe(no_mangle)]
+pub extern "C" fn amqp_measure_value(
+    bytes: &[u8],
+    frame: u32,
+    depth: u32,
+    measure: &mut Measure,
+    count: &mut usize,
+) -> i32
+    ensures { MeasuresValue frame depth bytes.now measure.old result measure.new count.new }
+{
+    store_measure(
+        measured_value(bytes, Limits { frame, depth }),
+        measure,
+        count,
+    )
+}
+
+/// Measures the table without its type tag at the start, which is read within limits as by
+/// `amqp_read_table`.
+#[unsafe(no_mangle)]
+pub extern "C" fn amqp_measure_table(
+    bytes: &[u8],
+    frame: u32,
+    depth: u32,
+    measure: &mut Measure,
+    count: &mut usize,
+) -> i32
+    ensures { MeasuresTable frame depth bytes.now measure.old result measure.new count.new }
+{
+    store_measure(
+        measured_table(bytes, Limits { frame, depth }),
+        measure,
+        count,
+    )
+}
+
+/// Finds the first thing in the value at the start that RabbitMQ closes the connection for, or that
+/// is beyond the limits. docs/PROMISES.md has what a level of nesting takes of the stack.
+#[unsafe(no_mangle)]
+pub extern "C" fn amqp_first_problem(
+    bytes: &[u8],
+    frame: u32,
+    depth: u32,
+    problem: &mut Problem,
+) -> i32
+    ensures { FindsProblem (length bytes.now) (problem_of (limits frame depth) bytes.now) problem.old result problem.new }
+{
+    store_problem(first_problem(bytes, Limits { frame, depth }), problem)
+}
+
+/// Finds that in the table without its type tag at the start. Offsets count from its length on, and
+/// the limits count the type tag as if it were there.
+#[unsafe(no_mangle)]
+pub extern "C" fn amqp_first_problem_in_table(
+    bytes: &[u8],
+    frame: u32,
+    depth: u32,
+    problem: &mut Problem,
+) -> i32
+    ensures { FindsProblem (length bytes.now) (problem_in_table_of (limits frame depth) bytes.now) problem.old result problem.new }
+{
+    store_problem(
+        first_problem_in_table(bytes, Limits { frame, depth }),
+        problem,
+    )
 }
 
 /// Returns the entry of the value at the start, by its type tag and its length only, in constant

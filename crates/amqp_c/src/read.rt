@@ -1,11 +1,14 @@
 //! Reading the value at the start.
 
 ghost use Rattle.std.specs.Prelude.{MatchResult};
-ghost use Rattle.amqp_c.specs.CallResults.{IsTaken, FaultsWithin};
+ghost use Rattle.amqp_parsing.specs.Untagged.{tagged};
+ghost use Rattle.amqp_c.specs.CallResults.{IsTaken, IsTableTaken, FaultsWithin};
 
-use amqp_c_common::Fault;
-use amqp_in_place::read_in_place;
+use crate::entry::Entry;
+use amqp_c_common::{Fault, Span};
+use amqp_in_place::{read_in_place, read_table_in_place};
 use amqp_parsing::Limits;
+use amqp_types::AMQPType;
 
 /// Reads a value within limits, checks all of it, and returns how many bytes it takes.
 pub fn read(bytes: &[u8], limits: Limits) -> Result<usize, Fault>
@@ -13,4 +16,23 @@ pub fn read(bytes: &[u8], limits: Limits) -> Result<usize, Fault>
 {
     let (_, rest) = read_in_place(bytes, limits)?;
     Ok(bytes.len() - rest.len())
+}
+
+/// Reads a table without its type tag within limits, checks all of it, and returns its entry.
+pub fn read_table(bytes: &[u8], limits: Limits) -> Result<Entry, Fault>
+    ensures { MatchResult result (IsTableTaken limits bytes.now) (FaultsWithin limits (tagged AMQPType.FieldTable bytes.now)) }
+{
+    let (_, rest) = read_table_in_place(bytes, limits)?;
+    let length = bytes.len() - rest.len();
+    Ok(Entry {
+        key: Span::NONE,
+        value: Span { offset: 0, length },
+        content: Span {
+            offset: 4,
+            length: length - 4,
+        },
+        bits: 0,
+        tag: b'F',
+        scale: 0,
+    })
 }

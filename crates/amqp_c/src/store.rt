@@ -2,13 +2,17 @@
 
 ghost use Rattle.std.specs.Prelude.{◌≡◌};
 ghost use Rattle.amqp_c_common.specs.ReturnCodes.{answer_of};
+ghost use Rattle.amqp_c.specs.Problems.{answer_if_some, numbered_or_old};
 ghost use Rattle.amqp_c.specs.BuildCalls.{container_or_old};
-ghost use Rattle.amqp_c.specs.CallResults.{answer_if_any, ok_or_old, found_or_old, entry_or_old, cursor_or_old};
+ghost use Rattle.amqp_c.specs.CallResults.{answer_if_any, count_by, ok_or_old, found_or_old, entry_or_old, cursor_or_old};
 
 use crate::container::Container;
 use crate::cursor::Cursor;
 use crate::entry::Entry;
-use amqp_c_common::Fault;
+use crate::measure::Measure;
+use crate::problem::Problem;
+use amqp_c_common::{Fault, return_count};
+use amqp_in_place::rabbitmq;
 
 /// Something is given.
 const OK: i32 = 0;
@@ -26,6 +30,53 @@ pub fn store_entry(done: Result<Entry, Fault>, entry: &mut Entry) -> i32
             OK
         }
         Err(fault) => fault.code(),
+    }
+}
+
+/// Leaves the entry of a table that is read, and stores how many bytes were read or are needed,
+/// else 0.
+pub fn store_table(done: Result<Entry, Fault>, entry: &mut Entry, count: &mut usize) -> i32
+    ensures answer { result ≡ answer_of done }
+    ensures entry { entry.new ≡ ok_or_old entry.old done }
+    ensures count { count.new ≡ count_by (λ e. e.value.length) done }
+{
+    match done {
+        Ok(given) => {
+            *entry = given;
+            *count = given.value.length;
+            OK
+        }
+        Err(fault) => return_count(Err(fault), count),
+    }
+}
+
+/// Leaves a measure, and stores how many bytes were read or are needed, else 0.
+pub fn store_measure(done: Result<Measure, Fault>, measure: &mut Measure, count: &mut usize) -> i32
+    ensures answer { result ≡ answer_of done }
+    ensures measure { measure.new ≡ ok_or_old measure.old done }
+    ensures count { count.new ≡ count_by (λ m. m.length) done }
+{
+    match done {
+        Ok(given) => {
+            *measure = given;
+            *count = given.length;
+            OK
+        }
+        Err(fault) => return_count(Err(fault), count),
+    }
+}
+
+/// Leaves the problem that is found.
+pub fn store_problem(found: Option<rabbitmq::Problem>, problem: &mut Problem) -> i32
+    ensures answer { result ≡ answer_if_some found }
+    ensures problem { problem.new ≡ numbered_or_old problem.old found }
+{
+    match found {
+        Some(first) => {
+            *problem = Problem::of(first);
+            OK
+        }
+        None => NONE,
     }
 }
 

@@ -1,0 +1,38 @@
+-- What RabbitMQ closes the connection for, by numbers.
+use Rattle.std.specs.Prelude.{ℕ, ◌≡◌, ◌≤◌, ℤ, pos, Option, Some, None, IfSome}
+use Rattle.amqp_in_place.specs.declared.rabbitmq.problems.Problem as in_place
+use Rattle.amqp_in_place.specs.declared.rabbitmq.problems.ProblemKind.{ProblemKind}
+use Rattle.amqp_in_place.specs.declared.rabbitmq.problems.ProblemKind.TheVariants.{UnknownTag, NotFinite, Cut, KeyCut, TooDeep, TooLarge}
+use Rattle.amqp_c.specs.declared.problem.Problem.{Problem}
+
+-- the number that denotes what is wrong
+abbrev pub kind_number : ProblemKind → ℕ
+kind_number (UnknownTag c) = 1
+kind_number NotFinite = 2
+kind_number Cut = 3
+kind_number KeyCut = 4
+kind_number TooDeep = 5
+kind_number TooLarge = 6
+
+-- the type tag that is unknown, else 0
+abbrev pub unknown_tag : ProblemKind → ℕ
+unknown_tag (UnknownTag c) = c
+unknown_tag _ = 0
+
+abbrev pub numbered : in_place.Problem → Problem
+numbered p = record { offset = p.offset; kind = kind_number p.kind; tag = unknown_tag p.kind }
+
+-- the number that denotes whether there is one: 0 if so, else 1
+abbrev pub answer_if_some : {T : Type 0} → Option T → ℤ
+answer_if_some (Some x) = pos 0
+answer_if_some None = pos 1
+
+abbrev pub numbered_or_old : Problem → Option in_place.Problem → Problem
+numbered_or_old old (Some p) = numbered p
+numbered_or_old old None = old
+
+-- the first problem is given, if there is one, and is at most n bytes further on; else what was there stays
+pub record FindsProblem (n : ℕ) (first : Option in_place.Problem) (old : Problem) (answer : ℤ) (new : Problem) : Type 0 where
+  pub answered : answer ≡ answer_if_some first
+  pub problem : new ≡ numbered_or_old old first
+  pub inside : IfSome first (λ p. p.offset ≤ n)
