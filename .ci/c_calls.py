@@ -44,6 +44,14 @@ class Cursor(ctypes.Structure):
     _fields_ = [("left", Span), ("tag", c_uint8)]
 
 
+class Measure(ctypes.Structure):
+    _fields_ = [("length", c_size_t), ("values", c_size_t), ("levels", c_size_t)]
+
+
+class Problem(ctypes.Structure):
+    _fields_ = [("offset", c_size_t), ("kind", c_uint8), ("tag", c_uint8)]
+
+
 class Container(ctypes.Structure):
     _fields_ = [("written", Span), ("tag", c_uint8)]
 
@@ -52,6 +60,11 @@ BYTES, LIMITS, OUTPUT = [c_char_p, c_size_t], [c_uint32, c_uint32], [c_char_p, c
 INTO = [*OUTPUT, POINTER(Container), *BYTES]
 ARGUMENTS = {
     "amqp_read": [*BYTES, *LIMITS, POINTER(c_size_t)],
+    "amqp_read_table": [*BYTES, *LIMITS, POINTER(Entry), POINTER(c_size_t)],
+    "amqp_measure_value": [*BYTES, *LIMITS, POINTER(Measure), POINTER(c_size_t)],
+    "amqp_measure_table": [*BYTES, *LIMITS, POINTER(Measure), POINTER(c_size_t)],
+    "amqp_first_problem": [*BYTES, *LIMITS, POINTER(Problem)],
+    "amqp_first_problem_in_table": [*BYTES, *LIMITS, POINTER(Problem)],
     "amqp_first": [*BYTES, POINTER(Entry)],
     "amqp_enter": [*BYTES, POINTER(Entry), POINTER(Cursor)],
     "amqp_next": [*BYTES, POINTER(Cursor), POINTER(Entry)],
@@ -111,6 +124,26 @@ class Calls:
         entry = Entry()
         self.done("amqp_first", self.first(data, len(data), byref(entry)))
         return entry
+
+    def table(self, data, frame=FRAME, depth=DEPTH):
+        """The entry of the table without its type tag at the start, all of it checked."""
+        entry, count = Entry(), c_size_t()
+        self.done("amqp_read_table", self.read_table(data, len(data), frame, depth, byref(entry), byref(count)))
+        return entry
+
+    def measured(self, data, is_table=False, frame=FRAME, depth=DEPTH):
+        """How many bytes, values and levels a value has, or a table without its type tag."""
+        name, measure, count = "measure_table" if is_table else "measure_value", Measure(), c_size_t()
+        self.done(f"amqp_{name}", getattr(self, name)(data, len(data), frame, depth, byref(measure), byref(count)))
+        return measure.length, measure.values, measure.levels
+
+    def problem(self, data, is_table=False, frame=FRAME, depth=DEPTH):
+        """The first problem in a value, or in a table without its type tag: offset, kind and tag; None if there is none."""
+        name, problem = "first_problem_in_table" if is_table else "first_problem", Problem()
+        if (code := getattr(self, name)(data, len(data), frame, depth, byref(problem))) == NONE:
+            return None
+        self.done(f"amqp_{name}", code)
+        return problem.offset, problem.kind, problem.tag
 
     def inside(self, data, entry):
         """A cursor over an array or a table."""

@@ -1,8 +1,9 @@
 /*
  * Tries the calls of include/amqp.h with cursors and entries that were corrupted, over bytes with their
  * end and with their start at a page's. Of each result it checks what the header states: what is returned
- * is inside the bytes, a step goes on, a look-up finds what steps find, what isn't AMQP_OK leaves the
- * entry and the cursor unchanged, and nothing but the structs is written.
+ * is inside the bytes, content is all after a length, a step goes on, a look-up finds what steps find, what isn't AMQP_OK leaves the
+ * entry and the cursor unchanged, and nothing but the structs is written. A table without its type tag is
+ * read, measured and searched for problems as after its type tag.
  *
  * It tries every cursor of small numbers over small inputs, each prefix of them and each change of one
  * byte to one of some, and then random cursors over random bytes.
@@ -15,6 +16,11 @@ static void check_entry(const amqp_entry *entry, size_t length) {
     CHECK(is_inside(entry->key, length) && is_inside(entry->value, length) && is_inside(entry->content, length));
     CHECK(entry->value.length > 0);
     CHECK(memchr("tbBsuIilfdDSxAFTV", entry->tag, 17) != NULL);
+    if (memchr("SxAF", entry->tag, 4) != NULL) {
+        CHECK(entry->content.offset == entry->value.offset + 5 && entry->content.length + 5 == entry->value.length);
+    } else {
+        CHECK(entry->content.length == 0);
+    }
 }
 
 /* An entry and a cursor between bytes that no call may write. */
@@ -171,6 +177,57 @@ static void find_paths(const uint8_t *bytes, size_t length, amqp_entry from) {
     }
 }
 
+/* Bytes as a table without its type tag, and after the type tag. */
+typedef struct untagged {
+    const uint8_t *bytes;
+    uint8_t tagged[64];
+    size_t length;
+} untagged;
+
+/* Reads the table: what is returned is that of the value after its type tag, and of less by one byte. */
+static void read_table(const untagged *it) {
+    size_t counts[4] = {77, 77, 77, 77};
+    amqp_measure measures[2];
+    amqp_entry tagged, old, entry;
+    memset(measures, 0x5a, sizeof measures);
+    memset(&entry, 0x5a, sizeof entry);
+    old = entry;
+    int32_t answer = amqp_read(it->tagged, it->length + 1, 64, 3, counts);
+    CHECK(amqp_read_table(it->bytes, it->length, 64, 3, &entry, counts + 1) == answer);
+    CHECK(amqp_measure_table(it->bytes, it->length, 64, 3, measures, counts + 2) == answer);
+    CHECK(amqp_measure_value(it->tagged, it->length + 1, 64, 3, measures + 1, counts + 3) == answer);
+    calls += 4;
+    CHECK(counts[1] == counts[0] - (answer == AMQP_OK) && counts[2] == counts[1] && counts[3] == counts[0]);
+    if (answer != AMQP_OK) {
+        CHECK(memcmp(&entry, &old, sizeof old) == 0 && measures[0].length == measures[1].values);
+        return;
+    }
+    CHECK(amqp_first(it->tagged, it->length + 1, &tagged) == AMQP_OK && tagged.value.length == counts[0]);
+    tagged.value.length--;
+    tagged.content.offset--;
+    CHECK(is_same_entry(&entry, &tagged));
+    CHECK(measures[0].length == counts[1] && measures[1].length == counts[0] && measures[0].values == measures[1].values);
+    CHECK(0 < measures[0].levels && measures[0].levels == measures[1].levels && measures[0].levels * 5 <= counts[0]);
+    CHECK(measures[0].levels <= measures[0].values && measures[0].values <= counts[0]);
+}
+
+/* Finds the first problem: that of the value after its type tag, and before it one byte less. */
+static void find_problem(const untagged *it) {
+    amqp_problem tagged, problem, old;
+    memset(&tagged, 0x5a, sizeof tagged);
+    problem = old = tagged;
+    int32_t answer = amqp_first_problem(it->tagged, it->length + 1, 64, 3, &tagged);
+    CHECK(amqp_first_problem_in_table(it->bytes, it->length, 64, 3, &problem) == answer);
+    calls += 2;
+    CHECK(answer == AMQP_OK || (answer == AMQP_NONE && memcmp(&problem, &old, sizeof old) == 0));
+    if (answer == AMQP_OK) {
+        CHECK(problem.offset == tagged.offset - (tagged.offset > 0) && problem.offset <= it->length);
+        CHECK(problem.kind == tagged.kind && 0 < problem.kind && problem.kind <= AMQP_PROBLEM_TOO_LARGE);
+        CHECK(problem.tag == tagged.tag && (problem.tag == 0 || problem.kind == AMQP_PROBLEM_UNKNOWN_TAG));
+        CHECK(problem.kind != AMQP_PROBLEM_UNKNOWN_TAG || it->bytes[problem.offset] == problem.tag);
+    }
+}
+
 /* Reads the value, and enters the container that a corrupted entry denotes. */
 static void front(const uint8_t *bytes, size_t length, amqp_cursor cursor) {
     size_t count = 77;
@@ -202,6 +259,16 @@ static void front(const uint8_t *bytes, size_t length, amqp_cursor cursor) {
     CHECK((answer == AMQP_OK) == (is_inside(cursor.left, length) && is_container(cursor.tag)));
 }
 
+/* Tries the bytes after the first, for which a table's type tag is taken. */
+static void try_untagged(slice bytes) {
+    if (bytes.length > 0) {
+        untagged it = {.bytes = bytes.at + 1, .tagged = {AMQP_TABLE}, .length = bytes.length - 1};
+        memcpy(it.tagged + 1, it.bytes, it.length);
+        read_table(&it);
+        find_problem(&it);
+    }
+}
+
 static void try_cursor(slice bytes, size_t offset, size_t left, uint8_t tag) {
     amqp_cursor cursor;
     memset(&cursor, 0, sizeof cursor);
@@ -217,6 +284,7 @@ static void try_cursor(slice bytes, size_t offset, size_t left, uint8_t tag) {
 
 /* Tries every cursor of small numbers, and of some large ones. */
 static void all_cursors(slice bytes) {
+    try_untagged(bytes);
     size_t small = bytes.length + 3, numbers = small + 6;
     for (size_t k = 0; k < sizeof tags * numbers * numbers; k++) {
         try_cursor(bytes, number(k / numbers % numbers, small), number(k % numbers, small), tags[k / numbers / numbers]);
@@ -224,6 +292,7 @@ static void all_cursors(slice bytes) {
 }
 
 static void random_cursors(slice bytes) {
+    try_untagged(bytes);
     for (int i = 0; i < 200; i++) {
         uint64_t offset = random_number() % 8 ? random_number() % (bytes.length + 1) : random_number();
         uint64_t left = random_number() % 8 ? random_number() % (bytes.length + 1) : random_number();

@@ -1,7 +1,8 @@
 /*
  * Tries look-ups at sizes that a user has, over bytes against the end of their pages: a table of a
  * million pairs with one key, an array of a million values, and a path through 100,000 nested arrays,
- * which a call that recursed for each step wouldn't survive.
+ * which a call that recursed for each step wouldn't survive. Then tables without their type tag and what
+ * RabbitMQ closes the connection for, a case of each result, and a table that is malformed further on.
  */
 #include "check.h"
 
@@ -103,10 +104,167 @@ static void try_levels(void) {
     CHECK(find(length, &array, steps, LEVELS + 1, AMQP_LAST_KEY, &entry) == AMQP_NONE);
 }
 
+static const uint8_t *placed(slice given) {
+    new_body(given.length);
+    return memcpy(at, given.at, given.length);
+}
+
+/* Tables without their type tag: what reading and measuring returns and counts, and of a measure the rest. */
+static const struct {
+    slice bytes;
+    uint32_t frame, depth;
+    int32_t answer;
+    size_t count, values, levels;
+} tables[] = {
+    {SLICE("\0\0\0\0"), 5, 1, AMQP_OK, 4, 1, 1},
+    {SLICE("\0\0\0\0"), 4, 1, AMQP_TOO_LARGE, 0, 0, 0},
+    {SLICE("\0\0\0\0"), 5, 0, AMQP_MALFORMED, 0, 0, 0},
+    {SLICE(""), 64, 1, AMQP_MORE, 4, 0, 0},
+    {SLICE("\0\0\0"), 64, 1, AMQP_MORE, 1, 0, 0},
+    {SLICE("\0\0\0\3\1a"), 64, 1, AMQP_MORE, 1, 0, 0},
+    {SLICE("\377\377\377\377"), UINT32_MAX, 1, AMQP_TOO_LARGE, 0, 0, 0},
+    {SLICE("\0\0\0\3\1aVF"), 8, 1, AMQP_OK, 7, 2, 1},
+    {SLICE("\0\0\0\6\1aV\1aV"), 64, 1, AMQP_OK, 10, 3, 1},
+    {SLICE("\0\0\0\3\1aF"), 64, 9, AMQP_MALFORMED, 0, 0, 0},
+    {SLICE("\0\0\0\3\1a\0"), 64, 9, AMQP_MALFORMED, 0, 0, 0},
+    {SLICE("\0\0\0\3\1\377V"), 64, 9, AMQP_MALFORMED, 0, 0, 0},
+    {SLICE("\0\0\0\7\1aF\0\0\0\0"), 64, 1, AMQP_MALFORMED, 0, 0, 0},
+    {SLICE("\0\0\0\7\1aF\0\0\0\0"), 64, 2, AMQP_OK, 11, 2, 2},
+    {SLICE("\0\0\0\11\1aA\0\0\0\2VV"), 64, 2, AMQP_OK, 13, 4, 2},
+};
+
+static void try_tables(void) {
+    for (size_t i = 0; i < COUNT(tables); i++) {
+        size_t length = tables[i].bytes.length, counts[] = {77, 77};
+        const uint8_t *bytes = placed(tables[i].bytes);
+        amqp_entry entry = {.tag = 'x', .bits = 7};
+        amqp_measure measure = {7, 8, 9};
+        CHECK(amqp_read_table(bytes, length, tables[i].frame, tables[i].depth, &entry, counts) == tables[i].answer);
+        CHECK(amqp_measure_table(bytes, length, tables[i].frame, tables[i].depth, &measure, counts + 1) == tables[i].answer);
+        calls += 2;
+        CHECK(counts[0] == tables[i].count && counts[1] == counts[0]);
+        if (tables[i].answer != AMQP_OK) {
+            CHECK(entry.tag == 'x' && entry.bits == 7 && entry.value.length == 0);
+            CHECK(measure.length == 7 && measure.values == 8 && measure.levels == 9);
+            continue;
+        }
+        CHECK(entry.key.offset == 0 && entry.key.length == 0 && entry.value.offset == 0 && entry.value.length == counts[0]);
+        CHECK(entry.content.offset == 4 && entry.content.length == counts[0] - 4);
+        CHECK(entry.tag == AMQP_TABLE && entry.bits == 0 && entry.scale == 0);
+        CHECK(measure.length == counts[0] && measure.values == tables[i].values && measure.levels == tables[i].levels);
+    }
+}
+
+/* Values: what is measured of them, or which code it has. */
+static void try_measures(void) {
+    static const struct {
+        slice bytes;
+        int32_t answer;
+        size_t count, values, levels;
+    } values[] = {
+        {SLICE("VV"), AMQP_OK, 1, 1, 0},
+        {SLICE("A\0\0\0\6VA\0\0\0\0"), AMQP_OK, 11, 3, 2},
+        {SLICE("S\0\0\0\2ab"), AMQP_OK, 7, 1, 0},
+        {SLICE(""), AMQP_MORE, 1, 0, 0},
+        {SLICE("z"), AMQP_UNKNOWN_TAG, 0, 0, 0},
+        {SLICE("A\0\0\0\1I"), AMQP_MALFORMED, 0, 0, 0},
+        {SLICE("A\0\0\0\5A\0\0\0\5"), AMQP_MALFORMED, 0, 0, 0},
+        {SLICE("S\0\0\1\0"), AMQP_TOO_LARGE, 0, 0, 0},
+    };
+    for (size_t i = 0; i < COUNT(values); i++) {
+        size_t count = 77;
+        amqp_measure measure = {7, 8, 9};
+        CHECK(amqp_measure_value(placed(values[i].bytes), values[i].bytes.length, 64, 2, &measure, &count) == values[i].answer);
+        calls++;
+        CHECK(count == values[i].count);
+        if (values[i].answer == AMQP_OK) {
+            CHECK(measure.length == count && measure.values == values[i].values && measure.levels == values[i].levels);
+        } else {
+            CHECK(measure.length == 7 && measure.values == 8 && measure.levels == 9);
+        }
+    }
+}
+
+/* Values, and the first problem of each, or 0; of a table also without its type tag. */
+static void try_problems(void) {
+    static const struct {
+        slice bytes;
+        uint8_t kind, tag;
+        size_t offset;
+    } values[] = {
+        {SLICE("V"), 0, 0, 0},
+        {SLICE("F\0\0\0\3\1\377V"), 0, 0, 0},
+        {SLICE("f\177\177\377\377"), 0, 0, 0},
+        {SLICE("F\0\0\0\5\1aU\0\0"), AMQP_PROBLEM_UNKNOWN_TAG, 'U', 7},
+        {SLICE("F\0\0\0\3\1a\0"), AMQP_PROBLEM_UNKNOWN_TAG, 0, 7},
+        {SLICE("f\177\200\0\0"), AMQP_PROBLEM_NOT_FINITE, 0, 0},
+        {SLICE("F\0\0\0\13\1ad\377\370\0\0\0\0\0\0"), AMQP_PROBLEM_NOT_FINITE, 0, 7},
+        {SLICE(""), AMQP_PROBLEM_CUT, 0, 0},
+        {SLICE("F\0\0\0\2\1a"), AMQP_PROBLEM_CUT, 0, 7},
+        {SLICE("F\0\0\0\6\1aV\1bI"), AMQP_PROBLEM_CUT, 0, 10},
+        {SLICE("F\0\0\0\1"), AMQP_PROBLEM_CUT, 0, 0},
+        {SLICE("F\0\0\0\5\1aV\2b"), AMQP_PROBLEM_KEY_CUT, 0, 8},
+        {SLICE("F\0\0\0\21\1aF\0\0\0\12\1bF\0\0\0\3\1cV"), AMQP_PROBLEM_TOO_DEEP, 0, 14},
+        {SLICE("x\0\0\0\100"), AMQP_PROBLEM_TOO_LARGE, 0, 0},
+        {SLICE("F\0\0\0\100"), AMQP_PROBLEM_TOO_LARGE, 0, 0},
+    };
+    for (size_t i = 0; i < 2 * COUNT(values); i++) {
+        slice given = values[i / 2].bytes;
+        size_t untagged = i % 2;
+        if (untagged && (given.length == 0 || given.at[0] != 'F')) {
+            continue;
+        }
+        const uint8_t *bytes = placed((slice){given.at + untagged, given.length - untagged});
+        amqp_problem problem = {7, 8, 9};
+        int32_t answer = (untagged ? amqp_first_problem_in_table : amqp_first_problem)(bytes, given.length - untagged, 64, 2, &problem);
+        calls++;
+        size_t offset = values[i / 2].offset;
+        if (values[i / 2].kind == 0) {
+            CHECK(answer == AMQP_NONE && problem.offset == 7 && problem.kind == 8 && problem.tag == 9);
+        } else {
+            CHECK(answer == AMQP_OK && problem.kind == values[i / 2].kind && problem.tag == values[i / 2].tag);
+            CHECK(problem.offset == (offset > 0 ? offset - untagged : 0));
+        }
+    }
+}
+
+/* a: {b: 7, then a byte that is no pair}, and what follows; without the type tag the same a byte before. */
+static void try_malformed(void) {
+    static const slice headers = SLICE("F\0\0\0\26\1aF\0\0\0\10\1bI\0\0\0\7z\1cA\0\0\0\0");
+    const amqp_step path[] = {AMQP_KEY("a"), AMQP_KEY("b")}, behind[] = {AMQP_KEY("c")}, other[] = {AMQP_KEY("a"), AMQP_KEY("x")};
+    amqp_entry table, entry;
+    const uint8_t *bytes = placed(headers);
+    CHECK(amqp_first(bytes, headers.length, &table) == AMQP_OK);
+    CHECK(find(headers.length, &table, path, 1, AMQP_FIRST_KEY, &entry) == AMQP_OK && entry.tag == AMQP_TABLE);
+    CHECK(entry.value.offset == 7 && entry.value.length == 13 && entry.content.offset == 12 && entry.content.length == 8);
+    CHECK(find(headers.length, &table, path, 2, AMQP_FIRST_KEY, &entry) == AMQP_OK);
+    CHECK(entry.bits == 7 && entry.value.offset == 14 && entry.value.length == 5 && entry.content.length == 0);
+    CHECK(find(headers.length, &table, path, 2, AMQP_LAST_KEY, &entry) == AMQP_MALFORMED);
+    CHECK(find(headers.length, &table, other, 2, AMQP_FIRST_KEY, &entry) == AMQP_MALFORMED);
+    CHECK(find(headers.length, &table, behind, 1, AMQP_LAST_KEY, &entry) == AMQP_OK && entry.value.offset == 22);
+}
+
+/* x-death: [{count: 3}], as a content header has it. */
+static void try_content_header(void) {
+    static const slice headers = SLICE("\0\0\0\41\7x-deathA\0\0\0\24F\0\0\0\17\5countl\0\0\0\0\0\0\0\3\316");
+    const amqp_step path[] = {AMQP_KEY("x-death"), AMQP_INDEX(0), AMQP_KEY("count")};
+    amqp_entry table, count;
+    size_t taken;
+    CHECK(amqp_read_table(placed(headers), headers.length, 38, 3, &table, &taken) == AMQP_OK && taken == headers.length - 1);
+    calls++;
+    CHECK(find(headers.length, &table, path, 3, AMQP_FIRST_KEY, &count) == AMQP_OK);
+    CHECK(count.tag == AMQP_LONG_LONG_INT && count.bits == 3 && count.value.offset == 28);
+}
+
 int main(void) {
     try_equal_keys();
     try_indexes();
     try_levels();
+    try_tables();
+    try_measures();
+    try_problems();
+    try_malformed();
+    try_content_header();
     printf("%" PRIu64 " calls\n", calls);
     return 0;
 }

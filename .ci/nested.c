@@ -14,16 +14,34 @@ static size_t length;
 static const char *name;
 static uint32_t depth;
 static int32_t answer = AMQP_INVALID;
+static amqp_problem problem;
 
 static int is_called(const char *other) {
     return strcmp(name, other) == 0;
 }
 
+/* What a search for a problem results in: none is the value that is searched for. */
+static int32_t found(int32_t code) {
+    return code == AMQP_NONE ? AMQP_OK : problem.kind == AMQP_PROBLEM_TOO_DEEP ? AMQP_MALFORMED : AMQP_INVALID;
+}
+
 static void *make_call(void *unused) {
     amqp_container top = {{0, 0}, AMQP_ARRAY};
+    amqp_entry entry;
+    amqp_measure measure;
     size_t count;
     if (is_called("amqp_read")) {
         answer = amqp_read(given, length, UINT32_MAX, depth, &count);
+    } else if (is_called("amqp_read_table")) {
+        answer = amqp_read_table(given, length, UINT32_MAX, depth, &entry, &count);
+    } else if (is_called("amqp_measure_value")) {
+        answer = amqp_measure_value(given, length, UINT32_MAX, depth, &measure, &count);
+    } else if (is_called("amqp_measure_table")) {
+        answer = amqp_measure_table(given, length, UINT32_MAX, depth, &measure, &count);
+    } else if (is_called("amqp_first_problem")) {
+        answer = found(amqp_first_problem(given, length, UINT32_MAX, depth, &problem));
+    } else if (is_called("amqp_first_problem_in_table")) {
+        answer = found(amqp_first_problem_in_table(given, length, UINT32_MAX, depth, &problem));
     } else if (is_called("amqp_put_value")) {
         answer = amqp_put_value(buffer, sizeof buffer, &top, given, 0, given, length, UINT32_MAX, depth);
     } else if (is_called("amqp_canonical")) {

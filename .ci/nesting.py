@@ -70,12 +70,14 @@ class Call(NamedTuple):
     depths: tuple
 
 
-DEEP, OF_JSON, UNLIMITED = (LIMIT, 1000), (LIMIT, 127), (LIMIT, 1000, 10_000)
+DEEP, DEEPER, OF_JSON, UNLIMITED = (LIMIT, 1000), (LIMIT, 10_000), (LIMIT, 127), (LIMIT, 1000, 10_000)
 # What a call returns that rejects the nesting.
 REJECTED = re.compile(r"kind: Eof|TooDeep|invalid JSON at|refused|AMQP_MALFORMED|AMQP_NOT_JSON")
 # The calls of nested.c, the third on what has it read, write and compare.
 FOR_C = {
-    **{name: Call([name], encoding, DEEP) for name in ("amqp_read", "amqp_put_value", "amqp_to_json")},
+    **{name: Call([name], encoding, DEEPER) for name in ("amqp_read", "amqp_measure_value", "amqp_first_problem", "amqp_put_value")},
+    **{name: Call([name], payload, DEEPER) for name in ("amqp_read_table", "amqp_measure_table", "amqp_first_problem_in_table")},
+    "amqp_to_json": Call(["amqp_to_json"], encoding, DEEP),
     "amqp_canonical": Call(["amqp_canonical"], not_canonical, DEEP),
     "amqp_from_json": Call(["amqp_from_json"], json_text, OF_JSON),
 }

@@ -3,15 +3,15 @@
  * buffer, their canonical encoding, and JSON. docs/C.md has examples and how to link,
  * docs/GRAMMAR.md the bytes, and docs/JSON.md the JSON of each type.
  *
- * Every function returns an AMQP_* code. With any code but AMQP_OK the entry, the cursor, the
- * container and the buffer stay unchanged; a `count` is always set. No function keeps state, prints
+ * Every function returns an AMQP_* code. With any code but AMQP_OK the structs and the
+ * buffer stay unchanged; a `count` is always set. No function keeps state, prints
  * or ends the process, and calls in several threads don't affect each other. Only amqp_canonical,
  * amqp_to_json and amqp_from_json allocate.
  *
  * Preconditions:
  * - No pointer is NULL, even if a length is 0. A pointer to a struct or a count points to one that is
- *   aligned. What a function only writes (an entry, a count, the cursor of amqp_enter, the body of
- *   amqp_open) need not be initialised.
+ *   aligned. What a function only writes (an entry, a count, a measure, a problem, the cursor of
+ *   amqp_enter, the body of amqp_open) need not be initialised.
  * - `length` bytes can be read at `bytes` or `text`, `key_length` at `key`, also that of a step, and
  *   `step_count` steps at `steps`. `capacity` bytes can be written at `buffer`, and by the building
  *   functions also read. None of these exceeds PTRDIFF_MAX bytes.
@@ -47,7 +47,8 @@ extern "C" {
 /* What a function returns. */
 enum {
     AMQP_OK = 0,           /* done */
-    AMQP_NONE = 1,         /* no entry is left, none has the key, or the path leads to none */
+    AMQP_NONE = 1,         /* no entry is left, none has the key, or the path leads to none; or there is no
+                              problem */
     AMQP_MORE = -1,        /* the bytes end before the value does: more are needed */
     AMQP_UNKNOWN_TAG = -2, /* the first byte is no type tag */
     AMQP_MALFORMED = -3,   /* the bytes are complete and no value, or one that nests deeper than
@@ -127,6 +128,31 @@ typedef struct amqp_step {
 /* Which of equal keys counts: the last, as for amqp_find, or the first, as for amqp_find_first. */
 enum { AMQP_LAST_KEY = 0, AMQP_FIRST_KEY = 1 };
 
+/* How large a value is, by its encoding. */
+typedef struct amqp_measure {
+    size_t length; /* how many of the bytes it has */
+    size_t values; /* how many values are written in it: itself, and all in containers, also of equal keys */
+    size_t levels; /* how deep containers nest: 0 if it is none, 1 if it contains none */
+} amqp_measure;
+
+/* What RabbitMQ 3.10.8 closes the connection for, or is beyond the limits. */
+enum {
+    AMQP_PROBLEM_UNKNOWN_TAG = 1, /* RabbitMQ doesn't know the type tag */
+    AMQP_PROBLEM_NOT_FINITE = 2,  /* a Float or a Double is an infinity or a NaN */
+    AMQP_PROBLEM_CUT = 3,         /* a value goes past the end of its container or of the bytes, or is missing */
+    AMQP_PROBLEM_KEY_CUT = 4,     /* a key goes past the end of its table */
+    AMQP_PROBLEM_TOO_DEEP = 5,    /* a container nests deeper than `depth`: RabbitMQ has no such limit */
+    AMQP_PROBLEM_TOO_LARGE = 6    /* the value has more than `frame` bytes */
+};
+
+/* A problem of a value. */
+typedef struct amqp_problem {
+    size_t offset; /* how many bytes are before the value with the problem, or before the pair if its key
+                      is cut */
+    uint8_t kind;  /* one of the above */
+    uint8_t tag;   /* the type tag that RabbitMQ doesn't know; else 0 */
+} amqp_problem;
+
 /* An array or a table that is being built in a buffer. */
 typedef struct amqp_container {
     amqp_span written; /* its body, as far as it is written; the offset counts from `buffer` */
@@ -143,6 +169,41 @@ typedef struct amqp_container {
  * AMQP_UNKNOWN_TAG, AMQP_MALFORMED or AMQP_TOO_LARGE.
  */
 int32_t amqp_read(const uint8_t *bytes, size_t length, uint32_t frame, uint32_t depth, size_t *count);
+
+/*
+ * Reads the table without its type tag at the start of the bytes (its length, then its pairs), as methods
+ * and content headers have it, and returns its entry. Limits, checks and `count` are as for amqp_read of
+ * the type tag and the bytes: `frame` counts the tag too, `count` doesn't.
+ *
+ * The `value` of the entry is the table's bytes, here without the type tag, its `content` the pairs. Pass it
+ * to amqp_enter or amqp_find_path as that of amqp_first. Returns AMQP_OK, AMQP_MORE, AMQP_MALFORMED or
+ * AMQP_TOO_LARGE.
+ */
+int32_t amqp_read_table(const uint8_t *bytes, size_t length, uint32_t frame, uint32_t depth,
+                        amqp_entry *entry, size_t *count);
+
+/*
+ * Measure the value at the start of the bytes, or the table without its type tag: to reject one before
+ * something is made of it. Limits, checks, `count` and the code are those of amqp_read, or of
+ * amqp_read_table.
+ */
+int32_t amqp_measure_value(const uint8_t *bytes, size_t length, uint32_t frame, uint32_t depth,
+                           amqp_measure *measure, size_t *count);
+int32_t amqp_measure_table(const uint8_t *bytes, size_t length, uint32_t frame, uint32_t depth,
+                           amqp_measure *measure, size_t *count);
+
+/*
+ * Find the first problem, by its offset, in the value at the start of the bytes, or in the table without its
+ * type tag, which begins with its length. The limits count the type tag as if it were there, `offset`
+ * doesn't, and is 0 for the table itself. Keys may be any bytes, and booleans any byte, as for RabbitMQ.
+ *
+ * Return AMQP_OK if there is a problem, and AMQP_NONE if RabbitMQ takes the value, and it is within the
+ * limits.
+ */
+int32_t amqp_first_problem(const uint8_t *bytes, size_t length, uint32_t frame, uint32_t depth,
+                           amqp_problem *problem);
+int32_t amqp_first_problem_in_table(const uint8_t *bytes, size_t length, uint32_t frame, uint32_t depth,
+                                    amqp_problem *problem);
 
 /*
  * Returns the entry of the value at the start of the bytes, by its type tag and its length only.
