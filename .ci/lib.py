@@ -96,9 +96,9 @@ class Checks:
         self.passed, self.failed = self.passed + (not wrong), self.failed + bool(wrong)
         return not wrong
 
-    def ended(self):
-        """Prints the last line, and returns the exit status."""
-        print(f"{self.passed} passed, {self.failed} failed")
+    def ended(self, counts=""):
+        """Prints the last line, with what was counted before it, and returns the exit status."""
+        print(f"{counts and f'{counts}; '}{self.passed} passed, {self.failed} failed")
         return 1 if self.failed or not self.passed else 0
 
 
@@ -143,7 +143,7 @@ def end_on_signals(first=lambda: None):
 
 # Steps
 
-LAST_LINE = re.compile(r"(\d+) passed, (\d+) failed")
+LAST_LINE = re.compile(r"(?:.*; )?(\d+) passed, (\d+) failed")
 
 
 def by_last_line(step):

@@ -16,7 +16,7 @@ from crates import TOP
 
 # Tables as brokers and clients sent them, with their type tag: a name, and hexadecimal.
 CAPTURED = TOP / "examples/captured/tables.txt"
-FRAME, DEPTH = 131072, 64
+FRAME, DEPTH = 2**20, 64
 # Each type tag's type, and the width of its payload, or None if a length counts it.
 TYPES = {
     "t": ("Boolean", 1), "b": ("ShortShortInt", 1), "B": ("ShortShortUInt", 1), "s": ("ShortInt", 2), "U": ("ShortInt", 2),
@@ -450,31 +450,35 @@ def checked(data, subject="value"):
         end = taken(data, 0, len(data), DEPTH)
         return f"= RabbitMQ 3.10.8 takes a {subject} of {end - left_out} bytes, {following(data, end)} follow\n", "", 0
     except Failure as failure:
-        at, why = failure.args
+        at, why, *_ = failure.args
         verdict = "not checked beyond the limits" if " allow" in why else "RabbitMQ 3.10.8 closes the connection"
         return f"! offset {max(0, at - left_out)}: {why}\n= {verdict}\n", "", 1
 
 
-def taken(data, at, end, depth):
-    """Returns the offset of the end of a value that RabbitMQ takes, or fails at the first thing that it doesn't."""
+def taken(data, at, end, depth, inside=""):
+    """Returns the offset of the end of a value that RabbitMQ takes, or fails at the first thing that it doesn't.
+
+    The failure also has the type tag of the container that it is in.
+    """
     begin, stop = at, at + extent(data[at:end][:5])
+    fails = lambda why: Failure(begin, why, inside)
     if at == end or chr(data[at]) in TYPES and stop > end and chr(data[at]) != "U":
-        raise Failure(at, "a value is expected; too few bytes are left")
+        raise fails("a value is expected; too few bytes are left")
     tag = chr(data[at])
     if tag not in TYPES or tag == "U":
-        raise Failure(at, f"a type tag is expected; RabbitMQ knows no {data[at]:02x}")
+        raise fails(f"a type tag is expected; RabbitMQ knows no {data[at]:02x}")
     if tag in "fd" and not math.isfinite(struct.unpack(f">{tag}", data[at + 1 : stop])[0]):
-        raise Failure(at, "the number is an infinity or a NaN")
+        raise fails("the number is an infinity or a NaN")
     if tag in "AF" and not depth:
-        raise Failure(at, "containers nest deeper than --depth allows")
+        raise fails("containers nest deeper than --depth allows")
     at += 5
     while tag in "AF" and at < stop:
         if tag == "F":
             if at + 1 + data[at] > stop:
-                raise Failure(at, "a key is expected; too few bytes are left")
+                raise Failure(at, "a key is expected; too few bytes are left", tag)
             at += 1 + data[at]
-        at = taken(data, at, stop, depth - 1)
-    return begin + extent(data[begin : begin + 5])
+        at = taken(data, at, stop, depth - 1, tag)
+    return stop
 
 
 # Inputs
@@ -547,9 +551,9 @@ def inputs():
     yield from (field(b"F", bytes([size]) + b"k" * size + it) for size in (0, 1, 40, 255) for it in (b"V", b"t\7", b"z", b""))
     for count in (1, 2, 63, 64, 65, 200):
         yield from (nested(tag, count, inside) for tag in "AF" for inside in (b"V", b"z", b"I\0", b"A\0\0\0\0"))
-    yield field(b"S", b"\7" * 131067)
-    yield field(b"S", b"\7" * 131068)
-    yield from (b"t\1" + b"\7" * size for size in (131070, 131071, 400000))
+    yield field(b"S", b"\7" * (FRAME - 5))
+    yield field(b"S", b"\7" * (FRAME - 4))
+    yield from (b"t\1" + b"\7" * size for size in (FRAME - 2, FRAME - 1, 3 * FRAME))
     yield from tables
     for table in sorted(tables, key=len)[-3:]:
         yield from (table[:size] for size in range(len(table)))

@@ -3,7 +3,7 @@
 import struct
 from fractions import Fraction
 
-from printed import COUNTED, SIGNED, TYPES, field
+from printed import COUNTED, DEPTH, SIGNED, TYPES, Failure, Unread, field, read, taken
 
 PLAIN = "tbBsuIilfdDSxTV"
 INTEGERS = "bBsuIil"
@@ -102,57 +102,44 @@ def oddity_of(tag, content):
 # What RabbitMQ makes of them
 
 
-def oddities(data):
-    """What is odd in the value that some bytes should be, as far as it can be followed.
-
-    `NaN`, `infinity` and `U` here are values; `key` (one that isn't UTF-8) RabbitMQ takes as any other.
-    """
-    tag = chr(data[0]) if data else ""
-    if tag not in TYPES:
-        yield "no type tag" if tag else "cut"
-        return
-    body, length = value_end(data)
-    if length != len(data):
-        yield "cut"
-        return
-    if found := "U" if tag == "U" else oddity_of(tag, data[body:]):
-        yield found
-    if tag in "AF":
-        yield from oddities_inside(tag, data[body:])
+# What it closes the connection for, by the kind in include/amqp.h, as printed.py words it.
+PROBLEMS = {1: "RabbitMQ knows no", 2: "an infinity or a NaN", 3: "a value is expected", 4: "a key is expected"}
+ROWS = ["U", "unknown tag", "NaN f", "NaN d", "infinity f", "infinity d", "value cut", "key cut"]
 
 
-def value_end(data):
-    """The offset of the content of the value at the start, and the value's end by its type tag and length."""
-    tag = chr(data[0])
-    if tag in COUNTED:
-        return 5, 5 + int.from_bytes(data[1:5], "big") if len(data) >= 5 else len(data) + 1
-    return 1, 1 + TYPES[tag][1]
+def first_problem(data):
+    """The first thing in a table that RabbitMQ closes the connection for: offset, kind and unknown tag, or None."""
+    try:
+        taken(data, 0, len(data), DEPTH)
+    except Failure as failure:
+        at, why, _ = failure.args
+        kind = next(kind for kind, words in PROBLEMS.items() if words in why)
+        return at, kind, data[at] if kind == 1 else 0
+    return None
 
 
-def oddities_inside(tag, body):
-    while body:
-        if tag == "F":
-            key, body = body[1 : 1 + body[0]], body[1 + body[0] :]
-            try:
-                key.decode("utf-8")
-            except UnicodeDecodeError:
-                yield "key"
-        end = value_end(body)[1] if body and chr(body[0]) in TYPES else len(body)
-        found = [*oddities(body[:end])]
-        yield from found
-        if {"no type tag", "cut"} & {*found}:
-            return
-        body = body[end:]
+def row_of(data, problem):
+    """The row of ROWS that a problem is of."""
+    at, kind, tag = problem
+    if kind == 1:
+        return "U" if tag == ord("U") else "unknown tag"
+    return ROWS[kind + 3] if kind > 2 else f"{oddity_of(chr(data[at]), data[at + 1 : at + 1 + TYPES[chr(data[at])][1]])} {chr(data[at])}"
 
 
-def closes(data):
-    """Why RabbitMQ closes the connection that sends a table, or nothing."""
-    return {*oddities(data)} - {"key"}
+def container_of(data):
+    """The type tag of the container that the first problem is in."""
+    try:
+        return taken(data, 0, len(data), DEPTH) and ""
+    except Failure as failure:
+        return failure.args[2]
 
 
-def is_unread(data):
-    """Why no value of these bytes is read here, or nothing."""
-    return {*oddities(data)} & {"key", "no type tag", "cut"}
+def is_read(data):
+    """Whether some bytes are one value here."""
+    try:
+        return not read(data)[1]
+    except Unread:
+        return False
 
 
 def term(value):
@@ -199,13 +186,15 @@ def binary(data):
 NAN = [bytes.fromhex(it) for it in ("667fc00000", "66ffc00000", "667f800001", "667fffffff", "647ff8000000000000", "64fff0000000000001", "647fffffffffffffff")]
 INFINITY = [bytes.fromhex(it) for it in ("667f800000", "66ff800000", "647ff0000000000000", "64fff0000000000000")]
 NO_TAG = [b"\0", b"_\1a", b"z", b"\xff", b"n\0"]
+CUT = [field(b"A", b"VI\0\0\0"), field(b"A", b"S\0\0\0\5four"), field(b"A", b"F\0\0"), field(b"F", b"\1aI\0"), field(b"F", b"\1a"), field(b"F", b"\1ax\0\0\0\1")]
+KEY_CUT = [field(b"F", b"\1aV\5four"), field(b"F", b"\xff"), field(b"F", b"\2a")]
 # What is odd and taken: other bytes for true, the alternate tag L, keys that aren't UTF-8, equal keys.
 TAKEN = [b"t\7", b"t\xff", b"L" + b"\xff" * 8, b"L" + b"\0" * 8, field(b"F", b"\2\xff\xfeV"), field(b"F", b"\1aV\1aI\0\0\0\1")]
 
 
 def odd_table(make):
     """A table with something odd or cut somewhere in it, or one of its bytes changed, or none of these."""
-    kinds = [NAN, INFINITY, [b"U\xff\xfe"], NO_TAG, TAKEN, TAKEN, TAKEN]
+    kinds = [NAN, INFINITY, [b"U\xff\xfe"], NO_TAG, CUT, KEY_CUT, *[TAKEN] * 5]
     kind = make.randrange(len(kinds) + 3)
     value = make.choice(kinds[kind]) if kind < len(kinds) else raw(random_value(make, 1))
     for _ in range(make.randrange(3)):

@@ -162,7 +162,8 @@ typedef struct amqp_container {
 /*
  * Reads the value at the start of the bytes within limits, and checks all of it, the UTF-8 of keys
  * included: at most `frame` bytes, and containers nested at most `depth` deep. For untrusted bytes
- * 131072 and 64 are suitable. One pass, which doesn't look at the bytes of strings and byte arrays.
+ * 1048576 and 64 are suitable (RabbitMQ sends more than its usual frame-max, 131072). One pass, which
+ * doesn't look at the bytes of strings and byte arrays.
  *
  * `count` becomes how many bytes the value has (AMQP_OK), or how many more the field that is being
  * read needs (AMQP_MORE; with these it may ask for more again), else 0. Also returns

@@ -6,7 +6,7 @@
 #include "hexadecimal.h"
 #include "why.h"
 
-#define FRAME 131072
+#define FRAME 1048576
 #define DEPTH 64
 
 /* Never more bytes than the value was read from, so this capacity is enough. */

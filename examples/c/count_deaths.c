@@ -13,7 +13,7 @@ static int64_t deaths(const uint8_t *headers, size_t length) {
     static const amqp_step path[] = {AMQP_KEY("x-death"), AMQP_INDEX(0), AMQP_KEY("count")};
     size_t taken;
     amqp_entry table, count;
-    if (amqp_read_table(headers, length, 131072, 64, &table, &taken) == AMQP_OK
+    if (amqp_read_table(headers, length, 1048576, 64, &table, &taken) == AMQP_OK
         && amqp_find_path(headers, length, &table, path, 3, AMQP_FIRST_KEY, &count) == AMQP_OK
         && count.tag == AMQP_LONG_LONG_INT) {
         return (int64_t)count.bits;
@@ -21,7 +21,7 @@ static int64_t deaths(const uint8_t *headers, size_t length) {
     return -1;
 }
 
-static uint8_t bytes[131072];
+static uint8_t bytes[1048576];
 
 int main(void) {
     size_t length = read_hexadecimal(stdin, bytes, sizeof bytes);

@@ -7,7 +7,7 @@
 #include "show.h"
 #include "why.h"
 
-static uint8_t bytes[131072];
+static uint8_t bytes[1048576];
 
 int main(int count, char **words) {
     if (count != 2) {

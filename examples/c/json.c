@@ -10,7 +10,7 @@
 
 #include <string.h>
 
-#define FRAME 131072
+#define FRAME 1048576
 #define DEPTH 64
 
 static uint8_t input[FRAME];

@@ -7,7 +7,7 @@
 #include "show.h"
 #include "why.h"
 
-#define FRAME 131072
+#define FRAME 1048576
 #define DEPTH 64
 
 static uint8_t bytes[2 * FRAME];

@@ -9,7 +9,7 @@ import re
 import struct
 import sys
 
-FRAME, DEPTH = 131072, 64
+FRAME, DEPTH = 1048576, 64
 OK, NONE, MORE = 0, 1, -1
 WHY = {MORE: "more bytes are needed", -2: "unknown type tag", -3: "malformed", -4: "too large", -5: "invalid"}
 

@@ -4,8 +4,9 @@ use amq_protocol_types::stream::Limits;
 use clap::{Arg, ArgAction, ArgMatches, Command, value_parser};
 use std::alloc::{AllocError, Global};
 
-// RabbitMQ's usual `frame_max` of 128 KiB, and a depth that no known peer comes near.
-const FRAME: u32 = 131_072;
+// Eight times RabbitMQ's usual `frame_max`, which what it adds to headers exceeds, and a depth that no
+// known peer comes near.
+const FRAME: u32 = 1_048_576;
 
 const DEPTH: u32 = 64;
 
@@ -248,7 +249,7 @@ pub fn command<'a>(alloc: Global) -> Result<Command<'a>, AllocError> {
         .arg(number(
             alloc,
             "frame",
-            "131072",
+            "1048576",
             "Refuse a value of more than N bytes",
         ))?
         .arg(number(
