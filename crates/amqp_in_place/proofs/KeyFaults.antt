@@ -101,7 +101,7 @@ module _ (value : Place) where
   value_over [] n some none is = absurd (omega (arith, some))
   value_over (c ∷ s) n some none is = rw (none, sym is) (ap (option_map suc) (over_values n s) ∙ again n (fault_in_values value 0 (drop n s)))
 
-  -- the first is behind the first n bytes of s, or there is none
+  -- the first is after the first n bytes of s, or there is none
   abbrev pub Values : List ℕ → ℕ → Type 0
   Values s n = fault_in_values value 0 s ≡ option_map (λ k. n + k) (fault_in_values value 0 (drop n s))
 
@@ -165,7 +165,7 @@ module _ (fault : KeyFault) (value : Place) where
   pair_over earlier [] some good none = absurd (omega (arith, some))
   pair_over earlier (k ∷ s) some good none = rw (good, none) (whole_or_cut (take k s ∷ earlier) k s)
 
-  -- the first is behind the first n bytes of s, or there is none, and the set has the keys in them
+  -- the first is after the first n bytes of s, or there is none, and the set has the keys in them
   pub record Pairs (s : List ℕ) (n : ℕ) (t : BTreeSet (Bor (List ℕ))) : Type 0 where
     pub earlier : List (List ℕ)
     pub there : Has fault t earlier
@@ -188,7 +188,7 @@ module _ (fault : KeyFault) (value : Place) where
         same = at.same ∙ (ap (option_map (λ k. n + k)) more ∙ twice n m (fault_in_pairs fault value (key_of r ∷ at.earlier) 0 (drop (n + m) s)));
       }
 
-  -- the same as the code has it, from the key k and the bytes v behind it
+  -- the same as the code has it, from the key k and the bytes v after it
   pub Pairs-on : (s r k v : List ℕ) (n m : ℕ) (t u : BTreeSet (Bor (List ℕ))) (b : Bool) → Pairs s n t → n < length s → r ≡ take (length s - n) (drop n s) → k ≡ key_of r → v ≡ behind_key r
       → Tells fault t u k b → b ≡ false → value v ≡ None → m ≡ n + 1 + length k + extent v → Pairs s m u
   Pairs-on s r k v n m t u b at some e is_key is_rest tells good none is =
@@ -208,7 +208,7 @@ module _ (fault : KeyFault) (value : Place) where
       let z : n + 0 ≡ n = omega arith in
       at.same ∙ (ap (option_map (λ k. n + k)) (ap (fault_in_pairs fault value at.earlier 0) (sym same) ∙ stops) ∙ ap (λ (k : ℕ). Some k) z)
 
-  -- a value behind a key that is cut is no bytes
+  -- a value after a key that is cut is no bytes
   value_stops_pair : (earlier : List (List ℕ)) (s : List ℕ) (p : ℕ) → 0 < length s → is_faulty fault earlier (key_of s) ≡ false → value (behind_key s) ≡ Some p → p < length (behind_key s)
       → fault_in_pairs fault value earlier 0 s ≡ Some (1 + length (key_of s) + p)
   value_stops_pair earlier [] p some good is within = absurd (omega (arith, some))

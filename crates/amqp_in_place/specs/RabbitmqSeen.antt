@@ -15,11 +15,11 @@ abbrev pub Has : KeyFault → BTreeSet (Bor (List ℕ)) → List (List ℕ) → 
 Has Repeated t keys = (k : List ℕ) → contains_by (λ (j : Bor (List ℕ)). slice_cmp nat_cmp k j.now) t ≡ list_any (same_bytes k) keys
 Has NotUtf8 t keys = Unit {0}
 
--- the answer for a key is right after whichever keys the set had, and then the set has it too
+-- what is reported of a key is right, after whichever keys the set had, and then the set has it too
 abbrev pub Tells : KeyFault → BTreeSet (Bor (List ℕ)) → BTreeSet (Bor (List ℕ)) → List ℕ → Bool → Type 0
 Tells fault t u k faulty = (keys : List (List ℕ)) → Has fault t keys → (faulty ≡ is_faulty fault keys k) × (faulty ≡ false → Has fault u (k ∷ keys))
 
--- the key of the pair at the start, or its bytes that are left, and the bytes behind it
+-- the key of the pair at the start, or its bytes that are left, and the bytes after it
 abbrev pub key_of : List ℕ → List ℕ
 key_of [] = []
 key_of (k ∷ s) = take k s

@@ -52,7 +52,7 @@ fault_inside fault (suc depth) (Some amqp.FieldTable) b = option_map (λ n. 5 + 
 fault_inside fault depth type b = None
 
 -- the first of each in the value at the start, and whether its bytes without the type tag, and the
--- 8 bytes of a frame, are more than the frame-max, where 0 means that there is none
+-- 8 bytes of a frame, are more than the frame-max, if that isn't 0
 abbrev pub warnings_of : Limits → ℕ → List ℕ → Warned
 warnings_of l frame_max s = record {
   repeated_key = fault_in_value (fault_inside Repeated l.depth) s;

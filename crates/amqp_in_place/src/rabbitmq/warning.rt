@@ -201,7 +201,7 @@ fn in_pairs(
     Ok(None)
 }
 
-// The key of the pair at the start, or its bytes that are left, and what is behind it.
+// The key of the pair at the start, or its bytes that are left, and what is after it.
 fn split_key(bytes: &[u8]) -> (&[u8], &[u8])
     ensures key { result.0.now ≡ key_of bytes.now }
     ensures behind { result.1.now ≡ behind_key bytes.now }
@@ -213,7 +213,7 @@ fn split_key(bytes: &[u8]) -> (&[u8], &[u8])
     named.split_at(named.len().min(usize::from(*count)))
 }
 
-// Whether a key has the fault, after pairs with the keys in `seen`, where it is put.
+// Whether a key has the fault, after pairs with the keys in `seen`, and puts it there.
 fn is_faulty<'a>(
     fault: KeyFault,
     seen: &mut BTreeSet<&'a [u8]>,
