@@ -12,6 +12,7 @@ pub mod RepeatedKeys
 pub mod Keys
 pub mod Paths
 pub mod FirstProblems
+pub mod KeyFaults
 pub mod Untagged
 pub mod Measuring
 pub mod CanonicalTables

@@ -11,4 +11,6 @@ pub mod Canonicals
 pub mod Paths
 pub mod Rabbitmq
 pub mod RabbitmqResults
+pub mod RabbitmqWarnings
+pub mod RabbitmqSeen
 pub mod Measures

@@ -79,6 +79,8 @@ enum Step {
     NextAfterFailure,
     ToOwned(&'static [&'static [u8]]),
     RepeatedKey(&'static [&'static [u8]]),
+    /// What RabbitMQ takes in each of these tables, and others may not.
+    Warned(&'static [&'static [u8]]),
     /// The first problem of each value, and of a table without its type tag.
     FirstProblem(&'static [&'static [u8]], &'static [u8]),
     Skip(&'static [u8]),
@@ -92,7 +94,7 @@ use self::Step::{
     AppendEach, CloneAll, Construct, CountUntagged, FillVector, FirstProblem, FlagsFromBytes,
     FromPairs, Generate, GeneratePayloads, GenerateSlice, GetBytes, GetFirst, GetFlag, GetPath,
     Inspect, Next, NextAfterFailure, OfText, Parse, ParseEach, ParseSplit, ParseValues,
-    RepeatedKey, Skip, ToOwned, TryFrom,
+    RepeatedKey, Skip, ToOwned, TryFrom, Warned,
 };
 
 /// A table with the LongLongInt 1 at `a`, and its JSON.
@@ -380,6 +382,14 @@ fn in_place_values() -> &'static [Case] {
             b"F\0\0\0\x06\x01bV\x01aV",
         ]),
     ]
+    // the same 17 keys two levels deep; and two that differ
+    "warnings" ALLOC [
+        Warned(&[
+            b"F\0\0\0\x42\x01aA\0\0\0\x3bF\0\0\0\x36\x01qV\x01pV\x01oV\x01nV\x01mV\x01lV\
+              \x01kV\x01jV\x01iV\x01hV\x01gV\x01fV\x01eV\x01dV\x01cV\x01bV\x01aV\x01qV",
+            b"F\0\0\0\x06\x01bV\x01aV",
+        ]),
+    ]
     "in_place_without_memory" NO_ALLOC [
         Skip(TABLE), CountUntagged(TABLE), RepeatedKey(&[TABLE]),
         ToOwned(&[b"t\x01", b"S\0\0\0\0", b"A\0\0\0\0", b"F\0\0\0\0", b"V"]),
@@ -475,6 +485,7 @@ impl Step {
             NextAfterFailure => stream::next_after_failure(h),
             ToOwned(all) => in_place::to_owned(h, all),
             RepeatedKey(all) => in_place::repeated_key(h, all),
+            Warned(all) => in_place::warned(h, all),
             FirstProblem(values, table) => in_place::first_problems(h, values, table),
             Skip(bytes) => in_place::count_and_skip(h, bytes),
             GetFirst(bytes, key) => in_place::get_first(h, bytes, key),

@@ -8,7 +8,9 @@ use amq_protocol_types::in_place::{
     read_in_place, read_table_in_place, skip_value,
 };
 use amq_protocol_types::parsing::ParserError;
-use amq_protocol_types::rabbitmq::{Problem, first_problem, first_problem_in_table};
+use amq_protocol_types::rabbitmq::{
+    Problem, first_problem, first_problem_in_table, warnings, warnings_in_table,
+};
 use std::alloc::{AllocError, Global};
 use std::io;
 
@@ -81,6 +83,26 @@ impl Call for FirstProblemInTable {
 
     fn call(&mut self, _alloc: Global) -> Result<AnyValue, AllocError> {
         Ok(offset_of(first_problem_in_table(self.table, LIMITS)))
+    }
+}
+
+/// The first repeated key of a value, and of the same table without its type tag.
+#[derive(Drop)]
+struct Warnings {
+    bytes: &'static [u8],
+}
+
+impl Call for Warnings {
+    type Error = AllocError;
+
+    fn call(&mut self, alloc: Global) -> Result<AnyValue, AllocError> {
+        let tagged = warnings(alloc, self.bytes, LIMITS, 0)?.repeated_key;
+        let table = self.bytes.get(1..).unwrap_or(&[]);
+        let untagged = warnings_in_table(alloc, table, LIMITS, 0)?.repeated_key;
+        Ok(match (tagged, untagged) {
+            (Some(far), Some(near)) => AnyValue::Number(far as i128 - near as i128),
+            _ => AnyValue::NoValue,
+        })
     }
 }
 
@@ -267,6 +289,14 @@ pub fn count_untagged<R: Print + Eprint>(h: &Harness<R>, bytes: &'static [u8]) -
     h.run(&mut CountUntagged { table })?;
     h.run(&mut CountUntaggedValues { table })?;
     h.run(&mut CanonicalTableLen { table })
+}
+
+/// What RabbitMQ takes in each of these tables, and others may not.
+pub fn warned<R: Print + Eprint>(h: &Harness<R>, all: &[&'static [u8]]) -> io::Result<()> {
+    for bytes in all {
+        h.run(&mut Warnings { bytes })?;
+    }
+    Ok(())
 }
 
 /// A key that each of these tables has more than once.

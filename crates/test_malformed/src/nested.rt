@@ -10,7 +10,9 @@ use amq_protocol_types::in_place::{
     skip_value,
 };
 use amq_protocol_types::parsing::{SliceInput, SplitInput, parse_field_table, parse_value};
-use amq_protocol_types::rabbitmq::{first_problem, first_problem_in_table};
+use amq_protocol_types::rabbitmq::{
+    first_problem, first_problem_in_table, warnings, warnings_in_table,
+};
 use amq_protocol_types::stream::{
     Limits, ValueReader, parse_field_array_within, parse_field_table_within, parse_value_within,
 };
@@ -91,6 +93,7 @@ fn of_encoding(alloc: Global, name: &str, bytes: &[u8], limits: Limits) -> io::R
         "canonical_len" => told(alloc, canonical_len(bytes, limits).is_some()),
         "measure_value" => said(alloc, measure_value(bytes, limits)),
         "first_problem" => told(alloc, first_problem(bytes, limits).is_none()),
+        "warnings" => said(alloc, warnings(alloc, bytes, limits, 0)),
         "dissect" => dissected(alloc, bytes, limits),
         "json_of_encoding" => said(alloc, json_of_encoding(alloc, bytes, limits)),
         _ => unknown(),
@@ -108,6 +111,7 @@ fn of_payload(alloc: Global, name: &str, bytes: &[u8], limits: Limits) -> io::Re
         "canonical_table_len" => told(alloc, canonical_table_len(bytes, limits).is_some()),
         "measure_table" => said(alloc, measure_table(bytes, limits)),
         "first_problem_in_table" => told(alloc, first_problem_in_table(bytes, limits).is_none()),
+        "warnings_in_table" => said(alloc, warnings_in_table(alloc, bytes, limits, 0)),
         _ => unknown(),
     }
 }

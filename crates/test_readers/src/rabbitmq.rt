@@ -1,10 +1,14 @@
-//! The first problem that RabbitMQ has with a value, by worked bytes.
+//! The first problem that RabbitMQ has with a value, and warnings, by worked bytes.
 
 use amq_protocol_types::in_place::Limits;
 use amq_protocol_types::rabbitmq::ProblemKind::{
     Cut, KeyCut, NotFinite, TooDeep, TooLarge, UnknownTag,
 };
-use amq_protocol_types::rabbitmq::{Problem, ProblemKind, first_problem, first_problem_in_table};
+use amq_protocol_types::rabbitmq::{
+    Problem, ProblemKind, Warned, first_problem, first_problem_in_table, warnings,
+    warnings_in_table,
+};
+use std::alloc::{AllocError, Global};
 
 const LIMITS: Limits = Limits {
     frame: 131_072,
@@ -142,4 +146,98 @@ fn limits_are_kept(rt: HostRuntime) {
     assert_eq!(rt; seen_in_table(table, limits(8, 1)), None);
     assert_eq!(rt; seen_in_table(table, limits(7, 1)), Some((0, TooLarge)));
     assert_eq!(rt; seen_in_table(table, limits(8, 0)), Some((0, TooDeep)));
+}
+
+/// Encodings, with the offset of the first pair whose key is repeated, and that of the first whose
+/// key isn't UTF-8.
+const KEYS: [(&[u8], Option<usize>, Option<usize>); 11] = [
+    (b"F\0\0\0\x06\x01aV\x01bV", None, None),
+    (b"F\0\0\0\x09\x01aV\x01bV\x01aV", Some(11), None),
+    (b"F\0\0\0\x04\0V\0V", Some(7), None),
+    // two levels deeper, before one of the outermost table
+    (
+        b"F\0\0\0\x15\x01aA\0\0\0\x0bF\0\0\0\x06\x01xV\x01xV\x01aV",
+        Some(20),
+        None,
+    ),
+    // keys of different tables
+    (b"F\0\0\0\x0d\x01aF\0\0\0\x03\x01aV\x01bV", None, None),
+    (b"A\0\0\0\x10F\0\0\0\x03\x01aVF\0\0\0\x03\x01aV", None, None),
+    // in UTF-8, in Latin-1, and a byte that is never in UTF-8
+    (b"F\0\0\0\x07\x01aV\x02\xc3\xa4V", None, None),
+    (b"F\0\0\0\x06\x01aV\x01\xe4V", None, Some(8)),
+    (b"F\0\0\0\x06\x01\xffV\x01\xffV", Some(8), Some(5)),
+    // no keys, but bytes like them
+    (b"S\0\0\0\x06\x01\xffV\x01\xffV", None, None),
+    // as far as there are bytes
+    (b"F\0\0\xff\xff\x01aV\x01aV", Some(8), None),
+];
+
+fn warned(alloc: Global, bytes: &[u8], depth: u32) -> Result<Warned, AllocError> {
+    warnings(alloc, bytes, limits(131_072, depth), 131_072)
+}
+
+// a table whose encoding has this many bytes without its type tag, with it
+fn table_of(alloc: Global, len: u32) -> Result<Vec<u8>, AllocError> {
+    let mut bytes = Vec::new(alloc);
+    bytes.push(b'F')?;
+    bytes.extend_from_slice(&(len - 4).to_be_bytes())?;
+    bytes.extend_from_slice(b"\0x")?;
+    bytes.extend_from_slice(&(len - 10).to_be_bytes())?;
+    for _ in 10..len {
+        bytes.push(7)?;
+    }
+    Ok(bytes)
+}
+
+// a table with this many different keys of four bytes, and the first again
+fn many_keys(alloc: Global, count: u32) -> Result<Vec<u8>, AllocError> {
+    let mut bytes = Vec::new(alloc);
+    bytes.push(b'F')?;
+    bytes.extend_from_slice(&(6 * count + 6).to_be_bytes())?;
+    for number in 0..=count {
+        bytes.push(4)?;
+        bytes.extend_from_slice(&(number % count).to_be_bytes())?;
+        bytes.push(b'V')?;
+    }
+    Ok(bytes)
+}
+
+#[test]
+fn keys_are_looked_at(rt: HostRuntime) -> Result<(), AllocError> {
+    for (bytes, repeated, not_utf8) in KEYS {
+        let seen = warned(rt.alloc(), bytes, 64)?;
+        assert_eq!(rt; seen.repeated_key, repeated);
+        assert_eq!(rt; seen.key_not_utf8, not_utf8);
+        assert!(rt; !seen.exceeds_frame);
+    }
+    let nested = b"A\0\0\0\x0bF\0\0\0\x06\x01xV\x01xV";
+    assert_eq!(rt; warned(rt.alloc(), nested, 2)?.repeated_key, Some(13));
+    assert_eq!(rt; warned(rt.alloc(), nested, 1)?.repeated_key, None);
+    let table = b"\0\0\0\x06\x01\xffV\x01\xffV";
+    let seen = warnings_in_table(rt.alloc(), table, LIMITS, 0)?;
+    assert_eq!(rt; seen.repeated_key, Some(7));
+    assert_eq!(rt; seen.key_not_utf8, Some(4));
+    Ok(())
+}
+
+#[test]
+fn a_frame_has_eight_bytes_more(rt: HostRuntime) -> Result<(), AllocError> {
+    for (len, exceeds) in [(131_064, false), (131_065, true)] {
+        let bytes = table_of(rt.alloc(), len)?;
+        assert_eq!(rt; bytes.len(), 1 + len as usize);
+        assert_eq!(rt; warned(rt.alloc(), &bytes, 1)?.exceeds_frame, exceeds);
+        let seen = warnings_in_table(rt.alloc(), &bytes[1..], LIMITS, 131_072)?;
+        assert_eq!(rt; seen.exceeds_frame, exceeds);
+        assert!(rt; !warnings_in_table(rt.alloc(), &bytes[1..], LIMITS, 0)?.exceeds_frame);
+    }
+    Ok(())
+}
+
+#[test]
+fn many_keys_take_seconds(rt: HostRuntime) -> Result<(), AllocError> {
+    let bytes = many_keys(rt.alloc(), 100_000)?;
+    let seen = warned(rt.alloc(), &bytes, 1)?;
+    assert_eq!(rt; seen.repeated_key, Some(600_005));
+    Ok(())
 }

@@ -1,0 +1,228 @@
+-- Looking for the first key with a fault.
+use Rattle.std.proofs.Common.{◌≡◌, ◌<◌, ◌≤◌, ◌+◌, ◌-◌, ℕ, zero, suc, Option, Some, None, List, [], ◌∷◌, length, take, drop, Bool, true, false, not, refl, sym, ap, ◌∙◌, subst, arith}
+use Rattle.std.specs.Prelude.{Result, Ok, Err, MatchResult, is_err, max, option_map, nat_le, ◌||◌}
+use Rattle.std.specs.Borrow.{Bor}
+use Rattle.std.specs.List.{list_any}
+use Rattle.std.specs.Ordering.{nat_cmp, is_eq}
+use Rattle.std.specs.declared.cmp.Ordering.{Ordering}
+use Rattle.std.specs.BTreeMap.{is_at}
+use Rattle.std.specs.BTreeSet.{BTreeSet, contains, contains_by, IsEmpty, Updates}
+use Rattle.std.specs.Cmp.Lexicographic.{slice_cmp, bytes_decides, texts_ties}
+use Rattle.std.proofs.lemmas.Bool.{false≢true, leb-true, leb-false}
+use Rattle.std.proofs.lemmas.List.{take_all, length-drop, drop-drop, drop_all, length-take-le}
+use Rattle.std.specs.Str.{IsUtf8, is_utf8}
+use Rattle.std.proofs.lemmas.Str.{IsUtf8-from_is_utf8, is_utf8-from_IsUtf8}
+use Rattle.amqp_grammar.specs.Maps.{same_bytes}
+use Rattle.amqp_parsing.specs.Headers.{extent}
+use Rattle.amqp_in_place.specs.declared.rabbitmq.warning.KeyFault.{KeyFault}
+use Rattle.amqp_in_place.specs.declared.rabbitmq.warning.KeyFault.TheVariants.{Repeated, NotUtf8}
+use Rattle.amqp_in_place.specs.Rabbitmq.{pair_len}
+use Rattle.amqp_in_place.specs.RabbitmqSeen.{Has, Tells, key_of, behind_key}
+use Rattle.amqp_in_place.specs.RabbitmqWarnings.{Place, is_faulty, fault_in_values, fault_in_pairs}
+
+-- ---- the keys in the set
+
+abbrev by_bytes : Bor (List ℕ) → Bor (List ℕ) → Ordering
+by_bytes x y = slice_cmp nat_cmp x.now y.now
+
+abbrev has : BTreeSet (Bor (List ℕ)) → List ℕ → Bool
+has t k = contains_by (λ (j : Bor (List ℕ)). slice_cmp nat_cmp k j.now) t
+
+not_not : (b : Bool) → not (not b) ≡ b
+not_not true = refl
+not_not false = refl
+
+-- a key that is put into the set
+has_more : (t u : BTreeSet (Bor (List ℕ))) (x : Bor (List ℕ)) (keys : List (List ℕ)) → Has Repeated t keys → Updates by_bytes t u x true → Has Repeated u (x.now ∷ keys)
+has_more t u x keys all updates k = by (same_bytes k x.now) refl
+  where
+    other : (b : Bool) → same_bytes k x.now ≡ false → same_bytes x.now k ≡ b → b ≡ false
+    other true is e = absurd (false≢true (sym is ∙ (bytes_decides k x.now).1 (sym ((bytes_decides x.now k).0 e))))
+    other false is e = refl
+
+    by : (b : Bool) → same_bytes k x.now ≡ b → has u k ≡ (b || list_any (same_bytes k) keys)
+    by true is = ap (has u) ((bytes_decides k x.now).0 is) ∙ updates.1
+    by false is =
+        let q : Bor (List ℕ) = record { ref_ptr = (0, 0); now = k } in
+        let apart : is_at (by_bytes x) q ≡ false = sym (texts_ties x.now k) ∙ other (same_bytes x.now k) is refl in
+        updates.2 q apart ∙ all k
+
+pub tells_repeated : (t u : BTreeSet (Bor (List ℕ))) (x : Bor (List ℕ)) (added : Bool) → added ≡ not (contains by_bytes t x) → Updates by_bytes t u x true → Tells Repeated t u x.now (not added)
+tells_repeated t u x added is updates keys all =
+    (ap not is ∙ (not_not (contains by_bytes t x) ∙ all x.now), λ e. has_more t u x keys all updates)
+
+pub has_none : (fault : KeyFault) (t : BTreeSet (Bor (List ℕ))) → IsEmpty t → Has fault t []
+has_none Repeated t none = λ k. ap (list_any (λ (j : Bor (List ℕ)). is_eq (slice_cmp nat_cmp k j.now))) none
+has_none NotUtf8 t none = tt
+
+pub tells_utf8 : {E : Type 0} (t : BTreeSet (Bor (List ℕ))) (k : List ℕ) (r : Result (Unit {0}) E) (b : Bool) → MatchResult r (λ x. IsUtf8 k) (λ x. IsUtf8 k → ⊥) → b ≡ is_err r → Tells NotUtf8 t t k b
+tells_utf8 {E} t k r b is e keys all = (e ∙ by r is, λ f. tt)
+  where
+    other : (IsUtf8 k → ⊥) → (c : Bool) → is_utf8 k ≡ c → true ≡ not c
+    other bad true g = absurd (bad (IsUtf8-from_is_utf8 k g))
+    other bad false g = refl
+
+    by : (q : Result (Unit {0}) E) → MatchResult q (λ x. IsUtf8 k) (λ x. IsUtf8 k → ⊥) → is_err q ≡ not (is_utf8 k)
+    by (Ok x) good = ap not (sym (is_utf8-from_IsUtf8 k good))
+    by (Err x) bad = other bad (is_utf8 k) refl
+
+-- ---- how far the first is
+
+twice : (m n : ℕ) (x : Option ℕ) → option_map (λ k. m + k) (option_map (λ k. n + k) x) ≡ option_map (λ k. m + n + k) x
+twice m n None = refl
+twice m n (Some p) = ap (λ (k : ℕ). Some k) (omega arith)
+
+again : (n : ℕ) (x : Option ℕ) → option_map suc (option_map (λ k. n + k) x) ≡ option_map (λ k. suc n + k) x
+again n None = refl
+again n (Some p) = ap (λ (k : ℕ). Some k) (omega arith)
+
+none_more : (x : Option ℕ) → option_map (λ k. 0 + k) x ≡ x
+none_more None = refl
+none_more (Some p) = ap (λ (k : ℕ). Some k) (omega arith)
+
+left_over : (n : ℕ) (s : List ℕ) → take (length s - n) (drop n s) ≡ drop n s
+left_over n s = take_all (length s - n) (drop n s) (omega (arith, length-drop n s))
+
+some_left : (n : ℕ) (s : List ℕ) → n < length s → 0 < length (drop n s)
+some_left n s some = omega (arith, some, length-drop n s)
+
+at_least : (n : ℕ) → max n 1 ≡ suc (n - 1)
+at_least zero = refl
+at_least (suc n) = omega arith
+
+module _ (value : Place) where
+  over_values : (n : ℕ) (s : List ℕ) → fault_in_values value n s ≡ option_map (λ k. n + k) (fault_in_values value 0 (drop n s))
+  over_values zero s = sym (none_more (fault_in_values value 0 s))
+  over_values (suc n) [] = refl
+  over_values (suc n) (c ∷ s) = ap (option_map suc) (over_values n s) ∙ again n (fault_in_values value 0 (drop n s))
+
+  value_over : (s : List ℕ) (n : ℕ) → 0 < length s → value s ≡ None → n ≡ extent s - 1
+      → fault_in_values value 0 s ≡ option_map (λ k. suc n + k) (fault_in_values value 0 (drop (suc n) s))
+  value_over [] n some none is = absurd (omega (arith, some))
+  value_over (c ∷ s) n some none is = rw (none, sym is) (ap (option_map suc) (over_values n s) ∙ again n (fault_in_values value 0 (drop n s)))
+
+  -- the first is after the first n bytes of s, or there is none
+  abbrev pub Values : List ℕ → ℕ → Type 0
+  Values s n = fault_in_values value 0 s ≡ option_map (λ k. n + k) (fault_in_values value 0 (drop n s))
+
+  pub Values-start : (s : List ℕ) → Values s 0
+  Values-start s = sym (none_more (fault_in_values value 0 s))
+
+  pub Values-next : (s t : List ℕ) (n m : ℕ) → Values s n → n < length s → t ≡ take (length s - n) (drop n s) → value t ≡ None → m ≡ max (extent t) 1 → Values s (n + m)
+  Values-next s t n m at some e none most =
+      let is : m ≡ suc (extent t - 1) = most ∙ at_least (extent t) in
+      let same : t ≡ drop n s = e ∙ left_over n s in
+      let more : fault_in_values value 0 (drop n s) ≡ option_map (λ k. m + k) (fault_in_values value 0 (drop (n + m) s)) =
+      ap (fault_in_values value 0) (sym same) ∙ (subst (λ i. fault_in_values value 0 t ≡ option_map (λ k. i + k) (fault_in_values value 0 (drop i t))) (sym is) (value_over t (extent t - 1) (subst (λ (u : List ℕ). 0 < length u) (sym same) (some_left n s some)) none refl)
+      ∙ ap (λ u. option_map (λ k. m + k) (fault_in_values value 0 u)) (ap (drop m) same ∙ drop-drop m n s)) in
+      at ∙ (ap (option_map (λ k. n + k)) more ∙ twice n m (fault_in_values value 0 (drop (n + m) s)))
+
+  value_stops : (s : List ℕ) (p : ℕ) → 0 < length s → value s ≡ Some p → fault_in_values value 0 s ≡ Some p
+  value_stops [] p some is = absurd (omega (arith, some))
+  value_stops (c ∷ s) p some is = rw is refl
+
+  pub Values-stop : (s t : List ℕ) (n p : ℕ) → Values s n → n < length s → t ≡ take (length s - n) (drop n s) → value t ≡ Some p → fault_in_values value 0 s ≡ Some (n + p)
+  Values-stop s t n p at some e is =
+      let same : t ≡ drop n s = e ∙ left_over n s in
+      at ∙ ap (option_map (λ k. n + k)) (ap (fault_in_values value 0) (sym same) ∙ value_stops t p (subst (λ (u : List ℕ). 0 < length u) (sym same) (some_left n s some)) is)
+
+  pub Values-end : (s : List ℕ) (n : ℕ) → Values s n → length s ≤ n → fault_in_values value 0 s ≡ None
+  Values-end s n at all = at ∙ ap (λ t. option_map (λ k. n + k) (fault_in_values value 0 t)) (drop_all n s all)
+
+module _ (fault : KeyFault) (value : Place) where
+  over_pairs : (earlier : List (List ℕ)) (n : ℕ) (s : List ℕ) → fault_in_pairs fault value earlier n s ≡ option_map (λ k. n + k) (fault_in_pairs fault value earlier 0 (drop n s))
+  over_pairs earlier zero s = sym (none_more (fault_in_pairs fault value earlier 0 s))
+  over_pairs earlier (suc n) [] = refl
+  over_pairs earlier (suc n) (c ∷ s) = ap (option_map suc) (over_pairs earlier n s) ∙ again n (fault_in_pairs fault value earlier 0 (drop n s))
+
+  -- from the key on to the next pair, or to the end if the key is cut
+  whole_or_cut : (keys : List (List ℕ)) (k : ℕ) (s : List ℕ) → option_map suc (fault_in_pairs fault value keys (pair_len (k ∷ s) - 1) s)
+      ≡ option_map (λ j. 1 + length (take k s) + extent (drop k s) + j) (fault_in_pairs fault value keys 0 (drop (1 + length (take k s) + extent (drop k s)) (k ∷ s)))
+  whole_or_cut keys k s = by (nat_le k (length s)) refl
+    where
+      goes : (n : ℕ) → option_map suc (fault_in_pairs fault value keys n s) ≡ option_map (λ j. suc n + j) (fault_in_pairs fault value keys 0 (drop (suc n) (k ∷ s)))
+      goes n = ap (option_map suc) (over_pairs keys n s) ∙ again n (fault_in_pairs fault value keys 0 (drop n s))
+
+      ends : (n m : ℕ) → length s ≤ n → length s < m → option_map (λ j. suc n + j) (fault_in_pairs fault value keys 0 (drop (suc n) (k ∷ s))) ≡ option_map (λ j. m + j) (fault_in_pairs fault value keys 0 (drop m (k ∷ s)))
+      ends n m few less =
+          ap (λ v. option_map (λ j. suc n + j) (fault_in_pairs fault value keys 0 v)) (drop_all (suc n) (k ∷ s) (omega (arith, few)))
+          ∙ sym (ap (λ v. option_map (λ j. m + j) (fault_in_pairs fault value keys 0 v)) (drop_all m (k ∷ s) (omega (arith, less))))
+
+      by : (b : Bool) → nat_le k (length s) ≡ b → option_map suc (fault_in_pairs fault value keys (pair_len (k ∷ s) - 1) s)
+          ≡ option_map (λ j. 1 + length (take k s) + extent (drop k s) + j) (fault_in_pairs fault value keys 0 (drop (1 + length (take k s) + extent (drop k s)) (k ∷ s)))
+      by true is =
+          let long : length (take k s) ≡ k = length-take-le k s (leb-true k (length s) is) in
+          let same : suc (pair_len (k ∷ s) - 1) ≡ 1 + length (take k s) + extent (drop k s) = omega (arith, long) in
+          goes (pair_len (k ∷ s) - 1) ∙ ap (λ i. option_map (λ j. i + j) (fault_in_pairs fault value keys 0 (drop i (k ∷ s)))) same
+      by false is =
+          let less : length s < k = leb-false k (length s) is in
+          let long : length (take k s) ≡ length s = ap length (take_all k s (omega (arith, less))) in
+          goes (pair_len (k ∷ s) - 1) ∙ ends (pair_len (k ∷ s) - 1) (1 + length (take k s) + extent (drop k s)) (omega (arith, less)) (omega (arith, long))
+
+  -- the bytes of a pair, of which some may be missing
+  pair_over : (earlier : List (List ℕ)) (s : List ℕ) → 0 < length s → is_faulty fault earlier (key_of s) ≡ false → value (behind_key s) ≡ None
+      → fault_in_pairs fault value earlier 0 s ≡ option_map (λ k. 1 + length (key_of s) + extent (behind_key s) + k) (fault_in_pairs fault value (key_of s ∷ earlier) 0 (drop (1 + length (key_of s) + extent (behind_key s)) s))
+  pair_over earlier [] some good none = absurd (omega (arith, some))
+  pair_over earlier (k ∷ s) some good none = rw (good, none) (whole_or_cut (take k s ∷ earlier) k s)
+
+  -- the first is after the first n bytes of s, or there is none, and the set has the keys in them
+  pub record Pairs (s : List ℕ) (n : ℕ) (t : BTreeSet (Bor (List ℕ))) : Type 0 where
+    pub earlier : List (List ℕ)
+    pub there : Has fault t earlier
+    pub same : fault_in_pairs fault value [] 0 s ≡ option_map (λ k. n + k) (fault_in_pairs fault value earlier 0 (drop n s))
+
+  pub Pairs-start : (s : List ℕ) (t : BTreeSet (Bor (List ℕ))) → IsEmpty t → Pairs s 0 t
+  Pairs-start s t none = record { earlier = []; there = has_none fault t none; same = sym (none_more (fault_in_pairs fault value [] 0 s)) }
+
+  pub Pairs-next : (s r : List ℕ) (n m : ℕ) (t u : BTreeSet (Bor (List ℕ))) → Pairs s n t → n < length s → r ≡ take (length s - n) (drop n s) → Tells fault t u (key_of r) false
+      → value (behind_key r) ≡ None → m ≡ 1 + length (key_of r) + extent (behind_key r) → Pairs s (n + m) u
+  Pairs-next s r n m t u at some e tells none is =
+      let same : r ≡ drop n s = e ∙ left_over n s in
+      let told = tells at.earlier at.there in
+      let more : fault_in_pairs fault value at.earlier 0 (drop n s) ≡ option_map (λ k. m + k) (fault_in_pairs fault value (key_of r ∷ at.earlier) 0 (drop (n + m) s)) =
+      ap (fault_in_pairs fault value at.earlier 0) (sym same) ∙ (subst (λ i. fault_in_pairs fault value at.earlier 0 r ≡ option_map (λ k. i + k) (fault_in_pairs fault value (key_of r ∷ at.earlier) 0 (drop i r))) (sym is) (pair_over at.earlier r (subst (λ (v : List ℕ). 0 < length v) (sym same) (some_left n s some)) (sym told.0) none)
+      ∙ ap (λ v. option_map (λ k. m + k) (fault_in_pairs fault value (key_of r ∷ at.earlier) 0 v)) (ap (drop m) same ∙ drop-drop m n s)) in
+      record {
+        earlier = key_of r ∷ at.earlier;
+        there = told.1 refl;
+        same = at.same ∙ (ap (option_map (λ k. n + k)) more ∙ twice n m (fault_in_pairs fault value (key_of r ∷ at.earlier) 0 (drop (n + m) s)));
+      }
+
+  -- the same as the code has it, from the key k and the bytes v after it
+  pub Pairs-on : (s r k v : List ℕ) (n m : ℕ) (t u : BTreeSet (Bor (List ℕ))) (b : Bool) → Pairs s n t → n < length s → r ≡ take (length s - n) (drop n s) → k ≡ key_of r → v ≡ behind_key r
+      → Tells fault t u k b → b ≡ false → value v ≡ None → m ≡ n + 1 + length k + extent v → Pairs s m u
+  Pairs-on s r k v n m t u b at some e is_key is_rest tells good none is =
+      let told : Tells fault t u (key_of r) false = subst (λ (c : Bool). Tells fault t u (key_of r) c) good (subst (λ (j : List ℕ). Tells fault t u j b) is_key tells) in
+      let sums : n + (1 + length (key_of r) + extent (behind_key r)) ≡ m = omega (arith, is, ap length is_key, ap extent is_rest) in
+      subst (λ (i : ℕ). Pairs s i u) sums (Pairs-next s r n (1 + length (key_of r) + extent (behind_key r)) t u at some e told (ap value (sym is_rest) ∙ none) refl)
+
+  faulty_stops : (earlier : List (List ℕ)) (s : List ℕ) → 0 < length s → is_faulty fault earlier (key_of s) ≡ true → fault_in_pairs fault value earlier 0 s ≡ Some 0
+  faulty_stops earlier [] some is = absurd (omega (arith, some))
+  faulty_stops earlier (k ∷ s) some is = rw is refl
+
+  pub Pairs-key : (s r : List ℕ) (n : ℕ) (t u : BTreeSet (Bor (List ℕ))) → Pairs s n t → n < length s → r ≡ take (length s - n) (drop n s) → Tells fault t u (key_of r) true
+      → fault_in_pairs fault value [] 0 s ≡ Some n
+  Pairs-key s r n t u at some e tells =
+      let same : r ≡ drop n s = e ∙ left_over n s in
+      let stops = faulty_stops at.earlier r (subst (λ (v : List ℕ). 0 < length v) (sym same) (some_left n s some)) (sym (tells at.earlier at.there).0) in
+      let z : n + 0 ≡ n = omega arith in
+      at.same ∙ (ap (option_map (λ k. n + k)) (ap (fault_in_pairs fault value at.earlier 0) (sym same) ∙ stops) ∙ ap (λ (k : ℕ). Some k) z)
+
+  -- a value after a key that is cut is no bytes
+  value_stops_pair : (earlier : List (List ℕ)) (s : List ℕ) (p : ℕ) → 0 < length s → is_faulty fault earlier (key_of s) ≡ false → value (behind_key s) ≡ Some p → p < length (behind_key s)
+      → fault_in_pairs fault value earlier 0 s ≡ Some (1 + length (key_of s) + p)
+  value_stops_pair earlier [] p some good is within = absurd (omega (arith, some))
+  value_stops_pair earlier (k ∷ s) p some good is within =
+      let long : length (take k s) ≡ k = length-take-le k s (omega (arith, within, length-drop k s)) in
+      rw (good, is, long) refl
+
+  pub Pairs-value : (s r : List ℕ) (n p : ℕ) (t u : BTreeSet (Bor (List ℕ))) → Pairs s n t → n < length s → r ≡ take (length s - n) (drop n s) → Tells fault t u (key_of r) false
+      → value (behind_key r) ≡ Some p → p < length (behind_key r) → fault_in_pairs fault value [] 0 s ≡ Some (n + 1 + length (key_of r) + p)
+  Pairs-value s r n p t u at some e tells is within =
+      let same : r ≡ drop n s = e ∙ left_over n s in
+      let stops = value_stops_pair at.earlier r p (subst (λ (v : List ℕ). 0 < length v) (sym same) (some_left n s some)) (sym (tells at.earlier at.there).0) is within in
+      let sums : n + (1 + length (key_of r) + p) ≡ n + 1 + length (key_of r) + p = omega arith in
+      at.same ∙ (ap (option_map (λ k. n + k)) (ap (fault_in_pairs fault value at.earlier 0) (sym same) ∙ stops) ∙ ap (λ (k : ℕ). Some k) sums)
+
+  pub Pairs-end : (s : List ℕ) (n : ℕ) (t : BTreeSet (Bor (List ℕ))) → Pairs s n t → length s ≤ n → fault_in_pairs fault value [] 0 s ≡ None
+  Pairs-end s n t at all = at.same ∙ ap (λ v. option_map (λ k. n + k) (fault_in_pairs fault value at.earlier 0 v)) (drop_all n s all)

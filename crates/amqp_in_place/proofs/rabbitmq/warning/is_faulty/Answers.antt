@@ -1,0 +1,8 @@
+use Rattle.amqp_in_place.proofs.KeyFaults.{tells_repeated, tells_utf8}
+use Rattle.amqp_in_place.proofs.rabbitmq.warning.is_faulty.Goals as goal
+
+pub returns-in_ok-insert-in-Repeated : goal.returns-in_ok-insert-in-Repeated
+returns-in_ok-insert-in-Repeated c = rw c.in-Repeated.is (tells_repeated c.args.seen.now c.insert.new.self c.args.key c.in_ok-insert-in-Repeated.field-0 c.in_ok-insert-in-Repeated.ensures.added c.in_ok-insert-in-Repeated.ensures.updates)
+
+pub returns-in-NotUtf8 : goal.returns-in-NotUtf8
+returns-in-NotUtf8 c = rw c.in-NotUtf8.is (tells_utf8 c.args.seen.now c.args.key.now c.check_utf8.result c.is_err.result c.check_utf8.ensures c.is_err.ensures.value)

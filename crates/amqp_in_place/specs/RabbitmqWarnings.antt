@@ -1,0 +1,71 @@
+-- What RabbitMQ takes in a value, and others may not: a key that comes again in its table, a key
+-- that isn't UTF-8, and a table that passes the frame-max with its frame. In malformed bytes an
+-- entry has the bytes that its header counts, or those that are left, but at least one.
+use Rattle.std.specs.Prelude.{ℕ, zero, suc, ◌+◌, ◌-◌, Bool, not, ◌&&◌, nat_lt, Option, Some, None, option_map, List, [], ◌∷◌, take, drop, if◌then◌else◌}
+use Rattle.std.specs.Option.{option_or}
+use Rattle.std.specs.List.{list_any}
+use Rattle.std.specs.Str.{is_utf8}
+use Rattle.amqp_types.specs.declared.amqp_type.AMQPType.{AMQPType}
+use Rattle.amqp_types.specs.declared.amqp_type.AMQPType.TheVariants as amqp
+use Rattle.amqp_types.specs.Ids.{kind, id_of}
+use Rattle.amqp_grammar.specs.Maps.{same_bytes}
+use Rattle.amqp_parsing.specs.declared.limits.Limits.{Limits}
+use Rattle.amqp_parsing.specs.Headers.{extent}
+use Rattle.amqp_in_place.specs.Rabbitmq.{pair_len}
+use Rattle.amqp_in_place.specs.declared.rabbitmq.warning.KeyFault.{KeyFault}
+use Rattle.amqp_in_place.specs.declared.rabbitmq.warning.KeyFault.TheVariants.{Repeated, NotUtf8}
+use Rattle.amqp_in_place.specs.declared.rabbitmq.warning.Warned.{Warned}
+
+-- whether a key has the fault, after pairs with these keys in its table
+abbrev pub is_faulty : KeyFault → List (List ℕ) → List ℕ → Bool
+is_faulty Repeated earlier k = list_any (same_bytes k) earlier
+is_faulty NotUtf8 earlier k = not (is_utf8 k)
+
+-- the number of bytes before the first pair whose key has the fault, if there is one
+abbrev pub Place : Type 0
+Place = List ℕ → Option ℕ
+
+-- that in values one after another: `value` is that in the value at the start, and n how many bytes
+-- are left of a value before them
+abbrev pub fault_in_values : Place → ℕ → Place
+fault_in_values value n [] = None
+fault_in_values value zero (c ∷ s) = option_or (value (c ∷ s)) (option_map suc (fault_in_values value (extent (c ∷ s) - 1) s))
+fault_in_values value (suc n) (c ∷ s) = option_map suc (fault_in_values value n s)
+
+-- and in pairs, after those with the keys `earlier`: the pair at the start, then one in its value,
+-- then one in the pairs after it
+abbrev pub fault_in_pairs : KeyFault → Place → List (List ℕ) → ℕ → Place
+fault_in_pairs fault value earlier n [] = None
+fault_in_pairs fault value earlier zero (k ∷ s) = if is_faulty fault earlier (take k s) then Some 0 else option_or (option_map (λ n. 1 + k + n) (value (drop k s))) (option_map suc (fault_in_pairs fault value (take k s ∷ earlier) (pair_len (k ∷ s) - 1) s))
+fault_in_pairs fault value earlier (suc n) (k ∷ s) = option_map suc (fault_in_pairs fault value earlier n s)
+
+-- and in a value, by what is in its payload
+abbrev pub fault_in_value : (Option AMQPType → Place) → Place
+fault_in_value inside [] = None
+fault_in_value inside (c ∷ b) = inside (kind c) (take (extent (c ∷ b) - 1) b)
+
+-- in a payload, with the bytes before it from its type tag on, and containers `depth` deep: the
+-- entries of a container are 5 bytes further on
+abbrev pub fault_inside : KeyFault → ℕ → Option AMQPType → Place
+fault_inside fault (suc depth) (Some amqp.FieldArray) b = option_map (λ n. 5 + n) (fault_in_values (fault_in_value (fault_inside fault depth)) 0 (drop 4 b))
+fault_inside fault (suc depth) (Some amqp.FieldTable) b = option_map (λ n. 5 + n) (fault_in_pairs fault (fault_in_value (fault_inside fault depth)) [] 0 (drop 4 b))
+fault_inside fault depth type b = None
+
+-- the first of each in the value at the start, and whether its bytes without the type tag, and the
+-- 8 bytes of a frame, are more than the frame-max, if that isn't 0
+abbrev pub warnings_of : Limits → ℕ → List ℕ → Warned
+warnings_of l frame_max s = record {
+  repeated_key = fault_in_value (fault_inside Repeated l.depth) s;
+  key_not_utf8 = fault_in_value (fault_inside NotUtf8 l.depth) s;
+  exceeds_frame = nat_lt 0 frame_max && nat_lt frame_max (extent s - 1 + 8);
+}
+
+-- that of a table without its type tag: as with the type tag, and one byte less before each pair
+abbrev pub warnings_in_table_of : Limits → ℕ → List ℕ → Warned
+warnings_in_table_of l frame_max s =
+    let with_tag = warnings_of l frame_max (id_of amqp.FieldTable ∷ s) in
+    record {
+      repeated_key = option_map (λ n. n - 1) with_tag.repeated_key;
+      key_not_utf8 = option_map (λ n. n - 1) with_tag.key_not_utf8;
+      exceeds_frame = with_tag.exceeds_frame;
+    }
