@@ -1,5 +1,5 @@
 /*
- * Tries amqp_canonical, amqp_to_json and amqp_from_json of include/amqp.h: the values below in each buffer
+ * Tries amqpv_canonical, amqpv_to_json and amqpv_from_json of include/amqp_values.h: the values below in each buffer
  * up to one byte more than they need, with the first allocation failing, then the second, until a call
  * makes fewer; each prefix of them, and each change of one byte to one of some; limits that are just kept
  * to and just not; texts that nest as deep as `nesting` allows and one deeper, up to 127 and 128;
@@ -66,39 +66,39 @@ static const slice not_encoded[] = {
     SLICE("{\"ShortString\":\"\"}"), SLICE("[null,{\"ShortString\":\"a\"}]"), SLICE("{\"k\":{\"ShortString\":\"a\"}}"),
 };
 
-static const way canonical = {CANONICAL, FRAME, DEPTH, 0}, there = {TO_JSON, FRAME, DEPTH, 0}, back = {FROM_JSON, 0, 0, AMQP_JSON_NESTING};
+static const way canonical = {CANONICAL, FRAME, DEPTH, 0}, there = {TO_JSON, FRAME, DEPTH, 0}, back = {FROM_JSON, 0, 0, AMQPV_JSON_NESTING};
 
 /* A text is rejected, or denotes a value: its encoding is canonical, and the JSON of that yields it again. */
 static void try_text(slice given) {
     uint8_t bytes[MANY], text[MANY];
     size_t count, again;
     int32_t answer = write_to(back, given, MANY, &count);
-    CHECK(answer == AMQP_OK || answer == AMQP_NOT_JSON || answer == AMQP_NO_ENCODING);
-    if (answer == AMQP_OK) {
+    CHECK(answer == AMQPV_OK || answer == AMQPV_NOT_JSON || answer == AMQPV_NO_ENCODING);
+    if (answer == AMQPV_OK) {
         slice encoding = taken(bytes, MANY, count);
-        CHECK(write_to(there, encoding, MANY, &again) == AMQP_OK);
-        CHECK(write_to(back, taken(text, MANY, again), MANY, &again) == AMQP_OK);
+        CHECK(write_to(there, encoding, MANY, &again) == AMQPV_OK);
+        CHECK(write_to(back, taken(text, MANY, again), MANY, &again) == AMQPV_OK);
         CHECK(again == count && is_in_buffer(MANY, encoding));
     }
 }
 
-/* Bytes are read as amqp_read reads them. The canonical encoding of a value is its own, and its JSON yields it. */
+/* Bytes are read as amqpv_read reads them. The canonical encoding of a value is its own, and its JSON yields it. */
 static void try_bytes(slice given) {
     uint8_t text[MANY], bytes[MANY];
     size_t wanted, size, count, again;
-    int32_t read = amqp_read(given.at, given.length, FRAME, DEPTH, &wanted);
+    int32_t read = amqpv_read(given.at, given.length, FRAME, DEPTH, &wanted);
     CHECK(write_to(canonical, given, given.length, &size) == read);
-    slice encoding = taken(bytes, given.length, read == AMQP_OK ? size : 0);
+    slice encoding = taken(bytes, given.length, read == AMQPV_OK ? size : 0);
     CHECK(write_to(there, given, MANY, &count) == read);
-    if (read != AMQP_OK) {
+    if (read != AMQPV_OK) {
         CHECK(size == wanted && count == wanted);
         return;
     }
     slice json = taken(text, MANY, count);
     uint64_t before = requests;
-    CHECK(write_to(canonical, encoding, size, &again) == AMQP_OK && size <= wanted);
+    CHECK(write_to(canonical, encoding, size, &again) == AMQPV_OK && size <= wanted);
     CHECK(again == size && is_in_buffer(size, encoding) && requests == before);
-    CHECK(write_to(back, json, MANY, &again) == AMQP_OK);
+    CHECK(write_to(back, json, MANY, &again) == AMQPV_OK);
     CHECK(again == size && is_in_buffer(MANY, encoding));
 }
 
@@ -106,16 +106,16 @@ static void try_bytes(slice given) {
 static void try_limits(void) {
     const slice nested = SLICE("A\0\0\0\5A\0\0\0\0");
     size_t count;
-    CHECK(write_to((way){TO_JSON, 10, 2, 0}, nested, MANY, &count) == AMQP_OK && count == 4);
-    CHECK(write_to((way){TO_JSON, 9, 2, 0}, nested, MANY, &count) == AMQP_TOO_LARGE);
-    CHECK(write_to((way){TO_JSON, 10, 1, 0}, nested, MANY, &count) == AMQP_MALFORMED);
+    CHECK(write_to((way){TO_JSON, 10, 2, 0}, nested, MANY, &count) == AMQPV_OK && count == 4);
+    CHECK(write_to((way){TO_JSON, 9, 2, 0}, nested, MANY, &count) == AMQPV_TOO_LARGE);
+    CHECK(write_to((way){TO_JSON, 10, 1, 0}, nested, MANY, &count) == AMQPV_MALFORMED);
 }
 
 /* A text is read if it may nest as deep as it does, and otherwise rejected. */
 static void try_nesting(slice text, uint32_t nesting) {
     size_t count;
     for (uint32_t most = 0; most < nesting + 2; most++) {
-        CHECK(write_to((way){FROM_JSON, 0, 0, most}, text, MANY, &count) == (most < nesting ? AMQP_NOT_JSON : AMQP_OK));
+        CHECK(write_to((way){FROM_JSON, 0, 0, most}, text, MANY, &count) == (most < nesting ? AMQPV_NOT_JSON : AMQPV_OK));
     }
 }
 
@@ -126,7 +126,7 @@ static void try_deep(size_t deep, uint32_t nesting, int32_t wanted) {
     memset(text, '[', deep);
     memset(text + deep, ']', deep);
     CHECK(write_to((way){FROM_JSON, 0, 0, nesting}, (slice){text, 2 * deep}, 1024, &count) == wanted);
-    CHECK(wanted != AMQP_OK || count == 5 * deep);
+    CHECK(wanted != AMQPV_OK || count == 5 * deep);
 }
 
 /* A table of 100,010 bytes: 6,667 pairs, whose keys fall. */
@@ -145,14 +145,14 @@ static void try_large(void) {
         bytes[at + 14] = (uint8_t)n;
     }
     CHECK(at == LARGE);
-    CHECK(amqp_canonical(bytes, LARGE, LARGE, 1, canonical, LARGE, &count) == AMQP_OK && count == LARGE);
+    CHECK(amqpv_canonical(bytes, LARGE, LARGE, 1, canonical, LARGE, &count) == AMQPV_OK && count == LARGE);
     way by = {TO_JSON, LARGE, 1, 0};
-    CHECK(write_to(by, table, 0, &size) == AMQP_NO_ROOM && size <= sizeof written);
-    CHECK(write_to(by, table, size - 1, &count) == AMQP_NO_ROOM && count == size);
-    CHECK(write_to(by, table, size, &count) == AMQP_OK && count == size);
+    CHECK(write_to(by, table, 0, &size) == AMQPV_NO_ROOM && size <= sizeof written);
+    CHECK(write_to(by, table, size - 1, &count) == AMQPV_NO_ROOM && count == size);
+    CHECK(write_to(by, table, size, &count) == AMQPV_OK && count == size);
     slice text = taken(written, size, size);
-    CHECK(write_to(back, text, LARGE - 1, &count) == AMQP_NO_ROOM && count == LARGE);
-    CHECK(write_to(back, text, LARGE, &count) == AMQP_OK && count == LARGE);
+    CHECK(write_to(back, text, LARGE - 1, &count) == AMQPV_NO_ROOM && count == LARGE);
+    CHECK(write_to(back, text, LARGE, &count) == AMQPV_OK && count == LARGE);
     CHECK(is_in_buffer(LARGE, (slice){canonical, LARGE}));
     try_memory(by, table, size, 17);
     try_memory(back, text, LARGE, 17);
@@ -169,19 +169,19 @@ int main(void) {
         try_changes(try_text, inputs[i].json, other_characters);
     }
     for (size_t i = 0; i < COUNT(not_json); i++) {
-        CHECK(write_to(back, not_json[i], MANY, &count) == AMQP_NOT_JSON);
+        CHECK(write_to(back, not_json[i], MANY, &count) == AMQPV_NOT_JSON);
     }
     for (size_t i = 0; i < COUNT(not_encoded); i++) {
-        CHECK(write_to(back, not_encoded[i], MANY, &count) == AMQP_NO_ENCODING);
+        CHECK(write_to(back, not_encoded[i], MANY, &count) == AMQPV_NO_ENCODING);
     }
     try_limits();
     for (size_t i = 0; i < COUNT(nested); i++) {
         try_nesting(nested[i].text, nested[i].nesting);
     }
-    try_deep(65, 64, AMQP_NOT_JSON);
-    try_deep(128, AMQP_JSON_NESTING, AMQP_NOT_JSON);
-    try_deep(127, UINT32_MAX, AMQP_OK);
-    try_deep(128, UINT32_MAX, AMQP_NOT_JSON);
+    try_deep(65, 64, AMQPV_NOT_JSON);
+    try_deep(128, AMQPV_JSON_NESTING, AMQPV_NOT_JSON);
+    try_deep(127, UINT32_MAX, AMQPV_OK);
+    try_deep(128, UINT32_MAX, AMQPV_NOT_JSON);
     try_large();
     printf("%" PRIu64 " calls\n", calls);
     return 0;

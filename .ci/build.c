@@ -1,12 +1,14 @@
 /*
- * Tries the functions of include/amqp.h that build containers, next to a writer in plain C.
+ * Tries the functions of include/amqp_values.h that build containers, next to a writer in plain C.
  *
  * After each call the buffer and the structs are those that the writer here leaves, byte for byte, and
- * so is what is returned; what isn't AMQP_OK leaves all unchanged.
+ * so is what is returned; what isn't AMQPV_OK leaves all unchanged.
+ *
+ * An entry's number is returned by its tag, and what it is returned in stays unchanged on an error.
  *
  * It tries every type tag with numbers about its type's range, keys of every kind, each of some values
  * in buffers of every size, containers and bodies that were corrupted, and random entries that are
- * built, read back by amqp_read and amqp_next, and made canonical.
+ * built, read back by amqpv_read and amqpv_next, and made canonical.
  */
 #include "check.h"
 
@@ -45,18 +47,27 @@ static int is_utf8(slice text) {
 }
 
 static int takes_key(uint8_t tag, slice key) {
-    return tag == AMQP_ARRAY ? key.length == 0 : tag == AMQP_TABLE && key.length <= 255 && is_utf8(key);
+    return tag == AMQPV_ARRAY ? key.length == 0 : tag == AMQPV_TABLE && key.length <= 255 && is_utf8(key);
 }
 
-/* Appends the key and these bytes to the container, and returns what the library must return. */
-static int32_t model_append(amqp_container *into, slice key, slice bytes) {
+/* Whether an entry with this key can be put into the container, and if not, what must be returned. */
+static int32_t model_place(const amqpv_container *into, slice key) {
+    if (!is_inside(into->written, room_length) || !is_container(into->tag)) {
+        return AMQPV_INVALID;
+    }
+    return takes_key(into->tag, key) ? AMQPV_OK : AMQPV_BAD_KEY;
+}
+
+/* Appends the key and these bytes to the container unless something is `wrong`, and returns what the library must. */
+static int32_t model_append(amqpv_container *into, slice key, slice bytes, int32_t wrong) {
     size_t end = into->written.offset + into->written.length;
-    size_t named = into->tag == AMQP_TABLE ? 1 + key.length : 0;
-    if (!is_inside(into->written, room_length) || !takes_key(into->tag, key)) {
-        return AMQP_INVALID;
+    size_t named = into->tag == AMQPV_TABLE ? 1 + key.length : 0;
+    int32_t place = model_place(into, key);
+    if (place != AMQPV_OK || wrong != AMQPV_OK) {
+        return place != AMQPV_OK ? place : wrong;
     }
     if (room_length - end < named + bytes.length) {
-        return AMQP_NO_ROOM;
+        return AMQPV_NO_ROOM;
     }
     if (named) {
         model[end] = (uint8_t)key.length;
@@ -64,7 +75,7 @@ static int32_t model_append(amqp_container *into, slice key, slice bytes) {
     }
     memcpy(model + end + named, bytes.at, bytes.length);
     into->written.length += named + bytes.length;
-    return AMQP_OK;
+    return AMQPV_OK;
 }
 
 static size_t big_endian(uint8_t *bytes, size_t width, uint64_t n) {
@@ -74,29 +85,38 @@ static size_t big_endian(uint8_t *bytes, size_t width, uint64_t n) {
     return width;
 }
 
+static int is_one_of(uint8_t tag, const char *tags_of) {
+    return tag != 0 && strchr(tags_of, tag) != NULL;
+}
+
+/* Whether values of fixed width have the type tag. */
+static int is_scalar_tag(uint8_t tag) {
+    return is_one_of(tag, "tbBsuIilfdDTV");
+}
+
 /* The encoding of a value of fixed width, and how many bytes it has; 0 if there is none. */
 static size_t model_scalar(uint8_t *bytes, uint8_t tag, uint64_t bits, uint8_t scale) {
     int64_t n = (int64_t)bits;
     bytes[0] = tag;
-    if (scale != 0 && tag != AMQP_DECIMAL) {
+    if (scale != 0 && tag != AMQPV_DECIMAL) {
         return 0;
     }
     switch (tag) {
-    case AMQP_BOOLEAN: return bits > 1 ? 0 : 1 + big_endian(bytes + 1, 1, bits);
-    case AMQP_SHORT_SHORT_INT: return n < INT8_MIN || n > INT8_MAX ? 0 : 1 + big_endian(bytes + 1, 1, bits);
-    case AMQP_SHORT_SHORT_UINT: return bits > UINT8_MAX ? 0 : 1 + big_endian(bytes + 1, 1, bits);
-    case AMQP_SHORT_INT: return n < INT16_MIN || n > INT16_MAX ? 0 : 1 + big_endian(bytes + 1, 2, bits);
-    case AMQP_SHORT_UINT: return bits > UINT16_MAX ? 0 : 1 + big_endian(bytes + 1, 2, bits);
-    case AMQP_LONG_INT: return n < INT32_MIN || n > INT32_MAX ? 0 : 1 + big_endian(bytes + 1, 4, bits);
-    case AMQP_LONG_UINT:
-    case AMQP_FLOAT: return bits > UINT32_MAX ? 0 : 1 + big_endian(bytes + 1, 4, bits);
-    case AMQP_LONG_LONG_INT:
-    case AMQP_DOUBLE:
-    case AMQP_TIMESTAMP: return 1 + big_endian(bytes + 1, 8, bits);
-    case AMQP_DECIMAL:
+    case AMQPV_BOOLEAN: return bits > 1 ? 0 : 1 + big_endian(bytes + 1, 1, bits);
+    case AMQPV_SHORT_SHORT_INT: return n < INT8_MIN || n > INT8_MAX ? 0 : 1 + big_endian(bytes + 1, 1, bits);
+    case AMQPV_SHORT_SHORT_UINT: return bits > UINT8_MAX ? 0 : 1 + big_endian(bytes + 1, 1, bits);
+    case AMQPV_SHORT_INT: return n < INT16_MIN || n > INT16_MAX ? 0 : 1 + big_endian(bytes + 1, 2, bits);
+    case AMQPV_SHORT_UINT: return bits > UINT16_MAX ? 0 : 1 + big_endian(bytes + 1, 2, bits);
+    case AMQPV_LONG_INT: return n < INT32_MIN || n > INT32_MAX ? 0 : 1 + big_endian(bytes + 1, 4, bits);
+    case AMQPV_LONG_UINT:
+    case AMQPV_FLOAT: return bits > UINT32_MAX ? 0 : 1 + big_endian(bytes + 1, 4, bits);
+    case AMQPV_LONG_LONG_INT:
+    case AMQPV_DOUBLE:
+    case AMQPV_TIMESTAMP: return 1 + big_endian(bytes + 1, 8, bits);
+    case AMQPV_DECIMAL:
         bytes[1] = scale;
         return bits > UINT32_MAX ? 0 : 2 + big_endian(bytes + 2, 4, bits);
-    case AMQP_VOID: return bits != 0 ? 0 : 1;
+    case AMQPV_VOID: return bits != 0 ? 0 : 1;
     default: return 0;
     }
 }
@@ -106,14 +126,14 @@ static size_t model_scalar(uint8_t *bytes, uint8_t tag, uint64_t bits, uint8_t s
 /* A container between bytes that no call may write. */
 typedef struct held {
     uint64_t before;
-    amqp_container it;
+    amqpv_container it;
     uint64_t behind;
 } held;
 
 #define SPARE 0x5a5a5a5a5a5a5a5au
 
 /* After a call the result, the container, the buffer and its surroundings are as they have to be. */
-static int32_t check(const held *all, amqp_container wanted, int32_t answer, int32_t right) {
+static int32_t check(const held *all, amqpv_container wanted, int32_t answer, int32_t right) {
     calls++;
     CHECK(answer == right);
     CHECK(all->it.written.offset == wanted.written.offset && all->it.written.length == wanted.written.length);
@@ -135,75 +155,133 @@ static void new_room(size_t length, int at_front) {
     memset(model, 0x33, sizeof model);
 }
 
-static int32_t put(amqp_container *into, slice key, uint8_t tag, uint64_t bits, uint8_t scale) {
+static int32_t put(amqpv_container *into, slice key, uint8_t tag, uint64_t bits, uint8_t scale) {
     uint8_t bytes[16];
     held all = {SPARE, *into, SPARE};
     size_t length = model_scalar(bytes, tag, bits, scale);
-    int32_t right = length ? model_append(into, key, (slice){bytes, length}) : AMQP_INVALID;
-    return check(&all, *into, amqp_put(room, room_length, &all.it, key.at, key.length, tag, bits, scale), right);
+    int32_t wrong = !is_scalar_tag(tag) ? AMQPV_BAD_TAG : length ? AMQPV_OK : AMQPV_OUT_OF_RANGE;
+    int32_t right = model_append(into, key, (slice){bytes, length}, wrong);
+    return check(&all, *into, amqpv_put(room, room_length, &all.it, key.at, key.length, tag, bits, scale), right);
 }
 
-static int32_t put_bytes(amqp_container *into, slice key, uint8_t tag, slice content) {
+static int32_t put_int(amqpv_container *into, slice key, uint8_t tag, int64_t number) {
+    uint8_t bytes[16];
+    held all = {SPARE, *into, SPARE};
+    size_t length = model_scalar(bytes, tag, (uint64_t)number, 0);
+    int32_t wrong = !is_one_of(tag, "bsIl") ? AMQPV_BAD_TAG : length ? AMQPV_OK : AMQPV_OUT_OF_RANGE;
+    int32_t right = model_append(into, key, (slice){bytes, length}, wrong);
+    return check(&all, *into, amqpv_put_int(room, room_length, &all.it, key.at, key.length, tag, number), right);
+}
+
+static int32_t put_uint(amqpv_container *into, slice key, uint8_t tag, uint64_t number) {
+    uint8_t bytes[16];
+    held all = {SPARE, *into, SPARE};
+    size_t length = model_scalar(bytes, tag, number, 0);
+    int32_t wrong = !is_one_of(tag, "Bui") ? AMQPV_BAD_TAG : length ? AMQPV_OK : AMQPV_OUT_OF_RANGE;
+    int32_t right = model_append(into, key, (slice){bytes, length}, wrong);
+    return check(&all, *into, amqpv_put_uint(room, room_length, &all.it, key.at, key.length, tag, number), right);
+}
+
+/* Values of the other types of fixed width, each with the encoding that is wanted; and a string. */
+static void put_others(amqpv_container *into, slice key) {
+    static const int32_t truths[] = {0, 1, -1, 2, 256, INT32_MIN};
+    static const struct { float number; uint8_t bytes[5]; } floats[] = {
+        {0, "f\0\0\0"}, {-0.0f, "f\x80\0\0"}, {1.5f, "f\x3f\xc0\0"}, {-2.0f, "f\xc0\0\0"}, {0.1f, "f\x3d\xcc\xcc\xcd"},
+    };
+    static const struct { double number; uint8_t bytes[9]; } doubles[] = {
+        {0, "d\0\0\0\0\0\0\0"}, {-0.0, "d\x80\0\0\0\0\0\0"}, {1.5, "d\x3f\xf8\0\0\0\0\0"},
+        {0.3, "d\x3f\xd3\x33\x33\x33\x33\x33\x33"},
+    };
+    amqpv_container start = *into, wanted = start;
+    held all = {SPARE, start, SPARE};
+#define AT room, room_length, &all.it, key.at, key.length
+#define PUT(bytes, length, call) \
+    do { \
+        int32_t right = model_append(&wanted, key, (slice){bytes, length}, AMQPV_OK); \
+        check(&all, wanted, call, right); \
+        all.it = wanted = start; \
+    } while (0)
+    for (size_t i = 0; i < COUNT(truths); i++) {
+        const uint8_t bytes[] = {'t', i > 0};
+        PUT(bytes, sizeof bytes, amqpv_put_bool(AT, truths[i]));
+    }
+    for (size_t i = 0; i < COUNT(floats); i++) {
+        PUT(floats[i].bytes, 5, amqpv_put_float(AT, floats[i].number));
+    }
+    for (size_t i = 0; i < COUNT(doubles); i++) {
+        PUT(doubles[i].bytes, 9, amqpv_put_double(AT, doubles[i].number));
+    }
+    PUT((const uint8_t *)"V", 1, amqpv_put_void(AT));
+    PUT((const uint8_t *)"T\0\0\0\0\0\0\1\2", 9, amqpv_put_timestamp(AT, 258));
+    PUT((const uint8_t *)"T\xff\xff\xff\xff\xff\xff\xff\xff", 9, amqpv_put_timestamp(AT, UINT64_MAX));
+    PUT((const uint8_t *)"D\2\0\0\1\x3a", 6, amqpv_put_decimal(AT, 314, 2));
+    PUT((const uint8_t *)"D\xff\xff\xff\xff\xff", 6, amqpv_put_decimal(AT, UINT32_MAX, 255));
+    PUT((const uint8_t *)"S\0\0\0\2hi", 7, amqpv_put_string(AT, "hi", 2));
+    PUT((const uint8_t *)"S\0\0\0\0", 5, amqpv_put_string(AT, "", 0));
+#undef PUT
+#undef AT
+}
+
+static int32_t put_bytes(amqpv_container *into, slice key, uint8_t tag, slice content) {
     static uint8_t bytes[MOST + 5];
     held all = {SPARE, *into, SPARE};
     bytes[0] = tag;
     big_endian(bytes + 1, 4, content.length);
     memcpy(bytes + 5, content.at, content.length);
-    int is_string = tag == AMQP_LONG_STRING || tag == AMQP_BYTE_ARRAY;
-    int32_t right = is_string ? model_append(into, key, (slice){bytes, 5 + content.length}) : AMQP_INVALID;
-    int32_t answer = amqp_put_bytes(room, room_length, &all.it, key.at, key.length, tag, content.at, content.length);
+    int is_string = tag == AMQPV_LONG_STRING || tag == AMQPV_BYTE_ARRAY;
+    int32_t right = model_append(into, key, (slice){bytes, 5 + content.length}, is_string ? AMQPV_OK : AMQPV_BAD_TAG);
+    int32_t answer = amqpv_put_bytes(room, room_length, &all.it, key.at, key.length, tag, content.at, content.length);
     return check(&all, *into, answer, right);
 }
 
-static int32_t put_value(amqp_container *into, slice key, slice value) {
+static int32_t put_value(amqpv_container *into, slice key, slice value) {
     size_t count;
     held all = {SPARE, *into, SPARE};
-    int is_place = is_inside(into->written, room_length) && takes_key(into->tag, key);
-    int32_t read = amqp_read(value.at, value.length, FRAME, DEPTH, &count);
-    int32_t right = !is_place ? AMQP_INVALID : read != AMQP_OK ? read : model_append(into, key, (slice){value.at, count});
-    int32_t answer = amqp_put_value(room, room_length, &all.it, key.at, key.length, value.at, value.length, FRAME, DEPTH);
+    int32_t read = amqpv_read(value.at, value.length, FRAME, DEPTH, &count);
+    int32_t right = model_append(into, key, (slice){value.at, count}, read);
+    int32_t answer = amqpv_put_value(room, room_length, &all.it, key.at, key.length, value.at, value.length, FRAME, DEPTH);
     return check(&all, *into, answer, right);
 }
 
-static int32_t open_in(const amqp_container *into, slice key, uint8_t tag, amqp_container *body) {
+static int32_t open_in(const amqpv_container *into, slice key, uint8_t tag, amqpv_container *body) {
     const uint8_t bytes[] = {tag, 0, 0, 0, 0};
-    amqp_container grown = *into;
+    amqpv_container grown = *into;
     held all = {SPARE, *body, SPARE};
-    int32_t right = is_container(tag) ? model_append(&grown, key, (slice){bytes, sizeof bytes}) : AMQP_INVALID;
-    if (right == AMQP_OK) {
-        *body = (amqp_container){{grown.written.offset + grown.written.length, 0}, tag};
+    int32_t right = model_append(&grown, key, (slice){bytes, sizeof bytes}, is_container(tag) ? AMQPV_OK : AMQPV_BAD_TAG);
+    if (right == AMQPV_OK) {
+        *body = (amqpv_container){{grown.written.offset + grown.written.length, 0}, tag};
     }
-    return check(&all, *body, amqp_open(room, room_length, into, key.at, key.length, tag, &all.it), right);
+    return check(&all, *body, amqpv_open(room, room_length, into, key.at, key.length, tag, &all.it), right);
 }
 
 /* Whether the body begins after a key, its type tag and four bytes, at the end of `into`. */
-static int is_open(const amqp_container *into, const amqp_container *body) {
+static int is_open(const amqpv_container *into, const amqpv_container *body) {
     size_t at = into->written.offset + into->written.length, key_length = 0;
     if (!is_inside(into->written, room_length) || !is_inside(body->written, room_length) || !is_container(body->tag)) {
         return 0;
     }
-    if (into->tag == AMQP_TABLE && at < room_length) {
+    if (into->tag == AMQPV_TABLE && at < room_length) {
         key_length = model[at++];
     }
     return room_length - at >= key_length + 5 && takes_key(into->tag, (slice){model + at, key_length})
            && model[at + key_length] == body->tag && body->written.offset == at + key_length + 5;
 }
 
-static int32_t close_in(amqp_container *into, const amqp_container *body) {
+static int32_t close_in(amqpv_container *into, const amqpv_container *body) {
     held all = {SPARE, *into, SPARE};
-    int32_t right = is_open(into, body) ? AMQP_OK : AMQP_INVALID;
-    if (right == AMQP_OK) {
+    int32_t right = is_open(into, body) ? AMQPV_OK : AMQPV_INVALID;
+    if (right == AMQPV_OK) {
         big_endian(model + body->written.offset - 4, 4, body->written.length);
         into->written.length = body->written.offset + body->written.length - into->written.offset;
     }
-    return check(&all, *into, amqp_close(room, room_length, &all.it, body), right);
+    return check(&all, *into, amqpv_close(room, room_length, &all.it, body), right);
 }
 
 /* ---- what is tried */
 
 static const slice none = SLICE(""), k = SLICE("k");
 
-static const amqp_container whole = {{0, 0}, AMQP_ARRAY}, table_of_none = {{0, 0}, AMQP_TABLE};
+static const amqpv_container whole = {{0, 0}, AMQPV_ARRAY}, table_of_none = {{0, 0}, AMQPV_TABLE};
 
 static const uint64_t numbers[] = {
     0, 1, 2, 127, 128, 255, 256, 32767, 32768, 65535, 65536, 2147483647, 2147483648u, 4294967295u, 4294967296u,
@@ -211,19 +289,61 @@ static const uint64_t numbers[] = {
     (uint64_t)-2147483648, (uint64_t)-2147483649,
 };
 
+/* What an entry of any tag and any bits is in C, next to what it has to be. */
+static void try_getters(uint8_t tag, uint64_t bits, uint8_t scale) {
+    const amqpv_entry entry = {{0, 0}, {0, 0}, {0, 0}, bits, tag, scale};
+    int is_signed = is_one_of(tag, "bsIl"), is_unsigned = is_one_of(tag, "Bui");
+    int64_t int_number = 77;
+    uint64_t uint_number = 77, seconds = 77, double_bits, wanted_bits;
+    uint32_t number = 77, float_bits = (uint32_t)bits;
+    uint8_t digits = 77;
+    int32_t truth = 77;
+    double double_number = 77.0, wanted;
+    float narrow;
+    int32_t right = is_signed || (is_unsigned && bits <= INT64_MAX) ? AMQPV_OK : is_unsigned ? AMQPV_OUT_OF_RANGE : AMQPV_BAD_TAG;
+    CHECK(amqpv_as_int(&entry, &int_number) == right && int_number == (right == AMQPV_OK ? (int64_t)bits : 77));
+    right = is_unsigned || (is_signed && bits <= INT64_MAX) ? AMQPV_OK : is_signed ? AMQPV_OUT_OF_RANGE : AMQPV_BAD_TAG;
+    CHECK(amqpv_as_uint(&entry, &uint_number) == right && uint_number == (right == AMQPV_OK ? bits : 77));
+    right = tag != AMQPV_BOOLEAN ? AMQPV_BAD_TAG : bits > 1 ? AMQPV_OUT_OF_RANGE : AMQPV_OK;
+    CHECK(amqpv_as_bool(&entry, &truth) == right && truth == (right == AMQPV_OK ? (int32_t)bits : 77));
+    right = tag != AMQPV_TIMESTAMP ? AMQPV_BAD_TAG : AMQPV_OK;
+    CHECK(amqpv_as_timestamp(&entry, &seconds) == right && seconds == (right == AMQPV_OK ? bits : 77));
+    right = tag != AMQPV_DECIMAL ? AMQPV_BAD_TAG : bits > UINT32_MAX ? AMQPV_OUT_OF_RANGE : AMQPV_OK;
+    CHECK(amqpv_as_decimal(&entry, &number, &digits) == right);
+    CHECK(number == (right == AMQPV_OK ? bits : 77) && digits == (right == AMQPV_OK ? scale : 77));
+    right = tag == AMQPV_DOUBLE ? AMQPV_OK : tag != AMQPV_FLOAT ? AMQPV_BAD_TAG : bits > UINT32_MAX ? AMQPV_OUT_OF_RANGE : AMQPV_OK;
+    memcpy(&narrow, &float_bits, sizeof narrow);
+    wanted = right != AMQPV_OK ? 77.0 : narrow;
+    if (tag == AMQPV_DOUBLE) {
+        memcpy(&wanted, &bits, sizeof wanted);
+    }
+    CHECK(amqpv_as_double(&entry, &double_number) == right);
+    memcpy(&double_bits, &double_number, sizeof double_bits);
+    memcpy(&wanted_bits, &wanted, sizeof wanted_bits);
+    CHECK(double_bits == wanted_bits);
+    calls += 5;
+}
+
 /* Every type tag, with numbers about the ends of each type. */
 static void try_types(void) {
     for (int tag = 0; tag < 256; tag++) {
         for (size_t i = 0; i < COUNT(numbers); i++) {
             for (int scale = 0; scale < 256; scale += scale < 2 ? 1 : 253) {
-                amqp_container array = whole, table = {{3, 0}, AMQP_TABLE};
+                amqpv_container array = whole, table = {{3, 0}, AMQPV_TABLE};
                 new_room(16, tag % 2);
                 put(&array, none, (uint8_t)tag, numbers[i], (uint8_t)scale);
                 put(&table, k, (uint8_t)tag, numbers[i], (uint8_t)scale);
+                try_getters((uint8_t)tag, numbers[i], (uint8_t)scale);
             }
+            amqpv_container array = whole, table = {{3, 0}, AMQPV_TABLE};
+            new_room(40, tag % 2);
+            put_int(&array, none, (uint8_t)tag, (int64_t)numbers[i]);
+            put_uint(&array, none, (uint8_t)tag, numbers[i]);
+            put_int(&table, k, (uint8_t)tag, (int64_t)numbers[i]);
+            put_uint(&table, k, (uint8_t)tag, numbers[i]);
         }
         for (size_t length = 0; length <= 16; length++) {
-            amqp_container body = whole;
+            amqpv_container body = whole;
             new_room(length, tag % 2);
             open_in(&whole, none, (uint8_t)tag, &body);
             open_in(&table_of_none, k, (uint8_t)tag, &body);
@@ -241,26 +361,26 @@ static void try_keys(void) {
     uint8_t key[300];
     for (size_t length = 0; length <= 2; length++) {
         for (unsigned n = 0; n < 1u << 8 * length; n++) {
-            amqp_container table = table_of_none;
+            amqpv_container table = table_of_none;
             big_endian(key, length, n);
             new_room(8, n % 2);
-            put(&table, (slice){key, length}, AMQP_VOID, 0, 0);
+            put(&table, (slice){key, length}, AMQPV_VOID, 0, 0);
         }
     }
     for (size_t i = 0; i < COUNT(others); i++) {
-        amqp_container table = table_of_none, body = whole;
+        amqpv_container table = table_of_none, body = whole;
         new_room(16, 0);
-        put(&table, others[i], AMQP_VOID, 0, 0);
-        put_bytes(&table, others[i], AMQP_LONG_STRING, none);
-        open_in(&table, others[i], AMQP_ARRAY, &body);
+        put(&table, others[i], AMQPV_VOID, 0, 0);
+        put_bytes(&table, others[i], AMQPV_LONG_STRING, none);
+        open_in(&table, others[i], AMQPV_ARRAY, &body);
     }
     memset(key, 'k', sizeof key);
     for (size_t length = 0; length <= sizeof key; length += length < 253 ? 11 : 1) {
-        amqp_container array = whole, table = table_of_none;
+        amqpv_container array = whole, table = table_of_none;
         new_room(400, 0);
-        put(&array, (slice){key, length}, AMQP_BOOLEAN, 1, 0);
+        put(&array, (slice){key, length}, AMQPV_BOOLEAN, 1, 0);
         new_room(400, 0);
-        put(&table, (slice){key, length}, AMQP_BOOLEAN, 1, 0);
+        put(&table, (slice){key, length}, AMQPV_BOOLEAN, 1, 0);
     }
 }
 
@@ -270,9 +390,13 @@ static const slice values[] = {
 };
 
 /* Entries of every kind, after what is in the buffer already. */
-static void try_entries(amqp_container start, slice key) {
-    amqp_container into = start, body = whole;
-    put(&into, key, AMQP_DECIMAL, 314, 2);
+static void try_entries(amqpv_container start, slice key) {
+    amqpv_container into = start, body = whole;
+    put(&into, key, AMQPV_DECIMAL, 314, 2);
+    put_int(&into, key, AMQPV_LONG_INT, -2);
+    put_uint(&into, key, AMQPV_LONG_UINT, 2);
+    into = start;
+    put_others(&into, key);
     for (size_t i = 0; i < COUNT(values); i++) {
         uint8_t bytes[16];
         size_t length = values[i].length;
@@ -284,12 +408,12 @@ static void try_entries(amqp_container start, slice key) {
     }
     for (size_t length = 0; length < 9; length++) {
         into = start;
-        put_bytes(&into, key, length % 2 ? AMQP_BYTE_ARRAY : AMQP_LONG_STRING, (slice){(const uint8_t *)"contents", length});
+        put_bytes(&into, key, length % 2 ? AMQPV_BYTE_ARRAY : AMQPV_LONG_STRING, (slice){(const uint8_t *)"contents", length});
     }
     into = start;
-    if (open_in(&into, key, AMQP_TABLE, &body) == AMQP_OK) {
-        put(&body, (slice)SLICE("x"), AMQP_LONG_INT, 7, 0);
-        CHECK(close_in(&into, &body) == AMQP_OK);
+    if (open_in(&into, key, AMQPV_TABLE, &body) == AMQPV_OK) {
+        put(&body, (slice)SLICE("x"), AMQPV_LONG_INT, 7, 0);
+        CHECK(close_in(&into, &body) == AMQPV_OK);
     }
 }
 
@@ -298,9 +422,9 @@ static void try_rooms(void) {
     for (size_t length = 0; length <= 40; length++) {
         for (size_t before = 0; before <= length; before += 3) {
             new_room(length, (int)(before % 2));
-            try_entries((amqp_container){{0, before}, AMQP_ARRAY}, none);
+            try_entries((amqpv_container){{0, before}, AMQPV_ARRAY}, none);
             new_room(length, (int)(before % 2));
-            try_entries((amqp_container){{0, before}, AMQP_TABLE}, (slice)SLICE("key"));
+            try_entries((amqpv_container){{0, before}, AMQPV_TABLE}, (slice)SLICE("key"));
         }
     }
 }
@@ -313,25 +437,29 @@ static void try_corrupt(size_t length) {
         uint8_t tag = tags[n / 2 % sizeof tags];
         slice key = {k.at, n % 2};
         new_room(length, (int)(i % 2));
-        amqp_container corrupt = {{number(i, small), number(j, small)}, tag}, into = corrupt, body = corrupt;
-        put(&into, key, AMQP_SHORT_INT, 5, 0);
+        amqpv_container corrupt = {{number(i, small), number(j, small)}, tag}, into = corrupt, body = corrupt;
+        put(&into, key, AMQPV_SHORT_INT, 5, 0);
         into = corrupt;
-        put_bytes(&into, key, AMQP_BYTE_ARRAY, (slice)SLICE("ab"));
+        put_int(&into, key, tag, 5);
+        put_uint(&into, key, tag, 5);
+        put_others(&into, key);
+        into = corrupt;
+        put_bytes(&into, key, AMQPV_BYTE_ARRAY, (slice)SLICE("ab"));
         into = corrupt;
         put_value(&into, key, (slice)SLICE("t\7V"));
         open_in(&corrupt, key, tag, &body);
     }
 }
 
-/* Bodies that were corrupted, and containers next to them, over bytes as amqp_open leaves them. */
+/* Bodies that were corrupted, and containers next to them, over bytes as amqpv_open leaves them. */
 static void try_corrupt_bodies(slice bytes) {
     size_t small = bytes.length + 2, count = small + 4;
     new_room(bytes.length, 0);
     for (size_t n = 0; n < count * count * count * count; n++) {
-        amqp_container into = {{number(n % count, small), number(n / count % count, small)}, 0};
-        amqp_container body = {{number(n / count / count % count, small), number(n / count / count / count, small)}, 0};
+        amqpv_container into = {{number(n % count, small), number(n / count % count, small)}, 0};
+        amqpv_container body = {{number(n / count / count % count, small), number(n / count / count / count, small)}, 0};
         for (size_t t = 0; t < 9; t++) {
-            amqp_container grown = into;
+            amqpv_container grown = into;
             grown.tag = tags[t % 3];
             body.tag = tags[t / 3];
             memcpy(room, bytes.at, bytes.length);
@@ -347,16 +475,16 @@ static void try_large(void) {
     uint8_t *bytes = mmap(NULL, large, PROT_READ | PROT_WRITE, MAP_PRIVATE | MAP_ANONYMOUS | MAP_NORESERVE, -1, 0);
     CHECK(bytes != MAP_FAILED);
     for (size_t length = ((size_t)1 << 32) - 1; length <= ((size_t)1 << 32) + 1; length++) {
-        amqp_container into = whole, body = whole, old = whole;
+        amqpv_container into = whole, body = whole, old = whole;
         int is_too_large = length > UINT32_MAX;
-        CHECK(amqp_open(bytes, large, &into, none.at, 0, AMQP_ARRAY, &body) == AMQP_OK);
+        CHECK(amqpv_open(bytes, large, &into, none.at, 0, AMQPV_ARRAY, &body) == AMQPV_OK);
         body.written.length = length;
-        CHECK(amqp_close(bytes, large, &into, &body) == (is_too_large ? AMQP_TOO_LARGE : AMQP_OK));
+        CHECK(amqpv_close(bytes, large, &into, &body) == (is_too_large ? AMQPV_TOO_LARGE : AMQPV_OK));
         CHECK(into.written.length == (is_too_large ? 0 : length + 5));
         CHECK(bytes[0] == 'A' && bytes[1] == (is_too_large ? 0 : 0xff) && bytes[4] == bytes[1] && bytes[5] == 0);
         new_room(64, 0);
-        CHECK(amqp_put_bytes(room, room_length, &old, none.at, 0, AMQP_BYTE_ARRAY, bytes, length)
-              == (is_too_large ? AMQP_TOO_LARGE : AMQP_NO_ROOM));
+        CHECK(amqpv_put_bytes(room, room_length, &old, none.at, 0, AMQPV_BYTE_ARRAY, bytes, length)
+              == (is_too_large ? AMQPV_TOO_LARGE : AMQPV_NO_ROOM));
         CHECK(old.written.length == 0 && memcmp(room, model, room_length) == 0);
         calls += 3;
     }
@@ -364,48 +492,48 @@ static void try_large(void) {
 }
 
 /* Appends random entries to a container, and to containers in it. */
-static void fill(amqp_container *into, int depth) {
+static void fill(amqpv_container *into, int depth) {
     static const uint8_t every[] = "tbBsuIilfdDTV";
     for (uint64_t entries = random_number() % 6; entries > 0; entries--) {
         uint8_t letters[4] = {'a', 'b', 'c', 'd'};
-        slice key = {letters, into->tag == AMQP_TABLE ? random_number() % 4 : 0};
+        slice key = {letters, into->tag == AMQPV_TABLE ? random_number() % 4 : 0};
         letters[0] = (uint8_t)('a' + random_number() % 5);
         uint64_t kind = random_number() % 8;
         uint64_t bits = numbers[random_number() % COUNT(numbers)];
         if (kind < 3) {
             put(into, key, every[random_number() % 13], bits, (uint8_t)(random_number() % 4 ? 0 : 3));
         } else if (kind < 4) {
-            uint8_t type = random_number() % 2 ? AMQP_BYTE_ARRAY : AMQP_LONG_STRING;
+            uint8_t type = random_number() % 2 ? AMQPV_BYTE_ARRAY : AMQPV_LONG_STRING;
             put_bytes(into, key, type, (slice){letters, random_number() % 5});
         } else if (kind < 5) {
             put_value(into, key, values[random_number() % COUNT(values)]);
         } else if (depth > 0) {
-            amqp_container body = whole;
-            uint8_t type = random_number() % 2 ? AMQP_TABLE : AMQP_ARRAY;
-            if (open_in(into, key, type, &body) == AMQP_OK) {
+            amqpv_container body = whole;
+            uint8_t type = random_number() % 2 ? AMQPV_TABLE : AMQPV_ARRAY;
+            if (open_in(into, key, type, &body) == AMQPV_OK) {
                 fill(&body, depth - 1);
-                CHECK(close_in(into, &body) == AMQP_OK);
+                CHECK(close_in(into, &body) == AMQPV_OK);
             }
         }
     }
 }
 
 /* Builds what a cursor iterates over again, in the other buffer, from each entry. */
-static void copy_entries(const uint8_t *bytes, size_t length, amqp_cursor cursor, amqp_container *into) {
-    amqp_entry entry;
-    while (amqp_next(bytes, length, &cursor, &entry) == AMQP_OK) {
+static void copy_entries(const uint8_t *bytes, size_t length, amqpv_cursor cursor, amqpv_container *into) {
+    amqpv_entry entry;
+    while (amqpv_next(bytes, length, &cursor, &entry) == AMQPV_OK) {
         slice key = {bytes + entry.key.offset, entry.key.length};
-        amqp_cursor inner;
-        amqp_container body = whole;
-        if (amqp_enter(bytes, length, &entry, &inner) == AMQP_OK) {
-            CHECK(open_in(into, key, entry.tag, &body) == AMQP_OK);
+        amqpv_cursor inner;
+        amqpv_container body = whole;
+        if (amqpv_enter(bytes, length, &entry, &inner) == AMQPV_OK) {
+            CHECK(open_in(into, key, entry.tag, &body) == AMQPV_OK);
             copy_entries(bytes, length, inner, &body);
-            CHECK(close_in(into, &body) == AMQP_OK);
-        } else if (entry.tag == AMQP_LONG_STRING || entry.tag == AMQP_BYTE_ARRAY) {
+            CHECK(close_in(into, &body) == AMQPV_OK);
+        } else if (entry.tag == AMQPV_LONG_STRING || entry.tag == AMQPV_BYTE_ARRAY) {
             slice content = {bytes + entry.content.offset, entry.content.length};
-            CHECK(put_bytes(into, key, entry.tag, content) == AMQP_OK);
+            CHECK(put_bytes(into, key, entry.tag, content) == AMQPV_OK);
         } else {
-            CHECK(put(into, key, entry.tag, entry.bits, entry.scale) == AMQP_OK);
+            CHECK(put(into, key, entry.tag, entry.bits, entry.scale) == AMQPV_OK);
         }
     }
 }
@@ -413,28 +541,28 @@ static void copy_entries(const uint8_t *bytes, size_t length, amqp_cursor cursor
 /* What was built is read, entry by entry what was appended, and has a canonical encoding. */
 static void try_random(void) {
     static uint8_t first[MOST], canonical[MOST], again[MOST];
-    amqp_container top = whole, body = whole;
-    amqp_entry entry;
-    amqp_cursor cursor;
+    amqpv_container top = whole, body = whole;
+    amqpv_entry entry;
+    amqpv_cursor cursor;
     size_t count, others;
     new_room(random_number() % 300, (int)(random_number() % 2));
-    uint8_t tag = random_number() % 2 ? AMQP_TABLE : AMQP_ARRAY;
-    if (open_in(&top, none, tag, &body) != AMQP_OK) {
+    uint8_t tag = random_number() % 2 ? AMQPV_TABLE : AMQPV_ARRAY;
+    if (open_in(&top, none, tag, &body) != AMQPV_OK) {
         return;
     }
     fill(&body, 3);
-    CHECK(close_in(&top, &body) == AMQP_OK);
+    CHECK(close_in(&top, &body) == AMQPV_OK);
     size_t length = top.written.length;
     memcpy(first, room, length);
-    CHECK(amqp_read(first, length, FRAME, DEPTH, &count) == AMQP_OK && count == length);
-    CHECK(amqp_canonical(first, length, FRAME, DEPTH, canonical, sizeof canonical, &count) == AMQP_OK && count <= length);
-    CHECK(amqp_first(first, length, &entry) == AMQP_OK && amqp_enter(first, length, &entry, &cursor) == AMQP_OK);
+    CHECK(amqpv_read(first, length, FRAME, DEPTH, &count) == AMQPV_OK && count == length);
+    CHECK(amqpv_canonical(first, length, FRAME, DEPTH, canonical, sizeof canonical, &count) == AMQPV_OK && count <= length);
+    CHECK(amqpv_first(first, length, &entry) == AMQPV_OK && amqpv_enter(first, length, &entry, &cursor) == AMQPV_OK);
     new_room(length, 0);
     top = whole;
-    CHECK(open_in(&top, none, tag, &body) == AMQP_OK);
+    CHECK(open_in(&top, none, tag, &body) == AMQPV_OK);
     copy_entries(first, length, cursor, &body);
-    CHECK(close_in(&top, &body) == AMQP_OK && top.written.length == length);
-    CHECK(amqp_canonical(room, length, FRAME, DEPTH, again, sizeof again, &others) == AMQP_OK);
+    CHECK(close_in(&top, &body) == AMQPV_OK && top.written.length == length);
+    CHECK(amqpv_canonical(room, length, FRAME, DEPTH, again, sizeof again, &others) == AMQPV_OK);
     CHECK(others == count && memcmp(again, canonical, count) == 0);
 }
 

@@ -8,7 +8,7 @@
 #define CHECK_H
 
 #define _DEFAULT_SOURCE
-#include "amqp.h"
+#include "amqp_values.h"
 
 #include <inttypes.h>
 #include <stdio.h>
@@ -71,15 +71,15 @@ static inline uint8_t *pages_between(size_t count) {
     return pages + page_size;
 }
 
-static inline int is_inside(amqp_span span, size_t length) {
+static inline int is_inside(amqpv_span span, size_t length) {
     return span.offset <= length && span.length <= length - span.offset;
 }
 
 static inline int is_container(uint8_t tag) {
-    return tag == AMQP_ARRAY || tag == AMQP_TABLE;
+    return tag == AMQPV_ARRAY || tag == AMQPV_TABLE;
 }
 
-static const uint8_t tags[] = {AMQP_TABLE, AMQP_ARRAY, AMQP_LONG_STRING, 0, 255};
+static const uint8_t tags[] = {AMQPV_TABLE, AMQPV_ARRAY, AMQPV_LONG_STRING, 0, 255};
 
 /* The number i below `small`, and from there on one of six large ones. */
 static inline size_t number(size_t i, size_t small) {
@@ -142,21 +142,21 @@ static inline int32_t write_to(way by, slice given, size_t buffer_length, size_t
     memset(buffer_start, FILLED, (size_t)(buffer_end - buffer_start));
     *count = 77;
     uint64_t before = requests;
-    int32_t answer = by.call == CANONICAL ? amqp_canonical(bytes, length, by.frame, by.depth, buffer, buffer_length, count)
-                     : by.call == TO_JSON ? amqp_to_json(bytes, length, by.frame, by.depth, buffer, buffer_length, count)
-                                          : amqp_from_json(bytes, length, by.nesting, buffer, buffer_length, count);
+    int32_t answer = by.call == CANONICAL ? amqpv_canonical(bytes, length, by.frame, by.depth, buffer, buffer_length, count)
+                     : by.call == TO_JSON ? amqpv_to_json(bytes, length, by.frame, by.depth, buffer, buffer_length, count)
+                                          : amqpv_from_json(bytes, length, by.nesting, buffer, buffer_length, count);
     calls++;
     CHECK(memcmp(bytes, given.at, length) == 0);
-    size_t written = answer == AMQP_OK ? *count : 0;
-    CHECK(written <= buffer_length && (answer != AMQP_OK || written > 0));
+    size_t written = answer == AMQPV_OK ? *count : 0;
+    CHECK(written <= buffer_length && (answer != AMQPV_OK || written > 0));
     for (uint8_t *it = buffer_start; it < buffer_end; it++) {
         CHECK(*it == FILLED || (it >= buffer && it < buffer + written));
     }
-    CHECK((answer == AMQP_OK || answer == AMQP_MORE || answer == AMQP_NO_ROOM) == (*count > 0));
-    CHECK(answer != AMQP_NO_ROOM || *count > buffer_length);
-    CHECK(answer != AMQP_NO_MEMORY || requests > before);
-    CHECK(answer != AMQP_INVALID && (by.call == FROM_JSON || answer > AMQP_NOT_JSON));
-    CHECK(by.call != FROM_JSON || answer == AMQP_OK || answer <= AMQP_NO_MEMORY);
+    CHECK((answer == AMQPV_OK || answer == AMQPV_MORE || answer == AMQPV_NO_ROOM) == (*count > 0));
+    CHECK(answer != AMQPV_NO_ROOM || *count > buffer_length);
+    CHECK(answer != AMQPV_NO_MEMORY || requests > before);
+    CHECK(answer != AMQPV_INVALID && (by.call == FROM_JSON || answer > AMQPV_NOT_JSON));
+    CHECK(by.call != FROM_JSON || answer == AMQPV_OK || answer <= AMQPV_NO_MEMORY);
     CHECK(blocks == 0);
     return answer;
 }
@@ -181,10 +181,10 @@ static inline void try_memory(way by, slice given, size_t needed, uint64_t step)
         int32_t answer = write_to(by, given, needed, &count);
         failing = 0;
         if (requests - before < nth) {
-            CHECK(answer == AMQP_OK && count == needed);
+            CHECK(answer == AMQPV_OK && count == needed);
             break;
         }
-        CHECK(answer == AMQP_NO_MEMORY || answer == AMQP_OK);
+        CHECK(answer == AMQPV_NO_MEMORY || answer == AMQPV_OK);
     }
 }
 
@@ -195,8 +195,8 @@ static inline void try_buffers(way by, slice given, slice wanted) {
     for (size_t n = 0; n <= needed + 1; n++) {
         uint64_t before = requests;
         int32_t answer = write_to(by, given, n, &count);
-        CHECK(count == needed && answer == (n < needed ? AMQP_NO_ROOM : AMQP_OK));
-        CHECK(answer != AMQP_OK || is_in_buffer(n, wanted));
+        CHECK(count == needed && answer == (n < needed ? AMQPV_NO_ROOM : AMQPV_OK));
+        CHECK(answer != AMQPV_OK || is_in_buffer(n, wanted));
         CHECK(by.call != CANONICAL || (requests == before) == is_canonical);
     }
     try_memory(by, given, needed, 1);

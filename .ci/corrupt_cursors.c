@@ -1,7 +1,7 @@
 /*
- * Tries the calls of include/amqp.h with cursors and entries that were corrupted, over bytes with their
+ * Tries the calls of include/amqp_values.h with cursors and entries that were corrupted, over bytes with their
  * end and with their start at a page's. Of each result it checks what the header states: what is returned
- * is inside the bytes, content is all after a length, a step goes on, a look-up finds what steps find, what isn't AMQP_OK leaves the
+ * is inside the bytes, content is all after a length, a step goes on, a look-up finds what steps find, what isn't AMQPV_OK leaves the
  * entry and the cursor unchanged, and nothing but the structs is written. A table without its type tag is
  * read, measured and searched for problems as after its type tag.
  *
@@ -12,7 +12,7 @@
 
 static uint8_t *page;
 
-static void check_entry(const amqp_entry *entry, size_t length) {
+static void check_entry(const amqpv_entry *entry, size_t length) {
     CHECK(is_inside(entry->key, length) && is_inside(entry->value, length) && is_inside(entry->content, length));
     CHECK(entry->value.length > 0);
     CHECK(memchr("tbBsuIilfdDSxAFTV", entry->tag, 17) != NULL);
@@ -26,34 +26,34 @@ static void check_entry(const amqp_entry *entry, size_t length) {
 /* An entry and a cursor between bytes that no call may write. */
 typedef struct held {
     uint64_t before;
-    amqp_entry entry;
+    amqpv_entry entry;
     uint64_t between;
-    amqp_cursor cursor;
+    amqpv_cursor cursor;
     uint64_t behind;
 } held;
 
-static held fresh(amqp_cursor cursor) {
+static held fresh(amqpv_cursor cursor) {
     held it;
     memset(&it, 0x5a, sizeof it);
     it.cursor = cursor;
     return it;
 }
 
-/* After a call nothing else is written, and nothing at all if it isn't AMQP_OK. */
+/* After a call nothing else is written, and nothing at all if it isn't AMQPV_OK. */
 static void check_rest(const held *new, const held *old, int32_t answer) {
     calls++;
     CHECK(new->before == old->before && new->between == old->between && new->behind == old->behind);
-    if (answer != AMQP_OK) {
+    if (answer != AMQPV_OK) {
         CHECK(memcmp(&new->entry, &old->entry, sizeof old->entry) == 0);
         CHECK(memcmp(&new->cursor, &old->cursor, sizeof old->cursor) == 0);
     }
 }
 
-static int is_same(amqp_span one, amqp_span other) {
+static int is_same(amqpv_span one, amqpv_span other) {
     return one.offset == other.offset && one.length == other.length;
 }
 
-static int is_same_entry(const amqp_entry *one, const amqp_entry *other) {
+static int is_same_entry(const amqpv_entry *one, const amqpv_entry *other) {
     return is_same(one->key, other->key) && is_same(one->value, other->value) && is_same(one->content, other->content)
            && one->bits == other->bits && one->tag == other->tag && one->scale == other->scale;
 }
@@ -66,10 +66,10 @@ static const uint8_t key[] = "a";
 typedef struct seen {
     int32_t end;
     size_t counts[KEYS];
-    amqp_entry first[KEYS], last[KEYS];
+    amqpv_entry first[KEYS], last[KEYS];
 } seen;
 
-static void see(seen *seen, const uint8_t *bytes, const amqp_entry *entry) {
+static void see(seen *seen, const uint8_t *bytes, const amqpv_entry *entry) {
     for (size_t n = 0; n < KEYS; n++) {
         if (entry->key.length == n && memcmp(bytes + entry->key.offset, key, n) == 0) {
             seen->last[n] = *entry;
@@ -81,17 +81,17 @@ static void see(seen *seen, const uint8_t *bytes, const amqp_entry *entry) {
 }
 
 /* Steps to the end by the cursor. */
-static seen walk(const uint8_t *bytes, size_t length, amqp_cursor cursor) {
+static seen walk(const uint8_t *bytes, size_t length, amqpv_cursor cursor) {
     int is_valid = is_inside(cursor.left, length) && is_container(cursor.tag);
     held it = fresh(cursor);
     seen seen = {0};
     for (size_t steps = 0;; steps++) {
         held old = it;
-        int32_t answer = amqp_next(bytes, length, &it.cursor, &it.entry);
+        int32_t answer = amqpv_next(bytes, length, &it.cursor, &it.entry);
         check_rest(&it, &old, answer);
-        CHECK(is_valid == (answer != AMQP_INVALID));
-        if (answer != AMQP_OK) {
-            CHECK(answer == AMQP_INVALID || answer == AMQP_MALFORMED || (answer == AMQP_NONE && it.cursor.left.length == 0));
+        CHECK(is_valid == (answer != AMQPV_INVALID));
+        if (answer != AMQPV_OK) {
+            CHECK(answer == AMQPV_INVALID || answer == AMQPV_MALFORMED || (answer == AMQPV_NONE && it.cursor.left.length == 0));
             seen.end = answer;
             return seen;
         }
@@ -103,23 +103,23 @@ static seen walk(const uint8_t *bytes, size_t length, amqp_cursor cursor) {
 
         held in = fresh(cursor);
         held was = in;
-        answer = amqp_enter(bytes, length, &it.entry, &in.cursor);
+        answer = amqpv_enter(bytes, length, &it.entry, &in.cursor);
         check_rest(&in, &was, answer);
-        CHECK((answer == AMQP_OK) == is_container(it.entry.tag));
+        CHECK((answer == AMQPV_OK) == is_container(it.entry.tag));
     }
 }
 
 /* Looks keys up: what is found is the last entry that steps return, or the first. */
-static void find(const uint8_t *bytes, size_t length, amqp_cursor cursor, const seen *seen) {
+static void find(const uint8_t *bytes, size_t length, amqpv_cursor cursor, const seen *seen) {
     for (size_t i = 0; i < 2 * KEYS; i++) {
         size_t n = i / 2;
         held it = fresh(cursor), old = it;
-        int32_t answer = (i % 2 ? amqp_find_first : amqp_find)(bytes, length, &it.cursor, key, n, &it.entry);
+        int32_t answer = (i % 2 ? amqpv_find_first : amqpv_find)(bytes, length, &it.cursor, key, n, &it.entry);
         check_rest(&it, &old, answer);
         CHECK(memcmp(&it.cursor, &old.cursor, sizeof it.cursor) == 0);
-        int is_found = seen->counts[n] && (i % 2 || seen->end == AMQP_NONE);
-        CHECK(answer == (cursor.tag != AMQP_TABLE ? AMQP_INVALID : is_found ? AMQP_OK : seen->end));
-        if (answer == AMQP_OK) {
+        int is_found = seen->counts[n] && (i % 2 || seen->end == AMQPV_NONE);
+        CHECK(answer == (cursor.tag != AMQPV_TABLE ? AMQPV_INVALID : is_found ? AMQPV_OK : seen->end));
+        if (answer == AMQPV_OK) {
             check_entry(&it.entry, length);
             CHECK(is_same_entry(&it.entry, i % 2 ? &seen->first[n] : &seen->last[n]));
         }
@@ -127,53 +127,54 @@ static void find(const uint8_t *bytes, size_t length, amqp_cursor cursor, const 
 }
 
 /* What the calls for single steps return. */
-static int32_t step_by_step(const uint8_t *bytes, size_t length, amqp_entry at, const amqp_step *steps, size_t count,
-                            uint32_t equal_keys, amqp_entry *entry) {
-    for (const amqp_step *step = steps; step < steps + count; step++) {
-        amqp_cursor cursor;
+static int32_t step_by_step(const uint8_t *bytes, size_t length, amqpv_entry at, const amqpv_step *steps, size_t count,
+                            uint32_t equal_keys, amqpv_entry *entry) {
+    for (const amqpv_step *step = steps; step < steps + count; step++) {
+        amqpv_cursor cursor;
         if (!is_container(step->tag)) {
-            return AMQP_INVALID;
+            return AMQPV_BAD_TAG;
         }
         if (at.tag != step->tag) {
-            return AMQP_NONE;
+            return AMQPV_NONE;
         }
-        int32_t answer = amqp_enter(bytes, length, &at, &cursor);
-        if (answer == AMQP_OK && step->tag == AMQP_TABLE) {
-            answer = (equal_keys == AMQP_FIRST_KEY ? amqp_find_first : amqp_find)(bytes, length, &cursor, step->key,
+        int32_t answer = amqpv_enter(bytes, length, &at, &cursor);
+        if (answer == AMQPV_OK && step->tag == AMQPV_TABLE) {
+            answer = (equal_keys == AMQPV_FIRST_KEY ? amqpv_find_first : amqpv_find)(bytes, length, &cursor, step->key,
                                                                                   step->key_length, &at);
         } else {
-            for (size_t n = 0; answer == AMQP_OK && n <= step->index; n++) {
-                answer = amqp_next(bytes, length, &cursor, &at);
+            for (size_t n = 0; answer == AMQPV_OK && n <= step->index; n++) {
+                answer = amqpv_next(bytes, length, &cursor, &at);
             }
         }
-        if (answer != AMQP_OK) {
+        if (answer != AMQPV_OK) {
             return answer;
         }
     }
     *entry = at;
-    return AMQP_OK;
+    return AMQPV_OK;
 }
 
-static const amqp_step steps[] = {
-    AMQP_KEY("a"), AMQP_INDEX(0), AMQP_KEY("a"), AMQP_KEY(""), AMQP_INDEX(1), AMQP_INDEX(SIZE_MAX), {key, 1, 0, 'S'},
+static const amqpv_step steps[] = {
+    AMQPV_KEY("a"), AMQPV_INDEX(0), AMQPV_KEY("a"), AMQPV_KEY(""), AMQPV_INDEX(1), AMQPV_INDEX(SIZE_MAX), {key, 1, 0, 'S'},
 };
 static const struct path {
     size_t from, count;
 } paths[] = {{0, 0}, {0, 1}, {0, 2}, {0, 3}, {1, 2}, {3, 1}, {4, 1}, {5, 1}, {6, 1}};
 
 /* Looks paths up from a corrupted entry: what is found is what single steps find. */
-static void find_paths(const uint8_t *bytes, size_t length, amqp_entry from) {
+static void find_paths(const uint8_t *bytes, size_t length, amqpv_entry from) {
     int is_valid = is_inside(from.key, length) && is_inside(from.value, length) && is_inside(from.content, length);
     for (size_t i = 0; i < COUNT(paths) * 3; i++) {
         struct path path = paths[i / 3];
-        amqp_entry wanted;
+        amqpv_entry wanted;
         uint32_t equal_keys = i % 3 == 2 ? (uint32_t)random_number() | 2 : i % 3;
-        int32_t answer = is_valid && i % 3 != 2 ? step_by_step(bytes, length, from, steps + path.from, path.count, equal_keys, &wanted)
-                                                : AMQP_INVALID;
-        held it = fresh((amqp_cursor){{0, 0}, 0}), old = it;
-        CHECK(amqp_find_path(bytes, length, &from, steps + path.from, path.count, equal_keys, &it.entry) == answer);
+        int32_t answer = !is_valid    ? AMQPV_INVALID
+                         : i % 3 == 2 ? AMQPV_BAD_TAG
+                                      : step_by_step(bytes, length, from, steps + path.from, path.count, equal_keys, &wanted);
+        held it = fresh((amqpv_cursor){{0, 0}, 0}), old = it;
+        CHECK(amqpv_find_path(bytes, length, &from, steps + path.from, path.count, equal_keys, &it.entry) == answer);
         check_rest(&it, &old, answer);
-        CHECK(answer != AMQP_OK || is_same_entry(&it.entry, &wanted));
+        CHECK(answer != AMQPV_OK || is_same_entry(&it.entry, &wanted));
     }
 }
 
@@ -187,22 +188,22 @@ typedef struct untagged {
 /* Reads the table: what is returned is that of the value after its type tag, and of less by one byte. */
 static void read_table(const untagged *it) {
     size_t counts[4] = {77, 77, 77, 77};
-    amqp_measure measures[2];
-    amqp_entry tagged, old, entry;
+    amqpv_measure measures[2];
+    amqpv_entry tagged, old, entry;
     memset(measures, 0x5a, sizeof measures);
     memset(&entry, 0x5a, sizeof entry);
     old = entry;
-    int32_t answer = amqp_read(it->tagged, it->length + 1, 64, 3, counts);
-    CHECK(amqp_read_table(it->bytes, it->length, 64, 3, &entry, counts + 1) == answer);
-    CHECK(amqp_measure_table(it->bytes, it->length, 64, 3, measures, counts + 2) == answer);
-    CHECK(amqp_measure_value(it->tagged, it->length + 1, 64, 3, measures + 1, counts + 3) == answer);
+    int32_t answer = amqpv_read(it->tagged, it->length + 1, 64, 3, counts);
+    CHECK(amqpv_read_table(it->bytes, it->length, 64, 3, &entry, counts + 1) == answer);
+    CHECK(amqpv_measure_table(it->bytes, it->length, 64, 3, measures, counts + 2) == answer);
+    CHECK(amqpv_measure_value(it->tagged, it->length + 1, 64, 3, measures + 1, counts + 3) == answer);
     calls += 4;
-    CHECK(counts[1] == counts[0] - (answer == AMQP_OK) && counts[2] == counts[1] && counts[3] == counts[0]);
-    if (answer != AMQP_OK) {
+    CHECK(counts[1] == counts[0] - (answer == AMQPV_OK) && counts[2] == counts[1] && counts[3] == counts[0]);
+    if (answer != AMQPV_OK) {
         CHECK(memcmp(&entry, &old, sizeof old) == 0 && measures[0].length == measures[1].values);
         return;
     }
-    CHECK(amqp_first(it->tagged, it->length + 1, &tagged) == AMQP_OK && tagged.value.length == counts[0]);
+    CHECK(amqpv_first(it->tagged, it->length + 1, &tagged) == AMQPV_OK && tagged.value.length == counts[0]);
     tagged.value.length--;
     tagged.content.offset--;
     CHECK(is_same_entry(&entry, &tagged));
@@ -213,56 +214,56 @@ static void read_table(const untagged *it) {
 
 /* Finds the first problem: that of the value after its type tag, and before it one byte less. */
 static void find_problem(const untagged *it) {
-    amqp_problem tagged, problem, old;
+    amqpv_problem tagged, problem, old;
     memset(&tagged, 0x5a, sizeof tagged);
     problem = old = tagged;
-    int32_t answer = amqp_first_problem(it->tagged, it->length + 1, 64, 3, &tagged);
-    CHECK(amqp_first_problem_in_table(it->bytes, it->length, 64, 3, &problem) == answer);
+    int32_t answer = amqpv_first_problem(it->tagged, it->length + 1, 64, 3, &tagged);
+    CHECK(amqpv_first_problem_in_table(it->bytes, it->length, 64, 3, &problem) == answer);
     calls += 2;
-    CHECK(answer == AMQP_OK || (answer == AMQP_NONE && memcmp(&problem, &old, sizeof old) == 0));
-    if (answer == AMQP_OK) {
+    CHECK(answer == AMQPV_OK || (answer == AMQPV_NONE && memcmp(&problem, &old, sizeof old) == 0));
+    if (answer == AMQPV_OK) {
         CHECK(problem.offset == tagged.offset - (tagged.offset > 0) && problem.offset <= it->length);
-        CHECK(problem.kind == tagged.kind && 0 < problem.kind && problem.kind <= AMQP_PROBLEM_TOO_LARGE);
-        CHECK(problem.tag == tagged.tag && (problem.tag == 0 || problem.kind == AMQP_PROBLEM_UNKNOWN_TAG));
-        CHECK(problem.kind != AMQP_PROBLEM_UNKNOWN_TAG || it->bytes[problem.offset] == problem.tag);
+        CHECK(problem.kind == tagged.kind && 0 < problem.kind && problem.kind <= AMQPV_PROBLEM_TOO_LARGE);
+        CHECK(problem.tag == tagged.tag && (problem.tag == 0 || problem.kind == AMQPV_PROBLEM_UNKNOWN_TAG));
+        CHECK(problem.kind != AMQPV_PROBLEM_UNKNOWN_TAG || it->bytes[problem.offset] == problem.tag);
     }
 }
 
 /* Reads the value, and enters the container that a corrupted entry denotes. */
-static void front(const uint8_t *bytes, size_t length, amqp_cursor cursor) {
+static void front(const uint8_t *bytes, size_t length, amqpv_cursor cursor) {
     size_t count = 77;
-    int32_t answer = amqp_read(bytes, length, 64, 3, &count);
+    int32_t answer = amqpv_read(bytes, length, 64, 3, &count);
     calls++;
-    CHECK(answer != AMQP_OK || (0 < count && count <= length));
-    CHECK(answer != AMQP_MORE || count > 0);
-    CHECK(answer == AMQP_OK || answer == AMQP_MORE || count == 0);
+    CHECK(answer != AMQPV_OK || (0 < count && count <= length));
+    CHECK(answer != AMQPV_MORE || count > 0);
+    CHECK(answer == AMQPV_OK || answer == AMQPV_MORE || count == 0);
 
     held it = fresh(cursor);
     held old = it;
-    int32_t first = amqp_first(bytes, length, &it.entry);
+    int32_t first = amqpv_first(bytes, length, &it.entry);
     check_rest(&it, &old, first);
-    CHECK(answer != AMQP_OK || first == AMQP_OK);
-    if (first == AMQP_OK) {
+    CHECK(answer != AMQPV_OK || first == AMQPV_OK);
+    if (first == AMQPV_OK) {
         check_entry(&it.entry, length);
-        CHECK(it.entry.value.offset == 0 && (answer != AMQP_OK || it.entry.value.length == count));
+        CHECK(it.entry.value.offset == 0 && (answer != AMQPV_OK || it.entry.value.length == count));
     } else {
-        CHECK(first == AMQP_MORE || first == AMQP_UNKNOWN_TAG);
+        CHECK(first == AMQPV_MORE || first == AMQPV_UNKNOWN_TAG);
     }
 
-    amqp_entry corrupt = it.entry;
+    amqpv_entry corrupt = it.entry;
     corrupt.content = cursor.left;
     corrupt.tag = cursor.tag;
     old = it;
-    answer = amqp_enter(bytes, length, &corrupt, &it.cursor);
+    answer = amqpv_enter(bytes, length, &corrupt, &it.cursor);
     calls++;
     CHECK(it.before == old.before && it.between == old.between && it.behind == old.behind);
-    CHECK((answer == AMQP_OK) == (is_inside(cursor.left, length) && is_container(cursor.tag)));
+    CHECK((answer == AMQPV_OK) == (is_inside(cursor.left, length) && is_container(cursor.tag)));
 }
 
 /* Tries the bytes after the first, for which a table's type tag is taken. */
 static void try_untagged(slice bytes) {
     if (bytes.length > 0) {
-        untagged it = {.bytes = bytes.at + 1, .tagged = {AMQP_TABLE}, .length = bytes.length - 1};
+        untagged it = {.bytes = bytes.at + 1, .tagged = {AMQPV_TABLE}, .length = bytes.length - 1};
         memcpy(it.tagged + 1, it.bytes, it.length);
         read_table(&it);
         find_problem(&it);
@@ -270,16 +271,16 @@ static void try_untagged(slice bytes) {
 }
 
 static void try_cursor(slice bytes, size_t offset, size_t left, uint8_t tag) {
-    amqp_cursor cursor;
+    amqpv_cursor cursor;
     memset(&cursor, 0, sizeof cursor);
-    cursor.left = (amqp_span){offset, left};
+    cursor.left = (amqpv_span){offset, left};
     cursor.tag = tag;
     seen seen = walk(bytes.at, bytes.length, cursor);
     find(bytes.at, bytes.length, cursor, &seen);
     front(bytes.at, bytes.length, cursor);
-    find_paths(bytes.at, bytes.length, (amqp_entry){.content = cursor.left, .tag = tag});
-    find_paths(bytes.at, bytes.length, (amqp_entry){.key = cursor.left, .tag = tag});
-    find_paths(bytes.at, bytes.length, (amqp_entry){.value = cursor.left, .tag = tag});
+    find_paths(bytes.at, bytes.length, (amqpv_entry){.content = cursor.left, .tag = tag});
+    find_paths(bytes.at, bytes.length, (amqpv_entry){.key = cursor.left, .tag = tag});
+    find_paths(bytes.at, bytes.length, (amqpv_entry){.value = cursor.left, .tag = tag});
 }
 
 /* Tries every cursor of small numbers, and of some large ones. */

@@ -17,7 +17,7 @@ KIT_LINE = "rattle-kit-13f"
 # What each step needs besides the kit; `python3`, `cc` and `c++` can't be left out.
 ALWAYS = ("git", "python3", "cc", "c++")
 NEEDS = {
-    "docs": (), "test": (), "oracle": (), "show": (), "alloc-failures": (), "sizes": (), "c": ("nm",),
+    "docs": (), "test": (), "oracle": (), "show": (), "alloc-failures": (), "sizes": (), "c": ("nm", "pkg-config", "clang", "qemu-x86_64", "aarch64-linux-gnu-gcc"),
     "broker": (f"{BIN}/rabbitmq-server", "epmd", "amqp-publish", PYTHON), "mutants": (),
 }
 # The modules that the clients of .ci/broker need, and how many tables are sent in .ci/run and .ci/whole.

@@ -21,6 +21,15 @@ from crates import TOP, kit, said_by
 TEST_CRATES = ("test_values", "test_readers", "test_large")
 # The crates of the calls for C: those that don't allocate, and those that do.
 CALLS_FOR_C = ("amqp_c", "amqp_c_alloc")
+# What these are compiled for: a target, and the processor, of each target the one whose code every other runs.
+X86_64, AARCH64 = "x86_64-unknown-linux-gnu", "aarch64-unknown-linux-gnu"
+TARGETS = {X86_64: "x86-64", AARCH64: "generic"}
+# What compiles and links C for each, and makes archives.
+COMPILERS = {X86_64: ("cc", "ar"), AARCH64: ("aarch64-linux-gnu-gcc", "aarch64-linux-gnu-ar")}
+# What those that allocate ask for, over malloc, realloc and free.
+MALLOC = TOP / "crates/amqp_c_alloc/malloc.c"
+# The folders of a crate that its library is made of.
+SOURCES = ("src", "specs", "proofs")
 
 
 def copy_repository(to, without=()):
@@ -40,32 +49,49 @@ def is_up_to_date(built, crates, name, parts):
     return built.is_file() and all(it.stat().st_mtime <= built.stat().st_mtime for it in sources if it.is_file())
 
 
-def archive(crates, name):
+def archive(crates, name, target=X86_64):
     """The path of a crate's static library."""
-    return crates.folder(name) / f"out/lib{name}.a"
+    return crates.folder(name) / f"out/{target}/lib{name}.a"
 
 
-def build_archive(crates, name, is_built):
+def build_archive(crates, name, is_built, target=X86_64):
     """Builds a crate's static library, unless it is newer than what it is made of; one script at a time does so.
 
-    It proves the crate, or takes the libraries that `rt ci` has left.
+    It proves the crate, over libraries that it has proved first or, if is_built, over those that `rt ci` has left.
     """
-    folder, path = crates.folder(name), archive(crates, name)
-    path.parent.mkdir(exist_ok=True)
+    folder, path = crates.folder(name), archive(crates, name, target)
+    path.parent.mkdir(parents=True, exist_ok=True)
     lock = os.open(path.parent, os.O_RDONLY)
     try:
         fcntl.flock(lock, fcntl.LOCK_EX)
-        libraries = [crates.library(it) for it in crates.needed(name)[:-1]] if is_built else []
-        is_there = is_up_to_date(path, crates, name, ("src", "specs", "proofs"))
-        if is_there and all(it.exists() and it.stat().st_mtime <= path.stat().st_mtime for it in libraries):
+        libraries = [crates.library(it) for it in crates.needed(name)[:-1]]
+        if not is_built and not is_up_to_date(path, crates, name, SOURCES):
+            for it in crates.below[name]:
+                done = subprocess.run(["rt", "lib"], cwd=crates.folder(it), capture_output=True, text=True)
+                if done.returncode:
+                    return done
+        is_newer = lambda it: it.exists() and it.stat().st_mtime <= path.stat().st_mtime
+        if is_up_to_date(path, crates, name, SOURCES) and (not is_built or all(map(is_newer, libraries))):
             words = ["true"]
-        elif is_built:
-            words = [f"{kit()}/bin/rattle", "build", *crates.words(name), "--toolchain", f"{kit()}/toolchain", "-o", str(path)]
         else:
-            words = ["rt", "lib"]
+            how = ["--target", target, "--cpu", TARGETS[target], "--toolchain", f"{kit()}/toolchain", "-o", str(path)]
+            words = [f"{kit()}/bin/rattle", "build", *crates.words(name), *how]
         return subprocess.run(words, cwd=folder, capture_output=True, text=True)
     finally:
         os.close(lock)
+
+
+def shared_object(crates, folder, is_built):
+    """Builds the libraries of the calls for C, and a shared object of both in a folder; its path, and what went wrong."""
+    path = folder / "libamqp_values.so"
+    for name in CALLS_FOR_C:
+        done = build_archive(crates, name, is_built)
+        if done.returncode:
+            return path, f"lib{name}.a: {(done.stderr or done.stdout)[-1000:]}"
+    whole = ["-Wl,--whole-archive", *(archive(crates, it) for it in CALLS_FOR_C), "-Wl,--no-whole-archive"]
+    words = ["cc", "-shared", "-fPIC", "-O2", "-o", path, MALLOC, *whole]
+    done = subprocess.run([str(it) for it in words], capture_output=True, text=True)
+    return path, done.returncode and (done.stderr or "cc failed")[-1000:]
 
 
 def content(path):

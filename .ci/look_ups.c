@@ -18,13 +18,13 @@ static void write_length(uint8_t *to, size_t length) {
 }
 
 /* Writes a container's tag and length before its body at `at`, and returns its entry. */
-static amqp_entry tagged(uint8_t tag, size_t body, size_t *length) {
-    amqp_entry entry;
+static amqpv_entry tagged(uint8_t tag, size_t body, size_t *length) {
+    amqpv_entry entry;
     *length = body + 5;
     at -= 5;
     at[0] = tag;
     write_length(at + 1, body);
-    CHECK(amqp_first(at, *length, &entry) == AMQP_OK && entry.content.length == body);
+    CHECK(amqpv_first(at, *length, &entry) == AMQPV_OK && entry.content.length == body);
     calls++;
     return entry;
 }
@@ -35,10 +35,10 @@ static void new_body(size_t body) {
     at = pages_between(count) + count * (size_t)sysconf(_SC_PAGESIZE) - body;
 }
 
-static int32_t find(size_t length, const amqp_entry *from, const amqp_step *steps, size_t count, uint32_t equal_keys,
-                    amqp_entry *entry) {
+static int32_t find(size_t length, const amqpv_entry *from, const amqpv_step *steps, size_t count, uint32_t equal_keys,
+                    amqpv_entry *entry) {
     calls++;
-    return amqp_find_path(at, length, from, steps, count, equal_keys, entry);
+    return amqpv_find_path(at, length, from, steps, count, equal_keys, entry);
 }
 
 /* a: 0, a: 1, and so on: the first is 0, the last one less than there are. */
@@ -49,21 +49,21 @@ static void try_equal_keys(void) {
         write_length(at + 7 * n + 3, n);
     }
     size_t length;
-    amqp_entry table = tagged('F', MANY * 7, &length), entry;
-    amqp_cursor cursor;
-    const amqp_step key = AMQP_KEY("a"), other = AMQP_KEY("b");
-    CHECK(amqp_enter(at, length, &table, &cursor) == AMQP_OK);
-    CHECK(amqp_find_first(at, length, &cursor, key.key, 1, &entry) == AMQP_OK && entry.bits == 0);
-    CHECK(amqp_find(at, length, &cursor, key.key, 1, &entry) == AMQP_OK && entry.bits == MANY - 1);
-    CHECK(amqp_find_first(at, length, &cursor, other.key, 1, &entry) == AMQP_NONE);
+    amqpv_entry table = tagged('F', MANY * 7, &length), entry;
+    amqpv_cursor cursor;
+    const amqpv_step key = AMQPV_KEY("a"), other = AMQPV_KEY("b");
+    CHECK(amqpv_enter(at, length, &table, &cursor) == AMQPV_OK);
+    CHECK(amqpv_find_first(at, length, &cursor, key.key, 1, &entry) == AMQPV_OK && entry.bits == 0);
+    CHECK(amqpv_find(at, length, &cursor, key.key, 1, &entry) == AMQPV_OK && entry.bits == MANY - 1);
+    CHECK(amqpv_find_first(at, length, &cursor, other.key, 1, &entry) == AMQPV_NONE);
     calls += 4;
-    CHECK(find(length, &table, &key, 1, AMQP_FIRST_KEY, &entry) == AMQP_OK && entry.bits == 0);
-    CHECK(find(length, &table, &key, 1, AMQP_LAST_KEY, &entry) == AMQP_OK && entry.bits == MANY - 1);
-    CHECK(find(length, &table, &other, 1, AMQP_LAST_KEY, &entry) == AMQP_NONE);
+    CHECK(find(length, &table, &key, 1, AMQPV_FIRST_KEY, &entry) == AMQPV_OK && entry.bits == 0);
+    CHECK(find(length, &table, &key, 1, AMQPV_LAST_KEY, &entry) == AMQPV_OK && entry.bits == MANY - 1);
+    CHECK(find(length, &table, &other, 1, AMQPV_LAST_KEY, &entry) == AMQPV_NONE);
     at[length - 1 - 4] = 0; /* the last type tag */
-    CHECK(find(length, &table, &key, 1, AMQP_FIRST_KEY, &entry) == AMQP_OK && entry.bits == 0);
-    CHECK(find(length, &table, &key, 1, AMQP_LAST_KEY, &entry) == AMQP_MALFORMED);
-    CHECK(find(length, &table, &other, 1, AMQP_FIRST_KEY, &entry) == AMQP_MALFORMED);
+    CHECK(find(length, &table, &key, 1, AMQPV_FIRST_KEY, &entry) == AMQPV_OK && entry.bits == 0);
+    CHECK(find(length, &table, &key, 1, AMQPV_LAST_KEY, &entry) == AMQPV_MALFORMED);
+    CHECK(find(length, &table, &other, 1, AMQPV_FIRST_KEY, &entry) == AMQPV_MALFORMED);
 }
 
 /* 0, 1, and so on. */
@@ -74,34 +74,34 @@ static void try_indexes(void) {
         write_length(at + 5 * n + 1, n);
     }
     size_t length;
-    amqp_entry array = tagged('A', MANY * 5, &length), entry;
+    amqpv_entry array = tagged('A', MANY * 5, &length), entry;
     const size_t some[] = {0, 1, 255, 65536, MANY - 1}, none[] = {MANY, MANY + 1, (size_t)1 << 32, SIZE_MAX};
     for (size_t i = 0; i < COUNT(some); i++) {
-        const amqp_step step = AMQP_INDEX(some[i]);
-        CHECK(find(length, &array, &step, 1, AMQP_FIRST_KEY, &entry) == AMQP_OK && entry.bits == some[i]);
+        const amqpv_step step = AMQPV_INDEX(some[i]);
+        CHECK(find(length, &array, &step, 1, AMQPV_FIRST_KEY, &entry) == AMQPV_OK && entry.bits == some[i]);
         CHECK(entry.key.length == 0 && entry.value.offset == 5 + 5 * some[i] && entry.value.length == 5);
     }
     for (size_t i = 0; i < COUNT(none); i++) {
-        const amqp_step step = AMQP_INDEX(none[i]);
-        CHECK(find(length, &array, &step, 1, AMQP_LAST_KEY, &entry) == AMQP_NONE);
+        const amqpv_step step = AMQPV_INDEX(none[i]);
+        CHECK(find(length, &array, &step, 1, AMQPV_LAST_KEY, &entry) == AMQPV_NONE);
     }
 }
 
 /* [[[..[]..]]] */
 static void try_levels(void) {
-    static amqp_step steps[LEVELS + 1];
+    static amqpv_step steps[LEVELS + 1];
     new_body(LEVELS * 5);
     for (size_t n = 0; n < LEVELS; n++) {
-        steps[n] = (amqp_step)AMQP_INDEX(0);
+        steps[n] = (amqpv_step)AMQPV_INDEX(0);
         at[5 * n] = 'A';
         write_length(at + 5 * n + 1, 5 * (LEVELS - 1 - n));
     }
-    steps[LEVELS] = (amqp_step)AMQP_INDEX(0);
+    steps[LEVELS] = (amqpv_step)AMQPV_INDEX(0);
     size_t length;
-    amqp_entry array = tagged('A', LEVELS * 5, &length), entry;
-    CHECK(find(length, &array, steps, LEVELS, AMQP_LAST_KEY, &entry) == AMQP_OK);
-    CHECK(entry.tag == AMQP_ARRAY && entry.content.length == 0 && entry.value.offset == LEVELS * 5);
-    CHECK(find(length, &array, steps, LEVELS + 1, AMQP_LAST_KEY, &entry) == AMQP_NONE);
+    amqpv_entry array = tagged('A', LEVELS * 5, &length), entry;
+    CHECK(find(length, &array, steps, LEVELS, AMQPV_LAST_KEY, &entry) == AMQPV_OK);
+    CHECK(entry.tag == AMQPV_ARRAY && entry.content.length == 0 && entry.value.offset == LEVELS * 5);
+    CHECK(find(length, &array, steps, LEVELS + 1, AMQPV_LAST_KEY, &entry) == AMQPV_NONE);
 }
 
 static const uint8_t *placed(slice given) {
@@ -116,41 +116,41 @@ static const struct {
     int32_t answer;
     size_t count, values, levels;
 } tables[] = {
-    {SLICE("\0\0\0\0"), 5, 1, AMQP_OK, 4, 1, 1},
-    {SLICE("\0\0\0\0"), 4, 1, AMQP_TOO_LARGE, 0, 0, 0},
-    {SLICE("\0\0\0\0"), 5, 0, AMQP_MALFORMED, 0, 0, 0},
-    {SLICE(""), 64, 1, AMQP_MORE, 4, 0, 0},
-    {SLICE("\0\0\0"), 64, 1, AMQP_MORE, 1, 0, 0},
-    {SLICE("\0\0\0\3\1a"), 64, 1, AMQP_MORE, 1, 0, 0},
-    {SLICE("\377\377\377\377"), UINT32_MAX, 1, AMQP_TOO_LARGE, 0, 0, 0},
-    {SLICE("\0\0\0\3\1aVF"), 8, 1, AMQP_OK, 7, 2, 1},
-    {SLICE("\0\0\0\6\1aV\1aV"), 64, 1, AMQP_OK, 10, 3, 1},
-    {SLICE("\0\0\0\3\1aF"), 64, 9, AMQP_MALFORMED, 0, 0, 0},
-    {SLICE("\0\0\0\3\1a\0"), 64, 9, AMQP_MALFORMED, 0, 0, 0},
-    {SLICE("\0\0\0\3\1\377V"), 64, 9, AMQP_MALFORMED, 0, 0, 0},
-    {SLICE("\0\0\0\7\1aF\0\0\0\0"), 64, 1, AMQP_MALFORMED, 0, 0, 0},
-    {SLICE("\0\0\0\7\1aF\0\0\0\0"), 64, 2, AMQP_OK, 11, 2, 2},
-    {SLICE("\0\0\0\11\1aA\0\0\0\2VV"), 64, 2, AMQP_OK, 13, 4, 2},
+    {SLICE("\0\0\0\0"), 5, 1, AMQPV_OK, 4, 1, 1},
+    {SLICE("\0\0\0\0"), 4, 1, AMQPV_TOO_LARGE, 0, 0, 0},
+    {SLICE("\0\0\0\0"), 5, 0, AMQPV_MALFORMED, 0, 0, 0},
+    {SLICE(""), 64, 1, AMQPV_MORE, 4, 0, 0},
+    {SLICE("\0\0\0"), 64, 1, AMQPV_MORE, 1, 0, 0},
+    {SLICE("\0\0\0\3\1a"), 64, 1, AMQPV_MORE, 1, 0, 0},
+    {SLICE("\377\377\377\377"), UINT32_MAX, 1, AMQPV_TOO_LARGE, 0, 0, 0},
+    {SLICE("\0\0\0\3\1aVF"), 8, 1, AMQPV_OK, 7, 2, 1},
+    {SLICE("\0\0\0\6\1aV\1aV"), 64, 1, AMQPV_OK, 10, 3, 1},
+    {SLICE("\0\0\0\3\1aF"), 64, 9, AMQPV_MALFORMED, 0, 0, 0},
+    {SLICE("\0\0\0\3\1a\0"), 64, 9, AMQPV_MALFORMED, 0, 0, 0},
+    {SLICE("\0\0\0\3\1\377V"), 64, 9, AMQPV_MALFORMED, 0, 0, 0},
+    {SLICE("\0\0\0\7\1aF\0\0\0\0"), 64, 1, AMQPV_MALFORMED, 0, 0, 0},
+    {SLICE("\0\0\0\7\1aF\0\0\0\0"), 64, 2, AMQPV_OK, 11, 2, 2},
+    {SLICE("\0\0\0\11\1aA\0\0\0\2VV"), 64, 2, AMQPV_OK, 13, 4, 2},
 };
 
 static void try_tables(void) {
     for (size_t i = 0; i < COUNT(tables); i++) {
         size_t length = tables[i].bytes.length, counts[] = {77, 77};
         const uint8_t *bytes = placed(tables[i].bytes);
-        amqp_entry entry = {.tag = 'x', .bits = 7};
-        amqp_measure measure = {7, 8, 9};
-        CHECK(amqp_read_table(bytes, length, tables[i].frame, tables[i].depth, &entry, counts) == tables[i].answer);
-        CHECK(amqp_measure_table(bytes, length, tables[i].frame, tables[i].depth, &measure, counts + 1) == tables[i].answer);
+        amqpv_entry entry = {.tag = 'x', .bits = 7};
+        amqpv_measure measure = {7, 8, 9};
+        CHECK(amqpv_read_table(bytes, length, tables[i].frame, tables[i].depth, &entry, counts) == tables[i].answer);
+        CHECK(amqpv_measure_table(bytes, length, tables[i].frame, tables[i].depth, &measure, counts + 1) == tables[i].answer);
         calls += 2;
         CHECK(counts[0] == tables[i].count && counts[1] == counts[0]);
-        if (tables[i].answer != AMQP_OK) {
+        if (tables[i].answer != AMQPV_OK) {
             CHECK(entry.tag == 'x' && entry.bits == 7 && entry.value.length == 0);
             CHECK(measure.length == 7 && measure.values == 8 && measure.levels == 9);
             continue;
         }
         CHECK(entry.key.offset == 0 && entry.key.length == 0 && entry.value.offset == 0 && entry.value.length == counts[0]);
         CHECK(entry.content.offset == 4 && entry.content.length == counts[0] - 4);
-        CHECK(entry.tag == AMQP_TABLE && entry.bits == 0 && entry.scale == 0);
+        CHECK(entry.tag == AMQPV_TABLE && entry.bits == 0 && entry.scale == 0);
         CHECK(measure.length == counts[0] && measure.values == tables[i].values && measure.levels == tables[i].levels);
     }
 }
@@ -162,22 +162,22 @@ static void try_measures(void) {
         int32_t answer;
         size_t count, values, levels;
     } values[] = {
-        {SLICE("VV"), AMQP_OK, 1, 1, 0},
-        {SLICE("A\0\0\0\6VA\0\0\0\0"), AMQP_OK, 11, 3, 2},
-        {SLICE("S\0\0\0\2ab"), AMQP_OK, 7, 1, 0},
-        {SLICE(""), AMQP_MORE, 1, 0, 0},
-        {SLICE("z"), AMQP_UNKNOWN_TAG, 0, 0, 0},
-        {SLICE("A\0\0\0\1I"), AMQP_MALFORMED, 0, 0, 0},
-        {SLICE("A\0\0\0\5A\0\0\0\5"), AMQP_MALFORMED, 0, 0, 0},
-        {SLICE("S\0\0\1\0"), AMQP_TOO_LARGE, 0, 0, 0},
+        {SLICE("VV"), AMQPV_OK, 1, 1, 0},
+        {SLICE("A\0\0\0\6VA\0\0\0\0"), AMQPV_OK, 11, 3, 2},
+        {SLICE("S\0\0\0\2ab"), AMQPV_OK, 7, 1, 0},
+        {SLICE(""), AMQPV_MORE, 1, 0, 0},
+        {SLICE("z"), AMQPV_UNKNOWN_TAG, 0, 0, 0},
+        {SLICE("A\0\0\0\1I"), AMQPV_MALFORMED, 0, 0, 0},
+        {SLICE("A\0\0\0\5A\0\0\0\5"), AMQPV_MALFORMED, 0, 0, 0},
+        {SLICE("S\0\0\1\0"), AMQPV_TOO_LARGE, 0, 0, 0},
     };
     for (size_t i = 0; i < COUNT(values); i++) {
         size_t count = 77;
-        amqp_measure measure = {7, 8, 9};
-        CHECK(amqp_measure_value(placed(values[i].bytes), values[i].bytes.length, 64, 2, &measure, &count) == values[i].answer);
+        amqpv_measure measure = {7, 8, 9};
+        CHECK(amqpv_measure_value(placed(values[i].bytes), values[i].bytes.length, 64, 2, &measure, &count) == values[i].answer);
         calls++;
         CHECK(count == values[i].count);
-        if (values[i].answer == AMQP_OK) {
+        if (values[i].answer == AMQPV_OK) {
             CHECK(measure.length == count && measure.values == values[i].values && measure.levels == values[i].levels);
         } else {
             CHECK(measure.length == 7 && measure.values == 8 && measure.levels == 9);
@@ -195,18 +195,18 @@ static void try_problems(void) {
         {SLICE("V"), 0, 0, 0},
         {SLICE("F\0\0\0\3\1\377V"), 0, 0, 0},
         {SLICE("f\177\177\377\377"), 0, 0, 0},
-        {SLICE("F\0\0\0\5\1aU\0\0"), AMQP_PROBLEM_UNKNOWN_TAG, 'U', 7},
-        {SLICE("F\0\0\0\3\1a\0"), AMQP_PROBLEM_UNKNOWN_TAG, 0, 7},
-        {SLICE("f\177\200\0\0"), AMQP_PROBLEM_NOT_FINITE, 0, 0},
-        {SLICE("F\0\0\0\13\1ad\377\370\0\0\0\0\0\0"), AMQP_PROBLEM_NOT_FINITE, 0, 7},
-        {SLICE(""), AMQP_PROBLEM_CUT, 0, 0},
-        {SLICE("F\0\0\0\2\1a"), AMQP_PROBLEM_CUT, 0, 7},
-        {SLICE("F\0\0\0\6\1aV\1bI"), AMQP_PROBLEM_CUT, 0, 10},
-        {SLICE("F\0\0\0\1"), AMQP_PROBLEM_CUT, 0, 0},
-        {SLICE("F\0\0\0\5\1aV\2b"), AMQP_PROBLEM_KEY_CUT, 0, 8},
-        {SLICE("F\0\0\0\21\1aF\0\0\0\12\1bF\0\0\0\3\1cV"), AMQP_PROBLEM_TOO_DEEP, 0, 14},
-        {SLICE("x\0\0\0\100"), AMQP_PROBLEM_TOO_LARGE, 0, 0},
-        {SLICE("F\0\0\0\100"), AMQP_PROBLEM_TOO_LARGE, 0, 0},
+        {SLICE("F\0\0\0\5\1aU\0\0"), AMQPV_PROBLEM_UNKNOWN_TAG, 'U', 7},
+        {SLICE("F\0\0\0\3\1a\0"), AMQPV_PROBLEM_UNKNOWN_TAG, 0, 7},
+        {SLICE("f\177\200\0\0"), AMQPV_PROBLEM_NOT_FINITE, 0, 0},
+        {SLICE("F\0\0\0\13\1ad\377\370\0\0\0\0\0\0"), AMQPV_PROBLEM_NOT_FINITE, 0, 7},
+        {SLICE(""), AMQPV_PROBLEM_CUT, 0, 0},
+        {SLICE("F\0\0\0\2\1a"), AMQPV_PROBLEM_CUT, 0, 7},
+        {SLICE("F\0\0\0\6\1aV\1bI"), AMQPV_PROBLEM_CUT, 0, 10},
+        {SLICE("F\0\0\0\1"), AMQPV_PROBLEM_CUT, 0, 0},
+        {SLICE("F\0\0\0\5\1aV\2b"), AMQPV_PROBLEM_KEY_CUT, 0, 8},
+        {SLICE("F\0\0\0\21\1aF\0\0\0\12\1bF\0\0\0\3\1cV"), AMQPV_PROBLEM_TOO_DEEP, 0, 14},
+        {SLICE("x\0\0\0\100"), AMQPV_PROBLEM_TOO_LARGE, 0, 0},
+        {SLICE("F\0\0\0\100"), AMQPV_PROBLEM_TOO_LARGE, 0, 0},
     };
     for (size_t i = 0; i < 2 * COUNT(values); i++) {
         slice given = values[i / 2].bytes;
@@ -215,14 +215,14 @@ static void try_problems(void) {
             continue;
         }
         const uint8_t *bytes = placed((slice){given.at + untagged, given.length - untagged});
-        amqp_problem problem = {7, 8, 9};
-        int32_t answer = (untagged ? amqp_first_problem_in_table : amqp_first_problem)(bytes, given.length - untagged, 64, 2, &problem);
+        amqpv_problem problem = {7, 8, 9};
+        int32_t answer = (untagged ? amqpv_first_problem_in_table : amqpv_first_problem)(bytes, given.length - untagged, 64, 2, &problem);
         calls++;
         size_t offset = values[i / 2].offset;
         if (values[i / 2].kind == 0) {
-            CHECK(answer == AMQP_NONE && problem.offset == 7 && problem.kind == 8 && problem.tag == 9);
+            CHECK(answer == AMQPV_NONE && problem.offset == 7 && problem.kind == 8 && problem.tag == 9);
         } else {
-            CHECK(answer == AMQP_OK && problem.kind == values[i / 2].kind && problem.tag == values[i / 2].tag);
+            CHECK(answer == AMQPV_OK && problem.kind == values[i / 2].kind && problem.tag == values[i / 2].tag);
             CHECK(problem.offset == (offset > 0 ? offset - untagged : 0));
         }
     }
@@ -231,29 +231,29 @@ static void try_problems(void) {
 /* a: {b: 7, then a byte that is no pair}, and what follows; without the type tag the same a byte before. */
 static void try_malformed(void) {
     static const slice headers = SLICE("F\0\0\0\26\1aF\0\0\0\10\1bI\0\0\0\7z\1cA\0\0\0\0");
-    const amqp_step path[] = {AMQP_KEY("a"), AMQP_KEY("b")}, behind[] = {AMQP_KEY("c")}, other[] = {AMQP_KEY("a"), AMQP_KEY("x")};
-    amqp_entry table, entry;
+    const amqpv_step path[] = {AMQPV_KEY("a"), AMQPV_KEY("b")}, behind[] = {AMQPV_KEY("c")}, other[] = {AMQPV_KEY("a"), AMQPV_KEY("x")};
+    amqpv_entry table, entry;
     const uint8_t *bytes = placed(headers);
-    CHECK(amqp_first(bytes, headers.length, &table) == AMQP_OK);
-    CHECK(find(headers.length, &table, path, 1, AMQP_FIRST_KEY, &entry) == AMQP_OK && entry.tag == AMQP_TABLE);
+    CHECK(amqpv_first(bytes, headers.length, &table) == AMQPV_OK);
+    CHECK(find(headers.length, &table, path, 1, AMQPV_FIRST_KEY, &entry) == AMQPV_OK && entry.tag == AMQPV_TABLE);
     CHECK(entry.value.offset == 7 && entry.value.length == 13 && entry.content.offset == 12 && entry.content.length == 8);
-    CHECK(find(headers.length, &table, path, 2, AMQP_FIRST_KEY, &entry) == AMQP_OK);
+    CHECK(find(headers.length, &table, path, 2, AMQPV_FIRST_KEY, &entry) == AMQPV_OK);
     CHECK(entry.bits == 7 && entry.value.offset == 14 && entry.value.length == 5 && entry.content.length == 0);
-    CHECK(find(headers.length, &table, path, 2, AMQP_LAST_KEY, &entry) == AMQP_MALFORMED);
-    CHECK(find(headers.length, &table, other, 2, AMQP_FIRST_KEY, &entry) == AMQP_MALFORMED);
-    CHECK(find(headers.length, &table, behind, 1, AMQP_LAST_KEY, &entry) == AMQP_OK && entry.value.offset == 22);
+    CHECK(find(headers.length, &table, path, 2, AMQPV_LAST_KEY, &entry) == AMQPV_MALFORMED);
+    CHECK(find(headers.length, &table, other, 2, AMQPV_FIRST_KEY, &entry) == AMQPV_MALFORMED);
+    CHECK(find(headers.length, &table, behind, 1, AMQPV_LAST_KEY, &entry) == AMQPV_OK && entry.value.offset == 22);
 }
 
 /* x-death: [{count: 3}], as a content header has it. */
 static void try_content_header(void) {
     static const slice headers = SLICE("\0\0\0\41\7x-deathA\0\0\0\24F\0\0\0\17\5countl\0\0\0\0\0\0\0\3\316");
-    const amqp_step path[] = {AMQP_KEY("x-death"), AMQP_INDEX(0), AMQP_KEY("count")};
-    amqp_entry table, count;
+    const amqpv_step path[] = {AMQPV_KEY("x-death"), AMQPV_INDEX(0), AMQPV_KEY("count")};
+    amqpv_entry table, count;
     size_t taken;
-    CHECK(amqp_read_table(placed(headers), headers.length, 38, 3, &table, &taken) == AMQP_OK && taken == headers.length - 1);
+    CHECK(amqpv_read_table(placed(headers), headers.length, 38, 3, &table, &taken) == AMQPV_OK && taken == headers.length - 1);
     calls++;
-    CHECK(find(headers.length, &table, path, 3, AMQP_FIRST_KEY, &count) == AMQP_OK);
-    CHECK(count.tag == AMQP_LONG_LONG_INT && count.bits == 3 && count.value.offset == 28);
+    CHECK(find(headers.length, &table, path, 3, AMQPV_FIRST_KEY, &count) == AMQPV_OK);
+    CHECK(count.tag == AMQPV_LONG_LONG_INT && count.bits == 3 && count.value.offset == 28);
 }
 
 int main(void) {

@@ -1,5 +1,5 @@
 /*
- * Makes a call of include/amqp.h that recurses, on what standard input has: nested NAME DEPTH. It is made
+ * Makes a call of include/amqp_values.h that recurses, on what standard input has: nested NAME DEPTH. It is made
  * in a thread whose stack has as many bytes as this program's may have (RLIMIT_STACK), in pages after one
  * that can't be accessed. DEPTH is the limit on depth. Prints `done`, or which code was returned instead.
  * .ci/nesting.py has the inputs and the stacks.
@@ -13,8 +13,8 @@ static uint8_t given[16 << 20], buffer[1 << 20];
 static size_t length;
 static const char *name;
 static uint32_t depth;
-static int32_t answer = AMQP_INVALID;
-static amqp_problem problem;
+static int32_t answer = AMQPV_INVALID;
+static amqpv_problem problem;
 
 static int is_called(const char *other) {
     return strcmp(name, other) == 0;
@@ -22,34 +22,34 @@ static int is_called(const char *other) {
 
 /* What a search for a problem results in: none is the value that is searched for. */
 static int32_t found(int32_t code) {
-    return code == AMQP_NONE ? AMQP_OK : problem.kind == AMQP_PROBLEM_TOO_DEEP ? AMQP_MALFORMED : AMQP_INVALID;
+    return code == AMQPV_NONE ? AMQPV_OK : problem.kind == AMQPV_PROBLEM_TOO_DEEP ? AMQPV_MALFORMED : AMQPV_INVALID;
 }
 
 static void *make_call(void *unused) {
-    amqp_container top = {{0, 0}, AMQP_ARRAY};
-    amqp_entry entry;
-    amqp_measure measure;
+    amqpv_container top = {{0, 0}, AMQPV_ARRAY};
+    amqpv_entry entry;
+    amqpv_measure measure;
     size_t count;
-    if (is_called("amqp_read")) {
-        answer = amqp_read(given, length, UINT32_MAX, depth, &count);
-    } else if (is_called("amqp_read_table")) {
-        answer = amqp_read_table(given, length, UINT32_MAX, depth, &entry, &count);
-    } else if (is_called("amqp_measure_value")) {
-        answer = amqp_measure_value(given, length, UINT32_MAX, depth, &measure, &count);
-    } else if (is_called("amqp_measure_table")) {
-        answer = amqp_measure_table(given, length, UINT32_MAX, depth, &measure, &count);
-    } else if (is_called("amqp_first_problem")) {
-        answer = found(amqp_first_problem(given, length, UINT32_MAX, depth, &problem));
-    } else if (is_called("amqp_first_problem_in_table")) {
-        answer = found(amqp_first_problem_in_table(given, length, UINT32_MAX, depth, &problem));
-    } else if (is_called("amqp_put_value")) {
-        answer = amqp_put_value(buffer, sizeof buffer, &top, given, 0, given, length, UINT32_MAX, depth);
-    } else if (is_called("amqp_canonical")) {
-        answer = amqp_canonical(given, length, UINT32_MAX, depth, buffer, sizeof buffer, &count);
-    } else if (is_called("amqp_to_json")) {
-        answer = amqp_to_json(given, length, UINT32_MAX, depth, buffer, sizeof buffer, &count);
-    } else if (is_called("amqp_from_json")) {
-        answer = amqp_from_json(given, length, depth, buffer, sizeof buffer, &count);
+    if (is_called("amqpv_read")) {
+        answer = amqpv_read(given, length, UINT32_MAX, depth, &count);
+    } else if (is_called("amqpv_read_table")) {
+        answer = amqpv_read_table(given, length, UINT32_MAX, depth, &entry, &count);
+    } else if (is_called("amqpv_measure_value")) {
+        answer = amqpv_measure_value(given, length, UINT32_MAX, depth, &measure, &count);
+    } else if (is_called("amqpv_measure_table")) {
+        answer = amqpv_measure_table(given, length, UINT32_MAX, depth, &measure, &count);
+    } else if (is_called("amqpv_first_problem")) {
+        answer = found(amqpv_first_problem(given, length, UINT32_MAX, depth, &problem));
+    } else if (is_called("amqpv_first_problem_in_table")) {
+        answer = found(amqpv_first_problem_in_table(given, length, UINT32_MAX, depth, &problem));
+    } else if (is_called("amqpv_put_value")) {
+        answer = amqpv_put_value(buffer, sizeof buffer, &top, given, 0, given, length, UINT32_MAX, depth);
+    } else if (is_called("amqpv_canonical")) {
+        answer = amqpv_canonical(given, length, UINT32_MAX, depth, buffer, sizeof buffer, &count);
+    } else if (is_called("amqpv_to_json")) {
+        answer = amqpv_to_json(given, length, UINT32_MAX, depth, buffer, sizeof buffer, &count);
+    } else if (is_called("amqpv_from_json")) {
+        answer = amqpv_from_json(given, length, depth, buffer, sizeof buffer, &count);
     }
     return unused;
 }
@@ -67,6 +67,6 @@ int main(int words, char **word) {
     uint8_t *lowest = pages_between(pages);
     CHECK(pthread_attr_setstack(&how, lowest, pages * page_size) == 0);
     CHECK(pthread_create(&thread, &how, make_call, NULL) == 0 && pthread_join(thread, NULL) == 0);
-    puts(answer == AMQP_OK ? "done" : answer == AMQP_MALFORMED ? "AMQP_MALFORMED" : answer == AMQP_NOT_JSON ? "AMQP_NOT_JSON" : "another code");
+    puts(answer == AMQPV_OK ? "done" : answer == AMQPV_MALFORMED ? "AMQPV_MALFORMED" : answer == AMQPV_NOT_JSON ? "AMQPV_NOT_JSON" : "another code");
     return 0;
 }

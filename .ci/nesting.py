@@ -1,6 +1,8 @@
 #!/usr/bin/env python3
 """What nesting takes of the stack: the table of docs/PROMISES.md, and the runs by which .ci/sizes and .ci/c hold it.
 
+`recommended` runs the calls for C with the limits that the header recommends, on the stack that it names.
+
 By itself it measures: .ci/nesting.py PROGRAM NAME.. prints what a level takes of each call, and the call besides.
 """
 import functools
@@ -19,6 +21,8 @@ from printed import nested
 PAGE, HEADING = TOP / "docs/PROMISES.md", "## What nesting takes of the stack"
 # How many bytes an input has that no limit lets through, and the limit and the stack that it is read with.
 LONG, LIMIT, SMALL = 10_000_000, 64, 256 << 10
+# The small thread that the header's limits suit.
+HEADER, THREAD = TOP / "include/amqp_values.h", 64 << 10
 # The containers of an input, from the outermost on, again and again.
 FORMS = {"arrays in arrays": "A", "tables in tables": "F", "arrays and tables": "AF"}
 # The key in each table. It is a type's name, for which JSON needs a level more.
@@ -74,14 +78,14 @@ DEEP, DEEPER, OF_JSON, UNLIMITED = (LIMIT, 1000), (LIMIT, 10_000), (LIMIT, 127),
 # The calls that reject nothing: they look no deeper than the limit.
 STOPPING = ("warnings", "warnings_in_table")
 # What a call returns that rejects the nesting.
-REJECTED = re.compile(r"kind: Eof|TooDeep|invalid JSON at|refused|AMQP_MALFORMED|AMQP_NOT_JSON")
+REJECTED = re.compile(r"kind: Eof|TooDeep|invalid JSON at|refused|AMQPV_MALFORMED|AMQPV_NOT_JSON")
 # The calls of nested.c, the third on what has it read, write and compare.
 FOR_C = {
-    **{name: Call([name], encoding, DEEPER) for name in ("amqp_read", "amqp_measure_value", "amqp_first_problem", "amqp_put_value")},
-    **{name: Call([name], payload, DEEPER) for name in ("amqp_read_table", "amqp_measure_table", "amqp_first_problem_in_table")},
-    "amqp_to_json": Call(["amqp_to_json"], encoding, DEEP),
-    "amqp_canonical": Call(["amqp_canonical"], not_canonical, DEEP),
-    "amqp_from_json": Call(["amqp_from_json"], json_text, OF_JSON),
+    **{name: Call([name], encoding, DEEPER) for name in ("amqpv_read", "amqpv_measure_value", "amqpv_first_problem", "amqpv_put_value")},
+    **{name: Call([name], payload, DEEPER) for name in ("amqpv_read_table", "amqpv_measure_table", "amqpv_first_problem_in_table")},
+    "amqpv_to_json": Call(["amqpv_to_json"], encoding, DEEP),
+    "amqpv_canonical": Call(["amqpv_canonical"], not_canonical, DEEP),
+    "amqpv_from_json": Call(["amqpv_from_json"], json_text, OF_JSON),
 }
 MADE = {"encoding": encoding, "payload": payload, "values": values, "tree": type_tags, "document": brackets, "text": json_text}
 
@@ -92,7 +96,7 @@ def calls():
     for kind, make in MADE.items():
         body = re.search(rf"(?ms)^fn of_{kind}\(.*?^}}", text)[0]
         for name, arm in re.findall(r'(?m)^ {8}"(\S+)" => (.*(?:\n {9}.*)*)', body):
-            yield name, Call([kind, name], make, OF_JSON if kind == "text" else DEEP if "limits" in arm else UNLIMITED)
+            yield name, Call([kind, name], make, OF_JSON if kind == "text" else DEEPER if "limits" in arm else UNLIMITED)
 
 
 CALLS = dict(calls())
@@ -141,6 +145,35 @@ def judged(program, made):
             deep, stack = call.depths[-1], besides + call.depths[-1] * figure // 2
             halves = [answer(program, call, deep, call.make(form, deep), stack) for form in FORMS.values()]
             yield f"{name}, half of the stack", "it is enough" if "status -11" not in halves else ""
+
+
+def in_header():
+    """The header's limits, and what a call takes of the stack by it, besides and for each level."""
+    text = HEADER.read_text()
+    limits = {name: int(number) for name, number in re.findall(r"(AMQPV_\w*DEPTH) = (\d+)", text)}
+    rows = re.findall(r"(?m)^ \*\s+(\d+)(?: bytes)?\s+in (amqpv_.*)$", text)
+    figures = {name: int(figure) for figure, names in rows for name in re.findall(r"amqpv_\w+", names)}
+    return limits, int(re.search(r"The stack suffices: (\d+) KiB", text)[1]) << 10, figures
+
+
+def recommended(program):
+    """Yields the name of each check of the calls for C with the header's limits, and what was returned instead.
+
+    Each is done on the stack that the header names, which is at most 64 KiB, and what nests deeper is rejected on 64 KiB.
+    """
+    limits, besides, figures = in_header()
+    of_page = {name: figure for name, figure in table()[0].items() if name in FOR_C}
+    yield "the header's figures", figures != of_page and f"those of {PAGE.name} are {of_page}"
+    for name, call in FOR_C.items():
+        limit = limits["AMQPV_JSON_DEPTH" if "json" in name else "AMQPV_DEPTH"]
+        stack = besides + limit * figures.get(name, THREAD)
+        yield f"{name}, {limit} deep", stack > THREAD and f"by the header it takes {stack} bytes of stack"
+        for said, form in FORMS.items():
+            for size in (stack, THREAD):
+                got = answer(program, call, limit, call.make(form, limit), size)
+                yield f"{name}, {limit} {said} on {size} bytes of stack", "" if got == "done" else got
+            got = answer(program, call, limit, long_input(call.make, form), THREAD)
+            yield f"{name}, {LONG} bytes of {said} on {THREAD} bytes of stack", "" if REJECTED.search(got) else got or "nothing"
 
 
 def least(program, call, depth):

@@ -17,6 +17,8 @@ from crates import TOP
 # Tables as brokers and clients sent them, with their type tag: a name, and hexadecimal.
 CAPTURED = TOP / "examples/captured/tables.txt"
 FRAME, DEPTH = 2**20, 64
+# RabbitMQ's usual frame-max.
+FRAME_MAX = 2**17
 # Each type tag's type, and the width of its payload, or None if a length counts it.
 TYPES = {
     "t": ("Boolean", 1), "b": ("ShortShortInt", 1), "B": ("ShortShortUInt", 1), "s": ("ShortInt", 2), "U": ("ShortInt", 2),
@@ -415,40 +417,60 @@ def printed(data, asks_notes=False, subject="value"):
     return "".join(f"{line}\n" for line in [*lines, f"= {outcome(found)}"]), "", int(bool(found.failure))
 
 
-def printed_json(data, subject="value"):
-    """Of `amqp_show --json`, with `--table` or without it."""
+def on_a_line(data, subject, line_of):
+    """Of a form that has a line for a value, and messages for the rest."""
     found = Dissection(data, subject)
     if found.failure:
         said = [f"{found.failed()}; {outcome(found)}", *hints(data, subject)]
         return "", "".join(f'amqp_show: "-": {it}\n' for it in said), 1
-    value, rest = read(found.data)
-    said = f'amqp_show: "-": {following(found.data, found.end)} bytes follow the {subject}\n' if rest else ""
-    return f"{json_text(value)}\n", said, 0
+    follows = len(found.data) > found.end
+    said = f'amqp_show: "-": {following(found.data, found.end)} bytes follow the {subject}\n' if follows else ""
+    return f"{line_of(found)}\n", said, 0
+
+
+def printed_json(data, subject="value"):
+    """Of `amqp_show --json`, with `--table` or without it."""
+    return on_a_line(data, subject, lambda found: json_text(read(found.data)[0]))
+
+
+def measured(data, subject="value"):
+    """Of `amqp_show --measure`, with `--table` or without it."""
+    return on_a_line(data, subject, measures)
+
+
+def measures(found):
+    """How many bytes and values what was taken apart has, and how deep its containers nest."""
+    tags = [it for it in found.parts if it.kind == "tag"]
+    levels = max(it.level + (it.type in ("FieldArray", "FieldTable")) for it in tags)
+    return f"bytes {found.offset(found.end)}, values {len(tags)}, levels {levels}"
 
 
 def streamed(values):
-    """Of `amqp_show --stream --keep-going` on values and rejected ones, one after another: with `--tree --bytes`, and with `--json`."""
-    trees, texts, said, offset = "", "", "", 0
+    """Of `amqp_show --stream --keep-going` on values and rejected ones, one after another, by the form."""
+    trees, texts, lines_of_measures, said, offset = "", "", "", "", 0
     for data in values:
         shown, _, status = printed(data)
         *lines, last = shown.splitlines(keepends=True)
         trees += "".join(lines) + (f"= no value at {offset}: {last[2:]}" if status else f"= a value of {len(data)} bytes at {offset}\n")
         text, why, _ = printed_json(data)
         texts += text
+        lines_of_measures += measured(data)[0]
         said += why.replace('"-": ', f'"-": no value at {offset}: ', 1)
         offset += len(data)
-    return (trees, "", 1), (texts, said, 1)
+    return {"tree and parts": (trees, "", 1), "JSON": (texts, said, 1), "measures": (lines_of_measures, said, 1)}
 
 
-def checked(data, subject="value"):
-    """Of `amqp_show --check rabbitmq`, with `--table` or without it."""
+def checked(data, subject="value", frame_max=FRAME_MAX):
+    """Of `amqp_show --check rabbitmq`, with `--table` or without it, and with `--frame-max`."""
     left_out = int(subject == "table")
     data = b"F" * left_out + data
     try:
         if extent(data) > FRAME:
             raise Failure(0, f"the {subject} has more bytes than --frame allows")
         end = taken(data, 0, len(data), DEPTH)
-        return f"= RabbitMQ 3.10.8 takes a {subject} of {end - left_out} bytes, {following(data, end)} follow\n", "", 0
+        lines = [*warned(data, end, left_out, subject, frame_max)]
+        lines += [f"= RabbitMQ 3.10.8 takes a {subject} of {end - left_out} bytes, {following(data, end)} follow"]
+        return "".join(f"{it}\n" for it in lines), "", 0
     except Failure as failure:
         at, why, *_ = failure.args
         verdict = "not checked beyond the limits" if " allow" in why else "RabbitMQ 3.10.8 closes the connection"
@@ -479,6 +501,39 @@ def taken(data, at, end, depth, inside=""):
             at += 1 + data[at]
         at = taken(data, at, stop, depth - 1, tag)
     return stop
+
+
+def pairs(data, at):
+    """Yields each pair in a value that RabbitMQ takes: the offset of its table, its own, and its key."""
+    container, tag, stop = at, chr(data[at]), at + extent(data[at : at + 5])
+    at += 5
+    while tag in "AF" and at < stop:
+        if tag == "F":
+            key = data[at + 1 : at + 1 + data[at]]
+            yield container, at, key
+            at += 1 + len(key)
+        yield from pairs(data, at)
+        at += extent(data[at : at + 5])
+
+
+def is_utf8(key):
+    try:
+        return key.decode("utf-8") is not None
+    except UnicodeDecodeError:
+        return False
+
+
+def warned(data, end, left_out, subject, frame_max):
+    """A line for what is doubtful in a value that RabbitMQ takes: the first key of each kind, and its size."""
+    found, seen = [*pairs(data, 0)], set()
+    again = [(at, key) for table, at, key in found if (table, key) in seen or seen.add((table, key))]
+    others = [(at, key) for _, at, key in found if not is_utf8(key)]
+    ends = "comes again; this library takes the last, RabbitMQ the first", "isn't UTF-8; this library refuses it"
+    for places, why in zip((again, others), ends):
+        yield from (f"* offset {at - left_out}: the key {quoted(key)} {why}" for at, key in places[:1])
+    # A frame has what is after the type tag, and 8 bytes more.
+    if 0 < frame_max < end - 1 + 8:
+        yield f"* the {subject} takes a frame of more bytes than --frame-max allows"
 
 
 # Inputs

@@ -102,7 +102,7 @@ def oddity_of(tag, content):
 # What RabbitMQ makes of them
 
 
-# What it closes the connection for, by the kind in include/amqp.h, as printed.py words it.
+# What it closes the connection for, by the kind in include/amqp_values.h, as printed.py words it.
 PROBLEMS = {1: "RabbitMQ knows no", 2: "an infinity or a NaN", 3: "a value is expected", 4: "a key is expected"}
 ROWS = ["U", "unknown tag", "NaN f", "NaN d", "infinity f", "infinity d", "value cut", "key cut"]
 

@@ -31,7 +31,7 @@ IN_COMMENTS = {
 RIGHT = {
     # JSON, and what a terminal shows
     "text": ("crates/amqp_json/", "crates/amqp_c_alloc/", "crates/test_values/src/json_texts.rt", "crates/amqp_show/src/reasons.rt",
-        "crates/amqp_screen/s", "include/amqp.h", ".ci/buffers.c"),
+        "crates/amqp_screen/s", "include/amqp_values.h", ".ci/buffers.c"),
     "texts": ("crates/amqp_json/", "crates/amqp_c_alloc/", "crates/test_values/src/json_texts.rt", ".ci/buffers.c"),
     # the file of this name is about how values are encoded
     "Spelling": ("crates/amqp_grammar/proofs/Spelling.antt",),

@@ -2,8 +2,7 @@
  * Builds the arguments of a queue, a table that contains a table and an array, and prints its encoding
  * in hexadecimal. A number as argument is the buffer's capacity.
  */
-#include "amqp.h"
-#include "why.h"
+#include "amqp_values.h"
 
 #include <stdio.h>
 #include <stdlib.h>
@@ -12,37 +11,44 @@
 static uint8_t room[256];
 static size_t room_length = sizeof room;
 
-/* The first result that isn't AMQP_OK; then nothing more is appended. */
-static int32_t answer;
+/* The first result that isn't AMQPV_OK; then nothing more is appended. */
+static amqpv_result answer;
 
-static const uint8_t *bytes_of(const char *text) {
-    return (const uint8_t *)text;
-}
-
-static void put(amqp_container *into, const char *key, uint8_t tag, uint64_t bits) {
-    if (answer == AMQP_OK) {
-        answer = amqp_put(room, room_length, into, bytes_of(key), strlen(key), tag, bits, 0);
+static void put_int(amqpv_container *into, const char *key, uint8_t tag, int64_t number) {
+    if (answer == AMQPV_OK) {
+        answer = amqpv_put_int(room, room_length, into, key, strlen(key), tag, number);
     }
 }
 
-static void put_text(amqp_container *into, const char *key, const char *text) {
-    if (answer == AMQP_OK) {
-        answer = amqp_put_bytes(room, room_length, into, bytes_of(key), strlen(key), AMQP_LONG_STRING,
-                                bytes_of(text), strlen(text));
+static void put_bool(amqpv_container *into, const char *key, int truth) {
+    if (answer == AMQPV_OK) {
+        answer = amqpv_put_bool(room, room_length, into, key, strlen(key), truth);
     }
 }
 
-static amqp_container open_in(const amqp_container *into, const char *key, uint8_t tag) {
-    amqp_container body = {{0, 0}, tag};
-    if (answer == AMQP_OK) {
-        answer = amqp_open(room, room_length, into, bytes_of(key), strlen(key), tag, &body);
+static void put_void(amqpv_container *into, const char *key) {
+    if (answer == AMQPV_OK) {
+        answer = amqpv_put_void(room, room_length, into, key, strlen(key));
+    }
+}
+
+static void put_text(amqpv_container *into, const char *key, const char *text) {
+    if (answer == AMQPV_OK) {
+        answer = amqpv_put_string(room, room_length, into, key, strlen(key), text, strlen(text));
+    }
+}
+
+static amqpv_container open_in(const amqpv_container *into, const char *key, uint8_t tag) {
+    amqpv_container body = {{0, 0}, tag};
+    if (answer == AMQPV_OK) {
+        answer = amqpv_open(room, room_length, into, key, strlen(key), tag, &body);
     }
     return body;
 }
 
-static void close_in(amqp_container *into, const amqp_container *body) {
-    if (answer == AMQP_OK) {
-        answer = amqp_close(room, room_length, into, body);
+static void close_in(amqpv_container *into, const amqpv_container *body) {
+    if (answer == AMQPV_OK) {
+        answer = amqpv_close(room, room_length, into, body);
     }
 }
 
@@ -53,21 +59,21 @@ int main(int count, char **words) {
     if (room_length > sizeof room) {
         return 2;
     }
-    amqp_container top = {{0, 0}, AMQP_ARRAY};
-    amqp_container arguments = open_in(&top, "", AMQP_TABLE);
-    put(&arguments, "x-max-length", AMQP_LONG_INT, 10000);
+    amqpv_container top = {{0, 0}, AMQPV_ARRAY};
+    amqpv_container arguments = open_in(&top, "", AMQPV_TABLE);
+    put_int(&arguments, "x-max-length", AMQPV_LONG_INT, 10000);
     put_text(&arguments, "x-queue-type", "quorum");
-    amqp_container limits = open_in(&arguments, "limits", AMQP_TABLE);
-    put(&limits, "low", AMQP_SHORT_INT, (uint64_t)(int64_t)-5);
-    put(&limits, "strict", AMQP_BOOLEAN, 1);
+    amqpv_container limits = open_in(&arguments, "limits", AMQPV_TABLE);
+    put_int(&limits, "low", AMQPV_SHORT_INT, -5);
+    put_bool(&limits, "strict", 1);
     close_in(&arguments, &limits);
-    amqp_container hosts = open_in(&arguments, "hosts", AMQP_ARRAY);
+    amqpv_container hosts = open_in(&arguments, "hosts", AMQPV_ARRAY);
     put_text(&hosts, "", "a");
-    put(&hosts, "", AMQP_VOID, 0);
+    put_void(&hosts, "");
     close_in(&arguments, &hosts);
     close_in(&top, &arguments);
-    if (answer != AMQP_OK) {
-        printf("%s\n", why(answer));
+    if (answer != AMQPV_OK) {
+        printf("%s\n", amqpv_strerror(answer));
         return 1;
     }
     for (size_t i = 0; i < top.written.length; i++) {

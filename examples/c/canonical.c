@@ -2,16 +2,12 @@
  * Prints the canonical encoding of the value that is given in hexadecimal on standard input, in
  * hexadecimal. A number as argument is the buffer's capacity.
  */
-#include "amqp.h"
+#include "amqp_values.h"
 #include "hexadecimal.h"
-#include "why.h"
-
-#define FRAME 1048576
-#define DEPTH 64
 
 /* Never more bytes than the value was read from, so this capacity is enough. */
-static uint8_t bytes[FRAME];
-static uint8_t room[FRAME];
+static uint8_t bytes[AMQPV_FRAME];
+static uint8_t room[AMQPV_FRAME];
 
 int main(int count, char **words) {
     size_t room_length = count > 1 ? strtoul(words[1], NULL, 10) : sizeof room;
@@ -20,13 +16,13 @@ int main(int count, char **words) {
     if (room_length > sizeof room) {
         return 2;
     }
-    int32_t answer = amqp_canonical(bytes, length, FRAME, DEPTH, room, room_length, &written);
-    if (answer == AMQP_NO_ROOM) {
+    amqpv_result answer = amqpv_canonical(bytes, length, AMQPV_FRAME, AMQPV_DEPTH, room, room_length, &written);
+    if (answer == AMQPV_NO_ROOM) {
         printf("room for %zu bytes is needed\n", written);
         return 1;
     }
-    if (answer != AMQP_OK) {
-        printf("%s\n", why(answer));
+    if (answer != AMQPV_OK) {
+        printf("%s\n", amqpv_strerror(answer));
         return 1;
     }
     for (size_t i = 0; i < written; i++) {

@@ -3,25 +3,26 @@
  * `x-death` of its headers, a table as content headers have it, without its type tag, which is given in
  * hexadecimal on standard input.
  */
-#include "amqp.h"
+#include "amqp_values.h"
 #include "hexadecimal.h"
 
 #include <inttypes.h>
 
 /* The count of the first death, or -1 if the headers have none. `headers` begins with the table's length. */
 static int64_t deaths(const uint8_t *headers, size_t length) {
-    static const amqp_step path[] = {AMQP_KEY("x-death"), AMQP_INDEX(0), AMQP_KEY("count")};
+    static const amqpv_step path[] = {AMQPV_KEY("x-death"), AMQPV_INDEX(0), AMQPV_KEY("count")};
     size_t taken;
-    amqp_entry table, count;
-    if (amqp_read_table(headers, length, 1048576, 64, &table, &taken) == AMQP_OK
-        && amqp_find_path(headers, length, &table, path, 3, AMQP_FIRST_KEY, &count) == AMQP_OK
-        && count.tag == AMQP_LONG_LONG_INT) {
-        return (int64_t)count.bits;
+    int64_t number;
+    amqpv_entry table, count;
+    if (amqpv_read_table(headers, length, AMQPV_FRAME, AMQPV_DEPTH, &table, &taken) == AMQPV_OK
+        && amqpv_find_path(headers, length, &table, path, 3, AMQPV_FIRST_KEY, &count) == AMQPV_OK
+        && amqpv_as_int(&count, &number) == AMQPV_OK) {
+        return number;
     }
     return -1;
 }
 
-static uint8_t bytes[1048576];
+static uint8_t bytes[AMQPV_FRAME];
 
 int main(void) {
     size_t length = read_hexadecimal(stdin, bytes, sizeof bytes);

@@ -2,12 +2,11 @@
  * Finds a header of a message: prints the value at a key of a table, which is given in hexadecimal
  * on standard input. The entries before and after it aren't copied, and nothing is allocated.
  */
-#include "amqp.h"
+#include "amqp_values.h"
 #include "hexadecimal.h"
 #include "show.h"
-#include "why.h"
 
-static uint8_t bytes[1048576];
+static uint8_t bytes[AMQPV_FRAME];
 
 int main(int count, char **words) {
     if (count != 2) {
@@ -16,20 +15,20 @@ int main(int count, char **words) {
     }
     size_t length = read_hexadecimal(stdin, bytes, sizeof bytes);
     size_t taken;
-    amqp_entry entry;
-    amqp_cursor cursor;
-    int32_t answer = amqp_read(bytes, length, sizeof bytes, 64, &taken);
-    if (answer == AMQP_OK) {
-        answer = amqp_first(bytes, length, &entry);
+    amqpv_entry entry;
+    amqpv_cursor cursor;
+    amqpv_result answer = amqpv_read(bytes, length, AMQPV_FRAME, AMQPV_DEPTH, &taken);
+    if (answer == AMQPV_OK) {
+        answer = amqpv_first(bytes, length, &entry);
     }
-    if (answer == AMQP_OK) {
-        answer = amqp_enter(bytes, length, &entry, &cursor);
+    if (answer == AMQPV_OK) {
+        answer = amqpv_enter(bytes, length, &entry, &cursor);
     }
-    if (answer == AMQP_OK) {
-        answer = amqp_find(bytes, length, &cursor, (const uint8_t *)words[1], strlen(words[1]), &entry);
+    if (answer == AMQPV_OK) {
+        answer = amqpv_find(bytes, length, &cursor, words[1], strlen(words[1]), &entry);
     }
-    if (answer != AMQP_OK) {
-        printf("%s\n", why(answer));
+    if (answer != AMQPV_OK) {
+        printf("%s\n", amqpv_strerror(answer));
         return 1;
     }
     show_value(bytes, &entry);

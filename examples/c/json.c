@@ -4,41 +4,37 @@
  *
  * It asks for the capacity that is needed first, with a capacity of 0.
  */
-#include "amqp.h"
+#include "amqp_values.h"
 #include "hexadecimal.h"
-#include "why.h"
 
 #include <string.h>
 
-#define FRAME 1048576
-#define DEPTH 64
-
-static uint8_t input[FRAME];
+static uint8_t input[AMQPV_FRAME];
 static size_t input_length;
 
-static int32_t print_json(uint8_t *room, size_t room_length, size_t *count) {
-    return amqp_to_json(input, input_length, FRAME, DEPTH, room, room_length, count);
+static amqpv_result print_json(uint8_t *room, size_t room_length, size_t *count) {
+    return amqpv_to_json(input, input_length, AMQPV_FRAME, AMQPV_JSON_DEPTH, (char *)room, room_length, count);
 }
 
-static int32_t print_encoding(uint8_t *room, size_t room_length, size_t *count) {
-    return amqp_from_json(input, input_length, AMQP_JSON_NESTING, room, room_length, count);
+static amqpv_result print_encoding(uint8_t *room, size_t room_length, size_t *count) {
+    return amqpv_from_json((const char *)input, input_length, AMQPV_JSON_NESTING, room, room_length, count);
 }
 
 int main(int count, char **words) {
     int is_back = count > 1 && strcmp(words[1], "back") == 0;
-    int32_t (*write)(uint8_t *, size_t, size_t *) = is_back ? print_encoding : print_json;
+    amqpv_result (*write)(uint8_t *, size_t, size_t *) = is_back ? print_encoding : print_json;
     input_length = is_back ? fread(input, 1, sizeof input, stdin) : read_hexadecimal(stdin, input, sizeof input);
 
     uint8_t none;
     size_t needed;
     uint8_t *room = &none;
-    int32_t answer = write(room, 0, &needed);
-    if (answer == AMQP_NO_ROOM) {
-        room = malloc(needed);
-        answer = room == NULL ? AMQP_NO_MEMORY : write(room, needed, &needed);
+    amqpv_result answer = write(room, 0, &needed);
+    if (answer == AMQPV_NO_ROOM) {
+        room = (uint8_t *)malloc(needed);
+        answer = room == NULL ? AMQPV_NO_MEMORY : write(room, needed, &needed);
     }
-    if (answer != AMQP_OK) {
-        printf("%s\n", why(answer));
+    if (answer != AMQPV_OK) {
+        printf("%s\n", amqpv_strerror(answer));
         return 1;
     }
     for (size_t i = 0; i < needed; i++) {

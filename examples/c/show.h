@@ -2,7 +2,7 @@
 #ifndef SHOW_H
 #define SHOW_H
 
-#include "amqp.h"
+#include "amqp_values.h"
 
 #include <ctype.h>
 #include <inttypes.h>
@@ -10,7 +10,7 @@
 #include <string.h>
 
 /* Prints bytes in quotes, those that aren't printable ASCII as `\xNN`. */
-static void show_text(const uint8_t *bytes, amqp_span span) {
+static void show_text(const uint8_t *bytes, amqpv_span span) {
     putchar('"');
     for (size_t i = 0; i < span.length; i++) {
         uint8_t byte = bytes[span.offset + i];
@@ -37,28 +37,28 @@ static double double_of(uint64_t bits) {
 }
 
 /* Prints the type and the value, of a container only its type. */
-static void show_value(const uint8_t *bytes, const amqp_entry *entry) {
+static void show_value(const uint8_t *bytes, const amqpv_entry *entry) {
     switch (entry->tag) {
-    case AMQP_BOOLEAN: printf("Boolean %s", entry->bits ? "true" : "false"); break;
-    case AMQP_SHORT_SHORT_INT: printf("ShortShortInt %" PRId64, (int64_t)entry->bits); break;
-    case AMQP_SHORT_SHORT_UINT: printf("ShortShortUInt %" PRIu64, entry->bits); break;
-    case AMQP_SHORT_INT: printf("ShortInt %" PRId64, (int64_t)entry->bits); break;
-    case AMQP_SHORT_UINT: printf("ShortUInt %" PRIu64, entry->bits); break;
-    case AMQP_LONG_INT: printf("LongInt %" PRId64, (int64_t)entry->bits); break;
-    case AMQP_LONG_UINT: printf("LongUInt %" PRIu64, entry->bits); break;
-    case AMQP_LONG_LONG_INT: printf("LongLongInt %" PRId64, (int64_t)entry->bits); break;
-    case AMQP_FLOAT: printf("Float %g", float_of(entry->bits)); break;
-    case AMQP_DOUBLE: printf("Double %g", double_of(entry->bits)); break;
-    case AMQP_DECIMAL: printf("DecimalValue %" PRIu64 "e-%u", entry->bits, (unsigned)entry->scale); break;
-    case AMQP_TIMESTAMP: printf("Timestamp %" PRIu64, entry->bits); break;
-    case AMQP_VOID: printf("Void"); break;
-    case AMQP_ARRAY: printf("FieldArray"); break;
-    case AMQP_TABLE: printf("FieldTable"); break;
-    case AMQP_LONG_STRING:
+    case AMQPV_BOOLEAN: printf("Boolean %s", entry->bits ? "true" : "false"); break;
+    case AMQPV_SHORT_SHORT_INT: printf("ShortShortInt %" PRId64, (int64_t)entry->bits); break;
+    case AMQPV_SHORT_SHORT_UINT: printf("ShortShortUInt %" PRIu64, entry->bits); break;
+    case AMQPV_SHORT_INT: printf("ShortInt %" PRId64, (int64_t)entry->bits); break;
+    case AMQPV_SHORT_UINT: printf("ShortUInt %" PRIu64, entry->bits); break;
+    case AMQPV_LONG_INT: printf("LongInt %" PRId64, (int64_t)entry->bits); break;
+    case AMQPV_LONG_UINT: printf("LongUInt %" PRIu64, entry->bits); break;
+    case AMQPV_LONG_LONG_INT: printf("LongLongInt %" PRId64, (int64_t)entry->bits); break;
+    case AMQPV_FLOAT: printf("Float %g", float_of(entry->bits)); break;
+    case AMQPV_DOUBLE: printf("Double %g", double_of(entry->bits)); break;
+    case AMQPV_DECIMAL: printf("DecimalValue %" PRIu64 "e-%u", entry->bits, (unsigned)entry->scale); break;
+    case AMQPV_TIMESTAMP: printf("Timestamp %" PRIu64, entry->bits); break;
+    case AMQPV_VOID: printf("Void"); break;
+    case AMQPV_ARRAY: printf("FieldArray"); break;
+    case AMQPV_TABLE: printf("FieldTable"); break;
+    case AMQPV_LONG_STRING:
         printf("LongString ");
         show_text(bytes, entry->content);
         break;
-    case AMQP_BYTE_ARRAY:
+    case AMQPV_BYTE_ARRAY:
         printf("ByteArray ");
         show_text(bytes, entry->content);
         break;

@@ -1,14 +1,13 @@
 /*
- * Finds a header of a message that amqp_read may reject, since another key isn't UTF-8: prints what
- * amqp_read returns, how many bytes the headers have by their length, and the first value at a key.
+ * Finds a header of a message that amqpv_read may reject, since another key isn't UTF-8: prints what
+ * amqpv_read returns, how many bytes the headers have by their length, and the first value at a key.
  * They are a table, given in hexadecimal on standard input.
  */
-#include "amqp.h"
+#include "amqp_values.h"
 #include "hexadecimal.h"
 #include "show.h"
-#include "why.h"
 
-static uint8_t bytes[1048576];
+static uint8_t bytes[AMQPV_FRAME];
 
 int main(int count, char **words) {
     if (count != 2) {
@@ -17,19 +16,19 @@ int main(int count, char **words) {
     }
     size_t length = read_hexadecimal(stdin, bytes, sizeof bytes);
     size_t taken;
-    printf("read: %s\n", why(amqp_read(bytes, length, sizeof bytes, 64, &taken)));
-    amqp_entry headers, entry;
-    amqp_cursor cursor;
-    int32_t answer = amqp_first(bytes, length, &headers);
-    if (answer == AMQP_OK) {
+    printf("read: %s\n", amqpv_strerror(amqpv_read(bytes, length, AMQPV_FRAME, AMQPV_DEPTH, &taken)));
+    amqpv_entry headers, entry;
+    amqpv_cursor cursor;
+    amqpv_result answer = amqpv_first(bytes, length, &headers);
+    if (answer == AMQPV_OK) {
         printf("%zu bytes\n", headers.value.length);
-        answer = amqp_enter(bytes, length, &headers, &cursor);
+        answer = amqpv_enter(bytes, length, &headers, &cursor);
     }
-    if (answer == AMQP_OK) {
-        answer = amqp_find_first(bytes, length, &cursor, (const uint8_t *)words[1], strlen(words[1]), &entry);
+    if (answer == AMQPV_OK) {
+        answer = amqpv_find_first(bytes, length, &cursor, words[1], strlen(words[1]), &entry);
     }
-    if (answer != AMQP_OK) {
-        printf("%s\n", why(answer));
+    if (answer != AMQPV_OK) {
+        printf("%s\n", amqpv_strerror(answer));
         return 1;
     }
     show_value(bytes, &entry);

@@ -25,7 +25,7 @@ use Rattle.amqp_parsing.proofs.ParsingLaws.{wire_extent, wanted_more, wanted_wit
 use Rattle.amqp_in_place.specs.Bodies.{HasEntries}
 use Rattle.amqp_c.specs.declared.entry.Entry.{Entry}
 use Rattle.amqp_c_common.specs.declared.fault.Fault.{Fault}
-use Rattle.amqp_c_common.specs.declared.fault.Fault.TheVariants.{More, UnknownTag, Malformed, TooLarge, Invalid, OutOfMemory, NoRoom, NotJson, NoEncoding}
+use Rattle.amqp_c_common.specs.declared.fault.Fault.TheVariants.{More, UnknownTag, Malformed, TooLarge, Invalid, OutOfMemory, NoRoom, NotJson, NoEncoding, BadKey, BadTag, OutOfRange}
 use Rattle.amqp_c_common.specs.ReturnCodes.{fault_of}
 use Rattle.amqp_c.specs.CallResults.{HeaderFaults}
 use Rattle.amqp_c.specs.Entries.{HasNoNumber, Says, IsEntry, HoldsContent, IsTagged}
@@ -64,6 +64,9 @@ never_faulty s rest v OutOfMemory x y = y
 never_faulty s rest v (NoRoom n) x y = y
 never_faulty s rest v NotJson x y = y
 never_faulty s rest v NoEncoding x y = y
+never_faulty s rest v BadKey x y = y
+never_faulty s rest v BadTag x y = y
+never_faulty s rest v OutOfRange x y = y
 
 -- what is asked for is something
 some_lack : (s : List ℕ) (n : ℕ) → Outcome s (more n) → 0 < n
@@ -105,6 +108,9 @@ cut_header (c ∷ b) OutOfMemory x h = x
 cut_header (c ∷ b) (NoRoom n) x h = x
 cut_header (c ∷ b) NotJson x h = x
 cut_header (c ∷ b) NoEncoding x h = x
+cut_header (c ∷ b) BadKey x h = x
+cut_header (c ∷ b) BadTag x h = x
+cut_header (c ∷ b) OutOfRange x h = x
 
 -- ---- strings, byte arrays and containers
 

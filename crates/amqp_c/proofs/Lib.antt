@@ -8,6 +8,8 @@ mod NthFinding
 mod Paths
 mod Growing
 mod BuiltNumbers
+mod Tags
+mod EntryIntegers
 mod Opened
 mod Putting
 mod Rooms

@@ -14,7 +14,7 @@ use Rattle.amqp_c.specs.declared.path.EqualKeys.{EqualKeys}
 use Rattle.amqp_c.specs.declared.path.EqualKeys.TheVariants.{Last, First}
 use Rattle.amqp_c.specs.declared.path.Step.{Step}
 use Rattle.amqp_c_common.specs.declared.fault.Fault.{Fault}
-use Rattle.amqp_c_common.specs.declared.fault.Fault.TheVariants.{Invalid}
+use Rattle.amqp_c_common.specs.declared.fault.Fault.TheVariants.{Invalid, BadTag}
 use Rattle.amqp_c_common.specs.Spans.{part}
 use Rattle.amqp_c.specs.Entries.{IsEntry, Lies}
 use Rattle.amqp_c.specs.Steps.{array_tag, table_tag, contents, GivesFound, IsFoundIn}
@@ -93,12 +93,12 @@ by_inside s Last c key r looks = key_inside s c key r looks.entry
 by_inside s First c key r looks = key_inside s c key r looks.entry
 
 -- a step into neither, into another type, into an array and into a table
-pub leads_invalid : (s : List ℕ) (equal : EqualKeys) (step : Step) (e : Entry) → (step.tag ≡ table_tag → ⊥) → (step.tag ≡ array_tag → ⊥) → Leads s equal step e (Err Invalid)
-leads_invalid s equal step e no_table no_array = record {
+pub leads_bad_tag : (s : List ℕ) (equal : EqualKeys) (step : Step) (e : Entry) → (step.tag ≡ table_tag → ⊥) → (step.tag ≡ array_tag → ⊥) → Leads s equal step e (Err BadTag)
+leads_bad_tag s equal step e no_table no_array = record {
   keyed = λ to is. absurd (no_table to);
   indexed = λ to is. absurd (no_array to);
   elsewhere = λ ok other. absurd (by ok);
-  invalid = λ wrong. refl;
+  bad_tag = λ wrong. refl;
   inside = tt;
 }
   where
@@ -111,7 +111,7 @@ leads_none s equal step e ok other = record {
   keyed = λ to is. absurd (other (is ∙ sym to));
   indexed = λ to is. absurd (other (is ∙ sym to));
   elsewhere = λ ok other. refl;
-  invalid = λ wrong. absurd (wrong ok);
+  bad_tag = λ wrong. absurd (wrong ok);
   inside = tt;
 }
 
@@ -120,7 +120,7 @@ leads_nth s equal step e r to same looks = record {
   keyed = λ table is. absurd (omega (arith, table, to));
   indexed = λ to is. looks;
   elsewhere = λ ok other. absurd (other same);
-  invalid = λ wrong. absurd (wrong (inr to));
+  bad_tag = λ wrong. absurd (wrong (inr to));
   inside = nth_inside s (contents e) r looks.entry;
 }
 
@@ -129,7 +129,7 @@ leads_by s equal step e r to same looks = record {
   keyed = λ to is. looks;
   indexed = λ array is. absurd (omega (arith, array, to));
   elsewhere = λ ok other. absurd (other same);
-  invalid = λ wrong. absurd (wrong (inl to));
+  bad_tag = λ wrong. absurd (wrong (inl to));
   inside = by_inside s equal (contents e) step.key.now r looks;
 }
 

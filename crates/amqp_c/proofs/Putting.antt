@@ -2,28 +2,110 @@
 use Rattle.std.proofs.Common.{◌≡◌, ◌-◌, ◌<◌, ◌^◌, ℕ, List, [], ◌∷◌, ◌++◌, length, take, get_or, Result, Ok, Err, MatchResult, refl, sym, ap, ap₂, ◌∙◌, subst, arith, append-nil, length-append, inl, inr}
 use Rattle.std.specs.Int.{w32, to_be_bytes}
 use Rattle.std.proofs.lemmas.List.{take_at}
+use Rattle.amqp_types.specs.declared.amqp_type.AMQPType.TheVariants as amqp
 use Rattle.amqp_grammar.specs.Grammar.{Wire}
 use Rattle.amqp_grammar.specs.Outcomes.{found}
 use Rattle.amqp_grammar.specs.Texts.{text}
-use Rattle.amqp_grammar.specs.Values.{Tree, Scalar, scalar, long, octets}
+use Rattle.amqp_grammar.specs.Values.{Tree, Scalar, number, scalar, long, octets}
 use Rattle.amqp_grammar.proofs.GrammarLaws.{text_is_wire, front_within}
 use Rattle.amqp_parsing.specs.declared.limits.Limits.{Limits}
 use Rattle.amqp_parsing.specs.Limits.{Within}
 use Rattle.amqp_c_common.specs.declared.fault.Fault.{Fault}
-use Rattle.amqp_c_common.specs.declared.fault.Fault.TheVariants.{More, UnknownTag, Malformed, TooLarge, Invalid, OutOfMemory, NoRoom, NotJson, NoEncoding}
+use Rattle.amqp_c_common.specs.declared.fault.Fault.TheVariants.{More, UnknownTag, Malformed, TooLarge, Invalid, OutOfMemory, NoRoom, NotJson, NoEncoding, BadKey, BadTag, OutOfRange}
 use Rattle.amqp_c.specs.declared.container.Container.{Container}
-use Rattle.amqp_c.specs.Containers.{end_with, entry_of, up_to}
-use Rattle.amqp_c.specs.BuiltEntries.{Tells, IsTold, IsStringTag, IsOfBytes, IsFront}
-use Rattle.amqp_c.specs.Faults.{Refuses, NoOther}
+use Rattle.amqp_c.specs.Containers.{IsPlace, end_with, entry_of, up_to}
+use Rattle.amqp_c.specs.BuiltEntries.{Tells, IsScalarTag, IsSignedTag, IsUnsignedTag, IsTold, IsStringTag, IsOfBytes, IsFront}
+use Rattle.amqp_c.specs.Faults.{RefusesPlace, RefusesNumber, LacksRoomFor, NoOther, Refuses}
 use Rattle.amqp_c.specs.Growth.{IsAppended, IsPut}
 use Rattle.amqp_c.proofs.Growing.{part_grown, grows_by}
 
+-- a fault of the place is one of the call
+pub refused_place : (taken in_range : Type 0) (Is : List ℕ → Type 0) (Other : Fault → Type 0) (room k : List ℕ) (into : Container) (f : Fault)
+    → RefusesPlace (length room) into k f → Refuses taken in_range Is Other room into k f
+refused_place taken in_range Is Other room k into Invalid x = x
+refused_place taken in_range Is Other room k into BadKey x = x
+refused_place taken in_range Is Other room k into (More n) x = absurd x
+refused_place taken in_range Is Other room k into UnknownTag x = absurd x
+refused_place taken in_range Is Other room k into Malformed x = absurd x
+refused_place taken in_range Is Other room k into TooLarge x = absurd x
+refused_place taken in_range Is Other room k into OutOfMemory x = absurd x
+refused_place taken in_range Is Other room k into (NoRoom n) x = absurd x
+refused_place taken in_range Is Other room k into NotJson x = absurd x
+refused_place taken in_range Is Other room k into NoEncoding x = absurd x
+refused_place taken in_range Is Other room k into BadTag x = absurd x
+refused_place taken in_range Is Other room k into OutOfRange x = absurd x
+
+-- and so is a fault of a number
+pub refused_number : (tag bits scale : ℕ) (Is : List ℕ → Type 0) (Other : Fault → Type 0) (room k : List ℕ) (into : Container) (f : Fault)
+    → IsPlace (length room) into k → RefusesNumber tag bits scale f → Refuses (IsScalarTag tag) ((x : Scalar) × Tells tag bits scale x) Is Other room into k f
+refused_number tag bits scale Is Other room k into BadTag place x = (place, x)
+refused_number tag bits scale Is Other room k into OutOfRange place x = (place, x.0, λ t. x.1 t.0 t.1)
+refused_number tag bits scale Is Other room k into Invalid place x = absurd x
+refused_number tag bits scale Is Other room k into BadKey place x = absurd x
+refused_number tag bits scale Is Other room k into (More n) place x = absurd x
+refused_number tag bits scale Is Other room k into UnknownTag place x = absurd x
+refused_number tag bits scale Is Other room k into Malformed place x = absurd x
+refused_number tag bits scale Is Other room k into TooLarge place x = absurd x
+refused_number tag bits scale Is Other room k into OutOfMemory place x = absurd x
+refused_number tag bits scale Is Other room k into (NoRoom n) place x = absurd x
+refused_number tag bits scale Is Other room k into NotJson place x = absurd x
+refused_number tag bits scale Is Other room k into NoEncoding place x = absurd x
+
+-- the type tag of a signed number, and of an unsigned one, is of a value of fixed width
+pub signed_scalar : (tag : ℕ) → IsSignedTag tag → IsScalarTag tag
+signed_scalar tag (inl e) = (number amqp.ShortShortInt 0, omega arith, e)
+signed_scalar tag (inr (inl e)) = (number amqp.ShortInt 0, omega arith, e)
+signed_scalar tag (inr (inr (inl e))) = (number amqp.LongInt 0, omega arith, e)
+signed_scalar tag (inr (inr (inr e))) = (number amqp.LongLongInt 0, omega arith, e)
+
+pub unsigned_scalar : (tag : ℕ) → IsUnsignedTag tag → IsScalarTag tag
+unsigned_scalar tag (inl e) = (number amqp.ShortShortUInt 0, omega arith, e)
+unsigned_scalar tag (inr (inl e)) = (number amqp.ShortUInt 0, omega arith, e)
+unsigned_scalar tag (inr (inr e)) = (number amqp.LongUInt 0, omega arith, e)
+
+-- what is put is put by a call that takes only type tags of some kind, of which it is
+pub only : (kind : Type 0) (tag bits : ℕ) (old new k : List ℕ) (into : Container) (r : Result Container Fault) → kind → IsScalarTag tag
+    → MatchResult r (IsPut (IsTold tag bits 0) old into k new)
+    (Refuses (IsScalarTag tag) ((x : Scalar) × Tells tag bits 0 x) (λ u. (t : Tree) × IsTold tag bits 0 u t) NoOther old into k)
+    → MatchResult r (IsPut (λ u t. kind × IsTold tag bits 0 u t) old into k new)
+    (Refuses kind ((x : Scalar) × Tells tag bits 0 x) (λ u. (t : Tree) × kind × IsTold tag bits 0 u t) NoOther old into k)
+only kind tag bits old new k into (Ok grown) is scalar_tag p = record {
+  encoding = p.encoding;
+  meaning = p.meaning;
+  gives = (is, p.gives);
+  appended = p.appended;
+  reaches = p.reaches;
+  grows = p.grows;
+}
+only kind tag bits old new k into (Err Invalid) is scalar_tag x = x
+only kind tag bits old new k into (Err BadKey) is scalar_tag x = x
+only kind tag bits old new k into (Err BadTag) is scalar_tag x = absurd (x.1 scalar_tag)
+only kind tag bits old new k into (Err OutOfRange) is scalar_tag x = (x.0, is, x.2)
+only kind tag bits old new k into (Err (NoRoom n)) is scalar_tag (place, (w, (t, told), counts, few)) = (place, (w, (t, is, told), counts, few))
+only kind tag bits old new k into (Err (More n)) is scalar_tag x = x
+only kind tag bits old new k into (Err UnknownTag) is scalar_tag x = x
+only kind tag bits old new k into (Err Malformed) is scalar_tag x = x
+only kind tag bits old new k into (Err TooLarge) is scalar_tag x = x
+only kind tag bits old new k into (Err OutOfMemory) is scalar_tag x = x
+only kind tag bits old new k into (Err NotJson) is scalar_tag x = x
+only kind tag bits old new k into (Err NoEncoding) is scalar_tag x = x
+
+pub only_same : (kind : Type 0) (tag bits given : ℕ) (old new k : List ℕ) (into : Container) (r : Result Container Fault) → given ≡ bits → kind → IsScalarTag tag
+    → MatchResult r (IsPut (IsTold tag given 0) old into k new)
+    (Refuses (IsScalarTag tag) ((x : Scalar) × Tells tag given 0 x) (λ u. (t : Tree) × IsTold tag given 0 u t) NoOther old into k)
+    → MatchResult r (IsPut (λ u t. kind × IsTold tag bits 0 u t) old into k new)
+    (Refuses kind ((x : Scalar) × Tells tag bits 0 x) (λ u. (t : Tree) × kind × IsTold tag bits 0 u t) NoOther old into k)
+only_same kind tag bits given old new k into r e is scalar_tag p =
+    only kind tag bits old new k into r is scalar_tag
+    (subst (λ (b : ℕ). MatchResult r (IsPut (IsTold tag b 0) old into k new)
+    (Refuses (IsScalarTag tag) ((x : Scalar) × Tells tag b 0 x) (λ u. (t : Tree) × IsTold tag b 0 u t) NoOther old into k)) e p)
+
 -- what is appended is put
-pub put_of : (valid : Type 0) (Gives : List ℕ → Tree → Type 0) (Other : Fault → Type 0) (old new k w : List ℕ) (into : Container) (v : Tree) (r : Result Container Fault)
-    → Gives w v → Wire w v
-    → MatchResult r (λ grown. IsAppended old into k w new × (grown ≡ up_to (end_with into k w) into)) (Refuses (Unit {0}) (λ u. u ≡ w) NoOther old into k)
-    → MatchResult r (IsPut Gives old into k new) (Refuses valid (λ u. (t : Tree) × Gives u t) Other old into k)
-put_of valid Gives Other old new k w into v (Ok grown) gives p (is, reaches) = record {
+pub put_of : (taken in_range : Type 0) (Gives : List ℕ → Tree → Type 0) (Other : Fault → Type 0) (old new k w : List ℕ) (into : Container) (v : Tree) (r : Result Container Fault)
+    → IsPlace (length old) into k → Gives w v → Wire w v
+    → MatchResult r (λ grown. IsAppended old into k w new × (grown ≡ up_to (end_with into k w) into)) (LacksRoomFor old into k w)
+    → MatchResult r (IsPut Gives old into k new) (Refuses taken in_range (λ u. (t : Tree) × Gives u t) Other old into k)
+put_of taken in_range Gives Other old new k w into v (Ok grown) place gives p (is, reaches) = record {
   encoding = w;
   meaning = v;
   gives = gives;
@@ -31,16 +113,8 @@ put_of valid Gives Other old new k w into v (Ok grown) gives p (is, reaches) = r
   reaches = reaches;
   grows = grows_by old new k w into grown v is.place.1 p (part_grown old new (entry_of into k w) into grown is.place.0 is.written reaches);
 }
-put_of valid Gives Other old new k w into v (Err Invalid) gives p why = λ place ok. why place tt
-put_of valid Gives Other old new k w into v (Err (NoRoom n)) gives p (place, x) =
-    (place, (w, (v, gives), x.2 ∙ ap (λ (t : List ℕ). length (entry_of into k t)) x.1, x.3))
-put_of valid Gives Other old new k w into v (Err (More n)) gives p why = absurd why.1
-put_of valid Gives Other old new k w into v (Err UnknownTag) gives p why = absurd why.1
-put_of valid Gives Other old new k w into v (Err Malformed) gives p why = absurd why.1
-put_of valid Gives Other old new k w into v (Err TooLarge) gives p why = absurd why.1
-put_of valid Gives Other old new k w into v (Err OutOfMemory) gives p why = absurd why.1
-put_of valid Gives Other old new k w into v (Err NotJson) gives p why = absurd why.1
-put_of valid Gives Other old new k w into v (Err NoEncoding) gives p why = absurd why.1
+put_of taken in_range Gives Other old new k w into v (Err f) place gives p (is, few) =
+    subst (Refuses taken in_range (λ u. (t : Tree) × Gives u t) Other old into k) (sym is) (place, (w, (v, gives), refl, few))
 
 -- a value of fixed width
 pub told : (tag bits scale : ℕ) (w head : List ℕ) (x : Scalar) → Tells tag bits scale x → w ≡ head ++ [] → head ≡ text (scalar x)

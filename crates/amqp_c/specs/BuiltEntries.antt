@@ -1,5 +1,5 @@
 -- What is put: encodings, and the values that they are of.
-use Rattle.std.specs.Prelude.{ℕ, ◌≡◌, ◌<◌, ◌^◌, List, [], ◌∷◌, ◌++◌, length, ◌⊎◌}
+use Rattle.std.specs.Prelude.{ℕ, zero, ℤ, pos, ◌≡◌, ◌<◌, ◌^◌, List, [], ◌∷◌, ◌++◌, length, ◌⊎◌}
 use Rattle.amqp_types.specs.declared.amqp_type.AMQPType.{AMQPType}
 use Rattle.amqp_types.specs.Ids.{id_of}
 use Rattle.amqp_grammar.specs.Values.{Scalar, Tree, scalar, long, octets, array, table, scalar_type}
@@ -20,6 +20,17 @@ pub record Tells (tag bits scale : ℕ) (x : Scalar) : Type 0 where
   pub same_bits : bits ≡ scalar_bits x
   pub same_scale : scale ≡ scalar_scale x
 
+-- the type tag is the one that is written for some value of fixed width
+abbrev pub IsScalarTag : ℕ → Type 0
+IsScalarTag tag = (x : Scalar) × IsScalar x × (tag ≡ id_of (scalar_type x))
+
+-- the type tags of signed numbers, `b`, `s`, `I` and `l`, and of unsigned ones, `B`, `u` and `i`
+abbrev pub IsSignedTag : ℕ → Type 0
+IsSignedTag tag = (tag ≡ 98) ⊎ (tag ≡ 115) ⊎ (tag ≡ 73) ⊎ (tag ≡ 108)
+
+abbrev pub IsUnsignedTag : ℕ → Type 0
+IsUnsignedTag tag = (tag ≡ 66) ⊎ (tag ≡ 117) ⊎ (tag ≡ 105)
+
 -- the bits and the scale determine x, which is of this type
 pub record TellsOf (type : AMQPType) (bits scale : ℕ) (x : Scalar) : Type 0 where
   pub in_range : IsScalar x
@@ -30,6 +41,11 @@ pub record TellsOf (type : AMQPType) (bits scale : ℕ) (x : Scalar) : Type 0 wh
 -- w is the canonical encoding of v, a value of fixed width that these determine
 abbrev pub IsTold : ℕ → ℕ → ℕ → List ℕ → Tree → Type 0
 IsTold tag bits scale w v = (x : Scalar) × Tells tag bits scale x × (v ≡ scalar x) × (w ≡ text v)
+
+-- the bits of a boolean: every number but 0 is true
+abbrev pub truth_bits : ℤ → ℕ
+truth_bits (pos zero) = 0
+truth_bits _ = 1
 
 -- the type tags of a long string and of a byte array, `S` and `x`
 abbrev pub IsStringTag : ℕ → Type 0

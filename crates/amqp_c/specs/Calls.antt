@@ -10,7 +10,7 @@ use Rattle.amqp_c.specs.declared.entry.Entry.{Entry}
 use Rattle.amqp_c.specs.declared.measure.Measure.{Measure}
 use Rattle.amqp_c.specs.Measures.{IsMeasured}
 use Rattle.amqp_c_common.specs.declared.fault.Fault.{Fault}
-use Rattle.amqp_c_common.specs.declared.fault.Fault.TheVariants.{Invalid}
+use Rattle.amqp_c_common.specs.declared.fault.Fault.TheVariants.{Invalid, BadTag}
 use Rattle.amqp_c_common.specs.Reading.{limits}
 use Rattle.amqp_c_common.specs.Spans.{part, SpanLies}
 use Rattle.amqp_c.specs.Entries.{IsAtFront, Lies}
@@ -18,7 +18,7 @@ use Rattle.amqp_c.specs.Steps.{array_tag, table_tag, contents, IsOfContainer, St
 use Rattle.amqp_c.specs.FirstPairs.{LooksUpFirst}
 use Rattle.amqp_c.specs.declared.path.EqualKeys.{EqualKeys}
 use Rattle.amqp_c.specs.declared.path.Step.{Step}
-use Rattle.amqp_c.specs.Paths.{number_of, LooksUpOn}
+use Rattle.amqp_c.specs.Paths.{number_of, IsInside, LooksUpOn}
 use Rattle.amqp_c_common.specs.ReturnCodes.{answer_of, count_of}
 use Rattle.amqp_c.specs.CallResults.{IsTaken, IsTableTaken, HeaderFaults, FaultsWithin, GivesFirst, answer_if_any, count_by, ok_or_old, found_or_old, entry_or_old, cursor_or_old}
 
@@ -100,4 +100,5 @@ pub record FindsPath (s : List ℕ) (from : Entry) (steps : List Step) (number :
   pub answered : answer ≡ answer_if_any done
   pub entry : new ≡ found_or_old old done
   pub looked_up : (equal : EqualKeys) → number_of equal ≡ number → LooksUpOn s from steps equal done
-  pub other : ((equal : EqualKeys) → number_of equal ≡ number → ⊥) → done ≡ Err Invalid
+  pub other : ((equal : EqualKeys) → number_of equal ≡ number → ⊥) → IsInside (length s) from → done ≡ Err BadTag
+  pub outside : (IsInside (length s) from → ⊥) → done ≡ Err Invalid

@@ -15,6 +15,10 @@ table_tag = 70
 abbrev pub IsContainerTag : ℕ → Type 0
 IsContainerTag tag = (tag ≡ array_tag) ⊎ (tag ≡ table_tag)
 
+-- the container is inside n bytes, and is of an array or a table
+abbrev pub IsContainerIn : ℕ → Container → Type 0
+IsContainerIn n c = SpanLies n c.written × IsContainerTag c.tag
+
 -- the end of what is written of a container
 abbrev pub end_of : Container → ℕ
 end_of c = c.written.offset + c.written.length

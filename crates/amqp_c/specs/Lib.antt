@@ -14,4 +14,5 @@ pub mod Rooms
 pub mod BuiltEntries
 pub mod Growth
 pub mod Faults
+pub mod Getters
 pub mod BuildCalls

@@ -8,7 +8,7 @@ use Rattle.amqp_c.specs.declared.path.EqualKeys.{EqualKeys}
 use Rattle.amqp_c.specs.declared.path.EqualKeys.TheVariants.{Last, First}
 use Rattle.amqp_c.specs.declared.path.Step.{Step}
 use Rattle.amqp_c_common.specs.declared.fault.Fault.{Fault}
-use Rattle.amqp_c_common.specs.declared.fault.Fault.TheVariants.{Invalid}
+use Rattle.amqp_c_common.specs.declared.fault.Fault.TheVariants.{Invalid, BadTag}
 use Rattle.amqp_c_common.specs.Spans.{SpanLies}
 use Rattle.amqp_c.specs.Entries.{IsEntry}
 use Rattle.amqp_c.specs.Steps.{array_tag, table_tag, contents, LooksUp, GivesFound}
@@ -34,12 +34,12 @@ abbrev pub IsInside : ℕ → Entry → Type 0
 IsInside n e = SpanLies n e.key × SpanLies n e.value × SpanLies n e.content
 
 -- a step from an entry: into a table by its key and into an array by its index, from an entry of
--- another type to nothing; any other step is invalid. What is found is inside the bytes
+-- another type to nothing; any other step has a wrong tag. What is found is inside the bytes
 pub record Leads (s : List ℕ) (equal : EqualKeys) (step : Step) (e : Entry) (done : Result (Option Entry) Fault) : Type 0 where
   pub keyed : step.tag ≡ table_tag → e.tag ≡ table_tag → LooksUpBy equal s (contents e) step.key.now done
   pub indexed : step.tag ≡ array_tag → e.tag ≡ array_tag → LooksUpNth s (contents e) step.index done
   pub elsewhere : IsStep step → (e.tag ≡ step.tag → ⊥) → done ≡ Ok None
-  pub invalid : (IsStep step → ⊥) → done ≡ Err Invalid
+  pub bad_tag : (IsStep step → ⊥) → done ≡ Err BadTag
   pub inside : IfOk done (λ o. IfSome o (IsInside (length s)))
 
 -- the steps one after another, until one finds nothing or fails

@@ -1,9 +1,10 @@
 //! Containers that are put together in a buffer.
 
-ghost use Rattle.std.specs.Prelude.{◌≡◌, ◌≤◌, ◌<◌, ◌^◌, ℕ, List, length, MatchBool, MatchOption};
+ghost use Rattle.std.specs.Prelude.{◌≡◌, ◌≤◌, ◌<◌, ◌^◌, ℕ, List, length, MatchBool, MatchResult};
 ghost use Rattle.amqp_c.specs.Containers.{IsContainerTag, IsKeyOf, IsPlace, named, end_of, up_to, empty_at};
+ghost use Rattle.amqp_c.specs.Faults.{RefusesPlace};
 
-use amqp_c_common::Span;
+use amqp_c_common::{Fault, Span};
 use std::str;
 
 /// An array or a table that is being put together.
@@ -38,15 +39,21 @@ impl Container {
     }
 
     /// The end of the next entry, if in a buffer of that many bytes one with this key can be put.
-    pub fn place(self, room_length: usize, key: &[u8]) -> Option<usize>
-        ensures { MatchOption result
-            (IsPlace room_length self key.now → ⊥)
-            (λ at. IsPlace room_length self key.now × (at ≡ end_of self)) }
+    pub fn place(self, room_length: usize, key: &[u8]) -> Result<usize, Fault>
+        ensures { MatchResult result
+            (λ at. IsPlace room_length self key.now × (at ≡ end_of self))
+            (RefusesPlace room_length self key.now) }
     {
-        if !self.has_key(key) {
-            return None;
+        let Some(at) = self.written.end_in(room_length) else {
+            return Err(Fault::Invalid);
+        };
+        if !is_container_tag(self.tag) {
+            return Err(Fault::Invalid);
         }
-        self.written.end_in(room_length)
+        if !self.has_key(key) {
+            return Err(Fault::BadKey);
+        }
+        Ok(at)
     }
 
     /// Whether an entry may have this key: in an array no key, in a table each short string.

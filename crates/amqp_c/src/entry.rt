@@ -100,7 +100,7 @@ fn read_fixed(bytes: &[u8]) -> Result<Fixed, Fault>
 }
 
 /// Whether a value of the type has bytes after a length: a string, a byte array or a container.
-fn has_content(amqp_type: AMQPType) -> bool
+pub fn has_content(amqp_type: AMQPType) -> bool
     ensures { result ≡ has_content amqp_type }
 {
     matches!(

@@ -4,19 +4,23 @@
 //! No call allocates, keeps state, prints or ends the process. What comes in is checked each time:
 //! whatever a cursor, an entry or a container holds, no byte outside of the bytes is read and none
 //! outside of the buffer is touched, and each offset that is returned is inside the bytes. After an
-//! error the buffer and the container are as they were. `include/amqp.h` declares the calls.
+//! error the buffer and the container are as they were. `include/amqp_values.h` declares the calls.
 #![tactic(auto)]
 
-ghost use Rattle.std.specs.Prelude.{length};
+ghost use Rattle.std.specs.Prelude.{◌≡◌, length};
 ghost use Rattle.amqp_in_place.specs.Rabbitmq.{problem_of, problem_in_table_of};
 ghost use Rattle.amqp_c_common.specs.Reading.{limits};
 ghost use Rattle.amqp_c.specs.Problems.{FindsProblem};
-ghost use Rattle.amqp_c.specs.BuildCalls.{PutsScalar, PutsBytes, PutsValue, Begins, Ends};
+ghost use Rattle.amqp_c.specs.BuildCalls.{PutsScalar, PutsBytes, PutsValue, Begins, Ends, PutsInt, PutsUint};
+ghost use Rattle.amqp_c.specs.BuiltEntries.{truth_bits};
+ghost use Rattle.amqp_c.specs.Getters.{GetsInt, GetsUint, GetsBool, GetsTimestamp, GetsDecimal};
 ghost use Rattle.amqp_c.specs.Calls.{Reads, ReadsTable, MeasuresValue, MeasuresTable, Firsts, Enters, Steps, Finds, FindsFirst, FindsPath};
 
 mod container;
 mod cursor;
 mod entry;
+mod getter;
+mod integers;
 mod lookup;
 mod measure;
 mod nest;
@@ -28,12 +32,14 @@ mod read;
 mod room;
 mod store;
 
-use amqp_c_common::{Fault, return_count};
+use amqp_c_common::return_count;
 use amqp_in_place::rabbitmq::{first_problem, first_problem_in_table};
 use amqp_parsing::Limits;
 use container::Container;
 use cursor::Cursor;
 use entry::{Entry, first};
+use getter::{store_bool, store_decimal, store_int, store_uint};
+use integers::{put_int, put_uint, truth_bits};
 use measure::{Measure, measured_table, measured_value};
 use nest::{begin, end};
 use path::{EqualKeys, Step, find_path};
@@ -51,17 +57,17 @@ use store::{
 /// `count` becomes how many bytes the value takes, or how many more the field that is being read
 /// needs, otherwise 0.
 #[unsafe(no_mangle)]
-pub extern "C" fn amqp_read(bytes: &[u8], frame: u32, depth: u32, count: &mut usize) -> i32
+pub extern "C" fn amqpv_read(bytes: &[u8], frame: u32, depth: u32, count: &mut usize) -> i32
     ensures { Reads frame depth bytes.now result count.new }
 {
     return_count(read(bytes, Limits { frame, depth }), count)
 }
 
 /// Reads the table without its type tag at the start, and returns its entry, whose content is its
-/// pairs. The limits count the type tag as if it were there; `count` is as for `amqp_read`, and of
+/// pairs. The limits count the type tag as if it were there; `count` is as for `amqpv_read`, and of
 /// the bytes that are there.
 #[unsafe(no_mangle)]
-pub extern "C" fn amqp_read_table(
+pub extern "C" fn amqpv_read_table(
     bytes: &[u8],
     frame: u32,
     depth: u32,
@@ -73,10 +79,10 @@ pub extern "C" fn amqp_read_table(
     store_table(read_table(bytes, Limits { frame, depth }), entry, count)
 }
 
-/// Measures the value at the start, which is read within limits as by `amqp_read`. docs/PROMISES.md
+/// Measures the value at the start, which is read within limits as by `amqpv_read`. docs/PROMISES.md
 /// has what a level of nesting takes of the stack.
 #[unsafe(no_mangle)]
-pub extern "C" fn amqp_measure_value(
+pub extern "C" fn amqpv_measure_value(
     bytes: &[u8],
     frame: u32,
     depth: u32,
@@ -93,9 +99,9 @@ pub extern "C" fn amqp_measure_value(
 }
 
 /// Measures the table without its type tag at the start, which is read within limits as by
-/// `amqp_read_table`.
+/// `amqpv_read_table`.
 #[unsafe(no_mangle)]
-pub extern "C" fn amqp_measure_table(
+pub extern "C" fn amqpv_measure_table(
     bytes: &[u8],
     frame: u32,
     depth: u32,
@@ -114,7 +120,7 @@ pub extern "C" fn amqp_measure_table(
 /// Finds the first thing in the value at the start that RabbitMQ closes the connection for, or that
 /// is beyond the limits. docs/PROMISES.md has what a level of nesting takes of the stack.
 #[unsafe(no_mangle)]
-pub extern "C" fn amqp_first_problem(
+pub extern "C" fn amqpv_first_problem(
     bytes: &[u8],
     frame: u32,
     depth: u32,
@@ -128,7 +134,7 @@ pub extern "C" fn amqp_first_problem(
 /// Finds that in the table without its type tag at the start. Offsets count from its length on, and
 /// the limits count the type tag as if it were there.
 #[unsafe(no_mangle)]
-pub extern "C" fn amqp_first_problem_in_table(
+pub extern "C" fn amqpv_first_problem_in_table(
     bytes: &[u8],
     frame: u32,
     depth: u32,
@@ -145,7 +151,7 @@ pub extern "C" fn amqp_first_problem_in_table(
 /// Returns the entry of the value at the start, by its type tag and its length only, in constant
 /// time.
 #[unsafe(no_mangle)]
-pub extern "C" fn amqp_first(bytes: &[u8], entry: &mut Entry) -> i32
+pub extern "C" fn amqpv_first(bytes: &[u8], entry: &mut Entry) -> i32
     ensures { Firsts bytes.now entry.old result entry.new }
 {
     store_entry(first(bytes), entry)
@@ -153,7 +159,7 @@ pub extern "C" fn amqp_first(bytes: &[u8], entry: &mut Entry) -> i32
 
 /// Returns a cursor before the first entry of an array or a table, in constant time.
 #[unsafe(no_mangle)]
-pub extern "C" fn amqp_enter(bytes: &[u8], entry: &Entry, cursor: &mut Cursor) -> i32
+pub extern "C" fn amqpv_enter(bytes: &[u8], entry: &Entry, cursor: &mut Cursor) -> i32
     ensures { Enters bytes.now entry.now cursor.old result cursor.new }
 {
     store_cursor(entry.enter(bytes), cursor)
@@ -161,7 +167,7 @@ pub extern "C" fn amqp_enter(bytes: &[u8], entry: &Entry, cursor: &mut Cursor) -
 
 /// Returns the next entry and sets the cursor after it, in constant time.
 #[unsafe(no_mangle)]
-pub extern "C" fn amqp_next(bytes: &[u8], cursor: &mut Cursor, entry: &mut Entry) -> i32
+pub extern "C" fn amqpv_next(bytes: &[u8], cursor: &mut Cursor, entry: &mut Entry) -> i32
     ensures { Steps bytes.now cursor.old entry.old result cursor.new entry.new }
 {
     store_step(cursor.next(bytes), cursor, entry)
@@ -170,7 +176,7 @@ pub extern "C" fn amqp_next(bytes: &[u8], cursor: &mut Cursor, entry: &mut Entry
 /// Returns the entry at a key of the table, of those that the cursor has left: of equal keys the
 /// last. It traverses all of them.
 #[unsafe(no_mangle)]
-pub extern "C" fn amqp_find(bytes: &[u8], cursor: &Cursor, key: &[u8], entry: &mut Entry) -> i32
+pub extern "C" fn amqpv_find(bytes: &[u8], cursor: &Cursor, key: &[u8], entry: &mut Entry) -> i32
     ensures { Finds bytes.now cursor.now key.now entry.old result entry.new }
 {
     store_found(cursor.find(bytes, key), entry)
@@ -179,7 +185,7 @@ pub extern "C" fn amqp_find(bytes: &[u8], cursor: &Cursor, key: &[u8], entry: &m
 /// Returns the entry at a key of the table, of those that the cursor has left: of equal keys the
 /// first. It looks at no byte after that entry.
 #[unsafe(no_mangle)]
-pub extern "C" fn amqp_find_first(
+pub extern "C" fn amqpv_find_first(
     bytes: &[u8],
     cursor: &Cursor,
     key: &[u8],
@@ -193,7 +199,7 @@ pub extern "C" fn amqp_find_first(
 /// Returns the entry that a path leads to from another, by a look-up for each step. Of equal keys
 /// the last counts (0), or the first (1).
 #[unsafe(no_mangle)]
-pub extern "C" fn amqp_find_path(
+pub extern "C" fn amqpv_find_path(
     bytes: &[u8],
     from: &Entry,
     steps: &[Step<'_>],
@@ -203,7 +209,7 @@ pub extern "C" fn amqp_find_path(
     ensures { FindsPath bytes.now from.now steps.now equal_keys entry.old result entry.new }
 {
     let Some(equal) = EqualKeys::of(equal_keys) else {
-        return store_found(Err(Fault::Invalid), entry);
+        return store_found(Err(from.fault_of_keys(bytes.len())), entry);
     };
     store_found(find_path(bytes, from, steps, equal), entry)
 }
@@ -211,7 +217,7 @@ pub extern "C" fn amqp_find_path(
 /// Puts an entry after what is written: a value of fixed width, by its type tag, its bits and its
 /// scale, as an entry has them.
 #[unsafe(no_mangle)]
-pub extern "C" fn amqp_put(
+pub extern "C" fn amqpv_put(
     room: &mut [u8],
     into: &mut Container,
     key: &[u8],
@@ -224,9 +230,105 @@ pub extern "C" fn amqp_put(
     store_container(put_scalar(room, *into, key, tag, bits, scale), into)
 }
 
+/// Puts an entry after what is written: a signed number, by its type tag.
+#[unsafe(no_mangle)]
+pub extern "C" fn amqpv_put_int(
+    room: &mut [u8],
+    into: &mut Container,
+    key: &[u8],
+    tag: u8,
+    number: i64,
+) -> i32
+    ensures { PutsInt tag number room.old into.old key.now result room.new into.new }
+{
+    store_container(put_int(room, *into, key, tag, number), into)
+}
+
+/// Puts an entry after what is written: an unsigned number, by its type tag.
+#[unsafe(no_mangle)]
+pub extern "C" fn amqpv_put_uint(
+    room: &mut [u8],
+    into: &mut Container,
+    key: &[u8],
+    tag: u8,
+    number: u64,
+) -> i32
+    ensures { PutsUint tag number room.old into.old key.now result room.new into.new }
+{
+    store_container(put_uint(room, *into, key, tag, number), into)
+}
+
+/// Puts an entry after what is written: a boolean, of which every number but 0 is true.
+#[unsafe(no_mangle)]
+pub extern "C" fn amqpv_put_bool(
+    room: &mut [u8],
+    into: &mut Container,
+    key: &[u8],
+    truth: i32,
+) -> i32
+    ensures { PutsScalar 116 (truth_bits truth) 0 room.old into.old key.now result room.new into.new }
+{
+    store_container(
+        put_scalar(room, *into, key, b't', truth_bits(truth), 0),
+        into,
+    )
+}
+
+/// Puts an entry after what is written: a timestamp.
+#[unsafe(no_mangle)]
+pub extern "C" fn amqpv_put_timestamp(
+    room: &mut [u8],
+    into: &mut Container,
+    key: &[u8],
+    seconds: u64,
+) -> i32
+    ensures { PutsScalar 84 seconds 0 room.old into.old key.now result room.new into.new }
+{
+    store_container(put_scalar(room, *into, key, b'T', seconds, 0), into)
+}
+
+/// Puts an entry after what is written: a decimal, by its number without the point, and how many of
+/// its digits are after the point.
+#[unsafe(no_mangle)]
+pub extern "C" fn amqpv_put_decimal(
+    room: &mut [u8],
+    into: &mut Container,
+    key: &[u8],
+    number: u32,
+    scale: u8,
+) -> i32
+    ensures { PutsScalar 68 number scale room.old into.old key.now result room.new into.new }
+{
+    store_container(
+        put_scalar(room, *into, key, b'D', u64::from(number), scale),
+        into,
+    )
+}
+
+/// Puts an entry after what is written, without a value.
+#[unsafe(no_mangle)]
+pub extern "C" fn amqpv_put_void(room: &mut [u8], into: &mut Container, key: &[u8]) -> i32
+    ensures { PutsScalar 86 0 0 room.old into.old key.now result room.new into.new }
+{
+    store_container(put_scalar(room, *into, key, b'V', 0, 0), into)
+}
+
+/// Puts an entry after what is written: a long string.
+#[unsafe(no_mangle)]
+pub extern "C" fn amqpv_put_string(
+    room: &mut [u8],
+    into: &mut Container,
+    key: &[u8],
+    text: &[u8],
+) -> i32
+    ensures { PutsBytes 83 text.now room.old into.old key.now result room.new into.new }
+{
+    store_container(put_bytes(room, *into, key, b'S', text), into)
+}
+
 /// Puts an entry after what is written: a long string or a byte array.
 #[unsafe(no_mangle)]
-pub extern "C" fn amqp_put_bytes(
+pub extern "C" fn amqpv_put_bytes(
     room: &mut [u8],
     into: &mut Container,
     key: &[u8],
@@ -241,7 +343,7 @@ pub extern "C" fn amqp_put_bytes(
 /// Puts an entry after what is written: the encoding at the start of other bytes, read within
 /// limits and copied unchanged. docs/PROMISES.md has what a level of nesting takes of the stack.
 #[unsafe(no_mangle)]
-pub extern "C" fn amqp_put_value(
+pub extern "C" fn amqpv_put_value(
     room: &mut [u8],
     into: &mut Container,
     key: &[u8],
@@ -260,7 +362,7 @@ pub extern "C" fn amqp_put_value(
 /// Begins an entry after what is written, whose value is an array or a table: `body` is then
 /// empty, and `into` as it was until the entry is ended.
 #[unsafe(no_mangle)]
-pub extern "C" fn amqp_open(
+pub extern "C" fn amqpv_open(
     room: &mut [u8],
     into: &Container,
     key: &[u8],
@@ -272,11 +374,61 @@ pub extern "C" fn amqp_open(
     store_container(begin(room, *into, key, tag), body)
 }
 
-/// Ends the entry that `amqp_open` began: fills in the length of its body, and `into` reaches to
+/// Ends the entry that `amqpv_open` began: fills in the length of its body, and `into` reaches to
 /// its end.
 #[unsafe(no_mangle)]
-pub extern "C" fn amqp_close(room: &mut [u8], into: &mut Container, body: &Container) -> i32
+pub extern "C" fn amqpv_close(room: &mut [u8], into: &mut Container, body: &Container) -> i32
     ensures { Ends room.old into.old body.now result room.new into.new }
 {
     store_container(end(room, *into, *body), into)
+}
+
+/// Returns the integer of an entry as a signed one, if it fits.
+#[unsafe(no_mangle)]
+pub extern "C" fn amqpv_as_int(entry: &Entry, number: &mut i64) -> i32
+    ensures { GetsInt entry.now number.old result number.new }
+{
+    store_int(entry.as_int(), number)
+}
+
+/// Returns the integer of an entry as an unsigned one, if it isn't below 0.
+#[unsafe(no_mangle)]
+pub extern "C" fn amqpv_as_uint(entry: &Entry, number: &mut u64) -> i32
+    ensures { GetsUint entry.now number.old result number.new }
+{
+    store_uint(entry.as_uint(), number)
+}
+
+/// Returns the boolean of an entry as 0 or 1.
+#[unsafe(no_mangle)]
+pub extern "C" fn amqpv_as_bool(entry: &Entry, truth: &mut i32) -> i32
+    ensures { GetsBool entry.now truth.old result truth.new }
+{
+    store_bool(entry.as_bool(), truth)
+}
+
+/// Returns the timestamp of an entry.
+#[unsafe(no_mangle)]
+pub extern "C" fn amqpv_as_timestamp(entry: &Entry, seconds: &mut u64) -> i32
+    ensures { GetsTimestamp entry.now seconds.old result seconds.new }
+{
+    store_uint(entry.as_timestamp(), seconds)
+}
+
+/// Returns the decimal of an entry: its number without the point, and how many of its digits are
+/// after the point.
+#[unsafe(no_mangle)]
+pub extern "C" fn amqpv_as_decimal(entry: &Entry, number: &mut u32, scale: &mut u8) -> i32
+    ensures { GetsDecimal entry.now (number.old, scale.old) result (number.new, scale.new) }
+{
+    store_decimal(entry.as_decimal(), number, scale)
+}
+
+/// The version of the library: 10000 times its major number, 100 times its minor number, and its
+/// patch number.
+#[unsafe(no_mangle)]
+pub extern "C" fn amqpv_version() -> u32
+    ensures { result ≡ 100 }
+{
+    100
 }

@@ -12,18 +12,19 @@ use crate::room::{append, write};
 use amqp_c_common::Fault;
 
 /// Begins an entry whose value is an array or a table, and returns its body, which is empty.
+#[tactic(auto, using(crate::proofs::Putting::refused_place))]
 pub fn begin(room: &mut [u8], into: Container, key: &[u8], tag: u8) -> Result<Container, Fault>
     ensures begun { MatchResult result
         (IsBegun tag room.old into key.now room.new)
-        (Refuses (IsContainerTag tag) (λ w. IsContainerTag tag × (w ≡ unfilled tag)) NoOther room.old into key.now) }
+        (Refuses (IsContainerTag tag) (Unit {0}) (λ w. IsContainerTag tag × (w ≡ unfilled tag)) NoOther room.old into key.now) }
     ensures kept { IfErr result (λ _. room.new ≡ room.old) }
 {
+    let at = into.place(room.len(), key)?;
     if !is_container_tag(tag) {
-        return Err(Fault::Invalid);
+        return Err(Fault::BadTag);
     }
-    let grown = append(room, into, key, &[tag, 0, 0, 0, 0], &[])?;
-    let at = grown.written.offset + grown.written.length;
-    Ok(Container::empty_at(at, tag))
+    let grown = append(room, into, at, key, &[tag, 0, 0, 0, 0], &[])?;
+    Ok(Container::empty_at(grown.written.offset + grown.written.length, tag))
 }
 
 /// Ends the entry whose value is the array or the table with this body: fills in its length.

@@ -1,11 +1,14 @@
 //! The encodings of values of fixed width.
 
-ghost use Rattle.std.specs.Prelude.{◌≡◌, ◌≤◌, ◌∷◌, length, MatchOption};
+ghost use Rattle.std.specs.Prelude.{◌≡◌, ◌≤◌, ◌∷◌, length, MatchBool, MatchOption, MatchResult};
 ghost use Rattle.amqp_types.specs.declared.amqp_type.AMQPType.TheVariants as amqp;
 ghost use Rattle.amqp_grammar.specs.Values.{Scalar, scalar};
 ghost use Rattle.amqp_grammar.specs.Texts.{text};
-ghost use Rattle.amqp_c.specs.BuiltEntries.{Tells, TellsOf};
+ghost use Rattle.amqp_c.specs.BuiltEntries.{Tells, TellsOf, IsScalarTag};
+ghost use Rattle.amqp_c.specs.Faults.{RefusesNumber};
 
+use crate::entry::has_content;
+use amqp_c_common::Fault;
 use amqp_types::AMQPType;
 use std::marker::Model;
 
@@ -49,7 +52,38 @@ impl Encoding {
 }
 
 /// The encoding of the value of fixed width that these determine, as those of an entry do.
-pub fn encoding_by_tag(tag: u8, bits: u64, scale: u8) -> Option<Encoding>
+pub fn encoding_of(tag: u8, bits: u64, scale: u8) -> Result<Encoding, Fault>
+    ensures { MatchResult result
+        (λ e. (x : Scalar) × Tells tag bits scale x × (e ≡ text (scalar x)))
+        (RefusesNumber tag bits scale) }
+{
+    match encoding_by_tag(tag, bits, scale) {
+        Some(encoding) => Ok(encoding),
+        None if is_scalar_tag(tag) => Err(Fault::OutOfRange),
+        None => Err(Fault::BadTag),
+    }
+}
+
+/// Whether it is the type tag that is written for a type of fixed width.
+#[tactic(auto, using(crate::proofs::Tags::no_kind, crate::proofs::Tags::with_content, crate::proofs::Tags::other_id, crate::proofs::Tags::same_id))]
+fn is_scalar_tag(tag: u8) -> bool
+    ensures { MatchBool result (IsScalarTag tag) (IsScalarTag tag → ⊥) }
+{
+    let Some(amqp_type) = AMQPType::from_id(tag as char) else {
+        return false;
+    };
+    if has_content(amqp_type) {
+        return false;
+    }
+    let written = amqp_type.get_id() as u8;
+    if written != tag {
+        return false;
+    }
+    true
+}
+
+/// The same, if there is one.
+fn encoding_by_tag(tag: u8, bits: u64, scale: u8) -> Option<Encoding>
     ensures { MatchOption result
         ((x : Scalar) → Tells tag bits scale x → ⊥)
         (λ e. (x : Scalar) × Tells tag bits scale x × (e ≡ text (scalar x))) }

@@ -1,7 +1,7 @@
 //! Looking a value up by a path of keys and indexes.
 
 ghost use Rattle.std.specs.Prelude.{◌≡◌, length, MatchBool, MatchOption, Err, List, ℕ};
-ghost use Rattle.amqp_c_common.specs.declared.fault.Fault.TheVariants.{Invalid};
+ghost use Rattle.amqp_c_common.specs.declared.fault.Fault.TheVariants.{Invalid, BadTag};
 ghost use Rattle.amqp_c.specs.Paths.{number_of, IsInside, Leads, LooksUpOn};
 
 use crate::entry::Entry;
@@ -53,13 +53,25 @@ impl Entry {
             && self.content.end_in(count).is_some()
     }
 
+    /// Why a look-up from here fails that asks for another of equal keys than the first or the last.
+    pub fn fault_of_keys(&self, count: usize) -> Fault
+        ensures inside { IsInside count self.now → result ≡ BadTag }
+        ensures outside { (IsInside count self.now → ⊥) → result ≡ Invalid }
+    {
+        if self.is_inside(count) {
+            Fault::BadTag
+        } else {
+            Fault::Invalid
+        }
+    }
+
     /// The entry that a step leads to.
-    #[tactic(auto, using(crate::proofs::Paths::leads_invalid, crate::proofs::Paths::leads_none, crate::proofs::Paths::leads_nth, crate::proofs::Paths::leads_by))]
+    #[tactic(auto, using(crate::proofs::Paths::leads_bad_tag, crate::proofs::Paths::leads_none, crate::proofs::Paths::leads_nth, crate::proofs::Paths::leads_by))]
     fn step(&self, bytes: &[u8], step: &Step<'_>, equal: EqualKeys) -> Result<Option<Entry>, Fault>
         ensures { Leads bytes.now equal step.now self.now result }
     {
         if step.tag != b'A' && step.tag != b'F' {
-            return Err(Fault::Invalid);
+            return Err(Fault::BadTag);
         }
         if self.tag != step.tag {
             return Ok(None);

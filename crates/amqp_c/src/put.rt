@@ -1,19 +1,21 @@
 //! Putting an entry: a value of fixed width, a string or a byte array, or an encoding unchanged.
 
-ghost use Rattle.std.specs.Prelude.{◌≡◌, IfErr, MatchResult, MatchBool};
+ghost use Rattle.std.specs.Prelude.{◌≡◌, length, IfErr, MatchResult, MatchBool};
 ghost use Rattle.amqp_grammar.specs.Values.{Tree, Scalar};
-ghost use Rattle.amqp_c.specs.BuiltEntries.{Tells, IsTold, IsStringTag, IsOfBytes, IsFront};
+ghost use Rattle.amqp_c.specs.Containers.{IsPlace, end_of};
+ghost use Rattle.amqp_c.specs.BuiltEntries.{Tells, IsScalarTag, IsTold, IsStringTag, IsOfBytes, IsFront};
 ghost use Rattle.amqp_c.specs.Faults.{Refuses, NoOther, IsTooLong, IsReadFaultInPlace};
 ghost use Rattle.amqp_c.specs.Growth.{IsPut};
 
 use crate::container::Container;
-use crate::number::encoding_by_tag;
+use crate::number::encoding_of;
 use crate::room::append;
 use amqp_c_common::Fault;
 use amqp_in_place::read_in_place;
 use amqp_parsing::Limits;
 
 /// Puts a value of fixed width, by its type tag, its bits and its scale.
+#[tactic(auto, using(crate::proofs::Putting::refused_place))]
 pub fn put_scalar(
     room: &mut [u8],
     into: Container,
@@ -24,17 +26,39 @@ pub fn put_scalar(
 ) -> Result<Container, Fault>
     ensures put { MatchResult result
         (IsPut (IsTold tag bits scale) room.old into key.now room.new)
-        (Refuses ((x : Scalar) × Tells tag bits scale x) (λ w. (v : Tree) × IsTold tag bits scale w v) NoOther
+        (Refuses (IsScalarTag tag) ((x : Scalar) × Tells tag bits scale x) (λ w. (v : Tree) × IsTold tag bits scale w v) NoOther
         room.old into key.now) }
     ensures kept { IfErr result (λ _. room.new ≡ room.old) }
 {
-    let Some(encoding) = encoding_by_tag(tag, bits, scale) else {
-        return Err(Fault::Invalid);
-    };
-    append(room, into, key, encoding.as_slice(), &[])
+    let at = into.place(room.len(), key)?;
+    put_scalar_at(room, into, at, key, tag, bits, scale)
+}
+
+/// The same, at the place of the entry.
+#[tactic(auto, using(crate::proofs::Putting::refused_number))]
+pub fn put_scalar_at(
+    room: &mut [u8],
+    into: Container,
+    at: usize,
+    key: &[u8],
+    tag: u8,
+    bits: u64,
+    scale: u8,
+) -> Result<Container, Fault>
+    requires place { IsPlace (length room.old) into key.now }
+    requires at { at ≡ end_of into }
+    ensures put { MatchResult result
+        (IsPut (IsTold tag bits scale) room.old into key.now room.new)
+        (Refuses (IsScalarTag tag) ((x : Scalar) × Tells tag bits scale x) (λ w. (v : Tree) × IsTold tag bits scale w v) NoOther
+        room.old into key.now) }
+    ensures kept { IfErr result (λ _. room.new ≡ room.old) }
+{
+    let encoding = encoding_of(tag, bits, scale)?;
+    append(room, into, at, key, encoding.as_slice(), &[])
 }
 
 /// Puts a long string or a byte array.
+#[tactic(auto, using(crate::proofs::Putting::refused_place))]
 pub fn put_bytes(
     room: &mut [u8],
     into: Container,
@@ -44,18 +68,19 @@ pub fn put_bytes(
 ) -> Result<Container, Fault>
     ensures put { MatchResult result
         (IsPut (IsOfBytes tag bytes.now) room.old into key.now room.new)
-        (Refuses (IsStringTag tag) (λ w. (v : Tree) × IsOfBytes tag bytes.now w v) (IsTooLong tag bytes.now)
+        (Refuses (IsStringTag tag) (Unit {0}) (λ w. (v : Tree) × IsOfBytes tag bytes.now w v) (IsTooLong tag bytes.now)
         room.old into key.now) }
     ensures kept { IfErr result (λ _. room.new ≡ room.old) }
 {
-    if into.place(room.len(), key).is_none() || !is_string_tag(tag) {
-        return Err(Fault::Invalid);
+    let at = into.place(room.len(), key)?;
+    if !is_string_tag(tag) {
+        return Err(Fault::BadTag);
     }
     let Ok(length) = u32::try_from(bytes.len()) else {
         return Err(Fault::TooLarge);
     };
     let [a, b, c, d] = length.to_be_bytes();
-    append(room, into, key, &[tag, a, b, c, d], bytes)
+    append(room, into, at, key, &[tag, a, b, c, d], bytes)
 }
 
 /// Whether it is the type tag of a long string or a byte array.
@@ -66,6 +91,7 @@ fn is_string_tag(tag: u8) -> bool
 }
 
 /// Puts the encoding at the start of other bytes, which is read within limits, unchanged.
+#[tactic(auto, using(crate::proofs::Putting::refused_place))]
 pub fn put_value(
     room: &mut [u8],
     into: Container,
@@ -75,13 +101,11 @@ pub fn put_value(
 ) -> Result<Container, Fault>
     ensures put { MatchResult result
         (IsPut (IsFront limits bytes.now) room.old into key.now room.new)
-        (Refuses (Unit {0}) (λ w. (v : Tree) × IsFront limits bytes.now w v) (IsReadFaultInPlace limits bytes.now)
+        (Refuses (Unit {0}) (Unit {0}) (λ w. (v : Tree) × IsFront limits bytes.now w v) (IsReadFaultInPlace limits bytes.now)
         room.old into key.now) }
     ensures kept { IfErr result (λ _. room.new ≡ room.old) }
 {
-    if into.place(room.len(), key).is_none() {
-        return Err(Fault::Invalid);
-    }
+    let at = into.place(room.len(), key)?;
     let (_, rest) = read_in_place(bytes, limits)?;
-    append(room, into, key, &[], &bytes[..bytes.len() - rest.len()])
+    append(room, into, at, key, &[], &bytes[..bytes.len() - rest.len()])
 }

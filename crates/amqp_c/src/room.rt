@@ -2,9 +2,9 @@
 
 ghost use Rattle.std.specs.Prelude.{◌≡◌, ◌+◌, ◌≤◌, ◌<◌, ◌^◌, ◌++◌, length, IfErr, MatchResult};
 ghost use Rattle.amqp_grammar.specs.Grammar.{short_field};
-ghost use Rattle.amqp_c.specs.Containers.{named, end_of, entry_of, end_with, up_to};
+ghost use Rattle.amqp_c.specs.Containers.{IsPlace, named, end_of, entry_of, end_with, up_to};
 ghost use Rattle.amqp_c.specs.Growth.{IsAppended};
-ghost use Rattle.amqp_c.specs.Faults.{Refuses, NoOther};
+ghost use Rattle.amqp_c.specs.Faults.{LacksRoomFor};
 ghost use Rattle.amqp_c.specs.Rooms.{with_bytes};
 
 use crate::container::Container;
@@ -18,24 +18,24 @@ pub fn write(room: &mut [u8], at: usize, bytes: &[u8])
     room[at..at + bytes.len()].copy_from_slice(bytes);
 }
 
-/// Puts an entry after what the container has: its key, and an encoding in two parts.
+/// Puts an entry after what the container has, at its place: its key, and an encoding in two parts.
 pub fn append(
     room: &mut [u8],
     into: Container,
+    at: usize,
     key: &[u8],
     head: &[u8],
     content: &[u8],
 ) -> Result<Container, Fault>
-    requires { length head.now ≤ 9 }
+    requires place { IsPlace (length room.old) into key.now }
+    requires at { at ≡ end_of into }
+    requires few { length head.now ≤ 9 }
     ensures appended { MatchResult result
         (λ grown. IsAppended room.old into key.now (head.now ++ content.now) room.new
         × (grown ≡ up_to (end_with into key.now (head.now ++ content.now)) into))
-        (Refuses (Unit {0}) (λ w. w ≡ head.now ++ content.now) NoOther room.old into key.now) }
+        (LacksRoomFor room.old into key.now (head.now ++ content.now)) }
     ensures kept { IfErr result (λ _. room.new ≡ room.old) }
 {
-    let Some(at) = into.place(room.len(), key) else {
-        return Err(Fault::Invalid);
-    };
     let name_length = if into.tag == b'F' { 1 + key.len() } else { 0 };
     let count = name_length + head.len() + content.len();
     if room.len() - at < count {

@@ -3,7 +3,7 @@
 //!
 //! They allocate by C's `malloc`, `realloc` and `free` (the canonical encoding only if the bytes
 //! aren't canonical already), and free all of it. They keep no state, print nothing and never end
-//! the process. `include/amqp.h` declares them.
+//! the process. `include/amqp_values.h` declares them.
 #![tactic(auto)]
 
 ghost use Rattle.amqp_c_alloc.specs.CanonicalCalls.{Canonicalizes};
@@ -28,7 +28,7 @@ use std::alloc::Global;
 /// `count` becomes how many bytes were written, how many more are needed of the value, or how many
 /// the buffer has to have, otherwise 0.
 #[unsafe(no_mangle)]
-pub extern "C" fn amqp_canonical(
+pub extern "C" fn amqpv_canonical(
     alloc: Global,
     bytes: &[u8],
     frame: u32,
@@ -50,7 +50,7 @@ pub extern "C" fn amqp_canonical(
 /// `count` becomes how many bytes were written, how many more are needed of the value, or how many
 /// the buffer has to have, otherwise 0.
 #[unsafe(no_mangle)]
-pub extern "C" fn amqp_to_json(
+pub extern "C" fn amqpv_to_json(
     alloc: Global,
     bytes: &[u8],
     frame: u32,
@@ -69,7 +69,7 @@ pub extern "C" fn amqp_to_json(
 ///
 /// `count` becomes how many bytes were written, or how many the buffer has to have, otherwise 0.
 #[unsafe(no_mangle)]
-pub extern "C" fn amqp_from_json(
+pub extern "C" fn amqpv_from_json(
     alloc: Global,
     text: &[u8],
     nesting: u32,

@@ -5,7 +5,7 @@ use Rattle.amqp_parsing.specs.declared.errors.Needed.TheVariants.{Unknown, Size}
 use Rattle.amqp_parsing.specs.declared.errors.ErrorKind.TheVariants as kind
 use Rattle.amqp_parsing.specs.Refusals.{Refusal}
 use Rattle.amqp_c_common.specs.declared.fault.Fault.{Fault}
-use Rattle.amqp_c_common.specs.declared.fault.Fault.TheVariants.{More, UnknownTag, Malformed, TooLarge, Invalid, OutOfMemory, NoRoom, NotJson, NoEncoding}
+use Rattle.amqp_c_common.specs.declared.fault.Fault.TheVariants.{More, UnknownTag, Malformed, TooLarge, Invalid, OutOfMemory, NoRoom, NotJson, NoEncoding, BadKey, BadTag, OutOfRange}
 
 -- what a parser's error is reported as
 abbrev pub fault_of : Refusal → Fault
@@ -27,6 +27,9 @@ code_of OutOfMemory = negsuc 5
 code_of (NoRoom n) = negsuc 6
 code_of NotJson = negsuc 7
 code_of NoEncoding = negsuc 8
+code_of BadKey = negsuc 9
+code_of BadTag = negsuc 10
+code_of OutOfRange = negsuc 11
 
 -- the number that denotes a result: 0 if it is done
 abbrev pub answer_of : {T : Type 0} → Result T Fault → ℤ

@@ -16,7 +16,7 @@ pub enum Fault {
     Malformed,
     /// The value has more bytes than the limit.
     TooLarge,
-    /// What was passed in is not what the call takes.
+    /// A struct isn't inside the bytes or the buffer, or is of no container that the call takes.
     Invalid,
     /// An allocation failed.
     OutOfMemory,
@@ -26,6 +26,12 @@ pub enum Fault {
     NotJson,
     /// The value has no encoding.
     NoEncoding,
+    /// The key isn't allowed there.
+    BadKey,
+    /// The call doesn't take the type tag.
+    BadTag,
+    /// The number is out of the type's range.
+    OutOfRange,
 }
 
 impl Fault {
@@ -43,6 +49,9 @@ impl Fault {
             Fault::NoRoom(_) => -7,
             Fault::NotJson => -8,
             Fault::NoEncoding => -9,
+            Fault::BadKey => -10,
+            Fault::BadTag => -11,
+            Fault::OutOfRange => -12,
         }
     }
 }

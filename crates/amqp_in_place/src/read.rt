@@ -1,7 +1,7 @@
 //! Reading a value in place.
 
 ghost use Rattle.std.specs.Str.{IsUtf8};
-ghost use Rattle.std.specs.Prelude.{◌≡◌, ◌++◌, true, false, length, MatchResult, IfErr, IfOk};
+ghost use Rattle.std.specs.Prelude.{◌≡◌, ◌++◌, ◌↔◌, IsTrue, true, false, length, MatchResult, IfErr, IfOk};
 ghost use Rattle.amqp_grammar.specs.Values.{Tree, Trees, Entries, table};
 ghost use Rattle.amqp_grammar.specs.Grammar.{long_field};
 ghost use Rattle.amqp_grammar.specs.Nesting.{BodyWithin, PairsWithin, OutcomeWithin};
@@ -180,9 +180,19 @@ fn are_pairs<'a>(body: SliceInput<'a>, depth: usize) -> bool
 pub(crate) fn check_utf8(bytes: &[u8]) -> Result<(), Utf8Error>
     ensures { MatchResult result (λ _. IsUtf8 bytes.now) (λ _. IsUtf8 bytes.now → ⊥) }
 {
-    if bytes.iter().all(|byte| *byte < 128) || simdutf8::is_utf8(bytes) {
+    if bytes.iter().all(|byte| *byte < 128) || is_utf8(bytes) {
         Ok(())
     } else {
         Err(Utf8Error)
     }
+}
+
+// The same of bytes that aren't ASCII, by compares, since not every processor has the look-ups that
+// take as long. It isn't in line, since what it takes of the stack would be taken at each level.
+#[cold]
+#[inline(never)]
+fn is_utf8(bytes: &[u8]) -> bool
+    ensures { IsTrue result ↔ IsUtf8 bytes.now }
+{
+    simdutf8::is_utf8_baseline(bytes)
 }

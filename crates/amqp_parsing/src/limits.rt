@@ -1,7 +1,7 @@
 /// The limits on a value's length and nesting.
 ///
-/// For bytes from untrusted peers RabbitMQ's usual `frame_max` of 128 KiB and a depth of 64 are
-/// suitable: `Limits { frame: 131_072, depth: 64 }`.
+/// For bytes from untrusted peers `Limits { frame: 1_048_576, depth: 64 }` is suitable: RabbitMQ
+/// sends frames above its usual `frame_max`, which is 131,072.
 #[derive(Clone, Copy, Debug, PartialEq, Eq)]
 pub struct Limits {
     /// The most bytes that a value's encoding may have, with its type tag and lengths. It is no

@@ -10,6 +10,9 @@ const FRAME: u32 = 1_048_576;
 
 const DEPTH: u32 = 64;
 
+// RabbitMQ's usual `frame_max`.
+const FRAME_MAX: u32 = 131_072;
+
 // The greatest depth that may be asked for. A level takes about a kilobyte of the stack, of which
 // programs usually have 8 MiB.
 const DEEPEST: i64 = 1_000;
@@ -95,8 +98,13 @@ pub enum Form {
     },
     /// As JSON, in a line.
     Json,
+    /// By its measures, in a line.
+    Measure,
     /// By what RabbitMQ makes of it.
-    Check,
+    Check {
+        /// A frame that has more bytes is warned of, unless this is 0.
+        frame_max: u32,
+    },
 }
 
 /// What is done, how a value is shown, and within which limits it is read.
@@ -117,8 +125,8 @@ pub struct Settings {
 }
 
 impl Settings {
-    /// What the arguments ask for, if the output is to have colours or not. Without `--bytes` and
-    /// `--json` a value is shown as a tree.
+    /// What the arguments ask for, if the output is to have colours or not. Unless they ask for
+    /// another form a value is shown as a tree.
     pub fn from_matches(matches: &ArgMatches<'_>, colours: bool) -> Settings {
         Settings {
             task: task_of(matches),
@@ -157,8 +165,12 @@ fn form_of(matches: &ArgMatches<'_>) -> Form {
     if matches.get_flag("json") {
         return Form::Json;
     }
+    if matches.get_flag("measure") {
+        return Form::Measure;
+    }
     if matches.get_str("check").is_some() {
-        return Form::Check;
+        let frame_max = matches.get_one::<u32>("frame-max").unwrap_or(FRAME_MAX);
+        return Form::Check { frame_max };
     }
     let bytes = matches.get_flag("bytes");
     let tree = matches.get_flag("tree") || !bytes;
@@ -209,15 +221,27 @@ pub fn command<'a>(alloc: Global) -> Result<Command<'a>, AllocError> {
                 .conflicts_with("canonical")?,
         )?
         .arg(
+            flag(
+                alloc,
+                "measure",
+                "Show how many bytes, values and levels a value has, in a line",
+            )
+            .conflicts_with("tree")?
+            .conflicts_with("bytes")?
+            .conflicts_with("canonical")?
+            .conflicts_with("json")?,
+        )?
+        .arg(
             Arg::new(alloc, "check")
                 .long("check")
                 .value_name("PEER")
                 .value_parser(PEERS)
-                .help("Show the first thing for which a peer closes the connection")
+                .help("Show the first thing for which a peer closes the connection, or warnings")
                 .conflicts_with("tree")?
                 .conflicts_with("bytes")?
                 .conflicts_with("canonical")?
                 .conflicts_with("json")?
+                .conflicts_with("measure")?
                 .conflicts_with("stream")?,
         )?
         .arg(flag(
@@ -242,6 +266,7 @@ pub fn command<'a>(alloc: Global) -> Result<Command<'a>, AllocError> {
             .conflicts_with("bytes")?
             .conflicts_with("canonical")?
             .conflicts_with("json")?
+            .conflicts_with("measure")?
             .conflicts_with("check")?
             .conflicts_with("stream")?,
         )?
@@ -259,6 +284,13 @@ pub fn command<'a>(alloc: Global) -> Result<Command<'a>, AllocError> {
             "Refuse containers that nest more than N deep, at most 1000",
         )
         .value_parser(value_parser!(u32).range(0..=DEEPEST)))?
+        .arg(number(
+            alloc,
+            "frame-max",
+            "131072",
+            "With --check: warn of a value that takes a frame of more than N bytes",
+        )
+        .requires_arg("check")?)?
         .arg(
             Arg::new(alloc, "FILE")
                 .action(ArgAction::Append)

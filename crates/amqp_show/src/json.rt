@@ -1,12 +1,10 @@
 //! A value as JSON.
 
 use crate::arguments::Settings;
+use crate::failures::{complain_of_rest, refuse};
 use crate::input::Tagged;
 use crate::messages::{complain, out_of_memory};
-use crate::texts::{count_text, failure_text, outcome_text};
-use crate::untagged::{LACKS_TYPE_TAG, lacks_type_tag};
 use amq_protocol_types::stream::Limits;
-use amqp_dissect::dissect;
 use amqp_json::{DecodeError, json_of_encoding};
 use amqp_screen::{Screen, Status};
 use anyhow::Result;
@@ -27,46 +25,12 @@ pub fn show_input(
     match json_of_encoding(rt.alloc(), encoding, limits) {
         Ok((json, rest)) => {
             let status = print_json(rt, file, json.as_str(), limits)?;
-            if !rest.is_empty() {
-                let count = count_text(rt.alloc(), encoding, rest, limits)?;
-                let name = settings.subject.name();
-                let why = format!(in rt.alloc(); "{count} bytes follow the {name}")?;
-                complain(rt, file, why.as_str())?;
-            }
+            complain_of_rest(rt, file, encoding, rest, settings)?;
             Ok(status)
         }
-        Err(DecodeError::Refused(_)) => {
-            print_failure(rt, file, encoding, settings)?;
-            if lacks_type_tag(input, settings) {
-                complain(rt, file, LACKS_TYPE_TAG)?;
-            }
-            Ok(Status::Refused)
-        }
+        Err(DecodeError::Refused(_)) => refuse(rt, file, input, settings),
         Err(DecodeError::OutOfMemory) => Err(out_of_memory()),
     }
-}
-
-/// Reports at which offset the value at the beginning of an encoding fails, and why.
-pub fn print_failure(
-    rt: &HostRuntime,
-    file: &str,
-    encoding: &[u8],
-    settings: Settings,
-) -> Result<()> {
-    let why = why_refused(rt.alloc(), encoding, settings)?;
-    complain(rt, file, why.as_str())
-}
-
-/// At which offset the value at the beginning of an encoding fails, why, and the outcome.
-pub fn why_refused(
-    alloc: Global,
-    encoding: &[u8],
-    settings: Settings,
-) -> Result<String, AllocError> {
-    let dissection = dissect(alloc, encoding, settings.limits)?;
-    let failure = failure_text(alloc, &dissection, settings.subject)?;
-    let outcome = outcome_text(alloc, encoding, settings)?;
-    format!(in alloc; "{failure}; {outcome}")
 }
 
 /// Prints a JSON text on a line, if it nests no deeper than its readers take, or the limits go

@@ -1,5 +1,6 @@
 //! Shows AMQP field-table values to people and programs: as a tree, byte by byte up to the place at
-//! which one fails, or as JSON, one or a stream of them; and encodes the values that JSON denotes.
+//! which one fails, as JSON or by measures, one or a stream of them; by what RabbitMQ makes of one;
+//! and encodes the values that JSON denotes.
 #![tactic(auto)]
 
 mod arguments;
@@ -9,8 +10,10 @@ mod cut;
 mod digits;
 mod dump;
 mod encode;
+mod failures;
 mod input;
 mod json;
+mod measure;
 mod messages;
 mod notes;
 mod payload;

@@ -2,13 +2,14 @@
 
 use crate::arguments::Subject;
 use crate::notes::key_of;
+use crate::show::push_warning;
 use crate::texts::{quoted, typed_text};
 use amqp_dissect::{Field, Part};
-use amqp_screen::{Colour, Screen};
+use amqp_screen::Screen;
 use std::alloc::{AllocError, Global};
 
-// Which of equal keys counts.
-const TAKEN: &str = "this library takes the last, RabbitMQ the first";
+/// Which of equal keys counts.
+pub const TAKEN: &str = "this library takes the last, RabbitMQ the first";
 
 // A key after which a value begins: the place of its table, and which part the value's type tag is.
 #[derive(Clone, Copy, Debug, PartialEq, Eq, PartialOrd, Ord)]
@@ -31,8 +32,7 @@ pub fn push_repeats(
     for entries in entries.as_slice().chunk_by(same) {
         if let [first, .., last] = entries {
             let line = repeat_text(alloc, parts, entries.len(), *first, *last, subject)?;
-            screen.push_coloured(line.as_str(), Colour::Note)?;
-            screen.end_line()?;
+            push_warning(alloc, screen, line.as_str())?;
         }
     }
     Ok(())
@@ -50,7 +50,7 @@ fn repeat_text(
     let key = quoted(alloc, first.key)?;
     let first = value_text(alloc, parts, first.value, subject)?;
     let last = value_text(alloc, parts, last.value, subject)?;
-    format!(in alloc; "* the key {key} comes {times} times: first {first}, last {last}; {TAKEN}")
+    format!(in alloc; "the key {key} comes {times} times: first {first}, last {last}; {TAKEN}")
 }
 
 // The entries of all tables, in order.

@@ -6,6 +6,7 @@ use crate::check::check_input;
 use crate::cut::Cut;
 use crate::input::{Tagged, read_input};
 use crate::json;
+use crate::measure::measure_input;
 use crate::messages::unreadable;
 use crate::repeats::push_repeats;
 use crate::texts::{failure_text, outcome_text};
@@ -23,7 +24,8 @@ pub fn show_file(rt: &HostRuntime, file: &str, settings: Settings) -> Result<Sta
         Err(why) => return unreadable(rt, file, why.as_str()),
     };
     match settings.form {
-        Form::Check => check_input(rt, file, &input, settings),
+        Form::Check { frame_max } => check_input(rt, file, &input, frame_max, settings),
+        Form::Measure => measure_input(rt, file, &input, settings),
         Form::Json => json::show_input(rt, file, &input, settings),
         Form::Text { .. } => show_input(rt, file, &input, settings),
     }
@@ -83,6 +85,13 @@ pub fn push_value(
 pub fn push_failure(alloc: Global, screen: &mut Screen, why: &str) -> Result<(), AllocError> {
     let line = format!(in alloc; "! {why}")?;
     screen.push_coloured(line.as_str(), Colour::Failure)?;
+    screen.end_line()
+}
+
+/// Adds a line about what is taken, and may not be meant.
+pub fn push_warning(alloc: Global, screen: &mut Screen, why: &str) -> Result<(), AllocError> {
+    let line = format!(in alloc; "* {why}")?;
+    screen.push_coloured(line.as_str(), Colour::Note)?;
     screen.end_line()
 }
 

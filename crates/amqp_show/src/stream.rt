@@ -2,13 +2,16 @@
 
 use crate::arguments::{Form, Settings, Task};
 use crate::digits::Digits;
+use crate::failures::{print_failure, why_refused};
 use crate::input::{BLOCK, Input};
-use crate::json::{print_failure, print_json, why_refused};
+use crate::json::print_json;
+use crate::measure::{next_measure, print_measure};
 use crate::messages::{complain, out_of_memory, unreadable, why_unread};
 use crate::recorder::Recorder;
 use crate::show::{push_name, push_value};
 use crate::texts::outcome_text;
 use amq_protocol_types::AMQPValue;
+use amq_protocol_types::in_place::Measure;
 use amq_protocol_types::stream::{StreamError, Values};
 use amqp_json::to_json;
 use amqp_parsing::SliceInput;
@@ -68,6 +71,27 @@ impl<R: Read> Read for Source<R> {
     }
 }
 
+// What is read of a value.
+#[derive(Drop)]
+enum Item {
+    Value(AMQPValue),
+    Measure(Measure),
+}
+
+// Reads the next value, or measures it if that is the form that is set.
+fn next_item<R: Read>(
+    values: &mut Values,
+    recorder: &mut Recorder<R>,
+    settings: Settings,
+) -> Result<Option<Item>, StreamError> {
+    if let Form::Measure = settings.form {
+        let measure = next_measure(recorder, settings.limits)?;
+        return Ok(measure.map(Item::Measure));
+    }
+    let value = values.next_from(recorder)?;
+    Ok(value.map(Item::Value))
+}
+
 // Shows the values that a reader yields. No more of them is retained than the one being read.
 fn show_values<R: Read + Drop>(
     rt: &HostRuntime,
@@ -83,9 +107,9 @@ fn show_values<R: Read + Drop>(
     let mut offset: u64 = 0;
     let mut status = Status::Read;
     for _ in 0..u64::MAX {
-        match values.next_from(&mut recorder) {
-            Ok(Some(value)) => {
-                let shown = show_value(rt, file, &value, recorder.as_slice(), offset, settings)?;
+        match next_item(&mut values, &mut recorder, settings) {
+            Ok(Some(item)) => {
+                let shown = show_item(rt, file, &item, recorder.as_slice(), offset, settings)?;
                 status = worse(status, shown);
                 offset = offset.saturating_add(recorder.as_slice().len() as u64);
                 recorder.forget();
@@ -136,17 +160,24 @@ fn pass_over<R: Read>(recorder: &mut Recorder<R>) -> io::Result<Option<usize>> {
 }
 
 // Shows a value, which was read from these bytes at this offset of the stream.
-fn show_value(
+fn show_item(
     rt: &HostRuntime,
     file: &str,
-    value: &AMQPValue,
+    item: &Item,
     bytes: &[u8],
     offset: u64,
     settings: Settings,
 ) -> Result<Status> {
     let alloc = rt.alloc();
-    if let Form::Json = settings.form {
-        return print_json(rt, file, to_json(alloc, value)?.as_str(), settings.limits);
+    match item {
+        Item::Measure(measure) => {
+            print_measure(rt, *measure)?;
+            return Ok(Status::Read);
+        }
+        Item::Value(value) if matches!(settings.form, Form::Json) => {
+            return print_json(rt, file, to_json(alloc, value)?.as_str(), settings.limits);
+        }
+        Item::Value(_) => {}
     }
     let mut screen = Screen::new(alloc, settings.colours);
     let _ = push_value(alloc, &mut screen, bytes, settings)?;
@@ -165,7 +196,7 @@ fn show_failure(
     settings: Settings,
 ) -> Result<()> {
     let alloc = rt.alloc();
-    if let Form::Json = settings.form {
+    if matches!(settings.form, Form::Json | Form::Measure) {
         return complain_of_value(rt, file, bytes, offset, settings);
     }
     let mut screen = Screen::new(alloc, settings.colours);

@@ -14,7 +14,7 @@ fn deaths(headers: TableRef<'_>) -> Option<i64> {
 /// compared by their bytes: they are in their canonical encoding.
 pub fn run<P: Print>(rt: &P) -> Result<(), Fault> {
     let limits = Limits {
-        frame: 131_072,
+        frame: 1_048_576,
         depth: 64,
     };
     let (value, _rest) = read_in_place(HEADERS, limits)?;

@@ -11,7 +11,7 @@ const STREAM: &[u8] = b"VS\0\0\0\x04testS\0\x10\0\0";
 /// Prints the values that a stream yields, and why there are no more.
 pub fn run<P: Print>(rt: &P, alloc: Global) -> Result<(), Fault> {
     let limits = Limits {
-        frame: 131_072,
+        frame: 1_048_576,
         depth: 64,
     };
     let mut values = ValueReader::new(alloc, STREAM, limits);

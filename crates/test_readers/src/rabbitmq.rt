@@ -181,23 +181,26 @@ fn warned(alloc: Global, bytes: &[u8], depth: u32) -> Result<Warned, AllocError>
 fn table_of(alloc: Global, len: u32) -> Result<Vec<u8>, AllocError> {
     let mut bytes = Vec::new(alloc);
     bytes.push(b'F')?;
-    bytes.extend_from_slice(&(len - 4).to_be_bytes())?;
+    bytes.extend_from_slice(&len.saturating_sub(4).to_be_bytes())?;
     bytes.extend_from_slice(b"\0x")?;
-    bytes.extend_from_slice(&(len - 10).to_be_bytes())?;
+    bytes.extend_from_slice(&len.saturating_sub(10).to_be_bytes())?;
     for _ in 10..len {
         bytes.push(7)?;
     }
     Ok(bytes)
 }
 
-// a table with this many different keys of four bytes, and the first again
-fn many_keys(alloc: Global, count: u32) -> Result<Vec<u8>, AllocError> {
+// how many different keys of four bytes there are in a table
+const MANY: u32 = 20_000;
+
+// the table with these keys, and the first again
+fn many_keys(alloc: Global) -> Result<Vec<u8>, AllocError> {
     let mut bytes = Vec::new(alloc);
     bytes.push(b'F')?;
-    bytes.extend_from_slice(&(6 * count + 6).to_be_bytes())?;
-    for number in 0..=count {
+    bytes.extend_from_slice(&(6 * MANY + 6).to_be_bytes())?;
+    for number in 0..=MANY {
         bytes.push(4)?;
-        bytes.extend_from_slice(&(number % count).to_be_bytes())?;
+        bytes.extend_from_slice(&(number % MANY).to_be_bytes())?;
         bytes.push(b'V')?;
     }
     Ok(bytes)
@@ -236,7 +239,7 @@ fn a_frame_has_eight_bytes_more(rt: HostRuntime) -> Result<(), AllocError> {
 
 #[test]
 fn many_keys_take_seconds(rt: HostRuntime) -> Result<(), AllocError> {
-    let bytes = many_keys(rt.alloc(), 20_000)?;
+    let bytes = many_keys(rt.alloc())?;
     let seen = warned(rt.alloc(), &bytes, 1)?;
     assert_eq!(rt; seen.repeated_key, Some(120_005));
     Ok(())

@@ -12,5 +12,5 @@ returns-clause-put c =
     let t = c.to_be_bytes.result in
     let w : List ℕ = (tag ∷ get_or t 0 0 ∷ get_or t 1 0 ∷ get_or t 2 0 ∷ get_or t 3 0 ∷ []) ++ b in
     let is = strings tag b t w c.if-not-is_string_tag.ensures c.in-Ok.ensures.0 (c.to_be_bytes.ensures ∙ ap (to_be_bytes w32) c.in-Ok.ensures.1) refl in
-    put_of (IsStringTag tag) (IsOfBytes tag b) (IsTooLong tag b) c.args.room.now c.append.new.room c.args.key.now w c.args.into is.0 c.append.result
-    is.1 is.2 c.append.ensures.appended
+    put_of (IsStringTag tag) (Unit {0}) (IsOfBytes tag b) (IsTooLong tag b) c.args.room.now c.append.new.room c.args.key.now w c.args.into is.0 c.append.result
+    c.in_ok-at.ensures.0 is.1 is.2 c.append.ensures.appended

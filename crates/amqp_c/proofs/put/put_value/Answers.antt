@@ -12,5 +12,5 @@ returns-clause-put c =
     let x = c.in_ok-rest.ensures.within in
     let w = take (length s - length rest) s in
     let is = front l s rest w x.0 x.2 refl in
-    put_of (Unit {0}) (IsFront l s) (IsReadFaultInPlace l s) c.args.room.now c.append.new.room c.args.key.now w c.args.into x.0 c.append.result
-    is.0 is.1 c.append.ensures.appended
+    put_of (Unit {0}) (Unit {0}) (IsFront l s) (IsReadFaultInPlace l s) c.args.room.now c.append.new.room c.args.key.now w c.args.into x.0 c.append.result
+    c.in_ok-at.ensures.0 is.0 is.1 c.append.ensures.appended

@@ -7,9 +7,8 @@ pub returns-clause-appended : goal.returns-clause-appended
 returns-clause-appended c =
     let tag = c.args.into.tag in
     let k = c.args.key.now in
-    let place = c.in-Some.ensures in
     appended c.args.room.now k c.args.head.now c.args.content.now c.write_name.new.room c.write.new.room c.write-2.new.room
-    c.args.into c.up_to.result c.in-Some.at c.if-into-eq70.name_length place.0 place.1
+    c.args.into c.up_to.result c.args.at c.if-into-eq70.name_length c.requires.place c.requires.at
     (elim c.if-into-eq70.branch [
       | then-into-eq70 w ↦ w.name_length-is ∙ sym (named_table tag k w.if-into-eq70.true)
       | else-into-eq70 w ↦ w.name_length-is ∙ sym (named_other tag k w.if-into-eq70.false)

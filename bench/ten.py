@@ -1,0 +1,127 @@
+"""The ten inputs of docs/SPEED.md, and tables that grow: the same bytes each time.
+
+Each is a table, its type tag included, since librabbitmq and Go read nothing else: what isn't one is at the only key of one.
+"""
+
+import random
+import struct
+
+FORMS = {"t": "?", "b": "b", "B": "B", "s": "h", "u": "H", "I": "i", "i": "I", "l": "q", "T": "Q", "f": "f", "d": "d"}
+
+
+class Input:
+    """A value's encoding and its canonical form; `row` is for tables, `label` for the picture."""
+
+    def __init__(self, row, label, value):
+        self.row, self.label, self.given, self.canonical = row, label, encoded(value, False), encoded(value, True)
+
+
+def number(tag, value):
+    return tag.encode() + struct.pack(f">{FORMS[tag]}", value)
+
+
+def counted(tag, content):
+    return tag + struct.pack(">I", len(content)) + content
+
+
+def text(content):
+    return counted(b"S", content.encode())
+
+
+def encoded(value, ascending):
+    """The encoding of a value: a dict is a table, a list an array, bytes are an encoding already."""
+    if isinstance(value, dict):
+        pairs = sorted(value.items(), key=lambda it: it[0].encode()) if ascending else value.items()
+        return counted(b"F", b"".join(bytes([len(key)]) + key.encode() + encoded(it, ascending) for key, it in pairs))
+    return counted(b"A", b"".join(encoded(it, ascending) for it in value)) if isinstance(value, list) else value
+
+
+def every_type():
+    return {
+        "aaaa": number("b", 42), "bar": {}, "bbbb": number("B", 64), "blah": number("t", False), "cccc": number("s", 32),
+        "dddd": number("u", 132), "eeee": number("I", -53), "ffff": number("i", 66666), "foo": [number("t", True), b"V"],
+        "gggg": number("l", -9999), "hhhh": counted(b"x", bytes([42, 1, 2, 3])), "iiii": number("f", 42.42),
+        "jjjj": number("d", 42.42), "kkkk": number("T", 1234567890), "llll": b"V", "oof": [],
+        "tabl": {"baz": text("blah42"), "foo": b"D" + struct.pack(">BI", 55, 999)},
+    }  # fmt: skip
+
+
+def death(count, reason, queue, exchange, key, time):
+    return {"count": number("l", count), "reason": text(reason), "queue": text(queue), "time": number("T", time),
+            "exchange": text(exchange), "routing-keys": [text(key)]}  # fmt: skip
+
+
+def message_headers():
+    dice = random.Random(2)
+    return {
+        "x-death": [
+            death(3, "rejected", "orders.work", "orders", "orders.created", 1700000300),
+            death(2, "expired", "orders.retry.30s", "orders.retry", "orders.created", 1700000200),
+            death(1, "maxlen", "orders.inbox", "", "orders.inbox", 1700000100),
+        ],
+        "x-first-death-exchange": text(""), "x-first-death-queue": text("orders.inbox"), "x-first-death-reason": text("maxlen"),
+        "traceparent": text(f"00-{dice.getrandbits(128):032x}-{dice.getrandbits(64):016x}-01"), "retries": number("I", 6),
+        "sampled": number("t", True), "amount": b"D" + struct.pack(">BI", 2, 129950), "weight": number("d", 0.75), "sent-at": number("T", 1700000000),
+    }  # fmt: skip
+
+
+def server_properties():
+    able = ("publisher_confirms exchange_exchange_bindings basic.nack consumer_cancel_notify connection.blocked consumer_priorities "
+            "authentication_failure_close per_consumer_qos direct_reply_to").split()  # fmt: skip
+    return {
+        "capabilities": {it: number("t", True) for it in able}, "cluster_name": text("rabbit@node-1.example.com"),
+        "copyright": text("Copyright (c) 2007-2022 VMware, Inc. or its affiliates."),
+        "information": text("Licensed under the MPL 2.0. Website: https://rabbitmq.com"),
+        "platform": text("Erlang/OTP 25.2.3"), "product": text("RabbitMQ"), "version": text("3.10.8"),
+    }  # fmt: skip
+
+
+def entries(count, at_random=True):
+    makes = (lambda it: number("I", it), lambda it: text(f"value-{it}"), lambda it: number("t", it % 2),
+             lambda it: number("l", it * 1000003), lambda it: number("T", 1700000000 + it))  # fmt: skip
+    pairs = [(f"key-{it:06}", makes[it % 5](it)) for it in range(count)]
+    if at_random:
+        random.Random(count).shuffle(pairs)
+    return dict(pairs)
+
+
+def nested(levels):
+    """A table in a table, `levels` in all."""
+    value = encoded({}, True)
+    for _ in range(levels - 1):
+        value = encoded({"n": value}, True)
+    return value
+
+
+def small_tables(count):
+    return {"v": [{"id": number("I", it), "name": text(f"item-{it}"), "open": number("t", it % 3 == 0)} for it in range(count)]}
+
+
+def ten():
+    dice = random.Random(1)
+    numbers = [number("I", dice.randrange(-(2**31), 2**31)) for _ in range(100_000)]
+    yield Input("a table with every type, 199 bytes", "every type", every_type())
+    yield Input("message headers with three `x-death` entries, 656 bytes", "message headers", message_headers())
+    yield Input("a server's properties, 480 bytes", "server's properties", server_properties())
+    yield Input("an array of 1,000 small tables, 38 kB", "1,000 small tables", small_tables(1000))
+    yield Input("a table of 10,000 entries in random order, 190 kB", "10,000 entries, random", entries(10_000))
+    yield Input("the same entries in order", "10,000 entries in order", entries(10_000, False))
+    yield Input("an array of 100,000 LongInt, 500 kB", "100,000 LongInt", {"v": numbers})
+    yield Input("a string of 16 MiB", "16 MiB string", {"v": counted(b"S", dice.randbytes(16 << 20))})
+    yield Input("a byte array of 1 MiB", "1 MiB byte array", {"v": counted(b"x", dice.randbytes(1 << 20))})
+    yield Input("200 nested tables, 1.4 kB", "200 nested tables", nested(200))
+
+
+def growing():
+    """Yields tables that are larger each time."""
+    for count in (100, 1_000, 10_000, 100_000):
+        yield Input(f"a table of {count:,} entries in random order", "", entries(count))
+    for levels in (10, 100, 1_000, 4_000):
+        yield Input(f"{levels:,} nested tables", "", nested(levels))
+
+
+def stream(count):
+    """Small values one after another: a client's properties, an `x-death` and a queue's arguments, by turns."""
+    client = {"product": text("client"), "version": text("1.0"), "capabilities": {"basic.nack": number("t", True)}}
+    death_of_one = death(1, "expired", "orders.work", "orders", "orders.created", 1700000100)
+    return b"".join(encoded((client, death_of_one, {"x-max-length": number("I", 1000)})[it % 3], False) for it in range(count))

@@ -1,0 +1,17 @@
+use Rattle.std.proofs.Common.{[], ◌++◌, refl, ◌∙◌}
+use Rattle.amqp_grammar.specs.Values.{Scalar, scalar}
+use Rattle.amqp_c.specs.BuiltEntries.{Tells, IsScalarTag, IsTold}
+use Rattle.amqp_c.specs.Faults.{NoOther}
+use Rattle.amqp_c.proofs.Putting.{put_of, told}
+use Rattle.amqp_c.proofs.put.put_scalar_at.Goals as goal
+
+pub returns-clause-put : goal.returns-clause-put
+returns-clause-put c =
+    let tag = c.args.tag in
+    let bits = c.args.bits in
+    let scale = c.args.scale in
+    let x = c.in_ok-encoding.ensures in
+    let bytes = c.as_slice.result.now in
+    let is = told tag bits scale (bytes ++ []) bytes x.0 x.1 refl (c.as_slice.ensures.value ∙ x.2) in
+    put_of (IsScalarTag tag) ((y : Scalar) × Tells tag bits scale y) (IsTold tag bits scale) NoOther
+    c.args.room.now c.append.new.room c.args.key.now (bytes ++ []) c.args.into (scalar x.0) c.append.result c.requires.place is.0 is.1 c.append.ensures.appended

@@ -1,0 +1,149 @@
+//! What the value of fixed width of an entry is.
+
+ghost use Rattle.std.specs.Prelude.{◌≡◌, ◌<◌, ◌^◌, ℕ, ℤ, pos, MatchResult, FitsSigned};
+ghost use Rattle.std.specs.Int.{w64};
+ghost use Rattle.amqp_c_common.specs.ReturnCodes.{answer_of};
+ghost use Rattle.amqp_c.specs.CallResults.{ok_or_old};
+ghost use Rattle.amqp_c.specs.Getters.{IsIntegerTag, IsInteger, RefusesGet};
+
+use crate::entry::Entry;
+use crate::integers::{is_signed_tag, is_unsigned_tag};
+use amqp_c_common::Fault;
+
+/// Something is given.
+const OK: i32 = 0;
+
+impl Entry {
+    /// Its integer, if that fits an `i64`.
+    #[tactic(auto, using(crate::proofs::EntryIntegers::no_integer, crate::proofs::EntryIntegers::signed_is, crate::proofs::EntryIntegers::unsigned_is, crate::proofs::EntryIntegers::too_great))]
+    pub fn as_int(&self) -> Result<i64, Fault>
+        ensures { MatchResult result (IsInteger self.now)
+            (RefusesGet (IsIntegerTag self.now.tag) ((z : ℤ) × IsInteger self.now z × FitsSigned w64 z)) }
+    {
+        if is_signed_tag(self.tag) {
+            return Ok(self.bits.cast_signed());
+        }
+        if !is_unsigned_tag(self.tag) {
+            return Err(Fault::BadTag);
+        }
+        let Ok(number) = i64::try_from(self.bits) else {
+            return Err(Fault::OutOfRange);
+        };
+        Ok(number)
+    }
+
+    /// Its integer, if that isn't below 0.
+    #[tactic(auto, using(crate::proofs::EntryIntegers::no_integer, crate::proofs::EntryIntegers::unsigned_is, crate::proofs::EntryIntegers::uint_is, crate::proofs::EntryIntegers::below_0))]
+    pub fn as_uint(&self) -> Result<u64, Fault>
+        ensures { MatchResult result (λ n. IsInteger self.now (pos n))
+            (RefusesGet (IsIntegerTag self.now.tag) ((n : ℕ) × IsInteger self.now (pos n))) }
+    {
+        if is_unsigned_tag(self.tag) {
+            return Ok(self.bits);
+        }
+        if !is_signed_tag(self.tag) {
+            return Err(Fault::BadTag);
+        }
+        let Ok(number) = u64::try_from(self.bits.cast_signed()) else {
+            return Err(Fault::OutOfRange);
+        };
+        Ok(number)
+    }
+
+    /// Its boolean, as 0 or 1.
+    pub fn as_bool(&self) -> Result<i32, Fault>
+        ensures { MatchResult result (λ z. (self.now.tag ≡ 116) × (z ≡ pos self.now.bits) × (self.now.bits < 2))
+            (RefusesGet (self.now.tag ≡ 116) (self.now.bits < 2)) }
+    {
+        if self.tag != b't' {
+            return Err(Fault::BadTag);
+        }
+        match self.bits {
+            0 => Ok(0),
+            1 => Ok(1),
+            _ => Err(Fault::OutOfRange),
+        }
+    }
+
+    /// Its timestamp.
+    pub fn as_timestamp(&self) -> Result<u64, Fault>
+        ensures { MatchResult result (λ n. (self.now.tag ≡ 84) × (n ≡ self.now.bits))
+            (RefusesGet (self.now.tag ≡ 84) (Unit {0})) }
+    {
+        if self.tag != b'T' {
+            return Err(Fault::BadTag);
+        }
+        Ok(self.bits)
+    }
+
+    /// Its decimal: the number without the point, and how many digits are after the point.
+    pub fn as_decimal(&self) -> Result<(u32, u8), Fault>
+        ensures { MatchResult result (λ d. (self.now.tag ≡ 68) × (d.0 ≡ self.now.bits) × (d.1 ≡ self.now.scale))
+            (RefusesGet (self.now.tag ≡ 68) (self.now.bits < 2 ^ 32)) }
+    {
+        if self.tag != b'D' {
+            return Err(Fault::BadTag);
+        }
+        let Ok(number) = u32::try_from(self.bits) else {
+            return Err(Fault::OutOfRange);
+        };
+        Ok((number, self.scale))
+    }
+}
+
+/// Leaves the signed number that is given.
+pub fn store_int(done: Result<i64, Fault>, number: &mut i64) -> i32
+    ensures answer { result ≡ answer_of done }
+    ensures number { number.new ≡ ok_or_old number.old done }
+{
+    match done {
+        Ok(given) => {
+            *number = given;
+            OK
+        }
+        Err(fault) => fault.code(),
+    }
+}
+
+/// Leaves the unsigned number that is given.
+pub fn store_uint(done: Result<u64, Fault>, number: &mut u64) -> i32
+    ensures answer { result ≡ answer_of done }
+    ensures number { number.new ≡ ok_or_old number.old done }
+{
+    match done {
+        Ok(given) => {
+            *number = given;
+            OK
+        }
+        Err(fault) => fault.code(),
+    }
+}
+
+/// Leaves the boolean that is given.
+pub fn store_bool(done: Result<i32, Fault>, truth: &mut i32) -> i32
+    ensures answer { result ≡ answer_of done }
+    ensures truth { truth.new ≡ ok_or_old truth.old done }
+{
+    match done {
+        Ok(given) => {
+            *truth = given;
+            OK
+        }
+        Err(fault) => fault.code(),
+    }
+}
+
+/// Leaves the decimal that is given.
+pub fn store_decimal(done: Result<(u32, u8), Fault>, number: &mut u32, scale: &mut u8) -> i32
+    ensures answer { result ≡ answer_of done }
+    ensures decimal { (number.new, scale.new) ≡ ok_or_old (number.old, scale.old) done }
+{
+    match done {
+        Ok((given, digits)) => {
+            *number = given;
+            *scale = digits;
+            OK
+        }
+        Err(fault) => fault.code(),
+    }
+}

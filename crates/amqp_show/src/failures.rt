@@ -1,0 +1,60 @@
+//! What is reported of a value that isn't shown, or is followed by bytes.
+
+use crate::arguments::Settings;
+use crate::input::Tagged;
+use crate::messages::complain;
+use crate::texts::{count_text, failure_text, outcome_text};
+use crate::untagged::{LACKS_TYPE_TAG, lacks_type_tag};
+use amqp_dissect::dissect;
+use amqp_screen::Status;
+use anyhow::Result;
+use std::alloc::{AllocError, Global};
+
+/// Reports why an input isn't a value within the limits.
+pub fn refuse(rt: &HostRuntime, file: &str, input: &Tagged, settings: Settings) -> Result<Status> {
+    print_failure(rt, file, input.encoding(settings.subject), settings)?;
+    if lacks_type_tag(input, settings) {
+        complain(rt, file, LACKS_TYPE_TAG)?;
+    }
+    Ok(Status::Refused)
+}
+
+/// Reports how many bytes follow the value at the beginning of an encoding, if any do.
+pub fn complain_of_rest(
+    rt: &HostRuntime,
+    file: &str,
+    encoding: &[u8],
+    rest: &[u8],
+    settings: Settings,
+) -> Result<()> {
+    if rest.is_empty() {
+        return Ok(());
+    }
+    let count = count_text(rt.alloc(), encoding, rest, settings.limits)?;
+    let name = settings.subject.name();
+    let why = format!(in rt.alloc(); "{count} bytes follow the {name}")?;
+    complain(rt, file, why.as_str())
+}
+
+/// Reports at which offset the value at the beginning of an encoding fails, and why.
+pub fn print_failure(
+    rt: &HostRuntime,
+    file: &str,
+    encoding: &[u8],
+    settings: Settings,
+) -> Result<()> {
+    let why = why_refused(rt.alloc(), encoding, settings)?;
+    complain(rt, file, why.as_str())
+}
+
+/// At which offset the value at the beginning of an encoding fails, why, and the outcome.
+pub fn why_refused(
+    alloc: Global,
+    encoding: &[u8],
+    settings: Settings,
+) -> Result<String, AllocError> {
+    let dissection = dissect(alloc, encoding, settings.limits)?;
+    let failure = failure_text(alloc, &dissection, settings.subject)?;
+    let outcome = outcome_text(alloc, encoding, settings)?;
+    format!(in alloc; "{failure}; {outcome}")
+}

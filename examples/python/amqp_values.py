@@ -1,0 +1,399 @@
+"""AMQP 0-9-1 field tables, by the C library amqp_values: read, built, looked up, checked, and their JSON.
+
+    >>> data = dumps_table({"x-max-length": 10000, "x-queue-type": "quorum", "x-max-priority": ShortShortUInt(5)})
+    >>> loads_table(data)
+    {'x-max-length': 10000, 'x-queue-type': 'quorum', 'x-max-priority': ShortShortUInt(5)}
+    >>> find(data, ["x-queue-type"], table=True)
+    'quorum'
+
+Each type is one of Python, or a class that is a number or bytes there:
+
+    t  Boolean         bool                        f  Float         Float, a float
+    b  ShortShortInt   ShortShortInt, an int       d  Double        float
+    B  ShortShortUInt  ShortShortUInt, an int      D  DecimalValue  decimal.Decimal
+    s  ShortInt        ShortInt, an int            S  LongString    str, or LongString, bytes, if it isn't UTF-8
+    u  ShortUInt       ShortUInt, an int           x  ByteArray     bytes
+    I  LongInt         LongInt, an int             A  FieldArray    list
+    i  LongUInt        LongUInt, an int            F  FieldTable    dict, its keys str
+    l  LongLongInt     int                         T  Timestamp     Timestamp, an int, in seconds since 1970
+                                                   V  Void          None
+
+So `dumps(loads(data))` is `data`, but for what can be written in two ways: the alternate tags U and L become s and l, a true
+that isn't 1 becomes 1, and of equal keys in a table the last one's value is kept. `entries` returns them all.
+
+A function takes the value at the start of some bytes, with its type tag; with `table=True` the table without one, as methods
+and content headers have it. At most `frame` bytes, the type tag counted, and containers nested at most `depth` deep are read
+(include/amqp_values.h has the stack for each level). What isn't read or can't be written raises an `Error`.
+"""
+
+from __future__ import annotations
+
+import ctypes
+import os
+import struct
+from collections.abc import Iterator, Mapping, Sequence
+from ctypes import POINTER, byref, c_char_p, c_size_t, c_uint8, c_uint32, c_uint64
+from datetime import datetime, timezone
+from decimal import Decimal
+from enum import IntEnum
+from typing import Any, NamedTuple, Union
+
+# Limits for untrusted bytes (RabbitMQ sends more than its usual frame-max, 131072), and of the library for JSON.
+FRAME, DEPTH, JSON_NESTING = 1048576, 64, 127
+
+# What is read, what can be written, and a path: keys into tables, and indexes from 0 into arrays.
+Value = Union[None, bool, int, float, Decimal, str, bytes, list["Value"], dict[str, "Value"]]
+Writable = Union[None, bool, int, float, Decimal, datetime, str, bytes, bytearray, memoryview, Sequence["Writable"], Mapping[str, "Writable"]]
+Path = Sequence[Union[str, bytes, int]]
+Bytes = Union[bytes, bytearray, memoryview]
+
+class Error(ValueError):
+    """Why nothing was read or written. `code` is the library's result."""
+    code = 0
+
+class More(Error):
+    """The bytes end before the value does."""
+    # How many more the field needs that is being read, or 0 if that isn't known. With these it may need more again.
+    missing = 0
+
+class UnknownTag(Error): """The first byte is no type tag."""
+class Malformed(Error): """The bytes are complete and no value, or one that nests deeper than `depth`."""
+class TooLarge(Error): """The value has more than `frame` bytes, or what is written has 2^32 or more."""
+class Trailing(Error): """Bytes follow the value."""
+class Invalid(Error): """It is no array or table, or can't be written there."""
+class BadKey(Invalid): """A key isn't UTF-8, or has more than 255 bytes."""
+class BadTag(Invalid): """It is of another type than is needed, or of none that can be written."""
+class OutOfRange(Invalid): """A number is out of its type's range."""
+class NoMemory(Error, MemoryError): """Out of memory."""
+class NotJson(Error): """The text isn't UTF-8, nests too deep, is no JSON, or the JSON of no value."""
+class NoEncoding(Error): """The value has no encoding: it has a ShortString, or a length is too large for its field."""
+
+_OK, _NONE, _NO_ROOM = 0, 1, -7
+_ERRORS: dict[int, type[Error]] = {
+    -1: More, -2: UnknownTag, -3: Malformed, -4: TooLarge, -5: Invalid, -6: NoMemory, -8: NotJson, -9: NoEncoding, -10: BadKey, -11: BadTag, -12: OutOfRange,
+}
+for _code, _error in _ERRORS.items():
+    _error.code = _code
+
+class _Integer(int):
+    """An integer of one type."""
+    tag, least, most = "", 0, 0
+
+    def __new__(cls, value: int = 0):
+        found = super().__new__(cls, value)
+        if not cls.least <= found <= cls.most:
+            raise OutOfRange(f"{value} isn't between {cls.least} and {cls.most}")
+        return found
+
+    def __repr__(self) -> str:
+        return f"{type(self).__name__}({int(self)})"
+
+    __str__ = int.__repr__
+
+class ShortShortInt(_Integer): tag, least, most = "b", -(2**7), 2**7 - 1
+class ShortShortUInt(_Integer): tag, least, most = "B", 0, 2**8 - 1
+class ShortInt(_Integer): tag, least, most = "s", -(2**15), 2**15 - 1
+class ShortUInt(_Integer): tag, least, most = "u", 0, 2**16 - 1
+class LongInt(_Integer): tag, least, most = "I", -(2**31), 2**31 - 1
+class LongUInt(_Integer): tag, least, most = "i", 0, 2**32 - 1
+class _LongLongInt(_Integer): tag, least, most = "l", -(2**63), 2**63 - 1
+
+class Timestamp(_Integer):
+    """Seconds since 1970. A datetime with a time zone can be written too, rounded down."""
+    tag, least, most = "T", 0, 2**64 - 1
+
+    @classmethod
+    def of(cls, time: datetime) -> Timestamp:
+        since = time - datetime.fromtimestamp(0, timezone.utc)
+        return cls(since.days * 86400 + since.seconds)
+
+    def as_datetime(self) -> datetime:
+        """The time in UTC. It raises OverflowError, ValueError or OSError from the year 10000 on."""
+        return datetime.fromtimestamp(int(self), timezone.utc)
+
+class Float(float):
+    """The nearest number of 32 bits. `bits` are these, so that a NaN is exact too."""
+    def __new__(cls, value: float = 0.0):
+        return cls.of_bits(struct.unpack(">I", struct.pack(">f", value))[0])
+
+    @classmethod
+    def of_bits(cls, bits: int) -> Float:
+        found = super().__new__(cls, struct.unpack(">f", struct.pack(">I", bits))[0])
+        found.bits: int = bits
+        return found
+
+    def __repr__(self) -> str:
+        return f"Float({float(self)!r})"
+
+    __str__ = float.__repr__
+
+class LongString(bytes):
+    """A string by its bytes."""
+    def __repr__(self) -> str:
+        return f"LongString({bytes(self)!r})"
+
+class Encoded(bytes):
+    """The encoding of a value with its type tag, to be checked, and written as it is."""
+
+_INTEGERS = {it.tag: it for it in (ShortShortInt, ShortShortUInt, ShortInt, ShortUInt, LongInt, LongUInt, Timestamp)}
+# How large a value is: its bytes, the values written in it and itself, and how deep containers nest.
+Measure = NamedTuple("Measure", [("length", int), ("values", int), ("levels", int)])
+ProblemKind = IntEnum("ProblemKind", "UNKNOWN_TAG NOT_FINITE CUT KEY_CUT TOO_DEEP TOO_LARGE")
+# The offset of a problem's value, or of its pair if the key is cut, its kind, and the type tag that RabbitMQ doesn't know, or 0.
+Problem = NamedTuple("Problem", [("offset", int), ("kind", ProblemKind), ("tag", int)])
+
+class _Span(ctypes.Structure):
+    _fields_ = [("offset", c_size_t), ("length", c_size_t)]
+
+    def of(self, data: bytes) -> bytes:
+        return data[self.offset : self.offset + self.length]
+
+class _Entry(ctypes.Structure): _fields_ = [("key", _Span), ("value", _Span), ("content", _Span), ("bits", c_uint64), ("tag", c_uint8), ("scale", c_uint8)]
+class _Cursor(ctypes.Structure): _fields_ = [("left", _Span), ("tag", c_uint8)]
+class _Step(ctypes.Structure): _fields_ = [("key", c_char_p), ("key_length", c_size_t), ("index", c_size_t), ("tag", c_uint8)]
+class _Measure(ctypes.Structure): _fields_ = [("length", c_size_t), ("values", c_size_t), ("levels", c_size_t)]
+class _Problem(ctypes.Structure): _fields_ = [("offset", c_size_t), ("kind", c_uint8), ("tag", c_uint8)]
+class _Container(ctypes.Structure): _fields_ = [("written", _Span), ("tag", c_uint8)]
+
+# Parameters by a letter, and those of each call.
+_KINDS: dict[str, list[Any]] = {
+    "b": [c_char_p, c_size_t], "l": [c_uint32, c_uint32], "4": [c_uint32], "n": [c_size_t], "t": [c_uint8], "8": [c_uint64],
+    "N": [POINTER(c_size_t)], "E": [POINTER(_Entry)], "C": [POINTER(_Cursor)], "S": [POINTER(_Step)], "M": [POINTER(_Measure)],
+    "P": [POINTER(_Problem)], "I": [POINTER(_Container)],
+}
+_PARAMETERS = {
+    "read": "blN", "read_table": "blEN", "measure_value": "blMN", "measure_table": "blMN", "first_problem": "blP", "first_problem_in_table": "blP",
+    "first": "bE", "enter": "bEC", "next": "bCE", "find": "bCbE", "find_first": "bCbE", "find_path": "bESn4E",
+    "put": "bIbt8t", "put_bytes": "bIbtb", "put_value": "bIbbl", "open": "bIbtI", "close": "bII",
+    "canonical": "blbN", "to_json": "blbN", "from_json": "b4bN", "version": "",
+}
+_calls: dict[str, Any] = {}
+
+def load(path: str | None = None) -> None:
+    """Loads the library, as the first call does: by a path, by AMQP_VALUES in the environment, or as the system finds it."""
+    library = ctypes.CDLL(path or os.environ.get("AMQP_VALUES") or "libamqp_values.so.0")
+    calls = {name: library[f"amqpv_{name}"] for name in _PARAMETERS}
+    for name, call in calls.items():
+        call.argtypes = [kind for it in _PARAMETERS[name] for kind in _KINDS[it]]
+    _calls.update(calls)
+
+def version() -> int:
+    """The library's version: 10000 * major + 100 * minor + patch."""
+    return _result("version")
+
+def _result(name: str, *arguments: Any) -> int:
+    if not _calls:
+        load()
+    return _calls[name](*arguments)
+
+def _is_ok(code: int, count: int = 0) -> bool:
+    """Whether something was done, and not nothing found; other results raise their error."""
+    if code in (_OK, _NONE):
+        return code == _OK
+    found = _ERRORS.get(code, Error)(_ERRORS.get(code, Error).__doc__)
+    if isinstance(found, More):
+        found.missing = count
+    raise found
+
+def _given(data: Bytes, frame: int = FRAME, depth: int = DEPTH) -> tuple[bytes, int, int, int]:
+    """Bytes and limits as the library takes them."""
+    if not (0 <= frame < 2**32 and 0 <= depth < 2**32):
+        raise ValueError("a limit isn't between 0 and 4294967295")
+    data = data if isinstance(data, bytes) else bytes(memoryview(data))
+    return data, len(data), frame, depth
+
+def _key(key: str | bytes) -> bytes:
+    return key.encode(errors="surrogateescape") if isinstance(key, str) else key
+
+class Entry:
+    """A value in place, and in a table its key. Nothing is built but what is asked for."""
+    def __init__(self, data: bytes, at: _Entry, is_in_table: bool = False):
+        self._data, self._at, self._is_in_table = data, at, is_in_table
+
+    @property
+    def key(self) -> str | None:
+        """The key in a table. Bytes that aren't UTF-8 become surrogates, as in the names of files."""
+        return self._at.key.of(self._data).decode(errors="surrogateescape") if self._is_in_table else None
+
+    @property
+    def tag(self) -> str:
+        """The type tag, s for U and l for L."""
+        return chr(self._at.tag)
+
+    @property
+    def length(self) -> int:
+        """How many of the bytes the value has."""
+        return self._at.value.length
+
+    @property
+    def encoding(self) -> Encoded:
+        """The bytes of the value with its type tag, also that of a table that was read without one."""
+        return Encoded(b"F" * (self.length == self._at.content.length + 4) + self._at.value.of(self._data))
+
+    @property
+    def value(self) -> Value:
+        tag, bits, content = self.tag, self._at.bits, self._at.content.of(self._data)
+        signed = bits - 2**64 if bits >> 63 else bits
+        if tag in "AF":
+            return {str(it.key): it.value for it in self} if tag == "F" else [it.value for it in self]
+        if tag == "D":
+            return Decimal((0, tuple(map(int, str(bits))), -self._at.scale))
+        if tag in _INTEGERS:
+            return _INTEGERS[tag](signed if tag in "bsI" else bits)
+        if tag == "S":
+            try:
+                return content.decode()
+            except UnicodeDecodeError:
+                return LongString(content)
+        forms = {"V": None, "t": bits == 1, "l": signed, "d": struct.unpack("d", struct.pack("Q", bits))[0], "x": content}
+        return Float.of_bits(bits) if tag == "f" else forms[tag]
+
+    def __iter__(self) -> Iterator[Entry]:
+        """The entries of an array or a table in their order, each of equal keys too."""
+        cursor, at = self._cursor(), _Entry()
+        while _is_ok(_result("next", self._data, len(self._data), byref(cursor), byref(at))):
+            yield Entry(self._data, at, self.tag == "F")
+            at = _Entry()
+
+    def get(self, key: str | bytes, first: bool = True) -> Entry | None:
+        """The entry of a table with a key: of equal keys the first, as for RabbitMQ, or the last."""
+        call, cursor, at, key = "find_first" if first else "find", self._cursor(), _Entry(), _key(key)
+        is_found = _is_ok(_result(call, self._data, len(self._data), byref(cursor), key, len(key), byref(at)))
+        return Entry(self._data, at, True) if is_found else None
+
+    def find(self, path: Path, first: bool = True) -> Entry | None:
+        """The entry at a path; of equal keys as for `get`."""
+        if isinstance(path, (str, bytes)) or any(isinstance(it, int) and not 0 <= it < 2**63 for it in path):
+            raise ValueError("a path is a sequence of keys and of indexes from 0")
+        keys, at = [b"" if isinstance(it, int) else _key(it) for it in path], _Entry()
+        steps = ((key, len(key), *((it, ord("A")) if isinstance(it, int) else (0, ord("F")))) for key, it in zip(keys, path))
+        given = byref(self._at), (_Step * len(path))(*steps), len(path), int(first), byref(at)
+        is_found = _is_ok(_result("find_path", self._data, len(self._data), *given))
+        return Entry(self._data, at, not isinstance(path[-1], int) if path else self._is_in_table) if is_found else None
+
+    def _cursor(self) -> _Cursor:
+        cursor = _Cursor()
+        _is_ok(_result("enter", self._data, len(self._data), byref(self._at), byref(cursor)))
+        return cursor
+
+def entry(data: Bytes, *, table: bool = False, frame: int = FRAME, depth: int = DEPTH) -> Entry:
+    """The value in place, all of it checked."""
+    given, at, count = _given(data, frame, depth), _Entry(), c_size_t()
+    _is_ok(_result("read_table", *given, byref(at), byref(count)) if table else _result("read", *given, byref(count)), count.value)
+    return Entry(given[0], at) if table else peek(data)
+
+def peek(data: Bytes) -> Entry:
+    """The value in place by its type tag and length, unchecked: also a table with keys that aren't UTF-8."""
+    (data, length, *_), at = _given(data), _Entry()
+    _is_ok(_result("first", data, length, byref(at)))
+    return Entry(data, at)
+
+def entries(data: Bytes, **how: Any) -> Iterator[Entry]:
+    """The entries of an array or a table, of which all is checked before, as by `entry`."""
+    return iter(entry(data, **how))
+
+def find(data: Bytes, path: Path, *, first: bool = True, default: Any = None, **how: Any) -> Any:
+    """The value at a path, or `default`; all is checked, as by `entry`. Of equal keys the first counts, as for RabbitMQ, or the last, as for `loads`."""
+    found = entry(data, **how).find(path, first)
+    return default if found is None else found.value
+
+def loads(data: Bytes, *, table: bool = False, frame: int = FRAME, depth: int = DEPTH) -> Any:
+    """The value that some bytes are; `Trailing` if others follow it."""
+    found = entry(data, table=table, frame=frame, depth=depth)
+    if found.length != memoryview(data).nbytes:
+        raise Trailing(f"the value has {found.length} bytes, and others follow")
+    return found.value
+
+def loads_table(data: Bytes, *, frame: int = FRAME, depth: int = DEPTH) -> dict[str, Value]:
+    """The table that some bytes are without its type tag."""
+    return loads(data, table=True, frame=frame, depth=depth)
+
+def measure(data: Bytes, *, table: bool = False, frame: int = FRAME, depth: int = DEPTH) -> Measure:
+    """How large a value is, all of it checked: to reject one before it is built."""
+    found, count = _Measure(), c_size_t()
+    _is_ok(_result("measure_table" if table else "measure_value", *_given(data, frame, depth), byref(found), byref(count)), count.value)
+    return Measure(found.length, found.values, found.levels)
+
+def first_problem(data: Bytes, *, table: bool = False, frame: int = FRAME, depth: int = DEPTH) -> Problem | None:
+    """The first thing in a value for which RabbitMQ closes the connection, or that is beyond the limits."""
+    found, name = _Problem(), "first_problem_in_table" if table else "first_problem"
+    is_found = _is_ok(_result(name, *_given(data, frame, depth), byref(found)))
+    return Problem(found.offset, ProblemKind(found.kind), found.tag) if is_found else None
+
+class _Room:
+    """A buffer that grows, and what is appended to containers in it."""
+    def __init__(self) -> None:
+        self.buffer = ctypes.create_string_buffer(1024)
+
+    def put(self, name: str, *arguments: Any) -> None:
+        while (code := _result(name, self.buffer, len(self.buffer), *arguments)) == _NO_ROOM:
+            self.buffer, filled = ctypes.create_string_buffer(2 * len(self.buffer)), self.buffer
+            ctypes.memmove(self.buffer, filled, len(filled))
+        _is_ok(code)
+
+    def append(self, into: _Container, key: bytes, value: Any) -> None:
+        head, body = (byref(into), key, len(key)), _Container()
+        if isinstance(value, Encoded):
+            self.put("put_value", *head, value, len(value), 2**32 - 1, DEPTH)
+        elif isinstance(value, (str, bytes, bytearray, memoryview)):
+            content, length, *_ = _given(value.encode() if isinstance(value, str) else value)
+            self.put("put_bytes", *head, ord("S" if isinstance(value, (str, LongString)) else "x"), content, length)
+        elif isinstance(value, (Mapping, Sequence)):
+            is_table = isinstance(value, Mapping)
+            self.put("open", *head, ord("F" if is_table else "A"), byref(body))
+            for name, it in value.items() if is_table else ((b"", it) for it in value):
+                if not isinstance(name, (str, bytes)):
+                    raise TypeError(f"a key is a str, not {type(name).__name__}")
+                self.append(body, _key(name), it)
+            self.put("close", byref(into), byref(body))
+        else:
+            tag, bits, scale = _fixed(value)
+            self.put("put", *head, ord(tag), bits, scale)
+
+def _fixed(value: Any) -> tuple[str, int, int]:
+    """The type tag, bits and scale of a value of fixed width."""
+    if value is None or isinstance(value, bool):
+        return "V" if value is None else "t", int(value or 0), 0
+    if isinstance(value, (int, datetime)):
+        number = Timestamp.of(value) if isinstance(value, datetime) else value if isinstance(value, _Integer) else _LongLongInt(value)
+        return number.tag, number % 2**64, 0
+    if isinstance(value, float):
+        return ("f", value.bits, 0) if isinstance(value, Float) else ("d", *struct.unpack("Q", struct.pack("d", value)), 0)
+    if isinstance(value, Decimal):
+        sign, digits, exponent = value.as_tuple()
+        if sign or not isinstance(exponent, int) or not -256 < exponent < 10:
+            raise OutOfRange(f"{value} isn't a number from 0 to 4294967295 with up to 255 digits after the point")
+        return "D", int(LongUInt(int("".join(map(str, digits))) * 10 ** max(exponent, 0))), max(-exponent, 0)
+    raise TypeError(f"no type for {type(value).__name__}")
+
+def dumps(value: Writable) -> bytes:
+    """The encoding of a value, the keys of tables in their order."""
+    room, top = _Room(), _Container(_Span(0, 0), ord("A"))
+    room.append(top, b"", value)
+    return ctypes.string_at(room.buffer, top.written.length)
+
+def dumps_table(table: Mapping[str, Writable]) -> bytes:
+    """The encoding of a table without its type tag."""
+    return dumps(dict(table))[1:]
+
+def canonical(data: Bytes, *, table: bool = False, frame: int = FRAME, depth: int = DEPTH) -> bytes:
+    """The encoding that is the same for equal values, to compare, hash or sign them."""
+    given = _given(b"F" + data if table else data, frame, depth)
+    return _written("canonical", given[1], *given)[table:]
+
+def to_json(data: Bytes, *, table: bool = False, frame: int = FRAME, depth: int = DEPTH) -> str:
+    """The JSON of a value, by docs/JSON.md."""
+    given = _given(b"F" + data if table else data, frame, depth)
+    return _written("to_json", 2 * given[1], *given).decode()
+
+def from_json(text: str | Bytes, *, nesting: int = JSON_NESTING) -> bytes:
+    """The canonical encoding of the value that has this JSON."""
+    content, length, _, nesting = _given(text.encode() if isinstance(text, str) else text, 0, nesting)
+    return _written("from_json", 2 * length, content, length, nesting)
+
+def _written(name: str, capacity: int, *given: Any) -> bytes:
+    count, buffer = c_size_t(capacity), ctypes.create_string_buffer(capacity)
+    while (code := _result(name, *given, buffer, len(buffer), byref(count))) == _NO_ROOM:
+        buffer = ctypes.create_string_buffer(count.value)
+    _is_ok(code, count.value)
+    return ctypes.string_at(buffer, count.value)
