@@ -86,7 +86,8 @@ static void try_text(slice given) {
 static void try_bytes(slice given) {
     uint8_t text[MANY], bytes[MANY];
     size_t wanted, size, count, again;
-    int32_t read = amqpv_read(given.at, given.length, FRAME, DEPTH, &wanted);
+    amqpv_entry entry;
+    int32_t read = amqpv_read(given.at, given.length, FRAME, DEPTH, &entry, &wanted);
     CHECK(write_to(canonical, given, given.length, &size) == read);
     slice encoding = taken(bytes, given.length, read == AMQPV_OK ? size : 0);
     CHECK(write_to(there, given, MANY, &count) == read);

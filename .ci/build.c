@@ -236,8 +236,9 @@ static int32_t put_bytes(amqpv_container *into, slice key, uint8_t tag, slice co
 
 static int32_t put_value(amqpv_container *into, slice key, slice value) {
     size_t count;
+    amqpv_entry entry;
     held all = {SPARE, *into, SPARE};
-    int32_t read = amqpv_read(value.at, value.length, FRAME, DEPTH, &count);
+    int32_t read = amqpv_read(value.at, value.length, FRAME, DEPTH, &entry, &count);
     int32_t right = model_append(into, key, (slice){value.at, count}, read);
     int32_t answer = amqpv_put_value(room, room_length, &all.it, key.at, key.length, value.at, value.length, FRAME, DEPTH);
     return check(&all, *into, answer, right);
@@ -554,9 +555,9 @@ static void try_random(void) {
     CHECK(close_in(&top, &body) == AMQPV_OK);
     size_t length = top.written.length;
     memcpy(first, room, length);
-    CHECK(amqpv_read(first, length, FRAME, DEPTH, &count) == AMQPV_OK && count == length);
+    CHECK(amqpv_read(first, length, FRAME, DEPTH, &entry, &count) == AMQPV_OK && count == length);
     CHECK(amqpv_canonical(first, length, FRAME, DEPTH, canonical, sizeof canonical, &count) == AMQPV_OK && count <= length);
-    CHECK(amqpv_first(first, length, &entry) == AMQPV_OK && amqpv_enter(first, length, &entry, &cursor) == AMQPV_OK);
+    CHECK(amqpv_enter(first, length, &entry, &cursor) == AMQPV_OK);
     new_room(length, 0);
     top = whole;
     CHECK(open_in(&top, none, tag, &body) == AMQPV_OK);

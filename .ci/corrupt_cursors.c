@@ -192,18 +192,18 @@ static void read_table(const untagged *it) {
     amqpv_entry tagged, old, entry;
     memset(measures, 0x5a, sizeof measures);
     memset(&entry, 0x5a, sizeof entry);
-    old = entry;
-    int32_t answer = amqpv_read(it->tagged, it->length + 1, 64, 3, counts);
+    tagged = old = entry;
+    int32_t answer = amqpv_read(it->tagged, it->length + 1, 64, 3, &tagged, counts);
     CHECK(amqpv_read_table(it->bytes, it->length, 64, 3, &entry, counts + 1) == answer);
     CHECK(amqpv_measure_table(it->bytes, it->length, 64, 3, measures, counts + 2) == answer);
     CHECK(amqpv_measure_value(it->tagged, it->length + 1, 64, 3, measures + 1, counts + 3) == answer);
     calls += 4;
     CHECK(counts[1] == counts[0] - (answer == AMQPV_OK) && counts[2] == counts[1] && counts[3] == counts[0]);
     if (answer != AMQPV_OK) {
-        CHECK(memcmp(&entry, &old, sizeof old) == 0 && measures[0].length == measures[1].values);
+        CHECK(memcmp(&entry, &old, sizeof old) == 0 && memcmp(&tagged, &old, sizeof old) == 0 && measures[0].length == measures[1].values);
         return;
     }
-    CHECK(amqpv_first(it->tagged, it->length + 1, &tagged) == AMQPV_OK && tagged.value.length == counts[0]);
+    CHECK(tagged.value.length == counts[0]);
     tagged.value.length--;
     tagged.content.offset--;
     CHECK(is_same_entry(&entry, &tagged));
@@ -212,18 +212,25 @@ static void read_table(const untagged *it) {
     CHECK(measures[0].levels <= measures[0].values && measures[0].values <= counts[0]);
 }
 
-/* Finds the first problem: that of the value after its type tag, and before it one byte less. */
-static void find_problem(const untagged *it) {
+/* Finds the first problem: that of the value after its type tag, and before it one byte less; none exactly if it is read. */
+static void find_problem(const untagged *it, uint32_t rules) {
     amqpv_problem tagged, problem, old;
+    amqpv_entry entry;
+    size_t count;
     memset(&tagged, 0x5a, sizeof tagged);
     problem = old = tagged;
-    int32_t answer = amqpv_first_problem(it->tagged, it->length + 1, 64, 3, &tagged);
-    CHECK(amqpv_first_problem_in_table(it->bytes, it->length, 64, 3, &problem) == answer);
+    int32_t answer = amqpv_first_problem(it->tagged, it->length + 1, rules, 64, 3, &tagged);
+    CHECK(amqpv_first_problem_in_table(it->bytes, it->length, rules, 64, 3, &problem) == answer);
     calls += 2;
+    if (rules == AMQPV_RULES_READ) {
+        CHECK((answer == AMQPV_NONE) == (amqpv_read(it->tagged, it->length + 1, 64, 3, &entry, &count) == AMQPV_OK));
+    }
     CHECK(answer == AMQPV_OK || (answer == AMQPV_NONE && memcmp(&problem, &old, sizeof old) == 0));
     if (answer == AMQPV_OK) {
         CHECK(problem.offset == tagged.offset - (tagged.offset > 0) && problem.offset <= it->length);
-        CHECK(problem.kind == tagged.kind && 0 < problem.kind && problem.kind <= AMQPV_PROBLEM_TOO_LARGE);
+        CHECK(problem.kind == tagged.kind && 0 < problem.kind && problem.kind <= AMQPV_PROBLEM_KEY_NOT_UTF8);
+        CHECK(problem.kind != AMQPV_PROBLEM_KEY_NOT_UTF8 || rules == AMQPV_RULES_READ);
+        CHECK(problem.kind != AMQPV_PROBLEM_NOT_FINITE || rules == AMQPV_RULES_RABBITMQ);
         CHECK(problem.tag == tagged.tag && (problem.tag == 0 || problem.kind == AMQPV_PROBLEM_UNKNOWN_TAG));
         CHECK(problem.kind != AMQPV_PROBLEM_UNKNOWN_TAG || it->bytes[problem.offset] == problem.tag);
     }
@@ -232,15 +239,18 @@ static void find_problem(const untagged *it) {
 /* Reads the value, and enters the container that a corrupted entry denotes. */
 static void front(const uint8_t *bytes, size_t length, amqpv_cursor cursor) {
     size_t count = 77;
-    int32_t answer = amqpv_read(bytes, length, 64, 3, &count);
-    calls++;
+    held it = fresh(cursor);
+    held old = it;
+    int32_t answer = amqpv_read(bytes, length, 64, 3, &it.entry, &count);
+    check_rest(&it, &old, answer);
     CHECK(answer != AMQPV_OK || (0 < count && count <= length));
     CHECK(answer != AMQPV_MORE || count > 0);
     CHECK(answer == AMQPV_OK || answer == AMQPV_MORE || count == 0);
 
-    held it = fresh(cursor);
-    held old = it;
+    amqpv_entry read = it.entry;
+    it = old;
     int32_t first = amqpv_first(bytes, length, &it.entry);
+    CHECK(answer != AMQPV_OK || is_same_entry(&it.entry, &read));
     check_rest(&it, &old, first);
     CHECK(answer != AMQPV_OK || first == AMQPV_OK);
     if (first == AMQPV_OK) {
@@ -266,7 +276,9 @@ static void try_untagged(slice bytes) {
         untagged it = {.bytes = bytes.at + 1, .tagged = {AMQPV_TABLE}, .length = bytes.length - 1};
         memcpy(it.tagged + 1, it.bytes, it.length);
         read_table(&it);
-        find_problem(&it);
+        for (uint32_t rules = AMQPV_RULES_READ; rules <= AMQPV_RULES_RABBITMQ; rules++) {
+            find_problem(&it, rules);
+        }
     }
 }
 

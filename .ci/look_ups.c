@@ -191,22 +191,30 @@ static void try_problems(void) {
         slice bytes;
         uint8_t kind, tag;
         size_t offset;
+        uint32_t rules;
     } values[] = {
-        {SLICE("V"), 0, 0, 0},
-        {SLICE("F\0\0\0\3\1\377V"), 0, 0, 0},
-        {SLICE("f\177\177\377\377"), 0, 0, 0},
-        {SLICE("F\0\0\0\5\1aU\0\0"), AMQPV_PROBLEM_UNKNOWN_TAG, 'U', 7},
-        {SLICE("F\0\0\0\3\1a\0"), AMQPV_PROBLEM_UNKNOWN_TAG, 0, 7},
-        {SLICE("f\177\200\0\0"), AMQPV_PROBLEM_NOT_FINITE, 0, 0},
-        {SLICE("F\0\0\0\13\1ad\377\370\0\0\0\0\0\0"), AMQPV_PROBLEM_NOT_FINITE, 0, 7},
-        {SLICE(""), AMQPV_PROBLEM_CUT, 0, 0},
-        {SLICE("F\0\0\0\2\1a"), AMQPV_PROBLEM_CUT, 0, 7},
-        {SLICE("F\0\0\0\6\1aV\1bI"), AMQPV_PROBLEM_CUT, 0, 10},
-        {SLICE("F\0\0\0\1"), AMQPV_PROBLEM_CUT, 0, 0},
-        {SLICE("F\0\0\0\5\1aV\2b"), AMQPV_PROBLEM_KEY_CUT, 0, 8},
-        {SLICE("F\0\0\0\21\1aF\0\0\0\12\1bF\0\0\0\3\1cV"), AMQPV_PROBLEM_TOO_DEEP, 0, 14},
-        {SLICE("x\0\0\0\100"), AMQPV_PROBLEM_TOO_LARGE, 0, 0},
-        {SLICE("F\0\0\0\100"), AMQPV_PROBLEM_TOO_LARGE, 0, 0},
+        {SLICE("V"), 0, 0, 0, AMQPV_RULES_RABBITMQ},
+        {SLICE("F\0\0\0\3\1\377V"), 0, 0, 0, AMQPV_RULES_RABBITMQ},
+        {SLICE("F\0\0\0\3\1\377V"), 0, 0, 0, AMQPV_RULES_ANY_KEYS},
+        {SLICE("F\0\0\0\6\1aV\1\377V"), AMQPV_PROBLEM_KEY_NOT_UTF8, 0, 8, AMQPV_RULES_READ},
+        {SLICE("F\0\0\0\6\1aV\1\177V"), 0, 0, 0, AMQPV_RULES_READ},
+        {SLICE("F\0\0\0\5\1aU\0\0"), 0, 0, 0, AMQPV_RULES_READ},
+        {SLICE("F\0\0\0\13\1ad\377\370\0\0\0\0\0\0"), 0, 0, 0, AMQPV_RULES_ANY_KEYS},
+        {SLICE("F\0\0\0\3\1a_"), AMQPV_PROBLEM_UNKNOWN_TAG, '_', 7, AMQPV_RULES_READ},
+        {SLICE("F\0\0\0\6\1aV\1bI"), AMQPV_PROBLEM_CUT, 0, 10, AMQPV_RULES_ANY_KEYS},
+        {SLICE("f\177\177\377\377"), 0, 0, 0, AMQPV_RULES_RABBITMQ},
+        {SLICE("F\0\0\0\5\1aU\0\0"), AMQPV_PROBLEM_UNKNOWN_TAG, 'U', 7, AMQPV_RULES_RABBITMQ},
+        {SLICE("F\0\0\0\3\1a\0"), AMQPV_PROBLEM_UNKNOWN_TAG, 0, 7, AMQPV_RULES_RABBITMQ},
+        {SLICE("f\177\200\0\0"), AMQPV_PROBLEM_NOT_FINITE, 0, 0, AMQPV_RULES_RABBITMQ},
+        {SLICE("F\0\0\0\13\1ad\377\370\0\0\0\0\0\0"), AMQPV_PROBLEM_NOT_FINITE, 0, 7, AMQPV_RULES_RABBITMQ},
+        {SLICE(""), AMQPV_PROBLEM_CUT, 0, 0, AMQPV_RULES_RABBITMQ},
+        {SLICE("F\0\0\0\2\1a"), AMQPV_PROBLEM_CUT, 0, 7, AMQPV_RULES_RABBITMQ},
+        {SLICE("F\0\0\0\6\1aV\1bI"), AMQPV_PROBLEM_CUT, 0, 10, AMQPV_RULES_RABBITMQ},
+        {SLICE("F\0\0\0\1"), AMQPV_PROBLEM_CUT, 0, 0, AMQPV_RULES_RABBITMQ},
+        {SLICE("F\0\0\0\5\1aV\2b"), AMQPV_PROBLEM_KEY_CUT, 0, 8, AMQPV_RULES_RABBITMQ},
+        {SLICE("F\0\0\0\21\1aF\0\0\0\12\1bF\0\0\0\3\1cV"), AMQPV_PROBLEM_TOO_DEEP, 0, 14, AMQPV_RULES_RABBITMQ},
+        {SLICE("x\0\0\0\100"), AMQPV_PROBLEM_TOO_LARGE, 0, 0, AMQPV_RULES_RABBITMQ},
+        {SLICE("F\0\0\0\100"), AMQPV_PROBLEM_TOO_LARGE, 0, 0, AMQPV_RULES_RABBITMQ},
     };
     for (size_t i = 0; i < 2 * COUNT(values); i++) {
         slice given = values[i / 2].bytes;
@@ -216,7 +224,7 @@ static void try_problems(void) {
         }
         const uint8_t *bytes = placed((slice){given.at + untagged, given.length - untagged});
         amqpv_problem problem = {7, 8, 9};
-        int32_t answer = (untagged ? amqpv_first_problem_in_table : amqpv_first_problem)(bytes, given.length - untagged, 64, 2, &problem);
+        int32_t answer = (untagged ? amqpv_first_problem_in_table : amqpv_first_problem)(bytes, given.length - untagged, values[i / 2].rules, 64, 2, &problem);
         calls++;
         size_t offset = values[i / 2].offset;
         if (values[i / 2].kind == 0) {
@@ -225,6 +233,13 @@ static void try_problems(void) {
             CHECK(answer == AMQPV_OK && problem.kind == values[i / 2].kind && problem.tag == values[i / 2].tag);
             CHECK(problem.offset == (offset > 0 ? offset - untagged : 0));
         }
+    }
+    for (uint32_t rules = 3; rules < 6; rules++) {
+        amqpv_problem problem = {7, 8, 9};
+        CHECK(amqpv_first_problem(placed((slice)SLICE("z")), 1, rules, 64, 2, &problem) == AMQPV_BAD_TAG);
+        CHECK(amqpv_first_problem_in_table(placed((slice)SLICE("z")), 1, UINT32_MAX - rules, 64, 2, &problem) == AMQPV_BAD_TAG);
+        calls += 2;
+        CHECK(problem.offset == 7 && problem.kind == 8 && problem.tag == 9);
     }
 }
 

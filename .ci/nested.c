@@ -31,7 +31,7 @@ static void *make_call(void *unused) {
     amqpv_measure measure;
     size_t count;
     if (is_called("amqpv_read")) {
-        answer = amqpv_read(given, length, UINT32_MAX, depth, &count);
+        answer = amqpv_read(given, length, UINT32_MAX, depth, &entry, &count);
     } else if (is_called("amqpv_read_table")) {
         answer = amqpv_read_table(given, length, UINT32_MAX, depth, &entry, &count);
     } else if (is_called("amqpv_measure_value")) {
@@ -39,9 +39,9 @@ static void *make_call(void *unused) {
     } else if (is_called("amqpv_measure_table")) {
         answer = amqpv_measure_table(given, length, UINT32_MAX, depth, &measure, &count);
     } else if (is_called("amqpv_first_problem")) {
-        answer = found(amqpv_first_problem(given, length, UINT32_MAX, depth, &problem));
+        answer = found(amqpv_first_problem(given, length, AMQPV_RULES_READ, UINT32_MAX, depth, &problem));
     } else if (is_called("amqpv_first_problem_in_table")) {
-        answer = found(amqpv_first_problem_in_table(given, length, UINT32_MAX, depth, &problem));
+        answer = found(amqpv_first_problem_in_table(given, length, AMQPV_RULES_READ, UINT32_MAX, depth, &problem));
     } else if (is_called("amqpv_put_value")) {
         answer = amqpv_put_value(buffer, sizeof buffer, &top, given, 0, given, length, UINT32_MAX, depth);
     } else if (is_called("amqpv_canonical")) {

@@ -102,12 +102,12 @@ static uint8_t no_room[1];
 static const amqpv_cursor from_start = {{0, 0}, AMQPV_TABLE}, of_array = {{0, 0}, AMQPV_ARRAY}, outside = {{1, 0}, AMQPV_TABLE};
 
 static void try_reading(void) {
-    TRY(AMQPV_MORE, pairs, 'A', amqpv_read(bytes, 0, FRAME, DEPTH, &all->count));
+    TRY(AMQPV_MORE, pairs, 'A', amqpv_read(bytes, 0, FRAME, DEPTH, &all->entry, &all->count));
     TRY(AMQPV_MORE, pairs, 'A', amqpv_read_table(bytes, 0, FRAME, DEPTH, &all->entry, &all->count));
     TRY(AMQPV_MORE, pairs, 'A', amqpv_measure_value(bytes, 0, FRAME, DEPTH, &all->measure, &all->count));
     TRY(AMQPV_MORE, pairs, 'A', amqpv_measure_table(bytes, 0, FRAME, DEPTH, &all->measure, &all->count));
-    TRY(AMQPV_OK, pairs, 'A', amqpv_first_problem(bytes, 0, FRAME, DEPTH, &all->problem));
-    TRY(AMQPV_OK, pairs, 'A', amqpv_first_problem_in_table(bytes, 0, FRAME, DEPTH, &all->problem));
+    TRY(AMQPV_OK, pairs, 'A', amqpv_first_problem(bytes, 0, AMQPV_RULES_READ, FRAME, DEPTH, &all->problem));
+    TRY(AMQPV_OK, pairs, 'A', amqpv_first_problem_in_table(bytes, 0, AMQPV_RULES_READ, FRAME, DEPTH, &all->problem));
     TRY(AMQPV_MORE, pairs, 'A', amqpv_first(bytes, 0, &all->entry));
     TRY(AMQPV_OK, pairs, 'A', amqpv_enter(bytes, 0, &no_pairs, &all->cursor));
     TRY(AMQPV_INVALID, pairs, 'A', amqpv_enter(bytes, 0, &top, &all->cursor));

@@ -477,19 +477,21 @@ def checked(data, subject="value", frame_max=FRAME_MAX):
         return f"! offset {max(0, at - left_out)}: {why}\n= {verdict}\n", "", 1
 
 
-def taken(data, at, end, depth, inside=""):
+def taken(data, at, end, depth, inside="", rules="RabbitMQ"):
     """Returns the offset of the end of a value that RabbitMQ takes, or fails at the first thing that it doesn't.
 
-    The failure also has the type tag of the container that it is in.
+    The failure also has the type tag of the container that it is in. Other rules are those of what is read here: "any keys",
+    and "read" where a key is UTF-8.
     """
     begin, stop = at, at + extent(data[at:end][:5])
     fails = lambda why: Failure(begin, why, inside)
-    if at == end or chr(data[at]) in TYPES and stop > end and chr(data[at]) != "U":
+    tags = {*TYPES} - {"U"} if rules == "RabbitMQ" else TYPES
+    if at == end or chr(data[at]) in tags and stop > end:
         raise fails("a value is expected; too few bytes are left")
     tag = chr(data[at])
-    if tag not in TYPES or tag == "U":
+    if tag not in tags:
         raise fails(f"a type tag is expected; RabbitMQ knows no {data[at]:02x}")
-    if tag in "fd" and not math.isfinite(struct.unpack(f">{tag}", data[at + 1 : stop])[0]):
+    if rules == "RabbitMQ" and tag in "fd" and not math.isfinite(struct.unpack(f">{tag}", data[at + 1 : stop])[0]):
         raise fails("the number is an infinity or a NaN")
     if tag in "AF" and not depth:
         raise fails("containers nest deeper than --depth allows")
@@ -498,8 +500,10 @@ def taken(data, at, end, depth, inside=""):
         if tag == "F":
             if at + 1 + data[at] > stop:
                 raise Failure(at, "a key is expected; too few bytes are left", tag)
+            if rules == "read" and not is_utf8(data[at + 1 : at + 1 + data[at]]):
+                raise Failure(at, "the key isn't UTF-8", tag)
             at += 1 + data[at]
-        at = taken(data, at, stop, depth - 1, tag)
+        at = taken(data, at, stop, depth - 1, tag, rules)
     return stop
 
 

@@ -102,6 +102,17 @@ def error_of(call):
     return None
 
 
+def problem_of(data):
+    """Where and why some bytes are malformed, as the error has it."""
+    try:
+        av.loads(data)
+    except av.Malformed as why:
+        return why.problem
+    except av.Error:
+        pass
+    return None
+
+
 def said(data, is_table):
     """What reading results in, as printed.outcome words it."""
     try:
@@ -206,10 +217,16 @@ def check_sizes(checks, make):
     wrong += [it for it in tables if av.measure(raw(it)[1:], table=True) != (len(raw(it)) - 1, len([*types_in(it)]), levels(it))]
     checks.tell("measures", wrong and f"{len(wrong)}, as {wrong[0]}")
     odd = [odd_table(make) for _ in range(2000)]
-    wanted = [first_problem(it) for it in odd]
-    wrong = [it.hex() for it, problem in zip(odd, wanted) if av.first_problem(it) != problem]
-    wrong += [it.hex() for it, of in zip(odd, wanted) if av.first_problem(it[1:], table=True) != (of and (max(0, of[0] - 1), *of[1:]))]
-    checks.tell("problems", (wrong or wanted.count(None) > 1800) and f"{len(wrong)}, as {wrong[:1]}")
+    for name, rules in ("RabbitMQ", av.Rules.RABBITMQ), ("read", av.Rules.READ), ("any keys", av.Rules.ANY_KEYS):
+        wanted = [first_problem(it, name, 2) for it in odd]
+        wrong = [it.hex() for it, problem in zip(odd, wanted) if av.first_problem(it, rules=rules, depth=2) != problem]
+        wrong += [it.hex() for it, of in zip(odd, wanted) if av.first_problem(it[1:], rules=rules, depth=2, table=True) != (of and (max(0, of[0] - 1), *of[1:]))]
+        kinds = {of and of[1] for of in wanted}
+        lacks = kinds ^ {None, 1, 3, 4, 5} ^ {"RabbitMQ": {2}, "read": {7}, "any keys": set()}[name]
+        checks.tell(f"problems by the rules {name}", (wrong or lacks) and f"{len(wrong)}, as {wrong[:1]}; kinds {kinds}")
+    told = [(av.first_problem(it, rules=av.Rules.READ), error_of(lambda: av.loads(it)), problem_of(it)) for it in odd]
+    wrong = [it.hex() for it, (problem, error, with_error) in zip(odd, told) if (problem is None) != (error is None) or error is av.Malformed and with_error != problem]
+    checks.tell("problems are those of what isn't read", wrong and f"{len(wrong)}, as {wrong[:1]}")
 
 
 def check_others(checks):

@@ -102,15 +102,15 @@ def oddity_of(tag, content):
 # What RabbitMQ makes of them
 
 
-# What it closes the connection for, by the kind in include/amqp_values.h, as printed.py words it.
-PROBLEMS = {1: "RabbitMQ knows no", 2: "an infinity or a NaN", 3: "a value is expected", 4: "a key is expected"}
+# What it closes the connection for, and what isn't read here, by the kind in include/amqp_values.h, as printed.py words it.
+PROBLEMS = {1: "RabbitMQ knows no", 2: "an infinity or a NaN", 3: "a value is expected", 4: "a key is expected", 5: "nest deeper", 7: "isn't UTF-8"}
 ROWS = ["U", "unknown tag", "NaN f", "NaN d", "infinity f", "infinity d", "value cut", "key cut"]
 
 
-def first_problem(data):
-    """The first thing in a table that RabbitMQ closes the connection for: offset, kind and unknown tag, or None."""
+def first_problem(data, rules="RabbitMQ", depth=DEPTH):
+    """The first thing in a value that the rules don't allow: offset, kind and unknown tag, or None."""
     try:
-        taken(data, 0, len(data), DEPTH)
+        taken(data, 0, len(data), depth, rules=rules)
     except Failure as failure:
         at, why, _ = failure.args
         kind = next(kind for kind, words in PROBLEMS.items() if words in why)

@@ -59,9 +59,9 @@ static void make_calls(made *all) {
     amqpv_entry table, entry;
     amqpv_cursor cursor;
     amqpv_container top = {{0, 0}, AMQPV_ARRAY}, into;
-    CHECK(amqpv_read(shared, length, ROOM, 8, &all->sizes[0]) == AMQPV_OK);
+    CHECK(amqpv_read(shared, length, ROOM, 8, &table, &all->sizes[0]) == AMQPV_OK);
     CHECK(amqpv_measure_value(shared, length, ROOM, 8, &all->measure, &count) == AMQPV_OK);
-    CHECK(amqpv_first_problem(shared, length, ROOM, 1, &all->problem) == AMQPV_OK);
+    CHECK(amqpv_first_problem(shared, length, AMQPV_RULES_READ, ROOM, 1, &all->problem) == AMQPV_OK);
     CHECK(amqpv_first(shared, length, &table) == AMQPV_OK && amqpv_enter(shared, length, &table, &cursor) == AMQPV_OK);
     CHECK(amqpv_find_path(shared, length, &table, path, 3, AMQPV_FIRST_KEY, &all->found) == AMQPV_OK);
     CHECK(amqpv_find(shared, length, &cursor, AMQPV_LITERAL("k\xc3\xa9y 001"), &entry) == AMQPV_OK);

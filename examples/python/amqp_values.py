@@ -57,7 +57,11 @@ class More(Error):
     missing = 0
 
 class UnknownTag(Error): """The first byte is no type tag."""
-class Malformed(Error): """The bytes are complete and no value, or one that nests deeper than `depth`."""
+class Malformed(Error):
+    """The bytes are complete and no value, or one that nests deeper than `depth`."""
+    # Where and why, if `entry` or `loads` raised it.
+    problem: Problem | None = None
+
 class TooLarge(Error): """The value has more than `frame` bytes, or what is written has 2^32 or more."""
 class Trailing(Error): """Bytes follow the value."""
 class Invalid(Error): """It is no array or table, or can't be written there."""
@@ -138,7 +142,9 @@ class Encoded(bytes):
 _INTEGERS = {it.tag: it for it in (ShortShortInt, ShortShortUInt, ShortInt, ShortUInt, LongInt, LongUInt, Timestamp)}
 # How large a value is: its bytes, the values written in it and itself, and how deep containers nest.
 Measure = NamedTuple("Measure", [("length", int), ("values", int), ("levels", int)])
-ProblemKind = IntEnum("ProblemKind", "UNKNOWN_TAG NOT_FINITE CUT KEY_CUT TOO_DEEP TOO_LARGE")
+ProblemKind = IntEnum("ProblemKind", "UNKNOWN_TAG NOT_FINITE CUT KEY_CUT TOO_DEEP TOO_LARGE KEY_NOT_UTF8")
+# What is read here, the same with any bytes as keys, and what RabbitMQ takes.
+Rules = IntEnum("Rules", "READ ANY_KEYS RABBITMQ", start=0)
 # The offset of a problem's value, or of its pair if the key is cut, its kind, and the type tag that RabbitMQ doesn't know, or 0.
 Problem = NamedTuple("Problem", [("offset", int), ("kind", ProblemKind), ("tag", int)])
 
@@ -162,7 +168,7 @@ _KINDS: dict[str, list[Any]] = {
     "P": [POINTER(_Problem)], "I": [POINTER(_Container)],
 }
 _PARAMETERS = {
-    "read": "blN", "read_table": "blEN", "measure_value": "blMN", "measure_table": "blMN", "first_problem": "blP", "first_problem_in_table": "blP",
+    "read": "blEN", "read_table": "blEN", "measure_value": "blMN", "measure_table": "blMN", "first_problem": "b4lP", "first_problem_in_table": "b4lP",
     "first": "bE", "enter": "bEC", "next": "bCE", "find": "bCbE", "find_first": "bCbE", "find_path": "bESn4E",
     "put": "bIbt8t", "put_bytes": "bIbtb", "put_value": "bIbbl", "open": "bIbtI", "close": "bII",
     "canonical": "blbN", "to_json": "blbN", "from_json": "b4bN", "version": "",
@@ -279,8 +285,12 @@ class Entry:
 def entry(data: Bytes, *, table: bool = False, frame: int = FRAME, depth: int = DEPTH) -> Entry:
     """The value in place, all of it checked."""
     given, at, count = _given(data, frame, depth), _Entry(), c_size_t()
-    _is_ok(_result("read_table", *given, byref(at), byref(count)) if table else _result("read", *given, byref(count)), count.value)
-    return Entry(given[0], at) if table else peek(data)
+    try:
+        _is_ok(_result("read_table" if table else "read", *given, byref(at), byref(count)), count.value)
+    except Malformed as malformed:
+        malformed.problem = first_problem(data, rules=Rules.READ, table=table, frame=frame, depth=depth)
+        raise
+    return Entry(given[0], at)
 
 def peek(data: Bytes) -> Entry:
     """The value in place by its type tag and length, unchecked: also a table with keys that aren't UTF-8."""
@@ -314,10 +324,11 @@ def measure(data: Bytes, *, table: bool = False, frame: int = FRAME, depth: int 
     _is_ok(_result("measure_table" if table else "measure_value", *_given(data, frame, depth), byref(found), byref(count)), count.value)
     return Measure(found.length, found.values, found.levels)
 
-def first_problem(data: Bytes, *, table: bool = False, frame: int = FRAME, depth: int = DEPTH) -> Problem | None:
-    """The first thing in a value for which RabbitMQ closes the connection, or that is beyond the limits."""
+def first_problem(data: Bytes, *, rules: Rules = Rules.RABBITMQ, table: bool = False, frame: int = FRAME, depth: int = DEPTH) -> Problem | None:
+    """The first thing in a value that the rules don't allow, or that is beyond the limits."""
     found, name = _Problem(), "first_problem_in_table" if table else "first_problem"
-    is_found = _is_ok(_result(name, *_given(data, frame, depth), byref(found)))
+    (data, length, *limits) = _given(data, frame, depth)
+    is_found = _is_ok(_result(name, data, length, Rules(rules), *limits, byref(found)))
     return Problem(found.offset, ProblemKind(found.kind), found.tag) if is_found else None
 
 class _Room:

@@ -1,5 +1,5 @@
 -- The entry of the value at the start.
-use Rattle.std.proofs.Common.{◌≡◌, ◌+◌, ◌-◌, ◌<◌, ◌≤◌, ℕ, zero, suc, nat_lt, if◌then◌else◌, Bool, true, false, Option, Some, None, MatchOption, List, [], ◌∷◌, ◌++◌, length, take, drop, refl, sym, ap, ◌∙◌, subst, arith, length-append}
+use Rattle.std.proofs.Common.{◌≡◌, ◌+◌, ◌-◌, ◌<◌, ◌≤◌, ℕ, zero, suc, nat_lt, if◌then◌else◌, Bool, true, false, Option, Some, None, MatchOption, Result, Ok, Err, MatchResult, List, [], ◌∷◌, ◌++◌, length, take, drop, refl, sym, ap, ◌∙◌, subst, arith, length-append}
 use Rattle.std.specs.Int.{w32}
 use borrow.Author.Tests.{ltb-true}
 use Rattle.std.proofs.lemmas.List.{take_at, length-take-le, take-append-drop}
@@ -27,7 +27,9 @@ use Rattle.amqp_c.specs.declared.entry.Entry.{Entry}
 use Rattle.amqp_c_common.specs.declared.fault.Fault.{Fault}
 use Rattle.amqp_c_common.specs.declared.fault.Fault.TheVariants.{More, UnknownTag, Malformed, TooLarge, Invalid, OutOfMemory, NoRoom, NotJson, NoEncoding, BadKey, BadTag, OutOfRange}
 use Rattle.amqp_c_common.specs.ReturnCodes.{fault_of}
-use Rattle.amqp_c.specs.CallResults.{HeaderFaults}
+use Rattle.amqp_c.specs.CallResults.{HeaderFaults, GivesFirst, IsValueTaken, FaultsWithin}
+use Rattle.amqp_parsing.specs.declared.limits.Limits.{Limits}
+use Rattle.amqp_parsing.specs.Limits.{Within}
 use Rattle.amqp_c.specs.Entries.{HasNoNumber, Says, IsEntry, HoldsContent, IsTagged}
 use Rattle.amqp_c.specs.Heads.{has_content}
 use Rattle.amqp_c.specs.Steps.{IsHeaded}
@@ -50,6 +52,12 @@ found_wire s rest v n x e =
     let f = found_front s rest v x in
     let size : length f.0 ≡ n = omega (arith, ap length f.2, length-append f.0 rest) in
     subst (λ (w : List ℕ). Wire w v) (sym (ap (take n) f.2 ∙ take_at f.0 rest n size)) f.1
+
+-- the entry of a value that is read within limits
+pub value_taken : (l : Limits) (s rest : List ℕ) (v : Tree) (done : Result Entry Fault) → Within l s (found v rest) → GivesFirst s v rest done
+    → MatchResult done (IsValueTaken l s) (FaultsWithin l s)
+value_taken l s rest v (Ok e) read g = record { meaning = v; rest = rest; read = read; taken = g.2; first = g.1; entry = g.0 }
+value_taken l s rest v (Err f) read g = absurd g
 
 -- ---- faults
 

@@ -1,27 +1,23 @@
 -- What each call from C returns, and leaves in the buffer and at its pointers.
-use Rattle.std.specs.Prelude.{ℕ, ◌≡◌, ℤ, List, Result, Ok, Err, IfErr, MatchResult}
+use Rattle.std.specs.Prelude.{ℕ, ◌≡◌, ℤ, List, Result, IfErr, MatchResult}
 use Rattle.std.specs.Int.{w64, cast_unsigned}
 use Rattle.amqp_grammar.specs.Values.{Tree, Scalar}
 use Rattle.amqp_c_common.specs.declared.fault.Fault.{Fault}
 use Rattle.amqp_c_common.specs.ReturnCodes.{answer_of}
 use Rattle.amqp_c_common.specs.Reading.{limits}
 use Rattle.amqp_c.specs.declared.container.Container.{Container}
+use Rattle.amqp_c.specs.CallResults.{ok_or_old}
 use Rattle.amqp_c.specs.Containers.{IsContainerTag}
 use Rattle.amqp_c.specs.BuiltEntries.{Tells, IsScalarTag, IsSignedTag, IsUnsignedTag, IsTold, IsStringTag, IsOfBytes, IsFront, unfilled}
 use Rattle.amqp_c.specs.Faults.{Refuses, NoOther, IsTooLong, IsReadFaultInPlace, RefusesToEnd}
 use Rattle.amqp_c.specs.Growth.{IsPut, IsBegun, IsEnded}
-
--- what is returned, or what was there
-abbrev pub container_or_old : Container → Result Container Fault → Container
-container_or_old was (Ok c) = c
-container_or_old was (Err f) = was
 
 -- an entry is written or rejected; `Gives` defines of which encoding and value it may be; after an
 -- error the buffer and the container are as they were
 pub record Puts (taken in_range : Type 0) (Gives : List ℕ → Tree → Type 0) (Other : Fault → Type 0) (old : List ℕ) (into : Container) (k : List ℕ) (answer : ℤ) (new : List ℕ) (grown : Container) : Type 0 where
   pub done : Result Container Fault
   pub answered : answer ≡ answer_of done
-  pub container : grown ≡ container_or_old into done
+  pub container : grown ≡ ok_or_old into done
   pub put : MatchResult done (IsPut Gives old into k new) (Refuses taken in_range (λ w. (v : Tree) × Gives w v) Other old into k)
   pub stays : IfErr done (λ _. new ≡ old)
 
@@ -53,7 +49,7 @@ PutsValue frame depth s = Puts (Unit {0}) (Unit {0}) (IsFront (limits frame dept
 pub record Begins (tag : ℕ) (old : List ℕ) (into : Container) (k : List ℕ) (was : Container) (answer : ℤ) (new : List ℕ) (body : Container) : Type 0 where
   pub done : Result Container Fault
   pub answered : answer ≡ answer_of done
-  pub container : body ≡ container_or_old was done
+  pub container : body ≡ ok_or_old was done
   pub begun : MatchResult done (IsBegun tag old into k new) (Refuses (IsContainerTag tag) (Unit {0}) (λ w. IsContainerTag tag × (w ≡ unfilled tag)) NoOther old into k)
   pub stays : IfErr done (λ _. new ≡ old)
 
@@ -62,6 +58,6 @@ pub record Begins (tag : ℕ) (old : List ℕ) (into : Container) (k : List ℕ)
 pub record Ends (old : List ℕ) (into body : Container) (answer : ℤ) (new : List ℕ) (grown : Container) : Type 0 where
   pub done : Result Container Fault
   pub answered : answer ≡ answer_of done
-  pub container : grown ≡ container_or_old into done
+  pub container : grown ≡ ok_or_old into done
   pub ended : MatchResult done (IsEnded old into body new) (RefusesToEnd old into body)
   pub stays : IfErr done (λ _. new ≡ old)

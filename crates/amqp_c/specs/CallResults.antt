@@ -42,9 +42,14 @@ abbrev pub FaultsWithin : Limits → List ℕ → Fault → Type 0
 FaultsWithin l s TooLarge = l.frame < extent s
 FaultsWithin l s f = (extent s ≤ l.frame) × Faults (OutcomeWithin l.depth s) f
 
--- a value is read within limits from the first n bytes of s
-abbrev pub IsTaken : Limits → List ℕ → ℕ → Type 0
-IsTaken l s n = (v : Tree) × (rest : List ℕ) × Within l s (found v rest) × (n + length rest ≡ length s)
+-- a value is read within limits from the start of s, and e is its entry
+pub record IsValueTaken (l : Limits) (s : List ℕ) (e : Entry) : Type 0 where
+  pub meaning : Tree
+  pub rest : List ℕ
+  pub read : Within l s (found meaning rest)
+  pub taken : e.value.length + length rest ≡ length s
+  pub first : e.value.offset ≡ 0
+  pub entry : IsEntry s e meaning
 
 -- the entry of a table without its type tag at the start, whose body has n bytes after its length
 abbrev pub untagged_table : ℕ → Entry

@@ -19,19 +19,11 @@ use Rattle.amqp_c.specs.FirstPairs.{LooksUpFirst}
 use Rattle.amqp_c.specs.declared.path.EqualKeys.{EqualKeys}
 use Rattle.amqp_c.specs.declared.path.Step.{Step}
 use Rattle.amqp_c.specs.Paths.{number_of, IsInside, LooksUpOn}
-use Rattle.amqp_c_common.specs.ReturnCodes.{answer_of, count_of}
-use Rattle.amqp_c.specs.CallResults.{IsTaken, IsTableTaken, HeaderFaults, FaultsWithin, GivesFirst, answer_if_any, count_by, ok_or_old, found_or_old, entry_or_old, cursor_or_old}
+use Rattle.amqp_c_common.specs.ReturnCodes.{answer_of}
+use Rattle.amqp_c.specs.CallResults.{IsValueTaken, IsTableTaken, HeaderFaults, FaultsWithin, GivesFirst, answer_if_any, count_by, ok_or_old, found_or_old, entry_or_old, cursor_or_old}
 
--- reading s within limits: the result and the number of bytes are those of a value that is read, or
--- of a fault that is right
-pub record Reads (frame depth : ℕ) (s : List ℕ) (answer : ℤ) (count : ℕ) : Type 0 where
-  pub done : Result ℕ Fault
-  pub answered : answer ≡ answer_of done
-  pub counted : count ≡ count_of done
-  pub right : MatchResult done (IsTaken (limits frame depth) s) (FaultsWithin (limits frame depth) s)
-
--- and what is returned of it: `Is` states so, and `size` how many bytes were read; after a fault it is
--- as it was
+-- reading s within limits: the result is that of what is read, of which `Is` states what is returned and
+-- `size` how many bytes were read, or of a fault that is right, after which it is as it was
 pub record ReadsAs {T : Type 0} (Is : T → Type 0) (size : T → ℕ) (frame depth : ℕ) (s : List ℕ) (old : T) (answer : ℤ) (new : T) (count : ℕ) : Type 0 where
   pub done : Result T Fault
   pub answered : answer ≡ answer_of done
@@ -39,7 +31,11 @@ pub record ReadsAs {T : Type 0} (Is : T → Type 0) (size : T → ℕ) (frame de
   pub counted : count ≡ count_by size done
   pub right : MatchResult done Is (FaultsWithin (limits frame depth) s)
 
--- the entry of the table without its type tag at the start of s, which is read as after its type tag
+-- the entry of the value at the start of s
+abbrev pub ReadsValue : ℕ → ℕ → List ℕ → Entry → ℤ → Entry → ℕ → Type 0
+ReadsValue frame depth s = ReadsAs (IsValueTaken (limits frame depth) s) (λ e. e.value.length) frame depth s
+
+-- and of the table without its type tag, which is read as after its type tag
 abbrev pub ReadsTable : ℕ → ℕ → List ℕ → Entry → ℤ → Entry → ℕ → Type 0
 ReadsTable frame depth s = ReadsAs (IsTableTaken (limits frame depth) s) (λ e. e.value.length) frame depth (tagged FieldTable s)
 

@@ -1,9 +1,17 @@
--- What RabbitMQ closes the connection for, by numbers.
-use Rattle.std.specs.Prelude.{ℕ, ◌≡◌, ◌≤◌, ℤ, pos, Option, Some, None, IfSome}
-use Rattle.amqp_in_place.specs.declared.rabbitmq.problems.Problem as in_place
-use Rattle.amqp_in_place.specs.declared.rabbitmq.problems.ProblemKind.{ProblemKind}
-use Rattle.amqp_in_place.specs.declared.rabbitmq.problems.ProblemKind.TheVariants.{UnknownTag, NotFinite, Cut, KeyCut, TooDeep, TooLarge}
+-- What the rules don't allow, by numbers.
+use Rattle.std.specs.Prelude.{ℕ, ◌≡◌, ◌≤◌, ℤ, pos, ◌==◌, if◌then◌else◌, Option, Some, None, IfSome}
+use Rattle.amqp_in_place.specs.declared.problems.Problem as in_place
+use Rattle.amqp_in_place.specs.declared.problems.ProblemKind.{ProblemKind}
+use Rattle.amqp_in_place.specs.declared.problems.ProblemKind.TheVariants.{UnknownTag, NotFinite, Cut, KeyCut, KeyNotUtf8, TooDeep, TooLarge}
+use Rattle.amqp_in_place.specs.declared.problems.Rules.{Rules}
+use Rattle.amqp_in_place.specs.declared.problems.Rules.TheVariants.{Reading, AnyKeys, RabbitMq}
+use Rattle.amqp_c_common.specs.declared.fault.Fault.TheVariants.{BadTag}
+use Rattle.amqp_c_common.specs.ReturnCodes.{code_of}
 use Rattle.amqp_c.specs.declared.problem.Problem.{Problem}
+
+-- the rules that a number denotes
+abbrev pub rules_of : ℕ → Option Rules
+rules_of n = if n == 0 then Some Reading else if n == 1 then Some AnyKeys else if n == 2 then Some RabbitMq else None
 
 -- the number that denotes what is wrong
 abbrev pub kind_number : ProblemKind → ℕ
@@ -13,6 +21,7 @@ kind_number Cut = 3
 kind_number KeyCut = 4
 kind_number TooDeep = 5
 kind_number TooLarge = 6
+kind_number KeyNotUtf8 = 7
 
 -- the type tag that is unknown, else 0
 abbrev pub unknown_tag : ProblemKind → ℕ
@@ -36,3 +45,9 @@ pub record FindsProblem (n : ℕ) (first : Option in_place.Problem) (old : Probl
   pub answered : answer ≡ answer_if_some first
   pub problem : new ≡ numbered_or_old old first
   pub inside : IfSome first (λ p. p.offset ≤ n)
+
+-- that by the rules that a number denotes, `first` being the first problem by some rules; if it denotes
+-- none, what was there stays
+abbrev pub FindsBy : Option Rules → ℕ → (Rules → Option in_place.Problem) → Problem → ℤ → Problem → Type 0
+FindsBy (Some rules) n first old answer new = FindsProblem n (first rules) old answer new
+FindsBy None n first old answer new = (answer ≡ code_of BadTag) × (new ≡ old)

@@ -50,6 +50,7 @@ impl Entry {
 
 impl Cursor {
     /// The bytes that are left, if they are in `bytes` and are of a container.
+    #[inline(always)]
     fn body(self, bytes: &[u8]) -> Option<&[u8]>
         ensures { MatchOption result
             (IsOfContainer (length bytes.now) self → ⊥)
@@ -63,6 +64,7 @@ impl Cursor {
 
     /// The next entry, and a cursor after it. It looks at the key's length, the type tag and the
     /// length after it only, so it takes constant time.
+    #[inline(always)]
     pub fn next(self, bytes: &[u8]) -> Result<Option<(Entry, Cursor)>, Fault>
         ensures values { (vs : Trees) → SpanLies (length bytes.now) self.left → self.tag ≡ array_tag
             → ArrayBody (part bytes.now self.left) vs → GivesValue bytes.now vs result }
@@ -168,6 +170,7 @@ pub fn behind_value(value: &[u8]) -> Option<&[u8]>
 }
 
 /// The entry of the value at the start of the span.
+#[inline(always)]
 pub fn first_value(bytes: &[u8], left: Span) -> Option<Entry>
     requires left { SpanLies (length bytes.now) left }
     ensures value { (vs : Trees) → 0 < left.length → ArrayBody (part bytes.now left) vs → IsValueIn bytes.now left vs result }
@@ -181,6 +184,7 @@ pub fn first_value(bytes: &[u8], left: Span) -> Option<Entry>
 }
 
 /// The entry of the pair at the start of the span.
+#[inline(always)]
 pub fn first_pair(bytes: &[u8], left: Span) -> Option<Entry>
     requires left { SpanLies (length bytes.now) left }
     ensures pair { (ps : Entries) → 0 < left.length → TableBody (part bytes.now left) ps → IsPairIn bytes.now left ps result }
@@ -202,6 +206,7 @@ pub fn first_pair(bytes: &[u8], left: Span) -> Option<Entry>
 }
 
 /// The entry of the value at the start of the span, with its key.
+#[inline(always)]
 fn front_of(bytes: &[u8], left: Span, key: Span) -> Option<Entry>
     requires left { SpanLies (length bytes.now) left }
     requires key { SpanLies (length bytes.now) key }

@@ -91,48 +91,6 @@ impl Entry {
     }
 }
 
-/// Leaves the signed number that is given.
-pub fn store_int(done: Result<i64, Fault>, number: &mut i64) -> i32
-    ensures answer { result ≡ answer_of done }
-    ensures number { number.new ≡ ok_or_old number.old done }
-{
-    match done {
-        Ok(given) => {
-            *number = given;
-            OK
-        }
-        Err(fault) => fault.code(),
-    }
-}
-
-/// Leaves the unsigned number that is given.
-pub fn store_uint(done: Result<u64, Fault>, number: &mut u64) -> i32
-    ensures answer { result ≡ answer_of done }
-    ensures number { number.new ≡ ok_or_old number.old done }
-{
-    match done {
-        Ok(given) => {
-            *number = given;
-            OK
-        }
-        Err(fault) => fault.code(),
-    }
-}
-
-/// Leaves the boolean that is given.
-pub fn store_bool(done: Result<i32, Fault>, truth: &mut i32) -> i32
-    ensures answer { result ≡ answer_of done }
-    ensures truth { truth.new ≡ ok_or_old truth.old done }
-{
-    match done {
-        Ok(given) => {
-            *truth = given;
-            OK
-        }
-        Err(fault) => fault.code(),
-    }
-}
-
 /// Leaves the decimal that is given.
 pub fn store_decimal(done: Result<(u32, u8), Fault>, number: &mut u32, scale: &mut u8) -> i32
     ensures answer { result ≡ answer_of done }

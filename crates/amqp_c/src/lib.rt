@@ -8,13 +8,13 @@
 #![tactic(auto)]
 
 ghost use Rattle.std.specs.Prelude.{◌≡◌, length};
-ghost use Rattle.amqp_in_place.specs.Rabbitmq.{problem_of, problem_in_table_of};
+ghost use Rattle.amqp_in_place.specs.Problems.{problem_of, problem_in_table_of};
 ghost use Rattle.amqp_c_common.specs.Reading.{limits};
-ghost use Rattle.amqp_c.specs.Problems.{FindsProblem};
+ghost use Rattle.amqp_c.specs.Problems.{FindsBy, rules_of};
 ghost use Rattle.amqp_c.specs.BuildCalls.{PutsScalar, PutsBytes, PutsValue, Begins, Ends, PutsInt, PutsUint};
 ghost use Rattle.amqp_c.specs.BuiltEntries.{truth_bits};
 ghost use Rattle.amqp_c.specs.Getters.{GetsInt, GetsUint, GetsBool, GetsTimestamp, GetsDecimal};
-ghost use Rattle.amqp_c.specs.Calls.{Reads, ReadsTable, MeasuresValue, MeasuresTable, Firsts, Enters, Steps, Finds, FindsFirst, FindsPath};
+ghost use Rattle.amqp_c.specs.Calls.{ReadsValue, ReadsTable, MeasuresValue, MeasuresTable, Firsts, Enters, Steps, Finds, FindsFirst, FindsPath};
 
 mod container;
 mod cursor;
@@ -32,35 +32,38 @@ mod read;
 mod room;
 mod store;
 
-use amqp_c_common::return_count;
-use amqp_in_place::rabbitmq::{first_problem, first_problem_in_table};
+use amqp_c_common::Fault;
+use amqp_in_place::{first_problem, first_problem_in_table};
 use amqp_parsing::Limits;
 use container::Container;
 use cursor::Cursor;
 use entry::{Entry, first};
-use getter::{store_bool, store_decimal, store_int, store_uint};
+use getter::store_decimal;
 use integers::{put_int, put_uint, truth_bits};
 use measure::{Measure, measured_table, measured_value};
 use nest::{begin, end};
 use path::{EqualKeys, Step, find_path};
-use problem::Problem;
+use problem::{Problem, rules_of};
 use put::{put_bytes, put_scalar, put_value};
 use read::{read, read_table};
-use store::{
-    store_container, store_cursor, store_entry, store_found, store_measure, store_problem,
-    store_step, store_table,
-};
+use store::{store, store_found, store_measure, store_problem, store_read, store_step};
 
-/// Reads the value at the start within limits, and checks all of it. docs/PROMISES.md has what a
-/// level of nesting takes of the stack.
+/// Reads the value at the start within limits, checks all of it, and returns its entry.
+/// docs/PROMISES.md has what a level of nesting takes of the stack.
 ///
 /// `count` becomes how many bytes the value takes, or how many more the field that is being read
 /// needs, otherwise 0.
 #[unsafe(no_mangle)]
-pub extern "C" fn amqpv_read(bytes: &[u8], frame: u32, depth: u32, count: &mut usize) -> i32
-    ensures { Reads frame depth bytes.now result count.new }
+pub extern "C" fn amqpv_read(
+    bytes: &[u8],
+    frame: u32,
+    depth: u32,
+    entry: &mut Entry,
+    count: &mut usize,
+) -> i32
+    ensures { ReadsValue frame depth bytes.now entry.old result entry.new count.new }
 {
-    return_count(read(bytes, Limits { frame, depth }), count)
+    store_read(read(bytes, Limits { frame, depth }), entry, count)
 }
 
 /// Reads the table without its type tag at the start, and returns its entry, whose content is its
@@ -76,7 +79,7 @@ pub extern "C" fn amqpv_read_table(
 ) -> i32
     ensures { ReadsTable frame depth bytes.now entry.old result entry.new count.new }
 {
-    store_table(read_table(bytes, Limits { frame, depth }), entry, count)
+    store_read(read_table(bytes, Limits { frame, depth }), entry, count)
 }
 
 /// Measures the value at the start, which is read within limits as by `amqpv_read`. docs/PROMISES.md
@@ -117,18 +120,26 @@ pub extern "C" fn amqpv_measure_table(
     )
 }
 
-/// Finds the first thing in the value at the start that RabbitMQ closes the connection for, or that
-/// is beyond the limits. docs/PROMISES.md has what a level of nesting takes of the stack.
+/// Finds the first thing in the value at the start that isn't allowed by the rules that a number
+/// denotes: those of `amqpv_read` (0), the same with any bytes as keys (1), or RabbitMQ's (2).
+/// docs/PROMISES.md has what a level of nesting takes of the stack.
 #[unsafe(no_mangle)]
 pub extern "C" fn amqpv_first_problem(
     bytes: &[u8],
+    rules: u32,
     frame: u32,
     depth: u32,
     problem: &mut Problem,
 ) -> i32
-    ensures { FindsProblem (length bytes.now) (problem_of (limits frame depth) bytes.now) problem.old result problem.new }
+    ensures { FindsBy (rules_of rules) (length bytes.now) (λ r. problem_of r (limits frame depth) bytes.now) problem.old result problem.new }
 {
-    store_problem(first_problem(bytes, Limits { frame, depth }), problem)
+    let Some(rules) = rules_of(rules) else {
+        return Fault::BadTag.code();
+    };
+    store_problem(
+        first_problem(bytes, rules, Limits { frame, depth }),
+        problem,
+    )
 }
 
 /// Finds that in the table without its type tag at the start. Offsets count from its length on, and
@@ -136,14 +147,18 @@ pub extern "C" fn amqpv_first_problem(
 #[unsafe(no_mangle)]
 pub extern "C" fn amqpv_first_problem_in_table(
     bytes: &[u8],
+    rules: u32,
     frame: u32,
     depth: u32,
     problem: &mut Problem,
 ) -> i32
-    ensures { FindsProblem (length bytes.now) (problem_in_table_of (limits frame depth) bytes.now) problem.old result problem.new }
+    ensures { FindsBy (rules_of rules) (length bytes.now) (λ r. problem_in_table_of r (limits frame depth) bytes.now) problem.old result problem.new }
 {
+    let Some(rules) = rules_of(rules) else {
+        return Fault::BadTag.code();
+    };
     store_problem(
-        first_problem_in_table(bytes, Limits { frame, depth }),
+        first_problem_in_table(bytes, rules, Limits { frame, depth }),
         problem,
     )
 }
@@ -154,7 +169,7 @@ pub extern "C" fn amqpv_first_problem_in_table(
 pub extern "C" fn amqpv_first(bytes: &[u8], entry: &mut Entry) -> i32
     ensures { Firsts bytes.now entry.old result entry.new }
 {
-    store_entry(first(bytes), entry)
+    store(first(bytes), entry)
 }
 
 /// Returns a cursor before the first entry of an array or a table, in constant time.
@@ -162,7 +177,7 @@ pub extern "C" fn amqpv_first(bytes: &[u8], entry: &mut Entry) -> i32
 pub extern "C" fn amqpv_enter(bytes: &[u8], entry: &Entry, cursor: &mut Cursor) -> i32
     ensures { Enters bytes.now entry.now cursor.old result cursor.new }
 {
-    store_cursor(entry.enter(bytes), cursor)
+    store(entry.enter(bytes), cursor)
 }
 
 /// Returns the next entry and sets the cursor after it, in constant time.
@@ -227,7 +242,7 @@ pub extern "C" fn amqpv_put(
 ) -> i32
     ensures { PutsScalar tag bits scale room.old into.old key.now result room.new into.new }
 {
-    store_container(put_scalar(room, *into, key, tag, bits, scale), into)
+    store(put_scalar(room, *into, key, tag, bits, scale), into)
 }
 
 /// Puts an entry after what is written: a signed number, by its type tag.
@@ -241,7 +256,7 @@ pub extern "C" fn amqpv_put_int(
 ) -> i32
     ensures { PutsInt tag number room.old into.old key.now result room.new into.new }
 {
-    store_container(put_int(room, *into, key, tag, number), into)
+    store(put_int(room, *into, key, tag, number), into)
 }
 
 /// Puts an entry after what is written: an unsigned number, by its type tag.
@@ -255,7 +270,7 @@ pub extern "C" fn amqpv_put_uint(
 ) -> i32
     ensures { PutsUint tag number room.old into.old key.now result room.new into.new }
 {
-    store_container(put_uint(room, *into, key, tag, number), into)
+    store(put_uint(room, *into, key, tag, number), into)
 }
 
 /// Puts an entry after what is written: a boolean, of which every number but 0 is true.
@@ -268,7 +283,7 @@ pub extern "C" fn amqpv_put_bool(
 ) -> i32
     ensures { PutsScalar 116 (truth_bits truth) 0 room.old into.old key.now result room.new into.new }
 {
-    store_container(
+    store(
         put_scalar(room, *into, key, b't', truth_bits(truth), 0),
         into,
     )
@@ -284,7 +299,7 @@ pub extern "C" fn amqpv_put_timestamp(
 ) -> i32
     ensures { PutsScalar 84 seconds 0 room.old into.old key.now result room.new into.new }
 {
-    store_container(put_scalar(room, *into, key, b'T', seconds, 0), into)
+    store(put_scalar(room, *into, key, b'T', seconds, 0), into)
 }
 
 /// Puts an entry after what is written: a decimal, by its number without the point, and how many of
@@ -299,7 +314,7 @@ pub extern "C" fn amqpv_put_decimal(
 ) -> i32
     ensures { PutsScalar 68 number scale room.old into.old key.now result room.new into.new }
 {
-    store_container(
+    store(
         put_scalar(room, *into, key, b'D', u64::from(number), scale),
         into,
     )
@@ -310,7 +325,7 @@ pub extern "C" fn amqpv_put_decimal(
 pub extern "C" fn amqpv_put_void(room: &mut [u8], into: &mut Container, key: &[u8]) -> i32
     ensures { PutsScalar 86 0 0 room.old into.old key.now result room.new into.new }
 {
-    store_container(put_scalar(room, *into, key, b'V', 0, 0), into)
+    store(put_scalar(room, *into, key, b'V', 0, 0), into)
 }
 
 /// Puts an entry after what is written: a long string.
@@ -323,7 +338,7 @@ pub extern "C" fn amqpv_put_string(
 ) -> i32
     ensures { PutsBytes 83 text.now room.old into.old key.now result room.new into.new }
 {
-    store_container(put_bytes(room, *into, key, b'S', text), into)
+    store(put_bytes(room, *into, key, b'S', text), into)
 }
 
 /// Puts an entry after what is written: a long string or a byte array.
@@ -337,7 +352,7 @@ pub extern "C" fn amqpv_put_bytes(
 ) -> i32
     ensures { PutsBytes tag bytes.now room.old into.old key.now result room.new into.new }
 {
-    store_container(put_bytes(room, *into, key, tag, bytes), into)
+    store(put_bytes(room, *into, key, tag, bytes), into)
 }
 
 /// Puts an entry after what is written: the encoding at the start of other bytes, read within
@@ -353,7 +368,7 @@ pub extern "C" fn amqpv_put_value(
 ) -> i32
     ensures { PutsValue frame depth bytes.now room.old into.old key.now result room.new into.new }
 {
-    store_container(
+    store(
         put_value(room, *into, key, bytes, Limits { frame, depth }),
         into,
     )
@@ -371,7 +386,7 @@ pub extern "C" fn amqpv_open(
 ) -> i32
     ensures { Begins tag room.old into.now key.now body.old result room.new body.new }
 {
-    store_container(begin(room, *into, key, tag), body)
+    store(begin(room, *into, key, tag), body)
 }
 
 /// Ends the entry that `amqpv_open` began: fills in the length of its body, and `into` reaches to
@@ -380,7 +395,7 @@ pub extern "C" fn amqpv_open(
 pub extern "C" fn amqpv_close(room: &mut [u8], into: &mut Container, body: &Container) -> i32
     ensures { Ends room.old into.old body.now result room.new into.new }
 {
-    store_container(end(room, *into, *body), into)
+    store(end(room, *into, *body), into)
 }
 
 /// Returns the integer of an entry as a signed one, if it fits.
@@ -388,7 +403,7 @@ pub extern "C" fn amqpv_close(room: &mut [u8], into: &mut Container, body: &Cont
 pub extern "C" fn amqpv_as_int(entry: &Entry, number: &mut i64) -> i32
     ensures { GetsInt entry.now number.old result number.new }
 {
-    store_int(entry.as_int(), number)
+    store(entry.as_int(), number)
 }
 
 /// Returns the integer of an entry as an unsigned one, if it isn't below 0.
@@ -396,7 +411,7 @@ pub extern "C" fn amqpv_as_int(entry: &Entry, number: &mut i64) -> i32
 pub extern "C" fn amqpv_as_uint(entry: &Entry, number: &mut u64) -> i32
     ensures { GetsUint entry.now number.old result number.new }
 {
-    store_uint(entry.as_uint(), number)
+    store(entry.as_uint(), number)
 }
 
 /// Returns the boolean of an entry as 0 or 1.
@@ -404,7 +419,7 @@ pub extern "C" fn amqpv_as_uint(entry: &Entry, number: &mut u64) -> i32
 pub extern "C" fn amqpv_as_bool(entry: &Entry, truth: &mut i32) -> i32
     ensures { GetsBool entry.now truth.old result truth.new }
 {
-    store_bool(entry.as_bool(), truth)
+    store(entry.as_bool(), truth)
 }
 
 /// Returns the timestamp of an entry.
@@ -412,7 +427,7 @@ pub extern "C" fn amqpv_as_bool(entry: &Entry, truth: &mut i32) -> i32
 pub extern "C" fn amqpv_as_timestamp(entry: &Entry, seconds: &mut u64) -> i32
     ensures { GetsTimestamp entry.now seconds.old result seconds.new }
 {
-    store_uint(entry.as_timestamp(), seconds)
+    store(entry.as_timestamp(), seconds)
 }
 
 /// Returns the decimal of an entry: its number without the point, and how many of its digits are

@@ -1,25 +1,26 @@
-//! What RabbitMQ closes the connection for.
+//! What the rules don't allow in a value.
 
 ghost use Rattle.std.specs.Prelude.{◌≡◌};
-ghost use Rattle.amqp_c.specs.Problems.{kind_number, unknown_tag, numbered};
+ghost use Rattle.amqp_c.specs.Problems.{rules_of, kind_number, unknown_tag, numbered};
 
-use amqp_in_place::rabbitmq::{self, ProblemKind};
+use amqp_in_place::{ProblemKind, Rules};
 
-/// Something in a value that RabbitMQ closes the connection for, or that is beyond the limits.
+/// Something in a value that isn't allowed.
 #[repr(C)]
 #[derive(Clone, Copy)]
 pub struct Problem {
-    /// How many bytes are before the value with the problem, or before the pair if its key is cut.
+    /// How many bytes are before the value with the problem, or before the pair if its key is cut
+    /// or isn't UTF-8.
     pub offset: usize,
     /// The number of what is wrong.
     pub kind: u8,
-    /// The type tag that RabbitMQ doesn't know; else 0.
+    /// The byte that is no type tag, or none that RabbitMQ knows; else 0.
     pub tag: u8,
 }
 
 impl Problem {
     /// The same in C's struct.
-    pub fn of(problem: rabbitmq::Problem) -> Problem
+    pub fn of(problem: amqp_in_place::Problem) -> Problem
         ensures { result ≡ numbered problem }
     {
         Problem {
@@ -27,6 +28,18 @@ impl Problem {
             kind: number_of(problem.kind),
             tag: unknown_tag(problem.kind),
         }
+    }
+}
+
+/// The rules that a number denotes.
+pub fn rules_of(number: u32) -> Option<Rules>
+    ensures { result ≡ rules_of number }
+{
+    match number {
+        0 => Some(Rules::Reading),
+        1 => Some(Rules::AnyKeys),
+        2 => Some(Rules::RabbitMq),
+        _ => None,
     }
 }
 
@@ -41,6 +54,7 @@ fn number_of(kind: ProblemKind) -> u8
         ProblemKind::KeyCut => 4,
         ProblemKind::TooDeep => 5,
         ProblemKind::TooLarge => 6,
+        ProblemKind::KeyNotUtf8 => 7,
     }
 }
 

@@ -2,20 +2,20 @@
 
 ghost use Rattle.std.specs.Prelude.{MatchResult};
 ghost use Rattle.amqp_parsing.specs.Untagged.{tagged};
-ghost use Rattle.amqp_c.specs.CallResults.{IsTaken, IsTableTaken, FaultsWithin};
+ghost use Rattle.amqp_c.specs.CallResults.{IsValueTaken, IsTableTaken, FaultsWithin};
 
-use crate::entry::Entry;
+use crate::entry::{Entry, first};
 use amqp_c_common::{Fault, Span};
 use amqp_in_place::{read_in_place, read_table_in_place};
 use amqp_parsing::Limits;
 use amqp_types::AMQPType;
 
-/// Reads a value within limits, checks all of it, and returns how many bytes it takes.
-pub fn read(bytes: &[u8], limits: Limits) -> Result<usize, Fault>
-    ensures { MatchResult result (IsTaken limits bytes.now) (FaultsWithin limits bytes.now) }
+/// Reads a value within limits, checks all of it, and returns its entry.
+pub fn read(bytes: &[u8], limits: Limits) -> Result<Entry, Fault>
+    ensures { MatchResult result (IsValueTaken limits bytes.now) (FaultsWithin limits bytes.now) }
 {
-    let (_, rest) = read_in_place(bytes, limits)?;
-    Ok(bytes.len() - rest.len())
+    read_in_place(bytes, limits)?;
+    first(bytes)
 }
 
 /// Reads a table without its type tag within limits, checks all of it, and returns its entry.

@@ -3,39 +3,36 @@
 ghost use Rattle.std.specs.Prelude.{◌≡◌};
 ghost use Rattle.amqp_c_common.specs.ReturnCodes.{answer_of};
 ghost use Rattle.amqp_c.specs.Problems.{answer_if_some, numbered_or_old};
-ghost use Rattle.amqp_c.specs.BuildCalls.{container_or_old};
 ghost use Rattle.amqp_c.specs.CallResults.{answer_if_any, count_by, ok_or_old, found_or_old, entry_or_old, cursor_or_old};
 
-use crate::container::Container;
 use crate::cursor::Cursor;
 use crate::entry::Entry;
 use crate::measure::Measure;
 use crate::problem::Problem;
 use amqp_c_common::{Fault, return_count};
-use amqp_in_place::rabbitmq;
 
 /// Something is given.
 const OK: i32 = 0;
 /// No entry is left, or no entry has the key.
 const NONE: i32 = 1;
 
-/// Leaves the entry that is given.
-pub fn store_entry(done: Result<Entry, Fault>, entry: &mut Entry) -> i32
+/// Leaves what is given.
+#[inline(always)]
+pub fn store<T: Copy>(done: Result<T, Fault>, place: &mut T) -> i32
     ensures answer { result ≡ answer_of done }
-    ensures entry { entry.new ≡ ok_or_old entry.old done }
+    ensures place { place.new ≡ ok_or_old place.old done }
 {
     match done {
         Ok(given) => {
-            *entry = given;
+            *place = given;
             OK
         }
         Err(fault) => fault.code(),
     }
 }
 
-/// Leaves the entry of a table that is read, and stores how many bytes were read or are needed,
-/// else 0.
-pub fn store_table(done: Result<Entry, Fault>, entry: &mut Entry, count: &mut usize) -> i32
+/// Leaves the entry of what is read, and stores how many bytes were read or are needed, else 0.
+pub fn store_read(done: Result<Entry, Fault>, entry: &mut Entry, count: &mut usize) -> i32
     ensures answer { result ≡ answer_of done }
     ensures entry { entry.new ≡ ok_or_old entry.old done }
     ensures count { count.new ≡ count_by (λ e. e.value.length) done }
@@ -67,7 +64,7 @@ pub fn store_measure(done: Result<Measure, Fault>, measure: &mut Measure, count:
 }
 
 /// Leaves the problem that is found.
-pub fn store_problem(found: Option<rabbitmq::Problem>, problem: &mut Problem) -> i32
+pub fn store_problem(found: Option<amqp_in_place::Problem>, problem: &mut Problem) -> i32
     ensures answer { result ≡ answer_if_some found }
     ensures problem { problem.new ≡ numbered_or_old problem.old found }
 {
@@ -77,20 +74,6 @@ pub fn store_problem(found: Option<rabbitmq::Problem>, problem: &mut Problem) ->
             OK
         }
         None => NONE,
-    }
-}
-
-/// Leaves the cursor that is given.
-pub fn store_cursor(done: Result<Cursor, Fault>, cursor: &mut Cursor) -> i32
-    ensures answer { result ≡ answer_of done }
-    ensures cursor { cursor.new ≡ ok_or_old cursor.old done }
-{
-    match done {
-        Ok(given) => {
-            *cursor = given;
-            OK
-        }
-        Err(fault) => fault.code(),
     }
 }
 
@@ -110,6 +93,7 @@ pub fn store_found(done: Result<Option<Entry>, Fault>, entry: &mut Entry) -> i32
 }
 
 /// Leaves the entry and the cursor that a step returns.
+#[inline(always)]
 pub fn store_step(
     done: Result<Option<(Entry, Cursor)>, Fault>,
     cursor: &mut Cursor,
@@ -127,19 +111,5 @@ pub fn store_step(
         }
         Ok(None) => NONE,
         Err(fault) => fault.code(),
-    }
-}
-
-/// Leaves the container that is given.
-pub fn store_container(done: Result<Container, Fault>, container: &mut Container) -> i32
-    ensures answer { result ≡ answer_of done }
-    ensures container { container.new ≡ container_or_old container.old done }
-{
-    match done {
-        Ok(given) => {
-            *container = given;
-            OK
-        }
-        Err(error) => error.code(),
     }
 }

@@ -1,6 +1,8 @@
 -- Looking for the first problem in a value.
-use Rattle.std.proofs.Common.{◌≡◌, ◌<◌, ◌≤◌, ◌+◌, ◌-◌, ◌^◌, ℕ, zero, suc, Option, Some, None, List, [], ◌∷◌, length, take, drop, Bool, true, false, nat_lt, refl, sym, ap, ◌∙◌, subst, arith, rules}
-use Rattle.std.specs.Prelude.{option_map, if◌then◌else◌}
+use Rattle.std.proofs.Common.{◌≡◌, ◌<◌, ◌≤◌, ◌+◌, ◌-◌, ℕ, zero, suc, Option, Some, None, List, [], ◌∷◌, length, take, drop, Bool, true, false, nat_lt, refl, sym, ap, ◌∙◌, arith}
+use Rattle.std.specs.Prelude.{option_map, if◌then◌else◌, Result, Ok, Err, MatchResult, is_ok}
+use Rattle.std.specs.Str.{IsUtf8, is_utf8}
+use Rattle.std.proofs.lemmas.Str.{IsUtf8-from_is_utf8, is_utf8-from_IsUtf8}
 use Rattle.std.specs.Int.{Width, w8, w32, byte_len}
 use Rattle.std.proofs.lemmas.Bool.{le-ltb}
 use Rattle.std.proofs.lemmas.List.{take_all, length-drop, drop-drop, drop_all}
@@ -9,8 +11,9 @@ use Rattle.amqp_types.specs.declared.amqp_type.AMQPType.TheVariants as amqp
 use Rattle.amqp_grammar.specs.Layouts.{fixed}
 use Rattle.amqp_grammar.specs.Outcomes.{length_field, counted}
 use Rattle.amqp_parsing.specs.Headers.{extent, extent_of, raw_extent, first_of}
-use Rattle.amqp_in_place.specs.declared.rabbitmq.problems.Problem.{Problem}
-use Rattle.amqp_in_place.specs.Rabbitmq.{Search, or_else, further, in_entries, in_payload, in_value, in_pair, pair_len, inside}
+use Rattle.amqp_in_place.specs.declared.problems.Problem.{Problem}
+use Rattle.amqp_in_place.specs.declared.problems.Rules.{Rules}
+use Rattle.amqp_in_place.specs.Problems.{Search, further, in_entries, in_payload, in_value, in_pair, pair_len, inside}
 
 -- two steps further on are one
 further_twice : (m n : ℕ) (x : Option Problem) → option_map (further m) (option_map (further n) x) ≡ option_map (further (m + n)) x
@@ -114,16 +117,25 @@ pub payload_there : (within : AMQPType → Search) (type : AMQPType) (b : List �
 payload_there within type b n is most = rw (is, le-ltb (length b) (raw_extent type b) (omega (arith, is, most))) refl
 
 -- and in a container that is in its entries, which begin five bytes after the type tag
-pub array_inside : (depth : ℕ) (type : AMQPType) (b : List ℕ) (x : Option Problem) → type ≡ amqp.FieldArray → 0 < depth
-    → x ≡ in_entries (in_value (inside (depth - 1))) extent 0 (take (length b - 4) (drop 4 b)) → option_map (further 5) x ≡ inside depth type b
-array_inside zero type b x is some e = absurd (omega (arith, some))
-array_inside (suc depth) type b x is some e =
+pub array_inside : (r : Rules) (depth : ℕ) (type : AMQPType) (b : List ℕ) (x : Option Problem) → type ≡ amqp.FieldArray → 0 < depth
+    → x ≡ in_entries (in_value r (inside r (depth - 1))) extent 0 (take (length b - 4) (drop 4 b)) → option_map (further 5) x ≡ inside r depth type b
+array_inside r zero type b x is some e = absurd (omega (arith, some))
+array_inside r (suc depth) type b x is some e =
     let less : suc depth - 1 ≡ depth = omega arith in
     rw (is, e, less, left_over 4 b) refl
 
-pub table_inside : (depth : ℕ) (type : AMQPType) (b : List ℕ) (x : Option Problem) → type ≡ amqp.FieldTable → 0 < depth
-    → x ≡ in_entries (in_pair (in_value (inside (depth - 1)))) pair_len 0 (take (length b - 4) (drop 4 b)) → option_map (further 5) x ≡ inside depth type b
-table_inside zero type b x is some e = absurd (omega (arith, some))
-table_inside (suc depth) type b x is some e =
+pub table_inside : (r : Rules) (depth : ℕ) (type : AMQPType) (b : List ℕ) (x : Option Problem) → type ≡ amqp.FieldTable → 0 < depth
+    → x ≡ in_entries (in_pair r (in_value r (inside r (depth - 1)))) pair_len 0 (take (length b - 4) (drop 4 b)) → option_map (further 5) x ≡ inside r depth type b
+table_inside r zero type b x is some e = absurd (omega (arith, some))
+table_inside r (suc depth) type b x is some e =
     let less : suc depth - 1 ≡ depth = omega arith in
     rw (is, e, less, left_over 4 b) refl
+
+-- a check that says whether bytes are UTF-8
+pub checked_utf8 : {E : Type 0} (k : List ℕ) (r : Result (Unit {0}) E) → MatchResult r (λ x. IsUtf8 k) (λ x. IsUtf8 k → ⊥) → is_ok r ≡ is_utf8 k
+checked_utf8 k (Ok x) good = sym (is_utf8-from_IsUtf8 k good)
+checked_utf8 k (Err x) bad = by (is_utf8 k) refl
+  where
+    by : (yes : Bool) → is_utf8 k ≡ yes → false ≡ yes
+    by true is = absurd (bad (IsUtf8-from_is_utf8 k is))
+    by false is = refl

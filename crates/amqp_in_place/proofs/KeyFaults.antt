@@ -16,7 +16,7 @@ use Rattle.amqp_grammar.specs.Maps.{same_bytes}
 use Rattle.amqp_parsing.specs.Headers.{extent}
 use Rattle.amqp_in_place.specs.declared.rabbitmq.warning.KeyFault.{KeyFault}
 use Rattle.amqp_in_place.specs.declared.rabbitmq.warning.KeyFault.TheVariants.{Repeated, NotUtf8}
-use Rattle.amqp_in_place.specs.Rabbitmq.{pair_len}
+use Rattle.amqp_in_place.specs.Problems.{pair_len}
 use Rattle.amqp_in_place.specs.RabbitmqSeen.{Has, Tells, key_of, behind_key}
 use Rattle.amqp_in_place.specs.RabbitmqWarnings.{Place, is_faulty, fault_in_values, fault_in_pairs}
 

@@ -9,8 +9,8 @@ pub mod Suffix
 pub mod Places
 pub mod Canonicals
 pub mod Paths
-pub mod Rabbitmq
-pub mod RabbitmqResults
+pub mod Problems
+pub mod ProblemResults
 pub mod RabbitmqWarnings
 pub mod RabbitmqSeen
 pub mod Measures

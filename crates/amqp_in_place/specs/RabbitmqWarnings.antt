@@ -11,7 +11,7 @@ use Rattle.amqp_types.specs.Ids.{kind, id_of}
 use Rattle.amqp_grammar.specs.Maps.{same_bytes}
 use Rattle.amqp_parsing.specs.declared.limits.Limits.{Limits}
 use Rattle.amqp_parsing.specs.Headers.{extent}
-use Rattle.amqp_in_place.specs.Rabbitmq.{pair_len}
+use Rattle.amqp_in_place.specs.Problems.{pair_len}
 use Rattle.amqp_in_place.specs.declared.rabbitmq.warning.KeyFault.{KeyFault}
 use Rattle.amqp_in_place.specs.declared.rabbitmq.warning.KeyFault.TheVariants.{Repeated, NotUtf8}
 use Rattle.amqp_in_place.specs.declared.rabbitmq.warning.Warned.{Warned}

@@ -10,6 +10,7 @@ mod iter;
 mod measure;
 mod owned;
 mod path;
+mod problems;
 pub mod rabbitmq;
 mod read;
 mod refs;
@@ -22,6 +23,7 @@ pub use canonical::{canonical_len, canonical_table_len, is_canonical, is_canonic
 pub use iter::{ArrayValues, TablePairs};
 pub use measure::{Measure, measure_table, measure_value};
 pub use path::{EqualKeys, PathStep};
+pub use problems::{Problem, ProblemKind, Rules, first_problem, first_problem_in_table};
 pub use read::{read_in_place, read_in_place_unlimited, read_table_in_place};
 pub use refs::{ArrayRef, TableRef, ValueRef};
 pub use skip::skip_value;

@@ -4,8 +4,31 @@
 //! NaN or an infinity, or a length that doesn't fit. [`first_problem`] finds the first of these,
 //! [`warnings`] what it takes and others may not.
 
-mod problems;
+ghost use Rattle.std.specs.Prelude.{◌≡◌, ◌≤◌, IfSome, length};
+ghost use Rattle.amqp_in_place.specs.Problems.{problem_of, problem_in_table_of};
+ghost use Rattle.amqp_in_place.specs.declared.problems.Rules.TheVariants.{RabbitMq};
+
 mod warning;
 
-pub use problems::{Problem, ProblemKind, first_problem, first_problem_in_table};
+pub use crate::problems::{Problem, ProblemKind};
 pub use warning::{Warned, warnings, warnings_in_table};
+
+use crate::problems::{self, Rules};
+use amqp_parsing::Limits;
+
+/// The first problem that RabbitMQ has with the value at the start of the bytes:
+/// `in_place::first_problem` by its rules.
+pub fn first_problem(bytes: &[u8], limits: Limits) -> Option<Problem>
+    ensures first { result ≡ problem_of RabbitMq limits bytes.now }
+    ensures inside { IfSome result (λ p. p.offset ≤ length bytes.now) }
+{
+    problems::first_problem(bytes, Rules::RabbitMq, limits)
+}
+
+/// That in a table without its type tag: `in_place::first_problem_in_table` by RabbitMQ's rules.
+pub fn first_problem_in_table(table: &[u8], limits: Limits) -> Option<Problem>
+    ensures first { result ≡ problem_in_table_of RabbitMq limits table.now }
+    ensures inside { IfSome result (λ p. p.offset ≤ length table.now) }
+{
+    problems::first_problem_in_table(table, Rules::RabbitMq, limits)
+}

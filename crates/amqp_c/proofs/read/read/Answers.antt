@@ -1,9 +1,14 @@
-use Rattle.std.proofs.Common.{length, ap, arith, length-append}
-use Rattle.amqp_grammar.proofs.GrammarLaws.{front_within}
+use Rattle.std.proofs.Common.{List, ℕ, sym, subst}
+use Rattle.amqp_grammar.specs.Outcomes.{Outcome, found}
+use Rattle.amqp_grammar.proofs.GrammarLaws.{front_within, wire_found}
+use Rattle.amqp_c.proofs.Fronts.{value_taken}
 use Rattle.amqp_c.proofs.read.read.Goals as goal
 
 pub returns : goal.returns
 returns c =
-    let x = c.in_ok-rest.ensures.within in
-    let f = front_within c.args.limits.depth c.args.bytes.now c.in_ok-rest.rest.now x.0 x.2.1 in
-    (x.0, c.in_ok-rest.rest.now, x.2, omega (arith, ap length f.2, length-append f.0 c.in_ok-rest.rest.now))
+    let x = c.in_ok-read_in_place.ensures.within in
+    let s = c.args.bytes.now in
+    let rest = c.in_ok-read_in_place.field-0.1.now in
+    let f = front_within c.args.limits.depth s rest x.0 x.2.1 in
+    value_taken c.args.limits s rest x.0 c.first.result x.2
+    (c.first.ensures.told x.0 rest (subst (λ (t : List ℕ). Outcome t (found x.0 rest)) (sym f.2) (wire_found f.0 rest x.0 f.1.0)))

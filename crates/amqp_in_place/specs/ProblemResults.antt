@@ -1,6 +1,6 @@
 -- What the steps of looking for a problem return.
 use Rattle.std.specs.Prelude.{ℕ, ◌≡◌, ◌<◌, ◌≤◌, Option, Some, None, Result, Ok, Err}
-use Rattle.amqp_in_place.specs.declared.rabbitmq.problems.Problem.{Problem}
+use Rattle.amqp_in_place.specs.declared.problems.Problem.{Problem}
 
 -- of an entry that has `len` bytes, of `most` that are left: the first problem, or `len` if there is
 -- none

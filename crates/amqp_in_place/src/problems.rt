@@ -1,21 +1,35 @@
-//! What RabbitMQ closes the connection for.
+//! The first thing in a value that isn't allowed, and where.
 
-ghost use Rattle.std.specs.Prelude.{◌≡◌, ◌<◌, ◌≤◌, ◌+◌, ◌^◌, suc, not, IfSome, length};
+ghost use Rattle.std.specs.Prelude.{◌≡◌, ◌<◌, ◌≤◌, ◌+◌, ◌^◌, ◌&&◌, suc, not, IfSome, length};
 ghost use Rattle.std.specs.Int.{w32, w64, from_be_bytes};
 ghost use Rattle.amqp_grammar.specs.Layouts.{fixed};
 ghost use Rattle.amqp_grammar.specs.Outcomes.{length_field};
 ghost use Rattle.amqp_parsing.specs.Headers.{extent, raw_extent, first_of};
-ghost use Rattle.amqp_in_place.specs.Rabbitmq.{known, are_ones, here, further, untagged, in_entries, in_payload, in_value, in_pair, pair_len, inside, problem_of, problem_in_table_of};
-ghost use Rattle.amqp_in_place.specs.RabbitmqResults.{GoesOver};
+ghost use Rattle.amqp_in_place.specs.Problems.{known, allow_key, want_finite, are_ones, here, further, untagged, in_entries, in_payload, in_value, in_pair, pair_len, inside, problem_of, problem_in_table_of};
+ghost use Rattle.amqp_in_place.specs.ProblemResults.{GoesOver};
 
+use crate::read::check_utf8;
 use amqp_parsing::Limits;
 use amqp_parsing::header::value_len;
 use amqp_types::{AMQPType, SliceInput, SplitInput};
 
-/// Something in a value that RabbitMQ closes the connection for, or that is beyond the limits.
+/// What is allowed in a value.
+#[derive(Clone, Copy, Debug, PartialEq, Eq)]
+pub enum Rules {
+    /// What `read_in_place` reads.
+    Reading,
+    /// The same, with any bytes as keys.
+    AnyKeys,
+    /// What RabbitMQ takes, as was found by tests: any bytes as keys, but no type tag `U`, and no
+    /// Float or Double that is an infinity or a NaN.
+    RabbitMq,
+}
+
+/// Something in a value that isn't allowed.
 #[derive(Clone, Copy, Debug, PartialEq, Eq)]
 pub struct Problem {
-    /// The number of bytes before the value with the problem, or before the pair if its key is cut.
+    /// The number of bytes before the value with the problem, or before the pair if its key is cut
+    /// or isn't UTF-8.
     pub offset: usize,
     /// What it is.
     pub kind: ProblemKind,
@@ -24,15 +38,17 @@ pub struct Problem {
 /// What is wrong with a value, or with a key.
 #[derive(Clone, Copy, Debug, PartialEq, Eq)]
 pub enum ProblemKind {
-    /// RabbitMQ doesn't know this type tag.
+    /// The byte isn't a type tag, or none that RabbitMQ knows.
     UnknownTag(u8),
-    /// The number in a Float or a Double is an infinity or a NaN.
+    /// The number in a Float or a Double is an infinity or a NaN, which RabbitMQ doesn't take.
     NotFinite,
     /// The value, by its type tag and its length, goes past the end of its container or of the
     /// input; or there is no value, after a key or in an empty input.
     Cut,
     /// The key goes past the end of its table.
     KeyCut,
+    /// The key isn't UTF-8.
+    KeyNotUtf8,
     /// The container nests deeper than the limit. RabbitMQ has no such limit.
     TooDeep,
     /// The value is longer than the limit `frame`.
@@ -68,20 +84,20 @@ impl Problem {
     }
 }
 
-/// The first problem, by its offset, in the value at the start of the bytes, or `None` if RabbitMQ
-/// takes it and it is within the limits. It doesn't allocate.
+/// The first problem, by its offset, in the value at the start of the bytes, or `None` if the rules
+/// allow it and it is within the limits. It doesn't allocate.
 ///
 /// A value longer than `limits.frame` is `TooLarge`, and nothing in it is looked at. A complete
-/// container deeper than `limits.depth` is `TooDeep`, and it recurses no deeper. Keys may be any
-/// bytes, a boolean any byte. What RabbitMQ takes was found by tests.
-pub fn first_problem(bytes: &[u8], limits: Limits) -> Option<Problem>
-    ensures first { result ≡ problem_of limits bytes.now }
+/// container deeper than `limits.depth` is `TooDeep`, and it recurses no deeper. A boolean may be
+/// any byte. Where `read_in_place` needs more bytes the value is `Cut`, at 0.
+pub fn first_problem(bytes: &[u8], rules: Rules, limits: Limits) -> Option<Problem>
+    ensures first { result ≡ problem_of rules limits bytes.now }
     ensures inside { IfSome result (λ p. p.offset ≤ length bytes.now) }
 {
     if value_len(SliceInput::new(bytes)) > limits.frame as usize {
         return Some(Problem::here(ProblemKind::TooLarge));
     }
-    value(bytes, limits.depth).err()
+    value(bytes, rules, limits.depth).err()
 }
 
 /// The first problem in a table without its type tag, which begins with its length, as in methods
@@ -90,15 +106,15 @@ pub fn first_problem(bytes: &[u8], limits: Limits) -> Option<Problem>
 /// It is what `first_problem` returns for the table with its type tag, but for the offset, which
 /// counts from the length on, and is 0 for the table itself. The limit `frame` counts the type tag
 /// too.
-pub fn first_problem_in_table(table: &[u8], limits: Limits) -> Option<Problem>
-    ensures first { result ≡ problem_in_table_of limits table.now }
+pub fn first_problem_in_table(table: &[u8], rules: Rules, limits: Limits) -> Option<Problem>
+    ensures first { result ≡ problem_in_table_of rules limits table.now }
     ensures inside { IfSome result (λ p. p.offset ≤ length table.now) }
 {
     let len = value_len(SplitInput::new(b"F", table));
     if len > limits.frame as usize {
         return Some(Problem::here(ProblemKind::TooLarge));
     }
-    match payload(AMQPType::FieldTable, table, len, limits.depth) {
+    match payload(AMQPType::FieldTable, table, len, rules, limits.depth) {
         Ok(_) => None,
         Err(problem) => Some(problem.untagged()),
     }
@@ -106,28 +122,40 @@ pub fn first_problem_in_table(table: &[u8], limits: Limits) -> Option<Problem>
 
 // The length of the value at the start, or the first problem in it.
 #[cycle(problems)]
-fn value(bytes: &[u8], depth: u32) -> Result<usize, Problem>
-    ensures { GoesOver (in_value (inside depth) bytes.now) (extent bytes.now) (length bytes.now) result }
+fn value(bytes: &[u8], rules: Rules, depth: u32) -> Result<usize, Problem>
+    ensures { GoesOver (in_value rules (inside rules depth) bytes.now) (extent bytes.now) (length bytes.now) result }
 {
     let Some((tag, behind)) = bytes.split_first() else {
         return Err(Problem::here(ProblemKind::Cut));
     };
-    let Some(amqp_type) = known_type(*tag) else {
+    let Some(amqp_type) = known_type(rules, *tag) else {
         return Err(Problem::here(ProblemKind::UnknownTag(*tag)));
     };
-    payload(amqp_type, behind, value_len(SliceInput::new(bytes)), depth)
+    payload(
+        amqp_type,
+        behind,
+        value_len(SliceInput::new(bytes)),
+        rules,
+        depth,
+    )
 }
 
 // The same of a value by its payload, if it has `len` bytes with its type tag.
 #[cycle(problems)]
-fn payload(amqp_type: AMQPType, bytes: &[u8], len: usize, depth: u32) -> Result<usize, Problem>
+fn payload(
+    amqp_type: AMQPType,
+    bytes: &[u8],
+    len: usize,
+    rules: Rules,
+    depth: u32,
+) -> Result<usize, Problem>
     requires { len ≡ suc (raw_extent amqp_type bytes.now) }
-    ensures { GoesOver (in_payload (inside depth) amqp_type bytes.now) len (suc (length bytes.now)) result }
+    ensures { GoesOver (in_payload (inside rules depth) amqp_type bytes.now) len (suc (length bytes.now)) result }
 {
     if bytes.len() < len - 1 {
         return Err(Problem::here(ProblemKind::Cut));
     }
-    match inside(amqp_type, &bytes[..len - 1], depth) {
+    match inside(amqp_type, &bytes[..len - 1], rules, depth) {
         None => Ok(len),
         Some(problem) => Err(problem),
     }
@@ -135,25 +163,29 @@ fn payload(amqp_type: AMQPType, bytes: &[u8], len: usize, depth: u32) -> Result<
 
 // The first problem in a payload that is complete, with offsets from its type tag on.
 #[cycle(problems)]
-fn inside(amqp_type: AMQPType, bytes: &[u8], depth: u32) -> Option<Problem>
+fn inside(amqp_type: AMQPType, bytes: &[u8], rules: Rules, depth: u32) -> Option<Problem>
     requires { first_of (fixed amqp_type) (length_field amqp_type) ≤ length bytes.now }
-    ensures first { result ≡ inside depth amqp_type bytes.now }
+    ensures first { result ≡ inside rules depth amqp_type bytes.now }
     ensures inside { IfSome result (λ p. p.offset ≤ suc (length bytes.now)) }
 {
     match amqp_type {
-        AMQPType::Float if !is_finite_float(bytes) => Some(Problem::here(ProblemKind::NotFinite)),
-        AMQPType::Double if !is_finite_double(bytes) => Some(Problem::here(ProblemKind::NotFinite)),
+        AMQPType::Float if want_finite(rules) && !is_finite_float(bytes) => {
+            Some(Problem::here(ProblemKind::NotFinite))
+        }
+        AMQPType::Double if want_finite(rules) && !is_finite_double(bytes) => {
+            Some(Problem::here(ProblemKind::NotFinite))
+        }
         AMQPType::FieldArray => {
             if depth == 0 {
                 return Some(Problem::here(ProblemKind::TooDeep));
             }
-            Some(values(&bytes[4..], depth - 1)?.further(5))
+            Some(values(&bytes[4..], rules, depth - 1)?.further(5))
         }
         AMQPType::FieldTable => {
             if depth == 0 {
                 return Some(Problem::here(ProblemKind::TooDeep));
             }
-            Some(pairs(&bytes[4..], depth - 1)?.further(5))
+            Some(pairs(&bytes[4..], rules, depth - 1)?.further(5))
         }
         _ => None,
     }
@@ -161,13 +193,13 @@ fn inside(amqp_type: AMQPType, bytes: &[u8], depth: u32) -> Option<Problem>
 
 // The first problem in values one after another.
 #[cycle(problems)]
-fn values(body: &[u8], depth: u32) -> Option<Problem>
-    ensures first { result ≡ in_entries (in_value (inside depth)) extent 0 body.now }
+fn values(body: &[u8], rules: Rules, depth: u32) -> Option<Problem>
+    ensures first { result ≡ in_entries (in_value rules (inside rules depth)) extent 0 body.now }
     ensures inside { IfSome result (λ p. p.offset ≤ length body.now) }
 {
     let mut at = 0;
     'values: while at < body.len() {
-        match value(&body[at..], depth) {
+        match value(&body[at..], rules, depth) {
             Ok(len) => at += len,
             Err(problem) => return Some(problem.further(at)),
         }
@@ -177,13 +209,13 @@ fn values(body: &[u8], depth: u32) -> Option<Problem>
 
 // The first problem in pairs one after another.
 #[cycle(problems)]
-fn pairs(body: &[u8], depth: u32) -> Option<Problem>
-    ensures first { result ≡ in_entries (in_pair (in_value (inside depth))) pair_len 0 body.now }
+fn pairs(body: &[u8], rules: Rules, depth: u32) -> Option<Problem>
+    ensures first { result ≡ in_entries (in_pair rules (in_value rules (inside rules depth))) pair_len 0 body.now }
     ensures inside { IfSome result (λ p. p.offset ≤ length body.now) }
 {
     let mut at = 0;
     'pairs: while at < body.len() {
-        match pair(&body[at..], depth) {
+        match pair(&body[at..], rules, depth) {
             Ok(len) => at += len,
             Err(problem) => return Some(problem.further(at)),
         }
@@ -193,8 +225,8 @@ fn pairs(body: &[u8], depth: u32) -> Option<Problem>
 
 // The length of the pair at the start, or the first problem in it.
 #[cycle(problems)]
-fn pair(bytes: &[u8], depth: u32) -> Result<usize, Problem>
-    ensures { GoesOver (in_pair (in_value (inside depth)) bytes.now) (pair_len bytes.now) (length bytes.now) result }
+fn pair(bytes: &[u8], rules: Rules, depth: u32) -> Result<usize, Problem>
+    ensures { GoesOver (in_pair rules (in_value rules (inside rules depth)) bytes.now) (pair_len bytes.now) (length bytes.now) result }
 {
     let Some((count, named)) = bytes.split_first() else {
         return Err(Problem::here(ProblemKind::KeyCut));
@@ -203,20 +235,40 @@ fn pair(bytes: &[u8], depth: u32) -> Result<usize, Problem>
     if named.len() < count {
         return Err(Problem::here(ProblemKind::KeyCut));
     }
-    match value(&named[count..], depth) {
+    if !allow_key(rules, &named[..count]) {
+        return Err(Problem::here(ProblemKind::KeyNotUtf8));
+    }
+    match value(&named[count..], rules, depth) {
         Ok(len) => Ok(1 + count + len),
         Err(problem) => Err(problem.further(1 + count)),
     }
 }
 
-// The type of a type tag that RabbitMQ knows.
-fn known_type(tag: u8) -> Option<AMQPType>
-    ensures { result ≡ known tag }
+// The type of a type tag that the rules know.
+fn known_type(rules: Rules, tag: u8) -> Option<AMQPType>
+    ensures { result ≡ known rules tag }
 {
-    if tag == b'U' {
+    if matches!(rules, Rules::RabbitMq) && tag == b'U' {
         return None;
     }
     AMQPType::from_id(char::from(tag))
+}
+
+// Whether numbers have to be finite.
+fn want_finite(rules: Rules) -> bool
+    ensures { result ≡ want_finite rules }
+{
+    matches!(rules, Rules::RabbitMq)
+}
+
+// Whether a key is allowed.
+fn allow_key(rules: Rules, key: &[u8]) -> bool
+    ensures { result ≡ allow_key rules key.now }
+{
+    match rules {
+        Rules::Reading => check_utf8(key).is_ok(),
+        Rules::AnyKeys | Rules::RabbitMq => true,
+    }
 }
 
 // Whether a Float's number is finite: its exponent bits aren't all ones.
