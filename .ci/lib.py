@@ -74,7 +74,8 @@ def build_archive(crates, name, is_built, target=X86_64):
         if is_up_to_date(path, crates, name, SOURCES) and (not is_built or all(map(is_newer, libraries))):
             words = ["true"]
         else:
-            how = ["--target", target, "--cpu", TARGETS[target], "--toolchain", f"{kit()}/toolchain", "-o", str(path)]
+            # What another target's build has proved isn't proved again.
+            how = ["--incremental", "out/incremental", "--target", target, "--cpu", TARGETS[target], "--toolchain", f"{kit()}/toolchain", "-o", str(path)]
             words = [f"{kit()}/bin/rattle", "build", *crates.words(name), *how]
         return subprocess.run(words, cwd=folder, capture_output=True, text=True)
     finally:

@@ -13,3 +13,4 @@ mod EntryIntegers
 mod Opened
 mod Putting
 mod Rooms
+pub mod Needs

@@ -5,6 +5,8 @@ use Rattle.amqp_grammar.specs.Values.{Tree, Trees, Entries}
 use Rattle.amqp_grammar.specs.Grammar.{ArrayBody, TableBody}
 use Rattle.amqp_grammar.specs.Outcomes.{Outcome, found}
 use Rattle.amqp_parsing.specs.Untagged.{tagged}
+use Rattle.amqp_c.specs.declared.container.Container.{Container}
+use Rattle.amqp_c.specs.Needs.{IsNeeded, RefusesNeeded}
 use Rattle.amqp_c.specs.declared.cursor.Cursor.{Cursor}
 use Rattle.amqp_c.specs.declared.entry.Entry.{Entry}
 use Rattle.amqp_c.specs.declared.measure.Measure.{Measure}
@@ -19,7 +21,7 @@ use Rattle.amqp_c.specs.FirstPairs.{LooksUpFirst}
 use Rattle.amqp_c.specs.declared.path.EqualKeys.{EqualKeys}
 use Rattle.amqp_c.specs.declared.path.Step.{Step}
 use Rattle.amqp_c.specs.Paths.{number_of, IsInside, LooksUpOn}
-use Rattle.amqp_c_common.specs.ReturnCodes.{answer_of}
+use Rattle.amqp_c_common.specs.ReturnCodes.{answer_of, count_of}
 use Rattle.amqp_c.specs.CallResults.{IsValueTaken, IsTableTaken, HeaderFaults, FaultsWithin, GivesFirst, answer_if_any, count_by, ok_or_old, found_or_old, entry_or_old, cursor_or_old}
 
 -- reading s within limits: the result is that of what is read, of which `Is` states what is returned and
@@ -55,6 +57,13 @@ pub record Firsts (s : List ℕ) (old : Entry) (answer : ℤ) (new : Entry) : Ty
   pub front : IfOk done (IsAtFront s)
   pub lies : IfOk done (Lies (length s))
   pub refused : IfErr done (HeaderFaults (Outcome s))
+
+-- how large a buffer has to be for an entry, or a fault that is right
+pub record Needs (into : Container) (k tag n : ℕ) (answer : ℤ) (count : ℕ) : Type 0 where
+  pub done : Result ℕ Fault
+  pub answered : answer ≡ answer_of done
+  pub counted : count ≡ count_of done
+  pub right : MatchResult done (IsNeeded into k tag n) (RefusesNeeded into k tag n)
 
 -- a container is entered exactly when the entry is of one, and its contents are in s
 pub record Enters (s : List ℕ) (e : Entry) (old : Cursor) (answer : ℤ) (new : Cursor) : Type 0 where

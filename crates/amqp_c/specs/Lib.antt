@@ -16,3 +16,4 @@ pub mod Growth
 pub mod Faults
 pub mod Getters
 pub mod BuildCalls
+pub mod Needs

@@ -1,6 +1,10 @@
 //! What is at the start of some bytes, by offsets.
 
-ghost use Rattle.std.specs.Prelude.{◌≡◌, ◌+◌, ◌<◌, ℕ, List, length, IfErr, IfOk, MatchResult};
+ghost use Rattle.std.specs.Prelude.{◌≡◌, ◌+◌, ◌<◌, ℕ, List, length, Some, false, IfErr, IfOk, MatchResult};
+ghost use Rattle.amqp_types.specs.Ids.{id_of};
+ghost use Rattle.amqp_types.specs.Inputs.{slice_bytes};
+ghost use Rattle.amqp_types.specs.Names.{read_as};
+ghost use Rattle.amqp_parsing.specs.PayloadResults.{IsType};
 ghost use Rattle.amqp_grammar.specs.Values.{Tree};
 ghost use Rattle.amqp_grammar.specs.Outcomes.{Outcome, found};
 ghost use Rattle.amqp_in_place.specs.Refs.{Denotes};
@@ -11,7 +15,7 @@ ghost use Rattle.amqp_c.specs.CallResults.{GivesFirst, HeaderFaults, IsRefusalOf
 ghost use Rattle.amqp_c.specs.Heads.{has_content};
 
 use amqp_c_common::{Fault, Span};
-use amqp_in_place::{ValueRef, read_in_place_unlimited};
+use amqp_in_place::{Head, ValueRef, read_payload_head};
 use amqp_parsing::{parse_length_prefixed, parse_type};
 use amqp_types::{AMQPType, ParsableInput, SliceInput};
 
@@ -43,6 +47,7 @@ pub fn first(bytes: &[u8]) -> Result<Entry, Fault>
     ensures refused { IfErr result (HeaderFaults (Outcome bytes.now)) }
 {
     let (payload, amqp_type) = parse_type(SliceInput::new(bytes))?;
+    let tag = tag_of(amqp_type);
     if has_content(amqp_type) {
         let (rest, body) = parse_length_prefixed(payload)?;
         return Ok(Entry {
@@ -56,11 +61,11 @@ pub fn first(bytes: &[u8]) -> Result<Entry, Fault>
                 length: body.input_len(),
             },
             bits: 0,
-            tag: amqp_type.get_id() as u8,
+            tag,
             scale: 0,
         });
     }
-    let fixed = read_fixed(bytes)?;
+    let fixed = read_fixed(bytes, amqp_type, payload)?;
     Ok(Entry {
         key: Span::NONE,
         value: Span {
@@ -69,7 +74,7 @@ pub fn first(bytes: &[u8]) -> Result<Entry, Fault>
         },
         content: Span::NONE,
         bits: fixed.bits,
-        tag: amqp_type.get_id() as u8,
+        tag,
         scale: fixed.scale,
     })
 }
@@ -85,18 +90,54 @@ struct Fixed {
     scale: u8,
 }
 
-/// Reads the value at the start. It isn't written in line, so that `first` passes its entry on in
-/// registers if nothing is to be read.
-#[inline(never)]
-fn read_fixed(bytes: &[u8]) -> Result<Fixed, Fault>
+/// Reads the value at the start, by its type and what is after its type tag.
+#[inline(always)]
+fn read_fixed<'a>(
+    bytes: &'a [u8],
+    amqp_type: AMQPType,
+    payload: SliceInput<'a>,
+) -> Result<Fixed, Fault>
+    requires at { IsType bytes.now amqp_type (slice_bytes payload) }
+    requires no_content { has_content amqp_type ≡ false }
+    requires read_back { read_as amqp_type ≡ Some amqp_type }
     ensures { MatchResult result (IsFixed bytes.now) (IsRefusalOf bytes.now) }
 {
-    let (value, rest) = read_in_place_unlimited(bytes)?;
+    let (rest, head) = read_payload_head(amqp_type, payload)?;
+    let Head::Plain(value) = head else {
+        unreachable!()
+    };
     Ok(Fixed {
-        length: bytes.len() - rest.len(),
+        length: bytes.len() - rest.input_len(),
         bits: bits_in(value),
         scale: scale_in(value),
     })
+}
+
+/// The type tag that is written for a type.
+#[inline(always)]
+fn tag_of(amqp_type: AMQPType) -> u8
+    ensures { result ≡ id_of amqp_type }
+{
+    match amqp_type {
+        AMQPType::Boolean => b't',
+        AMQPType::ShortShortInt => b'b',
+        AMQPType::ShortShortUInt => b'B',
+        AMQPType::ShortInt => b's',
+        AMQPType::ShortUInt => b'u',
+        AMQPType::LongInt => b'I',
+        AMQPType::LongUInt => b'i',
+        AMQPType::LongLongInt | AMQPType::LongLongUInt => b'l',
+        AMQPType::Float => b'f',
+        AMQPType::Double => b'd',
+        AMQPType::DecimalValue => b'D',
+        AMQPType::ShortString => b'_',
+        AMQPType::LongString => b'S',
+        AMQPType::FieldArray => b'A',
+        AMQPType::Timestamp => b'T',
+        AMQPType::FieldTable => b'F',
+        AMQPType::ByteArray => b'x',
+        AMQPType::Void => b'V',
+    }
 }
 
 /// Whether a value of the type has bytes after a length: a string, a byte array or a container.
@@ -110,6 +151,7 @@ pub fn has_content(amqp_type: AMQPType) -> bool
 }
 
 /// The bits of a number, 0 or 1 of a boolean.
+#[inline(always)]
 #[tactic(auto, using(crate::proofs::Numbers::signed))]
 fn bits_in(value: ValueRef<'_>) -> u64
     ensures { (v : Tree) → Denotes value.entry v → result ≡ bits_in v }
@@ -136,6 +178,7 @@ fn bits_in(value: ValueRef<'_>) -> u64
 }
 
 /// How many digits of a decimal are after the point.
+#[inline(always)]
 fn scale_in(value: ValueRef<'_>) -> u8
     ensures { (v : Tree) → Denotes value.entry v → result ≡ scale_in v }
 {

@@ -14,7 +14,7 @@ ghost use Rattle.amqp_c.specs.Problems.{FindsBy, rules_of};
 ghost use Rattle.amqp_c.specs.BuildCalls.{PutsScalar, PutsBytes, PutsValue, Begins, Ends, PutsInt, PutsUint};
 ghost use Rattle.amqp_c.specs.BuiltEntries.{truth_bits};
 ghost use Rattle.amqp_c.specs.Getters.{GetsInt, GetsUint, GetsBool, GetsTimestamp, GetsDecimal};
-ghost use Rattle.amqp_c.specs.Calls.{ReadsValue, ReadsTable, MeasuresValue, MeasuresTable, Firsts, Enters, Steps, Finds, FindsFirst, FindsPath};
+ghost use Rattle.amqp_c.specs.Calls.{Needs, ReadsValue, ReadsTable, MeasuresValue, MeasuresTable, Firsts, Enters, Steps, Finds, FindsFirst, FindsPath};
 
 mod container;
 mod cursor;
@@ -23,6 +23,7 @@ mod getter;
 mod integers;
 mod lookup;
 mod measure;
+mod needed;
 mod nest;
 mod number;
 mod path;
@@ -32,7 +33,7 @@ mod read;
 mod room;
 mod store;
 
-use amqp_c_common::Fault;
+use amqp_c_common::{Fault, return_count};
 use amqp_in_place::{first_problem, first_problem_in_table};
 use amqp_parsing::Limits;
 use container::Container;
@@ -396,6 +397,23 @@ pub extern "C" fn amqpv_close(room: &mut [u8], into: &mut Container, body: &Cont
     ensures { Ends room.old into.old body.now result room.new into.new }
 {
     store(end(room, *into, *body), into)
+}
+
+/// Returns how large a buffer has to be at least so that an entry can be put after what is written,
+/// by the length of its key, its type tag, and how many bytes its value has after their length.
+///
+/// `count` becomes that capacity, or 0 after an error.
+#[unsafe(no_mangle)]
+pub extern "C" fn amqpv_needed(
+    into: &Container,
+    key_length: usize,
+    tag: u8,
+    content_length: usize,
+    count: &mut usize,
+) -> i32
+    ensures { Needs into.now key_length tag content_length result count.new }
+{
+    return_count(into.needed(key_length, tag, content_length), count)
 }
 
 /// Returns the integer of an entry as a signed one, if it fits.

@@ -20,11 +20,14 @@ use amqp_parsing::{
 };
 use amqp_types::{AMQPType, ParsableInput, SliceInput};
 
-// A value that is no container, or the body of a container, which isn't looked at.
+/// A value that is no container, or the body of a container, which isn't looked at.
 #[derive(Clone, Copy)]
-pub(crate) enum Head<'a> {
+pub enum Head<'a> {
+    /// A value that is no container.
     Plain(ValueRef<'a>),
+    /// The body of an array.
     FieldArray(SliceInput<'a>),
+    /// The body of a table.
     FieldTable(SliceInput<'a>),
 }
 
@@ -40,10 +43,11 @@ pub(crate) fn read_head<'a>(i: SliceInput<'a>) -> ParserResult<SliceInput<'a>, H
     read_payload_head(amqp_type, i)
 }
 
-// Reads what is after a type tag.
+/// Reads what is after a type tag, one level deep, in constant time: for who looks at the entries of
+/// a container before all of it is checked.
 #[inline(always)]
 #[tactic(auto, using(amqp_parsing::proofs::ParsingLaws::long_found, amqp_parsing::proofs::ParsingLaws::octets_found, amqp_parsing::proofs::ParsingLaws::void_found, amqp_parsing::proofs::ParsingLaws::unsigned_outcome, crate::proofs::HeadLemmas::unsigned_lacks))]
-fn read_payload_head<'a>(
+pub fn read_payload_head<'a>(
     amqp_type: AMQPType,
     i: SliceInput<'a>,
 ) -> ParserResult<SliceInput<'a>, Head<'a>>

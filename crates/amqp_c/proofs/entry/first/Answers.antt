@@ -39,10 +39,10 @@ returns-then-has_content-clause-told c = λ v left x.
       value = record { offset = 0; length = length s - c.input_len.result };
       content = record { offset = 5; length = c.input_len-then-has_content.result };
       bits = 0;
-      tag = c.get_id.result;
+      tag = c.tag_of-tag.result;
       scale = 0;
     } in
-    let is = content_entry s mid body rest c.in_ok-payload.amqp_type p f (sym c.has_content.ensures ∙ c.if-has_content.true) e refl whole refl c.input_len-then-has_content.ensures.count c.get_id.ensures.id (refl, refl) v left x in
+    let is = content_entry s mid body rest c.in_ok-payload.amqp_type p f (sym c.has_content.ensures ∙ c.if-has_content.true) e refl whole refl c.input_len-then-has_content.ensures.count c.tag_of-tag.ensures (refl, refl) v left x in
     (is.0, refl, omega (arith, ap length is.1, whole))
 
 pub returns-then-has_content-clause-front : goal.returns-then-has_content-clause-front
@@ -56,7 +56,7 @@ returns-then-has_content-clause-front c =
     let e = frame_extent s mid body rest c.in_ok-payload.amqp_type p c.in_ok-rest.ensures has in
     let whole = frame_length s mid body rest c.in_ok-payload.amqp_type p c.in_ok-rest.ensures in
     let size : length s - c.input_len.result ≡ 5 + c.input_len-then-has_content.result = omega (arith, whole, c.input_len.ensures.count, c.input_len-then-has_content.ensures.count) in
-    (refl, refl, omega (arith, c.input_len.ensures.count), is_tagged s mid c.in_ok-payload.amqp_type p _ c.get_id.ensures.id true has (refl, size, (refl, refl)))
+    (refl, refl, omega (arith, c.input_len.ensures.count), is_tagged s mid c.in_ok-payload.amqp_type p _ c.tag_of-tag.ensures true has (refl, size, (refl, refl)))
 
 pub returns-in_err-fixed-clause-told : goal.returns-in_err-fixed-clause-told
 returns-in_err-fixed-clause-told c = λ v rest x.
@@ -83,7 +83,7 @@ returns-clause-front c =
     let x = c.in_ok-fixed.ensures in
     let e = found_extent s x.1 x.0 x.2 in
     let plain : has_content c.in_ok-payload.amqp_type ≡ false = sym c.has_content.ensures ∙ c.if-has_content.false in
-    (refl, refl, omega (arith, e, x.3), is_tagged s mid c.in_ok-payload.amqp_type p _ c.get_id-2.ensures.id false plain refl)
+    (refl, refl, omega (arith, e, x.3), is_tagged s mid c.in_ok-payload.amqp_type p _ c.tag_of-tag.ensures false plain refl)
 
 pub returns-clause-lies : goal.returns-clause-lies
 returns-clause-lies c =
@@ -102,8 +102,8 @@ returns-clause-told c = λ v left y.
       value = record { offset = 0; length = c.in_ok-fixed.fixed.length };
       content = record { offset = 0; length = 0 };
       bits = c.in_ok-fixed.fixed.bits;
-      tag = c.get_id-2.result;
+      tag = c.tag_of-tag.result;
       scale = c.in_ok-fixed.fixed.scale;
     } in
-    let is = scalar_entry s mid x.1 c.in_ok-payload.amqp_type x.0 p (sym c.has_content.ensures ∙ c.if-has_content.false) c.in_ok-payload.ensures.read_back x.2 e refl x.3 refl c.get_id-2.ensures.id x.4 x.5 v left y in
+    let is = scalar_entry s mid x.1 c.in_ok-payload.amqp_type x.0 p (sym c.has_content.ensures ∙ c.if-has_content.false) c.in_ok-payload.ensures.read_back x.2 e refl x.3 refl c.tag_of-tag.ensures x.4 x.5 v left y in
     (is.0, refl, omega (arith, ap length is.1, x.3))

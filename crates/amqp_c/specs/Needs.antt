@@ -1,0 +1,51 @@
+-- How large a buffer has to be for an entry.
+use Rattle.std.specs.Prelude.{ℕ, suc, ◌≡◌, ◌≤◌, ◌+◌, ◌-◌, ◌^◌, ◌==◌, if◌then◌else◌, Some, ◌⊎◌}
+use Rattle.amqp_types.specs.declared.amqp_type.AMQPType.{AMQPType}
+use Rattle.amqp_types.specs.Ids.{kind, id_of}
+use Rattle.amqp_grammar.specs.Layouts.{width_of}
+use Rattle.amqp_c_common.specs.declared.fault.Fault.{Fault}
+use Rattle.amqp_c_common.specs.declared.fault.Fault.TheVariants.{TooLarge, Invalid, BadKey, BadTag}
+use Rattle.amqp_c.specs.declared.container.Container.{Container}
+use Rattle.amqp_c.specs.Containers.{array_tag, table_tag, IsContainerIn, end_of}
+use Rattle.amqp_c.specs.Heads.{has_content}
+
+-- an entry of a container with this type tag may have a key of k bytes
+abbrev pub IsKeyLength : ℕ → ℕ → Type 0
+IsKeyLength tag k = ((tag ≡ array_tag) × (k ≡ 0)) ⊎ ((tag ≡ table_tag) × (k ≤ 255))
+
+-- the bytes before its value: in a table the key, after its length in one byte
+abbrev pub name_len : ℕ → ℕ → ℕ
+name_len tag k = if tag == table_tag then suc k else 0
+
+-- the bytes of its value: the type tag, and a payload of fixed width, or n bytes after their length
+abbrev pub encoding_len : AMQPType → ℕ → ℕ
+encoding_len type n = if has_content type then 5 + n else 1 + width_of type
+
+-- the type tag is the one that is written for the type
+abbrev pub IsTagOf : ℕ → AMQPType → Type 0
+IsTagOf tag type = (kind tag ≡ Some type) × (id_of type ≡ tag)
+
+-- so many bytes an encoding has, by its type tag and its content
+abbrev pub IsEncodingLen : ℕ → ℕ → ℕ → Type 0
+IsEncodingLen tag n size = (type : AMQPType) × IsTagOf tag type × (size ≡ encoding_len type n)
+
+-- a fault of that is right: no type has the type tag, or too many bytes are after the length
+abbrev pub RefusesLen : ℕ → ℕ → Fault → Type 0
+RefusesLen tag n BadTag = (type : AMQPType) → IsTagOf tag type → ⊥
+RefusesLen tag n TooLarge = 2 ^ 32 ≤ n
+RefusesLen tag n _ = ⊥
+
+-- the container is one of a buffer that there can be
+abbrev pub IsContainer : Container → Type 0
+IsContainer into = IsContainerIn (2 ^ 63 - 1) into
+
+-- a buffer has to have so many bytes that an entry is put after what is written
+abbrev pub IsNeeded : Container → ℕ → ℕ → ℕ → ℕ → Type 0
+IsNeeded into k tag n capacity =
+    IsContainer into × IsKeyLength into.tag k × ((size : ℕ) × IsEncodingLen tag n size × (capacity ≡ end_of into + (name_len into.tag k + size)))
+
+-- a fault of that is right, the first of these that applies
+abbrev pub RefusesNeeded : Container → ℕ → ℕ → ℕ → Fault → Type 0
+RefusesNeeded into k tag n Invalid = IsContainer into → ⊥
+RefusesNeeded into k tag n BadKey = IsContainer into × (IsKeyLength into.tag k → ⊥)
+RefusesNeeded into k tag n f = IsContainer into × IsKeyLength into.tag k × RefusesLen tag n f

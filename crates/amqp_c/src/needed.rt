@@ -1,0 +1,77 @@
+//! How large a buffer has to be for an entry.
+
+ghost use Rattle.std.specs.Prelude.{◌≡◌, ◌≤◌, ◌+◌, MatchResult};
+ghost use Rattle.amqp_grammar.specs.Layouts.{width_of};
+ghost use Rattle.amqp_c.specs.Needs.{IsKeyLength, name_len, IsEncodingLen, RefusesLen, IsContainer, IsNeeded, RefusesNeeded};
+
+use crate::container::{Container, is_container_tag};
+use crate::entry::has_content;
+use amqp_c_common::Fault;
+use amqp_types::AMQPType;
+
+impl Container {
+    /// How large a buffer has to be at least so that an entry can be put after what is written, by
+    /// the length of its key, its type tag, and how many bytes its value has after their length.
+    pub fn needed(self, key_length: usize, tag: u8, content_length: usize) -> Result<usize, Fault>
+        ensures { MatchResult result
+            (IsNeeded self key_length tag content_length)
+            (RefusesNeeded self key_length tag content_length) }
+    {
+        let Some(end) = self.written.end_in(usize::MAX / 2) else {
+            return Err(Fault::Invalid);
+        };
+        if !is_container_tag(self.tag) {
+            return Err(Fault::Invalid);
+        }
+        let name = match self.tag {
+            b'A' if key_length == 0 => 0,
+            b'F' if key_length <= 255 => 1 + key_length,
+            _ => return Err(Fault::BadKey),
+        };
+        Ok(end + (name + encoding_len(tag, content_length)?))
+    }
+}
+
+/// How many bytes an encoding has, by its type tag, and how many bytes are after their length.
+#[tactic(auto, using(crate::proofs::Needs::no_type, crate::proofs::Needs::other_type))]
+fn encoding_len(tag: u8, content_length: usize) -> Result<usize, Fault>
+    ensures len { MatchResult result (IsEncodingLen tag content_length) (RefusesLen tag content_length) }
+    ensures few { MatchResult result (λ size. size ≤ 4294967300) (λ _. Unit {0}) }
+{
+    let Some(amqp_type) = AMQPType::from_id(tag as char) else {
+        return Err(Fault::BadTag);
+    };
+    if amqp_type.get_id() as u8 != tag {
+        return Err(Fault::BadTag);
+    }
+    if !has_content(amqp_type) {
+        return Ok(1 + width_of(amqp_type));
+    }
+    let Ok(length) = u32::try_from(content_length) else {
+        return Err(Fault::TooLarge);
+    };
+    Ok(5 + length as usize)
+}
+
+/// How many bytes a payload has of a type of fixed width; 0 of any other type.
+fn width_of(amqp_type: AMQPType) -> usize
+    ensures width { result ≡ width_of amqp_type }
+    ensures few { result ≤ 8 }
+{
+    match amqp_type {
+        AMQPType::Boolean | AMQPType::ShortShortInt | AMQPType::ShortShortUInt => 1,
+        AMQPType::ShortInt | AMQPType::ShortUInt => 2,
+        AMQPType::LongInt | AMQPType::LongUInt | AMQPType::Float => 4,
+        AMQPType::DecimalValue => 5,
+        AMQPType::LongLongInt
+        | AMQPType::LongLongUInt
+        | AMQPType::Double
+        | AMQPType::Timestamp => 8,
+        AMQPType::Void
+        | AMQPType::ShortString
+        | AMQPType::LongString
+        | AMQPType::ByteArray
+        | AMQPType::FieldArray
+        | AMQPType::FieldTable => 0,
+    }
+}
