@@ -59,6 +59,10 @@ static int32_t model_place(const amqpv_container *into, slice key) {
 }
 
 /* Appends the key and these bytes to the container unless something is `wrong`, and returns what the library must. */
+static int is_one_of(uint8_t tag, const char *tags_of) {
+    return tag != 0 && strchr(tags_of, tag) != NULL;
+}
+
 static int32_t model_append(amqpv_container *into, slice key, slice bytes, int32_t wrong) {
     size_t end = into->written.offset + into->written.length;
     size_t named = into->tag == AMQPV_TABLE ? 1 + key.length : 0;
@@ -66,6 +70,9 @@ static int32_t model_append(amqpv_container *into, slice key, slice bytes, int32
     if (place != AMQPV_OK || wrong != AMQPV_OK) {
         return place != AMQPV_OK ? place : wrong;
     }
+    uint8_t tag = bytes.at[0] == 'U' ? 's' : bytes.at[0] == 'L' ? 'l' : bytes.at[0];
+    size_t needed, content = is_one_of(tag, "SxAF") ? bytes.length - 5 : 0;
+    CHECK(amqpv_needed(into, key.length, tag, content, &needed) == AMQPV_OK && needed == end + named + bytes.length);
     if (room_length - end < named + bytes.length) {
         return AMQPV_NO_ROOM;
     }
@@ -83,10 +90,6 @@ static size_t big_endian(uint8_t *bytes, size_t width, uint64_t n) {
         bytes[i] = (uint8_t)(n >> 8 * (width - 1 - i));
     }
     return width;
-}
-
-static int is_one_of(uint8_t tag, const char *tags_of) {
-    return tag != 0 && strchr(tags_of, tag) != NULL;
 }
 
 /* Whether values of fixed width have the type tag. */
@@ -539,6 +542,40 @@ static void copy_entries(const uint8_t *bytes, size_t length, amqpv_cursor curso
     }
 }
 
+/* How large a buffer has to be, and the first of the errors. */
+static void try_needed(void) {
+    static const struct {
+        amqpv_container into;
+        size_t key_length;
+        uint8_t tag;
+        size_t content_length;
+        int32_t answer;
+        size_t count;
+    } values[] = {
+        {{{0, 0}, 'A'}, 0, 'V', 0, AMQPV_OK, 1},
+        {{{5, 3}, 'F'}, 3, 'S', 10, AMQPV_OK, 27},
+        {{{0, 0}, 'F'}, 255, 'l', 0, AMQPV_OK, 265},
+        {{{0, 0}, 'A'}, 0, 'D', SIZE_MAX, AMQPV_OK, 6},
+        {{{0, 0}, 'A'}, 0, 'x', UINT32_MAX, AMQPV_OK, UINT32_MAX + (size_t)5},
+        {{{0, PTRDIFF_MAX}, 'A'}, 0, 'V', 0, AMQPV_OK, PTRDIFF_MAX + (size_t)1},
+        {{{1, PTRDIFF_MAX}, 'A'}, 0, 'V', 0, AMQPV_INVALID, 0},
+        {{{SIZE_MAX, 1}, 'A'}, 0, 'V', 0, AMQPV_INVALID, 0},
+        {{{0, 0}, 'S'}, 256, 0, SIZE_MAX, AMQPV_INVALID, 0},
+        {{{0, 0}, 'F'}, 256, 0, SIZE_MAX, AMQPV_BAD_KEY, 0},
+        {{{0, 0}, 'A'}, 1, 'V', 0, AMQPV_BAD_KEY, 0},
+        {{{0, 0}, 'A'}, 0, 'U', 0, AMQPV_BAD_TAG, 0},
+        {{{0, 0}, 'A'}, 0, 'L', 0, AMQPV_BAD_TAG, 0},
+        {{{0, 0}, 'F'}, 0, '_', SIZE_MAX, AMQPV_BAD_TAG, 0},
+        {{{0, 0}, 'F'}, 0, 'F', UINT32_MAX + (size_t)1, AMQPV_TOO_LARGE, 0},
+    };
+    for (size_t i = 0; i < COUNT(values); i++) {
+        size_t count = 77;
+        int32_t answer = amqpv_needed(&values[i].into, values[i].key_length, values[i].tag, values[i].content_length, &count);
+        CHECK(answer == values[i].answer && count == values[i].count);
+        calls++;
+    }
+}
+
 /* What was built is read, entry by entry what was appended, and has a canonical encoding. */
 static void try_random(void) {
     static uint8_t first[MOST], canonical[MOST], again[MOST];
@@ -576,6 +613,7 @@ int main(void) {
     try_types();
     try_keys();
     try_rooms();
+    try_needed();
     for (size_t length = 0; length <= 12; length++) {
         try_corrupt(length);
     }

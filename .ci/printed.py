@@ -481,7 +481,7 @@ def taken(data, at, end, depth, inside="", rules="RabbitMQ"):
     """Returns the offset of the end of a value that RabbitMQ takes, or fails at the first thing that it doesn't.
 
     The failure also has the type tag of the container that it is in. Other rules are those of what is read here: "any keys",
-    and "read" where a key is UTF-8.
+    and "read", by which keys are UTF-8.
     """
     begin, stop = at, at + extent(data[at:end][:5])
     fails = lambda why: Failure(begin, why, inside)

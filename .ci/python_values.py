@@ -103,7 +103,7 @@ def error_of(call):
 
 
 def problem_of(data):
-    """Where and why some bytes are malformed, as the error has it."""
+    """Why some bytes are malformed, and the offset, as the error has it."""
     try:
         av.loads(data)
     except av.Malformed as why:

@@ -17,10 +17,7 @@ int main(int count, char **words) {
     size_t taken;
     amqpv_entry entry;
     amqpv_cursor cursor;
-    amqpv_result answer = amqpv_read(bytes, length, AMQPV_FRAME, AMQPV_DEPTH, &taken);
-    if (answer == AMQPV_OK) {
-        answer = amqpv_first(bytes, length, &entry);
-    }
+    amqpv_result answer = amqpv_read(bytes, length, AMQPV_FRAME, AMQPV_DEPTH, &entry, &taken);
     if (answer == AMQPV_OK) {
         answer = amqpv_enter(bytes, length, &entry, &cursor);
     }

@@ -11,13 +11,16 @@ static uint8_t bytes[2 * AMQPV_FRAME];
 int main(void) {
     size_t length = read_hexadecimal(stdin, bytes, sizeof bytes);
     size_t count;
-    amqpv_result answer = amqpv_read(bytes, length, AMQPV_FRAME, AMQPV_DEPTH, &count);
+    amqpv_entry entry;
+    amqpv_result answer = amqpv_read(bytes, length, AMQPV_FRAME, AMQPV_DEPTH, &entry, &count);
     if (answer == AMQPV_MORE) {
         printf("%zu more bytes are needed\n", count);
         return 1;
     }
     if (answer != AMQPV_OK) {
-        printf("%s\n", amqpv_strerror(answer));
+        amqpv_problem problem;
+        amqpv_first_problem(bytes, length, AMQPV_RULES_READ, AMQPV_FRAME, AMQPV_DEPTH, &problem);
+        printf("%s, at %zu\n", amqpv_strerror(answer), problem.offset);
         return 1;
     }
     printf("%zu bytes\n", count);
@@ -25,8 +28,6 @@ int main(void) {
     /* The cursors of the containers that are open, the innermost last, and a spare one. */
     amqpv_cursor open[AMQPV_DEPTH + 1];
     size_t depth = 0;
-    amqpv_entry entry;
-    answer = amqpv_first(bytes, length, &entry);
     while (answer == AMQPV_OK) {
         printf("%*s", (int)(2 * depth), "");
         if (depth > 0 && open[depth - 1].tag == AMQPV_TABLE) {

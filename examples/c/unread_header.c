@@ -1,7 +1,7 @@
 /*
- * Finds a header of a message that amqpv_read may reject, since another key isn't UTF-8: prints what
- * amqpv_read returns, how many bytes the headers have by their length, and the first value at a key.
- * They are a table, given in hexadecimal on standard input.
+ * Finds a header of a message that amqpv_read rejects if a key isn't UTF-8: prints what amqpv_read returns,
+ * checks the headers but for that, and prints how many bytes they have and the first value at a key. They
+ * are a table, given in hexadecimal on standard input.
  */
 #include "amqp_values.h"
 #include "hexadecimal.h"
@@ -16,9 +16,14 @@ int main(int count, char **words) {
     }
     size_t length = read_hexadecimal(stdin, bytes, sizeof bytes);
     size_t taken;
-    printf("read: %s\n", amqpv_strerror(amqpv_read(bytes, length, AMQPV_FRAME, AMQPV_DEPTH, &taken)));
     amqpv_entry headers, entry;
+    printf("read: %s\n", amqpv_strerror(amqpv_read(bytes, length, AMQPV_FRAME, AMQPV_DEPTH, &headers, &taken)));
     amqpv_cursor cursor;
+    amqpv_problem problem;
+    if (amqpv_first_problem(bytes, length, AMQPV_RULES_ANY_KEYS, AMQPV_FRAME, AMQPV_DEPTH, &problem) != AMQPV_NONE) {
+        printf("a problem at %zu\n", problem.offset);
+        return 1;
+    }
     amqpv_result answer = amqpv_first(bytes, length, &headers);
     if (answer == AMQPV_OK) {
         printf("%zu bytes\n", headers.value.length);

@@ -59,7 +59,7 @@ class More(Error):
 class UnknownTag(Error): """The first byte is no type tag."""
 class Malformed(Error):
     """The bytes are complete and no value, or one that nests deeper than `depth`."""
-    # Where and why, if `entry` or `loads` raised it.
+    # Why, and the offset, if `entry` or `loads` raised it.
     problem: Problem | None = None
 
 class TooLarge(Error): """The value has more than `frame` bytes, or what is written has 2^32 or more."""
@@ -170,7 +170,7 @@ _KINDS: dict[str, list[Any]] = {
 _PARAMETERS = {
     "read": "blEN", "read_table": "blEN", "measure_value": "blMN", "measure_table": "blMN", "first_problem": "b4lP", "first_problem_in_table": "b4lP",
     "first": "bE", "enter": "bEC", "next": "bCE", "find": "bCbE", "find_first": "bCbE", "find_path": "bESn4E",
-    "put": "bIbt8t", "put_bytes": "bIbtb", "put_value": "bIbbl", "open": "bIbtI", "close": "bII",
+    "put": "bIbt8t", "put_bytes": "bIbtb", "put_value": "bIbbl", "open": "bIbtI", "close": "bII", "needed": "IntnN",
     "canonical": "blbN", "to_json": "blbN", "from_json": "b4bN", "version": "",
 }
 _calls: dict[str, Any] = {}

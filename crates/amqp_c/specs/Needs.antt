@@ -25,7 +25,7 @@ encoding_len type n = if has_content type then 5 + n else 1 + width_of type
 abbrev pub IsTagOf : ℕ → AMQPType → Type 0
 IsTagOf tag type = (kind tag ≡ Some type) × (id_of type ≡ tag)
 
--- so many bytes an encoding has, by its type tag and its content
+-- an encoding has `size` bytes, by its type tag and its content
 abbrev pub IsEncodingLen : ℕ → ℕ → ℕ → Type 0
 IsEncodingLen tag n size = (type : AMQPType) × IsTagOf tag type × (size ≡ encoding_len type n)
 
@@ -39,7 +39,7 @@ RefusesLen tag n _ = ⊥
 abbrev pub IsContainer : Container → Type 0
 IsContainer into = IsContainerIn (2 ^ 63 - 1) into
 
--- a buffer has to have so many bytes that an entry is put after what is written
+-- a buffer has to have `capacity` bytes at least for an entry to be put after what is written
 abbrev pub IsNeeded : Container → ℕ → ℕ → ℕ → ℕ → Type 0
 IsNeeded into k tag n capacity =
     IsContainer into × IsKeyLength into.tag k × ((size : ℕ) × IsEncodingLen tag n size × (capacity ≡ end_of into + (name_len into.tag k + size)))

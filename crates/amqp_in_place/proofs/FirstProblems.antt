@@ -131,7 +131,7 @@ table_inside r (suc depth) type b x is some e =
     let less : suc depth - 1 ≡ depth = omega arith in
     rw (is, e, less, left_over 4 b) refl
 
--- a check that says whether bytes are UTF-8
+-- a check of whether bytes are UTF-8
 pub checked_utf8 : {E : Type 0} (k : List ℕ) (r : Result (Unit {0}) E) → MatchResult r (λ x. IsUtf8 k) (λ x. IsUtf8 k → ⊥) → is_ok r ≡ is_utf8 k
 checked_utf8 k (Ok x) good = sym (is_utf8-from_IsUtf8 k good)
 checked_utf8 k (Err x) bad = by (is_utf8 k) refl

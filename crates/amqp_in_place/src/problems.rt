@@ -1,4 +1,4 @@
-//! The first thing in a value that isn't allowed, and where.
+//! The first thing in a value that isn't allowed, and its offset.
 
 ghost use Rattle.std.specs.Prelude.{◌≡◌, ◌<◌, ◌≤◌, ◌+◌, ◌^◌, ◌&&◌, suc, not, IfSome, length};
 ghost use Rattle.std.specs.Int.{w32, w64, from_be_bytes};
@@ -89,7 +89,7 @@ impl Problem {
 ///
 /// A value longer than `limits.frame` is `TooLarge`, and nothing in it is looked at. A complete
 /// container deeper than `limits.depth` is `TooDeep`, and it recurses no deeper. A boolean may be
-/// any byte. Where `read_in_place` needs more bytes the value is `Cut`, at 0.
+/// any byte. If `read_in_place` needs more bytes, the value is `Cut`, at 0.
 pub fn first_problem(bytes: &[u8], rules: Rules, limits: Limits) -> Option<Problem>
     ensures first { result ≡ problem_of rules limits bytes.now }
     ensures inside { IfSome result (λ p. p.offset ≤ length bytes.now) }
