@@ -8,6 +8,8 @@ mod lookups;
 #[cfg(test)]
 mod measuring;
 #[cfg(test)]
+mod problems;
+#[cfg(test)]
 mod rabbitmq;
 #[cfg(test)]
 mod repeated_keys;
