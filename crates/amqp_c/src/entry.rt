@@ -4,19 +4,22 @@ ghost use Rattle.std.specs.Prelude.{◌≡◌, ◌+◌, ◌<◌, ℕ, List, leng
 ghost use Rattle.amqp_types.specs.Ids.{id_of};
 ghost use Rattle.amqp_types.specs.Inputs.{slice_bytes};
 ghost use Rattle.amqp_types.specs.Names.{read_as};
-ghost use Rattle.amqp_parsing.specs.PayloadResults.{IsType};
+ghost use Rattle.amqp_parsing.specs.PayloadResults.{IsType, OnlyLacks};
+ghost use Rattle.amqp_grammar.specs.Payloads.{RawOutcome};
+ghost use Rattle.amqp_c.specs.Scalars.{IsNumber};
 ghost use Rattle.amqp_grammar.specs.Values.{Tree};
 ghost use Rattle.amqp_grammar.specs.Outcomes.{Outcome, found};
-ghost use Rattle.amqp_in_place.specs.Refs.{Denotes};
-ghost use Rattle.amqp_c_common.specs.Scalars.{bits_in, scale_in};
 ghost use Rattle.amqp_c.specs.Scalars.{IsFixed};
 ghost use Rattle.amqp_c.specs.Entries.{IsAtFront, Lies};
 ghost use Rattle.amqp_c.specs.CallResults.{GivesFirst, HeaderFaults, IsRefusalOf};
 ghost use Rattle.amqp_c.specs.Heads.{has_content};
 
 use amqp_c_common::{Fault, Span};
-use amqp_in_place::{Head, ValueRef, read_payload_head};
-use amqp_parsing::{parse_length_prefixed, parse_type};
+use amqp_parsing::{
+    ParserResult, parse_boolean, parse_decimal_value, parse_double, parse_float,
+    parse_length_prefixed, parse_long_int, parse_long_long_int, parse_long_uint, parse_short_int,
+    parse_short_short_int, parse_short_short_uint, parse_short_uint, parse_timestamp, parse_type,
+};
 use amqp_types::{AMQPType, ParsableInput, SliceInput};
 
 /// A value, and in a table its key, by position.
@@ -102,15 +105,109 @@ fn read_fixed<'a>(
     requires read_back { read_as amqp_type ≡ Some amqp_type }
     ensures { MatchResult result (IsFixed bytes.now) (IsRefusalOf bytes.now) }
 {
-    let (rest, head) = read_payload_head(amqp_type, payload)?;
-    let Head::Plain(value) = head else {
-        unreachable!()
-    };
+    let (rest, number) = read_number(amqp_type, payload)?;
     Ok(Fixed {
         length: bytes.len() - rest.input_len(),
-        bits: bits_in(value),
-        scale: scale_in(value),
+        bits: number.bits,
+        scale: number.scale,
     })
+}
+
+/// A number of fixed width, as in an entry.
+#[derive(Clone, Copy)]
+struct Number {
+    /// Its bits.
+    bits: u64,
+    /// Its scale.
+    scale: u8,
+}
+
+/// Reads what is after the type tag of a value of fixed width.
+#[inline(always)]
+#[tactic(auto, using(amqp_parsing::proofs::ParsingLaws::void_found, crate::proofs::Numbers::signed))]
+fn read_number<'a>(
+    amqp_type: AMQPType,
+    payload: SliceInput<'a>,
+) -> ParserResult<SliceInput<'a>, Number>
+    requires no_content { has_content amqp_type ≡ false }
+    requires read_back { read_as amqp_type ≡ Some amqp_type }
+    ensures { MatchResult result
+        (λ x. IsNumber amqp_type (slice_bytes payload.entry) x.1 (slice_bytes x.0))
+        (OnlyLacks (RawOutcome amqp_type (slice_bytes payload.entry)) ⊥) }
+{
+    match amqp_type {
+        AMQPType::Boolean => {
+            let (rest, b) = parse_boolean(payload)?;
+            Ok((rest, Number::unscaled(u64::from(b))))
+        }
+        AMQPType::ShortShortInt => {
+            let (rest, n) = parse_short_short_int(payload)?;
+            Ok((rest, Number::unscaled(i64::from(n).cast_unsigned())))
+        }
+        AMQPType::ShortInt => {
+            let (rest, n) = parse_short_int(payload)?;
+            Ok((rest, Number::unscaled(i64::from(n).cast_unsigned())))
+        }
+        AMQPType::LongInt => {
+            let (rest, n) = parse_long_int(payload)?;
+            Ok((rest, Number::unscaled(i64::from(n).cast_unsigned())))
+        }
+        AMQPType::ShortShortUInt => {
+            let (rest, n) = parse_short_short_uint(payload)?;
+            Ok((rest, Number::unscaled(u64::from(n))))
+        }
+        AMQPType::ShortUInt => {
+            let (rest, n) = parse_short_uint(payload)?;
+            Ok((rest, Number::unscaled(u64::from(n))))
+        }
+        AMQPType::LongUInt => {
+            let (rest, n) = parse_long_uint(payload)?;
+            Ok((rest, Number::unscaled(u64::from(n))))
+        }
+        AMQPType::LongLongInt => {
+            let (rest, n) = parse_long_long_int(payload)?;
+            Ok((rest, Number::unscaled(n.cast_unsigned())))
+        }
+        AMQPType::Timestamp => {
+            let (rest, n) = parse_timestamp(payload)?;
+            Ok((rest, Number::unscaled(n)))
+        }
+        AMQPType::Float => {
+            let (rest, x) = parse_float(payload)?;
+            Ok((rest, Number::unscaled(u64::from(x.to_bits()))))
+        }
+        AMQPType::Double => {
+            let (rest, x) = parse_double(payload)?;
+            Ok((rest, Number::unscaled(x.to_bits())))
+        }
+        AMQPType::DecimalValue => {
+            let (rest, decimal) = parse_decimal_value(payload)?;
+            Ok((
+                rest,
+                Number {
+                    bits: u64::from(decimal.value),
+                    scale: decimal.scale,
+                },
+            ))
+        }
+        AMQPType::Void => Ok((payload, Number::unscaled(0))),
+        AMQPType::LongLongUInt
+        | AMQPType::ShortString
+        | AMQPType::LongString
+        | AMQPType::ByteArray
+        | AMQPType::FieldArray
+        | AMQPType::FieldTable => unreachable!(),
+    }
+}
+
+impl Number {
+    /// The number with these bits, which is no decimal.
+    #[inline(always)]
+    fn unscaled(bits: u64) -> Number
+        ensures { (result.bits ≡ bits) × (result.scale ≡ 0) }
+    {
+        Number { bits, scale: 0 }
+    }
 }
 
 /// The type tag that is written for a type.
@@ -148,42 +245,4 @@ pub fn has_content(amqp_type: AMQPType) -> bool
         amqp_type,
         AMQPType::LongString | AMQPType::ByteArray | AMQPType::FieldArray | AMQPType::FieldTable
     )
-}
-
-/// The bits of a number, 0 or 1 of a boolean.
-#[inline(always)]
-#[tactic(auto, using(crate::proofs::Numbers::signed))]
-fn bits_in(value: ValueRef<'_>) -> u64
-    ensures { (v : Tree) → Denotes value.entry v → result ≡ bits_in v }
-{
-    match value {
-        ValueRef::Boolean(b) => u64::from(b),
-        ValueRef::ShortShortInt(n) => i64::from(n).cast_unsigned(),
-        ValueRef::ShortShortUInt(n) => u64::from(n),
-        ValueRef::ShortInt(n) => i64::from(n).cast_unsigned(),
-        ValueRef::ShortUInt(n) => u64::from(n),
-        ValueRef::LongInt(n) => i64::from(n).cast_unsigned(),
-        ValueRef::LongUInt(n) => u64::from(n),
-        ValueRef::LongLongInt(n) => n.cast_unsigned(),
-        ValueRef::Float(x) => u64::from(x.to_bits()),
-        ValueRef::Double(x) => x.to_bits(),
-        ValueRef::DecimalValue(d) => u64::from(d.value),
-        ValueRef::Timestamp(n) => n,
-        ValueRef::LongString(_)
-        | ValueRef::ByteArray(_)
-        | ValueRef::FieldArray(_)
-        | ValueRef::FieldTable(_)
-        | ValueRef::Void => 0,
-    }
-}
-
-/// How many digits of a decimal are after the point.
-#[inline(always)]
-fn scale_in(value: ValueRef<'_>) -> u8
-    ensures { (v : Tree) → Denotes value.entry v → result ≡ scale_in v }
-{
-    match value {
-        ValueRef::DecimalValue(d) => d.scale,
-        _ => 0,
-    }
 }

@@ -20,14 +20,11 @@ use amqp_parsing::{
 };
 use amqp_types::{AMQPType, ParsableInput, SliceInput};
 
-/// A value that is no container, or the body of a container, which isn't looked at.
+// A value that is no container, or the body of a container, which isn't looked at.
 #[derive(Clone, Copy)]
-pub enum Head<'a> {
-    /// A value that is no container.
+pub(crate) enum Head<'a> {
     Plain(ValueRef<'a>),
-    /// The body of an array.
     FieldArray(SliceInput<'a>),
-    /// The body of a table.
     FieldTable(SliceInput<'a>),
 }
 
@@ -43,11 +40,10 @@ pub(crate) fn read_head<'a>(i: SliceInput<'a>) -> ParserResult<SliceInput<'a>, H
     read_payload_head(amqp_type, i)
 }
 
-/// Reads what is after a type tag, one level deep, in constant time: for who looks at the entries of
-/// a container before all of it is checked.
+// Reads what is after a type tag.
 #[inline(always)]
 #[tactic(auto, using(amqp_parsing::proofs::ParsingLaws::long_found, amqp_parsing::proofs::ParsingLaws::octets_found, amqp_parsing::proofs::ParsingLaws::void_found, amqp_parsing::proofs::ParsingLaws::unsigned_outcome, crate::proofs::HeadLemmas::unsigned_lacks))]
-pub fn read_payload_head<'a>(
+fn read_payload_head<'a>(
     amqp_type: AMQPType,
     i: SliceInput<'a>,
 ) -> ParserResult<SliceInput<'a>, Head<'a>>

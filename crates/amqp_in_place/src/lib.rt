@@ -20,7 +20,6 @@ mod steps;
 mod tables;
 
 pub use canonical::{canonical_len, canonical_table_len, is_canonical, is_canonical_table};
-pub use head::{Head, read_payload_head};
 pub use iter::{ArrayValues, TablePairs};
 pub use measure::{Measure, measure_table, measure_value};
 pub use path::{EqualKeys, PathStep};
