@@ -63,10 +63,8 @@ fn width_of(amqp_type: AMQPType) -> usize
         AMQPType::ShortInt | AMQPType::ShortUInt => 2,
         AMQPType::LongInt | AMQPType::LongUInt | AMQPType::Float => 4,
         AMQPType::DecimalValue => 5,
-        AMQPType::LongLongInt
-        | AMQPType::LongLongUInt
-        | AMQPType::Double
-        | AMQPType::Timestamp => 8,
+        AMQPType::LongLongInt | AMQPType::LongLongUInt | AMQPType::Double | AMQPType::Timestamp =>
+            8,
         AMQPType::Void
         | AMQPType::ShortString
         | AMQPType::LongString

@@ -11,10 +11,9 @@ ghost use Rattle.amqp_in_place.specs.declared.problems.Rules.TheVariants.{Rabbit
 mod warning;
 
 pub use crate::problems::{Problem, ProblemKind};
-pub use warning::{Warned, warnings, warnings_in_table};
-
 use crate::problems::{self, Rules};
 use amqp_parsing::Limits;
+pub use warning::{Warned, warnings, warnings_in_table};
 
 /// The first problem that RabbitMQ has with the value at the start of the bytes:
 /// `in_place::first_problem` by its rules.

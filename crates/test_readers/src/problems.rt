@@ -37,10 +37,7 @@ const ROWS: [(&[u8], [Place; 3]); 10] = [
     (b"F\0\0\0\x07\x02\xc3\xa4V\x01aI", [Some((11, Cut)); 3]),
     (b"F\0\0\0\x03\x05aV", [Some((5, KeyCut)); 3]),
     (b"A\0\0\0\x02V_", [Some((6, UnknownTag(b'_'))); 3]),
-    (
-        b"A\0\0\0\x0aA\0\0\0\x05A\0\0\0\0",
-        [Some((10, TooDeep)); 3],
-    ),
+    (b"A\0\0\0\x0aA\0\0\0\x05A\0\0\0\0", [Some((10, TooDeep)); 3]),
     (b"S\0\0\0\x02h", [Some((0, Cut)); 3]),
 ];
 
@@ -55,7 +52,10 @@ fn rules_differ_in_keys_floats_and_a_type_tag(rt: HostRuntime) {
             if let [b'F', table @ ..] = bytes {
                 let found = first_problem_in_table(table, rules, LIMITS);
                 let found = found.map(|it| (it.offset, it.kind));
-                let before = |(offset, kind): (usize, ProblemKind)| (offset.saturating_sub(1), kind);
+                let before = |(offset, kind): (usize, ProblemKind)| (
+                    offset.saturating_sub(1),
+                    kind,
+                );
                 assert_eq!(rt; found, wanted.map(before));
             }
         }
@@ -67,7 +67,10 @@ fn what_has_no_problem_is_read(rt: HostRuntime) {
     for (bytes, [reading, _, _]) in ROWS {
         assert_eq!(rt; read_in_place(bytes, LIMITS).is_ok(), reading.is_none());
         if let [b'F', table @ ..] = bytes {
-            assert_eq!(rt; read_table_in_place(table, LIMITS).is_ok(), reading.is_none());
+            assert_eq!(rt;
+                read_table_in_place(table, LIMITS).is_ok(),
+                reading.is_none()
+            );
         }
     }
 }
