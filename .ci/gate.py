@@ -18,7 +18,7 @@ KIT_LINE = "rattle-kit-13f"
 ALWAYS = ("git", "python3", "cc", "c++")
 NEEDS = {
     "docs": (), "test": (), "oracle": (), "show": (), "alloc-failures": (), "sizes": (), "c": ("nm", "pkg-config", "clang", "qemu-x86_64", "aarch64-linux-gnu-gcc"),
-    "broker": (f"{BIN}/rabbitmq-server", "epmd", "amqp-publish", PYTHON), "mutants": (),
+    "counts": ("valgrind",), "broker": (f"{BIN}/rabbitmq-server", "epmd", "amqp-publish", PYTHON), "mutants": (),
 }
 # The modules that the clients of .ci/broker need, and how many tables are sent in .ci/run and .ci/whole.
 MODULES = ("pika", "amqp")
@@ -74,6 +74,7 @@ def gate(name, words):
             "alloc-failures": ([scripts / "alloc-failures"], (proved,)),
             "sizes": ([scripts / "sizes"], (proved,)),
             "c": ([scripts / "c", "--built"], (proved,)),
+            "counts": ([scripts / "counts", "--built"], (proved,)),
             "broker": ([scripts / "broker", "--built", "--tables", TABLES[name]], (proved,)),
             "mutants": ([scripts / "mutants", "--built", "--record", TOP / KEYS, *["--all"] * tries_all], (proved,)),
         }
