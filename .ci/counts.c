@@ -193,7 +193,7 @@ static void *make_call(void *well) {
     return well;
 }
 
-/* Makes a call on a stack of its own, and returns how many bytes of that are written then. */
+/* Makes a call on a separate stack, and returns how many bytes of that are written then. */
 static size_t stack_of(int (*call)(void), int *well) {
     pthread_attr_t how;
     pthread_t thread;
