@@ -1,5 +1,5 @@
 -- How large a buffer has to be for an entry.
-use Rattle.std.specs.Prelude.{ℕ, suc, ◌≡◌, ◌≤◌, ◌+◌, ◌-◌, ◌^◌, ◌==◌, if◌then◌else◌, Some, ◌⊎◌}
+use Rattle.std.specs.Prelude.{ℕ, suc, ◌≡◌, ◌≤◌, ◌+◌, ◌-◌, ◌^◌, ◌==◌, if◌then◌else◌, Some, true, ◌⊎◌}
 use Rattle.amqp_types.specs.declared.amqp_type.AMQPType.{AMQPType}
 use Rattle.amqp_types.specs.Ids.{kind, id_of}
 use Rattle.amqp_grammar.specs.Layouts.{width_of}
@@ -29,10 +29,10 @@ IsTagOf tag type = (kind tag ≡ Some type) × (id_of type ≡ tag)
 abbrev pub IsEncodingLen : ℕ → ℕ → ℕ → Type 0
 IsEncodingLen tag n size = (type : AMQPType) × IsTagOf tag type × (size ≡ encoding_len type n)
 
--- a fault of that is right: no type has the type tag, or too many bytes are after the length
+-- a fault of that is right: no type has the type tag, or one with too many bytes after the length has it
 abbrev pub RefusesLen : ℕ → ℕ → Fault → Type 0
 RefusesLen tag n BadTag = (type : AMQPType) → IsTagOf tag type → ⊥
-RefusesLen tag n TooLarge = 2 ^ 32 ≤ n
+RefusesLen tag n TooLarge = ((type : AMQPType) × IsTagOf tag type × (has_content type ≡ true)) × (2 ^ 32 ≤ n)
 RefusesLen tag n _ = ⊥
 
 -- the container is one of a buffer that there can be
