@@ -176,11 +176,11 @@ fn are_pairs<'a>(body: SliceInput<'a>, depth: usize) -> bool
 
 // Checks that bytes are UTF-8. Most keys are ASCII. The standard library's check is left to
 // `parse_value`, which has it in line as long as nothing else calls it.
-#[tactic(auto, using(crate::proofs::Reading::ascii_is_utf8))]
+#[tactic(auto, using(amqp_parsing::proofs::ParsingLaws::ascii_is_utf8))]
 pub(crate) fn check_utf8(bytes: &[u8]) -> Result<(), Utf8Error>
     ensures { MatchResult result (λ _. IsUtf8 bytes.now) (λ _. IsUtf8 bytes.now → ⊥) }
 {
-    if bytes.iter().all(|byte| *byte < 128) || is_utf8(bytes) {
+    if bytes.is_ascii() || is_utf8(bytes) {
         Ok(())
     } else {
         Err(Utf8Error)

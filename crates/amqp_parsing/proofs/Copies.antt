@@ -1,8 +1,14 @@
--- Prefixes that are as long as all.
+-- Prefixes that are as long as all, and the text that they are.
 use Rattle.std.proofs.Common.{◌≡◌, ℕ, Bool, true, false, if◌then◌else◌, nat_lt, refl, ◌≤◌, List, ◌++◌, length, take, ap, sym, ◌∙◌, arith}
 use Rattle.std.proofs.lemmas.Bool.{ltb-false}
 use Rattle.std.proofs.lemmas.List.{append-nil, nil_from_length, length-append, length-take}
+use Rattle.std.specs.Str.{IsUtf8, IsAscii}
+use Rattle.std.proofs.lemmas.Str.{IsUtf8-from_ascii}
 use Rattle.amqp_types.specs.Prefix.{IsFront}
+
+-- what is ASCII is UTF-8
+pub ascii_is_utf8 : (s : List ℕ) → IsAscii s → IsUtf8 s
+ascii_is_utf8 s ascii = IsUtf8-from_ascii s ascii
 
 -- a prefix with as many bytes as there are is all of them
 pub whole_front : (a s : List ℕ) → IsFront a s → length a ≡ length s → a ≡ s

@@ -9,6 +9,8 @@ pub use Rattle.amqp_parsing.proofs.Again.{wire_extent}
 pub use Rattle.amqp_parsing.proofs.Whole.{found_all, failed_all}
 -- what is rejected stays rejected, whatever follows
 pub use Rattle.amqp_parsing.proofs.Appends.{refused_append}
+-- what is ASCII is UTF-8
+pub use Rattle.amqp_parsing.proofs.Copies.{ascii_is_utf8}
 -- what an error of one reading means for another
 pub use Rattle.amqp_parsing.proofs.Refused.{Refuses-weaker}
 -- payloads: of types of fixed width, and of a container once its body is read

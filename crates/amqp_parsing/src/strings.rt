@@ -1,6 +1,7 @@
 //! Parsers of strings and byte arrays: a length, then as many bytes.
 
-ghost use Rattle.std.specs.Prelude.{◌≡◌, ◌<◌, true, length, MatchResult, IfOk, OnErr, if◌then◌else◌};
+ghost use Rattle.std.specs.Prelude.{◌≡◌, ◌<◌, true, length, MatchOption, MatchResult, IfOk, OnErr, if◌then◌else◌};
+ghost use Rattle.std.specs.Str.{IsUtf8};
 ghost use Rattle.amqp_grammar.specs.Values.{short, long, octets};
 ghost use Rattle.amqp_types.specs.Contents.{long_bytes, octets_of};
 ghost use Rattle.amqp_grammar.specs.Payloads.{RawOutcome};
@@ -36,7 +37,7 @@ pub fn parse_short_string<I: ParsableInput>(alloc: Global, i: I) -> ParserResult
     // bytes that aren't contiguous are joined first
     let in_pieces = chunk.len() < len;
     let joined = joined(alloc, body, in_pieces)?;
-    let Ok(text) = str::from_utf8(whole(in_pieces, joined.as_slice(), chunk)) else {
+    let Some(text) = text_of(whole(in_pieces, joined.as_slice(), chunk)) else {
         return Err(refused(ErrorKind::MapRes));
     };
     match ShortString::try_copy(alloc, text) {
@@ -65,6 +66,21 @@ fn whole<'a>(in_pieces: bool, joined: &'a [u8], chunk: &'a [u8]) -> &'a [u8]
     ensures { result.now ≡ if in_pieces then joined.now else chunk.now }
 {
     if in_pieces { joined } else { chunk }
+}
+
+// The text that bytes are, if they are UTF-8. Most keys are ASCII, which takes less to check.
+#[inline(always)]
+#[tactic(auto, using(crate::proofs::Copies::ascii_is_utf8))]
+fn text_of(bytes: &[u8]) -> Option<&str>
+    ensures { MatchOption result (IsUtf8 bytes.now → ⊥) (λ text. (text.now ≡ bytes.now) × IsUtf8 bytes.now) }
+{
+    if bytes.is_ascii() {
+        return Some(unsafe { str::from_utf8_unchecked(bytes) });
+    }
+    match str::from_utf8(bytes) {
+        Ok(text) => Some(text),
+        Err(_) => None,
+    }
 }
 
 /// Parses a long string: its length in four bytes, then its bytes, which are arbitrary.
