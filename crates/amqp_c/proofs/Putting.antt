@@ -117,24 +117,19 @@ put_of taken in_range Gives Other old new k w into v (Err f) place gives p (is, 
     subst (Refuses taken in_range (λ u. (t : Tree) × Gives u t) Other old into k) (sym is) (place, (w, (v, gives), refl, few))
 
 -- a value of fixed width
-pub told : (tag bits scale : ℕ) (w head : List ℕ) (x : Scalar) → Tells tag bits scale x → w ≡ head ++ [] → head ≡ text (scalar x)
+pub told : (tag bits scale : ℕ) (w : List ℕ) (x : Scalar) → Tells tag bits scale x → w ≡ text (scalar x)
     → IsTold tag bits scale w (scalar x) × Wire w (scalar x)
-told tag bits scale w head x tells is written =
-    let same : w ≡ text (scalar x) = is ∙ (append-nil head ∙ written) in
+told tag bits scale w x tells same =
     ((x, tells, refl, same), subst (λ (t : List ℕ). Wire t (scalar x)) (sym same) (text_is_wire (scalar x) tells.in_range tt refl))
 
 -- a long string or a byte array, after its length
-pub strings : (tag : ℕ) (b t w : List ℕ) → IsStringTag tag → length b < 2 ^ 32 → t ≡ to_be_bytes w32 (length b)
-    → w ≡ (tag ∷ get_or t 0 0 ∷ get_or t 1 0 ∷ get_or t 2 0 ∷ get_or t 3 0 ∷ []) ++ b → (v : Tree) × IsOfBytes tag b w v × Wire w v
-strings tag b t w (inl is) fits counts written =
-    let same : w ≡ text (long b) =
-    written ∙ (ap (λ (u : List ℕ). (tag ∷ get_or u 0 0 ∷ get_or u 1 0 ∷ get_or u 2 0 ∷ get_or u 3 0 ∷ []) ++ b) counts
-    ∙ ap (λ (n : ℕ). (n ∷ to_be_bytes w32 (length b)) ++ b) is) in
+pub strings : (tag : ℕ) (b head w : List ℕ) → IsStringTag tag → length b < 2 ^ 32 → head ≡ tag ∷ to_be_bytes w32 (length b)
+    → w ≡ head ++ b → (v : Tree) × IsOfBytes tag b w v × Wire w v
+strings tag b head w (inl is) fits counts written =
+    let same : w ≡ text (long b) = written ∙ ap (λ (u : List ℕ). u ++ b) (counts ∙ ap (λ (n : ℕ). n ∷ to_be_bytes w32 (length b)) is) in
     (long b, (inl (is, refl), same, fits), subst (λ (u : List ℕ). Wire u (long b)) (sym same) (text_is_wire (long b) tt fits refl))
-strings tag b t w (inr is) fits counts written =
-    let same : w ≡ text (octets b) =
-    written ∙ (ap (λ (u : List ℕ). (tag ∷ get_or u 0 0 ∷ get_or u 1 0 ∷ get_or u 2 0 ∷ get_or u 3 0 ∷ []) ++ b) counts
-    ∙ ap (λ (n : ℕ). (n ∷ to_be_bytes w32 (length b)) ++ b) is) in
+strings tag b head w (inr is) fits counts written =
+    let same : w ≡ text (octets b) = written ∙ ap (λ (u : List ℕ). u ++ b) (counts ∙ ap (λ (n : ℕ). n ∷ to_be_bytes w32 (length b)) is) in
     (octets b, (inr (is, refl), same, fits), subst (λ (u : List ℕ). Wire u (octets b)) (sym same) (text_is_wire (octets b) tt fits refl))
 
 -- an encoding that is read from the start

@@ -3,6 +3,7 @@
 ghost use Rattle.std.specs.Prelude.{◌≡◌, ◌≤◌, ◌<◌, ◌^◌, ℕ, List, length, MatchBool, MatchResult};
 ghost use Rattle.amqp_c.specs.Containers.{IsContainerTag, IsKeyOf, IsPlace, named, end_of, up_to, empty_at};
 ghost use Rattle.amqp_c.specs.Faults.{RefusesPlace};
+ghost use Rattle.std.specs.Str.{IsUtf8};
 
 use amqp_c_common::{Fault, Span};
 use std::str;
@@ -24,8 +25,18 @@ pub fn is_container_tag(tag: u8) -> bool
     tag == b'A' || tag == b'F'
 }
 
+/// Whether the bytes are UTF-8, of bytes that aren't ASCII.
+#[cold]
+#[inline(never)]
+fn is_utf8(bytes: &[u8]) -> bool
+    ensures { MatchBool result (IsUtf8 bytes.now) (IsUtf8 bytes.now → ⊥) }
+{
+    str::from_utf8(bytes).is_ok()
+}
+
 impl Container {
     /// A container of which nothing is written yet.
+    #[inline(always)]
     pub fn empty_at(at: usize, tag: u8) -> Container
         ensures { result ≡ empty_at at tag }
     {
@@ -39,6 +50,7 @@ impl Container {
     }
 
     /// The end of the next entry, if in a buffer of that many bytes one with this key can be put.
+    #[inline(always)]
     pub fn place(self, room_length: usize, key: &[u8]) -> Result<usize, Fault>
         ensures { MatchResult result
             (λ at. IsPlace room_length self key.now × (at ≡ end_of self))
@@ -57,12 +69,14 @@ impl Container {
     }
 
     /// Whether an entry may have this key: in an array no key, in a table each short string.
+    #[inline(always)]
+    #[tactic(auto, using(amqp_parsing::proofs::ParsingLaws::ascii_is_utf8))]
     fn has_key(self, key: &[u8]) -> bool
         ensures { MatchBool result (IsKeyOf self key.now) (IsKeyOf self key.now → ⊥) }
     {
         match self.tag {
             b'A' => key.is_empty(),
-            b'F' => key.len() <= 255 && str::from_utf8(key).is_ok(),
+            b'F' => key.len() <= 255 && (key.is_ascii() || is_utf8(key)),
             _ => false,
         }
     }
@@ -83,6 +97,7 @@ impl Container {
     }
 
     /// The container, if what is written ends there.
+    #[inline(always)]
     pub fn up_to(self, at: usize) -> Container
         requires { self.written.offset ≤ at }
         ensures { result ≡ up_to at self }

@@ -49,6 +49,15 @@ impl Entry {
 }
 
 impl Cursor {
+    /// Becomes another, field by field: the bytes between fields aren't copied.
+    #[inline(always)]
+    pub fn set(&mut self, to: Cursor)
+        ensures { self.new ≡ to }
+    {
+        self.left = to.left;
+        self.tag = to.tag;
+    }
+
     /// The bytes that are left, if they are in `bytes` and are of a container.
     #[inline(always)]
     fn body(self, bytes: &[u8]) -> Option<&[u8]>
@@ -194,7 +203,7 @@ pub fn first_pair(bytes: &[u8], left: Span) -> Option<Entry>
     ensures faithful { IfSome result (IsTrueTo bytes.now) }
     ensures lies { IfSome result (λ e. Lies (length bytes.now) e × EndsIn left e) }
 {
-    let length = usize::from(*left.of(bytes)?.first()?);
+    let length = usize::from(*part(bytes, left).first()?);
     if left.length - 1 < length {
         return None;
     }
@@ -203,6 +212,15 @@ pub fn first_pair(bytes: &[u8], left: Span) -> Option<Entry>
         length,
     };
     front_of(bytes, left.behind(key), key)
+}
+
+/// The bytes of a span that is inside `bytes`.
+#[inline(always)]
+fn part(bytes: &[u8], at: Span) -> &[u8]
+    requires { SpanLies (length bytes.now) at }
+    ensures { result.now ≡ part bytes.now at }
+{
+    &bytes[at.offset..at.offset + at.length]
 }
 
 /// The entry of the value at the start of the span, with its key.
@@ -219,7 +237,7 @@ fn front_of(bytes: &[u8], left: Span, key: Span) -> Option<Entry>
     ensures faithful { IfSome result (IsTrueTo bytes.now) }
     ensures lies { IfSome result (λ e. Lies (length bytes.now) e × EndsIn left e) }
 {
-    let Ok(entry) = first(left.of(bytes)?) else {
+    let Ok(entry) = first(part(bytes, left)) else {
         return None;
     };
     Some(Entry {

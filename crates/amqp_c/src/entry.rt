@@ -40,6 +40,21 @@ pub struct Entry {
     pub scale: u8,
 }
 
+impl Entry {
+    /// Becomes another, field by field: the bytes between fields aren't copied.
+    #[inline(always)]
+    pub fn set(&mut self, to: Entry)
+        ensures { self.new ≡ to }
+    {
+        self.key = to.key;
+        self.value = to.value;
+        self.content = to.content;
+        self.bits = to.bits;
+        self.tag = to.tag;
+        self.scale = to.scale;
+    }
+}
+
 /// The entry of the value at the start of the bytes, by its type tag and its length only: what
 /// is in a container isn't looked at.
 #[inline(always)]

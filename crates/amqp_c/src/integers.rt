@@ -12,6 +12,7 @@ use crate::put::put_scalar_at;
 use amqp_c_common::Fault;
 
 /// Puts a signed number.
+#[inline(always)]
 #[tactic(auto, using(crate::proofs::Putting::refused_place))]
 pub fn put_int(
     room: &mut [u8],
@@ -34,6 +35,7 @@ pub fn put_int(
 }
 
 /// Puts an unsigned number.
+#[inline(always)]
 #[tactic(auto, using(crate::proofs::Putting::refused_place))]
 pub fn put_uint(
     room: &mut [u8],
@@ -56,6 +58,7 @@ pub fn put_uint(
 }
 
 /// Whether it is the type tag of signed numbers.
+#[inline(always)]
 pub fn is_signed_tag(tag: u8) -> bool
     ensures { MatchBool result (IsSignedTag tag) (IsSignedTag tag → ⊥) }
 {
@@ -63,6 +66,7 @@ pub fn is_signed_tag(tag: u8) -> bool
 }
 
 /// Whether it is the type tag of unsigned numbers.
+#[inline(always)]
 pub fn is_unsigned_tag(tag: u8) -> bool
     ensures { MatchBool result (IsUnsignedTag tag) (IsUnsignedTag tag → ⊥) }
 {

@@ -12,6 +12,7 @@ use crate::room::{append, write};
 use amqp_c_common::Fault;
 
 /// Begins an entry whose value is an array or a table, and returns its body, which is empty.
+#[inline(always)]
 #[tactic(auto, using(crate::proofs::Putting::refused_place))]
 pub fn begin(room: &mut [u8], into: Container, key: &[u8], tag: u8) -> Result<Container, Fault>
     ensures begun { MatchResult result
@@ -28,6 +29,7 @@ pub fn begin(room: &mut [u8], into: Container, key: &[u8], tag: u8) -> Result<Co
 }
 
 /// Ends the entry whose value is the array or the table with this body: fills in its length.
+#[inline(always)]
 pub fn end(room: &mut [u8], into: Container, body: Container) -> Result<Container, Fault>
     ensures ended { MatchResult result
         (IsEnded room.old into body room.new)
@@ -45,6 +47,7 @@ pub fn end(room: &mut [u8], into: Container, body: Container) -> Result<Containe
 }
 
 /// Whether the body is one of an entry that was begun after what `into` has.
+#[inline(always)]
 fn is_open(room: &[u8], into: Container, body: Container) -> bool
     ensures { MatchBool result
         ((k : List ℕ) × IsOpen room.now into body k)

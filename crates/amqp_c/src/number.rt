@@ -1,6 +1,6 @@
 //! The encodings of values of fixed width.
 
-ghost use Rattle.std.specs.Prelude.{◌≡◌, ◌≤◌, ◌∷◌, length, MatchBool, MatchOption, MatchResult};
+ghost use Rattle.std.specs.Prelude.{◌≡◌, ◌≤◌, ◌∷◌, length, take, MatchBool, MatchOption, MatchResult};
 ghost use Rattle.amqp_types.specs.declared.amqp_type.AMQPType.TheVariants as amqp;
 ghost use Rattle.amqp_grammar.specs.Values.{Scalar, scalar};
 ghost use Rattle.amqp_grammar.specs.Texts.{text};
@@ -15,43 +15,61 @@ use std::marker::Model;
 /// The encoding of a value of fixed width: its type tag, and at most eight bytes more.
 #[derive(Drop)]
 pub struct Encoding {
-    bytes: [u8; 9],
-    count: usize,
+    tag: u8,
+    /// The bytes after the type tag, and then zeros, as a little-endian number: so they stay in a register.
+    payload: u64,
+    length: usize,
 }
 
 impl Model for Encoding {
-    ghost use Rattle.std.specs.Prelude.{ℕ, ◌≤◌, List, take};
+    ghost use Rattle.std.specs.Prelude.{ℕ, ◌≤◌, ◌∷◌, List, take};
+    ghost use Rattle.std.specs.Int.{w64, to_le_bytes};
 
     ghost Value = { List ℕ };
 
-    ghost view = { λ e. take e.count e.bytes };
+    ghost view = { λ e. e.tag ∷ take e.length (to_le_bytes w64 e.payload) };
 
-    ghost invariant = { λ e. e.count ≤ 9 };
+    ghost invariant = { λ e. e.length ≤ 8 };
 }
 
 impl Encoding {
     /// The encoding of this type tag and this payload.
+    #[inline(always)]
     fn new(tag: u8, payload: &[u8]) -> Encoding
         requires { length payload.now ≤ 8 }
         ensures { result ≡ tag ∷ payload.now }
     {
-        let mut bytes = [0; 9];
-        let count = 1 + payload.len();
-        bytes[0] = tag;
-        bytes[1..count].copy_from_slice(payload);
-        Encoding { bytes, count }
+        let bytes = padded(payload);
+        Encoding {
+            tag,
+            payload: u64::from_le_bytes(bytes),
+            length: payload.len(),
+        }
     }
 
-    /// Its bytes.
-    pub fn as_slice(&self) -> &[u8]
-        ensures value { result.now ≡ self.now }
-        ensures few { length result.now ≤ 9 }
+    /// Its type tag, and the bytes after it, which are so many of the first.
+    #[inline(always)]
+    pub fn parts(&self) -> (u8, [u8; 8], usize)
+        ensures few { result.2 ≤ 8 }
+        ensures parts { result.0 ∷ take result.2 result.1 ≡ self.now }
     {
-        &self.bytes[..self.count]
+        (self.tag, self.payload.to_le_bytes(), self.length)
     }
 }
 
+/// The bytes, and then zeros.
+#[inline(always)]
+fn padded(bytes: &[u8]) -> [u8; 8]
+    requires { length bytes.now ≤ 8 }
+    ensures { take (length bytes.now) result ≡ bytes.now }
+{
+    let mut all = [0; 8];
+    all[..bytes.len()].copy_from_slice(bytes);
+    all
+}
+
 /// The encoding of the value of fixed width that these determine, as those of an entry do.
+#[inline(always)]
 pub fn encoding_of(tag: u8, bits: u64, scale: u8) -> Result<Encoding, Fault>
     ensures { MatchResult result
         (λ e. (x : Scalar) × Tells tag bits scale x × (e ≡ text (scalar x)))
@@ -65,6 +83,8 @@ pub fn encoding_of(tag: u8, bits: u64, scale: u8) -> Result<Encoding, Fault>
 }
 
 /// Whether it is the type tag that is written for a type of fixed width.
+#[cold]
+#[inline(never)]
 #[tactic(auto, using(crate::proofs::Tags::no_kind, crate::proofs::Tags::with_content, crate::proofs::Tags::other_id, crate::proofs::Tags::same_id))]
 fn is_scalar_tag(tag: u8) -> bool
     ensures { MatchBool result (IsScalarTag tag) (IsScalarTag tag → ⊥) }
@@ -83,6 +103,7 @@ fn is_scalar_tag(tag: u8) -> bool
 }
 
 /// The same, if there is one.
+#[inline(always)]
 fn encoding_by_tag(tag: u8, bits: u64, scale: u8) -> Option<Encoding>
     ensures { MatchOption result
         ((x : Scalar) → Tells tag bits scale x → ⊥)
@@ -97,6 +118,7 @@ fn encoding_by_tag(tag: u8, bits: u64, scale: u8) -> Option<Encoding>
 }
 
 /// The encoding of the value of this type that the bits and the scale determine.
+#[inline(always)]
 fn encoding_by_type(amqp_type: AMQPType, bits: u64, scale: u8) -> Option<Encoding>
     ensures { MatchOption result
         ((x : Scalar) → TellsOf amqp_type bits scale x → ⊥)
@@ -148,6 +170,7 @@ fn encoding_by_type(amqp_type: AMQPType, bits: u64, scale: u8) -> Option<Encodin
 }
 
 /// The encoding of a decimal: its scale in a byte, and its number in four.
+#[inline(always)]
 fn decimal(bits: u64, scale: u8) -> Option<Encoding>
     ensures { MatchOption result
         ((x : Scalar) → TellsOf amqp.DecimalValue bits scale x → ⊥)
@@ -159,6 +182,7 @@ fn decimal(bits: u64, scale: u8) -> Option<Encoding>
 }
 
 /// The encoding of a boolean, whose bits are 0 or 1.
+#[inline(always)]
 fn boolean(bits: u64) -> Option<Encoding>
     ensures { MatchOption result
         ((x : Scalar) → TellsOf amqp.Boolean bits 0 x → ⊥)
@@ -172,6 +196,7 @@ fn boolean(bits: u64) -> Option<Encoding>
 }
 
 /// The encoding of nothing, whose bits are 0.
+#[inline(always)]
 fn void(bits: u64) -> Option<Encoding>
     ensures { MatchOption result
         ((x : Scalar) → TellsOf amqp.Void bits 0 x → ⊥)

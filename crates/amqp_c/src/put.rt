@@ -1,6 +1,9 @@
 //! Putting an entry: a value of fixed width, a string or a byte array, or an encoding unchanged.
+//!
+//! What this takes is in line in each call for C, so that what is returned isn't copied through the stack.
 
-ghost use Rattle.std.specs.Prelude.{◌≡◌, length, IfErr, MatchResult, MatchBool};
+ghost use Rattle.std.specs.Prelude.{◌≡◌, ◌∷◌, length, IfErr, MatchResult, MatchBool};
+ghost use Rattle.std.specs.Int.{w32, to_be_bytes};
 ghost use Rattle.amqp_grammar.specs.Values.{Tree, Scalar};
 ghost use Rattle.amqp_c.specs.Containers.{IsPlace, end_of};
 ghost use Rattle.amqp_c.specs.BuiltEntries.{Tells, IsScalarTag, IsTold, IsStringTag, IsOfBytes, IsFront};
@@ -15,6 +18,7 @@ use amqp_in_place::read_in_place;
 use amqp_parsing::Limits;
 
 /// Puts a value of fixed width, by its type tag, its bits and its scale.
+#[inline(always)]
 #[tactic(auto, using(crate::proofs::Putting::refused_place))]
 pub fn put_scalar(
     room: &mut [u8],
@@ -35,6 +39,7 @@ pub fn put_scalar(
 }
 
 /// The same, at the place of the entry.
+#[inline(always)]
 #[tactic(auto, using(crate::proofs::Putting::refused_number))]
 pub fn put_scalar_at(
     room: &mut [u8],
@@ -54,10 +59,12 @@ pub fn put_scalar_at(
     ensures kept { IfErr result (λ _. room.new ≡ room.old) }
 {
     let encoding = encoding_of(tag, bits, scale)?;
-    append(room, into, at, key, encoding.as_slice(), &[])
+    let (tag, payload, length) = encoding.parts();
+    append(room, into, at, key, &[tag], &payload[..length])
 }
 
 /// Puts a long string or a byte array.
+#[inline(always)]
 #[tactic(auto, using(crate::proofs::Putting::refused_place))]
 pub fn put_bytes(
     room: &mut [u8],
@@ -79,8 +86,17 @@ pub fn put_bytes(
     let Ok(length) = u32::try_from(bytes.len()) else {
         return Err(Fault::TooLarge);
     };
-    let [a, b, c, d] = length.to_be_bytes();
-    append(room, into, at, key, &[tag, a, b, c, d], bytes)
+    append(room, into, at, key, &head_of(tag, length), bytes)
+}
+
+/// What is before the bytes of a long string or a byte array.
+#[inline(always)]
+fn head_of(tag: u8, length: u32) -> [u8; 5]
+    ensures { result ≡ tag ∷ to_be_bytes w32 length }
+{
+    let mut head = [tag, 0, 0, 0, 0];
+    head[1..].copy_from_slice(&length.to_be_bytes());
+    head
 }
 
 /// Whether it is the type tag of a long string or a byte array.

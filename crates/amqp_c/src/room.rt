@@ -11,6 +11,7 @@ use crate::container::Container;
 use amqp_c_common::Fault;
 
 /// Writes the bytes from `at` on.
+#[inline(always)]
 pub fn write(room: &mut [u8], at: usize, bytes: &[u8])
     requires { at + length bytes.now ≤ length room.old }
     ensures { room.new ≡ with_bytes at bytes.now room.old }
@@ -19,6 +20,7 @@ pub fn write(room: &mut [u8], at: usize, bytes: &[u8])
 }
 
 /// Puts an entry after what the container has, at its place: its key, and an encoding in two parts.
+#[inline(always)]
 pub fn append(
     room: &mut [u8],
     into: Container,
@@ -43,11 +45,40 @@ pub fn append(
     }
     write_name(room, at, into.tag, key);
     write(room, at + name_length, head);
-    write(room, at + name_length + head.len(), content);
+    write_few(room, at + name_length + head.len(), content);
     Ok(into.up_to(at + count))
 }
 
+/// The same. Up to 16 bytes, as most keys and all numbers have, are moved, which takes less than a
+/// call of `memcpy`.
+#[inline(always)]
+fn write_few(room: &mut [u8], at: usize, bytes: &[u8])
+    requires { at + length bytes.now ≤ length room.old }
+    ensures { room.new ≡ with_bytes at bytes.now room.old }
+{
+    match bytes.len() {
+        1 => write(room, at, &bytes[..1]),
+        2 => write(room, at, &bytes[..2]),
+        3 => write(room, at, &bytes[..3]),
+        4 => write(room, at, &bytes[..4]),
+        5 => write(room, at, &bytes[..5]),
+        6 => write(room, at, &bytes[..6]),
+        7 => write(room, at, &bytes[..7]),
+        8 => write(room, at, &bytes[..8]),
+        9 => write(room, at, &bytes[..9]),
+        10 => write(room, at, &bytes[..10]),
+        11 => write(room, at, &bytes[..11]),
+        12 => write(room, at, &bytes[..12]),
+        13 => write(room, at, &bytes[..13]),
+        14 => write(room, at, &bytes[..14]),
+        15 => write(room, at, &bytes[..15]),
+        16 => write(room, at, &bytes[..16]),
+        _ => write(room, at, bytes),
+    }
+}
+
 /// Writes what is before the value of an entry: in a table the key, after its length.
+#[inline(always)]
 fn write_name(room: &mut [u8], at: usize, tag: u8, key: &[u8])
     requires few { length key.now ≤ 255 }
     requires room { at + length (named tag key.now) ≤ length room.old }
@@ -55,6 +86,6 @@ fn write_name(room: &mut [u8], at: usize, tag: u8, key: &[u8])
 {
     if tag == b'F' {
         write(room, at, &[key.len() as u8]);
-        write(room, at + 1, key);
+        write_few(room, at + 1, key);
     }
 }

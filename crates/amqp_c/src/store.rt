@@ -105,8 +105,8 @@ pub fn store_step(
 {
     match done {
         Ok(Some((next, rest))) => {
-            *entry = next;
-            *cursor = rest;
+            entry.set(next);
+            cursor.set(rest);
             OK
         }
         Ok(None) => NONE,

@@ -8,7 +8,7 @@ use Rattle.amqp_c.proofs.cursor.front_of.Goals as goal
 pub returns-clause-told : goal.returns-clause-told
 returns-clause-told c = λ v rest x.
     let s = c.args.bytes.now in
-    let is = c.in_ok-of.ensures.1 in
+    let is = c.part.ensures in
     let e = c.in-Ok.entry in
     rw (c.moved.ensures, c.moved-2.ensures)
     (front_given s c.args.left c.args.key e c.requires.left
@@ -19,7 +19,7 @@ returns-clause-told c = λ v rest x.
 pub returns-clause-typed : goal.returns-clause-typed
 returns-clause-typed c =
     let s = c.args.bytes.now in
-    let is = c.in_ok-of.ensures.1 in
+    let is = c.part.ensures in
     let e = c.in-Ok.entry in
     rw (c.moved.ensures, c.moved-2.ensures)
     (tagged_placed s c.args.left c.args.key e c.requires.left (subst (λ (t : List ℕ). Lies (length t) e) is c.in-Ok.ensures.lies) (subst (λ (t : List ℕ). IsAtFront t e) is c.in-Ok.ensures.front))
@@ -27,7 +27,7 @@ returns-clause-typed c =
 pub returns-clause-faithful : goal.returns-clause-faithful
 returns-clause-faithful c =
     let s = c.args.bytes.now in
-    let is = c.in_ok-of.ensures.1 in
+    let is = c.part.ensures in
     let e = c.in-Ok.entry in
     let front = subst (λ (t : List ℕ). IsAtFront t e) is c.in-Ok.ensures.front in
     rw (c.moved.ensures, c.moved-2.ensures)

@@ -1,4 +1,4 @@
-use Rattle.std.proofs.Common.{[], ◌++◌, refl, ◌∙◌}
+use Rattle.std.proofs.Common.{◌∷◌, take, refl, ◌∙◌}
 use Rattle.amqp_grammar.specs.Values.{Scalar, scalar}
 use Rattle.amqp_c.specs.BuiltEntries.{Tells, IsScalarTag, IsTold}
 use Rattle.amqp_c.specs.Faults.{NoOther}
@@ -11,7 +11,7 @@ returns-clause-put c =
     let bits = c.args.bits in
     let scale = c.args.scale in
     let x = c.in_ok-encoding.ensures in
-    let bytes = c.as_slice.result.now in
-    let is = told tag bits scale (bytes ++ []) bytes x.0 x.1 refl (c.as_slice.ensures.value ∙ x.2) in
+    let bytes = c.parts-tag.result.0 ∷ take c.parts-tag.result.2 c.parts-tag.result.1 in
+    let is = told tag bits scale bytes x.0 x.1 (c.parts-tag.ensures.parts ∙ x.2) in
     put_of (IsScalarTag tag) ((y : Scalar) × Tells tag bits scale y) (IsTold tag bits scale) NoOther
-    c.args.room.now c.append.new.room c.args.key.now (bytes ++ []) c.args.into (scalar x.0) c.append.result c.requires.place is.0 is.1 c.append.ensures.appended
+    c.args.room.now c.append.new.room c.args.key.now bytes c.args.into (scalar x.0) c.append.result c.requires.place is.0 is.1 c.append.ensures.appended
