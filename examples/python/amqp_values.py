@@ -336,9 +336,12 @@ class _Room:
     def __init__(self) -> None:
         self.buffer = ctypes.create_string_buffer(1024)
 
-    def put(self, name: str, *arguments: Any) -> None:
+    def put(self, name: str, *arguments: Any, needs: Sequence[Any] = ()) -> None:
+        """Puts an entry. The buffer doubles until it is large enough, or at once to what `needs`, of the call `needed`, come to."""
         while (code := _result(name, self.buffer, len(self.buffer), *arguments)) == _NO_ROOM:
-            self.buffer, filled = ctypes.create_string_buffer(2 * len(self.buffer)), self.buffer
+            count = c_size_t()
+            _is_ok(_result("needed", *needs, byref(count)) if needs else _OK)
+            self.buffer, filled = ctypes.create_string_buffer(max(2 * len(self.buffer), count.value)), self.buffer
             ctypes.memmove(self.buffer, filled, len(filled))
         _is_ok(code)
 
@@ -348,7 +351,8 @@ class _Room:
             self.put("put_value", *head, value, len(value), 2**32 - 1, DEPTH)
         elif isinstance(value, (str, bytes, bytearray, memoryview)):
             content, length, *_ = _given(value.encode() if isinstance(value, str) else value)
-            self.put("put_bytes", *head, ord("S" if isinstance(value, (str, LongString)) else "x"), content, length)
+            tag = ord("S" if isinstance(value, (str, LongString)) else "x")
+            self.put("put_bytes", *head, tag, content, length, needs=(byref(into), len(key), tag, length))
         elif isinstance(value, (Mapping, Sequence)):
             is_table = isinstance(value, Mapping)
             self.put("open", *head, ord("F" if is_table else "A"), byref(body))
