@@ -337,7 +337,7 @@ class _Room:
         self.buffer = ctypes.create_string_buffer(1024)
 
     def put(self, name: str, *arguments: Any, needs: Sequence[Any] = ()) -> None:
-        """Puts an entry. The buffer doubles until the entry fits, or becomes as large as `needed` says of `needs`."""
+        """Puts an entry. The buffer doubles until the entry fits, or becomes as large as `needed` returns for `needs`."""
         while (code := _result(name, self.buffer, len(self.buffer), *arguments)) == _NO_ROOM:
             count = c_size_t()
             _is_ok(_result("needed", *needs, byref(count)) if needs else _OK)

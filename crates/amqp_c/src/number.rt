@@ -47,7 +47,7 @@ impl Encoding {
         }
     }
 
-    /// Its type tag, and the bytes after it, which are so many of the first.
+    /// Its type tag, and eight bytes that begin with its payload, with how many that has.
     #[inline(always)]
     pub fn parts(&self) -> (u8, [u8; 8], usize)
         ensures few { result.2 ≤ 8 }

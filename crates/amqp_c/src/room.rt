@@ -49,8 +49,8 @@ pub fn append(
     Ok(into.up_to(at + count))
 }
 
-/// The same. Up to 16 bytes, as most keys and all numbers have, are moved, which takes less than a
-/// call of `memcpy`.
+/// Writes the bytes from `at` on, as `write` does. Up to 16, as most keys and all numbers have, are
+/// moved, which takes less than a call of `memcpy`.
 #[inline(always)]
 fn write_few(room: &mut [u8], at: usize, bytes: &[u8])
     requires { at + length bytes.now ≤ length room.old }

@@ -1,4 +1,4 @@
--- Prefixes that are as long as all, and the text that they are.
+-- Prefixes that are as long as all, and strings of them.
 use Rattle.std.proofs.Common.{◌≡◌, ℕ, Bool, true, false, if◌then◌else◌, nat_lt, refl, ◌≤◌, List, ◌++◌, length, take, ap, sym, ◌∙◌, arith}
 use Rattle.std.proofs.lemmas.Bool.{ltb-false}
 use Rattle.std.proofs.lemmas.List.{append-nil, nil_from_length, length-append, length-take}

@@ -68,7 +68,7 @@ fn whole<'a>(in_pieces: bool, joined: &'a [u8], chunk: &'a [u8]) -> &'a [u8]
     if in_pieces { joined } else { chunk }
 }
 
-// The text that bytes are, if they are UTF-8. Most keys are ASCII, which takes less to check.
+// The string that bytes are, if they are UTF-8. Most keys are ASCII, which takes less to check.
 #[inline(always)]
 #[tactic(auto, using(crate::proofs::Copies::ascii_is_utf8))]
 fn text_of(bytes: &[u8]) -> Option<&str>
