@@ -1,14 +1,16 @@
 /*
  * Makes each call over each input once, for .ci/counts: counts FOLDER. Under callgrind the instructions of each are dumped;
- * without it a line for each has the requests for memory, their bytes, the most bytes at once, and the stack.
+ * without it a line for each has the requests for memory, their bytes, the most bytes at once, the stack, and how many bytes the
+ * C library copies or fills.
  *
  * An input is a value's encoding, and for looking up the keys are those of its first and its last entry. Linked with
- * -Wl,--wrap=malloc, realloc and free.
+ * -Wl,--wrap of each function of which a __wrap_ is here.
  */
 #define _GNU_SOURCE
 #include "amqp_values.h"
 
 #include <dirent.h>
+#include <inttypes.h>
 #include <pthread.h>
 #include <stdio.h>
 #include <stdlib.h>
@@ -36,10 +38,13 @@ static amqpv_entry value, entries[MOST_ENTRIES];
 static amqpv_cursor start;
 static amqpv_span first_key, last_key;
 static int has_json, has_index;
-static uint64_t requests, requested, held, most;
+static uint64_t requests, requested, held, most, moved;
 
 void *__real_realloc(void *block, size_t size);
 void __real_free(void *block);
+void *__real_memcpy(void *to, const void *from, size_t size);
+void *__real_memmove(void *to, const void *from, size_t size);
+void *__real_memset(void *to, int byte, size_t size);
 
 /* Before each block is its size. */
 enum { BEFORE = 16 };
@@ -65,6 +70,21 @@ void *__wrap_malloc(size_t size) {
 void __wrap_free(void *block) {
     held -= size_of(block);
     __real_free(block == NULL ? NULL : (char *)block - BEFORE);
+}
+
+void *__wrap_memcpy(void *to, const void *from, size_t size) {
+    moved += size;
+    return __real_memcpy(to, from, size);
+}
+
+void *__wrap_memmove(void *to, const void *from, size_t size) {
+    moved += size;
+    return __real_memmove(to, from, size);
+}
+
+void *__wrap_memset(void *to, int byte, size_t size) {
+    moved += size;
+    return __real_memset(to, byte, size);
 }
 
 /* ---- the calls: of the C library they themselves use nothing, since its instructions are counted too */
@@ -439,16 +459,16 @@ static void try_input(const char *name) {
     has_json = amqpv_to_json(bytes, length, UINT32_MAX, AMQPV_JSON_NESTING - 2, text, 4 * MOST, &text_length) == AMQPV_OK;
     for (size_t i = 0; i < sizeof calls / sizeof *calls; i++) {
         int (*call)(void) = calls[i].call;
-        requests = requested = most = held = 0;
+        requests = requested = most = held = moved = 0;
         snprintf(label, sizeof label, "%s | %s", calls[i].name, name);
         CALLGRIND_ZERO_STATS;
         int done = call();
         if (done == WELL && RUNNING_ON_VALGRIND) {
             CALLGRIND_DUMP_STATS_AT(label);
         } else if (done == WELL) {
-            uint64_t all[] = {requests, requested, most};
+            uint64_t all[] = {requests, requested, most, moved};
             size_t stack = stack_of(call, &done) - stack_of(nothing, &done);
-            printf("%s | %llu %llu %llu %zu\n", label, (unsigned long long)all[0], (unsigned long long)all[1], (unsigned long long)all[2], stack);
+            printf("%s | %" PRIu64 " %" PRIu64 " %" PRIu64 " %zu %" PRIu64 "\n", label, all[0], all[1], all[2], stack, all[3]);
         }
         if (!done) {
             fprintf(stderr, "%s: failed\n", label);
