@@ -4,8 +4,12 @@ use Rattle.amqp_grammar.specs.Values.{Tree, table}
 use Rattle.amqp_grammar.specs.Maps.{has_key}
 use Rattle.amqp_grammar.specs.Outcomes.{Outcome, Heavy, found, more, unknown, malformed}
 use Rattle.amqp_grammar.specs.Texts.{text}
+use Rattle.amqp_parsing.specs.declared.limits.Limits.{Limits}
+use Rattle.amqp_parsing.specs.Headers.{extent}
+use Rattle.amqp_parsing.specs.Limits.{Within}
+use Rattle.amqp_in_place.specs.Canonicals.{IsCanonicalLen}
 use Rattle.amqp_bench.specs.declared.fault.Fault.{Fault}
-use Rattle.amqp_bench.specs.declared.fault.Fault.TheVariants.{Incomplete, Refused, OutOfMemory, TooSmall}
+use Rattle.amqp_bench.specs.declared.fault.Fault.TheVariants.{Incomplete, Refused, OutOfMemory, TooSmall, Unread}
 
 -- the number that denotes a fault
 abbrev pub code_of : Fault → ℤ
@@ -13,6 +17,7 @@ code_of Incomplete = negsuc 0
 code_of Refused = negsuc 1
 code_of OutOfMemory = negsuc 2
 code_of TooSmall = negsuc 3
+code_of Unread = negsuc 4
 
 -- why no number of bytes is returned for s: more bytes are needed, s is rejected, an allocation
 -- failed if the value allocates, or the buffer is too small
@@ -21,15 +26,20 @@ IsFault s no_room Incomplete = (n : ℕ) × Outcome s (more n)
 IsFault s no_room Refused = Outcome s unknown ⊎ Outcome s malformed
 IsFault s no_room OutOfMemory = Heavy s
 IsFault s no_room TooSmall = no_room
+IsFault s no_room Unread = ⊥
 
 -- the number that denotes how many bytes, or a fault
 abbrev pub answer_of : Result ℕ Fault → ℤ
 answer_of (Ok n) = pos n
 answer_of (Err f) = code_of f
 
--- a result for s: it denotes a number of bytes that is right, or a fault that is
+-- a result: it denotes a number of bytes that is right, or a fault that is
+abbrev pub AnswersAs : (ℕ → Type 0) → (Fault → Type 0) → ℤ → Type 0
+AnswersAs IsRight IsReason z = (done : Result ℕ Fault) × (z ≡ answer_of done) × MatchResult done IsRight IsReason
+
+-- a result for s
 abbrev pub Answers : List ℕ → (ℕ → Type 0) → Type 0 → ℤ → Type 0
-Answers s IsRight no_room z = (done : Result ℕ Fault) × (z ≡ answer_of done) × MatchResult done IsRight (IsFault s no_room)
+Answers s IsRight no_room z = AnswersAs IsRight (IsFault s no_room) z
 
 -- v is read from the first n bytes of s
 abbrev pub IsRead : List ℕ → ℕ → Tree → Type 0
@@ -61,3 +71,33 @@ HasNoRoom s n = (v : Tree) × (rest : List ℕ) × Outcome s (found v rest) × (
 -- n bytes are too few for the canonical encoding of v, and the fault reports it
 abbrev pub IsTooSmall : ℕ → Tree → Fault → Type 0
 IsTooSmall n v f = (f ≡ TooSmall) × (n < length (text v))
+
+-- the limits of these numbers, and the widest
+abbrev pub limits : ℕ → ℕ → Limits
+limits frame depth = record { frame = frame; depth = depth }
+
+abbrev pub widest : Limits
+widest = limits 4294967295 4294967295
+
+-- a value is read within limits from the first n bytes of s
+abbrev pub IsTakenWithin : Limits → List ℕ → ℕ → Type 0
+IsTakenWithin l s n = (v : Tree) × (rest : List ℕ) × Within l s (found v rest) × (n + length rest ≡ length s)
+
+-- why no number of bytes is returned for s within limits: more bytes are needed, s is too large or
+-- rejected, or an allocation failed if the value allocates and isn't too large
+abbrev pub IsFaultWithin : Limits → List ℕ → Fault → Type 0
+IsFaultWithin l s Incomplete = (n : ℕ) × Within l s (more n)
+IsFaultWithin l s Refused = (l.frame < extent s) ⊎ (Within l s unknown ⊎ Within l s malformed)
+IsFaultWithin l s OutOfMemory = (extent s ≤ l.frame) × Heavy s
+IsFaultWithin l s _ = ⊥
+
+-- the same from a reader: of an allocation or a read that fails nothing is stated
+abbrev pub IsFaultInPieces : Limits → List ℕ → Fault → Type 0
+IsFaultInPieces l s OutOfMemory = Unit {0}
+IsFaultInPieces l s Unread = Unit {0}
+IsFaultInPieces l s f = IsFaultWithin l s f
+
+-- why no length of a canonical encoding is returned: no first bytes of s are one, within limits
+abbrev pub IsFaultOfCanonical : Limits → List ℕ → Fault → Type 0
+IsFaultOfCanonical l s Refused = (n : ℕ) → IsCanonicalLen l s n → ⊥
+IsFaultOfCanonical l s _ = ⊥

@@ -14,6 +14,8 @@ pub enum Fault {
     OutOfMemory,
     /// The value's canonical encoding doesn't fit the buffer.
     TooSmall,
+    /// Reading from the source of the bytes failed.
+    Unread,
 }
 
 impl Fault {
@@ -26,6 +28,7 @@ impl Fault {
             Fault::Refused => -2,
             Fault::OutOfMemory => -3,
             Fault::TooSmall => -4,
+            Fault::Unread => -5,
         }
     }
 }

@@ -1,21 +1,26 @@
 //! The codec as a C library: what goes in and out are bytes and numbers.
 //!
 //! Each call returns a number of bytes, or -1 if more bytes are needed, -2 if the bytes begin
-//! with no value, -3 if an allocation failed, and -4 if the canonical encoding of the value
-//! doesn't fit. It is for benchmarks: nothing of a value is returned.
+//! with no value, -3 if an allocation failed, -4 if the canonical encoding of the value doesn't
+//! fit, and -5 if a read failed. It is for benchmarks: nothing of a value is returned.
 #![tactic(auto)]
 
 ghost use Rattle.std.specs.Prelude.{length, codes};
-ghost use Rattle.amqp_bench.specs.Calls.{Answers, IsTaken, IsLookedUp, IsWritten, HasNoRoom};
+ghost use Rattle.amqp_bench.specs.Calls.{Answers, AnswersAs, IsTaken, IsLookedUp, IsWritten, HasNoRoom, limits, widest, IsTakenWithin, IsFaultWithin, IsFaultInPieces, IsFaultOfCanonical};
+ghost use Rattle.amqp_in_place.specs.Canonicals.{IsCanonicalLen};
 
 mod calls;
 mod fault;
+mod pieces;
 #[cfg(test)]
 mod tests;
+mod within;
 
+use amq_protocol_types::stream::Limits;
 use calls::{decode, encode, find, scan};
 use fault::answer;
 use std::alloc::Global;
+use within::{decode_in_pieces, decode_within, measure_canonical};
 
 /// Reads a value from the start of `bytes` to a separate tree, drops it, and returns how many
 /// bytes it took.
@@ -24,6 +29,37 @@ pub extern "C" fn amqp_bench_decode(alloc: Global, bytes: &[u8]) -> i64
     ensures { Answers bytes.now (IsTaken bytes.now) ⊥ result }
 {
     answer(decode(alloc, bytes))
+}
+
+/// Reads a value from the start of `bytes` to a separate tree within the limits, drops it, and
+/// returns how many bytes it took.
+#[unsafe(no_mangle)]
+pub extern "C" fn amqp_bench_decode_within(
+    alloc: Global,
+    bytes: &[u8],
+    frame: u32,
+    depth: u32,
+) -> i64
+    ensures { AnswersAs (IsTakenWithin (limits frame depth) bytes.now) (IsFaultWithin (limits frame depth) bytes.now) result }
+{
+    answer(decode_within(alloc, bytes, Limits { frame, depth }))
+}
+
+/// Reads a value from the start of `bytes` to a separate tree, from a reader that yields at most
+/// `piece` bytes in a read (one if that is 0), drops it, and returns how many bytes it took.
+#[unsafe(no_mangle)]
+pub extern "C" fn amqp_bench_stream(alloc: Global, bytes: &[u8], piece: usize) -> i64
+    ensures { AnswersAs (IsTakenWithin widest bytes.now) (IsFaultInPieces widest bytes.now) result }
+{
+    answer(decode_in_pieces(alloc, bytes, piece))
+}
+
+/// Returns how many bytes the canonical encoding at the start of `bytes` has, or -2 if there is none.
+#[unsafe(no_mangle)]
+pub extern "C" fn amqp_bench_canonical_len(bytes: &[u8]) -> i64
+    ensures { AnswersAs (IsCanonicalLen widest bytes.now) (IsFaultOfCanonical widest bytes.now) result }
+{
+    answer(measure_canonical(bytes))
 }
 
 /// Reads a value in place, and returns how many bytes it took.

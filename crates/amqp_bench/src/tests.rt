@@ -58,3 +58,34 @@ fn finds_a_key(rt: HostRuntime) {
     assert_eq!(rt; amqp_bench_find(&[]), -1);
     assert_eq!(rt; amqp_bench_find(b"z"), -2);
 }
+
+#[test]
+fn takes_a_value_within_limits(rt: HostRuntime) {
+    let nested = b"F\0\0\0\x07\x01kA\0\0\0\0z";
+    assert_eq!(rt; amqp_bench_decode_within(rt.alloc(), nested, 12, 2), 12);
+    assert_eq!(rt; amqp_bench_decode_within(rt.alloc(), nested, 11, 2), -2);
+    assert_eq!(rt; amqp_bench_decode_within(rt.alloc(), nested, 12, 1), -2);
+    assert_eq!(rt;
+        amqp_bench_decode_within(rt.alloc(), &nested[..11], 12, 2),
+        -1
+    );
+}
+
+#[test]
+fn takes_a_value_in_pieces(rt: HostRuntime) {
+    let nested = b"F\0\0\0\x07\x01kA\0\0\0\0z";
+    for piece in [0, 1, 7, 4096] {
+        assert_eq!(rt; amqp_bench_stream(rt.alloc(), nested, piece), 12);
+        assert_eq!(rt; amqp_bench_stream(rt.alloc(), &nested[..11], piece), -1);
+        assert_eq!(rt; amqp_bench_stream(rt.alloc(), &[], piece), -1);
+        assert_eq!(rt; amqp_bench_stream(rt.alloc(), b"z", piece), -2);
+    }
+}
+
+#[test]
+fn measures_what_is_canonical(rt: HostRuntime) {
+    assert_eq!(rt; amqp_bench_canonical_len(b"F\0\0\0\x03\x01-Vz"), 8);
+    assert_eq!(rt; amqp_bench_canonical_len(b"F\0\0\0\x03\x01-V"), 8);
+    assert_eq!(rt; amqp_bench_canonical_len(b"U\0\x07"), -2);
+    assert_eq!(rt; amqp_bench_canonical_len(b"F\0\0\0\x03\x01-"), -2);
+}

@@ -1,0 +1,26 @@
+-- Why reading within limits returns no value.
+use Rattle.std.proofs.Common.{◌≡◌, ◌≤◌, ℕ, List, [], length, inl, inr, refl, sym, ap, subst, arith, length-append}
+use Rattle.amqp_parsing.specs.declared.errors.Err.TheVariants.{Error}
+use Rattle.amqp_parsing.specs.declared.errors.ErrorKind.{ErrorKind}
+use Rattle.amqp_parsing.specs.declared.errors.ErrorKind.TheVariants.{MapOpt, MapRes, Eof, OutOfMemory, TooLarge}
+use Rattle.amqp_parsing.specs.declared.limits.Limits.{Limits}
+use Rattle.amqp_parsing.specs.Limits.{RefusesWithin}
+use Rattle.amqp_bench.specs.declared.fault.Fault.TheVariants.{Incomplete, Refused}
+use Rattle.amqp_in_place.specs.Canonicals.{IsCanonicalLen}
+use Rattle.amqp_bench.specs.Calls.{widest, IsFaultWithin}
+
+-- the bytes are too large, or their first byte or what they count is wrong
+pub refused_within : (l : Limits) (s : List ℕ) (kind : ErrorKind) → RefusesWithin l s (Error kind) → IsFaultWithin l s Refused
+refused_within l s TooLarge less = inl less
+refused_within l s MapOpt is = inr (inl is)
+refused_within l s Eof is = inr (inr is)
+refused_within l s MapRes is = absurd is.1
+refused_within l s OutOfMemory is = absurd is.1
+
+-- a byte is missing if there is none
+pub none_came : (s : List ℕ) → s ≡ [] → IsFaultWithin widest s Incomplete
+none_came s is = subst (λ s. IsFaultWithin widest s Incomplete) (sym is) (1, (omega arith, refl))
+
+-- a canonical encoding at the start has no more bytes than there are
+pub canonical_is_within : (l : Limits) (s : List ℕ) (n : ℕ) → IsCanonicalLen l s n → n ≤ length s
+canonical_is_within l s n (w, rest, v, front, count, canon, is) = omega (arith, count, ap length front, length-append w rest)

@@ -1,0 +1,46 @@
+//! A reader that yields bytes in pieces.
+
+ghost use Rattle.std.specs.Prelude.{◌≡◌, ◌<◌, Some, length};
+
+use std::io;
+use std::io::Read;
+
+/// Yields bytes, at most `most` in a read.
+#[derive(Drop)]
+pub struct Pieces<'a> {
+    bytes: &'a [u8],
+    most: usize,
+    ghost some: { 0 < most },
+}
+
+impl<'a> Pieces<'a> {
+    ghost use Rattle.amqp_bench.specs.Pieces.{bytes_left};
+
+    /// Yields the bytes, at most `most` in a read, or one if that is 0.
+    pub fn new(bytes: &'a [u8], most: usize) -> Self
+        ensures { bytes_left result ≡ bytes.now }
+    {
+        Pieces {
+            bytes,
+            most: most.max(1),
+        }
+    }
+
+    /// The number of bytes that are left.
+    pub fn count(&self) -> usize
+        ensures { result ≡ length (bytes_left self.now) }
+    {
+        self.bytes.len()
+    }
+}
+
+impl Read for Pieces<'_> {
+    ghost use Rattle.amqp_bench.specs.Pieces.{bytes_left};
+
+    ghost remaining = { λ p. Some (bytes_left p) };
+
+    fn read(&mut self, buf: &mut [u8]) -> io::Result<usize> {
+        let most = buf.len().min(self.most);
+        self.bytes.read(&mut buf[..most])
+    }
+}
