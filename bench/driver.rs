@@ -3,13 +3,15 @@
 //! It first prints its lanes on a line, each a side and an operation, and then a line for each that it reads:
 //!
 //!     load PATH            takes the input: ok
-//!     make LANE PATH       how many bytes LANE reads of it, or writes to the file; negative: an error
+//!     make LANE PATH       how many bytes LANE reads of it, value by value, or writes to the file; negative: an error
 //!     all SIDE STEP PATH   of each prefix, and each change of a byte to a multiple of STEP, 8 bytes to the file: how many bytes
 //!                          SIDE reads, or -1; then, if it writes, for each a hash of what it writes
 //!     time LANE N          the nanoseconds of N calls
+//!     heap LANE            how often LANE requests memory in one reading, and its most bytes at once, by bench/heap.c
 #![allow(unexpected_cfgs, dead_code)]
 
 use amq_protocol_types::{AMQPValue, generation::gen_value, parsing::parse_value};
+use std::ffi::c_char;
 use std::hint::black_box;
 use std::io::{BufRead, Write as _};
 use std::time::Instant;
@@ -67,16 +69,22 @@ unsafe extern "C" {
     fn amqp_bench_scan(bytes: *const u8, length: usize) -> i64;
     fn amqp_bench_find(bytes: *const u8, length: usize) -> i64;
     fn amqp_bench_encode_n(bytes: *const u8, length: usize, out: *mut u8, capacity: usize, times: u64) -> i64;
+    fn amqpv_read(bytes: *const u8, length: usize, frame: u32, depth: u32, entry: &mut [u64; 16], count: &mut usize) -> i32;
     fn amqpv_to_json(bytes: *const u8, length: usize, frame: u32, depth: u32, out: *mut u8, capacity: usize, count: &mut usize) -> i32;
     fn amqpv_from_json(text: *const u8, length: usize, nesting: u32, out: *mut u8, capacity: usize, count: &mut usize) -> i32;
     fn rabbitmq_read(bytes: *const u8, length: usize) -> i64;
     fn rabbitmq_write(bytes: *const u8, length: usize, out: *mut u8, capacity: usize, times: u64) -> i64;
+    fn dlsym(library: *const u8, name: *const c_char) -> Option<extern "C" fn(&mut [u64; 2])>;
 }
 
 /// The count of a call that succeeds, otherwise -1.
 fn counted_by(call: impl FnOnce(&mut usize) -> i32) -> i64 {
     let mut count = 0;
     if call(&mut count) == 0 { count as i64 } else { -1 }
+}
+
+extern "C" fn c_read(bytes: *const u8, length: usize) -> i64 {
+    counted_by(|count| unsafe { amqpv_read(bytes, length, u32::MAX, u32::MAX, &mut [0; 16], count) })
 }
 
 const LIBRARY_JSON: [Convert; 2] = [
@@ -138,8 +146,10 @@ fn sides() -> Vec<Side> {
         side("look-up", amqp_bench_find, None),
         side("by-hand", by_hand, None),
     ];
-    #[cfg(json)]
+    #[cfg(installed)]
     found[1].json.replace(LIBRARY_JSON);
+    #[cfg(installed)]
+    found.push(side("c", c_read, None));
     #[cfg(rabbitmq)]
     found.push(side("librabbitmq", rabbitmq_read, Some(rabbitmq_write)));
     found
@@ -153,6 +163,18 @@ impl Side {
 
     fn reads(&self, bytes: &[u8]) -> i64 {
         unsafe { (self.read)(bytes.as_ptr(), bytes.len()) }
+    }
+
+    /// Reads value by value up to the end.
+    fn reads_all(&self, bytes: &[u8]) -> i64 {
+        let mut done = 0;
+        while done < bytes.len() {
+            match self.reads(&bytes[done..]) {
+                count @ 1.. => done += count as usize,
+                fault => return fault.min(-1),
+            }
+        }
+        done as i64
     }
 
     fn writes(&self, bytes: &[u8], out: &mut [u8], times: u64) -> i64 {
@@ -170,8 +192,17 @@ impl Side {
             ("write", _) => self.writes(bytes, out, 1),
             ("to-json", Some(json)) => json[0](bytes, out),
             ("from-json", Some(json)) => json[1](&self.json_of(bytes, out), out),
-            _ => self.reads(bytes),
+            _ => self.reads_all(bytes),
         }
+    }
+
+    /// How often a reading requests memory, and the most bytes at once.
+    fn heap(&self, bytes: &[u8]) -> [u64; 2] {
+        let (since, mut counts) = (unsafe { dlsym(std::ptr::null(), c"heap_since".as_ptr()) }.expect("bench/heap.c"), [0; 2]);
+        since(&mut counts);
+        black_box(self.reads_all(bytes));
+        since(&mut counts);
+        counts
     }
 
     /// The nanoseconds of that many calls. Of writing, one reading is taken off.
@@ -186,7 +217,7 @@ impl Side {
                 let text = self.json_of(bytes, out);
                 repeated(times, || json[1](black_box(&text), out))
             }
-            _ => repeated(times, || self.reads(black_box(bytes))),
+            _ => repeated(times, || self.reads_all(black_box(bytes))),
         }
     }
 
@@ -217,6 +248,13 @@ fn for_changed(input: &[u8], step: usize, mut work: impl FnMut(&[u8])) {
             work(&changed);
         }
     }
+}
+
+/// Side::time, by a name at which callgrind counts.
+#[unsafe(no_mangle)]
+#[inline(never)]
+fn bench_time(side: &Side, operation: &str, input: &[u8], out: &mut [u8], times: u64) -> u64 {
+    side.time(operation, input, out, times)
 }
 
 fn hash(bytes: &[u8]) -> i64 {
@@ -250,7 +288,8 @@ fn serve() {
                 std::fs::write(words[3], side().all(&input, number() as usize, &mut out)).expect("a file");
                 println!("ok");
             }
-            _ => println!("{}", side().time(operation, &input, &mut out, number())),
+            "heap" => println!("{:?}", side().heap(&input)),
+            _ => println!("{}", bench_time(side(), operation, &input, &mut out, number())),
         }
         std::io::stdout().flush().expect("a line");
     }

@@ -3,10 +3,10 @@
 import math
 from html import escape
 
-# By side: this library and what reads as it does dark, the others lighter.
-FILLS = {"this library": "#222", "with a look-up": "#777", "by hand": "#ddd", "librabbitmq": "#777", "Go": "#aaa", "Erlang": "#ddd"}
+# By side: this library dark, the others lighter, each with an outline.
+FILLS = {"this library": "#222", "from C": "#666", "librabbitmq": "#999", "Go": "#ccc", "Erlang": "#fff", "by hand": "#fff"}
 LEAST, MOST = 0.01, 100
-LEFT, WIDTH, GAP, TOP, ROW, BAR = 150, 200, 24, 44, 34, 7
+LEFT, WIDTH, GAP, TOP, ROW, BAR = 150, 200, 40, 44, 36, 7
 
 
 def at(ratio):
@@ -23,7 +23,7 @@ def panel(left, title, rows):
     """One panel: a row for each input, in it a bar for each side, and in words the ratio of this library."""
     bottom = TOP + ROW * len(rows)
     yield write(left, 16, title, 'font-weight="bold"')
-    for ratio in (0.1, 1, 10):
+    for ratio in (0.01, 0.1, 1, 10, 100):
         x = left + at(ratio)
         yield f'<line x1="{x}" y1="{TOP - 4}" x2="{x}" y2="{bottom}" stroke="{"#222" if ratio == 1 else "#ddd"}"/>'
         yield write(x, TOP - 8, f"{ratio:g}", 'text-anchor="middle" fill="#555"')
@@ -34,13 +34,13 @@ def panel(left, title, rows):
                 yield (f'<rect x="{left + min(x, end):.1f}" y="{y}" width="{max(abs(x - end), 1):.1f}" height="{BAR}" fill="{FILLS[side]}" '
                        f'stroke="#222" stroke-width="0.4"/>')  # fmt: skip
                 if place == 0:
-                    yield write(f"{left + max(x, end) + 3:.1f}", y + BAR, f"{found[0]:.2f}", 'font-size="9"')
+                    yield write(f"{left + max(x, end) + 3:.1f}", y + BAR, f"{found[0]:.2f}" if found[0] >= LEAST else f"<{LEAST}", 'font-size="9"')
 
 
 def drawn(panels):
     """The picture: panels by title, each a list of labels with the ratios of each side there."""
     count = len(next(iter(panels.values())))
-    width, height = LEFT + len(panels) * (WIDTH + GAP), TOP + ROW * count + 56
+    width, height = LEFT + len(panels) * (WIDTH + GAP), TOP + ROW * count + 58
     lines = [f'<svg xmlns="http://www.w3.org/2000/svg" viewBox="0 0 {width} {height}" font-family="sans-serif" font-size="11" fill="#222">',
              f'<rect width="{width}" height="{height}" fill="#fff"/>']  # fmt: skip
     for number, (label, _) in enumerate(next(iter(panels.values()))):
@@ -49,8 +49,9 @@ def drawn(panels):
         left = LEFT + number * (WIDTH + GAP)
         lines += panel(left, title, rows)
         for place, side in enumerate(dict.fromkeys(side for _, ratios in rows for side in ratios)):
-            x, y = left + place % 2 * (WIDTH // 2), height - 46 + place // 2 * 14
+            x, y = left + place % 2 * (WIDTH // 2), height - 50 + place // 2 * 14
             lines.append(f'<rect x="{x}" y="{y}" width="9" height="9" fill="{FILLS[side]}" stroke="#222" stroke-width="0.4"/>')
             lines.append(write(x + 13, y + 8, side))
-    lines.append(write(LEFT, height - 8, "time as a ratio to the Rust crate's, on a logarithmic scale: a bar to the left of 1 is faster, the number this library's ratio", 'fill="#555"'))
+    legend = "Time as a ratio to the Rust crate's, on a logarithmic scale. A bar to the left of 1 is faster; the number is this library's."
+    lines.append(write(LEFT, height - 8, legend, 'fill="#555"'))
     return "\n".join([*lines, "</svg>", ""])

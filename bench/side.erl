@@ -37,7 +37,9 @@ repeat(_, 0, _, _) -> ok;
 repeat(<<"erlang.read">> = Lane, Times, Input, Table) -> read(Input), repeat(Lane, Times - 1, Input, Table);
 repeat(Lane, Times, Input, Table) -> write(Table), repeat(Lane, Times - 1, Input, Table).
 
+%% Reads table by table up to the end, and returns the last.
 read(<<$F, Size:32, Body:Size/binary>>) -> rabbit_binary_parser:parse_table(Body);
+read(<<$F, Size:32, Body:Size/binary, Rest/binary>>) -> rabbit_binary_parser:parse_table(Body), read(Rest);
 read(_) -> none.
 
 write(Table) ->

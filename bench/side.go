@@ -14,11 +14,17 @@ import (
 
 var kept Table
 
-func readValue(input []byte) (Table, error) {
-	if len(input) == 0 || input[0] != 'F' {
-		return nil, io.ErrUnexpectedEOF
+// Reads table by table up to the end, and returns the last.
+func readValue(input []byte) (table Table, err error) {
+	for rest := bytes.NewReader(input); rest.Len() > 0 && err == nil; {
+		if tag, _ := rest.ReadByte(); tag != 'F' {
+			return nil, io.ErrUnexpectedEOF
+		}
+		if table, err = readTable(rest); err != nil {
+			return nil, err
+		}
 	}
-	return readTable(bytes.NewReader(input[1:]))
+	return table, err
 }
 
 func main() {

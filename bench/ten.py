@@ -1,4 +1,4 @@
-"""The ten inputs of docs/SPEED.md, and tables that grow: the same bytes each time.
+"""The ten inputs of docs/SPEED.md, and a stream of small values: the same bytes each time.
 
 Each is a table, its type tag included, since librabbitmq and Go read nothing else: what isn't one is at the only key of one.
 """
@@ -112,16 +112,15 @@ def ten():
     yield Input("200 nested tables, 1.4 kB", "200 nested tables", nested(200))
 
 
-def growing():
-    """Yields tables that are larger each time."""
-    for count in (100, 1_000, 10_000, 100_000):
-        yield Input(f"a table of {count:,} entries in random order", "", entries(count))
-    for levels in (10, 100, 1_000, 4_000):
-        yield Input(f"{levels:,} nested tables", "", nested(levels))
+class Stream:
+    """Small values one after another, which are only read."""
+
+    def __init__(self, count):
+        self.row, self.label, self.given, self.canonical = f"a stream of {count:,} small tables, 7.5 MB", "a stream", stream(count), None
 
 
 def stream(count):
-    """Small values one after another: a client's properties, an `x-death` and a queue's arguments, by turns."""
+    """The bytes of a stream: a client's properties, an `x-death` and a queue's arguments, by turns."""
     client = {"product": text("client"), "version": text("1.0"), "capabilities": {"basic.nack": number("t", True)}}
     death_of_one = death(1, "expired", "orders.work", "orders", "orders.created", 1700000100)
     return b"".join(encoded((client, death_of_one, {"x-max-length": number("I", 1000)})[it % 3], False) for it in range(count))
