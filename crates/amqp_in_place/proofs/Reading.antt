@@ -15,6 +15,14 @@ use Rattle.amqp_parsing.specs.Refusals.{Refusal, inside}
 use Rattle.amqp_parsing.specs.ParseResults.{Refuses}
 use Rattle.amqp_parsing.specs.Bodies.{IsNoBody, IsNoTable}
 use Rattle.amqp_parsing.proofs.ParsingLaws.{Refuses-weaker, Goes, Goes-refused, Walks, Walks-bad_key, Walks-bad_value}
+use Rattle.std.specs.Prelude.{All}
+use Rattle.std.specs.Str.{IsUtf8}
+use Rattle.std.proofs.lemmas.Str.{IsUtf8-from_ascii}
+use Rattle.std.proofs.lemmas.Str.Ascii.{IsAscii-from_all}
+
+-- bytes below 128 are UTF-8
+pub all_ascii_is_utf8 : (s : List ℕ) → All (λ b. b < 128) s → IsUtf8 s
+all_ascii_is_utf8 s ascii = IsUtf8-from_ascii s (IsAscii-from_all s ascii)
 
 -- what isn't there when memory runs out isn't there
 no_heavy : (Is : Reading → Type 0) (heavy : Type 0) (e : Refusal) → Refuses Is ⊥ e → Refuses Is heavy e

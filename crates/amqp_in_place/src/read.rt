@@ -176,15 +176,30 @@ fn are_pairs<'a>(body: SliceInput<'a>, depth: usize) -> bool
 
 // Checks that bytes are UTF-8. Most keys are ASCII. The standard library's check is left to
 // `parse_value`, which has it in line as long as nothing else calls it.
-#[tactic(auto, using(amqp_parsing::proofs::ParsingLaws::ascii_is_utf8))]
+#[tactic(auto, using(crate::proofs::Reading::all_ascii_is_utf8))]
 pub(crate) fn check_utf8(bytes: &[u8]) -> Result<(), Utf8Error>
     ensures { MatchResult result (λ _. IsUtf8 bytes.now) (λ _. IsUtf8 bytes.now → ⊥) }
 {
-    if bytes.is_ascii() || is_utf8(bytes) {
+    let is_ascii = if bytes.len() < 8 {
+        bytes.iter().all(|byte| *byte < 128)
+    } else {
+        is_ascii_by_words(bytes)
+    };
+    if is_ascii || is_utf8(bytes) {
         Ok(())
     } else {
         Err(Utf8Error)
     }
+}
+
+// Whether bytes are ASCII, eight at a time. It isn't in line, since what it takes of the stack would
+// be taken at each level.
+#[inline(never)]
+#[tactic(auto, using(amqp_parsing::proofs::ParsingLaws::ascii_is_utf8))]
+fn is_ascii_by_words(bytes: &[u8]) -> bool
+    ensures { result ≡ true → IsUtf8 bytes.now }
+{
+    bytes.is_ascii()
 }
 
 // The same of bytes that aren't ASCII, by compares, since not every processor has the look-ups that
