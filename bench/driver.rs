@@ -3,7 +3,8 @@
 //! It first prints its lanes on a line, each a side and an operation, and then a line for each that it reads:
 //!
 //!     load PATH            takes the input: ok
-//!     make LANE PATH       how many bytes LANE reads of it, value by value, or writes to the file; negative: an error
+//!     make LANE PATH       how many bytes LANE reads of it, value by value, or writes to the file; or the number that it
+//!                          finds; negative: an error
 //!     all SIDE STEP PATH   of each prefix, and each change of a byte to a multiple of STEP, 8 bytes to the file: how many bytes
 //!                          SIDE reads, or -1; then, if it writes, for each a hash of what it writes
 //!     time LANE N          the nanoseconds of N calls
@@ -22,12 +23,16 @@ type Read = unsafe extern "C" fn(*const u8, usize) -> i64;
 type Write = unsafe extern "C" fn(*const u8, usize, *mut u8, usize, u64) -> i64;
 /// Makes JSON of bytes, or bytes of JSON.
 type Convert = fn(&[u8], &mut [u8]) -> i64;
+/// A task of bench/tasks.c: writes bytes and returns how many, or finds a number in the input; negative: an error.
+type Task = unsafe extern "C" fn(*const u8, usize, *mut u8, usize) -> i64;
 
 struct Side {
     name: &'static str,
     read: Read,
     write: Option<Write>,
     json: Option<[Convert; 2]>,
+    /// By their operations.
+    tasks: &'static [(&'static str, Task)],
 }
 
 fn slice<'a>(bytes: *const u8, length: usize) -> &'a [u8] {
@@ -74,6 +79,10 @@ unsafe extern "C" {
     fn amqpv_from_json(text: *const u8, length: usize, nesting: u32, out: *mut u8, capacity: usize, count: &mut usize) -> i32;
     fn rabbitmq_read(bytes: *const u8, length: usize) -> i64;
     fn rabbitmq_write(bytes: *const u8, length: usize, out: *mut u8, capacity: usize, times: u64) -> i64;
+    fn library_arguments(bytes: *const u8, length: usize, out: *mut u8, capacity: usize) -> i64;
+    fn library_deaths(bytes: *const u8, length: usize, out: *mut u8, capacity: usize) -> i64;
+    fn rabbitmq_arguments(bytes: *const u8, length: usize, out: *mut u8, capacity: usize) -> i64;
+    fn rabbitmq_deaths(bytes: *const u8, length: usize, out: *mut u8, capacity: usize) -> i64;
     fn dlsym(library: *const u8, name: *const c_char) -> Option<extern "C" fn(&mut [u64; 2])>;
 }
 
@@ -137,7 +146,7 @@ extern "C" fn by_hand(bytes: *const u8, length: usize) -> i64 {
 }
 
 fn sides() -> Vec<Side> {
-    let side = |name, read: Read, write: Option<Write>| Side { name, read, write, json: None };
+    let side = |name, read: Read, write: Option<Write>| Side { name, read, write, json: None, tasks: &[] };
     #[allow(unused_mut)]
     let mut found = vec![
         Side { json: Some([crate_to_json, crate_from_json]), ..side("crate", crate_read, Some(crate_write)) },
@@ -152,13 +161,26 @@ fn sides() -> Vec<Side> {
     found.push(side("c", c_read, None));
     #[cfg(rabbitmq)]
     found.push(side("librabbitmq", rabbitmq_read, Some(rabbitmq_write)));
+    #[cfg(all(installed, rabbitmq))]
+    for it in &mut found {
+        it.tasks = match it.name {
+            "c" => &[("arguments", library_arguments), ("deaths", library_deaths)],
+            "librabbitmq" => &[("arguments", rabbitmq_arguments), ("deaths", rabbitmq_deaths)],
+            _ => &[],
+        };
+    }
     found
 }
 
 impl Side {
     fn lanes(&self) -> Vec<String> {
         let json = self.json.into_iter().flat_map(|_| ["to-json", "from-json"]);
-        ["read"].into_iter().chain(self.write.map(|_| "write")).chain(json).map(|it| format!("{}.{it}", self.name)).collect()
+        let tasks = self.tasks.iter().map(|it| it.0);
+        ["read"].into_iter().chain(self.write.map(|_| "write")).chain(json).chain(tasks).map(|it| format!("{}.{it}", self.name)).collect()
+    }
+
+    fn task(&self, operation: &str) -> Option<Task> {
+        self.tasks.iter().find(|it| it.0 == operation).map(|it| it.1)
     }
 
     fn reads(&self, bytes: &[u8]) -> i64 {
@@ -186,8 +208,11 @@ impl Side {
         out[..count.max(0) as usize].to_vec()
     }
 
-    /// How many bytes are read, or written to `out`.
+    /// How many bytes are read, or written to `out`, or the number that is found.
     fn make(&self, operation: &str, bytes: &[u8], out: &mut [u8]) -> i64 {
+        if let Some(task) = self.task(operation) {
+            return unsafe { task(bytes.as_ptr(), bytes.len(), out.as_mut_ptr(), out.len()) };
+        }
         match (operation, self.json) {
             ("write", _) => self.writes(bytes, out, 1),
             ("to-json", Some(json)) => json[0](bytes, out),
@@ -207,6 +232,9 @@ impl Side {
 
     /// The nanoseconds of that many calls. Of writing, one reading is taken off.
     fn time(&self, operation: &str, bytes: &[u8], out: &mut [u8], times: u64) -> u64 {
+        if let Some(task) = self.task(operation) {
+            return repeated(times, || unsafe { task(black_box(bytes).as_ptr(), bytes.len(), out.as_mut_ptr(), out.len()) });
+        }
         match (operation, self.json) {
             ("write", _) => {
                 let reading = (0..3).map(|_| repeated(1, || self.writes(bytes, out, 0))).min().unwrap_or(0);
@@ -280,7 +308,7 @@ fn serve() {
             }
             "make" => {
                 let count = side().make(operation, &input, &mut out);
-                let made = if operation == "read" { 0 } else { count.max(0) as usize };
+                let made = if matches!(operation, "read" | "deaths") { 0 } else { count.max(0) as usize };
                 std::fs::write(words[2], &out[..made]).expect("a file");
                 println!("{count}");
             }

@@ -51,11 +51,15 @@ def death(count, reason, queue, exchange, key, time):
             "exchange": text(exchange), "routing-keys": [text(key)]}  # fmt: skip
 
 
+# The count of the first death in the message headers.
+FIRST_COUNT = 3
+
+
 def message_headers():
     dice = random.Random(2)
     return {
         "x-death": [
-            death(3, "rejected", "orders.work", "orders", "orders.created", 1700000300),
+            death(FIRST_COUNT, "rejected", "orders.work", "orders", "orders.created", 1700000300),
             death(2, "expired", "orders.retry.30s", "orders.retry", "orders.created", 1700000200),
             death(1, "maxlen", "orders.inbox", "", "orders.inbox", 1700000100),
         ],
@@ -74,6 +78,10 @@ def server_properties():
         "information": text("Licensed under the MPL 2.0. Website: https://rabbitmq.com"),
         "platform": text("Erlang/OTP 25.2.3"), "product": text("RabbitMQ"), "version": text("3.10.8"),
     }  # fmt: skip
+
+
+def queue_arguments():
+    return encoded({"x-max-length": number("I", 10_000), "x-queue-type": text("quorum")}, False)
 
 
 def entries(count, at_random=True):
