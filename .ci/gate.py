@@ -64,6 +64,10 @@ def gate(name, words):
     with Steps(name) as steps:
         copy = steps.folder / "copy"
         copy_repository(copy, left_out)
+        if not tries_all:
+            # tried with the mutants, in fewer checks, and carried over as they are
+            for it in copy.glob("crates/*/must-fail"):
+                shutil.rmtree(it)
         scripts = copy / ".ci"
         proved = steps.add("rt ci", ["rt", "ci", *["--anew"] * tries_all], cwd=copy, tells=r"(?<=^rt: )\w+(: its tests)? (proved|NOT PROVED|ran|is kept)\b|: NOT REFUSED|BAD EDIT")
         words = {
@@ -76,7 +80,7 @@ def gate(name, words):
             "c": ([scripts / "c", "--built"], (proved,)),
             "counts": ([scripts / "counts", "--built"], (proved,)),
             "broker": ([scripts / "broker", "--built", "--tables", TABLES[name]], (proved,)),
-            "mutants": ([scripts / "mutants", "--built", "--record", TOP / KEYS, *["--all"] * tries_all], (proved,)),
+            "mutants": ([scripts / "mutants", "--built", "--must-fail", TOP, "--record", TOP / KEYS, *["--all"] * tries_all], (proved,)),
         }
         if tries_all:
             # rt ci has run the tests and the stored runs
