@@ -9,7 +9,7 @@ import sys
 
 from clients import PYTHON
 from crates import TOP, said_by
-from lib import TEST_CRATES, Steps, copy_repository
+from lib import TEST_CRATES, Steps, copy_repository, leave_out_tests
 from rabbitmq import BIN
 
 # The kit that all of this is proved with.
@@ -65,9 +65,8 @@ def gate(name, words):
         copy = steps.folder / "copy"
         copy_repository(copy, left_out)
         if not tries_all:
-            # tried with the mutants, in fewer checks, and carried over as they are
-            for it in copy.glob("crates/*/must-fail"):
-                shutil.rmtree(it)
+            # .ci/test runs the tests; the mutants of must-fail/ are tried with the others, and carried over as they are
+            leave_out_tests(copy)
         scripts = copy / ".ci"
         proved = steps.add("rt ci", ["rt", "ci", *["--anew"] * tries_all], cwd=copy, tells=r"(?<=^rt: )\w+(: its tests)? (proved|NOT PROVED|ran|is kept)\b|: NOT REFUSED|BAD EDIT")
         words = {

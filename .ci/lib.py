@@ -28,6 +28,8 @@ TARGETS = {X86_64: "x86-64", AARCH64: "generic"}
 COMPILERS = {X86_64: ("cc", "ar"), AARCH64: ("aarch64-linux-gnu-gcc", "aarch64-linux-gnu-ar")}
 # What those that allocate ask for, over malloc, realloc and free.
 MALLOC = TOP / "crates/amqp_c_alloc/malloc.c"
+# How a crate declares its tests.
+TESTS = "#[cfg(test)]\nmod tests;\n"
 # The folders of a crate that its library is made of.
 SOURCES = ("src", "specs", "proofs")
 
@@ -41,6 +43,18 @@ def copy_repository(to, without=()):
             shutil.copy2(TOP / name, to / name)
     lines = (TOP / "crates.txt").read_text().splitlines(True)
     (to / "crates.txt").write_text("".join(it for it in lines if it.partition(":")[0].partition(" ")[0] not in without))
+
+
+def leave_out_tests(folder):
+    """Takes the tests of other crates, and must-fail/, out of a copy, for `rt ci`."""
+    for root in [*folder.glob("crates/*/src/lib.rt"), *folder.glob("crates/*/src/main.rt")]:
+        text = root.read_text()
+        if TESTS in text:
+            root.write_text(text.replace(TESTS, ""))
+            (root.parent / "tests.rt").unlink()
+            shutil.rmtree(root.parent / "tests", ignore_errors=True)
+    for edits in folder.glob("crates/*/must-fail"):
+        shutil.rmtree(edits)
 
 
 def is_up_to_date(built, crates, name, parts):

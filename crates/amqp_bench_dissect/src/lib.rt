@@ -8,6 +8,9 @@ ghost use Rattle.std.specs.Prelude.{◌≡◌, ◌<◌, ◌≤◌, ◌^◌, leng
 ghost use Rattle.amqp_bench_dissect.specs.Dissected.{widest, IsDissectedTo, answer_of, Answers};
 ghost use Rattle.amqp_dissect.specs.Memory.{TakesMemory};
 
+#[cfg(test)]
+mod tests;
+
 use amqp_dissect::dissect;
 use amqp_parsing::Limits;
 use std::alloc::Global;
@@ -44,11 +47,4 @@ fn answer(done: Option<usize>) -> i64
         Some(n) => n as i64,
         None => -3,
     }
-}
-
-#[test]
-fn dissects_a_value(rt: HostRuntime) {
-    assert_eq!(rt; amqp_bench_dissect(rt.alloc(), b"F\0\0\0\x03\x01-Vz"), 8);
-    assert_eq!(rt; amqp_bench_dissect(rt.alloc(), b"F\0\0\0\x03\x01-z"), 7);
-    assert_eq!(rt; amqp_bench_dissect(rt.alloc(), b"z"), 0);
 }
