@@ -68,10 +68,24 @@ def archive(crates, name, target=X86_64):
     return crates.folder(name) / f"out/{target}/lib{name}.a"
 
 
+def prove_below(crates, name):
+    """Puts the libraries below a crate at their places: as `rt ci` has kept them on this machine, or proved now."""
+    needed = crates.needed(name)[:-1]
+    with tempfile.TemporaryDirectory() as folder:
+        copy = Path(folder) / "copy"
+        copy_repository(copy, [it for it in crates.below if it not in needed])
+        leave_out_tests(copy)
+        done = subprocess.run(["rt", "ci"], cwd=copy, capture_output=True, text=True)
+        for it in () if done.returncode else needed:
+            shutil.rmtree(crates.library(it), ignore_errors=True)
+            shutil.copytree(Crates(copy).library(it), crates.library(it))
+    return done
+
+
 def build_archive(crates, name, is_built, target=X86_64):
     """Builds a crate's static library, unless it is newer than what it is made of; one script at a time does so.
 
-    It proves the crate, over libraries that it has proved first or, if is_built, over those that `rt ci` has left.
+    It proves the crate, over libraries that were proved before or, if is_built, that `rt ci` has left here.
     """
     folder, path = crates.folder(name), archive(crates, name, target)
     path.parent.mkdir(parents=True, exist_ok=True)
@@ -80,10 +94,9 @@ def build_archive(crates, name, is_built, target=X86_64):
         fcntl.flock(lock, fcntl.LOCK_EX)
         libraries = [crates.library(it) for it in crates.needed(name)[:-1]]
         if not is_built and not is_up_to_date(path, crates, name, SOURCES):
-            for it in crates.below[name]:
-                done = subprocess.run(["rt", "lib"], cwd=crates.folder(it), capture_output=True, text=True)
-                if done.returncode:
-                    return done
+            done = prove_below(crates, name)
+            if done.returncode:
+                return done
         is_newer = lambda it: it.exists() and it.stat().st_mtime <= path.stat().st_mtime
         if is_up_to_date(path, crates, name, SOURCES) and (not is_built or all(map(is_newer, libraries))):
             words = ["true"]
