@@ -15,7 +15,7 @@ import time
 from contextlib import suppress
 from pathlib import Path
 
-from crates import TOP, kit, said_by
+from crates import TOP, Crates, kit, said_by
 
 # The crates that have nothing but tests: .ci/test runs them, but for the last, and .ci/whole proves them too.
 TEST_CRATES = ("test_values", "test_readers", "test_large")
