@@ -50,7 +50,8 @@ def leave_out_tests(folder):
     for root in [*folder.glob("crates/*/src/lib.rt"), *folder.glob("crates/*/src/main.rt")]:
         text = root.read_text()
         if TESTS in text:
-            root.write_text(text.replace(TESTS, ""))
+            # (without two empty lines, as rt wants it)
+            root.write_text(text.replace(TESTS, "").replace("\n\n\n", "\n\n"))
             (root.parent / "tests.rt").unlink()
             shutil.rmtree(root.parent / "tests", ignore_errors=True)
     for edits in folder.glob("crates/*/must-fail"):
