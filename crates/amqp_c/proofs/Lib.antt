@@ -13,4 +13,5 @@ mod EntryIntegers
 mod Opened
 mod Putting
 mod Rooms
+mod Keys
 pub mod Needs

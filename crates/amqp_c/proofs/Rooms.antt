@@ -1,6 +1,8 @@
 -- Buffers that are written to.
-use Rattle.std.proofs.Common.{◌≡◌, ◌+◌, ◌-◌, ◌≤◌, ℕ, List, ◌++◌, length, take, drop, refl, sym, ap, ap₂, ◌∙◌, arith, append_assoc, length-append}
-use Rattle.std.proofs.lemmas.List.{take_at, drop_at, drop-drop, length-take-le}
+use Rattle.std.proofs.Common.{◌≡◌, ◌+◌, ◌-◌, ◌≤◌, ℕ, List, [], ◌++◌, length, take, drop, refl, sym, ap, ap₂, ◌∙◌, arith, append_assoc, append-nil, length-append, length-drop}
+use Rattle.std.proofs.lemmas.List.{take_at, drop_at, drop-drop, length-take-le, take-append-drop, take-append-le, take_all, drop_all}
+use Rattle.std.proofs.lemmas.Slice.{drop-append-drop}
+use borrow.Rule.Slice.PartMut.{put_mid}
 use Rattle.std.proofs.lemmas.Bool.{ne_eqb}
 use Rattle.amqp_c.specs.declared.container.Container.{Container}
 use Rattle.amqp_c.specs.Containers.{IsPlace, named, end_of, entry_of, end_with, up_to}
@@ -24,6 +26,52 @@ with_bytes-join at next a b room e fits =
     ap₂ (λ (p q : List ℕ). p ++ (b ++ q)) before behind
     ∙ (append_assoc front a (b ++ drop (at + length (a ++ b)) room)
     ∙ ap (λ (t : List ℕ). front ++ t) (sym (append_assoc a b (drop (at + length (a ++ b)) room))))
+
+-- bytes that are written over no more than they are, are written as if those weren't
+over : (at : ℕ) (a b room : List ℕ) → at ≤ length room → length a ≤ length b → with_bytes at b (with_bytes at a room) ≡ with_bytes at b room
+over at a b room fits few =
+    let rest = drop (at + length a) room in
+    let before : take at (take at room ++ (a ++ rest)) ≡ take at room = take_at (take at room) (a ++ rest) at (length-take-le at room fits) in
+    let behind : drop (at + length b) (take at room ++ (a ++ rest)) ≡ drop (at + length b) room =
+    ap (drop (at + length b)) (sym (append_assoc (take at room) a rest))
+    ∙ drop-append-drop (at + length a) room (take at room ++ a) (at + length b) (omega (arith, few)) (omega (arith, length-append (take at room) a, length-take-le at room fits)) in
+    ap₂ (λ (p q : List ℕ). p ++ (b ++ q)) before behind
+
+length-with_bytes : (at : ℕ) (b room : List ℕ) → at + length b ≤ length room → length (with_bytes at b room) ≡ length room
+length-with_bytes at b room fits =
+    omega (arith, fits, length-append (take at room) (b ++ drop (at + length b) room), length-append b (drop (at + length b) room), length-take-le at room (omega (arith, fits)), length-drop (at + length b) room)
+
+-- the first k bytes and the last k, which are all of them, are written as these
+pub with_bytes-ends : (k n at last : ℕ) (b room : List ℕ) → n ≡ length b → k ≤ n → n ≤ k + k → at + n ≤ length room → last ≡ at + n - k
+    → with_bytes last (drop (n - k) b) (with_bytes at (take k b) room) ≡ with_bytes at b room
+with_bytes-ends k n at last b room counted least most fits is =
+    let m = n - k in
+    let mid = drop m (take k b) in
+    let one = with_bytes at (take m b) room in
+    let size : length (take m b) ≡ m = length-take-le m b (omega (arith, counted)) in
+    let here : last ≡ at + length (take m b) = omega (arith, size, is, least) in
+    let firsts : length (take k b) ≡ k = length-take-le k b (omega (arith, counted, least)) in
+    let same : take m (take k b) ≡ take m b =
+    sym (take-append-le m (take k b) (drop k b) (omega (arith, firsts, most))) ∙ ap (take m) (take-append-drop k b) in
+    let split : take m b ++ mid ≡ take k b = ap (λ (t : List ℕ). t ++ mid) (sym same) ∙ take-append-drop m (take k b) in
+    let apart : with_bytes at (take k b) room ≡ with_bytes last mid one =
+    ap (λ (t : List ℕ). with_bytes at t room) (sym split) ∙ sym (with_bytes-join at last (take m b) mid room here (omega (arith, is, fits, least))) in
+    let whole : length one ≡ length room = length-with_bytes at (take m b) room (omega (arith, size, fits)) in
+    ap (with_bytes last (drop m b)) apart
+    ∙ (over last mid (drop m b) one (omega (arith, whole, is, fits)) (omega (arith, length-drop m (take k b), firsts, length-drop m b, counted, least, most))
+    ∙ (with_bytes-join at last (take m b) (drop m b) room here (omega (arith, is, fits, least))
+    ∙ ap (λ (t : List ℕ). with_bytes at t room) (take-append-drop m b)))
+
+-- what is written at the start of the rest of a buffer is written there
+pub written_behind : (at : ℕ) (b room rest : List ℕ) → at + length b ≤ length room → rest ≡ with_bytes 0 b (take (length room - at) (drop at room))
+    → put_mid at (length room - at) room rest ≡ with_bytes at b room
+written_behind at b room rest fits is =
+    let n = length room - at in
+    let all : take n (drop at room) ≡ drop at room = take_all n (drop at room) (omega (arith, length-drop at room)) in
+    let none : drop n (drop at room) ≡ [] = drop_all n (drop at room) (omega (arith, length-drop at room)) in
+    let same : rest ≡ b ++ drop (at + length b) room =
+    is ∙ ap (λ (t : List ℕ). b ++ t) (ap (drop (0 + length b)) all ∙ (drop-drop (0 + length b) at room ∙ ap (λ (m : ℕ). drop m room) (omega arith))) in
+    ap (λ (t : List ℕ). take at room ++ t) (ap (λ (t : List ℕ). rest ++ t) none ∙ (append-nil rest ∙ same))
 
 -- how many bytes are before the value of an entry
 pub named_table : (tag : ℕ) (k : List ℕ) → tag ≡ 70 → length (named tag k) ≡ 1 + length k

@@ -3,10 +3,9 @@
 ghost use Rattle.std.specs.Prelude.{◌≡◌, ◌≤◌, ◌<◌, ◌^◌, ℕ, List, length, MatchBool, MatchResult};
 ghost use Rattle.amqp_c.specs.Containers.{IsContainerTag, IsKeyOf, IsPlace, named, end_of, up_to, empty_at};
 ghost use Rattle.amqp_c.specs.Faults.{RefusesPlace};
-ghost use Rattle.std.specs.Str.{IsUtf8};
 
+use crate::key::is_short_string;
 use amqp_c_common::{Fault, Span};
-use std::str;
 
 /// An array or a table that is being put together.
 #[repr(C)]
@@ -23,15 +22,6 @@ pub fn is_container_tag(tag: u8) -> bool
     ensures { MatchBool result (IsContainerTag tag) (IsContainerTag tag → ⊥) }
 {
     tag == b'A' || tag == b'F'
-}
-
-/// Whether the bytes are UTF-8, of bytes that aren't ASCII.
-#[cold]
-#[inline(never)]
-fn is_utf8(bytes: &[u8]) -> bool
-    ensures { MatchBool result (IsUtf8 bytes.now) (IsUtf8 bytes.now → ⊥) }
-{
-    str::from_utf8(bytes).is_ok()
 }
 
 impl Container {
@@ -70,13 +60,12 @@ impl Container {
 
     /// Whether an entry may have this key: in an array no key, in a table each short string.
     #[inline(always)]
-    #[tactic(auto, using(amqp_parsing::proofs::ParsingLaws::ascii_is_utf8))]
     fn has_key(self, key: &[u8]) -> bool
         ensures { MatchBool result (IsKeyOf self key.now) (IsKeyOf self key.now → ⊥) }
     {
         match self.tag {
             b'A' => key.is_empty(),
-            b'F' => key.len() <= 255 && (key.is_ascii() || is_utf8(key)),
+            b'F' => is_short_string(key),
             _ => false,
         }
     }

@@ -21,6 +21,7 @@ mod cursor;
 mod entry;
 mod getter;
 mod integers;
+mod key;
 mod lookup;
 mod measure;
 mod needed;

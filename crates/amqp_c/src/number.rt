@@ -47,6 +47,15 @@ impl Encoding {
         }
     }
 
+    /// How many bytes it has.
+    #[inline(always)]
+    pub fn len(&self) -> usize
+        ensures len { result ≡ length self.now }
+        ensures few { result ≤ 9 }
+    {
+        1 + self.length
+    }
+
     /// Its type tag, and eight bytes that begin with its payload, with how many that has.
     #[inline(always)]
     pub fn parts(&self) -> (u8, [u8; 8], usize)
@@ -109,24 +118,31 @@ fn encoding_by_tag(tag: u8, bits: u64, scale: u8) -> Option<Encoding>
         ((x : Scalar) → Tells tag bits scale x → ⊥)
         (λ e. (x : Scalar) × Tells tag bits scale x × (e ≡ text (scalar x))) }
 {
+    if scale != 0 {
+        // of all types only a decimal has a scale
+        return if tag == b'D' {
+            decimal(bits, scale)
+        } else {
+            None
+        };
+    }
     let amqp_type = AMQPType::from_id(tag as char)?;
     // `U` and `L` are alternate tags, which no entry has
     if amqp_type.get_id() as u8 != tag {
         return None;
     }
-    encoding_by_type(amqp_type, bits, scale)
+    encoding_by_type(amqp_type, bits)
 }
 
-/// The encoding of the value of this type that the bits and the scale determine.
+/// The encoding of the value of this type that the bits determine, with a scale of 0.
 #[inline(always)]
-fn encoding_by_type(amqp_type: AMQPType, bits: u64, scale: u8) -> Option<Encoding>
+fn encoding_by_type(amqp_type: AMQPType, bits: u64) -> Option<Encoding>
     ensures { MatchOption result
-        ((x : Scalar) → TellsOf amqp_type bits scale x → ⊥)
-        (λ e. (x : Scalar) × TellsOf amqp_type bits scale x × (e ≡ text (scalar x))) }
+        ((x : Scalar) → TellsOf amqp_type bits 0 x → ⊥)
+        (λ e. (x : Scalar) × TellsOf amqp_type bits 0 x × (e ≡ text (scalar x))) }
 {
     match amqp_type {
-        AMQPType::DecimalValue => decimal(bits, scale),
-        _ if scale != 0 => None,
+        AMQPType::DecimalValue => decimal(bits, 0),
         AMQPType::Boolean => boolean(bits),
         AMQPType::ShortShortInt => {
             let n = i8::try_from(bits.cast_signed()).ok()?;

@@ -49,10 +49,10 @@ pub fn append(
     Ok(into.up_to(at + count))
 }
 
-/// Writes the bytes from `at` on, as `write` does. Up to 16, as most keys and all numbers have, are
-/// moved, which takes less than a call of `memcpy`.
+/// Writes the bytes from `at` on, as `write` does. Up to 16, as all numbers have, are moved, which takes
+/// less than a call of `memcpy`.
 #[inline(always)]
-fn write_few(room: &mut [u8], at: usize, bytes: &[u8])
+pub fn write_few(room: &mut [u8], at: usize, bytes: &[u8])
     requires { at + length bytes.now ≤ length room.old }
     ensures { room.new ≡ with_bytes at bytes.now room.old }
 {
@@ -77,15 +77,68 @@ fn write_few(room: &mut [u8], at: usize, bytes: &[u8])
     }
 }
 
+/// The same, up to 32, of bytes that the caller passed: two moves, after few branches.
+#[inline(always)]
+pub fn write_bytes(room: &mut [u8], at: usize, bytes: &[u8])
+    requires { at + length bytes.now ≤ length room.old }
+    ensures { room.new ≡ with_bytes at bytes.now room.old }
+{
+    let count = bytes.len();
+    if count >= 8 {
+        if count <= 16 {
+            write_ends::<8>(room, at, bytes);
+        } else if count <= 32 {
+            write_ends::<16>(room, at, bytes);
+        } else {
+            write_long(room, at, bytes);
+        }
+    } else if count >= 4 {
+        write_ends::<4>(room, at, bytes);
+    } else if count >= 2 {
+        write_ends::<2>(room, at, bytes);
+    } else if count == 1 {
+        write_ends::<1>(room, at, bytes);
+    }
+}
+
+/// The same, out of line.
+#[inline(never)]
+fn write_long(room: &mut [u8], at: usize, bytes: &[u8])
+    requires { at + length bytes.now ≤ length room.old }
+    ensures { room.new ≡ with_bytes at bytes.now room.old }
+{
+    write(room, at, bytes);
+}
+
+/// Writes N to 2 * N bytes: the first N and the last N, which may overlap.
+#[inline(always)]
+fn write_ends<const N: usize>(room: &mut [u8], at: usize, bytes: &[u8])
+    requires fits { at + length bytes.now ≤ length room.old }
+    requires least { N ≤ length bytes.now }
+    requires most { length bytes.now ≤ N + N }
+    ensures { room.new ≡ with_bytes at bytes.now room.old }
+{
+    let Some(first) = bytes.first_chunk::<N>() else {
+        unreachable!()
+    };
+    let Some(last) = bytes.last_chunk::<N>() else {
+        unreachable!()
+    };
+    // Both are read before one is written: so they stay in registers.
+    let (first, last) = (*first, *last);
+    write(room, at, &first);
+    write(room, at + bytes.len() - N, &last);
+}
+
 /// Writes what is before the value of an entry: in a table the key, after its length.
 #[inline(always)]
-fn write_name(room: &mut [u8], at: usize, tag: u8, key: &[u8])
+pub fn write_name(room: &mut [u8], at: usize, tag: u8, key: &[u8])
     requires few { length key.now ≤ 255 }
     requires room { at + length (named tag key.now) ≤ length room.old }
     ensures { room.new ≡ with_bytes at (named tag key.now) room.old }
 {
     if tag == b'F' {
         write(room, at, &[key.len() as u8]);
-        write_few(room, at + 1, key);
+        write_bytes(room, at + 1, key);
     }
 }

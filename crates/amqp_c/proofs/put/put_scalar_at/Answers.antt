@@ -1,4 +1,4 @@
-use Rattle.std.proofs.Common.{◌∷◌, take, refl, ◌∙◌}
+use Rattle.std.proofs.Common.{◌∷◌, take, ◌∙◌}
 use Rattle.amqp_grammar.specs.Values.{Scalar, scalar}
 use Rattle.amqp_c.specs.BuiltEntries.{Tells, IsScalarTag, IsTold}
 use Rattle.amqp_c.specs.Faults.{NoOther}

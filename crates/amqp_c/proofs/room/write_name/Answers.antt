@@ -8,7 +8,7 @@ returns-then-tag-eq70 c =
     let at = c.args.at in
     let k = c.args.key.now in
     let old = c.args.room.now in
-    c.write_few.ensures
+    c.write_bytes.ensures
     ∙ (ap (λ (r : List ℕ). with_bytes (at + 1) k r) c.write.ensures
     ∙ (with_bytes-join at (at + 1) (length k ∷ []) k old (omega arith) (omega (arith, c.requires.room, simp c.if-tag-eq70.true at c.requires.room))
     ∙ rw c.if-tag-eq70.true refl))

@@ -1,0 +1,53 @@
+//! Whether bytes can be a key.
+
+ghost use Rattle.std.specs.Prelude.{◌≡◌, true, MatchBool};
+ghost use Rattle.amqp_types.specs.Strings.{IsShort};
+ghost use Rattle.std.specs.Str.{IsAscii, IsUtf8};
+
+use std::str;
+
+/// Whether the bytes are a short string, as each key of a table is.
+#[inline(always)]
+#[tactic(auto, using(amqp_parsing::proofs::ParsingLaws::ascii_is_utf8))]
+pub fn is_short_string(bytes: &[u8]) -> bool
+    ensures { MatchBool result (IsShort bytes.now) (IsShort bytes.now → ⊥) }
+{
+    bytes.len() <= 255 && (is_ascii(bytes) || is_utf8(bytes))
+}
+
+/// Whether the bytes are ASCII: 8 to 16, as most keys have, by the high bits of two words, which may overlap.
+#[inline(always)]
+fn is_ascii(bytes: &[u8]) -> bool
+    ensures { result ≡ true → IsAscii bytes.now }
+{
+    if bytes.len() < 8 {
+        return bytes.is_ascii();
+    }
+    let Some(first) = bytes.first_chunk::<8>() else {
+        unreachable!()
+    };
+    let Some(last) = bytes.last_chunk::<8>() else {
+        unreachable!()
+    };
+    if bytes.len() <= 16 {
+        return has_no_high_bit(first) && has_no_high_bit(last);
+    }
+    bytes.is_ascii()
+}
+
+/// Whether none of eight bytes has its high bit set.
+#[inline(always)]
+fn has_no_high_bit(eight: &[u8; 8]) -> bool
+    ensures { result ≡ true → IsAscii eight.now }
+{
+    u64::from_le_bytes(*eight) & 0x8080_8080_8080_8080 == 0
+}
+
+/// Whether the bytes are UTF-8, of bytes that aren't ASCII.
+#[cold]
+#[inline(never)]
+fn is_utf8(bytes: &[u8]) -> bool
+    ensures { MatchBool result (IsUtf8 bytes.now) (IsUtf8 bytes.now → ⊥) }
+{
+    str::from_utf8(bytes).is_ok()
+}
