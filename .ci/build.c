@@ -126,6 +126,8 @@ static size_t model_scalar(uint8_t *bytes, uint8_t tag, uint64_t bits, uint8_t s
 
 /* ---- the library next to it */
 
+static const amqpv_container whole = {{0, 0}, AMQPV_ARRAY};
+
 /* A container between bytes that no call may write. */
 typedef struct held {
     uint64_t before;
@@ -281,11 +283,48 @@ static int32_t close_in(amqpv_container *into, const amqpv_container *body) {
     return check(&all, *into, amqpv_close(room, room_length, &all.it, body), right);
 }
 
+/* A table that is written at once: of the pairs the first that can't be written decides, and then the buffer's size. */
+static int32_t write_table(const amqpv_pair *pairs, size_t pair_count) {
+    static uint8_t wanted[64 * MOST];
+    size_t at = 4, count = 77;
+    int32_t right = AMQPV_OK;
+    for (size_t i = 0; i < pair_count && right == AMQPV_OK; i++) {
+        const amqpv_pair *it = &pairs[i];
+        uint8_t bytes[16];
+        size_t length = model_scalar(bytes, it->tag, it->bits, it->scale);
+        int is_string = it->tag == AMQPV_LONG_STRING || it->tag == AMQPV_BYTE_ARRAY;
+        if (!takes_key(AMQPV_TABLE, (slice){(const uint8_t *)it->key, it->key_length})) {
+            right = AMQPV_BAD_KEY;
+        } else if (!is_string && length == 0) {
+            right = is_scalar_tag(it->tag) ? AMQPV_OUT_OF_RANGE : AMQPV_BAD_TAG;
+        } else {
+            wanted[at] = (uint8_t)it->key_length;
+            memcpy(wanted + at + 1, it->key, it->key_length);
+            at += 1 + it->key_length;
+            bytes[0] = it->tag;
+            length = is_string ? 1 + big_endian(bytes + 1, 4, it->length) : length;
+            memcpy(wanted + at, bytes, length);
+            at += length;
+            if (is_string) {
+                memcpy(wanted + at, it->bytes, it->length);
+                at += it->length;
+            }
+        }
+    }
+    big_endian(wanted, 4, at - 4);
+    right = right == AMQPV_OK && at > room_length ? AMQPV_NO_ROOM : right;
+    memcpy(model, wanted, right == AMQPV_OK ? at : 0);
+    held all = {SPARE, whole, SPARE};
+    int32_t answer = check(&all, whole, amqpv_write_table(pairs, pair_count, room, room_length, &count), right);
+    CHECK(count == (right == AMQPV_OK || right == AMQPV_NO_ROOM ? at : 0));
+    return answer;
+}
+
 /* ---- what is tried */
 
 static const slice none = SLICE(""), k = SLICE("k");
 
-static const amqpv_container whole = {{0, 0}, AMQPV_ARRAY}, table_of_none = {{0, 0}, AMQPV_TABLE};
+static const amqpv_container table_of_none = {{0, 0}, AMQPV_TABLE};
 
 static const uint64_t numbers[] = {
     0, 1, 2, 127, 128, 255, 256, 32767, 32768, 65535, 65536, 2147483647, 2147483648u, 4294967295u, 4294967296u,
@@ -338,6 +377,11 @@ static void try_types(void) {
                 put(&array, none, (uint8_t)tag, numbers[i], (uint8_t)scale);
                 put(&table, k, (uint8_t)tag, numbers[i], (uint8_t)scale);
                 try_getters((uint8_t)tag, numbers[i], (uint8_t)scale);
+                const amqpv_pair pairs[] = {
+                    AMQPV_STRING_PAIR("text", "hi", 2), {"k", 1, "bytes", 5, numbers[i], (uint8_t)tag, (uint8_t)scale}, AMQPV_INT_PAIR("", 't', 1),
+                };
+                new_room(64, tag % 2);
+                write_table(pairs, COUNT(pairs));
             }
             amqpv_container array = whole, table = {{3, 0}, AMQPV_TABLE};
             new_room(40, tag % 2);
@@ -369,6 +413,8 @@ static void try_keys(void) {
             big_endian(key, length, n);
             new_room(8, n % 2);
             put(&table, (slice){key, length}, AMQPV_VOID, 0, 0);
+            new_room(9, n % 2);
+            write_table(&(amqpv_pair){(const char *)key, length, none.at, 0, 0, AMQPV_VOID, 0}, 1);
         }
     }
     for (size_t i = 0; i < COUNT(others); i++) {
@@ -377,6 +423,7 @@ static void try_keys(void) {
         put(&table, others[i], AMQPV_VOID, 0, 0);
         put_bytes(&table, others[i], AMQPV_LONG_STRING, none);
         open_in(&table, others[i], AMQPV_ARRAY, &body);
+        write_table(&(amqpv_pair){(const char *)others[i].at, others[i].length, none.at, 0, 0, AMQPV_LONG_STRING, 0}, 1);
     }
     memset(key, 'k', sizeof key);
     for (size_t length = 0; length <= sizeof key; length += length < 253 ? 11 : 1) {
@@ -385,6 +432,8 @@ static void try_keys(void) {
         put(&array, (slice){key, length}, AMQPV_BOOLEAN, 1, 0);
         new_room(400, 0);
         put(&table, (slice){key, length}, AMQPV_BOOLEAN, 1, 0);
+        new_room(600, 0);
+        write_table((amqpv_pair[]){{(char *)key, 255, none.at, 0, 1, AMQPV_BOOLEAN, 0}, {(char *)key, length, key, length, 0, AMQPV_BYTE_ARRAY, 0}}, 2);
     }
 }
 
@@ -429,6 +478,22 @@ static void try_rooms(void) {
             try_entries((amqpv_container){{0, before}, AMQPV_ARRAY}, none);
             new_room(length, (int)(before % 2));
             try_entries((amqpv_container){{0, before}, AMQPV_TABLE}, (slice)SLICE("key"));
+        }
+    }
+}
+
+/* Tables of a few pairs in buffers of every size: they stay unchanged if the last pair can't be written. */
+static void try_tables(void) {
+    const amqpv_pair pairs[] = {
+        AMQPV_INT_PAIR("x-max-length", AMQPV_LONG_INT, -2), AMQPV_STRING_PAIR("x-queue-type", "quorum", 6),
+        {"", 0, none.at, 0, 314, AMQPV_DECIMAL, 2}, {"key", 3, none.at, 0, 0, AMQPV_VOID, 0},
+        {"key", 3, "seventeen letters", 17, 1, AMQPV_BYTE_ARRAY, 1}, AMQPV_INT_PAIR("", AMQPV_TIMESTAMP, 258),
+        {"\x80", 1, none.at, 0, 0, AMQPV_VOID, 0},
+    };
+    for (size_t length = 0; length <= 120; length++) {
+        for (size_t count = 0; count <= COUNT(pairs); count++) {
+            new_room(length, (int)(count % 2));
+            write_table(pairs, count);
         }
     }
 }
@@ -490,7 +555,18 @@ static void try_large(void) {
         CHECK(amqpv_put_bytes(room, room_length, &old, none.at, 0, AMQPV_BYTE_ARRAY, bytes, length)
               == (is_too_large ? AMQPV_TOO_LARGE : AMQPV_NO_ROOM));
         CHECK(old.written.length == 0 && memcmp(room, model, room_length) == 0);
-        calls += 3;
+        /* a string, and then a body, of that many bytes: each pair has nine more than its string */
+        amqpv_pair pairs[] = {AMQPV_STRING_PAIR("key", (char *)bytes, length), AMQPV_INT_PAIR("", 0, 0)};
+        size_t count = 77;
+        CHECK(amqpv_write_table(pairs, 1, room, room_length, &count) == AMQPV_TOO_LARGE && count == 0);
+        pairs[0].length -= 9;
+        CHECK(amqpv_write_table(pairs, 1, room, room_length, &count) == (is_too_large ? AMQPV_TOO_LARGE : AMQPV_NO_ROOM));
+        CHECK(count == (is_too_large ? 0 : length + 4));
+        CHECK(amqpv_write_table(pairs, 2, room, room_length, &count) == (is_too_large ? AMQPV_TOO_LARGE : AMQPV_BAD_TAG) && count == 0);
+        pairs[1] = pairs[0], pairs[1].length = length / 2, pairs[0].length = length - 18 - length / 2;
+        CHECK(amqpv_write_table(pairs, 2, room, room_length, &count) == (is_too_large ? AMQPV_TOO_LARGE : AMQPV_NO_ROOM));
+        CHECK(memcmp(room, model, room_length) == 0);
+        calls += 7;
     }
     munmap(bytes, large);
 }
@@ -613,6 +689,7 @@ int main(void) {
     try_types();
     try_keys();
     try_rooms();
+    try_tables();
     try_needed();
     for (size_t length = 0; length <= 12; length++) {
         try_corrupt(length);

@@ -35,9 +35,10 @@ static uint8_t *bytes, *buffer;
 static char *json, *text;
 static size_t length, text_length, entry_count, last_index;
 static amqpv_entry value, entries[MOST_ENTRIES];
+static amqpv_pair pairs[MOST_ENTRIES];
 static amqpv_cursor start;
 static amqpv_span first_key, last_key;
-static int has_json, has_index;
+static int has_json, has_index, is_flat;
 static uint64_t requests, requested, held, most, moved;
 
 void *__real_realloc(void *block, size_t size);
@@ -298,6 +299,16 @@ static int builds(void) {
     return amqpv_close(buffer, MOST, &top, &body) == AMQPV_OK && is_rebuilt(&top);
 }
 
+/* Writes a table that has no containers again, at once. */
+static int writes_table(void) {
+    size_t count;
+    if (!is_flat) {
+        return SKIPPED;
+    }
+    amqpv_result result = amqpv_write_table(pairs, entry_count, buffer, MOST, &count);
+    return result == AMQPV_OK && count + 1 == length && (RUNNING_ON_VALGRIND || memcmp(buffer, bytes + 1, count) == 0);
+}
+
 static int canonicalizes(void) {
     size_t count;
     return amqpv_canonical(bytes, length, UINT32_MAX, DEPTH, buffer, MOST, &count) == AMQPV_OK;
@@ -386,6 +397,7 @@ static const struct {
     {"amqpv_needed of all entries", asks_for_room},
     {"amqpv_put of all entries", builds},
     {"amqpv_put_int and others of all values", rebuilds},
+    {"amqpv_write_table", writes_table},
     {"amqpv_canonical", canonicalizes},
     {"amqpv_to_json", writes_json},
     {"amqpv_from_json", reads_json},
@@ -456,6 +468,13 @@ static void try_input(const char *name) {
     for (last_index = 0; has_index && amqpv_next(bytes, length, &cursor, &entry) == AMQPV_OK; last_index++) {
     }
     has_index = last_index-- > 0;
+    is_flat = 1;
+    for (size_t i = 0; i < entry_count; i++) {
+        const amqpv_entry *it = &entries[i];
+        const uint8_t *key = bytes + it->key.offset, *content = bytes + it->content.offset;
+        pairs[i] = (amqpv_pair){(const char *)key, it->key.length, content, it->content.length, it->bits, it->tag, it->scale};
+        is_flat = is_flat && it->tag != AMQPV_ARRAY && it->tag != AMQPV_TABLE;
+    }
     has_json = amqpv_to_json(bytes, length, UINT32_MAX, AMQPV_JSON_NESTING - 2, text, 4 * MOST, &text_length) == AMQPV_OK;
     for (size_t i = 0; i < sizeof calls / sizeof *calls; i++) {
         int (*call)(void) = calls[i].call;

@@ -1,5 +1,5 @@
 /*
- * Tries NULL with a length of 0: each call of include/amqp_values.h gets it for bytes, JSON, a key, steps and a buffer, and
+ * Tries NULL with a length of 0: each call of include/amqp_values.h gets it for bytes, JSON, a key, steps, pairs and a buffer, and
  * must return and leave what it does with a pointer to no bytes. Prints how many trials there were. That NULL is allowed
  * isn't proved: the proofs are of pointers to something.
  */
@@ -90,7 +90,8 @@ static left fresh(amqpv_cursor cursor, uint8_t into) {
             /* a buffer of no bytes, too */                                                            \
             uint8_t *buffer = is_null ? NULL : no_room + sizeof no_room;                               \
             amqpv_step step = {text, 0, 0, AMQPV_TABLE}, by_index = {text, 0, 0, AMQPV_ARRAY};         \
-            (void)bytes, (void)text, (void)buffer, (void)step, (void)by_index;                         \
+            amqpv_pair pair = {text, 0, bytes, 0, 0, AMQPV_LONG_STRING, 0};                            \
+            (void)bytes, (void)text, (void)buffer, (void)step, (void)by_index, (void)pair;             \
             all->result = call;                                                                        \
         }                                                                                              \
         CHECK(with_none.result == (wanted));                                                           \
@@ -152,6 +153,10 @@ static void try_building(void) {
         TRY(AMQPV_NO_ROOM, pairs, tag, amqpv_open(buffer, 0, &all->into, text, 0, AMQPV_ARRAY, &all->body));
     }
     TRY(AMQPV_OK, pairs, 'F', amqpv_put_bytes(all->room, ROOM, &all->into, "k", 1, AMQPV_LONG_STRING, at, 0));
+    TRY(AMQPV_OK, pairs, 'A', amqpv_write_table(is_null ? NULL : &pair, 0, all->room, ROOM, &all->count));
+    TRY(AMQPV_OK, pairs, 'A', amqpv_write_table(&pair, 1, all->room, ROOM, &all->count));
+    TRY(AMQPV_NO_ROOM, pairs, 'A', amqpv_write_table(&pair, 1, buffer, 0, &all->count));
+    TRY(AMQPV_NO_ROOM, pairs, 'A', amqpv_write_table(is_null ? NULL : &pair, 0, buffer, 0, &all->count));
     amqpv_container body = {{5, 0}, AMQPV_TABLE};
     TRY(AMQPV_INVALID, pairs, 'A', amqpv_close(buffer, 0, &all->into, &body));
     body.written.offset = 0;

@@ -14,4 +14,5 @@ mod Opened
 mod Putting
 mod Rooms
 mod Keys
+mod Tables
 pub mod Needs

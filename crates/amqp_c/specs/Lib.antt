@@ -16,4 +16,6 @@ pub mod Growth
 pub mod Faults
 pub mod Getters
 pub mod BuildCalls
+pub mod Pairs
+pub mod WrittenTables
 pub mod Needs

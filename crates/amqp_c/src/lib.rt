@@ -13,6 +13,7 @@ ghost use Rattle.amqp_c_common.specs.Reading.{limits};
 ghost use Rattle.amqp_c.specs.Problems.{FindsBy, rules_of};
 ghost use Rattle.amqp_c.specs.BuildCalls.{PutsScalar, PutsBytes, PutsValue, Begins, Ends, PutsInt, PutsUint};
 ghost use Rattle.amqp_c.specs.BuiltEntries.{truth_bits};
+ghost use Rattle.amqp_c.specs.WrittenTables.{WritesTable};
 ghost use Rattle.amqp_c.specs.Getters.{GetsInt, GetsUint, GetsBool, GetsTimestamp, GetsDecimal};
 ghost use Rattle.amqp_c.specs.Calls.{Needs, ReadsValue, ReadsTable, MeasuresValue, MeasuresTable, Firsts, Enters, Steps, Finds, FindsFirst, FindsPath};
 
@@ -27,12 +28,14 @@ mod measure;
 mod needed;
 mod nest;
 mod number;
+mod pair;
 mod path;
 mod problem;
 mod put;
 mod read;
 mod room;
 mod store;
+mod table;
 
 use amqp_c_common::{Fault, return_count};
 use amqp_in_place::{first_problem, first_problem_in_table};
@@ -44,11 +47,13 @@ use getter::store_decimal;
 use integers::{put_int, put_uint, truth_bits};
 use measure::{Measure, measured_table, measured_value};
 use nest::{begin, end};
+use pair::Pair;
 use path::{EqualKeys, Step, find_path};
 use problem::{Problem, rules_of};
 use put::{put_bytes, put_scalar, put_value};
 use read::{read, read_table};
 use store::{store, store_found, store_measure, store_problem, store_read, store_step};
+use table::write_table;
 
 /// Reads the value at the start within limits, checks all of it, and returns its entry.
 /// docs/PROMISES.md has what a level of nesting takes of the stack.
@@ -398,6 +403,18 @@ pub extern "C" fn amqpv_close(room: &mut [u8], into: &mut Container, body: &Cont
     ensures { Ends room.old into.old body.now result room.new into.new }
 {
     store(end(room, *into, *body), into)
+}
+
+/// Writes the table of these pairs, in their order, without its type tag, to the start of the buffer.
+/// Of the pairs the first that can't be written decides what is returned; if none does, whether the
+/// buffer is large enough.
+///
+/// `count` becomes how many bytes were written, or which capacity is needed, otherwise 0.
+#[unsafe(no_mangle)]
+pub extern "C" fn amqpv_write_table(pairs: &[Pair<'_>], room: &mut [u8], count: &mut usize) -> i32
+    ensures { WritesTable pairs.now room.old result room.new count.new }
+{
+    return_count(write_table(room, pairs), count)
 }
 
 /// Returns how large a buffer has to be at least so that an entry can be put after what is written,

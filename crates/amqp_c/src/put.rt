@@ -91,7 +91,7 @@ pub fn put_bytes(
 
 /// What is before the bytes of a long string or a byte array.
 #[inline(always)]
-fn head_of(tag: u8, length: u32) -> [u8; 5]
+pub fn head_of(tag: u8, length: u32) -> [u8; 5]
     ensures { result ≡ tag ∷ to_be_bytes w32 length }
 {
     let mut head = [tag, 0, 0, 0, 0];
@@ -100,7 +100,7 @@ fn head_of(tag: u8, length: u32) -> [u8; 5]
 }
 
 /// Whether it is the type tag of a long string or a byte array.
-fn is_string_tag(tag: u8) -> bool
+pub fn is_string_tag(tag: u8) -> bool
     ensures { MatchBool result (IsStringTag tag) (IsStringTag tag → ⊥) }
 {
     tag == b'S' || tag == b'x'

@@ -1,0 +1,71 @@
+-- Pairs of a table that is written at once.
+use Rattle.std.specs.Prelude.{ℕ, ◌≡◌, ◌+◌, ◌<◌, ◌≤◌, ◌^◌, List, [], ◌∷◌, ◌++◌, length, sum_by, Option, Some, None, ◌⊎◌}
+use Rattle.amqp_types.specs.declared.amqp_type.AMQPType.{AMQPType}
+use Rattle.amqp_types.specs.Ids.{kind}
+use Rattle.amqp_types.specs.Strings.{IsShort}
+use Rattle.amqp_grammar.specs.Values.{Scalar, Tree, scalar, Entries, no_entries, entry}
+use Rattle.amqp_grammar.specs.Texts.{pairs}
+use Rattle.amqp_c_common.specs.declared.fault.Fault.{Fault}
+use Rattle.amqp_c_common.specs.declared.fault.Fault.TheVariants.{TooLarge, BadKey}
+use Rattle.amqp_c.specs.declared.pair.Pair.{Pair}
+use Rattle.amqp_c.specs.BuiltEntries.{Tells, IsStringTag, IsString}
+use Rattle.amqp_c.specs.Faults.{RefusesNumber}
+use Rattle.amqp_c.specs.Needs.{encoding_len}
+use Rattle.amqp_c.specs.Rooms.{with_bytes}
+
+-- v is the value of a pair, by its type tag: the long string or the byte array of its bytes, whose
+-- length fits its field, or the value of fixed width that its bits and its scale determine
+abbrev pub IsValueOf : Pair → Tree → Type 0
+IsValueOf p v = (IsString p.tag p.bytes.now v × (length p.bytes.now < 2 ^ 32)) ⊎ ((x : Scalar) × Tells p.tag p.bits p.scale x × (v ≡ scalar x))
+
+-- the pair can be written: its key is one, and it has a value
+abbrev pub IsGiven : Pair → Type 0
+IsGiven p = IsShort p.key.now × ((v : Tree) × IsValueOf p v)
+
+-- the entries are those of the pairs, in their order
+abbrev pub AreOf : List Pair → Entries → Type 0
+AreOf [] no_entries = Unit {0}
+AreOf (p ∷ ps) (entry k v es) = (k ≡ p.key.now) × IsShort k × IsValueOf p v × AreOf ps es
+AreOf _ _ = ⊥
+
+-- the pairs are written from `at` on, and the buffer is else as it was
+abbrev pub AreWritten : List Pair → ℕ → List ℕ → List ℕ → Type 0
+AreWritten ps at old new = (es : Entries) × AreOf ps es × (new ≡ with_bytes at (pairs es) old)
+
+-- how many bytes a pair's value has, by its type tag and its bytes
+abbrev pub typed_len : Option AMQPType → ℕ → ℕ
+typed_len (Some type) n = encoding_len type n
+typed_len None n = 0
+
+abbrev pub value_len : Pair → ℕ
+value_len p = typed_len (kind p.tag) (length p.bytes.now)
+
+-- and the pair: its key after its length, and its value
+abbrev pub pair_len : Pair → ℕ
+pair_len p = 1 + length p.key.now + value_len p
+
+-- and all of them, which are the body of a table
+abbrev pub body_len : List Pair → ℕ
+body_len ps = sum_by pair_len ps
+
+-- a fault of a pair's value is right: a string or a byte array has too many bytes, or the fault is that
+-- of a number, of every other type tag
+abbrev pub RefusesValue : Pair → Fault → Type 0
+RefusesValue p f =
+    (IsStringTag p.tag × (f ≡ TooLarge) × (2 ^ 32 ≤ length p.bytes.now))
+    ⊎ ((IsStringTag p.tag → ⊥) × RefusesNumber p.tag p.bits p.scale f)
+
+-- a fault of a pair is right: of its key, otherwise of its value
+abbrev pub RefusesPair : Pair → Fault → Type 0
+RefusesPair p f = ((f ≡ BadKey) × (IsShort p.key.now → ⊥)) ⊎ (IsShort p.key.now × RefusesValue p f)
+
+-- a fault of the pairs is right: that of the first that can't be written, or with which the body has
+-- too many bytes
+pub record IsFirstFault (ps : List Pair) (f : Fault) : Type 0 where
+  pub before : List Pair
+  pub pair : Pair
+  pub after : List Pair
+  pub split : ps ≡ before ++ (pair ∷ after)
+  pub given : (es : Entries) × AreOf before es
+  pub fits : body_len before < 2 ^ 32
+  pub fault : RefusesPair pair f ⊎ (IsGiven pair × (f ≡ TooLarge) × (2 ^ 32 ≤ body_len before + pair_len pair))

@@ -1,0 +1,110 @@
+//! A pair of a table that is written at once.
+
+ghost use Rattle.std.specs.Prelude.{◌≡◌, ◌+◌, ◌≤◌, ◌++◌, length, IfOk, MatchResult};
+ghost use Rattle.amqp_grammar.specs.Values.{Tree};
+ghost use Rattle.amqp_grammar.specs.Grammar.{short_field};
+ghost use Rattle.amqp_grammar.specs.Texts.{text};
+ghost use Rattle.amqp_c.specs.Pairs.{IsValueOf, IsGiven, RefusesValue, RefusesPair, value_len, pair_len};
+ghost use Rattle.amqp_c.specs.Rooms.{with_bytes};
+
+use crate::key::is_short_string;
+use crate::number::encoding_of;
+use crate::put::{head_of, is_string_tag};
+use crate::room::{write, write_bytes, write_few, write_name};
+use amqp_c_common::Fault;
+
+/// A pair of a table: its key, and its value by a type tag.
+#[repr(C)]
+#[derive(Clone, Copy)]
+pub struct Pair<'a> {
+    /// The key.
+    pub key: &'a [u8],
+    /// Of a long string or a byte array: its bytes.
+    pub bytes: &'a [u8],
+    /// Of a value of fixed width: its bits, as in an entry.
+    pub bits: u64,
+    /// The type tag.
+    pub tag: u8,
+    /// Of a value of fixed width: its scale, as in an entry.
+    pub scale: u8,
+}
+
+impl Pair<'_> {
+    /// How many bytes it has in a table, if it can be written.
+    #[inline(always)]
+    pub fn encoded_len(&self) -> Result<usize, Fault>
+        ensures len { MatchResult result
+            (λ n. IsGiven self.now × (n ≡ pair_len self.now))
+            (RefusesPair self.now) }
+        ensures few { IfOk result (λ n. n ≤ 4294967556) }
+    {
+        if !is_short_string(self.key) {
+            return Err(Fault::BadKey);
+        }
+        Ok(1 + self.key.len() + self.value_len()?)
+    }
+
+    /// How many bytes its value has, if it has one.
+    #[inline(always)]
+    fn value_len(&self) -> Result<usize, Fault>
+        ensures len { MatchResult result
+            (λ n. ((v : Tree) × IsValueOf self.now v) × (n ≡ value_len self.now))
+            (RefusesValue self.now) }
+        ensures few { IfOk result (λ n. n ≤ 4294967300) }
+    {
+        if is_string_tag(self.tag) {
+            let Ok(length) = u32::try_from(self.bytes.len()) else {
+                return Err(Fault::TooLarge);
+            };
+            return Ok(5 + length as usize);
+        }
+        Ok(encoding_of(self.tag, self.bits, self.scale)?.len())
+    }
+
+    /// Writes it from `at` on, and returns its end.
+    #[inline(always)]
+    pub fn write(&self, room: &mut [u8], at: usize) -> usize
+        requires given { IsGiven self.now }
+        requires fits { at + pair_len self.now ≤ length room.old }
+        ensures written { (v : Tree) × IsValueOf self.now v
+            × (room.new ≡ with_bytes at (short_field self.now.key.now ++ text v) room.old) }
+        ensures end { result ≡ at + pair_len self.now }
+    {
+        at + self.write_at_start(&mut room[at..])
+    }
+
+    /// Writes it at the start, and returns how many bytes it has.
+    #[inline(always)]
+    fn write_at_start(&self, room: &mut [u8]) -> usize
+        requires given { IsGiven self.now }
+        requires fits { pair_len self.now ≤ length room.old }
+        ensures written { (v : Tree) × IsValueOf self.now v
+            × (room.new ≡ with_bytes 0 (short_field self.now.key.now ++ text v) room.old) }
+        ensures len { result ≡ pair_len self.now }
+    {
+        write_name(room, 0, b'F', self.key);
+        self.write_value(room, 1 + self.key.len())
+    }
+
+    /// Writes its value from `at` on, and returns its end.
+    #[inline(always)]
+    fn write_value(&self, room: &mut [u8], at: usize) -> usize
+        requires given { (v : Tree) × IsValueOf self.now v }
+        requires fits { at + value_len self.now ≤ length room.old }
+        ensures written { (v : Tree) × IsValueOf self.now v × (room.new ≡ with_bytes at (text v) room.old) }
+        ensures end { result ≡ at + value_len self.now }
+    {
+        if is_string_tag(self.tag) {
+            write(room, at, &head_of(self.tag, self.bytes.len() as u32));
+            write_bytes(room, at + 5, self.bytes);
+            return at + 5 + self.bytes.len();
+        }
+        let Ok(encoding) = encoding_of(self.tag, self.bits, self.scale) else {
+            unreachable!()
+        };
+        let (tag, payload, length) = encoding.parts();
+        write(room, at, &[tag]);
+        write_few(room, at + 1, &payload[..length]);
+        at + 1 + length
+    }
+}

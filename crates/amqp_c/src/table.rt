@@ -1,0 +1,59 @@
+//! Writing a table at once, from its pairs.
+
+ghost use Rattle.std.specs.Prelude.{◌≡◌, ◌+◌, ◌≤◌, ◌<◌, ◌^◌, length, IfErr, MatchResult};
+ghost use Rattle.amqp_grammar.specs.Values.{Entries};
+ghost use Rattle.amqp_c.specs.Pairs.{AreOf, AreWritten, body_len, IsFirstFault};
+ghost use Rattle.amqp_c.specs.WrittenTables.{IsTableWritten, RefusesTable};
+
+use crate::pair::Pair;
+use crate::room::write;
+use amqp_c_common::Fault;
+
+/// Writes the table of these pairs, without its type tag, at the start, and returns how many bytes it
+/// has. Nothing is written before all pairs are checked.
+#[inline(always)]
+pub fn write_table(room: &mut [u8], pairs: &[Pair<'_>]) -> Result<usize, Fault>
+    ensures written { MatchResult result
+        (IsTableWritten pairs.now room.old room.new)
+        (RefusesTable pairs.now (length room.old)) }
+    ensures kept { IfErr result (λ _. room.new ≡ room.old) }
+{
+    let length = body_len(pairs)?;
+    let count = 4 + length as usize;
+    if room.len() < count {
+        return Err(Fault::NoRoom(count));
+    }
+    write(room, 0, &length.to_be_bytes());
+    write_pairs(room, pairs);
+    Ok(count)
+}
+
+/// How many bytes the pairs have, if a table can have them.
+#[inline(always)]
+fn body_len(pairs: &[Pair<'_>]) -> Result<u32, Fault>
+    ensures { MatchResult result
+        (λ n. ((es : Entries) × AreOf pairs.now es) × (n ≡ body_len pairs.now))
+        (IsFirstFault pairs.now) }
+{
+    let mut length = 0;
+    for pair in pairs {
+        let Ok(longer) = u32::try_from(length as usize + pair.encoded_len()?) else {
+            return Err(Fault::TooLarge);
+        };
+        length = longer;
+    }
+    Ok(length)
+}
+
+/// Writes the pairs after the four bytes of their length.
+#[inline(always)]
+fn write_pairs(room: &mut [u8], pairs: &[Pair<'_>])
+    requires given { (es : Entries) × AreOf pairs.now es }
+    requires fits { 4 + body_len pairs.now ≤ length room.old }
+    ensures { AreWritten pairs.now 4 room.old room.new }
+{
+    let mut at = 4;
+    for pair in pairs {
+        at = pair.write(room, at);
+    }
+}
