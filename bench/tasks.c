@@ -5,14 +5,11 @@
 /* The arguments of a queue: a table of two entries, written to a buffer. They return how many bytes it has, or -1. */
 
 int64_t library_arguments(const uint8_t *bytes, size_t length, uint8_t *out, size_t capacity) {
-    amqpv_container top = {{0, 0}, AMQPV_ARRAY}, arguments;
-    if (amqpv_open(out, capacity, &top, "", 0, AMQPV_TABLE, &arguments) == AMQPV_OK
-        && amqpv_put_int(out, capacity, &arguments, AMQPV_LITERAL("x-max-length"), AMQPV_LONG_INT, 10000) == AMQPV_OK
-        && amqpv_put_string(out, capacity, &arguments, AMQPV_LITERAL("x-queue-type"), AMQPV_LITERAL("quorum")) == AMQPV_OK
-        && amqpv_close(out, capacity, &top, &arguments) == AMQPV_OK) {
-        return (int64_t)top.written.length;
-    }
-    return -1;
+    const amqpv_pair arguments[] = {
+        AMQPV_INT_PAIR("x-max-length", AMQPV_LONG_INT, 10000), AMQPV_STRING_PAIR("x-queue-type", "quorum", strlen("quorum")),
+    };
+    size_t count;
+    return amqpv_write_table(arguments, 2, out, capacity, &count) == AMQPV_OK ? (int64_t)count : -1;
 }
 
 static amqp_bytes_t bytes_of(const char *text) {
@@ -20,7 +17,6 @@ static amqp_bytes_t bytes_of(const char *text) {
     return bytes;
 }
 
-/* It writes no type tag. */
 int64_t rabbitmq_arguments(const uint8_t *bytes, size_t length, uint8_t *out, size_t capacity) {
     amqp_table_entry_t entries[2];
     amqp_table_t arguments = {2, entries};
