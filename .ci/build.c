@@ -8,7 +8,8 @@
  *
  * It tries every type tag with numbers about its type's range, keys of every kind, each of some values
  * in buffers of every size, containers and bodies that were corrupted, and random entries that are
- * built, read back by amqpv_read and amqpv_next, and made canonical.
+ * built, read back by amqpv_read and amqpv_next, and made canonical. Tables are written at once, too: of all
+ * type tags and keys, in buffers of every size, of a million pairs, and of 2^32 bytes.
  */
 #include "check.h"
 
@@ -498,6 +499,27 @@ static void try_tables(void) {
     }
 }
 
+/* A table of a million pairs, in a buffer of its size, and in one that is a byte smaller. */
+static void try_many(void) {
+    enum { PAIRS = 1000000, EACH = 9, SIZE = 4 + PAIRS * EACH };
+    static amqpv_pair pairs[PAIRS];
+    static uint8_t buffer[SIZE];
+    uint8_t bytes[EACH] = {3, 'k', 'e', 'y', 'I'}, start[4];
+    size_t count;
+    for (size_t i = 0; i < PAIRS; i++) {
+        pairs[i] = (amqpv_pair)AMQPV_INT_PAIR("key", AMQPV_LONG_INT, i);
+    }
+    CHECK(amqpv_write_table(pairs, PAIRS, buffer, SIZE - 1, &count) == AMQPV_NO_ROOM && count == SIZE && buffer[SIZE - 2] == 0);
+    CHECK(amqpv_write_table(pairs, PAIRS, buffer, SIZE, &count) == AMQPV_OK && count == SIZE);
+    big_endian(start, 4, SIZE - 4);
+    CHECK(memcmp(buffer, start, 4) == 0);
+    for (size_t i = 0; i < PAIRS; i++) {
+        big_endian(bytes + 5, 4, i);
+        CHECK(memcmp(buffer + 4 + i * EACH, bytes, EACH) == 0);
+    }
+    calls += 2;
+}
+
 /* Containers that were corrupted: all kinds of numbers, and of type tags. */
 static void try_corrupt(size_t length) {
     size_t small = length + 2, count = small + 4;
@@ -690,6 +712,7 @@ int main(void) {
     try_keys();
     try_rooms();
     try_tables();
+    try_many();
     try_needed();
     for (size_t length = 0; length <= 12; length++) {
         try_corrupt(length);
