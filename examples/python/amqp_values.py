@@ -160,17 +160,18 @@ class _Step(ctypes.Structure): _fields_ = [("key", c_char_p), ("key_length", c_s
 class _Measure(ctypes.Structure): _fields_ = [("length", c_size_t), ("values", c_size_t), ("levels", c_size_t)]
 class _Problem(ctypes.Structure): _fields_ = [("offset", c_size_t), ("kind", c_uint8), ("tag", c_uint8)]
 class _Container(ctypes.Structure): _fields_ = [("written", _Span), ("tag", c_uint8)]
+class _Pair(ctypes.Structure): _fields_ = [("key", c_char_p), ("key_length", c_size_t), ("bytes", c_char_p), ("length", c_size_t), ("bits", c_uint64), ("tag", c_uint8), ("scale", c_uint8)]
 
 # Parameters by a letter, and those of each call.
 _KINDS: dict[str, list[Any]] = {
     "b": [c_char_p, c_size_t], "l": [c_uint32, c_uint32], "4": [c_uint32], "n": [c_size_t], "t": [c_uint8], "8": [c_uint64],
     "N": [POINTER(c_size_t)], "E": [POINTER(_Entry)], "C": [POINTER(_Cursor)], "S": [POINTER(_Step)], "M": [POINTER(_Measure)],
-    "P": [POINTER(_Problem)], "I": [POINTER(_Container)],
+    "P": [POINTER(_Problem)], "I": [POINTER(_Container)], "R": [POINTER(_Pair)],
 }
 _PARAMETERS = {
     "read": "blEN", "read_table": "blEN", "measure_value": "blMN", "measure_table": "blMN", "first_problem": "b4lP", "first_problem_in_table": "b4lP",
     "first": "bE", "enter": "bEC", "next": "bCE", "find": "bCbE", "find_first": "bCbE", "find_path": "bESn4E",
-    "put": "bIbt8t", "put_bytes": "bIbtb", "put_value": "bIbbl", "open": "bIbtI", "close": "bII", "needed": "IntnN",
+    "put": "bIbt8t", "put_bytes": "bIbtb", "put_value": "bIbbl", "open": "bIbtI", "close": "bII", "needed": "IntnN", "write_table": "RnbN",
     "canonical": "blbN", "to_json": "blbN", "from_json": "b4bN", "version": "",
 }
 _calls: dict[str, Any] = {}
@@ -209,6 +210,8 @@ def _given(data: Bytes, frame: int = FRAME, depth: int = DEPTH) -> tuple[bytes, 
     return data, len(data), frame, depth
 
 def _key(key: str | bytes) -> bytes:
+    if not isinstance(key, (str, bytes)):
+        raise TypeError(f"a key is a str, not {type(key).__name__}")
     return key.encode(errors="surrogateescape") if isinstance(key, str) else key
 
 class Entry:
@@ -349,21 +352,33 @@ class _Room:
         head, body = (byref(into), key, len(key)), _Container()
         if isinstance(value, Encoded):
             self.put("put_value", *head, value, len(value), 2**32 - 1, DEPTH)
-        elif isinstance(value, (str, bytes, bytearray, memoryview)):
-            content, length, *_ = _given(value.encode() if isinstance(value, str) else value)
-            tag = ord("S" if isinstance(value, (str, LongString)) else "x")
+        elif isinstance(value, _STRINGS):
+            tag, content, length = _string(value)
             self.put("put_bytes", *head, tag, content, length, needs=(byref(into), len(key), tag, length))
         elif isinstance(value, (Mapping, Sequence)):
             is_table = isinstance(value, Mapping)
             self.put("open", *head, ord("F" if is_table else "A"), byref(body))
             for name, it in value.items() if is_table else ((b"", it) for it in value):
-                if not isinstance(name, (str, bytes)):
-                    raise TypeError(f"a key is a str, not {type(name).__name__}")
                 self.append(body, _key(name), it)
             self.put("close", byref(into), byref(body))
         else:
             tag, bits, scale = _fixed(value)
             self.put("put", *head, ord(tag), bits, scale)
+
+_STRINGS = (str, bytes, bytearray, memoryview)
+
+def _string(value: Any) -> tuple[int, bytes, int]:
+    """The type tag of a string or a byte array, its bytes, and how many they are."""
+    content, length, *_ = _given(value.encode() if isinstance(value, str) else value)
+    return ord("S" if isinstance(value, (str, LongString)) else "x"), content, length
+
+def _pair(key: bytes, value: Any) -> tuple[Any, ...]:
+    """A pair as `write_table` takes it."""
+    if isinstance(value, _STRINGS):
+        tag, content, length = _string(value)
+        return key, len(key), content, length, 0, tag, 0
+    letter, bits, scale = _fixed(value)
+    return key, len(key), None, 0, bits, ord(letter), scale
 
 def _fixed(value: Any) -> tuple[str, int, int]:
     """The type tag, bits and scale of a value of fixed width."""
@@ -389,7 +404,11 @@ def dumps(value: Writable) -> bytes:
 
 def dumps_table(table: Mapping[str, Writable]) -> bytes:
     """The encoding of a table without its type tag."""
-    return dumps(dict(table))[1:]
+    given = dict(table)
+    if any(isinstance(it, (Encoded, Mapping)) or isinstance(it, Sequence) and not isinstance(it, _STRINGS) for it in given.values()):
+        return dumps(given)[1:]
+    pairs = [_pair(_key(key), value) for key, value in given.items()]
+    return _written("write_table", 1024, (_Pair * len(pairs))(*pairs), len(pairs))
 
 def canonical(data: Bytes, *, table: bool = False, frame: int = FRAME, depth: int = DEPTH) -> bytes:
     """The encoding that is the same for equal values, to compare, hash or sign them."""
