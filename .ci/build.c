@@ -499,11 +499,17 @@ static void try_tables(void) {
     }
 }
 
+/* That many bytes, before a page that can't be accessed. */
+static void *before_a_page(size_t length) {
+    size_t count = length / page_size + 1;
+    return pages_between(count) + count * page_size - length;
+}
+
 /* A table of a million pairs, in a buffer of its size, and in one that is a byte smaller. */
 static void try_many(void) {
     enum { PAIRS = 1000000, EACH = 9, SIZE = 4 + PAIRS * EACH };
-    static amqpv_pair pairs[PAIRS];
-    static uint8_t buffer[SIZE];
+    amqpv_pair *pairs = before_a_page(PAIRS * sizeof *pairs);
+    uint8_t *buffer = before_a_page(SIZE);
     uint8_t bytes[EACH] = {3, 'k', 'e', 'y', 'I'}, start[4];
     size_t count;
     for (size_t i = 0; i < PAIRS; i++) {
