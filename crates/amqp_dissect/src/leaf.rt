@@ -1,7 +1,7 @@
 //! Values that aren't containers, in a dissection's parts.
 
-ghost use Rattle.std.specs.Prelude.{IfSome};
-ghost use Rattle.amqp_dissect.specs.Leaves.{IsLeaf, IsBehind, IsPayload};
+ghost use Rattle.std.specs.Prelude.{ℕ, List, IfSome, IfNone};
+ghost use Rattle.amqp_dissect.specs.Leaves.{IsLeaf, BeginsWithPayload, IsCountedFirst, IsPayloadFirst, IsPayload};
 
 use crate::part::{Field, Part};
 use amqp_types::AMQPType;
@@ -16,35 +16,52 @@ pub struct Leaf<'a> {
 }
 
 /// The value whose type tag is the first of the parts, or `None` if it is a container, Void or cut.
+/// The parts may be any: only their kinds count, and whether the length of a string is 0.
 pub fn first_leaf<'a>(parts: &[Part<'a>]) -> Option<Leaf<'a>>
-    ensures { IfSome result (λ leaf. IsLeaf parts.now leaf.amqp_type leaf.payload.now) }
+    ensures leaf { IfSome result (λ leaf. IsLeaf parts.now leaf.amqp_type leaf.payload.now) }
+    ensures none { IfNone result ((type : AMQPType) (bytes : List ℕ) → IsLeaf parts.now type bytes → ⊥) }
 {
     let (tag, behind) = parts.split_first()?;
     let Field::TypeTag(amqp_type) = tag.field else {
         return None;
     };
-    let (second, behind) = behind.split_first()?;
-    if second.field == Field::Payload(amqp_type) {
-        return Some(Leaf {
-            amqp_type,
-            payload: second.bytes,
-        });
-    }
-    if second.field == Field::Length(amqp_type) && is_string(amqp_type) {
-        let payload = payload_behind(amqp_type, second.bytes, behind)?;
-        return Some(Leaf { amqp_type, payload });
-    }
-    None
+    let payload = first_payload(amqp_type, behind)?;
+    Some(Leaf { amqp_type, payload })
 }
 
-// The payload after a length of these bytes, which the first of the parts is, or `None` if it
-// isn't there. An empty payload has no part.
-fn payload_behind<'a>(amqp_type: AMQPType, len: &[u8], parts: &[Part<'a>]) -> Option<&'a [u8]>
-    ensures { IfSome result (λ payload. IsBehind amqp_type len.now parts.now payload.now) }
+// The payload of a value of the type, from the parts behind its type tag.
+fn first_payload<'a>(amqp_type: AMQPType, parts: &[Part<'a>]) -> Option<&'a [u8]>
+    ensures payload { IfSome result (λ payload. BeginsWithPayload amqp_type parts.now payload.now) }
+    ensures none { IfNone result ((bytes : List ℕ) → BeginsWithPayload amqp_type parts.now bytes → ⊥) }
 {
-    if len == [0, 0, 0, 0].as_slice() {
+    match amqp_type {
+        AMQPType::LongString | AMQPType::ByteArray => counted_payload(amqp_type, parts),
+        AMQPType::FieldArray | AMQPType::FieldTable | AMQPType::Void | AMQPType::ShortString =>
+            None,
+        _ => payload_part(amqp_type, parts),
+    }
+}
+
+// The payload behind the length that is the first part. An empty payload has no part.
+fn counted_payload<'a>(amqp_type: AMQPType, parts: &[Part<'a>]) -> Option<&'a [u8]>
+    ensures payload { IfSome result (λ payload. IsCountedFirst parts.now amqp_type payload.now) }
+    ensures none { IfNone result ((bytes : List ℕ) → IsCountedFirst parts.now amqp_type bytes → ⊥) }
+{
+    let (len, behind) = parts.split_first()?;
+    if len.field != Field::Length(amqp_type) {
+        return None;
+    }
+    if len.bytes == [0, 0, 0, 0].as_slice() {
         return Some(&[]);
     }
+    payload_part(amqp_type, behind)
+}
+
+// The payload that is the first part.
+fn payload_part<'a>(amqp_type: AMQPType, parts: &[Part<'a>]) -> Option<&'a [u8]>
+    ensures payload { IfSome result (λ payload. IsPayloadFirst parts.now amqp_type payload.now) }
+    ensures none { IfNone result ((bytes : List ℕ) → IsPayloadFirst parts.now amqp_type bytes → ⊥) }
+{
     let (part, _) = parts.split_first()?;
     if part.field == Field::Payload(amqp_type) {
         return Some(part.bytes);
@@ -52,9 +69,10 @@ fn payload_behind<'a>(amqp_type: AMQPType, len: &[u8], parts: &[Part<'a>]) -> Op
     None
 }
 
-/// The value whose payload this part is, or `None` if it isn't a payload.
+/// The value whose payload this part is, or `None` if it isn't a payload: by the part's kind alone.
 pub fn leaf_of<'a>(part: &Part<'a>) -> Option<Leaf<'a>>
-    ensures { IfSome result (λ leaf. IsPayload part.now leaf.amqp_type leaf.payload.now) }
+    ensures leaf { IfSome result (λ leaf. IsPayload part.now leaf.amqp_type leaf.payload.now) }
+    ensures none { IfNone result ((type : AMQPType) (bytes : List ℕ) → IsPayload part.now type bytes → ⊥) }
 {
     match part.field {
         Field::Payload(amqp_type) => Some(Leaf {
@@ -63,9 +81,4 @@ pub fn leaf_of<'a>(part: &Part<'a>) -> Option<Leaf<'a>>
         }),
         _ => None,
     }
-}
-
-// Whether the type's payload has a length before it and nothing inside.
-fn is_string(amqp_type: AMQPType) -> bool {
-    matches!(amqp_type, AMQPType::LongString | AMQPType::ByteArray)
 }
