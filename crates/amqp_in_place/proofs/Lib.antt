@@ -7,6 +7,7 @@ pub mod Owning
 pub mod OneValue
 pub mod Skipping
 pub mod Places
+pub mod Encoded
 pub mod Canonicals
 pub mod RepeatedKeys
 pub mod Keys

@@ -12,6 +12,7 @@ use Rattle.amqp_in_place.specs.Bodies.{HasEntries}
 use Rattle.amqp_in_place.specs.declared.refs.ValueRef.{ValueRef}
 use Rattle.amqp_in_place.specs.Walks.{NextValueBy, IsReadAt, NextKeyBy, BeginsBy, BeginsAt, FoundBy, tree_at}
 use Rattle.amqp_in_place.specs.Written.{WrittenPairs, WrittenAt}
+use Rattle.amqp_in_place.specs.Encoded.{EncodedPairs, EncodedAt}
 
 -- ---- emptiness
 
@@ -39,6 +40,9 @@ Looks key s rest at = LooksBy IsReadAt TableBody key s rest at
 
 abbrev pub WrittenLooks : List ℕ → List ℕ → List ℕ → Option (Bor (List ℕ)) → Type 0
 WrittenLooks key s rest at = LooksBy WrittenAt WrittenPairs key s rest at
+
+abbrev pub EncodedLooks : List ℕ → List ℕ → List ℕ → Option (Bor (List ℕ)) → Type 0
+EncodedLooks key s rest at = LooksBy EncodedAt EncodedPairs key s rest at
 
 -- none of the pairs before those that are left has the key
 abbrev pub PassesBy : (List ℕ → Entries → Type 0) → List ℕ → List ℕ → List ℕ → Type 0

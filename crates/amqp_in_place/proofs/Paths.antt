@@ -3,6 +3,8 @@ use Rattle.std.proofs.Common.{◌≡◌, ◌<◌, ℕ, zero, suc, List, [], ◌�
 use Rattle.std.specs.Prelude.{option_and_then}
 use Rattle.std.specs.Borrow.{Bor}
 use Rattle.std.specs.Int.{w32, to_be_bytes}
+use Rattle.amqp_types.specs.declared.amqp_type.AMQPType.{AMQPType}
+use Rattle.amqp_types.specs.declared.amqp_type.AMQPType.TheVariants as amqp
 use Rattle.amqp_grammar.specs.Values.{Tree, Entries, no_entries, insert_all}
 use Rattle.amqp_grammar.specs.Maps.{value_at, last_at, IsRising}
 use Rattle.amqp_grammar.specs.Grammar.{long_field}
@@ -18,7 +20,7 @@ use Rattle.amqp_in_place.specs.Bodies.{HasEntries}
 use Rattle.amqp_in_place.specs.Refs.{array_body, table_body, Denotes}
 use Rattle.amqp_in_place.specs.Walks.{FoundBy, FoundIs}
 use Rattle.amqp_in_place.specs.Places.{IsFramed, LiesIn, LiesWithin}
-use Rattle.amqp_in_place.specs.Paths.{pair_at, at_step, at_path, content}
+use Rattle.amqp_in_place.specs.Paths.{pair_at, at_step, at_path, StepsTo, LeadsTo, content}
 
 -- ---- one step
 
@@ -56,21 +58,31 @@ module _ (Is : ValueRef → Tree → Type 0) (of : EqualKeys) (path : List PathS
       let first = subst (λ (left : List PathStep). Follows Is of path left r here) (drop-cons path i d few) before in
       subst (λ (n : ℕ). Follows Is of path (drop n path) r next) (sym after) (follows-step s (drop (suc i) path) here next first found)
 
+-- the rest of the path leads from here to the views to which the path leads from r
+abbrev pub Leads : EqualKeys → List PathStep → List PathStep → ValueRef → ValueRef → Type 0
+Leads of path left r here = (end : ValueRef) → LeadsTo of left here end → LeadsTo of path r end
+
+pub leads-next : (of : EqualKeys) (path : List PathStep) (r : ValueRef) (i j : ℕ) (d : PathStep) (here next : ValueRef) → i < length path → j ≡ suc i → Leads of path (drop i path) r here
+    → StepsTo of (get_or path i d) here next → Leads of path (drop j path) r next
+leads-next of path r i j d here next few after before steps = λ end x.
+    let there = subst (λ (n : ℕ). LeadsTo of (drop n path) next end) after x in
+    before end (subst (λ (left : List PathStep). LeadsTo of left here end) (sym (drop-cons path i d few)) (next, steps, there))
+
 -- ---- the bytes that it is in
 
 -- what is in a part of some bytes is in them
 lies_before_more : (s more rest : List ℕ) (r : ValueRef) → LiesIn s r rest → LiesIn (s ++ more) r (rest ++ more)
 lies_before_more s more rest r x = by r x
   where
-    framed : (body : List ℕ) → IsFramed s body rest → IsFramed (s ++ more) body (rest ++ more)
-    framed body f = (f.0, ap (λ (t : List ℕ). t ++ more) f.1 ∙ ap (λ (t : List ℕ). f.0 ∷ t) (append_assoc (long_field body) rest more))
+    framed : (type : AMQPType) (body : List ℕ) → IsFramed type s body rest → IsFramed type (s ++ more) body (rest ++ more)
+    framed type body f = (f.0, f.1, f.2, ap (λ (t : List ℕ). t ++ more) f.3 ∙ ap (λ (t : List ℕ). f.0 ∷ t) (append_assoc (long_field body) rest more))
 
     by : (r : ValueRef) → LiesIn s r rest → LiesIn (s ++ more) r (rest ++ more)
-    by (at.LongString b) y = framed b.now y
-    by (at.ByteArray b) y = framed b.now y
-    by (at.FieldArray a) y = framed (array_body a) y
-    by (at.FieldTable t) y = framed (table_body t) y
-    by _ y = (y.0, ap (λ (t : List ℕ). t ++ more) y.1 ∙ append_assoc y.0 rest more)
+    by (at.LongString b) y = framed amqp.LongString b.now y
+    by (at.ByteArray b) y = framed amqp.ByteArray b.now y
+    by (at.FieldArray a) y = framed amqp.FieldArray (array_body a) y
+    by (at.FieldTable t) y = framed amqp.FieldTable (table_body t) y
+    by _ y = (y.0, y.1, ap (λ (t : List ℕ). t ++ more) y.2 ∙ append_assoc y.0 rest more)
 
 within_part : (before part after : List ℕ) (r : ValueRef) → LiesWithin part r → LiesWithin (before ++ (part ++ after)) r
 within_part before part after r (ahead, behind, rest, e, x) = (
@@ -85,16 +97,16 @@ within_part before part after r (ahead, behind, rest, e, x) = (
 lies_deeper : (s : List ℕ) (r q : ValueRef) → LiesWithin s r → LiesWithin (content r) q → LiesWithin s q
 lies_deeper s r q x y = by r x y
   where
-    inside : (b before behind rest : List ℕ) → s ≡ before ++ behind → IsFramed behind b rest → LiesWithin b q → LiesWithin s q
-    inside b before behind rest e f z =
+    inside : (type : AMQPType) (b before behind rest : List ℕ) → s ≡ before ++ behind → IsFramed type behind b rest → LiesWithin b q → LiesWithin s q
+    inside type b before behind rest e f z =
         let prefix = f.0 ∷ to_be_bytes w32 (length b) in
         let parts : s ≡ (before ++ prefix) ++ (b ++ rest) =
-        e ∙ (ap (λ (t : List ℕ). before ++ t) (f.1 ∙ ap (λ (t : List ℕ). f.0 ∷ t) (append_assoc (to_be_bytes w32 (length b)) b rest)) ∙ sym (append_assoc before prefix (b ++ rest))) in
+        e ∙ (ap (λ (t : List ℕ). before ++ t) (f.3 ∙ ap (λ (t : List ℕ). f.0 ∷ t) (append_assoc (to_be_bytes w32 (length b)) b rest)) ∙ sym (append_assoc before prefix (b ++ rest))) in
         subst (λ (t : List ℕ). LiesWithin t q) (sym parts) (within_part (before ++ prefix) b rest q z)
 
     by : (r : ValueRef) → LiesWithin s r → LiesWithin (content r) q → LiesWithin s q
-    by (at.FieldArray a) (before, behind, rest, e, f) z = inside (array_body a) before behind rest e f z
-    by (at.FieldTable t) (before, behind, rest, e, f) z = inside (table_body t) before behind rest e f z
+    by (at.FieldArray a) (before, behind, rest, e, f) z = inside amqp.FieldArray (array_body a) before behind rest e f z
+    by (at.FieldTable t) (before, behind, rest, e, f) z = inside amqp.FieldTable (table_body t) before behind rest e f z
     by _ x z = subst (λ (t : List ℕ). LiesWithin t q) (append-nil s) (within_part s [] [] q z)
 
 -- so is what a path leads to, of which i steps were taken

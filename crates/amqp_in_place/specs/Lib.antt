@@ -2,11 +2,12 @@ pub mod Bodies
 pub mod Refs
 pub mod Heads
 pub mod Written
+pub mod Places
+pub mod Encoded
 pub mod Walks
 pub mod Keys
 pub mod InPlaceResults
 pub mod Suffix
-pub mod Places
 pub mod Canonicals
 pub mod Paths
 pub mod Problems

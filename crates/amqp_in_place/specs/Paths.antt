@@ -1,6 +1,6 @@
 -- What a path of keys and positions leads to.
-use Rattle.std.specs.Prelude.{ℕ, List, [], ◌∷◌, Option, Some, None, option_and_then}
-use Rattle.amqp_grammar.specs.Values.{Tree, array, table, Entries}
+use Rattle.std.specs.Prelude.{ℕ, ◌≡◌, List, [], ◌∷◌, Option, Some, None, option_and_then}
+use Rattle.amqp_grammar.specs.Values.{Tree, Trees, array, table, Entries}
 use Rattle.amqp_grammar.specs.Maps.{last_at}
 use Rattle.amqp_in_place.specs.declared.refs.ValueRef.{ValueRef}
 use Rattle.amqp_in_place.specs.declared.refs.ValueRef.TheVariants as at
@@ -10,7 +10,8 @@ use Rattle.amqp_in_place.specs.declared.path.EqualKeys.{EqualKeys}
 use Rattle.amqp_in_place.specs.declared.path.EqualKeys.TheVariants as equal
 use Rattle.amqp_in_place.specs.Refs.{array_body, table_body}
 use Rattle.amqp_in_place.specs.Keys.{first_at}
-use Rattle.amqp_in_place.specs.Walks.{tree_at}
+use Rattle.amqp_in_place.specs.Encoded.{EncodedValues, EncodedPairs}
+use Rattle.amqp_in_place.specs.Walks.{ViewIs, tree_at}
 
 -- the value of the pair with the key that counts
 abbrev pub pair_at : EqualKeys → List ℕ → Entries → Option Tree
@@ -27,6 +28,17 @@ at_step of _ _ = None
 abbrev pub at_path : EqualKeys → List PathStep → Tree → Option Tree
 at_path of [] v = Some v
 at_path of (s ∷ path) v = option_and_then (at_path of path) (at_step of s v)
+
+-- a step leads from a view to another: that of exactly the encoding at the key, or at the position
+abbrev pub StepsTo : EqualKeys → PathStep → ValueRef → ValueRef → Type 0
+StepsTo of (step.Key k) (at.FieldTable t) r = (es : Entries) → EncodedPairs (table_body t) es → ViewIs (pair_at of k.now es) (Some r)
+StepsTo of (step.Index n) (at.FieldArray a) r = (es : Trees) → EncodedValues (array_body a) es → ViewIs (tree_at n es) (Some r)
+StepsTo of _ _ r = ⊥
+
+-- and so does a path, step by step
+abbrev pub LeadsTo : EqualKeys → List PathStep → ValueRef → ValueRef → Type 0
+LeadsTo of [] q r = r ≡ q
+LeadsTo of (s ∷ path) q r = (next : ValueRef) × StepsTo of s q next × LeadsTo of path next r
 
 -- the bytes of a container's body; none of any other value
 abbrev pub content : ValueRef → List ℕ

@@ -1,23 +1,25 @@
 -- The place of a value that is referred to, inside the bytes that it is read from.
-use Rattle.std.specs.Prelude.{ℕ, ◌≡◌, List, ◌∷◌, ◌++◌}
-use Rattle.amqp_grammar.specs.Grammar.{short_field, long_field}
+use Rattle.std.specs.Prelude.{ℕ, ◌^◌, ◌<◌, ◌≡◌, Some, List, ◌∷◌, ◌++◌, length}
+use Rattle.amqp_types.specs.declared.amqp_type.AMQPType.{AMQPType}
+use Rattle.amqp_types.specs.declared.amqp_type.AMQPType.TheVariants as amqp
+use Rattle.amqp_types.specs.Ids.{kind}
+use Rattle.amqp_grammar.specs.Grammar.{short_field, long_field, Wire}
 use Rattle.amqp_in_place.specs.declared.refs.ValueRef.{ValueRef}
 use Rattle.amqp_in_place.specs.declared.refs.ValueRef.TheVariants as at
-use Rattle.amqp_in_place.specs.Refs.{array_body, table_body}
-use Rattle.amqp_in_place.specs.InPlaceResults.{IsLeft}
+use Rattle.amqp_in_place.specs.Refs.{array_body, table_body, plain_tree}
 
--- s is a type tag, the length of `body` in four bytes, `body`, and `rest`
-abbrev pub IsFramed : List ℕ → List ℕ → List ℕ → Type 0
-IsFramed s body rest = (c : ℕ) × (s ≡ c ∷ (long_field body ++ rest))
+-- s is a type tag of the type, the length of `body` in four bytes, `body`, and `rest`
+abbrev pub IsFramed : AMQPType → List ℕ → List ℕ → List ℕ → Type 0
+IsFramed type s body rest = (c : ℕ) × (kind c ≡ Some type) × (length body < 2 ^ 32) × (s ≡ c ∷ (long_field body ++ rest))
 
 -- the value is at the beginning of s, and `rest` is after it: a string, a byte array or the
--- body of a container after a type tag and its length
+-- body of a container after a type tag and its length, and any other value's encoding
 abbrev pub LiesIn : List ℕ → ValueRef → List ℕ → Type 0
-LiesIn s (at.LongString b) rest = IsFramed s b.now rest
-LiesIn s (at.ByteArray b) rest = IsFramed s b.now rest
-LiesIn s (at.FieldArray a) rest = IsFramed s (array_body a) rest
-LiesIn s (at.FieldTable t) rest = IsFramed s (table_body t) rest
-LiesIn s _ rest = IsLeft s rest
+LiesIn s (at.LongString b) rest = IsFramed amqp.LongString s b.now rest
+LiesIn s (at.ByteArray b) rest = IsFramed amqp.ByteArray s b.now rest
+LiesIn s (at.FieldArray a) rest = IsFramed amqp.FieldArray s (array_body a) rest
+LiesIn s (at.FieldTable t) rest = IsFramed amqp.FieldTable s (table_body t) rest
+LiesIn s r rest = (w : List ℕ) × Wire w (plain_tree r) × (s ≡ w ++ rest)
 
 -- and so somewhere in s
 abbrev pub LiesWithin : List ℕ → ValueRef → Type 0

@@ -51,6 +51,15 @@ IsOneValue r = (u v : Tree) → Denotes r u → Denotes r v → u ≡ v
 abbrev pub IsOneTable : TableRef → Type 0
 IsOneTable t = (es fs : Entries) → HasEntries (table_body t) es → HasEntries (table_body t) fs → es ≡ fs
 
+-- the bytes of the body of an array, and of a table; none of any other value
+abbrev pub array_bytes : ValueRef → Option (List ℕ)
+array_bytes (at.FieldArray a) = Some (array_body a)
+array_bytes _ = None
+
+abbrev pub table_bytes : ValueRef → Option (List ℕ)
+table_bytes (at.FieldTable t) = Some (table_body t)
+table_bytes _ = None
+
 -- an array of these values, or a table of these entries, is referred to, if there is one
 abbrev pub ArrayIs : Option Trees → Option ArrayRef → Type 0
 ArrayIs None None = Unit {0}

@@ -10,6 +10,7 @@ use Rattle.amqp_in_place.specs.declared.refs.ValueRef.{ValueRef}
 use Rattle.amqp_in_place.specs.Refs.{Denotes}
 use Rattle.amqp_in_place.specs.Bodies.{HasValues, HasPairs}
 use Rattle.amqp_in_place.specs.Written.{IsWritten, WrittenValues, WrittenPairs, WrittenAt}
+use Rattle.amqp_in_place.specs.Encoded.{IsViewOf, EncodedValues, EncodedPairs, EncodedAt}
 
 -- the first of the values is returned, and the bytes of the others: a value by `Is`, bytes by
 -- `Body`
@@ -23,6 +24,9 @@ NextValueIs vs x = NextValueBy Denotes ArrayBody vs x
 
 abbrev pub NextWrittenIs : Trees → Option (ValueRef × SliceInput) → Type 0
 NextWrittenIs ts x = NextValueBy IsWritten WrittenValues ts x
+
+abbrev pub NextViewIs : Trees → Option (ValueRef × SliceInput) → Type 0
+NextViewIs es x = NextValueBy IsViewOf EncodedValues es x
 
 -- after the value that is returned are fewer bytes than n, which are values
 abbrev pub MoreValues : ℕ → Option (ValueRef × SliceInput) → Type 0
@@ -60,6 +64,9 @@ NextKeyIs ps x = NextKeyBy IsReadAt TableBody ps x
 abbrev pub NextWrittenKeyIs : Entries → Option (Bor (List ℕ) × Bor (List ℕ) × Bor (List ℕ)) → Type 0
 NextWrittenKeyIs ps x = NextKeyBy WrittenAt WrittenPairs ps x
 
+abbrev pub NextEncodedKeyIs : Entries → Option (Bor (List ℕ) × Bor (List ℕ) × Bor (List ℕ)) → Type 0
+NextEncodedKeyIs es x = NextKeyBy EncodedAt EncodedPairs es x
+
 -- after the pair whose key is returned are fewer bytes than n, which are pairs
 abbrev pub MoreKeys : ℕ → Option (Bor (List ℕ) × Bor (List ℕ) × Bor (List ℕ)) → Type 0
 MoreKeys n None = Unit {0}
@@ -76,6 +83,9 @@ BeginsAt v at = BeginsBy IsReadAt v at
 
 abbrev pub WrittenBegins : Option Tree → Option (Bor (List ℕ)) → Type 0
 WrittenBegins t at = BeginsBy WrittenAt t at
+
+abbrev pub EncodedBegins : Option Tree → Option (Bor (List ℕ)) → Type 0
+EncodedBegins e at = BeginsBy EncodedAt e at
 
 -- a step returns the first of the values, and leaves the others
 abbrev pub ValueStep : Trees → Option ValueRef → List ℕ → Type 0
@@ -102,6 +112,10 @@ FoundIs v r = FoundBy Denotes v r
 -- what is found is the tree as it is written, if there is one
 abbrev pub WrittenIs : Option Tree → Option ValueRef → Type 0
 WrittenIs t r = FoundBy IsWritten t r
+
+-- what is found is a view of exactly the encoding, if there is one
+abbrev pub ViewIs : Option Tree → Option ValueRef → Type 0
+ViewIs e r = FoundBy IsViewOf e r
 
 -- the value at a place of an array, counted from 0
 abbrev pub tree_at : ℕ → Trees → Option Tree

@@ -5,8 +5,9 @@ ghost use Rattle.amqp_grammar.specs.Values.{Trees, no_trees};
 ghost use Rattle.amqp_grammar.specs.Grammar.{ArrayBody};
 ghost use Rattle.amqp_value_core.specs.Containers.{array_view};
 ghost use Rattle.amqp_in_place.specs.Refs.{array_body};
-ghost use Rattle.amqp_in_place.specs.Walks.{FoundIs, WrittenIs, tree_at};
+ghost use Rattle.amqp_in_place.specs.Walks.{FoundIs, WrittenIs, ViewIs, tree_at};
 ghost use Rattle.amqp_in_place.specs.Written.{WrittenValues};
+ghost use Rattle.amqp_in_place.specs.Encoded.{EncodedValues};
 ghost use Rattle.amqp_in_place.specs.Places.{LiesWithin};
 
 use super::refs::{ArrayRef, ValueRef};
@@ -36,6 +37,7 @@ impl<'a> ArrayRef<'a> {
     pub fn get(self, index: usize) -> Option<ValueRef<'a>>
         ensures value { (vs : Trees) → ArrayBody (array_body self.entry) vs → FoundIs (tree_at index vs) result }
         ensures written { (ts : Trees) → WrittenValues (array_body self.entry) ts → WrittenIs (tree_at index ts) result }
+        ensures view { (es : Trees) → EncodedValues (array_body self.entry) es → ViewIs (tree_at index es) result }
         ensures lies { IfSome result (λ r. LiesWithin (array_body self.entry) r) }
     {
         let mut left = index;

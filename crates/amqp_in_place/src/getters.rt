@@ -14,7 +14,7 @@ impl<'a> ValueRef<'a> {
     ghost use Rattle.amqp_types.specs.Contents.{float_bits, double_bits};
     ghost use Rattle.amqp_grammar.specs.Values.{Tree, type_of};
     ghost use Rattle.amqp_value_core.specs.Getters.{truth_in, number_in, decimal_in, long_in, octets_in, array_in, table_in, is_void};
-    ghost use Rattle.amqp_in_place.specs.Refs.{Denotes, ArrayIs, TableIs};
+    ghost use Rattle.amqp_in_place.specs.Refs.{Denotes, ArrayIs, TableIs, array_body, table_body, array_bytes, table_bytes};
 
     /// The type of the value.
     pub fn get_type(self) -> AMQPType
@@ -170,7 +170,8 @@ impl<'a> ValueRef<'a> {
 
     /// The array, of a `FieldArray`.
     pub fn as_array(self) -> Option<ArrayRef<'a>>
-        ensures { (v : Tree) → Denotes self.entry v → ArrayIs (array_in v) result }
+        ensures value { (v : Tree) → Denotes self.entry v → ArrayIs (array_in v) result }
+        ensures bytes { option_map array_body result ≡ array_bytes self.entry }
     {
         match self {
             ValueRef::FieldArray(a) => Some(a),
@@ -190,7 +191,8 @@ impl<'a> ValueRef<'a> {
 
     /// The table, of a `FieldTable`.
     pub fn as_field_table(self) -> Option<TableRef<'a>>
-        ensures { (v : Tree) → Denotes self.entry v → TableIs (table_in v) result }
+        ensures value { (v : Tree) → Denotes self.entry v → TableIs (table_in v) result }
+        ensures bytes { option_map table_body result ≡ table_bytes self.entry }
     {
         match self {
             ValueRef::FieldTable(t) => Some(t),

@@ -7,7 +7,7 @@ ghost use Rattle.amqp_in_place.specs.Refs.{Denotes, table_body};
 ghost use Rattle.amqp_in_place.specs.Walks.{FoundIs, WrittenIs};
 ghost use Rattle.amqp_in_place.specs.Written.{IsWritten};
 ghost use Rattle.amqp_in_place.specs.Places.{LiesWithin};
-ghost use Rattle.amqp_in_place.specs.Paths.{at_step, at_path, content};
+ghost use Rattle.amqp_in_place.specs.Paths.{at_step, at_path, content, StepsTo, LeadsTo};
 
 use super::refs::{TableRef, ValueRef};
 
@@ -40,6 +40,7 @@ impl<'a> ValueRef<'a> {
             → FoundIs (at_path of_equal path.now v) result }
         ensures itself { path.now ≡ [] → result ≡ Some self.entry }
         ensures lies { path.now ≢ [] → IfSome result (λ r. LiesWithin (content self.entry) r) }
+        ensures view { IfSome result (LeadsTo of_equal path.now self.entry) }
     {
         let mut at = self;
         for step in path {
@@ -54,6 +55,7 @@ impl<'a> ValueRef<'a> {
         ensures last { of_equal ≡ EqualKeys.Last → (v : Tree) → Denotes self.entry v
             → FoundIs (at_step of_equal step.entry v) result }
         ensures lies { IfSome result (λ r. LiesWithin (content self.entry) r) }
+        ensures view { IfSome result (StepsTo of_equal step.entry self.entry) }
     {
         match step {
             PathStep::Key(key) => {
@@ -85,6 +87,7 @@ impl<'a> TableRef<'a> {
             → FoundIs (at_path of_equal path.now v) result }
         ensures itself { path.now ≡ [] → result ≡ Some (at.FieldTable self.entry) }
         ensures lies { path.now ≢ [] → IfSome result (λ r. LiesWithin (table_body self.entry) r) }
+        ensures view { IfSome result (LeadsTo of_equal path.now (at.FieldTable self.entry)) }
     {
         ValueRef::FieldTable(self).get_path(path, of_equal)
     }

@@ -10,7 +10,8 @@ ghost use Rattle.amqp_in_place.specs.Refs.{Denotes};
 ghost use Rattle.amqp_in_place.specs.Heads.{IsMeant, Means, RefersTo};
 ghost use Rattle.amqp_in_place.specs.Places.{LiesIn, PairLiesIn};
 ghost use Rattle.amqp_in_place.specs.InPlaceResults.{IsLeft};
-ghost use Rattle.amqp_in_place.specs.Walks.{HasFront, NextValueIs, NextWrittenIs, MoreValues, NextPairIs, MorePairs, NextKeyIs, NextWrittenKeyIs, MoreKeys};
+ghost use Rattle.amqp_in_place.specs.Walks.{HasFront, NextValueIs, NextWrittenIs, NextViewIs, MoreValues, NextPairIs, MorePairs, NextKeyIs, NextWrittenKeyIs, NextEncodedKeyIs, MoreKeys};
+ghost use Rattle.amqp_in_place.specs.Encoded.{IsViewOf, EncodedAt, EncodedValues, EncodedPairs};
 ghost use Rattle.amqp_in_place.specs.Written.{IsWritten, WrittenAt, WrittenValues, WrittenPairs};
 
 use super::head::{Head, read_head, read_key};
@@ -38,6 +39,7 @@ pub(crate) fn front_value<'a>(bytes: &'a [u8]) -> ValueRef<'a>
     requires { ∥ HasFront bytes.now ∥₁ }
     ensures value { (v : Tree) (rest : List ℕ) → Outcome bytes.now (found v rest) → Denotes result v }
     ensures written { (t : Tree) (rest : List ℕ) → WrittenAt t bytes.now rest → IsWritten result t }
+    ensures view { (e : Tree) (rest : List ℕ) → EncodedAt e bytes.now rest → IsViewOf result e }
     ensures lies { (rest : List ℕ) × LiesIn bytes.now result rest }
 {
     let Ok((_, head)) = read_head(SliceInput::new(bytes)) else {
@@ -52,6 +54,7 @@ pub(crate) fn next_value<'a>(bytes: SliceInput<'a>) -> Option<(ValueRef<'a>, Sli
     requires { ∥ HasValues (slice_bytes bytes) ∥₁ }
     ensures value { (vs : Trees) → ArrayBody (slice_bytes bytes.entry) vs → NextValueIs vs result }
     ensures written { (ts : Trees) → WrittenValues (slice_bytes bytes.entry) ts → NextWrittenIs ts result }
+    ensures view { (es : Trees) → EncodedValues (slice_bytes bytes.entry) es → NextViewIs es result }
     ensures more { MoreValues (length (slice_bytes bytes.entry)) result }
     ensures lies { IfSome result (λ x. LiesIn (slice_bytes bytes.entry) x.0 (slice_bytes x.1)) }
 {
@@ -94,6 +97,7 @@ pub(crate) fn next_key<'a>(pairs: &'a [u8]) -> Option<(&'a [u8], &'a [u8], &'a [
     requires { ∥ HasPairs pairs.now ∥₁ }
     ensures key { (ps : Entries) → TableBody pairs.now ps → NextKeyIs ps result }
     ensures written { (ps : Entries) → WrittenPairs pairs.now ps → NextWrittenKeyIs ps result }
+    ensures encoded { (es : Entries) → EncodedPairs pairs.now es → NextEncodedKeyIs es result }
     ensures more { MoreKeys (length pairs.now) result }
     ensures front { IfSome result (λ x. ∥ HasFront x.1.now ∥₁) }
     ensures value { IfSome result (λ x. IsLeft pairs.now x.1.now) }

@@ -8,8 +8,9 @@ ghost use Rattle.amqp_value_core.specs.Containers.{table_view};
 ghost use Rattle.amqp_in_place.specs.InPlaceResults.{IsLeft};
 ghost use Rattle.amqp_in_place.specs.Bodies.{HasPairs, HasEntries};
 ghost use Rattle.amqp_in_place.specs.Refs.{table_body};
-ghost use Rattle.amqp_in_place.specs.Walks.{FoundIs, WrittenIs, HasFront, BeginsAt, WrittenBegins};
+ghost use Rattle.amqp_in_place.specs.Walks.{FoundIs, WrittenIs, ViewIs, HasFront, BeginsAt, WrittenBegins, EncodedBegins};
 ghost use Rattle.amqp_in_place.specs.Written.{WrittenPairs};
+ghost use Rattle.amqp_in_place.specs.Encoded.{EncodedPairs};
 ghost use Rattle.amqp_in_place.specs.Keys.{first_at};
 ghost use Rattle.amqp_in_place.specs.Places.{LiesWithin};
 
@@ -42,6 +43,7 @@ impl<'a> TableRef<'a> {
     pub fn get(self, key: &str) -> Option<ValueRef<'a>>
         ensures value { (es : Entries) → HasEntries (table_body self.entry) es → FoundIs (value_at key.now es) result }
         ensures written { (ps : Entries) → WrittenPairs (table_body self.entry) ps → WrittenIs (last_at key.now ps) result }
+        ensures view { (es : Entries) → EncodedPairs (table_body self.entry) es → ViewIs (last_at key.now es) result }
         ensures lies { IfSome result (λ r. LiesWithin (table_body self.entry) r) }
     {
         let at = last_at(self.as_bytes(), key.as_bytes())?;
@@ -53,6 +55,7 @@ impl<'a> TableRef<'a> {
     pub fn get_first(self, key: &str) -> Option<ValueRef<'a>>
         ensures value { (ps : Entries) → TableBody (table_body self.entry) ps → FoundIs (first_at key.now ps) result }
         ensures written { (ps : Entries) → WrittenPairs (table_body self.entry) ps → WrittenIs (first_at key.now ps) result }
+        ensures view { (es : Entries) → EncodedPairs (table_body self.entry) es → ViewIs (first_at key.now es) result }
         ensures lies { IfSome result (λ r. LiesWithin (table_body self.entry) r) }
     {
         let at = first_at(self.as_bytes(), key.as_bytes())?;
@@ -89,6 +92,7 @@ fn last_at<'a>(pairs: &'a [u8], key: &[u8]) -> Option<&'a [u8]>
     requires { ∥ HasPairs pairs.now ∥₁ }
     ensures value { (es : Entries) → HasEntries pairs.now es → BeginsAt (value_at key.now es) result }
     ensures written { (ps : Entries) → WrittenPairs pairs.now ps → WrittenBegins (last_at key.now ps) result }
+    ensures encoded { (es : Entries) → EncodedPairs pairs.now es → EncodedBegins (last_at key.now es) result }
     ensures front { IfSome result (λ at. ∥ HasFront at.now ∥₁) }
     ensures left { IfSome result (λ at. IsLeft pairs.now at.now) }
 {
@@ -108,6 +112,7 @@ fn first_at<'a>(pairs: &'a [u8], key: &[u8]) -> Option<&'a [u8]>
     requires { ∥ HasPairs pairs.now ∥₁ }
     ensures value { (ps : Entries) → TableBody pairs.now ps → BeginsAt (first_at key.now ps) result }
     ensures written { (ps : Entries) → WrittenPairs pairs.now ps → WrittenBegins (first_at key.now ps) result }
+    ensures encoded { (es : Entries) → EncodedPairs pairs.now es → EncodedBegins (first_at key.now es) result }
     ensures front { IfSome result (λ at. ∥ HasFront at.now ∥₁) }
     ensures left { IfSome result (λ at. IsLeft pairs.now at.now) }
 {

@@ -104,6 +104,24 @@ fn needs(bytes: &[u8]) -> Option<usize> {
     }
 }
 
+// a type tag, and the bytes after their length
+fn push_field(to: &mut Vec<u8>, tag: u8, bytes: &[u8]) -> Result<(), Fail> {
+    to.push(tag)?;
+    let length = u32::try_from(bytes.len()).unwrap_or(0);
+    to.extend_from_slice(&length.to_be_bytes())?;
+    to.extend_from_slice(bytes)?;
+    Ok(())
+}
+
+// the body of a table with the key `a` twice: the first value is this, the second the number 7
+fn twice(alloc: Global, first: &[u8]) -> Result<Vec<u8>, Fail> {
+    let mut body = Vec::new(alloc);
+    body.extend_from_slice(b"\x01a")?;
+    body.extend_from_slice(first)?;
+    body.extend_from_slice(b"\x01aB\x07")?;
+    Ok(body)
+}
+
 // whether the copy of a value in place is what `parse_value` returns
 fn is_copied(alloc: Global, bytes: &[u8]) -> Result<bool, Fail> {
     let Ok((value, _)) = read_in_place(bytes, LIMITS) else {
@@ -245,6 +263,35 @@ fn of_equal_keys_the_last_value_stays(rt: HostRuntime) {
     assert!(rt; table.get("").is_none());
     assert!(rt; table.get("ab").is_none());
     assert!(rt; !table.is_empty());
+}
+
+#[test]
+fn a_table_inside_has_the_first_of_equal_keys(rt: HostRuntime) -> Result<(), Fail> {
+    for (first, amqp_type) in EACH {
+        let body = twice(rt.alloc(), first)?;
+        let mut inner = Vec::new(rt.alloc());
+        push_field(&mut inner, b'F', &body)?;
+        let mut bytes = Vec::new(rt.alloc());
+        push_field(&mut bytes, b'A', &inner)?;
+        let Some(array) = value(&bytes).and_then(|v| v.as_array()) else {
+            panic!(&rt; "no array")
+        };
+        for found in [array.get(0), array.iter().next()] {
+            let Some(table) = found.and_then(|v| v.as_field_table()) else {
+                panic!(&rt; "no table")
+            };
+            assert!(rt; table.as_bytes() == body.as_slice());
+            let by_key = table.get_first("a").map(|v| v.get_type());
+            let by_place = table.iter().next().map(|(_, v)| v.get_type());
+            assert_eq!(rt; by_key, Some(amqp_type));
+            assert_eq!(rt; by_place, Some(amqp_type));
+            assert_eq!(rt;
+                table.get("a").and_then(|v| v.as_short_short_uint()),
+                Some(7)
+            );
+        }
+    }
+    Ok(())
 }
 
 #[test]

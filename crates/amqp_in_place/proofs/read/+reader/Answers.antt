@@ -3,6 +3,7 @@ use Rattle.std.specs.Str.{IsUtf8}
 use Rattle.amqp_grammar.specs.Values.{no_entries, insert, array, table, trees_of}
 use Rattle.amqp_types.specs.Inputs.{slice_bytes}
 use Rattle.amqp_parsing.proofs.ParsingLaws.{Goes-step, Goes-end, rest_shorter, Walks-start, Walks-step, Walks-end, key_shorter}
+use Rattle.amqp_types.specs.declared.amqp_type.AMQPType.TheVariants as amqp
 use Rattle.amqp_in_place.specs.Heads.{IsHead}
 use Rattle.amqp_in_place.specs.declared.head.Head.{Head}
 use Rattle.amqp_in_place.specs.Refs.{plain_tree}
@@ -142,11 +143,11 @@ value_within-returns-else-not-are_values-clause-lies t c =
     let s = slice_bytes c.args.i in
     let rest = slice_bytes c.in_ok-rest.rest in
     let h = subst (λ (h : Head). IsHead s h rest) c.in-FieldArray.is c.in_ok-rest.ensures in
-    subst (λ (b : List ℕ). IsFramed s b rest) (sym c.of.ensures) (array_lies s c.in-FieldArray.body rest h)
+    subst (λ (b : List ℕ). IsFramed amqp.FieldArray s b rest) (sym c.of.ensures) (array_lies s c.in-FieldArray.body rest h)
 
 pub value_within-returns-else-not-are_pairs-clause-lies : goal.value_within-returns-else-not-are_pairs-clause-lies
 value_within-returns-else-not-are_pairs-clause-lies t c =
     let s = slice_bytes c.args.i in
     let rest = slice_bytes c.in_ok-rest.rest in
     let h = subst (λ (h : Head). IsHead s h rest) c.in-FieldTable.is c.in_ok-rest.ensures in
-    subst (λ (b : List ℕ). IsFramed s b rest) (sym c.of-in-FieldTable.ensures) (table_lies s c.in-FieldTable.body rest h)
+    subst (λ (b : List ℕ). IsFramed amqp.FieldTable s b rest) (sym c.of-in-FieldTable.ensures) (table_lies s c.in-FieldTable.body rest h)

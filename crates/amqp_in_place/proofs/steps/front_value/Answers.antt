@@ -5,6 +5,7 @@ use Rattle.amqp_in_place.specs.Walks.{HasFront}
 use Rattle.amqp_in_place.proofs.Stepping.{front_there, front_means, front_meant}
 use Rattle.amqp_in_place.proofs.Places.{lies}
 use Rattle.amqp_in_place.proofs.Written.{front_written}
+use Rattle.amqp_in_place.proofs.Encoded.{front_view}
 use Rattle.amqp_in_place.proofs.steps.front_value.Goals as goal
 
 pub unreachable-requires : goal.unreachable-requires
@@ -31,3 +32,9 @@ returns-clause-written c = λ t left x.
     let rest = slice_bytes c.in-Ok.field-0-0 in
     let is = subst (λ (s : List ℕ). IsHead s c.in-Ok.head rest) c.new.ensures c.in-Ok.ensures in
     front_written c.args.bytes.now c.in-Ok.head c.value_of.result rest left t is c.value_of.ensures.refers x
+
+pub returns-clause-view : goal.returns-clause-view
+returns-clause-view c = λ e left x.
+    let rest = slice_bytes c.in-Ok.field-0-0 in
+    let is = subst (λ (s : List ℕ). IsHead s c.in-Ok.head rest) c.new.ensures c.in-Ok.ensures in
+    front_view c.args.bytes.now c.in-Ok.head c.value_of.result rest left e is c.value_of.ensures.refers x

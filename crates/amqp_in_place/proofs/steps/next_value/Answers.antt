@@ -3,6 +3,7 @@ use Rattle.amqp_types.specs.Inputs.{slice_bytes}
 use Rattle.amqp_in_place.proofs.Stepping.{value_there, value_meant, value_given, values_behind}
 use Rattle.amqp_in_place.proofs.Places.{lies}
 use Rattle.amqp_in_place.proofs.Written.{value_written, no_value_written}
+use Rattle.amqp_in_place.proofs.Encoded.{value_view, no_value_view}
 use Rattle.amqp_in_place.proofs.steps.next_value.Goals as goal
 
 pub unreachable-requires : goal.unreachable-requires
@@ -27,3 +28,10 @@ returns-clause-more c = values_behind (slice_bytes c.args.bytes) c.in-Ok.head (s
 
 pub returns-clause-lies : goal.returns-clause-lies
 returns-clause-lies c = lies (slice_bytes c.args.bytes) c.in-Ok.head c.value_of.result (slice_bytes c.in-Ok.rest) c.in-Ok.ensures c.value_of.ensures.refers
+
+pub returns-clause-view : goal.returns-clause-view
+returns-clause-view c = λ es p.
+    value_view (slice_bytes c.args.bytes) c.in-Ok.head (c.value_of.result, c.in-Ok.rest) es (omega arith) c.in-Ok.ensures c.value_of.ensures.refers p
+
+pub returns-then-input_len-eq0-clause-view : goal.returns-then-input_len-eq0-clause-view
+returns-then-input_len-eq0-clause-view c = λ es p. no_value_view (slice_bytes c.args.bytes) es (omega arith) p

@@ -2,6 +2,7 @@ use Rattle.std.proofs.Common.{sym, ◌∙◌}
 use Rattle.amqp_grammar.specs.Grammar.{TableBody}
 use Rattle.amqp_in_place.specs.Walks.{IsReadAt}
 use Rattle.amqp_in_place.specs.Written.{WrittenAt, WrittenPairs}
+use Rattle.amqp_in_place.specs.Encoded.{EncodedAt, EncodedPairs}
 use Rattle.amqp_in_place.proofs.Lookups.{passes-start, passes-step, passes-here, passes-end}
 use Rattle.amqp_in_place.proofs.Places.{left_of_left, nothing_before}
 use Rattle.amqp_in_place.proofs.tables.first_at.Goals as goal
@@ -14,6 +15,7 @@ pairs-init c =
       pairs = c.requires;
       passes = passes-start IsReadAt TableBody key s;
       written = passes-start WrittenAt WrittenPairs key s;
+      encoded = passes-start EncodedAt EncodedPairs key s;
       left = nothing_before s;
     }
 
@@ -28,6 +30,7 @@ pairs-preserved c =
       pairs = x.ensures.more.1;
       passes = passes-step IsReadAt TableBody key s rest (x.name, x.value, x.behind) c.pairs.invariant.passes x.ensures.key other;
       written = passes-step WrittenAt WrittenPairs key s rest (x.name, x.value, x.behind) c.pairs.invariant.written x.ensures.written other;
+      encoded = passes-step EncodedAt EncodedPairs key s rest (x.name, x.value, x.behind) c.pairs.invariant.encoded x.ensures.encoded other;
       left = left_of_left s rest x.behind.now c.pairs.invariant.left x.ensures.left;
     }
 
@@ -41,6 +44,11 @@ returns-then-eq-clause-written c =
     let x = c.in-Some in
     passes-here WrittenAt WrittenPairs c.args.key.now c.args.pairs.now c.pairs.rest.now (x.name, x.value, x.behind) c.pairs.invariant.written x.ensures.written (sym c.if-eq.true ∙ c.eq.ensures)
 
+pub returns-then-eq-clause-encoded : goal.returns-then-eq-clause-encoded
+returns-then-eq-clause-encoded c =
+    let x = c.in-Some in
+    passes-here EncodedAt EncodedPairs c.args.key.now c.args.pairs.now c.pairs.rest.now (x.name, x.value, x.behind) c.pairs.invariant.encoded x.ensures.encoded (sym c.if-eq.true ∙ c.eq.ensures)
+
 pub returns-then-eq-clause-left : goal.returns-then-eq-clause-left
 returns-then-eq-clause-left c = left_of_left c.args.pairs.now c.pairs.rest.now c.in-Some.value.now c.pairs.invariant.left c.in-Some.ensures.value
 
@@ -49,3 +57,6 @@ returns-clause-value c = passes-end IsReadAt TableBody c.args.key.now c.args.pai
 
 pub returns-clause-written : goal.returns-clause-written
 returns-clause-written c = passes-end WrittenAt WrittenPairs c.args.key.now c.args.pairs.now c.pairs.rest.now c.pairs.invariant.written c.in_default.ensures.written
+
+pub returns-clause-encoded : goal.returns-clause-encoded
+returns-clause-encoded c = passes-end EncodedAt EncodedPairs c.args.key.now c.args.pairs.now c.pairs.rest.now c.pairs.invariant.encoded c.in_default.ensures.encoded

@@ -3,6 +3,7 @@ use Rattle.amqp_grammar.specs.Grammar.{TableBody}
 use Rattle.amqp_in_place.specs.Bodies.{HasPairs}
 use Rattle.amqp_in_place.specs.InPlaceResults.{IsLeft}
 use Rattle.amqp_in_place.specs.Written.{WrittenPairs}
+use Rattle.amqp_in_place.specs.Encoded.{EncodedPairs}
 use Rattle.amqp_in_place.proofs.Lookups.{PassesBy}
 use Rattle.amqp_in_place.proofs.tables.first_at.Given as goal
 
@@ -12,6 +13,7 @@ invariant-pairs l = record {
   pairs : ∥ HasPairs l.rest ∥₁;
   passes : PassesBy TableBody l.key l.fn.pairs l.rest;
   written : PassesBy WrittenPairs l.key l.fn.pairs l.rest;
+  encoded : PassesBy EncodedPairs l.key l.fn.pairs l.rest;
   left : IsLeft l.fn.pairs l.rest;
 }
 

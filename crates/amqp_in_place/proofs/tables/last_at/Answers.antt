@@ -2,6 +2,7 @@ use Rattle.std.proofs.Common.{Some, Bool, cond, sym, ap}
 use Rattle.amqp_grammar.specs.Grammar.{TableBody}
 use Rattle.amqp_in_place.specs.Walks.{IsReadAt}
 use Rattle.amqp_in_place.specs.Written.{WrittenAt, WrittenPairs}
+use Rattle.amqp_in_place.specs.Encoded.{EncodedAt, EncodedPairs}
 use Rattle.amqp_in_place.proofs.Lookups.{looks-start, looks-step, looks-end, last_is_value}
 use Rattle.amqp_in_place.proofs.Places.{left_of_left, nothing_before}
 use Rattle.amqp_in_place.proofs.tables.last_at.Goals as goal
@@ -14,6 +15,7 @@ pairs-init c =
       pairs = c.requires;
       looks = looks-start IsReadAt TableBody key s;
       written = looks-start WrittenAt WrittenPairs key s;
+      encoded = looks-start EncodedAt EncodedPairs key s;
       left = nothing_before s;
       front = tt;
       lies = tt;
@@ -30,6 +32,7 @@ pairs-preserved-then-eq c =
       pairs = x.ensures.more.1;
       looks = looks-step IsReadAt TableBody key s rest c.pairs.at (Some x.value) (x.name, x.value, x.behind) c.eq.result c.pairs.invariant.looks x.ensures.key c.eq.ensures made;
       written = looks-step WrittenAt WrittenPairs key s rest c.pairs.at (Some x.value) (x.name, x.value, x.behind) c.eq.result c.pairs.invariant.written x.ensures.written c.eq.ensures made;
+      encoded = looks-step EncodedAt EncodedPairs key s rest c.pairs.at (Some x.value) (x.name, x.value, x.behind) c.eq.result c.pairs.invariant.encoded x.ensures.encoded c.eq.ensures made;
       left = left_of_left s rest x.behind.now c.pairs.invariant.left x.ensures.left;
       front = x.ensures.front;
       lies = left_of_left s rest x.value.now c.pairs.invariant.left x.ensures.value;
@@ -46,6 +49,7 @@ pairs-preserved c =
       pairs = x.ensures.more.1;
       looks = looks-step IsReadAt TableBody key s rest c.pairs.at c.pairs.at (x.name, x.value, x.behind) c.eq.result c.pairs.invariant.looks x.ensures.key c.eq.ensures made;
       written = looks-step WrittenAt WrittenPairs key s rest c.pairs.at c.pairs.at (x.name, x.value, x.behind) c.eq.result c.pairs.invariant.written x.ensures.written c.eq.ensures made;
+      encoded = looks-step EncodedAt EncodedPairs key s rest c.pairs.at c.pairs.at (x.name, x.value, x.behind) c.eq.result c.pairs.invariant.encoded x.ensures.encoded c.eq.ensures made;
       left = left_of_left s rest x.behind.now c.pairs.invariant.left x.ensures.left;
       front = c.pairs.invariant.front;
       lies = c.pairs.invariant.lies;
@@ -59,3 +63,7 @@ returns-clause-value c =
 pub returns-clause-written : goal.returns-clause-written
 returns-clause-written c =
     looks-end WrittenAt WrittenPairs c.args.key.now c.args.pairs.now c.pairs.rest.now c.pairs.at c.pairs.invariant.written c.in_default.ensures.written
+
+pub returns-clause-encoded : goal.returns-clause-encoded
+returns-clause-encoded c =
+    looks-end EncodedAt EncodedPairs c.args.key.now c.args.pairs.now c.pairs.rest.now c.pairs.at c.pairs.invariant.encoded c.in_default.ensures.encoded

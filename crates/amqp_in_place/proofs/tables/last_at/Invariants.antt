@@ -2,7 +2,7 @@ use Rattle.std.proofs.Common.{length, IfSome}
 use Rattle.amqp_in_place.specs.Bodies.{HasPairs}
 use Rattle.amqp_in_place.specs.InPlaceResults.{IsLeft}
 use Rattle.amqp_in_place.specs.Walks.{HasFront}
-use Rattle.amqp_in_place.proofs.Lookups.{Looks, WrittenLooks}
+use Rattle.amqp_in_place.proofs.Lookups.{Looks, WrittenLooks, EncodedLooks}
 use Rattle.amqp_in_place.proofs.tables.last_at.Given as goal
 
 -- pairs are left, and the place of a found value is that by those before them
@@ -11,6 +11,7 @@ invariant-pairs l = record {
   pairs : ∥ HasPairs l.rest ∥₁;
   looks : Looks l.key l.fn.pairs l.rest l.at;
   written : WrittenLooks l.key l.fn.pairs l.rest l.at;
+  encoded : EncodedLooks l.key l.fn.pairs l.rest l.at;
   left : IsLeft l.fn.pairs l.rest;
   front : IfSome l.at (λ at. ∥ HasFront at.now ∥₁);
   lies : IfSome l.at (λ at. IsLeft l.fn.pairs at.now);

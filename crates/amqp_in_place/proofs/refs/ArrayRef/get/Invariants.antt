@@ -5,6 +5,7 @@ use Rattle.amqp_in_place.specs.Bodies.{HasValues}
 use Rattle.amqp_in_place.specs.Refs.{array_body}
 use Rattle.amqp_in_place.specs.InPlaceResults.{IsLeft}
 use Rattle.amqp_in_place.specs.Written.{WrittenValues}
+use Rattle.amqp_in_place.specs.Encoded.{EncodedValues}
 use Rattle.amqp_in_place.proofs.Lookups.{CountsBy}
 use Rattle.amqp_in_place.proofs.refs.ArrayRef.get.Given as goal
 
@@ -14,6 +15,7 @@ invariant-values l = record {
   values : ∥ HasValues (slice_bytes l.rest) ∥₁;
   counts : CountsBy ArrayBody l.fn.index (array_body l.fn.self) (slice_bytes l.rest) l.left;
   written : CountsBy WrittenValues l.fn.index (array_body l.fn.self) (slice_bytes l.rest) l.left;
+  view : CountsBy EncodedValues l.fn.index (array_body l.fn.self) (slice_bytes l.rest) l.left;
   left : IsLeft (array_body l.fn.self) (slice_bytes l.rest);
 }
 

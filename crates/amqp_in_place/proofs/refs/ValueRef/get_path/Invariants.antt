@@ -4,7 +4,7 @@ use Rattle.amqp_in_place.specs.Refs.{Denotes}
 use Rattle.amqp_in_place.specs.Written.{IsWritten}
 use Rattle.amqp_in_place.specs.Places.{LiesWithin}
 use Rattle.amqp_in_place.specs.Paths.{content}
-use Rattle.amqp_in_place.proofs.Paths.{Follows}
+use Rattle.amqp_in_place.proofs.Paths.{Follows, Leads}
 use Rattle.amqp_in_place.proofs.refs.ValueRef.get_path.Given as goal
 
 -- the rest of the path leads from here to what the path leads to
@@ -14,4 +14,5 @@ invariant-loop-step l = record {
   last : l.fn.of_equal ≡ equal.Last → Follows Denotes l.fn.of_equal l.fn.path (drop l.step-index l.fn.path) l.fn.self l.at;
   start : l.step-index ≡ 0 → l.at ≡ l.fn.self;
   lies : 0 < l.step-index → LiesWithin (content l.fn.self) l.at;
+  view : Leads l.fn.of_equal l.fn.path (drop l.step-index l.fn.path) l.fn.self l.at;
 }
