@@ -29,7 +29,7 @@ further_none None = refl
 further_none (Some p) = ap (λ (k : ℕ). Some (record { offset = k; kind = p.kind })) (omega arith)
 
 -- a length field is there in what is counted
-counted_there : (w : Width) (b : List ℕ) → byte_len w ≤ extent_of None w b
+pub counted_there : (w : Width) (b : List ℕ) → byte_len w ≤ extent_of None w b
 counted_there w b = by (nat_lt (length b) (byte_len w))
   where
     by : (less : Bool) → byte_len w ≤ (if less then byte_len w else byte_len w + counted w b)
@@ -48,7 +48,7 @@ module _ (first : Search) (len : List ℕ → ℕ) where
   passed_over (suc n) (c ∷ s) = ap (option_map (further 1)) (passed_over n s) ∙ further_again n (in_entries first len 0 (drop n s))
 
   -- after an entry without a problem the first one is that of the entries after it
-  entry_passed : (s : List ℕ) (n : ℕ) → first s ≡ None → n ≡ len s → 0 < n → n ≤ length s
+  pub entry_passed : (s : List ℕ) (n : ℕ) → first s ≡ None → n ≡ len s → 0 < n → n ≤ length s
       → in_entries first len 0 s ≡ option_map (further n) (in_entries first len 0 (drop n s))
   entry_passed [] n none is some most = absurd (omega (arith, some, most))
   entry_passed (c ∷ s) zero none is some most = absurd (omega (arith, some))
@@ -56,7 +56,7 @@ module _ (first : Search) (len : List ℕ → ℕ) where
       let e : len (c ∷ s) - 1 ≡ n = omega (arith, is) in
       rw (none, e) (ap (option_map (further 1)) (passed_over n s) ∙ further_again n (in_entries first len 0 (drop n s)))
 
-  entry_stops : (s : List ℕ) (p : Problem) → 0 < length s → first s ≡ Some p → in_entries first len 0 s ≡ Some p
+  pub entry_stops : (s : List ℕ) (p : Problem) → 0 < length s → first s ≡ Some p → in_entries first len 0 s ≡ Some p
   entry_stops [] p some found = absurd (omega (arith, some))
   entry_stops (c ∷ s) p some found = rw found refl
 

@@ -13,6 +13,7 @@ pub mod RepeatedKeys
 pub mod Keys
 pub mod Paths
 pub mod FirstProblems
+pub mod ProblemReadings
 pub mod KeyFaults
 pub mod Untagged
 pub mod Measuring

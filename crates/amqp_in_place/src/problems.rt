@@ -1,12 +1,13 @@
 //! The first thing in a value that isn't allowed, and its offset.
 
-ghost use Rattle.std.specs.Prelude.{◌≡◌, ◌<◌, ◌≤◌, ◌+◌, ◌^◌, ◌&&◌, suc, not, IfSome, length};
+ghost use Rattle.std.specs.Prelude.{◌≡◌, ◌↔◌, ◌<◌, ◌≤◌, ◌+◌, ◌^◌, ◌&&◌, suc, not, IfSome, IsNone, length};
 ghost use Rattle.std.specs.Int.{w32, w64, from_be_bytes};
 ghost use Rattle.amqp_grammar.specs.Layouts.{fixed};
 ghost use Rattle.amqp_grammar.specs.Outcomes.{length_field};
 ghost use Rattle.amqp_parsing.specs.Headers.{extent, raw_extent, first_of};
+ghost use Rattle.amqp_parsing.specs.Untagged.{tagged};
 ghost use Rattle.amqp_in_place.specs.Problems.{known, allow_key, want_finite, are_ones, here, further, untagged, in_entries, in_payload, in_value, in_pair, pair_len, inside, problem_of, problem_in_table_of};
-ghost use Rattle.amqp_in_place.specs.ProblemResults.{GoesOver};
+ghost use Rattle.amqp_in_place.specs.ProblemResults.{GoesOver, FindsValue, FailsAt};
 
 use crate::read::check_utf8;
 use amqp_parsing::Limits;
@@ -92,6 +93,9 @@ impl Problem {
 /// any byte. If `read_in_place` needs more bytes, the value is `Cut`, at 0.
 pub fn first_problem(bytes: &[u8], rules: Rules, limits: Limits) -> Option<Problem>
     ensures first { result ≡ problem_of rules limits bytes.now }
+    ensures read { rules ≡ Rules.Reading → (IsNone result ↔ FindsValue limits bytes.now) }
+    ensures fails { rules ≡ Rules.Reading
+        → IfSome result (λ p. FailsAt limits bytes.now p.offset p.kind) }
     ensures inside { IfSome result (λ p. p.offset ≤ length bytes.now) }
 {
     if value_len(SliceInput::new(bytes)) > limits.frame as usize {
@@ -108,6 +112,10 @@ pub fn first_problem(bytes: &[u8], rules: Rules, limits: Limits) -> Option<Probl
 /// too.
 pub fn first_problem_in_table(table: &[u8], rules: Rules, limits: Limits) -> Option<Problem>
     ensures first { result ≡ problem_in_table_of rules limits table.now }
+    ensures read { rules ≡ Rules.Reading
+        → (IsNone result ↔ FindsValue limits (tagged AMQPType.FieldTable table.now)) }
+    ensures fails { rules ≡ Rules.Reading → IfSome result (λ p.
+        FailsAt limits (tagged AMQPType.FieldTable table.now) p.offset p.kind) }
     ensures inside { IfSome result (λ p. p.offset ≤ length table.now) }
 {
     let len = value_len(SplitInput::new(b"F", table));

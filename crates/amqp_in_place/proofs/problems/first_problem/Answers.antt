@@ -1,0 +1,18 @@
+use Rattle.std.proofs.Common.{arith}
+use Rattle.std.proofs.lemmas.Grind.{common_steps}
+use Rattle.amqp_in_place.proofs.Canonicals.{bytes_all}
+use Rattle.amqp_in_place.proofs.ProblemReadings.{reads_if_none, fails_if_some}
+use Rattle.amqp_in_place.proofs.problems.first_problem.Goals as goal
+
+pub returns-clause-first : goal.returns-clause-first
+returns-clause-first c = grind (arith, common_steps)
+
+pub returns-clause-read : goal.returns-clause-read
+returns-clause-read c = λ is.
+    let bytes = bytes_all c.args.bytes.now c.type_inv.bytes in
+    reads_if_none c.args.rules c.args.limits c.args.bytes.now bytes is c.err.result (returns-clause-first c)
+
+pub returns-clause-fails : goal.returns-clause-fails
+returns-clause-fails c = λ is.
+    let bytes = bytes_all c.args.bytes.now c.type_inv.bytes in
+    fails_if_some c.args.rules c.args.limits c.args.bytes.now bytes is c.err.result (returns-clause-first c)
