@@ -1,1 +1,3 @@
 mod Screens
+mod Adding
+mod Writing

@@ -5,6 +5,7 @@ use Rattle.std.proofs.lemmas.Bool.{and_parts, and_from}
 use Rattle.std.proofs.lemmas.Str.{chars-append, chars-encodes, chars-nil}
 use Rattle.std.specs.Char.{IsScalar, encode_utf8}
 use Rattle.std.specs.Str.{chars, IsUtf8}
+use Rattle.amqp_screen.specs.Escapes.{escape, four_digits}
 use Rattle.amqp_screen.specs.Screens.{prints, begins_with, names_colour, is_showable, IsShowable}
 
 begins_more : (w s t : List ℕ) → begins_with w s ≡ true → begins_with w (s ++ t) ≡ true
@@ -67,6 +68,28 @@ pub line_end : (colours : Bool) → IsShowable colours (10 ∷ [])
 unfolding chars
 line_end colours = refl
 
+-- what begins and ends an escape
+pub ascii_escape : (colours : Bool) → IsShowable colours (92 ∷ 120 ∷ [])
+unfolding chars
+ascii_escape colours = refl
+
+pub escape_begin : (colours : Bool) → IsShowable colours (92 ∷ 117 ∷ 123 ∷ [])
+unfolding chars
+escape_begin colours = refl
+
+pub escape_end : (colours : Bool) → IsShowable colours (125 ∷ [])
+unfolding chars
+escape_end colours = refl
+
+pub json_escape_begin : (colours : Bool) → IsShowable colours (92 ∷ 117 ∷ [])
+unfolding chars
+json_escape_begin colours = refl
+
+-- what a level is indented by
+pub two_spaces : (colours : Bool) → IsShowable colours (32 ∷ 32 ∷ [])
+unfolding chars
+two_spaces colours = refl
+
 -- colours, if there are any
 pub key_colour : (colours : Bool) → colours ≡ true → IsShowable colours (27 ∷ 91 ∷ 51 ∷ 54 ∷ 109 ∷ [])
 unfolding chars
@@ -90,3 +113,7 @@ ascii_prints c low high = grind (arith, nat_tests)
 
 pub code_fits : (c : ℕ) → prints c ≡ false → c < 2 ^ 16
 code_fits c e = grind (arith, nat_tests)
+
+-- a character that isn't ASCII, and its code
+pub escape_wide : (c code : ℕ) → code ≡ c → 128 ≤ code → escape c ≡ codes "\\u{" ++ (four_digits code ++ codes "}")
+escape_wide c code e h = grind (arith, nat_tests)

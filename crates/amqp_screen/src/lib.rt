@@ -2,8 +2,12 @@
 //! statuses.
 #![tactic(auto)]
 
+mod character;
+mod print;
+mod push;
 mod screen;
 mod status;
 
-pub use screen::{CLOSED, Colour, Screen, is_terminal, print_raw};
+pub use print::{PrintError, is_terminal, print_raw, raw_to};
+pub use screen::{Colour, Screen};
 pub use status::{Status, exit_status, worse};

@@ -1,13 +1,13 @@
 //! From JSON to an encoding.
 
 use crate::arguments::Subject;
+use crate::fault::Result;
 use crate::input::read_file;
 use crate::messages::{complain, unreadable};
 use crate::reasons::reason;
 use amq_protocol_types::AMQPType;
 use amqp_json::encoding_of_json;
 use amqp_screen::{Screen, Status, print_raw};
-use anyhow::Result;
 use std::str;
 
 /// Writes the encoding of the value that a file's JSON denotes, or of the table without its type

@@ -1,13 +1,13 @@
 //! What is reported of a value that isn't shown, or is followed by bytes.
 
 use crate::arguments::Settings;
+use crate::fault::Result;
 use crate::input::Tagged;
 use crate::messages::complain;
 use crate::texts::{count_text, failure_text, outcome_text};
 use crate::untagged::{LACKS_TYPE_TAG, lacks_type_tag};
 use amqp_dissect::dissect;
 use amqp_screen::Status;
-use anyhow::Result;
 use std::alloc::{AllocError, Global};
 
 /// Reports why an input isn't a value within the limits.

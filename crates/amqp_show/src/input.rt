@@ -2,8 +2,8 @@
 
 use crate::arguments::{Settings, Subject};
 use crate::digits::Digits;
+use crate::fault::Result;
 use crate::messages::why_unread;
-use anyhow::Result;
 use std::alloc::Global;
 use std::fs::File;
 use std::io;

@@ -2,12 +2,12 @@
 
 use crate::arguments::Settings;
 use crate::failures::{complain_of_rest, refuse};
+use crate::fault::{Fault, Result};
 use crate::input::Tagged;
-use crate::messages::{complain, out_of_memory};
+use crate::messages::complain;
 use amq_protocol_types::stream::Limits;
 use amqp_json::{DecodeError, json_of_encoding};
 use amqp_screen::{Screen, Status};
-use anyhow::Result;
 use std::alloc::{AllocError, Global};
 
 // Readers of JSON texts take those that nest that deep, `--encode` among them.
@@ -29,7 +29,7 @@ pub fn show_input(
             Ok(status)
         }
         Err(DecodeError::Refused(_)) => refuse(rt, file, input, settings),
-        Err(DecodeError::OutOfMemory) => Err(out_of_memory()),
+        Err(DecodeError::OutOfMemory) => Err(Fault::OutOfMemory),
     }
 }
 

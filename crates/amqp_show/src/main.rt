@@ -11,6 +11,7 @@ mod digits;
 mod dump;
 mod encode;
 mod failures;
+mod fault;
 mod input;
 mod json;
 mod measure;
@@ -27,17 +28,17 @@ mod tree;
 mod untagged;
 
 use amqp_screen::{Screen, Status, exit_status, is_terminal, worse};
-use anyhow::Result;
 use arguments::{Settings, Task};
 use clap::error::ErrorKind;
-use messages::{fail, out_of_memory};
+use fault::{Fault, Result};
+use messages::fail;
 use std::env;
 use std::process::ExitCode;
 
 fn main(rt: HostRuntime) -> ExitCode {
-    let status = run(&rt).unwrap_or_else(|error| {
+    let status = run(&rt).unwrap_or_else(|fault| {
         // If the message can't be written, the status still reports what happened.
-        let _ = fail(&rt, &error);
+        let _ = fail(&rt, &fault);
         Status::Mistake
     });
     ExitCode::from(exit_status(status))
@@ -67,7 +68,7 @@ fn run(rt: &HostRuntime) -> Result<Status> {
 // Prints what the arguments ask for, or why they can't be understood.
 fn answer(rt: &HostRuntime, error: &clap::Error) -> Result<Status> {
     match error.kind() {
-        ErrorKind::OutOfMemory => return Err(out_of_memory()),
+        ErrorKind::OutOfMemory => return Err(Fault::OutOfMemory),
         _ => {}
     }
     let text = format!(in rt.alloc(); "{error}")?;

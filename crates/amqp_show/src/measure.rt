@@ -2,6 +2,7 @@
 
 use crate::arguments::Settings;
 use crate::failures::{complain_of_rest, refuse};
+use crate::fault::Result;
 use crate::input::Tagged;
 use crate::recorder::Recorder;
 use amq_protocol_types::in_place::{Measure, measure_value};
@@ -10,7 +11,6 @@ use amq_protocol_types::stream::{Limits, StreamError};
 use amqp_parsing::SliceInput;
 use amqp_parsing::header::value_len;
 use amqp_screen::{Screen, Status};
-use anyhow::Result;
 use std::io;
 use std::io::Read;
 

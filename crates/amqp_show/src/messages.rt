@@ -1,16 +1,11 @@
 //! Messages on the standard error.
 
+use crate::fault::{Fault, Result};
 use crate::texts::quoted;
-use amqp_screen::{CLOSED, Screen, Status};
-use anyhow::{Error, Result, anyhow};
+use amqp_screen::{PrintError, Screen, Status};
 use std::alloc::Global;
 use std::io;
 use std::io::ErrorKind;
-
-const OUT_OF_MEMORY: &str = "out of memory";
-
-// What an `AllocError` prints.
-const ALLOC_ERROR: &str = "memory allocation failed";
 
 /// Prints a message about a file.
 pub fn complain(rt: &HostRuntime, file: &str, why: &str) -> Result<()> {
@@ -33,30 +28,20 @@ pub fn unreadable(rt: &HostRuntime, file: &str, why: &str) -> Result<Status> {
 /// Why reading failed, unless memory ran out: that ends the program.
 pub fn why_unread(alloc: Global, error: &io::Error) -> Result<String> {
     match error.kind() {
-        ErrorKind::OutOfMemory => Err(out_of_memory()),
+        ErrorKind::OutOfMemory => Err(Fault::OutOfMemory),
         _ => Ok(format!(in alloc; "can't be read: {error}")?),
     }
 }
 
-/// What the program ends with after a failed allocation.
-pub fn out_of_memory() -> Error {
-    anyhow!("{OUT_OF_MEMORY}")
-}
-
 /// Reports why the program can't go on, unless that is since nobody reads what it prints.
-pub fn fail(rt: &HostRuntime, error: &Error) -> Result<()> {
-    let why = format!(in rt.alloc(); "{error:#}")?;
-    if why.as_str() == CLOSED {
+pub fn fail(rt: &HostRuntime, fault: &Fault) -> Result<()> {
+    if let Fault::Output(PrintError::Closed) = fault {
         return Ok(());
     }
-    let is_memory = why.as_str() == ALLOC_ERROR;
+    let why = format!(in rt.alloc(); "{fault}")?;
     let mut screen = Screen::new(rt.alloc(), false);
     screen.push_text("amqp_show: ")?;
-    screen.push_line(if is_memory {
-        OUT_OF_MEMORY
-    } else {
-        why.as_str()
-    })?;
+    screen.push_line(why.as_str())?;
     screen.print_error(rt)?;
     Ok(())
 }

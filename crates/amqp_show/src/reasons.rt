@@ -1,10 +1,9 @@
 //! Why JSON has no encoding, and at which place.
 
+use crate::fault::{Fault, Result};
 use crate::json::too_deep;
-use crate::messages::out_of_memory;
 use crate::texts::quoted;
 use amqp_json::{EncodeError, JsonError, encoding_of_json};
-use anyhow::Result;
 use serde_json::{Map, Value};
 use std::alloc::{AllocError, Global};
 
@@ -20,12 +19,12 @@ const TOO_LONG: &str = "it is longer than a length of 32 bits says";
 pub fn reason(alloc: Global, json: &str, error: &EncodeError) -> Result<String> {
     match error {
         EncodeError::OutOfMemory | EncodeError::Json(JsonError::OutOfMemory) => Err(
-            out_of_memory(),
+            Fault::OutOfMemory,
         ),
         EncodeError::Json(JsonError::Syntax(error)) => Ok(syntax_text(alloc, json, error)?),
         EncodeError::Json(JsonError::NotAValue) | EncodeError::NoTypeTag | EncodeError::TooLong => {
             // It has been read before: only memory can be wanting.
-            let value = Value::from_str(alloc, json)?;
+            let value = Value::from_str(alloc, json).map_err(|_| Fault::OutOfMemory)?;
             reason_in(alloc, String::from_str(alloc, "$")?, &value)
         }
     }
@@ -96,7 +95,7 @@ fn has_encoding(alloc: Global, value: &Value) -> Result<bool> {
     match encoding_of_json(alloc, json.as_str()) {
         Ok(_) => Ok(true),
         Err(EncodeError::OutOfMemory | EncodeError::Json(JsonError::OutOfMemory)) => {
-            Err(out_of_memory())
+            Err(Fault::OutOfMemory)
         }
         Err(_) => Ok(false),
     }

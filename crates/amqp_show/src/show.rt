@@ -4,6 +4,7 @@ use crate::arguments::{Form, Settings};
 use crate::bytes::push_bytes;
 use crate::check::check_input;
 use crate::cut::Cut;
+use crate::fault::Result;
 use crate::input::{Tagged, read_input};
 use crate::json;
 use crate::measure::measure_input;
@@ -14,7 +15,6 @@ use crate::tree::push_tree;
 use crate::untagged::{LACKS_TYPE_TAG, lacks_type_tag};
 use amqp_dissect::{End, Part, dissect};
 use amqp_screen::{Colour, Screen, Status};
-use anyhow::Result;
 use std::alloc::{AllocError, Global};
 
 /// Shows the value at the beginning of a file.

@@ -3,10 +3,11 @@
 use crate::arguments::{Form, Settings, Task};
 use crate::digits::Digits;
 use crate::failures::{print_failure, why_refused};
+use crate::fault::{Fault, Result};
 use crate::input::{BLOCK, Input};
 use crate::json::print_json;
 use crate::measure::{next_measure, print_measure};
-use crate::messages::{complain, out_of_memory, unreadable, why_unread};
+use crate::messages::{complain, unreadable, why_unread};
 use crate::recorder::Recorder;
 use crate::show::{push_name, push_value};
 use crate::texts::outcome_text;
@@ -17,7 +18,6 @@ use amqp_json::to_json;
 use amqp_parsing::SliceInput;
 use amqp_parsing::header::value_len;
 use amqp_screen::{Screen, Status, worse};
-use anyhow::{Result, anyhow};
 use std::alloc::Global;
 use std::io;
 use std::io::{BufReader, ErrorKind, Read};
@@ -100,7 +100,7 @@ fn show_values<R: Read + Drop>(
     settings: Settings,
 ) -> Result<Status> {
     if settings.limits.frame == 0 {
-        return Err(anyhow!("--stream with --frame 0 reads no value"));
+        return Err(Fault::NoFrame);
     }
     let mut values = Values::new(rt.alloc(), settings.limits);
     let mut recorder = Recorder::new(rt.alloc(), source);
@@ -117,7 +117,7 @@ fn show_values<R: Read + Drop>(
             Ok(None) => return Ok(status),
             Err(StreamError::Read(ErrorKind::Interrupted)) => {}
             Err(StreamError::Read(kind)) => return unread(rt, file, recorder.reader(), kind),
-            Err(StreamError::OutOfMemory) => return Err(out_of_memory()),
+            Err(StreamError::OutOfMemory) => return Err(Fault::OutOfMemory),
             Err(StreamError::Refused(_)) if keeps_going(settings) => {
                 show_failure(rt, file, recorder.as_slice(), offset, settings)?;
                 status = Status::Refused;

@@ -1,0 +1,26 @@
+-- What a screen holds after something is added to it.
+use Rattle.std.specs.Prelude.{◌≡◌, ℕ, List, [], ◌∷◌, ◌++◌, Result, Ok, Err, string_bytes}
+use Rattle.amqp_screen.specs.declared.screen.Screen.{Screen}
+
+-- the bytes that are printed
+abbrev pub shown : Screen → List ℕ
+shown s = string_bytes s.text
+
+-- more stands after what stood before
+pub record Adds (old new : Screen) (more : List ℕ) : Type 0 where
+  pub text : shown new ≡ shown old ++ more
+  pub colours : new.has_colours ≡ old.has_colours
+
+-- a prefix of the text is added, and at least a byte is missing
+abbrev pub AddsFront : Screen → Screen → List ℕ → Type 0
+AddsFront old new text = (front : List ℕ) × (missing : ℕ) × (rest : List ℕ) × (text ≡ front ++ missing ∷ rest) × Adds old new front
+
+-- all of the text is added, or a prefix if memory runs out
+abbrev pub Pushes : {T E : Type 0} → Result T E → Screen → Screen → List ℕ → Type 0
+Pushes (Ok _) old new text = Adds old new text
+Pushes (Err _) old new text = AddsFront old new text
+
+-- all of the text is added, or nothing if memory runs out
+abbrev pub PushesWhole : {T E : Type 0} → Result T E → Screen → Screen → List ℕ → Type 0
+PushesWhole (Ok _) old new text = Adds old new text
+PushesWhole (Err _) old new text = Adds old new []

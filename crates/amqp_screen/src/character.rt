@@ -1,0 +1,28 @@
+//! Which characters are shown, and the digits of the others.
+
+ghost use Rattle.std.specs.Prelude.{◌≡◌, ◌<◌, IsTrue};
+ghost use Rattle.std.specs.Char.{digit_char};
+ghost use Rattle.amqp_screen.specs.Screens.{prints, turns_text};
+
+// Whether a terminal shows the character and doesn't obey it.
+pub(crate) fn does_print(c: char) -> bool
+    ensures { result ≡ prints c }
+{
+    !c.is_control() && !turns(c)
+}
+
+// Whether the character turns the direction of the text around it.
+fn turns(c: char) -> bool
+    ensures { result ≡ turns_text c }
+{
+    matches!(c, '\u{61c}' | '\u{200e}'..='\u{200f}' | '\u{202a}'..='\u{202e}' | '\u{2066}'..='\u{2069}')
+}
+
+// The digit of a number below 16.
+pub(crate) fn hex_digit(n: u8) -> char
+    requires { n < 16 }
+    ensures value { result ≡ digit_char n }
+    ensures shown { IsTrue (prints result) }
+{
+    char::from(if n < 10 { b'0' + n } else { b'a' + (n - 10) })
+}
