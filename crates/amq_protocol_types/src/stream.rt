@@ -6,4 +6,4 @@
 pub use amqp_parsing::{
     Limits, parse_field_array_within, parse_field_table_within, parse_value_within,
 };
-pub use amqp_stream::{StreamError, ValueReader, Values};
+pub use amqp_stream::{Source, StreamError, ValueReader, Values};

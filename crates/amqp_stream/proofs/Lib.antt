@@ -1,3 +1,4 @@
 mod Comes
 mod Told
+pub mod Calls
 mod Fillings

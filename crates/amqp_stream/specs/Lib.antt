@@ -1,2 +1,3 @@
 pub mod Passing
 pub mod Readers
+pub mod Sources

@@ -1,5 +1,6 @@
 -- What readers of values retain and return.
 use Rattle.std.specs.Prelude.{ℕ, ◌<◌, ◌≤◌, ◌≡◌, ◌++◌, Bool, true, false, Option, Some, None, IfSome, Result, Ok, Err, List, [], length}
+use Rattle.std.specs.declared.io.ErrorKind.{ErrorKind}
 use Rattle.std.specs.Io.KnownBytes.{Consumes, IsAtEnd}
 use Rattle.amqp_value_core.specs.declared.value.AMQPValue.{AMQPValue}
 use Rattle.amqp_grammar.specs.Nesting.{WireWithin}
@@ -11,6 +12,7 @@ use Rattle.amqp_stream.specs.declared.error.StreamError.TheVariants as stream
 use Rattle.amqp_parsing.specs.declared.limits.Limits.{Limits}
 use Rattle.amqp_stream.specs.declared.reader.ValueReader.{ValueReader}
 use Rattle.amqp_stream.specs.declared.values.Values.{Values}
+use Rattle.amqp_stream.specs.Sources.{KeepsKind}
 use Rattle.amqp_parsing.specs.Headers.{IsWaiting}
 use Rattle.amqp_parsing.specs.Limits.{Within, RefusesWithin}
 
@@ -63,13 +65,16 @@ AnswersAll l s left (Err stream.OutOfMemory) = Unit {0}
 AnswersAll l s left (Err stream.Failed) = ⊥
 
 -- a call for the next value: from the state `old` and the reader `from` to `new` and `to`;
--- `remaining` is what bytes a reader has left, if it reports them
-pub record ReadsNext {R : Type 0} (remaining : R → Option (List ℕ)) (old : Values) (from : R) (result : Result (Option AMQPValue) StreamError) (new : Values) (to : R) : Type 0 where
+-- `remaining` is what bytes a reader has left, if it reports them, and `goes` and `fails` are what
+-- its calls may do
+pub record ReadsNext {R : Type 0} (remaining : R → Option (List ℕ)) (goes : R → R → Type 0) (fails : R → ErrorKind → R → Type 0) (old : Values) (from : R) (result : Result (Option AMQPValue) StreamError) (new : Values) (to : R) : Type 0 where
   -- what came, and the result by it
   pub answer : has_failed old ≡ false → (x : List ℕ) × Consumes (remaining from) (remaining to) x
       × Answers (limits_of old) (kept old ++ x) (remaining to) (kept new) (has_failed new) result
   -- the result by all that the reader held
   pub told : has_failed old ≡ false → IfSome (remaining from) (λ z. AnswersAll (limits_of old) (kept old ++ z) (remaining to) result)
+  -- the reader's errors by their kinds
+  pub kind : KeepsKind goes fails from result to
   -- after an error for good nothing is read or changed
   pub failed : has_failed old ≡ true → IsFailed result × (new ≡ old) × (to ≡ from)
   pub limits : limits_of new ≡ limits_of old

@@ -5,8 +5,10 @@
 mod error;
 mod pending;
 mod reader;
+mod source;
 mod values;
 
 pub use error::StreamError;
 pub use reader::ValueReader;
+pub use source::Source;
 pub use values::Values;

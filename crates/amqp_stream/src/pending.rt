@@ -1,13 +1,15 @@
 //! The bytes of a value that isn't complete.
 
-ghost use Rattle.std.specs.Prelude.{◌≡◌, ◌<◌, ◌≤◌, ◌+◌, ◌++◌, ℕ, List, [], length, take, drop, vec_len, IfOk, OnErr, IfErr};
+ghost use Rattle.std.specs.Prelude.{◌≡◌, ◌<◌, ◌≤◌, ◌+◌, ◌++◌, ℕ, List, [], length, take, drop, max, min, vec_len, vec_capacity, IfOk, OnOk, OnErr, IfErr};
 ghost use Rattle.std.specs.Io.KnownBytes.{Consumes, Keeps, IsAtEnd};
+ghost use Rattle.std.specs.IoError.{error_kind};
 ghost use Rattle.amqp_stream.specs.Passing.{IsPassing};
+ghost use Rattle.amqp_stream.specs.Sources.{KeepsKind};
 
 use super::error::StreamError;
+use super::source::Source;
 use std::alloc::{AllocError, Global};
 use std::io;
-use std::io::Read;
 use std::marker::Model;
 
 // The first capacity is for that many bytes.
@@ -33,19 +35,32 @@ impl Model for Pending {
     ghost invariant = { λ p. p.count ≤ vec_len p.buffer };
 }
 
-// Grows the buffer by some of `most` bytes, if it is full: by as much again as it has, whatever a
-// length claims. Returns how many bytes may be read into it.
+// Requests memory, if the buffer has as many bytes as fit: for as many again or a block, whatever a
+// length claims.
+fn grow(buffer: &mut Vec<u8>, most: usize) -> Result<(), AllocError>
+    requires some { 0 < most }
+    ensures same { buffer.new.items ≡ buffer.old.items }
+    ensures room { OnOk result (vec_len buffer.new < vec_capacity buffer.new) }
+    ensures bounded { vec_capacity buffer.new ≤ max (vec_capacity buffer.old) (vec_len buffer.old + max (vec_len buffer.old) 8192) }
+{
+    if buffer.len() == buffer.capacity() {
+        buffer.reserve_exact(most.min(buffer.len()).max(BLOCK))?;
+    }
+    Ok(())
+}
+
+// Fills some of the capacity for `most` more bytes, if the buffer is full, and returns how many
+// bytes may be read into it.
 fn make_room(buffer: &mut Vec<u8>, count: usize, most: usize) -> Result<usize, AllocError>
     requires some { 0 < most }
     requires within { count ≤ vec_len buffer.old }
     ensures same { take count buffer.new.items ≡ take count buffer.old.items }
     ensures within { count ≤ vec_len buffer.new }
     ensures room { IfOk result (λ n. (0 < n) × (n ≤ most) × (count + n ≤ vec_len buffer.new)) }
+    ensures bounded { vec_len buffer.new ≤ max (vec_len buffer.old) (count + min most 65_536) }
 {
     if count == buffer.len() {
-        if count == buffer.capacity() {
-            buffer.reserve_exact(most.min(count).max(BLOCK))?;
-        }
+        grow(buffer, most)?;
         let more = most.min(buffer.capacity() - count).min(FILLED);
         buffer.resize(count + more, 0)?;
     }
@@ -54,7 +69,7 @@ fn make_room(buffer: &mut Vec<u8>, count: usize, most: usize) -> Result<usize, A
 
 // Asks the reader once for at most `room` bytes, and puts those that it returns after the first
 // `count`.
-fn read_behind<R: Read>(
+fn read_behind<R: Source>(
     bytes: &mut [u8],
     count: usize,
     reader: &mut R,
@@ -68,12 +83,14 @@ fn read_behind<R: Read>(
     ensures end { IfOk result (λ n. n ≡ 0 → IsAtEnd (R.remaining reader.new)) }
     ensures err { OnErr result (Keeps (R.remaining reader.old) (R.remaining reader.new)) }
     ensures length { length bytes.new ≡ length bytes.old }
+    ensures goes { OnOk result (R.goes reader.old reader.new) }
+    ensures fails { IfErr result (λ e. R.fails reader.old (error_kind e) reader.new) }
 {
-    reader.read(&mut bytes[count..count + room])
+    reader.read_some(&mut bytes[count..count + room])
 }
 
 // The same with the bytes of a vector.
-fn read_into<R: Read>(
+fn read_into<R: Source>(
     buffer: &mut Vec<u8>,
     count: usize,
     reader: &mut R,
@@ -87,6 +104,8 @@ fn read_into<R: Read>(
     ensures end { IfOk result (λ n. n ≡ 0 → IsAtEnd (R.remaining reader.new)) }
     ensures err { OnErr result (Keeps (R.remaining reader.old) (R.remaining reader.new)) }
     ensures length { vec_len buffer.new ≡ vec_len buffer.old }
+    ensures goes { OnOk result (R.goes reader.old reader.new) }
+    ensures fails { IfErr result (λ e. R.fails reader.old (error_kind e) reader.new) }
 {
     read_behind(buffer.as_mut_slice(), count, reader, room)
 }
@@ -115,7 +134,7 @@ impl Pending {
     }
 
     // Asks the reader once for at most `most` bytes, and retains those that it returns.
-    pub(super) fn fill_from<R: Read>(
+    pub(super) fn fill_from<R: Source>(
         &mut self,
         reader: &mut R,
         most: usize,
@@ -126,6 +145,7 @@ impl Pending {
         ensures end { IfOk result (λ n. n ≡ 0 → IsAtEnd (R.remaining reader.new)) }
         ensures err { IfErr result (λ e. IsPassing e × (self.new ≡ self.old)
             × Keeps (R.remaining reader.old) (R.remaining reader.new)) }
+        ensures kind { KeepsKind R.goes R.fails reader.old result reader.new }
     {
         let room = make_room(&mut self.buffer, self.count, most)?;
         match read_into(&mut self.buffer, self.count, reader, room) {

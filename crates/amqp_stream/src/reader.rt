@@ -4,11 +4,11 @@ ghost use Rattle.std.specs.Prelude.{◌≡◌, ◌<◌, false, []};
 ghost use Rattle.amqp_stream.specs.Readers.{values_of, reader_of, kept, has_failed, limits_of, ReadsNext};
 
 use super::error::StreamError;
+use super::source::Source;
 use super::values::Values;
 use amqp_parsing::Limits;
 use amqp_value_core::value::AMQPValue;
 use std::alloc::Global;
-use std::io::Read;
 
 /// Reads values from a reader, one after another, each within limits.
 ///
@@ -23,7 +23,7 @@ pub struct ValueReader<R> {
     reader: R,
 }
 
-impl<R: Read> ValueReader<R> {
+impl<R: Source> ValueReader<R> {
     /// Makes a reader of values that has read nothing. It doesn't allocate. Precondition:
     /// `limits.frame` isn't 0.
     pub fn new(alloc: Global, reader: R, limits: Limits) -> Self
@@ -42,7 +42,7 @@ impl<R: Read> ValueReader<R> {
     /// Reads the next value; returns `None` if the reader ended after the value before. After
     /// `None` a later call asks the reader again.
     pub fn next(&mut self) -> Result<Option<AMQPValue>, StreamError>
-        ensures { ReadsNext R.remaining (values_of self.old) (reader_of self.old) result (values_of self.new) (reader_of self.new) }
+        ensures { ReadsNext R.remaining R.goes R.fails (values_of self.old) (reader_of self.old) result (values_of self.new) (reader_of self.new) }
     {
         self.values.next_from(&mut self.reader)
     }

@@ -7,13 +7,13 @@ ghost use Rattle.amqp_parsing.specs.Headers.{IsWaiting, IsWhole, extent, wanted}
 
 use super::error::StreamError;
 use super::pending::Pending;
+use super::source::Source;
 use amqp_parsing::errors::refusal;
 use amqp_parsing::header::{Header, header_of};
 use amqp_parsing::values::value_within;
 use amqp_parsing::{Err, ErrorKind, Limits, SliceInput};
 use amqp_value_core::value::AMQPValue;
 use std::alloc::Global;
-use std::io::Read;
 
 /// The state of a reader of values between its calls, each of which is passed the reader. A
 /// `ValueReader` holds the reader itself.
@@ -28,6 +28,7 @@ pub struct Values {
 }
 
 impl Values {
+    ghost use Rattle.amqp_stream.specs.Sources.{KeepsKind, IsNoRead};
     ghost use Rattle.amqp_stream.specs.Readers.{kept, has_failed, limits_of, Answers, ReadsNext};
 
     /// Makes a state with nothing retained. It doesn't allocate. Precondition: `limits.frame` isn't
@@ -49,8 +50,8 @@ impl Values {
     /// Reads the next value; returns `None` if the reader ended after the value before. The reader
     /// may be another one each time: an incomplete value is continued from it.
     #[tactic(auto, using(amqp_parsing::proofs::ParsingLaws::kept_within))]
-    pub fn next_from<R: Read>(&mut self, reader: &mut R) -> Result<Option<AMQPValue>, StreamError>
-        ensures { ReadsNext R.remaining self.old reader.old result self.new reader.new }
+    pub fn next_from<R: Source>(&mut self, reader: &mut R) -> Result<Option<AMQPValue>, StreamError>
+        ensures { ReadsNext R.remaining R.goes R.fails self.old reader.old result self.new reader.new }
     {
         if self.failed {
             return Err(StreamError::Failed);
@@ -59,11 +60,12 @@ impl Values {
     }
 
     // Reads until the value is complete, or isn't one.
-    fn read_value<R: Read>(&mut self, reader: &mut R) -> Result<Option<AMQPValue>, StreamError>
+    fn read_value<R: Source>(&mut self, reader: &mut R) -> Result<Option<AMQPValue>, StreamError>
         requires not_failed { has_failed self.old ≡ false }
         ensures answer { (x : List ℕ)
             × Consumes (R.remaining reader.old) (R.remaining reader.new) x
             × Answers (limits_of self.old) (kept self.old ++ x) (R.remaining reader.new) (kept self.new) (has_failed self.new) result }
+        ensures kind { KeepsKind R.goes R.fails reader.old result reader.new }
         ensures limits { limits_of self.new ≡ limits_of self.old }
     {
         'reads: loop {
@@ -92,6 +94,7 @@ impl Values {
         requires whole { IsWhole (kept self.old) }
         requires within { extent (kept self.old) ≤ self.old.limits.frame }
         ensures answer { (left : Option (List ℕ)) → Answers (limits_of self.old) (kept self.old) left (kept self.new) (has_failed self.new) result }
+        ensures no_read { IsNoRead result }
         ensures limits { limits_of self.new ≡ limits_of self.old }
     {
         match value_within(
@@ -118,6 +121,7 @@ impl Values {
         requires wants { 0 < wanted (kept self.old) }
         requires within { extent (kept self.old) ≤ self.old.limits.frame }
         ensures answer { (left : Option (List ℕ)) → IsAtEnd left → Answers (limits_of self.old) (kept self.old) left (kept self.new) (has_failed self.new) result }
+        ensures no_read { IsNoRead result }
         ensures limits { limits_of self.new ≡ limits_of self.old }
     {
         if self.pending.as_slice().is_empty() {

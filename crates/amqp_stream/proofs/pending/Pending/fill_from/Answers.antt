@@ -1,5 +1,7 @@
-use Rattle.std.proofs.Common.{take, drop, arith}
+use Rattle.std.proofs.Common.{take, drop, sym, subst, arith, rules}
 use Rattle.amqp_stream.proofs.Fillings.{length_behind, still_kept, read_on}
+use Rattle.amqp_stream.specs.Sources.Reaches.{here, there}
+use Rattle.amqp_stream.proofs.Calls.{kept_by}
 use Rattle.amqp_stream.proofs.pending.Pending.fill_from.Goals as goal
 
 pub returns-in-Ok-clause-ok : goal.returns-in-Ok-clause-ok
@@ -21,3 +23,14 @@ pub returns-in-Err-clause-err : goal.returns-in-Err-clause-err
 returns-in-Err-clause-err g c =
     let kept = still_kept c.self.inside.count c.args.self.now c.self.inside.buffer.items c.make_room.new.buffer.items c.read_into.new.buffer.items c.self.view_is c.make_room.ensures.same c.read_into.ensures.front in
     (tt, kept, c.in-Err.ensures.err)
+
+pub returns-in_err-room-clause-kind : goal.returns-in_err-room-clause-kind
+returns-in_err-room-clause-kind g c =
+    kept_by g.R.Source.goes g.R.Source.fails c.args.reader.now c.args.reader.now c.from_residual.result (search rules) (here c.args.reader.now)
+
+pub returns-in-Ok-clause-kind : goal.returns-in-Ok-clause-kind
+returns-in-Ok-clause-kind g c = there _ _ _ (here c.args.reader.now) c.in-Ok.ensures.goes
+
+pub returns-in-Err-clause-kind : goal.returns-in-Err-clause-kind
+returns-in-Err-clause-kind g c =
+    (c.args.reader.now, here c.args.reader.now, subst (λ k. g.R.Source.fails c.args.reader.now k c.read_into.new.reader) (sym c.kind.ensures) c.in-Err.ensures.fails)

@@ -1,6 +1,7 @@
 use Rattle.std.proofs.Common.{rules}
 use Rattle.amqp_stream.specs.Readers.{kept, has_failed, limits_of}
 use Rattle.amqp_parsing.proofs.ParsingLaws.{kept_within}
+use Rattle.amqp_stream.specs.Sources.Reaches.{here}
 use Rattle.amqp_stream.proofs.Told.{told}
 use Rattle.amqp_stream.proofs.values.Values.next_from.Goals as goal
 
@@ -8,7 +9,19 @@ pub returns : goal.returns
 returns g c = record {
   answer = search rules;
   told = λ _. told (limits_of c.args.self.now) (kept c.args.self.now) (kept c.read_value.new.self) (has_failed c.read_value.new.self) c.read_value.result
-      (g.R.Read.remaining c.args.reader.now) (g.R.Read.remaining c.read_value.new.reader) c.read_value.ensures.answer;
+      (g.R.Source.remaining c.args.reader.now) (g.R.Source.remaining c.read_value.new.reader) c.read_value.ensures.answer;
+  kind = search rules;
+  failed = search rules;
+  limits = search rules;
+  bounded = search (rules, kept_within);
+  waiting = search rules;
+}
+
+pub returns-then-self : goal.returns-then-self
+returns-then-self g c = record {
+  answer = search rules;
+  told = search rules;
+  kind = here c.args.reader.now;
   failed = search rules;
   limits = search rules;
   bounded = search (rules, kept_within);

@@ -1,5 +1,7 @@
-use Rattle.std.proofs.Common.{rules, refl}
+use Rattle.std.proofs.Common.{rules, ℕ, refl}
 use Rattle.amqp_stream.specs.Readers.{kept, has_failed}
+use Rattle.amqp_stream.specs.Sources.Reaches.{here}
+use Rattle.amqp_stream.proofs.Calls.{reaches_on, kept_by, kept_error}
 use Rattle.amqp_stream.proofs.Comes.{filled_waits, joined, answered}
 use Rattle.amqp_stream.proofs.values.Values.read_value.Goals as goal
 
@@ -11,7 +13,7 @@ invariant_of-self-in-Lacks-clause-waiting g c =
 
 pub returns-then-branch-eq0-clause-answer : goal.returns-then-branch-eq0-clause-answer
 returns-then-branch-eq0-clause-answer g c =
-    let rem = g.R.Read.remaining in
+    let rem = g.R.Source.remaining in
     let (x, came, is) = c.reads.invariant.0 in
     let (more, len, few, all, comes) = c.in_ok-fill_from-in-Lacks.ensures.ok in
     let j = joined (rem c.args.reader.now) (rem c.reads.reader) (rem c.fill_from.new.reader) (kept c.args.self.now) (kept c.reads.self) c.fill_from.new.self x more came is comes all in
@@ -21,7 +23,31 @@ returns-then-branch-eq0-clause-answer g c =
 
 pub returns-in-Whole-clause-answer : goal.returns-in-Whole-clause-answer
 returns-in-Whole-clause-answer g c =
-    let rem = g.R.Read.remaining in
+    let rem = g.R.Source.remaining in
     let last = c.reads.reader in
     answered rem c.whole.result _ c.args.self.now.limits c.args.reader.now last last (kept c.args.self.now) (kept c.reads.self) (kept c.whole.new.self) (has_failed c.whole.new.self)
     c.reads.invariant.2 refl c.reads.invariant.0 (c.whole.ensures.answer (rem last))
+
+pub reads-init : goal.reads-init
+reads-init g c = (search rules, c.requires.not_failed, refl, here c.args.reader.now)
+
+pub reads-preserved : goal.reads-preserved
+reads-preserved g c =
+    let rem = g.R.Source.remaining in
+    let (x, came, is) = c.reads.invariant.0 in
+    let (more, len, few, all, comes) = c.in_ok-fill_from-in-Lacks.ensures.ok in (
+      joined (rem c.args.reader.now) (rem c.reads.reader) (rem c.fill_from.new.reader) (kept c.args.self.now) (kept c.reads.self) c.fill_from.new.self x more came is comes all,
+      c.reads.invariant.1,
+      c.reads.invariant.2,
+      reaches_on g.R.Source.goes c.args.reader.now c.reads.reader c.fill_from.new.reader c.reads.invariant.3 c.in_ok-fill_from-in-Lacks.ensures.kind,
+    )
+
+pub returns-in_err-fill_from-in-Lacks-clause-kind : goal.returns-in_err-fill_from-in-Lacks-clause-kind
+returns-in_err-fill_from-in-Lacks-clause-kind g c =
+    kept_error ℕ g.R.Source.goes g.R.Source.fails c.args.reader.now c.reads.reader c.fill_from.new.reader c.in_err-fill_from-in-Lacks.field-0.0 c.from_residual.result
+    c.reads.invariant.3 c.in_err-fill_from-in-Lacks.ensures.kind (search rules)
+
+pub returns-then-branch-eq0-clause-kind : goal.returns-then-branch-eq0-clause-kind
+returns-then-branch-eq0-clause-kind g c =
+    kept_by g.R.Source.goes g.R.Source.fails c.args.reader.now c.fill_from.new.reader c.ended.result c.ended.ensures.no_read
+    (reaches_on g.R.Source.goes c.args.reader.now c.reads.reader c.fill_from.new.reader c.reads.invariant.3 c.in_ok-fill_from-in-Lacks.ensures.kind)
