@@ -1,0 +1,51 @@
+"""The least number of what each step counts, so that what isn't run any more is noticed.
+
+Each line of .ci/least.rows is STEP NAME NUMBER, none of them with a space. A step that counts fewer by that name fails.
+`.ci/STEP --write` runs the step, and sets its numbers to what it counted.
+"""
+
+import sys
+
+from crates import TOP
+
+FILE = TOP / ".ci/least.rows"
+# Whether the numbers are to be set.
+IS_WRITING = "--write" in sys.argv[1:]
+
+
+def rows():
+    """The numbers, by step and name."""
+    lines = [it.split(" ") for it in FILE.read_text().splitlines()]
+    return {(step, name): int(number) for step, name, number in lines}
+
+
+def least(step, name):
+    """The least number of what a step counts by this name."""
+    number = rows().get((step, name))
+    if number is None:
+        sys.exit(f"{FILE.name} has no line for {step} {name}: `.ci/{step} --write` writes it")
+    return number
+
+
+def too_few(step, counts):
+    """Yields what a step counted too few of. What has a line and no count was counted as none."""
+    for name in sorted({*counts, *(it for of, it in rows() if of == step)}):
+        count, wants = counts.get(name, 0), least(step, name)
+        if count < wants:
+            yield f"{count} of {name}, where {wants} are the least"
+
+
+def write(step, counts):
+    """Sets the numbers of a step to these."""
+    kept = {key: number for key, number in rows().items() if key[0] != step}
+    numbers = kept | {(step, name): count for name, count in counts.items()}
+    FILE.write_text("".join(f"{of} {name} {number}\n" for (of, name), number in sorted(numbers.items())))
+
+
+def judge(checks, step, counts):
+    """Has the checks of a step tell of what it counted too few, or with --write sets its numbers if they are well."""
+    if not IS_WRITING:
+        wrong = [*too_few(step, counts)]
+        checks.tell("least numbers", "; ".join(wrong))
+    elif not checks.failed:
+        write(step, counts)
