@@ -1,9 +1,10 @@
-"""The places at which the sources make up that memory ran out.
+"""The places at which the sources make up that memory ran out, or may ask for more than there is.
 
 No clause can state that an allocation failed. A body that returns OutOfMemory above a size keeps its contract, so its
 form is what is rejected: OutOfMemory, of whatever error, and AllocError are made by From<AllocError>, which `?` calls,
 or on the right of a match arm with no guard, each alternative of whose pattern names such an error. Failure and
-out_of_memory() are what amqp_parsing calls it.
+out_of_memory() are what amqp_parsing calls it. A request that can't succeed makes it up too: whatever asks for memory by a
+number is a line of BY_NUMBER.
 """
 
 import re
@@ -18,6 +19,29 @@ LISTED = {
     ("amqp_json/src/text.rt", "Err(e) if e.is_memory() => return Err(JsonError::OutOfMemory),"):
         "the kit's error has no variants: a call tells that it is of memory",
 }
+# The lines that ask for memory by a number, and what bounds that.
+BY_NUMBER = {
+    "x.make_room(1 + s.len())?;": "the bytes that are written next",
+    "x.make_room(4 + s.len())?;": "the same",
+    "x.make_room(all.len().div_ceil(8))?;": "the same",
+    "let at = x.reserve(4)?;": "a length field",
+    "self.output.make_room(n)": "what the caller asks for",
+    "self.output.reserve(n)": "the same",
+    "Ok(self.try_reserve(n)?)": "the same",
+    "self.try_reserve(n)?;": "the same",
+    "self.resize(at + n, 0)?;": "the same",
+    "let mut values = Vec::with_capacity(alloc, items.len())?;": "items that are there",
+    "let mut bytes = Vec::with_capacity(alloc, chunk.len())?;": "bytes that are there",
+    "bytes.reserve(input.input_len())?;": "the same",
+    "self.bytes.try_reserve(buf.len())?;": "the same",
+    "let mut bytes = vec![in alloc; 0; room]?;": "the bytes that a value was read from",
+    "let text = BufReader::with_capacity(rt.alloc(), BLOCK, input)?;": "a constant",
+    "let reader = BufReader::with_capacity(rt.alloc(), BLOCK, input)?;": "a constant",
+    "let room = make_room(&mut self.buffer, self.count, most)?;": "as much again as there is",
+    "buffer.reserve_exact(most.min(count).max(BLOCK))?;": "the same",
+    "buffer.resize(count + more, 0)?;": "capacity that there is",
+}
+REQUEST = r"\b(?:with_capacity\w*|(?:try_)?reserve\w*|make_room|resize\w*|repeat|from_elem)\s*\(|\bvec!\s*\[[^;\]]*;[^;\]]*;"
 SILENT = r"""//[^\n]*|/\*.*?\*/|\bb?r(#*)".*?"\1|"(?:\\.|[^"\\])*"|'(?:\\.[^']*|[^'\\])'"""
 MADE = r"\bAlloc(?:Error|Failed)\b(?!\s*[<>])|\bOutOfMemory\b|\bFailure\s*\(|\bout_of_memory\s*\("
 NAMED = r"\bAllocError\b|::\s*OutOfMemory\b|::\s*Failure\s*\("
@@ -91,7 +115,7 @@ def is_passed_on(code, at):
 
 
 def made_up(text):
-    """Yields the lines of a file that make it up."""
+    """Yields the lines of a file that make it up or ask for memory by a number."""
     code = re.sub(SILENT, lambda it: re.sub(r"\S", " ", it[0]), text, flags=re.DOTALL)
     code = cut(code, r"\b(?:requires|ensures\*?|invariant)\s*(?:\w+\s*)?\{", "}")
     code = cut(code, r"\bghost\b", ";,")
@@ -110,11 +134,12 @@ def made_up(text):
         is_made = any(begin <= at < end for begin, end in makers)
         if not (is_known and (is_made or is_pattern(code, at) or is_passed_on(code, at))):
             yield text.count("\n", 0, at) + 1
+    yield from (text.count("\n", 0, it.start()) + 1 for it in re.finditer(REQUEST, code))
 
 
 def faults():
     """Yields the places at which the sources make it up, by file and line."""
-    listed = set(LISTED)
+    listed, by_number = set(LISTED), set(BY_NUMBER)
     for file in sorted(TOP.glob("crates/*/src/**/*.rt")):
         name, text = file.relative_to(TOP / "crates").as_posix(), file.read_text()
         if name.split("/")[0] in LEFT_OUT or re.search(r"/src/tests[./]", name):
@@ -123,6 +148,9 @@ def faults():
             line = text.splitlines()[number - 1].strip()
             if (name, line) in listed:
                 listed.remove((name, line))
+            elif line in BY_NUMBER:
+                by_number.discard(line)
             else:
-                yield f"crates/{name}:{number}: makes up that memory ran out: {line}"
+                yield f"crates/{name}:{number}: makes up that memory ran out, or asks for it by a number: {line}"
     yield from (f"crates/{name} has no line to be listed: {line}" for name, line in sorted(listed))
+    yield from (f"no source has the line to be listed: {line}" for line in sorted(by_number))

@@ -78,6 +78,7 @@ enum Step {
     Next(usize),
     NextAfterFailure,
     ToOwned(&'static [&'static [u8]]),
+    ContainerToOwned(&'static [u8]),
     RepeatedKey(&'static [&'static [u8]]),
     /// What RabbitMQ takes in each of these tables, and others may not.
     Warned(&'static [&'static [u8]]),
@@ -91,10 +92,10 @@ enum Step {
 }
 
 use self::Step::{
-    AppendEach, CloneAll, Construct, CountUntagged, FillVector, FirstProblem, FlagsFromBytes,
-    FromPairs, Generate, GeneratePayloads, GenerateSlice, GetBytes, GetFirst, GetFlag, GetPath,
-    Inspect, Next, NextAfterFailure, OfText, Parse, ParseEach, ParseSplit, ParseValues,
-    RepeatedKey, Skip, ToOwned, TryFrom, Warned,
+    AppendEach, CloneAll, Construct, ContainerToOwned, CountUntagged, FillVector, FirstProblem,
+    FlagsFromBytes, FromPairs, Generate, GeneratePayloads, GenerateSlice, GetBytes, GetFirst,
+    GetFlag, GetPath, Inspect, Next, NextAfterFailure, OfText, Parse, ParseEach, ParseSplit,
+    ParseValues, RepeatedKey, Skip, ToOwned, TryFrom, Warned,
 };
 
 /// A table with the LongLongInt 1 at `a`, and its JSON.
@@ -374,6 +375,8 @@ fn streamed() -> &'static [Case] {
 fn in_place_values() -> &'static [Case] {
     const CASES: &[Case] = cases! {
     "value_in_place_to_owned" ALLOC [ToOwned(&[TABLE, b"S\0\0\0\x02hi", b"x\0\0\0\x02\xff\0"])]
+    "table_in_place_to_owned" ALLOC [ContainerToOwned(TABLE)]
+    "array_in_place_to_owned" ALLOC [ContainerToOwned(b"A\0\0\0\x07VS\0\0\0\x01a")]
     // 17 keys, descending, and the first again; and two that differ
     "repeated_key_in_place" ALLOC [
         RepeatedKey(&[
@@ -412,6 +415,8 @@ fn of_texts() -> &'static [Case] {
     const CASES: &[Case] = cases! {
     "to_json" ALLOC [OfText(TextCall::ToJson, ONE_NUMBER), OfText(TextCall::ToJson, VOIDS)]
     "from_json" MEMORY [OfText(TextCall::FromJson, ONE_NUMBER_JSON), OfText(TextCall::FromJson, VOIDS_JSON)]
+    "to_value" ALLOC [OfText(TextCall::ToValue, ONE_NUMBER), OfText(TextCall::ToValue, VOIDS)]
+    "from_value" MEMORY [OfText(TextCall::FromValue, ONE_NUMBER_JSON), OfText(TextCall::FromValue, VOIDS_JSON)]
     "json_of_encoding" MEMORY [OfText(TextCall::JsonOfEncoding, ONE_NUMBER), OfText(TextCall::JsonOfEncoding, VOIDS)]
     "encoding_of_json" ENCODE [
         OfText(TextCall::EncodingOfJson, ONE_NUMBER_JSON), OfText(TextCall::EncodingOfJson, VOIDS_JSON),
@@ -484,6 +489,7 @@ impl Step {
             Next(most) => stream::next_values(h, most),
             NextAfterFailure => stream::next_after_failure(h),
             ToOwned(all) => in_place::to_owned(h, all),
+            ContainerToOwned(bytes) => in_place::container_to_owned(h, bytes),
             RepeatedKey(all) => in_place::repeated_key(h, all),
             Warned(all) => in_place::warned(h, all),
             FirstProblem(values, table) => in_place::first_problems(h, values, table),

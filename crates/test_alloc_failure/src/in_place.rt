@@ -1,5 +1,6 @@
 //! Calls of values in place.
 
+use crate::fixtures;
 use crate::harness::{Call, Harness};
 use crate::stream::LIMITS;
 use crate::values::AnyValue;
@@ -24,6 +25,24 @@ impl Call for ToOwned {
 
     fn call(&mut self, alloc: Global) -> Result<AnyValue, AllocError> {
         Ok(AnyValue::Value(self.value.to_owned(alloc)?))
+    }
+}
+
+/// `to_owned` of a table or of an array.
+#[derive(Drop)]
+struct ContainerToOwned {
+    value: ValueRef<'static>,
+}
+
+impl Call for ContainerToOwned {
+    type Error = AllocError;
+
+    fn call(&mut self, alloc: Global) -> Result<AnyValue, AllocError> {
+        Ok(match self.value {
+            ValueRef::FieldTable(table) => AnyValue::FieldTable(table.to_owned(alloc)?),
+            ValueRef::FieldArray(array) => AnyValue::FieldArray(array.to_owned(alloc)?),
+            _ => AnyValue::NoValue,
+        })
     }
 }
 
@@ -227,6 +246,17 @@ pub fn to_owned<R: Print + Eprint>(h: &Harness<R>, all: &[&'static [u8]]) -> io:
         }
     }
     Ok(())
+}
+
+/// This table or array is copied.
+pub fn container_to_owned<R: Print + Eprint>(
+    h: &Harness<R>,
+    bytes: &'static [u8],
+) -> io::Result<()> {
+    match read_in_place(bytes, LIMITS) {
+        Ok((value, _)) => h.run(&mut ContainerToOwned { value }),
+        Err(e) => Err(fixtures::failed(e)),
+    }
 }
 
 /// The pairs of this table are counted, and it is skipped.

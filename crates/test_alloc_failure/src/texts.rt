@@ -8,8 +8,10 @@ use amq_protocol_types::AMQPValue;
 use amq_protocol_types::stream::Limits;
 use amqp_dissect::{dissect, escape};
 use amqp_json::{
-    DecodeError, EncodeError, JsonError, encoding_of_json, from_json, json_of_encoding, to_json,
+    DecodeError, EncodeError, JsonError, ValueError, encoding_of_json, from_json, from_value,
+    json_of_encoding, to_json, to_value,
 };
+use serde_json::Value;
 use std::alloc::{AllocError, Global};
 use std::io;
 
@@ -24,6 +26,8 @@ const WIDE: Limits = Limits {
 pub enum TextCall {
     ToJson,
     FromJson,
+    ToValue,
+    FromValue,
     JsonOfEncoding,
     EncodingOfJson,
     Dissect,
@@ -53,6 +57,32 @@ impl Call for FromJson {
 
     fn call(&mut self, alloc: Global) -> Result<AnyValue, JsonError> {
         Ok(AnyValue::Value(from_json(alloc, self.text.as_str())?))
+    }
+}
+
+#[derive(Drop)]
+struct ToValue {
+    value: AMQPValue,
+}
+
+impl Call for ToValue {
+    type Error = AllocError;
+
+    fn call(&mut self, alloc: Global) -> Result<AnyValue, AllocError> {
+        Ok(AnyValue::Json(to_value(alloc, &self.value)?))
+    }
+}
+
+#[derive(Drop)]
+struct FromValue {
+    json: Value,
+}
+
+impl Call for FromValue {
+    type Error = ValueError;
+
+    fn call(&mut self, alloc: Global) -> Result<AnyValue, ValueError> {
+        Ok(AnyValue::Value(from_value(alloc, &self.json)?))
     }
 }
 
@@ -123,6 +153,15 @@ pub fn run<R: Print + Eprint>(h: &Harness<R>, call: TextCall, pieces: &[Piece]) 
         TextCall::FromJson => {
             let text = String::from_utf8(bytes).map_err(fixtures::failed)?;
             h.run(&mut FromJson { text })
+        }
+        TextCall::ToValue => {
+            let value = fixtures::value(h.alloc, bytes.as_slice())?;
+            h.run(&mut ToValue { value })
+        }
+        TextCall::FromValue => {
+            let text = String::from_utf8(bytes).map_err(fixtures::failed)?;
+            let json = Value::from_str(h.alloc, text.as_str()).map_err(fixtures::failed)?;
+            h.run(&mut FromValue { json })
         }
         TextCall::JsonOfEncoding => h.run(&mut JsonOfEncoding { bytes }),
         TextCall::EncodingOfJson => {

@@ -8,6 +8,7 @@ use amq_protocol_types::parsing::ErrorKind;
 use amq_protocol_types::{
     AMQPType, AMQPValue, ByteArray, FieldArray, FieldTable, LongString, ShortString,
 };
+use serde_json::Value;
 use std::alloc::Global;
 use std::{fmt, io};
 
@@ -31,6 +32,7 @@ pub enum AnyValue {
     FieldTable(FieldTable),
     Flags(AMQPFlags),
     Bytes(Vec<u8>),
+    Json(Value),
     /// The kind of the error of an input that begins with no value.
     Kind(Option<ErrorKind>),
     Type(AMQPType),
@@ -64,6 +66,7 @@ impl AnyValue {
             AnyValue::LongString(s) => in_brackets(alloc, s.as_bytes()),
             AnyValue::ByteArray(a) => in_brackets(alloc, a.as_slice()),
             AnyValue::Bytes(vector) => in_brackets(alloc, vector.as_slice()),
+            AnyValue::Json(json) => in_brackets(alloc, format!(in alloc; "{json}")?.as_bytes()),
             _ => Ok(format!(in alloc; "{self}")?),
         }
     }

@@ -5,10 +5,12 @@
 //! device that writes it failed.
 //!
 //! With three words, what a call is made on, its name, and how deep containers may nest, only
-//! that call is made, on what standard input has.
+//! that call is made, on what standard input has. With one word, what standard input has, the
+//! calls are made that may run out of memory.
 #![tactic(auto)]
 
 mod devices;
+mod large;
 mod nested;
 mod rooms;
 mod shown;
@@ -38,6 +40,7 @@ fn run(rt: &HostRuntime) -> io::Result<()> {
             let call = (kind.as_str(), name.as_str());
             nested::run(rt, rt.alloc(), call, depth, &mut input)
         }
+        (Some(kind), None, _) => large::run(rt, rt.alloc(), kind.as_str(), &mut input),
         _ => run_all(rt, rt.alloc(), &mut input),
     }
 }
