@@ -43,7 +43,7 @@ def write(step, counts):
 
 
 def judge(checks, step, counts):
-    """Has the checks of a step tell of what it counted too few, or with --write sets its numbers if they are well."""
+    """Checks that a step counted enough, or with --write sets its numbers if nothing failed."""
     if not IS_WRITING:
         wrong = [*too_few(step, counts)]
         checks.tell("least numbers", "; ".join(wrong))
