@@ -1,8 +1,8 @@
 //! What is read.
 
 use crate::arguments::{Settings, Subject};
-use crate::digits::Digits;
 use crate::fault::Result;
+use crate::hexadecimal::Hexadecimal;
 use crate::messages::why_unread;
 use std::alloc::Global;
 use std::fs::File;
@@ -96,7 +96,7 @@ pub fn read_input(rt: &HostRuntime, file: &str, settings: Settings) -> Result<Co
 
 // The bytes that hexadecimal denotes, at most that many.
 fn bytes_of<R: Read + Drop>(alloc: Global, text: R, most: u64) -> Result<Content<Tagged>> {
-    let mut digits = Digits::new(text);
+    let mut digits = Hexadecimal::new(text);
     match Tagged::read(alloc, digits.by_ref().take(most)) {
         Err(error) if error.kind() == ErrorKind::InvalidData => Ok(Err(digits.fault(alloc)?)),
         read => content_of(alloc, read),

@@ -1,9 +1,9 @@
 //! Values one after another.
 
 use crate::arguments::{Form, Settings, Task};
-use crate::digits::Digits;
 use crate::failures::{print_failure, why_refused};
 use crate::fault::{Fault, Result};
+use crate::hexadecimal::Hexadecimal;
 use crate::input::{BLOCK, Input};
 use crate::json::print_json;
 use crate::measure::{next_measure, print_measure};
@@ -38,7 +38,7 @@ pub fn show_stream(rt: &HostRuntime, file: &str, settings: Settings) -> Result<S
         screen.print(rt)?;
     }
     let source = if settings.hex {
-        Source::Text(Digits::new(reader))
+        Source::Text(Hexadecimal::new(reader))
     } else {
         Source::Bytes(reader)
     };
@@ -49,7 +49,7 @@ pub fn show_stream(rt: &HostRuntime, file: &str, settings: Settings) -> Result<S
 #[derive(Drop)]
 enum Source<R> {
     Bytes(R),
-    Text(Digits<R>),
+    Text(Hexadecimal<R>),
 }
 
 impl<R> Source<R> {

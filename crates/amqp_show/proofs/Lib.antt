@@ -1,0 +1,5 @@
+pub mod Classes
+pub mod Complete
+pub mod Sound
+pub mod Takes
+pub mod Heads

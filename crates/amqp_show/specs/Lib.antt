@@ -1,0 +1,10 @@
+-- what the characters are
+pub mod Characters
+-- which bytes a text spells
+pub mod Spelled
+-- the same, read character by character
+pub mod Steps
+-- lines and columns
+pub mod Positions
+-- what was taken of a text
+pub mod Taken
