@@ -155,8 +155,8 @@ static void try_large(void) {
     CHECK(write_to(back, text, LARGE - 1, &count) == AMQPV_NO_ROOM && count == LARGE);
     CHECK(write_to(back, text, LARGE, &count) == AMQPV_OK && count == LARGE);
     CHECK(is_in_buffer(LARGE, (slice){canonical, LARGE}));
-    try_memory(by, table, size, 17);
-    try_memory(back, text, LARGE, 17);
+    try_memory(by, table, text, 17);
+    try_memory(back, text, (slice){canonical, LARGE}, 17);
 }
 
 int main(void) {
