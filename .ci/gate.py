@@ -24,7 +24,7 @@ NEEDS = {
 MODULES = ("pika", "amqp")
 TABLES = {"run": 500, "whole": 10000}
 KEYS = ".ci/mutant-keys"
-REJECTED = re.compile(r"(\d+) rejected now, (\d+) carried over from an earlier run, (\d+) not rejected")
+REJECTED = re.compile(r"(\d+) rejected now, (\d+) carried over from an earlier run, (\d+) where only a proof no longer fits, (\d+) not rejected")
 
 
 def missing(without):
@@ -44,7 +44,7 @@ def by_rejected(step):
     last = step.out.read_text(errors="replace").rstrip("\n").split("\n")[-1]
     if not (found := REJECTED.fullmatch(last)):
         return 0, 1, f"ended with status {step.status} and no last line that counts"
-    return int(found[1]), int(found[3]), last
+    return int(found[1]), int(found[4]), last
 
 
 def gate(name, words):
