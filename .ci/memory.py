@@ -38,7 +38,7 @@ BY_NUMBER = {
     "let text = BufReader::with_capacity(rt.alloc(), BLOCK, input)?;": "a constant",
     "let reader = BufReader::with_capacity(rt.alloc(), BLOCK, input)?;": "a constant",
     "let room = make_room(&mut self.buffer, self.count, most)?;": "as much again as there is",
-    "buffer.reserve_exact(most.min(count).max(BLOCK))?;": "the same",
+    "buffer.reserve_exact(most.min(buffer.len()).max(BLOCK))?;": "the same",
     "buffer.resize(count + more, 0)?;": "capacity that there is",
 }
 REQUEST = r"\b(?:with_capacity\w*|(?:try_)?reserve\w*|make_room|resize\w*|repeat|from_elem)\s*\(|\bvec!\s*\[[^;\]]*;[^;\]]*;"

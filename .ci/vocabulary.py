@@ -31,8 +31,11 @@ IN_COMMENTS = {
 RIGHT = {
     # JSON, and what a terminal shows
     "text": ("crates/amqp_json/", "crates/amqp_c_alloc/", "crates/test_values/src/json_texts.rt", "crates/amqp_show/src/reasons.rt",
-        "crates/amqp_screen/s", "include/amqp_values.h", ".ci/buffers.c"),
-    "texts": ("crates/amqp_json/", "crates/amqp_c_alloc/", "crates/test_values/src/json_texts.rt", ".ci/buffers.c"),
+        "crates/amqp_screen/", "crates/amqp_show/s", "crates/amqp_show/proofs/", "crates/test_malformed/src/oracle", "include/amqp_values.h",
+        ".ci/buffers.c"),
+    "texts": ("crates/amqp_json/", "crates/amqp_c_alloc/", "crates/amqp_screen/", "crates/test_values/src/json_texts.rt", ".ci/buffers.c"),
+    # of hexadecimal
+    "spells": ("crates/amqp_show/",), "spelled": ("crates/amqp_show/",), "spelling": ("crates/amqp_show/",),
     # the file of this name is about how values are encoded
     "Spelling": ("crates/amqp_grammar/proofs/Spelling.antt",),
 }  # fmt: skip

@@ -14,12 +14,12 @@ abbrev pub IsPayloadFirst : List Part → AMQPType → List ℕ → Type 0
 IsPayloadFirst [] type bytes = ⊥
 IsPayloadFirst (p ∷ ps) type bytes = IsPayload p type bytes
 
--- the parts are behind a length of these bytes, which is 0 and no byte is the payload, or isn't 0
+-- the parts are after a length of these bytes, which is 0 and no byte is the payload, or isn't 0
 -- and the first of the parts is
 abbrev pub IsCounted : List ℕ → List Part → AMQPType → List ℕ → Type 0
 IsCounted len ps type bytes = (len ≡ 0 ∷ 0 ∷ 0 ∷ 0 ∷ []) × (bytes ≡ []) ⊎ (len ≢ 0 ∷ 0 ∷ 0 ∷ 0 ∷ []) × IsPayloadFirst ps type bytes
 
--- the first of the parts is the length of a payload of the type, and the payload is behind it
+-- the first of the parts is the length of a payload of the type, and the payload is after it
 abbrev pub IsCountedFirst : List Part → AMQPType → List ℕ → Type 0
 IsCountedFirst [] type bytes = ⊥
 IsCountedFirst (len ∷ ps) type bytes = (len.field ≡ Length type) × IsCounted len.bytes.now ps type bytes
@@ -35,7 +35,7 @@ BeginsWithPayload amqp.Void ps bytes = ⊥
 BeginsWithPayload amqp.ShortString ps bytes = ⊥
 BeginsWithPayload type ps bytes = IsPayloadFirst ps type bytes
 
--- the first of the parts is a type tag of the type, and the payload, of these bytes, is behind it
+-- the first of the parts is a type tag of the type, and the payload, of these bytes, is after it
 abbrev pub IsLeaf : List Part → AMQPType → List ℕ → Type 0
 IsLeaf [] type bytes = ⊥
 IsLeaf (tag ∷ ps) type bytes = (tag.field ≡ TypeTag type) × BeginsWithPayload type ps bytes

@@ -29,7 +29,7 @@ pub fn first_leaf<'a>(parts: &[Part<'a>]) -> Option<Leaf<'a>>
     Some(Leaf { amqp_type, payload })
 }
 
-// The payload of a value of the type, from the parts behind its type tag.
+// The payload of a value of the type, from the parts after its type tag.
 fn first_payload<'a>(amqp_type: AMQPType, parts: &[Part<'a>]) -> Option<&'a [u8]>
     ensures payload { IfSome result (λ payload. BeginsWithPayload amqp_type parts.now payload.now) }
     ensures none { IfNone result ((bytes : List ℕ) → BeginsWithPayload amqp_type parts.now bytes → ⊥) }
@@ -42,7 +42,7 @@ fn first_payload<'a>(amqp_type: AMQPType, parts: &[Part<'a>]) -> Option<&'a [u8]
     }
 }
 
-// The payload behind the length that is the first part. An empty payload has no part.
+// The payload after the length that is the first part. An empty payload has no part.
 fn counted_payload<'a>(amqp_type: AMQPType, parts: &[Part<'a>]) -> Option<&'a [u8]>
     ensures payload { IfSome result (λ payload. IsCountedFirst parts.now amqp_type payload.now) }
     ensures none { IfNone result ((bytes : List ℕ) → IsCountedFirst parts.now amqp_type bytes → ⊥) }
@@ -69,7 +69,7 @@ fn payload_part<'a>(amqp_type: AMQPType, parts: &[Part<'a>]) -> Option<&'a [u8]>
     None
 }
 
-/// The value whose payload this part is, or `None` if it isn't a payload: by the part's kind alone.
+/// The value whose payload this part is, or `None` if it isn't a payload: only the part's kind counts.
 pub fn leaf_of<'a>(part: &Part<'a>) -> Option<Leaf<'a>>
     ensures leaf { IfSome result (λ leaf. IsPayload part.now leaf.amqp_type leaf.payload.now) }
     ensures none { IfNone result ((type : AMQPType) (bytes : List ℕ) → IsPayload part.now type bytes → ⊥) }

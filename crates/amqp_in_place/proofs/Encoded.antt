@@ -1,4 +1,4 @@
--- What is read in place is a view of its encoding alone.
+-- What is read in place is a view of exactly its encoding.
 use Rattle.std.proofs.Common.{◌≡◌, ◌<◌, ℕ, List, [], ◌∷◌, ◌++◌, length, take, drop, get_or, Some, None, refl, sym, ap, ◌∙◌, subst, arith, append-nil}
 use Rattle.std.proofs.lemmas.List.{take_at, drop_at, append_cancel_right}
 use Rattle.std.specs.Borrow.{Bor}
@@ -21,7 +21,7 @@ use Rattle.amqp_in_place.specs.Walks.{NextViewIs, NextEncodedKeyIs}
 use Rattle.amqp_in_place.proofs.HeadLemmas.{only}
 use Rattle.amqp_in_place.proofs.Places.{lies}
 
--- what is before the rest is the value's encoding, whole
+-- what is before the rest is the value's encoding, all of it
 whole : (w left : List ℕ) (r : ValueRef) → LiesIn (w ++ left) r left → LiesIn w r []
 whole w left r x = by r x
   where

@@ -369,7 +369,7 @@ module _ (l : Limits) (s : List ℕ) (bytes : IsBytes s) (fits : extent s ≤ l.
   fails_at zero _ e = subst (Within l s) e is_read
   fails_at (suc n) k e = subst (Within l s) e.1 is_read
 
-  -- so it is with an offset from behind the type tag
+  -- so it is with an offset from after the type tag
   fails_behind : (n : ℕ) (k : ProblemKind) → Explains here_read n k → FailsAt l s (n - 1) k
   fails_behind zero k e = fails_at zero k e
   fails_behind (suc zero) k e = absurd (omega (arith, e.0))
@@ -386,7 +386,7 @@ module _ (l : Limits) (s : List ℕ) (bytes : IsBytes s) (fits : extent s ≤ l.
   fails_untagged (Some p) why = fails_behind p.offset p.kind why
 
 -- what holds of the first problem by the rules of reading, if it does when the value is too large
--- and when the problem tells what reading it results in
+-- and when the problem determines what reading it results in
 by_limits : (P : Option Problem → Type 0) (l : Limits) (s : List ℕ) → IsBytes s → (l.frame < extent s → P (Some (here TooLarge)))
     → (extent s ≤ l.frame → (x : Option Problem) → Tells (extent s) s (outcome_by (meaning l.depth) s) x → P x) → P (problem_of ByReading l s)
 by_limits P l s bytes large small = elim (cases_lt l.frame (extent s)) [
@@ -396,7 +396,7 @@ by_limits P l s bytes large small = elim (cases_lt l.frame (extent s)) [
       (small fits (in_value ByReading (inside ByReading l.depth) s) (problem_tells l.depth s bytes))
 ]
 
--- there is none exactly if a value is read, and a problem tells what reading results in
+-- there is none exactly if a value is read, and a problem determines what reading results in
 module _ (l : Limits) (s : List ℕ) (bytes : IsBytes s) where
   none_exactly : IsNone (problem_of ByReading l s) ↔ FindsValue l s
   none_exactly = by_limits (λ x. IsNone x ↔ FindsValue l s) l s bytes (λ large. (λ none. cc, λ (v, rest, y). absurd (omega (arith, large, y.0)))) (none_if_found l s bytes)
@@ -423,11 +423,11 @@ module _ (rules : Rules) (l : Limits) (s : List ℕ) (bytes : IsBytes s) (is : r
   pub reads_if_none : x ≡ problem_of rules l s → IsNone x ↔ FindsValue l s
   reads_if_none = of_first (λ y. y) (λ y. IsNone y ↔ FindsValue l s) (none_exactly l s bytes)
 
-  -- and a problem tells what reading results in
+  -- and a problem determines what reading results in
   pub fails_if_some : x ≡ problem_of rules l s → IfSome x (λ p. FailsAt l s p.offset p.kind)
   fails_if_some = of_first (λ y. y) (λ y. IfSome y (λ p. FailsAt l s p.offset p.kind)) (fails_exactly l s bytes)
 
-  -- so it is with offsets from behind the type tag
+  -- so it is with offsets from after the type tag
   pub reads_if_none_untagged : x ≡ option_map untagged (problem_of rules l s) → IsNone x ↔ FindsValue l s
   reads_if_none_untagged = of_first (option_map untagged) (λ y. IsNone y ↔ FindsValue l s) (none_exactly_untagged l s bytes)
 

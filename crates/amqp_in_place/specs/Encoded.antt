@@ -10,7 +10,7 @@ abbrev pub values_encoded : (body : List ℕ) (vs : Trees) → ArrayBody body vs
 values_encoded _ _ no_values = no_trees
 values_encoded _ _ (value w rest v vs first others) = tree (octets w) (values_encoded rest vs others)
 
--- and the pairs in a body, with these in place of the values
+-- and the pairs in a body, with these instead of the values
 abbrev pub pairs_encoded : (body : List ℕ) (ps : Entries) → TableBody body ps → Entries
 pairs_encoded _ _ no_pairs = no_entries
 pairs_encoded _ _ (pair k w rest v ps key first others) = entry k (octets w) (pairs_encoded rest ps others)

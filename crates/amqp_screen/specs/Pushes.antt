@@ -6,7 +6,7 @@ use Rattle.amqp_screen.specs.declared.screen.Screen.{Screen}
 abbrev pub shown : Screen → List ℕ
 shown s = string_bytes s.text
 
--- more stands after what stood before
+-- more comes after what was there
 pub record Adds (old new : Screen) (more : List ℕ) : Type 0 where
   pub text : shown new ≡ shown old ++ more
   pub colours : new.has_colours ≡ old.has_colours

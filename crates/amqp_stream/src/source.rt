@@ -14,7 +14,7 @@ use std::io::Read;
 /// `Read` has no clause about the errors that a reader returns. This trait has, so what is proved
 /// of each source keeps them: an implementor may state which errors come.
 pub trait Source {
-    // The bytes that calls will return from here on, where they are known.
+    // The bytes that calls will return from here on, if they are known.
     ghost remaining: { Self → Option (List ℕ) };
 
     // What a call may do that returns no error.
