@@ -67,7 +67,7 @@ boolean_letter c k = by (nat_eq c 116) refl (row_holds (λ type. is_boolean type
     by false is none held = absurd (let no : true ≡ false = subst (λ (o : Option AMQPType). IfSome o (λ type. is_boolean type ≡ false)) held none in cc)
 
 -- no type tag denotes a short string
-no_short_letter : (c : ℕ) → kind c ≡ Some amqp.ShortString → ⊥
+pub no_short_letter : (c : ℕ) → kind c ≡ Some amqp.ShortString → ⊥
 no_short_letter c k = let r = kind_read c amqp.ShortString k in absurd cc
 
 -- a boolean's byte is 0 or 1, whatever is after it

@@ -1,6 +1,6 @@
 -- Looking for a problem by the rules of reading: there is none exactly if a value is read.
-use Rattle.std.proofs.Common.{◌≡◌, ◌≢◌, ◌<◌, ◌≤◌, ◌+◌, ◌-◌, ◌↔◌, ℕ, zero, suc, Option, Some, None, option_map, List, [], ◌∷◌, length, take, drop, Bool, true, false, nat_lt, refl, sym, ap, ◌∙◌, subst, inl, inr, arith}
-use Rattle.std.specs.Prelude.{IsNone, if◌then◌else◌, nat_le, ◌&&◌}
+use Rattle.std.proofs.Common.{◌≡◌, ◌≢◌, ◌<◌, ◌≤◌, ◌+◌, ◌-◌, ◌↔◌, ℕ, zero, suc, Option, Some, None, option_map, List, [], ◌∷◌, length, take, drop, Bool, true, false, refl, sym, ap, ◌∙◌, subst, inl, inr, arith}
+use Rattle.std.specs.Prelude.{IsNone}
 use Rattle.std.specs.Option.{IfSome}
 use Rattle.std.specs.Str.{is_utf8}
 use Rattle.std.specs.Int.{Width, w32, byte_len}
@@ -11,22 +11,23 @@ use Rattle.amqp_types.specs.declared.amqp_type.AMQPType.TheVariants as amqp
 use Rattle.amqp_types.specs.Ids.{kind}
 use Rattle.amqp_types.specs.Inputs.{IsBytes}
 use Rattle.amqp_types.proofs.Bytes.{bytes_take, bytes_drop}
-use Rattle.amqp_types.proofs.Ids.{kind_read}
 use Rattle.amqp_grammar.specs.Values.{Tree, scalar, array, table, Trees, tree, Entries, no_entries, insert}
 use Rattle.amqp_grammar.specs.Layouts.{Layout, fixed}
 use Rattle.amqp_grammar.specs.Outcomes.{Reading, found, more, unknown, malformed, length_field, counted, lack, lack_of}
-use Rattle.amqp_grammar.specs.Decode.{Meaning, framed, raw_outcome_by, outcome_by, values_by, is_key, pairs_onto, meaning}
+use Rattle.amqp_grammar.specs.Decode.{framed, raw_outcome_by, outcome_by, values_by, is_key, pairs_onto, meaning}
 use Rattle.amqp_grammar.proofs.GrammarLaws.{within_holds, within_is}
 use Rattle.amqp_parsing.specs.declared.limits.Limits.{Limits}
 use Rattle.amqp_parsing.specs.Headers.{extent, extent_of, extent_at, raw_extent, first_of}
 use Rattle.amqp_parsing.specs.Limits.{Within}
+use Rattle.amqp_parsing.specs.Untagged.{tagged}
 use Rattle.amqp_in_place.specs.declared.problems.Problem.{Problem}
 use Rattle.amqp_in_place.specs.declared.problems.ProblemKind.{ProblemKind}
 use Rattle.amqp_in_place.specs.declared.problems.ProblemKind.TheVariants.{UnknownTag, Cut, KeyCut, KeyNotUtf8, TooLarge}
 use Rattle.amqp_in_place.specs.declared.problems.Rules.{Rules}
 use Rattle.amqp_in_place.specs.declared.problems.Rules.TheVariants.{Reading as ByReading}
-use Rattle.amqp_in_place.specs.Problems.{Search, here, further, in_entries, in_payload, in_value, in_pair, pair_len, inside, problem_of, untagged}
+use Rattle.amqp_in_place.specs.Problems.{Search, here, further, in_entries, in_payload, in_value, in_pair, pair_len, inside, problem_of, problem_in_table_of, untagged}
 use Rattle.amqp_in_place.specs.ProblemResults.{FindsValue, FailsAt}
+use Rattle.amqp_in_place.proofs.Canonicals.{no_short_letter}
 use Rattle.amqp_in_place.proofs.FirstProblems.{counted_there, entry_passed, entry_stops, first_there}
 
 -- ---- why no value is read
@@ -183,7 +184,7 @@ body_means f (Some p) None h = explains_inside (5 + p.offset) p.kind (omega arit
 body_means f None None h = absurd h
 body_means f (Some p) (Some v) h = absurd h
 
--- what is in a length-prefixed field, if so it is of values one level further in
+-- what is in a length-prefixed field, if that is known of the values in it
 field_means : (d : ℕ) → TellsOf (in_value ByReading (inside ByReading d)) (outcome_by (meaning d))
     → (type : AMQPType) (b : List ℕ) → IsBytes b → fixed type ≡ None → type ≢ amqp.ShortString → Means (inside ByReading (suc d) type b) (meaning (suc d) type (drop 4 b))
 field_means d tells amqp.ShortString b bytes row long = absurd (long refl)
@@ -202,7 +203,7 @@ field_means d tells amqp.FieldTable b bytes row long =
     (pairs_tell value read tells (length body) no_entries body (bytes_drop 4 b bytes) (omega arith))
 field_means d tells _ b bytes row long = absurd cc
 
--- the outermost level: no container is allowed
+-- likewise if no container is allowed
 no_field_means : (type : AMQPType) (b : List ℕ) → fixed type ≡ None → type ≢ amqp.ShortString → Means (inside ByReading 0 type b) (meaning 0 type (drop 4 b))
 no_field_means amqp.ShortString b row long = absurd (long refl)
 no_field_means amqp.LongString b row long = tt
@@ -318,9 +319,6 @@ payload_tells d mean c type b bytes long = elim (cases_lt (length b) (raw_extent
 
 -- ---- values
 
-no_short_tag : (c : ℕ) → kind c ≡ Some amqp.ShortString → ⊥
-no_short_tag c k = let r = kind_read c amqp.ShortString k in absurd cc
-
 value_tells : (d : ℕ) → FieldsMean d → TellsOf (in_value ByReading (inside ByReading d)) (outcome_by (meaning d))
 value_tells d mean [] bytes = (1, refl)
 value_tells d mean (c ∷ b) bytes = by (kind c) refl
@@ -329,7 +327,7 @@ value_tells d mean (c ∷ b) bytes = by (kind c) refl
         → Tells (extent_at k b) (c ∷ b) (elim k [ None ↦ unknown | Some type ↦ raw_outcome_by (meaning d) type b ])
         (elim k [ None ↦ Some (here (UnknownTag c)) | Some type ↦ in_payload (inside ByReading d) type b ])
     by None is = refl
-    by (Some type) is = payload_tells d mean c type b bytes.1 (λ e. no_short_tag c (is ∙ ap Some e))
+    by (Some type) is = payload_tells d mean c type b bytes.1 (λ e. no_short_letter c (is ∙ ap Some e))
 
 fields_mean : (d : ℕ) → FieldsMean d
 fields_mean zero type b bytes row long = no_field_means type b row long
@@ -369,7 +367,7 @@ module _ (l : Limits) (s : List ℕ) (bytes : IsBytes s) (fits : extent s ≤ l.
   fails_at zero _ e = subst (Within l s) e is_read
   fails_at (suc n) k e = subst (Within l s) e.1 is_read
 
-  -- so it is with an offset from after the type tag
+  -- so it is with an offset that doesn't count the type tag
   fails_behind : (n : ℕ) (k : ProblemKind) → Explains here_read n k → FailsAt l s (n - 1) k
   fails_behind zero k e = fails_at zero k e
   fails_behind (suc zero) k e = absurd (omega (arith, e.0))
@@ -385,8 +383,8 @@ module _ (l : Limits) (s : List ℕ) (bytes : IsBytes s) (fits : extent s ≤ l.
   fails_untagged None tells = tt
   fails_untagged (Some p) why = fails_behind p.offset p.kind why
 
--- what holds of the first problem by the rules of reading, if it does when the value is too large
--- and when the problem determines what reading it results in
+-- what holds of the first problem by the rules of reading, if it does of a value that is too large,
+-- and of a problem that explains the outcome
 by_limits : (P : Option Problem → Type 0) (l : Limits) (s : List ℕ) → IsBytes s → (l.frame < extent s → P (Some (here TooLarge)))
     → (extent s ≤ l.frame → (x : Option Problem) → Tells (extent s) s (outcome_by (meaning l.depth) s) x → P x) → P (problem_of ByReading l s)
 by_limits P l s bytes large small = elim (cases_lt l.frame (extent s)) [
@@ -396,40 +394,42 @@ by_limits P l s bytes large small = elim (cases_lt l.frame (extent s)) [
       (small fits (in_value ByReading (inside ByReading l.depth) s) (problem_tells l.depth s bytes))
 ]
 
--- there is none exactly if a value is read, and a problem determines what reading results in
-module _ (l : Limits) (s : List ℕ) (bytes : IsBytes s) where
-  none_exactly : IsNone (problem_of ByReading l s) ↔ FindsValue l s
-  none_exactly = by_limits (λ x. IsNone x ↔ FindsValue l s) l s bytes (λ large. (λ none. cc, λ (v, rest, y). absurd (omega (arith, large, y.0)))) (none_if_found l s bytes)
-
-  none_exactly_untagged : IsNone (option_map untagged (problem_of ByReading l s)) ↔ FindsValue l s
-  none_exactly_untagged = by (problem_of ByReading l s) none_exactly
-    where
-      by : (x : Option Problem) → IsNone x ↔ FindsValue l s → IsNone (option_map untagged x) ↔ FindsValue l s
-      by None same = same
-      by (Some p) same = same
-
-  fails_exactly : IfSome (problem_of ByReading l s) (λ p. FailsAt l s p.offset p.kind)
-  fails_exactly = by_limits (λ x. IfSome x (λ p. FailsAt l s p.offset p.kind)) l s bytes (λ large. large) (fails l s bytes)
-
-  fails_exactly_untagged : IfSome (option_map untagged (problem_of ByReading l s)) (λ p. FailsAt l s p.offset p.kind)
-  fails_exactly_untagged = by_limits (λ x. IfSome (option_map untagged x) (λ p. FailsAt l s p.offset p.kind)) l s bytes (λ large. large) (fails_untagged l s bytes)
-
 module _ (rules : Rules) (l : Limits) (s : List ℕ) (bytes : IsBytes s) (is : rules ≡ ByReading) (x : Option Problem) where
   -- what holds of the first problem by the rules of reading holds of x, if that is it
-  of_first : (f : Option Problem → Option Problem) (P : Option Problem → Type 0) → P (f (problem_of ByReading l s)) → x ≡ f (problem_of rules l s) → P x
-  of_first f P holds first = subst P (sym (first ∙ ap (λ (r : Rules). f (problem_of r l s)) is)) holds
+  of_first : (P : Option Problem → Type 0) → P (problem_of ByReading l s) → x ≡ problem_of rules l s → P x
+  of_first P holds first = subst P (sym (first ∙ ap (λ (r : Rules). problem_of r l s) is)) holds
 
   -- there is none exactly if a value is read
   pub reads_if_none : x ≡ problem_of rules l s → IsNone x ↔ FindsValue l s
-  reads_if_none = of_first (λ y. y) (λ y. IsNone y ↔ FindsValue l s) (none_exactly l s bytes)
+  reads_if_none =
+      let P : Option Problem → Type 0 = λ y. IsNone y ↔ FindsValue l s in
+      of_first P (by_limits P l s bytes (λ large. (λ none. cc, λ (v, rest, y). absurd (omega (arith, large, y.0)))) (none_if_found l s bytes))
 
-  -- and a problem determines what reading results in
+  -- and what reading results in if there is one
   pub fails_if_some : x ≡ problem_of rules l s → IfSome x (λ p. FailsAt l s p.offset p.kind)
-  fails_if_some = of_first (λ y. y) (λ y. IfSome y (λ p. FailsAt l s p.offset p.kind)) (fails_exactly l s bytes)
+  fails_if_some =
+      let P : Option Problem → Type 0 = λ y. IfSome y (λ p. FailsAt l s p.offset p.kind) in
+      of_first P (by_limits P l s bytes (λ large. large) (fails l s bytes))
 
-  -- so it is with offsets from after the type tag
-  pub reads_if_none_untagged : x ≡ option_map untagged (problem_of rules l s) → IsNone x ↔ FindsValue l s
-  reads_if_none_untagged = of_first (option_map untagged) (λ y. IsNone y ↔ FindsValue l s) (none_exactly_untagged l s bytes)
+-- so it is of a table t without its type tag
+module _ (rules : Rules) (l : Limits) (t : List ℕ) (bytes : IsBytes t) (is : rules ≡ ByReading) (x : Option Problem) where
+  -- with its type tag
+  abbrev with_tag : List ℕ
+  with_tag = tagged amqp.FieldTable t
 
-  pub fails_if_some_untagged : x ≡ option_map untagged (problem_of rules l s) → IfSome x (λ p. FailsAt l s p.offset p.kind)
-  fails_if_some_untagged = of_first (option_map untagged) (λ y. IfSome y (λ p. FailsAt l s p.offset p.kind)) (fails_exactly_untagged l s bytes)
+  with_tag_bytes : IsBytes with_tag
+  with_tag_bytes = (omega arith, bytes)
+
+  of_first_in_table : (P : Option Problem → Type 0) → P (problem_in_table_of ByReading l t) → x ≡ problem_in_table_of rules l t → P x
+  of_first_in_table P holds first = subst P (sym (first ∙ ap (λ (r : Rules). problem_in_table_of r l t) is)) holds
+
+  pub table_read_if_none : x ≡ problem_in_table_of rules l t → IsNone x ↔ FindsValue l with_tag
+  table_read_if_none =
+      let P : Option Problem → Type 0 = λ y. IsNone y ↔ FindsValue l with_tag in
+      let by : (y : Option Problem) → P y → P (option_map untagged y) = λ y. elim y as (λ z. P z → P (option_map untagged z)) [ None ↦ λ same. same | Some p ↦ λ same. same ] in
+      of_first_in_table P (by (problem_of ByReading l with_tag) (reads_if_none ByReading l with_tag with_tag_bytes refl (problem_of ByReading l with_tag) refl))
+
+  pub table_fails_if_some : x ≡ problem_in_table_of rules l t → IfSome x (λ p. FailsAt l with_tag p.offset p.kind)
+  table_fails_if_some =
+      let P : Option Problem → Type 0 = λ y. IfSome y (λ p. FailsAt l with_tag p.offset p.kind) in
+      of_first_in_table P (by_limits (λ y. P (option_map untagged y)) l with_tag with_tag_bytes (λ large. large) (fails_untagged l with_tag with_tag_bytes))

@@ -9,10 +9,10 @@ returns-clause-first c = grind (arith, common_steps)
 
 pub returns-clause-read : goal.returns-clause-read
 returns-clause-read c = λ is.
-    let bytes = bytes_all c.args.bytes.now c.type_inv.bytes in
-    reads_if_none c.args.rules c.args.limits c.args.bytes.now bytes is c.err.result (returns-clause-first c)
+    let s = c.args.bytes.now in
+    reads_if_none c.args.rules c.args.limits s (bytes_all s c.type_inv.bytes) is _ (returns-clause-first c)
 
 pub returns-clause-fails : goal.returns-clause-fails
 returns-clause-fails c = λ is.
-    let bytes = bytes_all c.args.bytes.now c.type_inv.bytes in
-    fails_if_some c.args.rules c.args.limits c.args.bytes.now bytes is c.err.result (returns-clause-first c)
+    let s = c.args.bytes.now in
+    fails_if_some c.args.rules c.args.limits s (bytes_all s c.type_inv.bytes) is _ (returns-clause-first c)
