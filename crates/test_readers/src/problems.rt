@@ -1,11 +1,10 @@
-//! The first problem of a value by each of the rules, by worked bytes; what has none is read.
+//! The first problem of a value by each of the rules, by worked bytes.
 
 use amq_protocol_types::in_place::ProblemKind::{
     Cut, KeyCut, KeyNotUtf8, NotFinite, TooDeep, UnknownTag,
 };
 use amq_protocol_types::in_place::{
-    Limits, ProblemKind, Rules, first_problem, first_problem_in_table, read_in_place,
-    read_table_in_place,
+    Limits, ProblemKind, Rules, first_problem, first_problem_in_table,
 };
 
 const LIMITS: Limits = Limits {
@@ -58,19 +57,6 @@ fn rules_differ_in_keys_floats_and_a_type_tag(rt: HostRuntime) {
                 );
                 assert_eq!(rt; found, wanted.map(before));
             }
-        }
-    }
-}
-
-#[test]
-fn what_has_no_problem_is_read(rt: HostRuntime) {
-    for (bytes, [reading, _, _]) in ROWS {
-        assert_eq!(rt; read_in_place(bytes, LIMITS).is_ok(), reading.is_none());
-        if let [b'F', table @ ..] = bytes {
-            assert_eq!(rt;
-                read_table_in_place(table, LIMITS).is_ok(),
-                reading.is_none()
-            );
         }
     }
 }
