@@ -27,6 +27,8 @@ CLASSES = {
 }
 TAGS = {it: tag for tag, it in CLASSES.items()}
 UTC = timezone.utc
+CYCLE = []
+CYCLE.append(CYCLE)
 
 
 def python_of(value):
@@ -81,6 +83,7 @@ ROWS = [
 # What is written as one of these, and isn't read as it was.
 ALSO = [
     (datetime(2027, 1, 15, 9, 0, 0, 999999, timezone(timedelta(hours=1))), "54000000006b49d200"), (Decimal("1E+3"), "4400000003e8"), ((None,), "410000000156"),
+    (Decimal("0E+999999"), "440000000000"),
     (av.LongString(b"a"), "530000000161"), (bytearray(b"a"), "780000000161"), (memoryview(b"a"), "780000000161"), (av.Encoded(b"t\7"), "7407"),
     ({b"a": None}, "4600000003016156"),
 ]
@@ -89,7 +92,8 @@ REJECTED = [
     ({"k" * 256: None}, av.BadKey), ({b"\xff": None}, av.BadKey), (2**63, av.OutOfRange), (-(2**63) - 1, av.OutOfRange), (Decimal(-1), av.OutOfRange),
     (Decimal("NaN"), av.OutOfRange), (Decimal(2**32), av.OutOfRange), (Decimal("1E-256"), av.OutOfRange), (Decimal("1E+999999"), av.OutOfRange),
     (datetime(1969, 12, 31, tzinfo=UTC), av.OutOfRange), (datetime(2027, 1, 15), TypeError), (object(), TypeError), ({1: None}, TypeError),
-    ("\ud800", UnicodeEncodeError), (av.Encoded(b""), av.More), (av.Encoded(b"z"), av.UnknownTag), (av.Encoded(nested("A", 65, b"")), av.Malformed),
+    ("\ud800", av.BadText), ({"\ud800": None}, av.BadKey), ({"\udcc3\udca4": None}, av.BadKey), ({"a": 1, b"a": 2}, av.BadKey),
+    (av.Encoded(b""), av.More), (av.Encoded(b"z"), av.UnknownTag), (av.Encoded(nested("A", 65, b"")), av.Malformed), (av.Encoded(b"VV"), av.Trailing),
 ]
 
 
@@ -99,6 +103,15 @@ def error_of(call):
         call()
     except Exception as why:
         return type(why)
+    return None
+
+
+def message_of(call):
+    """The path and the message of the error that a call raises."""
+    try:
+        call()
+    except av.Error as why:
+        return why.path, str(why)
     return None
 
 
@@ -244,6 +257,17 @@ def check_others(checks):
         "a Float has the number of its bits": av.loads(b"f\x3d\xcc\xcc\xcd") == 0.10000000149011612,
         "a time": av.Timestamp(1_800_000_000).as_datetime() == datetime(2027, 1, 15, 8, tzinfo=UTC),
         "text": f"{av.ShortInt(-5)} {av.ShortInt(-5)!r} {av.Float(1.5)} {av.Float(1.5)!r}" == "-5 ShortInt(-5) 1.5 Float(1.5)",
+        "a Float that is too large": message_of(lambda: av.dumps([av.Float(1e300)])) == ((), "1e+300 isn't a number of 32 bits"),
+        "an integer of 5,000 digits": message_of(lambda: av.dumps(10**5000)) == ((), f"an integer of 16610 bits isn't between {-(2**63)} and {2**63 - 1}"),
+        "the path of what can't be written": message_of(lambda: av.dumps({"a": [1, "b\ud800"]}))
+        == message_of(lambda: av.dumps_table({"a": [1, "b\ud800"]}))
+        == (("a", 1), "U+D800 at 1 is a lone surrogate, which has no UTF-8 (at ['a', 1])"),
+        "the path in a table that doesn't nest": message_of(lambda: av.dumps_table({"a": 1, "b": 2**63}))
+        == (("b",), f"{2**63} isn't between {-(2**63)} and {2**63 - 1} (at ['b'])"),
+        "JSON with a lone surrogate": message_of(lambda: av.from_json('"a\ud800"')) == ((), "U+D800 at 2 is a lone surrogate, which has no UTF-8"),
+        "what is inside itself": error_of(lambda: av.dumps(CYCLE)) is error_of(lambda: av.peek(nested("A", 5000, b"V")).value) is av.TooDeep,
+        "the largest depth": av.measure(nested("AF", av.MOST_DEPTH, b"V"), depth=av.MOST_DEPTH).levels == av.MOST_DEPTH,
+        "a larger depth": error_of(lambda: av.loads(b"V", depth=av.MOST_DEPTH + 1)) is ValueError,
         "no JSON": error_of(lambda: av.from_json("[")) is error_of(lambda: av.from_json("[[]]", nesting=1)) is av.NotJson,
         "no encoding": error_of(lambda: av.from_json('{"ShortString":"a"}')) is av.NoEncoding,
         "of a table without its type tag": (av.canonical(b"\0\0\0\4\1at\7", table=True), av.to_json(b"\0\0\0\4\1at\7", table=True))

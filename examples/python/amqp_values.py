@@ -23,7 +23,16 @@ that isn't 1 becomes 1, and of equal keys in a table the last one's value is kep
 
 A function takes the value at the start of some bytes, with its type tag; with `table=True` the table without one, as methods
 and content headers have it. At most `frame` bytes, the type tag counted, and containers nested at most `depth` deep are read
-(include/amqp_values.h has the stack for each level). What isn't read or can't be written raises an `Error`.
+(include/amqp_values.h has the stack for each level; MOST_DEPTH levels are content with 5 MiB).
+
+What isn't read or can't be written raises an `Error`. Otherwise only mistakes raise something:
+
+    TypeError   an argument, or something in it, is of no type that its hint allows; or a datetime has no time zone
+    ValueError  a limit is below 0 or above 4294967295, `depth` above MOST_DEPTH; `rules` aren't those of `Rules`; a path is a
+                key, or has an index below 0 or above 2^63 - 1; a memoryview was released
+    OSError     `load` finds no library there, or another one (a path that isn't UTF-8 or has a NUL is a ValueError)
+
+`Timestamp.as_datetime` has others, in its docstring. What an argument's own methods raise passes through.
 """
 
 from __future__ import annotations
@@ -31,15 +40,23 @@ from __future__ import annotations
 import ctypes
 import os
 import struct
-from collections.abc import Iterator, Mapping, Sequence
+from collections.abc import Iterable, Iterator, Mapping, Sequence
+from contextlib import suppress
 from ctypes import POINTER, byref, c_char_p, c_size_t, c_uint8, c_uint32, c_uint64
 from datetime import datetime, timezone
 from decimal import Decimal
 from enum import IntEnum
-from typing import Any, NamedTuple, Union
+from numbers import Real
+from operator import index
+from typing import TYPE_CHECKING, Any, NamedTuple, SupportsIndex, Union
+
+if TYPE_CHECKING:
+    from typing_extensions import Self
 
 # Limits for untrusted bytes (RabbitMQ sends more than its usual frame-max, 131072), and of the library for JSON.
 FRAME, DEPTH, JSON_NESTING = 1048576, 64, 127
+# The largest `depth`. The stack of a thread usually has 8 MiB, and what overflows it ends the process.
+MOST_DEPTH = 4096
 
 # What is read, what can be written, and a path: keys into tables, and indexes from 0 into arrays.
 Value = Union[None, bool, int, float, Decimal, str, bytes, list["Value"], dict[str, "Value"]]
@@ -48,8 +65,12 @@ Path = Sequence[Union[str, bytes, int]]
 Bytes = Union[bytes, bytearray, memoryview]
 
 class Error(ValueError):
-    """Why nothing was read or written. `code` is the library's result."""
+    """Why nothing was read or written. `code` is the library's result, and `path` leads to what can't be written."""
     code = 0
+    path: Path = ()
+
+    def __str__(self) -> str:
+        return f"{super().__str__()} (at {[*self.path]})" if self.path else super().__str__()
 
 class More(Error):
     """The bytes end before the value does."""
@@ -65,13 +86,17 @@ class Malformed(Error):
 class TooLarge(Error): """The value has more than `frame` bytes, or what is written has 2^32 or more."""
 class Trailing(Error): """Bytes follow the value."""
 class Invalid(Error): """It is no array or table, or can't be written there."""
-class BadKey(Invalid): """A key isn't UTF-8, or has more than 255 bytes."""
+class BadKey(Invalid): """A key isn't UTF-8, has more than 255 bytes, or is in the table already."""
+class BadText(Invalid): """A str has a lone surrogate, so it has no UTF-8."""
 class BadTag(Invalid): """It is of another type than is needed, or of none that can be written."""
 class OutOfRange(Invalid): """A number is out of its type's range."""
+class TooDeep(Error): """It nests deeper than Python's recursion limit allows, or is inside itself."""
 class NoMemory(Error, MemoryError): """Out of memory."""
 class NotJson(Error): """The text isn't UTF-8, nests too deep, is no JSON, or the JSON of no value."""
 class NoEncoding(Error): """The value has no encoding: it has a ShortString, or a length is too large for its field."""
 
+# What Python raises at its limit, and what ctypes makes of that in a call.
+_RECURSION = (RecursionError, ctypes.ArgumentError)
 _OK, _NONE, _NO_ROOM = 0, 1, -7
 _ERRORS: dict[int, type[Error]] = {
     -1: More, -2: UnknownTag, -3: Malformed, -4: TooLarge, -5: Invalid, -6: NoMemory, -8: NotJson, -9: NoEncoding, -10: BadKey, -11: BadTag, -12: OutOfRange,
@@ -79,15 +104,23 @@ _ERRORS: dict[int, type[Error]] = {
 for _code, _error in _ERRORS.items():
     _error.code = _code
 
+def _shown(number: object) -> str:
+    """A number as a message has it, or how large it is."""
+    if isinstance(number, int) and number.bit_length() > 128:
+        return f"an integer of {number.bit_length()} bits"
+    if isinstance(number, Decimal) and len(Decimal.as_tuple(number).digits) > 40:
+        return f"a Decimal of {len(Decimal.as_tuple(number).digits)} digits"
+    return f"{number}" if isinstance(number, (int, float, Decimal)) else f"a {type(number).__name__}"
+
 class _Integer(int):
     """An integer of one type."""
     tag, least, most = "", 0, 0
 
-    def __new__(cls, value: int = 0):
-        found = super().__new__(cls, value)
-        if not cls.least <= found <= cls.most:
-            raise OutOfRange(f"{value} isn't between {cls.least} and {cls.most}")
-        return found
+    def __new__(cls, value: SupportsIndex = 0) -> Self:
+        number = index(value)
+        if not cls.least <= number <= cls.most:
+            raise OutOfRange(f"{_shown(number)} isn't between {cls.least} and {cls.most}")
+        return super().__new__(cls, number)
 
     def __repr__(self) -> str:
         return f"{type(self).__name__}({int(self)})"
@@ -108,6 +141,8 @@ class Timestamp(_Integer):
 
     @classmethod
     def of(cls, time: datetime) -> Timestamp:
+        if not isinstance(time, datetime):
+            raise TypeError(f"a time is a datetime, not {type(time).__name__}")
         since = time - datetime.fromtimestamp(0, timezone.utc)
         return cls(since.days * 86400 + since.seconds)
 
@@ -117,26 +152,47 @@ class Timestamp(_Integer):
 
 class Float(float):
     """The nearest number of 32 bits. `bits` are these, so that a NaN is exact too."""
-    def __new__(cls, value: float = 0.0):
-        return cls.of_bits(struct.unpack(">I", struct.pack(">f", value))[0])
+    _bits: int
+
+    def __new__(cls, value: float | Decimal = 0.0) -> Self:
+        if not isinstance(value, (Real, Decimal)):
+            raise TypeError(f"a Float is made of a number, not {type(value).__name__}")
+        try:
+            # (a signaling NaN of Decimal is no float)
+            return cls.of_bits(int.from_bytes(struct.pack(">f", float(value)), "big"))
+        except (OverflowError, ValueError):
+            raise OutOfRange(f"{_shown(value)} isn't a number of 32 bits") from None
 
     @classmethod
-    def of_bits(cls, bits: int) -> Float:
-        found = super().__new__(cls, struct.unpack(">f", struct.pack(">I", bits))[0])
-        found.bits: int = bits
+    def of_bits(cls, bits: SupportsIndex) -> Self:
+        number = int(LongUInt(bits))
+        found = super().__new__(cls, struct.unpack(">f", number.to_bytes(4, "big"))[0])
+        found._bits = number
         return found
+
+    @property
+    def bits(self) -> int:
+        return self._bits
 
     def __repr__(self) -> str:
         return f"Float({float(self)!r})"
 
     __str__ = float.__repr__
 
-class LongString(bytes):
+def _bytes(data: Bytes) -> bytes:
+    """Bytes as they are, whatever a subclass makes of them."""
+    return data if type(data) is bytes else bytes(memoryview(data))
+
+class _Bytes(bytes):
+    def __new__(cls, content: Bytes = b"") -> Self:
+        return super().__new__(cls, _bytes(content))
+
+class LongString(_Bytes):
     """A string by its bytes."""
     def __repr__(self) -> str:
-        return f"LongString({bytes(self)!r})"
+        return f"LongString({_bytes(self)!r})"
 
-class Encoded(bytes):
+class Encoded(_Bytes):
     """The encoding of a value with its type tag, to be checked, and written as it is."""
 
 _INTEGERS = {it.tag: it for it in (ShortShortInt, ShortShortUInt, ShortInt, ShortUInt, LongInt, LongUInt, Timestamp)}
@@ -178,8 +234,11 @@ _calls: dict[str, Any] = {}
 
 def load(path: str | None = None) -> None:
     """Loads the library, as the first call does: by a path, by AMQP_VALUES in the environment, or as the system finds it."""
-    library = ctypes.CDLL(path or os.environ.get("AMQP_VALUES") or "libamqp_values.so.0")
-    calls = {name: library[f"amqpv_{name}"] for name in _PARAMETERS}
+    library = ctypes.CDLL(os.environ.get("AMQP_VALUES") or "libamqp_values.so.0" if path is None else path)
+    try:
+        calls = {name: library[f"amqpv_{name}"] for name in _PARAMETERS}
+    except AttributeError as lacking:
+        raise OSError(f"it isn't libamqp_values: {lacking}") from None
     for name, call in calls.items():
         call.argtypes = [kind for it in _PARAMETERS[name] for kind in _KINDS[it]]
     _calls.update(calls)
@@ -191,7 +250,8 @@ def version() -> int:
 def _result(name: str, *arguments: Any) -> int:
     if not _calls:
         load()
-    return _calls[name](*arguments)
+    code: int = _calls[name](*arguments)
+    return code
 
 def _is_ok(code: int, count: int = 0) -> bool:
     """Whether something was done, and not nothing found; other results raise their error."""
@@ -202,17 +262,36 @@ def _is_ok(code: int, count: int = 0) -> bool:
         found.missing = count
     raise found
 
+def _limit(number: SupportsIndex, most: int = 2**32 - 1) -> int:
+    if not 0 <= (limit := index(number)) <= most:
+        raise ValueError(f"a limit isn't between 0 and {most}")
+    return limit
+
 def _given(data: Bytes, frame: int = FRAME, depth: int = DEPTH) -> tuple[bytes, int, int, int]:
     """Bytes and limits as the library takes them."""
-    if not (0 <= frame < 2**32 and 0 <= depth < 2**32):
-        raise ValueError("a limit isn't between 0 and 4294967295")
-    data = data if isinstance(data, bytes) else bytes(memoryview(data))
-    return data, len(data), frame, depth
+    content = _bytes(data)
+    return content, len(content), _limit(frame), _limit(depth, MOST_DEPTH)
 
-def _key(key: str | bytes) -> bytes:
+def _utf8(text: str, error: type[Error], errors: str = "strict") -> bytes:
+    try:
+        return str.encode(text, errors=errors)
+    except UnicodeEncodeError as why:
+        raise error(f"U+{ord(str.__getitem__(text, why.start)):04X} at {why.start} is a lone surrogate, which has no UTF-8") from None
+
+def _key(key: str | bytes, errors: str = "strict") -> bytes:
+    """The bytes of a key; with "surrogateescape" also of one that `Entry.key` is and that isn't UTF-8."""
     if not isinstance(key, (str, bytes)):
         raise TypeError(f"a key is a str, not {type(key).__name__}")
-    return key.encode(errors="surrogateescape") if isinstance(key, str) else key
+    return _utf8(key, BadKey, errors) if isinstance(key, str) else _bytes(key)
+
+def _step(it: str | bytes | int) -> _Step:
+    """A step of a path as the library takes it."""
+    if isinstance(it, (str, bytes)):
+        key = _key(it, "surrogateescape")
+        return _Step(key, len(key), 0, ord("F"))
+    if not 0 <= (number := index(it)) < 2**63:
+        raise ValueError("a path is a sequence of keys and of indexes from 0")
+    return _Step(b"", 0, number, ord("A"))
 
 class Entry:
     """A value in place, and in a table its key. Nothing is built but what is asked for."""
@@ -232,7 +311,7 @@ class Entry:
     @property
     def length(self) -> int:
         """How many of the bytes the value has."""
-        return self._at.value.length
+        return int(self._at.value.length)
 
     @property
     def encoding(self) -> Encoded:
@@ -241,12 +320,20 @@ class Entry:
 
     @property
     def value(self) -> Value:
-        tag, bits, content = self.tag, self._at.bits, self._at.content.of(self._data)
+        """The value, built with all that is in it."""
+        try:
+            return self._built()
+        except _RECURSION:
+            raise TooDeep(TooDeep.__doc__) from None
+
+    def _built(self) -> Value:
+        tag, bits = self.tag, int(self._at.bits)
+        content: bytes = self._at.content.of(self._data)
         signed = bits - 2**64 if bits >> 63 else bits
         if tag in "AF":
-            return {str(it.key): it.value for it in self} if tag == "F" else [it.value for it in self]
+            return {str(it.key): it._built() for it in self} if tag == "F" else [it._built() for it in self]
         if tag == "D":
-            return Decimal((0, tuple(map(int, str(bits))), -self._at.scale))
+            return Decimal((0, tuple(map(int, str(bits))), -int(self._at.scale)))
         if tag in _INTEGERS:
             return _INTEGERS[tag](signed if tag in "bsI" else bits)
         if tag == "S":
@@ -254,7 +341,7 @@ class Entry:
                 return content.decode()
             except UnicodeDecodeError:
                 return LongString(content)
-        forms = {"V": None, "t": bits == 1, "l": signed, "d": struct.unpack("d", struct.pack("Q", bits))[0], "x": content}
+        forms: dict[str, Value] = {"V": None, "t": bits == 1, "l": signed, "d": struct.unpack("d", struct.pack("Q", bits))[0], "x": content}
         return Float.of_bits(bits) if tag == "f" else forms[tag]
 
     def __iter__(self) -> Iterator[Entry]:
@@ -266,19 +353,20 @@ class Entry:
 
     def get(self, key: str | bytes, first: bool = True) -> Entry | None:
         """The entry of a table with a key: of equal keys the first, as for RabbitMQ, or the last."""
-        call, cursor, at, key = "find_first" if first else "find", self._cursor(), _Entry(), _key(key)
-        is_found = _is_ok(_result(call, self._data, len(self._data), byref(cursor), key, len(key), byref(at)))
+        call, cursor, at, content = "find_first" if first else "find", self._cursor(), _Entry(), _key(key, "surrogateescape")
+        is_found = _is_ok(_result(call, self._data, len(self._data), byref(cursor), content, len(content), byref(at)))
         return Entry(self._data, at, True) if is_found else None
 
     def find(self, path: Path, first: bool = True) -> Entry | None:
         """The entry at a path; of equal keys as for `get`."""
-        if isinstance(path, (str, bytes)) or any(isinstance(it, int) and not 0 <= it < 2**63 for it in path):
+        if isinstance(path, _STRINGS):
             raise ValueError("a path is a sequence of keys and of indexes from 0")
-        keys, at = [b"" if isinstance(it, int) else _key(it) for it in path], _Entry()
-        steps = ((key, len(key), *((it, ord("A")) if isinstance(it, int) else (0, ord("F")))) for key, it in zip(keys, path))
-        given = byref(self._at), (_Step * len(path))(*steps), len(path), int(first), byref(at)
+        if not isinstance(path, Sequence):
+            raise TypeError(f"a path is a sequence, not {type(path).__name__}")
+        steps, at = [_step(it) for it in path], _Entry()
+        given = byref(self._at), (_Step * len(steps))(*steps), len(steps), int(bool(first)), byref(at)
         is_found = _is_ok(_result("find_path", self._data, len(self._data), *given))
-        return Entry(self._data, at, not isinstance(path[-1], int) if path else self._is_in_table) if is_found else None
+        return Entry(self._data, at, steps[-1].tag == ord("F") if steps else self._is_in_table) if is_found else None
 
     def _cursor(self) -> _Cursor:
         cursor = _Cursor()
@@ -291,15 +379,15 @@ def entry(data: Bytes, *, table: bool = False, frame: int = FRAME, depth: int = 
     try:
         _is_ok(_result("read_table" if table else "read", *given, byref(at), byref(count)), count.value)
     except Malformed as malformed:
-        malformed.problem = first_problem(data, rules=Rules.READ, table=table, frame=frame, depth=depth)
+        malformed.problem = first_problem(given[0], rules=Rules.READ, table=table, frame=frame, depth=depth)
         raise
     return Entry(given[0], at)
 
 def peek(data: Bytes) -> Entry:
     """The value in place by its type tag and length, unchecked: also a table with keys that aren't UTF-8."""
-    (data, length, *_), at = _given(data), _Entry()
-    _is_ok(_result("first", data, length, byref(at)))
-    return Entry(data, at)
+    content, at = _bytes(data), _Entry()
+    _is_ok(_result("first", content, len(content), byref(at)))
+    return Entry(content, at)
 
 def entries(data: Bytes, **how: Any) -> Iterator[Entry]:
     """The entries of an array or a table, of which all is checked before, as by `entry`."""
@@ -312,14 +400,16 @@ def find(data: Bytes, path: Path, *, first: bool = True, default: Any = None, **
 
 def loads(data: Bytes, *, table: bool = False, frame: int = FRAME, depth: int = DEPTH) -> Any:
     """The value that some bytes are; `Trailing` if others follow it."""
-    found = entry(data, table=table, frame=frame, depth=depth)
-    if found.length != memoryview(data).nbytes:
+    content = _bytes(data)
+    found = entry(content, table=table, frame=frame, depth=depth)
+    if found.length != len(content):
         raise Trailing(f"the value has {found.length} bytes, and others follow")
     return found.value
 
 def loads_table(data: Bytes, *, frame: int = FRAME, depth: int = DEPTH) -> dict[str, Value]:
     """The table that some bytes are without its type tag."""
-    return loads(data, table=True, frame=frame, depth=depth)
+    found: dict[str, Value] = loads(data, table=True, frame=frame, depth=depth)
+    return found
 
 def measure(data: Bytes, *, table: bool = False, frame: int = FRAME, depth: int = DEPTH) -> Measure:
     """How large a value is, all of it checked: to reject one before it is built."""
@@ -330,8 +420,8 @@ def measure(data: Bytes, *, table: bool = False, frame: int = FRAME, depth: int 
 def first_problem(data: Bytes, *, rules: Rules = Rules.RABBITMQ, table: bool = False, frame: int = FRAME, depth: int = DEPTH) -> Problem | None:
     """The first thing in a value that the rules don't allow, or that is beyond the limits."""
     found, name = _Problem(), "first_problem_in_table" if table else "first_problem"
-    (data, length, *limits) = _given(data, frame, depth)
-    is_found = _is_ok(_result(name, data, length, Rules(rules), *limits, byref(found)))
+    content, length, *limits = _given(data, frame, depth)
+    is_found = _is_ok(_result(name, content, length, Rules(rules), *limits, byref(found)))
     return Problem(found.offset, ProblemKind(found.kind), found.tag) if is_found else None
 
 class _Room:
@@ -349,81 +439,106 @@ class _Room:
         _is_ok(code)
 
     def append(self, into: _Container, key: bytes, value: Any) -> None:
-        head, body = (byref(into), key, len(key)), _Container()
+        head, body, before = (byref(into), key, len(key)), _Container(), into.written.length
         if isinstance(value, Encoded):
-            self.put("put_value", *head, value, len(value), 2**32 - 1, DEPTH)
+            content = _bytes(value)
+            self.put("put_value", *head, content, len(content), 2**32 - 1, DEPTH)
+            if into.written.length != before + (1 + len(key)) * (into.tag == ord("F")) + len(content):
+                raise Trailing(Trailing.__doc__)
         elif isinstance(value, _STRINGS):
             tag, content, length = _string(value)
             self.put("put_bytes", *head, tag, content, length, needs=(byref(into), len(key), tag, length))
         elif isinstance(value, (Mapping, Sequence)):
             is_table = isinstance(value, Mapping)
+            keys: set[bytes] = set()
             self.put("open", *head, ord("F" if is_table else "A"), byref(body))
-            for name, it in value.items() if is_table else ((b"", it) for it in value):
-                self.append(body, _key(name), it)
+            named: Iterable[tuple[Any, Any]] = value.items() if isinstance(value, Mapping) else enumerate(value)
+            for name, it in named:
+                try:
+                    inner = _key(name) if is_table else b""
+                    if is_table and inner in keys:
+                        raise BadKey(BadKey.__doc__)
+                    keys.add(inner)
+                    self.append(body, inner, it)
+                except Error as error:
+                    error.path = (name, *error.path)
+                    raise
             self.put("close", byref(into), byref(body))
         else:
-            tag, bits, scale = _fixed(value)
-            self.put("put", *head, ord(tag), bits, scale)
+            self.put("put", *head, *_fixed(value))
 
 _STRINGS = (str, bytes, bytearray, memoryview)
 
 def _string(value: Any) -> tuple[int, bytes, int]:
     """The type tag of a string or a byte array, its bytes, and how many they are."""
-    content, length, *_ = _given(value.encode() if isinstance(value, str) else value)
-    return ord("S" if isinstance(value, (str, LongString)) else "x"), content, length
+    content = _utf8(value, BadText) if isinstance(value, str) else _bytes(value)
+    return ord("S" if isinstance(value, (str, LongString)) else "x"), content, len(content)
 
-def _pair(key: bytes, value: Any) -> tuple[Any, ...]:
+def _pair(key: bytes, value: Any) -> _Pair:
     """A pair as `write_table` takes it."""
     if isinstance(value, _STRINGS):
         tag, content, length = _string(value)
-        return key, len(key), content, length, 0, tag, 0
-    letter, bits, scale = _fixed(value)
-    return key, len(key), None, 0, bits, ord(letter), scale
+        return _Pair(key, len(key), content, length, 0, tag, 0)
+    tag, bits, scale = _fixed(value)
+    return _Pair(key, len(key), None, 0, bits, tag, scale)
 
-def _fixed(value: Any) -> tuple[str, int, int]:
+def _fixed(value: Any) -> tuple[int, int, int]:
     """The type tag, bits and scale of a value of fixed width."""
     if value is None or isinstance(value, bool):
-        return "V" if value is None else "t", int(value or 0), 0
+        return ord("V" if value is None else "t"), int(value or 0), 0
     if isinstance(value, (int, datetime)):
         number = Timestamp.of(value) if isinstance(value, datetime) else value if isinstance(value, _Integer) else _LongLongInt(value)
-        return number.tag, number % 2**64, 0
+        return ord(number.tag), index(number) % 2**64, 0
     if isinstance(value, float):
-        return ("f", value.bits, 0) if isinstance(value, Float) else ("d", *struct.unpack("Q", struct.pack("d", value)), 0)
+        if isinstance(value, Float):
+            return ord("f"), value.bits, 0
+        return ord("d"), int.from_bytes(struct.pack(">d", value), "big"), 0
     if isinstance(value, Decimal):
-        sign, digits, exponent = value.as_tuple()
-        if sign or not isinstance(exponent, int) or not -256 < exponent < 10:
-            raise OutOfRange(f"{value} isn't a number from 0 to 4294967295 with up to 255 digits after the point")
-        return "D", int(LongUInt(int("".join(map(str, digits))) * 10 ** max(exponent, 0))), max(-exponent, 0)
+        sign, digits, exponent = Decimal.as_tuple(value)
+        # (the largest number has ten digits, and zero may have any exponent)
+        if isinstance(exponent, int) and not sign and exponent > -256 and (digits == (0,) or len(digits) + max(exponent, 0) <= 10):
+            scaled = "".join(map(str, digits)) + "0" * max(exponent, 0) if any(digits) else "0"
+            if int(scaled) < 2**32:
+                return ord("D"), int(scaled), max(-exponent, 0)
+        raise OutOfRange(f"{_shown(value)} isn't a number from 0 to 4294967295 with up to 255 digits after the point")
     raise TypeError(f"no type for {type(value).__name__}")
 
 def dumps(value: Writable) -> bytes:
     """The encoding of a value, the keys of tables in their order."""
     room, top = _Room(), _Container(_Span(0, 0), ord("A"))
-    room.append(top, b"", value)
+    try:
+        room.append(top, b"", value)
+    except _RECURSION:
+        raise TooDeep(TooDeep.__doc__) from None
     return ctypes.string_at(room.buffer, top.written.length)
 
 def dumps_table(table: Mapping[str, Writable]) -> bytes:
     """The encoding of a table without its type tag."""
+    if not isinstance(table, Mapping):
+        raise TypeError(f"a table is a mapping, not {type(table).__name__}")
     given = dict(table)
-    if any(isinstance(it, (Encoded, Mapping)) or isinstance(it, Sequence) and not isinstance(it, _STRINGS) for it in given.values()):
-        return dumps(given)[1:]
-    pairs = [_pair(_key(key), value) for key, value in given.items()]
-    return _written("write_table", 1024, (_Pair * len(pairs))(*pairs), len(pairs))
+    if not any(isinstance(it, (Encoded, Mapping)) or isinstance(it, Sequence) and not isinstance(it, _STRINGS) for it in given.values()):
+        with suppress(Error, TypeError):
+            pairs = {(name := _key(key)): _pair(name, value) for key, value in given.items()}
+            if len(pairs) == len(given):
+                return _written("write_table", 1024, (_Pair * len(pairs))(*pairs.values()), len(pairs))
+    # it nests, or can't be written, and this finds the path
+    return dumps(given)[1:]
 
 def canonical(data: Bytes, *, table: bool = False, frame: int = FRAME, depth: int = DEPTH) -> bytes:
     """The encoding that is the same for equal values, to compare, hash or sign them."""
-    given = _given(b"F" + data if table else data, frame, depth)
-    return _written("canonical", given[1], *given)[table:]
+    given = _given(b"F" + _bytes(data) if table else data, frame, depth)
+    return _written("canonical", given[1], *given)[bool(table) :]
 
 def to_json(data: Bytes, *, table: bool = False, frame: int = FRAME, depth: int = DEPTH) -> str:
     """The JSON of a value, by docs/JSON.md."""
-    given = _given(b"F" + data if table else data, frame, depth)
+    given = _given(b"F" + _bytes(data) if table else data, frame, depth)
     return _written("to_json", 2 * given[1], *given).decode()
 
 def from_json(text: str | Bytes, *, nesting: int = JSON_NESTING) -> bytes:
     """The canonical encoding of the value that has this JSON."""
-    content, length, _, nesting = _given(text.encode() if isinstance(text, str) else text, 0, nesting)
-    return _written("from_json", 2 * length, content, length, nesting)
+    content = _utf8(text, NotJson) if isinstance(text, str) else _bytes(text)
+    return _written("from_json", 2 * len(content), content, len(content), _limit(nesting))
 
 def _written(name: str, capacity: int, *given: Any) -> bytes:
     count, buffer = c_size_t(capacity), ctypes.create_string_buffer(capacity)
