@@ -27,15 +27,15 @@ IN_COMMENTS = {
     r"fronts?": "prefix, start", r"spell(?:s|ed|ings?)?": "encodes, alternate tag", r"(?<!\.ci/)(?<!-)whole": "complete",
     r"(?<!bytes )alone": "only", r"owe[sd]?": "must", r"takes? (?:any )?memory": "allocates", r"beside": "with, next to",
     r"(?<!JSON )texts?": "string, JSON text"}  # fmt: skip
+# What reads hexadecimal.
+HEXADECIMAL = tuple(f"crates/amqp_show/{it}" for it in ("src/hexadecimal.rt", "src/spelling.rt", "specs/", "proofs/"))
 # The files, by how their paths begin, in whose comments a word is right.
 RIGHT = {
     # JSON, and what a terminal shows
     "text": ("crates/amqp_json/", "crates/amqp_c_alloc/", "crates/test_values/src/json_texts.rt", "crates/amqp_show/src/reasons.rt",
-        "crates/amqp_screen/", "crates/amqp_show/s", "crates/amqp_show/proofs/", "crates/test_malformed/src/oracle", "include/amqp_values.h",
-        ".ci/buffers.c"),
+        "crates/amqp_screen/", "crates/test_malformed/src/oracle", "include/amqp_values.h", ".ci/buffers.c", *HEXADECIMAL),
     "texts": ("crates/amqp_json/", "crates/amqp_c_alloc/", "crates/amqp_screen/", "crates/test_values/src/json_texts.rt", ".ci/buffers.c"),
-    # of hexadecimal
-    "spells": ("crates/amqp_show/",), "spelled": ("crates/amqp_show/",), "spelling": ("crates/amqp_show/",),
+    "spells": HEXADECIMAL, "spelled": HEXADECIMAL,
     # the file of this name is about how values are encoded
     "Spelling": ("crates/amqp_grammar/proofs/Spelling.antt",),
 }  # fmt: skip

@@ -1,4 +1,4 @@
--- What a character's class says of it.
+-- What a character's class states of it.
 use Rattle.std.proofs.Common.{◌≡◌, ℕ, ◌<◌, ◌⊎◌, Bool, true, false, cond, ◌||◌, eqb, Option, Some, None, refl, ap, inl, inr, arith}
 use Rattle.std.proofs.lemmas.Bool.Decides.{nat_tests}
 use Rattle.amqp_show.specs.declared.spelling.Character.{Character}
@@ -43,7 +43,7 @@ Means-or : (c : ℕ) (value : Option ℕ) (other : Character) → digit_of c ≡
 Means-or c (Some value) rest e m = e
 Means-or c None rest e m = m
 
--- what the class of a character says of it
+-- what the class of a character states of it
 pub Means-class : (c : ℕ) → Means c (character_of c)
 unfolding character_of
 Means-class c = Means-or c (digit_of c) (no_digit_of c) refl (Means-no_digit c)

@@ -24,13 +24,13 @@ state-start Plain = refl
 state-start Hexdump = refl
 state-start Xxd = refl
 
--- reading goes on after a step
+-- reading continues after a step
 pub read-cons : (form : Form) (count : ℕ) (state : State) (c : ℕ) (text : List ℕ) (class : Character) → character_of c ≡ class
     → read form count state (c ∷ text) ≡ if_ok (step form count state class) (λ next. given_before next (read form (count_after count next) next text))
 unfolding read
 read-cons form count state c text class e = ap (λ k. if_ok (step form count state k) (λ next. given_before next (read form (count_after count next) next text))) e
 
--- after a byte it goes on as after a gap
+-- after a byte it continues as after a gap
 pub read-byte : (form : Form) (count value : ℕ) (text : List ℕ) → read form count (states.Byte value) text ≡ read form count states.Gap text
 unfolding read
 read-byte form count value [] = refl

@@ -14,7 +14,7 @@ both true b true d f g h = rw (f refl, g refl) refl
 both true b false d f g h = absurd cc
 both false b c d f g h = absurd cc
 
--- if a text begins with p, a front of it that is no longer is a front of p
+-- if a text begins with p, a prefix of it that is no longer is a prefix of p
 front : (head p rest : List ℕ) → length head ≤ length p → starts_with nat_eq (head ++ rest) p ≡ true → starts_with nat_eq p head ≡ true
 front [] [] rest short h = refl
 front [] (x ∷ p) rest short h = refl
@@ -22,7 +22,7 @@ front (y ∷ head) [] rest short h = absurd (omega arith)
 front (y ∷ head) (x ∷ p) rest short h =
     both (eqb x y) (eqb y x) (starts_with nat_eq (head ++ rest) p) (starts_with nat_eq p head) (eqb-flip x y) (front head p rest (omega arith)) h
 
--- what isn't the front of a dump's beginning begins no dump
+-- what isn't the prefix of a dump's beginning begins no dump
 pub form-plain : (head rest : List ℕ) → length head ≤ 10 → starts_with nat_eq (codes "00000000  ") head ≡ false → starts_with nat_eq (codes "00000000: ") head ≡ false → form_of_text (head ++ rest) ≡ Plain
 form-plain head rest short no_hexdump no_xxd = by_tests (starts_with nat_eq (head ++ rest) (codes "00000000  ")) refl (starts_with nat_eq (head ++ rest) (codes "00000000: ")) refl where
   by_tests : (a : Bool) → starts_with nat_eq (head ++ rest) (codes "00000000  ") ≡ a → (b : Bool) → starts_with nat_eq (head ++ rest) (codes "00000000: ") ≡ b → cond a Hexdump (cond b Xxd Plain) ≡ Plain

@@ -15,7 +15,7 @@ use Rattle.amqp_show.specs.Steps.{margin_step, offset_step, offset_end as end_st
 use Rattle.amqp_show.proofs.Classes.{Means, Means-class, digit-bound, digit-zero, class-space, class-line_end}
 use Rattle.amqp_show.proofs.Complete.{number_after-least}
 
--- something ignored goes on, up to the end of its line
+-- something ignored continues, up to the end of its line
 record Ignores (form : Form) (place : Place) (count : ℕ) (text bytes : List ℕ) : Type 0 where
   characters : List ℕ
   rest : List ℕ
@@ -73,7 +73,7 @@ Rest form count states.Ignored text bytes = (place : Place) → Ignores form pla
 abbrev Reads : Form → List ℕ → Type 0
 Reads form text = (count : ℕ) (state : State) (bytes : List ℕ) → read form count state text ≡ Some bytes → Rest form count state text bytes
 
--- the bytes that a text gives after a step
+-- the bytes that a text yields after a step
 abbrev behind : Form → ℕ → List ℕ → State → Option (List ℕ)
 behind form count text next = given_before next (read form (count_after count next) next text)
 
@@ -140,7 +140,7 @@ sound-space count c text bytes ih m e = by_rest (ih count states.Space bytes e) 
   by_rest (inl h) = separator Inside count c text bytes (m, h.0) h.1
   by_rest (inr (rest, whole, i)) = subst (λ (t : List ℕ). Spells Xxd Inside count t bytes) (sym cc) (spell-ignored Xxd Inside count (32 ∷ 32 ∷ []) rest bytes (inr refl) i)
 
--- a character where a byte may begin
+-- a character at which a byte may begin
 sound-gap : (form : Form) (count c : ℕ) (text bytes : List ℕ) → Reads form text → (class : Character) → Means c class → if_ok (row_step form class) (behind form count text) ≡ Some bytes → Spells form Inside count (c ∷ text) bytes
 sound-gap form count c text bytes ih LineEnd m e = sound-line_end form Inside count c text bytes ih m e
 sound-gap form count c text bytes ih Hash m e = sound-ignored form Inside count c text bytes ih (inl (ap (λ c. c ∷ []) m)) e
@@ -158,7 +158,7 @@ sound-gap Hexdump count c text bytes ih Bar m e = sound-ignored Hexdump Inside c
 sound-gap Xxd count c text bytes ih Space m e = sound-space count c text bytes ih m e
 sound-gap form count c text bytes ih _ m e = absurd cc
 
--- a character behind a space in a line of xxd
+-- a character after a space in a line of xxd
 sound-behind_space : (form : Form) (count c : ℕ) (text bytes : List ℕ) → Reads form text → (class : Character) → character_of c ≡ class → Means c class
     → if_ok (space_step form class) (behind form count text) ≡ Some bytes → Rest form count states.Space (c ∷ text) bytes
 sound-behind_space form count c text bytes ih Space is m e = inr (text, ap (λ c. c ∷ text) m, ih count states.Ignored bytes e Inside)
@@ -172,14 +172,14 @@ sound-low form count high c text bytes ih (Digit value) m e =
     record { low = c; value = value; rest = text; others = given.0; digit = m; spelled = ih (count + 1) (states.Byte (min (16 * high + value) 255)) given.0 given.1; whole = refl; given = given.2 }
 sound-low form count high c text bytes ih _ m e = absurd cc
 
--- digits behind a prefix
+-- digits after a prefix
 sound-prefix : (form : Form) (count c : ℕ) (text bytes : List ℕ) → Reads form text → (class : Character) → Means c class
     → if_ok (prefix_step class) (behind form count text) ≡ Some bytes → HasDigits form count (c ∷ text) bytes
 sound-prefix form count c text bytes ih (Digit value) m e =
     record { high = c; value = value; rest = text; digit = m; completes = ih count (states.High value) bytes e; whole = refl }
 sound-prefix form count c text bytes ih _ m e = absurd cc
 
--- a character behind a zero
+-- a character after a zero
 sound-behind_zero : (form : Form) (count c : ℕ) (text bytes : List ℕ) → Reads form text → (class : Character) → Means c class
     → if_ok (zero_step class) (behind form count text) ≡ Some bytes → Rest form count states.Zero (c ∷ text) bytes
 sound-behind_zero form count c text bytes ih SmallX m e = inr (c, text, refl, inl m, ih count states.Prefix bytes e)
@@ -241,7 +241,7 @@ spell-offset form count c value text bytes d h =
       by_end digits rest counts (inside e text whole is spelled) = subst (λ (t : List ℕ). Spells form Margin count ((c ∷ digits) ++ t) bytes) (sym whole) (offset count c e digits text bytes counts is spelled)
       by_end digits rest counts (alone end spelled) = end_offset count c digits rest bytes counts end spelled
 
--- a character where an offset may begin
+-- a character at which an offset may begin
 sound-margin : (form : Form) (count c : ℕ) (text bytes : List ℕ) → Reads form text → (class : Character) → Means c class
     → if_ok (margin_step form count class) (behind form count text) ≡ Some bytes → Spells form Margin count (c ∷ text) bytes
 sound-margin form count c text bytes ih (Digit value) m e = spell-offset form count c value text bytes m (ih count (states.Offset (min value (count + 1))) bytes e)
@@ -251,7 +251,7 @@ sound-margin form count c text bytes ih Blank m e = separator Margin count c tex
 sound-margin form count c text bytes ih Hash m e = sound-ignored form Margin count c text bytes ih (ap (λ c. c ∷ []) m) e
 sound-margin form count c text bytes ih _ m e = absurd cc
 
--- where a text may end
+-- at which a text may end
 sound-end : (form : Form) (count : ℕ) (state : State) (bytes : List ℕ) → if_none (end_reason count state) ≡ Some bytes → Rest form count state [] bytes
 sound-end form count states.Margin bytes e = subst (λ (bs : List ℕ). Spells form Margin count [] bs) (cc) (ends Margin count)
 sound-end form count (states.Offset number) bytes e = by_number (eqb number count) refl e where

@@ -1,4 +1,4 @@
--- What was taken of a text, and what that says of it.
+-- What was taken of a text, and what that states of it.
 use Rattle.std.proofs.Common.{◌≡◌, ◌≢◌, ℕ, ◌+◌, ◌*◌, ◌≤◌, min, ◌==◌, if◌then◌else◌, Bool, true, false, cond, eqb, List, [], ◌∷◌, ◌++◌, length, Option, Some, None, option_map, option_to_list, Result, Ok, Err, refl, sym, ap, subst, ◌∙◌, arith, append_assoc, length-append, append-nil}
 use Rattle.amqp_show.specs.declared.spelling.Form.{Form}
 use Rattle.amqp_show.specs.declared.spelling.Reason.{Reason}
@@ -18,7 +18,7 @@ use Rattle.amqp_show.specs.Steps.{start_state, step, byte_of, given_before, coun
 use Rattle.amqp_show.proofs.Complete.{read-spelled, read-cons, state-start}
 use Rattle.amqp_show.proofs.Sound.{spelled-read}
 
--- a text led from the beginning to a state, and gave bytes
+-- a text led from the beginning to a state, and yielded bytes
 abbrev pub Leads : Form → List ℕ → List ℕ → State → Type 0
 Leads form text bytes state = (rest : List ℕ) → read form 0 (start_state form) (text ++ rest) ≡ option_map (λ others. bytes ++ others) (read form (length bytes) state rest)
 
@@ -54,7 +54,7 @@ CannotBegin-fault form text bytes state c reason leads e rest others h =
     let none = ap (option_map (λ others. bytes ++ others)) stops in
     cc
 
--- a text that ends where it may not spells no bytes
+-- a text that ends at which it may not spells no bytes
 pub fails-at_end : (form : Form) (text bytes others : List ℕ) (state : State) (reason : Reason) → Leads form text bytes state → end_reason (length bytes) state ≡ Some reason → IsSpelling form text others → ⊥
 unfolding read
 fails-at_end form text bytes others state reason leads e h =
@@ -64,7 +64,7 @@ fails-at_end form text bytes others state reason leads e h =
     let none = ap (λ r. option_map (λ others. bytes ++ others) (if_none r)) e in
     cc
 
--- a text that ends where it may spells bytes
+-- a text that ends at which it may spells bytes
 pub spelled-at_end : (form : Form) (text bytes : List ℕ) (state : State) → Leads form text bytes state → end_reason (length bytes) state ≡ None → IsSpelling form text bytes
 unfolding read
 spelled-at_end form text bytes state leads e =

@@ -5,12 +5,12 @@ use Rattle.amqp_show.specs.declared.spelling.Form.{Form}
 use Rattle.amqp_show.specs.declared.spelling.Form.TheVariants.{Plain, Hexdump, Xxd}
 use Rattle.amqp_show.specs.Characters.{digit_of}
 
--- a place in a text: before the offset of a line of a dump, or where a byte may begin
+-- a place in a text: before the offset of a line of a dump, or at which a byte may begin
 pub data Place : Type 0 where
   Margin : Place
   Inside : Place
 
--- where a line begins
+-- at which a line begins
 abbrev pub line_start : Form → Place
 line_start Plain = Inside
 line_start Hexdump = Margin
@@ -29,13 +29,13 @@ abbrev pub IsNoSpace : List ℕ → Type 0
 IsNoSpace [] = Unit {0}
 IsNoSpace (c ∷ _) = c ≢ 32
 
--- c may stand between bytes, before this text: in a line of xxd one space, but not two
+-- c may be between bytes, before this text: in a line of xxd one space, but not two
 abbrev pub IsSeparator : Form → ℕ → List ℕ → Type 0
 IsSeparator Plain c text = IsWhite c ⊎ ((c ≡ 44) ⊎ (c ≡ 58))
 IsSeparator Hexdump c text = IsWhite c
 IsSeparator Xxd c text = (c ≡ 32) × IsNoSpace text
 
--- c may stand at the place
+-- c may be at the place
 abbrev pub MayStand : Form → Place → ℕ → List ℕ → Type 0
 MayStand form Margin c text = IsWhite c
 MayStand form Inside c text = IsSeparator form c text
@@ -51,13 +51,13 @@ abbrev pub IsMark : Form → Place → List ℕ → Type 0
 IsMark form Margin mark = mark ≡ codes "#"
 IsMark form Inside mark = (mark ≡ codes "#") ⊎ IsBar form mark
 
--- what may stand right before a byte
+-- what may be right before a byte
 abbrev pub IsPrefix : Form → List ℕ → Type 0
 IsPrefix Plain prefix = (prefix ≡ []) ⊎ ((prefix ≡ codes "0x") ⊎ ((prefix ≡ codes "0X") ⊎ (prefix ≡ codes "\\x")))
 IsPrefix Hexdump prefix = prefix ≡ []
 IsPrefix Xxd prefix = prefix ≡ []
 
--- what stands between an offset and the rest of its line
+-- what is between an offset and the rest of its line
 abbrev pub IsOffsetEnd : Form → ℕ → Type 0
 IsOffsetEnd Plain c = ⊥
 IsOffsetEnd Hexdump c = IsWhite c
@@ -68,13 +68,13 @@ abbrev pub number_after : ℕ → List ℕ → Option ℕ
 number_after number [] = Some number
 number_after number (c ∷ digits) = option_and_then (λ value. number_after (16 * number + value) digits) (digit_of c)
 
--- Text at a place spells bytes, after so many bytes.
+-- Text at a place spells bytes, after that many bytes.
 pub data Spells (form : Form) : Place → ℕ → List ℕ → List ℕ → Type 0 where
   -- the end
   ends : (place : Place) (count : ℕ) → Spells form place count [] []
   -- the end of a line
   line_end : (place : Place) (count : ℕ) (text bytes : List ℕ) → Spells form (line_start form) count text bytes → Spells form place count (10 ∷ text) bytes
-  -- white space, or what else may stand between bytes
+  -- white space, or what else may be between bytes
   separator : (place : Place) (count c : ℕ) (text bytes : List ℕ) → MayStand form place c text → Spells form place count text bytes → Spells form place count (c ∷ text) bytes
   -- a comment or the characters of a dump, up to the end of the line
   ignored : (place : Place) (count : ℕ) (mark characters text bytes : List ℕ) → IsMark form place mark → AllByRecursion (λ c. c ≢ 10) characters → IsLineEnd text
@@ -85,7 +85,7 @@ pub data Spells (form : Form) : Place → ℕ → List ℕ → List ℕ → Type
   -- an offset, and the bytes of its line
   offset : (count first c : ℕ) (digits text bytes : List ℕ) → number_after 0 (first ∷ digits) ≡ Some count → IsOffsetEnd form c
       → Spells form Inside count text bytes → Spells form Margin count ((first ∷ digits) ++ (c ∷ text)) bytes
-  -- an offset alone
+  -- an offset only
   end_offset : (count first : ℕ) (digits text bytes : List ℕ) → number_after 0 (first ∷ digits) ≡ Some count → IsLineEnd text
       → Spells form Margin count text bytes → Spells form Margin count ((first ∷ digits) ++ text) bytes
 
@@ -97,7 +97,7 @@ IsSpelling form text bytes = Spells form (line_start form) 0 text bytes
 abbrev pub CanBegin : Form → List ℕ → Type 0
 CanBegin form front = (rest bytes : List ℕ) × IsSpelling form (front ++ rest) bytes
 
--- However a text goes on, it spells no bytes.
+-- However a text continues, it spells no bytes.
 abbrev pub CannotBegin : Form → List ℕ → Type 0
 CannotBegin form front = (rest bytes : List ℕ) → IsSpelling form (front ++ rest) bytes → ⊥
 

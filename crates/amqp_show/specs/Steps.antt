@@ -96,12 +96,12 @@ step form count states.Backslash c = backslash_step c
 step form count states.Prefix c = prefix_step c
 step form count states.Ignored c = ignored_step form c
 
--- what is given with a state, before the bytes of the rest
+-- what is returned with a state, before the bytes of the rest
 abbrev pub given_before : State → Option (List ℕ) → Option (List ℕ)
 given_before (states.Byte value) bytes = option_map (λ rest. value ∷ rest) bytes
 given_before _ bytes = bytes
 
--- how many bytes came with a state, after so many before it
+-- how many bytes came with a state, after that many before it
 abbrev pub count_after : ℕ → State → ℕ
 count_after count (states.Byte _) = count + 1
 count_after count _ = count
@@ -123,7 +123,7 @@ abbrev pub if_ok : Result State Reason → (State → Option (List ℕ)) → Opt
 if_ok (Ok state) bytes_of = bytes_of state
 if_ok (Err _) bytes_of = None
 
--- the bytes that a text gives that comes at a state, after so many bytes; none if it has a fault
+-- the bytes that a text yields that comes at a state, after that many bytes; none if it has a fault
 unfoldable pub read : Form → ℕ → State → List ℕ → Option (List ℕ)
 read form count state [] = if_none (end_reason count state)
 read form count state (c ∷ text) = if_ok (step form count state (character_of c)) (λ next. given_before next (read form (count_after count next) next text))

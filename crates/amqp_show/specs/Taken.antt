@@ -11,7 +11,7 @@ use Rattle.amqp_show.specs.Steps.{start_state, read}
 abbrev pub form_of : Spelling → Form
 form_of s = s.form
 
--- These characters were taken, and gave these bytes.
+-- These characters were taken, and yielded these bytes.
 pub record Took (s : Spelling) (text bytes : List ℕ) : Type 0 where
   pub reads : (rest : List ℕ) → read s.form 0 (start_state s.form) (text ++ rest) ≡ option_map (λ others. bytes ++ others) (read s.form (length bytes) s.state rest)
   pub counted : s.count ≡ length bytes

@@ -126,7 +126,7 @@ fn start(form: Form) -> State
     }
 }
 
-// After a character where a byte may begin.
+// After a character at which a byte may begin.
 fn after_gap(form: Form, character: Character) -> Result<State, Reason>
     ensures { result ≡ row_step form character }
 {
@@ -143,7 +143,7 @@ fn after_gap(form: Form, character: Character) -> Result<State, Reason>
     }
 }
 
-// After a character where an offset may begin.
+// After a character at which an offset may begin.
 fn after_margin(form: Form, count: u64, character: Character) -> Result<State, Reason>
     ensures { count < 2 ^ 64 - 1 → result ≡ margin_step form count character }
 {
@@ -157,7 +157,7 @@ fn after_margin(form: Form, count: u64, character: Character) -> Result<State, R
     }
 }
 
-// After the character behind an offset.
+// After the character after an offset.
 fn after_offset(form: Form, character: Character) -> Result<State, Reason>
     ensures { result ≡ offset_end form character }
 {
@@ -169,7 +169,7 @@ fn after_offset(form: Form, character: Character) -> Result<State, Reason>
     }
 }
 
-// After the character behind a byte's first digit.
+// After the character after a byte's first digit.
 fn after_high(high: u8, character: Character) -> Result<State, Reason>
     ensures { result ≡ low_step high character }
 {
@@ -180,7 +180,7 @@ fn after_high(high: u8, character: Character) -> Result<State, Reason>
     }
 }
 
-// After a character, when so many bytes have come.
+// After a character, when that many bytes have come.
 fn next(form: Form, count: u64, state: State, character: Character) -> Result<State, Reason>
     ensures { count < 2 ^ 64 - 1 → result ≡ step form count state character }
 {
@@ -216,7 +216,7 @@ fn byte_at(state: State) -> Option<u8>
     }
 }
 
-// How many bytes there are, after so many before the state.
+// How many bytes there are, after that many before the state.
 fn count_behind(count: u64, state: State) -> u64
     ensures { count < 2 ^ 64 - 1 → result ≡ count_after count state }
 {
