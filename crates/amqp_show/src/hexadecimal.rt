@@ -20,7 +20,9 @@ pub struct Hexadecimal<R> {
     head: [u8; HEAD],
     read: usize,
     given: usize,
-    spelling: Option<Spelling>,
+    // what was taken, once it is known how the text is written
+    spelling: Spelling,
+    has_begun: bool,
     fault: Option<Fault>,
 }
 
@@ -32,7 +34,8 @@ impl<R> Hexadecimal<R> {
             head: [0; HEAD],
             read: 0,
             given: 0,
-            spelling: None,
+            spelling: Spelling::new(Form::Plain),
+            has_begun: false,
             fault: None,
         }
     }
@@ -66,17 +69,15 @@ impl<R> Hexadecimal<R> {
 impl<R: Read> Hexadecimal<R> {
     // The next byte, or `None` at the end.
     fn next(&mut self) -> io::Result<Option<u8>> {
-        let mut spelling = self.begun()?;
+        self.begin()?;
         for _ in 0..u64::MAX {
             let Some(character) = self.next_character()? else {
-                return match spelling.finish() {
+                return match self.spelling.finish() {
                     Ok(()) => Ok(None),
                     Err(fault) => Err(self.fail(fault)),
                 };
             };
-            let taken = spelling.take(character);
-            self.spelling = Some(spelling);
-            match taken {
+            match self.spelling.take(character) {
                 Ok(None) => {}
                 Ok(byte) => return Ok(byte),
                 Err(fault) => return Err(self.fail(fault)),
@@ -85,19 +86,22 @@ impl<R: Read> Hexadecimal<R> {
         Ok(None)
     }
 
-    // What was taken. Before anything is, reads on until it is known how the text is written.
-    fn begun(&mut self) -> io::Result<Spelling> {
+    // Reads on until it is known how the text is written, unless it is.
+    fn begin(&mut self) -> io::Result<()> {
         for _ in 0..=HEAD {
-            if let Some(spelling) = self.spelling {
-                return Ok(spelling);
+            if self.has_begun {
+                return Ok(());
             }
             let form = match next_of(&mut self.text)? {
                 Some(character) => self.form_with(character),
                 None => Some(Form::Plain),
             };
-            self.spelling = form.map(Spelling::new);
+            if let Some(form) = form {
+                self.spelling = Spelling::new(form);
+                self.has_begun = true;
+            }
         }
-        Ok(Spelling::new(Form::Plain))
+        Ok(())
     }
 
     // How the text is written, by its first characters and the next one, if that is known yet.
