@@ -1,4 +1,4 @@
--- Texts that are added to a screen, one after another.
+-- Strings that are added to a screen, one after another.
 use Rattle.std.proofs.Common.{◌≡◌, ◌<◌, ◌≤◌, ℕ, ◌+◌, ◌-◌, ◌*◌, true, cond, replicate, List, [], ◌∷◌, ◌++◌, length, take, drop, get_or, map, suc, Result, Ok, Err, IsErrAnd, refl, sym, ap, subst, ◌∙◌, append_assoc, append-nil, take-append-drop, arith}
 use Rattle.std.proofs.Math.Seq.{drop-cons}
 use Rattle.std.proofs.lemmas.Grind.{flat_map-append}
@@ -17,11 +17,11 @@ use Rattle.amqp_screen.specs.declared.screen.Screen.{Screen}
 pub adds_nothing : (a : Screen) → Adds a a []
 adds_nothing a = record { text = sym (append-nil (shown a)); colours = refl }
 
--- two texts
+-- two strings
 pub adds_both : (a b c : Screen) (x y : List ℕ) → Adds a b x → Adds b c y → Adds a c (x ++ y)
 adds_both a b c x y p q = record { text = q.text ∙ ap (λ s. s ++ y) p.text ∙ append_assoc (shown a) x y; colours = q.colours ∙ p.colours }
 
--- a prefix of the first text, or of the second after the first
+-- a prefix of the first string, or of the second after the first
 pub front_of_first : (a b : Screen) (x y : List ℕ) → AddsFront a b x → AddsFront a b (x ++ y)
 front_of_first a b x y (front, missing, rest, is, p) = (front, missing, rest ++ y, ap (λ s. s ++ y) is ∙ append_assoc front (missing ∷ rest) y, p)
 
@@ -29,11 +29,11 @@ pub front_of_second : (a b c : Screen) (x y : List ℕ) → Adds a b x → AddsF
 front_of_second a b c x y p (front, missing, rest, is, q) =
     (x ++ front, missing, rest, ap (λ s. x ++ s) is ∙ sym (append_assoc x front (missing ∷ rest)), adds_both a b c x front p q)
 
--- nothing of a text that isn't empty
+-- nothing of a string that isn't empty
 pub front_none : (a b : Screen) (d : ℕ) (x : List ℕ) → Adds a b [] → AddsFront a b (d ∷ x)
 front_none a b d x p = ([], d, x, refl, p)
 
--- the last text of two
+-- the last string of two
 pub pushes_last : {T E : Type 0} (r : Result T E) (a b c : Screen) (x y : List ℕ) → Adds a b x → Pushes r b c y → Pushes r a c (x ++ y)
 pushes_last (Ok v) a b c x y p q = adds_both a b c x y p q
 pushes_last (Err e) a b c x y p q = front_of_second a b c x y p q
@@ -42,7 +42,7 @@ pub pushes_whole : {T E : Type 0} (r : Result T E) (a b : Screen) (d : ℕ) (x :
 pushes_whole (Ok v) a b d x p = p
 pushes_whole (Err e) a b d x p = front_none a b d x p
 
--- what a `?` returns after a text of which a prefix is added
+-- what a `?` returns after a string of which a prefix is added
 pub stopped : {T E : Type 0} (Q : E → Type 0) (r : Result T E) (a b : Screen) (x : List ℕ) → IsErrAnd r Q → AddsFront a b x → Pushes r a b x
 stopped Q (Ok v) a b x h p = absurd h
 stopped Q (Err e) a b x h p = p

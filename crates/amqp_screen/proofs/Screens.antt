@@ -1,5 +1,5 @@
 -- Strings that are appended to what a terminal shows.
-use Rattle.std.proofs.Common.{◌≡◌, ◌==◌, ◌||◌, ◌&&◌, ℕ, Bool, true, false, cond, IsTrue, List, [], ◌∷◌, ◌++◌, refl, sym, ap, ◌∙◌, subst, append-nil, codes, ◌^◌, ◌<◌, ◌≤◌, arith}
+use Rattle.std.proofs.Common.{◌≡◌, ◌==◌, ◌||◌, ◌&&◌, ℕ, Bool, true, false, cond, IsTrue, List, [], ◌∷◌, ◌++◌, refl, sym, ap, ◌∙◌, subst, append-nil, codes, ◌≤◌, arith}
 use Rattle.std.proofs.lemmas.Bool.Decides.{nat_tests}
 use Rattle.std.proofs.lemmas.Bool.{and_parts, and_from}
 use Rattle.std.proofs.lemmas.Str.{chars-append, chars-encodes, chars-nil}
@@ -106,13 +106,6 @@ failure_colour colours e = rw e refl
 pub colour_end : (colours : Bool) → colours ≡ true → IsShowable colours (27 ∷ 91 ∷ 48 ∷ 109 ∷ [])
 unfolding chars
 colour_end colours e = rw e refl
-
--- what is ASCII and no control character prints, and what doesn't print has a code of 16 bits
-pub ascii_prints : (c : ℕ) → 32 ≤ c → c < 127 → prints c ≡ true
-ascii_prints c low high = grind (arith, nat_tests)
-
-pub code_fits : (c : ℕ) → prints c ≡ false → c < 2 ^ 16
-code_fits c e = grind (arith, nat_tests)
 
 -- a character that isn't ASCII, and its code
 pub escape_wide : (c code : ℕ) → code ≡ c → 128 ≤ code → escape c ≡ codes "\\u{" ++ (four_digits code ++ codes "}")

@@ -6,12 +6,12 @@ use Rattle.amqp_screen.specs.declared.screen.Screen.{Screen}
 abbrev pub shown : Screen → List ℕ
 shown s = string_bytes s.text
 
--- more comes after what was there
+-- more comes after what was there before
 pub record Adds (old new : Screen) (more : List ℕ) : Type 0 where
   pub text : shown new ≡ shown old ++ more
   pub colours : new.has_colours ≡ old.has_colours
 
--- a prefix of the text is added, and at least a byte is missing
+-- a prefix of the text is added, and at least a byte of it is missing
 abbrev pub AddsFront : Screen → Screen → List ℕ → Type 0
 AddsFront old new text = (front : List ℕ) × (missing : ℕ) × (rest : List ℕ) × (text ≡ front ++ missing ∷ rest) × Adds old new front
 

@@ -106,7 +106,8 @@ fn write_out<W: Write>(bytes: &[u8], writer: &mut W) -> Result<(), PrintError>
 }
 
 // Writes at least one of the bytes, and returns how many. A write that is interrupted is tried
-// again, and a writer that accepts zero fails, as `write_all` of std has it.
+// again, and a writer that accepts zero fails, as `write_all` of std has it. The contract of
+// `Write` doesn't state how a writer fails: that each other error is passed on is tested.
 fn write_some<W: Write>(bytes: &[u8], writer: &mut W) -> Result<usize, PrintError>
     ensures some { IfOk result (λ n. (0 < n) × (n ≤ length bytes.now)) }
     ensures written { WriteAppends (W.contents writer.old) (W.contents writer.new) result bytes.now }

@@ -18,6 +18,9 @@ pub enum Fault {
     /// Input that is no file failed.
     #[error(transparent)]
     Input(io::Error),
+    /// JSON isn't read.
+    #[error(transparent)]
+    Json(serde_json::Error),
     /// The limits allow no value.
     #[error("--stream with --frame 0 reads no value")]
     NoFrame,
@@ -44,5 +47,11 @@ impl From<io::Error> for Fault {
             ErrorKind::OutOfMemory => Fault::OutOfMemory,
             _ => Fault::Input(error),
         }
+    }
+}
+
+impl From<serde_json::Error> for Fault {
+    fn from(error: serde_json::Error) -> Fault {
+        Fault::Json(error)
     }
 }

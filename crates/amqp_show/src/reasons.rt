@@ -24,7 +24,7 @@ pub fn reason(alloc: Global, json: &str, error: &EncodeError) -> Result<String> 
         EncodeError::Json(JsonError::Syntax(error)) => Ok(syntax_text(alloc, json, error)?),
         EncodeError::Json(JsonError::NotAValue) | EncodeError::NoTypeTag | EncodeError::TooLong => {
             // It has been read before: only memory can be wanting.
-            let value = Value::from_str(alloc, json).map_err(|_| Fault::OutOfMemory)?;
+            let value = Value::from_str(alloc, json)?;
             reason_in(alloc, String::from_str(alloc, "$")?, &value)
         }
     }
