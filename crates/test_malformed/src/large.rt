@@ -24,7 +24,9 @@ use amq_protocol_types::{
     AMQPType, AMQPValue, ByteArray, FieldArray, FieldTable, LongString, ShortString,
 };
 use amqp_dissect::{dissect, escape};
-use amqp_json::{encoding_of_json, from_json, from_value, json_of_encoding, to_json, to_value};
+use amqp_json::{
+    DecodeError, encoding_of_json, from_json, from_value, json_of_encoding, to_json, to_value,
+};
 use serde_json::Value;
 use std::alloc::{AllocError, Global};
 use std::fmt::Debug;
@@ -321,11 +323,13 @@ fn of_json<P: Print>(rt: &P, alloc: Global, bytes: &[u8]) -> io::Result<()> {
     drop(value);
     let encoding = encoding_of_json(alloc, text.as_str());
     tell_bytes(rt, "encoding_of_json", encoding, bytes)?;
-    let (again, _) = json_of_encoding(alloc, bytes, WIDE).map_err(unmade)?;
-    println!(rt;
-        "json_of_encoding {}",
-        if again == text { "same" } else { "other" }
-    )
+    tell(rt, "json_of_encoding", json_of(alloc, bytes), &text)
+}
+
+/// The JSON text of an encoding.
+fn json_of(alloc: Global, bytes: &[u8]) -> Result<String, DecodeError> {
+    let (text, _) = json_of_encoding(alloc, bytes, WIDE)?;
+    Ok(text)
 }
 
 /// Calls on a table with a key that comes again.
