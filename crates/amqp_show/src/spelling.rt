@@ -1,6 +1,6 @@
 //! The bytes that a text in hexadecimal spells, character by character.
 
-ghost use Rattle.std.specs.Prelude.{◌≡◌, ◌+◌, ◌-◌, ◌^◌, ◌<◌, ◌++◌, ◌∷◌, [], ℕ, List, length, IfOk, IfErr, OnOk, option_to_list};
+ghost use Rattle.std.specs.Prelude.{◌≡◌, ◌+◌, ◌-◌, ◌^◌, ◌<◌, ◌++◌, ◌∷◌, [], ℕ, List, length, IfOk, IfErr, OnErr, OnOk, option_to_list};
 ghost use Rattle.amqp_show.specs.Characters.{character_of};
 ghost use Rattle.amqp_show.specs.Positions.{behind};
 ghost use Rattle.amqp_show.specs.Spelled.{IsSpelling};
@@ -285,6 +285,7 @@ impl Spelling {
             → IfOk result (λ given. Took self.new (text ++ byte ∷ []) (bytes ++ option_to_list given)) }
         ensures err { (text bytes : List ℕ) → length text < 2 ^ 63 → Took self.old text bytes
             → IfErr result (λ fault. IsFault (form_of self.old) text byte fault) }
+        ensures stays { OnErr result (self.new ≡ self.old) }
     {
         match next(self.form, self.count, self.state, classify(byte)) {
             Ok(state) => {
