@@ -68,7 +68,7 @@ abbrev pub number_after : ℕ → List ℕ → Option ℕ
 number_after number [] = Some number
 number_after number (c ∷ digits) = option_and_then (λ value. number_after (16 * number + value) digits) (digit_of c)
 
--- Text at a place spells bytes, after that many bytes.
+-- Text at a place spells bytes, after that many bytes were spelled.
 pub data Spells (form : Form) : Place → ℕ → List ℕ → List ℕ → Type 0 where
   -- the end
   ends : (place : Place) (count : ℕ) → Spells form place count [] []
@@ -85,7 +85,7 @@ pub data Spells (form : Form) : Place → ℕ → List ℕ → List ℕ → Type
   -- an offset, and the bytes of its line
   offset : (count first c : ℕ) (digits text bytes : List ℕ) → number_after 0 (first ∷ digits) ≡ Some count → IsOffsetEnd form c
       → Spells form Inside count text bytes → Spells form Margin count ((first ∷ digits) ++ (c ∷ text)) bytes
-  -- an offset only
+  -- an offset with nothing after it in its line
   end_offset : (count first : ℕ) (digits text bytes : List ℕ) → number_after 0 (first ∷ digits) ≡ Some count → IsLineEnd text
       → Spells form Margin count text bytes → Spells form Margin count ((first ∷ digits) ++ text) bytes
 

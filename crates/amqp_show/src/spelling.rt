@@ -126,7 +126,7 @@ fn start(form: Form) -> State
     }
 }
 
-// After a character at which a byte may begin.
+// After a character that comes between bytes.
 fn after_gap(form: Form, character: Character) -> Result<State, Reason>
     ensures { result ≡ row_step form character }
 {
@@ -143,7 +143,7 @@ fn after_gap(form: Form, character: Character) -> Result<State, Reason>
     }
 }
 
-// After a character at which an offset may begin.
+// After a character that comes before an offset.
 fn after_margin(form: Form, count: u64, character: Character) -> Result<State, Reason>
     ensures { count < 2 ^ 64 - 1 → result ≡ margin_step form count character }
 {
@@ -278,7 +278,8 @@ impl Spelling {
         }
     }
 
-    /// Takes the next character. Returns the byte that is complete with it, if one is.
+    /// Takes the next character. Returns the byte that is complete with it, if one is. The clauses
+    /// are about texts of less than 2^63 bytes.
     pub fn take(&mut self, byte: u8) -> Result<Option<u8>, Fault>
         ensures form { form_of self.new ≡ form_of self.old }
         ensures ok { (text bytes : List ℕ) → length text < 2 ^ 63 → Took self.old text bytes
