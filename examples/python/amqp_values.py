@@ -518,7 +518,7 @@ def dumps_table(table: Mapping[str, Writable]) -> bytes:
         raise TypeError(f"a table is a mapping, not {type(table).__name__}")
     given = dict(table)
     if not any(isinstance(it, (Encoded, Mapping)) or isinstance(it, Sequence) and not isinstance(it, _STRINGS) for it in given.values()):
-        with suppress(Error, TypeError):
+        with suppress(TypeError, ValueError):
             pairs = {(name := _key(key)): _pair(name, value) for key, value in given.items()}
             if len(pairs) == len(given):
                 return _written("write_table", 1024, (_Pair * len(pairs))(*pairs.values()), len(pairs))
