@@ -3,6 +3,8 @@
 //! standard input has the encodings themselves, one after another, and each value has a line.
 #![tactic(auto)]
 
+#[cfg(test)]
+mod exhausted;
 mod fault;
 mod line;
 mod run;

@@ -1,6 +1,5 @@
 //! Lines and streams, from readers and to writers that fail, by the format's own numbers.
 
-mod exhausted;
 mod faults;
 mod rows;
 

@@ -3,6 +3,7 @@
 use super::rows::{BYTES, LINES};
 use super::*;
 use Failing::{TakingNone, With};
+use std::alloc::AllocError;
 use std::io;
 use std::io::ErrorKind;
 use std::test::Fail;
@@ -118,6 +119,64 @@ const READERS: &[(Program, &[u8], ErrorKind, Result<(), WireFault>, &str)] = &[
     ),
 ];
 
+/// The kinds that no error number of the system has.
+const NO_NUMBER: &[ErrorKind] = &[
+    ErrorKind::InvalidData,
+    ErrorKind::WriteZero,
+    ErrorKind::UnexpectedEof,
+    ErrorKind::Other,
+];
+
+/// Every kind of fault, some of them several times.
+fn kinds(alloc: Global) -> Result<Vec<ErrorKind>, AllocError> {
+    let mut kinds = Vec::from_slice(alloc, NO_NUMBER)?;
+    for number in 0..134 {
+        kinds.push(io::Error::from_raw_os_error(number).kind())?;
+    }
+    Ok(kinds)
+}
+
+/// What a run returns after a fault of this kind.
+fn fault_of(kind: ErrorKind) -> WireFault {
+    if kind == ErrorKind::OutOfMemory {
+        WireFault::OutOfMemory
+    } else {
+        WireFault::Io
+    }
+}
+
+/// What is run on a reader that fails after each of the bytes. What reads lines asks a reader that
+/// was interrupted again.
+const BROKEN_OFF: &[(Program, &[u8])] = &[
+    (Lines, b"56\n7a"),
+    (Split(1), b"56\n7a"),
+    (Within(9, 2), b"56\n7a"),
+    (Stream(9, 2, 9), CUT),
+];
+
+fn ends_with_the_fault(rt: &impl Abort, alloc: Global, kind: ErrorKind) {
+    for (program, text) in BROKEN_OFF {
+        let is_stream = matches!(program, Stream(_, _, _));
+        for at in 0..text.len() + 1 {
+            if is_stream || kind != ErrorKind::Interrupted {
+                let text = &text[..at];
+                let mut reader = BrokenReader { text, kind };
+                let mut out = Vec::new(alloc);
+                let answer = run_program(rt, alloc, *program, &mut reader, &mut out);
+                assert_eq!(rt; answer, Err(fault_of(kind)), "{kind:?} after {text:?}");
+            }
+        }
+    }
+}
+
+#[test]
+fn each_kind_of_fault_of_the_reader_is_told(rt: HostRuntime) -> Result<(), Fail> {
+    for kind in kinds(rt.alloc())?.as_slice() {
+        ends_with_the_fault(&rt, rt.alloc(), *kind);
+    }
+    Ok(())
+}
+
 /// Void, and the beginning of a long string.
 const CUT: &[u8] = &[86, 83, 0, 0, 0, 4, 116];
 
@@ -136,16 +195,9 @@ fn a_fault_of_the_reader_ends_it(rt: HostRuntime) {
 /// line, and one for what is left of it.
 const WRITERS: &[(Program, &[u8], &str, usize)] = &[
     (Lines, b"56\n7\n", "value 56 rest 0\nnot hex\n", 6),
+    (Split(1), b"56\n7\n", "value 56 rest 0\nnot hex\n", 6),
     (Within(4, 2), b"41", "refused TooLarge\n", 4),
     (Stream(9, 2, 9), BYTES, LINES, 11),
-];
-
-/// How a writer fails, and what is returned.
-const FAILINGS: &[(Failing, WireFault)] = &[
-    (With(ErrorKind::BrokenPipe), WireFault::Io),
-    (With(ErrorKind::Interrupted), WireFault::Io),
-    (TakingNone, WireFault::Io),
-    (With(ErrorKind::OutOfMemory), WireFault::OutOfMemory),
 ];
 
 // Until the writer fails it takes the beginning of what is written, and if it doesn't, all.
@@ -165,29 +217,29 @@ fn is_taken(
     assert_eq!(rt; writer.taken.len() == lines.len(), answer.is_ok());
 }
 
-#[test]
-fn a_fault_of_the_writer_ends_it(rt: HostRuntime) {
+/// A writer that fails so ends each run with the fault, whichever of its calls that is.
+fn ends_each_run(rt: &impl Abort, alloc: Global, failing: Failing, fault: WireFault) {
     for (program, input, lines, needed) in WRITERS {
-        for (failing, fault) in FAILINGS {
-            for calls in 0..12 {
-                let writer = BrokenWriter {
-                    taken: Vec::new(rt.alloc()),
-                    calls,
-                    failing: *failing,
-                };
-                let answer = if calls < *needed { Err(*fault) } else { Ok(()) };
-                is_taken(
-                    &rt,
-                    rt.alloc(),
-                    *program,
-                    input,
-                    lines.as_bytes(),
-                    writer,
-                    answer,
-                );
-            }
+        for calls in 0..12 {
+            let writer = BrokenWriter {
+                taken: Vec::new(alloc),
+                calls,
+                failing,
+            };
+            let answer = if calls < *needed { Err(fault) } else { Ok(()) };
+            let lines = lines.as_bytes();
+            is_taken(rt, alloc, *program, input, lines, writer, answer);
         }
     }
+}
+
+#[test]
+fn each_kind_of_fault_of_the_writer_is_told(rt: HostRuntime) -> Result<(), Fail> {
+    for kind in kinds(rt.alloc())?.as_slice() {
+        ends_each_run(&rt, rt.alloc(), With(*kind), fault_of(*kind));
+    }
+    ends_each_run(&rt, rt.alloc(), TakingNone, WireFault::Io);
+    Ok(())
 }
 
 #[test]
