@@ -279,7 +279,7 @@ impl Spelling {
     }
 
     /// Takes the next character. Returns the byte that is complete with it, if one is. The clauses
-    /// are about strings of less than 2^63 bytes.
+    /// are about a text of less than 2^63 bytes.
     pub fn take(&mut self, byte: u8) -> Result<Option<u8>, Fault>
         ensures form { form_of self.new ≡ form_of self.old }
         ensures ok { (text bytes : List ℕ) → length text < 2 ^ 63 → Took self.old text bytes
