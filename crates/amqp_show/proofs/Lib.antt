@@ -3,3 +3,4 @@ pub mod Complete
 pub mod Sound
 pub mod Takes
 pub mod Heads
+pub mod Yields

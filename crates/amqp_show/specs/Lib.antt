@@ -8,3 +8,5 @@ pub mod Steps
 pub mod Positions
 -- what was taken of a text
 pub mod Taken
+-- what a reader has yielded
+pub mod Readings

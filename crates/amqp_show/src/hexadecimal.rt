@@ -1,9 +1,15 @@
 //! Bytes that come as hexadecimal.
 
-ghost use Rattle.std.specs.Prelude.{◌≡◌, ◌++◌, ◌<◌, ◌≤◌, ℕ, List, length, IfSome, IsNone};
+ghost use Rattle.std.specs.Prelude.{◌≡◌, ◌^◌, ◌++◌, ◌<◌, ◌≤◌, ℕ, List, length, option_to_list, IfErr, IfOk, IfSome, IsNone, IsSome, OnErr, OnOk};
+ghost use Rattle.std.specs.Io.{ReadsAtMost};
+ghost use Rattle.std.specs.Io.KnownBytes.{Consumes, IsAtEnd, Keeps, ReadConsumes};
+ghost use Rattle.std.specs.IoError.{error_kind};
+ghost use Rattle.std.specs.declared.io.ErrorKind.{ErrorKind};
 ghost use Rattle.amqp_show.specs.Spelled.{form_of_text};
+ghost use Rattle.amqp_show.specs.Readings.{left, AnswersNext, AnswersRead, AnswersStep, Yielded};
 
 use crate::spelling::{Fault, Form, Reason, Spelling};
+use arrayvec::ArrayVec;
 use std::alloc::{AllocError, Global};
 use std::io;
 use std::io::{ErrorKind, Read};
@@ -11,31 +17,70 @@ use std::io::{ErrorKind, Read};
 // As many characters determine how a text is written.
 const HEAD: usize = 10;
 
+// A reader, and what was read of it but not taken yet.
+#[derive(Drop)]
+struct Text<R> {
+    head: ArrayVec<u8, HEAD>,
+    reader: R,
+}
+
+impl<R: Read> Text<R> {
+    // How the text is written. Nothing of it is taken.
+    fn form(&mut self) -> io::Result<Form>
+        ensures kept { Keeps (left R.remaining self.old) (left R.remaining self.new) }
+        ensures form { IfOk result (λ form. IfSome (left R.remaining self.old) (λ text. form ≡ form_of_text text)) }
+    {
+        'reads: loop {
+            if let Some(form) = form_of(self.head.as_slice()) {
+                return Ok(form);
+            }
+            match next_of(&mut self.reader)? {
+                Some(character) => self.head.push(character),
+                None => return Ok(Form::Plain),
+            }
+        }
+    }
+
+    // Takes the next character, or returns `None` at the end.
+    fn next(&mut self) -> io::Result<Option<u8>>
+        ensures ok { IfOk result (λ given. Consumes (left R.remaining self.old) (left R.remaining self.new) (option_to_list given)) }
+        ensures end { IfOk result (λ given. IsNone given → IsAtEnd (left R.remaining self.new)) }
+        ensures err { OnErr result (Keeps (left R.remaining self.old) (left R.remaining self.new)) }
+    {
+        match self.head.pop_at(0) {
+            Some(character) => Ok(Some(character)),
+            None => next_of(&mut self.reader),
+        }
+    }
+}
+
 /// The bytes that a reader's text spells. What isn't hexadecimal is a failure of the kind
-/// `InvalidData`.
+/// `InvalidData`, from then on.
 #[derive(Drop)]
 pub struct Hexadecimal<R> {
-    text: R,
-    // what was read to determine the form: how much of it there is, and was taken
-    head: [u8; HEAD],
-    read: usize,
-    given: usize,
+    text: Text<R>,
     // what was taken, once it is known how the text is written
-    spelling: Spelling,
-    has_begun: bool,
+    spelling: Option<Spelling>,
     fault: Option<Fault>,
+}
+
+// What a character, or the end, results in.
+#[derive(Clone, Copy, Debug)]
+enum Step {
+    // the character was taken, and completes this byte, if one
+    Taken(Option<u8>),
+    End,
 }
 
 impl<R> Hexadecimal<R> {
     /// Nothing is read yet.
     pub fn new(text: R) -> Self {
         Hexadecimal {
-            text,
-            head: [0; HEAD],
-            read: 0,
-            given: 0,
-            spelling: Spelling::new(Form::Plain),
-            has_begun: false,
+            text: Text {
+                head: ArrayVec::new(),
+                reader: text,
+            },
+            spelling: None,
             fault: None,
         }
     }
@@ -60,72 +105,83 @@ impl<R> Hexadecimal<R> {
     }
 
     // Keeps a fault to report it.
-    fn fail(&mut self, fault: Fault) -> io::Error {
+    fn fail(&mut self, fault: Fault) -> io::Error
+        ensures kept { self.new ≡ record self.old { fault = Some fault } }
+        ensures kind { error_kind result ≡ ErrorKind.InvalidData }
+    {
         self.fault = Some(fault);
         io::Error::from(ErrorKind::InvalidData)
     }
 }
 
 impl<R: Read> Hexadecimal<R> {
-    // The next byte, or `None` at the end.
-    fn next(&mut self) -> io::Result<Option<u8>> {
-        self.begin()?;
+    // The next byte, or `None` at the end. The clause is about a text of less than 2^63 bytes.
+    fn next(&mut self) -> io::Result<Option<u8>>
+        ensures answer { (whole bytes : List ℕ) → length whole < 2 ^ 63 → Yielded R.remaining self.old whole bytes
+            → AnswersNext R.remaining whole bytes result self.new }
+        ensures kind { IfErr result (λ e. IsSome self.new.fault → error_kind e ≡ ErrorKind.InvalidData) }
+    {
+        if self.fault.is_some() {
+            return Err(io::Error::from(ErrorKind::InvalidData));
+        }
         for _ in 0..u64::MAX {
-            let Some(character) = self.next_character()? else {
-                return match self.spelling.finish() {
-                    Ok(()) => Ok(None),
-                    Err(fault) => Err(self.fail(fault)),
-                };
-            };
-            match self.spelling.take(character) {
-                Ok(None) => {}
-                Ok(byte) => return Ok(byte),
-                Err(fault) => return Err(self.fail(fault)),
+            match self.step()? {
+                Step::Taken(None) => {}
+                Step::Taken(Some(byte)) => return Ok(Some(byte)),
+                Step::End => return Ok(None),
             }
         }
-        Ok(None)
+        Err(io::Error::from(ErrorKind::FileTooLarge))
     }
 
-    // Reads on until it is known how the text is written, unless it is.
-    fn begin(&mut self) -> io::Result<()> {
-        for _ in 0..=HEAD {
-            if self.has_begun {
-                return Ok(());
-            }
-            let form = match next_of(&mut self.text)? {
-                Some(character) => self.form_with(character),
-                None => Some(Form::Plain),
-            };
-            if let Some(form) = form {
-                self.spelling = Spelling::new(form);
-                self.has_begun = true;
-            }
+    // Takes the next character.
+    fn step(&mut self) -> io::Result<Step>
+        requires { self.old.fault ≡ None }
+        ensures answer { (whole bytes : List ℕ) → length whole < 2 ^ 63 → Yielded R.remaining self.old whole bytes
+            → AnswersStep R.remaining whole bytes result self.new }
+        ensures goes { OnOk result (self.new.fault ≡ None) }
+        ensures kind { IfErr result (λ e. IsSome self.new.fault → error_kind e ≡ ErrorKind.InvalidData) }
+    {
+        let mut spelling = self.begun()?;
+        match self.text.next()? {
+            Some(character) => match spelling.take(character) {
+                Ok(byte) => {
+                    self.spelling = Some(spelling);
+                    Ok(Step::Taken(byte))
+                }
+                Err(fault) => Err(self.fail(fault)),
+            },
+            None => match spelling.finish() {
+                Ok(()) => Ok(Step::End),
+                Err(fault) => Err(self.fail(fault)),
+            },
         }
-        Ok(())
     }
 
-    // How the text is written, by its first characters and the next one, if that is known yet.
-    fn form_with(&mut self, character: u8) -> Option<Form> {
-        if let Some(place) = self.head.get_mut(self.read) {
-            *place = character;
-            self.read += 1;
+    // What was taken. Reads on until it is known how the text is written, unless it is.
+    fn begun(&mut self) -> io::Result<Spelling>
+        requires { self.old.fault ≡ None }
+        ensures yielded { (whole bytes : List ℕ) → Yielded R.remaining self.old whole bytes → Yielded R.remaining self.new whole bytes }
+        ensures is { IfOk result (λ spelling. self.new.spelling ≡ Some spelling) }
+        ensures goes { self.new.fault ≡ None }
+    {
+        if let Some(spelling) = self.spelling {
+            return Ok(spelling);
         }
-        form_of(self.head.get(..self.read).unwrap_or(&[]))
-    }
-
-    // The next character, or `None` at the end.
-    fn next_character(&mut self) -> io::Result<Option<u8>> {
-        if self.given < self.read {
-            let character = self.head.get(self.given).copied();
-            self.given += 1;
-            return Ok(character);
-        }
-        next_of(&mut self.text)
+        let spelling = Spelling::new(self.text.form()?);
+        self.spelling = Some(spelling);
+        Ok(spelling)
     }
 }
 
 impl<R: Read> Read for Hexadecimal<R> {
-    fn read(&mut self, buf: &mut [u8]) -> io::Result<usize> {
+    fn read(&mut self, buf: &mut [u8]) -> io::Result<usize>
+        ensures bound { ReadsAtMost result buf.new }
+        ensures bytes { ReadConsumes None None result buf.new }
+        ensures answer { (whole bytes : List ℕ) → length whole < 2 ^ 63 → Yielded R.remaining self.old whole bytes
+            → AnswersRead R.remaining whole bytes result buf.new self.new }
+        ensures kind { IfErr result (λ e. IsSome self.new.fault → error_kind e ≡ ErrorKind.InvalidData) }
+    {
         if buf.is_empty() {
             return Ok(0);
         }
@@ -143,6 +199,7 @@ impl<R: Read> Read for Hexadecimal<R> {
 fn form_of(head: &[u8]) -> Option<Form>
     requires { length head.now ≤ HEAD }
     ensures known { IfSome result (λ form. (rest : List ℕ) → form_of_text (head.now ++ rest) ≡ form) }
+    ensures short { IsNone result → length head.now < HEAD }
     ensures whole { IsNone result → form_of_text head.now ≡ Form.Plain }
 {
     let (hexdump, xxd): (&[u8], &[u8]) = (b"00000000  ", b"00000000: ");
@@ -159,7 +216,11 @@ fn form_of(head: &[u8]) -> Option<Form>
 }
 
 // The next byte of a reader, or `None` at its end.
-fn next_of<R: Read>(reader: &mut R) -> io::Result<Option<u8>> {
+fn next_of<R: Read>(reader: &mut R) -> io::Result<Option<u8>>
+    ensures ok { IfOk result (λ given. Consumes (R.remaining reader.old) (R.remaining reader.new) (option_to_list given)) }
+    ensures end { IfOk result (λ given. IsNone given → IsAtEnd (R.remaining reader.new)) }
+    ensures err { OnErr result (Keeps (R.remaining reader.old) (R.remaining reader.new)) }
+{
     let mut byte = [0];
     if reader.read(&mut byte)? == 0 {
         return Ok(None);
