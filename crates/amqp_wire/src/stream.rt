@@ -15,10 +15,10 @@ use crate::run::write_out;
 use amq_protocol_types::AMQPValue;
 use amq_protocol_types::generation::{GenError, WriteContext, gen_value};
 use amq_protocol_types::parsing::ErrorKind;
-use amq_protocol_types::stream::{Limits, StreamError, Values};
+use amq_protocol_types::stream::{Limits, Source, StreamError, Values};
 use std::alloc::{AllocError, Global};
 use std::io;
-use std::io::{Read, Write};
+use std::io::Write;
 
 /// The line of a value.
 fn line_of(alloc: Global, value: &AMQPValue) -> Result<Vec<u8>, WireFault>
@@ -51,7 +51,7 @@ fn text_of(alloc: Global, text: &str) -> Result<Vec<u8>, AllocError>
 }
 
 /// The next line, and whether it is a value's.
-fn next_line<R: Read>(
+fn next_line<R: Source>(
     alloc: Global,
     values: &mut Values,
     reader: &mut R,
@@ -77,7 +77,7 @@ fn next_line<R: Read>(
 /// Reads values from the reader within the limits until there are `most`, and writes a line for
 /// each. If there are fewer a last line reports why: the reader ended, or ended inside a value, or
 /// what came is rejected. If the reader reports its bytes, none after the last value is read.
-pub fn run_stream<R: Read, W: Write>(
+pub fn run_stream<R: Source, W: Write>(
     alloc: Global,
     reader: &mut R,
     writer: &mut W,
@@ -97,7 +97,7 @@ pub fn run_stream<R: Read, W: Write>(
 }
 
 /// Writes the lines of a stream, one after another.
-fn write_stream<R: Read, W: Write>(
+fn write_stream<R: Source, W: Write>(
     alloc: Global,
     reader: &mut R,
     writer: &mut W,

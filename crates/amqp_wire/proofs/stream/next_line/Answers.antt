@@ -9,27 +9,27 @@ use Rattle.amqp_wire.proofs.stream.next_line.Goals as goal
 pub returns-in_ok-line_of-in-Ok-Some-clause-line : goal.returns-in_ok-line_of-in-Ok-Some-clause-line
 returns-in_ok-line_of-in-Ok-Some-clause-line g c =
     let l = limits_of c.args.values.now in
-    let left = g.R.Read.remaining c.next_from.new.reader in
+    let left = g.R.Source.remaining c.next_from.new.reader in
     let line = c.in_ok-line_of-in-Ok-Some.field-0.items in
     let is : line ≡ value_line (view c.in-Ok-Some.value) = search rules in
-    line_told l (kept c.args.values.now) (g.R.Read.remaining c.args.reader.now) left line true (Ok c.in-Ok-Some.field-0)
+    line_told l (kept c.args.values.now) (g.R.Source.remaining c.args.reader.now) left line true (Ok c.in-Ok-Some.field-0)
     (λ s bytes a. value_told l s left c.in-Ok-Some.value line is bytes (subst (λ o. AnswersAll l s left (Ok o)) c.in-Ok-Some.field-0-is a)) c.requires.kept (c.in-Ok-Some.ensures.told c.requires.not_failed)
 
 pub returns-in_ok-text_of-in-Err-Truncated-clause-line : goal.returns-in_ok-text_of-in-Err-Truncated-clause-line
 returns-in_ok-text_of-in-Err-Truncated-clause-line g c =
     let l = limits_of c.args.values.now in
-    let left = g.R.Read.remaining c.next_from.new.reader in
+    let left = g.R.Source.remaining c.next_from.new.reader in
     let line = c.in_ok-text_of-in-Err-Truncated.field-0.items in
     let is : line ≡ codes "truncated\n" = search rules in
-    line_told l (kept c.args.values.now) (g.R.Read.remaining c.args.reader.now) left line false (Err c.in-Err-Truncated.field-0)
+    line_told l (kept c.args.values.now) (g.R.Source.remaining c.args.reader.now) left line false (Err c.in-Err-Truncated.field-0)
     (λ s bytes a. cut_told l s left line is bytes (subst (λ e. AnswersAll l s left (Err e)) c.in-Err-Truncated.field-0-is a)) c.requires.kept (c.in-Err-Truncated.ensures.told c.requires.not_failed)
 
 pub returns-in_ok-refused_line-in-Err-Refused-clause-line : goal.returns-in_ok-refused_line-in-Err-Refused-clause-line
 returns-in_ok-refused_line-in-Err-Refused-clause-line g c =
     let l = limits_of c.args.values.now in
-    let left = g.R.Read.remaining c.next_from.new.reader in
+    let left = g.R.Source.remaining c.next_from.new.reader in
     let line = c.in_ok-refused_line-in-Err-Refused.field-0.items in
     let kind = c.in-Err-Refused.error in
     let is : line ≡ codes "refused " ++ (kind_name kind ++ 10 ∷ []) = search rules in
-    line_told l (kept c.args.values.now) (g.R.Read.remaining c.args.reader.now) left line false (Err c.in-Err-Refused.field-0)
+    line_told l (kept c.args.values.now) (g.R.Source.remaining c.args.reader.now) left line false (Err c.in-Err-Refused.field-0)
     (λ s bytes a. refused_told l s left line kind is bytes (subst (λ e. AnswersAll l s left (Err e)) c.in-Err-Refused.field-0-is a)) c.requires.kept (c.in-Err-Refused.ensures.told c.requires.not_failed)

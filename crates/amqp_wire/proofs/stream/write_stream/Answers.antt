@@ -9,9 +9,9 @@ use Rattle.amqp_wire.proofs.stream.write_stream.Goals as goal
 
 pub returns-in_err-write_out-clause-err : goal.returns-in_err-write_out-clause-err
 returns-in_err-write_out-clause-err g c =
-    let held = g.R.Read.remaining c.args.reader.now in
-    let now = g.R.Read.remaining c.values.reader in
-    let new = g.R.Read.remaining c.next_line.new.reader in
+    let held = g.R.Source.remaining c.args.reader.now in
+    let now = g.R.Source.remaining c.values.reader in
+    let new = g.R.Source.remaining c.next_line.new.reader in
     let a = g.W.Write.contents c.args.writer.now in
     let b = g.W.Write.contents c.values.writer in
     let d = g.W.Write.contents c.write_out.new.writer in
@@ -24,9 +24,9 @@ returns-in_err-write_out-clause-err g c =
 
 pub returns-then-not-is_value-clause-ok : goal.returns-then-not-is_value-clause-ok
 returns-then-not-is_value-clause-ok g c =
-    let held = g.R.Read.remaining c.args.reader.now in
-    let now = g.R.Read.remaining c.values.reader in
-    let new = g.R.Read.remaining c.next_line.new.reader in
+    let held = g.R.Source.remaining c.args.reader.now in
+    let now = g.R.Source.remaining c.values.reader in
+    let new = g.R.Source.remaining c.next_line.new.reader in
     let a = g.W.Write.contents c.args.writer.now in
     let b = g.W.Write.contents c.values.writer in
     let d = g.W.Write.contents c.write_out.new.writer in
@@ -39,9 +39,9 @@ returns-then-not-is_value-clause-ok g c =
 
 pub returns-then-not-is_value-clause-rest : goal.returns-then-not-is_value-clause-rest
 returns-then-not-is_value-clause-rest g c =
-    let held = g.R.Read.remaining c.args.reader.now in
-    let now = g.R.Read.remaining c.values.reader in
-    let new = g.R.Read.remaining c.next_line.new.reader in
+    let held = g.R.Source.remaining c.args.reader.now in
+    let now = g.R.Source.remaining c.values.reader in
+    let new = g.R.Source.remaining c.next_line.new.reader in
     let a = g.W.Write.contents c.args.writer.now in
     let b = g.W.Write.contents c.values.writer in
     let d = g.W.Write.contents c.write_out.new.writer in
@@ -53,8 +53,8 @@ returns-then-not-is_value-clause-rest g c =
 
 pub returns-clause-rest : goal.returns-clause-rest
 returns-clause-rest g c =
-    let held = g.R.Read.remaining c.args.reader.now in
-    let now = g.R.Read.remaining c.values.reader in
+    let held = g.R.Source.remaining c.args.reader.now in
+    let now = g.R.Source.remaining c.values.reader in
     let a = g.W.Write.contents c.args.writer.now in
     let b = g.W.Write.contents c.values.writer in
     let none : c.values.left ≡ 0 = omega arith in
@@ -62,9 +62,9 @@ returns-clause-rest g c =
 
 pub values-preserved : goal.values-preserved
 values-preserved g c =
-    let held = g.R.Read.remaining c.args.reader.now in
-    let now = g.R.Read.remaining c.values.reader in
-    let new = g.R.Read.remaining c.next_line.new.reader in
+    let held = g.R.Source.remaining c.args.reader.now in
+    let now = g.R.Source.remaining c.values.reader in
+    let new = g.R.Source.remaining c.next_line.new.reader in
     let a = g.W.Write.contents c.args.writer.now in
     let b = g.W.Write.contents c.values.writer in
     let d = g.W.Write.contents c.write_out.new.writer in

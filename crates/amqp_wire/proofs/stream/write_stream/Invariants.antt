@@ -9,7 +9,7 @@ invariant-values g l =
     (kept l.values ≡ [])
     × (has_failed l.values ≡ false)
     × (limits_of l.values ≡ l.fn.limits)
-    × Progress l.fn.limits l.fn.most l.left (g.R.Read.remaining l.initial.reader) (g.R.Read.remaining l.reader) (g.W.Write.contents l.initial.writer) (g.W.Write.contents l.writer)
+    × Progress l.fn.limits l.fn.most l.left (g.R.Source.remaining l.initial.reader) (g.R.Source.remaining l.reader) (g.W.Write.contents l.initial.writer) (g.W.Write.contents l.writer)
 
 abbrev pub decreases-values : goal.decreases-values
 decreases-values g l = l.left
