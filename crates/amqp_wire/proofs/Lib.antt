@@ -1,3 +1,4 @@
+mod Ends
 mod Outcomes
 mod Fronts
 mod Rooms

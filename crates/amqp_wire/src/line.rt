@@ -1,4 +1,4 @@
-//! The result of one line.
+//! The result of one line. Nothing but memory can run out.
 
 ghost use Rattle.std.specs.Prelude.{◌≡◌, ◌-◌, ◌≤◌, ◌++◌, ◌∷◌, [], length, IfOk, string_bytes};
 ghost use Rattle.amqp_grammar.specs.Decode.{outcome};
@@ -9,7 +9,6 @@ ghost use Rattle.hex.specs.Hex.{encode_lower};
 ghost use Rattle.amqp_wire.specs.Lines.{line_by, read_within, said, said_in, said_of_value, said_within};
 ghost use Rattle.amqp_wire.specs.Refusals.{kind_name, IsSaid, IsTold};
 
-use crate::fault::WireFault;
 use amq_protocol_types::AMQPValue;
 use amq_protocol_types::generation::{SliceOutput, WriteContext, gen_value};
 use amq_protocol_types::parsing::traits::ParsableInput;
@@ -52,13 +51,13 @@ fn value_answer<I: ParsableInput>(
     value: &AMQPValue,
     count: usize,
     rest: I,
-) -> Result<String, WireFault>
+) -> Result<String, AllocError>
     requires { IsWritableIn (count - length (I.bytes rest)) (view value.now) }
     ensures { IfOk result (λ answer. string_bytes answer ≡ said_of_value (view value.now) (length (I.bytes rest))) }
 {
     let left = rest.input_len();
     let hex = hex_of(alloc, value, count.saturating_sub(left))?;
-    Ok(format!(in alloc; "value {hex} rest {left}")?)
+    format!(in alloc; "value {hex} rest {left}")
 }
 
 /// The name of a kind.
@@ -75,23 +74,23 @@ pub fn name_of(kind: ErrorKind) -> &'static str
 }
 
 /// What is printed of an error.
-fn refusal_answer(alloc: Global, error: ParserError) -> Result<String, WireFault>
+fn refusal_answer(alloc: Global, error: ParserError) -> Result<String, AllocError>
     requires { IsTold error }
     ensures { IfOk result (λ answer. IsSaid error (string_bytes answer)) }
 {
     match error {
-        Err::Incomplete(Needed::Size(lack)) => Ok(format!(in alloc; "more {lack}")?),
+        Err::Incomplete(Needed::Size(lack)) => format!(in alloc; "more {lack}"),
         Err::Incomplete(Needed::Unknown) => unreachable!(),
         Err::Error(error) => {
             let name = name_of(error.kind());
-            Ok(format!(in alloc; "refused {name}")?)
+            format!(in alloc; "refused {name}")
         }
-        Err::Failure(_) => Err(WireFault::OutOfMemory),
+        Err::Failure(_) => Err(AllocError),
     }
 }
 
 /// What is printed of the bytes that a line denotes.
-fn answer_to_bytes<I: ParsableInput>(alloc: Global, bytes: I) -> Result<String, WireFault>
+fn answer_to_bytes<I: ParsableInput>(alloc: Global, bytes: I) -> Result<String, AllocError>
     ensures { IfOk result (λ answer. string_bytes answer ≡ said (outcome (I.bytes bytes))) }
 {
     let count = bytes.input_len();
@@ -106,7 +105,7 @@ fn answer_within<I: ParsableInput>(
     alloc: Global,
     bytes: I,
     limits: Limits,
-) -> Result<String, WireFault>
+) -> Result<String, AllocError>
     ensures { IfOk result (λ answer. string_bytes answer ≡ said_within (read_within limits (I.bytes bytes))) }
 {
     let count = bytes.input_len();
@@ -117,7 +116,7 @@ fn answer_within<I: ParsableInput>(
 }
 
 /// What is printed of the bytes that a line denotes, read in the form `form`.
-fn answer_in_form(alloc: Global, bytes: &[u8], form: Form) -> Result<String, WireFault>
+fn answer_in_form(alloc: Global, bytes: &[u8], form: Form) -> Result<String, AllocError>
     ensures { IfOk result (λ answer. string_bytes answer ≡ said_in form bytes.now) }
 {
     match form {
@@ -131,18 +130,18 @@ fn answer_in_form(alloc: Global, bytes: &[u8], form: Form) -> Result<String, Wir
 }
 
 /// The result of a line, without its end.
-fn answer_to(alloc: Global, input: &[u8], form: Form) -> Result<String, WireFault>
+fn answer_to(alloc: Global, input: &[u8], form: Form) -> Result<String, AllocError>
     ensures { IfOk result (λ answer. string_bytes answer ≡ line_by (said_in form) input.now) }
 {
     match hex::decode(alloc, input) {
         Ok(bytes) => answer_in_form(alloc, bytes.as_slice(), form),
-        Err(FromHexError::OutOfMemory) => Err(WireFault::OutOfMemory),
-        Err(_) => Ok(String::from_str(alloc, "not hex")?),
+        Err(FromHexError::OutOfMemory) => Err(AllocError),
+        Err(_) => String::from_str(alloc, "not hex"),
     }
 }
 
 /// The result of a line, with a line feed at its end.
-pub fn ended_answer_to(alloc: Global, input: &[u8], form: Form) -> Result<Vec<u8>, WireFault>
+pub fn ended_answer_to(alloc: Global, input: &[u8], form: Form) -> Result<Vec<u8>, AllocError>
     ensures { IfOk result (λ bytes. bytes.items ≡ line_by (said_in form) input.now ++ 10 ∷ []) }
 {
     let mut answer = answer_to(alloc, input, form)?;

@@ -8,6 +8,7 @@ mod exhausted;
 mod fault;
 mod line;
 mod run;
+mod sink;
 mod stream;
 #[cfg(test)]
 mod tests;

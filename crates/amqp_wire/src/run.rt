@@ -2,22 +2,20 @@
 
 ghost use Rattle.std.specs.Prelude.{◌<◌, OnOk, OnErr, length};
 ghost use Rattle.std.specs.Io.KnownBytes.{Appends, IsAtEnd};
+ghost use Rattle.amqp_wire.specs.Ends.{EndsAnswers, EndsWrite};
 ghost use Rattle.amqp_wire.specs.Lines.{output, output_by, output_within, said_in, AppendsFront, Answers, AnswersFront};
 
 use crate::fault::WireFault;
 use crate::line::{Form, ended_answer_to};
+use crate::sink::Sink;
 use amq_protocol_types::stream::Limits;
 use bstr::ByteSlice;
 use std::alloc::Global;
-use std::io::{Read, Write};
+use std::io::Read;
 
 /// Reads all that the reader has, and writes a line for each line of it. A line ends at `\n` or
 /// `\r\n`, or with the input, and is bytes in hexadecimal, in either case.
-pub fn run<R: Read, W: Write>(
-    alloc: Global,
-    reader: &mut R,
-    writer: &mut W,
-) -> Result<(), WireFault>
+pub fn run<R: Read, W: Sink>(alloc: Global, reader: &mut R, writer: &mut W) -> Result<(), WireFault>
     ensures ok { OnOk result (Answers output
         (R.remaining reader.old) (W.contents writer.old) (W.contents writer.new)) }
     ensures err { OnErr result (AnswersFront output
@@ -29,7 +27,7 @@ pub fn run<R: Read, W: Write>(
 
 /// Does what `run` does, and passes the parser the bytes of each line as two slices, cut after `at`
 /// bytes, or after the last if there are fewer.
-pub fn run_split<R: Read, W: Write>(
+pub fn run_split<R: Read, W: Sink>(
     alloc: Global,
     reader: &mut R,
     writer: &mut W,
@@ -46,7 +44,7 @@ pub fn run_split<R: Read, W: Write>(
 
 /// Does what `run` does, and reads each value within the limits: one that has more bytes, or nests
 /// deeper, is rejected.
-pub fn run_within<R: Read, W: Write>(
+pub fn run_within<R: Read, W: Sink>(
     alloc: Global,
     reader: &mut R,
     writer: &mut W,
@@ -62,7 +60,7 @@ pub fn run_within<R: Read, W: Write>(
 }
 
 /// Reads all that the reader has, and writes the result of each line of it.
-fn run_in_form<R: Read, W: Write>(
+fn run_in_form<R: Read, W: Sink>(
     alloc: Global,
     reader: &mut R,
     writer: &mut W,
@@ -80,7 +78,7 @@ fn run_in_form<R: Read, W: Write>(
 }
 
 /// Writes the results of the lines of `input`.
-fn write_answers<W: Write>(
+fn write_answers<W: Sink>(
     alloc: Global,
     input: &[u8],
     writer: &mut W,
@@ -88,6 +86,7 @@ fn write_answers<W: Write>(
 ) -> Result<(), WireFault>
     ensures ok { OnOk result (Appends (W.contents writer.old) (W.contents writer.new) (output_by (said_in form) input.now)) }
     ensures err { OnErr result (AppendsFront (W.contents writer.old) (W.contents writer.new) (output_by (said_in form) input.now)) }
+    ensures ends { EndsAnswers W.takes W.fails writer.old result writer.new }
 {
     for line in input.lines() {
         let answer = ended_answer_to(alloc, line, form)?;
@@ -97,14 +96,15 @@ fn write_answers<W: Write>(
 }
 
 /// Writes all of the bytes. Each error of the writer ends it, and so does one that accepts zero.
-pub fn write_out<W: Write>(bytes: &[u8], writer: &mut W) -> Result<(), WireFault>
+pub fn write_out<W: Sink>(bytes: &[u8], writer: &mut W) -> Result<(), WireFault>
     ensures ok { OnOk result (Appends (W.contents writer.old) (W.contents writer.new) bytes.now) }
     ensures err { OnErr result (AppendsFront (W.contents writer.old) (W.contents writer.new) bytes.now) }
     ensures some { OnErr result (0 < length bytes.now) }
+    ensures ends { EndsWrite W.takes W.fails writer.old result writer.new }
 {
     let mut rest = bytes;
     'writes: while !rest.is_empty() {
-        match writer.write(rest)? {
+        match writer.write_some(rest)? {
             0 => return Err(WireFault::Io),
             n => rest = rest.split_at(n).1,
         }

@@ -1,10 +1,12 @@
 //! A stream of values, from a reader to a writer.
 
-ghost use Rattle.std.specs.Prelude.{◌≡◌, ◌<◌, ◌∷◌, ◌++◌, [], true, false, codes, OnOk, OnErr, IfOk, IfSome, string_bytes};
+ghost use Rattle.std.specs.Prelude.{◌≡◌, ◌<◌, ◌^◌, ◌∷◌, ◌++◌, [], true, false, codes, OnOk, OnErr, IfOk, IfSome, string_bytes};
 ghost use Rattle.std.specs.Io.KnownBytes.{Appends};
 ghost use Rattle.amqp_types.specs.Inputs.{IsBytes};
+ghost use Rattle.amqp_grammar.specs.Texts.{size, Fits};
 ghost use Rattle.amqp_value_core.specs.View.{view};
 ghost use Rattle.amqp_stream.specs.Readers.{kept, has_failed, limits_of};
+ghost use Rattle.amqp_wire.specs.Ends.{EndsRead, EndsRun};
 ghost use Rattle.amqp_wire.specs.Lines.{AppendsFront};
 ghost use Rattle.amqp_wire.specs.Refusals.{kind_name};
 ghost use Rattle.amqp_wire.specs.Streams.{value_line, stream_text, HasLines, Leaves, IsLine};
@@ -12,23 +14,25 @@ ghost use Rattle.amqp_wire.specs.Streams.{value_line, stream_text, HasLines, Lea
 use crate::fault::WireFault;
 use crate::line::name_of;
 use crate::run::write_out;
+use crate::sink::Sink;
 use amq_protocol_types::AMQPValue;
 use amq_protocol_types::generation::{GenError, WriteContext, gen_value};
 use amq_protocol_types::parsing::ErrorKind;
 use amq_protocol_types::stream::{Limits, Source, StreamError, Values};
 use std::alloc::{AllocError, Global};
 use std::io;
-use std::io::Write;
 
-/// The line of a value.
-fn line_of(alloc: Global, value: &AMQPValue) -> Result<Vec<u8>, WireFault>
+/// The line of a value that was read within limits.
+fn line_of(alloc: Global, value: &AMQPValue) -> Result<Vec<u8>, AllocError>
+    requires fits { Fits (view value.now) }
+    requires small { size (view value.now) < 2 ^ 32 }
     ensures { IfOk result (λ line. line.items ≡ value_line (view value.now)) }
 {
     let mut context = WriteContext::from(Vec::new(alloc));
     match gen_value(value, &mut context) {
         Ok(()) => {}
-        Err(GenError::OutOfMemory) => return Err(WireFault::OutOfMemory),
-        Err(_) => return Err(WireFault::Io),
+        Err(GenError::OutOfMemory) => return Err(AllocError),
+        Err(_) => unreachable!(),
     }
     let (bytes, _) = context.into_inner();
     let hex = hex::encode(alloc, bytes.as_slice())?;
@@ -58,10 +62,12 @@ fn next_line<R: Source>(
 ) -> Result<(Vec<u8>, bool), WireFault>
     requires kept { kept values.old ≡ [] }
     requires not_failed { has_failed values.old ≡ false }
+    requires small { (limits_of values.old).frame < 2 ^ 32 }
     ensures line { IfOk result (λ p. IfSome (R.remaining reader.old)
         (λ s. IsBytes s → IsLine (limits_of values.old) s (R.remaining reader.new) p.0.items p.1)) }
     ensures more { IfOk result (λ p. p.1 ≡ true → (kept values.new ≡ []) × (has_failed values.new ≡ false)) }
     ensures limits { limits_of values.new ≡ limits_of values.old }
+    ensures ends { EndsRead R.goes R.fails reader.old result reader.new }
 {
     match values.next_from(reader) {
         Ok(Some(value)) => Ok((line_of(alloc, &value)?, true)),
@@ -77,7 +83,7 @@ fn next_line<R: Source>(
 /// Reads values from the reader within the limits until there are `most`, and writes a line for
 /// each. If there are fewer a last line reports why: the reader ended, or ended inside a value, or
 /// what came is rejected. If the reader reports its bytes, none after the last value is read.
-pub fn run_stream<R: Source, W: Write>(
+pub fn run_stream<R: Source, W: Sink>(
     alloc: Global,
     reader: &mut R,
     writer: &mut W,
@@ -91,13 +97,14 @@ pub fn run_stream<R: Source, W: Write>(
         Leaves limits most s (R.remaining reader.new))) }
     ensures err { OnErr result (IfSome (R.remaining reader.old) (λ s. IsBytes s →
         AppendsFront (W.contents writer.old) (W.contents writer.new) (stream_text limits most s))) }
+    ensures ends { EndsRun R.goes R.fails W.takes W.fails reader.old writer.old result reader.new writer.new }
     ensures values { HasLines limits most }
 {
     write_stream(alloc, reader, writer, limits, most)
 }
 
 /// Writes the lines of a stream, one after another.
-fn write_stream<R: Source, W: Write>(
+fn write_stream<R: Source, W: Sink>(
     alloc: Global,
     reader: &mut R,
     writer: &mut W,
@@ -111,6 +118,7 @@ fn write_stream<R: Source, W: Write>(
         Leaves limits most s (R.remaining reader.new))) }
     ensures err { OnErr result (IfSome (R.remaining reader.old) (λ s. IsBytes s →
         AppendsFront (W.contents writer.old) (W.contents writer.new) (stream_text limits most s))) }
+    ensures ends { EndsRun R.goes R.fails W.takes W.fails reader.old writer.old result reader.new writer.new }
 {
     let mut values = Values::new(alloc, limits);
     let mut left = most;

@@ -1,4 +1,5 @@
 use Rattle.std.proofs.Common.{◌∙◌, rules}
+use Rattle.amqp_stream.proofs.Calls.{reaches_on}
 use Rattle.amqp_wire.specs.Lines.{said_in}
 use Rattle.amqp_wire.proofs.Fronts.{written_more, written_part, first_answer}
 use Rattle.amqp_wire.proofs.run.write_answers.Goals as goal
@@ -12,4 +13,4 @@ returns-in_err-write_out-clause-err g c =
 pub loop-line-preserved : goal.loop-line-preserved
 loop-line-preserved g c =
     let first = first_answer (said_in c.args.form) _ _ _ _ c.in-Some.ensures.steps (c.as_slice.ensures.value ∙ c.in_ok-answer.ensures) in
-    (written_more _ _ _ _ _ _ _ c.loop-line.invariant.0 first c.in_ok-write_out.ensures.ok, tt, tt)
+    (written_more _ _ _ _ _ _ _ c.loop-line.invariant.0 first c.in_ok-write_out.ensures.ok, tt, tt, reaches_on _ _ _ _ c.loop-line.invariant.3 c.in_ok-write_out.ensures.ends)

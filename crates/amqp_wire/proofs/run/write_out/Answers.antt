@@ -1,5 +1,13 @@
+use Rattle.std.proofs.Common.{rules}
+use Rattle.amqp_stream.specs.Sources.Reaches.{here, there}
 use Rattle.amqp_wire.proofs.Fronts.{written_front}
 use Rattle.amqp_wire.proofs.run.write_out.Goals as goal
 
+pub writes-init : goal.writes-init
+writes-init g c = (search rules, here c.args.writer.now)
+
 pub writes-preserved : goal.writes-preserved
-writes-preserved g c = written_front _ _ _ _ _ _ _ c.writes.invariant c.in_ok-n.ensures.bytes c.split_at.ensures.back
+writes-preserved g c = (
+  written_front _ _ _ _ _ _ _ c.writes.invariant.0 c.in_ok-n.ensures.bytes c.split_at.ensures.back,
+  there _ _ _ c.writes.invariant.1 (_, c.in_ok-n.ensures.takes),
+)

@@ -1,15 +1,19 @@
 use Rattle.std.proofs.Common.{◌≡◌, [], false}
 use Rattle.amqp_stream.specs.Readers.{kept, has_failed, limits_of}
+use Rattle.amqp_stream.specs.Sources.{Reaches}
+use Rattle.amqp_wire.specs.Ends.{Accepts}
 use Rattle.amqp_wire.proofs.Streams.{Progress}
 use Rattle.amqp_wire.proofs.stream.write_stream.Given as goal
 
--- all but the lines of what is left was written
+-- all but the lines of what is left was written, with no error of the source or the sink
 abbrev pub invariant-values : goal.invariant-values
 invariant-values g l =
     (kept l.values ≡ [])
     × (has_failed l.values ≡ false)
     × (limits_of l.values ≡ l.fn.limits)
-    × Progress l.fn.limits l.fn.most l.left (g.R.Source.remaining l.initial.reader) (g.R.Source.remaining l.reader) (g.W.Write.contents l.initial.writer) (g.W.Write.contents l.writer)
+    × Progress l.fn.limits l.fn.most l.left (g.R.Source.remaining l.initial.reader) (g.R.Source.remaining l.reader) (g.W.Sink.contents l.initial.writer) (g.W.Sink.contents l.writer)
+    × Reaches g.R.Source.goes l.initial.reader l.reader
+    × Reaches (Accepts g.W.Sink.takes) l.initial.writer l.writer
 
 abbrev pub decreases-values : goal.decreases-values
 decreases-values g l = l.left

@@ -1,0 +1,32 @@
+-- How the calls of a run end it.
+use Rattle.std.proofs.Common.{◌≡◌, ◌⊎◌, ℕ, Result, Ok, Err, inl, inr, refl, sym, subst}
+use Rattle.std.specs.declared.io.ErrorKind.{ErrorKind}
+use Rattle.amqp_stream.specs.Sources.{Reaches}
+use Rattle.amqp_stream.proofs.Calls.{reaches_on}
+use Rattle.amqp_wire.specs.declared.fault.WireFault.{WireFault}
+use Rattle.amqp_wire.specs.declared.fault.WireFault.TheVariants.{OutOfMemory, Io}
+use Rattle.amqp_wire.specs.Faults.{fault_of}
+use Rattle.amqp_wire.specs.Ends.{Accepts, IsSourceFault, IsSinkFault, EndsRead, EndsWrite, EndsAnswers, EndsRun}
+
+-- a fault after further calls is one after all calls
+pub source_later : {R : Type 0} (goes : R → R → Type 0) (fails : R → ErrorKind → R → Type 0) (a b c : R) (f : WireFault) → Reaches goes a b → IsSourceFault goes fails b f c → IsSourceFault goes fails a f c
+source_later goes fails a b c f before (kind, (last, more, failed), is) = (kind, (last, reaches_on goes a b last before more, failed), is)
+
+pub sink_later : {W : Type 0} (takes : W → ℕ → W → Type 0) (fails : W → ErrorKind → W → Type 0) (a b c : W) (f : WireFault) → Reaches (Accepts takes) a b → IsSinkFault takes fails b f c → IsSinkFault takes fails a f c
+sink_later takes fails a b c f before (last, more, why) = (last, reaches_on (Accepts takes) a b last before more, why)
+
+-- a run whose source fails, or that runs out of memory
+pub ends_read : {R W T : Type 0} (goes : R → R → Type 0) (fails : R → ErrorKind → R → Type 0) (takes : W → ℕ → W → Type 0) (rejects : W → ErrorKind → W → Type 0) (a b c : R) (s t : W) (e : WireFault) (r : Result T WireFault)
+    → Reaches goes a b → ((e ≡ OutOfMemory) × Reaches goes b c) ⊎ IsSourceFault goes fails b e c → Reaches (Accepts takes) s t → r ≡ Err e → EndsRun goes fails takes rejects a s r c t
+ends_read {R} {W} {T} goes fails takes rejects a b c s t e r before why written is =
+    subst (λ (q : Result T WireFault). EndsRun goes fails takes rejects a s q c t) (sym is) (by why)
+  where
+    by : ((e ≡ OutOfMemory) × Reaches goes b c) ⊎ IsSourceFault goes fails b e c → EndsRun {T = T} goes fails takes rejects a s (Err e) c t
+    by (inl (out, more)) = inl (inl (out, reaches_on goes a b c before more), written)
+    by (inr fault) = inl (inr (source_later goes fails a b c e before fault), written)
+
+-- a run whose sink fails
+pub ends_write : {R W T : Type 0} (goes : R → R → Type 0) (fails : R → ErrorKind → R → Type 0) (takes : W → ℕ → W → Type 0) (rejects : W → ErrorKind → W → Type 0) (a b : R) (s t u : W) (e : WireFault) (r : Result T WireFault)
+    → Reaches goes a b → Reaches (Accepts takes) s t → IsSinkFault takes rejects t e u → r ≡ Err e → EndsRun goes fails takes rejects a s r b u
+ends_write {R} {W} {T} goes fails takes rejects a b s t u e r before written fault is =
+    subst (λ (q : Result T WireFault). EndsRun goes fails takes rejects a s q b u) (sym is) (inr (before, sink_later takes rejects s t u e written fault))
