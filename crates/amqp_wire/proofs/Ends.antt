@@ -1,12 +1,11 @@
 -- How the calls of a run end it.
-use Rattle.std.proofs.Common.{◌≡◌, ◌⊎◌, ℕ, Result, Ok, Err, inl, inr, refl, sym, subst}
+use Rattle.std.proofs.Common.{◌≡◌, ◌⊎◌, ℕ, Result, Err, inl, inr, sym, subst}
 use Rattle.std.specs.declared.io.ErrorKind.{ErrorKind}
 use Rattle.amqp_stream.specs.Sources.{Reaches}
 use Rattle.amqp_stream.proofs.Calls.{reaches_on}
 use Rattle.amqp_wire.specs.declared.fault.WireFault.{WireFault}
-use Rattle.amqp_wire.specs.declared.fault.WireFault.TheVariants.{OutOfMemory, Io}
-use Rattle.amqp_wire.specs.Faults.{fault_of}
-use Rattle.amqp_wire.specs.Ends.{Accepts, IsSourceFault, IsSinkFault, EndsRead, EndsWrite, EndsAnswers, EndsRun}
+use Rattle.amqp_wire.specs.declared.fault.WireFault.TheVariants.{OutOfMemory}
+use Rattle.amqp_wire.specs.Ends.{Accepts, IsSourceFault, IsSinkFault, EndsAnswers, EndsRun}
 
 -- a fault after further calls is one after all calls
 pub source_later : {R : Type 0} (goes : R → R → Type 0) (fails : R → ErrorKind → R → Type 0) (a b c : R) (f : WireFault) → Reaches goes a b → IsSourceFault goes fails b f c → IsSourceFault goes fails a f c
@@ -30,3 +29,9 @@ pub ends_write : {R W T : Type 0} (goes : R → R → Type 0) (fails : R → Err
     → Reaches goes a b → Reaches (Accepts takes) s t → IsSinkFault takes rejects t e u → r ≡ Err e → EndsRun goes fails takes rejects a s r b u
 ends_write {R} {W} {T} goes fails takes rejects a b s t u e r before written fault is =
     subst (λ (q : Result T WireFault). EndsRun goes fails takes rejects a s q b u) (sym is) (inr (before, sink_later takes rejects s t u e written fault))
+
+-- answers whose sink fails
+pub ends_answers : {W T : Type 0} (takes : W → ℕ → W → Type 0) (rejects : W → ErrorKind → W → Type 0) (s t u : W) (e : WireFault) (r : Result T WireFault)
+    → Reaches (Accepts takes) s t → IsSinkFault takes rejects t e u → r ≡ Err e → EndsAnswers takes rejects s r u
+ends_answers {W} {T} takes rejects s t u e r written fault is =
+    subst (λ (q : Result T WireFault). EndsAnswers takes rejects s q u) (sym is) (inr (sink_later takes rejects s t u e written fault))

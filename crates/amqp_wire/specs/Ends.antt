@@ -1,5 +1,5 @@
 -- Why a run ends: what its source and its sink did.
-use Rattle.std.specs.Prelude.{◌≡◌, ◌⊎◌, ℕ, Result, Ok, Err}
+use Rattle.std.specs.Prelude.{◌≡◌, ◌⊎◌, ℕ, Result, Ok, Err, IsErr}
 use Rattle.std.specs.declared.io.ErrorKind.{ErrorKind}
 use Rattle.amqp_stream.specs.Sources.{Reaches, Stops}
 use Rattle.amqp_wire.specs.declared.fault.WireFault.{WireFault}
@@ -34,6 +34,10 @@ EndsWrite takes fails from (Err fault) to = IsSinkFault takes fails from fault t
 abbrev pub EndsAnswers : {W T : Type 0} → (W → ℕ → W → Type 0) → (W → ErrorKind → W → Type 0) → W → Result T WireFault → W → Type 0
 EndsAnswers takes fails from (Ok x) to = Reaches (Accepts takes) from to
 EndsAnswers takes fails from (Err fault) to = ((fault ≡ OutOfMemory) × Reaches (Accepts takes) from to) ⊎ IsSinkFault takes fails from fault to
+
+-- the same, if before that an error may end it with nothing written
+abbrev pub EndsLines : {W T : Type 0} → (W → ℕ → W → Type 0) → (W → ErrorKind → W → Type 0) → W → Result T WireFault → W → Type 0
+EndsLines takes fails from result to = (IsErr result × (to ≡ from)) ⊎ EndsAnswers takes fails from result to
 
 -- a run ends as what is read does, or as what is written does
 abbrev pub EndsRun : {R W T : Type 0} → (R → R → Type 0) → (R → ErrorKind → R → Type 0) → (W → ℕ → W → Type 0) → (W → ErrorKind → W → Type 0) → R → W → Result T WireFault → R → W → Type 0

@@ -2,7 +2,7 @@
 
 ghost use Rattle.std.specs.Prelude.{◌<◌, OnOk, OnErr, length};
 ghost use Rattle.std.specs.Io.KnownBytes.{Appends, IsAtEnd};
-ghost use Rattle.amqp_wire.specs.Ends.{EndsAnswers, EndsWrite};
+ghost use Rattle.amqp_wire.specs.Ends.{EndsAnswers, EndsLines, EndsWrite};
 ghost use Rattle.amqp_wire.specs.Lines.{output, output_by, output_within, said_in, AppendsFront, Answers, AnswersFront};
 
 use crate::fault::WireFault;
@@ -21,6 +21,7 @@ pub fn run<R: Read, W: Sink>(alloc: Global, reader: &mut R, writer: &mut W) -> R
     ensures err { OnErr result (AnswersFront output
         (R.remaining reader.old) (W.contents writer.old) (W.contents writer.new)) }
     ensures end { OnOk result (IsAtEnd (R.remaining reader.new)) }
+    ensures ends { EndsLines W.takes W.fails writer.old result writer.new }
 {
     run_in_form(alloc, reader, writer, Form::Whole)
 }
@@ -38,6 +39,7 @@ pub fn run_split<R: Read, W: Sink>(
     ensures err { OnErr result (AnswersFront output
         (R.remaining reader.old) (W.contents writer.old) (W.contents writer.new)) }
     ensures end { OnOk result (IsAtEnd (R.remaining reader.new)) }
+    ensures ends { EndsLines W.takes W.fails writer.old result writer.new }
 {
     run_in_form(alloc, reader, writer, Form::Split(at))
 }
@@ -55,6 +57,7 @@ pub fn run_within<R: Read, W: Sink>(
     ensures err { OnErr result (AnswersFront (output_within limits)
         (R.remaining reader.old) (W.contents writer.old) (W.contents writer.new)) }
     ensures end { OnOk result (IsAtEnd (R.remaining reader.new)) }
+    ensures ends { EndsLines W.takes W.fails writer.old result writer.new }
 {
     run_in_form(alloc, reader, writer, Form::Within(limits))
 }
@@ -71,6 +74,7 @@ fn run_in_form<R: Read, W: Sink>(
     ensures err { OnErr result (AnswersFront (output_by (said_in form))
         (R.remaining reader.old) (W.contents writer.old) (W.contents writer.new)) }
     ensures end { OnOk result (IsAtEnd (R.remaining reader.new)) }
+    ensures ends { EndsLines W.takes W.fails writer.old result writer.new }
 {
     let mut input = Vec::new(alloc);
     reader.read_to_end(&mut input)?;
