@@ -30,7 +30,7 @@ pub ends_write : {R W T : Type 0} (goes : R → R → Type 0) (fails : R → Err
 ends_write {R} {W} {T} goes fails takes rejects a b s t u e r before written fault is =
     subst (λ (q : Result T WireFault). EndsRun goes fails takes rejects a s q b u) (sym is) (inr (before, sink_later takes rejects s t u e written fault))
 
--- answers whose sink fails
+-- results of lines whose sink fails
 pub ends_answers : {W T : Type 0} (takes : W → ℕ → W → Type 0) (rejects : W → ErrorKind → W → Type 0) (s t u : W) (e : WireFault) (r : Result T WireFault)
     → Reaches (Accepts takes) s t → IsSinkFault takes rejects t e u → r ≡ Err e → EndsAnswers takes rejects s r u
 ends_answers {W} {T} takes rejects s t u e r written fault is =
