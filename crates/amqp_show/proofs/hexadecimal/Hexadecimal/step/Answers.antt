@@ -1,4 +1,4 @@
-use Rattle.std.proofs.Common.{rules, ◌≡◌, List, ℕ, Option, Some, None, option_to_list, refl, sym, subst}
+use Rattle.std.proofs.Common.{ℕ, Option, Some, option_to_list, refl, sym, subst}
 use Rattle.std.specs.Io.KnownBytes.{Consumes}
 use Rattle.amqp_show.specs.declared.hexadecimal.Hexadecimal.{Hexadecimal}
 use Rattle.amqp_show.specs.Readings.{left, Yielded}
