@@ -24,7 +24,7 @@ StopsAt form text (c ∷ _) fault = IsFault form text c fault
 abbrev pub TookFront : Spelling → List ℕ → List ℕ → List ℕ → List ℕ → Type 0
 TookFront s whole text rest bytes = (whole ≡ text ++ rest) × (form_of s ≡ form_of_text whole) × Took s text bytes
 
--- by what was taken, and what is left, bytes were yielded of the whole text: none before anything was taken; else those of the front that was; after a fault, those before it
+-- by what was taken, and what is left, bytes were yielded of the complete text: none before anything was taken, otherwise those of the prefix that was; after a fault, those before it
 abbrev pub YieldedBy : Option Fault → Option Spelling → Option (List ℕ) → List ℕ → List ℕ → Type 0
 YieldedBy None None rest whole bytes = (rest ≡ Some whole) × (bytes ≡ [])
 YieldedBy None (Some s) others whole bytes = (text rest : List ℕ) × TookFront s whole text rest bytes × (others ≡ Some rest)
@@ -45,13 +45,13 @@ AnswersNext remaining whole bytes (Ok (Some byte)) new = Yielded remaining new w
 AnswersNext remaining whole bytes (Ok None) new = Yielded remaining new whole bytes × Ends whole bytes
 AnswersNext remaining whole bytes (Err _) new = Yielded remaining new whole bytes
 
--- the same, where a character may complete no byte
+-- the same, if a character may complete no byte
 abbrev pub AnswersStep : {R E : Type 0} → (R → Option (List ℕ)) → List ℕ → List ℕ → Result Step E → Hexadecimal R → Type 0
 AnswersStep remaining whole bytes (Ok (steps.Taken given)) new = Yielded remaining new whole (bytes ++ option_to_list given)
 AnswersStep remaining whole bytes (Ok steps.End) new = Yielded remaining new whole bytes × Ends whole bytes
 AnswersStep remaining whole bytes (Err _) new = Yielded remaining new whole bytes
 
--- the next bytes of the text, and none, if there is room for some, only if the bytes before are all that it spells
+-- the next bytes of the text, and none, if some fit, only if the bytes before are all that it spells
 abbrev pub AnswersRead : {R E : Type 0} → (R → Option (List ℕ)) → List ℕ → List ℕ → Result ℕ E → List ℕ → Hexadecimal R → Type 0
 AnswersRead remaining whole bytes (Ok n) into new = Yielded remaining new whole (bytes ++ take n into) × (n ≡ 0 → 0 < length into → Ends whole bytes)
 AnswersRead remaining whole bytes (Err _) into new = Yielded remaining new whole bytes
