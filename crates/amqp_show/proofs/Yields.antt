@@ -57,7 +57,7 @@ yielded-taken s next a b whole bytes more c small (text, rest, (all, form, took)
       left,
     )
 
--- a character is refused
+-- a character is rejected
 pub yielded-refused : (s : Spelling) (a b : Option (List ℕ)) (whole bytes : List ℕ) (c : ℕ) (fault : Fault) → length whole < 2 ^ 63 → YieldedBy None (Some s) a whole bytes → Consumes a b (c ∷ [])
     → ((text bytes : List ℕ) → length text < 2 ^ 63 → Took s text bytes → IsFault (form_of s) text c fault) → YieldedBy (Some fault) (Some s) b whole bytes
 yielded-refused s a b whole bytes c fault small (text, rest, (all, form, took), is) comes fails =
