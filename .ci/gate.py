@@ -44,8 +44,8 @@ def missing(without):
 def by_rejected(step):
     """How many mutants were rejected, and how many weren't, by the last line and those that are named.
 
-    So far two kinds are named and don't fail: those that only an answer rejects, with no reason, and those of which only another clause than they
-    name fails. Not all crates have been tried since .ci/mutants tells these apart.
+    So far two kinds are named and don't fail: those that only a proof file rejects, with no reason, and those of which only another clause than they
+    name fails. Not all crates have been tried since .ci/mutants distinguishes these.
     """
     text = step.out.read_text(errors="replace").rstrip("\n")
     last = text.split("\n")[-1]

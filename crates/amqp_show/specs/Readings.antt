@@ -20,7 +20,7 @@ abbrev pub StopsAt : Form → List ℕ → List ℕ → Fault → Type 0
 StopsAt form text [] fault = EndsEarly form text fault
 StopsAt form text (c ∷ _) fault = IsFault form text c fault
 
--- of the complete text text, this prefix was taken, and yielded these bytes
+-- of the complete text, this prefix was taken, and yielded these bytes
 abbrev pub TookFront : Spelling → List ℕ → List ℕ → List ℕ → List ℕ → Type 0
 TookFront s whole text rest bytes = (whole ≡ text ++ rest) × (form_of s ≡ form_of_text whole) × Took s text bytes
 
