@@ -1,10 +1,12 @@
-"""The places at which the sources make up that memory ran out, or may ask for more than there is.
+"""The places at which the sources make up that memory ran out, may ask for more than there is, or pass on a call otherwise.
 
 No clause can state that an allocation failed. A body that returns OutOfMemory above a size keeps its contract, so its
 form is what is rejected: OutOfMemory, of whatever error, and AllocError are made by From<AllocError>, which `?` calls,
 or on the right of a match arm with no guard, each alternative of whose pattern names such an error. Failure and
 out_of_memory() are what amqp_parsing calls it. A request that can't succeed makes it up too: whatever asks for memory by a
-number is a line of BY_NUMBER.
+number is a line of BY_NUMBER, whether it is called there or only named.
+
+Nor can a clause state with which error a reader or a writer of std failed: the bodies that call one for a trait of ours are PASSED_ON.
 """
 
 import re
@@ -41,7 +43,13 @@ BY_NUMBER = {
     "buffer.reserve_exact(most.min(buffer.len()).max(BLOCK))?;": "the same",
     "buffer.resize(count + more, 0)?;": "capacity that there is",
 }
-REQUEST = r"\b(?:with_capacity\w*|(?:try_)?reserve\w*|make_room|resize\w*|repeat|from_elem)\s*\(|\bvec!\s*\[[^;\]]*;[^;\]]*;"
+REQUEST = r"""\b(?:with_capacity\w*|(?:try_)?reserve\w*|make_room|resize\w*|repeat|from_elem|repeat_n|new_uninit\w*|allocate\w*|concat|extend_from_within)
+    \s*\(|::(?:with_capacity\w*|(?:try_)?reserve\w*|resize\w*|repeat_n|new_uninit\w*|allocate\w*)\b|\bvec!\s*\[[^;\]]*;[^;\]]*;"""
+# The bodies that pass a call on, by their heads.
+PASSED_ON = {
+    "amqp_stream/src/source.rt": "fn read_some(&mut self, buf: &mut [u8]) -> io::Result<usize> { self.read(buf) } }",
+    "amqp_wire/src/sink.rt": "fn write_some(&mut self, buf: &[u8]) -> io::Result<usize> { self.write(buf) } }",
+}
 SILENT = r"""//[^\n]*|/\*.*?\*/|\bb?r(#*)".*?"\1|"(?:\\.|[^"\\])*"|'(?:\\.[^']*|[^'\\])'"""
 MADE = r"\bAlloc(?:Error|Failed)\b(?!\s*[<>])|\bOutOfMemory\b|\bFailure\s*\(|\bout_of_memory\s*\("
 NAMED = r"\bAllocError\b|::\s*OutOfMemory\b|::\s*Failure\s*\("
@@ -134,7 +142,7 @@ def made_up(text):
         is_made = any(begin <= at < end for begin, end in makers)
         if not (is_known and (is_made or is_pattern(code, at) or is_passed_on(code, at))):
             yield text.count("\n", 0, at) + 1
-    yield from (text.count("\n", 0, it.start()) + 1 for it in re.finditer(REQUEST, code))
+    yield from (text.count("\n", 0, it.start()) + 1 for it in re.finditer(REQUEST, code, re.VERBOSE))
 
 
 def faults():
@@ -152,5 +160,8 @@ def faults():
                 by_number.discard(line)
             else:
                 yield f"crates/{name}:{number}: makes up that memory ran out, or asks for it by a number: {line}"
+    for name, body in PASSED_ON.items():
+        if body not in " ".join((TOP / "crates" / name).read_text().split()):
+            yield f"crates/{name}: a call isn't passed on as it is: {body}"
     yield from (f"crates/{name} has no line to be listed: {line}" for name, line in sorted(listed))
     yield from (f"no source has the line to be listed: {line}" for line in sorted(by_number))

@@ -36,7 +36,7 @@ use std::io::{ErrorKind, Read};
 /// Limits that each value keeps to.
 const WIDE: Limits = Limits {
     frame: u32::MAX,
-    depth: 3,
+    depth: u32::MAX,
 };
 
 /// Makes the calls on what standard input has.
@@ -104,9 +104,11 @@ fn payload_of(bytes: &[u8]) -> &[u8] {
 /// Calls on the canonical encoding of a string or of a byte array.
 fn of_bytes<P: Print>(rt: &P, alloc: Global, bytes: &[u8]) -> io::Result<()> {
     let payload = payload_of(bytes);
-    match read(parse_value(alloc, SliceInput::new(bytes))).map_err(unmade)? {
-        AMQPValue::LongString(s) => of_string(rt, alloc, payload, &s),
-        AMQPValue::ByteArray(a) => of_byte_array(rt, alloc, payload, &a),
+    let value = read(parse_value(alloc, SliceInput::new(bytes))).map_err(unmade)?;
+    tell(rt, "ValueRef::to_owned", owned(alloc, bytes), &value)?;
+    match &value {
+        AMQPValue::LongString(s) => of_string(rt, alloc, payload, s),
+        AMQPValue::ByteArray(a) => of_byte_array(rt, alloc, payload, a),
         _ => Ok(()),
     }
 }
@@ -239,6 +241,7 @@ fn of_array<P: Print>(rt: &P, alloc: Global, bytes: &[u8], a: &FieldArray) -> io
     tell(rt, "FieldArray::clone", a.clone(alloc), a)?;
     tell(rt, "FieldArray::push", pushed(alloc, a), a)?;
     tell(rt, "ArrayRef::to_owned", owned_array(alloc, bytes), a)?;
+    println!(rt; "warnings {:?}", warnings(alloc, bytes, WIDE, 0))?;
     let mut x = WriteContext::from(Vec::new(alloc));
     let done = gen_field_array(a, &mut x);
     tell_bytes(rt, "gen_field_array", written(done, x), payload)
