@@ -1,9 +1,9 @@
 // Preloaded, it fails one allocation: the one whose number is FAIL_ALLOC, of those between the lines
 // `begin` and `end` on standard error, or of all if FAIL_ANYWHERE is set. It fails the call of read on
 // standard input whose number is FAIL_READ, and the call of write on standard output whose number is
-// FAIL_WRITE, with the error FAIL_WITH. If ONE_BYTE is set, no such call moves more than one byte. At the
-// end it writes the numbers of allocations, reads and writes, and of bytes in all those allocations, to the
-// descriptor COUNTS_TO.
+// FAIL_WRITE, with the error FAIL_WITH; if that is 0 the call moves nothing. If ONE_BYTE is set, no such
+// call moves more than one byte. At the end it writes the numbers of allocations, reads and writes, and of
+// bytes in all those allocations, to the descriptor COUNTS_TO.
 #define _GNU_SOURCE
 #include <dlfcn.h>
 #include <errno.h>
@@ -59,13 +59,13 @@ void *aligned_alloc(size_t a, size_t n) { if (alloc_fails(n)) return NULL; REAL(
 ssize_t write(int fd, const void *bytes, size_t n) {
     if (fd == 2 && n == 6 && !memcmp(bytes, "begin\n", n)) inside = 1;
     if (fd == 2 && n == 4 && !memcmp(bytes, "end\n", n)) inside = 0;
-    if (fd == 1 && io_fails(++writes == fail_write)) return -1;
+    if (fd == 1 && io_fails(++writes == fail_write)) return fail_with ? -1 : 0;
     if (fd == 1 && one_byte && n > 1) n = 1;
     REAL(write, fd, bytes, n);
 }
 
 ssize_t read(int fd, void *bytes, size_t n) {
-    if (fd == 0 && io_fails(++reads == fail_read)) return -1;
+    if (fd == 0 && io_fails(++reads == fail_read)) return fail_with ? -1 : 0;
     if (fd == 0 && one_byte && n > 1) n = 1;
     REAL(read, fd, bytes, n);
 }
