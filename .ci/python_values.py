@@ -209,7 +209,7 @@ def check_finding(checks, make):
         tried, found_ones = tried + 1, found_ones + len(wanted)
         wrong += [f"{path} in {raw(value).hex()}: {found}"] if found != wanted else []
     checks.tell(f"{tried} paths", (wrong or not 300 < found_ones < 1200) and f"{len(wrong)}, {found_ones} of something, {wrong[:1]}")
-    wrong = []
+    wrong, repeated = [], 0
     for _ in range(500):
         data = table_of(make, [value_of(make, 1) for _ in range(make.randrange(8))])
         wanted = [*pairs(data[5:])]
@@ -217,10 +217,11 @@ def check_finding(checks, make):
             wrong.append(data.hex())
         for key in {key for key, _ in wanted}:
             same = [it for name, it in wanted if name == key]
+            repeated += len(same) > 1
             for first, it in ((True, same[0]), (False, same[-1])):
                 found = av.entry(data).get(key, first), av.entry(data).find([key], first)
                 wrong += [f"{key} in {data.hex()}"] if {(each.key, each.encoding) for each in found} != {(key, it)} else []
-    checks.tell("equal keys: all in order, the first and the last", wrong and f"{len(wrong)}, as {wrong[:1]}")
+    checks.tell("equal keys: all in order, the first and the last", (wrong or repeated < 400) and f"{repeated}; {len(wrong)}, as {wrong[:1]}")
 
 
 def check_sizes(checks, make):
@@ -228,7 +229,7 @@ def check_sizes(checks, make):
     tables = [random_table(make) for _ in range(500)]
     wrong = [it for it in tables if av.measure(raw(it)) != (len(raw(it)), len([*types_in(it)]), levels(it))]
     wrong += [it for it in tables if av.measure(raw(it)[1:], table=True) != (len(raw(it)) - 1, len([*types_in(it)]), levels(it))]
-    checks.tell("measures", wrong and f"{len(wrong)}, as {wrong[0]}")
+    checks.tell(f"{len(tables)} measures", (wrong or len(tables) < 500) and f"{len(wrong)}, as {wrong[:1]}")
     odd = [odd_table(make) for _ in range(2000)]
     for name, rules in ("RabbitMQ", av.Rules.RABBITMQ), ("read", av.Rules.READ), ("any keys", av.Rules.ANY_KEYS):
         wanted = [first_problem(it, name, 2) for it in odd]
@@ -239,7 +240,8 @@ def check_sizes(checks, make):
         checks.tell(f"problems by the rules {name}", (wrong or lacks) and f"{len(wrong)}, as {wrong[:1]}; kinds {kinds}")
     told = [(av.first_problem(it, rules=av.Rules.READ), error_of(lambda: av.loads(it)), problem_of(it)) for it in odd]
     wrong = [it.hex() for it, (problem, error, with_error) in zip(odd, told) if (problem is None) != (error is None) or error is av.Malformed and with_error != problem]
-    checks.tell("problems are those of what isn't read", wrong and f"{len(wrong)}, as {wrong[:1]}")
+    refused = sum(error is not None for _, error, _ in told)
+    checks.tell("problems are those of what isn't read", (wrong or not 600 < refused < len(told)) and f"{refused} of {len(told)}; {len(wrong)}, as {wrong[:1]}")
 
 
 def check_others(checks):
@@ -280,8 +282,9 @@ def check_others(checks):
     told["a key in Latin-1"] = error_of(lambda: av.loads(latin)) is av.Malformed and inside == ["\udcff", "a"] and av.peek(latin).find([inside[0]]).value is None
     for name, is_well in told.items():
         checks.tell(name, not is_well and "it is otherwise")
-    wrong = [why for data in [*captured(), raw(EVERY_TYPE)] if b"\xf6" not in data if (why := of_one(data))]
-    checks.tell("captured tables", wrong and wrong[0])
+    tables = [it for it in [*captured(), raw(EVERY_TYPE)] if b"\xf6" not in it]
+    wrong = [why for it in tables if (why := of_one(it))]
+    checks.tell(f"{len(tables)} captured tables", (wrong or len(tables) < 22) and f"{wrong[:1]}")
     (block,) = re.findall(r"(?ms)^```python\n(.*?)^```", (TOP / "docs/C.md").read_text())
     of_page = doctest.DocTestRunner().run(doctest.DocTestParser().get_doctest(block, {}, "docs/C.md", None, 0))
     for name, (failed, tried) in {"its head": doctest.testmod(av), "docs/C.md": of_page}.items():
