@@ -12,6 +12,7 @@ import struct
 import sys
 from datetime import datetime, timedelta, timezone
 from decimal import Decimal
+from unittest.mock import Mock
 
 from crates import TOP
 from lib import Checks
@@ -95,6 +96,10 @@ REJECTED = [
     ("\ud800", av.BadText), ({"\ud800": None}, av.BadKey), ({"\udcc3\udca4": None}, av.BadKey), ({"a": 1, b"a": 2}, av.BadKey),
     (av.Encoded(b""), av.More), (av.Encoded(b"z"), av.UnknownTag), (av.Encoded(nested("A", 65, b"")), av.Malformed), (av.Encoded(b"VV"), av.Trailing),
 ]
+
+
+class OwnBits(av.Float):
+    bits = 2**70
 
 
 def error_of(call):
@@ -260,6 +265,8 @@ def check_others(checks):
         "a time": av.Timestamp(1_800_000_000).as_datetime() == datetime(2027, 1, 15, 8, tzinfo=UTC),
         "text": f"{av.ShortInt(-5)} {av.ShortInt(-5)!r} {av.Float(1.5)} {av.Float(1.5)!r}" == "-5 ShortInt(-5) 1.5 Float(1.5)",
         "a Float that is too large": message_of(lambda: av.dumps([av.Float(1e300)])) == ((), "1e+300 isn't a number of 32 bits"),
+        "a Float with bits of its own": av.dumps(OwnBits(1.5)) == av.dumps(av.Float(1.5)),
+        "what only says that it is a float": [error_of(lambda: av.dumps(Mock(spec=it))) for it in (float, av.Float)] == [TypeError] * 2,
         "an integer of 5,000 digits": message_of(lambda: av.dumps(10**5000)) == ((), f"an integer of 16610 bits isn't between {-(2**63)} and {2**63 - 1}"),
         "the path of what can't be written": message_of(lambda: av.dumps({"a": [1, "b\ud800"]}))
         == message_of(lambda: av.dumps_table({"a": [1, "b\ud800"]}))

@@ -32,7 +32,8 @@ What isn't read or can't be written raises an `Error`. Otherwise only mistakes r
                 key, or has an index below 0 or above 2^63 - 1; a memoryview was released
     OSError     `load` finds no library there, or another one (a path that isn't UTF-8 or has a NUL is a ValueError)
 
-`Timestamp.as_datetime` has others, in its docstring. What an argument's own methods raise passes through.
+`Timestamp.as_datetime` has others, in its docstring. What an argument's own methods raise passes through, and a RuntimeError if
+they change a mapping while it is written.
 """
 
 from __future__ import annotations
@@ -421,7 +422,9 @@ def first_problem(data: Bytes, *, rules: Rules = Rules.RABBITMQ, table: bool = F
     """The first thing in a value that the rules don't allow, or that is beyond the limits."""
     found, name = _Problem(), "first_problem_in_table" if table else "first_problem"
     content, length, *limits = _given(data, frame, depth)
-    is_found = _is_ok(_result(name, content, length, Rules(rules), *limits, byref(found)))
+    if not isinstance(rules, int) or rules not in range(len(Rules)):
+        raise ValueError("the rules are those of `Rules`")
+    is_found = _is_ok(_result(name, content, length, int(rules), *limits, byref(found)))
     return Problem(found.offset, ProblemKind(found.kind), found.tag) if is_found else None
 
 class _Room:
@@ -490,9 +493,11 @@ def _fixed(value: Any) -> tuple[int, int, int]:
         number = Timestamp.of(value) if isinstance(value, datetime) else value if isinstance(value, _Integer) else _LongLongInt(value)
         return ord(number.tag), index(number) % 2**64, 0
     if isinstance(value, float):
+        # (what only says that it is one has no such number)
+        number_of = float.__float__(value)
         if isinstance(value, Float):
-            return ord("f"), value.bits, 0
-        return ord("d"), int.from_bytes(struct.pack(">d", value), "big"), 0
+            return ord("f"), value._bits, 0
+        return ord("d"), int.from_bytes(struct.pack(">d", number_of), "big"), 0
     if isinstance(value, Decimal):
         sign, digits, exponent = Decimal.as_tuple(value)
         # (the largest number has ten digits, and zero may have any exponent)
