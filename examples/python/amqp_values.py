@@ -493,7 +493,7 @@ def _fixed(value: Any) -> tuple[int, int, int]:
         number = Timestamp.of(value) if isinstance(value, datetime) else value if isinstance(value, _Integer) else _LongLongInt(value)
         return ord(number.tag), index(number) % 2**64, 0
     if isinstance(value, float):
-        # (what only says that it is one has no such number)
+        # (what isn't one in spite of its `__class__` raises a TypeError)
         number_of = float.__float__(value)
         if isinstance(value, Float):
             return ord("f"), value._bits, 0
