@@ -33,7 +33,7 @@ HEXADECIMAL = tuple(f"crates/amqp_show/{it}" for it in ("src/hexadecimal.rt", "s
 RIGHT = {
     # JSON, and what a terminal shows
     "text": ("crates/amqp_json/", "crates/amqp_c_alloc/", "crates/test_values/src/json_texts.rt", "crates/amqp_show/src/reasons.rt",
-        "crates/amqp_screen/", "crates/test_malformed/src/oracle", "include/amqp_values.h", ".ci/buffers.c", *HEXADECIMAL),
+        "crates/amqp_screen/", "crates/test_oracle/", "include/amqp_values.h", ".ci/buffers.c", *HEXADECIMAL),
     "texts": ("crates/amqp_json/", "crates/amqp_c_alloc/", "crates/amqp_screen/", "crates/test_values/src/json_texts.rt", ".ci/buffers.c"),
     "spells": HEXADECIMAL, "spelled": HEXADECIMAL,
     # the file of this name is about how values are encoded

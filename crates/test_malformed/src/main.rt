@@ -5,15 +5,13 @@
 //! device that writes it failed.
 //!
 //! With three words, what a call is made on, its name, and how deep containers may nest, only
-//! that call is made, on what standard input has. With the word `oracle` each line of standard
-//! input is a call, and what it returns is printed. With another word, what standard input has, the
+//! that call is made, on what standard input has. With one word, what standard input has, the
 //! calls are made that may run out of memory.
 #![tactic(auto)]
 
 mod devices;
 mod large;
 mod nested;
-mod oracle;
 mod rooms;
 mod shown;
 mod wires;
@@ -42,11 +40,6 @@ fn run(rt: &HostRuntime) -> io::Result<()> {
             let call = (kind.as_str(), name.as_str());
             nested::run(rt, rt.alloc(), call, depth, &mut input)
         }
-        (Some(word), None, None) if word.as_str() == "oracle" => oracle::run(
-            rt,
-            rt.alloc(),
-            &mut input,
-        ),
         (Some(kind), None, _) => large::run(rt, rt.alloc(), kind.as_str(), &mut input),
         _ => run_all(rt, rt.alloc(), &mut input),
     }
