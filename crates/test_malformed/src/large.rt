@@ -197,7 +197,7 @@ fn of_string<P: Print>(rt: &P, alloc: Global, payload: &[u8], s: &LongString) ->
     let done = gen_long_string(bytes, &mut x);
     tell_bytes(rt, "gen_long_string", written(done, x), payload)?;
     let mut x = WriteContext::from(Vec::new(alloc));
-    let done = gen_with_len(|y| y.put(bytes), &mut x);
+    let done = gen_counted(bytes, &mut x);
     tell_bytes(rt, "gen_with_len", written(done, x), payload)?;
     tell_bytes(rt, "escape", escaped(alloc, bytes), bytes)?;
     let json = Value::String(String::from_str(alloc, text)?);
@@ -208,6 +208,11 @@ fn of_string<P: Print>(rt: &P, alloc: Global, payload: &[u8], s: &LongString) ->
         made,
         &Some(AMQPValue::LongString(s.clone(alloc)?)),
     )
+}
+
+/// Bytes after their length, which `gen_with_len` fills in.
+fn gen_counted<W: BackToTheBuffer>(bytes: &[u8], x: &mut WriteContext<W>) -> GenResult {
+    gen_with_len(|y| y.put(bytes), x)
 }
 
 /// The bytes of an escaped string.
