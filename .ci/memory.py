@@ -15,7 +15,7 @@ from crates import TOP
 
 # Tests, and programs that provoke such errors.
 LEFT_OUT = set("""
-    test_values test_readers test_large test_alloc_failure test_malformed test_oracle test_support""".split())
+    test_values test_readers test_large test_alloc_failure test_malformed test_oracle test_sizes test_support""".split())
 # The lines that are otherwise, each once in its file, and why.
 LISTED = {
     ("amqp_json/src/text.rt", "Err(e) if e.is_memory() => return Err(JsonError::OutOfMemory),"):

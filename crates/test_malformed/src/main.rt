@@ -5,12 +5,10 @@
 //! device that writes it failed.
 //!
 //! With three words, what a call is made on, its name, and how deep containers may nest, only
-//! that call is made, on what standard input has. With one word, what standard input has, the
-//! calls are made that may run out of memory.
+//! that call is made, on what standard input has.
 #![tactic(auto)]
 
 mod devices;
-mod large;
 mod nested;
 mod rooms;
 mod shown;
@@ -40,7 +38,6 @@ fn run(rt: &HostRuntime) -> io::Result<()> {
             let call = (kind.as_str(), name.as_str());
             nested::run(rt, rt.alloc(), call, depth, &mut input)
         }
-        (Some(kind), None, _) => large::run(rt, rt.alloc(), kind.as_str(), &mut input),
         _ => run_all(rt, rt.alloc(), &mut input),
     }
 }
