@@ -6,11 +6,11 @@ PAGE = TOP / "CONTRIBUTING.md"
 BEGIN, END = "<!-- figure: .ci/docs --write -->\n```text\n", "```\n<!-- end of figure -->"
 # The ways of a value: what goes in, the crates on its way, what comes out, and the function to call.
 WAYS = (
-    ("in", "bytes", ["amqp_parsing"], "AMQPValue", "parse_value"),
-    ("", "reader", ["amqp_stream", "amqp_parsing"], "AMQPValue", "ValueReader::next"),
+    ("in", "bytes", ["amq_protocol_types::parsing"], "AMQPValue", "parse_value"),
+    ("", "reader", ["amq_protocol_types::stream"], "AMQPValue", "ValueReader::next"),
     ("", "bytes", ["amqp_in_place"], "ValueRef", "read_in_place"),
     ("", "JSON", ["amqp_json"], "AMQPValue", "from_json"),
-    ("out", "AMQPValue", ["amqp_generation"], "bytes", "gen_value"),
+    ("out", "AMQPValue", ["amq_protocol_types::generation"], "bytes", "gen_value"),
     ("", "AMQPValue", ["amqp_json"], "JSON", "to_json"),
 )
 
@@ -18,7 +18,7 @@ WAYS = (
 def figure(crates):
     """The ways of a value, then each crate with those that it depends on, without what these depend on themselves."""
     layer = lambda name: 1 + max(map(layer, crates.below[name]), default=0)
-    lines = [f"{way:5}{' -> '.join([given, *names, made]):52}{call}" for way, given, names, made, call in WAYS]
+    lines = [f"{way:5}{' -> '.join([given, *names, made]):55}{call}" for way, given, names, made, call in WAYS]
     tests = (TOP / "crates.txt").read_text().partition("\n# Tests")[2]
     is_test = {name: name.startswith("test_") or f"\n{name}:" in tests for name in crates.below}
     for kind, title in ((False, "product"), (True, "tests")):
@@ -34,9 +34,10 @@ def figure(crates):
 def faults(write=False):
     """Yields what is wrong with the figure in CONTRIBUTING.md, which `write` has written first."""
     text, crates = PAGE.read_text(), Crates()
-    for above, name in (pair for _, _, names, _, _ in WAYS for pair in zip([names[0], *names], names)):
-        if not {above, name} <= {*crates.below} or name not in crates.needed(above):
-            yield f".ci/figure.py: by crates.txt {above} doesn't reach {name}"
+    for name in (name for _, _, names, _, _ in WAYS for name in names):
+        crate, _, module = name.partition("::")
+        if crate not in crates.below or module and not (crates.folder(crate) / f"src/{module}.rt").exists():
+            yield f".ci/figure.py: there is no {name}"
     head, begin, rest = text.partition(BEGIN)
     old, end, tail = rest.partition(END)
     if write and end:

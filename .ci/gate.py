@@ -43,12 +43,12 @@ def missing(without):
 
 
 def by_proved(step):
-    """Judges `rt ci` by its last line; with the tests of test_large, which .ci/test counts and doesn't run, none may be missing."""
+    """Judges `rt ci` by its last line; with the tests of test_sizes, which .ci/test counts and doesn't run, none may be missing."""
     passed, failed, last = by_last_line(step)
     ran = set(re.findall(r"(?m)^test (?:\w+::)*(\w+) \.\.\. ok$", step.out.read_text(errors="replace")))
-    sources = "".join(it.read_text() for it in TOP.glob("crates/test_large/src/**/*.rt"))
-    count, wants = len(ran & set(re.findall(r"#\[test\]\n(?:pub )?fn (\w+)", sources))), least.least("test", "test_large")
-    return (passed, failed, last) if count >= wants else (passed, failed + 1, f"{last}, and {count} tests of test_large, where {wants} are the least")
+    sources = "".join(it.read_text() for it in TOP.glob("crates/test_sizes/src/**/*.rt"))
+    count, wants = len(ran & set(re.findall(r"#\[test\]\n(?:pub )?fn (\w+)", sources))), least.least("test", "test_sizes")
+    return (passed, failed, last) if count >= wants else (passed, failed + 1, f"{last}, and {count} tests of test_sizes, where {wants} are the least")
 
 
 def by_rejected(step):

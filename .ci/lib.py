@@ -17,8 +17,8 @@ from pathlib import Path
 
 from crates import TOP, Crates, kit, said_by
 
-# The crates that have nothing but tests: .ci/test runs them, but for the last, and .ci/whole proves them too.
-TEST_CRATES = ("test_values", "test_readers", "test_large", "test_oracle")
+# The crates that have tests, and a program that only replays: .ci/test runs them, and .ci/whole proves them too.
+TEST_CRATES = ("test_codec",)
 # The crates of the calls for C: those that don't allocate, and those that do.
 CALLS_FOR_C = ("amqp_c", "amqp_c_alloc")
 # What these are compiled for: a target, and the processor, of each target the one whose code every other runs.

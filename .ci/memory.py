@@ -3,7 +3,7 @@
 No clause can state that an allocation failed. A body that returns OutOfMemory above a size keeps its contract, so its
 form is what is rejected: OutOfMemory, of whatever error, and AllocError are made by From<AllocError>, which `?` calls,
 or on the right of a match arm with no guard, each alternative of whose pattern names such an error. Failure and
-out_of_memory() are what amqp_parsing calls it. A request that can't succeed makes it up too: whatever asks for memory by a
+out_of_memory() are what amq_protocol_types calls it. A request that can't succeed makes it up too: whatever asks for memory by a
 number is a line of BY_NUMBER, whether it is called there or only named.
 
 Nor can a clause state with which error a reader or a writer of std failed: the bodies that call one for a trait of ours are PASSED_ON.
@@ -15,7 +15,7 @@ from crates import TOP
 
 # Tests, and programs that provoke such errors.
 LEFT_OUT = set("""
-    test_values test_readers test_large test_alloc_failure test_malformed test_oracle test_sizes test_support""".split())
+    test_codec test_alloc_failure test_malformed test_sizes test_support""".split())
 # The lines that are otherwise, each once in its file, and why.
 LISTED = {
     ("amqp_json/src/text.rt", "Err(e) if e.is_memory() => return Err(JsonError::OutOfMemory),"):
@@ -47,7 +47,7 @@ REQUEST = r"""\b(?:with_capacity\w*|(?:try_)?reserve\w*|make_room|resize\w*|repe
     \s*\(|::(?:with_capacity\w*|(?:try_)?reserve\w*|resize\w*|repeat_n|new_uninit\w*|allocate\w*)\b|\bvec!\s*\[[^;\]]*;[^;\]]*;"""
 # The bodies that pass a call on, by their heads.
 PASSED_ON = {
-    "amqp_stream/src/source.rt": "fn read_some(&mut self, buf: &mut [u8]) -> io::Result<usize> { self.read(buf) } }",
+    "amq_protocol_types/src/stream/source.rt": "fn read_some(&mut self, buf: &mut [u8]) -> io::Result<usize> { self.read(buf) } }",
     "amqp_wire/src/sink.rt": "fn write_some(&mut self, buf: &[u8]) -> io::Result<usize> { self.write(buf) } }",
 }
 SILENT = r"""//[^\n]*|/\*.*?\*/|\bb?r(#*)".*?"\1|"(?:\\.|[^"\\])*"|'(?:\\.[^']*|[^'\\])'"""

@@ -32,12 +32,12 @@ HEXADECIMAL = tuple(f"crates/amqp_show/{it}" for it in ("src/hexadecimal.rt", "s
 # The files, by how their paths begin, in whose comments a word is right.
 RIGHT = {
     # JSON, and what a terminal shows
-    "text": ("crates/amqp_json/", "crates/amqp_c_alloc/", "crates/test_values/src/json_texts.rt", "crates/amqp_show/src/reasons.rt",
-        "crates/amqp_screen/", "crates/test_oracle/", "include/amqp_values.h", ".ci/buffers.c", *HEXADECIMAL),
-    "texts": ("crates/amqp_json/", "crates/amqp_c_alloc/", "crates/amqp_screen/", "crates/test_values/src/json_texts.rt", ".ci/buffers.c"),
+    "text": ("crates/amqp_json/", "crates/amqp_c_alloc/", "crates/test_codec/src/json_texts.rt", "crates/amqp_show/src/reasons.rt",
+        "crates/amqp_screen/", "crates/test_codec/src/oracle", "include/amqp_values.h", ".ci/buffers.c", *HEXADECIMAL),
+    "texts": ("crates/amqp_json/", "crates/amqp_c_alloc/", "crates/amqp_screen/", "crates/test_codec/src/json_texts.rt", ".ci/buffers.c"),
     "spells": HEXADECIMAL, "spelled": HEXADECIMAL,
     # the file of this name is about how values are encoded
-    "Spelling": ("crates/amqp_grammar/proofs/Spelling.antt",),
+    "Spelling": ("crates/amqp_value_core/proofs/Spelling.antt",),
 }  # fmt: skip
 # A change here has every mutant tried again.
 LEFT_OUT = {".ci/mutants", ".ci/crates.py"}

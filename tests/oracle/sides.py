@@ -12,7 +12,7 @@ from crates import TOP  # noqa: E402
 
 ANSWERS, DEPARTURES = HERE / "answers.gz", HERE / "departures"
 # The programs of this library, by whether the request is of amqp_wire, and their words.
-PROGRAMS = {False: ("test_oracle", []), True: ("amqp_wire", [])}
+PROGRAMS = {False: ("test_codec", []), True: ("amqp_wire", [])}
 WIRE = "wire "
 
 

@@ -9,8 +9,8 @@ use Rattle.std.proofs.lemmas.Slice.Zip.{length-zip}
 use Rattle.std.specs.Int.{bit_at}
 use Rattle.std.proofs.lemmas.Bool.{cases_lt}
 use Rattle.std.proofs.lemmas.List.{take_more, at_drop_more, map-append, length-map, length-take-le, nil_from_length, take-append-drop, take_at, drop_at, drop-drop, get_or-drop, get_or_append_left, get_or-append-add}
-use Rattle.amqp_grammar.specs.Maps.{same_bytes}
-use Rattle.amqp_flags.specs.Flags.{Flag, listed, names_of, values_of, flag_named, bytes_for, number_of, packed, pack, low_bits, bits, unpack, AreFlagsReadBack}
+use Rattle.amqp_value_core.specs.Maps.{same_bytes}
+use Rattle.amq_protocol_types.specs.flags.Flags.{Flag, listed, names_of, values_of, flag_named, bytes_for, number_of, packed, pack, low_bits, bits, unpack, AreFlagsReadBack}
 
 -- the next flag decides, or the flags after it do
 named_more : (name : List ℕ) (fs : List (String Global × Bool)) (i : ℕ) (f : String Global × Bool) → i < length fs → f ≡ get_or fs i f → flag_named name (listed (drop i fs)) ≡ (if same_bytes (string_bytes f.0) name then Some f.1 else flag_named name (listed (drop (i + 1) fs)))

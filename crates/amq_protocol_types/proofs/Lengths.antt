@@ -6,14 +6,14 @@ use Rattle.std.specs.Int.{w32, to_be_bytes}
 use Rattle.std.specs.Io.KnownBytes.{Appends}
 use Rattle.std.proofs.KnownBytes.{Appends-trans}
 use Rattle.std.proofs.lemmas.List.{drop-drop, append-nil}
-use Rattle.amqp_grammar.specs.Grammar.{long_field}
-use Rattle.amqp_generation.specs.declared.error.GenError.{GenError}
-use Rattle.amqp_generation.specs.Outputs.{OutputState, Writes}
-use Rattle.amqp_generation.specs.BufferOutput.{IsWhole, Truncates, PatchesLength, filled}
-use Rattle.amqp_generation.specs.Lengths.{OnlyAppends, Reserved, AppendsWithLength, RefusesWithLength}
-use Rattle.amqp_generation.specs.Contexts.{start_of, state_of}
-use Rattle.amqp_generation.specs.declared.context.WriteContext.{WriteContext}
-use Rattle.amqp_generation.proofs.Rooms.{told_back, front_overwritten}
+use Rattle.amqp_value_core.specs.Grammar.{long_field}
+use Rattle.amq_protocol_types.specs.declared.generation.error.GenError.{GenError}
+use Rattle.amq_protocol_types.specs.generation.Outputs.{OutputState, Writes}
+use Rattle.amq_protocol_types.specs.generation.BufferOutput.{IsWhole, Truncates, PatchesLength, filled}
+use Rattle.amq_protocol_types.specs.generation.Lengths.{OnlyAppends, Reserved, AppendsWithLength, RefusesWithLength}
+use Rattle.amq_protocol_types.specs.generation.Contexts.{start_of, state_of}
+use Rattle.amq_protocol_types.specs.declared.generation.context.WriteContext.{WriteContext}
+use Rattle.amq_protocol_types.proofs.lemmas.generation.Rooms.{told_back, front_overwritten}
 
 -- the position counts what was appended
 pub counted : (a b : Option (List ℕ)) (n m : ℕ) (xs : List ℕ) → IsSome a → IfSome a (λ put. length put ≡ n) → IsSome b → IfSome b (λ put. length put ≡ m) → Appends a b xs → m ≡ n + length xs

@@ -1,0 +1,4 @@
+mod lemmas
+pub mod FlagBits
+pub mod ParsingLaws
+pub mod Lengths

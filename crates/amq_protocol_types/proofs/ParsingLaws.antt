@@ -2,21 +2,21 @@
 
 -- what asks for more bytes: which, how many its header counts at most, and that nothing is left
 -- after it
-pub use Rattle.amqp_parsing.proofs.Waits.{more_wanted, wanted_more, wanted_within, waits_more, nothing_behind, kept_within}
+pub use Rattle.amq_protocol_types.proofs.lemmas.parsing.Waits.{more_wanted, wanted_more, wanted_within, waits_more, nothing_behind, kept_within}
 -- a value within a depth has at most as many bytes as its header counts
-pub use Rattle.amqp_parsing.proofs.Again.{wire_extent}
+pub use Rattle.amq_protocol_types.proofs.lemmas.parsing.Again.{wire_extent}
 -- when the bytes of a value are all there
-pub use Rattle.amqp_parsing.proofs.Whole.{found_all, failed_all}
+pub use Rattle.amq_protocol_types.proofs.lemmas.parsing.Whole.{found_all, failed_all}
 -- what is rejected stays rejected, whatever follows
-pub use Rattle.amqp_parsing.proofs.Appends.{refused_append}
+pub use Rattle.amq_protocol_types.proofs.lemmas.parsing.Appends.{refused_append}
 -- what is ASCII is UTF-8
-pub use Rattle.amqp_parsing.proofs.Copies.{ascii_is_utf8}
+pub use Rattle.amq_protocol_types.proofs.lemmas.parsing.Copies.{ascii_is_utf8}
 -- what an error of one reading means for another
-pub use Rattle.amqp_parsing.proofs.Refused.{Refuses-weaker}
+pub use Rattle.amq_protocol_types.proofs.lemmas.parsing.Refused.{Refuses-weaker}
 -- payloads: of types of fixed width, and of a container once its body is read
-pub use Rattle.amqp_parsing.proofs.Payloads.{unsigned_outcome, void_found}
-pub use Rattle.amqp_parsing.proofs.Frames.{long_found, octets_found, array_found, array_refused, array_too_deep, table_found, table_refused, table_too_deep}
-pub use Rattle.amqp_parsing.proofs.Plain.{IsPlain as IsPlainPayload, plain_found}
+pub use Rattle.amq_protocol_types.proofs.lemmas.parsing.Payloads.{unsigned_outcome, void_found}
+pub use Rattle.amq_protocol_types.proofs.lemmas.parsing.Frames.{long_found, octets_found, array_found, array_refused, array_too_deep, table_found, table_refused, table_too_deep}
+pub use Rattle.amq_protocol_types.proofs.lemmas.parsing.Plain.{IsPlain as IsPlainPayload, plain_found}
 -- the bodies of containers, a value or a pair at a time
-pub use Rattle.amqp_parsing.proofs.Bodies.{Goes, Goes-step, Goes-end, Goes-refused, rest_shorter}
-pub use Rattle.amqp_parsing.proofs.TableBodies.{Walks, Walks-start, Walks-step, Walks-end, Walks-bad_key, Walks-bad_value, key_shorter}
+pub use Rattle.amq_protocol_types.proofs.lemmas.parsing.Bodies.{Goes, Goes-step, Goes-end, Goes-refused, rest_shorter}
+pub use Rattle.amq_protocol_types.proofs.lemmas.parsing.TableBodies.{Walks, Walks-start, Walks-step, Walks-end, Walks-bad_key, Walks-bad_value, key_shorter}

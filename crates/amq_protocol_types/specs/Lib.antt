@@ -1,0 +1,4 @@
+pub mod flags
+pub mod parsing
+pub mod generation
+pub mod stream

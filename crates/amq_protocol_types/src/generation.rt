@@ -5,10 +5,29 @@
 //! position and the bytes before it are as before the call. None of them allocates, except that a
 //! `Vec` grows.
 
-pub use amqp_generation::{
-    BackToTheBuffer, GenError, GenResult, IoOutput, Output, SliceOutput, WriteContext, gen_boolean,
-    gen_byte_array, gen_decimal_value, gen_double, gen_field_array, gen_field_table, gen_flags,
-    gen_float, gen_id, gen_long_int, gen_long_long_int, gen_long_long_uint, gen_long_string,
-    gen_long_uint, gen_raw_value, gen_short_int, gen_short_short_int, gen_short_short_uint,
-    gen_short_string, gen_short_uint, gen_timestamp, gen_type, gen_value, gen_with_len,
+mod context;
+mod device;
+mod error;
+mod flags;
+mod output;
+mod scalars;
+mod slice;
+mod strings;
+mod values;
+mod vector;
+mod with_len;
+
+pub use context::WriteContext;
+pub use device::IoOutput;
+pub use error::{GenError, GenResult};
+pub use flags::gen_flags;
+pub use output::{BackToTheBuffer, Output};
+pub use scalars::{
+    gen_boolean, gen_decimal_value, gen_double, gen_float, gen_id, gen_long_int, gen_long_long_int,
+    gen_long_long_uint, gen_long_uint, gen_short_int, gen_short_short_int, gen_short_short_uint,
+    gen_short_uint, gen_timestamp, gen_type,
 };
+pub use slice::SliceOutput;
+pub use strings::{gen_byte_array, gen_long_string, gen_short_string};
+pub use values::{gen_field_array, gen_field_table, gen_raw_value, gen_value};
+pub use with_len::gen_with_len;

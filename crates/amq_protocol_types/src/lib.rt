@@ -8,8 +8,6 @@
 //! |---|---|
 //! | [`parsing`] | owned values from bytes; incomplete input is distinguished from malformed |
 //! | [`stream`] | the same from untrusted peers: limits on length and nesting; readers |
-//! | [`in_place`] | borrowed views with the same limits; reading and look-ups don't allocate |
-//! | [`rabbitmq`] | what RabbitMQ closes the connection for, before it is sent |
 //! | [`generation`] | bytes from values, always in the canonical encoding |
 //! | [`flags`] | named booleans packed eight to a byte, as in method arguments |
 //!
@@ -34,16 +32,14 @@
 //!
 //! Calls that may allocate take the allocator first, and return an error if an allocation fails.
 //! `parse_value` recurses as deep as its input nests: on bytes from untrusted peers use
-//! [`stream::parse_value_within`], [`stream::ValueReader`] or [`in_place::read_in_place`].
+//! [`stream::parse_value_within`], [`stream::ValueReader`] or `amqp_in_place::read_in_place`.
 //!
 //! `CALLING.md` has the public contracts and a proved caller, `crates/examples` complete programs.
 #![tactic(auto)]
 
 pub mod flags;
 pub mod generation;
-pub mod in_place;
 pub mod parsing;
-pub mod rabbitmq;
 pub mod stream;
 
 pub use amqp_value_core::types::{

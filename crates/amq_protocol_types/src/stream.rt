@@ -3,7 +3,16 @@
 //! without its type tag ([`parse_field_array_within`], [`parse_field_table_within`]), or one value
 //! after another from a reader ([`ValueReader`], or [`Values`] if each call is passed the reader).
 
-pub use amqp_parsing::{
+mod error;
+mod pending;
+mod reader;
+mod source;
+mod values;
+
+pub use crate::parsing::{
     Limits, parse_field_array_within, parse_field_table_within, parse_value_within,
 };
-pub use amqp_stream::{Source, StreamError, ValueReader, Values};
+pub use error::StreamError;
+pub use reader::ValueReader;
+pub use source::Source;
+pub use values::Values;

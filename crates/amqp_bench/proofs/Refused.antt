@@ -1,10 +1,10 @@
 -- Why reading within limits returns no value.
 use Rattle.std.proofs.Common.{◌≡◌, ◌≤◌, ℕ, List, [], length, inl, inr, refl, sym, ap, subst, arith, length-append}
-use Rattle.amqp_parsing.specs.declared.errors.Err.TheVariants.{Error}
-use Rattle.amqp_parsing.specs.declared.errors.ErrorKind.{ErrorKind}
-use Rattle.amqp_parsing.specs.declared.errors.ErrorKind.TheVariants.{MapOpt, MapRes, Eof, OutOfMemory, TooLarge}
-use Rattle.amqp_parsing.specs.declared.limits.Limits.{Limits}
-use Rattle.amqp_parsing.specs.Limits.{RefusesWithin}
+use Rattle.amq_protocol_types.specs.declared.parsing.errors.Err.TheVariants.{Error}
+use Rattle.amq_protocol_types.specs.declared.parsing.errors.ErrorKind.{ErrorKind}
+use Rattle.amq_protocol_types.specs.declared.parsing.errors.ErrorKind.TheVariants.{MapOpt, MapRes, Eof, OutOfMemory, TooLarge}
+use Rattle.amq_protocol_types.specs.declared.parsing.limits.Limits.{Limits}
+use Rattle.amq_protocol_types.specs.parsing.Limits.{RefusesWithin}
 use Rattle.amqp_bench.specs.declared.fault.Fault.TheVariants.{Incomplete, Refused}
 use Rattle.amqp_in_place.specs.Canonicals.{IsCanonicalLen}
 use Rattle.amqp_bench.specs.Calls.{widest, IsFaultWithin}

@@ -1,7 +1,7 @@
 -- What was written of a value that was read.
 use Rattle.std.proofs.Common.{◌≡◌, ◌<◌, ◌≤◌, ℕ, List, length, Result, Ok, Err, MatchResult, IfOk, IfErr, subst, sym}
-use Rattle.amqp_grammar.specs.Values.{Tree}
-use Rattle.amqp_grammar.specs.Texts.{text}
+use Rattle.amqp_value_core.specs.Values.{Tree}
+use Rattle.amqp_value_core.specs.Texts.{text}
 use Rattle.amqp_bench.specs.declared.fault.Fault.{Fault}
 use Rattle.amqp_bench.specs.Calls.{IsFault, IsTooSmall, IsRead, IsWritten, HasNoRoom}
 

@@ -1,12 +1,12 @@
 -- What the calls from C return: a number of bytes, or a negative number.
 use Rattle.std.specs.Prelude.{ℕ, ◌≡◌, ◌+◌, ◌<◌, ◌≤◌, ◌⊎◌, ℤ, pos, negsuc, Bool, false, if◌then◌else◌, List, length, Result, Ok, Err, MatchResult}
-use Rattle.amqp_grammar.specs.Values.{Tree, table}
-use Rattle.amqp_grammar.specs.Maps.{has_key}
-use Rattle.amqp_grammar.specs.Outcomes.{Outcome, Heavy, found, more, unknown, malformed}
-use Rattle.amqp_grammar.specs.Texts.{text}
-use Rattle.amqp_parsing.specs.declared.limits.Limits.{Limits}
-use Rattle.amqp_parsing.specs.Headers.{extent}
-use Rattle.amqp_parsing.specs.Limits.{Within}
+use Rattle.amqp_value_core.specs.Values.{Tree, table}
+use Rattle.amqp_value_core.specs.Maps.{has_key}
+use Rattle.amqp_value_core.specs.Outcomes.{Outcome, Heavy, found, more, unknown, malformed}
+use Rattle.amqp_value_core.specs.Texts.{text}
+use Rattle.amq_protocol_types.specs.declared.parsing.limits.Limits.{Limits}
+use Rattle.amq_protocol_types.specs.parsing.Headers.{extent}
+use Rattle.amq_protocol_types.specs.parsing.Limits.{Within}
 use Rattle.amqp_in_place.specs.Canonicals.{IsCanonicalLen}
 use Rattle.amqp_bench.specs.declared.fault.Fault.{Fault}
 use Rattle.amqp_bench.specs.declared.fault.Fault.TheVariants.{Incomplete, Refused, OutOfMemory, TooSmall, Unread}

@@ -1,18 +1,18 @@
 //! Reading a value from bytes, and writing it to bytes.
 
 ghost use Rattle.std.specs.Prelude.{◌≡◌, ◌<◌, ◌≤◌, length, MatchResult, IfOk, IfErr};
-ghost use Rattle.amqp_grammar.specs.Texts.{text, Fits};
+ghost use Rattle.amqp_value_core.specs.Texts.{text, Fits};
 ghost use Rattle.amqp_value_core.specs.View.{view};
 ghost use Rattle.amqp_bench.specs.Calls.{IsFault, IsTooSmall, IsRead, IsTaken, IsLookedUp, IsWritten, HasNoRoom, is_keyed};
-ghost use Rattle.amqp_grammar.specs.Values.{Tree};
+ghost use Rattle.amqp_value_core.specs.Values.{Tree};
 ghost use Rattle.amqp_in_place.specs.Refs.{Denotes};
 
 use crate::fault::Fault;
 use amq_protocol_types::AMQPValue;
 use amq_protocol_types::generation::{SliceOutput, WriteContext, gen_value};
-use amq_protocol_types::in_place::{ValueRef, read_in_place_unlimited};
 use amq_protocol_types::parsing::traits::ParsableInput;
 use amq_protocol_types::parsing::{Err, SliceInput, parse_value};
+use amqp_in_place::{ValueRef, read_in_place_unlimited};
 use std::alloc::Global;
 
 /// Reads a value to a separate tree, drops it, and returns how many bytes it took.

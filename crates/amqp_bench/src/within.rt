@@ -7,10 +7,10 @@ ghost use Rattle.amqp_in_place.specs.Canonicals.{IsCanonicalLen};
 use crate::fault::Fault;
 use crate::pieces::Pieces;
 use amq_protocol_types::AMQPValue;
-use amq_protocol_types::in_place::canonical_len;
 use amq_protocol_types::parsing::traits::ParsableInput;
 use amq_protocol_types::parsing::{Err, SliceInput};
 use amq_protocol_types::stream::{Limits, StreamError, ValueReader, parse_value_within};
+use amqp_in_place::canonical_len;
 use std::alloc::Global;
 
 const WIDEST: Limits = Limits {

@@ -6,12 +6,12 @@ use mir.Val.{bits}
 use Rattle.std.specs.Result.{OkIff, result_ok}
 use Rattle.std.proofs.Math.Facts.{Fits-of_z}
 use Rattle.std.proofs.lemmas.Int.{to_z-of_z, of_z-to_z}
-use Rattle.amqp_types.specs.declared.amqp_type.AMQPType.{AMQPType}
-use Rattle.amqp_types.specs.Ids.{id_of}
-use Rattle.amqp_grammar.specs.Layouts.{spelled}
-use Rattle.amqp_grammar.specs.InMemory.{IsNumber}
-use Rattle.amqp_grammar.specs.Texts.{text}
-use Rattle.amqp_grammar.specs.Values.{Scalar, number, decimal, scalar}
+use Rattle.amqp_value_core.specs.declared.types.amqp_type.AMQPType.{AMQPType}
+use Rattle.amqp_value_core.specs.Ids.{id_of}
+use Rattle.amqp_value_core.specs.Layouts.{spelled}
+use Rattle.amqp_value_core.specs.InMemory.{IsNumber}
+use Rattle.amqp_value_core.specs.Texts.{text}
+use Rattle.amqp_value_core.specs.Values.{Scalar, number, decimal, scalar}
 use Rattle.amqp_c_common.specs.Scalars.{widened}
 use Rattle.amqp_c.specs.BuiltEntries.{TellsOf}
 

@@ -4,12 +4,12 @@ use Rattle.std.proofs.lemmas.List.{take_at, drop_at, drop-drop, take-take, nil_f
 use Rattle.std.specs.Option.{option_or}
 use Rattle.std.specs.Result.{IfErr}
 use Rattle.std.specs.Cmp.Lexicographic.{bytes_decides}
-use Rattle.amqp_grammar.specs.Values.{Tree, Entries}
-use Rattle.amqp_grammar.specs.Maps.{same_bytes, last_at, value_at}
-use Rattle.amqp_grammar.specs.Grammar.{short_field, Wire, TableBody, no_pairs, pair}
-use Rattle.amqp_grammar.proofs.GrammarLaws.{last_stays}
-use Rattle.amqp_parsing.specs.Headers.{extent}
-use Rattle.amqp_parsing.proofs.ParsingLaws.{wire_extent}
+use Rattle.amqp_value_core.specs.Values.{Tree, Entries}
+use Rattle.amqp_value_core.specs.Maps.{same_bytes, last_at, value_at}
+use Rattle.amqp_value_core.specs.Grammar.{short_field, Wire, TableBody, no_pairs, pair}
+use Rattle.amqp_value_core.proofs.GrammarLaws.{last_stays}
+use Rattle.amq_protocol_types.specs.parsing.Headers.{extent}
+use Rattle.amq_protocol_types.proofs.ParsingLaws.{wire_extent}
 use Rattle.amqp_in_place.specs.Bodies.{HasEntries}
 use Rattle.amqp_c.specs.declared.cursor.Cursor.{Cursor}
 use Rattle.amqp_c.specs.declared.entry.Entry.{Entry}

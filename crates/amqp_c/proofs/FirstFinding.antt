@@ -3,10 +3,10 @@ use Rattle.std.proofs.Common.{◌≡◌, ◌<◌, ℕ, IfOk, IfSome, Bool, true,
 use Rattle.std.proofs.lemmas.List.{nil_from_length}
 use Rattle.std.specs.Result.{IfErr}
 use Rattle.std.specs.Cmp.Lexicographic.{bytes_decides}
-use Rattle.amqp_grammar.specs.Values.{Entries}
-use Rattle.amqp_grammar.specs.Maps.{same_bytes, value_at}
-use Rattle.amqp_grammar.specs.Grammar.{short_field, TableBody, no_pairs, pair}
-use Rattle.amqp_parsing.specs.Headers.{extent}
+use Rattle.amqp_value_core.specs.Values.{Entries}
+use Rattle.amqp_value_core.specs.Maps.{same_bytes, value_at}
+use Rattle.amqp_value_core.specs.Grammar.{short_field, TableBody, no_pairs, pair}
+use Rattle.amq_protocol_types.specs.parsing.Headers.{extent}
 use Rattle.amqp_c.specs.declared.cursor.Cursor.{Cursor}
 use Rattle.amqp_c.specs.declared.entry.Entry.{Entry}
 use Rattle.amqp_c_common.specs.declared.fault.Fault.{Fault}

@@ -3,33 +3,33 @@ use Rattle.std.proofs.Common.{◌≡◌, ◌+◌, ◌-◌, ◌<◌, ◌≤◌, �
 use Rattle.std.specs.Int.{w32}
 use borrow.Author.Tests.{ltb-true}
 use Rattle.std.proofs.lemmas.List.{take_at, length-take-le, take-append-drop}
-use Rattle.amqp_types.specs.declared.amqp_type.AMQPType.{AMQPType}
-use Rattle.amqp_types.specs.declared.amqp_type.AMQPType.TheVariants as amqp
-use Rattle.amqp_types.specs.Ids.{kind, id_of}
-use Rattle.amqp_types.specs.Names.{read_as}
-use Rattle.amqp_grammar.specs.Values.{Tree, scalar, short, long, octets, array, table, no_entries, insert_all, scalar_type, Scalar, type_of}
-use Rattle.amqp_grammar.specs.Layouts.{Layout, fixed}
-use Rattle.amqp_grammar.specs.Grammar.{long_field, Wire, wire, Raw, raw_fixed, raw_short, raw_long, raw_octets, raw_array, raw_table, ArrayBody}
-use Rattle.amqp_grammar.specs.Outcomes.{Reading, found, more, unknown, malformed, lack, lack_of, frame_lack, fields_lack, length_field, NeedsMoreOr, FrontBy, Outcome}
-use Rattle.amqp_grammar.specs.Payloads.{RawFront, RawOutcome}
-use Rattle.amqp_grammar.proofs.GrammarLaws.{found_front, one_outcome, one_raw_reading, raw_to_value, value_to_raw, array_body, table_body}
-use Rattle.amqp_parsing.specs.declared.errors.Err.TheVariants.{Incomplete, Error, Failure}
-use Rattle.amqp_parsing.specs.declared.errors.Needed.TheVariants.{Unknown, Size}
-use Rattle.amqp_parsing.specs.declared.errors.ErrorKind.TheVariants as kind
-use Rattle.amqp_parsing.specs.Refusals.{Refusal}
-use Rattle.amqp_parsing.specs.PayloadResults.{IsType}
-use Rattle.amqp_parsing.specs.Bodies.{IsLengthPrefixed, IsCutLengthPrefixed}
-use Rattle.amqp_parsing.specs.ParseResults.{Refuses}
-use Rattle.amqp_parsing.specs.Headers.{extent_of, extent_at, extent, wanted}
-use Rattle.amqp_parsing.proofs.ParsingLaws.{wire_extent, wanted_more, wanted_within}
+use Rattle.amqp_value_core.specs.declared.types.amqp_type.AMQPType.{AMQPType}
+use Rattle.amqp_value_core.specs.declared.types.amqp_type.AMQPType.TheVariants as amqp
+use Rattle.amqp_value_core.specs.Ids.{kind, id_of}
+use Rattle.amqp_value_core.specs.Names.{read_as}
+use Rattle.amqp_value_core.specs.Values.{Tree, scalar, short, long, octets, array, table, no_entries, insert_all, scalar_type, Scalar, type_of}
+use Rattle.amqp_value_core.specs.Layouts.{Layout, fixed}
+use Rattle.amqp_value_core.specs.Grammar.{long_field, Wire, wire, Raw, raw_fixed, raw_short, raw_long, raw_octets, raw_array, raw_table, ArrayBody}
+use Rattle.amqp_value_core.specs.Outcomes.{Reading, found, more, unknown, malformed, lack, lack_of, frame_lack, fields_lack, length_field, NeedsMoreOr, FrontBy, Outcome}
+use Rattle.amqp_value_core.specs.Payloads.{RawFront, RawOutcome}
+use Rattle.amqp_value_core.proofs.GrammarLaws.{found_front, one_outcome, one_raw_reading, raw_to_value, value_to_raw, array_body, table_body}
+use Rattle.amq_protocol_types.specs.declared.parsing.errors.Err.TheVariants.{Incomplete, Error, Failure}
+use Rattle.amq_protocol_types.specs.declared.parsing.errors.Needed.TheVariants.{Unknown, Size}
+use Rattle.amq_protocol_types.specs.declared.parsing.errors.ErrorKind.TheVariants as kind
+use Rattle.amq_protocol_types.specs.parsing.Refusals.{Refusal}
+use Rattle.amq_protocol_types.specs.parsing.PayloadResults.{IsType}
+use Rattle.amq_protocol_types.specs.parsing.Bodies.{IsLengthPrefixed, IsCutLengthPrefixed}
+use Rattle.amq_protocol_types.specs.parsing.ParseResults.{Refuses}
+use Rattle.amq_protocol_types.specs.parsing.Headers.{extent_of, extent_at, extent, wanted}
+use Rattle.amq_protocol_types.proofs.ParsingLaws.{wire_extent, wanted_more, wanted_within}
 use Rattle.amqp_in_place.specs.Bodies.{HasEntries}
 use Rattle.amqp_c.specs.declared.entry.Entry.{Entry}
 use Rattle.amqp_c_common.specs.declared.fault.Fault.{Fault}
 use Rattle.amqp_c_common.specs.declared.fault.Fault.TheVariants.{More, UnknownTag, Malformed, TooLarge, Invalid, OutOfMemory, NoRoom, NotJson, NoEncoding, BadKey, BadTag, OutOfRange}
 use Rattle.amqp_c_common.specs.ReturnCodes.{fault_of}
 use Rattle.amqp_c.specs.CallResults.{HeaderFaults, GivesFirst, IsValueTaken, FaultsWithin}
-use Rattle.amqp_parsing.specs.declared.limits.Limits.{Limits}
-use Rattle.amqp_parsing.specs.Limits.{Within}
+use Rattle.amq_protocol_types.specs.declared.parsing.limits.Limits.{Limits}
+use Rattle.amq_protocol_types.specs.parsing.Limits.{Within}
 use Rattle.amqp_c.specs.Entries.{HasNoNumber, Says, IsEntry, HoldsContent, IsTagged}
 use Rattle.amqp_c.specs.Heads.{has_content}
 use Rattle.amqp_c.specs.Steps.{IsHeaded}

@@ -1,7 +1,7 @@
 -- Type tags that no type is written with.
 use Rattle.std.proofs.Common.{◌≡◌, ℕ, Some, None, sym, ap, ◌∙◌}
-use Rattle.amqp_types.specs.declared.amqp_type.AMQPType.{AMQPType}
-use Rattle.amqp_types.specs.Ids.{kind, id_of}
+use Rattle.amqp_value_core.specs.declared.types.amqp_type.AMQPType.{AMQPType}
+use Rattle.amqp_value_core.specs.Ids.{kind, id_of}
 use Rattle.amqp_c.specs.Needs.{IsTagOf}
 
 pub no_type : (tag : ℕ) → kind tag ≡ None → (type : AMQPType) → IsTagOf tag type → ⊥

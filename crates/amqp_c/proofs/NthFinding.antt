@@ -2,9 +2,9 @@
 use Rattle.std.proofs.Common.{◌≡◌, ◌-◌, ◌<◌, ℕ, zero, suc, IfOk, IfSome, List, ◌++◌, length, take, drop, Option, Some, None, Result, Ok, Err, refl, sym, ap, ◌∙◌, subst, arith}
 use Rattle.std.proofs.lemmas.List.{nil_from_length, take-take}
 use Rattle.std.specs.Result.{IfErr}
-use Rattle.amqp_grammar.specs.Values.{Trees}
-use Rattle.amqp_grammar.specs.Grammar.{ArrayBody, no_values, value}
-use Rattle.amqp_parsing.specs.Headers.{extent}
+use Rattle.amqp_value_core.specs.Values.{Trees}
+use Rattle.amqp_value_core.specs.Grammar.{ArrayBody, no_values, value}
+use Rattle.amq_protocol_types.specs.parsing.Headers.{extent}
 use Rattle.amqp_c.specs.declared.cursor.Cursor.{Cursor}
 use Rattle.amqp_c.specs.declared.entry.Entry.{Entry}
 use Rattle.amqp_c_common.specs.declared.fault.Fault.{Fault}

@@ -1,7 +1,7 @@
 -- The bytes of spans.
 use Rattle.std.proofs.Common.{◌≡◌, ◌+◌, ◌-◌, ◌≤◌, ℕ, List, ◌∷◌, ◌++◌, length, take, drop, sym, ap, ◌∙◌, arith, length-drop}
 use Rattle.std.proofs.lemmas.List.{take_at, take-take, drop-drop, drop-take, length-take-le}
-use Rattle.amqp_grammar.specs.Grammar.{long_field}
+use Rattle.amqp_value_core.specs.Grammar.{long_field}
 use Rattle.amqp_c_common.specs.declared.span.Span.{Span}
 use Rattle.amqp_c_common.specs.Spans.{part, moved, behind, last}
 

@@ -1,13 +1,13 @@
 -- Following a path.
 use Rattle.std.proofs.Common.{◌≡◌, ◌+◌, ◌<◌, ◌≤◌, ◌==◌, if◌then◌else◌, ℕ, suc, All, get_or, drop, drop-cons, length-drop, List, [], ◌∷◌, length, IfOk, IfSome, Option, Some, None, Result, Ok, Err, refl, sym, ◌∙◌, subst, inl, inr, arith}
 use Rattle.std.proofs.lemmas.List.{nil_from_length}
-use Rattle.amqp_types.specs.declared.amqp_type.AMQPType.{AMQPType}
-use Rattle.amqp_types.specs.declared.amqp_type.AMQPType.TheVariants as amqp
-use Rattle.amqp_types.specs.Ids.{id_of}
-use Rattle.amqp_grammar.specs.Values.{Tree, scalar, short, long, octets, array, table, Scalar, type_of}
-use Rattle.amqp_grammar.specs.Grammar.{Wire, wire, Raw, raw_fixed, raw_short, raw_long, raw_octets, raw_array, raw_table}
-use Rattle.amqp_grammar.specs.Layouts.{Layout, fixed}
-use Rattle.amqp_grammar.specs.Maps.{value_at}
+use Rattle.amqp_value_core.specs.declared.types.amqp_type.AMQPType.{AMQPType}
+use Rattle.amqp_value_core.specs.declared.types.amqp_type.AMQPType.TheVariants as amqp
+use Rattle.amqp_value_core.specs.Ids.{id_of}
+use Rattle.amqp_value_core.specs.Values.{Tree, scalar, short, long, octets, array, table, Scalar, type_of}
+use Rattle.amqp_value_core.specs.Grammar.{Wire, wire, Raw, raw_fixed, raw_short, raw_long, raw_octets, raw_array, raw_table}
+use Rattle.amqp_value_core.specs.Layouts.{Layout, fixed}
+use Rattle.amqp_value_core.specs.Maps.{value_at}
 use Rattle.amqp_c.specs.declared.cursor.Cursor.{Cursor}
 use Rattle.amqp_c.specs.declared.entry.Entry.{Entry}
 use Rattle.amqp_c.specs.declared.path.EqualKeys.{EqualKeys}

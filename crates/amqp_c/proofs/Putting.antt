@@ -2,14 +2,14 @@
 use Rattle.std.proofs.Common.{◌≡◌, ◌-◌, ◌<◌, ◌^◌, ℕ, List, ◌∷◌, ◌++◌, length, take, Result, Ok, Err, MatchResult, refl, sym, ap, ap₂, ◌∙◌, subst, arith, length-append, inl, inr}
 use Rattle.std.specs.Int.{w32, to_be_bytes}
 use Rattle.std.proofs.lemmas.List.{take_at}
-use Rattle.amqp_types.specs.declared.amqp_type.AMQPType.TheVariants as amqp
-use Rattle.amqp_grammar.specs.Grammar.{Wire}
-use Rattle.amqp_grammar.specs.Outcomes.{found}
-use Rattle.amqp_grammar.specs.Texts.{text}
-use Rattle.amqp_grammar.specs.Values.{Tree, Scalar, number, scalar, long, octets}
-use Rattle.amqp_grammar.proofs.GrammarLaws.{text_is_wire, front_within}
-use Rattle.amqp_parsing.specs.declared.limits.Limits.{Limits}
-use Rattle.amqp_parsing.specs.Limits.{Within}
+use Rattle.amqp_value_core.specs.declared.types.amqp_type.AMQPType.TheVariants as amqp
+use Rattle.amqp_value_core.specs.Grammar.{Wire}
+use Rattle.amqp_value_core.specs.Outcomes.{found}
+use Rattle.amqp_value_core.specs.Texts.{text}
+use Rattle.amqp_value_core.specs.Values.{Tree, Scalar, number, scalar, long, octets}
+use Rattle.amqp_value_core.proofs.GrammarLaws.{text_is_wire, front_within}
+use Rattle.amq_protocol_types.specs.declared.parsing.limits.Limits.{Limits}
+use Rattle.amq_protocol_types.specs.parsing.Limits.{Within}
 use Rattle.amqp_c_common.specs.declared.fault.Fault.{Fault}
 use Rattle.amqp_c_common.specs.declared.fault.Fault.TheVariants.{More, UnknownTag, Malformed, TooLarge, Invalid, OutOfMemory, NoRoom, NotJson, NoEncoding, BadKey, BadTag, OutOfRange}
 use Rattle.amqp_c.specs.declared.container.Container.{Container}

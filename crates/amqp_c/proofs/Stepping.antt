@@ -1,11 +1,11 @@
 -- Entries in the body of a container.
 use Rattle.std.proofs.Common.{◌≡◌, ◌+◌, ◌-◌, ◌<◌, ◌≤◌, ℕ, zero, suc, Bool, true, false, Option, Some, None, IfNone, IfSome, List, [], ◌∷◌, ◌++◌, Ok, length, take, drop, get_or, refl, sym, ap, ◌∙◌, subst, arith, length-append}
 use Rattle.std.proofs.lemmas.List.{take_at, drop_at, take-append-drop, length-take-le}
-use Rattle.amqp_grammar.specs.Values.{Tree, scalar, short, long, octets, array, table, Trees, Entries}
-use Rattle.amqp_grammar.specs.Grammar.{short_field, Wire, ArrayBody, no_values, value, TableBody, no_pairs, pair}
-use Rattle.amqp_grammar.specs.Outcomes.{found, Outcome}
-use Rattle.amqp_grammar.proofs.GrammarLaws.{found_front, wire_found}
-use Rattle.amqp_parsing.specs.Headers.{extent}
+use Rattle.amqp_value_core.specs.Values.{Tree, scalar, short, long, octets, array, table, Trees, Entries}
+use Rattle.amqp_value_core.specs.Grammar.{short_field, Wire, ArrayBody, no_values, value, TableBody, no_pairs, pair}
+use Rattle.amqp_value_core.specs.Outcomes.{found, Outcome}
+use Rattle.amqp_value_core.proofs.GrammarLaws.{found_front, wire_found}
+use Rattle.amq_protocol_types.specs.parsing.Headers.{extent}
 use Rattle.amqp_in_place.specs.Bodies.{HasEntries}
 use Rattle.amqp_c.specs.declared.entry.Entry.{Entry}
 use Rattle.amqp_c_common.specs.declared.span.Span.{Span}

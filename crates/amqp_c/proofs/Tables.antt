@@ -3,16 +3,16 @@ use Rattle.std.proofs.Common.{◌≡◌, ◌+◌, ◌<◌, ◌≤◌, ◌^◌, �
 use Rattle.std.specs.Int.{w32, to_be_bytes}
 use Rattle.std.proofs.lemmas.List.{take-append-drop, take_more, drop_more}
 use Rattle.std.proofs.lemmas.List.Sums.{sum_by-cons, sum_by_push}
-use Rattle.amqp_types.specs.declared.amqp_type.AMQPType.{AMQPType}
-use Rattle.amqp_types.specs.declared.amqp_type.AMQPType.TheVariants as amqp
-use Rattle.amqp_types.specs.Ids.{kind, id_of}
-use Rattle.amqp_types.specs.Strings.{IsShort}
-use Rattle.amqp_grammar.specs.Grammar.{short_field, Wire, TableBody, no_pairs, pair}
-use Rattle.amqp_grammar.specs.InMemory.{IsNumber, IsScalar}
-use Rattle.amqp_grammar.specs.Layouts.{width_of}
-use Rattle.amqp_grammar.specs.Texts.{text, payload, pairs}
-use Rattle.amqp_grammar.specs.Values.{Scalar, scalar_type, boolean, number, decimal, void, Tree, scalar, long, octets, table, Entries, no_entries, entry}
-use Rattle.amqp_grammar.proofs.GrammarLaws.{text_is_wire, size_of_scalar}
+use Rattle.amqp_value_core.specs.declared.types.amqp_type.AMQPType.{AMQPType}
+use Rattle.amqp_value_core.specs.declared.types.amqp_type.AMQPType.TheVariants as amqp
+use Rattle.amqp_value_core.specs.Ids.{kind, id_of}
+use Rattle.amqp_value_core.specs.Strings.{IsShort}
+use Rattle.amqp_value_core.specs.Grammar.{short_field, Wire, TableBody, no_pairs, pair}
+use Rattle.amqp_value_core.specs.InMemory.{IsNumber, IsScalar}
+use Rattle.amqp_value_core.specs.Layouts.{width_of}
+use Rattle.amqp_value_core.specs.Texts.{text, payload, pairs}
+use Rattle.amqp_value_core.specs.Values.{Scalar, scalar_type, boolean, number, decimal, void, Tree, scalar, long, octets, table, Entries, no_entries, entry}
+use Rattle.amqp_value_core.proofs.GrammarLaws.{text_is_wire, size_of_scalar}
 use Rattle.amqp_c.specs.declared.pair.Pair.{Pair}
 use Rattle.amqp_c.specs.Growth.{and_pair}
 use Rattle.amqp_c.specs.BuiltEntries.{Tells, IsString, IsStringTag}

@@ -1,11 +1,11 @@
 -- Type tags of values of fixed width.
 use Rattle.std.proofs.Common.{◌≡◌, ℕ, true, false, Some, None, refl, sym, ap, ◌∙◌, arith}
-use Rattle.amqp_types.specs.declared.amqp_type.AMQPType.{AMQPType}
-use Rattle.amqp_types.specs.declared.amqp_type.AMQPType.TheVariants as amqp
-use Rattle.amqp_types.specs.Ids.{kind, id_of}
-use Rattle.amqp_types.specs.Names.{read_as}
-use Rattle.amqp_grammar.specs.Values.{Scalar, boolean, number, decimal, void, scalar_type}
-use Rattle.amqp_grammar.specs.InMemory.{IsScalar, IsNumber}
+use Rattle.amqp_value_core.specs.declared.types.amqp_type.AMQPType.{AMQPType}
+use Rattle.amqp_value_core.specs.declared.types.amqp_type.AMQPType.TheVariants as amqp
+use Rattle.amqp_value_core.specs.Ids.{kind, id_of}
+use Rattle.amqp_value_core.specs.Names.{read_as}
+use Rattle.amqp_value_core.specs.Values.{Scalar, boolean, number, decimal, void, scalar_type}
+use Rattle.amqp_value_core.specs.InMemory.{IsScalar, IsNumber}
 use Rattle.amqp_c.specs.BuiltEntries.{IsScalarTag}
 use Rattle.amqp_c.specs.Heads.{has_content}
 

@@ -1,7 +1,7 @@
 -- What each call from C returns, and leaves in the buffer and at its pointers.
 use Rattle.std.specs.Prelude.{ℕ, ◌≡◌, ℤ, List, Result, IfErr, MatchResult}
 use Rattle.std.specs.Int.{w64, cast_unsigned}
-use Rattle.amqp_grammar.specs.Values.{Tree, Scalar}
+use Rattle.amqp_value_core.specs.Values.{Tree, Scalar}
 use Rattle.amqp_c_common.specs.declared.fault.Fault.{Fault}
 use Rattle.amqp_c_common.specs.ReturnCodes.{answer_of}
 use Rattle.amqp_c_common.specs.Reading.{limits}

@@ -1,14 +1,14 @@
 -- What is put: encodings, and the values that they are of.
 use Rattle.std.specs.Prelude.{ℕ, zero, ℤ, pos, ◌≡◌, ◌<◌, ◌^◌, List, [], ◌∷◌, ◌++◌, length, ◌⊎◌}
-use Rattle.amqp_types.specs.declared.amqp_type.AMQPType.{AMQPType}
-use Rattle.amqp_types.specs.Ids.{id_of}
-use Rattle.amqp_grammar.specs.Values.{Scalar, Tree, scalar, long, octets, array, table, scalar_type}
-use Rattle.amqp_grammar.specs.Grammar.{ArrayBody}
-use Rattle.amqp_grammar.specs.InMemory.{IsScalar}
-use Rattle.amqp_grammar.specs.Outcomes.{found}
-use Rattle.amqp_grammar.specs.Texts.{text}
-use Rattle.amqp_parsing.specs.declared.limits.Limits.{Limits}
-use Rattle.amqp_parsing.specs.Limits.{Within}
+use Rattle.amqp_value_core.specs.declared.types.amqp_type.AMQPType.{AMQPType}
+use Rattle.amqp_value_core.specs.Ids.{id_of}
+use Rattle.amqp_value_core.specs.Values.{Scalar, Tree, scalar, long, octets, array, table, scalar_type}
+use Rattle.amqp_value_core.specs.Grammar.{ArrayBody}
+use Rattle.amqp_value_core.specs.InMemory.{IsScalar}
+use Rattle.amqp_value_core.specs.Outcomes.{found}
+use Rattle.amqp_value_core.specs.Texts.{text}
+use Rattle.amq_protocol_types.specs.declared.parsing.limits.Limits.{Limits}
+use Rattle.amq_protocol_types.specs.parsing.Limits.{Within}
 use Rattle.amqp_in_place.specs.Bodies.{HasEntries}
 use Rattle.amqp_c_common.specs.Scalars.{scalar_bits, scalar_scale}
 use Rattle.amqp_c.specs.Containers.{array_tag, table_tag}

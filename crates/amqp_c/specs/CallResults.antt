@@ -1,16 +1,16 @@
 -- What the calls return.
 use Rattle.std.specs.Prelude.{ℕ, ◌≡◌, ◌+◌, ◌<◌, ◌≤◌, ℤ, pos, List, length, Option, Some, None, Result, Ok, Err}
-use Rattle.amqp_types.specs.declared.amqp_type.AMQPType.TheVariants.{FieldTable}
-use Rattle.amqp_types.specs.Ids.{id_of}
-use Rattle.amqp_grammar.specs.Values.{Tree, table, Entries}
-use Rattle.amqp_grammar.specs.Outcomes.{Reading, found, more, unknown, malformed, Outcome}
-use Rattle.amqp_grammar.specs.Nesting.{OutcomeWithin}
-use Rattle.amqp_parsing.specs.declared.limits.Limits.{Limits}
-use Rattle.amqp_parsing.specs.ParseResults.{Refuses}
-use Rattle.amqp_parsing.specs.Headers.{extent}
-use Rattle.amqp_parsing.specs.Limits.{Within}
-use Rattle.amqp_parsing.specs.Untagged.{UntaggedWithin}
-use Rattle.amqp_parsing.specs.Refusals.{Refusal}
+use Rattle.amqp_value_core.specs.declared.types.amqp_type.AMQPType.TheVariants.{FieldTable}
+use Rattle.amqp_value_core.specs.Ids.{id_of}
+use Rattle.amqp_value_core.specs.Values.{Tree, table, Entries}
+use Rattle.amqp_value_core.specs.Outcomes.{Reading, found, more, unknown, malformed, Outcome}
+use Rattle.amqp_value_core.specs.Nesting.{OutcomeWithin}
+use Rattle.amq_protocol_types.specs.declared.parsing.limits.Limits.{Limits}
+use Rattle.amq_protocol_types.specs.parsing.ParseResults.{Refuses}
+use Rattle.amq_protocol_types.specs.parsing.Headers.{extent}
+use Rattle.amq_protocol_types.specs.parsing.Limits.{Within}
+use Rattle.amq_protocol_types.specs.parsing.Untagged.{UntaggedWithin}
+use Rattle.amq_protocol_types.specs.parsing.Refusals.{Refusal}
 use Rattle.amqp_in_place.specs.Bodies.{HasEntries}
 use Rattle.amqp_c.specs.declared.cursor.Cursor.{Cursor}
 use Rattle.amqp_c.specs.declared.entry.Entry.{Entry}

@@ -1,10 +1,10 @@
 -- What each call from C returns and leaves at its pointers.
 use Rattle.std.specs.Prelude.{ℕ, ◌≡◌, ℤ, List, length, Option, Result, Err, IfOk, IfErr, MatchResult}
-use Rattle.amqp_types.specs.declared.amqp_type.AMQPType.TheVariants.{FieldTable}
-use Rattle.amqp_grammar.specs.Values.{Tree, Trees, Entries}
-use Rattle.amqp_grammar.specs.Grammar.{ArrayBody, TableBody}
-use Rattle.amqp_grammar.specs.Outcomes.{Outcome, found}
-use Rattle.amqp_parsing.specs.Untagged.{tagged}
+use Rattle.amqp_value_core.specs.declared.types.amqp_type.AMQPType.TheVariants.{FieldTable}
+use Rattle.amqp_value_core.specs.Values.{Tree, Trees, Entries}
+use Rattle.amqp_value_core.specs.Grammar.{ArrayBody, TableBody}
+use Rattle.amqp_value_core.specs.Outcomes.{Outcome, found}
+use Rattle.amq_protocol_types.specs.parsing.Untagged.{tagged}
 use Rattle.amqp_c.specs.declared.container.Container.{Container}
 use Rattle.amqp_c.specs.Needs.{IsNeeded, RefusesNeeded}
 use Rattle.amqp_c.specs.declared.cursor.Cursor.{Cursor}

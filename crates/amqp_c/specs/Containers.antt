@@ -1,7 +1,7 @@
 -- Containers that are put together in a buffer.
 use Rattle.std.specs.Prelude.{ℕ, ◌≡◌, ◌+◌, ◌-◌, List, [], ◌++◌, ◌==◌, if◌then◌else◌, length, ◌⊎◌}
-use Rattle.amqp_types.specs.Strings.{IsShort}
-use Rattle.amqp_grammar.specs.Grammar.{short_field}
+use Rattle.amqp_value_core.specs.Strings.{IsShort}
+use Rattle.amqp_value_core.specs.Grammar.{short_field}
 use Rattle.amqp_c_common.specs.Spans.{SpanLies}
 use Rattle.amqp_c.specs.declared.container.Container.{Container}
 

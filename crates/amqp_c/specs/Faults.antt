@@ -1,7 +1,7 @@
 -- When each fault is right.
 use Rattle.std.specs.Prelude.{ℕ, ◌≡◌, ◌<◌, ◌≤◌, ◌+◌, ◌^◌, List, length}
-use Rattle.amqp_grammar.specs.Values.{Scalar}
-use Rattle.amqp_parsing.specs.declared.limits.Limits.{Limits}
+use Rattle.amqp_value_core.specs.Values.{Scalar}
+use Rattle.amq_protocol_types.specs.declared.parsing.limits.Limits.{Limits}
 use Rattle.amqp_c_common.specs.declared.fault.Fault.{Fault}
 use Rattle.amqp_c_common.specs.declared.fault.Fault.TheVariants.{TooLarge, Invalid, OutOfMemory, NoRoom, BadKey, BadTag, OutOfRange}
 use Rattle.amqp_c_common.specs.Reading.{IsReadFault}

@@ -1,9 +1,9 @@
 -- Looking up the first of equal keys.
 use Rattle.std.specs.Prelude.{ℕ, ◌≡◌, List, [], ◌∷◌, ◌++◌, length, take, drop, if◌then◌else◌, Option, Some, None, IfSome, Result, IfOk, IfErr}
-use Rattle.amqp_grammar.specs.Values.{Entries}
-use Rattle.amqp_grammar.specs.Grammar.{short_field, TableBody}
-use Rattle.amqp_grammar.specs.Maps.{same_bytes, value_at}
-use Rattle.amqp_parsing.specs.Headers.{extent}
+use Rattle.amqp_value_core.specs.Values.{Entries}
+use Rattle.amqp_value_core.specs.Grammar.{short_field, TableBody}
+use Rattle.amqp_value_core.specs.Maps.{same_bytes, value_at}
+use Rattle.amq_protocol_types.specs.parsing.Headers.{extent}
 use Rattle.amqp_c.specs.declared.cursor.Cursor.{Cursor}
 use Rattle.amqp_c.specs.declared.entry.Entry.{Entry}
 use Rattle.amqp_c_common.specs.declared.fault.Fault.{Fault}

@@ -1,8 +1,8 @@
 -- How what is written of a container grows.
 use Rattle.std.specs.Prelude.{ℕ, ◌≡◌, ◌+◌, ◌-◌, ◌<◌, ◌≤◌, ◌^◌, List, [], ◌∷◌, length}
 use Rattle.std.specs.Int.{w32, to_be_bytes}
-use Rattle.amqp_grammar.specs.Values.{Tree, Trees, no_trees, tree, Entries, no_entries, entry}
-use Rattle.amqp_grammar.specs.Grammar.{ArrayBody, TableBody}
+use Rattle.amqp_value_core.specs.Values.{Tree, Trees, no_trees, tree, Entries, no_entries, entry}
+use Rattle.amqp_value_core.specs.Grammar.{ArrayBody, TableBody}
 use Rattle.amqp_c_common.specs.Spans.{part, SpanLies}
 use Rattle.amqp_c.specs.declared.container.Container.{Container}
 use Rattle.amqp_c.specs.Containers.{array_tag, table_tag, IsContainerTag, IsPlace, end_of, entry_of, end_with, empty_at, up_to}

@@ -1,7 +1,7 @@
 -- Which types have bytes after a length.
 use Rattle.std.specs.Prelude.{Bool, true, false}
-use Rattle.amqp_types.specs.declared.amqp_type.AMQPType.{AMQPType}
-use Rattle.amqp_types.specs.declared.amqp_type.AMQPType.TheVariants as amqp
+use Rattle.amqp_value_core.specs.declared.types.amqp_type.AMQPType.{AMQPType}
+use Rattle.amqp_value_core.specs.declared.types.amqp_type.AMQPType.TheVariants as amqp
 
 -- as a value: a string, a byte array or a container
 abbrev pub has_content : AMQPType → Bool

@@ -1,10 +1,10 @@
 -- How large a value is, by its encoding.
 use Rattle.std.specs.Prelude.{ℕ, ◌≡◌, ◌≤◌, List, length, drop}
-use Rattle.amqp_grammar.specs.Values.{Tree, count, depth}
-use Rattle.amqp_grammar.specs.Nesting.{nesting}
-use Rattle.amqp_grammar.specs.Outcomes.{found}
-use Rattle.amqp_parsing.specs.declared.limits.Limits.{Limits}
-use Rattle.amqp_parsing.specs.Limits.{Within}
+use Rattle.amqp_value_core.specs.Values.{Tree, count, depth}
+use Rattle.amqp_value_core.specs.Nesting.{nesting}
+use Rattle.amqp_value_core.specs.Outcomes.{found}
+use Rattle.amq_protocol_types.specs.declared.parsing.limits.Limits.{Limits}
+use Rattle.amq_protocol_types.specs.parsing.Limits.{Within}
 use Rattle.amqp_in_place.specs.Measures.{written, OfEncoding}
 use Rattle.amqp_in_place.specs.declared.measure.Measure as in_place
 use Rattle.amqp_c.specs.declared.measure.Measure.{Measure}

@@ -1,8 +1,8 @@
 -- How large a buffer has to be for an entry.
 use Rattle.std.specs.Prelude.{ℕ, suc, ◌≡◌, ◌≤◌, ◌+◌, ◌-◌, ◌^◌, ◌==◌, if◌then◌else◌, Some, true, ◌⊎◌}
-use Rattle.amqp_types.specs.declared.amqp_type.AMQPType.{AMQPType}
-use Rattle.amqp_types.specs.Ids.{kind, id_of}
-use Rattle.amqp_grammar.specs.Layouts.{width_of}
+use Rattle.amqp_value_core.specs.declared.types.amqp_type.AMQPType.{AMQPType}
+use Rattle.amqp_value_core.specs.Ids.{kind, id_of}
+use Rattle.amqp_value_core.specs.Layouts.{width_of}
 use Rattle.amqp_c_common.specs.declared.fault.Fault.{Fault}
 use Rattle.amqp_c_common.specs.declared.fault.Fault.TheVariants.{TooLarge, Invalid, BadKey, BadTag}
 use Rattle.amqp_c.specs.declared.container.Container.{Container}

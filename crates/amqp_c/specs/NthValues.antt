@@ -1,8 +1,8 @@
 -- Looking a value of an array up by its index.
 use Rattle.std.specs.Prelude.{ℕ, zero, suc, ◌≡◌, ◌≤◌, List, [], length, take, drop, Option, Some, None, IfSome, Result, IfOk, IfErr}
-use Rattle.amqp_grammar.specs.Values.{Tree, Trees, no_trees, tree}
-use Rattle.amqp_grammar.specs.Grammar.{ArrayBody}
-use Rattle.amqp_parsing.specs.Headers.{extent}
+use Rattle.amqp_value_core.specs.Values.{Tree, Trees, no_trees, tree}
+use Rattle.amqp_value_core.specs.Grammar.{ArrayBody}
+use Rattle.amq_protocol_types.specs.parsing.Headers.{extent}
 use Rattle.amqp_c.specs.declared.cursor.Cursor.{Cursor}
 use Rattle.amqp_c.specs.declared.entry.Entry.{Entry}
 use Rattle.amqp_c_common.specs.declared.fault.Fault.{Fault}

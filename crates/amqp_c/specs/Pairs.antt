@@ -1,10 +1,10 @@
 -- Pairs of a table that is written at once.
 use Rattle.std.specs.Prelude.{ℕ, ◌≡◌, ◌+◌, ◌<◌, ◌≤◌, ◌^◌, List, [], ◌∷◌, ◌++◌, length, sum_by, Option, Some, None, ◌⊎◌}
-use Rattle.amqp_types.specs.declared.amqp_type.AMQPType.{AMQPType}
-use Rattle.amqp_types.specs.Ids.{kind}
-use Rattle.amqp_types.specs.Strings.{IsShort}
-use Rattle.amqp_grammar.specs.Values.{Scalar, Tree, scalar, Entries, no_entries, entry}
-use Rattle.amqp_grammar.specs.Texts.{pairs}
+use Rattle.amqp_value_core.specs.declared.types.amqp_type.AMQPType.{AMQPType}
+use Rattle.amqp_value_core.specs.Ids.{kind}
+use Rattle.amqp_value_core.specs.Strings.{IsShort}
+use Rattle.amqp_value_core.specs.Values.{Scalar, Tree, scalar, Entries, no_entries, entry}
+use Rattle.amqp_value_core.specs.Texts.{pairs}
 use Rattle.amqp_c_common.specs.declared.fault.Fault.{Fault}
 use Rattle.amqp_c_common.specs.declared.fault.Fault.TheVariants.{TooLarge, BadKey}
 use Rattle.amqp_c.specs.declared.pair.Pair.{Pair}

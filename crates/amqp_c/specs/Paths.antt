@@ -1,7 +1,7 @@
 -- Looking a value up by a path.
 use Rattle.std.specs.Prelude.{ℕ, ◌≡◌, List, [], ◌∷◌, length, All, ◌==◌, if◌then◌else◌, Option, Some, None, IfSome, Result, Ok, Err, IfOk, ◌⊎◌}
-use Rattle.amqp_grammar.specs.Values.{Tree, array, table}
-use Rattle.amqp_grammar.specs.Maps.{value_at}
+use Rattle.amqp_value_core.specs.Values.{Tree, array, table}
+use Rattle.amqp_value_core.specs.Maps.{value_at}
 use Rattle.amqp_c.specs.declared.cursor.Cursor.{Cursor}
 use Rattle.amqp_c.specs.declared.entry.Entry.{Entry}
 use Rattle.amqp_c.specs.declared.path.EqualKeys.{EqualKeys}

@@ -1,10 +1,10 @@
 -- What is read of a value of fixed width.
 use Rattle.std.specs.Prelude.{ℕ, ◌≡◌, ◌+◌, List, length}
-use Rattle.amqp_grammar.specs.Values.{Tree, Scalar, scalar}
-use Rattle.amqp_grammar.specs.Payloads.{RawOutcome}
-use Rattle.amqp_types.specs.declared.amqp_type.AMQPType.{AMQPType}
+use Rattle.amqp_value_core.specs.Values.{Tree, Scalar, scalar}
+use Rattle.amqp_value_core.specs.Payloads.{RawOutcome}
+use Rattle.amqp_value_core.specs.declared.types.amqp_type.AMQPType.{AMQPType}
 use Rattle.amqp_c.specs.declared.entry.Number.{Number}
-use Rattle.amqp_grammar.specs.Outcomes.{Outcome, found}
+use Rattle.amqp_value_core.specs.Outcomes.{Outcome, found}
 use Rattle.amqp_c_common.specs.Scalars.{bits_in, scale_in, scalar_bits, scalar_scale}
 use Rattle.amqp_c.specs.declared.entry.Fixed.{Fixed}
 

@@ -1,10 +1,10 @@
 -- Stepping through the body of a container by a cursor.
 use Rattle.std.specs.Prelude.{ℕ, ◌≡◌, ◌+◌, ◌<◌, ◌≤◌, List, [], ◌∷◌, ◌++◌, length, take, drop, if◌then◌else◌, Option, Some, None, IfSome, Result, Ok, IfOk, IfErr, ◌⊎◌}
 use Rattle.std.specs.Option.{option_or}
-use Rattle.amqp_grammar.specs.Values.{Tree, Trees, no_trees, tree, Entries, no_entries, entry}
-use Rattle.amqp_grammar.specs.Grammar.{short_field, ArrayBody, TableBody}
-use Rattle.amqp_grammar.specs.Maps.{same_bytes, value_at}
-use Rattle.amqp_parsing.specs.Headers.{extent}
+use Rattle.amqp_value_core.specs.Values.{Tree, Trees, no_trees, tree, Entries, no_entries, entry}
+use Rattle.amqp_value_core.specs.Grammar.{short_field, ArrayBody, TableBody}
+use Rattle.amqp_value_core.specs.Maps.{same_bytes, value_at}
+use Rattle.amq_protocol_types.specs.parsing.Headers.{extent}
 use Rattle.amqp_in_place.specs.Bodies.{HasEntries}
 use Rattle.amqp_c.specs.declared.cursor.Cursor.{Cursor}
 use Rattle.amqp_c.specs.declared.entry.Entry.{Entry}

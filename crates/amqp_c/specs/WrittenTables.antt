@@ -1,8 +1,8 @@
 -- Tables that are written at once, without their type tag.
 use Rattle.std.specs.Prelude.{ℕ, ◌≡◌, ◌+◌, ◌<◌, ◌^◌, ℤ, List, length, Result, IfErr, MatchResult, ◌⊎◌}
-use Rattle.amqp_grammar.specs.Values.{Entries, table}
-use Rattle.amqp_grammar.specs.Grammar.{TableBody}
-use Rattle.amqp_grammar.specs.Texts.{payload, pairs}
+use Rattle.amqp_value_core.specs.Values.{Entries, table}
+use Rattle.amqp_value_core.specs.Grammar.{TableBody}
+use Rattle.amqp_value_core.specs.Texts.{payload, pairs}
 use Rattle.amqp_c_common.specs.declared.fault.Fault.{Fault}
 use Rattle.amqp_c_common.specs.declared.fault.Fault.TheVariants.{NoRoom}
 use Rattle.amqp_c_common.specs.ReturnCodes.{answer_of, count_of}

@@ -1,18 +1,18 @@
 //! Stepping through a container.
 
 ghost use Rattle.std.specs.Prelude.{◌≡◌, ◌+◌, ◌<◌, ◌++◌, ℕ, List, length, drop, IfErr, IfOk, IfNone, IfSome, MatchOption};
-ghost use Rattle.amqp_grammar.specs.Values.{Tree, Trees, Entries};
-ghost use Rattle.amqp_grammar.specs.Grammar.{short_field, ArrayBody, TableBody};
-ghost use Rattle.amqp_grammar.specs.Outcomes.{Outcome, found};
-ghost use Rattle.amqp_parsing.specs.Headers.{extent};
+ghost use Rattle.amqp_value_core.specs.Values.{Tree, Trees, Entries};
+ghost use Rattle.amqp_value_core.specs.Grammar.{short_field, ArrayBody, TableBody};
+ghost use Rattle.amqp_value_core.specs.Outcomes.{Outcome, found};
+ghost use Rattle.amq_protocol_types.specs.parsing.Headers.{extent};
 ghost use Rattle.amqp_c_common.specs.Spans.{part, SpanLies};
 ghost use Rattle.amqp_c.specs.Entries.{IsTagged, IsTrueTo, Lies};
 ghost use Rattle.amqp_c.specs.Steps.{array_tag, table_tag, contents, IsOfContainer, IsOfTable, IsHeaded, HasNoPair, StepsIn, IsCut, RefusedBy, IsFrontIn, IsValueIn, IsPairIn, EndsIn, GivesValue, GivesPair, HasNoKey, StandsAlone, StandsKeyed, LooksUp};
 
 use crate::entry::{Entry, first};
+use amq_protocol_types::parsing::header::value_len;
 use amqp_c_common::{Fault, Span};
-use amqp_parsing::header::value_len;
-use amqp_types::SliceInput;
+use amqp_value_core::input::SliceInput;
 
 /// What is left of an array or a table.
 #[repr(C)]

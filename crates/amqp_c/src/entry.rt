@@ -1,26 +1,27 @@
 //! What is at the start of some bytes, by offsets.
 
 ghost use Rattle.std.specs.Prelude.{◌≡◌, ◌+◌, ◌<◌, ℕ, List, length, Some, false, IfErr, IfOk, MatchResult};
-ghost use Rattle.amqp_types.specs.Ids.{id_of};
-ghost use Rattle.amqp_types.specs.Inputs.{slice_bytes};
-ghost use Rattle.amqp_types.specs.Names.{read_as};
-ghost use Rattle.amqp_parsing.specs.PayloadResults.{IsType, OnlyLacks};
-ghost use Rattle.amqp_grammar.specs.Payloads.{RawOutcome};
+ghost use Rattle.amqp_value_core.specs.Ids.{id_of};
+ghost use Rattle.amqp_value_core.specs.Inputs.{slice_bytes};
+ghost use Rattle.amqp_value_core.specs.Names.{read_as};
+ghost use Rattle.amq_protocol_types.specs.parsing.PayloadResults.{IsType, OnlyLacks};
+ghost use Rattle.amqp_value_core.specs.Payloads.{RawOutcome};
 ghost use Rattle.amqp_c.specs.Scalars.{IsNumber};
-ghost use Rattle.amqp_grammar.specs.Values.{Tree};
-ghost use Rattle.amqp_grammar.specs.Outcomes.{Outcome, found};
+ghost use Rattle.amqp_value_core.specs.Values.{Tree};
+ghost use Rattle.amqp_value_core.specs.Outcomes.{Outcome, found};
 ghost use Rattle.amqp_c.specs.Scalars.{IsFixed};
 ghost use Rattle.amqp_c.specs.Entries.{IsAtFront, Lies};
 ghost use Rattle.amqp_c.specs.CallResults.{GivesFirst, HeaderFaults, IsRefusalOf};
 ghost use Rattle.amqp_c.specs.Heads.{has_content};
 
-use amqp_c_common::{Fault, Span};
-use amqp_parsing::{
+use amq_protocol_types::parsing::{
     ParserResult, parse_boolean, parse_decimal_value, parse_double, parse_float,
     parse_length_prefixed, parse_long_int, parse_long_long_int, parse_long_uint, parse_short_int,
     parse_short_short_int, parse_short_short_uint, parse_short_uint, parse_timestamp, parse_type,
 };
-use amqp_types::{AMQPType, ParsableInput, SliceInput};
+use amqp_c_common::{Fault, Span};
+use amqp_value_core::input::{ParsableInput, SliceInput};
+use amqp_value_core::types::AMQPType;
 
 /// A value, and in a table its key, by position.
 #[repr(C)]
@@ -139,7 +140,7 @@ struct Number {
 
 /// Reads what is after the type tag of a value of fixed width.
 #[inline(always)]
-#[tactic(auto, using(amqp_parsing::proofs::ParsingLaws::void_found, crate::proofs::Numbers::signed))]
+#[tactic(auto, using(amq_protocol_types::proofs::ParsingLaws::void_found, crate::proofs::Numbers::signed))]
 fn read_number<'a>(
     amqp_type: AMQPType,
     payload: SliceInput<'a>,

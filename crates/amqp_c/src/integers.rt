@@ -2,7 +2,7 @@
 
 ghost use Rattle.std.specs.Prelude.{◌≡◌, IfErr, MatchResult, MatchBool};
 ghost use Rattle.std.specs.Int.{w64, cast_unsigned};
-ghost use Rattle.amqp_grammar.specs.Values.{Tree, Scalar};
+ghost use Rattle.amqp_value_core.specs.Values.{Tree, Scalar};
 ghost use Rattle.amqp_c.specs.BuiltEntries.{Tells, IsTold, IsSignedTag, IsUnsignedTag, truth_bits};
 ghost use Rattle.amqp_c.specs.Faults.{Refuses, NoOther};
 ghost use Rattle.amqp_c.specs.Growth.{IsPut};

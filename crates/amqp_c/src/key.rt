@@ -1,14 +1,14 @@
 //! Whether bytes can be a key.
 
 ghost use Rattle.std.specs.Prelude.{◌≡◌, true, MatchBool};
-ghost use Rattle.amqp_types.specs.Strings.{IsShort};
+ghost use Rattle.amqp_value_core.specs.Strings.{IsShort};
 ghost use Rattle.std.specs.Str.{IsAscii, IsUtf8};
 
 use std::str;
 
 /// Whether the bytes are a short string, as each key of a table is.
 #[inline(always)]
-#[tactic(auto, using(amqp_parsing::proofs::ParsingLaws::ascii_is_utf8))]
+#[tactic(auto, using(amq_protocol_types::proofs::ParsingLaws::ascii_is_utf8))]
 pub fn is_short_string(bytes: &[u8]) -> bool
     ensures { MatchBool result (IsShort bytes.now) (IsShort bytes.now → ⊥) }
 {

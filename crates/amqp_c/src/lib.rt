@@ -37,9 +37,9 @@ mod room;
 mod store;
 mod table;
 
+use amq_protocol_types::parsing::Limits;
 use amqp_c_common::{Fault, return_count};
 use amqp_in_place::{first_problem, first_problem_in_table};
-use amqp_parsing::Limits;
 use container::Container;
 use cursor::Cursor;
 use entry::{Entry, first};

@@ -1,14 +1,14 @@
 //! How large a value is.
 
 ghost use Rattle.std.specs.Prelude.{◌≡◌, MatchResult};
-ghost use Rattle.amqp_parsing.specs.Untagged.{tagged};
+ghost use Rattle.amq_protocol_types.specs.parsing.Untagged.{tagged};
 ghost use Rattle.amqp_c.specs.CallResults.{FaultsWithin};
 ghost use Rattle.amqp_c.specs.Measures.{same_measure, IsMeasured};
 
+use amq_protocol_types::parsing::Limits;
 use amqp_c_common::Fault;
 use amqp_in_place::{measure_table, measure_value};
-use amqp_parsing::Limits;
-use amqp_types::AMQPType;
+use amqp_value_core::types::AMQPType;
 
 /// How large a value is, by its encoding.
 #[repr(C)]

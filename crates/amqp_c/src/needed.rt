@@ -1,13 +1,13 @@
 //! How large a buffer has to be for an entry.
 
 ghost use Rattle.std.specs.Prelude.{◌≡◌, ◌≤◌, ◌+◌, MatchResult};
-ghost use Rattle.amqp_grammar.specs.Layouts.{width_of};
+ghost use Rattle.amqp_value_core.specs.Layouts.{width_of};
 ghost use Rattle.amqp_c.specs.Needs.{IsKeyLength, name_len, IsEncodingLen, RefusesLen, IsContainer, IsNeeded, RefusesNeeded};
 
 use crate::container::{Container, is_container_tag};
 use crate::entry::has_content;
 use amqp_c_common::Fault;
-use amqp_types::AMQPType;
+use amqp_value_core::types::AMQPType;
 
 impl Container {
     /// How large a buffer has to be at least so that an entry can be put after what is written, by

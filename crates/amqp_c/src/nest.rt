@@ -1,7 +1,7 @@
 //! Containers in containers: an entry that is begun and ended.
 
 ghost use Rattle.std.specs.Prelude.{◌≡◌, ℕ, List, IfErr, MatchResult, MatchBool, MatchOption};
-ghost use Rattle.amqp_grammar.specs.Grammar.{short_field};
+ghost use Rattle.amqp_value_core.specs.Grammar.{short_field};
 ghost use Rattle.amqp_c.specs.Containers.{IsContainerTag};
 ghost use Rattle.amqp_c.specs.BuiltEntries.{unfilled};
 ghost use Rattle.amqp_c.specs.Faults.{Refuses, NoOther, RefusesToEnd};

@@ -1,15 +1,15 @@
 //! The encodings of values of fixed width.
 
 ghost use Rattle.std.specs.Prelude.{◌≡◌, ◌≤◌, ◌∷◌, length, take, MatchBool, MatchOption, MatchResult};
-ghost use Rattle.amqp_types.specs.declared.amqp_type.AMQPType.TheVariants as amqp;
-ghost use Rattle.amqp_grammar.specs.Values.{Scalar, scalar};
-ghost use Rattle.amqp_grammar.specs.Texts.{text};
+ghost use Rattle.amqp_value_core.specs.declared.types.amqp_type.AMQPType.TheVariants as amqp;
+ghost use Rattle.amqp_value_core.specs.Values.{Scalar, scalar};
+ghost use Rattle.amqp_value_core.specs.Texts.{text};
 ghost use Rattle.amqp_c.specs.BuiltEntries.{Tells, TellsOf, IsScalarTag};
 ghost use Rattle.amqp_c.specs.Faults.{RefusesNumber};
 
 use crate::entry::has_content;
 use amqp_c_common::Fault;
-use amqp_types::AMQPType;
+use amqp_value_core::types::AMQPType;
 use std::marker::Model;
 
 /// The encoding of a value of fixed width: its type tag, and at most eight bytes more.

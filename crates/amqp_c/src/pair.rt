@@ -1,9 +1,9 @@
 //! A pair of a table that is written at once.
 
 ghost use Rattle.std.specs.Prelude.{◌≡◌, ◌+◌, ◌≤◌, ◌++◌, length, IfOk, MatchResult};
-ghost use Rattle.amqp_grammar.specs.Values.{Tree};
-ghost use Rattle.amqp_grammar.specs.Grammar.{short_field};
-ghost use Rattle.amqp_grammar.specs.Texts.{text};
+ghost use Rattle.amqp_value_core.specs.Values.{Tree};
+ghost use Rattle.amqp_value_core.specs.Grammar.{short_field};
+ghost use Rattle.amqp_value_core.specs.Texts.{text};
 ghost use Rattle.amqp_c.specs.Pairs.{IsValueOf, IsGiven, RefusesValue, RefusesPair, value_len, pair_len};
 ghost use Rattle.amqp_c.specs.Rooms.{with_bytes};
 

@@ -4,7 +4,7 @@
 
 ghost use Rattle.std.specs.Prelude.{◌≡◌, ◌∷◌, length, IfErr, MatchResult, MatchBool};
 ghost use Rattle.std.specs.Int.{w32, to_be_bytes};
-ghost use Rattle.amqp_grammar.specs.Values.{Tree, Scalar};
+ghost use Rattle.amqp_value_core.specs.Values.{Tree, Scalar};
 ghost use Rattle.amqp_c.specs.Containers.{IsPlace, end_of};
 ghost use Rattle.amqp_c.specs.BuiltEntries.{Tells, IsScalarTag, IsTold, IsStringTag, IsOfBytes, IsFront};
 ghost use Rattle.amqp_c.specs.Faults.{Refuses, NoOther, IsTooLong, IsReadFaultInPlace};
@@ -13,9 +13,9 @@ ghost use Rattle.amqp_c.specs.Growth.{IsPut};
 use crate::container::Container;
 use crate::number::encoding_of;
 use crate::room::append;
+use amq_protocol_types::parsing::Limits;
 use amqp_c_common::Fault;
 use amqp_in_place::read_in_place;
-use amqp_parsing::Limits;
 
 /// Puts a value of fixed width, by its type tag, its bits and its scale.
 #[inline(always)]

@@ -1,14 +1,14 @@
 //! Reading the value at the start.
 
 ghost use Rattle.std.specs.Prelude.{MatchResult};
-ghost use Rattle.amqp_parsing.specs.Untagged.{tagged};
+ghost use Rattle.amq_protocol_types.specs.parsing.Untagged.{tagged};
 ghost use Rattle.amqp_c.specs.CallResults.{IsValueTaken, IsTableTaken, FaultsWithin};
 
 use crate::entry::{Entry, first};
+use amq_protocol_types::parsing::Limits;
 use amqp_c_common::{Fault, Span};
 use amqp_in_place::{read_in_place, read_table_in_place};
-use amqp_parsing::Limits;
-use amqp_types::AMQPType;
+use amqp_value_core::types::AMQPType;
 
 /// Reads a value within limits, checks all of it, and returns its entry.
 pub fn read(bytes: &[u8], limits: Limits) -> Result<Entry, Fault>

@@ -1,7 +1,7 @@
 //! Writing to a buffer.
 
 ghost use Rattle.std.specs.Prelude.{◌≡◌, ◌+◌, ◌≤◌, ◌<◌, ◌^◌, ◌++◌, length, IfErr, MatchResult};
-ghost use Rattle.amqp_grammar.specs.Grammar.{short_field};
+ghost use Rattle.amqp_value_core.specs.Grammar.{short_field};
 ghost use Rattle.amqp_c.specs.Containers.{IsPlace, named, end_of, entry_of, end_with, up_to};
 ghost use Rattle.amqp_c.specs.Growth.{IsAppended};
 ghost use Rattle.amqp_c.specs.Faults.{LacksRoomFor};

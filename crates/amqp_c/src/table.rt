@@ -1,7 +1,7 @@
 //! Writing a table at once, from its pairs.
 
 ghost use Rattle.std.specs.Prelude.{◌≡◌, ◌+◌, ◌≤◌, ◌<◌, ◌^◌, length, IfErr, MatchResult};
-ghost use Rattle.amqp_grammar.specs.Values.{Entries};
+ghost use Rattle.amqp_value_core.specs.Values.{Entries};
 ghost use Rattle.amqp_c.specs.Pairs.{AreOf, AreWritten, body_len, IsFirstFault};
 ghost use Rattle.amqp_c.specs.WrittenTables.{IsTableWritten, RefusesTable};
 

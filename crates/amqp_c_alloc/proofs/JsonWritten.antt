@@ -1,9 +1,9 @@
 -- What was put into the buffer, and why nothing was.
 use Rattle.std.proofs.Common.{◌≡◌, ℕ, inr, true, false, None, Some, List, length, Result, Ok, Err, MatchResult, sym, ap, ◌∙◌, subst}
 use Rattle.std.specs.Str.{IsUtf8}
-use Rattle.amqp_grammar.specs.Values.{Tree}
-use Rattle.amqp_grammar.specs.Texts.{text}
-use Rattle.amqp_grammar.proofs.GrammarLaws.{bounded_wire}
+use Rattle.amqp_value_core.specs.Values.{Tree}
+use Rattle.amqp_value_core.specs.Texts.{text}
+use Rattle.amqp_value_core.proofs.GrammarLaws.{bounded_wire}
 use Rattle.amqp_json.specs.declared.error.JsonError.TheVariants as json
 use Rattle.amqp_json.specs.Json as value
 use Rattle.amqp_json.specs.declared.conversion_error.EncodeError.{EncodeError}

@@ -1,10 +1,10 @@
 -- What the calls between encodings and JSON texts return, and leave in the buffer.
 use Rattle.std.specs.Prelude.{ℕ, ◌≡◌, ◌<◌, ◌⊎◌, ℤ, false, List, length, Result, Err, IfErr, MatchResult}
 use Rattle.std.specs.Str.{IsUtf8}
-use Rattle.amqp_grammar.specs.Values.{Tree}
-use Rattle.amqp_grammar.specs.Grammar.{Wire}
-use Rattle.amqp_grammar.specs.Texts.{text}
-use Rattle.amqp_parsing.specs.declared.limits.Limits.{Limits}
+use Rattle.amqp_value_core.specs.Values.{Tree}
+use Rattle.amqp_value_core.specs.Grammar.{Wire}
+use Rattle.amqp_value_core.specs.Texts.{text}
+use Rattle.amq_protocol_types.specs.declared.parsing.limits.Limits.{Limits}
 use Rattle.amqp_json.specs.declared.error.JsonError.TheVariants as json
 use Rattle.amqp_json.specs.declared.conversion_error.EncodeError.{EncodeError}
 use Rattle.amqp_json.specs.declared.conversion_error.EncodeError.TheVariants as encode

@@ -1,16 +1,16 @@
 //! The canonical encoding of the value at the start.
 
 ghost use Rattle.std.specs.Prelude.{◌≡◌, ◌<◌, ◌^◌, length, IfErr, MatchResult};
-ghost use Rattle.amqp_grammar.specs.Texts.{text, size, Fits};
+ghost use Rattle.amqp_value_core.specs.Texts.{text, size, Fits};
 ghost use Rattle.amqp_value_core.specs.View.{view};
 ghost use Rattle.amqp_c_common.specs.declared.fault.Fault.TheVariants.{OutOfMemory};
 ghost use Rattle.amqp_c_alloc.specs.CanonicalCalls.{IsWritten, IsFault};
 
+use amq_protocol_types::generation::{GenError, WriteContext, gen_value};
+use amq_protocol_types::parsing::{Limits, parse_value_within};
 use amqp_c_common::{Fault, put};
-use amqp_generation::{GenError, WriteContext, gen_value};
 use amqp_in_place::canonical_len;
-use amqp_parsing::{Limits, parse_value_within};
-use amqp_types::SliceInput;
+use amqp_value_core::input::SliceInput;
 use amqp_value_core::value::AMQPValue;
 use std::alloc::Global;
 

@@ -3,9 +3,9 @@
 ghost use Rattle.std.specs.Prelude.{◌≡◌, length, IfErr, MatchResult};
 ghost use Rattle.amqp_c_alloc.specs.JsonCalls.{IsJsonPut, IsJsonFault};
 
+use amq_protocol_types::parsing::Limits;
 use amqp_c_common::{Fault, put};
 use amqp_json::{DecodeError, json_of_encoding};
-use amqp_parsing::Limits;
 use std::alloc::Global;
 
 /// Puts the JSON text of the value at the start at the start of `room`, and returns how many bytes

@@ -14,8 +14,8 @@ mod decode;
 mod encode;
 mod nesting;
 
+use amq_protocol_types::parsing::Limits;
 use amqp_c_common::return_count;
-use amqp_parsing::Limits;
 use canonical::canonical;
 use decode::put_json;
 use encode::put_encoding;

@@ -1,9 +1,9 @@
 -- What a fault of reading within limits means.
 use Rattle.std.specs.Prelude.{ℕ, ◌<◌, ◌≤◌, List}
-use Rattle.amqp_grammar.specs.Outcomes.{more, unknown, malformed}
-use Rattle.amqp_parsing.specs.declared.limits.Limits.{Limits}
-use Rattle.amqp_parsing.specs.Headers.{extent, IsWhole}
-use Rattle.amqp_parsing.specs.Limits.{Within}
+use Rattle.amqp_value_core.specs.Outcomes.{more, unknown, malformed}
+use Rattle.amq_protocol_types.specs.declared.parsing.limits.Limits.{Limits}
+use Rattle.amq_protocol_types.specs.parsing.Headers.{extent, IsWhole}
+use Rattle.amq_protocol_types.specs.parsing.Limits.{Within}
 use Rattle.amqp_c_common.specs.declared.fault.Fault.{Fault}
 use Rattle.amqp_c_common.specs.declared.fault.Fault.TheVariants.{More, UnknownTag, Malformed, TooLarge, OutOfMemory}
 

@@ -3,7 +3,7 @@
 ghost use Rattle.std.specs.Prelude.{◌≡◌};
 ghost use Rattle.amqp_c_common.specs.ReturnCodes.{fault_of, code_of};
 
-use amqp_parsing::{Err, ErrorKind, Needed, ParserError};
+use amq_protocol_types::parsing::{Err, ErrorKind, Needed, ParserError};
 
 /// Why a call does nothing.
 #[derive(Clone, Copy)]

@@ -6,21 +6,21 @@ use Rattle.std.specs.Str.{IsUtf8}
 use Rattle.std.proofs.lemmas.List.{length-take-le, nil_from_length, take_rest}
 use Rattle.std.proofs.lemmas.List.Edits.{length-between, between_none}
 use Rattle.std.proofs.lemmas.Bool.{le-ltb, lt-ltb}
-use Rattle.amqp_types.specs.declared.amqp_type.AMQPType.{AMQPType}
-use Rattle.amqp_types.specs.declared.amqp_type.AMQPType.TheVariants as amqp
-use Rattle.amqp_types.specs.Ids.{kind}
-use Rattle.amqp_grammar.specs.Values.{Tree, scalar, long, octets, array, table, no_trees, tree, no_entries, entry, insert_all}
-use Rattle.amqp_grammar.specs.Layouts.{Layout, fixed}
-use Rattle.amqp_grammar.specs.Grammar.{short_field, long_field, wire, raw_fixed, raw_long, raw_octets, raw_array, raw_table, no_values, value, no_pairs, pair}
-use Rattle.amqp_grammar.specs.Nesting.{OutcomeWithin, WireWithin, RawWithin}
-use Rattle.amqp_grammar.specs.Outcomes.{found, lack, lack_of, frame_lack, length_field}
-use Rattle.amqp_grammar.proofs.GrammarLaws.{wire_found_within}
-use Rattle.amqp_parsing.specs.Headers.{extent}
-use Rattle.amqp_parsing.specs.Limits.{Within, IsHeader as IsHeaderOf}
-use Rattle.amqp_parsing.specs.declared.limits.Limits.{Limits}
-use Rattle.amqp_parsing.specs.declared.header.Header.{Header}
-use Rattle.amqp_parsing.specs.declared.header.Header.TheVariants as header
-use Rattle.amqp_parsing.specs.PayloadResults.{IsType}
+use Rattle.amqp_value_core.specs.declared.types.amqp_type.AMQPType.{AMQPType}
+use Rattle.amqp_value_core.specs.declared.types.amqp_type.AMQPType.TheVariants as amqp
+use Rattle.amqp_value_core.specs.Ids.{kind}
+use Rattle.amqp_value_core.specs.Values.{Tree, scalar, long, octets, array, table, no_trees, tree, no_entries, entry, insert_all}
+use Rattle.amqp_value_core.specs.Layouts.{Layout, fixed}
+use Rattle.amqp_value_core.specs.Grammar.{short_field, long_field, wire, raw_fixed, raw_long, raw_octets, raw_array, raw_table, no_values, value, no_pairs, pair}
+use Rattle.amqp_value_core.specs.Nesting.{OutcomeWithin, WireWithin, RawWithin}
+use Rattle.amqp_value_core.specs.Outcomes.{found, lack, lack_of, frame_lack, length_field}
+use Rattle.amqp_value_core.proofs.GrammarLaws.{wire_found_within}
+use Rattle.amq_protocol_types.specs.parsing.Headers.{extent}
+use Rattle.amq_protocol_types.specs.parsing.Limits.{Within, IsHeader as IsHeaderOf}
+use Rattle.amq_protocol_types.specs.declared.parsing.limits.Limits.{Limits}
+use Rattle.amq_protocol_types.specs.declared.parsing.header.Header.{Header}
+use Rattle.amq_protocol_types.specs.declared.parsing.header.Header.TheVariants as header
+use Rattle.amq_protocol_types.specs.parsing.PayloadResults.{IsType}
 use Rattle.amqp_dissect.specs.declared.problem.Problem.{Problem}
 use Rattle.amqp_dissect.specs.declared.problem.Problem.TheVariants.{NoTypeTag, UnknownTypeTag, Cut, KeyCut, KeyNotUtf8, TooDeep}
 use Rattle.amqp_dissect.specs.Problems.{IsContainer, NoValue, no_type_tag, unknown_type_tag, cut, too_deep, in_array, in_table, NoValues, bad_value, after_value, NoPairs, cut_key, key_not_utf8, bad_pair, after_pair}
@@ -28,7 +28,7 @@ use Rattle.amqp_dissect.specs.declared.problem.Stop.{Stop}
 use Rattle.amqp_dissect.specs.declared.problem.Stop.TheVariants.{OutOfMemory, At}
 use Rattle.amqp_dissect.specs.declared.walk.Walk.{Walk}
 use Rattle.amqp_dissect.specs.Walks.{IsAt, IsValueThen, IsKeyThen, AreValues, ArePairs, HasFrame, HasHeader, HasLengthPrefix, IsString, ahead, CanReach, GoesOn, PassesValue, PassesEntries}
-use Rattle.amqp_parsing.specs.ParseResults.{Refuses}
+use Rattle.amq_protocol_types.specs.parsing.ParseResults.{Refuses}
 use Rattle.amqp_dissect.specs.Ends.{refusal_of}
 use Rattle.amqp_dissect.specs.Memory.{HasTypeTag, TakesMemory}
 use Rattle.amqp_dissect.proofs.Refused.{value_refused}

@@ -6,13 +6,13 @@ use Rattle.std.proofs.lemmas.Bool.{cases_lt, le-ltb}
 use Rattle.std.proofs.lemmas.Nat.{from_be_bytes-to_be_bytes_4}
 use Rattle.std.proofs.Math.ListN.{drop_of_length-le}
 use Rattle.std.proofs.Math.Seq.{take-append_seam, drop-append_seam}
-use Rattle.amqp_types.specs.declared.amqp_type.AMQPType.{AMQPType}
-use Rattle.amqp_types.specs.declared.amqp_type.AMQPType.TheVariants as amqp
-use Rattle.amqp_types.specs.Ids.{kind}
-use Rattle.amqp_grammar.specs.Layouts.{Layout, fixed}
-use Rattle.amqp_grammar.specs.Grammar.{short_field}
-use Rattle.amqp_grammar.specs.Outcomes.{length_field, counted}
-use Rattle.amqp_parsing.specs.Headers.{extent, extent_at, extent_of, raw_extent}
+use Rattle.amqp_value_core.specs.declared.types.amqp_type.AMQPType.{AMQPType}
+use Rattle.amqp_value_core.specs.declared.types.amqp_type.AMQPType.TheVariants as amqp
+use Rattle.amqp_value_core.specs.Ids.{kind}
+use Rattle.amqp_value_core.specs.Layouts.{Layout, fixed}
+use Rattle.amqp_value_core.specs.Grammar.{short_field}
+use Rattle.amqp_value_core.specs.Outcomes.{length_field, counted}
+use Rattle.amq_protocol_types.specs.parsing.Headers.{extent, extent_at, extent_of, raw_extent}
 use Rattle.amqp_dissect.specs.declared.part.Field.TheVariants.{TypeTag, Length, KeyLength, Key, Payload}
 use Rattle.amqp_dissect.specs.Walks.{HasLengthPrefix, IsString}
 use Rattle.amqp_dissect.specs.PartsOf.{Piece, part, Inside, counted_parts, payload_parts, value_parts, key_parts, entries_parts, entries_at, value_at}

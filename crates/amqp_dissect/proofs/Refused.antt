@@ -3,22 +3,22 @@ use Rattle.std.proofs.Common.{◌≡◌, ◌≤◌, ◌<◌, ◌+◌, ◌-◌, �
 use Rattle.std.specs.Int.{w8}
 use Rattle.std.specs.Str.{IsUtf8}
 use Rattle.std.proofs.lemmas.Bool.{le-ltb}
-use Rattle.amqp_types.specs.Ids.{kind}
-use Rattle.amqp_types.specs.declared.amqp_type.AMQPType.{AMQPType}
-use Rattle.amqp_types.specs.declared.amqp_type.AMQPType.TheVariants as amqp
-use Rattle.amqp_grammar.specs.Values.{no_entries, short}
-use Rattle.amqp_grammar.specs.Grammar.{short_field, long_field, raw_short}
-use Rattle.amqp_grammar.specs.Nesting.{OutcomeWithin}
-use Rattle.amqp_grammar.specs.Outcomes.{more, malformed, lack, frame_lack, counted, NeedsMoreOr, Heavy}
-use Rattle.amqp_grammar.specs.Payloads.{RawFront, RawOutcome}
-use Rattle.amqp_grammar.proofs.GrammarLaws.{raw_to_value_within, raw_found, raw_whole, wire_found_within, short_bytes}
-use Rattle.amqp_parsing.specs.declared.errors.Err.TheVariants.{Incomplete, Error}
-use Rattle.amqp_parsing.specs.declared.errors.Needed.TheVariants.{Size}
-use Rattle.amqp_parsing.specs.declared.errors.ErrorKind.TheVariants.{MapRes, Eof}
-use Rattle.amqp_parsing.specs.Refusals.{Refusal, inside}
-use Rattle.amqp_parsing.specs.ParseResults.{Refuses}
-use Rattle.amqp_parsing.specs.Bodies.{IsNoBody, IsNoTable}
-use Rattle.amqp_parsing.proofs.ParsingLaws.{Refuses-weaker, Goes, Goes-step, Goes-refused, Walks-start, Walks-step, Walks-bad_key, Walks-bad_value, array_refused, array_too_deep, table_refused, table_too_deep}
+use Rattle.amqp_value_core.specs.Ids.{kind}
+use Rattle.amqp_value_core.specs.declared.types.amqp_type.AMQPType.{AMQPType}
+use Rattle.amqp_value_core.specs.declared.types.amqp_type.AMQPType.TheVariants as amqp
+use Rattle.amqp_value_core.specs.Values.{no_entries, short}
+use Rattle.amqp_value_core.specs.Grammar.{short_field, long_field, raw_short}
+use Rattle.amqp_value_core.specs.Nesting.{OutcomeWithin}
+use Rattle.amqp_value_core.specs.Outcomes.{more, malformed, lack, frame_lack, counted, NeedsMoreOr, Heavy}
+use Rattle.amqp_value_core.specs.Payloads.{RawFront, RawOutcome}
+use Rattle.amqp_value_core.proofs.GrammarLaws.{raw_to_value_within, raw_found, raw_whole, wire_found_within, short_bytes}
+use Rattle.amq_protocol_types.specs.declared.parsing.errors.Err.TheVariants.{Incomplete, Error}
+use Rattle.amq_protocol_types.specs.declared.parsing.errors.Needed.TheVariants.{Size}
+use Rattle.amq_protocol_types.specs.declared.parsing.errors.ErrorKind.TheVariants.{MapRes, Eof}
+use Rattle.amq_protocol_types.specs.parsing.Refusals.{Refusal, inside}
+use Rattle.amq_protocol_types.specs.parsing.ParseResults.{Refuses}
+use Rattle.amq_protocol_types.specs.parsing.Bodies.{IsNoBody, IsNoTable}
+use Rattle.amq_protocol_types.proofs.ParsingLaws.{Refuses-weaker, Goes, Goes-step, Goes-refused, Walks-start, Walks-step, Walks-bad_key, Walks-bad_value, array_refused, array_too_deep, table_refused, table_too_deep}
 use Rattle.amqp_dissect.specs.declared.problem.Problem.{Problem}
 use Rattle.amqp_dissect.specs.declared.problem.Problem.TheVariants.{NoTypeTag, UnknownTypeTag, Cut}
 use Rattle.amqp_dissect.specs.Problems.{IsContainer, NoValue, no_type_tag, unknown_type_tag, cut, too_deep, in_array, in_table, NoValues, bad_value, after_value, NoPairs, cut_key, key_not_utf8, bad_pair, after_pair}

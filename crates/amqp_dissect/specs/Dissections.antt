@@ -1,7 +1,7 @@
 -- The dissection of an input within limits.
 use Rattle.std.specs.Prelude.{ℕ, ◌≡◌, ◌≤◌, IsTrue, List, length, map, take}
 use Rattle.std.specs.List.{list_all}
-use Rattle.amqp_parsing.specs.declared.limits.Limits.{Limits}
+use Rattle.amq_protocol_types.specs.declared.parsing.limits.Limits.{Limits}
 use Rattle.amqp_dissect.specs.declared.dissection.Dissection.{Dissection}
 use Rattle.amqp_dissect.specs.Parts.{has_bytes, joined as bytes_of, HaveOffsets}
 use Rattle.amqp_dissect.specs.PartsOf.{piece, parts_of}

@@ -1,14 +1,14 @@
 -- What is at the end of a dissection.
 use Rattle.std.specs.Prelude.{ℕ, zero, suc, ◌≡◌, ◌<◌, ◌≤◌, List, drop}
-use Rattle.amqp_grammar.specs.Values.{Tree}
-use Rattle.amqp_grammar.specs.Outcomes.{found}
-use Rattle.amqp_grammar.specs.Nesting.{OutcomeWithin}
-use Rattle.amqp_parsing.specs.declared.errors.ErrorKind.TheVariants.{MapOpt, Eof}
-use Rattle.amqp_parsing.specs.Refusals.{Refusal, lacks, refused}
-use Rattle.amqp_parsing.specs.ParseResults.{Refuses}
-use Rattle.amqp_parsing.specs.Headers.{extent}
-use Rattle.amqp_parsing.specs.Limits.{Within}
-use Rattle.amqp_parsing.specs.declared.limits.Limits.{Limits}
+use Rattle.amqp_value_core.specs.Values.{Tree}
+use Rattle.amqp_value_core.specs.Outcomes.{found}
+use Rattle.amqp_value_core.specs.Nesting.{OutcomeWithin}
+use Rattle.amq_protocol_types.specs.declared.parsing.errors.ErrorKind.TheVariants.{MapOpt, Eof}
+use Rattle.amq_protocol_types.specs.parsing.Refusals.{Refusal, lacks, refused}
+use Rattle.amq_protocol_types.specs.parsing.ParseResults.{Refuses}
+use Rattle.amq_protocol_types.specs.parsing.Headers.{extent}
+use Rattle.amq_protocol_types.specs.parsing.Limits.{Within}
+use Rattle.amq_protocol_types.specs.declared.parsing.limits.Limits.{Limits}
 use Rattle.amqp_dissect.specs.declared.dissection.End.{End}
 use Rattle.amqp_dissect.specs.declared.dissection.End.TheVariants as end
 use Rattle.amqp_dissect.specs.declared.problem.Problem.{Problem}

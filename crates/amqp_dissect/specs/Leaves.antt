@@ -1,7 +1,7 @@
 -- Values that are no containers, in parts: those of a dissection, or any others.
 use Rattle.std.specs.Prelude.{ℕ, ◌≡◌, ◌≢◌, ◌⊎◌, List, [], ◌∷◌}
-use Rattle.amqp_types.specs.declared.amqp_type.AMQPType.{AMQPType}
-use Rattle.amqp_types.specs.declared.amqp_type.AMQPType.TheVariants as amqp
+use Rattle.amqp_value_core.specs.declared.types.amqp_type.AMQPType.{AMQPType}
+use Rattle.amqp_value_core.specs.declared.types.amqp_type.AMQPType.TheVariants as amqp
 use Rattle.amqp_dissect.specs.declared.part.Part.{Part}
 use Rattle.amqp_dissect.specs.declared.part.Field.TheVariants.{TypeTag, Length, Payload}
 

@@ -1,9 +1,9 @@
 -- When a dissection allocates: for its parts, the first of which is a type tag.
 use Rattle.std.specs.Prelude.{ℕ, ◌≤◌, List}
-use Rattle.amqp_types.specs.declared.amqp_type.AMQPType.{AMQPType}
-use Rattle.amqp_parsing.specs.Headers.{extent}
-use Rattle.amqp_parsing.specs.PayloadResults.{IsType}
-use Rattle.amqp_parsing.specs.declared.limits.Limits.{Limits}
+use Rattle.amqp_value_core.specs.declared.types.amqp_type.AMQPType.{AMQPType}
+use Rattle.amq_protocol_types.specs.parsing.Headers.{extent}
+use Rattle.amq_protocol_types.specs.parsing.PayloadResults.{IsType}
+use Rattle.amq_protocol_types.specs.declared.parsing.limits.Limits.{Limits}
 
 -- s begins with a type tag
 abbrev pub HasTypeTag : List ℕ → Type 0

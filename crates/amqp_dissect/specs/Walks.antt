@@ -1,14 +1,14 @@
 -- What traversing an encoding does.
 use Rattle.std.specs.Prelude.{ℕ, ◌+◌, ◌-◌, ◌^◌, ◌<◌, ◌≤◌, ◌≡◌, List, ◌∷◌, ◌++◌, length, map, slice_range, Some, Result, Ok, Err, OnOk, IfErr}
-use Rattle.amqp_types.specs.declared.amqp_type.AMQPType.{AMQPType}
-use Rattle.amqp_types.specs.declared.amqp_type.AMQPType.TheVariants as amqp
-use Rattle.amqp_types.specs.Ids.{kind}
-use Rattle.amqp_types.specs.Strings.{IsShort}
-use Rattle.amqp_grammar.specs.Values.{Tree, Trees, Entries}
-use Rattle.amqp_grammar.specs.Grammar.{short_field, long_field}
-use Rattle.amqp_grammar.specs.Nesting.{WireWithin, BodyWithin, PairsWithin}
-use Rattle.amqp_parsing.specs.Bodies.{IsLengthPrefixed}
-use Rattle.amqp_parsing.specs.Headers.{extent}
+use Rattle.amqp_value_core.specs.declared.types.amqp_type.AMQPType.{AMQPType}
+use Rattle.amqp_value_core.specs.declared.types.amqp_type.AMQPType.TheVariants as amqp
+use Rattle.amqp_value_core.specs.Ids.{kind}
+use Rattle.amqp_value_core.specs.Strings.{IsShort}
+use Rattle.amqp_value_core.specs.Values.{Tree, Trees, Entries}
+use Rattle.amqp_value_core.specs.Grammar.{short_field, long_field}
+use Rattle.amqp_value_core.specs.Nesting.{WireWithin, BodyWithin, PairsWithin}
+use Rattle.amq_protocol_types.specs.parsing.Bodies.{IsLengthPrefixed}
+use Rattle.amq_protocol_types.specs.parsing.Headers.{extent}
 use Rattle.amqp_dissect.specs.declared.problem.Problem.{Problem}
 use Rattle.amqp_dissect.specs.declared.problem.Stop.{Stop}
 use Rattle.amqp_dissect.specs.declared.problem.Stop.TheVariants.{OutOfMemory, At}

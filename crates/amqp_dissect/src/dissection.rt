@@ -7,7 +7,7 @@ ghost use Rattle.amqp_dissect.specs.Memory.{TakesMemory};
 use crate::part::Part;
 use crate::problem::Problem;
 use crate::walk::Walk;
-use amqp_parsing::Limits;
+use amq_protocol_types::parsing::Limits;
 use std::alloc::{AllocError, Global};
 
 /// What a dissection ends at.

@@ -4,7 +4,7 @@ ghost use Rattle.std.specs.Prelude.{ℕ, List, IfSome, IfNone};
 ghost use Rattle.amqp_dissect.specs.Leaves.{IsLeaf, BeginsWithPayload, IsCountedFirst, IsPayloadFirst, IsPayload};
 
 use crate::part::{Field, Part};
-use amqp_types::AMQPType;
+use amqp_value_core::types::AMQPType;
 
 /// A value that isn't a container and whose payload is there: its type and the payload's bytes.
 #[derive(Clone, Copy, Debug)]

@@ -1,6 +1,6 @@
 //! The parts of an encoding.
 
-use amqp_types::AMQPType;
+use amqp_value_core::types::AMQPType;
 
 /// What a part of an encoding is.
 #[derive(Clone, Copy, Debug, PartialEq, Eq)]

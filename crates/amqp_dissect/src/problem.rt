@@ -1,6 +1,6 @@
 //! Why bytes aren't an encoding.
 
-use amqp_types::AMQPType;
+use amqp_value_core::types::AMQPType;
 use std::alloc::AllocError;
 
 /// Why there is no value, or no pair of a table, at an offset.

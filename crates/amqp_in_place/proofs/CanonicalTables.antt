@@ -3,21 +3,21 @@ use Rattle.std.proofs.Common.{◌≡◌, ◌<◌, ◌≤◌, ◌+◌, ◌-◌, �
 use Rattle.std.specs.Option.{IfSome, option_eq}
 use Rattle.std.specs.Bool.{then_some}
 use Rattle.std.proofs.lemmas.Bool.{eqb-true, false≢true}
-use Rattle.amqp_types.specs.declared.amqp_type.AMQPType.TheVariants as amqp
-use Rattle.amqp_types.specs.Inputs.{IsBytes, slice_bytes}
-use Rattle.amqp_types.specs.declared.input.SliceInput.{SliceInput}
-use Rattle.amqp_grammar.specs.Values.{Tree}
-use Rattle.amqp_grammar.specs.Outcomes.{found, more, unknown, malformed}
-use Rattle.amqp_grammar.proofs.GrammarLaws.{one_outcome_within}
-use Rattle.amqp_parsing.specs.declared.errors.Err.TheVariants.{Incomplete, Error, Failure}
-use Rattle.amqp_parsing.specs.declared.errors.Needed.TheVariants.{Unknown, Size}
-use Rattle.amqp_parsing.specs.declared.errors.ErrorKind.TheVariants.{MapOpt, MapRes, Eof, OutOfMemory, TooLarge}
-use Rattle.amqp_parsing.specs.declared.limits.Limits.{Limits}
-use Rattle.amqp_parsing.specs.Refusals.{Refusal}
-use Rattle.amqp_parsing.specs.Bodies.{IsLengthPrefixed}
-use Rattle.amqp_parsing.specs.Headers.{extent}
-use Rattle.amqp_parsing.specs.Limits.{Within}
-use Rattle.amqp_parsing.specs.Untagged.{tagged, RefusesUntagged}
+use Rattle.amqp_value_core.specs.declared.types.amqp_type.AMQPType.TheVariants as amqp
+use Rattle.amqp_value_core.specs.Inputs.{IsBytes, slice_bytes}
+use Rattle.amqp_value_core.specs.declared.input.SliceInput.{SliceInput}
+use Rattle.amqp_value_core.specs.Values.{Tree}
+use Rattle.amqp_value_core.specs.Outcomes.{found, more, unknown, malformed}
+use Rattle.amqp_value_core.proofs.GrammarLaws.{one_outcome_within}
+use Rattle.amq_protocol_types.specs.declared.parsing.errors.Err.TheVariants.{Incomplete, Error, Failure}
+use Rattle.amq_protocol_types.specs.declared.parsing.errors.Needed.TheVariants.{Unknown, Size}
+use Rattle.amq_protocol_types.specs.declared.parsing.errors.ErrorKind.TheVariants.{MapOpt, MapRes, Eof, OutOfMemory, TooLarge}
+use Rattle.amq_protocol_types.specs.declared.parsing.limits.Limits.{Limits}
+use Rattle.amq_protocol_types.specs.parsing.Refusals.{Refusal}
+use Rattle.amq_protocol_types.specs.parsing.Bodies.{IsLengthPrefixed}
+use Rattle.amq_protocol_types.specs.parsing.Headers.{extent}
+use Rattle.amq_protocol_types.specs.parsing.Limits.{Within}
+use Rattle.amq_protocol_types.specs.parsing.Untagged.{tagged, RefusesUntagged}
 use Rattle.amqp_in_place.specs.InPlaceResults.{NeedsNoMemory}
 use Rattle.amqp_in_place.specs.Canonicals.{IsCanonicalLen, IsCanonicalWithin, CanonEntries, IsFirstSpelling}
 use Rattle.amqp_in_place.proofs.Untagged.{table_head}

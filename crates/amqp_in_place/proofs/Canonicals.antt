@@ -13,31 +13,31 @@ use Rattle.std.specs.Str.{IsUtf8}
 use Rattle.std.proofs.lemmas.Bool.{eqb-true, false≢true}
 use Rattle.std.proofs.lemmas.List.{nil_from_length, append-nil}
 use Rattle.std.proofs.lemmas.Option.{same_Some}
-use Rattle.amqp_types.specs.Ids.{letters, kind}
-use Rattle.amqp_types.specs.Strings.{IsShort}
-use Rattle.amqp_types.specs.declared.amqp_type.AMQPType.{AMQPType}
-use Rattle.amqp_types.specs.declared.amqp_type.AMQPType.TheVariants as amqp
-use Rattle.amqp_types.proofs.Ids.{row_holds, kind_read}
-use Rattle.amqp_grammar.specs.Values.{Tree, short, long, array, table, Trees, no_trees, tree, Entries, no_entries, entry, ComesBefore, depth}
-use Rattle.amqp_grammar.specs.Members.{greatest_depth, entries_depth, CanonBody, CanonPairs}
-use Rattle.amqp_grammar.specs.Layouts.{Layout, fixed}
-use Rattle.amqp_grammar.specs.Grammar.{short_field, long_field, Wire, wire, Raw, raw_fixed, raw_short, raw_long, raw_octets, raw_array, raw_table, no_values as no_value_there, value, no_pairs as no_pair_there, pair}
-use Rattle.amqp_grammar.specs.Nesting.{WireWithin, OutcomeWithin}
-use Rattle.amqp_grammar.specs.Outcomes.{found, more, unknown, lack, NeedsMoreOr, Outcome}
-use Rattle.amqp_grammar.specs.Payloads.{RawFront, RawOutcome, CanonRaw}
-use Rattle.amqp_grammar.specs.Canonical.{IsStrict, Canon}
-use Rattle.amqp_grammar.proofs.GrammarLaws.{one_reading, one_raw_reading, one_raw_outcome, raw_found, wire_found, wire_found_within, front_within, depth_within, text_within, text_is_canon, what_is_read, read_is_value, canon_is_wire, canon_fits, canon_is_text, canon, canon_array, canon_table, canon_value, canon_pair, canon_rises, rising_pairs, short_bytes, one_outcome, bytes_front}
-use Rattle.amqp_types.specs.Inputs.{IsBytes, slice_bytes}
-use Rattle.amqp_types.specs.declared.input.SliceInput.{SliceInput}
-use Rattle.amqp_parsing.specs.declared.limits.Limits.{Limits}
-use Rattle.amqp_parsing.specs.Headers.{extent, wanted}
-use Rattle.amqp_parsing.specs.Limits.{Within, IsHeader}
-use Rattle.amqp_parsing.specs.declared.header.Header.{Header}
-use Rattle.amqp_parsing.specs.declared.header.Header.TheVariants as header
-use Rattle.amqp_parsing.proofs.ParsingLaws.{more_wanted}
-use Rattle.amqp_parsing.specs.PayloadResults.{IsType}
-use Rattle.amqp_parsing.specs.Refusals.{Refusal}
-use Rattle.amqp_parsing.specs.ParseResults.{Refuses}
+use Rattle.amqp_value_core.specs.Ids.{letters, kind}
+use Rattle.amqp_value_core.specs.Strings.{IsShort}
+use Rattle.amqp_value_core.specs.declared.types.amqp_type.AMQPType.{AMQPType}
+use Rattle.amqp_value_core.specs.declared.types.amqp_type.AMQPType.TheVariants as amqp
+use Rattle.amqp_value_core.proofs.Ids.{row_holds, kind_read}
+use Rattle.amqp_value_core.specs.Values.{Tree, short, long, array, table, Trees, no_trees, tree, Entries, no_entries, entry, ComesBefore, depth}
+use Rattle.amqp_value_core.specs.Members.{greatest_depth, entries_depth, CanonBody, CanonPairs}
+use Rattle.amqp_value_core.specs.Layouts.{Layout, fixed}
+use Rattle.amqp_value_core.specs.Grammar.{short_field, long_field, Wire, wire, Raw, raw_fixed, raw_short, raw_long, raw_octets, raw_array, raw_table, no_values as no_value_there, value, no_pairs as no_pair_there, pair}
+use Rattle.amqp_value_core.specs.Nesting.{WireWithin, OutcomeWithin}
+use Rattle.amqp_value_core.specs.Outcomes.{found, more, unknown, lack, NeedsMoreOr, Outcome}
+use Rattle.amqp_value_core.specs.Payloads.{RawFront, RawOutcome, CanonRaw}
+use Rattle.amqp_value_core.specs.Canonical.{IsStrict, Canon}
+use Rattle.amqp_value_core.proofs.GrammarLaws.{one_reading, one_raw_reading, one_raw_outcome, raw_found, wire_found, wire_found_within, front_within, depth_within, text_within, text_is_canon, what_is_read, read_is_value, canon_is_wire, canon_fits, canon_is_text, canon, canon_array, canon_table, canon_value, canon_pair, canon_rises, rising_pairs, short_bytes, one_outcome, bytes_front}
+use Rattle.amqp_value_core.specs.Inputs.{IsBytes, slice_bytes}
+use Rattle.amqp_value_core.specs.declared.input.SliceInput.{SliceInput}
+use Rattle.amq_protocol_types.specs.declared.parsing.limits.Limits.{Limits}
+use Rattle.amq_protocol_types.specs.parsing.Headers.{extent, wanted}
+use Rattle.amq_protocol_types.specs.parsing.Limits.{Within, IsHeader}
+use Rattle.amq_protocol_types.specs.declared.parsing.header.Header.{Header}
+use Rattle.amq_protocol_types.specs.declared.parsing.header.Header.TheVariants as header
+use Rattle.amq_protocol_types.proofs.ParsingLaws.{more_wanted}
+use Rattle.amq_protocol_types.specs.parsing.PayloadResults.{IsType}
+use Rattle.amq_protocol_types.specs.parsing.Refusals.{Refusal}
+use Rattle.amq_protocol_types.specs.parsing.ParseResults.{Refuses}
 use Rattle.amqp_in_place.specs.declared.head.Head.TheVariants as head
 use Rattle.amqp_in_place.specs.declared.refs.ValueRef.{ValueRef}
 use Rattle.amqp_in_place.specs.Refs.{plain_tree}

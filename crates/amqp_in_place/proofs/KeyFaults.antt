@@ -12,8 +12,8 @@ use Rattle.std.proofs.lemmas.Bool.{false≢true, leb-true, leb-false}
 use Rattle.std.proofs.lemmas.List.{take_all, length-drop, drop-drop, drop_all, length-take-le}
 use Rattle.std.specs.Str.{IsUtf8, is_utf8}
 use Rattle.std.proofs.lemmas.Str.{IsUtf8-from_is_utf8, is_utf8-from_IsUtf8}
-use Rattle.amqp_grammar.specs.Maps.{same_bytes}
-use Rattle.amqp_parsing.specs.Headers.{extent}
+use Rattle.amqp_value_core.specs.Maps.{same_bytes}
+use Rattle.amq_protocol_types.specs.parsing.Headers.{extent}
 use Rattle.amqp_in_place.specs.declared.rabbitmq.warning.KeyFault.{KeyFault}
 use Rattle.amqp_in_place.specs.declared.rabbitmq.warning.KeyFault.TheVariants.{Repeated, NotUtf8}
 use Rattle.amqp_in_place.specs.Problems.{pair_len}

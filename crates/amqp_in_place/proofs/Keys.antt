@@ -4,12 +4,12 @@ use Rattle.std.proofs.Math.Logic.{∥∥₁_elim, ∥∥₁_map}
 use Rattle.std.proofs.lemmas.List.{take_at, drop_at, take-append-drop}
 use Rattle.std.specs.Coded.{le_prop}
 use Rattle.std.specs.Borrow.{Bor}
-use Rattle.amqp_grammar.specs.Values.{Tree, Entries, entry}
-use Rattle.amqp_grammar.specs.Grammar.{Wire, TableBody, no_pairs, pair}
-use Rattle.amqp_grammar.specs.Outcomes.{Outcome, found}
-use Rattle.amqp_grammar.proofs.GrammarLaws.{wire_found}
-use Rattle.amqp_parsing.specs.Headers.{extent}
-use Rattle.amqp_parsing.proofs.ParsingLaws.{wire_extent}
+use Rattle.amqp_value_core.specs.Values.{Tree, Entries, entry}
+use Rattle.amqp_value_core.specs.Grammar.{Wire, TableBody, no_pairs, pair}
+use Rattle.amqp_value_core.specs.Outcomes.{Outcome, found}
+use Rattle.amqp_value_core.proofs.GrammarLaws.{wire_found}
+use Rattle.amq_protocol_types.specs.parsing.Headers.{extent}
+use Rattle.amq_protocol_types.proofs.ParsingLaws.{wire_extent}
 use Rattle.amqp_in_place.specs.InPlaceResults.{IsLeft}
 use Rattle.amqp_in_place.specs.Bodies.{HasPairs}
 use Rattle.amqp_in_place.specs.Walks.{HasFront, NextKeyIs}

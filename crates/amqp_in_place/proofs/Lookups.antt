@@ -2,12 +2,12 @@
 use Rattle.std.proofs.Common.{◌≡◌, ◌<◌, ◌↔◌, ℕ, suc, Bool, true, false, cond, List, length, Option, Some, None, refl, sym, ap, ◌∙◌, subst, arith, length-append}
 use Rattle.std.specs.Option.{option_or, is_some}
 use Rattle.std.specs.Borrow.{Bor}
-use Rattle.amqp_grammar.specs.Values.{Tree, Trees, no_trees, tree, Entries, no_entries, entry}
-use Rattle.amqp_grammar.specs.Maps.{same_bytes, last_at, value_at, has_key}
-use Rattle.amqp_grammar.specs.Grammar.{Wire, wire, ArrayBody, no_values, value, TableBody, no_pairs, pair}
-use Rattle.amqp_grammar.proofs.GrammarLaws.{last_stays, key_has_value}
-use Rattle.amqp_types.specs.Inputs.{slice_bytes}
-use Rattle.amqp_types.specs.declared.input.SliceInput.{SliceInput}
+use Rattle.amqp_value_core.specs.Values.{Tree, Trees, no_trees, tree, Entries, no_entries, entry}
+use Rattle.amqp_value_core.specs.Maps.{same_bytes, last_at, value_at, has_key}
+use Rattle.amqp_value_core.specs.Grammar.{Wire, wire, ArrayBody, no_values, value, TableBody, no_pairs, pair}
+use Rattle.amqp_value_core.proofs.GrammarLaws.{last_stays, key_has_value}
+use Rattle.amqp_value_core.specs.Inputs.{slice_bytes}
+use Rattle.amqp_value_core.specs.declared.input.SliceInput.{SliceInput}
 use Rattle.amqp_in_place.specs.Bodies.{HasEntries}
 use Rattle.amqp_in_place.specs.declared.refs.ValueRef.{ValueRef}
 use Rattle.amqp_in_place.specs.Walks.{NextValueBy, IsReadAt, NextKeyBy, BeginsBy, BeginsAt, FoundBy, tree_at}

@@ -7,19 +7,19 @@ use Rattle.std.specs.declared.cmp.Ordering.{Ordering}
 use Rattle.std.specs.declared.cmp.Ordering.TheVariants.{Less, Equal, Greater}
 use Rattle.std.proofs.lemmas.List.{nil_from_length}
 use Rattle.std.proofs.lemmas.Option.{same_Some}
-use Rattle.amqp_types.specs.Ids.{kind}
-use Rattle.amqp_types.specs.Strings.{IsShort}
-use Rattle.amqp_types.specs.declared.amqp_type.AMQPType.{AMQPType}
-use Rattle.amqp_types.specs.declared.amqp_type.AMQPType.TheVariants as amqp
-use Rattle.amqp_grammar.specs.Values.{Tree, short, array, table, Trees, no_trees, tree, Entries, no_entries, entry, insert, insert_all, count, depth}
-use Rattle.amqp_grammar.specs.Members.{count_all, entries_count}
-use Rattle.amqp_grammar.specs.Layouts.{Layout, fixed}
-use Rattle.amqp_grammar.specs.Grammar.{short_field, long_field, Wire, wire, Raw, raw_fixed, raw_short, raw_long, raw_octets, raw_array, raw_table, ArrayBody, no_values, value, TableBody, no_pairs, pair}
-use Rattle.amqp_grammar.specs.Nesting.{nesting, raw_nesting, body_nesting, pairs_nesting, OutcomeWithin}
-use Rattle.amqp_grammar.specs.Outcomes.{found}
-use Rattle.amqp_grammar.proofs.GrammarLaws.{one_reading, one_raw_reading, wire_found_within, depth_within, body_nesting-le, pairs_nesting-le}
-use Rattle.amqp_types.specs.Inputs.{slice_bytes}
-use Rattle.amqp_types.specs.declared.input.SliceInput.{SliceInput}
+use Rattle.amqp_value_core.specs.Ids.{kind}
+use Rattle.amqp_value_core.specs.Strings.{IsShort}
+use Rattle.amqp_value_core.specs.declared.types.amqp_type.AMQPType.{AMQPType}
+use Rattle.amqp_value_core.specs.declared.types.amqp_type.AMQPType.TheVariants as amqp
+use Rattle.amqp_value_core.specs.Values.{Tree, short, array, table, Trees, no_trees, tree, Entries, no_entries, entry, insert, insert_all, count, depth}
+use Rattle.amqp_value_core.specs.Members.{count_all, entries_count}
+use Rattle.amqp_value_core.specs.Layouts.{Layout, fixed}
+use Rattle.amqp_value_core.specs.Grammar.{short_field, long_field, Wire, wire, Raw, raw_fixed, raw_short, raw_long, raw_octets, raw_array, raw_table, ArrayBody, no_values, value, TableBody, no_pairs, pair}
+use Rattle.amqp_value_core.specs.Nesting.{nesting, raw_nesting, body_nesting, pairs_nesting, OutcomeWithin}
+use Rattle.amqp_value_core.specs.Outcomes.{found}
+use Rattle.amqp_value_core.proofs.GrammarLaws.{one_reading, one_raw_reading, wire_found_within, depth_within, body_nesting-le, pairs_nesting-le}
+use Rattle.amqp_value_core.specs.Inputs.{slice_bytes}
+use Rattle.amqp_value_core.specs.declared.input.SliceInput.{SliceInput}
 use Rattle.amqp_in_place.specs.declared.head.Head.TheVariants as head
 use Rattle.amqp_in_place.specs.declared.refs.ValueRef.{ValueRef}
 use Rattle.amqp_in_place.specs.Refs.{plain_tree}

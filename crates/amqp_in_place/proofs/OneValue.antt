@@ -1,7 +1,7 @@
 -- What is referred to is one value.
 use Rattle.std.proofs.Common.{◌∙◌, refl, sym, ap}
-use Rattle.amqp_grammar.specs.Values.{array, table, no_entries, insert_all}
-use Rattle.amqp_grammar.proofs.GrammarLaws.{one_body_meaning, one_pairs_meaning}
+use Rattle.amqp_value_core.specs.Values.{array, table, no_entries, insert_all}
+use Rattle.amqp_value_core.proofs.GrammarLaws.{one_body_meaning, one_pairs_meaning}
 use Rattle.amqp_in_place.specs.declared.refs.TableRef.{TableRef}
 use Rattle.amqp_in_place.specs.declared.refs.ValueRef.{ValueRef}
 use Rattle.amqp_in_place.specs.declared.refs.ValueRef.TheVariants as at

@@ -3,12 +3,12 @@ use Rattle.std.proofs.Common.{◌≡◌, ◌<◌, ℕ, zero, suc, List, [], ◌�
 use Rattle.std.specs.Prelude.{option_and_then}
 use Rattle.std.specs.Borrow.{Bor}
 use Rattle.std.specs.Int.{w32, to_be_bytes}
-use Rattle.amqp_types.specs.declared.amqp_type.AMQPType.{AMQPType}
-use Rattle.amqp_types.specs.declared.amqp_type.AMQPType.TheVariants as amqp
-use Rattle.amqp_grammar.specs.Values.{Tree, Entries, no_entries, insert_all}
-use Rattle.amqp_grammar.specs.Maps.{value_at, last_at, IsRising}
-use Rattle.amqp_grammar.specs.Grammar.{long_field}
-use Rattle.amqp_grammar.proofs.GrammarLaws.{last_stays, pairs_rise, rising_pairs}
+use Rattle.amqp_value_core.specs.declared.types.amqp_type.AMQPType.{AMQPType}
+use Rattle.amqp_value_core.specs.declared.types.amqp_type.AMQPType.TheVariants as amqp
+use Rattle.amqp_value_core.specs.Values.{Tree, Entries, no_entries, insert_all}
+use Rattle.amqp_value_core.specs.Maps.{value_at, last_at, IsRising}
+use Rattle.amqp_value_core.specs.Grammar.{long_field}
+use Rattle.amqp_value_core.proofs.GrammarLaws.{last_stays, pairs_rise, rising_pairs}
 use Rattle.amqp_in_place.specs.declared.refs.TableRef.{TableRef}
 use Rattle.amqp_in_place.specs.declared.refs.ValueRef.{ValueRef}
 use Rattle.amqp_in_place.specs.declared.refs.ValueRef.TheVariants as at

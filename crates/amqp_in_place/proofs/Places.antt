@@ -1,15 +1,15 @@
 -- The place of a value that is read.
 use Rattle.std.proofs.Common.{◌≡◌, ◌^◌, ◌<◌, ℕ, zero, suc, List, [], ◌∷◌, ◌++◌, length, Some, refl, sym, ap, ◌∙◌, subst, append_assoc}
-use Rattle.amqp_types.specs.declared.amqp_type.AMQPType.{AMQPType}
-use Rattle.amqp_types.specs.declared.amqp_type.AMQPType.TheVariants as amqp
-use Rattle.amqp_types.specs.Ids.{kind}
-use Rattle.amqp_grammar.specs.Values.{Tree, long, octets}
-use Rattle.amqp_grammar.specs.Grammar.{short_field, long_field, Raw, raw_fixed, raw_short, raw_long, raw_octets, raw_array, raw_table}
-use Rattle.amqp_grammar.specs.Outcomes.{found, lack, NeedsMoreOr}
-use Rattle.amqp_grammar.specs.Payloads.{RawFront, RawOutcome}
-use Rattle.amqp_grammar.proofs.GrammarLaws.{front_within}
-use Rattle.amqp_types.specs.Inputs.{slice_bytes}
-use Rattle.amqp_types.specs.declared.input.SliceInput.{SliceInput}
+use Rattle.amqp_value_core.specs.declared.types.amqp_type.AMQPType.{AMQPType}
+use Rattle.amqp_value_core.specs.declared.types.amqp_type.AMQPType.TheVariants as amqp
+use Rattle.amqp_value_core.specs.Ids.{kind}
+use Rattle.amqp_value_core.specs.Values.{Tree, long, octets}
+use Rattle.amqp_value_core.specs.Grammar.{short_field, long_field, Raw, raw_fixed, raw_short, raw_long, raw_octets, raw_array, raw_table}
+use Rattle.amqp_value_core.specs.Outcomes.{found, lack, NeedsMoreOr}
+use Rattle.amqp_value_core.specs.Payloads.{RawFront, RawOutcome}
+use Rattle.amqp_value_core.proofs.GrammarLaws.{front_within}
+use Rattle.amqp_value_core.specs.Inputs.{slice_bytes}
+use Rattle.amqp_value_core.specs.declared.input.SliceInput.{SliceInput}
 use Rattle.amqp_in_place.specs.declared.head.Head.{Head}
 use Rattle.amqp_in_place.specs.declared.head.Head.TheVariants as head
 use Rattle.amqp_in_place.specs.declared.refs.ValueRef.{ValueRef}
@@ -18,7 +18,7 @@ use Rattle.amqp_in_place.specs.Refs.{plain_tree, array_body, table_body}
 use Rattle.amqp_in_place.specs.InPlaceResults.{IsLeft}
 use Rattle.amqp_in_place.specs.Heads.{IsHead, RefersTo}
 use Rattle.amqp_in_place.specs.Places.{IsFramed, LiesIn, LiesWithin, PairLiesIn}
-use Rattle.amqp_parsing.specs.PayloadResults.{IsType}
+use Rattle.amq_protocol_types.specs.parsing.PayloadResults.{IsType}
 use Rattle.amqp_in_place.proofs.HeadLemmas.{plain_read}
 
 -- the payload is of the type, and is the bytes after their length

@@ -6,20 +6,20 @@ use Rattle.std.specs.Str.{is_utf8}
 use Rattle.std.specs.Int.{Width, w32, byte_len}
 use Rattle.std.proofs.lemmas.Bool.{cases_lt, lt-ltb, le-ltb, le-leb, lt-leb}
 use Rattle.std.proofs.lemmas.List.{drop-drop, drop-take, length-drop, length-take-le}
-use Rattle.amqp_types.specs.declared.amqp_type.AMQPType.{AMQPType}
-use Rattle.amqp_types.specs.declared.amqp_type.AMQPType.TheVariants as amqp
-use Rattle.amqp_types.specs.Ids.{kind}
-use Rattle.amqp_types.specs.Inputs.{IsBytes}
-use Rattle.amqp_types.proofs.Bytes.{bytes_take, bytes_drop}
-use Rattle.amqp_grammar.specs.Values.{Tree, scalar, array, table, Trees, tree, Entries, no_entries, insert}
-use Rattle.amqp_grammar.specs.Layouts.{Layout, fixed}
-use Rattle.amqp_grammar.specs.Outcomes.{Reading, found, more, unknown, malformed, length_field, counted, lack, lack_of}
-use Rattle.amqp_grammar.specs.Decode.{framed, raw_outcome_by, outcome_by, values_by, is_key, pairs_onto, meaning}
-use Rattle.amqp_grammar.proofs.GrammarLaws.{within_holds, within_is}
-use Rattle.amqp_parsing.specs.declared.limits.Limits.{Limits}
-use Rattle.amqp_parsing.specs.Headers.{extent, extent_of, extent_at, raw_extent, first_of}
-use Rattle.amqp_parsing.specs.Limits.{Within}
-use Rattle.amqp_parsing.specs.Untagged.{tagged}
+use Rattle.amqp_value_core.specs.declared.types.amqp_type.AMQPType.{AMQPType}
+use Rattle.amqp_value_core.specs.declared.types.amqp_type.AMQPType.TheVariants as amqp
+use Rattle.amqp_value_core.specs.Ids.{kind}
+use Rattle.amqp_value_core.specs.Inputs.{IsBytes}
+use Rattle.amqp_value_core.proofs.Bytes.{bytes_take, bytes_drop}
+use Rattle.amqp_value_core.specs.Values.{Tree, scalar, array, table, Trees, tree, Entries, no_entries, insert}
+use Rattle.amqp_value_core.specs.Layouts.{Layout, fixed}
+use Rattle.amqp_value_core.specs.Outcomes.{Reading, found, more, unknown, malformed, length_field, counted, lack, lack_of}
+use Rattle.amqp_value_core.specs.Decode.{framed, raw_outcome_by, outcome_by, values_by, is_key, pairs_onto, meaning}
+use Rattle.amqp_value_core.proofs.GrammarLaws.{within_holds, within_is}
+use Rattle.amq_protocol_types.specs.declared.parsing.limits.Limits.{Limits}
+use Rattle.amq_protocol_types.specs.parsing.Headers.{extent, extent_of, extent_at, raw_extent, first_of}
+use Rattle.amq_protocol_types.specs.parsing.Limits.{Within}
+use Rattle.amq_protocol_types.specs.parsing.Untagged.{tagged}
 use Rattle.amqp_in_place.specs.declared.problems.Problem.{Problem}
 use Rattle.amqp_in_place.specs.declared.problems.ProblemKind.{ProblemKind}
 use Rattle.amqp_in_place.specs.declared.problems.ProblemKind.TheVariants.{UnknownTag, Cut, KeyCut, KeyNotUtf8, TooLarge}

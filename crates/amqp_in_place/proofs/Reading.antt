@@ -1,20 +1,20 @@
 -- Checking bodies in place.
 use Rattle.std.proofs.Common.{◌≡◌, ◌<◌, ℕ, zero, suc, List, length, refl, arith}
-use Rattle.amqp_types.specs.declared.amqp_type.AMQPType.TheVariants as amqp
-use Rattle.amqp_grammar.specs.Values.{Tree, Entries, short}
-use Rattle.amqp_grammar.specs.Nesting.{OutcomeWithin}
-use Rattle.amqp_grammar.specs.Outcomes.{Reading, found, unknown, malformed, lack, NeedsMoreOr, Heavy}
-use Rattle.amqp_grammar.specs.Payloads.{RawFront, RawOutcome}
-use Rattle.amqp_grammar.specs.Outcomes.{Outcome}
-use Rattle.amqp_grammar.proofs.GrammarLaws.{unlimited, front_within}
+use Rattle.amqp_value_core.specs.declared.types.amqp_type.AMQPType.TheVariants as amqp
+use Rattle.amqp_value_core.specs.Values.{Tree, Entries, short}
+use Rattle.amqp_value_core.specs.Nesting.{OutcomeWithin}
+use Rattle.amqp_value_core.specs.Outcomes.{Reading, found, unknown, malformed, lack, NeedsMoreOr, Heavy}
+use Rattle.amqp_value_core.specs.Payloads.{RawFront, RawOutcome}
+use Rattle.amqp_value_core.specs.Outcomes.{Outcome}
+use Rattle.amqp_value_core.proofs.GrammarLaws.{unlimited, front_within}
 use Rattle.amqp_in_place.specs.InPlaceResults.{IsLeft}
-use Rattle.amqp_parsing.specs.declared.errors.Err.TheVariants.{Incomplete, Error, Failure}
-use Rattle.amqp_parsing.specs.declared.errors.Needed.TheVariants.{Unknown, Size}
-use Rattle.amqp_parsing.specs.declared.errors.ErrorKind.TheVariants.{MapOpt, MapRes, Eof, OutOfMemory, TooLarge}
-use Rattle.amqp_parsing.specs.Refusals.{Refusal, inside}
-use Rattle.amqp_parsing.specs.ParseResults.{Refuses}
-use Rattle.amqp_parsing.specs.Bodies.{IsNoBody, IsNoTable}
-use Rattle.amqp_parsing.proofs.ParsingLaws.{Refuses-weaker, Goes, Goes-refused, Walks, Walks-bad_key, Walks-bad_value}
+use Rattle.amq_protocol_types.specs.declared.parsing.errors.Err.TheVariants.{Incomplete, Error, Failure}
+use Rattle.amq_protocol_types.specs.declared.parsing.errors.Needed.TheVariants.{Unknown, Size}
+use Rattle.amq_protocol_types.specs.declared.parsing.errors.ErrorKind.TheVariants.{MapOpt, MapRes, Eof, OutOfMemory, TooLarge}
+use Rattle.amq_protocol_types.specs.parsing.Refusals.{Refusal, inside}
+use Rattle.amq_protocol_types.specs.parsing.ParseResults.{Refuses}
+use Rattle.amq_protocol_types.specs.parsing.Bodies.{IsNoBody, IsNoTable}
+use Rattle.amq_protocol_types.proofs.ParsingLaws.{Refuses-weaker, Goes, Goes-refused, Walks, Walks-bad_key, Walks-bad_value}
 use Rattle.std.specs.Prelude.{All}
 use Rattle.std.specs.Str.{IsUtf8}
 use Rattle.std.proofs.lemmas.Str.{IsUtf8-from_ascii}

@@ -10,11 +10,11 @@ use Rattle.std.specs.Cmp.Lexicographic.{slice_cmp, bytes_decides, texts_ties}
 use Rattle.std.specs.declared.cmp.Ordering.TheVariants.{Less}
 use Rattle.std.proofs.lemmas.Bool.{false≢true}
 use Rattle.std.proofs.lemmas.Cmp.{nat_list_cmp_total}
-use Rattle.amqp_grammar.specs.Values.{Tree, Entries, no_entries, entry, ComesBefore}
-use Rattle.amqp_grammar.specs.Maps.{same_bytes, IsRising}
-use Rattle.amqp_grammar.specs.Grammar.{TableBody}
-use Rattle.amqp_types.specs.Inputs.{slice_bytes}
-use Rattle.amqp_types.specs.declared.input.SliceInput.{SliceInput}
+use Rattle.amqp_value_core.specs.Values.{Tree, Entries, no_entries, entry, ComesBefore}
+use Rattle.amqp_value_core.specs.Maps.{same_bytes, IsRising}
+use Rattle.amqp_value_core.specs.Grammar.{TableBody}
+use Rattle.amqp_value_core.specs.Inputs.{slice_bytes}
+use Rattle.amqp_value_core.specs.declared.input.SliceInput.{SliceInput}
 use Rattle.amqp_in_place.specs.declared.refs.ValueRef.{ValueRef}
 use Rattle.amqp_in_place.specs.Canonicals.{IsAbove, AreAbove}
 use Rattle.amqp_in_place.specs.Keys.{times_at, RepeatedIs}

@@ -1,20 +1,20 @@
 -- How many bytes a value takes, by its head.
 use Rattle.std.proofs.Common.{◌≡◌, ◌+◌, ℕ, suc, List, ◌∷◌, ◌++◌, length, Some, None, refl, ap, ◌∙◌, arith, length-append}
 use Rattle.std.specs.Int.{w32}
-use Rattle.amqp_types.specs.declared.amqp_type.AMQPType.{AMQPType}
-use Rattle.amqp_types.specs.declared.amqp_type.AMQPType.TheVariants as amqp
-use Rattle.amqp_grammar.specs.Values.{long}
-use Rattle.amqp_grammar.specs.Grammar.{long_field, wire, raw_long}
-use Rattle.amqp_grammar.specs.Outcomes.{Reading, more, unknown, Outcome}
-use Rattle.amqp_grammar.proofs.GrammarLaws.{found_front, front_within, unlimited}
-use Rattle.amqp_types.specs.Inputs.{slice_bytes}
-use Rattle.amqp_parsing.specs.Refusals.{Refusal}
-use Rattle.amqp_parsing.specs.PayloadResults.{IsType}
-use Rattle.amqp_parsing.specs.Bodies.{IsLengthPrefixed}
-use Rattle.amqp_parsing.specs.declared.errors.Err.TheVariants.{Incomplete, Error, Failure}
-use Rattle.amqp_parsing.specs.declared.errors.Needed.TheVariants.{Unknown, Size}
-use Rattle.amqp_parsing.specs.Headers.{extent_of, extent_at, extent}
-use Rattle.amqp_parsing.proofs.ParsingLaws.{wire_extent}
+use Rattle.amqp_value_core.specs.declared.types.amqp_type.AMQPType.{AMQPType}
+use Rattle.amqp_value_core.specs.declared.types.amqp_type.AMQPType.TheVariants as amqp
+use Rattle.amqp_value_core.specs.Values.{long}
+use Rattle.amqp_value_core.specs.Grammar.{long_field, wire, raw_long}
+use Rattle.amqp_value_core.specs.Outcomes.{Reading, more, unknown, Outcome}
+use Rattle.amqp_value_core.proofs.GrammarLaws.{found_front, front_within, unlimited}
+use Rattle.amqp_value_core.specs.Inputs.{slice_bytes}
+use Rattle.amq_protocol_types.specs.parsing.Refusals.{Refusal}
+use Rattle.amq_protocol_types.specs.parsing.PayloadResults.{IsType}
+use Rattle.amq_protocol_types.specs.parsing.Bodies.{IsLengthPrefixed}
+use Rattle.amq_protocol_types.specs.declared.parsing.errors.Err.TheVariants.{Incomplete, Error, Failure}
+use Rattle.amq_protocol_types.specs.declared.parsing.errors.Needed.TheVariants.{Unknown, Size}
+use Rattle.amq_protocol_types.specs.parsing.Headers.{extent_of, extent_at, extent}
+use Rattle.amq_protocol_types.proofs.ParsingLaws.{wire_extent}
 use Rattle.amqp_in_place.specs.InPlaceResults.{IsWidthOfFound, HeadRefuses}
 use Rattle.amqp_in_place.specs.declared.head.Head.{Head}
 use Rattle.amqp_in_place.specs.declared.head.Head.TheVariants as head

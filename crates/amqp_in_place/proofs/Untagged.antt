@@ -1,21 +1,21 @@
 -- Tables without their type tag.
 use Rattle.std.proofs.Common.{◌≡◌, ◌<◌, ◌≤◌, ◌-◌, ℕ, zero, suc, List, refl, arith}
 use Rattle.std.specs.Int.{w32}
-use Rattle.amqp_types.specs.declared.amqp_type.AMQPType.TheVariants as amqp
-use Rattle.amqp_grammar.specs.Values.{Entries, table}
-use Rattle.amqp_grammar.specs.Nesting.{WireWithin, OutcomeWithin}
-use Rattle.amqp_grammar.specs.Outcomes.{Reading, found, more, malformed, frame_lack, NeedsMoreOr, FrontBy}
-use Rattle.amqp_types.specs.Inputs.{slice_bytes}
-use Rattle.amqp_types.specs.declared.input.SliceInput.{SliceInput}
-use Rattle.amqp_parsing.specs.declared.errors.Err.TheVariants.{Incomplete, Error, Failure}
-use Rattle.amqp_parsing.specs.declared.errors.Needed.TheVariants.{Unknown, Size}
-use Rattle.amqp_parsing.specs.declared.errors.ErrorKind.TheVariants.{MapOpt, MapRes, Eof, OutOfMemory, TooLarge}
-use Rattle.amqp_parsing.specs.declared.limits.Limits.{Limits}
-use Rattle.amqp_parsing.specs.Refusals.{Refusal}
-use Rattle.amqp_parsing.specs.ParseResults.{Refuses}
-use Rattle.amqp_parsing.specs.Bodies.{IsLengthPrefixed, IsCutLengthPrefixed, IsTable, IsNoTable}
-use Rattle.amqp_parsing.specs.Headers.{extent}
-use Rattle.amqp_parsing.specs.Untagged.{tagged, UntaggedWithin, RefusesUntagged}
+use Rattle.amqp_value_core.specs.declared.types.amqp_type.AMQPType.TheVariants as amqp
+use Rattle.amqp_value_core.specs.Values.{Entries, table}
+use Rattle.amqp_value_core.specs.Nesting.{WireWithin, OutcomeWithin}
+use Rattle.amqp_value_core.specs.Outcomes.{Reading, found, more, malformed, frame_lack, NeedsMoreOr, FrontBy}
+use Rattle.amqp_value_core.specs.Inputs.{slice_bytes}
+use Rattle.amqp_value_core.specs.declared.input.SliceInput.{SliceInput}
+use Rattle.amq_protocol_types.specs.declared.parsing.errors.Err.TheVariants.{Incomplete, Error, Failure}
+use Rattle.amq_protocol_types.specs.declared.parsing.errors.Needed.TheVariants.{Unknown, Size}
+use Rattle.amq_protocol_types.specs.declared.parsing.errors.ErrorKind.TheVariants.{MapOpt, MapRes, Eof, OutOfMemory, TooLarge}
+use Rattle.amq_protocol_types.specs.declared.parsing.limits.Limits.{Limits}
+use Rattle.amq_protocol_types.specs.parsing.Refusals.{Refusal}
+use Rattle.amq_protocol_types.specs.parsing.ParseResults.{Refuses}
+use Rattle.amq_protocol_types.specs.parsing.Bodies.{IsLengthPrefixed, IsCutLengthPrefixed, IsTable, IsNoTable}
+use Rattle.amq_protocol_types.specs.parsing.Headers.{extent}
+use Rattle.amq_protocol_types.specs.parsing.Untagged.{tagged, UntaggedWithin, RefusesUntagged}
 use Rattle.amqp_in_place.specs.declared.head.Head.TheVariants as head
 use Rattle.amqp_in_place.specs.Heads.{IsHead}
 use Rattle.amqp_in_place.specs.InPlaceResults.{NeedsNoMemory}

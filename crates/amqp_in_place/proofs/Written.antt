@@ -2,19 +2,19 @@
 use Rattle.std.proofs.Common.{◌≡◌, ◌<◌, ◌^◌, ℕ, List, ◌∷◌, ◌++◌, length, take, drop, get_or, Some, None, refl, sym, ap, ◌∙◌, subst, arith}
 use Rattle.std.proofs.lemmas.List.{take_at, drop_at}
 use Rattle.std.specs.Borrow.{Bor}
-use Rattle.amqp_types.specs.declared.amqp_type.AMQPType.{AMQPType}
-use Rattle.amqp_types.specs.declared.amqp_type.AMQPType.TheVariants as amqp
-use Rattle.amqp_types.specs.Ids.{kind}
-use Rattle.amqp_types.specs.Inputs.{slice_bytes}
-use Rattle.amqp_types.specs.declared.input.SliceInput.{SliceInput}
-use Rattle.amqp_grammar.specs.Layouts.{fixed}
-use Rattle.amqp_grammar.specs.Values.{Tree, octets, Trees, Entries}
-use Rattle.amqp_grammar.specs.Grammar.{long_field, Wire, wire, Raw, raw_fixed, raw_short, raw_long, raw_octets, raw_array, raw_table, ArrayBody, no_values, value, TableBody, no_pairs, pair}
-use Rattle.amqp_grammar.proofs.GrammarLaws.{one_raw_reading}
-use Rattle.amqp_parsing.specs.Bodies.{IsLengthPrefixed}
-use Rattle.amqp_parsing.specs.Headers.{extent}
-use Rattle.amqp_parsing.specs.PayloadResults.{IsType}
-use Rattle.amqp_parsing.proofs.ParsingLaws.{wire_extent}
+use Rattle.amqp_value_core.specs.declared.types.amqp_type.AMQPType.{AMQPType}
+use Rattle.amqp_value_core.specs.declared.types.amqp_type.AMQPType.TheVariants as amqp
+use Rattle.amqp_value_core.specs.Ids.{kind}
+use Rattle.amqp_value_core.specs.Inputs.{slice_bytes}
+use Rattle.amqp_value_core.specs.declared.input.SliceInput.{SliceInput}
+use Rattle.amqp_value_core.specs.Layouts.{fixed}
+use Rattle.amqp_value_core.specs.Values.{Tree, octets, Trees, Entries}
+use Rattle.amqp_value_core.specs.Grammar.{long_field, Wire, wire, Raw, raw_fixed, raw_short, raw_long, raw_octets, raw_array, raw_table, ArrayBody, no_values, value, TableBody, no_pairs, pair}
+use Rattle.amqp_value_core.proofs.GrammarLaws.{one_raw_reading}
+use Rattle.amq_protocol_types.specs.parsing.Bodies.{IsLengthPrefixed}
+use Rattle.amq_protocol_types.specs.parsing.Headers.{extent}
+use Rattle.amq_protocol_types.specs.parsing.PayloadResults.{IsType}
+use Rattle.amq_protocol_types.proofs.ParsingLaws.{wire_extent}
 use Rattle.amqp_in_place.specs.declared.head.Head.{Head}
 use Rattle.amqp_in_place.specs.declared.head.Head.TheVariants as head
 use Rattle.amqp_in_place.specs.declared.refs.ArrayRef.{ArrayRef}

@@ -1,7 +1,7 @@
 -- The bodies of containers.
 use Rattle.std.specs.Prelude.{ℕ, ◌≡◌, List}
-use Rattle.amqp_grammar.specs.Values.{Trees, Entries, no_entries, insert_all}
-use Rattle.amqp_grammar.specs.Grammar.{ArrayBody, TableBody}
+use Rattle.amqp_value_core.specs.Values.{Trees, Entries, no_entries, insert_all}
+use Rattle.amqp_value_core.specs.Grammar.{ArrayBody, TableBody}
 
 -- the bytes are values one after another
 abbrev pub HasValues : List ℕ → Type 0

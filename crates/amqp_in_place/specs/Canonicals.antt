@@ -4,14 +4,14 @@ use Rattle.std.specs.Borrow.{Bor}
 use Rattle.std.specs.Ordering.{nat_cmp}
 use Rattle.std.specs.Cmp.Lexicographic.{slice_cmp}
 use Rattle.std.specs.declared.cmp.Ordering.TheVariants.{Less}
-use Rattle.amqp_types.specs.declared.amqp_type.AMQPType.TheVariants as amqp
-use Rattle.amqp_grammar.specs.Values.{Tree, Trees, Entries, ComesBefore, depth}
-use Rattle.amqp_grammar.specs.Outcomes.{found}
-use Rattle.amqp_grammar.specs.Texts.{text}
-use Rattle.amqp_grammar.specs.Members.{greatest_depth, entries_depth, CanonBody, CanonPairs}
-use Rattle.amqp_grammar.specs.Canonical.{IsStrict, Canon}
-use Rattle.amqp_parsing.specs.declared.limits.Limits.{Limits}
-use Rattle.amqp_parsing.specs.Limits.{Within}
+use Rattle.amqp_value_core.specs.declared.types.amqp_type.AMQPType.TheVariants as amqp
+use Rattle.amqp_value_core.specs.Values.{Tree, Trees, Entries, ComesBefore, depth}
+use Rattle.amqp_value_core.specs.Outcomes.{found}
+use Rattle.amqp_value_core.specs.Texts.{text}
+use Rattle.amqp_value_core.specs.Members.{greatest_depth, entries_depth, CanonBody, CanonPairs}
+use Rattle.amqp_value_core.specs.Canonical.{IsStrict, Canon}
+use Rattle.amq_protocol_types.specs.declared.parsing.limits.Limits.{Limits}
+use Rattle.amq_protocol_types.specs.parsing.Limits.{Within}
 
 -- the first n bytes of s are the canonical encoding of a value that is read within the limits
 abbrev pub IsCanonicalLen : Limits → List ℕ → ℕ → Type 0

@@ -1,7 +1,7 @@
 -- The encodings in a body, and views of them: which bytes are referred to.
 use Rattle.std.specs.Prelude.{ℕ, ◌≡◌, List, [], ◌++◌}
-use Rattle.amqp_grammar.specs.Values.{Tree, octets, Trees, no_trees, tree, Entries, no_entries, entry}
-use Rattle.amqp_grammar.specs.Grammar.{Wire, ArrayBody, TableBody, no_values, value, no_pairs, pair}
+use Rattle.amqp_value_core.specs.Values.{Tree, octets, Trees, no_trees, tree, Entries, no_entries, entry}
+use Rattle.amqp_value_core.specs.Grammar.{Wire, ArrayBody, TableBody, no_values, value, no_pairs, pair}
 use Rattle.amqp_in_place.specs.declared.refs.ValueRef.{ValueRef}
 use Rattle.amqp_in_place.specs.Places.{LiesIn}
 

@@ -1,15 +1,15 @@
 -- What is after a type tag, one level deep.
 use Rattle.std.specs.Prelude.{ℕ, ◌≤◌, ◌≡◌, List, length, ◌++◌}
-use Rattle.amqp_types.specs.declared.amqp_type.AMQPType.{AMQPType}
-use Rattle.amqp_types.specs.declared.amqp_type.AMQPType.TheVariants as amqp
-use Rattle.amqp_grammar.specs.Values.{Tree, Trees, Entries, array, table}
-use Rattle.amqp_grammar.specs.Grammar.{ArrayBody, short_field}
-use Rattle.amqp_grammar.specs.Outcomes.{Reading, found}
-use Rattle.amqp_grammar.specs.Payloads.{RawOutcome}
-use Rattle.amqp_grammar.specs.Nesting.{OutcomeWithin}
-use Rattle.amqp_types.specs.Inputs.{slice_bytes}
-use Rattle.amqp_parsing.specs.PayloadResults.{IsType}
-use Rattle.amqp_parsing.specs.Bodies.{IsLengthPrefixed}
+use Rattle.amqp_value_core.specs.declared.types.amqp_type.AMQPType.{AMQPType}
+use Rattle.amqp_value_core.specs.declared.types.amqp_type.AMQPType.TheVariants as amqp
+use Rattle.amqp_value_core.specs.Values.{Tree, Trees, Entries, array, table}
+use Rattle.amqp_value_core.specs.Grammar.{ArrayBody, short_field}
+use Rattle.amqp_value_core.specs.Outcomes.{Reading, found}
+use Rattle.amqp_value_core.specs.Payloads.{RawOutcome}
+use Rattle.amqp_value_core.specs.Nesting.{OutcomeWithin}
+use Rattle.amqp_value_core.specs.Inputs.{slice_bytes}
+use Rattle.amq_protocol_types.specs.parsing.PayloadResults.{IsType}
+use Rattle.amq_protocol_types.specs.parsing.Bodies.{IsLengthPrefixed}
 use Rattle.amqp_in_place.specs.declared.head.Head.{Head}
 use Rattle.amqp_in_place.specs.declared.head.Head.TheVariants as head
 use Rattle.amqp_in_place.specs.declared.refs.ValueRef.{ValueRef}

@@ -1,11 +1,11 @@
 -- What reading in place returns.
 use Rattle.std.specs.Prelude.{ℕ, ◌≡◌, ◌+◌, List, ◌++◌, length}
-use Rattle.amqp_grammar.specs.Values.{Tree}
-use Rattle.amqp_grammar.specs.Outcomes.{Reading, found, unknown, Outcome}
-use Rattle.amqp_parsing.specs.declared.errors.Err.TheVariants.{Failure}
-use Rattle.amqp_parsing.specs.declared.errors.ErrorKind.TheVariants.{MapOpt}
-use Rattle.amqp_parsing.specs.ParseResults.{RefusesAs}
-use Rattle.amqp_parsing.specs.Refusals.{Refusal}
+use Rattle.amqp_value_core.specs.Values.{Tree}
+use Rattle.amqp_value_core.specs.Outcomes.{Reading, found, unknown, Outcome}
+use Rattle.amq_protocol_types.specs.declared.parsing.errors.Err.TheVariants.{Failure}
+use Rattle.amq_protocol_types.specs.declared.parsing.errors.ErrorKind.TheVariants.{MapOpt}
+use Rattle.amq_protocol_types.specs.parsing.ParseResults.{RefusesAs}
+use Rattle.amq_protocol_types.specs.parsing.Refusals.{Refusal}
 
 -- an error reports the input, and no memory
 abbrev pub NeedsNoMemory : Refusal → Type 0

@@ -1,8 +1,8 @@
 -- The keys of a table as it is written: which pair is the first with a key, and how many have it.
 use Rattle.std.specs.Prelude.{ℕ, ◌+◌, ◌<◌, ◌≤◌, List, Option, Some, None, if◌then◌else◌}
 use Rattle.std.specs.Borrow.{Bor}
-use Rattle.amqp_grammar.specs.Values.{Tree, Entries, no_entries, entry}
-use Rattle.amqp_grammar.specs.Maps.{same_bytes, value_at}
+use Rattle.amqp_value_core.specs.Values.{Tree, Entries, no_entries, entry}
+use Rattle.amqp_value_core.specs.Maps.{same_bytes, value_at}
 
 -- the value of the first pair with the key, if a pair has it
 abbrev pub first_at : List ℕ → Entries → Option Tree

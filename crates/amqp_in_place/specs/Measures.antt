@@ -1,9 +1,9 @@
 -- What an encoding holds: how many values are written in it.
 use Rattle.std.specs.Prelude.{ℕ, suc, ◌+◌, ◌≤◌, ◌≡◌, List, ◌++◌}
-use Rattle.amqp_types.specs.declared.amqp_type.AMQPType.{AMQPType}
-use Rattle.amqp_grammar.specs.Values.{Tree, Trees, Entries}
-use Rattle.amqp_grammar.specs.Grammar.{Wire, Raw, ArrayBody, TableBody, wire, raw_fixed, raw_short, raw_long, raw_octets, raw_array, raw_table, no_values, value, no_pairs, pair}
-use Rattle.amqp_grammar.specs.Nesting.{nesting, body_nesting, pairs_nesting}
+use Rattle.amqp_value_core.specs.declared.types.amqp_type.AMQPType.{AMQPType}
+use Rattle.amqp_value_core.specs.Values.{Tree, Trees, Entries}
+use Rattle.amqp_value_core.specs.Grammar.{Wire, Raw, ArrayBody, TableBody, wire, raw_fixed, raw_short, raw_long, raw_octets, raw_array, raw_table, no_values, value, no_pairs, pair}
+use Rattle.amqp_value_core.specs.Nesting.{nesting, body_nesting, pairs_nesting}
 
 -- a value counts 1, and a container also what is in its body: of equal keys each pair's value
 abbrev mutual

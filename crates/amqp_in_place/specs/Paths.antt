@@ -1,7 +1,7 @@
 -- What a path of keys and positions leads to.
 use Rattle.std.specs.Prelude.{ℕ, ◌≡◌, List, [], ◌∷◌, Option, Some, None, option_and_then}
-use Rattle.amqp_grammar.specs.Values.{Tree, Trees, array, table, Entries}
-use Rattle.amqp_grammar.specs.Maps.{last_at}
+use Rattle.amqp_value_core.specs.Values.{Tree, Trees, array, table, Entries}
+use Rattle.amqp_value_core.specs.Maps.{last_at}
 use Rattle.amqp_in_place.specs.declared.refs.ValueRef.{ValueRef}
 use Rattle.amqp_in_place.specs.declared.refs.ValueRef.TheVariants as at
 use Rattle.amqp_in_place.specs.declared.path.PathStep.{PathStep}

@@ -1,8 +1,8 @@
 -- Values as they are written: their tables with every pair, in the order in which they are written.
 use Rattle.std.specs.Prelude.{ℕ, ◌≡◌, List, ◌++◌}
-use Rattle.amqp_types.specs.declared.amqp_type.AMQPType.{AMQPType}
-use Rattle.amqp_grammar.specs.Values.{Tree, scalar, short, long, octets, array, table, Trees, no_trees, tree, Entries, no_entries, entry}
-use Rattle.amqp_grammar.specs.Grammar.{Wire, Raw, ArrayBody, TableBody, wire, raw_fixed, raw_short, raw_long, raw_octets, raw_array, raw_table, no_values, value, no_pairs, pair}
+use Rattle.amqp_value_core.specs.declared.types.amqp_type.AMQPType.{AMQPType}
+use Rattle.amqp_value_core.specs.Values.{Tree, scalar, short, long, octets, array, table, Trees, no_trees, tree, Entries, no_entries, entry}
+use Rattle.amqp_value_core.specs.Grammar.{Wire, Raw, ArrayBody, TableBody, wire, raw_fixed, raw_short, raw_long, raw_octets, raw_array, raw_table, no_values, value, no_pairs, pair}
 use Rattle.amqp_in_place.specs.declared.refs.ValueRef.{ValueRef}
 use Rattle.amqp_in_place.specs.declared.refs.ValueRef.TheVariants as at
 use Rattle.amqp_in_place.specs.Refs.{array_body, table_body, plain_tree}

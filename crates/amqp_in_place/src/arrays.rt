@@ -1,8 +1,8 @@
 //! Access to the values of an array.
 
 ghost use Rattle.std.specs.Prelude.{◌≡◌, ◌<◌, ◌↔◌, IsTrue, IfSome, length, MatchResult};
-ghost use Rattle.amqp_grammar.specs.Values.{Trees, no_trees};
-ghost use Rattle.amqp_grammar.specs.Grammar.{ArrayBody};
+ghost use Rattle.amqp_value_core.specs.Values.{Trees, no_trees};
+ghost use Rattle.amqp_value_core.specs.Grammar.{ArrayBody};
 ghost use Rattle.amqp_value_core.specs.Containers.{array_view};
 ghost use Rattle.amqp_in_place.specs.Refs.{array_body};
 ghost use Rattle.amqp_in_place.specs.Walks.{FoundIs, WrittenIs, ViewIs, tree_at};
@@ -12,9 +12,8 @@ ghost use Rattle.amqp_in_place.specs.Places.{LiesWithin};
 
 use super::refs::{ArrayRef, ValueRef};
 use super::steps::next_value;
-use amqp_parsing::Err;
-use amqp_parsing::values::parse_array_body;
-use amqp_types::ParsableInput;
+use amq_protocol_types::parsing::{Err, parse_array_body};
+use amqp_value_core::input::ParsableInput;
 use amqp_value_core::types::FieldArray;
 use std::alloc::{AllocError, Global};
 

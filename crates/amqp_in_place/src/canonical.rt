@@ -1,15 +1,16 @@
 //! Canonical encodings, checked in place.
 
 ghost use Rattle.std.specs.Prelude.{◌≡◌, ◌+◌, true, false, ℕ, List, length, None, IfSome};
-ghost use Rattle.amqp_types.specs.Inputs.{slice_bytes};
-ghost use Rattle.amqp_parsing.specs.Untagged.{tagged};
+ghost use Rattle.amqp_value_core.specs.Inputs.{slice_bytes};
+ghost use Rattle.amq_protocol_types.specs.parsing.Untagged.{tagged};
 ghost use Rattle.amqp_in_place.specs.Canonicals.{IsCanonicalLen, IsCanonicalWithin, IsReadAsWritten, CanonFront, CanonValues, CanonEntries, IsAbove, IsFirstSpelling};
 
 use super::head::{Head, read_head, read_key, read_table_head};
 use super::read::check_utf8;
-use amqp_parsing::Limits;
-use amqp_parsing::header::{Header, header_of};
-use amqp_types::{AMQPType, ParsableInput, SliceInput};
+use amq_protocol_types::parsing::Limits;
+use amq_protocol_types::parsing::header::{Header, header_of};
+use amqp_value_core::input::{ParsableInput, SliceInput};
+use amqp_value_core::types::AMQPType;
 
 /// Whether the bytes are exactly the canonical encoding of a value within the limits. It doesn't
 /// allocate.

@@ -1,24 +1,25 @@
 //! What follows a type tag, one level deep.
 
 ghost use Rattle.std.specs.Prelude.{◌≡◌, ◌≢◌, ◌≤◌, MatchResult, IfErr, IfOk};
-ghost use Rattle.amqp_grammar.specs.Payloads.{RawOutcome};
-ghost use Rattle.amqp_types.specs.Inputs.{slice_bytes};
-ghost use Rattle.amqp_parsing.specs.PayloadResults.{OnlyLacks};
-ghost use Rattle.amqp_parsing.specs.ParseResults.{Refuses};
-ghost use Rattle.amqp_parsing.specs.Bodies.{IsLengthPrefixed};
-ghost use Rattle.amqp_parsing.specs.Headers.{extent};
-ghost use Rattle.amqp_parsing.specs.Untagged.{tagged, RefusesUntagged};
+ghost use Rattle.amqp_value_core.specs.Payloads.{RawOutcome};
+ghost use Rattle.amqp_value_core.specs.Inputs.{slice_bytes};
+ghost use Rattle.amq_protocol_types.specs.parsing.PayloadResults.{OnlyLacks};
+ghost use Rattle.amq_protocol_types.specs.parsing.ParseResults.{Refuses};
+ghost use Rattle.amq_protocol_types.specs.parsing.Bodies.{IsLengthPrefixed};
+ghost use Rattle.amq_protocol_types.specs.parsing.Headers.{extent};
+ghost use Rattle.amq_protocol_types.specs.parsing.Untagged.{tagged, RefusesUntagged};
 ghost use Rattle.amqp_in_place.specs.InPlaceResults.{HeadRefuses, NeedsNoMemory};
 ghost use Rattle.amqp_in_place.specs.Heads.{RawHeadIs, IsHead, IsKeyFrame, AtAnyDepth};
 
 use super::refs::ValueRef;
-use amqp_parsing::errors::{lacks, refused};
-use amqp_parsing::{
+use amq_protocol_types::parsing::errors::{lacks, refused};
+use amq_protocol_types::parsing::{
     ErrorKind, Limits, ParserResult, parse_boolean, parse_decimal_value, parse_double, parse_float,
     parse_length_prefixed, parse_long_int, parse_long_long_int, parse_long_uint, parse_short_int,
     parse_short_short_int, parse_short_short_uint, parse_short_uint, parse_timestamp, parse_type,
 };
-use amqp_types::{AMQPType, ParsableInput, SliceInput};
+use amqp_value_core::input::{ParsableInput, SliceInput};
+use amqp_value_core::types::AMQPType;
 
 // A value that is no container, or the body of a container, which isn't looked at.
 #[derive(Clone, Copy)]
@@ -42,7 +43,7 @@ pub(crate) fn read_head<'a>(i: SliceInput<'a>) -> ParserResult<SliceInput<'a>, H
 
 // Reads what is after a type tag.
 #[inline(always)]
-#[tactic(auto, using(amqp_parsing::proofs::ParsingLaws::long_found, amqp_parsing::proofs::ParsingLaws::octets_found, amqp_parsing::proofs::ParsingLaws::void_found, amqp_parsing::proofs::ParsingLaws::unsigned_outcome, crate::proofs::HeadLemmas::unsigned_lacks))]
+#[tactic(auto, using(amq_protocol_types::proofs::ParsingLaws::long_found, amq_protocol_types::proofs::ParsingLaws::octets_found, amq_protocol_types::proofs::ParsingLaws::void_found, amq_protocol_types::proofs::ParsingLaws::unsigned_outcome, crate::proofs::HeadLemmas::unsigned_lacks))]
 fn read_payload_head<'a>(
     amqp_type: AMQPType,
     i: SliceInput<'a>,

@@ -1,11 +1,11 @@
 //! Iterators over the values of an array and the pairs of a table.
 
-ghost use Rattle.amqp_types.specs.Inputs.{slice_bytes};
+ghost use Rattle.amqp_value_core.specs.Inputs.{slice_bytes};
 ghost use Rattle.amqp_in_place.specs.Bodies.{HasValues, HasPairs};
 
 use super::refs::{ArrayRef, TableRef, ValueRef};
 use super::steps::{next_pair, next_value};
-use amqp_types::SliceInput;
+use amqp_value_core::input::SliceInput;
 
 /// An iterator over the remaining values of an array, in order.
 #[derive(Drop)]
@@ -54,8 +54,8 @@ impl<'a> TableRef<'a> {
 impl<'a> Iterator for ArrayValues<'a> {
     ghost use Rattle.std.specs.Prelude.{length, IfSome};
     ghost use Rattle.std.specs.Iterator.{at_most};
-    ghost use Rattle.amqp_grammar.specs.Values.{Trees};
-    ghost use Rattle.amqp_grammar.specs.Grammar.{ArrayBody};
+    ghost use Rattle.amqp_value_core.specs.Values.{Trees};
+    ghost use Rattle.amqp_value_core.specs.Grammar.{ArrayBody};
     ghost use Rattle.amqp_in_place.specs.Suffix.{values_left};
     ghost use Rattle.amqp_in_place.specs.Walks.{ValueStep};
     ghost use Rattle.amqp_in_place.specs.Places.{LiesIn};
@@ -78,8 +78,8 @@ impl<'a> Iterator for ArrayValues<'a> {
 impl<'a> Iterator for TablePairs<'a> {
     ghost use Rattle.std.specs.Prelude.{length, IfSome};
     ghost use Rattle.std.specs.Iterator.{at_most};
-    ghost use Rattle.amqp_grammar.specs.Values.{Entries};
-    ghost use Rattle.amqp_grammar.specs.Grammar.{TableBody};
+    ghost use Rattle.amqp_value_core.specs.Values.{Entries};
+    ghost use Rattle.amqp_value_core.specs.Grammar.{TableBody};
     ghost use Rattle.amqp_in_place.specs.Suffix.{pairs_left};
     ghost use Rattle.amqp_in_place.specs.Walks.{PairStep};
     ghost use Rattle.amqp_in_place.specs.Places.{PairLiesIn};

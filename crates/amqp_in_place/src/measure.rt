@@ -1,23 +1,24 @@
 //! How large an encoded value is, measured in place.
 
 ghost use Rattle.std.specs.Prelude.{◌≡◌, ◌+◌, ◌^◌, ◌<◌, ◌≤◌, max, drop, length, None, MatchResult, IfErr, IfOk, IfSome};
-ghost use Rattle.amqp_grammar.specs.Values.{Tree, count, depth};
-ghost use Rattle.amqp_grammar.specs.Nesting.{nesting, OutcomeWithin};
-ghost use Rattle.amqp_grammar.specs.Outcomes.{found, malformed};
-ghost use Rattle.amqp_types.specs.Inputs.{slice_bytes};
-ghost use Rattle.amqp_parsing.specs.ParseResults.{Refuses};
-ghost use Rattle.amqp_parsing.specs.Bodies.{IsNoBody, IsNoTable};
-ghost use Rattle.amqp_parsing.specs.Limits.{Within, RefusesWithin};
-ghost use Rattle.amqp_parsing.specs.Untagged.{tagged, UntaggedWithin, RefusesUntagged};
+ghost use Rattle.amqp_value_core.specs.Values.{Tree, count, depth};
+ghost use Rattle.amqp_value_core.specs.Nesting.{nesting, OutcomeWithin};
+ghost use Rattle.amqp_value_core.specs.Outcomes.{found, malformed};
+ghost use Rattle.amqp_value_core.specs.Inputs.{slice_bytes};
+ghost use Rattle.amq_protocol_types.specs.parsing.ParseResults.{Refuses};
+ghost use Rattle.amq_protocol_types.specs.parsing.Bodies.{IsNoBody, IsNoTable};
+ghost use Rattle.amq_protocol_types.specs.parsing.Limits.{Within, RefusesWithin};
+ghost use Rattle.amq_protocol_types.specs.parsing.Untagged.{tagged, UntaggedWithin, RefusesUntagged};
 ghost use Rattle.amqp_in_place.specs.InPlaceResults.{NeedsNoMemory};
 ghost use Rattle.amqp_in_place.specs.Measures.{written, OfEncoding, HoldsFront, HoldsValues, HoldsPairs};
 
 use super::head::{Head, read_head, read_key, read_table_head};
 use super::read::check_utf8;
-use amqp_parsing::errors::{lacks, refused};
-use amqp_parsing::header::{Header, header_of};
-use amqp_parsing::{ErrorKind, Limits, ParserError, ParserResult};
-use amqp_types::{AMQPType, ParsableInput, SliceInput};
+use amq_protocol_types::parsing::errors::{lacks, refused};
+use amq_protocol_types::parsing::header::{Header, header_of};
+use amq_protocol_types::parsing::{ErrorKind, Limits, ParserError, ParserResult};
+use amqp_value_core::input::{ParsableInput, SliceInput};
+use amqp_value_core::types::AMQPType;
 
 /// How large a value is, by its encoding.
 #[derive(Clone, Copy, Debug, PartialEq, Eq)]

@@ -5,8 +5,9 @@ ghost use Rattle.amqp_value_core.specs.View.{view};
 ghost use Rattle.amqp_in_place.specs.Refs.{Denotes, HasBytes};
 
 use super::refs::ValueRef;
-use amqp_parsing::copy_of;
-use amqp_types::{ByteArray, LongString, SliceInput};
+use amq_protocol_types::parsing::copy_of;
+use amqp_value_core::input::SliceInput;
+use amqp_value_core::types::{ByteArray, LongString};
 use amqp_value_core::value::AMQPValue;
 use std::alloc::{AllocError, Global};
 

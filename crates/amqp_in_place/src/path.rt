@@ -1,7 +1,7 @@
 //! Look-ups by a path of keys and positions.
 
 ghost use Rattle.std.specs.Prelude.{◌≡◌, ◌≢◌, [], Some, IfSome};
-ghost use Rattle.amqp_grammar.specs.Values.{Tree};
+ghost use Rattle.amqp_value_core.specs.Values.{Tree};
 ghost use Rattle.amqp_in_place.specs.declared.refs.ValueRef.TheVariants as at;
 ghost use Rattle.amqp_in_place.specs.Refs.{Denotes, table_body};
 ghost use Rattle.amqp_in_place.specs.Walks.{FoundIs, WrittenIs};

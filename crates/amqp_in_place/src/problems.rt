@@ -2,17 +2,18 @@
 
 ghost use Rattle.std.specs.Prelude.{◌≡◌, ◌↔◌, ◌<◌, ◌≤◌, ◌+◌, ◌^◌, ◌&&◌, suc, not, IfSome, IsNone, length};
 ghost use Rattle.std.specs.Int.{w32, w64, from_be_bytes};
-ghost use Rattle.amqp_grammar.specs.Layouts.{fixed};
-ghost use Rattle.amqp_grammar.specs.Outcomes.{length_field};
-ghost use Rattle.amqp_parsing.specs.Headers.{extent, raw_extent, first_of};
-ghost use Rattle.amqp_parsing.specs.Untagged.{tagged};
+ghost use Rattle.amqp_value_core.specs.Layouts.{fixed};
+ghost use Rattle.amqp_value_core.specs.Outcomes.{length_field};
+ghost use Rattle.amq_protocol_types.specs.parsing.Headers.{extent, raw_extent, first_of};
+ghost use Rattle.amq_protocol_types.specs.parsing.Untagged.{tagged};
 ghost use Rattle.amqp_in_place.specs.Problems.{known, allow_key, want_finite, are_ones, here, further, untagged, in_entries, in_payload, in_value, in_pair, pair_len, inside, problem_of, problem_in_table_of};
 ghost use Rattle.amqp_in_place.specs.ProblemResults.{GoesOver, FindsValue, FailsAt};
 
 use crate::read::check_utf8;
-use amqp_parsing::Limits;
-use amqp_parsing::header::value_len;
-use amqp_types::{AMQPType, SliceInput, SplitInput};
+use amq_protocol_types::parsing::Limits;
+use amq_protocol_types::parsing::header::value_len;
+use amqp_value_core::input::{SliceInput, SplitInput};
+use amqp_value_core::types::AMQPType;
 
 /// What is allowed in a value.
 #[derive(Clone, Copy, Debug, PartialEq, Eq)]

@@ -12,11 +12,11 @@ mod warning;
 
 pub use crate::problems::{Problem, ProblemKind};
 use crate::problems::{self, Rules};
-use amqp_parsing::Limits;
+use amq_protocol_types::parsing::Limits;
 pub use warning::{Warned, warnings, warnings_in_table};
 
 /// The first problem that RabbitMQ has with the value at the start of the bytes:
-/// `in_place::first_problem` by its rules.
+/// `amqp_in_place::first_problem` by its rules.
 pub fn first_problem(bytes: &[u8], limits: Limits) -> Option<Problem>
     ensures first { result ≡ problem_of RabbitMq limits bytes.now }
     ensures inside { IfSome result (λ p. p.offset ≤ length bytes.now) }
@@ -24,7 +24,7 @@ pub fn first_problem(bytes: &[u8], limits: Limits) -> Option<Problem>
     problems::first_problem(bytes, Rules::RabbitMq, limits)
 }
 
-/// That in a table without its type tag: `in_place::first_problem_in_table` by RabbitMQ's rules.
+/// That in a table without its type tag: `amqp_in_place::first_problem_in_table` by RabbitMQ's rules.
 pub fn first_problem_in_table(table: &[u8], limits: Limits) -> Option<Problem>
     ensures first { result ≡ problem_in_table_of RabbitMq limits table.now }
     ensures inside { IfSome result (λ p. p.offset ≤ length table.now) }

@@ -2,15 +2,15 @@
 
 ghost use Rattle.std.specs.Str.{IsUtf8};
 ghost use Rattle.std.specs.Prelude.{◌≡◌, ◌++◌, ◌↔◌, IsTrue, true, false, length, MatchResult, IfErr, IfOk};
-ghost use Rattle.amqp_grammar.specs.Values.{Tree, Trees, Entries, table};
-ghost use Rattle.amqp_grammar.specs.Grammar.{long_field};
-ghost use Rattle.amqp_grammar.specs.Nesting.{BodyWithin, PairsWithin, OutcomeWithin};
-ghost use Rattle.amqp_grammar.specs.Outcomes.{Outcome, found, malformed};
-ghost use Rattle.amqp_types.specs.Inputs.{slice_bytes};
-ghost use Rattle.amqp_parsing.specs.ParseResults.{Refuses};
-ghost use Rattle.amqp_parsing.specs.Bodies.{IsNoBody, IsTable, IsNoTable};
-ghost use Rattle.amqp_parsing.specs.Limits.{Within, RefusesWithin};
-ghost use Rattle.amqp_parsing.specs.Untagged.{UntaggedWithin, RefusesUntagged};
+ghost use Rattle.amqp_value_core.specs.Values.{Tree, Trees, Entries, table};
+ghost use Rattle.amqp_value_core.specs.Grammar.{long_field};
+ghost use Rattle.amqp_value_core.specs.Nesting.{BodyWithin, PairsWithin, OutcomeWithin};
+ghost use Rattle.amqp_value_core.specs.Outcomes.{Outcome, found, malformed};
+ghost use Rattle.amqp_value_core.specs.Inputs.{slice_bytes};
+ghost use Rattle.amq_protocol_types.specs.parsing.ParseResults.{Refuses};
+ghost use Rattle.amq_protocol_types.specs.parsing.Bodies.{IsNoBody, IsTable, IsNoTable};
+ghost use Rattle.amq_protocol_types.specs.parsing.Limits.{Within, RefusesWithin};
+ghost use Rattle.amq_protocol_types.specs.parsing.Untagged.{UntaggedWithin, RefusesUntagged};
 ghost use Rattle.amqp_in_place.specs.Bodies.{HasEntries};
 ghost use Rattle.amqp_in_place.specs.Refs.{table_body, Denotes, IsOneValue, IsOneTable};
 ghost use Rattle.amqp_in_place.specs.InPlaceResults.{IsLeft, NeedsNoMemory};
@@ -18,10 +18,11 @@ ghost use Rattle.amqp_in_place.specs.Places.{LiesIn};
 
 use super::head::{Head, read_head, read_key, read_table_head};
 use super::refs::{ArrayRef, TableRef, ValueRef};
-use amqp_parsing::errors::{lacks, refused};
-use amqp_parsing::header::{Header, header_of};
-use amqp_parsing::{ErrorKind, Limits, ParserError, ParserResult};
-use amqp_types::{AMQPType, ParsableInput, SliceInput};
+use amq_protocol_types::parsing::errors::{lacks, refused};
+use amq_protocol_types::parsing::header::{Header, header_of};
+use amq_protocol_types::parsing::{ErrorKind, Limits, ParserError, ParserResult};
+use amqp_value_core::input::{ParsableInput, SliceInput};
+use amqp_value_core::types::AMQPType;
 use simdutf8::basic::Utf8Error;
 
 /// Reads a value in place: returns what `parse_value_within` does within the same limits, except
@@ -195,7 +196,7 @@ pub(crate) fn check_utf8(bytes: &[u8]) -> Result<(), Utf8Error>
 // Whether bytes are ASCII, eight at a time. It isn't in line, since what it takes of the stack would
 // be taken at each level.
 #[inline(never)]
-#[tactic(auto, using(amqp_parsing::proofs::ParsingLaws::ascii_is_utf8))]
+#[tactic(auto, using(amq_protocol_types::proofs::ParsingLaws::ascii_is_utf8))]
 fn is_ascii_by_words(bytes: &[u8]) -> bool
     ensures { result ≡ true → IsUtf8 bytes.now }
 {

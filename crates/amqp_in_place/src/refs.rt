@@ -1,11 +1,12 @@
 //! Borrowed views of encoded values.
 
-ghost use Rattle.amqp_types.specs.Inputs.{slice_bytes};
+ghost use Rattle.amqp_value_core.specs.Inputs.{slice_bytes};
 ghost use Rattle.amqp_in_place.specs.Bodies.{HasValues, HasPairs};
 
-use amqp_types::{
+use amqp_value_core::input::SliceInput;
+use amqp_value_core::types::{
     Boolean, DecimalValue, Double, Float, LongInt, LongLongInt, LongUInt, ShortInt, ShortShortInt,
-    ShortShortUInt, ShortUInt, SliceInput, Timestamp,
+    ShortShortUInt, ShortUInt, Timestamp,
 };
 
 /// A borrowed view of an encoded array.

@@ -1,10 +1,10 @@
 //! Keys that occur more than once in a table.
 
 ghost use Rattle.std.specs.Prelude.{◌≡◌, true, false, IfOk, OnErr};
-ghost use Rattle.amqp_grammar.specs.Values.{Entries};
-ghost use Rattle.amqp_grammar.specs.Grammar.{TableBody};
-ghost use Rattle.amqp_grammar.specs.Maps.{IsRising};
-ghost use Rattle.amqp_types.specs.Inputs.{slice_bytes};
+ghost use Rattle.amqp_value_core.specs.Values.{Entries};
+ghost use Rattle.amqp_value_core.specs.Grammar.{TableBody};
+ghost use Rattle.amqp_value_core.specs.Maps.{IsRising};
+ghost use Rattle.amqp_value_core.specs.Inputs.{slice_bytes};
 ghost use Rattle.amqp_in_place.specs.Bodies.{HasPairs};
 ghost use Rattle.amqp_in_place.specs.Refs.{table_body};
 ghost use Rattle.amqp_in_place.specs.Keys.{RepeatedIs};
@@ -12,7 +12,7 @@ ghost use Rattle.amqp_in_place.specs.Keys.{RepeatedIs};
 use super::canonical::is_above;
 use super::refs::TableRef;
 use super::steps::next_pair;
-use amqp_types::SliceInput;
+use amqp_value_core::input::SliceInput;
 use std::alloc::{AllocError, Global};
 use std::collections::BTreeSet;
 

@@ -1,13 +1,13 @@
 //! The length of a value.
 
 ghost use Rattle.std.specs.Prelude.{◌≡◌, ◌<◌, ◌≤◌, length, IfErr, IfOk};
-ghost use Rattle.amqp_grammar.specs.Outcomes.{Outcome};
-ghost use Rattle.amqp_parsing.specs.Headers.{extent};
+ghost use Rattle.amqp_value_core.specs.Outcomes.{Outcome};
+ghost use Rattle.amq_protocol_types.specs.parsing.Headers.{extent};
 ghost use Rattle.amqp_in_place.specs.InPlaceResults.{IsWidthOfFound, HeadRefuses};
 
 use super::head::read_head;
-use amqp_parsing::ParserError;
-use amqp_types::{ParsableInput, SliceInput};
+use amq_protocol_types::parsing::ParserError;
+use amqp_value_core::input::{ParsableInput, SliceInput};
 
 /// The length of the value at the start of the bytes, by its type tag and its length field only: in
 /// constant time, and whether or not the body of a container holds entries.

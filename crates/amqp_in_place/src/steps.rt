@@ -1,10 +1,10 @@
 //! Iterating over bodies that were validated.
 
 ghost use Rattle.std.specs.Prelude.{ℕ, List, length, IfSome};
-ghost use Rattle.amqp_grammar.specs.Values.{Tree, Trees, Entries};
-ghost use Rattle.amqp_grammar.specs.Grammar.{ArrayBody, TableBody};
-ghost use Rattle.amqp_grammar.specs.Outcomes.{Outcome, found};
-ghost use Rattle.amqp_types.specs.Inputs.{slice_bytes};
+ghost use Rattle.amqp_value_core.specs.Values.{Tree, Trees, Entries};
+ghost use Rattle.amqp_value_core.specs.Grammar.{ArrayBody, TableBody};
+ghost use Rattle.amqp_value_core.specs.Outcomes.{Outcome, found};
+ghost use Rattle.amqp_value_core.specs.Inputs.{slice_bytes};
 ghost use Rattle.amqp_in_place.specs.Bodies.{HasValues, HasPairs};
 ghost use Rattle.amqp_in_place.specs.Refs.{Denotes};
 ghost use Rattle.amqp_in_place.specs.Heads.{IsMeant, Means, RefersTo};
@@ -16,8 +16,8 @@ ghost use Rattle.amqp_in_place.specs.Written.{IsWritten, WrittenAt, WrittenValue
 
 use super::head::{Head, read_head, read_key};
 use super::refs::{ArrayRef, TableRef, ValueRef};
-use amqp_parsing::header::value_len;
-use amqp_types::{ParsableInput, SliceInput};
+use amq_protocol_types::parsing::header::value_len;
+use amqp_value_core::input::{ParsableInput, SliceInput};
 use std::str;
 
 // The value of a head that is known to have one.

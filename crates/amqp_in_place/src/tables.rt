@@ -1,9 +1,9 @@
 //! Access to the entries of a table.
 
 ghost use Rattle.std.specs.Prelude.{◌≡◌, ◌<◌, ◌↔◌, IsTrue, IfSome, length, MatchResult};
-ghost use Rattle.amqp_grammar.specs.Values.{Entries, no_entries};
-ghost use Rattle.amqp_grammar.specs.Maps.{has_key, value_at, last_at};
-ghost use Rattle.amqp_grammar.specs.Grammar.{TableBody};
+ghost use Rattle.amqp_value_core.specs.Values.{Entries, no_entries};
+ghost use Rattle.amqp_value_core.specs.Maps.{has_key, value_at, last_at};
+ghost use Rattle.amqp_value_core.specs.Grammar.{TableBody};
 ghost use Rattle.amqp_value_core.specs.Containers.{table_view};
 ghost use Rattle.amqp_in_place.specs.InPlaceResults.{IsLeft};
 ghost use Rattle.amqp_in_place.specs.Bodies.{HasPairs, HasEntries};
@@ -16,9 +16,8 @@ ghost use Rattle.amqp_in_place.specs.Places.{LiesWithin};
 
 use super::refs::{TableRef, ValueRef};
 use super::steps::{front_value, next_key};
-use amqp_parsing::Err;
-use amqp_parsing::values::parse_table_body;
-use amqp_types::ParsableInput;
+use amq_protocol_types::parsing::{Err, parse_table_body};
+use amqp_value_core::input::ParsableInput;
 use amqp_value_core::types::FieldTable;
 use std::alloc::{AllocError, Global};
 

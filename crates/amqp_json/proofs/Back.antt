@@ -15,13 +15,13 @@ use Rattle.hex.specs.Hex.{lower_digits, encode_with, encode_lower, IsBytes}
 use Rattle.hex.proofs.HexLemmas.{decode_of-encode_lower, decode_sized-encode_lower}
 use Rattle.serde_json.specs.Data.{Data, number, string, object, Members}
 use Rattle.serde_json.specs.Find.{of_integer}
-use Rattle.amqp_types.specs.declared.amqp_type.AMQPType.{AMQPType}
-use Rattle.amqp_types.specs.declared.amqp_type.AMQPType.TheVariants as amqp
-use Rattle.amqp_types.specs.Names.{name_of}
-use Rattle.amqp_types.specs.Strings.{IsShort}
-use Rattle.amqp_grammar.specs.Values as values
-use Rattle.amqp_grammar.specs.Values.{Scalar, decimal, void, Tree, scalar, short, long, octets, array, table, Trees, no_trees, tree, Entries, no_entries, entry}
-use Rattle.amqp_grammar.specs.InMemory.{IsNumber, IsScalar}
+use Rattle.amqp_value_core.specs.declared.types.amqp_type.AMQPType.{AMQPType}
+use Rattle.amqp_value_core.specs.declared.types.amqp_type.AMQPType.TheVariants as amqp
+use Rattle.amqp_value_core.specs.Names.{name_of}
+use Rattle.amqp_value_core.specs.Strings.{IsShort}
+use Rattle.amqp_value_core.specs.Values as values
+use Rattle.amqp_value_core.specs.Values.{Scalar, decimal, void, Tree, scalar, short, long, octets, array, table, Trees, no_trees, tree, Entries, no_entries, entry}
+use Rattle.amqp_value_core.specs.InMemory.{IsNumber, IsScalar}
 use Rattle.amqp_value_core.specs.Json as core
 use Rattle.amqp_value_core.specs.Json.{is_within, signed_within, unsigned_below}
 use Rattle.amqp_json.specs.Names.{type_named}

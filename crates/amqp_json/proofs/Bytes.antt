@@ -3,13 +3,13 @@ use Rattle.std.proofs.Common.{◌≡◌, ℕ, List, Bool, true, false, Some, ref
 use Rattle.std.specs.Str.{IsUtf8, is_utf8}
 use Rattle.std.proofs.lemmas.Str.{IsUtf8-from_is_utf8, is_utf8-from_IsUtf8}
 use Rattle.serde_json.specs.Data.{Data, string}
-use Rattle.amqp_types.specs.declared.amqp_type.AMQPType.TheVariants as amqp
-use Rattle.amqp_types.specs.declared.long_string.LongString.{LongString}
-use Rattle.amqp_types.specs.Contents.{long_bytes}
+use Rattle.amqp_value_core.specs.declared.types.amqp_type.AMQPType.TheVariants as amqp
+use Rattle.amqp_value_core.specs.declared.types.long_string.LongString.{LongString}
+use Rattle.amqp_value_core.specs.Contents.{long_bytes}
 use Rattle.amqp_value_core.specs.declared.value.AMQPValue.{the_lemmas}
 use Rattle.amqp_value_core.specs.declared.value.AMQPValue.TheVariants as value
 use Rattle.amqp_value_core.specs.View.{view}
-use Rattle.amqp_grammar.specs.Values.{long}
+use Rattle.amqp_value_core.specs.Values.{long}
 use Rattle.amqp_json.specs.Reading.{bytes_in, value_under, value_of}
 use Rattle.amqp_json.specs.Json.{under, long_json, hexadecimal}
 

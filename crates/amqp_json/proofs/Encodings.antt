@@ -1,16 +1,16 @@
 -- When what was written is read as what it was written for.
 use Rattle.std.proofs.Common.{◌≡◌, ℕ, Bool, true, false, cond, List, [], ◌++◌, sym, subst, refl}
 use Rattle.std.proofs.lemmas.List.{append-nil}
-use Rattle.amqp_grammar.specs.Values.{Tree, scalar, short, long, octets, array, table, readable}
-use Rattle.amqp_grammar.specs.Texts.{text}
-use Rattle.amqp_grammar.specs.Outcomes.{Reading, more, unknown, malformed, found, Outcome}
-use Rattle.amqp_grammar.specs.Readings.{read_back, unread}
-use Rattle.amqp_grammar.proofs.GrammarLaws.{one_outcome}
-use Rattle.amqp_parsing.specs.declared.errors.Err.TheVariants.{Incomplete, Error, Failure}
-use Rattle.amqp_parsing.specs.declared.errors.Needed.TheVariants.{Unknown, Size}
-use Rattle.amqp_parsing.specs.declared.errors.ErrorKind.TheVariants.{MapOpt, MapRes, Eof, OutOfMemory, TooLarge}
-use Rattle.amqp_parsing.specs.Refusals.{Refusal}
-use Rattle.amqp_parsing.specs.ParseResults.{Refuses}
+use Rattle.amqp_value_core.specs.Values.{Tree, scalar, short, long, octets, array, table, readable}
+use Rattle.amqp_value_core.specs.Texts.{text}
+use Rattle.amqp_value_core.specs.Outcomes.{Reading, more, unknown, malformed, found, Outcome}
+use Rattle.amqp_value_core.specs.Readings.{read_back, unread}
+use Rattle.amqp_value_core.proofs.GrammarLaws.{one_outcome}
+use Rattle.amq_protocol_types.specs.declared.parsing.errors.Err.TheVariants.{Incomplete, Error, Failure}
+use Rattle.amq_protocol_types.specs.declared.parsing.errors.Needed.TheVariants.{Unknown, Size}
+use Rattle.amq_protocol_types.specs.declared.parsing.errors.ErrorKind.TheVariants.{MapOpt, MapRes, Eof, OutOfMemory, TooLarge}
+use Rattle.amq_protocol_types.specs.parsing.Refusals.{Refusal}
+use Rattle.amq_protocol_types.specs.parsing.ParseResults.{Refuses}
 use Rattle.amqp_json.specs.Converts.{IsReadAs}
 
 -- what reading a canonical encoding results in, whatever follows

@@ -8,7 +8,7 @@ use Rattle.serde_json.specs.declared.number.N.TheVariants.{PosInt, NegInt, Float
 use Rattle.serde_json.specs.Number.{num_of, is_valid}
 use Rattle.serde_json.specs.Data.{number}
 use Rattle.serde_json.specs.View.{view}
-use Rattle.amqp_types.specs.declared.amqp_type.AMQPType.{AMQPType}
+use Rattle.amqp_value_core.specs.declared.types.amqp_type.AMQPType.{AMQPType}
 use Rattle.amqp_value_core.specs.Json.{json}
 use Rattle.amqp_json.specs.Reading.{is_natural_as_negative, plain_in}
 

@@ -1,7 +1,7 @@
 -- Reading is the converse of writing.
 use Rattle.std.proofs.Common.{◌≡◌, Option, Some, None, Result, Ok, Err, IfOk, sym, ap, ◌∙◌}
 use Rattle.serde_json.specs.Data.{Data}
-use Rattle.amqp_grammar.specs.Values.{Tree}
+use Rattle.amqp_value_core.specs.Values.{Tree}
 use Rattle.amqp_value_core.specs.declared.value.AMQPValue.{AMQPValue}
 use Rattle.amqp_value_core.specs.View.{view}
 use Rattle.amqp_json.specs.Json.{json}

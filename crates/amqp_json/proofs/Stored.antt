@@ -8,9 +8,9 @@ use mir.ValLaws as laws
 use Rattle.hex.specs.Hex.{IsBytes, decode_of}
 use Rattle.hex.proofs.HexLemmas.{decode_of-ok}
 use Rattle.serde_json.specs.Data.{Data}
-use Rattle.amqp_types.specs.declared.amqp_type.AMQPType.{AMQPType}
-use Rattle.amqp_types.specs.declared.amqp_type.AMQPType.TheVariants as amqp
-use Rattle.amqp_grammar.specs.Values.{Tree, scalar, number}
+use Rattle.amqp_value_core.specs.declared.types.amqp_type.AMQPType.{AMQPType}
+use Rattle.amqp_value_core.specs.declared.types.amqp_type.AMQPType.TheVariants as amqp
+use Rattle.amqp_value_core.specs.Values.{Tree, scalar, number}
 use Rattle.amqp_value_core.specs.Json.{is_within, signed, unsigned, signed_within, unsigned_below}
 use Rattle.amqp_json.specs.InMemory.{IsStored}
 use Rattle.amqp_json.specs.Reading.{is_natural_as_negative, plain_in, IsNarrow}

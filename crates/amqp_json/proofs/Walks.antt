@@ -15,8 +15,8 @@ use Rattle.serde_json.specs.View.{view as document, items_view}
 use Rattle.amqp_value_core.specs.declared.types.field_table.FieldTable.{FieldTable}
 use Rattle.amqp_value_core.specs.declared.value.AMQPValue.{AMQPValue, the_lemmas}
 use Rattle.amqp_value_core.specs.declared.value.AMQPValue.TheVariants as value
-use Rattle.amqp_grammar.specs.Values.{Tree, table, Entries, no_entries, entry, insert as put_entry}
-use Rattle.amqp_types.specs.Strings.{IsShort}
+use Rattle.amqp_value_core.specs.Values.{Tree, table, Entries, no_entries, entry, insert as put_entry}
+use Rattle.amqp_value_core.specs.Strings.{IsShort}
 use Rattle.amqp_value_core.specs.View.{view}
 use Rattle.amqp_value_core.specs.Containers.{trees, entries, table_entries, table_view}
 use Rattle.amqp_json.specs.Json.{json, items_json, members_json}

@@ -3,12 +3,12 @@ use Rattle.std.specs.Prelude.{ℕ, ◌≡◌, ◌≤◌, List, ◌++◌, Some, f
 use Rattle.serde_json.specs.Data.{depth}
 use Rattle.serde_json.specs.Read.{read, max_depth}
 use Rattle.serde_json.specs.Written.{compact_text}
-use Rattle.amqp_grammar.specs.Values.{Tree, readable}
-use Rattle.amqp_grammar.specs.Texts.{text, Fits}
-use Rattle.amqp_grammar.specs.Outcomes.{Outcome, found}
-use Rattle.amqp_parsing.specs.declared.limits.Limits.{Limits}
-use Rattle.amqp_parsing.specs.Headers.{extent, IsWhole}
-use Rattle.amqp_parsing.specs.Limits.{Within, RefusesWithin}
+use Rattle.amqp_value_core.specs.Values.{Tree, readable}
+use Rattle.amqp_value_core.specs.Texts.{text, Fits}
+use Rattle.amqp_value_core.specs.Outcomes.{Outcome, found}
+use Rattle.amq_protocol_types.specs.declared.parsing.limits.Limits.{Limits}
+use Rattle.amq_protocol_types.specs.parsing.Headers.{extent, IsWhole}
+use Rattle.amq_protocol_types.specs.parsing.Limits.{Within, RefusesWithin}
 use Rattle.amqp_json.specs.InMemory.{IsStored}
 use Rattle.amqp_json.specs.Json.{json}
 use Rattle.amqp_json.specs.Refusals.{Tells}

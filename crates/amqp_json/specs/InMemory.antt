@@ -1,11 +1,11 @@
 -- What every value in memory is, and what doesn't allocate as JSON.
-use Rattle.amqp_types.specs.Strings.{IsShort}
+use Rattle.amqp_value_core.specs.Strings.{IsShort}
 use Rattle.serde_json.specs.Data as json
 use Rattle.serde_json.specs.Data.{Data}
-use Rattle.amqp_types.specs.declared.amqp_type.AMQPType.TheVariants as amqp
+use Rattle.amqp_value_core.specs.declared.types.amqp_type.AMQPType.TheVariants as amqp
 use Rattle.hex.specs.Hex.{IsBytes}
-use Rattle.amqp_grammar.specs.InMemory.{IsScalar}
-use Rattle.amqp_grammar.specs.Values.{boolean, number, void, Tree, scalar, short, long, octets, array, table, Trees, no_trees, tree, Entries, no_entries, entry}
+use Rattle.amqp_value_core.specs.InMemory.{IsScalar}
+use Rattle.amqp_value_core.specs.Values.{boolean, number, void, Tree, scalar, short, long, octets, array, table, Trees, no_trees, tree, Entries, no_entries, entry}
 
 -- each number is in its type's range, each short string and each key is one, and all else is bytes
 abbrev mutual

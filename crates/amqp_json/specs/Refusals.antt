@@ -1,7 +1,7 @@
 -- What a JSON value or a text is that reading rejects, and what one is that it accepts.
 use Rattle.std.specs.Prelude.{◌≡◌, ◌≢◌, Option, Some, None}
 use Rattle.serde_json.specs.Data.{Data}
-use Rattle.amqp_grammar.specs.Values.{Tree}
+use Rattle.amqp_value_core.specs.Values.{Tree}
 use Rattle.amqp_json.specs.declared.error.JsonError.{JsonError}
 use Rattle.amqp_json.specs.declared.error.JsonError.TheVariants.{OutOfMemory, Syntax, NotAValue}
 use Rattle.amqp_json.specs.Json.{json}

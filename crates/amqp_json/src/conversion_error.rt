@@ -1,5 +1,5 @@
 use crate::error::JsonError;
-use amqp_parsing::ParserError;
+use amq_protocol_types::parsing::ParserError;
 use std::alloc::AllocError;
 use thiserror::Error;
 

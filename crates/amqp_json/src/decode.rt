@@ -5,13 +5,13 @@ ghost use Rattle.amqp_json.specs.Converts.{IsJsonOf, IsNotRead};
 
 use crate::conversion_error::DecodeError;
 use crate::text::to_json;
-use amqp_parsing::{Err as Refusal, Limits, SliceInput, parse_value_within};
+use amq_protocol_types::parsing::{Err as Refusal, Limits, SliceInput, parse_value_within};
 use std::alloc::Global;
 
 /// Converts the encoding at the start of the bytes to JSON text without spaces, and returns the
 /// remaining bytes too. The value is parsed as `parse_value_within` does. By measurements it uses
 /// stack for at most `limits.depth` levels; docs/PROMISES.md has what one takes.
-#[tactic(auto, using(amqp_parsing::proofs::ParsingLaws::found_all, amqp_parsing::proofs::ParsingLaws::failed_all))]
+#[tactic(auto, using(amq_protocol_types::proofs::ParsingLaws::found_all, amq_protocol_types::proofs::ParsingLaws::failed_all))]
 pub fn json_of_encoding<'a>(
     alloc: Global,
     bytes: &'a [u8],

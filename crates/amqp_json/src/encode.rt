@@ -1,15 +1,15 @@
 //! From a JSON text to the canonical encoding.
 
 ghost use Rattle.std.specs.Prelude.{◌≡◌, IfOk, IfErr};
-ghost use Rattle.amqp_grammar.specs.Values.{Tree};
-ghost use Rattle.amqp_grammar.specs.Texts.{text};
+ghost use Rattle.amqp_value_core.specs.Values.{Tree};
+ghost use Rattle.amqp_value_core.specs.Texts.{text};
 ghost use Rattle.amqp_value_core.specs.View.{view};
 ghost use Rattle.amqp_json.specs.InMemory.{IsStored};
 ghost use Rattle.amqp_json.specs.Converts.{Means, IsEncodingOf, IsReadAs, HasNoEncoding, IsRefused};
 
 use crate::conversion_error::EncodeError;
 use crate::text::from_json;
-use amqp_generation::{GenError, WriteContext, gen_value};
+use amq_protocol_types::generation::{GenError, WriteContext, gen_value};
 use amqp_in_place::read_in_place_unlimited;
 use amqp_value_core::value::AMQPValue;
 use std::alloc::Global;

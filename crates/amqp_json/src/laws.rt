@@ -3,7 +3,7 @@
 //! The function is a law. It does nothing, and its contract states what holds.
 
 ghost use Rattle.std.specs.Prelude.{◌≡◌};
-ghost use Rattle.amqp_grammar.specs.Values.{Tree};
+ghost use Rattle.amqp_value_core.specs.Values.{Tree};
 ghost use Rattle.amqp_json.specs.Json.{json};
 ghost use Rattle.amqp_json.specs.InMemory.{IsStored};
 

@@ -3,10 +3,10 @@
 use crate::arguments::{Settings, Subject};
 use crate::payload::leaf_text;
 use amq_protocol_types::AMQPType;
-use amq_protocol_types::in_place::read_in_place;
 use amq_protocol_types::parsing::{Err, ErrorKind, Needed, ParserError};
 use amq_protocol_types::stream::Limits;
 use amqp_dissect::{Dissection, End, Field, Part, Problem, escape, first_leaf, leaf_of};
+use amqp_in_place::read_in_place;
 use amqp_screen::Screen;
 use std::alloc::{AllocError, Global};
 use std::str;

@@ -3,7 +3,7 @@
 use crate::arguments::{Settings, Subject};
 use crate::input::Tagged;
 use amq_protocol_types::AMQPType;
-use amq_protocol_types::in_place::read_in_place;
+use amqp_in_place::read_in_place;
 
 /// What is reported of an input that is no value only since its type tag is left out.
 pub const LACKS_TYPE_TAG: &str = "the input is a table without its type tag; --table reads it";

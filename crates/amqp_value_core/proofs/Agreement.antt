@@ -1,20 +1,20 @@
 -- Reading as a function and as a relation are the same.
 use Rattle.std.proofs.Common.{ℕ, suc, zero, ◌≡◌, ◌∙◌, ◌↔◌, sym, refl, subst, Option, Some, None, List, [], ◌∷◌, ◌++◌, length, arith, length-append}
 use Rattle.std.specs.Prelude.{MatchOption}
-use Rattle.amqp_types.specs.declared.amqp_type.AMQPType.{AMQPType}
-use Rattle.amqp_grammar.specs.Values.{Tree}
-use Rattle.amqp_types.specs.Ids.{kind}
-use Rattle.amqp_grammar.specs.Grammar.{Wire, Raw}
-use Rattle.amqp_grammar.specs.Nesting.{WireWithin, RawWithin, OutcomeWithin}
-use Rattle.amqp_types.specs.Inputs.{IsBytes}
-use Rattle.amqp_grammar.specs.Outcomes.{Reading, found, more, unknown, malformed, NeedsMoreOr, lack, FrontBy, Outcome}
-use Rattle.amqp_grammar.specs.Readings.{Front}
-use Rattle.amqp_grammar.specs.Payloads.{RawOutcome}
-use Rattle.amqp_grammar.specs.Decode.{outcome_by, meaning, outcome, raw_outcome}
-use Rattle.amqp_grammar.proofs.Found.{found_wire, found_raw}
-use Rattle.amqp_grammar.proofs.Limited.{one_outcome_within}
-use Rattle.amqp_grammar.proofs.Nests.{nesting-le, raw_nesting-le}
-use Rattle.amqp_grammar.proofs.Sound.{Ends, WireEnds, unless_weaker, raw_ends, wire_ends, means_spelled}
+use Rattle.amqp_value_core.specs.declared.types.amqp_type.AMQPType.{AMQPType}
+use Rattle.amqp_value_core.specs.Values.{Tree}
+use Rattle.amqp_value_core.specs.Ids.{kind}
+use Rattle.amqp_value_core.specs.Grammar.{Wire, Raw}
+use Rattle.amqp_value_core.specs.Nesting.{WireWithin, RawWithin, OutcomeWithin}
+use Rattle.amqp_value_core.specs.Inputs.{IsBytes}
+use Rattle.amqp_value_core.specs.Outcomes.{Reading, found, more, unknown, malformed, NeedsMoreOr, lack, FrontBy, Outcome}
+use Rattle.amqp_value_core.specs.Readings.{Front}
+use Rattle.amqp_value_core.specs.Payloads.{RawOutcome}
+use Rattle.amqp_value_core.specs.Decode.{outcome_by, meaning, outcome, raw_outcome}
+use Rattle.amqp_value_core.proofs.Found.{found_wire, found_raw}
+use Rattle.amqp_value_core.proofs.Limited.{one_outcome_within}
+use Rattle.amqp_value_core.proofs.Nests.{nesting-le, raw_nesting-le}
+use Rattle.amqp_value_core.proofs.Sound.{Ends, WireEnds, unless_weaker, raw_ends, wire_ends, means_spelled}
 
 -- an encoding at the start is the outcome
 outcome_at : (s w rest : List ℕ) (v : Tree) → Wire w v → s ≡ w ++ rest → outcome s ≡ found v rest

@@ -7,24 +7,24 @@ use Rattle.std.specs.Int.{w8, w16, w32, w64, from_be_bytes, to_be_bytes, bytes_h
 use Rattle.std.proofs.lemmas.Bool.{eqb-true}
 use Rattle.std.proofs.lemmas.List.{nil_from_length}
 use Rattle.std.proofs.lemmas.Nat.{be_bytes_2, be_bytes_4, be_bytes_8}
-use Rattle.amqp_types.specs.declared.amqp_type.AMQPType.{AMQPType}
-use Rattle.amqp_types.specs.declared.amqp_type.AMQPType.TheVariants as amqp
-use Rattle.amqp_grammar.specs.Values.{boolean, Tree, array, table, Trees, tree, Entries, entry, ComesBefore, scalar_type, readable, type_of}
-use Rattle.amqp_grammar.specs.Texts.{payload, text, body, pairs, Fits}
-use Rattle.amqp_types.specs.Ids.{letters, kind, id_of}
-use Rattle.amqp_types.specs.Names.{read_as}
-use Rattle.amqp_grammar.specs.Layouts.{Layout, fixed, truth, spelled}
-use Rattle.amqp_types.specs.Strings.{IsShort}
-use Rattle.amqp_grammar.specs.Grammar.{short_field, long_field, Wire, wire, Raw, raw_fixed, raw_short, raw_long, raw_octets, raw_array, raw_table, ArrayBody, no_values, value, TableBody, no_pairs, pair}
-use Rattle.amqp_types.specs.Inputs.{IsBytes}
-use Rattle.amqp_grammar.specs.Maps.{IsRising}
-use Rattle.amqp_grammar.specs.Canonical.{IsStrict, IsCanon, IsCanonRaw, IsCanonBody, IsCanonPairs, Canon}
-use Rattle.amqp_grammar.specs.Payloads.{CanonRaw}
-use Rattle.amqp_grammar.specs.Members.{CanonBody, CanonPairs}
-use Rattle.amqp_types.proofs.Bytes.{bytes_front, bytes_behind, byte_at}
-use Rattle.amqp_grammar.proofs.Tables.{rising_pairs}
-use Rattle.amqp_types.proofs.Ids.{kind_read}
-use Rattle.amqp_grammar.proofs.Shortest.{what_is_read}
+use Rattle.amqp_value_core.specs.declared.types.amqp_type.AMQPType.{AMQPType}
+use Rattle.amqp_value_core.specs.declared.types.amqp_type.AMQPType.TheVariants as amqp
+use Rattle.amqp_value_core.specs.Values.{boolean, Tree, array, table, Trees, tree, Entries, entry, ComesBefore, scalar_type, readable, type_of}
+use Rattle.amqp_value_core.specs.Texts.{payload, text, body, pairs, Fits}
+use Rattle.amqp_value_core.specs.Ids.{letters, kind, id_of}
+use Rattle.amqp_value_core.specs.Names.{read_as}
+use Rattle.amqp_value_core.specs.Layouts.{Layout, fixed, truth, spelled}
+use Rattle.amqp_value_core.specs.Strings.{IsShort}
+use Rattle.amqp_value_core.specs.Grammar.{short_field, long_field, Wire, wire, Raw, raw_fixed, raw_short, raw_long, raw_octets, raw_array, raw_table, ArrayBody, no_values, value, TableBody, no_pairs, pair}
+use Rattle.amqp_value_core.specs.Inputs.{IsBytes}
+use Rattle.amqp_value_core.specs.Maps.{IsRising}
+use Rattle.amqp_value_core.specs.Canonical.{IsStrict, IsCanon, IsCanonRaw, IsCanonBody, IsCanonPairs, Canon}
+use Rattle.amqp_value_core.specs.Payloads.{CanonRaw}
+use Rattle.amqp_value_core.specs.Members.{CanonBody, CanonPairs}
+use Rattle.amqp_value_core.proofs.Bytes.{bytes_front, bytes_behind, byte_at}
+use Rattle.amqp_value_core.proofs.Tables.{rising_pairs}
+use Rattle.amqp_value_core.proofs.Ids.{kind_read}
+use Rattle.amqp_value_core.proofs.Shortest.{what_is_read}
 
 -- ---- they are encodings
 

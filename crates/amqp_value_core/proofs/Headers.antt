@@ -5,13 +5,13 @@ use Rattle.std.specs.Option.{IfSome}
 use Rattle.std.proofs.lemmas.Bool.{cases_lt, lt-ltb, le-ltb}
 use Rattle.std.proofs.lemmas.List.{take-append-le}
 use Rattle.std.proofs.lemmas.Nat.{from_be_bytes-to_be_bytes_4}
-use Rattle.amqp_types.specs.declared.amqp_type.AMQPType.{AMQPType}
-use Rattle.amqp_types.specs.declared.amqp_type.AMQPType.TheVariants as amqp
-use Rattle.amqp_grammar.specs.Values.{Tree}
-use Rattle.amqp_grammar.specs.Layouts.{Layout, fixed}
-use Rattle.amqp_types.specs.Strings.{IsShort}
-use Rattle.amqp_grammar.specs.Grammar.{short_field, long_field, Raw, raw_fixed, raw_short, raw_long, raw_octets, raw_array, raw_table}
-use Rattle.amqp_grammar.specs.Outcomes.{length_field, counted, frame_lack, fields_lack, lack_of, lack}
+use Rattle.amqp_value_core.specs.declared.types.amqp_type.AMQPType.{AMQPType}
+use Rattle.amqp_value_core.specs.declared.types.amqp_type.AMQPType.TheVariants as amqp
+use Rattle.amqp_value_core.specs.Values.{Tree}
+use Rattle.amqp_value_core.specs.Layouts.{Layout, fixed}
+use Rattle.amqp_value_core.specs.Strings.{IsShort}
+use Rattle.amqp_value_core.specs.Grammar.{short_field, long_field, Raw, raw_fixed, raw_short, raw_long, raw_octets, raw_array, raw_table}
+use Rattle.amqp_value_core.specs.Outcomes.{length_field, counted, frame_lack, fields_lack, lack_of, lack}
 
 -- how many bytes a payload of the layout has, or one with a length field
 abbrev pub extent_of : Option Layout → Width → List ℕ → ℕ

@@ -1,16 +1,16 @@
 -- Headlines: what was read keeps to its encoding's length, and what is written is a shortest
 -- encoding that determines its value.
 use Rattle.std.proofs.Common.{◌≡◌, ◌-◌, ℕ, zero, suc, List, [], ◌∷◌, length, Option, Some, None, MatchOption, ap, subst, arith, length-append}
-use Rattle.amqp_types.specs.declared.amqp_type.AMQPType.{AMQPType}
-use Rattle.amqp_grammar.specs.Values.{Tree}
-use Rattle.amqp_types.specs.Ids.{kind}
-use Rattle.amqp_grammar.specs.Grammar.{Wire}
-use Rattle.amqp_grammar.specs.Outcomes.{found, unknown, lack, NeedsMoreOr, Outcome}
-use Rattle.amqp_grammar.specs.Readings.{Front}
-use Rattle.amqp_grammar.specs.Texts.{text}
-use Rattle.amqp_grammar.specs.Headline.{IsWritableIn, IsShortest, TellsApart}
-use Rattle.amqp_grammar.proofs.Bounds.{bounds}
-use Rattle.amqp_grammar.proofs.Shortest.{what_is_read, shortest, same_text_same_value}
+use Rattle.amqp_value_core.specs.declared.types.amqp_type.AMQPType.{AMQPType}
+use Rattle.amqp_value_core.specs.Values.{Tree}
+use Rattle.amqp_value_core.specs.Ids.{kind}
+use Rattle.amqp_value_core.specs.Grammar.{Wire}
+use Rattle.amqp_value_core.specs.Outcomes.{found, unknown, lack, NeedsMoreOr, Outcome}
+use Rattle.amqp_value_core.specs.Readings.{Front}
+use Rattle.amqp_value_core.specs.Texts.{text}
+use Rattle.amqp_value_core.specs.Headline.{IsWritableIn, IsShortest, TellsApart}
+use Rattle.amqp_value_core.proofs.Bounds.{bounds}
+use Rattle.amqp_value_core.proofs.Shortest.{what_is_read, shortest, same_text_same_value}
 
 -- what is found has an encoding at the start
 pub found_front : (s rest : List ℕ) (v : Tree) → Outcome s (found v rest) → Front s (found v rest)

@@ -3,9 +3,9 @@ use Rattle.std.proofs.Common.{◌≡◌, ℕ, Bool, true, false, cond, nat_eq, L
 use Rattle.std.specs.Map.{lookup}
 use Rattle.std.specs.List.{AllByRecursion}
 use Rattle.std.specs.Option.{IfSome}
-use Rattle.amqp_types.specs.declared.amqp_type.AMQPType.{AMQPType}
-use Rattle.amqp_types.specs.Ids.{letters, kind}
-use Rattle.amqp_types.specs.Names.{read_as}
+use Rattle.amqp_value_core.specs.declared.types.amqp_type.AMQPType.{AMQPType}
+use Rattle.amqp_value_core.specs.Ids.{letters, kind}
+use Rattle.amqp_value_core.specs.Names.{read_as}
 
 -- what holds of each line of a table holds of what is found in it
 pub row_holds : (P : AMQPType → Type 0) (test : ℕ → Bool) (rows : List (ℕ × AMQPType)) → AllByRecursion (λ r. P r.1) rows → IfSome (lookup test rows) P

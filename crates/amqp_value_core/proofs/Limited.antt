@@ -1,18 +1,18 @@
 -- Reading if containers nest at most that deep: the laws of reading, with that limit.
 use Rattle.std.proofs.Common.{◌≡◌, ◌↔◌, ◌≤◌, ◌*◌, ◌+◌, ◌/◌, ℕ, zero, suc, List, [], ◌∷◌, ◌++◌, length, drop, Option, Some, None, refl, sym, ap, ap₂, ◌∙◌, subst, arith, length-append}
 use Rattle.std.specs.Prelude.{MatchOption}
-use Rattle.amqp_types.specs.declared.amqp_type.AMQPType.{AMQPType}
-use Rattle.amqp_grammar.specs.Values.{Tree}
-use Rattle.amqp_types.specs.Ids.{kind}
-use Rattle.amqp_grammar.specs.Grammar.{Wire, wire, Raw}
-use Rattle.amqp_grammar.specs.Outcomes.{Reading, found, more, unknown, malformed, lack, NeedsMoreOr, FrontBy, RawOutcomeBy, OutcomeBy, Outcome}
-use Rattle.amqp_grammar.specs.Payloads.{RawOutcome}
-use Rattle.amqp_grammar.specs.Nesting.{nesting, WireWithin, RawWithin, OutcomeWithin, RawOutcomeWithin}
-use Rattle.amqp_grammar.proofs.Fronts.{one_held}
-use Rattle.amqp_grammar.proofs.Headers.{lack-raw, lack-whole}
-use Rattle.amqp_grammar.proofs.MoreBytes.{raw_inside}
-use Rattle.amqp_grammar.proofs.Unique.{one_reading}
-use Rattle.amqp_grammar.proofs.Nests.{nesting-le, raw_nesting-le}
+use Rattle.amqp_value_core.specs.declared.types.amqp_type.AMQPType.{AMQPType}
+use Rattle.amqp_value_core.specs.Values.{Tree}
+use Rattle.amqp_value_core.specs.Ids.{kind}
+use Rattle.amqp_value_core.specs.Grammar.{Wire, wire, Raw}
+use Rattle.amqp_value_core.specs.Outcomes.{Reading, found, more, unknown, malformed, lack, NeedsMoreOr, FrontBy, RawOutcomeBy, OutcomeBy, Outcome}
+use Rattle.amqp_value_core.specs.Payloads.{RawOutcome}
+use Rattle.amqp_value_core.specs.Nesting.{nesting, WireWithin, RawWithin, OutcomeWithin, RawOutcomeWithin}
+use Rattle.amqp_value_core.proofs.Fronts.{one_held}
+use Rattle.amqp_value_core.proofs.Headers.{lack-raw, lack-whole}
+use Rattle.amqp_value_core.proofs.MoreBytes.{raw_inside}
+use Rattle.amqp_value_core.proofs.Unique.{one_reading}
+use Rattle.amqp_value_core.proofs.Nests.{nesting-le, raw_nesting-le}
 
 -- ---- of any P
 

@@ -1,16 +1,16 @@
 -- More bytes: what they change of an outcome.
 use Rattle.std.proofs.Common.{◌≡◌, ◌<◌, ◌-◌, ℕ, zero, suc, List, [], ◌∷◌, ◌++◌, length, drop, Option, Some, None, refl, sym, ap, ◌∙◌, subst, arith, append_assoc}
 use Rattle.std.proofs.lemmas.List.{nil_from_length}
-use Rattle.amqp_types.specs.declared.amqp_type.AMQPType.{AMQPType}
-use Rattle.amqp_grammar.specs.Values.{Tree}
-use Rattle.amqp_types.specs.Ids.{kind}
-use Rattle.amqp_grammar.specs.Grammar.{Raw}
-use Rattle.amqp_grammar.specs.Outcomes.{Reading, found, more, unknown, malformed, lack, NeedsMoreOr, Outcome}
-use Rattle.amqp_grammar.specs.Payloads.{RawFront, RawOutcome}
-use Rattle.amqp_grammar.specs.Readings.{with_more, StillWaits}
-use Rattle.amqp_grammar.proofs.Fronts.{front_inside}
-use Rattle.amqp_grammar.proofs.Headers.{extent, extent-whole, extent-append, extent-raw, lack-whole, lack-append}
-use Rattle.amqp_grammar.proofs.Outcomes.{raw_whole, value_to_raw, raw_to_value, unknown_outcome}
+use Rattle.amqp_value_core.specs.declared.types.amqp_type.AMQPType.{AMQPType}
+use Rattle.amqp_value_core.specs.Values.{Tree}
+use Rattle.amqp_value_core.specs.Ids.{kind}
+use Rattle.amqp_value_core.specs.Grammar.{Raw}
+use Rattle.amqp_value_core.specs.Outcomes.{Reading, found, more, unknown, malformed, lack, NeedsMoreOr, Outcome}
+use Rattle.amqp_value_core.specs.Payloads.{RawFront, RawOutcome}
+use Rattle.amqp_value_core.specs.Readings.{with_more, StillWaits}
+use Rattle.amqp_value_core.proofs.Fronts.{front_inside}
+use Rattle.amqp_value_core.proofs.Headers.{extent, extent-whole, extent-append, extent-raw, lack-whole, lack-append}
+use Rattle.amqp_value_core.proofs.Outcomes.{raw_whole, value_to_raw, raw_to_value, unknown_outcome}
 
 -- a payload at the start of a joined list is in its first part, if that is a complete
 -- length-prefixed field

@@ -1,15 +1,15 @@
 -- Outcomes: a value's is that of its payload, and a list has at most one.
 use Rattle.std.proofs.Common.{◌≡◌, ℕ, zero, suc, List, [], ◌∷◌, ◌++◌, Option, Some, None, MatchOption, refl, sym, ap, ap₂, ◌∙◌, subst}
-use Rattle.amqp_types.specs.declared.amqp_type.AMQPType.{AMQPType}
-use Rattle.amqp_grammar.specs.Values.{Tree}
-use Rattle.amqp_types.specs.Ids.{kind}
-use Rattle.amqp_grammar.specs.Grammar.{Wire, wire, Raw}
-use Rattle.amqp_grammar.specs.Outcomes.{Reading, found, more, unknown, malformed, lack, NeedsMoreOr, Outcome, RawHeavy, Heavy}
-use Rattle.amqp_grammar.specs.Payloads.{RawFront, RawOutcome}
-use Rattle.amqp_grammar.specs.Readings.{Front}
-use Rattle.amqp_grammar.proofs.Fronts.{one_held}
-use Rattle.amqp_grammar.proofs.Headers.{lack-raw}
-use Rattle.amqp_grammar.proofs.Unique.{one_raw_reading}
+use Rattle.amqp_value_core.specs.declared.types.amqp_type.AMQPType.{AMQPType}
+use Rattle.amqp_value_core.specs.Values.{Tree}
+use Rattle.amqp_value_core.specs.Ids.{kind}
+use Rattle.amqp_value_core.specs.Grammar.{Wire, wire, Raw}
+use Rattle.amqp_value_core.specs.Outcomes.{Reading, found, more, unknown, malformed, lack, NeedsMoreOr, Outcome, RawHeavy, Heavy}
+use Rattle.amqp_value_core.specs.Payloads.{RawFront, RawOutcome}
+use Rattle.amqp_value_core.specs.Readings.{Front}
+use Rattle.amqp_value_core.proofs.Fronts.{one_held}
+use Rattle.amqp_value_core.proofs.Headers.{lack-raw}
+use Rattle.amqp_value_core.proofs.Unique.{one_raw_reading}
 
 -- ---- a value and its payload
 

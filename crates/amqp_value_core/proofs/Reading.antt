@@ -2,24 +2,24 @@
 use Rattle.std.proofs.Common.{◌≡◌, ◌<◌, ◌≤◌, ◌^◌, ℕ, suc, subst, List, [], ◌∷◌, ◌++◌, length, drop, Some, None, Bool, true, false, refl, sym, ap, ◌∙◌, IsTrue, if◌then◌else◌}
 use Rattle.std.specs.Int.{w32}
 use Rattle.std.proofs.lemmas.Bool.{and_from, both_ways}
-use Rattle.amqp_types.specs.declared.amqp_type.AMQPType.{AMQPType}
-use Rattle.amqp_types.specs.declared.amqp_type.AMQPType.TheVariants as amqp
-use Rattle.amqp_grammar.specs.Values.{Tree, scalar, short, long, octets, array, table, Trees, no_trees, tree, Entries, no_entries, entry, readable}
-use Rattle.amqp_types.specs.Ids.{kind, id_of}
-use Rattle.amqp_types.specs.Strings.{IsShort}
-use Rattle.amqp_grammar.specs.Grammar.{short_field, long_field, Wire, wire, Raw, raw_fixed, raw_short, raw_array, raw_table, ArrayBody, no_values, value, TableBody, no_pairs, pair}
-use Rattle.amqp_grammar.specs.Nesting.{raw_nesting, body_nesting, pairs_nesting}
-use Rattle.amqp_grammar.specs.Texts.{text, body, pairs, Fits}
-use Rattle.amqp_grammar.specs.Members.{all_readable, entries_readable, AllFit, EntriesFit}
-use Rattle.amqp_grammar.specs.InMemory.{IsValue, AreValues, AreEntries}
-use Rattle.amqp_grammar.specs.Readings.{unread, read_back}
-use Rattle.amqp_grammar.specs.Outcomes.{counted, found, malformed, lack, Outcome}
-use Rattle.amqp_grammar.specs.Payloads.{RawFront}
-use Rattle.amqp_grammar.proofs.Fronts.{same_fronts}
-use Rattle.amqp_grammar.proofs.Headers.{counted-long_field, lack_of-long_field}
-use Rattle.amqp_grammar.proofs.Unique.{one_front, one_key}
-use Rattle.amqp_grammar.proofs.Outcomes.{raw_of_wire, raw_whole, raw_to_value, wire_found}
-use Rattle.amqp_grammar.proofs.Spelling.{text_is_wire}
+use Rattle.amqp_value_core.specs.declared.types.amqp_type.AMQPType.{AMQPType}
+use Rattle.amqp_value_core.specs.declared.types.amqp_type.AMQPType.TheVariants as amqp
+use Rattle.amqp_value_core.specs.Values.{Tree, scalar, short, long, octets, array, table, Trees, no_trees, tree, Entries, no_entries, entry, readable}
+use Rattle.amqp_value_core.specs.Ids.{kind, id_of}
+use Rattle.amqp_value_core.specs.Strings.{IsShort}
+use Rattle.amqp_value_core.specs.Grammar.{short_field, long_field, Wire, wire, Raw, raw_fixed, raw_short, raw_array, raw_table, ArrayBody, no_values, value, TableBody, no_pairs, pair}
+use Rattle.amqp_value_core.specs.Nesting.{raw_nesting, body_nesting, pairs_nesting}
+use Rattle.amqp_value_core.specs.Texts.{text, body, pairs, Fits}
+use Rattle.amqp_value_core.specs.Members.{all_readable, entries_readable, AllFit, EntriesFit}
+use Rattle.amqp_value_core.specs.InMemory.{IsValue, AreValues, AreEntries}
+use Rattle.amqp_value_core.specs.Readings.{unread, read_back}
+use Rattle.amqp_value_core.specs.Outcomes.{counted, found, malformed, lack, Outcome}
+use Rattle.amqp_value_core.specs.Payloads.{RawFront}
+use Rattle.amqp_value_core.proofs.Fronts.{same_fronts}
+use Rattle.amqp_value_core.proofs.Headers.{counted-long_field, lack_of-long_field}
+use Rattle.amqp_value_core.proofs.Unique.{one_front, one_key}
+use Rattle.amqp_value_core.proofs.Outcomes.{raw_of_wire, raw_whole, raw_to_value, wire_found}
+use Rattle.amqp_value_core.proofs.Spelling.{text_is_wire}
 
 -- two lists after their lengths, at the start of one list, are one
 one_large : (s t x y : List ℕ) → length s < 2 ^ 32 → length t < 2 ^ 32 → long_field s ++ x ≡ long_field t ++ y → (s ≡ t) × (x ≡ y)

@@ -4,25 +4,25 @@ use Rattle.std.proofs.Common.{◌≡◌, ◌≢◌, ◌≤◌, ℕ, List, ◌++�
 use Rattle.std.specs.Option.{IfSome}
 use Rattle.std.specs.Int.{w32, to_be_bytes}
 use Rattle.std.proofs.lemmas.Bool.{and_from}
-use Rattle.amqp_types.specs.declared.amqp_type.AMQPType.{AMQPType}
-use Rattle.amqp_types.specs.declared.amqp_type.AMQPType.TheVariants as amqp
-use Rattle.amqp_grammar.specs.Values.{Tree, Trees, Entries, no_entries, entry, insert_all, readable}
-use Rattle.amqp_types.specs.Ids.{kind}
-use Rattle.amqp_types.specs.Names.{read_as}
-use Rattle.amqp_types.proofs.Ids.{kind_read}
-use Rattle.amqp_grammar.specs.Layouts.{Layout, fixed}
-use Rattle.amqp_types.specs.Strings.{IsShort}
-use Rattle.amqp_grammar.specs.Grammar.{short_field, Wire, wire, Raw, raw_fixed, raw_short, raw_long, raw_octets, raw_array, raw_table, ArrayBody, no_values, value, TableBody, no_pairs, pair}
-use Rattle.amqp_grammar.specs.Texts.{text, Fits}
-use Rattle.amqp_grammar.specs.Members.{all_readable, entries_readable, AllFit, EntriesFit}
-use Rattle.amqp_grammar.specs.InMemory.{IsScalar, IsValue, AreValues, AreEntries}
-use Rattle.amqp_types.specs.Inputs.{IsBytes}
-use Rattle.amqp_grammar.specs.Maps.{IsRising}
-use Rattle.amqp_types.proofs.Bytes.{bytes_front, bytes_behind, bytes_take, bytes_drop, below_1, below_2, below_4, below_8}
-use Rattle.amqp_grammar.proofs.Tables.{Each, each-onto, pairs_rise}
-use Rattle.amqp_grammar.proofs.Unique.{one_meaning}
-use Rattle.amqp_grammar.proofs.Spelling.{text_is_wire}
-use Rattle.amqp_grammar.proofs.Bounds.{bounds, array_size, table_size}
+use Rattle.amqp_value_core.specs.declared.types.amqp_type.AMQPType.{AMQPType}
+use Rattle.amqp_value_core.specs.declared.types.amqp_type.AMQPType.TheVariants as amqp
+use Rattle.amqp_value_core.specs.Values.{Tree, Trees, Entries, no_entries, entry, insert_all, readable}
+use Rattle.amqp_value_core.specs.Ids.{kind}
+use Rattle.amqp_value_core.specs.Names.{read_as}
+use Rattle.amqp_value_core.proofs.Ids.{kind_read}
+use Rattle.amqp_value_core.specs.Layouts.{Layout, fixed}
+use Rattle.amqp_value_core.specs.Strings.{IsShort}
+use Rattle.amqp_value_core.specs.Grammar.{short_field, Wire, wire, Raw, raw_fixed, raw_short, raw_long, raw_octets, raw_array, raw_table, ArrayBody, no_values, value, TableBody, no_pairs, pair}
+use Rattle.amqp_value_core.specs.Texts.{text, Fits}
+use Rattle.amqp_value_core.specs.Members.{all_readable, entries_readable, AllFit, EntriesFit}
+use Rattle.amqp_value_core.specs.InMemory.{IsScalar, IsValue, AreValues, AreEntries}
+use Rattle.amqp_value_core.specs.Inputs.{IsBytes}
+use Rattle.amqp_value_core.specs.Maps.{IsRising}
+use Rattle.amqp_value_core.proofs.Bytes.{bytes_front, bytes_behind, bytes_take, bytes_drop, below_1, below_2, below_4, below_8}
+use Rattle.amqp_value_core.proofs.Tables.{Each, each-onto, pairs_rise}
+use Rattle.amqp_value_core.proofs.Unique.{one_meaning}
+use Rattle.amqp_value_core.proofs.Spelling.{text_is_wire}
+use Rattle.amqp_value_core.proofs.Bounds.{bounds, array_size, table_size}
 
 -- ---- what is read fits its fields, and is readable
 

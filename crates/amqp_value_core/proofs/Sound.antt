@@ -8,18 +8,18 @@ use Rattle.std.specs.Prelude.{cond, nat_lt, nat_le, MatchOption}
 use Rattle.std.specs.Str.{is_utf8}
 use Rattle.std.specs.Option.{IfSome}
 use Rattle.std.specs.Int.{Width, w8, w32, byte_len, from_be_bytes, to_be_bytes}
-use Rattle.amqp_types.specs.declared.amqp_type.AMQPType.{AMQPType}
-use Rattle.amqp_types.specs.declared.amqp_type.AMQPType.TheVariants as amqp
-use Rattle.amqp_grammar.specs.Values.{Tree, short, long, octets, array, table, Trees, tree, Entries, no_entries, entry, insert, insert_all}
-use Rattle.amqp_types.specs.Ids.{kind}
-use Rattle.amqp_grammar.specs.Layouts.{Layout, fixed}
-use Rattle.amqp_types.specs.Strings.{IsShort}
-use Rattle.amqp_grammar.specs.Grammar.{short_field, long_field, wire, raw_fixed, raw_short, raw_long, raw_octets, raw_array, raw_table, no_values, value, no_pairs, pair}
-use Rattle.amqp_grammar.specs.Nesting.{WireWithin, RawWithin, BodyWithin, PairsWithin}
-use Rattle.amqp_types.specs.Inputs.{IsBytes}
-use Rattle.amqp_grammar.specs.Outcomes.{Reading, found, more, unknown, malformed, NeedsMoreOr, length_field, counted, lack, lack_of, frame_lack}
-use Rattle.amqp_grammar.specs.Decode.{Meaning, framed, raw_outcome_by, outcome_by, values_by, is_short, is_key, pairs_onto, meaning}
-use Rattle.amqp_grammar.proofs.Found.{by_kind, by_layout, by_lack, by_meaning, and_others, and_pairs, and_key}
+use Rattle.amqp_value_core.specs.declared.types.amqp_type.AMQPType.{AMQPType}
+use Rattle.amqp_value_core.specs.declared.types.amqp_type.AMQPType.TheVariants as amqp
+use Rattle.amqp_value_core.specs.Values.{Tree, short, long, octets, array, table, Trees, tree, Entries, no_entries, entry, insert, insert_all}
+use Rattle.amqp_value_core.specs.Ids.{kind}
+use Rattle.amqp_value_core.specs.Layouts.{Layout, fixed}
+use Rattle.amqp_value_core.specs.Strings.{IsShort}
+use Rattle.amqp_value_core.specs.Grammar.{short_field, long_field, wire, raw_fixed, raw_short, raw_long, raw_octets, raw_array, raw_table, no_values, value, no_pairs, pair}
+use Rattle.amqp_value_core.specs.Nesting.{WireWithin, RawWithin, BodyWithin, PairsWithin}
+use Rattle.amqp_value_core.specs.Inputs.{IsBytes}
+use Rattle.amqp_value_core.specs.Outcomes.{Reading, found, more, unknown, malformed, NeedsMoreOr, length_field, counted, lack, lack_of, frame_lack}
+use Rattle.amqp_value_core.specs.Decode.{Meaning, framed, raw_outcome_by, outcome_by, values_by, is_short, is_key, pairs_onto, meaning}
+use Rattle.amqp_value_core.proofs.Found.{by_kind, by_layout, by_lack, by_meaning, and_others, and_pairs, and_key}
 
 -- a part of some bytes is bytes
 pub IsBytes-front : (s t : List ℕ) → IsBytes (s ++ t) → IsBytes s

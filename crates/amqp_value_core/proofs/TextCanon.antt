@@ -2,20 +2,20 @@
 use Rattle.std.proofs.Common.{◌≢◌, ℕ, true, false, List, IsTrue, refl, sym, subst, arith}
 use Rattle.std.specs.Int.{bytes_high_first}
 use Rattle.std.proofs.lemmas.Bool.{and_parts}
-use Rattle.amqp_types.specs.declared.amqp_type.AMQPType.{AMQPType}
-use Rattle.amqp_types.specs.declared.amqp_type.AMQPType.TheVariants as amqp
-use Rattle.amqp_grammar.specs.Values.{Scalar, boolean, number, decimal, void, Tree, scalar, short, long, octets, array, table, Trees, no_trees, tree, Entries, no_entries, entry, scalar_type, readable}
-use Rattle.amqp_types.specs.Ids.{id_of}
-use Rattle.amqp_grammar.specs.Layouts.{width_of, spelled}
-use Rattle.amqp_grammar.specs.Grammar.{long_field, raw_fixed, raw_long, raw_octets, no_values, no_pairs}
-use Rattle.amqp_grammar.specs.Texts.{text, body, pairs, Fits}
-use Rattle.amqp_grammar.specs.Members.{all_readable, entries_readable, AllFit, EntriesFit, CanonBody, CanonPairs}
-use Rattle.amqp_grammar.specs.InMemory.{IsNumber, IsScalar, IsValue, AreValues, AreEntries}
-use Rattle.amqp_grammar.specs.Canonical.{IsStrict, Canon}
-use Rattle.amqp_grammar.specs.Payloads.{CanonRaw}
-use Rattle.amqp_grammar.specs.Headline.{IsCanonical}
-use Rattle.amqp_grammar.proofs.Spelling.{scalar_spelled}
-use Rattle.amqp_grammar.proofs.Canons.{canon, canon_array, canon_table, canon_value, canon_pair, canon_is_text, canon_fits}
+use Rattle.amqp_value_core.specs.declared.types.amqp_type.AMQPType.{AMQPType}
+use Rattle.amqp_value_core.specs.declared.types.amqp_type.AMQPType.TheVariants as amqp
+use Rattle.amqp_value_core.specs.Values.{Scalar, boolean, number, decimal, void, Tree, scalar, short, long, octets, array, table, Trees, no_trees, tree, Entries, no_entries, entry, scalar_type, readable}
+use Rattle.amqp_value_core.specs.Ids.{id_of}
+use Rattle.amqp_value_core.specs.Layouts.{width_of, spelled}
+use Rattle.amqp_value_core.specs.Grammar.{long_field, raw_fixed, raw_long, raw_octets, no_values, no_pairs}
+use Rattle.amqp_value_core.specs.Texts.{text, body, pairs, Fits}
+use Rattle.amqp_value_core.specs.Members.{all_readable, entries_readable, AllFit, EntriesFit, CanonBody, CanonPairs}
+use Rattle.amqp_value_core.specs.InMemory.{IsNumber, IsScalar, IsValue, AreValues, AreEntries}
+use Rattle.amqp_value_core.specs.Canonical.{IsStrict, Canon}
+use Rattle.amqp_value_core.specs.Payloads.{CanonRaw}
+use Rattle.amqp_value_core.specs.Headline.{IsCanonical}
+use Rattle.amqp_value_core.proofs.Spelling.{scalar_spelled}
+use Rattle.amqp_value_core.proofs.Canons.{canon, canon_array, canon_table, canon_value, canon_pair, canon_is_text, canon_fits}
 
 -- no type tag that is written is an alternate tag
 not_U : (type : AMQPType) → id_of type ≢ 85

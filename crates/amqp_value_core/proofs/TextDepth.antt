@@ -1,21 +1,21 @@
 -- How deep `text` nests: as deep as its value, which is no deeper than any encoding of it.
 use Rattle.std.proofs.Common.{◌≡◌, ◌≤◌, ◌+◌, ℕ, List, ◌∷◌, refl, subst, arith, IsTrue}
 use Rattle.std.proofs.lemmas.Bool.{and_parts}
-use Rattle.amqp_types.specs.declared.amqp_type.AMQPType.{AMQPType}
-use Rattle.amqp_types.specs.declared.amqp_type.AMQPType.TheVariants as amqp
-use Rattle.amqp_grammar.specs.Values.{Scalar, Tree, scalar, short, long, octets, array, table, Trees, no_trees, tree, Entries, no_entries, entry, scalar_type, insert_all, depth, readable}
-use Rattle.amqp_types.specs.Ids.{id_of}
-use Rattle.amqp_grammar.specs.Layouts.{spelled}
-use Rattle.amqp_grammar.specs.Grammar.{long_field, Wire, wire, Raw, raw_fixed, raw_short, raw_long, raw_octets, raw_array, raw_table, ArrayBody, no_values, value, TableBody, no_pairs, pair}
-use Rattle.amqp_grammar.specs.Nesting.{nesting, raw_nesting, body_nesting, pairs_nesting, WireWithin, BodyWithin, PairsWithin}
-use Rattle.amqp_types.specs.Inputs.{IsBytes}
-use Rattle.amqp_grammar.proofs.Shortest.{what_is_read, read_is_value}
-use Rattle.amqp_grammar.specs.Texts.{text, body, pairs, Fits}
-use Rattle.amqp_grammar.specs.Members.{greatest_depth, entries_depth, all_readable, entries_readable, AllFit, EntriesFit}
-use Rattle.amqp_grammar.specs.InMemory.{IsValue, AreValues, AreEntries}
-use Rattle.amqp_grammar.proofs.Bounds.{onto_within}
-use Rattle.amqp_grammar.proofs.Tables.{onto-rising}
-use Rattle.amqp_grammar.proofs.Spelling.{scalar_spelled, scalar_raw}
+use Rattle.amqp_value_core.specs.declared.types.amqp_type.AMQPType.{AMQPType}
+use Rattle.amqp_value_core.specs.declared.types.amqp_type.AMQPType.TheVariants as amqp
+use Rattle.amqp_value_core.specs.Values.{Scalar, Tree, scalar, short, long, octets, array, table, Trees, no_trees, tree, Entries, no_entries, entry, scalar_type, insert_all, depth, readable}
+use Rattle.amqp_value_core.specs.Ids.{id_of}
+use Rattle.amqp_value_core.specs.Layouts.{spelled}
+use Rattle.amqp_value_core.specs.Grammar.{long_field, Wire, wire, Raw, raw_fixed, raw_short, raw_long, raw_octets, raw_array, raw_table, ArrayBody, no_values, value, TableBody, no_pairs, pair}
+use Rattle.amqp_value_core.specs.Nesting.{nesting, raw_nesting, body_nesting, pairs_nesting, WireWithin, BodyWithin, PairsWithin}
+use Rattle.amqp_value_core.specs.Inputs.{IsBytes}
+use Rattle.amqp_value_core.proofs.Shortest.{what_is_read, read_is_value}
+use Rattle.amqp_value_core.specs.Texts.{text, body, pairs, Fits}
+use Rattle.amqp_value_core.specs.Members.{greatest_depth, entries_depth, all_readable, entries_readable, AllFit, EntriesFit}
+use Rattle.amqp_value_core.specs.InMemory.{IsValue, AreValues, AreEntries}
+use Rattle.amqp_value_core.proofs.Bounds.{onto_within}
+use Rattle.amqp_value_core.proofs.Tables.{onto-rising}
+use Rattle.amqp_value_core.proofs.Spelling.{scalar_spelled, scalar_raw}
 
 mutual
   -- a value is no deeper than an encoding of it

@@ -1,12 +1,12 @@
 -- One reading: a list has at most one encoding at its start, and an encoding one meaning.
 use Rattle.std.proofs.Common.{◌≡◌, ℕ, List, [], ◌++◌, length, drop, refl, sym, ap, ap₂, ◌∙◌, subst}
-use Rattle.amqp_types.specs.declared.amqp_type.AMQPType.{AMQPType}
-use Rattle.amqp_grammar.specs.Values.{Tree, scalar, short, long, octets, array, table, Trees, tree, Entries, no_entries, entry, insert_all}
-use Rattle.amqp_types.specs.Ids.{kind}
-use Rattle.amqp_grammar.specs.Layouts.{Layout, fixed}
-use Rattle.amqp_grammar.specs.Grammar.{short_field, long_field, Wire, wire, Raw, raw_fixed, raw_short, raw_long, raw_octets, raw_array, raw_table, ArrayBody, no_values, value, TableBody, no_pairs, pair}
-use Rattle.amqp_grammar.proofs.Fronts.{same_fronts, one_held}
-use Rattle.amqp_grammar.proofs.Headers.{extent, extent-raw}
+use Rattle.amqp_value_core.specs.declared.types.amqp_type.AMQPType.{AMQPType}
+use Rattle.amqp_value_core.specs.Values.{Tree, scalar, short, long, octets, array, table, Trees, tree, Entries, no_entries, entry, insert_all}
+use Rattle.amqp_value_core.specs.Ids.{kind}
+use Rattle.amqp_value_core.specs.Layouts.{Layout, fixed}
+use Rattle.amqp_value_core.specs.Grammar.{short_field, long_field, Wire, wire, Raw, raw_fixed, raw_short, raw_long, raw_octets, raw_array, raw_table, ArrayBody, no_values, value, TableBody, no_pairs, pair}
+use Rattle.amqp_value_core.proofs.Fronts.{same_fronts, one_held}
+use Rattle.amqp_value_core.proofs.Headers.{extent, extent-raw}
 
 -- two payloads of one type at the start of a list are one
 pub one_raw_front : (type : AMQPType) (b c x y : List ℕ) (v u : Tree) → Raw type b v → Raw type c u → b ++ x ≡ c ++ y → (b ≡ c) × (x ≡ y)

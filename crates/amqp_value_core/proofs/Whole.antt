@@ -1,14 +1,14 @@
 -- Payloads that are never malformed: those of fixed width, long strings and byte arrays.
 use Rattle.std.proofs.Common.{ℕ, suc, zero, ◌≡◌, ◌≢◌, sym, refl, subst, List, length}
-use Rattle.amqp_types.specs.declared.amqp_type.AMQPType.{AMQPType}
-use Rattle.amqp_types.specs.declared.amqp_type.AMQPType.TheVariants as amqp
-use Rattle.amqp_grammar.specs.Layouts.{fixed}
-use Rattle.amqp_types.specs.Inputs.{IsBytes}
-use Rattle.amqp_grammar.specs.Outcomes.{Reading, malformed, lack}
-use Rattle.amqp_grammar.specs.Payloads.{RawOutcome}
-use Rattle.amqp_grammar.specs.Decode.{meaning, raw_outcome}
-use Rattle.amqp_grammar.proofs.Agreement.{raw_outcome_is}
-use Rattle.amqp_grammar.proofs.Found.{by_layout, by_lack}
+use Rattle.amqp_value_core.specs.declared.types.amqp_type.AMQPType.{AMQPType}
+use Rattle.amqp_value_core.specs.declared.types.amqp_type.AMQPType.TheVariants as amqp
+use Rattle.amqp_value_core.specs.Layouts.{fixed}
+use Rattle.amqp_value_core.specs.Inputs.{IsBytes}
+use Rattle.amqp_value_core.specs.Outcomes.{Reading, malformed, lack}
+use Rattle.amqp_value_core.specs.Payloads.{RawOutcome}
+use Rattle.amqp_value_core.specs.Decode.{meaning, raw_outcome}
+use Rattle.amqp_value_core.proofs.Agreement.{raw_outcome_is}
+use Rattle.amqp_value_core.proofs.Found.{by_layout, by_lack}
 
 abbrev IsAnswered : Reading → Type 0
 IsAnswered malformed = ⊥

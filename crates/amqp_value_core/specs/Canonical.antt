@@ -2,10 +2,10 @@
 -- alternate tag, a boolean's byte is 0 or 1, and each key of a table is above
 -- the one before it.
 use Rattle.std.specs.Prelude.{ℕ, ◌<◌, ◌≢◌, List, ◌∷◌}
-use Rattle.amqp_types.specs.declared.amqp_type.AMQPType.{AMQPType}
-use Rattle.amqp_types.specs.declared.amqp_type.AMQPType.TheVariants as amqp
-use Rattle.amqp_grammar.specs.Values.{Tree, Trees, Entries, ComesBefore}
-use Rattle.amqp_grammar.specs.Grammar.{Wire, Raw, ArrayBody, TableBody, wire, raw_fixed, raw_array, raw_table, no_values, value, no_pairs, pair}
+use Rattle.amqp_value_core.specs.declared.types.amqp_type.AMQPType.{AMQPType}
+use Rattle.amqp_value_core.specs.declared.types.amqp_type.AMQPType.TheVariants as amqp
+use Rattle.amqp_value_core.specs.Values.{Tree, Trees, Entries, ComesBefore}
+use Rattle.amqp_value_core.specs.Grammar.{Wire, Raw, ArrayBody, TableBody, wire, raw_fixed, raw_array, raw_table, no_values, value, no_pairs, pair}
 
 -- the byte of a boolean is 0 or 1
 abbrev pub IsStrict : AMQPType → List ℕ → Type 0

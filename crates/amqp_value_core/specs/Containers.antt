@@ -3,7 +3,7 @@ use Rattle.std.specs.Prelude.{ℕ, List, map}
 use Rattle.amqp_value_core.specs.declared.types.field_array.FieldArray.{FieldArray}
 use Rattle.amqp_value_core.specs.declared.types.field_table.FieldTable.{FieldTable}
 use Rattle.amqp_value_core.specs.declared.value.AMQPValue.{AMQPValue}
-use Rattle.amqp_grammar.specs.Values.{Trees, trees_of, Entries, entries_of}
+use Rattle.amqp_value_core.specs.Values.{Trees, trees_of, Entries, entries_of}
 use Rattle.amqp_value_core.specs.View.{view}
 
 -- the values of an array, in order

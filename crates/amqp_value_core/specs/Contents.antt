@@ -1,9 +1,9 @@
 -- What the numbers, long strings and byte arrays of this crate are viewed as.
 use Rattle.std.specs.Prelude.{ℕ, List}
-use Rattle.amqp_types.specs.declared.float.Float.{Float}
-use Rattle.amqp_types.specs.declared.double.Double.{Double}
-use Rattle.amqp_types.specs.declared.long_string.LongString.{LongString}
-use Rattle.amqp_types.specs.declared.byte_array.ByteArray.{ByteArray}
+use Rattle.amqp_value_core.specs.declared.types.float.Float.{Float}
+use Rattle.amqp_value_core.specs.declared.types.double.Double.{Double}
+use Rattle.amqp_value_core.specs.declared.types.long_string.LongString.{LongString}
+use Rattle.amqp_value_core.specs.declared.types.byte_array.ByteArray.{ByteArray}
 
 -- the bits of a Float, as a number of 32 bits
 abbrev pub float_bits : Float → ℕ

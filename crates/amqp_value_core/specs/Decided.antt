@@ -3,11 +3,11 @@ use Rattle.std.proofs.Common.{◌≡◌, ℕ, List, Bool, true, false, ◌==◌,
 use Rattle.std.specs.Cmp.{IsPartialEquivalence, decided, on_per, partial_equiv_from_equiv, unsigned_Decides}
 use Rattle.std.specs.Cmp.Lexicographic.{bytes_decides}
 use Rattle.std.proofs.lemmas.Bool.Decides.{Decides-and, Decides-like}
-use Rattle.amqp_types.specs.declared.amqp_type.AMQPType.{AMQPType}
-use Rattle.amqp_types.specs.declared.amqp_type.AMQPType.TheVariants as amqp
-use Rattle.amqp_grammar.specs.Values.{Scalar, boolean, number, decimal, void, Tree, scalar, short, long, octets, array, table, Trees, no_trees, tree, Entries, no_entries, entry}
+use Rattle.amqp_value_core.specs.declared.types.amqp_type.AMQPType.{AMQPType}
+use Rattle.amqp_value_core.specs.declared.types.amqp_type.AMQPType.TheVariants as amqp
+use Rattle.amqp_value_core.specs.Values.{Scalar, boolean, number, decimal, void, Tree, scalar, short, long, octets, array, table, Trees, no_trees, tree, Entries, no_entries, entry}
 use Rattle.amqp_value_core.specs.Equality.{place_of, same_truth, same_scalar, same_tree, same_trees, same_entries}
-use Rattle.amqp_grammar.specs.Maps.{same_bytes}
+use Rattle.amqp_value_core.specs.Maps.{same_bytes}
 
 -- the type at a place
 type_at : ℕ → AMQPType

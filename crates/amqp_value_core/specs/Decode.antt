@@ -2,12 +2,12 @@
 use Rattle.std.specs.Prelude.{ℕ, suc, zero, Bool, ◌&&◌, nat_le, Option, Some, None, option_map, List, [], ◌∷◌, length, take, drop, if◌then◌else◌}
 use Rattle.std.specs.Int.{Width, byte_len}
 use Rattle.std.specs.Str.{is_utf8}
-use Rattle.amqp_types.specs.declared.amqp_type.AMQPType.{AMQPType}
-use Rattle.amqp_types.specs.declared.amqp_type.AMQPType.TheVariants as amqp
-use Rattle.amqp_grammar.specs.Values.{Tree, scalar, short, long, octets, array, table, Trees, no_trees, tree, Entries, no_entries, insert}
-use Rattle.amqp_types.specs.Ids.{kind}
-use Rattle.amqp_grammar.specs.Layouts.{fixed}
-use Rattle.amqp_grammar.specs.Outcomes.{Reading, found, more, unknown, malformed, length_field, counted, lack}
+use Rattle.amqp_value_core.specs.declared.types.amqp_type.AMQPType.{AMQPType}
+use Rattle.amqp_value_core.specs.declared.types.amqp_type.AMQPType.TheVariants as amqp
+use Rattle.amqp_value_core.specs.Values.{Tree, scalar, short, long, octets, array, table, Trees, no_trees, tree, Entries, no_entries, insert}
+use Rattle.amqp_value_core.specs.Ids.{kind}
+use Rattle.amqp_value_core.specs.Layouts.{fixed}
+use Rattle.amqp_value_core.specs.Outcomes.{Reading, found, more, unknown, malformed, length_field, counted, lack}
 
 -- the value that the bytes after a length field mean, if they mean one
 abbrev pub Meaning : Type 0

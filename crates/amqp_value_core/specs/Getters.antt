@@ -1,7 +1,7 @@
 -- What a value of a given type has inside, which a value of any other type doesn't have.
 use Rattle.std.specs.Prelude.{ℕ, Bool, true, false, Option, Some, None, List, ◌==◌, if◌then◌else◌}
-use Rattle.amqp_types.specs.declared.amqp_type.AMQPType.{AMQPType}
-use Rattle.amqp_grammar.specs.Values.{boolean, number, decimal, void, Tree, scalar, short, long, octets, array, table, Trees, Entries}
+use Rattle.amqp_value_core.specs.declared.types.amqp_type.AMQPType.{AMQPType}
+use Rattle.amqp_value_core.specs.Values.{boolean, number, decimal, void, Tree, scalar, short, long, octets, array, table, Trees, Entries}
 use Rattle.amqp_value_core.specs.Equality.{place_of}
 
 -- the boolean

@@ -1,10 +1,10 @@
 -- The words of the headline about sizes and about what is written.
 use Rattle.std.specs.Prelude.{ℕ, ◌*◌, ◌≤◌, ◌≡◌, ◌↔◌, IsTrue, List, length}
-use Rattle.amqp_grammar.specs.Values.{Tree, readable, depth, count}
-use Rattle.amqp_grammar.specs.Grammar.{Wire}
-use Rattle.amqp_types.specs.Inputs.{IsBytes}
-use Rattle.amqp_grammar.specs.Texts.{text, size, Fits}
-use Rattle.amqp_grammar.specs.Canonical.{Canon}
+use Rattle.amqp_value_core.specs.Values.{Tree, readable, depth, count}
+use Rattle.amqp_value_core.specs.Grammar.{Wire}
+use Rattle.amqp_value_core.specs.Inputs.{IsBytes}
+use Rattle.amqp_value_core.specs.Texts.{text, size, Fits}
+use Rattle.amqp_value_core.specs.Canonical.{Canon}
 
 -- what v is that was read from an encoding of n bytes: it can be written again, and is no larger
 -- than that

@@ -2,8 +2,8 @@
 -- AMQP 0-9-1, section 4.2.1 (`field-value`), with the type tags of RabbitMQ's errata, section 3.
 use Rattle.std.specs.Prelude.{ℕ, List, [], ◌∷◌, nat_eq, Option}
 use Rattle.std.specs.Map.{lookup}
-use Rattle.amqp_types.specs.declared.amqp_type.AMQPType.{AMQPType}
-use Rattle.amqp_types.specs.declared.amqp_type.AMQPType.TheVariants as amqp
+use Rattle.amqp_value_core.specs.declared.types.amqp_type.AMQPType.{AMQPType}
+use Rattle.amqp_value_core.specs.declared.types.amqp_type.AMQPType.TheVariants as amqp
 
 -- the type tags that are read, each with its type; `U` and `L` are alternate tags
 abbrev pub letters : List (ℕ × AMQPType)

@@ -1,9 +1,9 @@
 -- What every value in memory is.
 use Rattle.std.specs.Prelude.{ℕ, ◌^◌, ◌<◌}
-use Rattle.amqp_types.specs.declared.amqp_type.AMQPType.{AMQPType}
-use Rattle.amqp_types.specs.declared.amqp_type.AMQPType.TheVariants as amqp
-use Rattle.amqp_grammar.specs.Values.{Scalar, number, decimal, Tree, scalar, short, array, table, Trees, no_trees, tree, Entries, no_entries, entry, ComesBefore}
-use Rattle.amqp_types.specs.Strings.{IsShort}
+use Rattle.amqp_value_core.specs.declared.types.amqp_type.AMQPType.{AMQPType}
+use Rattle.amqp_value_core.specs.declared.types.amqp_type.AMQPType.TheVariants as amqp
+use Rattle.amqp_value_core.specs.Values.{Scalar, number, decimal, Tree, scalar, short, array, table, Trees, no_trees, tree, Entries, no_entries, entry, ComesBefore}
+use Rattle.amqp_value_core.specs.Strings.{IsShort}
 
 -- n is a number of the type
 abbrev pub IsNumber : AMQPType → ℕ → Type 0

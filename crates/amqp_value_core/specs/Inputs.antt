@@ -1,7 +1,7 @@
 -- What an input is: a list of bytes.
 use Rattle.std.specs.Prelude.{ℕ, ◌<◌, List}
 use Rattle.std.specs.List.{AllByRecursion}
-use Rattle.amqp_types.specs.declared.input.SliceInput.{SliceInput}
+use Rattle.amqp_value_core.specs.declared.input.SliceInput.{SliceInput}
 
 -- each number is a byte
 abbrev pub IsBytes : List ℕ → Type 0

@@ -2,7 +2,7 @@
 use Rattle.std.specs.Prelude.{ℕ, Bool, false, ◌||◌, Option, Some, None, List, nat_eq, if◌then◌else◌}
 use Rattle.std.specs.Option.{option_or}
 use Rattle.std.specs.Cmp.Lexicographic.{pointwise}
-use Rattle.amqp_grammar.specs.Values.{Tree, Entries, no_entries, entry, ComesBefore}
+use Rattle.amqp_value_core.specs.Values.{Tree, Entries, no_entries, entry, ComesBefore}
 
 -- whether two keys are the same bytes
 abbrev pub same_bytes : List ℕ → List ℕ → Bool

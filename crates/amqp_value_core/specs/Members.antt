@@ -1,9 +1,9 @@
 -- What holds of a value, of all that are in a container.
 use Rattle.std.specs.Prelude.{ℕ, Bool, List, length}
-use Rattle.amqp_grammar.specs.Values.{Trees, Entries, walk_all, walk_entries, depths, counts, have_ids}
-use Rattle.amqp_grammar.specs.Grammar.{ArrayBody, TableBody}
-use Rattle.amqp_grammar.specs.Texts.{body, pairs, fields_fit}
-use Rattle.amqp_grammar.specs.Canonical.{IsCanonBody, IsCanonPairs}
+use Rattle.amqp_value_core.specs.Values.{Trees, Entries, walk_all, walk_entries, depths, counts, have_ids}
+use Rattle.amqp_value_core.specs.Grammar.{ArrayBody, TableBody}
+use Rattle.amqp_value_core.specs.Texts.{body, pairs, fields_fit}
+use Rattle.amqp_value_core.specs.Canonical.{IsCanonBody, IsCanonPairs}
 
 -- how deep the deepest nests
 abbrev pub greatest_depth : Trees → ℕ

@@ -1,7 +1,7 @@
 -- What a type is called, and which type is read if its type tag was written.
 use Rattle.std.specs.Prelude.{ℕ, List, codes, Option, Some, None}
-use Rattle.amqp_types.specs.declared.amqp_type.AMQPType.{AMQPType}
-use Rattle.amqp_types.specs.declared.amqp_type.AMQPType.TheVariants as amqp
+use Rattle.amqp_value_core.specs.declared.types.amqp_type.AMQPType.{AMQPType}
+use Rattle.amqp_value_core.specs.declared.types.amqp_type.AMQPType.TheVariants as amqp
 
 -- the type that is read if a type's tag was written: a short string's isn't one that is read
 abbrev pub read_as : AMQPType → Option AMQPType

@@ -1,6 +1,6 @@
 -- Values that are stored without an allocation.
 use Rattle.std.specs.Prelude.{◌≡◌, []}
-use Rattle.amqp_grammar.specs.Values.{Tree, scalar, short, long, octets, array, table, no_trees, no_entries}
+use Rattle.amqp_value_core.specs.Values.{Tree, scalar, short, long, octets, array, table, no_trees, no_entries}
 
 -- v is stored without an allocation: it has a fixed width, or it is empty
 abbrev pub NeedsNoAlloc : Tree → Type 0

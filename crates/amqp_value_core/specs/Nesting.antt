@@ -1,9 +1,9 @@
 -- Nesting: how deep containers nest in an encoding, with every entry that is written.
 use Rattle.std.specs.Prelude.{ℕ, suc, max, ◌≤◌, List}
-use Rattle.amqp_types.specs.declared.amqp_type.AMQPType.{AMQPType}
-use Rattle.amqp_grammar.specs.Values.{Tree, Trees, Entries}
-use Rattle.amqp_grammar.specs.Outcomes.{Reading, RawOutcomeBy, OutcomeBy}
-use Rattle.amqp_grammar.specs.Grammar.{Wire, Raw, ArrayBody, TableBody, wire, raw_fixed, raw_short, raw_long, raw_octets, raw_array, raw_table, no_values, value, no_pairs, pair}
+use Rattle.amqp_value_core.specs.declared.types.amqp_type.AMQPType.{AMQPType}
+use Rattle.amqp_value_core.specs.Values.{Tree, Trees, Entries}
+use Rattle.amqp_value_core.specs.Outcomes.{Reading, RawOutcomeBy, OutcomeBy}
+use Rattle.amqp_value_core.specs.Grammar.{Wire, Raw, ArrayBody, TableBody, wire, raw_fixed, raw_short, raw_long, raw_octets, raw_array, raw_table, no_values, value, no_pairs, pair}
 
 -- a container counts 1 more than what nests deepest in its body, all that isn't a container 0
 abbrev mutual

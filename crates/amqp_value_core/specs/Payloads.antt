@@ -1,10 +1,10 @@
 -- A value's type and its payload apart. An encoding is a type tag of the type, and a payload.
 use Rattle.std.specs.Prelude.{ℕ, List}
-use Rattle.amqp_types.specs.declared.amqp_type.AMQPType.{AMQPType}
-use Rattle.amqp_grammar.specs.Values.{Tree}
-use Rattle.amqp_grammar.specs.Grammar.{Raw}
-use Rattle.amqp_grammar.specs.Canonical.{IsCanonRaw}
-use Rattle.amqp_grammar.specs.Outcomes.{Reading, FrontBy, RawOutcomeBy}
+use Rattle.amqp_value_core.specs.declared.types.amqp_type.AMQPType.{AMQPType}
+use Rattle.amqp_value_core.specs.Values.{Tree}
+use Rattle.amqp_value_core.specs.Grammar.{Raw}
+use Rattle.amqp_value_core.specs.Canonical.{IsCanonRaw}
+use Rattle.amqp_value_core.specs.Outcomes.{Reading, FrontBy, RawOutcomeBy}
 
 -- a prefix of s is a payload of the type, or no prefix is
 abbrev pub RawFront : AMQPType → List ℕ → Reading → Type 0

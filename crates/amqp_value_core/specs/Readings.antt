@@ -1,8 +1,8 @@
 -- What reading results in if more bytes follow, and of what was written.
 use Rattle.std.specs.Prelude.{ℕ, ◌-◌, ◌<◌, List, ◌++◌, length, if◌then◌else◌}
-use Rattle.amqp_grammar.specs.Values.{Tree, short, readable}
-use Rattle.amqp_grammar.specs.Grammar.{Wire}
-use Rattle.amqp_grammar.specs.Outcomes.{Reading, found, unknown, malformed, more, FrontBy}
+use Rattle.amqp_value_core.specs.Values.{Tree, short, readable}
+use Rattle.amqp_value_core.specs.Grammar.{Wire}
+use Rattle.amqp_value_core.specs.Outcomes.{Reading, found, unknown, malformed, more, FrontBy}
 
 -- the outcome if t follows
 abbrev pub with_more : Reading → List ℕ → Reading

@@ -1,9 +1,9 @@
 -- Short strings: the errors of a string that is too long.
 use Rattle.std.specs.Prelude.{ℕ, ◌<◌, ◌≤◌, ◌≡◌, List, length, codes, ◌++◌}
 use Rattle.std.specs.Fmt.{decimal}
-use Rattle.amqp_types.specs.declared.short_string.ShortStringError.{ShortStringError}
-use Rattle.amqp_types.specs.declared.short_string.TryCopyError.{TryCopyError}
-use Rattle.amqp_types.specs.declared.short_string.TryCopyError.TheVariants.{TooLong, OutOfMemory}
+use Rattle.amqp_value_core.specs.declared.types.short_string.ShortStringError.{ShortStringError}
+use Rattle.amqp_value_core.specs.declared.types.short_string.TryCopyError.{TryCopyError}
+use Rattle.amqp_value_core.specs.declared.types.short_string.TryCopyError.TheVariants.{TooLong, OutOfMemory}
 
 -- the length of the string that was rejected
 abbrev pub refused_length : ShortStringError → ℕ

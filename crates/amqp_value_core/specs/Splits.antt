@@ -1,6 +1,6 @@
 -- What an input of two slices is viewed as.
 use Rattle.std.specs.Prelude.{ℕ, List}
-use Rattle.amqp_types.specs.declared.input.split.SplitInput.{SplitInput}
+use Rattle.amqp_value_core.specs.declared.input.split.SplitInput.{SplitInput}
 
 -- the bytes of its first slice
 abbrev pub split_first : SplitInput → List ℕ

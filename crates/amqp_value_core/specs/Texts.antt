@@ -1,9 +1,9 @@
 -- The canonical encoding of a value: the one that is written for it.
 use Rattle.std.specs.Prelude.{ℕ, ◌^◌, ◌<◌, List, [], ◌∷◌, ◌++◌, length}
-use Rattle.amqp_grammar.specs.Values.{Tree, scalar, short, long, octets, array, table, Trees, no_trees, tree, Entries, no_entries, entry, type_of, Walk, walk}
-use Rattle.amqp_types.specs.Ids.{id_of}
-use Rattle.amqp_grammar.specs.Layouts.{spelled}
-use Rattle.amqp_grammar.specs.Grammar.{short_field, long_field}
+use Rattle.amqp_value_core.specs.Values.{Tree, scalar, short, long, octets, array, table, Trees, no_trees, tree, Entries, no_entries, entry, type_of, Walk, walk}
+use Rattle.amqp_value_core.specs.Ids.{id_of}
+use Rattle.amqp_value_core.specs.Layouts.{spelled}
+use Rattle.amqp_value_core.specs.Grammar.{short_field, long_field}
 
 -- a type tag of the value's type, and then these bytes
 abbrev pub after_id : Tree → List ℕ → List ℕ

@@ -1,13 +1,13 @@
 -- The tree that an `AMQPValue` denotes.
 use Rattle.std.specs.Prelude.{map}
 use Rattle.std.specs.Int.{w8, w16, w32, w64, cast_unsigned}
-use Rattle.amqp_types.specs.declared.amqp_type.AMQPType.TheVariants as amqp
+use Rattle.amqp_value_core.specs.declared.types.amqp_type.AMQPType.TheVariants as amqp
 use Rattle.amqp_value_core.specs.declared.types.field_array.FieldArray.{FieldArray}
 use Rattle.amqp_value_core.specs.declared.types.field_table.FieldTable.{FieldTable}
 use Rattle.amqp_value_core.specs.declared.value.AMQPValue.{AMQPValue, fold-AMQPValue}
 use Rattle.amqp_value_core.specs.declared.value.AMQPValue.TheOpen.{AMQPValue-F, FieldArray-F, FieldTable-F}
-use Rattle.amqp_grammar.specs.Values.{boolean, number, decimal, void, Tree, scalar, short, long, octets, array, table, Trees, trees_of, Entries, entries_of}
-use Rattle.amqp_types.specs.Contents.{float_bits, double_bits, long_bytes, octets_of}
+use Rattle.amqp_value_core.specs.Values.{boolean, number, decimal, void, Tree, scalar, short, long, octets, array, table, Trees, trees_of, Entries, entries_of}
+use Rattle.amqp_value_core.specs.Contents.{float_bits, double_bits, long_bytes, octets_of}
 
 -- one level, with each value inside already viewed as its tree
 abbrev pub view_step : AMQPValue-F Tree Trees Entries → Tree

@@ -3,22 +3,22 @@
 //! Each function is a law. It does nothing, and its contract states what holds.
 
 ghost use Rattle.std.specs.Prelude.{◌≡◌, ◌↔◌, ◌+◌, ℕ, List, ◌∷◌, ◌++◌, length, IsTrue, Some, ◌≢◌, ◌≤◌, ◌*◌, is_some, ◌-◌};
-ghost use Rattle.amqp_types.specs.declared.amqp_type.AMQPType.{AMQPType};
-ghost use Rattle.amqp_grammar.specs.Values.{Scalar, Tree, scalar, short, long, octets, array, table, Trees, no_trees, tree, Entries, no_entries, entry, scalar_type, type_of, readable, insert, insert_all, depth, count};
-ghost use Rattle.amqp_grammar.specs.Layouts.{width_of};
-ghost use Rattle.amqp_grammar.specs.Payloads.{RawOutcome};
-ghost use Rattle.amqp_grammar.specs.Texts.{payload, text, size, Fits};
-ghost use Rattle.amqp_grammar.specs.Grammar.{Wire, Raw};
-ghost use Rattle.amqp_grammar.specs.InMemory.{IsValue};
-ghost use Rattle.amqp_grammar.specs.Readings.{read_back, StillWaits, with_more, Front};
-ghost use Rattle.amqp_types.specs.Ids.{kind};
-ghost use Rattle.amqp_types.specs.Inputs.{IsBytes};
-ghost use Rattle.amqp_grammar.specs.Outcomes.{Reading, Outcome, Heavy, RawHeavy, found, malformed};
-ghost use Rattle.amqp_grammar.specs.Decode.{outcome, raw_outcome};
-ghost use Rattle.amqp_grammar.specs.Canonical.{Canon};
-ghost use Rattle.amqp_grammar.specs.Headline.{IsCanonical, IsWritableIn, IsShortest, TellsApart};
-ghost use Rattle.amqp_grammar.specs.Maps.{has_key, value_at, last_at, IsRising};
-ghost use Rattle.amqp_types.specs.declared.amqp_type.AMQPType.TheVariants as amqp;
+ghost use Rattle.amqp_value_core.specs.declared.types.amqp_type.AMQPType.{AMQPType};
+ghost use Rattle.amqp_value_core.specs.Values.{Scalar, Tree, scalar, short, long, octets, array, table, Trees, no_trees, tree, Entries, no_entries, entry, scalar_type, type_of, readable, insert, insert_all, depth, count};
+ghost use Rattle.amqp_value_core.specs.Layouts.{width_of};
+ghost use Rattle.amqp_value_core.specs.Payloads.{RawOutcome};
+ghost use Rattle.amqp_value_core.specs.Texts.{payload, text, size, Fits};
+ghost use Rattle.amqp_value_core.specs.Grammar.{Wire, Raw};
+ghost use Rattle.amqp_value_core.specs.InMemory.{IsValue};
+ghost use Rattle.amqp_value_core.specs.Readings.{read_back, StillWaits, with_more, Front};
+ghost use Rattle.amqp_value_core.specs.Ids.{kind};
+ghost use Rattle.amqp_value_core.specs.Inputs.{IsBytes};
+ghost use Rattle.amqp_value_core.specs.Outcomes.{Reading, Outcome, Heavy, RawHeavy, found, malformed};
+ghost use Rattle.amqp_value_core.specs.Decode.{outcome, raw_outcome};
+ghost use Rattle.amqp_value_core.specs.Canonical.{Canon};
+ghost use Rattle.amqp_value_core.specs.Headline.{IsCanonical, IsWritableIn, IsShortest, TellsApart};
+ghost use Rattle.amqp_value_core.specs.Maps.{has_key, value_at, last_at, IsRising};
+ghost use Rattle.amqp_value_core.specs.declared.types.amqp_type.AMQPType.TheVariants as amqp;
 
 /// A list begins with at most one encoding, and that encoding has one meaning. So no encoding is a
 /// proper prefix of another.

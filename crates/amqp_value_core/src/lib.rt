@@ -4,5 +4,6 @@
 mod conversions;
 mod equality;
 pub mod input;
+pub mod laws;
 pub mod types;
 pub mod value;

@@ -51,7 +51,7 @@ pub enum AMQPValue {
 impl AMQPValue {
     ghost use Rattle.std.specs.Prelude.{◌≡◌};
     ghost use Rattle.amqp_value_core.specs.View.{view};
-    ghost use Rattle.amqp_grammar.specs.Values.{type_of};
+    ghost use Rattle.amqp_value_core.specs.Values.{type_of};
 
     /// The type of the value.
     pub fn get_type(&self) -> AMQPType

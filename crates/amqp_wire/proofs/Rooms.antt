@@ -1,12 +1,12 @@
 -- A value that was read fits, and finds a buffer of the size that it asks for.
 use Rattle.std.proofs.Common.{◌≡◌, ◌≤◌, ◌<◌, ◌^◌, ℕ, Option, Some, IfSome, List, length, Result, IsOk, true, subst, arith}
-use Rattle.amqp_grammar.specs.Values.{Tree}
-use Rattle.amqp_grammar.specs.Texts.{text, size, Fits}
-use Rattle.amqp_grammar.specs.Nesting.{WireWithin}
-use Rattle.amqp_grammar.proofs.GrammarLaws.{bounded_wire}
-use Rattle.amqp_parsing.specs.declared.limits.Limits.{Limits}
-use Rattle.amqp_generation.specs.declared.error.GenError.{GenError}
-use Rattle.amqp_generation.specs.Outputs.{OutputState, Writes}
+use Rattle.amqp_value_core.specs.Values.{Tree}
+use Rattle.amqp_value_core.specs.Texts.{text, size, Fits}
+use Rattle.amqp_value_core.specs.Nesting.{WireWithin}
+use Rattle.amqp_value_core.proofs.GrammarLaws.{bounded_wire}
+use Rattle.amq_protocol_types.specs.declared.parsing.limits.Limits.{Limits}
+use Rattle.amq_protocol_types.specs.declared.generation.error.GenError.{GenError}
+use Rattle.amq_protocol_types.specs.generation.Outputs.{OutputState, Writes}
 
 -- what was read within limits fits, and is no longer than they allow
 pub read_fits : (l : Limits) (s : List ℕ) (v : Tree) → WireWithin l.depth s v → length s ≤ l.frame → l.frame < 2 ^ 32 → Fits v × (size v < 2 ^ 32)

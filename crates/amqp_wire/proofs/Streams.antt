@@ -4,22 +4,22 @@ use Rattle.std.specs.Option.{IfSome}
 use Rattle.std.specs.Io.KnownBytes.{Appends}
 use Rattle.std.proofs.KnownBytes.{Appends-trans}
 use Rattle.amqp_value_core.specs.declared.value.AMQPValue.{AMQPValue}
-use Rattle.amqp_grammar.specs.Values.{Tree}
+use Rattle.amqp_value_core.specs.Values.{Tree}
 use Rattle.amqp_value_core.specs.View.{view}
-use Rattle.amqp_grammar.specs.Nesting.{WireWithin}
-use Rattle.amqp_grammar.specs.Grammar.{Wire, wire}
-use Rattle.amqp_types.specs.Inputs.{IsBytes}
-use Rattle.amqp_grammar.specs.Outcomes.{Reading, found, more, unknown, malformed}
-use Rattle.amqp_grammar.proofs.GrammarLaws.{one_reading, front_within, wire_found_within}
-use Rattle.amqp_parsing.specs.declared.errors.ErrorKind.{ErrorKind}
-use Rattle.amqp_parsing.specs.declared.errors.ErrorKind.TheVariants.{MapOpt, MapRes, Eof, OutOfMemory, TooLarge}
-use Rattle.amqp_stream.specs.declared.error.StreamError.{StreamError}
-use Rattle.amqp_stream.specs.declared.error.StreamError.TheVariants as stream
-use Rattle.amqp_parsing.specs.declared.limits.Limits.{Limits}
-use Rattle.amqp_parsing.specs.Headers.{extent}
-use Rattle.amqp_parsing.specs.Limits.{Within}
-use Rattle.amqp_stream.specs.Readers.{AnswersAll}
-use Rattle.amqp_parsing.proofs.ParsingLaws.{wire_extent}
+use Rattle.amqp_value_core.specs.Nesting.{WireWithin}
+use Rattle.amqp_value_core.specs.Grammar.{Wire, wire}
+use Rattle.amqp_value_core.specs.Inputs.{IsBytes}
+use Rattle.amqp_value_core.specs.Outcomes.{Reading, found, more, unknown, malformed}
+use Rattle.amqp_value_core.proofs.GrammarLaws.{one_reading, front_within, wire_found_within}
+use Rattle.amq_protocol_types.specs.declared.parsing.errors.ErrorKind.{ErrorKind}
+use Rattle.amq_protocol_types.specs.declared.parsing.errors.ErrorKind.TheVariants.{MapOpt, MapRes, Eof, OutOfMemory, TooLarge}
+use Rattle.amq_protocol_types.specs.declared.stream.error.StreamError.{StreamError}
+use Rattle.amq_protocol_types.specs.declared.stream.error.StreamError.TheVariants as stream
+use Rattle.amq_protocol_types.specs.declared.parsing.limits.Limits.{Limits}
+use Rattle.amq_protocol_types.specs.parsing.Headers.{extent}
+use Rattle.amq_protocol_types.specs.parsing.Limits.{Within}
+use Rattle.amq_protocol_types.specs.stream.Readers.{AnswersAll}
+use Rattle.amq_protocol_types.proofs.ParsingLaws.{wire_extent}
 use Rattle.amqp_wire.specs.Lines.{read_within, AppendsFront}
 use Rattle.amqp_wire.specs.Refusals.{kind_name}
 use Rattle.amqp_wire.specs.Streams.{value_line, last_line, stream_step, stream_text, BeginsWith, BeginsNone, AreValues, value_lines, HasLines, Leaves, IsLine}

@@ -1,7 +1,7 @@
 -- Why a run ends: what its source and its sink did.
 use Rattle.std.specs.Prelude.{◌≡◌, ◌⊎◌, ℕ, Result, Ok, Err, IsErr}
 use Rattle.std.specs.declared.io.ErrorKind.{ErrorKind}
-use Rattle.amqp_stream.specs.Sources.{Reaches, Stops}
+use Rattle.amq_protocol_types.specs.stream.Sources.{Reaches, Stops}
 use Rattle.amqp_wire.specs.declared.fault.WireFault.{WireFault}
 use Rattle.amqp_wire.specs.declared.fault.WireFault.TheVariants.{OutOfMemory, Io}
 use Rattle.amqp_wire.specs.Faults.{fault_of}

@@ -1,12 +1,12 @@
 -- What is written for a stream of values.
 use Rattle.std.specs.Prelude.{◌≡◌, ◌≤◌, ◌<◌, ℕ, zero, suc, Bool, true, false, Option, Some, None, List, [], ◌∷◌, ◌++◌, length, take, codes}
 use Rattle.hex.specs.Hex.{encode_lower}
-use Rattle.amqp_grammar.specs.Values.{Tree}
-use Rattle.amqp_grammar.specs.Nesting.{WireWithin}
-use Rattle.amqp_types.specs.Inputs.{IsBytes}
-use Rattle.amqp_grammar.specs.Outcomes.{Reading, found, more, unknown, malformed}
-use Rattle.amqp_grammar.specs.Texts.{text}
-use Rattle.amqp_parsing.specs.declared.limits.Limits.{Limits}
+use Rattle.amqp_value_core.specs.Values.{Tree}
+use Rattle.amqp_value_core.specs.Nesting.{WireWithin}
+use Rattle.amqp_value_core.specs.Inputs.{IsBytes}
+use Rattle.amqp_value_core.specs.Outcomes.{Reading, found, more, unknown, malformed}
+use Rattle.amqp_value_core.specs.Texts.{text}
+use Rattle.amq_protocol_types.specs.declared.parsing.limits.Limits.{Limits}
 use Rattle.amqp_wire.specs.Lines.{read_within}
 
 -- the line of a value

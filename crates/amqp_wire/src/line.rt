@@ -1,10 +1,10 @@
 //! The result of one line. Nothing but memory can run out.
 
 ghost use Rattle.std.specs.Prelude.{◌≡◌, ◌-◌, ◌≤◌, ◌++◌, ◌∷◌, [], length, IfOk, string_bytes};
-ghost use Rattle.amqp_grammar.specs.Decode.{outcome};
-ghost use Rattle.amqp_grammar.specs.Headline.{IsWritableIn};
+ghost use Rattle.amqp_value_core.specs.Decode.{outcome};
+ghost use Rattle.amqp_value_core.specs.Headline.{IsWritableIn};
 ghost use Rattle.amqp_value_core.specs.View.{view};
-ghost use Rattle.amqp_grammar.specs.Texts.{text, size, Fits};
+ghost use Rattle.amqp_value_core.specs.Texts.{text, size, Fits};
 ghost use Rattle.hex.specs.Hex.{encode_lower};
 ghost use Rattle.amqp_wire.specs.Lines.{line_by, read_within, said, said_in, said_of_value, said_within};
 ghost use Rattle.amqp_wire.specs.Refusals.{kind_name, IsSaid, IsTold};

@@ -2,10 +2,10 @@
 
 ghost use Rattle.std.specs.Prelude.{◌≡◌, ◌<◌, ◌^◌, ◌∷◌, ◌++◌, [], true, false, codes, OnOk, OnErr, IfOk, IfSome, string_bytes};
 ghost use Rattle.std.specs.Io.KnownBytes.{Appends};
-ghost use Rattle.amqp_types.specs.Inputs.{IsBytes};
-ghost use Rattle.amqp_grammar.specs.Texts.{size, Fits};
+ghost use Rattle.amqp_value_core.specs.Inputs.{IsBytes};
+ghost use Rattle.amqp_value_core.specs.Texts.{size, Fits};
 ghost use Rattle.amqp_value_core.specs.View.{view};
-ghost use Rattle.amqp_stream.specs.Readers.{kept, has_failed, limits_of};
+ghost use Rattle.amq_protocol_types.specs.stream.Readers.{kept, has_failed, limits_of};
 ghost use Rattle.amqp_wire.specs.Ends.{EndsRead, EndsRun};
 ghost use Rattle.amqp_wire.specs.Lines.{AppendsFront};
 ghost use Rattle.amqp_wire.specs.Refusals.{kind_name};

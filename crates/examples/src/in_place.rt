@@ -2,7 +2,8 @@
 
 use crate::fault::Fault;
 use crate::headers::HEADERS;
-use amq_protocol_types::in_place::{Limits, TableRef, is_canonical, read_in_place};
+use amq_protocol_types::stream::Limits;
+use amqp_in_place::{TableRef, is_canonical, read_in_place};
 
 /// How often the message was dead-lettered for the first reason that is named.
 fn deaths(headers: TableRef<'_>) -> Option<i64> {

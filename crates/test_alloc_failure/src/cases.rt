@@ -17,7 +17,7 @@ use crate::{
     appends, constructors, conversions, flags, generation, in_place, parsing, stream, texts,
 };
 use amq_protocol_types::AMQPType;
-use amq_protocol_types::in_place::{EqualKeys, PathStep};
+use amqp_in_place::{EqualKeys, PathStep};
 use std::alloc::Global;
 use std::io;
 use test_support::TABLE;

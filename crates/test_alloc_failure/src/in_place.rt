@@ -4,13 +4,13 @@ use crate::fixtures;
 use crate::harness::{Call, Harness};
 use crate::stream::LIMITS;
 use crate::values::AnyValue;
-use amq_protocol_types::in_place::{
+use amq_protocol_types::parsing::ParserError;
+use amqp_in_place::rabbitmq::{
+    Problem, first_problem, first_problem_in_table, warnings, warnings_in_table,
+};
+use amqp_in_place::{
     EqualKeys, PathStep, TableRef, ValueRef, canonical_table_len, measure_table, measure_value,
     read_in_place, read_table_in_place, skip_value,
-};
-use amq_protocol_types::parsing::ParserError;
-use amq_protocol_types::rabbitmq::{
-    Problem, first_problem, first_problem_in_table, warnings, warnings_in_table,
 };
 use std::alloc::{AllocError, Global};
 use std::io;

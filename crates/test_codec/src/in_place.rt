@@ -1,11 +1,12 @@
 //! Values in place, by worked bytes.
 
-use amq_protocol_types::in_place::{
-    Limits, TableRef, ValueRef, canonical_len, is_canonical, read_in_place,
-    read_in_place_unlimited, skip_value,
-};
 use amq_protocol_types::parsing::{Err, ErrorKind, Needed, SliceInput, parse_value};
+use amq_protocol_types::stream::Limits;
 use amq_protocol_types::{AMQPType, AMQPValue};
+use amqp_in_place::{
+    TableRef, ValueRef, canonical_len, is_canonical, read_in_place, read_in_place_unlimited,
+    skip_value,
+};
 use std::alloc::Global;
 use std::test::Fail;
 

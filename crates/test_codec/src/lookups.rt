@@ -1,8 +1,6 @@
 //! Look-ups in place: the first of equal keys, and paths of keys and positions.
 
-use amq_protocol_types::in_place::{
-    EqualKeys, PathStep, TableRef, ValueRef, read_in_place_unlimited,
-};
+use amqp_in_place::{EqualKeys, PathStep, TableRef, ValueRef, read_in_place_unlimited};
 
 /// The headers of a message dead-lettered by RabbitMQ 3.10.8: rejected once, expired twice.
 const X_DEATH: &[u8] = b"F\0\0\x01\x9a\

@@ -1,7 +1,8 @@
 //! How large encoded values are, counted by hand.
 
-use amq_protocol_types::in_place::{Limits, Measure, measure_table, measure_value};
 use amq_protocol_types::parsing::{Err, ErrorKind, Needed, ParserError};
+use amq_protocol_types::stream::Limits;
+use amqp_in_place::{Measure, measure_table, measure_value};
 use std::alloc::{AllocError, Global};
 use std::test::Fail;
 

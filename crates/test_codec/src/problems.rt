@@ -1,11 +1,8 @@
 //! The first problem of a value by each of the rules, by worked bytes.
 
-use amq_protocol_types::in_place::ProblemKind::{
-    Cut, KeyCut, KeyNotUtf8, NotFinite, TooDeep, UnknownTag,
-};
-use amq_protocol_types::in_place::{
-    Limits, ProblemKind, Rules, first_problem, first_problem_in_table,
-};
+use amq_protocol_types::stream::Limits;
+use amqp_in_place::ProblemKind::{Cut, KeyCut, KeyNotUtf8, NotFinite, TooDeep, UnknownTag};
+use amqp_in_place::{ProblemKind, Rules, first_problem, first_problem_in_table};
 
 const LIMITS: Limits = Limits {
     frame: 131_072,

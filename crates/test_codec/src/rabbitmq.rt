@@ -1,10 +1,8 @@
 //! The first problem that RabbitMQ has with a value, and warnings, by worked bytes.
 
-use amq_protocol_types::in_place::Limits;
-use amq_protocol_types::rabbitmq::ProblemKind::{
-    Cut, KeyCut, NotFinite, TooDeep, TooLarge, UnknownTag,
-};
-use amq_protocol_types::rabbitmq::{
+use amq_protocol_types::stream::Limits;
+use amqp_in_place::rabbitmq::ProblemKind::{Cut, KeyCut, NotFinite, TooDeep, TooLarge, UnknownTag};
+use amqp_in_place::rabbitmq::{
     Problem, ProblemKind, Warned, first_problem, first_problem_in_table, warnings,
     warnings_in_table,
 };

@@ -1,6 +1,6 @@
 //! Keys that occur more than once in a table in place.
 
-use amq_protocol_types::in_place::{TableRef, read_in_place_unlimited};
+use amqp_in_place::{TableRef, read_in_place_unlimited};
 use std::alloc::{AllocError, Global};
 use std::test::Fail;
 

@@ -1,10 +1,9 @@
 //! Tables without their type tag, by worked bytes.
 
 use amq_protocol_types::AMQPType;
-use amq_protocol_types::in_place::{
-    Limits, canonical_table_len, is_canonical_table, read_table_in_place,
-};
 use amq_protocol_types::parsing::{Err, ErrorKind, Needed};
+use amq_protocol_types::stream::Limits;
+use amqp_in_place::{canonical_table_len, is_canonical_table, read_table_in_place};
 use std::alloc::{AllocError, Global};
 use std::test::Fail;
 

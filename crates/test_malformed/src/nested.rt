@@ -4,20 +4,18 @@
 //! arms: it runs each, and one with `limits` is a call that a limit on depth bounds.
 
 use amq_protocol_types::generation::{WriteContext, gen_value};
-use amq_protocol_types::in_place::{
-    TableRef, ValueRef, canonical_len, canonical_table_len, is_canonical, is_canonical_table,
-    measure_table, measure_value, read_in_place, read_in_place_unlimited, read_table_in_place,
-    skip_value,
-};
 use amq_protocol_types::parsing::{SliceInput, SplitInput, parse_field_table, parse_value};
-use amq_protocol_types::rabbitmq::{
-    first_problem, first_problem_in_table, warnings, warnings_in_table,
-};
 use amq_protocol_types::stream::{
     Limits, ValueReader, parse_field_array_within, parse_field_table_within, parse_value_within,
 };
 use amq_protocol_types::{AMQPValue, FieldArray, FieldTable, ShortString};
 use amqp_dissect::{End, dissect};
+use amqp_in_place::rabbitmq::{first_problem, first_problem_in_table, warnings, warnings_in_table};
+use amqp_in_place::{
+    TableRef, ValueRef, canonical_len, canonical_table_len, is_canonical, is_canonical_table,
+    measure_table, measure_value, read_in_place, read_in_place_unlimited, read_table_in_place,
+    skip_value,
+};
 use amqp_json::{encoding_of_json, from_json, from_value, json_of_encoding, to_json, to_value};
 use serde_json::{Map, Value};
 use std::alloc::{AllocError, Global};

@@ -9,13 +9,11 @@ use amq_protocol_types::generation::{
     BackToTheBuffer, GenError, GenResult, Output, WriteContext, gen_byte_array, gen_field_array,
     gen_field_table, gen_flags, gen_long_string, gen_raw_value, gen_value, gen_with_len,
 };
-use amq_protocol_types::in_place::{ValueRef, read_in_place, read_table_in_place};
 use amq_protocol_types::parsing::traits::ParsableInput;
 use amq_protocol_types::parsing::{
     ParserError, ParserResult, SliceInput, SplitInput, parse_byte_array, parse_field_array,
     parse_field_table, parse_flags, parse_long_string, parse_raw_value, parse_value,
 };
-use amq_protocol_types::rabbitmq::{warnings, warnings_in_table};
 use amq_protocol_types::stream::{
     Limits, StreamError, ValueReader, parse_field_array_within, parse_field_table_within,
     parse_value_within,
@@ -24,6 +22,8 @@ use amq_protocol_types::{
     AMQPType, AMQPValue, ByteArray, FieldArray, FieldTable, LongString, ShortString,
 };
 use amqp_dissect::{dissect, escape};
+use amqp_in_place::rabbitmq::{warnings, warnings_in_table};
+use amqp_in_place::{ValueRef, read_in_place, read_table_in_place};
 use amqp_json::{
     DecodeError, encoding_of_json, from_json, from_value, json_of_encoding, to_json, to_value,
 };

@@ -3,6 +3,8 @@
 #![tactic(auto)]
 
 mod large;
+#[cfg(test)]
+mod tests;
 
 use std::io::ErrorKind;
 use std::process::ExitCode;

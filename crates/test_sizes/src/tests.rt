@@ -1,19 +1,11 @@
 //! Each call that may allocate, once at a size that a program meets: strings and buffers of
 //! 64 MiB, a million entries, keys of 255 bytes, 5,000 levels. A call that returned out of
 //! memory above some size below these would keep its contract, and fails here.
-#![tactic(auto)]
 
-#[cfg(test)]
 mod containers;
-#[cfg(test)]
 mod deep;
-#[cfg(test)]
 mod documents;
-#[cfg(test)]
 mod fixtures;
-#[cfg(test)]
 mod flags;
-#[cfg(test)]
 mod strings;
-#[cfg(test)]
 mod texts;

@@ -2,9 +2,9 @@
 use Rattle.std.specs.Prelude.{ℕ, zero, suc, ◌+◌, ◌*◌, ◌/◌, ◌%◌, ◌<◌, ◌≤◌, ◌-◌, ◌==◌, ◌≡◌, Bool, Option, Some, None, String, string_bytes, List, [], ◌∷◌, ◌++◌, length, take, drop, map, if◌then◌else◌}
 use Rattle.std.specs.declared.alloc.Global.{Global}
 use Rattle.std.specs.List.{zip}
-use Rattle.amqp_grammar.specs.Maps.{same_bytes}
-use Rattle.amqp_grammar.specs.Outcomes.{Reading, more}
-use Rattle.amqp_flags.specs.declared.flags.AMQPFlags.{AMQPFlags}
+use Rattle.amqp_value_core.specs.Maps.{same_bytes}
+use Rattle.amqp_value_core.specs.Outcomes.{Reading, more}
+use Rattle.amq_protocol_types.specs.declared.flags.AMQPFlags.{AMQPFlags}
 
 -- a flag: its name, and whether it is set
 abbrev pub Flag : Type 0

@@ -3,9 +3,9 @@ use Rattle.std.specs.Prelude.{ℕ, ◌≡◌, ◌+◌, ◌-◌, ◌^◌, ◌<◌
 use Rattle.std.specs.Option.{option_map}
 use Rattle.std.specs.Int.{w32, to_be_bytes}
 use Rattle.std.specs.declared.io.ErrorKind.{ErrorKind}
-use Rattle.amqp_generation.specs.declared.error.GenError.{GenError}
-use Rattle.amqp_generation.specs.declared.error.GenError.TheVariants.{BufferTooSmall, LengthTooLong, IoError, InvalidOffset, OutOfMemory}
-use Rattle.amqp_generation.specs.Outputs.{OutputState, HasFailed, Writes}
+use Rattle.amq_protocol_types.specs.declared.generation.error.GenError.{GenError}
+use Rattle.amq_protocol_types.specs.declared.generation.error.GenError.TheVariants.{BufferTooSmall, LengthTooLong, IoError, InvalidOffset, OutOfMemory}
+use Rattle.amq_protocol_types.specs.generation.Outputs.{OutputState, HasFailed, Writes}
 
 -- whether a call that writes succeeded, or its error, without the value that it returns
 abbrev pub answer_of : {T : Type 0} → Result T GenError → Result (Unit {0}) GenError

@@ -1,9 +1,9 @@
 -- What a `WriteContext` is viewed as, and what calls do to it.
 use Rattle.std.specs.Prelude.{ℕ, ◌≡◌, Bool, List, Result}
-use Rattle.amqp_generation.specs.declared.error.GenError.{GenError}
-use Rattle.amqp_generation.specs.Outputs.{OutputState}
-use Rattle.amqp_generation.specs.BufferOutput.{AppendsBytes}
-use Rattle.amqp_generation.specs.declared.context.WriteContext.{WriteContext}
+use Rattle.amq_protocol_types.specs.declared.generation.error.GenError.{GenError}
+use Rattle.amq_protocol_types.specs.generation.Outputs.{OutputState}
+use Rattle.amq_protocol_types.specs.generation.BufferOutput.{AppendsBytes}
+use Rattle.amq_protocol_types.specs.declared.generation.context.WriteContext.{WriteContext}
 
 -- the output in it
 abbrev pub output_of : {W : Type 0} → WriteContext W → W

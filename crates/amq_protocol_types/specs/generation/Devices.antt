@@ -1,10 +1,10 @@
 -- An output around a device.
 use Rattle.std.specs.Prelude.{ℕ, ◌≡◌, ◌+◌, ◌-◌, ◌^◌, ◌≤◌, ◌⊎◌, List, [], Option, None, Result, Err, OnOk, IfErr, min}
 use Rattle.std.specs.declared.io.ErrorKind.{ErrorKind}
-use Rattle.amqp_generation.specs.declared.error.GenError.{GenError}
-use Rattle.amqp_generation.specs.declared.error.GenError.TheVariants.{IoError, InvalidOffset}
-use Rattle.amqp_generation.specs.declared.device.IoOutput.{IoOutput}
-use Rattle.amqp_generation.specs.Outputs.{OutputState}
+use Rattle.amq_protocol_types.specs.declared.generation.error.GenError.{GenError}
+use Rattle.amq_protocol_types.specs.declared.generation.error.GenError.TheVariants.{IoError, InvalidOffset}
+use Rattle.amq_protocol_types.specs.declared.generation.device.IoOutput.{IoOutput}
+use Rattle.amq_protocol_types.specs.generation.Outputs.{OutputState}
 
 -- what a device's output is viewed as, if the device reports the bytes that it holds
 abbrev pub seen_device : {W : Type 0} → (W → Option (List ℕ)) → IoOutput W → OutputState

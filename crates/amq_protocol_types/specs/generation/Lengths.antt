@@ -2,13 +2,13 @@
 use Rattle.std.specs.Prelude.{ℕ, ◌≡◌, ◌+◌, ◌^◌, ◌<◌, ◌≤◌, ◌⊎◌, ⊤, true, List, length, drop, replicate, Result, Ok, Err, OnOk}
 use Rattle.std.specs.Int.{w32, to_be_bytes}
 use Rattle.std.specs.Io.KnownBytes.{Appends}
-use Rattle.amqp_grammar.specs.Grammar.{long_field}
-use Rattle.amqp_generation.specs.declared.context.WriteContext.{WriteContext}
-use Rattle.amqp_generation.specs.declared.error.GenError.{GenError}
-use Rattle.amqp_generation.specs.declared.error.GenError.TheVariants.{LengthTooLong}
-use Rattle.amqp_generation.specs.Contexts.{start_of, state_of}
-use Rattle.amqp_generation.specs.Outputs.{OutputState, Writes}
-use Rattle.amqp_generation.specs.BufferOutput.{filled}
+use Rattle.amqp_value_core.specs.Grammar.{long_field}
+use Rattle.amq_protocol_types.specs.declared.generation.context.WriteContext.{WriteContext}
+use Rattle.amq_protocol_types.specs.declared.generation.error.GenError.{GenError}
+use Rattle.amq_protocol_types.specs.declared.generation.error.GenError.TheVariants.{LengthTooLong}
+use Rattle.amq_protocol_types.specs.generation.Contexts.{start_of, state_of}
+use Rattle.amq_protocol_types.specs.generation.Outputs.{OutputState, Writes}
+use Rattle.amq_protocol_types.specs.generation.BufferOutput.{filled}
 
 -- A call only appends, whatever it returns: the bytes before it are a prefix of those after it.
 pub record OnlyAppends (before : OutputState) (result : Result (Unit {0}) GenError) (after : OutputState) : Type 0 where

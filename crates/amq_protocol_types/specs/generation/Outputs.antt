@@ -3,8 +3,8 @@ use Rattle.std.specs.Prelude.{ℕ, ◌≡◌, ◌+◌, ◌-◌, ◌^◌, ◌<◌
 use Rattle.std.specs.Option.{option_map}
 use Rattle.std.specs.declared.io.ErrorKind.{ErrorKind}
 use Rattle.std.specs.Io.KnownBytes.{Appends}
-use Rattle.amqp_generation.specs.declared.error.GenError.{GenError}
-use Rattle.amqp_generation.specs.declared.error.GenError.TheVariants.{BufferTooSmall, LengthTooLong, IoError, InvalidOffset, OutOfMemory}
+use Rattle.amq_protocol_types.specs.declared.generation.error.GenError.{GenError}
+use Rattle.amq_protocol_types.specs.declared.generation.error.GenError.TheVariants.{BufferTooSmall, LengthTooLong, IoError, InvalidOffset, OutOfMemory}
 
 -- what an output is viewed as
 pub record OutputState : Type 0 where

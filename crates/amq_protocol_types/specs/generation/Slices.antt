@@ -1,6 +1,6 @@
 -- A slice that is written from its start.
 use Rattle.std.specs.Prelude.{ℕ, List, Some, length}
-use Rattle.amqp_generation.specs.Outputs.{OutputState}
+use Rattle.amq_protocol_types.specs.generation.Outputs.{OutputState}
 
 -- the bytes that were written, and those after them
 pub record Sliced : Type 0 where

@@ -1,7 +1,7 @@
 -- A vector as an output.
 use Rattle.std.specs.Prelude.{ℕ, ◌-◌, [], Some, None, length, Vec}
 use Rattle.std.specs.Vec.{vec_len, vec_capacity}
-use Rattle.amqp_generation.specs.Outputs.{OutputState}
+use Rattle.amq_protocol_types.specs.generation.Outputs.{OutputState}
 
 -- the output that a vector is viewed as: its bytes are those written, its capacity is open, it
 -- rejects what fits the memory that it has, and it is no device

@@ -1,18 +1,18 @@
 -- What is promised of a value that was read, and of one that was written.
 use Rattle.std.specs.Prelude.{ℕ, ◌≤◌, List, ◌++◌, length, Result, IsOk, IsErrOf}
 use Rattle.std.specs.Option.{IfSome}
-use Rattle.amqp_grammar.specs.Values.{Tree}
-use Rattle.amqp_grammar.specs.Texts.{text, payload}
-use Rattle.amqp_grammar.specs.InMemory.{IsValue}
-use Rattle.amqp_grammar.specs.Outcomes.{Outcome}
-use Rattle.amqp_grammar.specs.Payloads.{RawOutcome}
-use Rattle.amqp_grammar.specs.Readings.{read_back}
-use Rattle.amqp_grammar.specs.Headline.{IsShortest, TellsApart, IsCanonical}
-use Rattle.amqp_types.specs.declared.amqp_type.AMQPType.{AMQPType}
-use Rattle.amqp_grammar.specs.Grammar.{Wire, Raw}
-use Rattle.amqp_generation.specs.declared.error.GenError.{GenError}
-use Rattle.amqp_generation.specs.declared.error.GenError.TheVariants.{LengthTooLong}
-use Rattle.amqp_generation.specs.Outputs.{OutputState}
+use Rattle.amqp_value_core.specs.Values.{Tree}
+use Rattle.amqp_value_core.specs.Texts.{text, payload}
+use Rattle.amqp_value_core.specs.InMemory.{IsValue}
+use Rattle.amqp_value_core.specs.Outcomes.{Outcome}
+use Rattle.amqp_value_core.specs.Payloads.{RawOutcome}
+use Rattle.amqp_value_core.specs.Readings.{read_back}
+use Rattle.amqp_value_core.specs.Headline.{IsShortest, TellsApart, IsCanonical}
+use Rattle.amqp_value_core.specs.declared.types.amqp_type.AMQPType.{AMQPType}
+use Rattle.amqp_value_core.specs.Grammar.{Wire, Raw}
+use Rattle.amq_protocol_types.specs.declared.generation.error.GenError.{GenError}
+use Rattle.amq_protocol_types.specs.declared.generation.error.GenError.TheVariants.{LengthTooLong}
+use Rattle.amq_protocol_types.specs.generation.Outputs.{OutputState}
 
 -- If some bytes are as `Is` states, no length in what is written is rejected, and a capacity of
 -- as many bytes is enough.

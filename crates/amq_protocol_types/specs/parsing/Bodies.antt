@@ -1,10 +1,10 @@
 -- What reading a container returns on its way: a length-prefixed field, and its body's entries.
 use Rattle.std.specs.Prelude.{ℕ, ◌<◌, ◌^◌, ◌≡◌, List, ◌++◌, length}
 use Rattle.std.specs.Int.{w32}
-use Rattle.amqp_grammar.specs.Values.{Trees, Entries, no_entries, insert_all}
-use Rattle.amqp_grammar.specs.Grammar.{long_field}
-use Rattle.amqp_grammar.specs.Nesting.{BodyWithin, PairsWithin}
-use Rattle.amqp_grammar.specs.Outcomes.{Reading, more, malformed, frame_lack}
+use Rattle.amqp_value_core.specs.Values.{Trees, Entries, no_entries, insert_all}
+use Rattle.amqp_value_core.specs.Grammar.{long_field}
+use Rattle.amqp_value_core.specs.Nesting.{BodyWithin, PairsWithin}
+use Rattle.amqp_value_core.specs.Outcomes.{Reading, more, malformed, frame_lack}
 
 -- bytes after their length in four bytes are read from s, and `rest` is left
 pub record IsLengthPrefixed (s body rest : List ℕ) : Type 0 where

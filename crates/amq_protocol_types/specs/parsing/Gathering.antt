@@ -1,8 +1,8 @@
 -- Pairs on their way into a table.
-use Rattle.amqp_grammar.specs.Values.{Entries, no_entries, insert_all}
+use Rattle.amqp_value_core.specs.Values.{Entries, no_entries, insert_all}
 use Rattle.amqp_value_core.specs.Containers.{entries, table_view}
-use Rattle.amqp_parsing.specs.declared.pairs.TableBuilder.{TableBuilder}
-use Rattle.amqp_parsing.specs.declared.pairs.TableBuilder.TheVariants.{Few, Many}
+use Rattle.amq_protocol_types.specs.declared.parsing.pairs.TableBuilder.{TableBuilder}
+use Rattle.amq_protocol_types.specs.declared.parsing.pairs.TableBuilder.TheVariants.{Few, Many}
 
 -- what the pairs so far result in: those that are in the table, or those that were gathered
 abbrev pub kept : TableBuilder → Entries

@@ -1,22 +1,22 @@
 -- Reading within the limits `frame` and `depth`.
 use Rattle.std.specs.Prelude.{ℕ, ◌<◌, ◌≤◌, ◌≡◌, ◌/◌, ◌↔◌, IsTrue, List, ◌++◌, length}
-use Rattle.amqp_grammar.specs.Values.{Tree, readable, depth}
-use Rattle.amqp_grammar.specs.Grammar.{Wire}
-use Rattle.amqp_grammar.specs.Headline.{IsWritableIn}
-use Rattle.amqp_grammar.specs.Nesting.{WireWithin, OutcomeWithin}
-use Rattle.amqp_types.specs.Inputs.{IsBytes}
-use Rattle.amqp_grammar.specs.Outcomes.{Reading, found, unknown, Outcome, Heavy}
-use Rattle.amqp_grammar.specs.Readings.{StillWaits, with_more}
-use Rattle.amqp_grammar.specs.Texts.{text, size, Fits}
-use Rattle.amqp_grammar.specs.InMemory.{IsValue}
-use Rattle.amqp_parsing.specs.declared.errors.Err.TheVariants.{Error}
-use Rattle.amqp_parsing.specs.declared.errors.ErrorKind.TheVariants.{TooLarge}
-use Rattle.amqp_parsing.specs.declared.header.Header.{Header}
-use Rattle.amqp_parsing.specs.declared.header.Header.TheVariants as header
-use Rattle.amqp_parsing.specs.declared.limits.Limits.{Limits}
-use Rattle.amqp_parsing.specs.Refusals.{Refusal}
-use Rattle.amqp_parsing.specs.ParseResults.{Refuses}
-use Rattle.amqp_parsing.specs.Headers.{extent, wanted, IsWhole}
+use Rattle.amqp_value_core.specs.Values.{Tree, readable, depth}
+use Rattle.amqp_value_core.specs.Grammar.{Wire}
+use Rattle.amqp_value_core.specs.Headline.{IsWritableIn}
+use Rattle.amqp_value_core.specs.Nesting.{WireWithin, OutcomeWithin}
+use Rattle.amqp_value_core.specs.Inputs.{IsBytes}
+use Rattle.amqp_value_core.specs.Outcomes.{Reading, found, unknown, Outcome, Heavy}
+use Rattle.amqp_value_core.specs.Readings.{StillWaits, with_more}
+use Rattle.amqp_value_core.specs.Texts.{text, size, Fits}
+use Rattle.amqp_value_core.specs.InMemory.{IsValue}
+use Rattle.amq_protocol_types.specs.declared.parsing.errors.Err.TheVariants.{Error}
+use Rattle.amq_protocol_types.specs.declared.parsing.errors.ErrorKind.TheVariants.{TooLarge}
+use Rattle.amq_protocol_types.specs.declared.parsing.header.Header.{Header}
+use Rattle.amq_protocol_types.specs.declared.parsing.header.Header.TheVariants as header
+use Rattle.amq_protocol_types.specs.declared.parsing.limits.Limits.{Limits}
+use Rattle.amq_protocol_types.specs.parsing.Refusals.{Refusal}
+use Rattle.amq_protocol_types.specs.parsing.ParseResults.{Refuses}
+use Rattle.amq_protocol_types.specs.parsing.Headers.{extent, wanted, IsWhole}
 
 -- reading s within limits results in o: the value has no more bytes than the limit `frame` allows,
 -- by what has come of it, and containers nest within the depth

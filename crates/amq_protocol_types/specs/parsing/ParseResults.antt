@@ -1,12 +1,12 @@
 -- What the parsers return.
 use Rattle.std.specs.Prelude.{ℕ, ◌≡◌, List, ◌++◌}
-use Rattle.amqp_grammar.specs.Outcomes.{Reading, more, unknown, malformed, Outcome}
-use Rattle.amqp_grammar.specs.Readings.{StillWaits, with_more}
-use Rattle.amqp_parsing.specs.declared.errors.Err.TheVariants.{Incomplete, Error, Failure}
-use Rattle.amqp_parsing.specs.declared.errors.Needed.TheVariants.{Unknown, Size}
-use Rattle.amqp_parsing.specs.declared.errors.ErrorKind.{ErrorKind}
-use Rattle.amqp_parsing.specs.declared.errors.ErrorKind.TheVariants.{MapOpt, Eof, OutOfMemory}
-use Rattle.amqp_parsing.specs.Refusals.{Refusal}
+use Rattle.amqp_value_core.specs.Outcomes.{Reading, more, unknown, malformed, Outcome}
+use Rattle.amqp_value_core.specs.Readings.{StillWaits, with_more}
+use Rattle.amq_protocol_types.specs.declared.parsing.errors.Err.TheVariants.{Incomplete, Error, Failure}
+use Rattle.amq_protocol_types.specs.declared.parsing.errors.Needed.TheVariants.{Unknown, Size}
+use Rattle.amq_protocol_types.specs.declared.parsing.errors.ErrorKind.{ErrorKind}
+use Rattle.amq_protocol_types.specs.declared.parsing.errors.ErrorKind.TheVariants.{MapOpt, Eof, OutOfMemory}
+use Rattle.amq_protocol_types.specs.parsing.Refusals.{Refusal}
 
 -- an error of the kind is right: the input reads as the kind states
 abbrev pub RightKind : (Reading → Type 0) → ErrorKind → Type 0

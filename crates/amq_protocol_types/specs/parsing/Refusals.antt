@@ -1,10 +1,10 @@
 -- The errors of parsers. A `ParserErrors` is viewed as its kind.
 use Rattle.std.specs.Prelude.{ℕ, List, codes}
-use Rattle.amqp_parsing.specs.declared.errors.Err.{Err}
-use Rattle.amqp_parsing.specs.declared.errors.Err.TheVariants.{Incomplete, Error, Failure}
-use Rattle.amqp_parsing.specs.declared.errors.Needed.TheVariants.{Size}
-use Rattle.amqp_parsing.specs.declared.errors.ErrorKind.{ErrorKind}
-use Rattle.amqp_parsing.specs.declared.errors.ErrorKind.TheVariants.{MapOpt, MapRes, Eof, OutOfMemory, TooLarge}
+use Rattle.amq_protocol_types.specs.declared.parsing.errors.Err.{Err}
+use Rattle.amq_protocol_types.specs.declared.parsing.errors.Err.TheVariants.{Incomplete, Error, Failure}
+use Rattle.amq_protocol_types.specs.declared.parsing.errors.Needed.TheVariants.{Size}
+use Rattle.amq_protocol_types.specs.declared.parsing.errors.ErrorKind.{ErrorKind}
+use Rattle.amq_protocol_types.specs.declared.parsing.errors.ErrorKind.TheVariants.{MapOpt, MapRes, Eof, OutOfMemory, TooLarge}
 
 -- an error or a number of bytes that are needed, as the alias `ParserError`
 abbrev pub Refusal : Type 0

@@ -1,13 +1,13 @@
 -- What the parsers of types of fixed width return.
 use Rattle.std.specs.Prelude.{ℕ, List, Result, MatchResult}
 use Rattle.std.specs.Int.{Width}
-use Rattle.amqp_types.specs.declared.amqp_type.AMQPType.{AMQPType}
-use Rattle.amqp_grammar.specs.Values.{Scalar, scalar, number}
-use Rattle.amqp_grammar.specs.Payloads.{RawOutcome}
-use Rattle.amqp_grammar.specs.Outcomes.{found}
-use Rattle.amqp_parsing.specs.Refusals.{Refusal}
-use Rattle.amqp_parsing.specs.ParseResults.{Refuses}
-use Rattle.amqp_parsing.specs.PayloadResults.{OnlyLacks, IsNumberRead, IsCut}
+use Rattle.amqp_value_core.specs.declared.types.amqp_type.AMQPType.{AMQPType}
+use Rattle.amqp_value_core.specs.Values.{Scalar, scalar, number}
+use Rattle.amqp_value_core.specs.Payloads.{RawOutcome}
+use Rattle.amqp_value_core.specs.Outcomes.{found}
+use Rattle.amq_protocol_types.specs.parsing.Refusals.{Refusal}
+use Rattle.amq_protocol_types.specs.parsing.ParseResults.{Refuses}
+use Rattle.amq_protocol_types.specs.parsing.PayloadResults.{OnlyLacks, IsNumberRead, IsCut}
 
 -- the result is the unsigned number of the first bytes, big-endian, and what is left after them; or
 -- more bytes are needed, and it counts how many

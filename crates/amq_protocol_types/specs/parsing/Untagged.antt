@@ -1,16 +1,16 @@
 -- Arrays and tables without their type tag, as AMQP's methods and content headers have tables.
 use Rattle.std.specs.Prelude.{ℕ, ◌<◌, ◌≤◌, ◌≡◌, ◌↔◌, IsTrue, List, ◌∷◌, ◌++◌}
-use Rattle.amqp_types.specs.declared.amqp_type.AMQPType.{AMQPType}
-use Rattle.amqp_types.specs.Ids.{id_of}
-use Rattle.amqp_grammar.specs.Values.{Tree, type_of, readable, depth}
-use Rattle.amqp_grammar.specs.Nesting.{RawOutcomeWithin}
-use Rattle.amqp_grammar.specs.Outcomes.{Reading, found}
-use Rattle.amqp_grammar.specs.Texts.{payload, size, Fits}
-use Rattle.amqp_grammar.specs.InMemory.{IsValue}
-use Rattle.amqp_parsing.specs.declared.limits.Limits.{Limits}
-use Rattle.amqp_parsing.specs.Refusals.{Refusal}
-use Rattle.amqp_parsing.specs.Headers.{raw_extent}
-use Rattle.amqp_parsing.specs.Limits.{Within, RefusesWithin}
+use Rattle.amqp_value_core.specs.declared.types.amqp_type.AMQPType.{AMQPType}
+use Rattle.amqp_value_core.specs.Ids.{id_of}
+use Rattle.amqp_value_core.specs.Values.{Tree, type_of, readable, depth}
+use Rattle.amqp_value_core.specs.Nesting.{RawOutcomeWithin}
+use Rattle.amqp_value_core.specs.Outcomes.{Reading, found}
+use Rattle.amqp_value_core.specs.Texts.{payload, size, Fits}
+use Rattle.amqp_value_core.specs.InMemory.{IsValue}
+use Rattle.amq_protocol_types.specs.declared.parsing.limits.Limits.{Limits}
+use Rattle.amq_protocol_types.specs.parsing.Refusals.{Refusal}
+use Rattle.amq_protocol_types.specs.parsing.Headers.{raw_extent}
+use Rattle.amq_protocol_types.specs.parsing.Limits.{Within, RefusesWithin}
 
 -- the bytes after the type tag that is written for the type
 abbrev pub tagged : AMQPType → List ℕ → List ℕ

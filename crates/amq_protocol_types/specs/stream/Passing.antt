@@ -1,6 +1,6 @@
 -- Faults after which a reader of values goes on.
-use Rattle.amqp_stream.specs.declared.error.StreamError.{StreamError}
-use Rattle.amqp_stream.specs.declared.error.StreamError.TheVariants as stream
+use Rattle.amq_protocol_types.specs.declared.stream.error.StreamError.{StreamError}
+use Rattle.amq_protocol_types.specs.declared.stream.error.StreamError.TheVariants as stream
 
 -- a fault of the reader, or a failed allocation
 abbrev pub IsPassing : StreamError → Type 0

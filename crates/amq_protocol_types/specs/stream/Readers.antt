@@ -3,18 +3,18 @@ use Rattle.std.specs.Prelude.{ℕ, ◌<◌, ◌≤◌, ◌≡◌, ◌++◌, Bool
 use Rattle.std.specs.declared.io.ErrorKind.{ErrorKind}
 use Rattle.std.specs.Io.KnownBytes.{Consumes, IsAtEnd}
 use Rattle.amqp_value_core.specs.declared.value.AMQPValue.{AMQPValue}
-use Rattle.amqp_grammar.specs.Nesting.{WireWithin}
+use Rattle.amqp_value_core.specs.Nesting.{WireWithin}
 use Rattle.amqp_value_core.specs.View.{view}
-use Rattle.amqp_grammar.specs.Outcomes.{found, more}
-use Rattle.amqp_parsing.specs.declared.errors.Err.TheVariants.{Error}
-use Rattle.amqp_stream.specs.declared.error.StreamError.{StreamError}
-use Rattle.amqp_stream.specs.declared.error.StreamError.TheVariants as stream
-use Rattle.amqp_parsing.specs.declared.limits.Limits.{Limits}
-use Rattle.amqp_stream.specs.declared.reader.ValueReader.{ValueReader}
-use Rattle.amqp_stream.specs.declared.values.Values.{Values}
-use Rattle.amqp_stream.specs.Sources.{KeepsKind}
-use Rattle.amqp_parsing.specs.Headers.{IsWaiting}
-use Rattle.amqp_parsing.specs.Limits.{Within, RefusesWithin}
+use Rattle.amqp_value_core.specs.Outcomes.{found, more}
+use Rattle.amq_protocol_types.specs.declared.parsing.errors.Err.TheVariants.{Error}
+use Rattle.amq_protocol_types.specs.declared.stream.error.StreamError.{StreamError}
+use Rattle.amq_protocol_types.specs.declared.stream.error.StreamError.TheVariants as stream
+use Rattle.amq_protocol_types.specs.declared.parsing.limits.Limits.{Limits}
+use Rattle.amq_protocol_types.specs.declared.stream.reader.ValueReader.{ValueReader}
+use Rattle.amq_protocol_types.specs.declared.stream.values.Values.{Values}
+use Rattle.amq_protocol_types.specs.stream.Sources.{KeepsKind}
+use Rattle.amq_protocol_types.specs.parsing.Headers.{IsWaiting}
+use Rattle.amq_protocol_types.specs.parsing.Limits.{Within, RefusesWithin}
 
 -- the bytes that are retained of a value that hasn't all come
 abbrev pub kept : Values → List ℕ

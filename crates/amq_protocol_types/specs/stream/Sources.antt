@@ -1,8 +1,8 @@
 -- Calls of a source, one after another.
 use Rattle.std.specs.Prelude.{Result, Err}
 use Rattle.std.specs.declared.io.ErrorKind.{ErrorKind}
-use Rattle.amqp_stream.specs.declared.error.StreamError.{StreamError}
-use Rattle.amqp_stream.specs.declared.error.StreamError.TheVariants as stream
+use Rattle.amq_protocol_types.specs.declared.stream.error.StreamError.{StreamError}
+use Rattle.amq_protocol_types.specs.declared.stream.error.StreamError.TheVariants as stream
 
 -- from one state of a source to another, by calls that returned no error
 pub data Reaches {S : Type 0} (goes : S → S → Type 0) : S → S → Type 0 where

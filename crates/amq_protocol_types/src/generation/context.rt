@@ -1,9 +1,9 @@
 ghost use Rattle.std.specs.Prelude.{◌≡◌, ◌-◌, ◌+◌, ◌≤◌, true, ⊤, IfOk, length, replicate};
-ghost use Rattle.amqp_generation.specs.BufferOutput.{IsWhole, AppendsBytes, MakesRoom, answer_of, filled, Truncates};
-ghost use Rattle.amqp_generation.specs.Outputs.{Writes};
-ghost use Rattle.amqp_generation.specs.Contexts.{output_of, start_of, state_of};
+ghost use Rattle.amq_protocol_types.specs.generation.BufferOutput.{IsWhole, AppendsBytes, MakesRoom, answer_of, filled, Truncates};
+ghost use Rattle.amq_protocol_types.specs.generation.Outputs.{Writes};
+ghost use Rattle.amq_protocol_types.specs.generation.Contexts.{output_of, start_of, state_of};
 
-use crate::{BackToTheBuffer, GenError, GenResult, Output};
+use crate::generation::{BackToTheBuffer, GenError, GenResult, Output};
 
 /// The context that generators write to: an output, and its position when this context was made.
 #[derive(Drop)]
@@ -14,7 +14,7 @@ pub struct WriteContext<W: Output> {
 
 impl<W: Output> From<W> for WriteContext<W> {
     ghost use Rattle.std.specs.Prelude.{◌≡◌};
-    ghost use Rattle.amqp_generation.specs.Contexts.{output_of, start_of};
+    ghost use Rattle.amq_protocol_types.specs.generation.Contexts.{output_of, start_of};
 
     ghost from_gives = { λ w x. (output_of x ≡ w) × (start_of x ≡ (W.seen w).position) };
 

@@ -1,8 +1,8 @@
 ghost use Rattle.std.specs.Prelude.{◌≡◌, length, false, IsOk};
-ghost use Rattle.amqp_generation.specs.BufferOutput.{AppendsBytes, MakesRoom};
-ghost use Rattle.amqp_generation.specs.Devices.{seen_device, device_of, AppendsToDevice};
+ghost use Rattle.amq_protocol_types.specs.generation.BufferOutput.{AppendsBytes, MakesRoom};
+ghost use Rattle.amq_protocol_types.specs.generation.Devices.{seen_device, device_of, AppendsToDevice};
 
-use crate::{GenError, GenResult, Output};
+use crate::generation::{GenError, GenResult, Output};
 use std::io::Write;
 
 /// A device as an output. It isn't a buffer: what was written before an error stays written.

@@ -1,12 +1,12 @@
 //! The generator of flags.
 
 ghost use Rattle.std.specs.Prelude.{⊤};
-ghost use Rattle.amqp_generation.specs.Outputs.{Writes};
-ghost use Rattle.amqp_generation.specs.Contexts.{state_of, KeepsStart};
-ghost use Rattle.amqp_flags.specs.Flags.{flags_of, values_of, pack, AreFlagsReadBack};
+ghost use Rattle.amq_protocol_types.specs.generation.Outputs.{Writes};
+ghost use Rattle.amq_protocol_types.specs.generation.Contexts.{state_of, KeepsStart};
+ghost use Rattle.amq_protocol_types.specs.flags.Flags.{flags_of, values_of, pack, AreFlagsReadBack};
 
-use crate::{GenResult, Output, WriteContext};
-use amqp_flags::{AMQPFlags, byte_of};
+use crate::flags::{AMQPFlags, byte_of};
+use crate::generation::{GenResult, Output, WriteContext};
 
 /// Writes flags, eight to a byte, the first one in the lowest bit. It packs as it goes, and doesn't
 /// allocate, except that a `Vec` grows.

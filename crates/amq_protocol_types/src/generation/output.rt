@@ -1,8 +1,8 @@
 ghost use Rattle.std.specs.Prelude.{◌≡◌, ◌+◌, ◌≤◌, Bool, true, ⊤, IfOk, length, replicate};
-ghost use Rattle.amqp_generation.specs.Outputs.{OutputState, Writes};
-ghost use Rattle.amqp_generation.specs.BufferOutput.{IsWhole, AppendsBytes, MakesRoom, answer_of, filled, Truncates};
+ghost use Rattle.amq_protocol_types.specs.generation.Outputs.{OutputState, Writes};
+ghost use Rattle.amq_protocol_types.specs.generation.BufferOutput.{IsWhole, AppendsBytes, MakesRoom, answer_of, filled, Truncates};
 
-use crate::{GenError, GenResult};
+use crate::generation::{GenError, GenResult};
 
 /// What generators write to: bytes are appended at its end.
 ///

@@ -2,13 +2,13 @@
 
 ghost use Rattle.std.specs.Prelude.{[], ◌∷◌};
 ghost use Rattle.std.specs.Int.{w8, w16, w32, w64, to_be_bytes, cast_unsigned};
-ghost use Rattle.amqp_grammar.specs.Values.{boolean, decimal};
-ghost use Rattle.amqp_types.specs.Ids.{id_of};
-ghost use Rattle.amqp_grammar.specs.Layouts.{spelled};
-ghost use Rattle.amqp_types.specs.Contents.{float_bits, double_bits};
-ghost use Rattle.amqp_generation.specs.Contexts.{AppendsThrough, KeepsStart};
+ghost use Rattle.amqp_value_core.specs.Values.{boolean, decimal};
+ghost use Rattle.amqp_value_core.specs.Ids.{id_of};
+ghost use Rattle.amqp_value_core.specs.Layouts.{spelled};
+ghost use Rattle.amqp_value_core.specs.Contents.{float_bits, double_bits};
+ghost use Rattle.amq_protocol_types.specs.generation.Contexts.{AppendsThrough, KeepsStart};
 
-use crate::{GenResult, Output, WriteContext};
+use crate::generation::{GenResult, Output, WriteContext};
 use amqp_value_core::types::{
     AMQPType, Boolean, DecimalValue, Double, Float, Identifier, LongInt, LongLongInt, LongLongUInt,
     LongUInt, ShortInt, ShortShortInt, ShortShortUInt, ShortUInt, Timestamp,

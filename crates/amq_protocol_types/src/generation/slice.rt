@@ -1,7 +1,7 @@
 ghost use Rattle.std.specs.Prelude.{◌≡◌, []};
-ghost use Rattle.amqp_generation.specs.Slices.{seen_slice};
+ghost use Rattle.amq_protocol_types.specs.generation.Slices.{seen_slice};
 
-use crate::{BackToTheBuffer, GenError, GenResult, Output};
+use crate::generation::{BackToTheBuffer, GenError, GenResult, Output};
 use std::marker::Model;
 
 /// A slice as a buffer of fixed capacity, written from its start. Doesn't allocate.
@@ -13,7 +13,7 @@ pub struct SliceOutput<'a> {
 
 impl<'a> Model for SliceOutput<'a> {
     ghost use Rattle.std.specs.Prelude.{◌≤◌, take, drop, length};
-    ghost use Rattle.amqp_generation.specs.Slices.{Sliced};
+    ghost use Rattle.amq_protocol_types.specs.generation.Slices.{Sliced};
 
     ghost Value = { Sliced };
 

@@ -1,13 +1,13 @@
 //! Generators of strings and byte arrays: a length, then the bytes.
 
 ghost use Rattle.std.specs.Prelude.{◌<◌, ◌≤◌, ◌^◌, length};
-ghost use Rattle.amqp_grammar.specs.Grammar.{short_field, long_field};
-ghost use Rattle.amqp_types.specs.Contents.{octets_of};
-ghost use Rattle.amqp_generation.specs.Outputs.{Writes};
-ghost use Rattle.amqp_generation.specs.BufferOutput.{RefusedAsLong};
-ghost use Rattle.amqp_generation.specs.Contexts.{state_of, KeepsStart};
+ghost use Rattle.amqp_value_core.specs.Grammar.{short_field, long_field};
+ghost use Rattle.amqp_value_core.specs.Contents.{octets_of};
+ghost use Rattle.amq_protocol_types.specs.generation.Outputs.{Writes};
+ghost use Rattle.amq_protocol_types.specs.generation.BufferOutput.{RefusedAsLong};
+ghost use Rattle.amq_protocol_types.specs.generation.Contexts.{state_of, KeepsStart};
 
-use crate::{GenError, GenResult, Output, WriteContext};
+use crate::generation::{GenError, GenResult, Output, WriteContext};
 use amqp_value_core::types::ByteArray;
 
 /// Writes a string of at most 255 bytes after its length in one byte.

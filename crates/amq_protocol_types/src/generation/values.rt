@@ -1,17 +1,17 @@
 ghost use Rattle.std.specs.Prelude.{◌+◌, ◌≤◌, ℕ, List, ◌++◌, true, OnOk};
-ghost use Rattle.amqp_grammar.specs.Values.{array, table};
+ghost use Rattle.amqp_value_core.specs.Values.{array, table};
 ghost use Rattle.amqp_value_core.specs.View.{view};
 ghost use Rattle.amqp_value_core.specs.Containers.{array_view, table_view};
-ghost use Rattle.amqp_types.specs.Strings.{IsShort};
-ghost use Rattle.amqp_grammar.specs.Grammar.{short_field};
-ghost use Rattle.amqp_grammar.specs.Texts.{text, Fits, payload};
-ghost use Rattle.amqp_grammar.specs.InMemory.{IsValue};
-ghost use Rattle.amqp_generation.specs.Outputs.{Writes};
-ghost use Rattle.amqp_generation.specs.BufferOutput.{PatchesLength};
-ghost use Rattle.amqp_generation.specs.Written.{WritesWhatWasRead, WritesPayloadRead, IsWritten, IsPayloadReadBack, IsShortestAndUnique};
-ghost use Rattle.amqp_generation.specs.Contexts.{state_of, KeepsStart};
+ghost use Rattle.amqp_value_core.specs.Strings.{IsShort};
+ghost use Rattle.amqp_value_core.specs.Grammar.{short_field};
+ghost use Rattle.amqp_value_core.specs.Texts.{text, Fits, payload};
+ghost use Rattle.amqp_value_core.specs.InMemory.{IsValue};
+ghost use Rattle.amq_protocol_types.specs.generation.Outputs.{Writes};
+ghost use Rattle.amq_protocol_types.specs.generation.BufferOutput.{PatchesLength};
+ghost use Rattle.amq_protocol_types.specs.generation.Written.{WritesWhatWasRead, WritesPayloadRead, IsWritten, IsPayloadReadBack, IsShortestAndUnique};
+ghost use Rattle.amq_protocol_types.specs.generation.Contexts.{state_of, KeepsStart};
 
-use crate::{
+use crate::generation::{
     BackToTheBuffer, GenError, GenResult, WriteContext, gen_boolean, gen_byte_array,
     gen_decimal_value, gen_long_int, gen_long_long_int, gen_long_long_uint, gen_long_string,
     gen_long_uint, gen_short_int, gen_short_short_int, gen_short_short_uint, gen_short_string,
@@ -26,7 +26,7 @@ use amqp_value_core::value::AMQPValue;
 /// a value that was parsed, a buffer as long as the bytes it was parsed from is enough. A value
 /// that holds a `ShortString`, except as a key, has no encoding: it is written with the byte `_` as
 /// type tag, and the parsers reject it.
-#[tactic(auto, using(amqp_grammar::proofs::GrammarLaws::is_shortest, amqp_grammar::proofs::GrammarLaws::injective, amqp_grammar::proofs::GrammarLaws::is_canonical, crate::proofs::WhatWasRead::writes_what_was_read))]
+#[tactic(auto, using(amqp_value_core::proofs::GrammarLaws::is_shortest, amqp_value_core::proofs::GrammarLaws::injective, amqp_value_core::proofs::GrammarLaws::is_canonical, crate::proofs::lemmas::generation::WhatWasRead::writes_what_was_read))]
 pub fn gen_value<W: BackToTheBuffer>(v: &AMQPValue, x: &mut WriteContext<W>) -> GenResult
     ensures written { Writes true (Fits (view v.now)) (text (view v.now))
         (state_of W.seen x.old) result (state_of W.seen x.new) }
@@ -92,7 +92,7 @@ pub fn gen_raw_value<W: BackToTheBuffer>(v: &AMQPValue, x: &mut WriteContext<W>)
 
 /// Writes an array: the length of its body in four bytes, then its values, each after its type tag.
 #[cycle(values)]
-#[tactic(auto, using(crate::proofs::WhatWasRead::writes_payload_read))]
+#[tactic(auto, using(crate::proofs::lemmas::generation::WhatWasRead::writes_payload_read))]
 pub fn gen_field_array<W: BackToTheBuffer>(a: &FieldArray, x: &mut WriteContext<W>) -> GenResult
     ensures written { Writes true (Fits (array (array_view a.now)))
         (payload (array (array_view a.now)))
@@ -116,7 +116,7 @@ pub fn gen_field_array<W: BackToTheBuffer>(a: &FieldArray, x: &mut WriteContext<
 /// Writes a table: the length of its body in four bytes, then its entries, each its key as a short
 /// string and its value after its type tag, sorted by the keys' bytes.
 #[cycle(values)]
-#[tactic(auto, using(crate::proofs::WhatWasRead::writes_payload_read))]
+#[tactic(auto, using(crate::proofs::lemmas::generation::WhatWasRead::writes_payload_read))]
 pub fn gen_field_table<W: BackToTheBuffer>(t: &FieldTable, x: &mut WriteContext<W>) -> GenResult
     ensures written { Writes true (Fits (table (table_view t.now)))
         (payload (table (table_view t.now)))

@@ -1,10 +1,10 @@
 ghost use Rattle.std.specs.Prelude.{◌≡◌, ◌+◌, ⊤, true, IfOk, IfErr, length, replicate};
-ghost use Rattle.amqp_generation.specs.BufferOutput.{AppendsBytes, MakesRoom, answer_of};
-ghost use Rattle.amqp_generation.specs.Outputs.{Writes};
-ghost use Rattle.amqp_generation.specs.Vectors.{seen_vector};
-ghost use Rattle.amqp_generation.specs.declared.error.GenError.TheVariants.{OutOfMemory};
+ghost use Rattle.amq_protocol_types.specs.generation.BufferOutput.{AppendsBytes, MakesRoom, answer_of};
+ghost use Rattle.amq_protocol_types.specs.generation.Outputs.{Writes};
+ghost use Rattle.amq_protocol_types.specs.generation.Vectors.{seen_vector};
+ghost use Rattle.amq_protocol_types.specs.declared.generation.error.GenError.TheVariants.{OutOfMemory};
 
-use crate::{BackToTheBuffer, GenError, GenResult, Output};
+use crate::generation::{BackToTheBuffer, GenError, GenResult, Output};
 use std::alloc::AllocError;
 
 impl From<AllocError> for GenError {

@@ -1,12 +1,12 @@
 ghost use Rattle.std.specs.Prelude.{◌≡◌, Result, OnOk, OnErr, IfErr};
 ghost use Rattle.std.specs.Fn.{FnOnceReturnsAtMut};
-ghost use Rattle.amqp_generation.specs.declared.context.WriteContext.{WriteContext};
-ghost use Rattle.amqp_generation.specs.declared.error.GenError.{GenError};
-ghost use Rattle.amqp_generation.specs.Contexts.{state_of};
-ghost use Rattle.amqp_generation.specs.Lengths.{OnlyAppends, AppendsWithLength, RefusesWithLength};
+ghost use Rattle.amq_protocol_types.specs.declared.generation.context.WriteContext.{WriteContext};
+ghost use Rattle.amq_protocol_types.specs.declared.generation.error.GenError.{GenError};
+ghost use Rattle.amq_protocol_types.specs.generation.Contexts.{state_of};
+ghost use Rattle.amq_protocol_types.specs.generation.Lengths.{OnlyAppends, AppendsWithLength, RefusesWithLength};
 
-use crate::values::fill_length;
-use crate::{BackToTheBuffer, GenResult, WriteContext};
+use crate::generation::values::fill_length;
+use crate::generation::{BackToTheBuffer, GenResult, WriteContext};
 
 /// Writes the length of what `f` appends in four bytes, then what it appends.
 ///

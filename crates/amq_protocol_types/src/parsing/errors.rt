@@ -1,7 +1,7 @@
 //! The errors of parsers.
 
 ghost use Rattle.std.specs.Prelude.{◌≡◌, Some};
-ghost use Rattle.amqp_parsing.specs.Refusals.{lacks, refused, out_of_memory, inside};
+ghost use Rattle.amq_protocol_types.specs.parsing.Refusals.{lacks, refused, out_of_memory, inside};
 
 use std::alloc::AllocError;
 use std::error::Error;
@@ -51,7 +51,7 @@ pub struct ParserErrors {
 }
 
 impl Model for ParserErrors {
-    ghost use Rattle.amqp_parsing.specs.declared.errors.ErrorKind.{ErrorKind};
+    ghost use Rattle.amq_protocol_types.specs.declared.parsing.errors.ErrorKind.{ErrorKind};
 
     ghost Value = { ErrorKind };
 
@@ -70,7 +70,7 @@ impl ParserErrors {
 }
 
 impl fmt::Display for ParserErrors {
-    ghost use Rattle.amqp_parsing.specs.Refusals.{printed};
+    ghost use Rattle.amq_protocol_types.specs.parsing.Refusals.{printed};
 
     ghost output = { λ e. Some (printed e) };
 

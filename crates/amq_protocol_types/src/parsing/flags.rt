@@ -1,12 +1,12 @@
 //! The parser of flags.
 
 ghost use Rattle.std.specs.Prelude.{MatchResult, map, length};
-ghost use Rattle.amqp_parsing.specs.ParseResults.{Refuses};
-ghost use Rattle.amqp_flags.specs.Flags.{flags_of, AreFlagsRead, AreFlagsCut, AreFlagsHeavy};
+ghost use Rattle.amq_protocol_types.specs.parsing.ParseResults.{Refuses};
+ghost use Rattle.amq_protocol_types.specs.flags.Flags.{flags_of, AreFlagsRead, AreFlagsCut, AreFlagsHeavy};
 
 use super::errors::{ParserResult, lacks};
 use super::traits::ParsableInput;
-use amqp_flags::AMQPFlags;
+use crate::flags::AMQPFlags;
 use std::alloc::Global;
 
 /// Parses a flag for each name: as many bytes as the names need, eight flags to a byte, the lowest

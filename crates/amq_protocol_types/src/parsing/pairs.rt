@@ -1,10 +1,10 @@
 //! Building a table of pairs: few are inserted one by one, many are collected first.
 
 ghost use Rattle.std.specs.Prelude.{◌≡◌, ◌≤◌, IfOk, OnOk, length};
-ghost use Rattle.amqp_grammar.specs.Values.{no_entries, insert};
+ghost use Rattle.amqp_value_core.specs.Values.{no_entries, insert};
 ghost use Rattle.amqp_value_core.specs.View.{view};
 ghost use Rattle.amqp_value_core.specs.Containers.{table_view};
-ghost use Rattle.amqp_parsing.specs.Gathering.{kept};
+ghost use Rattle.amq_protocol_types.specs.parsing.Gathering.{kept};
 
 use super::scalars::parse_long_uint;
 use super::traits::ParsableInput;
@@ -43,7 +43,7 @@ impl TableBuilder {
 
     // Keeps one pair more.
     #[inline(always)]
-    #[tactic(auto, using(crate::proofs::Gathered::one_more))]
+    #[tactic(auto, using(crate::proofs::lemmas::parsing::Gathered::one_more))]
     pub(crate) fn push(&mut self, k: ShortString, v: AMQPValue) -> Result<(), AllocError>
         ensures { OnOk result (kept self.new ≡ insert k (view v) (kept self.old)) }
     {

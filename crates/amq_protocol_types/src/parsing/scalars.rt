@@ -2,13 +2,13 @@
 
 ghost use Rattle.std.specs.Prelude.{◌≡◌, Some, IfOk, MatchResult};
 ghost use Rattle.std.specs.Int.{w8, w16, w32, w64, cast_unsigned};
-ghost use Rattle.amqp_types.specs.Names.{read_as};
-ghost use Rattle.amqp_types.specs.Contents.{float_bits, double_bits};
-ghost use Rattle.amqp_types.specs.Inputs.{IsBytes};
-ghost use Rattle.amqp_grammar.specs.Values.{boolean, decimal};
-ghost use Rattle.amqp_parsing.specs.ParseResults.{Refuses};
-ghost use Rattle.amqp_parsing.specs.PayloadResults.{IsType, IsNoType};
-ghost use Rattle.amqp_parsing.specs.Scalars.{ReadsUnsigned, ReadsScalar, ReadsNumber};
+ghost use Rattle.amqp_value_core.specs.Names.{read_as};
+ghost use Rattle.amqp_value_core.specs.Contents.{float_bits, double_bits};
+ghost use Rattle.amqp_value_core.specs.Inputs.{IsBytes};
+ghost use Rattle.amqp_value_core.specs.Values.{boolean, decimal};
+ghost use Rattle.amq_protocol_types.specs.parsing.ParseResults.{Refuses};
+ghost use Rattle.amq_protocol_types.specs.parsing.PayloadResults.{IsType, IsNoType};
+ghost use Rattle.amq_protocol_types.specs.parsing.Scalars.{ReadsUnsigned, ReadsScalar, ReadsNumber};
 
 use super::errors::{ErrorKind, ParserResult, lacks, refused};
 use super::traits::ParsableInput;

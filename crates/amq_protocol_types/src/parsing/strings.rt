@@ -2,13 +2,13 @@
 
 ghost use Rattle.std.specs.Prelude.{◌≡◌, ◌<◌, true, length, MatchOption, MatchResult, IfOk, OnErr, if◌then◌else◌};
 ghost use Rattle.std.specs.Str.{IsUtf8};
-ghost use Rattle.amqp_grammar.specs.Values.{short, long, octets};
-ghost use Rattle.amqp_types.specs.Contents.{long_bytes, octets_of};
-ghost use Rattle.amqp_grammar.specs.Payloads.{RawOutcome};
-ghost use Rattle.amqp_grammar.specs.Outcomes.{RawHeavy, found};
-ghost use Rattle.amqp_parsing.specs.ParseResults.{Refuses};
-ghost use Rattle.amqp_parsing.specs.PayloadResults.{OnlyLacks, RawRefuses};
-ghost use Rattle.amqp_parsing.specs.Bodies.{IsLengthPrefixed, IsCutLengthPrefixed};
+ghost use Rattle.amqp_value_core.specs.Values.{short, long, octets};
+ghost use Rattle.amqp_value_core.specs.Contents.{long_bytes, octets_of};
+ghost use Rattle.amqp_value_core.specs.Payloads.{RawOutcome};
+ghost use Rattle.amqp_value_core.specs.Outcomes.{RawHeavy, found};
+ghost use Rattle.amq_protocol_types.specs.parsing.ParseResults.{Refuses};
+ghost use Rattle.amq_protocol_types.specs.parsing.PayloadResults.{OnlyLacks, RawRefuses};
+ghost use Rattle.amq_protocol_types.specs.parsing.Bodies.{IsLengthPrefixed, IsCutLengthPrefixed};
 
 use super::bytes::{copy_by_chunks, copy_of};
 use super::errors::{ErrorKind, ParserResult, lacks, out_of_memory, refused};
@@ -70,7 +70,7 @@ fn whole<'a>(in_pieces: bool, joined: &'a [u8], chunk: &'a [u8]) -> &'a [u8]
 
 // The string that bytes are, if they are UTF-8. Most keys are ASCII, which takes less to check.
 #[inline(always)]
-#[tactic(auto, using(crate::proofs::Copies::ascii_is_utf8))]
+#[tactic(auto, using(crate::proofs::lemmas::parsing::Copies::ascii_is_utf8))]
 fn text_of(bytes: &[u8]) -> Option<&str>
     ensures { MatchOption result (IsUtf8 bytes.now → ⊥) (λ text. (text.now ≡ bytes.now) × IsUtf8 bytes.now) }
 {

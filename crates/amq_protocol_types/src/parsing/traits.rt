@@ -1,3 +1,4 @@
 //! The traits and inputs that the parsers are generic over.
 
-pub use amqp_parsing::traits::{Needed, ParsableInput, SliceInput, SplitInput};
+pub use super::errors::Needed;
+pub use amqp_value_core::input::{ParsableInput, SliceInput, SplitInput};

@@ -1,16 +1,16 @@
 //! Parsers of values and of containers.
 
 ghost use Rattle.std.specs.Prelude.{◌≡◌, ◌≢◌, ◌<◌, ◌-◌, MatchResult, IfOk, length};
-ghost use Rattle.amqp_grammar.specs.Values.{array, table};
-ghost use Rattle.amqp_grammar.specs.Nesting.{BodyWithin, OutcomeWithin, RawOutcomeWithin};
-ghost use Rattle.amqp_grammar.specs.Outcomes.{Outcome, Heavy, RawHeavy, found};
-ghost use Rattle.amqp_grammar.specs.Payloads.{RawOutcome};
+ghost use Rattle.amqp_value_core.specs.Values.{array, table};
+ghost use Rattle.amqp_value_core.specs.Nesting.{BodyWithin, OutcomeWithin, RawOutcomeWithin};
+ghost use Rattle.amqp_value_core.specs.Outcomes.{Outcome, Heavy, RawHeavy, found};
+ghost use Rattle.amqp_value_core.specs.Payloads.{RawOutcome};
 ghost use Rattle.amqp_value_core.specs.View.{view};
 ghost use Rattle.amqp_value_core.specs.Containers.{array_view, table_view};
-ghost use Rattle.amqp_grammar.specs.Headline.{IsWritableIn};
-ghost use Rattle.amqp_parsing.specs.ParseResults.{Refuses, HasOneOutcome, KeepsOutcome};
-ghost use Rattle.amqp_parsing.specs.PayloadResults.{RawRefuses};
-ghost use Rattle.amqp_parsing.specs.Bodies.{IsNoBody, IsTable, IsNoTable};
+ghost use Rattle.amqp_value_core.specs.Headline.{IsWritableIn};
+ghost use Rattle.amq_protocol_types.specs.parsing.ParseResults.{Refuses, HasOneOutcome, KeepsOutcome};
+ghost use Rattle.amq_protocol_types.specs.parsing.PayloadResults.{RawRefuses};
+ghost use Rattle.amq_protocol_types.specs.parsing.Bodies.{IsNoBody, IsTable, IsNoTable};
 
 use super::errors::{ErrorKind, ParserError, ParserResult, inside, refused};
 use super::pairs::TableBuilder;
@@ -38,7 +38,7 @@ use std::alloc::Global;
 /// `parse_value_within`. docs/PROMISES.md has measurements. It allocates only for strings, byte
 /// arrays and containers whose bytes are all there.
 #[inline(always)]
-#[tactic(auto, using(crate::proofs::Appends::has_one_outcome, amqp_grammar::proofs::GrammarLaws::more_bytes))]
+#[tactic(auto, using(crate::proofs::lemmas::parsing::Appends::has_one_outcome, amqp_value_core::proofs::GrammarLaws::more_bytes))]
 pub fn parse_value<I: ParsableInput>(alloc: Global, i: I) -> ParserResult<I, AMQPValue>
     ensures outcome { MatchResult result
         (λ x. Outcome (I.bytes i) (found (view x.1) (I.bytes x.0)))
@@ -54,7 +54,7 @@ pub fn parse_value<I: ParsableInput>(alloc: Global, i: I) -> ParserResult<I, AMQ
 /// Parses a value in which containers nest at most `depth` deep.
 #[cycle(parser)]
 #[inline(always)]
-pub fn value_within<I: ParsableInput>(
+pub(crate) fn value_within<I: ParsableInput>(
     alloc: Global,
     i: I,
     depth: usize,
@@ -92,7 +92,7 @@ pub fn parse_raw_value<I: ParsableInput>(
 // one.
 #[cycle(parser)]
 #[inline(always)]
-#[tactic(auto, using(crate::proofs::Plain::plain_lacks))]
+#[tactic(auto, using(crate::proofs::lemmas::parsing::Plain::plain_lacks))]
 fn payload_within<I: ParsableInput>(
     alloc: Global,
     amqp_type: AMQPType,

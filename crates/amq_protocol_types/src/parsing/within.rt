@@ -1,13 +1,13 @@
 //! Parsing within limits.
 
 ghost use Rattle.std.specs.Prelude.{suc, ◌≡◌, ◌-◌, ◌≤◌, length, MatchResult, IfOk};
-ghost use Rattle.amqp_types.specs.Inputs.{IsBytes};
-ghost use Rattle.amqp_grammar.specs.Outcomes.{found};
-ghost use Rattle.amqp_grammar.specs.Values.{array, table};
+ghost use Rattle.amqp_value_core.specs.Inputs.{IsBytes};
+ghost use Rattle.amqp_value_core.specs.Outcomes.{found};
+ghost use Rattle.amqp_value_core.specs.Values.{array, table};
 ghost use Rattle.amqp_value_core.specs.View.{view};
 ghost use Rattle.amqp_value_core.specs.Containers.{array_view, table_view};
-ghost use Rattle.amqp_parsing.specs.Limits.{Within, RefusesWithin, LawsWithin, IsReadWithin};
-ghost use Rattle.amqp_parsing.specs.Untagged.{tagged, UntaggedWithin, RefusesUntagged, IsPayloadWithin, ReadsPayloadsBack};
+ghost use Rattle.amq_protocol_types.specs.parsing.Limits.{Within, RefusesWithin, LawsWithin, IsReadWithin};
+ghost use Rattle.amq_protocol_types.specs.parsing.Untagged.{tagged, UntaggedWithin, RefusesUntagged, IsPayloadWithin, ReadsPayloadsBack};
 
 use super::errors::{ErrorKind, ParserResult, lacks, refused};
 use super::header::{Header, counted_len, header_of};

@@ -1,4 +1,4 @@
-use amqp_parsing::ParserErrors;
+use crate::parsing::ParserErrors;
 use std::alloc::AllocError;
 use std::io;
 use thiserror::Error;
@@ -27,7 +27,7 @@ pub enum StreamError {
 
 impl From<AllocError> for StreamError {
     ghost use Rattle.std.specs.Prelude.{◌≡◌};
-    ghost use Rattle.amqp_stream.specs.declared.error.StreamError.TheVariants.{OutOfMemory};
+    ghost use Rattle.amq_protocol_types.specs.declared.stream.error.StreamError.TheVariants.{OutOfMemory};
 
     ghost from_gives = { λ _ e. e ≡ OutOfMemory };
 

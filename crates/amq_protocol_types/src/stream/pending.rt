@@ -3,8 +3,8 @@
 ghost use Rattle.std.specs.Prelude.{◌≡◌, ◌<◌, ◌≤◌, ◌+◌, ◌++◌, ℕ, List, [], length, take, drop, max, min, vec_len, vec_capacity, IfOk, OnOk, OnErr, IfErr};
 ghost use Rattle.std.specs.Io.KnownBytes.{Consumes, Keeps, IsAtEnd};
 ghost use Rattle.std.specs.IoError.{error_kind};
-ghost use Rattle.amqp_stream.specs.Passing.{IsPassing};
-ghost use Rattle.amqp_stream.specs.Sources.{KeepsKind};
+ghost use Rattle.amq_protocol_types.specs.stream.Passing.{IsPassing};
+ghost use Rattle.amq_protocol_types.specs.stream.Sources.{KeepsKind};
 
 use super::error::StreamError;
 use super::source::Source;

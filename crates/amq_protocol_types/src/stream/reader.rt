@@ -1,12 +1,12 @@
 //! A reader of values.
 
 ghost use Rattle.std.specs.Prelude.{◌≡◌, ◌<◌, false, []};
-ghost use Rattle.amqp_stream.specs.Readers.{values_of, reader_of, kept, has_failed, limits_of, ReadsNext};
+ghost use Rattle.amq_protocol_types.specs.stream.Readers.{values_of, reader_of, kept, has_failed, limits_of, ReadsNext};
 
 use super::error::StreamError;
 use super::source::Source;
 use super::values::Values;
-use amqp_parsing::Limits;
+use crate::parsing::Limits;
 use amqp_value_core::value::AMQPValue;
 use std::alloc::Global;
 

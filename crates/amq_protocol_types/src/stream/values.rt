@@ -3,15 +3,15 @@
 ghost use Rattle.std.specs.Prelude.{◌≡◌, ◌<◌, ◌≤◌, ◌++◌, List, ℕ, Option, false, []};
 ghost use Rattle.std.specs.Io.KnownBytes.{Consumes, IsAtEnd};
 ghost use Rattle.std.proofs.Props.{props};
-ghost use Rattle.amqp_parsing.specs.Headers.{IsWaiting, IsWhole, extent, wanted};
+ghost use Rattle.amq_protocol_types.specs.parsing.Headers.{IsWaiting, IsWhole, extent, wanted};
 
 use super::error::StreamError;
 use super::pending::Pending;
 use super::source::Source;
-use amqp_parsing::errors::refusal;
-use amqp_parsing::header::{Header, header_of};
-use amqp_parsing::values::value_within;
-use amqp_parsing::{Err, ErrorKind, Limits, SliceInput};
+use crate::parsing::errors::refusal;
+use crate::parsing::header::{Header, header_of};
+use crate::parsing::values::value_within;
+use crate::parsing::{Err, ErrorKind, Limits, SliceInput};
 use amqp_value_core::value::AMQPValue;
 use std::alloc::Global;
 
@@ -28,8 +28,8 @@ pub struct Values {
 }
 
 impl Values {
-    ghost use Rattle.amqp_stream.specs.Sources.{KeepsKind, IsNoRead};
-    ghost use Rattle.amqp_stream.specs.Readers.{kept, has_failed, limits_of, Answers, ReadsNext};
+    ghost use Rattle.amq_protocol_types.specs.stream.Sources.{KeepsKind, IsNoRead};
+    ghost use Rattle.amq_protocol_types.specs.stream.Readers.{kept, has_failed, limits_of, Answers, ReadsNext};
 
     /// Makes a state with nothing retained. It doesn't allocate. Precondition: `limits.frame` isn't
     /// 0.
@@ -49,7 +49,7 @@ impl Values {
 
     /// Reads the next value; returns `None` if the reader ended after the value before. The reader
     /// may be another one each time: an incomplete value is continued from it.
-    #[tactic(auto, using(amqp_parsing::proofs::ParsingLaws::kept_within))]
+    #[tactic(auto, using(crate::proofs::ParsingLaws::kept_within))]
     pub fn next_from<R: Source>(&mut self, reader: &mut R) -> Result<Option<AMQPValue>, StreamError>
         ensures { ReadsNext R.remaining R.goes R.fails self.old reader.old result self.new reader.new }
     {

@@ -2,9 +2,9 @@
 
 ghost use Rattle.std.specs.Prelude.{◌≡◌, ◌≤◌, ◌<◌, ◌+◌, ◌-◌, ◌↔◌, [], map, take, IsTrue, IsSome, Some, option_map, OnOk, OnErr, IfOk, IfErr};
 ghost use Rattle.std.specs.Int.{w32};
-ghost use Rattle.amqp_grammar.specs.Layouts.{fixed};
-ghost use Rattle.amqp_grammar.specs.Outcomes.{frame_lack};
-ghost use Rattle.amqp_parsing.specs.PayloadResults.{IsType};
+ghost use Rattle.amqp_value_core.specs.Layouts.{fixed};
+ghost use Rattle.amqp_value_core.specs.Outcomes.{frame_lack};
+ghost use Rattle.amq_protocol_types.specs.parsing.PayloadResults.{IsType};
 ghost use Rattle.amqp_dissect.specs.Ends.{Ends};
 ghost use Rattle.amqp_dissect.specs.Memory.{HasTypeTag, TakesMemory};
 ghost use Rattle.amqp_dissect.specs.Problems.{IsContainer, NoValue, NoValues, NoPairs};
@@ -15,9 +15,10 @@ use crate::dissection::End;
 use crate::part::Field;
 use crate::problem::{Problem, Stop};
 use crate::walk::Walk;
-use amqp_parsing::header::{Header, header_of};
-use amqp_parsing::{Err, Limits, Needed, parse_length_prefixed};
-use amqp_types::{AMQPType, ParsableInput, SliceInput};
+use amq_protocol_types::parsing::header::{Header, header_of};
+use amq_protocol_types::parsing::{Err, Limits, Needed, parse_length_prefixed};
+use amqp_value_core::input::{ParsableInput, SliceInput};
+use amqp_value_core::types::AMQPType;
 use std::alloc::AllocError;
 use std::str;
 

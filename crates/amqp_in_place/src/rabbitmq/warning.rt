@@ -1,15 +1,16 @@
 //! What RabbitMQ takes, and others may not.
 
 ghost use Rattle.std.specs.Prelude.{◌≡◌, ◌<◌, ◌+◌, ◌-◌, ◌^◌, ◌&&◌, ◌∷◌, nat_lt, suc, IfOk, IfSome, OnErr, length, take, drop, option_map, []};
-ghost use Rattle.amqp_types.specs.Ids.{id_of};
-ghost use Rattle.amqp_parsing.specs.Headers.{extent};
+ghost use Rattle.amqp_value_core.specs.Ids.{id_of};
+ghost use Rattle.amq_protocol_types.specs.parsing.Headers.{extent};
 ghost use Rattle.amqp_in_place.specs.RabbitmqSeen.{Tells, key_of, behind_key};
 ghost use Rattle.amqp_in_place.specs.RabbitmqWarnings.{fault_in_value, fault_in_values, fault_in_pairs, fault_inside, warnings_of, warnings_in_table_of};
 
 use crate::read::check_utf8;
-use amqp_parsing::Limits;
-use amqp_parsing::header::value_len;
-use amqp_types::{AMQPType, SliceInput, SplitInput};
+use amq_protocol_types::parsing::Limits;
+use amq_protocol_types::parsing::header::value_len;
+use amqp_value_core::input::{SliceInput, SplitInput};
+use amqp_value_core::types::AMQPType;
 use std::alloc::{AllocError, Global};
 use std::collections::BTreeSet;
 

@@ -2,7 +2,7 @@
 
 ghost use Rattle.std.specs.Prelude.{◌≡◌, option_map, IfOk, OnErr};
 ghost use Rattle.serde_json.specs.View.{view as document};
-ghost use Rattle.amqp_types.specs.declared.amqp_type.AMQPType.TheVariants as amqp;
+ghost use Rattle.amqp_value_core.specs.declared.types.amqp_type.AMQPType.TheVariants as amqp;
 ghost use Rattle.amqp_value_core.specs.View.{view};
 ghost use Rattle.amqp_value_core.specs.Json.{json, TakesMemory};
 

@@ -12,7 +12,7 @@ pub struct SplitInput<'a> {
 }
 
 impl<'a> SplitInput<'a> {
-    ghost use Rattle.amqp_types.specs.Splits.{split_first, split_second};
+    ghost use Rattle.amqp_value_core.specs.Splits.{split_first, split_second};
 
     /// Makes an input of two slices. Precondition: a `usize` holds the sum of their lengths.
     pub fn new(first: &'a [u8], second: &'a [u8]) -> Self
@@ -33,8 +33,8 @@ impl<'a> SplitInput<'a> {
 }
 
 impl<'a> ParsableInput for SplitInput<'a> {
-    ghost use Rattle.amqp_types.specs.Prefix.{IsFront};
-    ghost use Rattle.amqp_types.specs.Splits.{split_first, split_second};
+    ghost use Rattle.amqp_value_core.specs.Prefix.{IsFront};
+    ghost use Rattle.amqp_value_core.specs.Splits.{split_first, split_second};
 
     ghost bytes = { λ s. split_first s ++ split_second s };
 

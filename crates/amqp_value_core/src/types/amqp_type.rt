@@ -1,8 +1,8 @@
 //! The type of an AMQP value, and its type tag.
 
 ghost use Rattle.std.specs.Prelude.{◌≡◌, Some, IfSome};
-ghost use Rattle.amqp_types.specs.Ids.{kind, id_of};
-ghost use Rattle.amqp_types.specs.Names.{read_as};
+ghost use Rattle.amqp_value_core.specs.Ids.{kind, id_of};
+ghost use Rattle.amqp_value_core.specs.Names.{read_as};
 
 use serde::{Deserialize, Serialize};
 use std::fmt;
@@ -113,7 +113,7 @@ impl AMQPType {
 }
 
 impl fmt::Display for AMQPType {
-    ghost use Rattle.amqp_types.specs.Names.{name_of};
+    ghost use Rattle.amqp_value_core.specs.Names.{name_of};
 
     ghost output = { λ t. Some (name_of t) };
 

@@ -1,4 +1,4 @@
-use crate::{LongUInt, ShortShortUInt};
+use crate::types::{LongUInt, ShortShortUInt};
 use serde::{Deserialize, Serialize};
 
 /// A decimal number: `value` with its decimal point moved `scale` digits to the left. Its numeric

@@ -1,7 +1,7 @@
 ghost use Rattle.std.specs.Prelude.{◌≡◌, [], OnOk, OnErr, IfOk, IsOk};
 ghost use Rattle.std.specs.Borrow.{sem};
-ghost use Rattle.amqp_grammar.specs.Values.{no_entries, insert, insert_all};
-ghost use Rattle.amqp_grammar.specs.Maps.{has_key};
+ghost use Rattle.amqp_value_core.specs.Values.{no_entries, insert, insert_all};
+ghost use Rattle.amqp_value_core.specs.Maps.{has_key};
 ghost use Rattle.amqp_value_core.specs.View.{view};
 ghost use Rattle.amqp_value_core.specs.Containers.{entries, table_entries, table_view};
 ghost use Rattle.amqp_value_core.specs.Lending.{Rests, RestsIn, bare_of};

@@ -2,10 +2,10 @@ ghost use Rattle.std.specs.Hash as fed;
 ghost use Rattle.std.specs.Cmp.Rules.{hashing};
 ghost use Rattle.std.proofs.Common.{rules};
 ghost use Rattle.std.specs.Prelude.{◌≡◌, ◌≤◌, ◌<◌, length, string_bytes, Some, IfOk, IfErr, IsOk, OnOk, OnErr};
-ghost use Rattle.amqp_types.specs.Strings.{IsShort};
-ghost use Rattle.amqp_types.specs.Short.{IsTooLong, IsCopyRefused, refused_length, too_long_text};
+ghost use Rattle.amqp_value_core.specs.Strings.{IsShort};
+ghost use Rattle.amqp_value_core.specs.Short.{IsTooLong, IsCopyRefused, refused_length, too_long_text};
 
-use crate::MAX_SHORT_STRING_LENGTH;
+use crate::types::MAX_SHORT_STRING_LENGTH;
 use std::alloc::{AllocError, Global};
 use std::cmp::Ordering;
 use std::error::Error;

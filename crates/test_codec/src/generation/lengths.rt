@@ -1,7 +1,7 @@
 //! A length before what a closure appends.
 
-ghost use Rattle.amqp_generation.specs.Contexts.{state_of};
-ghost use Rattle.amqp_generation.specs.Lengths.{OnlyAppends};
+ghost use Rattle.amq_protocol_types.specs.generation.Contexts.{state_of};
+ghost use Rattle.amq_protocol_types.specs.generation.Lengths.{OnlyAppends};
 
 use amq_protocol_types::AMQPType;
 use amq_protocol_types::generation::*;

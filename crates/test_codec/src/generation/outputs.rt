@@ -105,7 +105,7 @@ pub(super) struct Recorder {
 
 impl Output for Recorder {
     ghost use Rattle.std.specs.Prelude.{true};
-    ghost use Rattle.amqp_generation.specs.Vectors.{seen_vector};
+    ghost use Rattle.amq_protocol_types.specs.generation.Vectors.{seen_vector};
 
     ghost is_buffer = { true };
 

@@ -1,10 +1,10 @@
 //! Arrays and tables of a million entries, keys of 255 bytes, 100,000 equal keys.
 
-use crate::fixtures::{MANY, WIDE, field, goes_everywhere, key, payload_of};
+use super::fixtures::{MANY, WIDE, field, goes_everywhere, key, payload_of};
 use amq_protocol_types::generation::{WriteContext, gen_field_array, gen_field_table};
-use amq_protocol_types::in_place::{ValueRef, read_in_place};
 use amq_protocol_types::parsing::{SliceInput, parse_field_array, parse_field_table, parse_value};
 use amq_protocol_types::{AMQPValue, FieldArray, FieldTable, ShortString};
+use amqp_in_place::{ValueRef, read_in_place};
 use std::alloc::{AllocError, Global};
 use std::test::Fail;
 

@@ -1,9 +1,9 @@
 //! Five thousand containers, one in another: 8 MiB of stack carry less than ten thousand.
 
-use crate::fixtures::{WIDE, goes_everywhere};
-use amq_protocol_types::in_place::{read_in_place, read_in_place_unlimited};
+use super::fixtures::{WIDE, goes_everywhere};
 use amq_protocol_types::stream::Limits;
 use amqp_dissect::{End, dissect};
+use amqp_in_place::{read_in_place, read_in_place_unlimited};
 use amqp_json::{from_value, to_value};
 use std::alloc::Global;
 use std::process::Abort;

@@ -1,6 +1,6 @@
 //! JSON values of 64 MiB, and of a million entries.
 
-use crate::fixtures::{LARGE, MANY, bytes, key};
+use super::fixtures::{LARGE, MANY, bytes, key};
 use amq_protocol_types::{
     AMQPType, AMQPValue, ByteArray, FieldArray, FieldTable, LongString, ShortString,
 };

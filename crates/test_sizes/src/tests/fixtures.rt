@@ -4,11 +4,11 @@ use amq_protocol_types::AMQPValue;
 use amq_protocol_types::generation::{
     IoOutput, SliceOutput, WriteContext, gen_raw_value, gen_value,
 };
-use amq_protocol_types::in_place::{canonical_len, is_canonical, read_in_place};
 use amq_protocol_types::parsing::{
     ParserResult, SliceInput, SplitInput, parse_raw_value, parse_value,
 };
 use amq_protocol_types::stream::{Limits, ValueReader, parse_value_within};
+use amqp_in_place::{canonical_len, is_canonical, read_in_place};
 use std::alloc::{AllocError, Global};
 use std::process::Abort;
 use std::test::Fail;

@@ -1,6 +1,6 @@
 //! Flags of 4,096 names.
 
-use crate::fixtures::{bytes, device};
+use super::fixtures::{bytes, device};
 use amq_protocol_types::flags::AMQPFlags;
 use amq_protocol_types::generation::gen_flags;
 use amq_protocol_types::parsing::{SliceInput, parse_flags};

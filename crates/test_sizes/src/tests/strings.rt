@@ -1,6 +1,6 @@
 //! Strings and byte arrays of 64 MiB, and a short string of 255 bytes.
 
-use crate::fixtures::{LARGE, bytes, device, field, goes_everywhere, payload_of};
+use super::fixtures::{LARGE, bytes, device, field, goes_everywhere, payload_of};
 use amq_protocol_types::generation::{
     WriteContext, gen_byte_array, gen_long_string, gen_short_string, gen_with_len,
 };

@@ -1,6 +1,6 @@
 //! JSON texts and dissections of some 16 MiB.
 
-use crate::fixtures::{WIDE, bytes, field};
+use super::fixtures::{WIDE, bytes, field};
 use amq_protocol_types::parsing::{SliceInput, parse_value};
 use amqp_dissect::{End, dissect, escape};
 use amqp_json::{JsonError, encoding_of_json, from_json, json_of_encoding, to_json};

@@ -5,11 +5,11 @@
 #![tactic(auto, unfolding(amqp_dissect::specs::PartsOf::part, amqp_dissect::specs::PartsOf::key_parts, amqp_dissect::specs::PartsOf::counted_parts, amqp_dissect::specs::PartsOf::payload_parts, amqp_dissect::specs::PartsOf::value_parts, amqp_dissect::specs::PartsOf::entries_parts))]
 
 ghost use Rattle.std.specs.Prelude.{◌≡◌, [], ◌∷◌};
-ghost use Rattle.amqp_grammar.specs.Hexadecimal.{hex};
+ghost use Rattle.amqp_value_core.specs.Hexadecimal.{hex};
 ghost use Rattle.amqp_dissect.specs.PartsOf.{parts_of};
 
 use amqp_dissect::Field;
-use amqp_types::AMQPType;
+use amqp_value_core::types::AMQPType;
 
 /// A payload of fixed width is one part, a decimal's with its scale; Void has no payload.
 pub fn values_of_fixed_width()

@@ -5,17 +5,17 @@
 ghost use Rattle.std.specs.Prelude.{◌≡◌, List, [], ◌∷◌, ◌++◌, true, false, negsuc, Some, None, codes};
 ghost use Rattle.std.specs.Str.{byte};
 ghost use Rattle.std.specs.Int.{w8, w16, w32, w64, cast_unsigned};
-ghost use Rattle.amqp_grammar.specs.Values.{boolean, number, decimal, void, scalar, short, long, octets, array, trees_of, no_trees, table, entries_of, no_entries, insert, depth, count, readable};
-ghost use Rattle.amqp_grammar.specs.Maps.{has_key, value_at};
-ghost use Rattle.amqp_types.specs.Ids.{kind, id_of};
-ghost use Rattle.amqp_types.specs.Names.{read_as};
-ghost use Rattle.amqp_grammar.specs.Outcomes.{found, more, unknown, malformed, Outcome, Heavy, RawHeavy};
-ghost use Rattle.amqp_grammar.specs.Payloads.{RawOutcome};
-ghost use Rattle.amqp_grammar.specs.Decode.{outcome, raw_outcome};
-ghost use Rattle.amqp_grammar.specs.Texts.{text, size};
-ghost use Rattle.amqp_grammar.specs.Hexadecimal.{hex};
+ghost use Rattle.amqp_value_core.specs.Values.{boolean, number, decimal, void, scalar, short, long, octets, array, trees_of, no_trees, table, entries_of, no_entries, insert, depth, count, readable};
+ghost use Rattle.amqp_value_core.specs.Maps.{has_key, value_at};
+ghost use Rattle.amqp_value_core.specs.Ids.{kind, id_of};
+ghost use Rattle.amqp_value_core.specs.Names.{read_as};
+ghost use Rattle.amqp_value_core.specs.Outcomes.{found, more, unknown, malformed, Outcome, Heavy, RawHeavy};
+ghost use Rattle.amqp_value_core.specs.Payloads.{RawOutcome};
+ghost use Rattle.amqp_value_core.specs.Decode.{outcome, raw_outcome};
+ghost use Rattle.amqp_value_core.specs.Texts.{text, size};
+ghost use Rattle.amqp_value_core.specs.Hexadecimal.{hex};
 
-use amqp_types::AMQPType;
+use amqp_value_core::types::AMQPType;
 
 /// 0 is false, every other byte is true, and true is written 1.
 pub fn booleans()

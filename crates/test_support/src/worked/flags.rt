@@ -1,8 +1,8 @@
 //! Worked examples: what some flags are packed to, and some bytes unpacked to.
 
 ghost use Rattle.std.specs.Prelude.{◌≡◌, true, false, [], ◌∷◌, codes};
-ghost use Rattle.amqp_grammar.specs.Hexadecimal.{hex};
-ghost use Rattle.amqp_flags.specs.Flags.{pack, unpack};
+ghost use Rattle.amqp_value_core.specs.Hexadecimal.{hex};
+ghost use Rattle.amq_protocol_types.specs.flags.Flags.{pack, unpack};
 
 /// Flags are packed eight to a byte, the first one's bit the lowest, and the bits left over are 0.
 pub fn packed_flags()
@@ -13,7 +13,7 @@ pub fn packed_flags()
 {}
 
 /// Names are paired with bits as long as both last: a, b, c and so on with the lowest bits first.
-#[tactic(auto, unfolding(amqp_flags::specs::Flags::low_bits))]
+#[tactic(auto, unfolding(amq_protocol_types::specs::flags::Flags::low_bits))]
 pub fn unpacked_flags()
     ensures ten { unpack
         (codes "a" ∷ codes "b" ∷ codes "c" ∷ codes "d" ∷ codes "e" ∷ codes "f" ∷ codes "g" ∷ codes "h" ∷ codes "i" ∷ codes "j" ∷ [])

@@ -1,7 +1,7 @@
 //! Worked examples: what the definitions state of some values in memory.
 
 ghost use Rattle.std.specs.Prelude.{◌≡◌, negsuc};
-ghost use Rattle.amqp_grammar.specs.Values.{number, scalar};
+ghost use Rattle.amqp_value_core.specs.Values.{number, scalar};
 ghost use Rattle.amqp_value_core.specs.View.{view};
 
 use amqp_value_core::types::AMQPType;

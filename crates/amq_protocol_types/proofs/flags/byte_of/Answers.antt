@@ -1,7 +1,7 @@
 use Rattle.std.proofs.Common.{arith}
-use Rattle.amqp_flags.proofs.FlagBits.{next_bit, bit_set, bit_unset}
-use Rattle.amqp_flags.proofs.flags.byte_of.Goals as goal
-use Rattle.amqp_flags.proofs.flags.byte_of.Goals.{then-flag, else-flag}
+use Rattle.amq_protocol_types.proofs.FlagBits.{next_bit, bit_set, bit_unset}
+use Rattle.amq_protocol_types.proofs.flags.byte_of.Goals as goal
+use Rattle.amq_protocol_types.proofs.flags.byte_of.Goals.{then-flag, else-flag}
 
 pub loop-i-preserved : goal.loop-i-preserved
 loop-i-preserved c =

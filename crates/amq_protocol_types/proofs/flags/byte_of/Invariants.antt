@@ -1,6 +1,6 @@
 use Rattle.std.proofs.Common.{◌≡◌, ◌<◌, ◌^◌, take}
-use Rattle.amqp_flags.specs.Flags.{listed, values_of, number_of}
-use Rattle.amqp_flags.proofs.flags.byte_of.Given as goal
+use Rattle.amq_protocol_types.specs.flags.Flags.{listed, values_of, number_of}
+use Rattle.amq_protocol_types.proofs.flags.byte_of.Given as goal
 
 -- the number of the flags so far
 abbrev pub invariant-loop-i : goal.invariant-loop-i

@@ -2,18 +2,18 @@
 use Rattle.std.proofs.Common.{◌≡◌, ℕ, ◌<◌, ◌≤◌, true, Result, Ok, Err, List, ◌++◌, length, get_or, take, replicate, subst, OnOk, arith}
 use Rattle.std.proofs.lemmas.List.{take_all}
 use Rattle.amqp_value_core.specs.declared.value.AMQPValue.{AMQPValue}
-use Rattle.amqp_grammar.specs.Values.{array}
-use Rattle.amqp_grammar.specs.Grammar.{long_field}
+use Rattle.amqp_value_core.specs.Values.{array}
+use Rattle.amqp_value_core.specs.Grammar.{long_field}
 use Rattle.amqp_value_core.specs.View.{view}
 use Rattle.amqp_value_core.specs.Containers.{trees}
-use Rattle.amqp_grammar.specs.Texts.{text, body, Fits}
-use Rattle.amqp_grammar.specs.InMemory.{IsValue, AreValues}
-use Rattle.amqp_grammar.specs.Members.{AllFit}
-use Rattle.amqp_generation.specs.declared.error.GenError.{GenError}
-use Rattle.amqp_generation.specs.Outputs.{OutputState, Writes}
-use Rattle.amqp_generation.specs.BufferOutput.{IsWhole, Truncates, PatchesLength}
-use Rattle.amqp_generation.proofs.Texts.{fits_of, within_of}
-use Rattle.amqp_generation.proofs.Steps.{refused_inside, length_put}
+use Rattle.amqp_value_core.specs.Texts.{text, body, Fits}
+use Rattle.amqp_value_core.specs.InMemory.{IsValue, AreValues}
+use Rattle.amqp_value_core.specs.Members.{AllFit}
+use Rattle.amq_protocol_types.specs.declared.generation.error.GenError.{GenError}
+use Rattle.amq_protocol_types.specs.generation.Outputs.{OutputState, Writes}
+use Rattle.amq_protocol_types.specs.generation.BufferOutput.{IsWhole, Truncates, PatchesLength}
+use Rattle.amq_protocol_types.proofs.lemmas.generation.Texts.{fits_of, within_of}
+use Rattle.amq_protocol_types.proofs.lemmas.generation.Steps.{refused_inside, length_put}
 
 -- the first k values were put after four reserved bytes
 abbrev pub HasPut : List AMQPValue → ℕ → OutputState → OutputState → Type 0

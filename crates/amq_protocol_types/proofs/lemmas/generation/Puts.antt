@@ -3,11 +3,11 @@ use Rattle.std.proofs.Common.{◌≡◌, ℕ, ◌+◌, ◌-◌, ◌≤◌, inl, 
 use Rattle.std.specs.Option.{option_map}
 use Rattle.std.specs.Io.KnownBytes.{Appends}
 use Rattle.std.proofs.lemmas.Bool.{false≢true}
-use Rattle.amqp_generation.specs.declared.error.GenError.{GenError}
-use Rattle.amqp_generation.specs.Outputs.{OutputState, Writes}
-use Rattle.amqp_generation.specs.BufferOutput.{AppendsBytes, MakesRoom}
-use Rattle.amqp_generation.proofs.Rooms.{both_too_many, still_fixed, rest_fits, any_room}
-use Rattle.amqp_generation.proofs.Steps.{both_put, failed_since}
+use Rattle.amq_protocol_types.specs.declared.generation.error.GenError.{GenError}
+use Rattle.amq_protocol_types.specs.generation.Outputs.{OutputState, Writes}
+use Rattle.amq_protocol_types.specs.generation.BufferOutput.{AppendsBytes, MakesRoom}
+use Rattle.amq_protocol_types.proofs.lemmas.generation.Rooms.{both_too_many, still_fixed, rest_fits, any_room}
+use Rattle.amq_protocol_types.proofs.lemmas.generation.Steps.{both_put, failed_since}
 
 -- some bytes were put, and a buffer won't reject those after them, n in all
 pub record PutSoFar (b : Bool) (n : ℕ) (done : List ℕ) (before after : OutputState) : Type 0 where

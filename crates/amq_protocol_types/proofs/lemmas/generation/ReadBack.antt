@@ -1,14 +1,14 @@
 -- What was written is read back.
 use Rattle.std.proofs.Common.{ℕ, List, ◌++◌, ◌≡◌, refl, Result, Ok, Err, OnOk, Some}
-use Rattle.amqp_types.specs.declared.amqp_type.AMQPType.TheVariants as amqp
-use Rattle.amqp_grammar.specs.Values.{Tree, Trees, Entries, array, table}
-use Rattle.amqp_grammar.specs.Texts.{text, payload, Fits}
-use Rattle.amqp_grammar.specs.InMemory.{IsValue}
-use Rattle.amqp_grammar.specs.Readings.{read_back}
-use Rattle.amqp_grammar.specs.Outcomes.{Outcome}
-use Rattle.amqp_grammar.proofs.GrammarLaws.{reading_back, value_to_raw, is_canonical}
-use Rattle.amqp_generation.specs.declared.error.GenError.{GenError}
-use Rattle.amqp_generation.specs.Written.{IsWritten, IsPayloadReadBack}
+use Rattle.amqp_value_core.specs.declared.types.amqp_type.AMQPType.TheVariants as amqp
+use Rattle.amqp_value_core.specs.Values.{Tree, Trees, Entries, array, table}
+use Rattle.amqp_value_core.specs.Texts.{text, payload, Fits}
+use Rattle.amqp_value_core.specs.InMemory.{IsValue}
+use Rattle.amqp_value_core.specs.Readings.{read_back}
+use Rattle.amqp_value_core.specs.Outcomes.{Outcome}
+use Rattle.amqp_value_core.proofs.GrammarLaws.{reading_back, value_to_raw, is_canonical}
+use Rattle.amq_protocol_types.specs.declared.generation.error.GenError.{GenError}
+use Rattle.amq_protocol_types.specs.generation.Written.{IsWritten, IsPayloadReadBack}
 
 -- a value whose encoding was written
 pub written : (v : Tree) (r : Result (Unit {0}) GenError) → OnOk r (IsValue v) → OnOk r (Fits v) → OnOk r (IsWritten v)

@@ -3,7 +3,7 @@ use Rattle.std.proofs.Common.{◌≡◌, ℕ, ◌+◌, ◌-◌, ◌<◌, ◌≤�
 use Rattle.std.specs.Option.{option_map}
 use Rattle.std.specs.Io.KnownBytes.{Appends}
 use Rattle.std.proofs.lemmas.List.{take_at, drop_at}
-use Rattle.amqp_generation.specs.BufferOutput.{overwrite}
+use Rattle.amq_protocol_types.specs.generation.BufferOutput.{overwrite}
 
 -- a bytes fit the capacity, and then b what is left of it: so both fit
 pub both_fit : (room left : Option ℕ) (a b c : ℕ) → c ≡ a + b → IfSome room (λ n. a ≤ n) → left ≡ option_map (λ n. n - a) room → IfSome left (λ n. b ≤ n) → IfSome room (λ n. c ≤ n)

@@ -3,8 +3,8 @@ use Rattle.std.proofs.Common.{◌≡◌, ℕ, ◌+◌, ◌-◌, ◌≤◌, true,
 use Rattle.std.proofs.lemmas.Slice.{take-put_mid, drop-put_mid}
 use Rattle.std.proofs.lemmas.List.{drop-drop, length-take-le, same_lists, places}
 use borrow.Rule.Slice.PartMut.{put_mid}
-use Rattle.amqp_generation.specs.BufferOutput.{AppendsBytes, filled, overwrite}
-use Rattle.amqp_generation.specs.Slices.{Sliced, seen_slice}
+use Rattle.amq_protocol_types.specs.generation.BufferOutput.{AppendsBytes, filled, overwrite}
+use Rattle.amq_protocol_types.specs.generation.Slices.{Sliced, seen_slice}
 
 -- a slice's bytes before a place, and those from there on
 abbrev pub cut_at : List ℕ → ℕ → Sliced

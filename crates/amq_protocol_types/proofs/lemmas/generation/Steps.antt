@@ -5,12 +5,12 @@ use Rattle.std.specs.Io.KnownBytes.{Appends}
 use Rattle.std.proofs.KnownBytes.{Appends-trans}
 use Rattle.std.proofs.lemmas.List.{drop-drop}
 use Rattle.std.specs.Int.{w32, to_be_bytes}
-use Rattle.amqp_grammar.specs.Grammar.{long_field}
-use Rattle.amqp_generation.specs.declared.error.GenError.{GenError}
-use Rattle.amqp_generation.specs.declared.error.GenError.TheVariants.{LengthTooLong}
-use Rattle.amqp_generation.specs.Outputs.{OutputState, Writes, HasFailed}
-use Rattle.amqp_generation.specs.BufferOutput.{IsWhole, Truncates, PatchesLength, filled}
-use Rattle.amqp_generation.proofs.Rooms.{both_fit, both_left, room_back, both_too_many, still_fixed, rest_fits, told_back, front_overwritten, any_room}
+use Rattle.amqp_value_core.specs.Grammar.{long_field}
+use Rattle.amq_protocol_types.specs.declared.generation.error.GenError.{GenError}
+use Rattle.amq_protocol_types.specs.declared.generation.error.GenError.TheVariants.{LengthTooLong}
+use Rattle.amq_protocol_types.specs.generation.Outputs.{OutputState, Writes, HasFailed}
+use Rattle.amq_protocol_types.specs.generation.BufferOutput.{IsWhole, Truncates, PatchesLength, filled}
+use Rattle.amq_protocol_types.proofs.lemmas.generation.Rooms.{both_fit, both_left, room_back, both_too_many, still_fixed, rest_fits, told_back, front_overwritten, any_room}
 
 -- xs were put, and then ys: so both were
 pub both_put : {b : Bool} {A B : Type 0} {xs ys : List ℕ} {s t u : OutputState} (C : Type 0) (zs : List ℕ) → zs ≡ xs ++ ys → (A → B → C) → Writes b A xs s (Ok tt) t → Writes b B ys t (Ok tt) u → Writes b C zs s (Ok tt) u

@@ -5,18 +5,18 @@ use Rattle.std.specs.Cmp.Lexicographic.{slice_cmp}
 use Rattle.std.specs.List.Sorted.{IsStrictlySortedBy}
 use Rattle.std.specs.Map.{keys_of}
 use Rattle.amqp_value_core.specs.declared.value.AMQPValue.{AMQPValue}
-use Rattle.amqp_grammar.specs.Values.{Tree, table}
-use Rattle.amqp_types.specs.Strings.{IsShort}
-use Rattle.amqp_grammar.specs.Grammar.{short_field, long_field}
+use Rattle.amqp_value_core.specs.Values.{Tree, table}
+use Rattle.amqp_value_core.specs.Strings.{IsShort}
+use Rattle.amqp_value_core.specs.Grammar.{short_field, long_field}
 use Rattle.amqp_value_core.specs.View.{view}
 use Rattle.amqp_value_core.specs.Containers.{entries}
-use Rattle.amqp_grammar.specs.Texts.{text, pairs, Fits}
-use Rattle.amqp_grammar.specs.Members.{EntriesFit}
-use Rattle.amqp_grammar.specs.InMemory.{IsValue, AreEntries}
-use Rattle.amqp_generation.specs.declared.error.GenError.{GenError}
-use Rattle.amqp_generation.specs.Outputs.{OutputState, Writes}
-use Rattle.amqp_generation.specs.BufferOutput.{IsWhole, Truncates, PatchesLength}
-use Rattle.amqp_generation.proofs.Steps.{both_put, refused, refused_inside, length_put}
+use Rattle.amqp_value_core.specs.Texts.{text, pairs, Fits}
+use Rattle.amqp_value_core.specs.Members.{EntriesFit}
+use Rattle.amqp_value_core.specs.InMemory.{IsValue, AreEntries}
+use Rattle.amq_protocol_types.specs.declared.generation.error.GenError.{GenError}
+use Rattle.amq_protocol_types.specs.generation.Outputs.{OutputState, Writes}
+use Rattle.amq_protocol_types.specs.generation.BufferOutput.{IsWhole, Truncates, PatchesLength}
+use Rattle.amq_protocol_types.proofs.lemmas.generation.Steps.{both_put, refused, refused_inside, length_put}
 
 -- the entries of a table, with their values in memory
 abbrev pub Stored : Type 0

@@ -2,14 +2,14 @@
 use Rattle.std.proofs.Common.{◌≡◌, ℕ, zero, suc, ◌+◌, ◌<◌, ◌≤◌, List, [], ◌∷◌, ◌++◌, length, get_or, take, replicate, sym, ap, ◌∙◌, subst, arith, append_assoc, append-nil, length-append}
 use Rattle.amqp_value_core.specs.declared.value.AMQPValue.{AMQPValue}
 use Rattle.std.proofs.lemmas.List.{take_more}
-use Rattle.amqp_types.specs.declared.amqp_type.AMQPType.{AMQPType}
-use Rattle.amqp_grammar.specs.Values.{Tree, scalar, short, long, octets, array, table, type_of}
-use Rattle.amqp_grammar.specs.Texts.{payload, text, body, Fits}
-use Rattle.amqp_grammar.specs.Members.{AllFit}
-use Rattle.amqp_types.specs.Ids.{id_of}
+use Rattle.amqp_value_core.specs.declared.types.amqp_type.AMQPType.{AMQPType}
+use Rattle.amqp_value_core.specs.Values.{Tree, scalar, short, long, octets, array, table, type_of}
+use Rattle.amqp_value_core.specs.Texts.{payload, text, body, Fits}
+use Rattle.amqp_value_core.specs.Members.{AllFit}
+use Rattle.amqp_value_core.specs.Ids.{id_of}
 use Rattle.amqp_value_core.specs.View.{view}
 use Rattle.amqp_value_core.specs.Containers.{trees}
-use Rattle.amqp_grammar.specs.InMemory.{IsValue, AreValues}
+use Rattle.amqp_value_core.specs.InMemory.{IsValue, AreValues}
 
 -- a type tag and the payload are the canonical encoding
 pub text_of : (v : Tree) (type : AMQPType) → type ≡ type_of v → text v ≡ id_of type ∷ [] ++ payload v

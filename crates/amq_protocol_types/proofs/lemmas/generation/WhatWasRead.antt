@@ -1,13 +1,13 @@
 -- A value that was read fits the capacity that its encoding took.
 use Rattle.std.proofs.Common.{ℕ, ◌≢◌, ◌≤◌, Option, Some, None, IfSome, length, Result, true, arith}
-use Rattle.amqp_types.specs.declared.amqp_type.AMQPType.{AMQPType}
-use Rattle.amqp_types.specs.declared.amqp_type.AMQPType.TheVariants as amqp
-use Rattle.amqp_grammar.specs.Values.{Tree}
-use Rattle.amqp_grammar.specs.Texts.{text, Fits, payload}
-use Rattle.amqp_grammar.proofs.GrammarLaws.{bounded_wire, raw_bounds, what_raw_reads, length_of_payload}
-use Rattle.amqp_generation.specs.declared.error.GenError.{GenError}
-use Rattle.amqp_generation.specs.Outputs.{OutputState, Writes}
-use Rattle.amqp_generation.specs.Written.{WritesWhatWasRead, WritesPayloadRead}
+use Rattle.amqp_value_core.specs.declared.types.amqp_type.AMQPType.{AMQPType}
+use Rattle.amqp_value_core.specs.declared.types.amqp_type.AMQPType.TheVariants as amqp
+use Rattle.amqp_value_core.specs.Values.{Tree}
+use Rattle.amqp_value_core.specs.Texts.{text, Fits, payload}
+use Rattle.amqp_value_core.proofs.GrammarLaws.{bounded_wire, raw_bounds, what_raw_reads, length_of_payload}
+use Rattle.amq_protocol_types.specs.declared.generation.error.GenError.{GenError}
+use Rattle.amq_protocol_types.specs.generation.Outputs.{OutputState, Writes}
+use Rattle.amq_protocol_types.specs.generation.Written.{WritesWhatWasRead, WritesPayloadRead}
 
 -- what succeeds if n bytes fit does if more do
 in_more_room : (P : Type 0) (room : Option ℕ) (n m : ℕ) → n ≤ m → IfSome room (λ r. n ≤ r → P) → IfSome room (λ r. m ≤ r → P)

@@ -2,18 +2,18 @@
 use Rattle.std.proofs.Common.{◌≡◌, ◌≤◌, ◌-◌, ℕ, suc, List, ◌++◌, length, Option, Some, None, Result, Ok, Err, MatchResult, IfOk, ap, ◌∙◌, subst, arith, length-append}
 use Rattle.std.specs.Int.{Width, byte_len}
 use Rattle.std.proofs.lemmas.Bool.{le-ltb}
-use Rattle.amqp_grammar.specs.Values.{Tree}
-use Rattle.amqp_grammar.specs.Layouts.{Layout, fixed}
-use Rattle.amqp_grammar.specs.Grammar.{Wire, wire}
-use Rattle.amqp_grammar.specs.Headline.{IsWritableIn}
-use Rattle.amqp_grammar.specs.Texts.{text}
-use Rattle.amqp_types.specs.Inputs.{IsBytes}
-use Rattle.amqp_grammar.specs.Outcomes.{found, length_field}
-use Rattle.amqp_grammar.proofs.GrammarLaws.{front_within, bounded_wire, wire_found_within, text_within, text_again, depth_within, bounds, injective, extent-raw, header_extent_of, bytes_front}
-use Rattle.amqp_parsing.specs.declared.limits.Limits.{Limits}
-use Rattle.amqp_parsing.specs.Refusals.{Refusal}
-use Rattle.amqp_parsing.specs.Headers.{extent_of, raw_extent, extent_at, extent}
-use Rattle.amqp_parsing.specs.Limits.{Within, RefusesWithin, IsReadAgain, ReadsBack, IsShortestWithin, TellsApartWithin, IsReadWithin}
+use Rattle.amqp_value_core.specs.Values.{Tree}
+use Rattle.amqp_value_core.specs.Layouts.{Layout, fixed}
+use Rattle.amqp_value_core.specs.Grammar.{Wire, wire}
+use Rattle.amqp_value_core.specs.Headline.{IsWritableIn}
+use Rattle.amqp_value_core.specs.Texts.{text}
+use Rattle.amqp_value_core.specs.Inputs.{IsBytes}
+use Rattle.amqp_value_core.specs.Outcomes.{found, length_field}
+use Rattle.amqp_value_core.proofs.GrammarLaws.{front_within, bounded_wire, wire_found_within, text_within, text_again, depth_within, bounds, injective, extent-raw, header_extent_of, bytes_front}
+use Rattle.amq_protocol_types.specs.declared.parsing.limits.Limits.{Limits}
+use Rattle.amq_protocol_types.specs.parsing.Refusals.{Refusal}
+use Rattle.amq_protocol_types.specs.parsing.Headers.{extent_of, raw_extent, extent_at, extent}
+use Rattle.amq_protocol_types.specs.parsing.Limits.{Within, RefusesWithin, IsReadAgain, ReadsBack, IsShortestWithin, TellsApartWithin, IsReadWithin}
 
 -- if the length field is complete, a payload's least extent is its extent
 whole_extent : (o : Option Layout) (w : Width) (b : List ℕ) (n : ℕ) → header_extent_of o w b ≡ n → n ≤ length b → extent_of o w b ≡ n

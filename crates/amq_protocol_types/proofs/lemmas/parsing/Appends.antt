@@ -4,24 +4,24 @@ use Rattle.std.specs.Prelude.{MatchOption}
 use Rattle.std.specs.Int.{Width, byte_len}
 use Rattle.std.proofs.lemmas.Bool.{cases_lt, lt-ltb, le-ltb}
 use Rattle.std.proofs.lemmas.List.{take-append-le}
-use Rattle.amqp_types.specs.declared.amqp_type.AMQPType.{AMQPType}
-use Rattle.amqp_types.specs.Ids.{kind}
-use Rattle.amqp_grammar.specs.Layouts.{Layout, fixed}
-use Rattle.amqp_grammar.specs.Nesting.{WireWithin, OutcomeWithin}
-use Rattle.amqp_types.specs.Inputs.{IsBytes}
-use Rattle.amqp_grammar.specs.Outcomes.{Reading, found, more, unknown, malformed, length_field, counted, lack, lack_of, frame_lack, NeedsMoreOr, FrontBy}
-use Rattle.amqp_grammar.specs.Readings.{StillWaits, with_more}
-use Rattle.amqp_grammar.specs.Decode.{outcome_by, meaning, outcome}
-use Rattle.amqp_grammar.proofs.GrammarLaws.{outcome_holds, outcome_is, within_holds, one_outcome_within, front_within, wire_found_within, malformed_append, unknown_append, deep_enough}
-use Rattle.amqp_parsing.specs.declared.errors.Err.TheVariants.{Error}
-use Rattle.amqp_parsing.specs.declared.errors.ErrorKind.{ErrorKind}
-use Rattle.amqp_parsing.specs.declared.errors.ErrorKind.TheVariants.{MapOpt, MapRes, Eof, OutOfMemory, TooLarge}
-use Rattle.amqp_parsing.specs.declared.limits.Limits.{Limits}
-use Rattle.amqp_parsing.specs.Headers.{extent_of, raw_extent, extent_at, extent, wanted}
-use Rattle.amqp_parsing.specs.ParseResults.{HasOneOutcome}
-use Rattle.amqp_parsing.specs.Limits.{Within, RefusesWithin, HasOneOutcomeWithin, KeepsOutcomeWithin, LawsWithin}
-use Rattle.amqp_parsing.proofs.Again.{wire_extent, reads_back}
-use Rattle.amqp_parsing.proofs.Waits.{more_wanted, wanted_more, wanted-append, extent-append}
+use Rattle.amqp_value_core.specs.declared.types.amqp_type.AMQPType.{AMQPType}
+use Rattle.amqp_value_core.specs.Ids.{kind}
+use Rattle.amqp_value_core.specs.Layouts.{Layout, fixed}
+use Rattle.amqp_value_core.specs.Nesting.{WireWithin, OutcomeWithin}
+use Rattle.amqp_value_core.specs.Inputs.{IsBytes}
+use Rattle.amqp_value_core.specs.Outcomes.{Reading, found, more, unknown, malformed, length_field, counted, lack, lack_of, frame_lack, NeedsMoreOr, FrontBy}
+use Rattle.amqp_value_core.specs.Readings.{StillWaits, with_more}
+use Rattle.amqp_value_core.specs.Decode.{outcome_by, meaning, outcome}
+use Rattle.amqp_value_core.proofs.GrammarLaws.{outcome_holds, outcome_is, within_holds, one_outcome_within, front_within, wire_found_within, malformed_append, unknown_append, deep_enough}
+use Rattle.amq_protocol_types.specs.declared.parsing.errors.Err.TheVariants.{Error}
+use Rattle.amq_protocol_types.specs.declared.parsing.errors.ErrorKind.{ErrorKind}
+use Rattle.amq_protocol_types.specs.declared.parsing.errors.ErrorKind.TheVariants.{MapOpt, MapRes, Eof, OutOfMemory, TooLarge}
+use Rattle.amq_protocol_types.specs.declared.parsing.limits.Limits.{Limits}
+use Rattle.amq_protocol_types.specs.parsing.Headers.{extent_of, raw_extent, extent_at, extent, wanted}
+use Rattle.amq_protocol_types.specs.parsing.ParseResults.{HasOneOutcome}
+use Rattle.amq_protocol_types.specs.parsing.Limits.{Within, RefusesWithin, HasOneOutcomeWithin, KeepsOutcomeWithin, LawsWithin}
+use Rattle.amq_protocol_types.proofs.lemmas.parsing.Again.{wire_extent, reads_back}
+use Rattle.amq_protocol_types.proofs.lemmas.parsing.Waits.{more_wanted, wanted_more, wanted-append, extent-append}
 
 -- more bytes don't make an extent smaller
 raw_extent-le : (o : Option Layout) (w : Width) (b t : List ℕ) → extent_of o w b ≤ extent_of o w (b ++ t)

@@ -1,17 +1,17 @@
 -- The body of an array, as it is read: the values so far, and what is left.
 use Rattle.std.proofs.Common.{◌≡◌, ◌<◌, ◌≤◌, ℕ, List, [], ◌∷◌, ◌++◌, length, refl, sym, ap, subst, arith, length-append}
 use Rattle.std.proofs.lemmas.List.{nil_from_length}
-use Rattle.amqp_grammar.specs.Values.{Tree, Trees, no_trees, tree, trees_of}
-use Rattle.amqp_grammar.specs.Grammar.{Wire, wire, ArrayBody, no_values, value}
-use Rattle.amqp_grammar.specs.Nesting.{body_nesting, BodyWithin, OutcomeWithin}
-use Rattle.amqp_grammar.specs.Outcomes.{Reading, found, more, unknown, malformed, Heavy}
-use Rattle.amqp_grammar.proofs.GrammarLaws.{one_reading, one_outcome_within, wire_found_within, front_within}
-use Rattle.amqp_parsing.specs.declared.errors.Err.TheVariants.{Incomplete, Error, Failure}
-use Rattle.amqp_parsing.specs.declared.errors.Needed.TheVariants.{Unknown, Size}
-use Rattle.amqp_parsing.specs.declared.errors.ErrorKind.TheVariants.{MapOpt, MapRes, Eof, OutOfMemory, TooLarge}
-use Rattle.amqp_parsing.specs.Refusals.{Refusal, inside}
-use Rattle.amqp_parsing.specs.ParseResults.{Refuses}
-use Rattle.amqp_parsing.specs.Bodies.{IsNoBody}
+use Rattle.amqp_value_core.specs.Values.{Tree, Trees, no_trees, tree, trees_of}
+use Rattle.amqp_value_core.specs.Grammar.{Wire, wire, ArrayBody, no_values, value}
+use Rattle.amqp_value_core.specs.Nesting.{body_nesting, BodyWithin, OutcomeWithin}
+use Rattle.amqp_value_core.specs.Outcomes.{Reading, found, more, unknown, malformed, Heavy}
+use Rattle.amqp_value_core.proofs.GrammarLaws.{one_reading, one_outcome_within, wire_found_within, front_within}
+use Rattle.amq_protocol_types.specs.declared.parsing.errors.Err.TheVariants.{Incomplete, Error, Failure}
+use Rattle.amq_protocol_types.specs.declared.parsing.errors.Needed.TheVariants.{Unknown, Size}
+use Rattle.amq_protocol_types.specs.declared.parsing.errors.ErrorKind.TheVariants.{MapOpt, MapRes, Eof, OutOfMemory, TooLarge}
+use Rattle.amq_protocol_types.specs.parsing.Refusals.{Refusal, inside}
+use Rattle.amq_protocol_types.specs.parsing.ParseResults.{Refuses}
+use Rattle.amq_protocol_types.specs.parsing.Bodies.{IsNoBody}
 
 -- the values of a list, and others after them
 abbrev pub behind : List Tree → Trees → Trees

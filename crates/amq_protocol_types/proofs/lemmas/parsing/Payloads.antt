@@ -3,15 +3,15 @@ use Rattle.std.proofs.Common.{◌≡◌, ◌<◌, ◌^◌, ℕ, zero, suc, List,
 use Rattle.std.specs.Prelude.{not}
 use Rattle.std.specs.Int.{Width, w8, w16, w32, w64, byte_len, to_be_bytes, from_be_bytes, cast_signed, cast_unsigned}
 use Rattle.std.proofs.lemmas.Nat.{from_be_bytes-to_be_bytes_2, from_be_bytes-to_be_bytes_4, from_be_bytes-to_be_bytes_8}
-use Rattle.amqp_types.specs.declared.amqp_type.AMQPType.{AMQPType}
-use Rattle.amqp_types.specs.declared.amqp_type.AMQPType.TheVariants as amqp
-use Rattle.amqp_grammar.specs.Values.{Tree, Scalar, boolean, number, decimal, void, scalar}
-use Rattle.amqp_grammar.specs.Layouts.{Layout, fixed, truth, whole_number}
-use Rattle.amqp_grammar.specs.Grammar.{Raw, raw_fixed}
-use Rattle.amqp_grammar.specs.Outcomes.{Reading, found, more, unknown, malformed, lack, NeedsMoreOr}
-use Rattle.amqp_grammar.specs.Payloads.{RawFront, RawOutcome}
-use Rattle.amqp_grammar.proofs.GrammarLaws.{raw_found}
-use Rattle.amqp_parsing.specs.PayloadResults.{IsNumberRead}
+use Rattle.amqp_value_core.specs.declared.types.amqp_type.AMQPType.{AMQPType}
+use Rattle.amqp_value_core.specs.declared.types.amqp_type.AMQPType.TheVariants as amqp
+use Rattle.amqp_value_core.specs.Values.{Tree, Scalar, boolean, number, decimal, void, scalar}
+use Rattle.amqp_value_core.specs.Layouts.{Layout, fixed, truth, whole_number}
+use Rattle.amqp_value_core.specs.Grammar.{Raw, raw_fixed}
+use Rattle.amqp_value_core.specs.Outcomes.{Reading, found, more, unknown, malformed, lack, NeedsMoreOr}
+use Rattle.amqp_value_core.specs.Payloads.{RawFront, RawOutcome}
+use Rattle.amqp_value_core.proofs.GrammarLaws.{raw_found}
+use Rattle.amq_protocol_types.specs.parsing.PayloadResults.{IsNumberRead}
 
 -- a payload of fixed width at the start is read
 pub fixed_found : (type : AMQPType) (f : Layout) (s b rest : List ℕ) → fixed type ≡ Some f → length b ≡ f.width → s ≡ b ++ rest

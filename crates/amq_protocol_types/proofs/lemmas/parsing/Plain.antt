@@ -1,21 +1,21 @@
 -- Payloads that are no container, and results without a limit.
 use Rattle.std.proofs.Common.{◌≡◌, ◌≢◌, ℕ, List, length, Result, Ok, Err, MatchResult, refl, subst, arith}
-use Rattle.amqp_types.specs.declared.amqp_type.AMQPType.{AMQPType}
-use Rattle.amqp_types.specs.declared.amqp_type.AMQPType.TheVariants as amqp
+use Rattle.amqp_value_core.specs.declared.types.amqp_type.AMQPType.{AMQPType}
+use Rattle.amqp_value_core.specs.declared.types.amqp_type.AMQPType.TheVariants as amqp
 use Rattle.amqp_value_core.specs.declared.value.AMQPValue.{AMQPValue}
-use Rattle.amqp_grammar.specs.Values.{Tree}
-use Rattle.amqp_grammar.specs.Grammar.{Raw, raw_fixed, raw_short, raw_long, raw_octets, raw_array, raw_table}
-use Rattle.amqp_grammar.specs.Nesting.{raw_nesting, RawWithin, RawOutcomeWithin}
+use Rattle.amqp_value_core.specs.Values.{Tree}
+use Rattle.amqp_value_core.specs.Grammar.{Raw, raw_fixed, raw_short, raw_long, raw_octets, raw_array, raw_table}
+use Rattle.amqp_value_core.specs.Nesting.{raw_nesting, RawWithin, RawOutcomeWithin}
 use Rattle.amqp_value_core.specs.View.{view}
-use Rattle.amqp_grammar.specs.Outcomes.{Reading, found, RawHeavy}
-use Rattle.amqp_grammar.specs.Payloads.{RawOutcome}
-use Rattle.amqp_grammar.proofs.GrammarLaws.{raw_outcome_same, raw_unlimited}
-use Rattle.amqp_parsing.specs.declared.errors.ErrorKind.TheVariants.{Eof}
-use Rattle.amqp_parsing.specs.Refusals.{Refusal}
-use Rattle.amqp_parsing.specs.ParseResults.{Refuses}
-use Rattle.amqp_parsing.specs.PayloadResults.{OnlyLacks, bad_kind, RawRefuses}
-use Rattle.amqp_parsing.proofs.Payloads.{unsigned_outcome}
-use Rattle.amqp_parsing.proofs.Refused.{Refuses-weaker, OnlyLacks-refuses, raw_refused}
+use Rattle.amqp_value_core.specs.Outcomes.{Reading, found, RawHeavy}
+use Rattle.amqp_value_core.specs.Payloads.{RawOutcome}
+use Rattle.amqp_value_core.proofs.GrammarLaws.{raw_outcome_same, raw_unlimited}
+use Rattle.amq_protocol_types.specs.declared.parsing.errors.ErrorKind.TheVariants.{Eof}
+use Rattle.amq_protocol_types.specs.parsing.Refusals.{Refusal}
+use Rattle.amq_protocol_types.specs.parsing.ParseResults.{Refuses}
+use Rattle.amq_protocol_types.specs.parsing.PayloadResults.{OnlyLacks, bad_kind, RawRefuses}
+use Rattle.amq_protocol_types.proofs.lemmas.parsing.Payloads.{unsigned_outcome}
+use Rattle.amq_protocol_types.proofs.lemmas.parsing.Refused.{Refuses-weaker, OnlyLacks-refuses, raw_refused}
 
 -- no container, so nothing nests
 flat : (type : AMQPType) (b : List ℕ) (v : Tree) (p : Raw type b v) → type ≢ amqp.FieldArray → type ≢ amqp.FieldTable → raw_nesting type b v p ≡ 0

@@ -1,15 +1,15 @@
 -- Rejections: what is right of a part is right of all.
 use Rattle.std.proofs.Common.{◌≡◌, ℕ, zero, suc, List, sym}
-use Rattle.amqp_types.specs.declared.amqp_type.AMQPType.{AMQPType}
-use Rattle.amqp_grammar.specs.Outcomes.{Reading, more, unknown, malformed, lack, NeedsMoreOr, RawHeavy}
-use Rattle.amqp_grammar.specs.Payloads.{RawFront, RawOutcome}
-use Rattle.amqp_parsing.specs.declared.errors.Err.TheVariants.{Incomplete, Error, Failure}
-use Rattle.amqp_parsing.specs.declared.errors.Needed.TheVariants.{Unknown, Size}
-use Rattle.amqp_parsing.specs.declared.errors.ErrorKind.{ErrorKind}
-use Rattle.amqp_parsing.specs.declared.errors.ErrorKind.TheVariants.{MapOpt, MapRes, Eof, OutOfMemory, TooLarge}
-use Rattle.amqp_parsing.specs.Refusals.{Refusal}
-use Rattle.amqp_parsing.specs.ParseResults.{RightKind, Refuses}
-use Rattle.amqp_parsing.specs.PayloadResults.{OnlyLacks, bad_kind, RawRefuses}
+use Rattle.amqp_value_core.specs.declared.types.amqp_type.AMQPType.{AMQPType}
+use Rattle.amqp_value_core.specs.Outcomes.{Reading, more, unknown, malformed, lack, NeedsMoreOr, RawHeavy}
+use Rattle.amqp_value_core.specs.Payloads.{RawFront, RawOutcome}
+use Rattle.amq_protocol_types.specs.declared.parsing.errors.Err.TheVariants.{Incomplete, Error, Failure}
+use Rattle.amq_protocol_types.specs.declared.parsing.errors.Needed.TheVariants.{Unknown, Size}
+use Rattle.amq_protocol_types.specs.declared.parsing.errors.ErrorKind.{ErrorKind}
+use Rattle.amq_protocol_types.specs.declared.parsing.errors.ErrorKind.TheVariants.{MapOpt, MapRes, Eof, OutOfMemory, TooLarge}
+use Rattle.amq_protocol_types.specs.parsing.Refusals.{Refusal}
+use Rattle.amq_protocol_types.specs.parsing.ParseResults.{RightKind, Refuses}
+use Rattle.amq_protocol_types.specs.parsing.PayloadResults.{OnlyLacks, bad_kind, RawRefuses}
 
 -- a kind stays right if what is read stays right
 RightKind-weaker : (Is Now : Reading → Type 0) (k : ErrorKind) → ((o : Reading) → Is o → Now o) → RightKind Is k → RightKind Now k

@@ -1,22 +1,22 @@
 -- The body of a table, as it is read: the entries so far, and what is left.
 use Rattle.std.proofs.Common.{◌≡◌, ◌<◌, ◌≤◌, ℕ, zero, suc, List, ◌++◌, length, refl, sym, ◌∙◌, ap, subst, arith, length-append}
 use Rattle.std.proofs.lemmas.List.{nil_from_length}
-use Rattle.amqp_types.specs.declared.amqp_type.AMQPType.TheVariants as amqp
-use Rattle.amqp_grammar.specs.Values.{Tree, short, Entries, no_entries, entry, insert, insert_all}
-use Rattle.amqp_types.specs.Strings.{IsShort}
-use Rattle.amqp_grammar.specs.Grammar.{short_field, Wire, Raw, raw_short, TableBody, no_pairs, pair}
-use Rattle.amqp_grammar.specs.Nesting.{pairs_nesting, PairsWithin, OutcomeWithin}
-use Rattle.amqp_grammar.specs.Outcomes.{Reading, found, more, unknown, malformed, lack, NeedsMoreOr, Heavy}
-use Rattle.amqp_grammar.specs.Payloads.{RawFront, RawOutcome}
-use Rattle.amqp_grammar.proofs.GrammarLaws.{one_reading, one_raw_reading, one_outcome_within, one_raw_outcome, raw_found, wire_found_within, front_within}
-use Rattle.amqp_parsing.specs.declared.errors.Err.TheVariants.{Incomplete, Error, Failure}
-use Rattle.amqp_parsing.specs.declared.errors.Needed.TheVariants.{Unknown, Size}
-use Rattle.amqp_parsing.specs.declared.errors.ErrorKind.TheVariants.{MapOpt, MapRes, Eof, OutOfMemory, TooLarge}
-use Rattle.amqp_parsing.specs.Refusals.{Refusal, inside}
-use Rattle.amqp_parsing.specs.ParseResults.{Refuses}
-use Rattle.amqp_parsing.specs.PayloadResults.{RawRefuses}
-use Rattle.amqp_parsing.specs.Bodies.{IsTable, IsNoTable}
-use Rattle.amqp_parsing.proofs.Bodies.{rest_shorter}
+use Rattle.amqp_value_core.specs.declared.types.amqp_type.AMQPType.TheVariants as amqp
+use Rattle.amqp_value_core.specs.Values.{Tree, short, Entries, no_entries, entry, insert, insert_all}
+use Rattle.amqp_value_core.specs.Strings.{IsShort}
+use Rattle.amqp_value_core.specs.Grammar.{short_field, Wire, Raw, raw_short, TableBody, no_pairs, pair}
+use Rattle.amqp_value_core.specs.Nesting.{pairs_nesting, PairsWithin, OutcomeWithin}
+use Rattle.amqp_value_core.specs.Outcomes.{Reading, found, more, unknown, malformed, lack, NeedsMoreOr, Heavy}
+use Rattle.amqp_value_core.specs.Payloads.{RawFront, RawOutcome}
+use Rattle.amqp_value_core.proofs.GrammarLaws.{one_reading, one_raw_reading, one_outcome_within, one_raw_outcome, raw_found, wire_found_within, front_within}
+use Rattle.amq_protocol_types.specs.declared.parsing.errors.Err.TheVariants.{Incomplete, Error, Failure}
+use Rattle.amq_protocol_types.specs.declared.parsing.errors.Needed.TheVariants.{Unknown, Size}
+use Rattle.amq_protocol_types.specs.declared.parsing.errors.ErrorKind.TheVariants.{MapOpt, MapRes, Eof, OutOfMemory, TooLarge}
+use Rattle.amq_protocol_types.specs.parsing.Refusals.{Refusal, inside}
+use Rattle.amq_protocol_types.specs.parsing.ParseResults.{Refuses}
+use Rattle.amq_protocol_types.specs.parsing.PayloadResults.{RawRefuses}
+use Rattle.amq_protocol_types.specs.parsing.Bodies.{IsTable, IsNoTable}
+use Rattle.amq_protocol_types.proofs.lemmas.parsing.Bodies.{rest_shorter}
 
 -- es are the entries of what was read of the body s, and `rest` is left
 pub record Walks (d : ℕ) (s : List ℕ) (es : Entries) (rest : List ℕ) : Type 0 where

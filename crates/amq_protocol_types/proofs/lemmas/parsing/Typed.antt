@@ -1,19 +1,19 @@
 -- A value after its type tag.
 use Rattle.std.proofs.Common.{◌-◌, arith, length, IfOk, ◌≡◌, ℕ, Bool, true, false, cond, List, [], ◌∷◌, Some, Result, Ok, Err, MatchResult, nat_eq, sym, subst, rules}
 use Rattle.std.specs.Map.{lookup}
-use Rattle.amqp_types.specs.declared.amqp_type.AMQPType.{AMQPType}
+use Rattle.amqp_value_core.specs.declared.types.amqp_type.AMQPType.{AMQPType}
 use Rattle.amqp_value_core.specs.declared.value.AMQPValue.{AMQPValue}
-use Rattle.amqp_types.specs.Ids.{letters, kind}
+use Rattle.amqp_value_core.specs.Ids.{letters, kind}
 use Rattle.amqp_value_core.specs.View.{view}
-use Rattle.amqp_grammar.specs.Outcomes.{Reading, found, Outcome, RawHeavy, Heavy}
-use Rattle.amqp_grammar.specs.Nesting.{OutcomeWithin, RawOutcomeWithin}
-use Rattle.amqp_grammar.specs.Headline.{IsWritableIn}
-use Rattle.amqp_grammar.proofs.GrammarLaws.{raw_to_value_within, raw_to_heavy, bounded_found, unlimited}
-use Rattle.amqp_parsing.specs.declared.errors.ErrorKind.TheVariants.{Eof}
-use Rattle.amqp_parsing.specs.Refusals.{Refusal}
-use Rattle.amqp_parsing.specs.PayloadResults.{IsType, bad_kind}
-use Rattle.amqp_parsing.specs.ParseResults.{Refuses}
-use Rattle.amqp_parsing.proofs.Refused.{Refuses-weaker}
+use Rattle.amqp_value_core.specs.Outcomes.{Reading, found, Outcome, RawHeavy, Heavy}
+use Rattle.amqp_value_core.specs.Nesting.{OutcomeWithin, RawOutcomeWithin}
+use Rattle.amqp_value_core.specs.Headline.{IsWritableIn}
+use Rattle.amqp_value_core.proofs.GrammarLaws.{raw_to_value_within, raw_to_heavy, bounded_found, unlimited}
+use Rattle.amq_protocol_types.specs.declared.parsing.errors.ErrorKind.TheVariants.{Eof}
+use Rattle.amq_protocol_types.specs.parsing.Refusals.{Refusal}
+use Rattle.amq_protocol_types.specs.parsing.PayloadResults.{IsType, bad_kind}
+use Rattle.amq_protocol_types.specs.parsing.ParseResults.{Refuses}
+use Rattle.amq_protocol_types.proofs.lemmas.parsing.Refused.{Refuses-weaker}
 
 -- no type that is read is a short string
 abbrev AreEof : List (ℕ × AMQPType) → Type 0

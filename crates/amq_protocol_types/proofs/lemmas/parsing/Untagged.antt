@@ -1,24 +1,24 @@
 -- Arrays and tables without their type tag, within limits: what their parsers return.
 use Rattle.std.proofs.Common.{◌≡◌, ◌<◌, ◌≤◌, ◌∙◌, ℕ, zero, suc, List, ◌∷◌, ◌++◌, Option, Some, Result, Ok, Err, MatchResult, sym, ap, subst, arith}
 use Rattle.std.specs.Prelude.{MatchOption}
-use Rattle.amqp_types.specs.declared.amqp_type.AMQPType.{AMQPType}
-use Rattle.amqp_types.specs.Ids.{kind, id_of}
-use Rattle.amqp_grammar.specs.Values.{Tree}
-use Rattle.amqp_grammar.specs.Texts.{payload}
-use Rattle.amqp_grammar.specs.Grammar.{Wire, wire}
-use Rattle.amqp_grammar.specs.Nesting.{nesting, WireWithin, RawWithin, OutcomeWithin, RawOutcomeWithin}
-use Rattle.amqp_grammar.specs.Outcomes.{Reading, found, more, unknown, malformed, lack, NeedsMoreOr, FrontBy, RawHeavy, Heavy}
-use Rattle.amqp_grammar.proofs.GrammarLaws.{raw_to_value_within, raw_to_heavy}
-use Rattle.amqp_parsing.specs.declared.errors.Err.TheVariants.{Incomplete, Error, Failure}
-use Rattle.amqp_parsing.specs.declared.errors.ErrorKind.TheVariants.{MapOpt, MapRes, Eof, OutOfMemory, TooLarge}
-use Rattle.amqp_parsing.specs.declared.limits.Limits.{Limits}
-use Rattle.amqp_parsing.specs.Refusals.{Refusal}
-use Rattle.amqp_parsing.specs.ParseResults.{Refuses}
-use Rattle.amqp_parsing.specs.Headers.{raw_extent, extent_at, extent}
-use Rattle.amqp_parsing.specs.Limits.{RefusesWithin}
-use Rattle.amqp_parsing.specs.Untagged.{tagged, UntaggedWithin, RefusesUntagged, IsPayloadWithin, ReadsPayloadsBack}
-use Rattle.amqp_parsing.proofs.Again.{reads_back}
-use Rattle.amqp_parsing.proofs.Refused.{Refuses-weaker}
+use Rattle.amqp_value_core.specs.declared.types.amqp_type.AMQPType.{AMQPType}
+use Rattle.amqp_value_core.specs.Ids.{kind, id_of}
+use Rattle.amqp_value_core.specs.Values.{Tree}
+use Rattle.amqp_value_core.specs.Texts.{payload}
+use Rattle.amqp_value_core.specs.Grammar.{Wire, wire}
+use Rattle.amqp_value_core.specs.Nesting.{nesting, WireWithin, RawWithin, OutcomeWithin, RawOutcomeWithin}
+use Rattle.amqp_value_core.specs.Outcomes.{Reading, found, more, unknown, malformed, lack, NeedsMoreOr, FrontBy, RawHeavy, Heavy}
+use Rattle.amqp_value_core.proofs.GrammarLaws.{raw_to_value_within, raw_to_heavy}
+use Rattle.amq_protocol_types.specs.declared.parsing.errors.Err.TheVariants.{Incomplete, Error, Failure}
+use Rattle.amq_protocol_types.specs.declared.parsing.errors.ErrorKind.TheVariants.{MapOpt, MapRes, Eof, OutOfMemory, TooLarge}
+use Rattle.amq_protocol_types.specs.declared.parsing.limits.Limits.{Limits}
+use Rattle.amq_protocol_types.specs.parsing.Refusals.{Refusal}
+use Rattle.amq_protocol_types.specs.parsing.ParseResults.{Refuses}
+use Rattle.amq_protocol_types.specs.parsing.Headers.{raw_extent, extent_at, extent}
+use Rattle.amq_protocol_types.specs.parsing.Limits.{RefusesWithin}
+use Rattle.amq_protocol_types.specs.parsing.Untagged.{tagged, UntaggedWithin, RefusesUntagged, IsPayloadWithin, ReadsPayloadsBack}
+use Rattle.amq_protocol_types.proofs.lemmas.parsing.Again.{reads_back}
+use Rattle.amq_protocol_types.proofs.lemmas.parsing.Refused.{Refuses-weaker}
 
 -- ---- from a value to its payload
 

@@ -3,7 +3,7 @@ use Rattle.std.proofs.Common.{◌≡◌, sym, ap, ◌∙◌}
 use Rattle.amqp_value_core.specs.declared.value.AMQPValue.TheVariants.{Void, rolls-Void}
 use Rattle.amqp_value_core.specs.declared.value.AMQPValue.TheOpen.{AMQPValue-F}
 use Rattle.amqp_value_core.specs.declared.value.AMQPValue.TheFolds.{fold-roll-AMQPValue}
-use Rattle.amqp_grammar.specs.Values.{Tree, Trees, Entries, scalar, void}
+use Rattle.amqp_value_core.specs.Values.{Tree, Trees, Entries, scalar, void}
 use Rattle.amqp_value_core.specs.View.{view, view_step, array_step, table_step}
 
 -- nothing, as a tree

@@ -1,20 +1,20 @@
 -- What is missing of a value that hasn't all come, as more of it comes.
 use Rattle.std.proofs.Common.{◌≡◌, ◌<◌, ◌≤◌, ◌+◌, ◌-◌, ℕ, zero, suc, List, [], ◌∷◌, ◌++◌, length, take, Option, Some, None, MatchOption, refl, ap, ap₂, ◌∙◌, subst, arith, inl, inr, length-append}
 use Rattle.std.specs.Option.{IfSome}
-use Rattle.amqp_types.specs.declared.amqp_type.AMQPType.TheVariants as amqp
+use Rattle.amqp_value_core.specs.declared.types.amqp_type.AMQPType.TheVariants as amqp
 use Rattle.std.specs.Int.{Width, byte_len}
 use Rattle.std.proofs.lemmas.Bool.{cases_lt, lt-ltb, le-ltb}
 use Rattle.std.proofs.lemmas.List.{take-append-le, take_at, drop_at, nil_from_length, length-take-le, append-nil}
-use Rattle.amqp_types.specs.declared.amqp_type.AMQPType.{AMQPType}
-use Rattle.amqp_grammar.specs.Values.{Tree}
-use Rattle.amqp_types.specs.Ids.{kind}
-use Rattle.amqp_grammar.specs.Layouts.{Layout, fixed}
-use Rattle.amqp_grammar.specs.Grammar.{Wire}
-use Rattle.amqp_grammar.specs.Nesting.{OutcomeWithin}
-use Rattle.amqp_grammar.specs.Outcomes.{found, more, unknown, length_field, counted, frame_lack, fields_lack, lack_of, lack, NeedsMoreOr, FrontBy, OutcomeBy, Outcome}
-use Rattle.amqp_grammar.specs.Readings.{Front}
-use Rattle.amqp_grammar.proofs.GrammarLaws.{more_bytes, wire_found, front_within}
-use Rattle.amqp_parsing.specs.Headers.{extent_of, extent_at, extent, wanted_at, wanted, IsWaiting}
+use Rattle.amqp_value_core.specs.declared.types.amqp_type.AMQPType.{AMQPType}
+use Rattle.amqp_value_core.specs.Values.{Tree}
+use Rattle.amqp_value_core.specs.Ids.{kind}
+use Rattle.amqp_value_core.specs.Layouts.{Layout, fixed}
+use Rattle.amqp_value_core.specs.Grammar.{Wire}
+use Rattle.amqp_value_core.specs.Nesting.{OutcomeWithin}
+use Rattle.amqp_value_core.specs.Outcomes.{found, more, unknown, length_field, counted, frame_lack, fields_lack, lack_of, lack, NeedsMoreOr, FrontBy, OutcomeBy, Outcome}
+use Rattle.amqp_value_core.specs.Readings.{Front}
+use Rattle.amqp_value_core.proofs.GrammarLaws.{more_bytes, wire_found, front_within}
+use Rattle.amq_protocol_types.specs.parsing.Headers.{extent_of, extent_at, extent, wanted_at, wanted, IsWaiting}
 use lib.Seq.{take-add}
 
 -- ---- what is missing, and the outcome

@@ -1,16 +1,16 @@
 -- When the bytes of the value at the start are all there.
 use Rattle.std.proofs.Common.{◌≡◌, ◌<◌, ◌≤◌, ℕ, zero, suc, List, [], ◌∷◌, Option, Some, None, refl, arith}
 use Rattle.std.specs.Prelude.{MatchOption}
-use Rattle.amqp_types.specs.declared.amqp_type.AMQPType.{AMQPType}
-use Rattle.amqp_types.specs.Ids.{kind}
-use Rattle.amqp_grammar.specs.Values.{Tree}
-use Rattle.amqp_grammar.specs.Outcomes.{found, unknown, lack, NeedsMoreOr, FrontBy, OutcomeBy, RawHeavy, Heavy}
-use Rattle.amqp_grammar.specs.Nesting.{WireWithin}
-use Rattle.amqp_parsing.specs.declared.errors.Err.TheVariants.{Failure}
-use Rattle.amqp_parsing.specs.declared.errors.ErrorKind.{ErrorKind}
-use Rattle.amqp_parsing.specs.declared.limits.Limits.{Limits}
-use Rattle.amqp_parsing.specs.Headers.{extent_at, extent, wanted_at, IsWhole}
-use Rattle.amqp_parsing.specs.Limits.{Within, RefusesWithin}
+use Rattle.amqp_value_core.specs.declared.types.amqp_type.AMQPType.{AMQPType}
+use Rattle.amqp_value_core.specs.Ids.{kind}
+use Rattle.amqp_value_core.specs.Values.{Tree}
+use Rattle.amqp_value_core.specs.Outcomes.{found, unknown, lack, NeedsMoreOr, FrontBy, OutcomeBy, RawHeavy, Heavy}
+use Rattle.amqp_value_core.specs.Nesting.{WireWithin}
+use Rattle.amq_protocol_types.specs.declared.parsing.errors.Err.TheVariants.{Failure}
+use Rattle.amq_protocol_types.specs.declared.parsing.errors.ErrorKind.{ErrorKind}
+use Rattle.amq_protocol_types.specs.declared.parsing.limits.Limits.{Limits}
+use Rattle.amq_protocol_types.specs.parsing.Headers.{extent_at, extent, wanted_at, IsWhole}
+use Rattle.amq_protocol_types.specs.parsing.Limits.{Within, RefusesWithin}
 
 -- they are if a value is read
 pub found_whole : (P : List ℕ → Tree → Type 0) (s rest : List ℕ) (v : Tree) → OutcomeBy P s (found v rest) → IsWhole s

@@ -1,10 +1,10 @@
 -- Calls of a source, joined.
 use Rattle.std.proofs.Common.{◌≡◌, Result, Ok, Err, sym, subst}
 use Rattle.std.specs.declared.io.ErrorKind.{ErrorKind}
-use Rattle.amqp_stream.specs.declared.error.StreamError.{StreamError}
-use Rattle.amqp_stream.specs.declared.error.StreamError.TheVariants as stream
-use Rattle.amqp_stream.specs.Sources.{Reaches, KeepsKind, IsNoRead}
-use Rattle.amqp_stream.specs.Sources.Reaches.{here, there}
+use Rattle.amq_protocol_types.specs.declared.stream.error.StreamError.{StreamError}
+use Rattle.amq_protocol_types.specs.declared.stream.error.StreamError.TheVariants as stream
+use Rattle.amq_protocol_types.specs.stream.Sources.{Reaches, KeepsKind, IsNoRead}
+use Rattle.amq_protocol_types.specs.stream.Sources.Reaches.{here, there}
 
 -- calls, and then further ones
 pub reaches_on : {S : Type 0} (goes : S → S → Type 0) (a b c : S) → Reaches goes a b → Reaches goes b c → Reaches goes a c

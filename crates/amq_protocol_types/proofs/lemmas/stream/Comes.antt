@@ -3,12 +3,12 @@ use Rattle.std.proofs.Common.{◌≡◌, ◌≤◌, ℕ, Bool, List, ◌++◌, l
 use Rattle.std.specs.Result.{IfErr}
 use Rattle.std.specs.Io.KnownBytes.{Consumes}
 use Rattle.std.proofs.KnownBytes.{Consumes-trans}
-use Rattle.amqp_stream.specs.declared.error.StreamError.{StreamError}
+use Rattle.amq_protocol_types.specs.declared.stream.error.StreamError.{StreamError}
 use Rattle.amqp_value_core.specs.declared.value.AMQPValue.{AMQPValue}
-use Rattle.amqp_parsing.specs.declared.limits.Limits.{Limits}
-use Rattle.amqp_stream.specs.Readers.{Answers}
-use Rattle.amqp_parsing.specs.Headers.{extent, wanted, IsWaiting}
-use Rattle.amqp_parsing.proofs.ParsingLaws.{waits_more}
+use Rattle.amq_protocol_types.specs.declared.parsing.limits.Limits.{Limits}
+use Rattle.amq_protocol_types.specs.stream.Readers.{Answers}
+use Rattle.amq_protocol_types.specs.parsing.Headers.{extent, wanted, IsWaiting}
+use Rattle.amq_protocol_types.proofs.ParsingLaws.{waits_more}
 
 -- one read of at most as many bytes as are missing leaves all waiting
 pub filled_waits : (frame : ℕ) (s now : List ℕ) (most : ℕ) (r : Result ℕ StreamError) (C : List ℕ → Type 0) (E : StreamError → Type 0) (K : Type 0)

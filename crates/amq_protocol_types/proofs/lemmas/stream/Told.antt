@@ -4,16 +4,16 @@ use Rattle.std.specs.Option.{IfSome}
 use Rattle.std.specs.Io.KnownBytes.{Consumes}
 use Rattle.amqp_value_core.specs.declared.value.AMQPValue.{AMQPValue}
 use Rattle.amqp_value_core.specs.View.{view}
-use Rattle.amqp_grammar.specs.Nesting.{WireWithin}
-use Rattle.amqp_grammar.specs.Values.{Tree}
-use Rattle.amqp_grammar.specs.Outcomes.{found, more}
-use Rattle.amqp_grammar.proofs.GrammarLaws.{wire_found_within}
-use Rattle.amqp_stream.specs.declared.error.StreamError.{StreamError}
-use Rattle.amqp_stream.specs.declared.error.StreamError.TheVariants as stream
-use Rattle.amqp_parsing.specs.declared.limits.Limits.{Limits}
-use Rattle.amqp_parsing.specs.Limits.{Within}
-use Rattle.amqp_stream.specs.Readers.{Answers, AnswersAll}
-use Rattle.amqp_parsing.proofs.ParsingLaws.{wire_extent, refused_append}
+use Rattle.amqp_value_core.specs.Nesting.{WireWithin}
+use Rattle.amqp_value_core.specs.Values.{Tree}
+use Rattle.amqp_value_core.specs.Outcomes.{found, more}
+use Rattle.amqp_value_core.proofs.GrammarLaws.{wire_found_within}
+use Rattle.amq_protocol_types.specs.declared.stream.error.StreamError.{StreamError}
+use Rattle.amq_protocol_types.specs.declared.stream.error.StreamError.TheVariants as stream
+use Rattle.amq_protocol_types.specs.declared.parsing.limits.Limits.{Limits}
+use Rattle.amq_protocol_types.specs.parsing.Limits.{Within}
+use Rattle.amq_protocol_types.specs.stream.Readers.{Answers, AnswersAll}
+use Rattle.amq_protocol_types.proofs.ParsingLaws.{wire_extent, refused_append}
 
 -- a value whose encoding came is read of that and more
 wire_told : (l : Limits) (s t : List ℕ) (v : Tree) → WireWithin l.depth s v → length s ≤ l.frame → Within l (s ++ t) (found v t)

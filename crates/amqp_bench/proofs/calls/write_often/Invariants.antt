@@ -1,5 +1,5 @@
 use Rattle.std.proofs.Common.{◌≡◌, ◌<◌, ◌≤◌, length}
-use Rattle.amqp_grammar.specs.Texts.{text}
+use Rattle.amqp_value_core.specs.Texts.{text}
 use Rattle.amqp_value_core.specs.View.{view}
 use Rattle.amqp_bench.proofs.calls.write_often.Given as goal
 

@@ -1,5 +1,5 @@
 use Rattle.std.proofs.Common.{List, ℕ, length, Ok, subst, sym}
-use Rattle.amqp_grammar.specs.Outcomes.{Outcome, found}
+use Rattle.amqp_value_core.specs.Outcomes.{Outcome, found}
 use Rattle.amqp_c.specs.CallResults.{GivesFirst}
 use Rattle.amqp_c.specs.Entries.{IsAtFront, Lies}
 use Rattle.amqp_c.proofs.Stepping.{front_given, tagged_placed, told_placed}

@@ -1,5 +1,5 @@
 use Rattle.std.proofs.Common.{true, false, refl}
-use Rattle.amqp_grammar.specs.Values.{boolean}
+use Rattle.amqp_value_core.specs.Values.{boolean}
 use Rattle.amqp_c.proofs.number.boolean.Goals as goal
 
 pub returns-in-0 : goal.returns-in-0

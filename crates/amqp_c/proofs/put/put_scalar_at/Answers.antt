@@ -1,5 +1,5 @@
 use Rattle.std.proofs.Common.{◌∷◌, take, ◌∙◌}
-use Rattle.amqp_grammar.specs.Values.{Scalar, scalar}
+use Rattle.amqp_value_core.specs.Values.{Scalar, scalar}
 use Rattle.amqp_c.specs.BuiltEntries.{Tells, IsScalarTag, IsTold}
 use Rattle.amqp_c.specs.Faults.{NoOther}
 use Rattle.amqp_c.proofs.Putting.{put_of, told}

@@ -1,6 +1,6 @@
 use Rattle.std.proofs.Common.{List, ℕ, sym, subst}
-use Rattle.amqp_grammar.specs.Outcomes.{Outcome, found}
-use Rattle.amqp_grammar.proofs.GrammarLaws.{front_within, wire_found}
+use Rattle.amqp_value_core.specs.Outcomes.{Outcome, found}
+use Rattle.amqp_value_core.proofs.GrammarLaws.{front_within, wire_found}
 use Rattle.amqp_c.proofs.Fronts.{value_taken}
 use Rattle.amqp_c.proofs.read.read.Goals as goal
 

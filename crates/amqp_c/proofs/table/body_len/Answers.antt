@@ -1,6 +1,6 @@
 use Rattle.std.proofs.Common.{ℕ, ◌+◌, ◌<◌, ◌≤◌, ◌^◌, length, refl, ap, ◌∙◌, subst, arith, inl, inr}
 use Rattle.std.proofs.lemmas.Result.{err_from_is_err_and}
-use Rattle.amqp_grammar.specs.Values.{no_entries}
+use Rattle.amqp_value_core.specs.Values.{no_entries}
 use Rattle.amqp_c_common.specs.declared.fault.Fault.TheVariants.{TooLarge}
 use Rattle.amqp_c.proofs.Tables.{first_fault, one_more, more_given}
 use Rattle.amqp_c.proofs.table.body_len.Goals as goal

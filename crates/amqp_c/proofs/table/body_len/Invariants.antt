@@ -1,5 +1,5 @@
 use Rattle.std.proofs.Common.{◌≡◌, take}
-use Rattle.amqp_grammar.specs.Values.{Entries}
+use Rattle.amqp_value_core.specs.Values.{Entries}
 use Rattle.amqp_c.specs.Pairs.{AreOf, body_len}
 use Rattle.amqp_c.proofs.table.body_len.Given as goal
 

@@ -1,7 +1,7 @@
 use Rattle.std.proofs.Common.{◌<◌, ◌≤◌, length, sym, refl, ◌∙◌, arith}
 use Rattle.std.proofs.lemmas.List.{take-append-drop}
 use Rattle.std.proofs.lemmas.List.Sums.{sum_by-take-le}
-use Rattle.amqp_grammar.specs.Values.{no_entries}
+use Rattle.amqp_value_core.specs.Values.{no_entries}
 use Rattle.amqp_c.specs.Pairs.{pair_len}
 use Rattle.amqp_c.proofs.Tables.{one_given, one_more_at, written_more}
 use Rattle.amqp_c.proofs.table.write_pairs.Goals as goal

@@ -1,9 +1,9 @@
 use Rattle.std.proofs.Common.{List, ℕ, length, ◌∙◌, subst}
 use Rattle.std.proofs.lemmas.Result.{err_from_is_err_and}
 use Rattle.amqp_in_place.proofs.Canonicals.{bytes_all}
-use Rattle.amqp_grammar.specs.Outcomes.{found}
-use Rattle.amqp_types.specs.Inputs.{slice_bytes}
-use Rattle.amqp_parsing.specs.Limits.{Within, RefusesWithin}
+use Rattle.amqp_value_core.specs.Outcomes.{found}
+use Rattle.amqp_value_core.specs.Inputs.{slice_bytes}
+use Rattle.amq_protocol_types.specs.parsing.Limits.{Within, RefusesWithin}
 use Rattle.amqp_value_core.specs.View.{view}
 use Rattle.amqp_c_alloc.proofs.CanonicalWritten.{put_value, put_front, none_canonical, refused_so}
 use Rattle.amqp_c_alloc.proofs.canonical.canonical.Goals as goal

@@ -1,6 +1,6 @@
 use Rattle.std.proofs.Common.{ℕ, None, sym, subst, rules, arith}
 use Rattle.std.specs.Str.{IsUtf8}
-use Rattle.amqp_types.specs.Inputs.{slice_bytes}
+use Rattle.amqp_value_core.specs.Inputs.{slice_bytes}
 use Rattle.amqp_in_place.specs.Canonicals.{CanonValues, CanonEntries, IsAbove, IsFirstSpelling}
 use Rattle.amqp_in_place.specs.Heads.{IsHead}
 use Rattle.amqp_in_place.specs.declared.head.Head.{Head}

@@ -1,6 +1,6 @@
 use Rattle.std.proofs.Common.{ℕ, ◌-◌, List, length, sym, ap, subst, arith}
-use Rattle.amqp_types.specs.Inputs.{IsBytes, slice_bytes}
-use Rattle.amqp_parsing.specs.Limits.{IsHeader}
+use Rattle.amqp_value_core.specs.Inputs.{IsBytes, slice_bytes}
+use Rattle.amq_protocol_types.specs.parsing.Limits.{IsHeader}
 use Rattle.amqp_in_place.specs.Canonicals.{CanonFront}
 use Rattle.amqp_in_place.proofs.Canonicals.{canon_len, len_front, len_header, rest_shorter}
 use Rattle.amqp_in_place.proofs.canonical.canonical_len.Goals as goal

@@ -1,10 +1,10 @@
 use Rattle.std.proofs.Common.{◌≤◌, ◌-◌, ◌+◌, ℕ, None, List, length, sym, ap, subst, arith, length-append}
-use Rattle.amqp_types.specs.declared.amqp_type.AMQPType.TheVariants as amqp
-use Rattle.amqp_types.specs.Inputs.{slice_bytes}
-use Rattle.amqp_grammar.specs.Grammar.{long_field}
-use Rattle.amqp_parsing.specs.Bodies.{IsLengthPrefixed}
-use Rattle.amqp_parsing.specs.Headers.{extent}
-use Rattle.amqp_parsing.specs.Untagged.{tagged, RefusesUntagged}
+use Rattle.amqp_value_core.specs.declared.types.amqp_type.AMQPType.TheVariants as amqp
+use Rattle.amqp_value_core.specs.Inputs.{slice_bytes}
+use Rattle.amqp_value_core.specs.Grammar.{long_field}
+use Rattle.amq_protocol_types.specs.parsing.Bodies.{IsLengthPrefixed}
+use Rattle.amq_protocol_types.specs.parsing.Headers.{extent}
+use Rattle.amq_protocol_types.specs.parsing.Untagged.{tagged, RefusesUntagged}
 use Rattle.amqp_in_place.specs.Canonicals.{IsCanonicalLen, CanonEntries}
 use Rattle.amqp_in_place.proofs.Canonicals.{bytes_all}
 use Rattle.amqp_in_place.proofs.CanonicalTables.{table_len, len_inside, refused_not_canonical, some_len, no_len}

@@ -1,6 +1,6 @@
 use Rattle.std.proofs.Common.{arith}
-use Rattle.amqp_types.specs.declared.amqp_type.AMQPType.TheVariants as amqp
-use Rattle.amqp_parsing.specs.Untagged.{tagged}
+use Rattle.amqp_value_core.specs.declared.types.amqp_type.AMQPType.TheVariants as amqp
+use Rattle.amq_protocol_types.specs.parsing.Untagged.{tagged}
 use Rattle.amqp_in_place.proofs.Canonicals.{bytes_all, as_written, written_canon}
 use Rattle.amqp_in_place.proofs.CanonicalTables.{by_table_len}
 use Rattle.amqp_in_place.proofs.canonical.is_canonical_table.Goals as goal

@@ -1,8 +1,8 @@
 use Rattle.std.proofs.Common.{[], ◌∷◌, ◌++◌, length, sym, ap, subst, arith, length-append}
 use Rattle.std.specs.Str.{IsUtf8}
-use Rattle.amqp_grammar.specs.Values.{no_entries, insert}
-use Rattle.amqp_types.specs.Inputs.{slice_bytes}
-use Rattle.amqp_parsing.proofs.ParsingLaws.{Goes-step, Walks-start, Walks-step}
+use Rattle.amqp_value_core.specs.Values.{no_entries, insert}
+use Rattle.amqp_value_core.specs.Inputs.{slice_bytes}
+use Rattle.amq_protocol_types.proofs.ParsingLaws.{Goes-step, Walks-start, Walks-step}
 use Rattle.amqp_in_place.specs.Heads.{IsHead}
 use Rattle.amqp_in_place.specs.declared.head.Head.{Head}
 use Rattle.amqp_in_place.proofs.HeadLemmas.{key_found, key_refused, array_bad, array_deep, table_bad, table_deep}

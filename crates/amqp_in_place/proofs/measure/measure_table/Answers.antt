@@ -1,12 +1,12 @@
 use Rattle.std.proofs.Common.{◌≡◌, ◌<◌, ◌≤◌, ◌+◌, ◌-◌, ℕ, List, length, drop, sym, ap, ◌∙◌, subst, arith, length-append}
-use Rattle.amqp_types.specs.declared.amqp_type.AMQPType.TheVariants as amqp
-use Rattle.amqp_types.specs.Inputs.{slice_bytes}
-use Rattle.amqp_types.specs.declared.input.SliceInput.{SliceInput}
-use Rattle.amqp_grammar.specs.Grammar.{long_field}
-use Rattle.amqp_grammar.specs.Outcomes.{malformed}
-use Rattle.amqp_parsing.specs.Bodies.{IsLengthPrefixed}
-use Rattle.amqp_parsing.specs.Headers.{extent}
-use Rattle.amqp_parsing.specs.Untagged.{tagged, UntaggedWithin}
+use Rattle.amqp_value_core.specs.declared.types.amqp_type.AMQPType.TheVariants as amqp
+use Rattle.amqp_value_core.specs.Inputs.{slice_bytes}
+use Rattle.amqp_value_core.specs.declared.input.SliceInput.{SliceInput}
+use Rattle.amqp_value_core.specs.Grammar.{long_field}
+use Rattle.amqp_value_core.specs.Outcomes.{malformed}
+use Rattle.amq_protocol_types.specs.parsing.Bodies.{IsLengthPrefixed}
+use Rattle.amq_protocol_types.specs.parsing.Headers.{extent}
+use Rattle.amq_protocol_types.specs.parsing.Untagged.{tagged, UntaggedWithin}
 use Rattle.amqp_in_place.specs.Measures.{HoldsFront, HoldsPairs}
 use Rattle.amqp_in_place.proofs.Untagged.{table_head, untagged_bad, untagged_deep}
 use Rattle.amqp_in_place.proofs.Measuring.{table_holds, pairs_small, front_found, rest_dropped, measured_bytes, measured_values, measured_levels, measured_tree}

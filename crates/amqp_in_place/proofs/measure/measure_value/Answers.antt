@@ -1,5 +1,5 @@
 use Rattle.std.proofs.Common.{ℕ, List, ◌∙◌, subst, arith}
-use Rattle.amqp_types.specs.Inputs.{slice_bytes}
+use Rattle.amqp_value_core.specs.Inputs.{slice_bytes}
 use Rattle.amqp_in_place.specs.Measures.{HoldsFront}
 use Rattle.amqp_in_place.proofs.Measuring.{measured_bytes, measured_values, measured_levels, measured_tree}
 use Rattle.amqp_in_place.proofs.measure.measure_value.Goals as goal

@@ -1,7 +1,7 @@
 use Rattle.std.proofs.Common.{◌-◌, Some, sym, ap, ◌∙◌, arith}
 use Rattle.std.specs.Prelude.{option_map}
 use Rattle.std.proofs.lemmas.List.{length-take-le}
-use Rattle.amqp_parsing.specs.Headers.{extent}
+use Rattle.amq_protocol_types.specs.parsing.Headers.{extent}
 use Rattle.amqp_in_place.specs.Problems.{further, in_value, in_pair, pair_len, inside}
 use Rattle.amqp_in_place.proofs.FirstProblems.{Reached-next, payload_there, array_inside, table_inside}
 use Rattle.amqp_in_place.proofs.problems.+problems.Goals as goal

@@ -1,5 +1,5 @@
 use Rattle.std.proofs.Common.{length, ◌+◌, ◌-◌, ◌*◌}
-use Rattle.amqp_parsing.specs.Headers.{extent}
+use Rattle.amq_protocol_types.specs.parsing.Headers.{extent}
 use Rattle.amqp_in_place.specs.Problems.{in_value, in_pair, pair_len, inside}
 use Rattle.amqp_in_place.proofs.FirstProblems.{Reached}
 use Rattle.amqp_in_place.proofs.problems.+problems.Given as goal

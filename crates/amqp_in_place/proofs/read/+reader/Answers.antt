@@ -1,9 +1,9 @@
 use Rattle.std.proofs.Common.{ℕ, List, [], ◌∷◌, ◌++◌, refl, sym, subst, rules, arith}
 use Rattle.std.specs.Str.{IsUtf8}
-use Rattle.amqp_grammar.specs.Values.{no_entries, insert, array, table, trees_of}
-use Rattle.amqp_types.specs.Inputs.{slice_bytes}
-use Rattle.amqp_parsing.proofs.ParsingLaws.{Goes-step, Goes-end, rest_shorter, Walks-start, Walks-step, Walks-end, key_shorter}
-use Rattle.amqp_types.specs.declared.amqp_type.AMQPType.TheVariants as amqp
+use Rattle.amqp_value_core.specs.Values.{no_entries, insert, array, table, trees_of}
+use Rattle.amqp_value_core.specs.Inputs.{slice_bytes}
+use Rattle.amq_protocol_types.proofs.ParsingLaws.{Goes-step, Goes-end, rest_shorter, Walks-start, Walks-step, Walks-end, key_shorter}
+use Rattle.amqp_value_core.specs.declared.types.amqp_type.AMQPType.TheVariants as amqp
 use Rattle.amqp_in_place.specs.Heads.{IsHead}
 use Rattle.amqp_in_place.specs.declared.head.Head.{Head}
 use Rattle.amqp_in_place.specs.Refs.{plain_tree}

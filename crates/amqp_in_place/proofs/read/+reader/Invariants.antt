@@ -1,7 +1,7 @@
 use Rattle.std.proofs.Common.{List, length, ◌+◌, ◌*◌}
-use Rattle.amqp_grammar.specs.Values.{Tree, Entries}
-use Rattle.amqp_types.specs.Inputs.{slice_bytes}
-use Rattle.amqp_parsing.proofs.ParsingLaws.{Goes, Walks}
+use Rattle.amqp_value_core.specs.Values.{Tree, Entries}
+use Rattle.amqp_value_core.specs.Inputs.{slice_bytes}
+use Rattle.amq_protocol_types.proofs.ParsingLaws.{Goes, Walks}
 use Rattle.amqp_in_place.proofs.read.+reader.Given as goal
 
 -- a call has a shorter input than its caller, or as long a one and less to do

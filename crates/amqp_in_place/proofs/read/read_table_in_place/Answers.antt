@@ -1,10 +1,10 @@
 use Rattle.std.proofs.Common.{ℕ, List, sym, ◌∙◌, subst, rules, arith}
-use Rattle.amqp_types.specs.declared.amqp_type.AMQPType.TheVariants as amqp
-use Rattle.amqp_grammar.specs.Values.{table}
-use Rattle.amqp_grammar.specs.Grammar.{long_field}
-use Rattle.amqp_grammar.specs.Outcomes.{found, malformed}
-use Rattle.amqp_types.specs.Inputs.{slice_bytes}
-use Rattle.amqp_parsing.specs.Untagged.{UntaggedWithin}
+use Rattle.amqp_value_core.specs.declared.types.amqp_type.AMQPType.TheVariants as amqp
+use Rattle.amqp_value_core.specs.Values.{table}
+use Rattle.amqp_value_core.specs.Grammar.{long_field}
+use Rattle.amqp_value_core.specs.Outcomes.{found, malformed}
+use Rattle.amqp_value_core.specs.Inputs.{slice_bytes}
+use Rattle.amq_protocol_types.specs.parsing.Untagged.{UntaggedWithin}
 use Rattle.amqp_in_place.proofs.OneValue.{one_table}
 use Rattle.amqp_in_place.proofs.Untagged.{untagged_read, untagged_bad, untagged_deep}
 use Rattle.amqp_in_place.proofs.read.read_table_in_place.Goals as goal

@@ -1,8 +1,8 @@
 use Rattle.std.proofs.Common.{◌≡◌, ◌+◌, ◌-◌, ℕ, List, length, subst, arith}
-use Rattle.amqp_types.specs.Inputs.{slice_bytes}
+use Rattle.amqp_value_core.specs.Inputs.{slice_bytes}
 use Rattle.std.proofs.lemmas.Result.{err_from_is_err_and}
-use Rattle.amqp_grammar.specs.Outcomes.{Outcome}
-use Rattle.amqp_parsing.specs.Headers.{extent}
+use Rattle.amqp_value_core.specs.Outcomes.{Outcome}
+use Rattle.amq_protocol_types.specs.parsing.Headers.{extent}
 use Rattle.amqp_in_place.specs.InPlaceResults.{HeadRefuses}
 use Rattle.amqp_in_place.proofs.Skipping.{skipped, width_of_found, refused_so}
 use Rattle.amqp_in_place.proofs.skip.skip_value.Goals as goal

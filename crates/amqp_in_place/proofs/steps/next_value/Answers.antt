@@ -1,5 +1,5 @@
 use Rattle.std.proofs.Common.{arith}
-use Rattle.amqp_types.specs.Inputs.{slice_bytes}
+use Rattle.amqp_value_core.specs.Inputs.{slice_bytes}
 use Rattle.amqp_in_place.proofs.Stepping.{value_there, value_meant, value_given, values_behind}
 use Rattle.amqp_in_place.proofs.Places.{lies}
 use Rattle.amqp_in_place.proofs.Written.{value_written, no_value_written}

@@ -1,5 +1,5 @@
 use Rattle.std.proofs.Common.{sym, ◌∙◌}
-use Rattle.amqp_grammar.specs.Grammar.{TableBody}
+use Rattle.amqp_value_core.specs.Grammar.{TableBody}
 use Rattle.amqp_in_place.specs.Walks.{IsReadAt}
 use Rattle.amqp_in_place.specs.Written.{WrittenAt, WrittenPairs}
 use Rattle.amqp_in_place.specs.Encoded.{EncodedAt, EncodedPairs}

@@ -1,5 +1,5 @@
 use Rattle.std.proofs.Common.{length}
-use Rattle.amqp_grammar.specs.Grammar.{TableBody}
+use Rattle.amqp_value_core.specs.Grammar.{TableBody}
 use Rattle.amqp_in_place.specs.Bodies.{HasPairs}
 use Rattle.amqp_in_place.specs.InPlaceResults.{IsLeft}
 use Rattle.amqp_in_place.specs.Written.{WrittenPairs}

@@ -1,7 +1,7 @@
 use Rattle.std.proofs.Common.{rules, ◌≡◌, subst}
-use Rattle.amqp_grammar.specs.Texts.{text}
-use Rattle.amqp_grammar.specs.Outcomes.{Outcome}
-use Rattle.amqp_parsing.specs.ParseResults.{Refuses}
+use Rattle.amqp_value_core.specs.Texts.{text}
+use Rattle.amqp_value_core.specs.Outcomes.{Outcome}
+use Rattle.amq_protocol_types.specs.parsing.ParseResults.{Refuses}
 use Rattle.amqp_value_core.specs.View.{view}
 use Rattle.amqp_json.proofs.Encodings.{not_again}
 use Rattle.amqp_json.proofs.encode.encoding_of.Goals as goal

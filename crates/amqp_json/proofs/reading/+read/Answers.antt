@@ -7,7 +7,7 @@ use Rattle.std.specs.String.{string_cmp}
 use Rattle.serde_json.specs.View.{members_view}
 use Rattle.serde_json.proofs.Views.{Entry}
 use Rattle.amqp_value_core.specs.Containers.{array_items, trees, table_view}
-use Rattle.amqp_grammar.specs.Values.{insert}
+use Rattle.amqp_value_core.specs.Values.{insert}
 use Rattle.amqp_value_core.specs.View.{view}
 use Rattle.amqp_json.specs.InMemory.{AreStored, EntriesStored}
 use Rattle.amqp_json.proofs.Walks.{trees_stored, put_stored}

@@ -1,7 +1,7 @@
 use Rattle.std.proofs.Common.{Some, sym, ap, ◌∙◌, subst}
 use Rattle.std.specs.Str.{IsUtf8}
 use Rattle.serde_json.specs.View.{view as document}
-use Rattle.amqp_grammar.specs.Values.{long}
+use Rattle.amqp_value_core.specs.Values.{long}
 use Rattle.amqp_json.proofs.Bytes.{long_is_read, long_shown}
 use Rattle.amqp_json.proofs.reading.long_bytes.Goals as goal
 

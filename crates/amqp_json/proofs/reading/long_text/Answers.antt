@@ -1,5 +1,5 @@
 use Rattle.std.proofs.Common.{Some, sym, ap, ◌∙◌}
-use Rattle.amqp_grammar.specs.Values.{long}
+use Rattle.amqp_value_core.specs.Values.{long}
 use Rattle.amqp_json.proofs.Bytes.{text_is_read, long_shown}
 use Rattle.amqp_json.proofs.reading.long_text.Goals as goal
 

@@ -5,7 +5,7 @@ use Rattle.std.specs.Map.{keys_of}
 use Rattle.std.specs.Ordering.{nat_cmp}
 use Rattle.serde_json.specs.View.{view as document, members_view}
 use Rattle.serde_json.proofs.Views.{members_view-insert_entry}
-use Rattle.amqp_grammar.specs.Values.{Tree}
+use Rattle.amqp_value_core.specs.Values.{Tree}
 use Rattle.amqp_json.specs.Json.{json}
 use Rattle.amqp_json.specs.InMemory.{IsStored, IsPlain}
 use Rattle.amqp_json.proofs.Walks.{Pair, put_at_the_end, entries_stored, items_next, stored_next, table_is}

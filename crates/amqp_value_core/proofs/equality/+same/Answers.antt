@@ -4,8 +4,8 @@ use Rattle.std.proofs.lemmas.Slice.Zip.{zip_end}
 use Rattle.amqp_value_core.specs.declared.types.field_table.FieldTable.{FieldTable}
 use Rattle.amqp_value_core.specs.declared.value.AMQPValue.{AMQPValue, the_lemmas}
 use Rattle.amqp_value_core.specs.declared.value.AMQPValue.TheVariants as value
-use Rattle.amqp_grammar.specs.Values.{table}
-use Rattle.amqp_grammar.specs.Maps.{same_bytes}
+use Rattle.amqp_value_core.specs.Values.{table}
+use Rattle.amqp_value_core.specs.Maps.{same_bytes}
 use Rattle.amqp_value_core.specs.View.{view}
 use Rattle.amqp_value_core.specs.Containers.{trees, entries, table_entries, table_view}
 use Rattle.amqp_value_core.specs.Equality.{same_tree, same_trees, same_entries}

@@ -1,9 +1,9 @@
 use Rattle.std.proofs.Common.{◌≡◌, length, string_bytes, rules}
 use Rattle.std.proofs.lemmas.Result.{IfOk-weaker}
-use Rattle.amqp_grammar.specs.Outcomes.{Outcome, Heavy, found}
-use Rattle.amqp_grammar.specs.Decode.{outcome}
+use Rattle.amqp_value_core.specs.Outcomes.{Outcome, Heavy, found}
+use Rattle.amqp_value_core.specs.Decode.{outcome}
 use Rattle.amqp_value_core.specs.View.{view}
-use Rattle.amqp_parsing.specs.ParseResults.{Refuses}
+use Rattle.amq_protocol_types.specs.parsing.ParseResults.{Refuses}
 use Rattle.amqp_wire.specs.Lines.{said, said_of_value}
 use Rattle.amqp_wire.specs.Refusals.{IsSaid}
 use Rattle.amqp_wire.proofs.Outcomes.{said_of_outcome, said_of_refusal}

@@ -1,8 +1,8 @@
 use Rattle.std.proofs.Common.{◌≡◌, length, string_bytes, rules}
 use Rattle.std.proofs.lemmas.Result.{IfOk-weaker}
-use Rattle.amqp_grammar.specs.Outcomes.{found}
+use Rattle.amqp_value_core.specs.Outcomes.{found}
 use Rattle.amqp_value_core.specs.View.{view}
-use Rattle.amqp_parsing.specs.Limits.{RefusesWithin}
+use Rattle.amq_protocol_types.specs.parsing.Limits.{RefusesWithin}
 use Rattle.amqp_wire.specs.Lines.{read_within, said_within, said_of_value}
 use Rattle.amqp_wire.specs.Refusals.{IsSaid}
 use Rattle.amqp_wire.proofs.Outcomes.{said_of_within, said_of_limited}

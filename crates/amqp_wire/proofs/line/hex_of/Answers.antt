@@ -1,6 +1,6 @@
 use Rattle.std.proofs.Common.{◌≡◌, Some, rules}
 use Rattle.amqp_value_core.specs.View.{view}
-use Rattle.amqp_generation.specs.Slices.{seen_slice}
+use Rattle.amq_protocol_types.specs.generation.Slices.{seen_slice}
 use Rattle.amqp_wire.proofs.Rooms.{finds_room}
 use Rattle.amqp_wire.proofs.line.hex_of.Goals as goal
 

@@ -1,6 +1,6 @@
 use Rattle.std.proofs.Common.{◌∙◌, rules}
-use Rattle.amqp_stream.specs.Sources.Reaches.{here}
-use Rattle.amqp_stream.proofs.Calls.{reaches_on}
+use Rattle.amq_protocol_types.specs.stream.Sources.Reaches.{here}
+use Rattle.amq_protocol_types.proofs.lemmas.stream.Calls.{reaches_on}
 use Rattle.amqp_wire.proofs.Ends.{ends_answers}
 use Rattle.amqp_wire.specs.Lines.{said_in}
 use Rattle.amqp_wire.proofs.Fronts.{written_more, written_part, first_answer}

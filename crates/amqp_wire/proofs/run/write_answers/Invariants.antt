@@ -1,5 +1,5 @@
 use Rattle.amqp_wire.specs.Lines.{said_in, lines_by, output_by}
-use Rattle.amqp_stream.specs.Sources.{Reaches}
+use Rattle.amq_protocol_types.specs.stream.Sources.{Reaches}
 use Rattle.amqp_wire.specs.Ends.{Accepts}
 use Rattle.amqp_wire.proofs.Fronts.{Written}
 use Rattle.amqp_wire.proofs.run.write_answers.Given as goal

@@ -1,5 +1,5 @@
 use Rattle.std.proofs.Common.{rules}
-use Rattle.amqp_stream.specs.Sources.Reaches.{here, there}
+use Rattle.amq_protocol_types.specs.stream.Sources.Reaches.{here, there}
 use Rattle.amqp_wire.proofs.Fronts.{written_front}
 use Rattle.amqp_wire.proofs.run.write_out.Goals as goal
 

@@ -1,5 +1,5 @@
 use Rattle.std.proofs.Common.{length}
-use Rattle.amqp_stream.specs.Sources.{Reaches}
+use Rattle.amq_protocol_types.specs.stream.Sources.{Reaches}
 use Rattle.amqp_wire.specs.Ends.{Accepts}
 use Rattle.amqp_wire.proofs.Fronts.{Written}
 use Rattle.amqp_wire.proofs.run.write_out.Given as goal

@@ -1,6 +1,6 @@
 use Rattle.std.proofs.Common.{◌≡◌, ◌∷◌, ◌++◌, [], Ok, Err, true, false, codes, subst, rules}
 use Rattle.amqp_value_core.specs.View.{view}
-use Rattle.amqp_stream.specs.Readers.{kept, has_failed, limits_of, Answers, AnswersAll}
+use Rattle.amq_protocol_types.specs.stream.Readers.{kept, has_failed, limits_of, Answers, AnswersAll}
 use Rattle.amqp_wire.specs.Refusals.{kind_name}
 use Rattle.amqp_wire.specs.Streams.{value_line}
 use Rattle.amqp_wire.proofs.Rooms.{read_fits}

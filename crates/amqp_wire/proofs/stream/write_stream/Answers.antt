@@ -1,9 +1,9 @@
 use Rattle.std.proofs.Common.{◌≡◌, ℕ, Bool, ◌-◌, true, false, subst, ◌∙◌, rules, arith}
 use Rattle.std.specs.Option.{IfSome}
 use Rattle.std.specs.Io.KnownBytes.{Appends}
-use Rattle.amqp_types.specs.Inputs.{IsBytes}
-use Rattle.amqp_stream.specs.Sources.Reaches.{here}
-use Rattle.amqp_stream.proofs.Calls.{reaches_on}
+use Rattle.amqp_value_core.specs.Inputs.{IsBytes}
+use Rattle.amq_protocol_types.specs.stream.Sources.Reaches.{here}
+use Rattle.amq_protocol_types.proofs.lemmas.stream.Calls.{reaches_on}
 use Rattle.amqp_wire.proofs.Ends.{ends_read, ends_write}
 use Rattle.amqp_wire.specs.Lines.{AppendsFront}
 use Rattle.amqp_wire.specs.Streams.{stream_text}

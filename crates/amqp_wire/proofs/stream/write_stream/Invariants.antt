@@ -1,6 +1,6 @@
 use Rattle.std.proofs.Common.{◌≡◌, [], false}
-use Rattle.amqp_stream.specs.Readers.{kept, has_failed, limits_of}
-use Rattle.amqp_stream.specs.Sources.{Reaches}
+use Rattle.amq_protocol_types.specs.stream.Readers.{kept, has_failed, limits_of}
+use Rattle.amq_protocol_types.specs.stream.Sources.{Reaches}
 use Rattle.amqp_wire.specs.Ends.{Accepts}
 use Rattle.amqp_wire.proofs.Streams.{Progress}
 use Rattle.amqp_wire.proofs.stream.write_stream.Given as goal

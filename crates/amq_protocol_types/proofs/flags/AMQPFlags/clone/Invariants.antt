@@ -1,6 +1,6 @@
 use Rattle.std.proofs.Common.{◌≡◌, take}
-use Rattle.amqp_flags.specs.Flags.{listed, flags_of}
-use Rattle.amqp_flags.proofs.flags.AMQPFlags.clone.Given as goal
+use Rattle.amq_protocol_types.specs.flags.Flags.{listed, flags_of}
+use Rattle.amq_protocol_types.proofs.flags.AMQPFlags.clone.Given as goal
 
 -- the flags so far were copied
 abbrev pub invariant-loop-name : goal.invariant-loop-name

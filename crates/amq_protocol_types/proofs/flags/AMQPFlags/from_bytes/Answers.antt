@@ -1,8 +1,8 @@
 use Rattle.std.proofs.Common.{string_bytes, arith, rules}
-use Rattle.amqp_flags.specs.Flags.{flags_of}
-use Rattle.amqp_flags.proofs.FlagBits.{next_flag, names_end, bits_end, some_flag}
-use Rattle.amqp_flags.proofs.flags.AMQPFlags.from_bytes.Goals as goal
-use Rattle.amqp_flags.proofs.flags.AMQPFlags.from_bytes.Goals.{else-loop-n-test, then-loop-n-test+then-n-input_len}
+use Rattle.amq_protocol_types.specs.flags.Flags.{flags_of}
+use Rattle.amq_protocol_types.proofs.FlagBits.{next_flag, names_end, bits_end, some_flag}
+use Rattle.amq_protocol_types.proofs.flags.AMQPFlags.from_bytes.Goals as goal
+use Rattle.amq_protocol_types.proofs.flags.AMQPFlags.from_bytes.Goals.{else-loop-n-test, then-loop-n-test+then-n-input_len}
 
 pub returns-in_err-from_str-clause-err : goal.returns-in_err-from_str-clause-err
 returns-in_err-from_str-clause-err g c =

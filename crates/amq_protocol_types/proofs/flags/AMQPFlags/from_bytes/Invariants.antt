@@ -1,7 +1,7 @@
 use Rattle.std.proofs.Common.{◌≡◌, ◌++◌, map, drop}
 use Rattle.std.specs.List.{zip}
-use Rattle.amqp_flags.specs.Flags.{flags_of, bits, unpack}
-use Rattle.amqp_flags.proofs.flags.AMQPFlags.from_bytes.Given as goal
+use Rattle.amq_protocol_types.specs.flags.Flags.{flags_of, bits, unpack}
+use Rattle.amq_protocol_types.proofs.flags.AMQPFlags.from_bytes.Given as goal
 
 -- the flags so far, and those of the names and the bits that are left
 abbrev pub invariant-loop-n : goal.invariant-loop-n

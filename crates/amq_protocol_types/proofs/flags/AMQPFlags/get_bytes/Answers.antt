@@ -1,8 +1,8 @@
 use Rattle.std.proofs.Common.{◌∷◌, [], ◌++◌, ap, sym, ◌∙◌, append_assoc}
 use Rattle.std.specs.Slice.Iter.{chunks_rest}
-use Rattle.amqp_flags.specs.Flags.{listed, values_of, pack}
-use Rattle.amqp_flags.proofs.FlagBits.{flags_chunk}
-use Rattle.amqp_flags.proofs.flags.AMQPFlags.get_bytes.Goals as goal
+use Rattle.amq_protocol_types.specs.flags.Flags.{listed, values_of, pack}
+use Rattle.amq_protocol_types.proofs.FlagBits.{flags_chunk}
+use Rattle.amq_protocol_types.proofs.flags.AMQPFlags.get_bytes.Goals as goal
 
 pub loop-eight-preserved : goal.loop-eight-preserved
 loop-eight-preserved c =

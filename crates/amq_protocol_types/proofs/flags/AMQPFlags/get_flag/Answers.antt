@@ -1,7 +1,7 @@
 use Rattle.std.proofs.Common.{sym, ◌∙◌, ap}
-use Rattle.amqp_flags.specs.Flags.{listed, flag_named}
-use Rattle.amqp_flags.proofs.FlagBits.{named_here, named_behind}
-use Rattle.amqp_flags.proofs.flags.AMQPFlags.get_flag.Goals as goal
+use Rattle.amq_protocol_types.specs.flags.Flags.{listed, flag_named}
+use Rattle.amq_protocol_types.proofs.FlagBits.{named_here, named_behind}
+use Rattle.amq_protocol_types.proofs.flags.AMQPFlags.get_flag.Goals as goal
 
 pub returns-then-eq : goal.returns-then-eq
 returns-then-eq c =

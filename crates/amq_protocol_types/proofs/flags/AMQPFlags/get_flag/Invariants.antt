@@ -1,6 +1,6 @@
 use Rattle.std.proofs.Common.{◌≡◌, drop}
-use Rattle.amqp_flags.specs.Flags.{listed, flag_named}
-use Rattle.amqp_flags.proofs.flags.AMQPFlags.get_flag.Given as goal
+use Rattle.amq_protocol_types.specs.flags.Flags.{listed, flag_named}
+use Rattle.amq_protocol_types.proofs.flags.AMQPFlags.get_flag.Given as goal
 
 -- the flags that are left decide
 abbrev pub invariant-loop-n : goal.invariant-loop-n

@@ -1,10 +1,10 @@
 use Rattle.std.proofs.Common.{◌≡◌, [], ◌∷◌, ◌++◌, length, refl, ap, sym, ◌∙◌, append_assoc, rules}
 use Rattle.std.proofs.lemmas.Result.{err_from_is_err_and}
 use Rattle.std.specs.Slice.Iter.{chunks_rest}
-use Rattle.amqp_flags.specs.Flags.{listed, flags_of, values_of, pack, bytes_for}
-use Rattle.amqp_flags.proofs.FlagBits.{flags_chunk, flags_read_back, count_packed}
-use Rattle.amqp_generation.proofs.Puts.{room_made, room_refused, put_more, refused_later, one_fits}
-use Rattle.amqp_generation.proofs.flags.gen_flags.Goals as goal
+use Rattle.amq_protocol_types.specs.flags.Flags.{listed, flags_of, values_of, pack, bytes_for}
+use Rattle.amq_protocol_types.proofs.FlagBits.{flags_chunk, flags_read_back, count_packed}
+use Rattle.amq_protocol_types.proofs.lemmas.generation.Puts.{room_made, room_refused, put_more, refused_later, one_fits}
+use Rattle.amq_protocol_types.proofs.generation.flags.gen_flags.Goals as goal
 
 pub returns-in_err-make_room-clause-written : goal.returns-in_err-make_room-clause-written
 returns-in_err-make_room-clause-written g c =

@@ -1,13 +1,13 @@
 use Rattle.std.proofs.Common.{◌≡◌, true, Ok, take, replicate, ◌++◌}
 use Rattle.amqp_value_core.specs.Containers.{array_items, trees, table_entries}
-use Rattle.amqp_grammar.specs.Texts.{body}
-use Rattle.amqp_grammar.specs.Members.{AllFit}
-use Rattle.amqp_grammar.specs.InMemory.{AreValues}
-use Rattle.amqp_generation.specs.BufferOutput.{IsWhole}
-use Rattle.amqp_generation.specs.Outputs.{Writes}
-use Rattle.amqp_generation.specs.Contexts.{start_of, state_of}
-use Rattle.amqp_generation.proofs.Tables.{HasPut}
-use Rattle.amqp_generation.proofs.values.+values.Given as goal
+use Rattle.amqp_value_core.specs.Texts.{body}
+use Rattle.amqp_value_core.specs.Members.{AllFit}
+use Rattle.amqp_value_core.specs.InMemory.{AreValues}
+use Rattle.amq_protocol_types.specs.generation.BufferOutput.{IsWhole}
+use Rattle.amq_protocol_types.specs.generation.Outputs.{Writes}
+use Rattle.amq_protocol_types.specs.generation.Contexts.{start_of, state_of}
+use Rattle.amq_protocol_types.proofs.lemmas.generation.Tables.{HasPut}
+use Rattle.amq_protocol_types.proofs.generation.values.+values.Given as goal
 
 abbrev pub invariant-gen_field_array-loop-v : goal.invariant-gen_field_array-loop-v
 invariant-gen_field_array-loop-v g l =

@@ -1,6 +1,6 @@
 use Rattle.amqp_value_core.specs.View.{view}
-use Rattle.amqp_generation.proofs.ReadBack.{written}
-use Rattle.amqp_generation.proofs.values.gen_value.Goals as goal
+use Rattle.amq_protocol_types.proofs.lemmas.generation.ReadBack.{written}
+use Rattle.amq_protocol_types.proofs.generation.values.gen_value.Goals as goal
 
 pub returns-clause-ok : goal.returns-clause-ok
 returns-clause-ok g c =

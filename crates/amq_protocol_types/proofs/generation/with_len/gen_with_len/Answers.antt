@@ -1,7 +1,7 @@
 -- `o` shows that the call of f only appended.
 use Rattle.std.proofs.Common.{refl, inl, inr, arith}
-use Rattle.amqp_generation.proofs.Lengths.{refusal_appends, taken_back, put_with_length, too_long, all_back, length_appends, behind}
-use Rattle.amqp_generation.proofs.with_len.gen_with_len.Goals as goal
+use Rattle.amq_protocol_types.proofs.Lengths.{refusal_appends, taken_back, put_with_length, too_long, all_back, length_appends, behind}
+use Rattle.amq_protocol_types.proofs.generation.with_len.gen_with_len.Goals as goal
 
 pub back_to-requires : goal.back_to-requires
 back_to-requires g c =

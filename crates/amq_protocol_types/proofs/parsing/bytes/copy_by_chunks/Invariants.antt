@@ -1,5 +1,5 @@
 use Rattle.std.proofs.Common.{◌≡◌, ◌++◌, length}
-use Rattle.amqp_parsing.proofs.bytes.copy_by_chunks.Given as goal
+use Rattle.amq_protocol_types.proofs.parsing.bytes.copy_by_chunks.Given as goal
 
 -- what was copied and what is left are the input's bytes
 abbrev pub invariant-chunks : goal.invariant-chunks

@@ -1,6 +1,6 @@
 use Rattle.std.proofs.Common.{arith}
-use Rattle.amqp_parsing.proofs.Payloads.{ReadsBack-8, boolean_found}
-use Rattle.amqp_parsing.proofs.scalars.parse_boolean.Goals as goal
+use Rattle.amq_protocol_types.proofs.lemmas.parsing.Payloads.{ReadsBack-8, boolean_found}
+use Rattle.amq_protocol_types.proofs.parsing.scalars.parse_boolean.Goals as goal
 
 pub returns : goal.returns
 returns g c =

@@ -1,6 +1,6 @@
 use Rattle.std.proofs.Common.{arith}
-use Rattle.amqp_parsing.proofs.Payloads.{ReadsBack-8, ReadsBack-32, decimal_found}
-use Rattle.amqp_parsing.proofs.scalars.parse_decimal_value.Goals as goal
+use Rattle.amq_protocol_types.proofs.lemmas.parsing.Payloads.{ReadsBack-8, ReadsBack-32, decimal_found}
+use Rattle.amq_protocol_types.proofs.parsing.scalars.parse_decimal_value.Goals as goal
 
 pub returns : goal.returns
 returns g c =

@@ -1,5 +1,5 @@
-use Rattle.amqp_parsing.proofs.Frames.{octets_found}
-use Rattle.amqp_parsing.proofs.strings.parse_byte_array.Goals as goal
+use Rattle.amq_protocol_types.proofs.lemmas.parsing.Frames.{octets_found}
+use Rattle.amq_protocol_types.proofs.parsing.strings.parse_byte_array.Goals as goal
 
 pub returns : goal.returns
 returns g c =

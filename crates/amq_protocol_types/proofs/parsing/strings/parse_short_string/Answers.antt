@@ -1,8 +1,8 @@
 use Rattle.std.proofs.Common.{◌≡◌, take, refl, sym, ◌∙◌, subst, rules, arith}
 use Rattle.std.specs.Str.{IsUtf8}
-use Rattle.amqp_parsing.proofs.Copies.{whole_or_joined}
-use Rattle.amqp_parsing.proofs.Frames.{short_found, short_refused}
-use Rattle.amqp_parsing.proofs.strings.parse_short_string.Goals as goal
+use Rattle.amq_protocol_types.proofs.lemmas.parsing.Copies.{whole_or_joined}
+use Rattle.amq_protocol_types.proofs.lemmas.parsing.Frames.{short_found, short_refused}
+use Rattle.amq_protocol_types.proofs.parsing.strings.parse_short_string.Goals as goal
 
 pub returns-in_default : goal.returns-in_default
 returns-in_default g c =

@@ -2,25 +2,25 @@ use Rattle.std.proofs.Common.{◌≡◌, [], ◌∷◌, ◌++◌, sym, ap, subst
 use Rattle.std.specs.Int.{w8, w16, w32, w64, cast_signed, cast_unsigned}
 use Rattle.std.proofs.lemmas.List.{map_push}
 use Rattle.std.proofs.lemmas.Result.{err_from_is_err_and}
-use Rattle.amqp_types.specs.declared.amqp_type.AMQPType.TheVariants as amqp
+use Rattle.amqp_value_core.specs.declared.types.amqp_type.AMQPType.TheVariants as amqp
 use Rattle.amqp_value_core.specs.declared.value.AMQPValue.{the_lemmas}
 use Rattle.amqp_value_core.specs.declared.value.AMQPValue.TheVariants.{FieldArray, FieldTable}
 use Rattle.amqp_value_core.specs.declared.value.AMQPValue.TheVariants as value
-use Rattle.amqp_grammar.specs.Values.{Tree, scalar, void, array, table, no_entries, insert}
+use Rattle.amqp_value_core.specs.Values.{Tree, scalar, void, array, table, no_entries, insert}
 use Rattle.amqp_value_core.specs.View.{view}
 use Rattle.amqp_value_core.specs.Containers.{array_items, array_view, entries, table_view}
-use Rattle.amqp_grammar.specs.Outcomes.{found}
-use Rattle.amqp_grammar.specs.Payloads.{RawOutcome}
-use Rattle.amqp_parsing.specs.Gathering.{kept}
-use Rattle.amqp_parsing.proofs.Bodies.{Goes-start, Goes-step, Goes-end, Goes-refused, rest_shorter}
-use Rattle.amqp_parsing.proofs.TableBodies.{Walks-start, Walks-step, Walks-end, Walks-bad_key, Walks-bad_value, key_shorter}
-use Rattle.amqp_parsing.proofs.Frames.{array_found, array_refused, array_too_deep, table_found, table_refused, table_too_deep}
-use Rattle.amqp_grammar.specs.Nesting.{RawOutcomeWithin}
-use Rattle.amqp_parsing.proofs.Plain.{plain_found, plain_arm, unsigned_refuses}
-use Rattle.amqp_parsing.proofs.Payloads.{unsigned_outcome, void_found}
-use Rattle.amqp_parsing.proofs.Typed.{typed_answer}
-use Rattle.amqp_parsing.proofs.Views.{view-Void}
-use Rattle.amqp_parsing.proofs.values.+parser.Goals as goal
+use Rattle.amqp_value_core.specs.Outcomes.{found}
+use Rattle.amqp_value_core.specs.Payloads.{RawOutcome}
+use Rattle.amq_protocol_types.specs.parsing.Gathering.{kept}
+use Rattle.amq_protocol_types.proofs.lemmas.parsing.Bodies.{Goes-start, Goes-step, Goes-end, Goes-refused, rest_shorter}
+use Rattle.amq_protocol_types.proofs.lemmas.parsing.TableBodies.{Walks-start, Walks-step, Walks-end, Walks-bad_key, Walks-bad_value, key_shorter}
+use Rattle.amq_protocol_types.proofs.lemmas.parsing.Frames.{array_found, array_refused, array_too_deep, table_found, table_refused, table_too_deep}
+use Rattle.amqp_value_core.specs.Nesting.{RawOutcomeWithin}
+use Rattle.amq_protocol_types.proofs.lemmas.parsing.Plain.{plain_found, plain_arm, unsigned_refuses}
+use Rattle.amq_protocol_types.proofs.lemmas.parsing.Payloads.{unsigned_outcome, void_found}
+use Rattle.amq_protocol_types.proofs.lemmas.parsing.Typed.{typed_answer}
+use Rattle.amq_protocol_types.proofs.lemmas.parsing.Views.{view-Void}
+use Rattle.amq_protocol_types.proofs.parsing.values.+parser.Goals as goal
 
 pub parse_array_body-returns-in-Err : goal.parse_array_body-returns-in-Err
 parse_array_body-returns-in-Err g t c =

@@ -1,10 +1,10 @@
 use Rattle.std.proofs.Common.{length, map, ◌+◌, ◌*◌}
 use Rattle.amqp_value_core.specs.View.{view}
 use Rattle.amqp_value_core.specs.Containers.{array_items}
-use Rattle.amqp_parsing.specs.Gathering.{kept}
-use Rattle.amqp_parsing.proofs.Bodies.{Goes}
-use Rattle.amqp_parsing.proofs.TableBodies.{Walks}
-use Rattle.amqp_parsing.proofs.values.+parser.Given as goal
+use Rattle.amq_protocol_types.specs.parsing.Gathering.{kept}
+use Rattle.amq_protocol_types.proofs.lemmas.parsing.Bodies.{Goes}
+use Rattle.amq_protocol_types.proofs.lemmas.parsing.TableBodies.{Walks}
+use Rattle.amq_protocol_types.proofs.parsing.values.+parser.Given as goal
 
 -- a call has a shorter input than its caller, or as long a one and less to do
 abbrev pub decreases-value_within : goal.decreases-value_within

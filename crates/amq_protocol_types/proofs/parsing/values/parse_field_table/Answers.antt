@@ -1,8 +1,8 @@
-use Rattle.amqp_types.specs.declared.amqp_type.AMQPType.TheVariants as amqp
-use Rattle.amqp_grammar.specs.Values.{table}
+use Rattle.amqp_value_core.specs.declared.types.amqp_type.AMQPType.TheVariants as amqp
+use Rattle.amqp_value_core.specs.Values.{table}
 use Rattle.amqp_value_core.specs.Containers.{table_view}
-use Rattle.amqp_parsing.proofs.Plain.{raw_unlimited_answer}
-use Rattle.amqp_parsing.proofs.values.parse_field_table.Goals as goal
+use Rattle.amq_protocol_types.proofs.lemmas.parsing.Plain.{raw_unlimited_answer}
+use Rattle.amq_protocol_types.proofs.parsing.values.parse_field_table.Goals as goal
 
 pub returns : goal.returns
 returns g c =

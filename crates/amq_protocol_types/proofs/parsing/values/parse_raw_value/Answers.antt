@@ -1,5 +1,5 @@
-use Rattle.amqp_parsing.proofs.Plain.{raw_value_answer}
-use Rattle.amqp_parsing.proofs.values.parse_raw_value.Goals as goal
+use Rattle.amq_protocol_types.proofs.lemmas.parsing.Plain.{raw_value_answer}
+use Rattle.amq_protocol_types.proofs.parsing.values.parse_raw_value.Goals as goal
 
 pub returns-in_default : goal.returns-in_default
 returns-in_default g c =

@@ -1,12 +1,12 @@
 use Rattle.std.proofs.Common.{refl, arith}
-use Rattle.amqp_types.specs.declared.amqp_type.AMQPType.TheVariants as amqp
-use Rattle.amqp_grammar.specs.Values.{table}
+use Rattle.amqp_value_core.specs.declared.types.amqp_type.AMQPType.TheVariants as amqp
+use Rattle.amqp_value_core.specs.Values.{table}
 use Rattle.amqp_value_core.specs.Containers.{table_view}
-use Rattle.amqp_parsing.specs.Untagged.{tagged}
-use Rattle.amqp_parsing.proofs.Again.{read_answer}
-use Rattle.amqp_parsing.proofs.Appends.{laws_within}
-use Rattle.amqp_parsing.proofs.Untagged.{payload_within, reads_payloads_back}
-use Rattle.amqp_parsing.proofs.within.parse_field_table_within.Goals as goal
+use Rattle.amq_protocol_types.specs.parsing.Untagged.{tagged}
+use Rattle.amq_protocol_types.proofs.lemmas.parsing.Again.{read_answer}
+use Rattle.amq_protocol_types.proofs.lemmas.parsing.Appends.{laws_within}
+use Rattle.amq_protocol_types.proofs.lemmas.parsing.Untagged.{payload_within, reads_payloads_back}
+use Rattle.amq_protocol_types.proofs.parsing.within.parse_field_table_within.Goals as goal
 
 pub returns-clause-payload : goal.returns-clause-payload
 returns-clause-payload g c = payload_within c.args.limits amqp.FieldTable refl (g.I.ParsableInput.bytes c.args.i)

@@ -1,7 +1,7 @@
 use Rattle.amqp_value_core.specs.View.{view}
-use Rattle.amqp_parsing.proofs.Again.{read_answer}
-use Rattle.amqp_parsing.proofs.Appends.{laws_within}
-use Rattle.amqp_parsing.proofs.within.parse_value_within.Goals as goal
+use Rattle.amq_protocol_types.proofs.lemmas.parsing.Again.{read_answer}
+use Rattle.amq_protocol_types.proofs.lemmas.parsing.Appends.{laws_within}
+use Rattle.amq_protocol_types.proofs.parsing.within.parse_value_within.Goals as goal
 
 pub returns-clause-laws : goal.returns-clause-laws
 returns-clause-laws g c = laws_within c.args.limits (g.I.ParsableInput.bytes c.args.i) c.read_within.ensures.bytes

@@ -1,9 +1,9 @@
 use Rattle.std.proofs.Common.{refl, arith}
-use Rattle.amqp_types.specs.declared.amqp_type.AMQPType.TheVariants as amqp
-use Rattle.amqp_grammar.specs.Values.{array}
+use Rattle.amqp_value_core.specs.declared.types.amqp_type.AMQPType.TheVariants as amqp
+use Rattle.amqp_value_core.specs.Values.{array}
 use Rattle.amqp_value_core.specs.Containers.{array_view}
-use Rattle.amqp_parsing.proofs.Untagged.{untagged_answer}
-use Rattle.amqp_parsing.proofs.within.read_array_within.Goals as goal
+use Rattle.amq_protocol_types.proofs.lemmas.parsing.Untagged.{untagged_answer}
+use Rattle.amq_protocol_types.proofs.parsing.within.read_array_within.Goals as goal
 
 pub returns-clause-within : goal.returns-clause-within
 returns-clause-within g c =

@@ -1,6 +1,6 @@
 use Rattle.std.proofs.Common.{◌≡◌, ◌<◌, ◌≤◌, ℕ, List, length, take, Option, Some, None, Ok, sym, ap, ◌∙◌, subst, arith}
 use Rattle.std.proofs.lemmas.Grind.{common_steps}
-use Rattle.amqp_parsing.specs.Headers.{extent}
+use Rattle.amq_protocol_types.specs.parsing.Headers.{extent}
 use Rattle.amqp_c_common.specs.declared.span.Span.{Span}
 use Rattle.amqp_c_common.specs.Spans.{part, SpanLies}
 use Rattle.amqp_c.specs.Steps.{StandsAlone, EndsIn, GivesLast}

@@ -1,6 +1,6 @@
 use Rattle.std.proofs.Common.{◌++◌, arith}
-use Rattle.amqp_grammar.specs.Grammar.{short_field}
-use Rattle.amqp_grammar.specs.Texts.{text}
+use Rattle.amqp_value_core.specs.Grammar.{short_field}
+use Rattle.amqp_value_core.specs.Texts.{text}
 use Rattle.amqp_c.proofs.Rooms.{written_behind}
 use Rattle.amqp_c.proofs.Tables.{pair_counts}
 use Rattle.amqp_c.proofs.pair.Pair.write.Goals as goal

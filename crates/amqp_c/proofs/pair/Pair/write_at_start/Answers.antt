@@ -1,6 +1,6 @@
 use Rattle.std.proofs.Common.{ℕ, ◌+◌, List, length, ap, ◌∙◌, arith}
-use Rattle.amqp_grammar.specs.Grammar.{short_field}
-use Rattle.amqp_grammar.specs.Texts.{text}
+use Rattle.amqp_value_core.specs.Grammar.{short_field}
+use Rattle.amqp_value_core.specs.Texts.{text}
 use Rattle.amqp_c.specs.Rooms.{with_bytes}
 use Rattle.amqp_c.proofs.Rooms.{with_bytes-join}
 use Rattle.amqp_c.proofs.pair.Pair.write_at_start.Goals as goal

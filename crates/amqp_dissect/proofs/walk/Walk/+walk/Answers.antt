@@ -1,7 +1,7 @@
 use Rattle.std.proofs.Common.{◌≡◌, ◌-◌, None, refl, arith, rules}
 use Rattle.std.proofs.lemmas.Result.{err_from_is_err_and}
-use Rattle.amqp_types.specs.Ids.{kind}
-use Rattle.amqp_types.specs.declared.amqp_type.AMQPType.TheVariants as amqp
+use Rattle.amqp_value_core.specs.Ids.{kind}
+use Rattle.amqp_value_core.specs.declared.types.amqp_type.AMQPType.TheVariants as amqp
 use Rattle.amqp_dissect.specs.Problems.{NoValues, NoPairs}
 use Rattle.amqp_dissect.specs.Walks.{AreValues, ArePairs}
 use Rattle.amqp_dissect.proofs.Entries.{of_array, of_table, container, passed_none, value_more, value_stop, values_end, pair_more, pair_stop, pairs_end, stops, no_byte, no_tag}

@@ -1,7 +1,7 @@
 use Rattle.std.proofs.Common.{◌-◌, ◌+◌, ◌*◌}
 use Rattle.amqp_dissect.specs.Walks.{AreValues, ArePairs}
 use Rattle.amqp_dissect.specs.Problems.{NoValues, NoPairs}
-use Rattle.amqp_types.specs.declared.amqp_type.AMQPType.TheVariants as amqp
+use Rattle.amqp_value_core.specs.declared.types.amqp_type.AMQPType.TheVariants as amqp
 use Rattle.amqp_dissect.proofs.Entries.{Passed}
 use Rattle.amqp_dissect.proofs.Puts.{Put}
 use Rattle.amqp_dissect.proofs.walk.Walk.+walk.Given as goal

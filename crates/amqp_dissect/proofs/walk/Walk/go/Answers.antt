@@ -1,6 +1,6 @@
 use Rattle.std.proofs.Common.{◌≤◌, ◌-◌, ℕ, List, length, slice_range, subst, rules}
-use Rattle.amqp_types.specs.Inputs.{slice_bytes}
-use Rattle.amqp_parsing.specs.Headers.{extent}
+use Rattle.amqp_value_core.specs.Inputs.{slice_bytes}
+use Rattle.amq_protocol_types.specs.parsing.Headers.{extent}
 use Rattle.amqp_dissect.specs.Problems.{NoValue}
 use Rattle.amqp_dissect.specs.Walks.{PutsValue}
 use Rattle.amqp_dissect.proofs.Entries.{not_large, ends_in_value, ends_in_problem, takes_memory}

@@ -1,7 +1,7 @@
 use Rattle.std.proofs.Common.{◌≡◌, ◌+◌, ◌-◌, ℕ, List, length, suc, ap, ◌∙◌, subst, arith}
 use Rattle.std.specs.Borrow.{Bor}
 use Rattle.amqp_dissect.proofs.Entries.{IsValueOf, fields_known, value_within, cut_first, cut_width, number_read, offset_is, after_tag, passes, stops}
-use Rattle.amqp_grammar.specs.Layouts.{fixed}
+use Rattle.amqp_value_core.specs.Layouts.{fixed}
 use Rattle.amqp_dissect.proofs.Puts.{tag_puts, number_puts}
 use Rattle.amqp_dissect.proofs.walk.Walk.number.Goals as goal
 

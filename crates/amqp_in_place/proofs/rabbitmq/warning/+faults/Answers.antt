@@ -1,6 +1,6 @@
 use Rattle.std.proofs.Common.{refl, ap, sym, ◌∙◌, ◌-◌, ◌+◌, length, take, drop, arith}
 use Rattle.std.specs.Prelude.{max}
-use Rattle.amqp_parsing.specs.Headers.{extent}
+use Rattle.amq_protocol_types.specs.parsing.Headers.{extent}
 use Rattle.amqp_in_place.specs.RabbitmqWarnings.{fault_in_value, fault_inside}
 use Rattle.amqp_in_place.proofs.KeyFaults.{Values-next, Pairs-on}
 use Rattle.amqp_in_place.proofs.rabbitmq.warning.+faults.Goals as goal

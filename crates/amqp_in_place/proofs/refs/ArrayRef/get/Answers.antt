@@ -1,6 +1,6 @@
 use Rattle.std.proofs.Common.{rules, ◌≡◌, ◌-◌, List, ℕ, suc, sym, subst, arith}
-use Rattle.amqp_types.specs.Inputs.{slice_bytes}
-use Rattle.amqp_grammar.specs.Grammar.{ArrayBody}
+use Rattle.amqp_value_core.specs.Inputs.{slice_bytes}
+use Rattle.amqp_value_core.specs.Grammar.{ArrayBody}
 use Rattle.amqp_in_place.specs.Refs.{array_body, Denotes}
 use Rattle.amqp_in_place.specs.InPlaceResults.{IsLeft}
 use Rattle.amqp_in_place.specs.Written.{IsWritten, WrittenValues}

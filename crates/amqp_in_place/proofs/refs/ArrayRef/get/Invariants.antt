@@ -1,6 +1,6 @@
 use Rattle.std.proofs.Common.{length}
-use Rattle.amqp_types.specs.Inputs.{slice_bytes}
-use Rattle.amqp_grammar.specs.Grammar.{ArrayBody}
+use Rattle.amqp_value_core.specs.Inputs.{slice_bytes}
+use Rattle.amqp_value_core.specs.Grammar.{ArrayBody}
 use Rattle.amqp_in_place.specs.Bodies.{HasValues}
 use Rattle.amqp_in_place.specs.Refs.{array_body}
 use Rattle.amqp_in_place.specs.InPlaceResults.{IsLeft}

@@ -1,7 +1,7 @@
 use Rattle.std.proofs.Common.{List, ℕ, ◌<◌, length, subst, arith}
-use Rattle.amqp_types.specs.Inputs.{slice_bytes}
-use Rattle.amqp_parsing.specs.ParseResults.{Refuses}
-use Rattle.amqp_parsing.specs.Bodies.{IsNoBody}
+use Rattle.amqp_value_core.specs.Inputs.{slice_bytes}
+use Rattle.amq_protocol_types.specs.parsing.ParseResults.{Refuses}
+use Rattle.amq_protocol_types.specs.parsing.Bodies.{IsNoBody}
 use Rattle.amqp_in_place.proofs.Owning.{values_there}
 use Rattle.amqp_in_place.proofs.refs.ArrayRef.to_owned.Goals as goal
 

@@ -1,5 +1,5 @@
 use Rattle.std.proofs.Common.{List, ℕ, sym, ◌∙◌, subst}
-use Rattle.amqp_grammar.specs.Maps.{value_at}
+use Rattle.amqp_value_core.specs.Maps.{value_at}
 use Rattle.amqp_in_place.specs.Bodies.{HasPairs, HasEntries}
 use Rattle.amqp_in_place.specs.Walks.{BeginsAt}
 use Rattle.amqp_in_place.proofs.Lookups.{begins_has_key}

@@ -1,5 +1,5 @@
 use Rattle.std.proofs.Common.{List, ℕ, Some, None, Option, sym, subst}
-use Rattle.amqp_grammar.specs.Maps.{last_at}
+use Rattle.amqp_value_core.specs.Maps.{last_at}
 use Rattle.amqp_in_place.specs.declared.refs.ValueRef.{ValueRef}
 use Rattle.amqp_in_place.specs.Bodies.{HasPairs}
 use Rattle.amqp_in_place.specs.Walks.{WrittenBegins, WrittenIs, EncodedBegins, ViewIs}

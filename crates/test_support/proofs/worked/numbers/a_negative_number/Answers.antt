@@ -1,5 +1,5 @@
 use Rattle.std.proofs.Common.{negsuc, ap, sym, ◌∙◌}
-use Rattle.amqp_grammar.specs.Values.{Tree, Trees, Entries}
+use Rattle.amqp_value_core.specs.Values.{Tree, Trees, Entries}
 use Rattle.amqp_value_core.specs.View.{view, view_step, array_step, table_step}
 use Rattle.amqp_value_core.specs.declared.value.AMQPValue.TheOpen.{AMQPValue-F}
 use Rattle.amqp_value_core.specs.declared.value.AMQPValue.TheVariants.{rolls-LongInt}

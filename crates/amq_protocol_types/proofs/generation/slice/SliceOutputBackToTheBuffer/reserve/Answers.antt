@@ -1,7 +1,7 @@
 use Rattle.std.proofs.Common.{rules, arith}
 use Rattle.std.proofs.lemmas.List.{length-replicate}
-use Rattle.amqp_generation.proofs.Slices.{put_next}
-use Rattle.amqp_generation.proofs.slice.SliceOutputBackToTheBuffer.reserve.Goals as goal
+use Rattle.amq_protocol_types.proofs.lemmas.generation.Slices.{put_next}
+use Rattle.amq_protocol_types.proofs.generation.slice.SliceOutputBackToTheBuffer.reserve.Goals as goal
 
 pub returns-clause-written : goal.returns-clause-written
 returns-clause-written c = (put_next _ _ _ _ _ _ c.self.view_is (search rules) (length-replicate c.args.n 0) (omega arith)).written

@@ -1,8 +1,8 @@
 use Rattle.std.proofs.Common.{take, drop, sym, subst, arith, rules}
-use Rattle.amqp_stream.proofs.Fillings.{length_behind, still_kept, read_on}
-use Rattle.amqp_stream.specs.Sources.Reaches.{here, there}
-use Rattle.amqp_stream.proofs.Calls.{kept_by}
-use Rattle.amqp_stream.proofs.pending.Pending.fill_from.Goals as goal
+use Rattle.amq_protocol_types.proofs.lemmas.stream.Fillings.{length_behind, still_kept, read_on}
+use Rattle.amq_protocol_types.specs.stream.Sources.Reaches.{here, there}
+use Rattle.amq_protocol_types.proofs.lemmas.stream.Calls.{kept_by}
+use Rattle.amq_protocol_types.proofs.stream.pending.Pending.fill_from.Goals as goal
 
 pub returns-in-Ok-clause-ok : goal.returns-in-Ok-clause-ok
 returns-in-Ok-clause-ok g c =

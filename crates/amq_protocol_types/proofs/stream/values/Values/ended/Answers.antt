@@ -1,9 +1,9 @@
 use Rattle.std.proofs.Common.{rules}
-use Rattle.amqp_grammar.specs.Nesting.{WireWithin}
-use Rattle.amqp_parsing.specs.Headers.{wanted}
-use Rattle.amqp_stream.specs.Readers.{kept}
-use Rattle.amqp_parsing.proofs.ParsingLaws.{more_wanted}
-use Rattle.amqp_stream.proofs.values.Values.ended.Goals as goal
+use Rattle.amqp_value_core.specs.Nesting.{WireWithin}
+use Rattle.amq_protocol_types.specs.parsing.Headers.{wanted}
+use Rattle.amq_protocol_types.specs.stream.Readers.{kept}
+use Rattle.amq_protocol_types.proofs.ParsingLaws.{more_wanted}
+use Rattle.amq_protocol_types.proofs.stream.values.Values.ended.Goals as goal
 
 pub returns-clause-answer : goal.returns-clause-answer
 returns-clause-answer c = λ left end.

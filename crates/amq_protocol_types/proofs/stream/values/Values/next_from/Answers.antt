@@ -1,9 +1,9 @@
 use Rattle.std.proofs.Common.{rules}
-use Rattle.amqp_stream.specs.Readers.{kept, has_failed, limits_of}
-use Rattle.amqp_parsing.proofs.ParsingLaws.{kept_within}
-use Rattle.amqp_stream.specs.Sources.Reaches.{here}
-use Rattle.amqp_stream.proofs.Told.{told}
-use Rattle.amqp_stream.proofs.values.Values.next_from.Goals as goal
+use Rattle.amq_protocol_types.specs.stream.Readers.{kept, has_failed, limits_of}
+use Rattle.amq_protocol_types.proofs.ParsingLaws.{kept_within}
+use Rattle.amq_protocol_types.specs.stream.Sources.Reaches.{here}
+use Rattle.amq_protocol_types.proofs.lemmas.stream.Told.{told}
+use Rattle.amq_protocol_types.proofs.stream.values.Values.next_from.Goals as goal
 
 pub returns : goal.returns
 returns g c = record {

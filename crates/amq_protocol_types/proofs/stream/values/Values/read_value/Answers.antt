@@ -1,9 +1,9 @@
 use Rattle.std.proofs.Common.{rules, ℕ, refl}
-use Rattle.amqp_stream.specs.Readers.{kept, has_failed}
-use Rattle.amqp_stream.specs.Sources.Reaches.{here}
-use Rattle.amqp_stream.proofs.Calls.{reaches_on, kept_by, kept_error}
-use Rattle.amqp_stream.proofs.Comes.{filled_waits, joined, answered}
-use Rattle.amqp_stream.proofs.values.Values.read_value.Goals as goal
+use Rattle.amq_protocol_types.specs.stream.Readers.{kept, has_failed}
+use Rattle.amq_protocol_types.specs.stream.Sources.Reaches.{here}
+use Rattle.amq_protocol_types.proofs.lemmas.stream.Calls.{reaches_on, kept_by, kept_error}
+use Rattle.amq_protocol_types.proofs.lemmas.stream.Comes.{filled_waits, joined, answered}
+use Rattle.amq_protocol_types.proofs.stream.values.Values.read_value.Goals as goal
 
 pub invariant_of-self-in-Lacks-clause-waiting : goal.invariant_of-self-in-Lacks-clause-waiting
 invariant_of-self-in-Lacks-clause-waiting g c =

@@ -1,8 +1,8 @@
 use Rattle.std.proofs.Common.{◌≡◌, ◌++◌, ◌-◌, ℕ, List, false, length}
 use Rattle.std.specs.Io.KnownBytes.{Consumes}
-use Rattle.amqp_stream.specs.Readers.{kept, has_failed}
-use Rattle.amqp_stream.specs.Sources.{Reaches}
-use Rattle.amqp_stream.proofs.values.Values.read_value.Given as goal
+use Rattle.amq_protocol_types.specs.stream.Readers.{kept, has_failed}
+use Rattle.amq_protocol_types.specs.stream.Sources.{Reaches}
+use Rattle.amq_protocol_types.proofs.stream.values.Values.read_value.Given as goal
 
 -- what came is retained after what was retained, and no call of the reader returned an error
 abbrev pub invariant-reads : goal.invariant-reads

@@ -1,12 +1,12 @@
 use Rattle.std.proofs.Common.{◌≡◌, ◌++◌, ◌∙◌, List, ℕ, [], ap, sym, subst, append-nil, rules}
 use Rattle.amqp_value_core.specs.View.{view}
-use Rattle.amqp_grammar.specs.Nesting.{WireWithin, OutcomeWithin}
-use Rattle.amqp_grammar.specs.Outcomes.{found}
-use Rattle.amqp_types.specs.Inputs.{slice_bytes}
-use Rattle.amqp_grammar.proofs.GrammarLaws.{front_within}
-use Rattle.amqp_stream.specs.Readers.{kept}
-use Rattle.amqp_parsing.proofs.ParsingLaws.{nothing_behind, kept_within}
-use Rattle.amqp_stream.proofs.values.Values.whole.Goals as goal
+use Rattle.amqp_value_core.specs.Nesting.{WireWithin, OutcomeWithin}
+use Rattle.amqp_value_core.specs.Outcomes.{found}
+use Rattle.amqp_value_core.specs.Inputs.{slice_bytes}
+use Rattle.amqp_value_core.proofs.GrammarLaws.{front_within}
+use Rattle.amq_protocol_types.specs.stream.Readers.{kept}
+use Rattle.amq_protocol_types.proofs.ParsingLaws.{nothing_behind, kept_within}
+use Rattle.amq_protocol_types.proofs.stream.values.Values.whole.Goals as goal
 
 pub returns-in-Ok-clause-answer : goal.returns-in-Ok-clause-answer
 returns-in-Ok-clause-answer c = λ left.

@@ -1,5 +1,5 @@
-use Rattle.amqp_types.proofs.Splits.{both_left}
-use Rattle.amqp_types.proofs.input.split.SplitInputParsableInput.take_from.Goals as goal
+use Rattle.amqp_value_core.proofs.Splits.{both_left}
+use Rattle.amqp_value_core.proofs.input.split.SplitInputParsableInput.take_from.Goals as goal
 
 pub returns-clause-bytes : goal.returns-clause-bytes
 returns-clause-bytes c = both_left _ _ _ _ _ c.min.ensures c.saturating_sub.ensures c.requires

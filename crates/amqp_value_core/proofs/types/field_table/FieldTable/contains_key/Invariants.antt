@@ -1,5 +1,5 @@
 use Rattle.std.proofs.Common.{◌≡◌}
-use Rattle.amqp_grammar.specs.Maps.{has_key}
+use Rattle.amqp_value_core.specs.Maps.{has_key}
 use Rattle.amqp_value_core.specs.Containers.{entries}
 use Rattle.amqp_value_core.proofs.types.field_table.FieldTable.contains_key.Given as goal
 

@@ -2,8 +2,8 @@ use Rattle.std.proofs.Common.{◌≡◌, [], ◌∷◌, refl, ap, ◌++◌, List
 use Rattle.std.specs.Fmt.{decimal, digits}
 use Rattle.std.specs.Prelude.{codes}
 use Rattle.std.proofs.Output.{has_written_of_eq}
-use Rattle.amqp_types.specs.Short.{refused_length}
-use Rattle.amqp_types.proofs.short_string.ShortStringErrorDisplay.fmt.Goals as goal
+use Rattle.amqp_value_core.specs.Short.{refused_length}
+use Rattle.amqp_value_core.proofs.types.short_string.ShortStringErrorDisplay.fmt.Goals as goal
 
 -- the greatest length, as it is printed
 greatest : decimal 255 ≡ 50 ∷ 53 ∷ 53 ∷ []

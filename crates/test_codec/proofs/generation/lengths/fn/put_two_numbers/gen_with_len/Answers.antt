@@ -1,5 +1,5 @@
-use Rattle.amqp_generation.proofs.Lengths.{write_appends, then_appends}
-use Rattle.test_values.proofs.generation.lengths.fn.put_two_numbers.gen_with_len.Goals as goal
+use Rattle.amq_protocol_types.proofs.Lengths.{write_appends, then_appends}
+use Rattle.test_codec.proofs.generation.lengths.fn.put_two_numbers.gen_with_len.Goals as goal
 
 pub returns : goal.returns
 returns g c =

@@ -1,0 +1,3 @@
+pub mod parsing
+pub mod generation
+pub mod stream

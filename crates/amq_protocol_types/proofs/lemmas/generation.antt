@@ -1,0 +1,9 @@
+pub mod Rooms
+pub mod Slices
+pub mod Steps
+pub mod Texts
+pub mod Arrays
+pub mod WhatWasRead
+pub mod ReadBack
+pub mod Tables
+pub mod Puts

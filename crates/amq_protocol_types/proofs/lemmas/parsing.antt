@@ -1,0 +1,15 @@
+pub mod Refused
+pub mod Payloads
+pub mod Frames
+pub mod Bodies
+pub mod TableBodies
+pub mod Typed
+pub mod Views
+pub mod Copies
+pub mod Gathered
+pub mod Waits
+pub mod Plain
+pub mod Again
+pub mod Appends
+pub mod Whole
+pub mod Untagged

@@ -1,0 +1,4 @@
+pub mod Comes
+pub mod Told
+pub mod Calls
+pub mod Fillings

@@ -1,4 +1,0 @@
-mod Comes
-mod Told
-pub mod Calls
-mod Fillings

@@ -1,3 +1,0 @@
-pub mod Ids
-mod Splits
-pub mod Bytes
