@@ -1,5 +1,5 @@
 -- Reading as a function and as a relation are the same.
-use Rattle.std.proofs.Common.{ℕ, suc, zero, ◌≡◌, ◌∙◌, ◌↔◌, sym, refl, subst, Option, Some, None, List, [], ◌∷◌, ◌++◌, length, arith, length-append}
+use Rattle.std.proofs.Common.{ℕ, ◌≡◌, ◌↔◌, sym, subst, Option, Some, None, List, [], ◌∷◌, ◌++◌, length, arith, length-append}
 use Rattle.std.specs.Prelude.{MatchOption}
 use Rattle.amqp_value_core.specs.declared.types.amqp_type.AMQPType.{AMQPType}
 use Rattle.amqp_value_core.specs.Values.{Tree}
@@ -7,14 +7,14 @@ use Rattle.amqp_value_core.specs.Ids.{kind}
 use Rattle.amqp_value_core.specs.Grammar.{Wire, Raw}
 use Rattle.amqp_value_core.specs.Nesting.{WireWithin, RawWithin, OutcomeWithin}
 use Rattle.amqp_value_core.specs.Inputs.{IsBytes}
-use Rattle.amqp_value_core.specs.Outcomes.{Reading, found, more, unknown, malformed, NeedsMoreOr, lack, FrontBy, Outcome}
-use Rattle.amqp_value_core.specs.Readings.{Front}
+use Rattle.amqp_value_core.specs.Outcomes.{Reading, found, more, unknown, malformed, NeedsMoreOr, lack, FrontBy, OutcomeBy, Outcome}
 use Rattle.amqp_value_core.specs.Payloads.{RawOutcome}
 use Rattle.amqp_value_core.specs.Decode.{outcome_by, meaning, outcome, raw_outcome}
 use Rattle.amqp_value_core.proofs.Found.{found_wire, found_raw}
 use Rattle.amqp_value_core.proofs.Limited.{one_outcome_within}
+use Rattle.amqp_value_core.proofs.Outcomes.{NeedsMoreOr-weaker, one_outcome, one_raw_outcome}
 use Rattle.amqp_value_core.proofs.Nests.{nesting-le, raw_nesting-le}
-use Rattle.amqp_value_core.proofs.Sound.{Ends, WireEnds, unless_weaker, raw_ends, wire_ends, means_spelled}
+use Rattle.amqp_value_core.proofs.Sound.{Ends, WireEnds, raw_ends, wire_ends, means_spelled}
 
 -- an encoding at the start is the outcome
 outcome_at : (s w rest : List ℕ) (v : Tree) → Wire w v → s ≡ w ++ rest → outcome s ≡ found v rest
@@ -34,62 +34,36 @@ front_by P Q s malformed finds forget ends = λ w rest v p is. let e = finds w r
 front_by P Q s (more n) finds forget ends = ends
 front_by P Q s unknown finds forget ends = ends
 
--- two outcomes of one list are one, if each P at the start is the second
-same_front : (P : List ℕ → Tree → Type 0) (s : List ℕ) (o p : Reading) → ((w rest : List ℕ) (v : Tree) → P w v → s ≡ w ++ rest → p ≡ found v rest)
-    → FrontBy P s o → FrontBy P s p → o ≡ p
-same_front P s (found v rest) p finds (w, q, is) there = sym (finds w rest v q is)
-same_front P s malformed malformed finds none there = refl
-same_front P s malformed (found v rest) finds none (w, q, is) = absurd (none w rest v q is)
-same_front P s malformed (more n) finds none there = absurd there
-same_front P s malformed unknown finds none there = absurd there
-same_front P s (more n) p finds here there = absurd here
-same_front P s unknown p finds here there = absurd here
-
--- two outcomes are one, if they are when no byte is missing
-same_unless : (n : ℕ) (P Q : Type 0) (o p : Reading) → (P → Q → o ≡ p) → NeedsMoreOr n P o → NeedsMoreOr n Q p → o ≡ p
-same_unless zero P Q o p same here there = same here there
-same_unless (suc n) P Q o p same here there = here ∙ sym there
-
 -- reading a payload results in what the function returns
 pub raw_outcome_holds : (type : AMQPType) (s : List ℕ) → IsBytes s → RawOutcome type s (raw_outcome type s)
 raw_outcome_holds type s bytes =
-    unless_weaker (lack type s) _ _ (raw_outcome type s)
+    NeedsMoreOr-weaker (lack type s) _ _ (raw_outcome type s)
     (front_by (Raw type) (RawWithin (length s) type) s (raw_outcome type s) (raw_outcome_at type s) (λ b v q. q.0))
     (raw_ends (length s) (meaning (length s)) (means_spelled (length s)) type s bytes)
 
 -- and to nothing else
 raw_outcome_only : (type : AMQPType) (s : List ℕ) (o : Reading) → IsBytes s → RawOutcome type s o → o ≡ raw_outcome type s
 raw_outcome_only type s o bytes here =
-    same_unless (lack type s) _ _ o (raw_outcome type s) (same_front (Raw type) s o (raw_outcome type s) (raw_outcome_at type s)) here (raw_outcome_holds type s bytes)
+    one_raw_outcome type s o (raw_outcome type s) here (raw_outcome_holds type s bytes)
 
--- reading that finds only encodings, and each encoding at the start, results in this outcome
-outcome_by_ends : (depth : ℕ) (s : List ℕ) (o : Reading) → ((w rest : List ℕ) (v : Tree) → Wire w v → s ≡ w ++ rest → o ≡ found v rest)
-    → WireEnds depth s o → Outcome s o
-outcome_by_ends depth [] o finds ends = ends
-outcome_by_ends depth (c ∷ b) o finds ends = at_kind (kind c) ends where
+-- reading that finds only encodings, and each P at the start, results in this outcome
+outcome_by_ends : (depth : ℕ) (P : List ℕ → Tree → Type 0) (s : List ℕ) (o : Reading) → ((w : List ℕ) (v : Tree) → WireWithin depth w v → P w v)
+    → ((w rest : List ℕ) (v : Tree) → P w v → s ≡ w ++ rest → o ≡ found v rest) → WireEnds depth s o → OutcomeBy P s o
+outcome_by_ends depth P [] o forget finds ends = ends
+outcome_by_ends depth P (c ∷ b) o forget finds ends = at_kind (kind c) ends where
   at_kind : (k : Option AMQPType) → MatchOption k (o ≡ unknown) (λ type. NeedsMoreOr (lack type b) (Ends (WireWithin depth) (c ∷ b) o) o)
-      → MatchOption k (o ≡ unknown) (λ type. NeedsMoreOr (lack type b) (Front (c ∷ b) o) o)
+      → MatchOption k (o ≡ unknown) (λ type. NeedsMoreOr (lack type b) (FrontBy P (c ∷ b) o) o)
   at_kind None is = is
-  at_kind (Some type) ends = unless_weaker (lack type b) _ _ o (front_by Wire (WireWithin depth) (c ∷ b) o finds (λ w v q. q.0)) ends
-
--- two outcomes of one list are one, if each encoding at the start is the second
-same_outcome : (s : List ℕ) (o p : Reading) → ((w rest : List ℕ) (v : Tree) → Wire w v → s ≡ w ++ rest → p ≡ found v rest)
-    → Outcome s o → Outcome s p → o ≡ p
-same_outcome [] o p finds here there = here ∙ sym there
-same_outcome (c ∷ b) o p finds here there = at_kind (kind c) here there where
-  at_kind : (k : Option AMQPType) → MatchOption k (o ≡ unknown) (λ type. NeedsMoreOr (lack type b) (Front (c ∷ b) o) o)
-      → MatchOption k (p ≡ unknown) (λ type. NeedsMoreOr (lack type b) (Front (c ∷ b) p) p) → o ≡ p
-  at_kind None here there = here ∙ sym there
-  at_kind (Some type) here there = same_unless (lack type b) _ _ o p (same_front Wire (c ∷ b) o p finds) here there
+  at_kind (Some type) ends = NeedsMoreOr-weaker (lack type b) _ _ o (front_by P (WireWithin depth) (c ∷ b) o finds forget) ends
 
 -- reading a value results in what the function returns
 pub outcome_holds : (s : List ℕ) → IsBytes s → Outcome s (outcome s)
 outcome_holds s bytes =
-    outcome_by_ends (length s) s (outcome s) (outcome_at s) (wire_ends (length s) (meaning (length s)) (means_spelled (length s)) s bytes)
+    outcome_by_ends (length s) Wire s (outcome s) (λ w v q. q.0) (outcome_at s) (wire_ends (length s) (meaning (length s)) (means_spelled (length s)) s bytes)
 
 -- and to nothing else
 outcome_only : (s : List ℕ) (o : Reading) → IsBytes s → Outcome s o → o ≡ outcome s
-outcome_only s o bytes here = same_outcome s o (outcome s) (outcome_at s) here (outcome_holds s bytes)
+outcome_only s o bytes here = one_outcome s o (outcome s) here (outcome_holds s bytes)
 
 -- the relation is the function
 pub outcome_is : (s : List ℕ) (o : Reading) → IsBytes s → Outcome s o ↔ (o ≡ outcome s)
@@ -105,18 +79,9 @@ raw_outcome_is type s o bytes = (raw_outcome_only type s o bytes, λ is. subst (
 within_at : (d : ℕ) (s w rest : List ℕ) (v : Tree) → WireWithin d w v → s ≡ w ++ rest → outcome_by (meaning d) s ≡ found v rest
 within_at d s w rest v p is = subst (λ x. outcome_by (meaning d) x ≡ found v rest) (sym is) (found_wire d w rest v p.0 p.1)
 
-within_by_ends : (d : ℕ) (s : List ℕ) (o : Reading) → ((w rest : List ℕ) (v : Tree) → WireWithin d w v → s ≡ w ++ rest → o ≡ found v rest)
-    → WireEnds d s o → OutcomeWithin d s o
-within_by_ends d [] o finds ends = ends
-within_by_ends d (c ∷ b) o finds ends = at_kind (kind c) ends where
-  at_kind : (k : Option AMQPType) → MatchOption k (o ≡ unknown) (λ type. NeedsMoreOr (lack type b) (Ends (WireWithin d) (c ∷ b) o) o)
-      → MatchOption k (o ≡ unknown) (λ type. NeedsMoreOr (lack type b) (FrontBy (WireWithin d) (c ∷ b) o) o)
-  at_kind None is = is
-  at_kind (Some type) ends = unless_weaker (lack type b) _ _ o (front_by (WireWithin d) (WireWithin d) (c ∷ b) o finds (λ w v q. q)) ends
-
 -- reading within a depth results in what the function returns, with containers at most that deep
 pub within_holds : (d : ℕ) (s : List ℕ) → IsBytes s → OutcomeWithin d s (outcome_by (meaning d) s)
-within_holds d s bytes = within_by_ends d s (outcome_by (meaning d) s) (within_at d s) (wire_ends d (meaning d) (means_spelled d) s bytes)
+within_holds d s bytes = outcome_by_ends d (WireWithin d) s (outcome_by (meaning d) s) (λ w v q. q) (within_at d s) (wire_ends d (meaning d) (means_spelled d) s bytes)
 
 -- and to nothing else
 pub within_is : (d : ℕ) (s : List ℕ) (o : Reading) → IsBytes s → OutcomeWithin d s o ↔ (o ≡ outcome_by (meaning d) s)

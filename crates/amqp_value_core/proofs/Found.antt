@@ -2,12 +2,11 @@
 -- follows its encoding.
 use Rattle.std.proofs.Common.{ℕ, suc, zero, ◌+◌, ◌-◌, ◌≤◌, ◌≡◌, ◌∙◌, ap, sym, refl, subst, Bool, true, ◌&&◌, Option, Some, None, option_map, List, [], ◌∷◌, ◌++◌, length, take, drop, arith, append_assoc, length-append}
 use Rattle.std.proofs.Math.Seq.{take-append_seam, drop-append_seam}
-use Rattle.std.proofs.lemmas.Bool.{le-ltb, le-leb}
+use Rattle.std.proofs.lemmas.Bool.{le-leb}
 use Rattle.std.proofs.lemmas.Nat.{from_be_bytes-to_be_bytes_4}
 use Rattle.std.proofs.lemmas.Str.{is_utf8-from_IsUtf8}
 use Rattle.std.specs.Prelude.{cond}
-use Rattle.std.specs.Option.{IfSome}
-use Rattle.std.specs.Int.{Width, w32, byte_len, from_be_bytes, to_be_bytes}
+use Rattle.std.specs.Int.{w32, byte_len, from_be_bytes, to_be_bytes}
 use Rattle.amqp_value_core.specs.declared.types.amqp_type.AMQPType.{AMQPType}
 use Rattle.amqp_value_core.specs.declared.types.amqp_type.AMQPType.TheVariants as amqp
 use Rattle.amqp_value_core.specs.Values.{Tree, scalar, short, long, octets, array, table, Trees, tree, Entries, no_entries, insert, insert_all}
@@ -15,8 +14,9 @@ use Rattle.amqp_value_core.specs.Layouts.{Layout, fixed}
 use Rattle.amqp_value_core.specs.Strings.{IsShort}
 use Rattle.amqp_value_core.specs.Grammar.{Wire, Raw, ArrayBody, TableBody, short_field, wire, raw_fixed, raw_short, raw_long, raw_octets, raw_array, raw_table, no_values, value, no_pairs, pair}
 use Rattle.amqp_value_core.specs.Nesting.{nesting, raw_nesting, body_nesting, pairs_nesting}
-use Rattle.amqp_value_core.specs.Outcomes.{Reading, found, more, unknown, malformed, length_field, counted, lack_of, frame_lack}
+use Rattle.amqp_value_core.specs.Outcomes.{Reading, found, more, unknown, malformed, length_field, counted, lack_of}
 use Rattle.amqp_value_core.specs.Decode.{Meaning, framed, raw_outcome_by, outcome_by, values_by, is_short, is_key, pairs_onto, meaning}
+use Rattle.amqp_value_core.proofs.Headers.{FirstWithin, first_within, lack_of-none, length-wire}
 
 -- the cases of reading, under names: by what the type tag denotes
 abbrev pub by_kind : Option AMQPType → Meaning → List ℕ → Reading
@@ -49,42 +49,11 @@ and_pairs read n es k o = elim o [ found v rest ↦ pairs_onto read n (insert k 
 abbrev pub and_key : Bool → Option Entries → Option Entries
 and_key t es = cond t es None
 
--- the first field of a layout is no wider than all
-first_fits : (type : AMQPType) → IfSome (fixed type) (λ f. f.first ≤ f.width)
-first_fits amqp.Boolean = omega arith
-first_fits amqp.ShortShortInt = omega arith
-first_fits amqp.ShortShortUInt = omega arith
-first_fits amqp.ShortInt = omega arith
-first_fits amqp.ShortUInt = omega arith
-first_fits amqp.LongInt = omega arith
-first_fits amqp.LongUInt = omega arith
-first_fits amqp.LongLongInt = omega arith
-first_fits amqp.LongLongUInt = omega arith
-first_fits amqp.Float = omega arith
-first_fits amqp.Double = omega arith
-first_fits amqp.Timestamp = omega arith
-first_fits amqp.DecimalValue = omega arith
-first_fits amqp.Void = omega arith
-first_fits _ = tt
-
-first-le : (type : AMQPType) (f : Layout) → fixed type ≡ Some f → f.first ≤ f.width
-first-le type f is = subst (λ o. IfSome o (λ f. f.first ≤ f.width)) is (first_fits type)
-
--- complete fields have no missing byte
-fixed_lack-whole : (f : Layout) (w : Width) (b : List ℕ) → f.first ≤ f.width → f.width ≤ length b → lack_of (Some f) w b ≡ 0
-fixed_lack-whole f w b first fields =
-    ap (λ t. cond t (f.first - length b) (f.width - length b)) (le-ltb (length b) f.first (omega arith)) ∙ omega arith
-
--- nor does a complete length-prefixed field
-frame_lack-whole : (w : Width) (b : List ℕ) → byte_len w ≤ length b → byte_len w + counted w b ≤ length b → frame_lack w b ≡ 0
-frame_lack-whole w b field frame =
-    ap (λ t. cond t (byte_len w - length b) (byte_len w + counted w b - length b)) (le-ltb (length b) (byte_len w) field) ∙ omega arith
-
 -- a payload of fixed width is found
 fixed_found : (mean : Meaning) (type : AMQPType) (f : Layout) (b rest : List ℕ) → fixed type ≡ Some f → length b ≡ f.width
     → raw_outcome_by mean type (b ++ rest) ≡ found (scalar (f.denotes b)) rest
 fixed_found mean type f b rest is wide =
-    let whole = fixed_lack-whole f (length_field type) (b ++ rest) (first-le type f is) (omega (arith, length-append b rest)) in
+    let whole = lack_of-none (Some f) (length_field type) (b ++ rest) (subst FirstWithin is (first_within type)) (omega (arith, length-append b rest)) in
     let front : take f.width (b ++ rest) ≡ b = ap (λ n. take n (b ++ rest)) (sym wide) ∙ take-append_seam b rest in
     let behind : drop f.width (b ++ rest) ≡ rest = ap (λ n. drop n (b ++ rest)) (sym wide) ∙ drop-append_seam b rest in
     ap (λ n. by_lack n mean type (b ++ rest)) (ap (λ o. lack_of o (length_field type) (b ++ rest)) is ∙ whole)
@@ -103,7 +72,7 @@ framed_found mean type l s rest v is field_wide counts means =
     ap (λ n. drop n b) (sym field_wide) ∙ (ap (drop (length l)) (append_assoc l s rest) ∙ drop-append_seam l (s ++ rest)) in
     let n : counted w b ≡ length s = ap (from_be_bytes w) field ∙ counts in
     let size : length b ≡ length l + length s + length rest = length-append (l ++ s) rest ∙ ap (λ k. k + length rest) (length-append l s) in
-    let whole = frame_lack-whole w b (omega arith) (omega arith) in
+    let whole = lack_of-none None w b tt (omega arith) in
     ap (λ k. by_lack k mean type b) (ap (λ o. lack_of o w b) is ∙ whole)
     ∙ (ap (λ o. by_layout o mean type b) is
     ∙ ((λ i. by_meaning (mean type (take (n i) (behind i))) (drop (n i) (behind i)))
@@ -118,10 +87,6 @@ is_short-true s is = λ i. le-leb (length s) 255 is.few i && is_utf8-from_IsUtf8
 is_key-true : (k s : List ℕ) → IsShort k → is_key (length k) (k ++ s) ≡ true
 is_key-true k s is =
     λ i. le-leb (length k) (length (k ++ s)) (omega (arith, length-append k s)) i && (ap is_short (take-append_seam k s) ∙ is_short-true k is) i
-
--- an encoding has its type tag
-pub wire_starts : (w : List ℕ) (v : Tree) → Wire w v → 1 ≤ length w
-wire_starts _ _ (wire c type b v is raw) = omega arith
 
 -- what starts with a value's encoding is that value, and then the others
 value_first : (read : List ℕ → Reading) (n : ℕ) (w rest : List ℕ) (v : Tree) → Wire w v → length (w ++ rest) ≤ suc n
@@ -175,19 +140,19 @@ mutual
       (λ inner deep. found_pairs inner (length body) no_entries body ps entries deep (omega arith)))
 
   -- and a body's values are those that it encodes
-  pub found_body : (depth n : ℕ) (body : List ℕ) (vs : Trees) (p : ArrayBody body vs) → body_nesting body vs p ≤ depth → length body ≤ n
+  found_body : (depth n : ℕ) (body : List ℕ) (vs : Trees) (p : ArrayBody body vs) → body_nesting body vs p ≤ depth → length body ≤ n
       → values_by (outcome_by (meaning depth)) n body ≡ Some vs
   found_body depth n _ _ no_values within room = refl
-  found_body depth zero _ _ (value w rest v vs first others) within room = absurd (omega (arith, length-append w rest, wire_starts w v first))
+  found_body depth zero _ _ (value w rest v vs first others) within room = absurd (omega (arith, length-append w rest, length-wire w v first))
   found_body depth (suc n) _ _ (value w rest v vs first others) within room =
       value_first (outcome_by (meaning depth)) n w rest v first room (found_wire depth w rest v first (omega arith))
-      ∙ ap (option_map (tree v)) (found_body depth n rest vs others (omega arith) (omega (arith, length-append w rest, wire_starts w v first)))
+      ∙ ap (option_map (tree v)) (found_body depth n rest vs others (omega arith) (omega (arith, length-append w rest, length-wire w v first)))
 
   -- and its pairs are put one after another
-  pub found_pairs : (depth n : ℕ) (es : Entries) (body : List ℕ) (ps : Entries) (p : TableBody body ps) → pairs_nesting body ps p ≤ depth → length body ≤ n
+  found_pairs : (depth n : ℕ) (es : Entries) (body : List ℕ) (ps : Entries) (p : TableBody body ps) → pairs_nesting body ps p ≤ depth → length body ≤ n
       → pairs_onto (outcome_by (meaning depth)) n es body ≡ Some (insert_all es ps)
   found_pairs depth n es _ _ no_pairs within room = refl
   found_pairs depth zero es _ _ (pair k w rest v ps key first others) within room = absurd (omega arith)
   found_pairs depth (suc n) es _ _ (pair k w rest v ps key first others) within room =
       pair_first (outcome_by (meaning depth)) n es k (w ++ rest) rest v key (found_wire depth w rest v first (omega arith))
-      ∙ found_pairs depth n (insert k v es) rest ps others (omega arith) (omega (arith, length-append k (w ++ rest), length-append w rest, wire_starts w v first))
+      ∙ found_pairs depth n (insert k v es) rest ps others (omega arith) (omega (arith, length-append k (w ++ rest), length-append w rest, length-wire w v first))

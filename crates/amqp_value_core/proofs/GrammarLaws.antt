@@ -1,20 +1,21 @@
--- The laws of the grammar, for proofs to cite. `src/laws.rt` states each but those of the last
--- three groups.
+-- The laws of the grammar, for proofs of other crates to cite. `src/laws.rt` states most of them.
 
--- one reading for each list
-pub use Rattle.amqp_value_core.proofs.Unique.{one_reading, one_raw_reading, one_body_meaning, one_pairs_meaning}
+-- one reading for each list, and bytes after their length
+pub use Rattle.amqp_value_core.proofs.Unique.{no_empty_wire, same_large, one_key, one_reading, one_raw_reading, one_body_meaning, one_pairs_meaning}
+pub use Rattle.amqp_value_core.proofs.Reading.{one_large}
 -- canonical encodings: their length, and that they are encodings
 pub use Rattle.amqp_value_core.proofs.Spelling.{size_of_scalar, size_of_array, size_of_table, length_of_payload, text_is_wire, payload_is_raw}
 -- outcomes: of a canonical encoding, with more bytes, and that there is one
 pub use Rattle.amqp_value_core.proofs.Reading.{reading_back}
-pub use Rattle.amqp_value_core.proofs.MoreBytes.{more_bytes, more_raw_bytes}
-pub use Rattle.amqp_value_core.proofs.Outcomes.{one_outcome, one_raw_outcome}
--- the outcome as a function
+pub use Rattle.amqp_value_core.proofs.MoreBytes.{NeedsMoreOr-more, more_bytes, more_raw_bytes}
+pub use Rattle.amqp_value_core.proofs.Outcomes.{NeedsMoreOr-weaker, raw_front, one_outcome, one_raw_outcome}
+-- the outcome as a function: its cases by what is first
+pub use Rattle.amqp_value_core.proofs.Found.{and_others, and_pairs}
 -- and that no payload but a short string, an array or a table is malformed
 pub use Rattle.amqp_value_core.proofs.Whole.{never_malformed}
 pub use Rattle.amqp_value_core.proofs.Agreement.{outcome_holds, outcome_is, raw_outcome_holds, raw_outcome_is}
 -- tables as finite maps, and what pairs mean
-pub use Rattle.amqp_value_core.proofs.Tables.{put_found, put_other, key_has_value, last_stays, option_or-none, pairs_rise, rising_pairs, same_tables, entries_rise}
+pub use Rattle.amqp_value_core.proofs.Tables.{put_found, put_other, key_has_value, last_stays, option_or-assoc, option_or-none, pairs_rise, rising_pairs, same_tables, entries_rise}
 -- what an encoding bounds, what is read from it, and that the canonical one is a shortest
 pub use Rattle.amqp_value_core.proofs.Bounds.{bounds, raw_bounds}
 pub use Rattle.amqp_value_core.proofs.Shortest.{what_is_read, what_raw_reads, read_is_value, raw_value, shortest, same_text_same_value}
@@ -31,15 +32,14 @@ pub use Rattle.amqp_value_core.proofs.Outcomes.{raw_whole, raw_found, wire_found
 -- bytes after their length: the number is theirs, the length-prefixed field is complete, and as a
 -- payload they are an array's body, a table's pairs or a short string
 pub use Rattle.amqp_value_core.proofs.Headers.{counted-long_field, lack_of-long_field}
-pub use Rattle.amqp_value_core.proofs.Headers.{counted-short_field, lack_of-short_field}
 pub use Rattle.amqp_value_core.proofs.Reading.{array_body}
 pub use Rattle.amqp_value_core.proofs.Reading.{table_body, short_bytes}
 -- reading if containers nest at most that deep
-pub use Rattle.amqp_value_core.proofs.Limited.{one_outcome_within, front_within, raw_to_value_within, raw_whole_within, raw_found_within, wire_found_within, raw_outcome_same, unlimited, raw_unlimited, deep_enough}
+pub use Rattle.amqp_value_core.proofs.Limited.{one_outcome_within, front_within, raw_to_value_within, value_to_raw_within, more_bytes_within, raw_whole_within, raw_found_within, wire_found_within, raw_outcome_same, unlimited, raw_unlimited, deep_enough}
 pub use Rattle.amqp_value_core.proofs.Reading.{array_body_within, table_body_within}
 pub use Rattle.amqp_value_core.proofs.TextDepth.{text_within, text_again, depth_within}
 pub use Rattle.amqp_value_core.proofs.Agreement.{within_holds, within_is}
-pub use Rattle.amqp_value_core.proofs.Headers.{extent-raw, extent_of as header_extent_of}
-pub use Rattle.amqp_value_core.proofs.Sound.{IsBytes-front as bytes_front}
-pub use Rattle.amqp_value_core.proofs.Limited.{malformed_append, unknown_append}
+-- how many bytes a header counts, and how many are missing
+pub use Rattle.amqp_value_core.proofs.Headers.{first_within, fields_lack_cut, fields_lack_known, frame_lack_cut, frame_lack_known, counted-append, extent-raw, length-wire}
+pub use Rattle.amqp_value_core.proofs.Headers.{extent_of as header_extent_of, extent_of-whole as header_extent_of-whole, extent_of-append as header_extent_of-append}
 pub use Rattle.amqp_value_core.proofs.Nests.{body_nesting-le, pairs_nesting-le}

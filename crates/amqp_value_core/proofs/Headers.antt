@@ -10,7 +10,7 @@ use Rattle.amqp_value_core.specs.declared.types.amqp_type.AMQPType.TheVariants a
 use Rattle.amqp_value_core.specs.Values.{Tree}
 use Rattle.amqp_value_core.specs.Layouts.{Layout, fixed}
 use Rattle.amqp_value_core.specs.Strings.{IsShort}
-use Rattle.amqp_value_core.specs.Grammar.{short_field, long_field, Raw, raw_fixed, raw_short, raw_long, raw_octets, raw_array, raw_table}
+use Rattle.amqp_value_core.specs.Grammar.{short_field, long_field, Wire, wire, Raw, raw_fixed, raw_short, raw_long, raw_octets, raw_array, raw_table}
 use Rattle.amqp_value_core.specs.Outcomes.{length_field, counted, frame_lack, fields_lack, lack_of, lack}
 
 -- how many bytes a payload of the layout has, or one with a length field
@@ -23,11 +23,11 @@ abbrev pub extent : AMQPType → List ℕ → ℕ
 extent type b = extent_of (fixed type) (length_field type) b
 
 -- the first field of a layout is within it
-abbrev FirstWithin : Option Layout → Type 0
+abbrev pub FirstWithin : Option Layout → Type 0
 FirstWithin o = IfSome o (λ f. f.first ≤ f.width)
 
 -- so it is in every line of the table
-first_within : (type : AMQPType) → FirstWithin (fixed type)
+pub first_within : (type : AMQPType) → FirstWithin (fixed type)
 first_within amqp.ShortString = tt
 first_within amqp.LongString = tt
 first_within amqp.ByteArray = tt
@@ -36,27 +36,27 @@ first_within amqp.FieldTable = tt
 first_within _ = omega arith
 
 -- what is missing of a first field that is cut short
-fields_lack_cut : (f : Layout) (b : List ℕ) → length b < f.first → fields_lack f b ≡ f.first - length b
+pub fields_lack_cut : (f : Layout) (b : List ℕ) → length b < f.first → fields_lack f b ≡ f.first - length b
 fields_lack_cut f b lt = rw (lt-ltb (length b) f.first lt) refl
 
 -- what is missing of the fields if the first one is complete
-fields_lack_known : (f : Layout) (b : List ℕ) → f.first ≤ length b → fields_lack f b ≡ f.width - length b
+pub fields_lack_known : (f : Layout) (b : List ℕ) → f.first ≤ length b → fields_lack f b ≡ f.width - length b
 fields_lack_known f b le = rw (le-ltb (length b) f.first le) refl
 
 -- what is missing of a length field that is cut short
-frame_lack_cut : (w : Width) (b : List ℕ) → length b < byte_len w → frame_lack w b ≡ byte_len w - length b
+pub frame_lack_cut : (w : Width) (b : List ℕ) → length b < byte_len w → frame_lack w b ≡ byte_len w - length b
 frame_lack_cut w b lt = rw (lt-ltb (length b) (byte_len w) lt) refl
 
 -- what is missing of a length-prefixed field if its length field is complete
-frame_lack_known : (w : Width) (b : List ℕ) → byte_len w ≤ length b → frame_lack w b ≡ byte_len w + counted w b - length b
+pub frame_lack_known : (w : Width) (b : List ℕ) → byte_len w ≤ length b → frame_lack w b ≡ byte_len w + counted w b - length b
 frame_lack_known w b le = rw (le-ltb (length b) (byte_len w) le) refl
 
 -- bytes after a complete length field don't change its number
-counted-append : (w : Width) (b t : List ℕ) → byte_len w ≤ length b → counted w (b ++ t) ≡ counted w b
+pub counted-append : (w : Width) (b t : List ℕ) → byte_len w ≤ length b → counted w (b ++ t) ≡ counted w b
 counted-append w b t le = rw (take-append-le (byte_len w) b t le) refl
 
 -- a length-prefixed field with no byte missing reaches its extent
-extent_of-whole : (o : Option Layout) (w : Width) (b : List ℕ) → lack_of o w b ≡ 0 → extent_of o w b ≤ length b
+pub extent_of-whole : (o : Option Layout) (w : Width) (b : List ℕ) → lack_of o w b ≡ 0 → extent_of o w b ≤ length b
 extent_of-whole (Some f) w b e = elim (cases_lt (length b) f.first) [
   | inl cut ↦ absurd (omega (arith, fields_lack_cut f b cut))
   | inr known ↦ omega (arith, fields_lack_known f b known)
@@ -67,12 +67,12 @@ extent_of-whole None w b e = elim (cases_lt (length b) (byte_len w)) [
 ]
 
 -- a length-prefixed field that reaches its extent has no byte missing
-lack_of-none : (o : Option Layout) (w : Width) (b : List ℕ) → FirstWithin o → extent_of o w b ≤ length b → lack_of o w b ≡ 0
+pub lack_of-none : (o : Option Layout) (w : Width) (b : List ℕ) → FirstWithin o → extent_of o w b ≤ length b → lack_of o w b ≡ 0
 lack_of-none (Some f) w b within le = omega (arith, fields_lack_known f b (omega arith))
 lack_of-none None w b within le = omega (arith, frame_lack_known w b (omega arith))
 
 -- more bytes after a complete length-prefixed field don't change its extent
-extent_of-append : (o : Option Layout) (w : Width) (b t : List ℕ) → lack_of o w b ≡ 0 → extent_of o w (b ++ t) ≡ extent_of o w b
+pub extent_of-append : (o : Option Layout) (w : Width) (b t : List ℕ) → lack_of o w b ≡ 0 → extent_of o w (b ++ t) ≡ extent_of o w b
 extent_of-append (Some f) w b t e = refl
 extent_of-append None w b t e = ap (λ n. byte_len w + n) (counted-append w b t (omega (arith, extent_of-whole None w b e)))
 
@@ -98,7 +98,7 @@ pub extent-whole : (type : AMQPType) (b : List ℕ) → lack type b ≡ 0 → ex
 extent-whole type b e = extent_of-whole (fixed type) (length_field type) b e
 
 -- a length-prefixed field that reaches its extent is complete
-pub lack-none : (type : AMQPType) (b : List ℕ) → extent type b ≤ length b → lack type b ≡ 0
+lack-none : (type : AMQPType) (b : List ℕ) → extent type b ≤ length b → lack type b ≡ 0
 lack-none type b le = lack_of-none (fixed type) (length_field type) b (first_within type) le
 
 -- more bytes after a complete length-prefixed field don't change its extent
@@ -118,15 +118,12 @@ lack-append type b t lt = lack_of-append (fixed type) (length_field type) b t lt
 pub counted-long_field : (s rest : List ℕ) → length s < 2 ^ 32 → counted w32 (long_field s ++ rest) ≡ length s
 counted-long_field s rest fits = from_be_bytes-to_be_bytes_4 (length s) fits
 
-pub counted-short_field : (s rest : List ℕ) → IsShort s → counted w8 (short_field s ++ rest) ≡ length s
+counted-short_field : (s rest : List ℕ) → IsShort s → counted w8 (short_field s ++ rest) ≡ length s
 counted-short_field s rest is = omega (arith, is.few)
 
 -- bytes after their length are a complete length-prefixed field
 pub lack_of-long_field : (s rest : List ℕ) → length s < 2 ^ 32 → lack_of None w32 (long_field s ++ rest) ≡ 0
 lack_of-long_field s rest fits = lack_of-none None w32 (long_field s ++ rest) tt (omega (arith, counted-long_field s rest fits, length-append s rest))
-
-pub lack_of-short_field : (s rest : List ℕ) → IsShort s → lack_of None w8 (short_field s ++ rest) ≡ 0
-lack_of-short_field s rest is = lack_of-none None w8 (short_field s ++ rest) tt (omega (arith, counted-short_field s rest is, length-append s rest))
 
 -- the extent of a payload is its length, whatever follows
 pub extent-raw : (type : AMQPType) (b rest : List ℕ) (v : Tree) → Raw type b v → extent type (b ++ rest) ≡ length b
@@ -140,3 +137,7 @@ extent-raw _ _ rest _ (raw_table body ps fits all) = omega (arith, counted-long_
 -- the length-prefixed field of a payload is complete, whatever follows
 pub lack-raw : (type : AMQPType) (b rest : List ℕ) (v : Tree) → Raw type b v → lack type (b ++ rest) ≡ 0
 lack-raw type b rest v p = lack-none type (b ++ rest) (omega (arith, extent-raw type b rest v p, length-append b rest))
+
+-- an encoding has its type tag
+pub length-wire : (w : List ℕ) (v : Tree) → Wire w v → 0 < length w
+length-wire _ _ (wire c type b v k p) = omega arith

@@ -1,30 +1,19 @@
 -- Headlines: what was read keeps to its encoding's length, and what is written is a shortest
 -- encoding that determines its value.
-use Rattle.std.proofs.Common.{◌≡◌, ◌-◌, ℕ, zero, suc, List, [], ◌∷◌, length, Option, Some, None, MatchOption, ap, subst, arith, length-append}
-use Rattle.amqp_value_core.specs.declared.types.amqp_type.AMQPType.{AMQPType}
+use Rattle.std.proofs.Common.{◌≡◌, ◌-◌, ℕ, List, length, ap, subst, arith, length-append}
 use Rattle.amqp_value_core.specs.Values.{Tree}
-use Rattle.amqp_value_core.specs.Ids.{kind}
 use Rattle.amqp_value_core.specs.Grammar.{Wire}
-use Rattle.amqp_value_core.specs.Outcomes.{found, unknown, lack, NeedsMoreOr, Outcome}
+use Rattle.amqp_value_core.specs.Outcomes.{found, Outcome}
 use Rattle.amqp_value_core.specs.Readings.{Front}
 use Rattle.amqp_value_core.specs.Texts.{text}
 use Rattle.amqp_value_core.specs.Headline.{IsWritableIn, IsShortest, TellsApart}
+use Rattle.amqp_value_core.proofs.Outcomes.{front_found}
 use Rattle.amqp_value_core.proofs.Bounds.{bounds}
 use Rattle.amqp_value_core.proofs.Shortest.{what_is_read, shortest, same_text_same_value}
 
 -- what is found has an encoding at the start
 pub found_front : (s rest : List ℕ) (v : Tree) → Outcome s (found v rest) → Front s (found v rest)
-found_front [] rest v x = absurd cc
-found_front (c ∷ b) rest v x = by (kind c) x
-  where
-    decided : (n : ℕ) → NeedsMoreOr n (Front (c ∷ b) (found v rest)) (found v rest) → Front (c ∷ b) (found v rest)
-    decided zero f = f
-    decided (suc n) e = absurd cc
-
-    by : (k : Option AMQPType) → MatchOption k (found v rest ≡ unknown) (λ type. NeedsMoreOr (lack type b) (Front (c ∷ b) (found v rest)) (found v rest))
-        → Front (c ∷ b) (found v rest)
-    by None e = absurd cc
-    by (Some type) f = decided (lack type b) f
+found_front s rest v x = front_found Wire s rest v x
 
 -- a value that was read is bounded by its encoding
 pub bounded_wire : (w : List ℕ) (v : Tree) → Wire w v → IsWritableIn (length w) v

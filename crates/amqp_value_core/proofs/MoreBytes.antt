@@ -4,63 +4,68 @@ use Rattle.std.proofs.lemmas.List.{nil_from_length}
 use Rattle.amqp_value_core.specs.declared.types.amqp_type.AMQPType.{AMQPType}
 use Rattle.amqp_value_core.specs.Values.{Tree}
 use Rattle.amqp_value_core.specs.Ids.{kind}
-use Rattle.amqp_value_core.specs.Grammar.{Raw}
-use Rattle.amqp_value_core.specs.Outcomes.{Reading, found, more, unknown, malformed, lack, NeedsMoreOr, Outcome}
-use Rattle.amqp_value_core.specs.Payloads.{RawFront, RawOutcome}
+use Rattle.amqp_value_core.specs.Grammar.{Wire, Raw}
+use Rattle.amqp_value_core.specs.Outcomes.{Reading, found, more, unknown, malformed, lack, NeedsMoreOr, FrontBy, RawOutcomeBy, OutcomeBy, Outcome}
+use Rattle.amqp_value_core.specs.Payloads.{RawOutcome}
 use Rattle.amqp_value_core.specs.Readings.{with_more, StillWaits}
 use Rattle.amqp_value_core.proofs.Fronts.{front_inside}
 use Rattle.amqp_value_core.proofs.Headers.{extent, extent-whole, extent-append, extent-raw, lack-whole, lack-append}
-use Rattle.amqp_value_core.proofs.Outcomes.{raw_whole, value_to_raw, raw_to_value, unknown_outcome}
+use Rattle.amqp_value_core.proofs.Outcomes.{raw_whole_by, value_to_raw, raw_to_value, unknown_outcome}
 
 -- a payload at the start of a joined list is in its first part, if that is a complete
 -- length-prefixed field
-pub raw_inside : (type : AMQPType) (s t b rest : List ℕ) (v : Tree) → lack type s ≡ 0 → Raw type b v → s ++ t ≡ b ++ rest → s ≡ b ++ drop (length b) s
+raw_inside : (type : AMQPType) (s t b rest : List ℕ) (v : Tree) → lack type s ≡ 0 → Raw type b v → s ++ t ≡ b ++ rest → s ≡ b ++ drop (length b) s
 raw_inside type s t b rest v whole p e =
     let same : extent type s ≡ length b = sym (extent-append type s t whole) ∙ (ap (extent type) e ∙ extent-raw type b rest v p) in
     front_inside s t b rest e (omega (arith, same, extent-whole type s whole))
 
--- what decides a complete length-prefixed field decides it with more bytes
-RawFront-append : (type : AMQPType) (s t : List ℕ) (o : Reading) → lack type s ≡ 0 → RawFront type s o → RawFront type (s ++ t) (with_more o t)
-RawFront-append type s t (found v rest) whole f = (f.0, f.1, ap (λ (x : List ℕ). x ++ t) f.2 ∙ append_assoc f.0 rest t)
-RawFront-append type s t malformed whole f = λ b rest v p e.
-    f b (drop (length b) s) v p (raw_inside type s t b rest v whole p e)
-RawFront-append type s t (more n) whole f = absurd f
-RawFront-append type s t unknown whole f = absurd f
-
 -- if n bytes are missing, that is the outcome
-NeedsMoreOr-more : (n : ℕ) (P : Type 0) → 0 < n → NeedsMoreOr n P (more n)
+pub NeedsMoreOr-more : (n : ℕ) (P : Type 0) → 0 < n → NeedsMoreOr n P (more n)
 NeedsMoreOr-more zero P lt = absurd (omega arith)
 NeedsMoreOr-more (suc n) P lt = refl
 
--- reading a payload that is short by n bytes results in asking for them
-raw_lacks : (type : AMQPType) (s : List ℕ) (n : ℕ) → lack type s ≡ n → 0 < n → RawOutcome type s (more n)
-raw_lacks type s n e lt =
-    subst (λ (m : ℕ). NeedsMoreOr m (RawFront type s (more n)) (more n)) (sym e) (NeedsMoreOr-more n (RawFront type s (more n)) lt)
+-- P holds of payloads of the type
+module _ (P : List ℕ → Tree → Type 0) (type : AMQPType) (raw : (b : List ℕ) (v : Tree) → P b v → Raw type b v) (s t : List ℕ) where
+  -- what decides a complete length-prefixed field decides it with more bytes
+  front_append : (o : Reading) → lack type s ≡ 0 → FrontBy P s o → FrontBy P (s ++ t) (with_more o t)
+  front_append (found v rest) whole f = (f.0, f.1, ap (λ (x : List ℕ). x ++ t) f.2 ∙ append_assoc f.0 rest t)
+  front_append malformed whole f = λ b rest v p e.
+      f b (drop (length b) s) v p (raw_inside type s t b rest v whole (raw b v p) e)
+  front_append (more n) whole f = absurd f
+  front_append unknown whole f = absurd f
 
--- the outcome of reading a payload, with more bytes
-pub more_raw_bytes : (type : AMQPType) (s t : List ℕ) (o : Reading) → RawOutcome type s o → StillWaits o t → RawOutcome type (s ++ t) (with_more o t)
-more_raw_bytes type s t o x waits = by (lack type s) refl x
-  where
-    by : (n : ℕ) → lack type s ≡ n → NeedsMoreOr n (RawFront type s o) o → RawOutcome type (s ++ t) (with_more o t)
-    by zero whole f = raw_whole type (s ++ t) (with_more o t) (lack-whole type s t whole) (RawFront-append type s t o whole f)
-    by (suc n) e is =
-        let less : length t < suc n = subst (λ (r : Reading). StillWaits r t) is waits in
-        let left : lack type (s ++ t) ≡ suc n - length t = lack-append type s t (rw e less) ∙ ap (λ (m : ℕ). m - length t) e in
-        subst (λ (r : Reading). RawOutcome type (s ++ t) (with_more r t)) (sym is)
-        (raw_lacks type (s ++ t) (suc n - length t) left (omega arith))
+  -- the outcome of reading a payload, with more bytes
+  pub more_raw_bytes_by : (o : Reading) → RawOutcomeBy P type s o → StillWaits o t → RawOutcomeBy P type (s ++ t) (with_more o t)
+  more_raw_bytes_by o x waits = by (lack type s) refl x
+    where
+      by : (n : ℕ) → lack type s ≡ n → NeedsMoreOr n (FrontBy P s o) o → RawOutcomeBy P type (s ++ t) (with_more o t)
+      by zero whole f = raw_whole_by P type (s ++ t) (with_more o t) (lack-whole type s t whole) (front_append o whole f)
+      by (suc n) e is =
+          let less : length t < suc n = subst (λ (r : Reading). StillWaits r t) is waits in
+          let left : lack type (s ++ t) ≡ suc n - length t = lack-append type s t (rw e less) ∙ ap (λ (m : ℕ). m - length t) e in
+          subst (λ (r : Reading). RawOutcomeBy P type (s ++ t) (with_more r t)) (sym is)
+          (subst (λ (m : ℕ). RawOutcomeBy P type (s ++ t) (more m)) left (NeedsMoreOr-more (lack type (s ++ t)) _ (omega (arith, left))))
 
--- the outcome of reading a value, with more bytes
-pub more_bytes : (s t : List ℕ) (o : Reading) → Outcome s o → StillWaits o t → Outcome (s ++ t) (with_more o t)
-more_bytes [] t o is waits =
+-- the outcome of reading a value, with more bytes, if after each type tag it is that
+pub more_bytes_by : (P : List ℕ → Tree → Type 0) (s t : List ℕ) (o : Reading)
+    → ((c : ℕ) (type : AMQPType) (b : List ℕ) → kind c ≡ Some type → OutcomeBy P (c ∷ b) o → OutcomeBy P (c ∷ (b ++ t)) (with_more o t))
+    → OutcomeBy P s o → StillWaits o t → OutcomeBy P (s ++ t) (with_more o t)
+more_bytes_by P [] t o typed is waits =
     let less : length t < 1 = subst (λ (r : Reading). StillWaits r t) is waits in
-    subst (λ (x : List ℕ). Outcome x (with_more o x)) (sym (nil_from_length t (omega arith)))
+    subst (λ (x : List ℕ). OutcomeBy P x (with_more o x)) (sym (nil_from_length t (omega arith)))
     (ap (λ (r : Reading). with_more r []) is)
-more_bytes (c ∷ b) t o x waits = by (kind c) refl
+more_bytes_by P (c ∷ b) t o typed x waits = by (kind c) refl
   where
-    by : (k : Option AMQPType) → kind c ≡ k → Outcome (c ∷ (b ++ t)) (with_more o t)
-    by None k =
-        let known = unknown_outcome c b o k in
-        (unknown_outcome c (b ++ t) (with_more o t) k).1 (ap (λ (r : Reading). with_more r t) (known.0 x))
-    by (Some type) k =
-        raw_to_value c type (b ++ t) (with_more o t) k
-        (more_raw_bytes type b t o (value_to_raw c type b o k x) waits)
+    by : (k : Option AMQPType) → kind c ≡ k → OutcomeBy P (c ∷ (b ++ t)) (with_more o t)
+    by None k = (unknown_outcome P c (b ++ t) (with_more o t) k).1 (ap (λ (r : Reading). with_more r t) ((unknown_outcome P c b o k).0 x))
+    by (Some type) k = typed c type b k x
+
+-- ---- without a limit
+
+pub more_raw_bytes : (type : AMQPType) (s t : List ℕ) (o : Reading) → RawOutcome type s o → StillWaits o t → RawOutcome type (s ++ t) (with_more o t)
+more_raw_bytes type s t o x waits = more_raw_bytes_by (Raw type) type (λ b v p. p) s t o x waits
+
+pub more_bytes : (s t : List ℕ) (o : Reading) → Outcome s o → StillWaits o t → Outcome (s ++ t) (with_more o t)
+more_bytes s t o x waits =
+    more_bytes_by Wire s t o
+    (λ c type b k y. raw_to_value c type (b ++ t) (with_more o t) k (more_raw_bytes type b t o (value_to_raw c type b o k y) waits)) x waits

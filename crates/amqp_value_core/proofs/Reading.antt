@@ -1,5 +1,5 @@
 -- Reading back: the canonical encoding of a value is read as that value, if it is readable.
-use Rattle.std.proofs.Common.{◌≡◌, ◌<◌, ◌≤◌, ◌^◌, ℕ, suc, subst, List, [], ◌∷◌, ◌++◌, length, drop, Some, None, Bool, true, false, refl, sym, ap, ◌∙◌, IsTrue, if◌then◌else◌}
+use Rattle.std.proofs.Common.{◌≡◌, ◌<◌, ◌≤◌, ◌^◌, ℕ, suc, subst, List, [], ◌∷◌, ◌++◌, length, drop, Some, None, Bool, true, false, refl, sym, ap, ◌∙◌, IsTrue, if◌then◌else◌, arith}
 use Rattle.std.specs.Int.{w32}
 use Rattle.std.proofs.lemmas.Bool.{and_from, both_ways}
 use Rattle.amqp_value_core.specs.declared.types.amqp_type.AMQPType.{AMQPType}
@@ -22,19 +22,13 @@ use Rattle.amqp_value_core.proofs.Outcomes.{raw_of_wire, raw_whole, raw_to_value
 use Rattle.amqp_value_core.proofs.Spelling.{text_is_wire}
 
 -- two lists after their lengths, at the start of one list, are one
-one_large : (s t x y : List ℕ) → length s < 2 ^ 32 → length t < 2 ^ 32 → long_field s ++ x ≡ long_field t ++ y → (s ≡ t) × (x ≡ y)
+pub one_large : (s t x y : List ℕ) → length s < 2 ^ 32 → length t < 2 ^ 32 → long_field s ++ x ≡ long_field t ++ y → (s ≡ t) × (x ≡ y)
 one_large s t x y short_s short_t e =
     let len : length s ≡ length t = sym (counted-long_field s x short_s) ∙ (ap (counted w32) e ∙ counted-long_field t y short_t) in
     same_fronts s t x y len (ap (drop 4) e)
 
--- the payload of an array is a body after its length
-pub array_body : (s x b y : List ℕ) (z : Tree) → length s < 2 ^ 32 → Raw amqp.FieldArray b z → long_field s ++ x ≡ b ++ y → (us : Trees) × ArrayBody s us
-array_body s x _ y _ fits (raw_fixed type f b row len) e = absurd cc
-array_body s x _ y _ fits (raw_array c us room p) e =
-    let same = one_large s c x y fits room e in
-    (us, rw same.0 p)
-
--- and one that nests no deeper than its payload, which counts one more
+-- the payload of an array is a body after its length, which nests no deeper than the payload, which
+-- counts one more
 pub array_body_within : (d : ℕ) (s x b y : List ℕ) (z : Tree) → length s < 2 ^ 32 → (p : Raw amqp.FieldArray b z) → raw_nesting amqp.FieldArray b z p ≤ d
     → long_field s ++ x ≡ b ++ y → (us : Trees) × (q : ArrayBody s us) × (suc (body_nesting s us q) ≤ d)
 array_body_within d s x _ y _ fits (raw_fixed type f b row len) within e = absurd cc
@@ -43,13 +37,10 @@ array_body_within d s x _ y _ fits (raw_array c us room p) within e =
     let at = subst (λ (t : List ℕ). (q : ArrayBody t us) × (suc (body_nesting t us q) ≤ d)) (sym same.0) (p, within) in
     (us, at.0, at.1)
 
--- the payload of a table is pairs after their length
-pub table_body : (s x b y : List ℕ) (z : Tree) → length s < 2 ^ 32 → Raw amqp.FieldTable b z → long_field s ++ x ≡ b ++ y → (ps : Entries) × TableBody s ps
-table_body s x _ y _ fits (raw_fixed type f b row len) e = absurd cc
-table_body s x _ y _ fits (raw_table c ps room p) e =
-    let same = one_large s c x y fits room e in
-    (ps, rw same.0 p)
+pub array_body : (s x b y : List ℕ) (z : Tree) → length s < 2 ^ 32 → Raw amqp.FieldArray b z → long_field s ++ x ≡ b ++ y → (us : Trees) × ArrayBody s us
+array_body s x b y z fits p e = let r = array_body_within (raw_nesting amqp.FieldArray b z p) s x b y z fits p (omega arith) e in (r.0, r.1)
 
+-- the payload of a table is pairs after their length
 pub table_body_within : (d : ℕ) (s x b y : List ℕ) (z : Tree) → length s < 2 ^ 32 → (p : Raw amqp.FieldTable b z) → raw_nesting amqp.FieldTable b z p ≤ d
     → long_field s ++ x ≡ b ++ y → (ps : Entries) × (q : TableBody s ps) × (suc (pairs_nesting s ps q) ≤ d)
 table_body_within d s x _ y _ fits (raw_fixed type f b row len) within e = absurd cc
@@ -57,6 +48,9 @@ table_body_within d s x _ y _ fits (raw_table c ps room p) within e =
     let same = one_large s c x y fits room e in
     let at = subst (λ (t : List ℕ). (q : TableBody t ps) × (suc (pairs_nesting t ps q) ≤ d)) (sym same.0) (p, within) in
     (ps, at.0, at.1)
+
+pub table_body : (s x b y : List ℕ) (z : Tree) → length s < 2 ^ 32 → Raw amqp.FieldTable b z → long_field s ++ x ≡ b ++ y → (ps : Entries) × TableBody s ps
+table_body s x b y z fits p e = let r = table_body_within (raw_nesting amqp.FieldTable b z p) s x b y z fits p (omega arith) e in (r.0, r.1)
 
 -- the payload of a short string is one after its length
 pub short_bytes : (s x b y : List ℕ) (z : Tree) → Raw amqp.ShortString b z → short_field s ++ x ≡ b ++ y → IsShort s
@@ -81,7 +75,7 @@ no_empty_text (table es) x e = cc
 
 mutual
   -- a value whose canonical encoding is an encoding, of whatever value, is readable
-  pub text_readable : (v : Tree) (x w y : List ℕ) (z : Tree) → IsValue v → Fits v → Wire w z → text v ++ x ≡ w ++ y → IsTrue (readable v)
+  text_readable : (v : Tree) (x w y : List ℕ) (z : Tree) → IsValue v → Fits v → Wire w z → text v ++ x ≡ w ++ y → IsTrue (readable v)
   text_readable (scalar s) x w y z is fits p e = refl
   text_readable (short s) x w y z is fits p e = absurd (no_wire (id_of amqp.ShortString) (short_field s ++ x) w y z refl p e)
   text_readable (long s) x w y z is fits p e = refl
@@ -96,7 +90,7 @@ mutual
       pairs_readable es (pairs es) b.0 is fits.1 b.1 refl
 
   -- and so are values whose joined encodings are an array's body
-  pub body_readable : (vs : Trees) (b : List ℕ) (us : Trees) → AreValues vs → AllFit vs → ArrayBody b us → body vs ≡ b → IsTrue (all_readable vs)
+  body_readable : (vs : Trees) (b : List ℕ) (us : Trees) → AreValues vs → AllFit vs → ArrayBody b us → body vs ≡ b → IsTrue (all_readable vs)
   body_readable no_trees b us is fits p e = refl
   body_readable (tree v vs) _ _ is fits no_values e = absurd (no_empty_text v (body vs) e)
   body_readable (tree v vs) _ _ is fits (value w more z us p all) e =
@@ -105,7 +99,7 @@ mutual
       and_from (readable v) (all_readable vs) r (body_readable vs more us is.1 fits.1 all same.1)
 
   -- and those that with their keys are a table's pairs
-  pub pairs_readable : (es : Entries) (b : List ℕ) (ps : Entries) → AreEntries es → EntriesFit es → TableBody b ps → pairs es ≡ b → IsTrue (entries_readable es)
+  pairs_readable : (es : Entries) (b : List ℕ) (ps : Entries) → AreEntries es → EntriesFit es → TableBody b ps → pairs es ≡ b → IsTrue (entries_readable es)
   pairs_readable no_entries b ps are fits p e = refl
   pairs_readable (entry k v es) _ _ are fits no_pairs e = absurd cc
   pairs_readable (entry k v es) _ _ are fits (pair j w more z ps key p all) e =

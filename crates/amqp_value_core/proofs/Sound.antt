@@ -1,13 +1,13 @@
 -- What is found has an encoding: reading as a function finds nothing but values of the grammar.
-use Rattle.std.proofs.Common.{ℕ, suc, zero, ◌+◌, ◌-◌, ◌≤◌, ◌<◌, ◌^◌, ◌≡◌, ◌∙◌, ap, sym, refl, subst, Bool, true, false, Option, Some, None, option_map, List, [], ◌∷◌, ◌++◌, length, get_or, take, drop, arith, append_assoc, length-take, length-drop}
-use Rattle.std.proofs.lemmas.Bool.{ltb-true, ltb-false, leb-true, and_parts}
+use Rattle.std.proofs.Common.{ℕ, suc, zero, ◌+◌, ◌-◌, ◌<◌, ◌^◌, ◌≡◌, ◌∙◌, ap, sym, refl, subst, Bool, true, false, Option, Some, None, option_map, List, [], ◌∷◌, ◌++◌, length, take, drop, arith, append_assoc, length-take, length-drop}
+use Rattle.std.proofs.lemmas.Bool.{leb-true, and_parts}
 use Rattle.std.proofs.lemmas.List.{take-append-drop}
 use Rattle.std.proofs.lemmas.Nat.{be_bytes_4}
 use Rattle.std.proofs.lemmas.Str.{IsUtf8-from_is_utf8}
-use Rattle.std.specs.Prelude.{cond, nat_lt, nat_le, MatchOption}
+use Rattle.std.specs.Prelude.{cond, nat_le, MatchOption}
 use Rattle.std.specs.Str.{is_utf8}
 use Rattle.std.specs.Option.{IfSome}
-use Rattle.std.specs.Int.{Width, w8, w32, byte_len, from_be_bytes, to_be_bytes}
+use Rattle.std.specs.Int.{w8, w32, byte_len, from_be_bytes, to_be_bytes}
 use Rattle.amqp_value_core.specs.declared.types.amqp_type.AMQPType.{AMQPType}
 use Rattle.amqp_value_core.specs.declared.types.amqp_type.AMQPType.TheVariants as amqp
 use Rattle.amqp_value_core.specs.Values.{Tree, short, long, octets, array, table, Trees, tree, Entries, no_entries, entry, insert, insert_all}
@@ -19,28 +19,10 @@ use Rattle.amqp_value_core.specs.Nesting.{WireWithin, RawWithin, BodyWithin, Pai
 use Rattle.amqp_value_core.specs.Inputs.{IsBytes}
 use Rattle.amqp_value_core.specs.Outcomes.{Reading, found, more, unknown, malformed, NeedsMoreOr, length_field, counted, lack, lack_of, frame_lack}
 use Rattle.amqp_value_core.specs.Decode.{Meaning, framed, raw_outcome_by, outcome_by, values_by, is_short, is_key, pairs_onto, meaning}
+use Rattle.amqp_value_core.proofs.Bytes.{bytes_behind, bytes_take, bytes_drop, byte_at}
+use Rattle.amqp_value_core.proofs.Headers.{extent_of-whole}
+use Rattle.amqp_value_core.proofs.Outcomes.{NeedsMoreOr-weaker}
 use Rattle.amqp_value_core.proofs.Found.{by_kind, by_layout, by_lack, by_meaning, and_others, and_pairs, and_key}
-
--- a part of some bytes is bytes
-pub IsBytes-front : (s t : List ℕ) → IsBytes (s ++ t) → IsBytes s
-IsBytes-front [] t bytes = tt
-IsBytes-front (c ∷ s) t bytes = (bytes.0, IsBytes-front s t bytes.1)
-
-IsBytes-behind : (s t : List ℕ) → IsBytes (s ++ t) → IsBytes t
-IsBytes-behind [] t bytes = bytes
-IsBytes-behind (c ∷ s) t bytes = IsBytes-behind s t bytes.1
-
-IsBytes-take : (n : ℕ) (s : List ℕ) → IsBytes s → IsBytes (take n s)
-IsBytes-take n s bytes = IsBytes-front (take n s) (drop n s) (subst IsBytes (sym (take-append-drop n s)) bytes)
-
-IsBytes-drop : (n : ℕ) (s : List ℕ) → IsBytes s → IsBytes (drop n s)
-IsBytes-drop n s bytes = IsBytes-behind (take n s) (drop n s) (subst IsBytes (sym (take-append-drop n s)) bytes)
-
--- each is below 256
-IsBytes-get : (s : List ℕ) → IsBytes s → (i : ℕ) → get_or s i 0 < 256
-IsBytes-get [] bytes i = omega arith
-IsBytes-get (c ∷ s) bytes zero = bytes.0
-IsBytes-get (c ∷ s) bytes (suc i) = IsBytes-get s bytes.1 i
 
 -- P holds of a prefix of s and the value that was found in it, or s is rejected
 abbrev pub Ends : (List ℕ → Tree → Type 0) → List ℕ → Reading → Type 0
@@ -49,7 +31,7 @@ Ends P s malformed = Unit {0}
 Ends P s _ = ⊥
 
 -- P holds of a prefix of s and the value that was found in it, if one was
-abbrev pub IfFound : (List ℕ → Tree → Type 0) → List ℕ → Reading → Type 0
+abbrev IfFound : (List ℕ → Tree → Type 0) → List ℕ → Reading → Type 0
 IfFound P s (found v rest) = (b : List ℕ) × P b v × (s ≡ b ++ rest)
 IfFound P s _ = Unit {0}
 
@@ -68,21 +50,6 @@ abbrev pub Means : ℕ → Meaning → Type 0
 Means depth mean = (type : AMQPType) (l s : List ℕ) → IsBytes l → length l ≡ byte_len (length_field type)
     → from_be_bytes (length_field type) l ≡ length s → IsBytes s → IfSome (mean type s) (RawWithin depth type (l ++ s))
 
--- fields with no byte missing are complete
-fixed_lack-zero : (f : Layout) (w : Width) (b : List ℕ) → lack_of (Some f) w b ≡ 0 → f.width ≤ length b
-fixed_lack-zero f w b whole = at_test (nat_lt (length b) f.first) refl whole where
-  at_test : (t : Bool) → nat_lt (length b) f.first ≡ t → cond t (f.first - length b) (f.width - length b) ≡ 0 → f.width ≤ length b
-  at_test true is whole = absurd (omega (arith, ltb-true (length b) f.first is))
-  at_test false is whole = omega arith
-
--- so is a length-prefixed field
-frame_lack-zero : (w : Width) (b : List ℕ) → frame_lack w b ≡ 0 → (byte_len w ≤ length b) × (byte_len w + counted w b ≤ length b)
-frame_lack-zero w b whole = at_test (nat_lt (length b) (byte_len w)) refl whole where
-  at_test : (t : Bool) → nat_lt (length b) (byte_len w) ≡ t → cond t (byte_len w - length b) (byte_len w + counted w b - length b) ≡ 0
-      → (byte_len w ≤ length b) × (byte_len w + counted w b ≤ length b)
-  at_test true is whole = absurd (omega (arith, ltb-true (length b) (byte_len w) is))
-  at_test false is whole = (ltb-false (length b) (byte_len w) is, omega arith)
-
 -- reading what has a meaning
 by_meaning_ends : (P : List ℕ → Tree → Type 0) (s b rest : List ℕ) (v : Option Tree) → IfSome v (P b) → s ≡ b ++ rest → Ends P s (by_meaning v rest)
 by_meaning_ends P s b rest None spelled is = tt
@@ -97,20 +64,20 @@ framed_ends depth mean type b means bytes whole =
     let behind = drop (byte_len w) b in
     let n = counted w b in
     let s = take n behind in
-    let enough = frame_lack-zero w b whole in
+    let enough = extent_of-whole None w b whole in
     let wide : length l ≡ byte_len w = length-take (byte_len w) b ∙ omega (arith, enough) in
     let counts : n ≡ length s = omega (arith, enough, length-take n behind, length-drop (byte_len w) b) in
     let is : b ≡ (l ++ s) ++ drop n behind =
     sym (take-append-drop (byte_len w) b) ∙ (ap (λ t. l ++ t) (sym (take-append-drop n behind)) ∙ sym (append_assoc l s (drop n behind))) in
     by_meaning_ends (RawWithin depth type) b (l ++ s) (drop n behind) (mean type s)
-    (means type l s (IsBytes-take (byte_len w) b bytes) wide counts (IsBytes-take n behind (IsBytes-drop (byte_len w) b bytes))) is
+    (means type l s (bytes_take (byte_len w) b bytes) wide counts (bytes_take n behind (bytes_drop (byte_len w) b bytes))) is
 
 -- reading a payload with no byte missing
 by_layout_ends : (depth : ℕ) (mean : Meaning) (type : AMQPType) (b : List ℕ) → Means depth mean → IsBytes b
     → (f : Option Layout) → fixed type ≡ f → lack_of f (length_field type) b ≡ 0 → Ends (RawWithin depth type) b (by_layout f mean type b)
 by_layout_ends depth mean type b means bytes None is whole = framed_ends depth mean type b means bytes whole
 by_layout_ends depth mean type b means bytes (Some f) is whole =
-    let field = fixed_lack-zero f (length_field type) b whole in
+    let field = extent_of-whole (Some f) (length_field type) b whole in
     (take f.width b, (raw_fixed type f (take f.width b) is (length-take f.width b ∙ omega arith), omega arith), sym (take-append-drop f.width b))
 
 -- reading a payload
@@ -127,11 +94,6 @@ id_before depth c type b malformed is ends = tt
 id_before depth c type b (more n) is ends = ends
 id_before depth c type b unknown is ends = ends
 
--- more is true if no byte is missing
-pub unless_weaker : (n : ℕ) (P Q : Type 0) (o : Reading) → (P → Q) → NeedsMoreOr n P o → NeedsMoreOr n Q o
-unless_weaker zero P Q o weaker here = weaker here
-unless_weaker (suc n) P Q o weaker here = here
-
 -- reading a value
 pub wire_ends : (depth : ℕ) (mean : Meaning) → Means depth mean → (s : List ℕ) → IsBytes s → WireEnds depth s (outcome_by mean s)
 wire_ends depth mean means [] bytes = refl
@@ -140,7 +102,7 @@ wire_ends depth mean means (c ∷ b) bytes = at_kind (kind c) refl where
       → MatchOption k (by_kind k mean b ≡ unknown) (λ type. NeedsMoreOr (lack type b) (Ends (WireWithin depth) (c ∷ b) (by_kind k mean b)) (by_kind k mean b))
   at_kind None is = refl
   at_kind (Some type) is =
-      unless_weaker (lack type b) (Ends (RawWithin depth type) b (raw_outcome_by mean type b)) (Ends (WireWithin depth) (c ∷ b) (raw_outcome_by mean type b))
+      NeedsMoreOr-weaker (lack type b) (Ends (RawWithin depth type) b (raw_outcome_by mean type b)) (Ends (WireWithin depth) (c ∷ b) (raw_outcome_by mean type b))
       (raw_outcome_by mean type b) (id_before depth c type b (raw_outcome_by mean type b) is) (raw_ends depth mean means type b bytes.1)
 
 -- reading found what it found
@@ -174,7 +136,7 @@ others_end : (depth : ℕ) (read : List ℕ → Reading) (n : ℕ) (s : List ℕ
     → ((rest : List ℕ) → IsBytes rest → IfSome (values_by read n rest) (BodyWithin depth rest))
     → IfSome (and_others read n o) (BodyWithin depth s)
 others_end depth read n s (found v rest) bytes (w, first, is) others =
-    tree_ends depth s w rest v (values_by read n rest) first is (others rest (IsBytes-behind w rest (subst IsBytes is bytes)))
+    tree_ends depth s w rest v (values_by read n rest) first is (others rest (bytes_behind w rest (subst IsBytes is bytes)))
 others_end depth read n s (more k) bytes ends others = tt
 others_end depth read n s unknown bytes ends others = tt
 others_end depth read n s malformed bytes ends others = tt
@@ -209,7 +171,7 @@ pairs_behind : (depth : ℕ) (read : List ℕ → Reading) (n : ℕ) (es : Entri
     → ((fs : Entries) (rest : List ℕ) → IsBytes rest → IfSome (pairs_onto read n fs rest) (PairsOnto depth fs rest))
     → IfSome (and_pairs read n es k o) (PairsOnto depth es (short_field k ++ t))
 pairs_behind depth read n es k t (found v rest) key bytes (w, first, is) others =
-    pair_ends depth es k t w rest v (pairs_onto read n (insert k v es) rest) key first is (others (insert k v es) rest (IsBytes-behind w rest (subst IsBytes is bytes)))
+    pair_ends depth es k t w rest v (pairs_onto read n (insert k v es) rest) key first is (others (insert k v es) rest (bytes_behind w rest (subst IsBytes is bytes)))
 pairs_behind depth read n es k t (more m) key bytes ends others = tt
 pairs_behind depth read n es k t unknown key bytes ends others = tt
 pairs_behind depth read n es k t malformed key bytes ends others = tt
@@ -229,7 +191,7 @@ key_ends depth read reads n es c s bytes others = at_test (is_key c s) refl wher
       let counts : length k ≡ c = length-take c s ∙ omega arith in
       let whole : short_field k ++ drop c s ≡ c ∷ s = λ i. counts i ∷ take-append-drop c s i in
       subst (λ x. IfSome (and_pairs read n es k (read (drop c s))) (PairsOnto depth es x)) whole
-      (pairs_behind depth read n es k (drop c s) (read (drop c s)) (is_short-holds k both.1) (IsBytes-drop c s bytes) (reads (drop c s) (IsBytes-drop c s bytes)) others)
+      (pairs_behind depth read n es k (drop c s) (read (drop c s)) (is_short-holds k both.1) (bytes_drop c s bytes) (reads (drop c s) (bytes_drop c s bytes)) others)
 
 -- pairs that are put one after another are pairs
 pairs_end : (depth : ℕ) (read : List ℕ → Reading) → ((s : List ℕ) → IsBytes s → IfFound (WireWithin depth) s (read s))
@@ -247,8 +209,8 @@ small_end P (c ∷ d ∷ l) s one counts here = absurd (omega arith)
 -- so it is of a length in four bytes, which fits its field
 large_end : (P : List ℕ → Type 0) (l s : List ℕ) → IsBytes l → length l ≡ 4 → from_be_bytes w32 l ≡ length s → (length s < 2 ^ 32 → P (long_field s)) → P (l ++ s)
 large_end P l s bytes four counts here =
-    let undone : to_be_bytes w32 (length s) ≡ l = be_bytes_4 l (length s) four (IsBytes-get l bytes) (sym counts) in
-    let at = IsBytes-get l bytes in
+    let undone : to_be_bytes w32 (length s) ≡ l = be_bytes_4 l (length s) four (byte_at l bytes) (sym counts) in
+    let at = byte_at l bytes in
     let fits : length s < 2 ^ 32 = omega (arith, at 0, at 1, at 2, at 3, counts) in
     subst (λ x. P (x ++ s)) undone (here fits)
 

@@ -119,14 +119,14 @@ mutual
       (rising_raw (pairs es) es is fits.0 (texts_are_pairs es is fits.1 r))
 
   -- canonical encodings that are joined are an array's body
-  pub texts_are_body : (vs : Trees) → AreValues vs → AllFit vs → IsTrue (all_readable vs) → ArrayBody (body vs) vs
+  texts_are_body : (vs : Trees) → AreValues vs → AllFit vs → IsTrue (all_readable vs) → ArrayBody (body vs) vs
   texts_are_body no_trees is fits r = no_values
   texts_are_body (tree v vs) is fits r =
       let both = and_parts (readable v) (all_readable vs) r in
       value (text v) (body vs) v vs (text_is_wire v is.0 fits.0 both.0) (texts_are_body vs is.1 fits.1 both.1)
 
   -- with keys before them they are a table's pairs
-  pub texts_are_pairs : (es : Entries) → AreEntries es → EntriesFit es → IsTrue (entries_readable es) → TableBody (pairs es) es
+  texts_are_pairs : (es : Entries) → AreEntries es → EntriesFit es → IsTrue (entries_readable es) → TableBody (pairs es) es
   texts_are_pairs no_entries are fits r = no_pairs
   texts_are_pairs (entry k v es) are fits r =
       let both = and_parts (readable v) (entries_readable es) r in

@@ -3,7 +3,7 @@ use Rattle.std.proofs.Common.{◌≡◌, ℕ, ◌-◌, zero, suc, List, [], ◌�
 use Rattle.std.proofs.lemmas.List.{same_lists, places}
 
 -- what is left of both after the first n is what is left of each
-pub drop_both : (n : ℕ) (xs ys : List ℕ) → drop n xs ++ drop (n - length xs) ys ≡ drop n (xs ++ ys)
+drop_both : (n : ℕ) (xs ys : List ℕ) → drop n xs ++ drop (n - length xs) ys ≡ drop n (xs ++ ys)
 drop_both zero xs ys =
     let none : 0 - length xs ≡ 0 = omega arith in
     ap (λ k. xs ++ drop k ys) none

@@ -114,7 +114,7 @@ rising-put k v (entry j u es) rises = by (slice_cmp nat_cmp k j) refl (rising-pu
     by Greater is inner = (before-put j k v es (less j k is) rises.0, inner)
 
 -- so they do if pairs are inserted one after another
-pub rising-onto : (ps es : Entries) → IsRising es → IsRising (insert_all es ps)
+rising-onto : (ps es : Entries) → IsRising es → IsRising (insert_all es ps)
 rising-onto no_entries es rises = rises
 rising-onto (entry k v ps) es rises = rising-onto ps (insert k v es) (rising-put k v es rises)
 
@@ -189,7 +189,7 @@ put_or k j v es = by (same_bytes k j) refl
     by false is = put_other k j v es (λ e. let same = (bytes_decides k j).1 e in cc)
 
 -- the first of three that is there
-option_or-assoc : (a b c : Option Tree) → option_or (option_or a b) c ≡ option_or a (option_or b c)
+pub option_or-assoc : (a b c : Option Tree) → option_or (option_or a b) c ≡ option_or a (option_or b c)
 option_or-assoc None b c = refl
 option_or-assoc (Some x) b c = refl
 

@@ -19,10 +19,10 @@ use Rattle.amqp_value_core.proofs.Spelling.{scalar_spelled, scalar_raw}
 
 mutual
   -- a value is no deeper than an encoding of it
-  pub depth-le : (w : List ℕ) (v : Tree) (p : Wire w v) → depth v ≤ nesting w v p
+  depth-le : (w : List ℕ) (v : Tree) (p : Wire w v) → depth v ≤ nesting w v p
   depth-le _ _ (wire c type b v is raw) = raw_depth-le type b v raw
 
-  pub raw_depth-le : (type : AMQPType) (b : List ℕ) (v : Tree) (p : Raw type b v) → depth v ≤ raw_nesting type b v p
+  raw_depth-le : (type : AMQPType) (b : List ℕ) (v : Tree) (p : Raw type b v) → depth v ≤ raw_nesting type b v p
   raw_depth-le _ _ _ (raw_fixed type f b is wide) = omega arith
   raw_depth-le _ _ _ (raw_short s is) = omega arith
   raw_depth-le _ _ _ (raw_long s fits) = omega arith
@@ -30,11 +30,11 @@ mutual
   raw_depth-le _ _ _ (raw_array body vs fits entries) = omega (arith, body_depth-le body vs entries)
   raw_depth-le _ _ _ (raw_table body ps fits entries) = omega (arith, pairs_depth-le body ps entries, (onto_within ps no_entries).depth)
 
-  pub body_depth-le : (body : List ℕ) (vs : Trees) (p : ArrayBody body vs) → greatest_depth vs ≤ body_nesting body vs p
+  body_depth-le : (body : List ℕ) (vs : Trees) (p : ArrayBody body vs) → greatest_depth vs ≤ body_nesting body vs p
   body_depth-le _ _ no_values = omega arith
   body_depth-le _ _ (value w rest v vs first others) = omega (arith, depth-le w v first, body_depth-le rest vs others)
 
-  pub pairs_depth-le : (body : List ℕ) (ps : Entries) (p : TableBody body ps) → entries_depth ps ≤ pairs_nesting body ps p
+  pairs_depth-le : (body : List ℕ) (ps : Entries) (p : TableBody body ps) → entries_depth ps ≤ pairs_nesting body ps p
   pairs_depth-le _ _ no_pairs = omega arith
   pairs_depth-le _ _ (pair k w rest v ps key first others) = omega (arith, depth-le w v first, pairs_depth-le rest ps others)
 
@@ -64,7 +64,7 @@ mutual
       subst (λ (fs : Entries). WireWithin (1 + entries_depth es) (id_of amqp.FieldTable ∷ long_field (pairs es)) (table fs)) (onto-rising es is)
       (wire (id_of amqp.FieldTable) amqp.FieldTable (long_field (pairs es)) (table (insert_all no_entries es)) refl (raw_table (pairs es) es fits.0 q.0), omega (arith, q.1))
 
-  pub texts_within : (vs : Trees) → AreValues vs → AllFit vs → IsTrue (all_readable vs) → BodyWithin (greatest_depth vs) (body vs) vs
+  texts_within : (vs : Trees) → AreValues vs → AllFit vs → IsTrue (all_readable vs) → BodyWithin (greatest_depth vs) (body vs) vs
   texts_within no_trees is fits r = (no_values, omega arith)
   texts_within (tree v vs) is fits r =
       let both = and_parts (readable v) (all_readable vs) r in
@@ -72,7 +72,7 @@ mutual
       let others = texts_within vs is.1 fits.1 both.1 in
       (value (text v) (body vs) v vs first.0 others.0, omega (arith, first.1, others.1))
 
-  pub pairs_within : (es : Entries) → AreEntries es → EntriesFit es → IsTrue (entries_readable es) → PairsWithin (entries_depth es) (pairs es) es
+  pairs_within : (es : Entries) → AreEntries es → EntriesFit es → IsTrue (entries_readable es) → PairsWithin (entries_depth es) (pairs es) es
   pairs_within no_entries are fits r = (no_pairs, omega arith)
   pairs_within (entry k v es) are fits r =
       let both = and_parts (readable v) (entries_readable es) r in

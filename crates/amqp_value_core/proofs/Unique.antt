@@ -9,7 +9,7 @@ use Rattle.amqp_value_core.proofs.Fronts.{same_fronts, one_held}
 use Rattle.amqp_value_core.proofs.Headers.{extent, extent-raw}
 
 -- two payloads of one type at the start of a list are one
-pub one_raw_front : (type : AMQPType) (b c x y : List ℕ) (v u : Tree) → Raw type b v → Raw type c u → b ++ x ≡ c ++ y → (b ≡ c) × (x ≡ y)
+one_raw_front : (type : AMQPType) (b c x y : List ℕ) (v u : Tree) → Raw type b v → Raw type c u → b ++ x ≡ c ++ y → (b ≡ c) × (x ≡ y)
 one_raw_front type b c x y v u p q e =
     same_fronts b c x y (sym (extent-raw type b x v p) ∙ (ap (extent type) e ∙ extent-raw type c y u q)) e
 
@@ -26,7 +26,7 @@ pub no_empty_wire : (w rest : List ℕ) (v : Tree) → Wire w v → w ++ rest �
 no_empty_wire _ rest _ (wire c type b v k p) e = cc
 
 -- bytes after their length in four bytes are one thing
-same_large : (s t : List ℕ) → long_field s ≡ long_field t → s ≡ t
+pub same_large : (s t : List ℕ) → long_field s ≡ long_field t → s ≡ t
 same_large s t e = ap (drop 4) e
 
 -- two keys at the start of a list are one
@@ -37,7 +37,7 @@ one_key j k x y e =
 
 mutual
   -- a payload of one type has one meaning
-  pub one_raw_meaning : (type : AMQPType) (b c : List ℕ) (v u : Tree) → Raw type b v → Raw type c u → b ≡ c → v ≡ u
+  one_raw_meaning : (type : AMQPType) (b c : List ℕ) (v u : Tree) → Raw type b v → Raw type c u → b ≡ c → v ≡ u
   one_raw_meaning _ _ _ _ _ (raw_fixed type f b row len) (raw_fixed type2 g c row2 len2) e =
       ap₂ (λ (h : Layout) (t : List ℕ). scalar (h.denotes t)) (one_held (fixed type) f g row row2) e
   one_raw_meaning _ _ _ _ _ (raw_fixed type f b row len) _ e = absurd cc
