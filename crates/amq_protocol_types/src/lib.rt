@@ -14,11 +14,8 @@
 //! A value is an [`AMQPValue`], here a table with one entry:
 //!
 //! ```rust
-//! let mut arguments = FieldTable::new_in(alloc);
-//! arguments.insert(
-//!     ShortString::try_copy(alloc, "x-max-length")?,
-//!     AMQPValue::LongInt(10_000),
-//! )?;
+//! let entries = [("x-max-length", AMQPValue::LongInt(10_000))];
+//! let arguments = FieldTable::from_entries(alloc, entries)?;
 //! let value = AMQPValue::FieldTable(arguments);
 //! ```
 //!

@@ -29,3 +29,12 @@ entries es = entries_of (map (λ e. (e.0, view e.1)) es)
 -- the trees of a table's values, with their keys
 abbrev pub table_view : FieldTable → Entries
 table_view t = entries (table_entries t)
+
+module _ {K : Type 0} (text : K → List ℕ) where
+  -- the strings that name some entries
+  abbrev pub names : List (K × AMQPValue) → List (List ℕ)
+  names es = map (λ e. text e.0) es
+
+  -- the entries, each at its string
+  abbrev pub named : List (K × AMQPValue) → List (List ℕ × AMQPValue)
+  named es = map (λ e. (text e.0, e.1)) es

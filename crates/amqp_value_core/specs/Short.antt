@@ -1,5 +1,5 @@
 -- Short strings: the errors of a string that is too long.
-use Rattle.std.specs.Prelude.{ℕ, ◌<◌, ◌≤◌, ◌≡◌, List, length, codes, ◌++◌}
+use Rattle.std.specs.Prelude.{ℕ, ◌<◌, ◌≤◌, ◌≡◌, Option, List, length, codes, ◌++◌, find, nat_lt, IsSomeAnd}
 use Rattle.std.specs.Fmt.{decimal}
 use Rattle.amqp_value_core.specs.declared.types.short_string.ShortStringError.{ShortStringError}
 use Rattle.amqp_value_core.specs.declared.types.short_string.TryCopyError.{TryCopyError}
@@ -22,3 +22,13 @@ IsCopyRefused s OutOfMemory = (0 < length s) × (length s ≤ 255)
 -- what the error prints
 abbrev pub too_long_text : ShortStringError → List ℕ
 too_long_text e = codes "ShortString exceeds maximum length of 255 bytes (got " ++ (decimal (refused_length e) ++ codes ")")
+
+-- the first of some strings that has more than 255 bytes
+abbrev pub first_too_long : List (List ℕ) → Option (List ℕ)
+first_too_long ss = find (λ s. nat_lt 255 (length s)) ss
+
+-- copies of some strings are rejected for the first one's length that is too long, which the error
+-- reports, or for a failed allocation if there is a string
+abbrev pub AreCopiesRefused : List (List ℕ) → TryCopyError → Type 0
+AreCopiesRefused ss (TooLong e) = IsSomeAnd (first_too_long ss) (λ s. refused_length e ≡ length s)
+AreCopiesRefused ss OutOfMemory = 0 < length ss

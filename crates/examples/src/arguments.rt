@@ -3,16 +3,13 @@
 use crate::fault::Fault;
 use amq_protocol_types::generation::{SliceOutput, WriteContext, gen_value};
 use amq_protocol_types::parsing::{SliceInput, parse_value};
-use amq_protocol_types::{AMQPValue, FieldTable, ShortString};
+use amq_protocol_types::{AMQPValue, FieldTable};
 use std::alloc::Global;
 
 /// Prints the bytes of a queue's arguments.
 pub fn run<P: Print>(rt: &P, alloc: Global) -> Result<(), Fault> {
-    let mut arguments = FieldTable::new_in(alloc);
-    arguments.insert(
-        ShortString::try_copy(alloc, "x-max-length")?,
-        AMQPValue::LongInt(10_000),
-    )?;
+    let entries = [("x-max-length", AMQPValue::LongInt(10_000))];
+    let arguments = FieldTable::from_entries(alloc, entries)?;
     let value = AMQPValue::FieldTable(arguments);
 
     let mut room = [0; 64];

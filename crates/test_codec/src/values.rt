@@ -146,6 +146,32 @@ fn a_table_is_made_of_pairs(rt: HostRuntime) -> Result<(), Fail> {
 }
 
 #[test]
+fn a_table_is_made_of_entries(rt: HostRuntime) -> Result<(), Fail> {
+    let alloc = rt.alloc();
+    let entries = [
+        ("b", AMQPValue::Void),
+        ("a", AMQPValue::Void),
+        ("b", AMQPValue::LongInt(1)),
+    ];
+    assert!(rt; FieldTable::from_entries(alloc, entries)? == of_pairs(alloc)?);
+    Ok(())
+}
+
+#[test]
+fn no_entry_has_a_longer_key_than_255_bytes(rt: HostRuntime) -> Result<(), Fail> {
+    let alloc = rt.alloc();
+    for (n, fits) in [(255, true), (256, false)] {
+        let key = letters(alloc, n)?;
+        let entries = [("", AMQPValue::Void), (key.as_str(), AMQPValue::Void)];
+        match FieldTable::from_entries(alloc, entries) {
+            Ok(table) => assert!(rt; fits && table.contains_key(key.as_str())),
+            Err(e) => assert!(rt; !fits && e != TryCopyError::OutOfMemory),
+        }
+    }
+    Ok(())
+}
+
+#[test]
 fn a_key_is_its_complete_string(rt: HostRuntime) -> Result<(), Fail> {
     let mut table = FieldTable::new_in(rt.alloc());
     for name in ["aa", "b"] {

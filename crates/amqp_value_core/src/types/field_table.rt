@@ -1,15 +1,17 @@
-ghost use Rattle.std.specs.Prelude.{◌≡◌, [], OnOk, OnErr, IfOk, IsOk};
+ghost use Rattle.std.specs.Prelude.{◌≡◌, ◌≤◌, [], ◌∷◌, length, OnOk, OnErr, IfOk, IfErr, IsOk};
 ghost use Rattle.std.specs.Borrow.{sem};
 ghost use Rattle.amqp_value_core.specs.Values.{no_entries, insert, insert_all};
 ghost use Rattle.amqp_value_core.specs.Maps.{has_key};
 ghost use Rattle.amqp_value_core.specs.View.{view};
-ghost use Rattle.amqp_value_core.specs.Containers.{entries, table_entries, table_view};
+ghost use Rattle.amqp_value_core.specs.Containers.{entries, named, names, table_entries, table_view};
+ghost use Rattle.amqp_value_core.specs.Short.{AreCopiesRefused, first_too_long};
 ghost use Rattle.amqp_value_core.specs.Lending.{Rests, RestsIn, bare_of};
 
-use crate::types::ShortString;
+use crate::types::{ShortString, TryCopyError};
 use crate::value::AMQPValue;
 use std::alloc::{AllocError, Global};
 use std::collections::{BTreeMap, btree_map};
+use std::convert::AsStr;
 
 /// A map from short strings to values, each with its type. Its keys are sorted by their bytes.
 #[cycle(values)]
@@ -32,6 +34,16 @@ fn bare(lent: Result<Lent<'_>, AllocError>) -> Result<&mut FieldTable, AllocErro
         Ok(Lent { table }) => Ok(table),
         Err(e) => Err(e),
     }
+}
+
+// the entries as a `Vec`
+fn listed<K: Drop, const N: usize>(
+    alloc: Global,
+    pairs: [(K, AMQPValue); N],
+) -> Result<Vec<(K, AMQPValue)>, AllocError>
+    ensures { IfOk result (λ list. list.items ≡ pairs) }
+{
+    Ok(Vec::from_array(alloc, pairs)?)
 }
 
 impl FieldTable {
@@ -90,6 +102,48 @@ impl FieldTable {
         }
         let map: BTreeMap<ShortString, AMQPValue> = pairs.into_iter().collect(alloc)?;
         Ok(FieldTable { map })
+    }
+
+    /// Makes a table of the entries, inserted in order, with copies of their keys: of equal keys the
+    /// last one's value is retained. Fails at the first key of more than 255 bytes, and if an
+    /// allocation fails; what was copied so far is dropped. An empty array doesn't allocate.
+    pub fn from_entries<K: AsStr + Drop, const N: usize>(
+        alloc: Global,
+        pairs: [(K, AMQPValue); N],
+    ) -> Result<FieldTable, TryCopyError>
+        ensures entries { IfOk result (λ table. table_view table ≡ insert_all no_entries (entries (named K.text pairs))) }
+        ensures fits { OnOk result (first_too_long (names K.text pairs) ≡ None) }
+        ensures err { IfErr result (AreCopiesRefused (names K.text pairs)) }
+    {
+        if N == 0 {
+            return Ok(FieldTable::new_in(alloc));
+        }
+        FieldTable::from_named(alloc, listed(alloc, pairs)?)
+    }
+
+    fn from_named<K: AsStr + Drop>(
+        alloc: Global,
+        pairs: Vec<(K, AMQPValue)>,
+    ) -> Result<FieldTable, TryCopyError>
+        ensures entries { IfOk result (λ table. table_view table ≡ insert_all no_entries (entries (named K.text pairs.items))) }
+        ensures fits { OnOk result (first_too_long (names K.text pairs.items) ≡ None) }
+        ensures err { IfErr result (AreCopiesRefused (names K.text pairs.items)) }
+    {
+        let mut table = FieldTable::new_in(alloc);
+        for (name, value) in pairs {
+            table.place_at(alloc, name.as_str(), value)?;
+        }
+        Ok(table)
+    }
+
+    // places a value at a copy of a string
+    fn place_at(&mut self, alloc: Global, name: &str, v: AMQPValue) -> Result<(), TryCopyError>
+        ensures ok { OnOk result (table_view self.new ≡ insert name.now (view v) (table_view self.old)) }
+        ensures fits { OnOk result (length name.now ≤ 255) }
+        ensures err { IfErr result (AreCopiesRefused (name.now ∷ [])) }
+    {
+        self.place(ShortString::try_copy(alloc, name)?, v)?;
+        Ok(())
     }
 
     /// Whether the table has the key. Iterates over the entries, and doesn't allocate.

@@ -216,3 +216,13 @@ pub enum TryCopyError {
     #[error("out of memory")]
     OutOfMemory,
 }
+
+impl From<AllocError> for TryCopyError {
+    ghost use Rattle.amqp_value_core.specs.declared.types.short_string.TryCopyError.TheVariants.{OutOfMemory};
+
+    ghost from_gives = { λ _ e. e ≡ OutOfMemory };
+
+    fn from(_error: AllocError) -> TryCopyError {
+        TryCopyError::OutOfMemory
+    }
+}

@@ -1,0 +1,13 @@
+use Rattle.std.proofs.Common.{◌≡◌, ◌≤◌, length}
+use Rattle.amqp_value_core.specs.Values.{no_entries, insert_all}
+use Rattle.amqp_value_core.specs.Containers.{entries, named, names, table_view}
+use Rattle.amqp_value_core.specs.Short.{first_too_long}
+use Rattle.amqp_value_core.proofs.types.field_table.FieldTable.from_named.Given as goal
+
+-- what is left decides
+abbrev pub invariant-loop-name : goal.invariant-loop-name
+invariant-loop-name g l = record {
+  decides : insert_all (table_view l.table) (entries (named g.K.AsStr.text l.name-iterator.rest.items)) ≡ insert_all no_entries (entries (named g.K.AsStr.text l.fn.pairs.items));
+  fits : first_too_long (names g.K.AsStr.text l.name-iterator.rest.items) ≡ first_too_long (names g.K.AsStr.text l.fn.pairs.items);
+  left : length l.name-iterator.rest.items ≤ length l.fn.pairs.items;
+}
