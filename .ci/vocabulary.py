@@ -33,14 +33,15 @@ HEXADECIMAL = tuple(f"crates/amqp_show/{it}" for it in ("src/hexadecimal.rt", "s
 RIGHT = {
     # JSON, and what a terminal shows
     "text": ("crates/amqp_json/", "crates/amqp_c_alloc/", "crates/test_codec/src/json_texts.rt", "crates/amqp_show/src/reasons.rt",
-        "crates/amqp_screen/", "crates/test_codec/src/oracle", "include/amqp_values.h", ".ci/buffers.c", *HEXADECIMAL),
-    "texts": ("crates/amqp_json/", "crates/amqp_c_alloc/", "crates/amqp_screen/", "crates/test_codec/src/json_texts.rt", ".ci/buffers.c"),
+        "crates/amqp_screen/", "crates/test_codec/src/oracle", "include/amqp_values.h", ".ci/buffers.c", ".ci/mutant", *HEXADECIMAL),
+    "texts": ("crates/amqp_json/", "crates/amqp_c_alloc/", "crates/amqp_screen/", "crates/test_codec/src/json_texts.rt", ".ci/buffers.c",
+        ".ci/mutant"),
     "spells": HEXADECIMAL, "spelled": HEXADECIMAL,
+    # what a mutant is, the files of must-fail/, and a line that the script prints
+    "wrong body": (".ci/mutant",), "edit": (".ci/mutant",), "edits": (".ci/mutant",), "where": (".ci/mutants",),
     # the file of this name is about how values are encoded
     "Spelling": ("crates/amqp_value_core/proofs/Spelling.antt",),
 }  # fmt: skip
-# A change here has every mutant tried again.
-LEFT_OUT = {".ci/mutants", ".ci/crates.py"}
 # The lines that are nothing but a comment, or a docstring, by how a file's name ends or by its first line.
 PYTHON = r'^[ \t]*(?:#[^\n]*|""".*?""")'
 COMMENTS = {".rt": r"^[ \t]*//[^\n]*", ".antt": r"^[ \t]*--[^\n]*", ".c": r"^[ \t]*/\*.*?\*/", ".h": r"^[ \t]*/\*.*?\*/", ".py": PYTHON,
@@ -58,7 +59,7 @@ def comments():
     for name, path in tracked("crates", ".ci", "include", "examples").items():
         text = path.read_text(errors="replace")
         forms = [form for key, form in COMMENTS.items() if name.endswith(key) or text.startswith(f"{key}\n")]
-        for found in re.finditer(forms[0], text, re.DOTALL | re.MULTILINE) if forms and name not in LEFT_OUT else ():
+        for found in re.finditer(forms[0], text, re.DOTALL | re.MULTILINE) if forms else ():
             begin = text.count("\n", 0, found.start()) + 1
             yield from ((name, begin + number, line) for number, line in enumerate(found[0].splitlines()))
 
