@@ -12,8 +12,11 @@ import subprocess
 import sys
 import tempfile
 import time
+from collections.abc import Callable, Collection, Iterable, Iterator, Sequence
 from contextlib import suppress
 from pathlib import Path
+from types import FrameType, TracebackType
+from typing import Any
 
 from crates import TOP, Crates, kit, said_by
 
@@ -28,13 +31,14 @@ TARGETS = {X86_64: "x86-64", AARCH64: "generic"}
 COMPILERS = {X86_64: ("cc", "ar"), AARCH64: ("aarch64-linux-gnu-gcc", "aarch64-linux-gnu-ar")}
 # What those that allocate ask for, over malloc, realloc and free.
 MALLOC = TOP / "crates/amqp_c_alloc/malloc.c"
+Done = subprocess.CompletedProcess[str]
 # How a crate declares its tests.
 TESTS = "#[cfg(test)]\nmod tests;\n"
 # The folders of a crate that its library is made of.
 SOURCES = ("src", "specs", "proofs")
 
 
-def copy_repository(to, without=()):
+def copy_repository(to: Path, without: Collection[str] = ()) -> None:
     """Copies the files that git tracks or would track, but not these crates."""
     for name in said_by("git", "-C", str(TOP), "ls-files", "-co", "--exclude-standard", "-z").split("\0"):
         is_left_out = name.startswith(tuple(f"crates/{it}/" for it in without))
@@ -45,7 +49,7 @@ def copy_repository(to, without=()):
     (to / "crates.txt").write_text("".join(it for it in lines if it.partition(":")[0].partition(" ")[0] not in without))
 
 
-def leave_out_tests(folder):
+def leave_out_tests(folder: Path) -> None:
     """Takes the tests of other crates, and must-fail/, out of a copy, for `rt ci`."""
     for root in [*folder.glob("crates/*/src/lib.rt"), *folder.glob("crates/*/src/main.rt")]:
         text = root.read_text()
@@ -58,18 +62,18 @@ def leave_out_tests(folder):
         shutil.rmtree(edits)
 
 
-def is_up_to_date(built, crates, name, parts):
+def is_up_to_date(built: Path, crates: Crates, name: str, parts: Iterable[str]) -> bool:
     """Whether a file made of a crate and those below it is there, and nothing in these folders of theirs has changed since."""
     sources = [it for each in crates.needed(name) for part in parts for it in (crates.folder(each) / part).glob("**/*")]
     return built.is_file() and all(it.stat().st_mtime <= built.stat().st_mtime for it in sources if it.is_file())
 
 
-def archive(crates, name, target=X86_64):
+def archive(crates: Crates, name: str, target: str = X86_64) -> Path:
     """The path of a crate's static library."""
     return crates.folder(name) / f"out/{target}/lib{name}.a"
 
 
-def prove_below(crates, name):
+def prove_below(crates: Crates, name: str) -> Done:
     """Puts the libraries below a crate at their places: as `rt ci` has kept them on this machine, or proved now."""
     needed = crates.needed(name)[:-1]
     with tempfile.TemporaryDirectory() as folder:
@@ -83,7 +87,7 @@ def prove_below(crates, name):
     return done
 
 
-def build_archive(crates, name, is_built, target=X86_64):
+def build_archive(crates: Crates, name: str, is_built: bool, target: str = X86_64) -> Done:
     """Builds a crate's static library, unless it is newer than what it is made of; one script at a time does so.
 
     It proves the crate, over libraries that were proved before or, if is_built, that `rt ci` has left here.
@@ -103,14 +107,25 @@ def build_archive(crates, name, is_built, target=X86_64):
             words = ["true"]
         else:
             # What another target's build has proved isn't proved again.
-            how = ["--incremental", "out/incremental", "--target", target, "--cpu", TARGETS[target], "--toolchain", f"{kit()}/toolchain", "-o", str(path)]
+            how = [
+                "--incremental",
+                "out/incremental",
+                "--target",
+                target,
+                "--cpu",
+                TARGETS[target],
+                "--toolchain",
+                f"{kit()}/toolchain",
+                "-o",
+                str(path),
+            ]
             words = [f"{kit()}/bin/rattle", "build", *crates.words(name), *how]
         return subprocess.run(words, cwd=folder, capture_output=True, text=True)
     finally:
         os.close(lock)
 
 
-def shared_object(crates, folder, is_built):
+def shared_object(crates: Crates, folder: Path, is_built: bool) -> tuple[Path, str]:
     """Builds the libraries of the calls for C, and a shared object of both in a folder; its path, and what went wrong."""
     path = folder / "libamqp_values.so"
     for name in CALLS_FOR_C:
@@ -120,38 +135,39 @@ def shared_object(crates, folder, is_built):
     whole = ["-Wl,--whole-archive", *(archive(crates, it) for it in CALLS_FOR_C), "-Wl,--no-whole-archive"]
     words = ["cc", "-shared", "-fPIC", "-O2", "-o", path, MALLOC, *whole]
     done = subprocess.run([str(it) for it in words], capture_output=True, text=True)
-    return path, done.returncode and (done.stderr or "cc failed")[-1000:]
+    return path, (done.stderr or "cc failed")[-1000:] if done.returncode else ""
 
 
-def content(path):
+def content(path: Path) -> bytes:
     return path.read_bytes() if path.exists() else b""
 
 
-def given(case):
+def given(case: Path) -> bytes:
     """What a case of examples/show has on standard input."""
     digits = case.with_suffix(".hex")
     return bytes.fromhex(digits.read_text()) if digits.exists() else content(case.with_suffix(".in"))
 
 
-def within(kind, most, words, given):
+def within(kind: int, most: int, words: Sequence[str | Path], given: bytes) -> subprocess.CompletedProcess[bytes]:
     """Runs a program that may have at most n of a resource, such as resource.RLIMIT_STACK."""
     limit = lambda: resource.setrlimit(kind, (most, most))
-    return subprocess.run(words, input=given, capture_output=True, env={}, preexec_fn=limit, timeout=60, check=False)
+    env: dict[str, str] = {}
+    return subprocess.run(words, input=given, capture_output=True, env=env, preexec_fn=limit, timeout=60, check=False)
 
 
 class Checks:
     """Prints a line for each check of a script, and counts them."""
 
-    def __init__(self, name):
+    def __init__(self, name: str) -> None:
         self.name, self.passed, self.failed = name, 0, 0
 
-    def tell(self, what, wrong=""):
+    def tell(self, what: object, wrong: object = "") -> bool:
         """Takes what is wrong, if anything is, and returns whether nothing is."""
         print(f"{self.name} {what}: {f'FAILED: {wrong}' if wrong else 'passed'}", flush=True)
         self.passed, self.failed = self.passed + (not wrong), self.failed + bool(wrong)
         return not wrong
 
-    def ended(self, counts=""):
+    def ended(self, counts: str = "") -> int:
         """Prints the last line, with what was counted before it, and returns the exit status."""
         print(f"{counts and f'{counts}; '}{self.passed} passed, {self.failed} failed")
         return 1 if self.failed or not self.passed else 0
@@ -160,21 +176,22 @@ class Checks:
 # Processes
 
 
-def descendants():
+def descendants() -> set[int]:
     """The processes that this one started, and those that they did."""
-    parents = {}
+    parents: dict[int, int] = {}
     for it in Path("/proc").glob("[0-9]*/stat"):
         with suppress(OSError):
             state, parent = it.read_text().rpartition(")")[2].split()[:2]
             parents |= {int(it.parent.name): int(parent)} if state != "Z" else {}
-    found, more = set(), {os.getpid()}
+    found: set[int] = set()
+    more = {os.getpid()}
     while more:
         more = {it for it, parent in parents.items() if parent in more} - found
         found |= more
     return found
 
 
-def end_descendants():
+def end_descendants() -> None:
     """Ends all that this process started, also what left its group."""
     while left := descendants():
         for it in left:
@@ -183,10 +200,10 @@ def end_descendants():
         time.sleep(0.05)
 
 
-def end_on_signals(first=lambda: None):
+def end_on_signals(first: Callable[[], None] = lambda: None) -> None:
     """Turns each signal that interrupts into this call and an exit, so that what was begun is ended and cleared away."""
 
-    def end(number, _):
+    def end(number: int, _: FrameType | None) -> None:
         first()
         sys.exit(128 + number)
 
@@ -198,10 +215,13 @@ def end_on_signals(first=lambda: None):
 
 # Steps
 
+# How many checks of a step passed and failed, and its last line; and what finds that out.
+Judged = tuple[int, int, str]
+Judge = Callable[["Step"], Judged]
 LAST_LINE = re.compile(r"(?:.*; )?(\d+) passed, (\d+) failed")
 
 
-def by_last_line(step):
+def by_last_line(step: "Step") -> "Judged":
     """How many checks of a step passed and failed, by its last line, and that line."""
     lines = step.out.read_text(errors="replace").rstrip("\n").split("\n")
     found = LAST_LINE.fullmatch(lines[-1])
@@ -213,28 +233,42 @@ def by_last_line(step):
 class Step:
     """A command of a script, and what became of it."""
 
-    def __init__(self, name, words, cwd=TOP, after=(), given=None, judge=by_last_line, tells=None):
+    def __init__(
+        self,
+        name: str,
+        words: Iterable[object],
+        cwd: Path = TOP,
+        after: Sequence["Step"] = (),
+        given: Path | None = None,
+        judge: "Judge" = by_last_line,
+        tells: str | None = None,
+    ) -> None:
         self.name, self.words, self.cwd, self.given = name, [str(it) for it in words], cwd, given
         # the steps that it waits for; how it is judged; its lines to be printed, by their first group
-        self.after, self.judge, self.tells = after, judge, tells and re.compile(tells)
-        self.process = self.status = self.out = self.err = None
+        self.after, self.judge, self.tells = after, judge, re.compile(tells) if tells else None
+        self.process: subprocess.Popen[bytes] | None = None
+        self.status: int | None = None
+        self.out = self.err = Path(os.devnull)
         self.passed = self.failed = self.told = self.read = 0
-        self.begun = self.minutes = self.processor_minutes = 0
+        self.begun = self.minutes = self.processor_minutes = 0.0
         self.last_line = ""
 
-    def is_well(self):
+    def is_well(self) -> bool:
         return self.status is not None and not self.failed
 
-    def start(self, folder):
+    def start(self, folder: Path) -> None:
         self.begun = time.time()
         self.out, self.err = folder / f"{self.name}.out", folder / f"{self.name}.err"
         # what it leaves in its temporary folder goes with this script's
-        how = {"cwd": self.cwd, "env": {**os.environ, "TMPDIR": str(folder)}, "process_group": 0}
+        env = {**os.environ, "TMPDIR": str(folder)}
         with open(self.out, "wb") as out, open(self.err, "wb") as err, open(self.given or os.devnull, "rb") as given:
-            self.process = subprocess.Popen(self.words, stdin=given, stdout=out, stderr=err, **how)
+            self.process = subprocess.Popen(
+                self.words, stdin=given, stdout=out, stderr=err, cwd=self.cwd, env=env, process_group=0
+            )
 
-    def has_ended(self):
+    def has_ended(self) -> bool:
         """Returns whether it has ended, and then judges it."""
+        assert self.process
         pid, status, used = os.wait4(self.process.pid, os.WNOHANG)
         if not pid:
             return False
@@ -247,7 +281,7 @@ class Step:
             self.failed, self.last_line = 1, f"{self.last_line}, but {why}"
         return True
 
-    def new_lines(self):
+    def new_lines(self) -> Iterator[str]:
         """The lines, since this was asked last, that are to be printed."""
         if not self.tells:
             return
@@ -265,32 +299,35 @@ class Step:
 class Steps:
     """Runs steps side by side, reports how far they are, and ends all of them if it is ended itself."""
 
-    def __init__(self, name):
-        self.name, self.begun, self.steps, self.notes = name, time.time(), [], []
+    def __init__(self, name: str) -> None:
+        self.name, self.begun = name, time.time()
+        self.steps: list[Step] = []
+        self.notes: list[str] = []
         end_on_signals()
         self.folder = Path(tempfile.mkdtemp(prefix=f"maolkint-{name}-"))
         # programs are run as nobody, who has to come through
         self.folder.chmod(0o755)
 
-    def __enter__(self):
+    def __enter__(self) -> "Steps":
         return self
 
-    def __exit__(self, *_):
+    def __exit__(self, *_: type[BaseException] | BaseException | TracebackType | None) -> None:
         end_descendants()
         shutil.rmtree(self.folder, ignore_errors=True)
 
-    def add(self, *words, **more):
-        step = Step(*words, **more)
+    def add(self, name: str, words: Iterable[object], **more: Any) -> Step:
+        step = Step(name, words, **more)
         self.steps.append(step)
         return step
 
-    def say(self, text):
+    def say(self, text: str) -> None:
         ended = sum(it.status is not None for it in self.steps)
         print(f"{(time.time() - self.begun) / 60:5.1f} min  {ended} of {len(self.steps)} done  {text}", flush=True)
 
-    def run(self, at_once=None):
+    def run(self, at_once: int | None = None) -> bool:
         """Runs the steps, each once those that it waits for are well, and returns whether all are."""
-        waiting, running = [*self.steps], []
+        waiting = [*self.steps]
+        running: list[Step] = []
         while waiting or running:
             for step in [it for it in waiting if all(each.status is not None for each in it.after)]:
                 if at_once and len(running) >= at_once:
@@ -316,22 +353,26 @@ class Steps:
                         show_end(step)
         return all(it.is_well() for it in self.steps)
 
-    def ended(self):
+    def ended(self) -> int:
         """Prints what each step took and the last line, and returns the exit status."""
         print(f"\n{'minutes':>8} {'of processors':>14}  step")
         for it in self.steps:
             print(f"{it.minutes:8.1f} {it.processor_minutes:14.1f}  {it.name}: {it.last_line}")
         processor = sum(it.processor_minutes for it in self.steps)
         print(f"{(time.time() - self.begun) / 60:8.1f} {processor:14.1f}  .ci/{self.name}")
-        for it in self.notes:
-            print(it)
+        for note in self.notes:
+            print(note)
         passed, failed = (sum(getattr(it, which) for it in self.steps) for which in ("passed", "failed"))
         print(f"{passed} passed, {failed} failed", flush=True)
         return 1 if failed or not passed else 0
 
 
-def show_end(step):
+def show_end(step: Step) -> None:
     """Prints the end of what a failed step printed, without the lines of what is proved or passed."""
     text = step.out.read_text(errors="replace") + step.err.read_text(errors="replace")
-    lines = [it for it in text.split("\n") if not re.search(r": (proved|passed|ok)$|(refused|rejected), as it must be|modules loaded=", it)]
+    lines = [
+        it
+        for it in text.split("\n")
+        if not re.search(r": (proved|passed|ok)$|(refused|rejected), as it must be|modules loaded=", it)
+    ]
     print("\n".join(f"    {it}" for it in lines[-60:]), flush=True)
