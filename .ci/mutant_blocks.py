@@ -167,11 +167,6 @@ def parsed(crate: str, source: str, name: str, block: str) -> Mutant:
     return mutant
 
 
-def must_fail(edits: Path | None, crate: str) -> list[Path]:
-    """The crate's edits in the repository in a folder, if there is one."""
-    return sorted(edits.glob(f"crates/{crate}/must-fail/*.edit")) if edits else []
-
-
 def read(crates: Crates, crate: str, edits: Path | None) -> list[Mutant]:
     """Reads the crate's mutants, and the edits of must-fail/ in another copy of the repository."""
     path, source, found = crates.folder(crate) / "mutants", f"crates/{crate}/mutants", []
@@ -179,9 +174,9 @@ def read(crates: Crates, crate: str, edits: Path | None) -> list[Mutant]:
     if strange := [it for it in head.split("\n") if it and not it.startswith("# ")]:
         found.append(Mutant(crate, "?", source, fault=f"cannot be applied: this line is in no block: {strange[0]}"))
     found += [parsed(crate, source, it.split("\n")[0].removeprefix("## "), it) for it in blocks]
-    for edit in must_fail(edits, crate) if edits else ():
-        assert edits
-        found.append(parsed(crate, str(edit.relative_to(edits)), edit.stem, edit.read_text().strip()))
+    if edits:
+        paths = sorted(edits.glob(f"crates/{crate}/must-fail/*.edit"))
+        found += [parsed(crate, str(it.relative_to(edits)), it.stem, it.read_text().strip()) for it in paths]
     return found
 
 

@@ -116,7 +116,7 @@ def said_of_choices() -> dict[str, str]:
     del known["b::y"]
     lines = {name: Key(digit * 64, digit * 64) for name, digit in (("a::x", "1"), ("b", "2"), ("c", "3"))}
     text = with_keys("# head\n", ["a", "b", "c"], lines, [])
-    kept = with_keys(text, ["b"], {"b::y": lines["b"]}, ["c"])
+    kept = with_keys(text, ["b"], {"b::y": lines["b"]}, ["a"])
     return {
         "chosen": str(chosen(keys, known, False, 1)),
         "chosen_without_turn": str(chosen(keys, known, False, None)),
