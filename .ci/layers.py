@@ -1,7 +1,7 @@
 """The parts of a crate, and which of them may cite which; CONTRIBUTING.md has the rules, .ci/docs checks them.
 
-A file of src/ cites by `use crate::..`, `super::..` and `ghost use`, one of specs/ and proofs/ by its imports. The proof of
-a function belongs to the part of that function.
+A file of src/ cites by `use crate::..`, `super::..` and `ghost use`, one of specs/ and proofs/ by its imports. The proof
+of a function belongs to the part of that function.
 """
 
 import re
@@ -18,11 +18,12 @@ RULES = {
 # What each part has of src/, specs/ and proofs/; of two entries that fit a file, the longer one is right.
 PLACES = {
     "amqp_value_core": {
-        "types": """src/types src/input specs/Contents specs/Ids specs/Inputs specs/Names specs/Prefix specs/Short specs/Splits
-            specs/Strings proofs/Bytes proofs/Ids proofs/Splits""",
+        "types": """src/types src/input specs/Contents specs/Ids specs/Inputs specs/Names specs/Prefix specs/Short
+            specs/Splits specs/Strings proofs/Bytes proofs/Ids proofs/Splits""",
         "grammar": "src/laws specs proofs",
-        "values": """src/types/field_array src/types/field_table src/value src/conversions src/equality specs/Containers
-            specs/Decided specs/Equality specs/Getters specs/Json specs/Lending specs/View proofs/Copies proofs/Gathered""",
+        "values": """src/types/field_array src/types/field_table src/value src/conversions src/equality
+            specs/Containers specs/Decided specs/Equality specs/Getters specs/Json specs/Lending specs/View
+            proofs/Copies proofs/Gathered""",
     },
     "amq_protocol_types": {
         "flags": "src/flags specs/flags proofs/FlagBits",
