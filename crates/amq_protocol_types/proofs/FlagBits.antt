@@ -75,7 +75,7 @@ pack_cut bs some =
     ap (λ n. packed n bs) count
 
 -- a chunk of eight, or the last, is a byte
-pub pack_chunk : (bs cs rs : List Bool) → bs ≡ cs ++ rs → length cs ≡ min 8 (length bs) → 0 < length bs → pack bs ≡ number_of cs ∷ pack rs
+pack_chunk : (bs cs rs : List Bool) → bs ≡ cs ++ rs → length cs ≡ min 8 (length bs) → 0 < length bs → pack bs ≡ number_of cs ∷ pack rs
 pack_chunk bs cs rs parts size some =
     let sum = ap length parts ∙ length-append cs rs in
     let cut : (take 8 bs ≡ cs) × (drop 8 bs ≡ rs) =

@@ -5,7 +5,7 @@ use Rattle.std.specs.Option.{option_map}
 use Rattle.std.specs.Int.{w32, to_be_bytes}
 use Rattle.std.specs.Io.KnownBytes.{Appends}
 use Rattle.std.proofs.KnownBytes.{Appends-trans}
-use Rattle.std.proofs.lemmas.List.{drop-drop, append-nil}
+use Rattle.std.proofs.lemmas.List.{drop-drop}
 use Rattle.amqp_value_core.specs.Grammar.{long_field}
 use Rattle.amq_protocol_types.specs.declared.generation.error.GenError.{GenError}
 use Rattle.amq_protocol_types.specs.generation.Outputs.{OutputState, Writes}
@@ -13,7 +13,7 @@ use Rattle.amq_protocol_types.specs.generation.BufferOutput.{IsWhole, Truncates,
 use Rattle.amq_protocol_types.specs.generation.Lengths.{OnlyAppends, Reserved, AppendsWithLength, RefusesWithLength}
 use Rattle.amq_protocol_types.specs.generation.Contexts.{start_of, state_of}
 use Rattle.amq_protocol_types.specs.declared.generation.context.WriteContext.{WriteContext}
-use Rattle.amq_protocol_types.proofs.lemmas.generation.Rooms.{told_back, front_overwritten}
+use Rattle.amq_protocol_types.proofs.lemmas.generation.Rooms.{nothing_appended, told_back, front_overwritten}
 
 -- the position counts what was appended
 pub counted : (a b : Option (List ℕ)) (n m : ℕ) (xs : List ℕ) → IsSome a → IfSome a (λ put. length put ≡ n) → IsSome b → IfSome b (λ put. length put ≡ m) → Appends a b xs → m ≡ n + length xs
@@ -26,11 +26,6 @@ pub behind : {s t : OutputState} {r : Result (Unit {0}) GenError} → IsWhole s 
 behind {s = s} {t = t} here there o =
     let n = counted s.written t.written s.position t.position o.more here.written here.counted there.written there.counted o.appended in
     omega arith
-
--- nothing was appended if the bytes are as they were
-pub nothing_appended : (a b : Option (List ℕ)) → b ≡ a → Appends a b []
-nothing_appended None b e = tt
-nothing_appended (Some put) b e = subst (λ (o : Option (List ℕ)). Appends (Some put) o []) (sym e) (sym (append-nil put))
 
 -- an error that leaves the bytes as they were only appends
 pub refusal_appends : {s t : OutputState} {e : GenError} → t.written ≡ s.written → OnlyAppends s (Err e) t

@@ -1,4 +1,4 @@
 mod lemmas
-pub mod FlagBits
+mod FlagBits
 pub mod ParsingLaws
 pub mod Lengths

@@ -1,14 +1,11 @@
--- The laws of reading within limits, for the proofs of other crates to cite.
+-- The laws of reading within limits and from a source, for the proofs of other crates to cite.
 
--- what asks for more bytes: which, how many its header counts at most, and that nothing is left
--- after it
-pub use Rattle.amq_protocol_types.proofs.lemmas.parsing.Waits.{more_wanted, wanted_more, wanted_within, waits_more, nothing_behind, kept_within}
+-- what asks for more bytes: which, and how many its header counts at most
+pub use Rattle.amq_protocol_types.proofs.lemmas.parsing.Waits.{more_wanted, wanted_more, wanted_within, kept_within}
 -- a value within a depth has at most as many bytes as its header counts
 pub use Rattle.amq_protocol_types.proofs.lemmas.parsing.Again.{wire_extent}
 -- when the bytes of a value are all there
 pub use Rattle.amq_protocol_types.proofs.lemmas.parsing.Whole.{found_all, failed_all}
--- what is rejected stays rejected, whatever follows
-pub use Rattle.amq_protocol_types.proofs.lemmas.parsing.Appends.{refused_append}
 -- what is ASCII is UTF-8
 pub use Rattle.amq_protocol_types.proofs.lemmas.parsing.Copies.{ascii_is_utf8}
 -- what an error of one reading means for another
@@ -18,5 +15,7 @@ pub use Rattle.amq_protocol_types.proofs.lemmas.parsing.Payloads.{unsigned_outco
 pub use Rattle.amq_protocol_types.proofs.lemmas.parsing.Frames.{long_found, octets_found, array_found, array_refused, array_too_deep, table_found, table_refused, table_too_deep}
 pub use Rattle.amq_protocol_types.proofs.lemmas.parsing.Plain.{IsPlain as IsPlainPayload, plain_found}
 -- the bodies of containers, a value or a pair at a time
-pub use Rattle.amq_protocol_types.proofs.lemmas.parsing.Bodies.{Goes, Goes-step, Goes-end, Goes-refused, rest_shorter}
+pub use Rattle.amq_protocol_types.proofs.lemmas.parsing.Bodies.{Goes, Goes-start, Goes-step, Goes-end, Goes-refused, rest_shorter}
 pub use Rattle.amq_protocol_types.proofs.lemmas.parsing.TableBodies.{Walks, Walks-start, Walks-step, Walks-end, Walks-bad_key, Walks-bad_value, key_shorter}
+-- calls of a source, and then further ones
+pub use Rattle.amq_protocol_types.proofs.lemmas.stream.Calls.{reaches_on}

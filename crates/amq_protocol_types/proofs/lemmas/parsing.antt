@@ -7,9 +7,10 @@ pub mod Typed
 pub mod Views
 pub mod Copies
 pub mod Gathered
+pub mod Whole
+pub mod Extents
 pub mod Waits
 pub mod Plain
 pub mod Again
 pub mod Appends
-pub mod Whole
 pub mod Untagged

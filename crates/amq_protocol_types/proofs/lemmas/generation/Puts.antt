@@ -1,25 +1,17 @@
 -- Lemmas on bytes that are put one after another, to any output.
-use Rattle.std.proofs.Common.{◌≡◌, ℕ, ◌+◌, ◌-◌, ◌≤◌, inl, Bool, IsTrue, Option, Some, None, IfSome, Ok, Err, List, [], ◌∷◌, ◌++◌, length, refl, sym, ap, ◌∙◌, subst, arith, length-append, append-nil}
+use Rattle.std.proofs.Common.{◌≡◌, ℕ, ◌+◌, ◌-◌, ◌≤◌, inl, Bool, IsTrue, Option, Some, None, IfSome, Ok, Err, List, [], ◌∷◌, ◌++◌, length, refl, sym, ap, ◌∙◌, subst, arith, length-append}
 use Rattle.std.specs.Option.{option_map}
-use Rattle.std.specs.Io.KnownBytes.{Appends}
 use Rattle.std.proofs.lemmas.Bool.{false≢true}
 use Rattle.amq_protocol_types.specs.declared.generation.error.GenError.{GenError}
 use Rattle.amq_protocol_types.specs.generation.Outputs.{OutputState, Writes}
 use Rattle.amq_protocol_types.specs.generation.BufferOutput.{AppendsBytes, MakesRoom}
-use Rattle.amq_protocol_types.proofs.lemmas.generation.Rooms.{both_too_many, still_fixed, rest_fits, any_room}
-use Rattle.amq_protocol_types.proofs.lemmas.generation.Steps.{both_put, failed_since}
+use Rattle.amq_protocol_types.proofs.lemmas.generation.Rooms.{nothing_appended, both_too_many, still_fixed, rest_fits}
+use Rattle.amq_protocol_types.proofs.lemmas.generation.Steps.{bytes_put, both_put, failed_since}
 
 -- some bytes were put, and a buffer won't reject those after them, n in all
 pub record PutSoFar (b : Bool) (n : ℕ) (done : List ℕ) (before after : OutputState) : Type 0 where
   pub written : Writes b (Unit {0}) done before (Ok tt) after
   pub promise : IsTrue b → n ≤ after.promise + length done
-
-nothing_appended : (told more : Option (List ℕ)) → more ≡ told → Appends told more []
-nothing_appended None more same = tt
-nothing_appended (Some put) None same = absurd cc
-nothing_appended (Some put) (Some all) same =
-    let here : all ≡ put = cc in
-    here ∙ sym (append-nil put)
 
 no_less : (room : Option ℕ) → room ≡ option_map (λ n. n - 0) room
 no_less None = refl
@@ -32,25 +24,8 @@ none_fit (Some n) = omega arith
 -- the buffer was grown, and nothing is written yet
 pub room_made : {b : Bool} {n m : ℕ} {s t : OutputState} → n ≡ m → MakesRoom b n s (Ok tt) t → PutSoFar b m [] s t
 room_made {s = s} {t = t} same m = record {
-  written = record {
-    appended = nothing_appended s.written t.written m.written;
-    moved = m.position ∙ (omega arith);
-    tail = m.tail;
-    stayed = λ _. tt;
-    kept = λ _. tt;
-    room_kept = λ _. tt;
-    fits = tt;
-    room = none_fit s.room;
-    room_left = m.room ∙ no_less s.room;
-    succeeds = λ _. any_room _ s.room _ refl;
-    too_small = λ e. cc;
-    too_long = λ e _. cc;
-    failed = tt;
-    offset = λ e. cc;
-    memory = λ e. cc;
-    no_other = λ _. tt;
-    faults = m.faults;
-  };
+  written =
+      bytes_put (nothing_appended s.written t.written m.written) (m.position ∙ omega arith) m.tail tt (none_fit s.room) (m.room ∙ no_less s.room) m.faults;
   promise = λ is. omega (arith, m.promise is);
 }
 

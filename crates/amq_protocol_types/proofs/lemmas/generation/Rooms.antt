@@ -1,5 +1,5 @@
 -- Lemmas on a capacity that is fixed or open, and on bytes that are known or not.
-use Rattle.std.proofs.Common.{◌≡◌, ℕ, ◌+◌, ◌-◌, ◌<◌, ◌≤◌, Option, Some, None, IsSome, IfSome, is_some, List, ◌++◌, length, take, drop, refl, sym, ap, ◌∙◌, subst, arith, append_assoc, length-append}
+use Rattle.std.proofs.Common.{◌≡◌, ℕ, ◌+◌, ◌-◌, ◌<◌, ◌≤◌, Option, Some, None, IsSome, IfSome, is_some, List, [], ◌++◌, length, take, drop, refl, sym, ap, ◌∙◌, subst, arith, append_assoc, append-nil, length-append}
 use Rattle.std.specs.Option.{option_map}
 use Rattle.std.specs.Io.KnownBytes.{Appends}
 use Rattle.std.proofs.lemmas.List.{take_at, drop_at}
@@ -46,6 +46,11 @@ rest_fits P None left a b c sum e h = tt
 rest_fits P (Some n) left a b c sum e h =
     let Q : Option ℕ → Type 0 = λ o. IfSome o (λ m. b ≤ m → P) in
     λ fit. subst Q e h (omega arith)
+
+-- nothing was appended if the bytes are as they were
+pub nothing_appended : (a b : Option (List ℕ)) → b ≡ a → Appends a b []
+nothing_appended None b e = tt
+nothing_appended (Some put) b e = subst (λ (o : Option (List ℕ)). Appends (Some put) o []) (sym e) (sym (append-nil put))
 
 -- what was appended and then cut away leaves the known bytes as they were
 pub told_back : (told more last : Option (List ℕ)) (at : ℕ) (bytes : List ℕ) → IfSome told (λ put. length put ≡ at) → IsSome told → Appends told more bytes → last ≡ option_map (take at) more → last ≡ told

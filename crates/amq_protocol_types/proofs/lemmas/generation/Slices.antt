@@ -5,6 +5,7 @@ use Rattle.std.proofs.lemmas.List.{drop-drop, length-take-le, same_lists, places
 use borrow.Rule.Slice.PartMut.{put_mid}
 use Rattle.amq_protocol_types.specs.generation.BufferOutput.{AppendsBytes, filled, overwrite}
 use Rattle.amq_protocol_types.specs.generation.Slices.{Sliced, seen_slice}
+use Rattle.amq_protocol_types.proofs.lemmas.generation.Steps.{bytes_put}
 
 -- a slice's bytes before a place, and those from there on
 abbrev pub cut_at : List ℕ → ℕ → Sliced
@@ -16,25 +17,7 @@ put_fits s t ys fit put tail =
     let long = ap length put ∙ length-append s.put ys in
     let left = ap length tail ∙ length-drop (length ys) s.tail in
     record {
-      written = record {
-        appended = put;
-        moved = long;
-        tail = tail;
-        stayed = λ _. tt;
-        kept = λ _. tt;
-        room_kept = λ _. tt;
-        fits = tt;
-        room = fit;
-        room_left = ap Some left;
-        succeeds = λ _ _. refl;
-        too_small = λ e. search rules;
-        too_long = λ e _. search rules;
-        failed = tt;
-        offset = λ e. search rules;
-        memory = λ e. search rules;
-        no_other = λ _. tt;
-        faults = omega arith;
-      };
+      written = bytes_put put long tail tt fit (ap Some left) (omega arith);
       stayed = tt;
       promised = λ _. refl;
       promise = omega arith;

@@ -12,30 +12,37 @@ use Rattle.amq_protocol_types.specs.generation.Outputs.{OutputState, Writes, Has
 use Rattle.amq_protocol_types.specs.generation.BufferOutput.{IsWhole, Truncates, PatchesLength, filled}
 use Rattle.amq_protocol_types.proofs.lemmas.generation.Rooms.{both_fit, both_left, room_back, both_too_many, still_fixed, rest_fits, told_back, front_overwritten, any_room}
 
+-- bytes were put: what holds of errors then holds too
+pub bytes_put : {b : Bool} {A : Type 0} {xs : List ℕ} {s t : OutputState} → Appends s.written t.written xs → t.position ≡ s.position + length xs → t.tail ≡ drop (length xs) s.tail → A
+    → IfSome s.room (λ room. length xs ≤ room) → t.room ≡ option_map (λ room. room - length xs) s.room → s.faults ≤ t.faults → Writes b A xs s (Ok tt) t
+bytes_put {s = s} appended moved tail fits room left faults = record {
+  appended = appended;
+  moved = moved;
+  tail = tail;
+  stayed = λ _. tt;
+  kept = λ _. tt;
+  room_kept = λ _. tt;
+  fits = fits;
+  room = room;
+  room_left = left;
+  succeeds = λ _. any_room _ s.room _ refl;
+  too_small = λ e. cc;
+  too_long = λ e _. cc;
+  failed = tt;
+  offset = λ e. cc;
+  memory = λ e. cc;
+  no_other = λ _. tt;
+  faults = faults;
+}
+
 -- xs were put, and then ys: so both were
 pub both_put : {b : Bool} {A B : Type 0} {xs ys : List ℕ} {s t u : OutputState} (C : Type 0) (zs : List ℕ) → zs ≡ xs ++ ys → (A → B → C) → Writes b A xs s (Ok tt) t → Writes b B ys t (Ok tt) u → Writes b C zs s (Ok tt) u
 both_put {xs = xs} {ys = ys} {s = s} {t = t} {u = u} C zs both lengths p q =
     let sum : length zs ≡ length xs + length ys = ap length both ∙ length-append xs ys in
     let P : List ℕ → Type 0 = λ l. Appends s.written u.written l in
-    record {
-      appended = subst P (sym both) (Appends-trans s.written t.written u.written xs ys p.appended q.appended);
-      moved = omega (arith, p.moved, q.moved);
-      tail = q.tail ∙ ap (drop (length ys)) p.tail ∙ drop-drop (length ys) (length xs) s.tail ∙ ap (λ n. drop n s.tail) (sym sum);
-      stayed = λ _. tt;
-      kept = λ _. tt;
-      room_kept = λ _. tt;
-      fits = lengths p.fits q.fits;
-      room = both_fit s.room t.room _ _ _ sum p.room p.room_left q.room;
-      room_left = both_left s.room t.room u.room _ _ _ sum p.room_left q.room_left;
-      succeeds = λ _. any_room _ s.room _ refl;
-      too_small = λ e. cc;
-      too_long = λ e _. cc;
-      failed = tt;
-      offset = λ e. cc;
-      memory = λ e. cc;
-      no_other = λ _. tt;
-      faults = omega (arith, p.faults, q.faults);
-    }
+    bytes_put (subst P (sym both) (Appends-trans s.written t.written u.written xs ys p.appended q.appended)) (omega (arith, p.moved, q.moved))
+    (q.tail ∙ ap (drop (length ys)) p.tail ∙ drop-drop (length ys) (length xs) s.tail ∙ ap (λ n. drop n s.tail) (sym sum)) (lengths p.fits q.fits)
+    (both_fit s.room t.room _ _ _ sum p.room p.room_left q.room) (both_left s.room t.room u.room _ _ _ sum p.room_left q.room_left) (omega (arith, p.faults, q.faults))
 
 -- a device that failed in a later call has failed since an earlier one
 pub failed_since : (s t u w : OutputState) → s.faults ≤ t.faults → w.faults ≡ u.faults → HasFailed t u → HasFailed s w
@@ -70,7 +77,7 @@ refused {xs = xs} {ys = ys} {s = s} {t = t} {u = u} {w = w} {e = e} C zs at plac
     }
 
 -- a length that doesn't fit its field is rejected if nothing more was written
-pub refused_as_long : (s : OutputState) (C : Type 0) → (C → ⊥) → Writes true C [] s (Err LengthTooLong) s
+refused_as_long : (s : OutputState) (C : Type 0) → (C → ⊥) → Writes true C [] s (Err LengthTooLong) s
 refused_as_long s C long = record {
   appended = tt;
   moved = tt;
@@ -96,25 +103,8 @@ pub filled_in : {A : Type 0} (zeros more : List ℕ) {s t : OutputState} (C : Ty
 filled_in zeros more {s = s} {t = t} C ys whole same lengths p =
     let sum : length (ys ++ more) ≡ length (zeros ++ more) = length-append ys more ∙ ap (λ n. n + length more) (sym same) ∙ sym (length-append zeros more) in
     let Fit : ℕ → Type 0 = λ n. IfSome s.room (λ room. n ≤ room) in
-    record {
-      appended = front_overwritten s.written t.written s.position zeros ys more whole.counted same p.appended;
-      moved = p.moved ∙ ap (λ n. s.position + n) (sym sum);
-      tail = p.tail ∙ ap (λ n. drop n s.tail) (sym sum);
-      stayed = λ _. tt;
-      kept = λ _. tt;
-      room_kept = λ _. tt;
-      fits = lengths p.fits;
-      room = subst Fit (sym sum) p.room;
-      room_left = p.room_left ∙ ap (λ n. option_map (λ m. m - n) s.room) (sym sum);
-      succeeds = λ _. any_room _ s.room _ refl;
-      too_small = λ e. cc;
-      too_long = λ e _. cc;
-      failed = tt;
-      offset = λ e. cc;
-      memory = λ e. cc;
-      no_other = λ _. tt;
-      faults = p.faults;
-    }
+    bytes_put (front_overwritten s.written t.written s.position zeros ys more whole.counted same p.appended) (p.moved ∙ ap (λ n. s.position + n) (sym sum))
+    (p.tail ∙ ap (λ n. drop n s.tail) (sym sum)) (lengths p.fits) (subst Fit (sym sum) p.room) (p.room_left ∙ ap (λ n. option_map (λ m. m - n) s.room) (sym sum)) p.faults
 
 -- what a buffer wrote, whatever shows that it is one
 pub by_buffer : {b : Bool} {A : Type 0} {xs : List ℕ} {s t : OutputState} → b ≡ true → Writes b A xs s (Ok tt) t → Writes true A xs s (Ok tt) t

@@ -1,24 +1,19 @@
 -- What was read within limits is read again within them.
-use Rattle.std.proofs.Common.{◌≡◌, ◌≤◌, ◌-◌, ℕ, suc, List, ◌++◌, length, Option, Some, None, Result, Ok, Err, MatchResult, IfOk, ap, ◌∙◌, subst, arith, length-append}
-use Rattle.std.specs.Int.{Width, byte_len}
-use Rattle.std.proofs.lemmas.Bool.{le-ltb}
+use Rattle.std.proofs.Common.{◌≡◌, ◌-◌, ℕ, suc, List, ◌++◌, length, Result, Ok, Err, MatchResult, IfOk, ap, ◌∙◌, subst, arith, length-append}
 use Rattle.amqp_value_core.specs.Values.{Tree}
-use Rattle.amqp_value_core.specs.Layouts.{Layout, fixed}
+use Rattle.amqp_value_core.specs.Layouts.{fixed}
 use Rattle.amqp_value_core.specs.Grammar.{Wire, wire}
 use Rattle.amqp_value_core.specs.Headline.{IsWritableIn}
 use Rattle.amqp_value_core.specs.Texts.{text}
 use Rattle.amqp_value_core.specs.Inputs.{IsBytes}
 use Rattle.amqp_value_core.specs.Outcomes.{found, length_field}
-use Rattle.amqp_value_core.proofs.GrammarLaws.{front_within, bounded_wire, wire_found_within, text_within, text_again, depth_within, bounds, injective, extent-raw, header_extent_of, bytes_front}
+use Rattle.amqp_value_core.proofs.Bytes.{bytes_front}
+use Rattle.amqp_value_core.proofs.GrammarLaws.{front_within, bounded_wire, wire_found_within, text_within, text_again, depth_within, bounds, injective, extent-raw}
 use Rattle.amq_protocol_types.specs.declared.parsing.limits.Limits.{Limits}
 use Rattle.amq_protocol_types.specs.parsing.Refusals.{Refusal}
-use Rattle.amq_protocol_types.specs.parsing.Headers.{extent_of, raw_extent, extent_at, extent}
+use Rattle.amq_protocol_types.specs.parsing.Headers.{raw_extent, extent_at, extent}
 use Rattle.amq_protocol_types.specs.parsing.Limits.{Within, RefusesWithin, IsReadAgain, ReadsBack, IsShortestWithin, TellsApartWithin, IsReadWithin}
-
--- if the length field is complete, a payload's least extent is its extent
-whole_extent : (o : Option Layout) (w : Width) (b : List ℕ) (n : ℕ) → header_extent_of o w b ≡ n → n ≤ length b → extent_of o w b ≡ n
-whole_extent (Some f) w b n e le = e
-whole_extent None w b n e le = rw (le-ltb (length b) (byte_len w) (omega arith)) e
+use Rattle.amq_protocol_types.proofs.lemmas.parsing.Extents.{whole_extent}
 
 -- the least extent of what begins with an encoding is the encoding's length
 pub wire_extent : (w t : List ℕ) (v : Tree) → Wire w v → extent (w ++ t) ≡ length w

@@ -2,10 +2,10 @@
 use Rattle.std.proofs.Common.{◌≡◌, ◌<◌, ◌≤◌, ℕ, List, [], ◌∷◌, ◌++◌, length, refl, sym, ap, subst, arith, length-append}
 use Rattle.std.proofs.lemmas.List.{nil_from_length}
 use Rattle.amqp_value_core.specs.Values.{Tree, Trees, no_trees, tree, trees_of}
-use Rattle.amqp_value_core.specs.Grammar.{Wire, wire, ArrayBody, no_values, value}
+use Rattle.amqp_value_core.specs.Grammar.{Wire, ArrayBody, no_values, value}
 use Rattle.amqp_value_core.specs.Nesting.{body_nesting, BodyWithin, OutcomeWithin}
 use Rattle.amqp_value_core.specs.Outcomes.{Reading, found, more, unknown, malformed, Heavy}
-use Rattle.amqp_value_core.proofs.GrammarLaws.{one_reading, one_outcome_within, wire_found_within, front_within}
+use Rattle.amqp_value_core.proofs.GrammarLaws.{length-wire, one_reading, one_outcome_within, wire_found_within, front_within}
 use Rattle.amq_protocol_types.specs.declared.parsing.errors.Err.TheVariants.{Incomplete, Error, Failure}
 use Rattle.amq_protocol_types.specs.declared.parsing.errors.Needed.TheVariants.{Unknown, Size}
 use Rattle.amq_protocol_types.specs.declared.parsing.errors.ErrorKind.TheVariants.{MapOpt, MapRes, Eof, OutOfMemory, TooLarge}
@@ -35,10 +35,6 @@ behind-push (x ∷ xs) v vs = ap (tree x) (behind-push xs v vs)
 behind-nothing : (xs : List Tree) → behind xs no_trees ≡ trees_of xs
 behind-nothing [] = refl
 behind-nothing (x ∷ xs) = ap (tree x) (behind-nothing xs)
-
--- an encoding has at least one byte
-length-wire : (w : List ℕ) (v : Tree) → Wire w v → 0 < length w
-length-wire _ _ (wire c type b v k p) = omega arith
 
 -- a body that isn't empty begins with a value
 body_found : (d : ℕ) (s : List ℕ) (vs : Trees) (p : ArrayBody s vs) → body_nesting s vs p ≤ d → 0 < length s → (v : Tree) × (rest : List ℕ) × OutcomeWithin d s (found v rest)

@@ -17,7 +17,7 @@ whole_front a s (rest, e) same =
     sym (append-nil a) ∙ ap (λ l. a ++ l) (sym none) ∙ sym e
 
 -- the same of the first n bytes, if n are there
-pub whole_taken : (a body left : List ℕ) (n : ℕ) → IsFront a body → body ≡ take n left → n ≤ length left → n ≤ length a → a ≡ take n left
+whole_taken : (a body left : List ℕ) (n : ℕ) → IsFront a body → body ≡ take n left → n ≤ length left → n ≤ length a → a ≡ take n left
 whole_taken a body left n (rest, e) is there enough =
     let size = length-take n left in
     whole_front a body (rest, e) (omega (arith, length-append a rest, ap length e, ap length is, size)) ∙ is

@@ -12,7 +12,7 @@ use Rattle.amqp_value_core.specs.Strings.{IsShort}
 use Rattle.amqp_value_core.specs.Grammar.{short_field, long_field, Raw, raw_short, raw_long, raw_octets, raw_array, raw_table}
 use Rattle.amqp_value_core.specs.Nesting.{RawWithin, BodyWithin, RawOutcomeWithin}
 use Rattle.amqp_value_core.specs.Outcomes.{Reading, found, more, unknown, malformed, length_field, counted, frame_lack, lack_of, lack, FrontBy, RawHeavy}
-use Rattle.amqp_value_core.specs.Payloads.{RawFront, RawOutcome}
+use Rattle.amqp_value_core.specs.Payloads.{RawOutcome}
 use Rattle.amqp_value_core.proofs.GrammarLaws.{array_body_within, table_body_within, raw_found_within, raw_whole_within, short_bytes, counted-long_field, lack_of-long_field, raw_found, raw_whole}
 use Rattle.amq_protocol_types.specs.parsing.Refusals.{Refusal}
 use Rattle.amq_protocol_types.specs.parsing.ParseResults.{Refuses}
@@ -30,7 +30,7 @@ module _ (type : AMQPType) (s body rest : List ℕ) (row : fixed type ≡ None) 
       ap₂ (λ o w. lack_of o w s) row field ∙ (ap (lack_of None w32) f.framed ∙ lack_of-long_field body rest f.fits)
 
   -- what the length-prefixed field means is found
-  pub frame_found : (v : Tree) → Raw type (long_field body) v → RawOutcome type s (found v rest)
+  frame_found : (v : Tree) → Raw type (long_field body) v → RawOutcome type s (found v rest)
   frame_found v p = rw f.framed (raw_found type (long_field body) rest v p)
 
   -- it allocates if its body has a byte
@@ -38,25 +38,19 @@ module _ (type : AMQPType) (s body rest : List ℕ) (row : fixed type ≡ None) 
   frame_heavy h =
       (row, frame_whole, omega (arith, ap₂ counted field f.framed, counted-long_field body rest f.fits))
 
-  -- what decides about the body decides about the length-prefixed field
-  pub frame_refused : (Is : Reading → Type 0) → ((o : Reading) → Is o → RawFront type s o) → (r : Refusal) → Refuses Is (0 < length body) r
-      → Refuses (RawOutcome type s) (RawHeavy type s) r
-  frame_refused Is front r x =
-      Refuses-weaker Is (RawOutcome type s) (0 < length body) (RawHeavy type s) r
-      (λ o y. raw_whole type s o frame_whole (front o y)) frame_heavy x
-
-  -- the same, if containers nest at most d deep
-  pub frame_found_within : (d : ℕ) (v : Tree) → RawWithin d type (long_field body) v → RawOutcomeWithin d type s (found v rest)
+  -- what the length-prefixed field means is found, if containers nest at most d deep
+  frame_found_within : (d : ℕ) (v : Tree) → RawWithin d type (long_field body) v → RawOutcomeWithin d type s (found v rest)
   frame_found_within d v p = rw f.framed (raw_found_within d type (long_field body) rest v p)
 
-  pub frame_refused_within : (d : ℕ) (Is : Reading → Type 0) → ((o : Reading) → Is o → FrontBy (RawWithin d type) s o) → (r : Refusal) → Refuses Is (0 < length body) r
+  -- what decides about the body decides about the length-prefixed field
+  frame_refused_within : (d : ℕ) (Is : Reading → Type 0) → ((o : Reading) → Is o → FrontBy (RawWithin d type) s o) → (r : Refusal) → Refuses Is (0 < length body) r
       → Refuses (RawOutcomeWithin d type s) (RawHeavy type s) r
   frame_refused_within d Is front r x =
       Refuses-weaker Is (RawOutcomeWithin d type s) (0 < length body) (RawHeavy type s) r
       (λ o y. raw_whole_within d type s o frame_whole (front o y)) frame_heavy x
 
   -- a complete length-prefixed field that no prefix decides is malformed
-  pub frame_malformed : (d : ℕ) → FrontBy (RawWithin d type) s malformed → RawOutcomeWithin d type s malformed
+  frame_malformed : (d : ℕ) → FrontBy (RawWithin d type) s malformed → RawOutcomeWithin d type s malformed
   frame_malformed d none = raw_whole_within d type s malformed frame_whole none
 
 module _ (s body rest : List ℕ) (f : IsLengthPrefixed s body rest) where

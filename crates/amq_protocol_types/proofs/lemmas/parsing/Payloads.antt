@@ -1,5 +1,5 @@
 -- Payloads: what is read of one type of fixed width.
-use Rattle.std.proofs.Common.{◌≡◌, ◌<◌, ◌^◌, ℕ, zero, suc, List, [], ◌++◌, length, ℤ, Bool, true, false, cond, nat_eq, Some, refl, sym, ap, ap₂, ◌∙◌, subst, arith}
+use Rattle.std.proofs.Common.{◌≡◌, ◌<◌, ◌^◌, ℕ, List, [], ◌++◌, length, ℤ, Bool, true, false, cond, nat_eq, Some, refl, sym, ap, ap₂, ◌∙◌, subst, arith}
 use Rattle.std.specs.Prelude.{not}
 use Rattle.std.specs.Int.{Width, w8, w16, w32, w64, byte_len, to_be_bytes, from_be_bytes, cast_signed, cast_unsigned}
 use Rattle.std.proofs.lemmas.Nat.{from_be_bytes-to_be_bytes_2, from_be_bytes-to_be_bytes_4, from_be_bytes-to_be_bytes_8}
@@ -8,9 +8,9 @@ use Rattle.amqp_value_core.specs.declared.types.amqp_type.AMQPType.TheVariants a
 use Rattle.amqp_value_core.specs.Values.{Tree, Scalar, boolean, number, decimal, void, scalar}
 use Rattle.amqp_value_core.specs.Layouts.{Layout, fixed, truth, whole_number}
 use Rattle.amqp_value_core.specs.Grammar.{Raw, raw_fixed}
-use Rattle.amqp_value_core.specs.Outcomes.{Reading, found, more, unknown, malformed, lack, NeedsMoreOr}
+use Rattle.amqp_value_core.specs.Outcomes.{Reading, found, more, unknown, malformed, lack}
 use Rattle.amqp_value_core.specs.Payloads.{RawFront, RawOutcome}
-use Rattle.amqp_value_core.proofs.GrammarLaws.{raw_found}
+use Rattle.amqp_value_core.proofs.GrammarLaws.{NeedsMoreOr-weaker, raw_found}
 use Rattle.amq_protocol_types.specs.parsing.PayloadResults.{IsNumberRead}
 
 -- a payload of fixed width at the start is read
@@ -91,9 +91,4 @@ module _ (s : List ℕ) where
   unsigned_front unknown f = f
 
   pub unsigned_outcome : (o : Reading) → RawOutcome amqp.LongLongInt s o → RawOutcome amqp.LongLongUInt s o
-  unsigned_outcome o x = by (lack amqp.LongLongInt s) x
-    where
-      by : (n : ℕ) → NeedsMoreOr n (RawFront amqp.LongLongInt s o) o → NeedsMoreOr n (RawFront amqp.LongLongUInt s o) o
-      by zero f = unsigned_front o f
-      by (suc n) e = e
-      -- and so is its error
+  unsigned_outcome o x = NeedsMoreOr-weaker (lack amqp.LongLongInt s) (RawFront amqp.LongLongInt s o) (RawFront amqp.LongLongUInt s o) o (unsigned_front o) x

@@ -47,7 +47,7 @@ plain_found d type s rest v plain x = plain_within d type s (found v rest) plain
 pub plain_arm : (d : ℕ) (plain type : AMQPType) (s rest : List ℕ) (v : Tree) → type ≡ plain → IsPlain plain → RawOutcome plain s (found v rest) → RawOutcomeWithin d type s (found v rest)
 plain_arm d plain type s rest v is no_container x = rw is (plain_found d plain s rest v no_container x)
 
-pub plain_refuses : (d : ℕ) (type : AMQPType) (s : List ℕ) (heavy : Type 0) (e : Refusal) → IsPlain type → (heavy → RawHeavy type s) → Refuses (RawOutcome type s) heavy e
+plain_refuses : (d : ℕ) (type : AMQPType) (s : List ℕ) (heavy : Type 0) (e : Refusal) → IsPlain type → (heavy → RawHeavy type s) → Refuses (RawOutcome type s) heavy e
     → Refuses (RawOutcomeWithin d type s) (RawHeavy type s) e
 plain_refuses d type s heavy e plain weaker x =
     Refuses-weaker (RawOutcome type s) (RawOutcomeWithin d type s) heavy (RawHeavy type s) e (λ o y. plain_within d type s o plain y) weaker x

@@ -1,14 +1,14 @@
 -- The body of a table, as it is read: the entries so far, and what is left.
-use Rattle.std.proofs.Common.{◌≡◌, ◌<◌, ◌≤◌, ℕ, zero, suc, List, ◌++◌, length, refl, sym, ◌∙◌, ap, subst, arith, length-append}
+use Rattle.std.proofs.Common.{◌≡◌, ◌<◌, ◌≤◌, ℕ, List, ◌++◌, length, refl, sym, ◌∙◌, ap, subst, arith, length-append}
 use Rattle.std.proofs.lemmas.List.{nil_from_length}
 use Rattle.amqp_value_core.specs.declared.types.amqp_type.AMQPType.TheVariants as amqp
 use Rattle.amqp_value_core.specs.Values.{Tree, short, Entries, no_entries, entry, insert, insert_all}
 use Rattle.amqp_value_core.specs.Strings.{IsShort}
 use Rattle.amqp_value_core.specs.Grammar.{short_field, Wire, Raw, raw_short, TableBody, no_pairs, pair}
 use Rattle.amqp_value_core.specs.Nesting.{pairs_nesting, PairsWithin, OutcomeWithin}
-use Rattle.amqp_value_core.specs.Outcomes.{Reading, found, more, unknown, malformed, lack, NeedsMoreOr, Heavy}
-use Rattle.amqp_value_core.specs.Payloads.{RawFront, RawOutcome}
-use Rattle.amqp_value_core.proofs.GrammarLaws.{one_reading, one_raw_reading, one_outcome_within, one_raw_outcome, raw_found, wire_found_within, front_within}
+use Rattle.amqp_value_core.specs.Outcomes.{Reading, found, more, unknown, malformed, lack, Heavy}
+use Rattle.amqp_value_core.specs.Payloads.{RawOutcome}
+use Rattle.amqp_value_core.proofs.GrammarLaws.{raw_front, one_key, one_reading, one_outcome_within, one_raw_outcome, raw_found, wire_found_within, front_within}
 use Rattle.amq_protocol_types.specs.declared.parsing.errors.Err.TheVariants.{Incomplete, Error, Failure}
 use Rattle.amq_protocol_types.specs.declared.parsing.errors.Needed.TheVariants.{Unknown, Size}
 use Rattle.amq_protocol_types.specs.declared.parsing.errors.ErrorKind.TheVariants.{MapOpt, MapRes, Eof, OutOfMemory, TooLarge}
@@ -32,25 +32,15 @@ key_of _ _ (raw_short s is) = (refl, is)
 
 key_front : (s k rest : List ℕ) → RawOutcome amqp.ShortString s (found (short k) rest) → (s ≡ short_field k ++ rest) × IsShort k
 key_front s k rest x =
-    let f = by (lack amqp.ShortString s) x in
+    let f = raw_front (Raw amqp.ShortString) (lack amqp.ShortString s) s rest (short k) x in
     let key = key_of f.0 k f.1 in
     (f.2 ∙ ap (λ (b : List ℕ). b ++ rest) key.0, key.1)
-  where
-    by : (n : ℕ) → NeedsMoreOr n (RawFront amqp.ShortString s (found (short k) rest)) (found (short k) rest)
-        → RawFront amqp.ShortString s (found (short k) rest)
-    by zero f = f
-    by (suc n) e = absurd cc
 
 -- what is left after a key is shorter
 pub key_shorter : (s k rest : List ℕ) → RawOutcome amqp.ShortString s (found (short k) rest) → length rest < length s
 key_shorter s k rest x =
     let f = key_front s k rest x in
     omega (arith, ap length f.0, length-append k rest)
-
--- one key is read of a list, and one rest
-one_key : (k j x y : List ℕ) → IsShort k → IsShort j → short_field k ++ x ≡ short_field j ++ y → x ≡ y
-one_key k j x y p q e =
-    (one_raw_reading amqp.ShortString (short_field k) (short_field j) x y (short k) (short j) (raw_short k p) (raw_short j q) e).2
 
 -- pairs that aren't empty begin with a key that is read
 no_key : (s : List ℕ) (ps : Entries) (o : Reading) → RawOutcome amqp.ShortString s o → ((v : Tree) (rest : List ℕ) → o ≡ found v rest → ⊥)
@@ -62,19 +52,19 @@ no_key _ _ o x other h (pair k w left v ps is p all) =
     (raw_found amqp.ShortString (short_field k) (w ++ left) (short k) (raw_short k is)))
 
 -- and after it a value that is read
-no_value : (d : ℕ) (s k behind : List ℕ) (ps : Entries) (o : Reading) → IsShort k → s ≡ short_field k ++ behind → OutcomeWithin d behind o
+no_value : (d : ℕ) (s k behind : List ℕ) (ps : Entries) (o : Reading) → s ≡ short_field k ++ behind → OutcomeWithin d behind o
     → ((v : Tree) (rest : List ℕ) → o ≡ found v rest → ⊥) → (q : TableBody s ps) → pairs_nesting s ps q ≤ d → ⊥
-no_value d _ k behind _ o is e x other no_pairs within = absurd cc
-no_value d _ k behind _ o is e x other (pair j w left v ps at p all) within =
-    let rest : behind ≡ w ++ left = one_key k j behind (w ++ left) is at (sym e) in
+no_value d _ k behind _ o e x other no_pairs within = absurd cc
+no_value d _ k behind _ o e x other (pair j w left v ps at p all) within =
+    let rest : behind ≡ w ++ left = (one_key k j behind (w ++ left) (sym e)).1 in
     other v left (one_outcome_within d behind o (found v left) x (subst (λ (t : List ℕ). OutcomeWithin d t (found v left)) (sym rest) (wire_found_within d w left v p (omega arith))))
 
 -- after the first pair are pairs
-pairs_behind : (d : ℕ) (s k w rest : List ℕ) (v : Tree) (ps : Entries) → IsShort k → Wire w v → s ≡ short_field k ++ (w ++ rest) → (q : TableBody s ps) → pairs_nesting s ps q ≤ d
+pairs_behind : (d : ℕ) (s k w rest : List ℕ) (v : Tree) (ps : Entries) → Wire w v → s ≡ short_field k ++ (w ++ rest) → (q : TableBody s ps) → pairs_nesting s ps q ≤ d
     → (qs : Entries) × PairsWithin d rest qs
-pairs_behind d _ k w rest v _ is p e no_pairs within = absurd cc
-pairs_behind d _ k w rest v _ is p e (pair j u left z ps at q all) within =
-    let behind : w ++ rest ≡ u ++ left = one_key k j (w ++ rest) (u ++ left) is at (sym e) in
+pairs_behind d _ k w rest v _ p e no_pairs within = absurd cc
+pairs_behind d _ k w rest v _ p e (pair j u left z ps at q all) within =
+    let behind : w ++ rest ≡ u ++ left = (one_key k j (w ++ rest) (u ++ left) (sym e)).1 in
     let same = one_reading w u rest left v z p q behind in
     (ps, subst (λ (t : List ℕ). PairsWithin d t ps) (sym same.2) (all, omega arith))
 
@@ -91,7 +81,7 @@ Walks-step d s es left k behind v rest g x y =
     let all : left ≡ short_field k ++ (f.0 ++ rest) = key.0 ∙ ap (λ (t : List ℕ). short_field k ++ t) f.2 in
     record {
       whole = λ ps p. g.whole (entry k v ps) (subst (λ (t : List ℕ). PairsWithin d t (entry k v ps)) (sym all) (pair k f.0 rest v ps key.1 f.1.0 p.0, omega (arith, f.1.1, p.1)));
-      only = λ qs p. let m = g.only qs p in pairs_behind d left k f.0 rest v m.0 key.1 f.1.0 all m.1.0 m.1.1;
+      only = λ qs p. let m = g.only qs p in pairs_behind d left k f.0 rest v m.0 f.1.0 all m.1.0 m.1.1;
       shorter = omega (arith, g.shorter, key_shorter left k behind x, rest_shorter d behind v rest y);
     }
 
@@ -119,7 +109,7 @@ stuck_at_value : (d : ℕ) (s : List ℕ) (es : Entries) (rest k behind : List �
 stuck_at_value d s es rest k behind o g x y other = λ qs p.
     let m = g.only qs p in
     let key = key_front rest k behind x in
-    no_value d rest k behind m.0 o key.1 key.0 y other m.1.0 m.1.1
+    no_value d rest k behind m.0 o key.0 y other m.1.0 m.1.1
 
 -- the error of a value, for the table round it
 pub Walks-bad_value : (d : ℕ) (s : List ℕ) (es : Entries) (rest k behind : List ℕ) (e : Refusal) → Walks d s es rest

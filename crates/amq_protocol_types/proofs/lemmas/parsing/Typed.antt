@@ -1,37 +1,16 @@
 -- A value after its type tag.
-use Rattle.std.proofs.Common.{◌-◌, arith, length, IfOk, ◌≡◌, ℕ, Bool, true, false, cond, List, [], ◌∷◌, Some, Result, Ok, Err, MatchResult, nat_eq, sym, subst, rules}
-use Rattle.std.specs.Map.{lookup}
+use Rattle.std.proofs.Common.{◌-◌, arith, length, IfOk, ◌≡◌, ℕ, List, Result, Ok, Err, MatchResult, sym, subst}
 use Rattle.amqp_value_core.specs.declared.types.amqp_type.AMQPType.{AMQPType}
 use Rattle.amqp_value_core.specs.declared.value.AMQPValue.{AMQPValue}
-use Rattle.amqp_value_core.specs.Ids.{letters, kind}
 use Rattle.amqp_value_core.specs.View.{view}
 use Rattle.amqp_value_core.specs.Outcomes.{Reading, found, Outcome, RawHeavy, Heavy}
 use Rattle.amqp_value_core.specs.Nesting.{OutcomeWithin, RawOutcomeWithin}
 use Rattle.amqp_value_core.specs.Headline.{IsWritableIn}
 use Rattle.amqp_value_core.proofs.GrammarLaws.{raw_to_value_within, raw_to_heavy, bounded_found, unlimited}
-use Rattle.amq_protocol_types.specs.declared.parsing.errors.ErrorKind.TheVariants.{Eof}
 use Rattle.amq_protocol_types.specs.parsing.Refusals.{Refusal}
-use Rattle.amq_protocol_types.specs.parsing.PayloadResults.{IsType, bad_kind}
+use Rattle.amq_protocol_types.specs.parsing.PayloadResults.{IsType}
 use Rattle.amq_protocol_types.specs.parsing.ParseResults.{Refuses}
 use Rattle.amq_protocol_types.proofs.lemmas.parsing.Refused.{Refuses-weaker}
-
--- no type that is read is a short string
-abbrev AreEof : List (ℕ × AMQPType) → Type 0
-AreEof [] = Unit {0}
-AreEof (x ∷ xs) = (bad_kind x.1 ≡ Eof) × AreEof xs
-
-eof_of : (test : ℕ → Bool) (xs : List (ℕ × AMQPType)) (type : AMQPType) → AreEof xs → lookup test xs ≡ Some type → bad_kind type ≡ Eof
-eof_of test [] type all e = absurd cc
-eof_of test (x ∷ xs) type all e = by (test x.0) (eof_of test xs type all.1) e
-  where
-    by : (b : Bool) → (lookup test xs ≡ Some type → bad_kind type ≡ Eof) → cond b (Some x.1) (lookup test xs) ≡ Some type → bad_kind type ≡ Eof
-    by true later d =
-        let same : x.1 ≡ type = cc in
-        subst (λ (t : AMQPType). bad_kind t ≡ Eof) same all.0
-    by false later d = later d
-
-eof_of_kind : (c : ℕ) (type : AMQPType) → kind c ≡ Some type → bad_kind type ≡ Eof
-eof_of_kind c type e = eof_of (nat_eq c) letters type (search rules) e
 
 -- the type tag of the type is read from s, and `rest` is left
 module _ (d : ℕ) (s rest : List ℕ) (type : AMQPType) (p : IsType s type rest) where

@@ -1,9 +1,8 @@
 -- What is missing of a value that hasn't all come, as more of it comes.
 use Rattle.std.proofs.Common.{◌≡◌, ◌<◌, ◌≤◌, ◌+◌, ◌-◌, ℕ, zero, suc, List, [], ◌∷◌, ◌++◌, length, take, Option, Some, None, MatchOption, refl, ap, ap₂, ◌∙◌, subst, arith, inl, inr, length-append}
 use Rattle.std.specs.Option.{IfSome}
-use Rattle.amqp_value_core.specs.declared.types.amqp_type.AMQPType.TheVariants as amqp
 use Rattle.std.specs.Int.{Width, byte_len}
-use Rattle.std.proofs.lemmas.Bool.{cases_lt, lt-ltb, le-ltb}
+use Rattle.std.proofs.lemmas.Bool.{cases_lt}
 use Rattle.std.proofs.lemmas.List.{take-append-le, take_at, drop_at, nil_from_length, length-take-le, append-nil}
 use Rattle.amqp_value_core.specs.declared.types.amqp_type.AMQPType.{AMQPType}
 use Rattle.amqp_value_core.specs.Values.{Tree}
@@ -11,10 +10,11 @@ use Rattle.amqp_value_core.specs.Ids.{kind}
 use Rattle.amqp_value_core.specs.Layouts.{Layout, fixed}
 use Rattle.amqp_value_core.specs.Grammar.{Wire}
 use Rattle.amqp_value_core.specs.Nesting.{OutcomeWithin}
-use Rattle.amqp_value_core.specs.Outcomes.{found, more, unknown, length_field, counted, frame_lack, fields_lack, lack_of, lack, NeedsMoreOr, FrontBy, OutcomeBy, Outcome}
-use Rattle.amqp_value_core.specs.Readings.{Front}
-use Rattle.amqp_value_core.proofs.GrammarLaws.{more_bytes, wire_found, front_within}
+use Rattle.amqp_value_core.specs.Outcomes.{found, more, unknown, length_field, lack_of, lack, NeedsMoreOr, FrontBy, OutcomeBy}
+use Rattle.amqp_value_core.proofs.GrammarLaws.{NeedsMoreOr-more, more_bytes, wire_found, front_within, first_within, fields_lack_cut, fields_lack_known, frame_lack_cut, frame_lack_known, counted-append}
 use Rattle.amq_protocol_types.specs.parsing.Headers.{extent_of, extent_at, extent, wanted_at, wanted, IsWaiting}
+use Rattle.amq_protocol_types.proofs.lemmas.parsing.Extents.{extent_cut, extent_known}
+use Rattle.amq_protocol_types.proofs.lemmas.parsing.Whole.{found_whole}
 use lib.Seq.{take-add}
 
 -- ---- what is missing, and the outcome
@@ -24,14 +24,10 @@ pub more_wanted : (P : List ℕ → Tree → Type 0) (s : List ℕ) → 0 < want
 more_wanted P [] h = refl
 more_wanted P (c ∷ b) h = by (kind c) h
   where
-    at : (n : ℕ) (Q : Type 0) → 0 < n → NeedsMoreOr n Q (more n)
-    at zero Q lt = absurd (omega arith)
-    at (suc n) Q lt = refl
-
     by : (k : Option AMQPType) → 0 < wanted_at k b
         → MatchOption k (more (wanted_at k b) ≡ unknown) (λ type. NeedsMoreOr (lack type b) (FrontBy P (c ∷ b) (more (wanted_at k b))) (more (wanted_at k b)))
     by None lt = absurd (omega arith)
-    by (Some type) lt = at (lack type b) _ lt
+    by (Some type) lt = NeedsMoreOr-more (lack type b) _ lt
 
 -- what is asked for is missing
 pub wanted_more : (P : List ℕ → Tree → Type 0) (s : List ℕ) (n : ℕ) → OutcomeBy P s (more n) → wanted s ≡ n
@@ -47,20 +43,6 @@ wanted_more P (c ∷ b) n x = by (kind c) x
     by None is = absurd cc
     by (Some type) y = at (lack type b) y
 
--- if a value is found, nothing is missing
-pub wanted_found : (s : List ℕ) (v : Tree) (rest : List ℕ) → Outcome s (found v rest) → wanted s ≡ 0
-wanted_found [] v rest x = absurd cc
-wanted_found (c ∷ b) v rest x = by (kind c) x
-  where
-    at : (m : ℕ) → NeedsMoreOr m (Front (c ∷ b) (found v rest)) (found v rest) → m ≡ 0
-    at zero front = refl
-    at (suc m) is = absurd cc
-
-    by : (k : Option AMQPType) → MatchOption k (found v rest ≡ unknown) (λ type. NeedsMoreOr (lack type b) (Front (c ∷ b) (found v rest)) (found v rest))
-        → wanted_at k b ≡ 0
-    by None is = refl
-    by (Some type) y = at (lack type b) y
-
 -- after fewer bytes than are missing, the others are missing
 pub wanted-append : (s m : List ℕ) → length m < wanted s → wanted (s ++ m) ≡ wanted s - length m
 wanted-append s m lt = wanted_more Wire (s ++ m) (wanted s - length m) (more_bytes s m (more (wanted s)) (more_wanted Wire s (omega arith)) lt)
@@ -72,15 +54,9 @@ extent_of-append : (o : Option Layout) (w : Width) (b m : List ℕ) → length m
 extent_of-append (Some f) w b m lt = refl
 extent_of-append None w b m lt = elim (cases_lt (length b) (byte_len w)) [
   | inl cut ↦
-      let here = lt-ltb (length b) (byte_len w) cut in
-      let lacks : frame_lack w b ≡ byte_len w - length b = rw here refl in
-      let there = lt-ltb (length (b ++ m)) (byte_len w) (omega (arith, lacks, length-append b m)) in
-      rw (here, there) refl
-  | inr known ↦
-      let here = le-ltb (length b) (byte_len w) known in
-      let there = le-ltb (length (b ++ m)) (byte_len w) (omega (arith, length-append b m)) in
-      let same : counted w (b ++ m) ≡ counted w b = rw (take-append-le (byte_len w) b m known) refl in
-      rw (here, there, same) refl
+      let lacks = frame_lack_cut w b cut in
+      rw (extent_cut w b cut, extent_cut w (b ++ m) (omega (arith, lacks, length-append b m))) refl
+  | inr known ↦ omega (arith, extent_known w b known, extent_known w (b ++ m) (omega (arith, length-append b m)), counted-append w b m known)
 ]
 
 -- nor that of a value
@@ -102,10 +78,6 @@ take_behind s m n le =
     let all : n ≡ length s + j = omega arith in
     ap (λ (k : ℕ). take k (s ++ m)) all ∙ take-add (length s) j (s ++ m)
     ∙ ap₂ (λ (a b : List ℕ). a ++ take j b) (take_at s m (length s) refl) (drop_at s m (length s) refl)
-
--- nothing waits
-pub waits_start : (frame : ℕ) → IsWaiting frame []
-waits_start frame n lt = absurd (omega arith)
 
 -- as many bytes as are missing, or fewer
 pub waits_more : (frame : ℕ) (s m : List ℕ) → IsWaiting frame s → extent s ≤ frame → length m ≤ wanted s → IsWaiting frame (s ++ m)
@@ -130,43 +102,22 @@ nothing_behind frame d s v rest waits x =
       | inl less ↦
           let front : take (length w) s ≡ w = ap (take (length w)) f.2 ∙ take_at w rest (length w) refl in
           let lacks : 0 < wanted w = subst (λ (t : List ℕ). 0 < wanted t) front (waits (length w) less).0 in
-          let none : wanted (w ++ []) ≡ 0 = wanted_found (w ++ []) v [] (wire_found w [] v f.1.0) in
+          let none : wanted (w ++ []) ≡ 0 = (found_whole Wire (w ++ []) [] v (wire_found w [] v f.1.0)).0 in
           absurd (omega (arith, ap wanted (append-nil w)))
       | inr whole ↦ nil_from_length rest (omega arith)
     ]
 
 -- ---- the length-prefixed field
 
--- the first field of a type is within all of its fields
-first_fits : (type : AMQPType) → IfSome (fixed type) (λ f. f.first ≤ f.width)
-first_fits amqp.ShortString = tt
-first_fits amqp.LongString = tt
-first_fits amqp.ByteArray = tt
-first_fits amqp.FieldArray = tt
-first_fits amqp.FieldTable = tt
-first_fits _ = omega arith
-
 -- what is missing of a payload is within its extent
 lack_within : (o : Option Layout) (w : Width) (b : List ℕ) → IfSome o (λ f. f.first ≤ f.width) → 0 < lack_of o w b → length b + lack_of o w b ≤ extent_of o w b
 lack_within (Some f) w b fits lt = elim (cases_lt (length b) f.first) [
-  | inl cut ↦
-      let is : fields_lack f b ≡ f.first - length b = rw (lt-ltb (length b) f.first cut) refl in
-      omega (arith, is)
-  | inr known ↦
-      let is : fields_lack f b ≡ f.width - length b = rw (le-ltb (length b) f.first known) refl in
-      omega (arith, is)
+  | inl cut ↦ omega (arith, fields_lack_cut f b cut)
+  | inr known ↦ omega (arith, fields_lack_known f b known)
 ]
 lack_within None w b fits lt = elim (cases_lt (length b) (byte_len w)) [
-  | inl cut ↦
-      let here = lt-ltb (length b) (byte_len w) cut in
-      let is : frame_lack w b ≡ byte_len w - length b = rw here refl in
-      let all : extent_of None w b ≡ byte_len w = rw here refl in
-      omega (arith, is, all)
-  | inr known ↦
-      let here = le-ltb (length b) (byte_len w) known in
-      let is : frame_lack w b ≡ byte_len w + counted w b - length b = rw here refl in
-      let all : extent_of None w b ≡ byte_len w + counted w b = rw here refl in
-      omega (arith, is, all)
+  | inl cut ↦ omega (arith, frame_lack_cut w b cut, extent_cut w b cut)
+  | inr known ↦ omega (arith, frame_lack_known w b known, extent_known w b known)
 ]
 
 -- so it is of a value whose type tag has come
@@ -177,7 +128,7 @@ wanted_within (c ∷ b) some lt = by (kind c) lt
     by : (k : Option AMQPType) → 0 < wanted_at k b
         → suc (length b) + wanted_at k b ≤ extent_at k b
     by None lt = absurd (omega arith)
-    by (Some type) lt = omega (arith, lack_within (fixed type) (length_field type) b (first_fits type) lt)
+    by (Some type) lt = omega (arith, lack_within (fixed type) (length_field type) b (first_within type) lt)
 
 -- what has waited is within the length-prefixed field
 pub kept_within : (frame : ℕ) (s : List ℕ) → 0 < frame → IsWaiting frame s → length s ≤ frame

@@ -8,7 +8,7 @@ use Rattle.amqp_value_core.specs.declared.value.AMQPValue.{AMQPValue}
 use Rattle.amq_protocol_types.specs.declared.parsing.limits.Limits.{Limits}
 use Rattle.amq_protocol_types.specs.stream.Readers.{Answers}
 use Rattle.amq_protocol_types.specs.parsing.Headers.{extent, wanted, IsWaiting}
-use Rattle.amq_protocol_types.proofs.ParsingLaws.{waits_more}
+use Rattle.amq_protocol_types.proofs.lemmas.parsing.Waits.{waits_more}
 
 -- one read of at most as many bytes as are missing leaves all waiting
 pub filled_waits : (frame : ℕ) (s now : List ℕ) (most : ℕ) (r : Result ℕ StreamError) (C : List ℕ → Type 0) (E : StreamError → Type 0) (K : Type 0)

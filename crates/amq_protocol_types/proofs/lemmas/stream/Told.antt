@@ -13,7 +13,8 @@ use Rattle.amq_protocol_types.specs.declared.stream.error.StreamError.TheVariant
 use Rattle.amq_protocol_types.specs.declared.parsing.limits.Limits.{Limits}
 use Rattle.amq_protocol_types.specs.parsing.Limits.{Within}
 use Rattle.amq_protocol_types.specs.stream.Readers.{Answers, AnswersAll}
-use Rattle.amq_protocol_types.proofs.ParsingLaws.{wire_extent, refused_append}
+use Rattle.amq_protocol_types.proofs.lemmas.parsing.Again.{wire_extent}
+use Rattle.amq_protocol_types.proofs.lemmas.parsing.Appends.{refused_append}
 
 -- a value whose encoding came is read of that and more
 wire_told : (l : Limits) (s t : List ℕ) (v : Tree) → WireWithin l.depth s v → length s ≤ l.frame → Within l (s ++ t) (found v t)
