@@ -124,7 +124,7 @@ def own_key(crates: Crates, crate: str, mutants: Sequence[Mutant], kit_line: str
     shared = [crates.top / "HANDLES", *(TOP / it for it in SCRIPTS)]
     blocks = sorted((str(it), it.block) for it in mutants)
     ours = code(folder, [*sources, *proofs_of(folder, mutants, sources)])
-    return hash_of([("kit", kit_line), *((it.name, code_of(it)) for it in sorted(shared)), *blocks, *ours])
+    return hash_of([("kit", kit_line), *((it.name, code_of(it)) for it in shared), *blocks, *ours])
 
 
 def rest_key(crates: Crates, crate: str) -> str:
