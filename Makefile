@@ -10,7 +10,7 @@ $(FOLDER):
 	.ci/dist $@
 
 check:
-	.ci/c
+	tests/c/run
 
 install: all
 	mkdir -p "$(DESTDIR)$(PREFIX)"

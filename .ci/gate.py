@@ -89,17 +89,17 @@ def gate(name, words):
         if not tries_all:
             # .ci/test runs the tests; the mutants of must-fail/ are tried with the others, and carried over as they are
             leave_out_tests(copy)
-        scripts = copy / ".ci"
+        scripts, tests = copy / ".ci", copy / "tests"
         proved = steps.add("rt ci", ["rt", "ci", *["--anew"] * tries_all], cwd=copy, **{"judge": by_proved} if tries_all else {}, tells=r"(?<=^rt: )\w+(: its tests)? (proved|NOT PROVED|ran|is kept)\b|: NOT REFUSED|BAD EDIT")
         words = {
             "docs": ([TOP / ".ci/docs"], ()),
             "test": ([TOP / ".ci/test", "--jobs", 2], ()),
             "oracle": ([scripts / "oracle"], (proved,)),
             "show": ([scripts / "show"], (proved,)),
-            "alloc-failures": ([scripts / "alloc-failures"], (proved,)),
-            "sizes": ([scripts / "sizes"], (proved,)),
-            "c": ([scripts / "c", "--built"], (proved,)),
-            "counts": ([scripts / "counts", "--built"], (proved,)),
+            "alloc-failures": ([tests / "memory/alloc-failures"], (proved,)),
+            "sizes": ([tests / "memory/sizes"], (proved,)),
+            "c": ([tests / "c/run", "--built"], (proved,)),
+            "counts": ([tests / "counts/run", "--built"], (proved,)),
             "broker": ([scripts / "broker", "--built", "--tables", TABLES[name]], (proved,)),
             "mutants": ([scripts / "mutants", "--built", "--must-fail", TOP, "--record", TOP / KEYS, *["--all"] * tries_all], (proved,)),
         }
@@ -110,7 +110,7 @@ def gate(name, words):
             if step not in without:
                 tries_mutants = step == "mutants"
                 how = {"judge": by_rejected, "tells": r"^\w+: tried$|NOT REJECTED|NOT TRIED|self test: FAILED|^changed.*"} if tries_mutants else {}
-                steps.add(step, command, cwd=copy if command[0].parent == scripts else TOP, after=after, **how)
+                steps.add(step, command, cwd=copy if command[0].is_relative_to(copy) else TOP, after=after, **how)
         os.environ["COMMIT_NUMBER"] = said_by("git", "-C", str(TOP), "rev-list", "--count", "HEAD")
         steps.run()
         steps.notes += [f"left out: {it}" for it in without]

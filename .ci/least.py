@@ -1,7 +1,7 @@
 """The least number of what each step counts, so that what isn't run any more is noticed.
 
 Each line of .ci/least.rows is STEP NAME NUMBER, none of them with a space. A step that counts fewer by that name fails.
-`.ci/STEP --write` runs the step, and sets its numbers to what it counted.
+The step's command runs it with --write, and then sets its numbers to what it counted.
 """
 
 import sys
@@ -23,7 +23,7 @@ def least(step, name):
     """The least number of what a step counts by this name."""
     number = rows().get((step, name))
     if number is None:
-        sys.exit(f"{FILE.name} has no line for {step} {name}: `.ci/{step} --write` writes it")
+        sys.exit(f"{FILE.name} has no line for {step} {name}: its step writes it with --write")
     return number
 
 

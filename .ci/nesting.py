@@ -1,5 +1,5 @@
 #!/usr/bin/env python3
-"""What nesting takes of the stack: the table of docs/PROMISES.md, and the runs by which .ci/sizes and .ci/c hold it.
+"""What nesting takes of the stack: the table of docs/PROMISES.md, and the runs by which tests/memory/sizes and tests/c/run hold it.
 
 `recommended` runs the calls for C with the limits that the header recommends, on the stack that it names.
 

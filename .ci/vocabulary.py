@@ -1,6 +1,6 @@
 """Words that have a plainer one, in the pages and in the comments of the sources.
 
-Of a source only the lines that are nothing but a comment are read: those of crates/, .ci/, include/ and examples/. Names
+Of a source only the lines that are nothing but a comment are read: those of crates/, .ci/, tests/c/ and the like, include/ and examples/. Names
 in backquotes are left out.
 """
 
@@ -33,8 +33,8 @@ HEXADECIMAL = tuple(f"crates/amqp_show/{it}" for it in ("src/hexadecimal.rt", "s
 RIGHT = {
     # JSON, and what a terminal shows
     "text": ("crates/amqp_json/", "crates/amqp_c_alloc/", "crates/test_codec/src/json_texts.rt", "crates/amqp_show/src/reasons.rt",
-        "crates/amqp_screen/", "crates/test_codec/src/oracle", "include/amqp_values.h", ".ci/buffers.c", ".ci/mutant", *HEXADECIMAL),
-    "texts": ("crates/amqp_json/", "crates/amqp_c_alloc/", "crates/amqp_screen/", "crates/test_codec/src/json_texts.rt", ".ci/buffers.c",
+        "crates/amqp_screen/", "crates/test_codec/src/oracle", "include/amqp_values.h", "tests/c/canonical_and_json.c", ".ci/mutant", *HEXADECIMAL),
+    "texts": ("crates/amqp_json/", "crates/amqp_c_alloc/", "crates/amqp_screen/", "crates/test_codec/src/json_texts.rt", "tests/c/canonical_and_json.c",
         ".ci/mutant"),
     "spells": HEXADECIMAL, "spelled": HEXADECIMAL,
     # what a mutant is, the files of must-fail/, and a line that the script prints
@@ -56,7 +56,7 @@ def tracked(*forms):
 
 def comments():
     """Yields each line of the sources' comments, by its file and number."""
-    for name, path in tracked("crates", ".ci", "include", "examples").items():
+    for name, path in tracked("crates", ".ci", "tests/c", "tests/counts", "tests/memory", "include", "examples").items():
         text = path.read_text(errors="replace")
         forms = [form for key, form in COMMENTS.items() if name.endswith(key) or text.startswith(f"{key}\n")]
         for found in re.finditer(forms[0], text, re.DOTALL | re.MULTILINE) if forms else ():

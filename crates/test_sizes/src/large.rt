@@ -1,7 +1,7 @@
 //! The calls that may run out of memory, on what is large: they return what they do of what is
 //! small. A line for each has its name, and `same` if its result is what it should be.
 //!
-//! `.ci/sizes` runs it, by a word for what standard input has.
+//! `tests/memory/sizes` runs it, by a word for what standard input has.
 
 use crate::unmade;
 use amq_protocol_types::flags::AMQPFlags;

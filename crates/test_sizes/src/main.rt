@@ -1,4 +1,4 @@
-//! The calls that may run out of memory, on what is large: `.ci/sizes` runs them, by a word for what
+//! The calls that may run out of memory, on what is large: `tests/memory/sizes` runs them, by a word for what
 //! standard input has.
 #![tactic(auto)]
 

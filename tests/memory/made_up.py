@@ -10,6 +10,10 @@ Nor can a clause state with which error a reader or a writer of std failed: the 
 """
 
 import re
+import sys
+from pathlib import Path
+
+sys.path.append(str(Path(__file__).resolve().parents[2] / ".ci"))
 
 from crates import TOP
 
