@@ -18,9 +18,9 @@
 static uint8_t *page;
 
 /* The buffer as the library and as the writer here leave it, at the end of the page or at its start. */
-static uint8_t *room;
+static uint8_t *buffer;
 static uint8_t model[MOST];
-static size_t room_length;
+static size_t capacity;
 
 /* ---- a writer in plain C */
 
@@ -53,17 +53,18 @@ static int takes_key(uint8_t tag, slice key) {
 
 /* Whether an entry with this key can be put into the container, and if not, what must be returned. */
 static int32_t model_place(const amqpv_container *into, slice key) {
-    if (!is_inside(into->written, room_length) || !is_container(into->tag)) {
+    if (!is_inside(into->written, capacity) || !is_container(into->tag)) {
         return AMQPV_INVALID;
     }
     return takes_key(into->tag, key) ? AMQPV_OK : AMQPV_BAD_KEY;
 }
 
-/* Appends the key and these bytes to the container unless something is `wrong`, and returns what the library must. */
+/* Whether the type tag is one of these. */
 static int is_one_of(uint8_t tag, const char *tags_of) {
     return tag != 0 && strchr(tags_of, tag) != NULL;
 }
 
+/* Appends the key and these bytes to the container unless something is `wrong`, and returns what the library must. */
 static int32_t model_append(amqpv_container *into, slice key, slice bytes, int32_t wrong) {
     size_t end = into->written.offset + into->written.length;
     size_t named = into->tag == AMQPV_TABLE ? 1 + key.length : 0;
@@ -74,7 +75,7 @@ static int32_t model_append(amqpv_container *into, slice key, slice bytes, int32
     uint8_t tag = bytes.at[0] == 'U' ? 's' : bytes.at[0] == 'L' ? 'l' : bytes.at[0];
     size_t needed, content = is_one_of(tag, "SxAF") ? bytes.length - 5 : 0;
     CHECK(amqpv_needed(into, key.length, tag, content, &needed) == AMQPV_OK && needed == end + named + bytes.length);
-    if (room_length - end < named + bytes.length) {
+    if (capacity - end < named + bytes.length) {
         return AMQPV_NO_ROOM;
     }
     if (named) {
@@ -133,31 +134,31 @@ static const amqpv_container whole = {{0, 0}, AMQPV_ARRAY};
 typedef struct held {
     uint64_t before;
     amqpv_container it;
-    uint64_t behind;
+    uint64_t after;
 } held;
 
 #define SPARE 0x5a5a5a5a5a5a5a5au
 
 /* After a call the result, the container, the buffer and its surroundings are as they have to be. */
-static int32_t check(const held *all, amqpv_container wanted, int32_t answer, int32_t right) {
+static int32_t check(const held *all, amqpv_container wanted, int32_t result, int32_t right) {
     calls++;
-    CHECK(answer == right);
+    CHECK(result == right);
     CHECK(all->it.written.offset == wanted.written.offset && all->it.written.length == wanted.written.length);
-    CHECK(all->it.tag == wanted.tag && all->before == SPARE && all->behind == SPARE);
-    CHECK(memcmp(room, model, room_length) == 0);
+    CHECK(all->it.tag == wanted.tag && all->before == SPARE && all->after == SPARE);
+    CHECK(memcmp(buffer, model, capacity) == 0);
     for (size_t i = 1; i <= 16; i++) {
-        CHECK(room - i < page || room[-(ptrdiff_t)i] == 0xa5);
-        CHECK(room + room_length + i > page + page_size || room[room_length + i - 1] == 0xa5);
+        CHECK(buffer - i < page || buffer[-(ptrdiff_t)i] == 0xa5);
+        CHECK(buffer + capacity + i > page + page_size || buffer[capacity + i - 1] == 0xa5);
     }
-    return answer;
+    return result;
 }
 
 /* Has the buffer be n bytes, all of them the same. */
-static void new_room(size_t length, int at_front) {
+static void new_buffer(size_t length, int at_start) {
     memset(page, 0xa5, page_size);
-    room_length = length;
-    room = at_front ? page : page + page_size - length;
-    memset(room, 0x33, length);
+    capacity = length;
+    buffer = at_start ? page : page + page_size - length;
+    memset(buffer, 0x33, length);
     memset(model, 0x33, sizeof model);
 }
 
@@ -167,7 +168,7 @@ static int32_t put(amqpv_container *into, slice key, uint8_t tag, uint64_t bits,
     size_t length = model_scalar(bytes, tag, bits, scale);
     int32_t wrong = !is_scalar_tag(tag) ? AMQPV_BAD_TAG : length ? AMQPV_OK : AMQPV_OUT_OF_RANGE;
     int32_t right = model_append(into, key, (slice){bytes, length}, wrong);
-    return check(&all, *into, amqpv_put(room, room_length, &all.it, key.at, key.length, tag, bits, scale), right);
+    return check(&all, *into, amqpv_put(buffer, capacity, &all.it, key.at, key.length, tag, bits, scale), right);
 }
 
 static int32_t put_int(amqpv_container *into, slice key, uint8_t tag, int64_t number) {
@@ -176,7 +177,7 @@ static int32_t put_int(amqpv_container *into, slice key, uint8_t tag, int64_t nu
     size_t length = model_scalar(bytes, tag, (uint64_t)number, 0);
     int32_t wrong = !is_one_of(tag, "bsIl") ? AMQPV_BAD_TAG : length ? AMQPV_OK : AMQPV_OUT_OF_RANGE;
     int32_t right = model_append(into, key, (slice){bytes, length}, wrong);
-    return check(&all, *into, amqpv_put_int(room, room_length, &all.it, key.at, key.length, tag, number), right);
+    return check(&all, *into, amqpv_put_int(buffer, capacity, &all.it, key.at, key.length, tag, number), right);
 }
 
 static int32_t put_uint(amqpv_container *into, slice key, uint8_t tag, uint64_t number) {
@@ -185,7 +186,7 @@ static int32_t put_uint(amqpv_container *into, slice key, uint8_t tag, uint64_t 
     size_t length = model_scalar(bytes, tag, number, 0);
     int32_t wrong = !is_one_of(tag, "Bui") ? AMQPV_BAD_TAG : length ? AMQPV_OK : AMQPV_OUT_OF_RANGE;
     int32_t right = model_append(into, key, (slice){bytes, length}, wrong);
-    return check(&all, *into, amqpv_put_uint(room, room_length, &all.it, key.at, key.length, tag, number), right);
+    return check(&all, *into, amqpv_put_uint(buffer, capacity, &all.it, key.at, key.length, tag, number), right);
 }
 
 /* Values of the other types of fixed width, each with the encoding that is wanted; and a string. */
@@ -200,7 +201,7 @@ static void put_others(amqpv_container *into, slice key) {
     };
     amqpv_container start = *into, wanted = start;
     held all = {SPARE, start, SPARE};
-#define AT room, room_length, &all.it, key.at, key.length
+#define AT buffer, capacity, &all.it, key.at, key.length
 #define PUT(bytes, length, call) \
     do { \
         int32_t right = model_append(&wanted, key, (slice){bytes, length}, AMQPV_OK); \
@@ -236,8 +237,8 @@ static int32_t put_bytes(amqpv_container *into, slice key, uint8_t tag, slice co
     memcpy(bytes + 5, content.at, content.length);
     int is_string = tag == AMQPV_LONG_STRING || tag == AMQPV_BYTE_ARRAY;
     int32_t right = model_append(into, key, (slice){bytes, 5 + content.length}, is_string ? AMQPV_OK : AMQPV_BAD_TAG);
-    int32_t answer = amqpv_put_bytes(room, room_length, &all.it, key.at, key.length, tag, content.at, content.length);
-    return check(&all, *into, answer, right);
+    int32_t result = amqpv_put_bytes(buffer, capacity, &all.it, key.at, key.length, tag, content.at, content.length);
+    return check(&all, *into, result, right);
 }
 
 static int32_t put_value(amqpv_container *into, slice key, slice value) {
@@ -246,8 +247,8 @@ static int32_t put_value(amqpv_container *into, slice key, slice value) {
     held all = {SPARE, *into, SPARE};
     int32_t read = amqpv_read(value.at, value.length, FRAME, DEPTH, &entry, &count);
     int32_t right = model_append(into, key, (slice){value.at, count}, read);
-    int32_t answer = amqpv_put_value(room, room_length, &all.it, key.at, key.length, value.at, value.length, FRAME, DEPTH);
-    return check(&all, *into, answer, right);
+    int32_t result = amqpv_put_value(buffer, capacity, &all.it, key.at, key.length, value.at, value.length, FRAME, DEPTH);
+    return check(&all, *into, result, right);
 }
 
 static int32_t open_in(const amqpv_container *into, slice key, uint8_t tag, amqpv_container *body) {
@@ -258,19 +259,19 @@ static int32_t open_in(const amqpv_container *into, slice key, uint8_t tag, amqp
     if (right == AMQPV_OK) {
         *body = (amqpv_container){{grown.written.offset + grown.written.length, 0}, tag};
     }
-    return check(&all, *body, amqpv_open(room, room_length, into, key.at, key.length, tag, &all.it), right);
+    return check(&all, *body, amqpv_open(buffer, capacity, into, key.at, key.length, tag, &all.it), right);
 }
 
 /* Whether the body begins after a key, its type tag and four bytes, at the end of `into`. */
 static int is_open(const amqpv_container *into, const amqpv_container *body) {
     size_t at = into->written.offset + into->written.length, key_length = 0;
-    if (!is_inside(into->written, room_length) || !is_inside(body->written, room_length) || !is_container(body->tag)) {
+    if (!is_inside(into->written, capacity) || !is_inside(body->written, capacity) || !is_container(body->tag)) {
         return 0;
     }
-    if (into->tag == AMQPV_TABLE && at < room_length) {
+    if (into->tag == AMQPV_TABLE && at < capacity) {
         key_length = model[at++];
     }
-    return room_length - at >= key_length + 5 && takes_key(into->tag, (slice){model + at, key_length})
+    return capacity - at >= key_length + 5 && takes_key(into->tag, (slice){model + at, key_length})
            && model[at + key_length] == body->tag && body->written.offset == at + key_length + 5;
 }
 
@@ -281,7 +282,7 @@ static int32_t close_in(amqpv_container *into, const amqpv_container *body) {
         big_endian(model + body->written.offset - 4, 4, body->written.length);
         into->written.length = body->written.offset + body->written.length - into->written.offset;
     }
-    return check(&all, *into, amqpv_close(room, room_length, &all.it, body), right);
+    return check(&all, *into, amqpv_close(buffer, capacity, &all.it, body), right);
 }
 
 /* A table that is written at once: of the pairs the first that can't be written decides, and then the buffer's size. */
@@ -313,12 +314,12 @@ static int32_t write_table(const amqpv_pair *pairs, size_t pair_count) {
         }
     }
     big_endian(wanted, 4, at - 4);
-    right = right == AMQPV_OK && at > room_length ? AMQPV_NO_ROOM : right;
+    right = right == AMQPV_OK && at > capacity ? AMQPV_NO_ROOM : right;
     memcpy(model, wanted, right == AMQPV_OK ? at : 0);
     held all = {SPARE, whole, SPARE};
-    int32_t answer = check(&all, whole, amqpv_write_table(pairs, pair_count, room, room_length, &count), right);
+    int32_t result = check(&all, whole, amqpv_write_table(pairs, pair_count, buffer, capacity, &count), right);
     CHECK(count == (right == AMQPV_OK || right == AMQPV_NO_ROOM ? at : 0));
-    return answer;
+    return result;
 }
 
 /* ---- what is tried */
@@ -374,18 +375,18 @@ static void try_types(void) {
         for (size_t i = 0; i < COUNT(numbers); i++) {
             for (int scale = 0; scale < 256; scale += scale < 2 ? 1 : 253) {
                 amqpv_container array = whole, table = {{3, 0}, AMQPV_TABLE};
-                new_room(16, tag % 2);
+                new_buffer(16, tag % 2);
                 put(&array, none, (uint8_t)tag, numbers[i], (uint8_t)scale);
                 put(&table, k, (uint8_t)tag, numbers[i], (uint8_t)scale);
                 try_getters((uint8_t)tag, numbers[i], (uint8_t)scale);
                 const amqpv_pair pairs[] = {
                     AMQPV_STRING_PAIR("text", "hi", 2), {"k", 1, "bytes", 5, numbers[i], (uint8_t)tag, (uint8_t)scale}, AMQPV_INT_PAIR("", 't', 1),
                 };
-                new_room(64, tag % 2);
+                new_buffer(64, tag % 2);
                 write_table(pairs, COUNT(pairs));
             }
             amqpv_container array = whole, table = {{3, 0}, AMQPV_TABLE};
-            new_room(40, tag % 2);
+            new_buffer(40, tag % 2);
             put_int(&array, none, (uint8_t)tag, (int64_t)numbers[i]);
             put_uint(&array, none, (uint8_t)tag, numbers[i]);
             put_int(&table, k, (uint8_t)tag, (int64_t)numbers[i]);
@@ -393,7 +394,7 @@ static void try_types(void) {
         }
         for (size_t length = 0; length <= 16; length++) {
             amqpv_container body = whole;
-            new_room(length, tag % 2);
+            new_buffer(length, tag % 2);
             open_in(&whole, none, (uint8_t)tag, &body);
             open_in(&table_of_none, k, (uint8_t)tag, &body);
         }
@@ -412,15 +413,15 @@ static void try_keys(void) {
         for (unsigned n = 0; n < 1u << 8 * length; n++) {
             amqpv_container table = table_of_none;
             big_endian(key, length, n);
-            new_room(8, n % 2);
+            new_buffer(8, n % 2);
             put(&table, (slice){key, length}, AMQPV_VOID, 0, 0);
-            new_room(9, n % 2);
+            new_buffer(9, n % 2);
             write_table(&(amqpv_pair){(const char *)key, length, none.at, 0, 0, AMQPV_VOID, 0}, 1);
         }
     }
     for (size_t i = 0; i < COUNT(others); i++) {
         amqpv_container table = table_of_none, body = whole;
-        new_room(16, 0);
+        new_buffer(16, 0);
         put(&table, others[i], AMQPV_VOID, 0, 0);
         put_bytes(&table, others[i], AMQPV_LONG_STRING, none);
         open_in(&table, others[i], AMQPV_ARRAY, &body);
@@ -429,11 +430,11 @@ static void try_keys(void) {
     memset(key, 'k', sizeof key);
     for (size_t length = 0; length <= sizeof key; length += length < 253 ? 11 : 1) {
         amqpv_container array = whole, table = table_of_none;
-        new_room(400, 0);
+        new_buffer(400, 0);
         put(&array, (slice){key, length}, AMQPV_BOOLEAN, 1, 0);
-        new_room(400, 0);
+        new_buffer(400, 0);
         put(&table, (slice){key, length}, AMQPV_BOOLEAN, 1, 0);
-        new_room(600, 0);
+        new_buffer(600, 0);
         write_table((amqpv_pair[]){{(char *)key, 255, none.at, 0, 1, AMQPV_BOOLEAN, 0}, {(char *)key, length, key, length, 0, AMQPV_BYTE_ARRAY, 0}}, 2);
     }
 }
@@ -472,12 +473,12 @@ static void try_entries(amqpv_container start, slice key) {
 }
 
 /* Entries of every kind in buffers of every size. */
-static void try_rooms(void) {
+static void try_capacities(void) {
     for (size_t length = 0; length <= 40; length++) {
         for (size_t before = 0; before <= length; before += 3) {
-            new_room(length, (int)(before % 2));
+            new_buffer(length, (int)(before % 2));
             try_entries((amqpv_container){{0, before}, AMQPV_ARRAY}, none);
-            new_room(length, (int)(before % 2));
+            new_buffer(length, (int)(before % 2));
             try_entries((amqpv_container){{0, before}, AMQPV_TABLE}, (slice)SLICE("key"));
         }
     }
@@ -493,7 +494,7 @@ static void try_tables(void) {
     };
     for (size_t length = 0; length <= 120; length++) {
         for (size_t count = 0; count <= COUNT(pairs); count++) {
-            new_room(length, (int)(count % 2));
+            new_buffer(length, (int)(count % 2));
             write_table(pairs, count);
         }
     }
@@ -509,19 +510,19 @@ static void *before_a_page(size_t length) {
 static void try_many(void) {
     enum { PAIRS = 1000000, EACH = 9, SIZE = 4 + PAIRS * EACH };
     amqpv_pair *pairs = before_a_page(PAIRS * sizeof *pairs);
-    uint8_t *buffer = before_a_page(SIZE);
+    uint8_t *written = before_a_page(SIZE);
     uint8_t bytes[EACH] = {3, 'k', 'e', 'y', 'I'}, start[4];
     size_t count;
     for (size_t i = 0; i < PAIRS; i++) {
         pairs[i] = (amqpv_pair)AMQPV_INT_PAIR("key", AMQPV_LONG_INT, i);
     }
-    CHECK(amqpv_write_table(pairs, PAIRS, buffer, SIZE - 1, &count) == AMQPV_NO_ROOM && count == SIZE && buffer[SIZE - 2] == 0);
-    CHECK(amqpv_write_table(pairs, PAIRS, buffer, SIZE, &count) == AMQPV_OK && count == SIZE);
+    CHECK(amqpv_write_table(pairs, PAIRS, written, SIZE - 1, &count) == AMQPV_NO_ROOM && count == SIZE && written[SIZE - 2] == 0);
+    CHECK(amqpv_write_table(pairs, PAIRS, written, SIZE, &count) == AMQPV_OK && count == SIZE);
     big_endian(start, 4, SIZE - 4);
-    CHECK(memcmp(buffer, start, 4) == 0);
+    CHECK(memcmp(written, start, 4) == 0);
     for (size_t i = 0; i < PAIRS; i++) {
         big_endian(bytes + 5, 4, i);
-        CHECK(memcmp(buffer + 4 + i * EACH, bytes, EACH) == 0);
+        CHECK(memcmp(written + 4 + i * EACH, bytes, EACH) == 0);
     }
     calls += 2;
 }
@@ -533,7 +534,7 @@ static void try_corrupt(size_t length) {
         size_t i = n / 2 / sizeof tags / count, j = n / 2 / sizeof tags % count;
         uint8_t tag = tags[n / 2 % sizeof tags];
         slice key = {k.at, n % 2};
-        new_room(length, (int)(i % 2));
+        new_buffer(length, (int)(i % 2));
         amqpv_container corrupt = {{number(i, small), number(j, small)}, tag}, into = corrupt, body = corrupt;
         put(&into, key, AMQPV_SHORT_INT, 5, 0);
         into = corrupt;
@@ -551,7 +552,7 @@ static void try_corrupt(size_t length) {
 /* Bodies that were corrupted, and containers next to them, over bytes as amqpv_open leaves them. */
 static void try_corrupt_bodies(slice bytes) {
     size_t small = bytes.length + 2, count = small + 4;
-    new_room(bytes.length, 0);
+    new_buffer(bytes.length, 0);
     for (size_t n = 0; n < count * count * count * count; n++) {
         amqpv_container into = {{number(n % count, small), number(n / count % count, small)}, 0};
         amqpv_container body = {{number(n / count / count % count, small), number(n / count / count / count, small)}, 0};
@@ -559,7 +560,7 @@ static void try_corrupt_bodies(slice bytes) {
             amqpv_container grown = into;
             grown.tag = tags[t % 3];
             body.tag = tags[t / 3];
-            memcpy(room, bytes.at, bytes.length);
+            memcpy(buffer, bytes.at, bytes.length);
             memcpy(model, bytes.at, bytes.length);
             close_in(&grown, &body);
         }
@@ -579,21 +580,21 @@ static void try_large(void) {
         CHECK(amqpv_close(bytes, large, &into, &body) == (is_too_large ? AMQPV_TOO_LARGE : AMQPV_OK));
         CHECK(into.written.length == (is_too_large ? 0 : length + 5));
         CHECK(bytes[0] == 'A' && bytes[1] == (is_too_large ? 0 : 0xff) && bytes[4] == bytes[1] && bytes[5] == 0);
-        new_room(64, 0);
-        CHECK(amqpv_put_bytes(room, room_length, &old, none.at, 0, AMQPV_BYTE_ARRAY, bytes, length)
+        new_buffer(64, 0);
+        CHECK(amqpv_put_bytes(buffer, capacity, &old, none.at, 0, AMQPV_BYTE_ARRAY, bytes, length)
               == (is_too_large ? AMQPV_TOO_LARGE : AMQPV_NO_ROOM));
-        CHECK(old.written.length == 0 && memcmp(room, model, room_length) == 0);
+        CHECK(old.written.length == 0 && memcmp(buffer, model, capacity) == 0);
         /* a string, and then a body, of that many bytes: each pair has nine more than its string */
         amqpv_pair pairs[] = {AMQPV_STRING_PAIR("key", (char *)bytes, length), AMQPV_INT_PAIR("", 0, 0)};
         size_t count = 77;
-        CHECK(amqpv_write_table(pairs, 1, room, room_length, &count) == AMQPV_TOO_LARGE && count == 0);
+        CHECK(amqpv_write_table(pairs, 1, buffer, capacity, &count) == AMQPV_TOO_LARGE && count == 0);
         pairs[0].length -= 9;
-        CHECK(amqpv_write_table(pairs, 1, room, room_length, &count) == (is_too_large ? AMQPV_TOO_LARGE : AMQPV_NO_ROOM));
+        CHECK(amqpv_write_table(pairs, 1, buffer, capacity, &count) == (is_too_large ? AMQPV_TOO_LARGE : AMQPV_NO_ROOM));
         CHECK(count == (is_too_large ? 0 : length + 4));
-        CHECK(amqpv_write_table(pairs, 2, room, room_length, &count) == (is_too_large ? AMQPV_TOO_LARGE : AMQPV_BAD_TAG) && count == 0);
+        CHECK(amqpv_write_table(pairs, 2, buffer, capacity, &count) == (is_too_large ? AMQPV_TOO_LARGE : AMQPV_BAD_TAG) && count == 0);
         pairs[1] = pairs[0], pairs[1].length = length / 2, pairs[0].length = length - 18 - length / 2;
-        CHECK(amqpv_write_table(pairs, 2, room, room_length, &count) == (is_too_large ? AMQPV_TOO_LARGE : AMQPV_NO_ROOM));
-        CHECK(memcmp(room, model, room_length) == 0);
+        CHECK(amqpv_write_table(pairs, 2, buffer, capacity, &count) == (is_too_large ? AMQPV_TOO_LARGE : AMQPV_NO_ROOM));
+        CHECK(memcmp(buffer, model, capacity) == 0);
         calls += 7;
     }
     munmap(bytes, large);
@@ -653,7 +654,7 @@ static void try_needed(void) {
         size_t key_length;
         uint8_t tag;
         size_t content_length;
-        int32_t answer;
+        int32_t result;
         size_t count;
     } values[] = {
         {{{0, 0}, 'A'}, 0, 'V', 0, AMQPV_OK, 1},
@@ -674,8 +675,8 @@ static void try_needed(void) {
     };
     for (size_t i = 0; i < COUNT(values); i++) {
         size_t count = 77;
-        int32_t answer = amqpv_needed(&values[i].into, values[i].key_length, values[i].tag, values[i].content_length, &count);
-        CHECK(answer == values[i].answer && count == values[i].count);
+        int32_t result = amqpv_needed(&values[i].into, values[i].key_length, values[i].tag, values[i].content_length, &count);
+        CHECK(result == values[i].result && count == values[i].count);
         calls++;
     }
 }
@@ -687,7 +688,7 @@ static void try_random(void) {
     amqpv_entry entry;
     amqpv_cursor cursor;
     size_t count, others;
-    new_room(random_number() % 300, (int)(random_number() % 2));
+    new_buffer(random_number() % 300, (int)(random_number() % 2));
     uint8_t tag = random_number() % 2 ? AMQPV_TABLE : AMQPV_ARRAY;
     if (open_in(&top, none, tag, &body) != AMQPV_OK) {
         return;
@@ -695,16 +696,16 @@ static void try_random(void) {
     fill(&body, 3);
     CHECK(close_in(&top, &body) == AMQPV_OK);
     size_t length = top.written.length;
-    memcpy(first, room, length);
+    memcpy(first, buffer, length);
     CHECK(amqpv_read(first, length, FRAME, DEPTH, &entry, &count) == AMQPV_OK && count == length);
     CHECK(amqpv_canonical(first, length, FRAME, DEPTH, canonical, sizeof canonical, &count) == AMQPV_OK && count <= length);
     CHECK(amqpv_enter(first, length, &entry, &cursor) == AMQPV_OK);
-    new_room(length, 0);
+    new_buffer(length, 0);
     top = whole;
     CHECK(open_in(&top, none, tag, &body) == AMQPV_OK);
     copy_entries(first, length, cursor, &body);
     CHECK(close_in(&top, &body) == AMQPV_OK && top.written.length == length);
-    CHECK(amqpv_canonical(room, length, FRAME, DEPTH, again, sizeof again, &others) == AMQPV_OK);
+    CHECK(amqpv_canonical(buffer, length, FRAME, DEPTH, again, sizeof again, &others) == AMQPV_OK);
     CHECK(others == count && memcmp(again, canonical, count) == 0);
 }
 
@@ -716,7 +717,7 @@ int main(void) {
     page = pages_between(1);
     try_types();
     try_keys();
-    try_rooms();
+    try_capacities();
     try_tables();
     try_many();
     try_needed();

@@ -72,9 +72,9 @@ static const way canonical = {CANONICAL, FRAME, DEPTH, 0}, there = {TO_JSON, FRA
 static void try_text(slice given) {
     uint8_t bytes[MANY], text[MANY];
     size_t count, again;
-    int32_t answer = write_to(back, given, MANY, &count);
-    CHECK(answer == AMQPV_OK || answer == AMQPV_NOT_JSON || answer == AMQPV_NO_ENCODING);
-    if (answer == AMQPV_OK) {
+    int32_t result = write_to(back, given, MANY, &count);
+    CHECK(result == AMQPV_OK || result == AMQPV_NOT_JSON || result == AMQPV_NO_ENCODING);
+    if (result == AMQPV_OK) {
         slice encoding = taken(bytes, MANY, count);
         CHECK(write_to(there, encoding, MANY, &again) == AMQPV_OK);
         CHECK(write_to(back, taken(text, MANY, again), MANY, &again) == AMQPV_OK);

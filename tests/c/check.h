@@ -1,5 +1,5 @@
 /*
- * What the programs that try the calls for C share: a check, allocations that fail, pages that can't
+ * What most programs that try the calls for C share: allocations that fail, pages that can't
  * be accessed, numbers to try, and calls that write to a buffer. What is passed and a buffer are next to
  * such a page, so an access outside of them ends the program. Each program prints how many
  * calls it made. Linked with -Wl,--wrap=malloc, realloc and free.
@@ -9,6 +9,7 @@
 
 #define _DEFAULT_SOURCE
 #include "amqp_values.h"
+#include "condition.h"
 
 #include <inttypes.h>
 #include <stdio.h>
@@ -17,13 +18,6 @@
 #include <sys/mman.h>
 #include <unistd.h>
 
-#define CHECK(condition)                                                      \
-    do {                                                                      \
-        if (!(condition)) {                                                   \
-            fprintf(stderr, "line %d: not so: %s\n", __LINE__, #condition);   \
-            abort();                                                          \
-        }                                                                     \
-    } while (0)
 #define COUNT(array) (sizeof(array) / sizeof *(array))
 
 typedef struct slice {
@@ -142,23 +136,23 @@ static inline int32_t write_to(way by, slice given, size_t buffer_length, size_t
     memset(buffer_start, FILLED, (size_t)(buffer_end - buffer_start));
     *count = 77;
     uint64_t before = requests;
-    int32_t answer = by.call == CANONICAL ? amqpv_canonical(bytes, length, by.frame, by.depth, buffer, buffer_length, count)
+    int32_t result = by.call == CANONICAL ? amqpv_canonical(bytes, length, by.frame, by.depth, buffer, buffer_length, count)
                      : by.call == TO_JSON ? amqpv_to_json(bytes, length, by.frame, by.depth, buffer, buffer_length, count)
                                           : amqpv_from_json(bytes, length, by.nesting, buffer, buffer_length, count);
     calls++;
     CHECK(memcmp(bytes, given.at, length) == 0);
-    size_t written = answer == AMQPV_OK ? *count : 0;
-    CHECK(written <= buffer_length && (answer != AMQPV_OK || written > 0));
+    size_t written = result == AMQPV_OK ? *count : 0;
+    CHECK(written <= buffer_length && (result != AMQPV_OK || written > 0));
     for (uint8_t *it = buffer_start; it < buffer_end; it++) {
         CHECK(*it == FILLED || (it >= buffer && it < buffer + written));
     }
-    CHECK((answer == AMQPV_OK || answer == AMQPV_MORE || answer == AMQPV_NO_ROOM) == (*count > 0));
-    CHECK(answer != AMQPV_NO_ROOM || *count > buffer_length);
-    CHECK(answer != AMQPV_NO_MEMORY || requests > before);
-    CHECK(answer != AMQPV_INVALID && (by.call == FROM_JSON || answer > AMQPV_NOT_JSON));
-    CHECK(by.call != FROM_JSON || answer == AMQPV_OK || answer <= AMQPV_NO_MEMORY);
+    CHECK((result == AMQPV_OK || result == AMQPV_MORE || result == AMQPV_NO_ROOM) == (*count > 0));
+    CHECK(result != AMQPV_NO_ROOM || *count > buffer_length);
+    CHECK(result != AMQPV_NO_MEMORY || requests > before);
+    CHECK(result != AMQPV_INVALID && (by.call == FROM_JSON || result > AMQPV_NOT_JSON));
+    CHECK(by.call != FROM_JSON || result == AMQPV_OK || result <= AMQPV_NO_MEMORY);
     CHECK(blocks == 0);
-    return answer;
+    return result;
 }
 
 /* Whether a buffer of that length begins with these bytes. */
@@ -179,14 +173,14 @@ static inline void try_memory(way by, slice given, slice wanted, uint64_t step) 
         uint64_t before = requests;
         size_t count;
         failing = requests + nth;
-        int32_t answer = write_to(by, given, needed, &count);
+        int32_t result = write_to(by, given, needed, &count);
         failing = 0;
-        int is_written = answer == AMQPV_OK && count == needed && is_in_buffer(needed, wanted);
+        int is_written = result == AMQPV_OK && count == needed && is_in_buffer(needed, wanted);
         if (requests - before < nth) {
             CHECK(is_written);
             break;
         }
-        CHECK(is_written || (answer == AMQPV_NO_MEMORY && count == 0));
+        CHECK(is_written || (result == AMQPV_NO_MEMORY && count == 0));
     }
 }
 
@@ -196,9 +190,9 @@ static inline void try_buffers(way by, slice given, slice wanted) {
     int is_canonical = given.length == needed && memcmp(given.at, wanted.at, needed) == 0;
     for (size_t n = 0; n <= needed + 1; n++) {
         uint64_t before = requests;
-        int32_t answer = write_to(by, given, n, &count);
-        CHECK(count == needed && answer == (n < needed ? AMQPV_NO_ROOM : AMQPV_OK));
-        CHECK(answer != AMQPV_OK || is_in_buffer(n, wanted));
+        int32_t result = write_to(by, given, n, &count);
+        CHECK(count == needed && result == (n < needed ? AMQPV_NO_ROOM : AMQPV_OK));
+        CHECK(result != AMQPV_OK || is_in_buffer(n, wanted));
         CHECK(by.call != CANONICAL || (requests == before) == is_canonical);
     }
     try_memory(by, given, wanted, 1);

@@ -29,7 +29,7 @@ typedef struct held {
     amqpv_entry entry;
     uint64_t between;
     amqpv_cursor cursor;
-    uint64_t behind;
+    uint64_t after;
 } held;
 
 static held fresh(amqpv_cursor cursor) {
@@ -40,10 +40,10 @@ static held fresh(amqpv_cursor cursor) {
 }
 
 /* After a call nothing else is written, and nothing at all if it isn't AMQPV_OK. */
-static void check_rest(const held *new, const held *old, int32_t answer) {
+static void check_rest(const held *new, const held *old, int32_t result) {
     calls++;
-    CHECK(new->before == old->before && new->between == old->between && new->behind == old->behind);
-    if (answer != AMQPV_OK) {
+    CHECK(new->before == old->before && new->between == old->between && new->after == old->after);
+    if (result != AMQPV_OK) {
         CHECK(memcmp(&new->entry, &old->entry, sizeof old->entry) == 0);
         CHECK(memcmp(&new->cursor, &old->cursor, sizeof old->cursor) == 0);
     }
@@ -81,18 +81,18 @@ static void see(seen *seen, const uint8_t *bytes, const amqpv_entry *entry) {
 }
 
 /* Steps to the end by the cursor. */
-static seen walk(const uint8_t *bytes, size_t length, amqpv_cursor cursor) {
+static seen iterate(const uint8_t *bytes, size_t length, amqpv_cursor cursor) {
     int is_valid = is_inside(cursor.left, length) && is_container(cursor.tag);
     held it = fresh(cursor);
     seen seen = {0};
     for (size_t steps = 0;; steps++) {
         held old = it;
-        int32_t answer = amqpv_next(bytes, length, &it.cursor, &it.entry);
-        check_rest(&it, &old, answer);
-        CHECK(is_valid == (answer != AMQPV_INVALID));
-        if (answer != AMQPV_OK) {
-            CHECK(answer == AMQPV_INVALID || answer == AMQPV_MALFORMED || (answer == AMQPV_NONE && it.cursor.left.length == 0));
-            seen.end = answer;
+        int32_t result = amqpv_next(bytes, length, &it.cursor, &it.entry);
+        check_rest(&it, &old, result);
+        CHECK(is_valid == (result != AMQPV_INVALID));
+        if (result != AMQPV_OK) {
+            CHECK(result == AMQPV_INVALID || result == AMQPV_MALFORMED || (result == AMQPV_NONE && it.cursor.left.length == 0));
+            seen.end = result;
             return seen;
         }
         check_entry(&it.entry, length);
@@ -103,9 +103,9 @@ static seen walk(const uint8_t *bytes, size_t length, amqpv_cursor cursor) {
 
         held in = fresh(cursor);
         held was = in;
-        answer = amqpv_enter(bytes, length, &it.entry, &in.cursor);
-        check_rest(&in, &was, answer);
-        CHECK((answer == AMQPV_OK) == is_container(it.entry.tag));
+        result = amqpv_enter(bytes, length, &it.entry, &in.cursor);
+        check_rest(&in, &was, result);
+        CHECK((result == AMQPV_OK) == is_container(it.entry.tag));
     }
 }
 
@@ -114,12 +114,12 @@ static void find(const uint8_t *bytes, size_t length, amqpv_cursor cursor, const
     for (size_t i = 0; i < 2 * KEYS; i++) {
         size_t n = i / 2;
         held it = fresh(cursor), old = it;
-        int32_t answer = (i % 2 ? amqpv_find_first : amqpv_find)(bytes, length, &it.cursor, key, n, &it.entry);
-        check_rest(&it, &old, answer);
+        int32_t result = (i % 2 ? amqpv_find_first : amqpv_find)(bytes, length, &it.cursor, key, n, &it.entry);
+        check_rest(&it, &old, result);
         CHECK(memcmp(&it.cursor, &old.cursor, sizeof it.cursor) == 0);
         int is_found = seen->counts[n] && (i % 2 || seen->end == AMQPV_NONE);
-        CHECK(answer == (cursor.tag != AMQPV_TABLE ? AMQPV_INVALID : is_found ? AMQPV_OK : seen->end));
-        if (answer == AMQPV_OK) {
+        CHECK(result == (cursor.tag != AMQPV_TABLE ? AMQPV_INVALID : is_found ? AMQPV_OK : seen->end));
+        if (result == AMQPV_OK) {
             check_entry(&it.entry, length);
             CHECK(is_same_entry(&it.entry, i % 2 ? &seen->first[n] : &seen->last[n]));
         }
@@ -137,17 +137,17 @@ static int32_t step_by_step(const uint8_t *bytes, size_t length, amqpv_entry at,
         if (at.tag != step->tag) {
             return AMQPV_NONE;
         }
-        int32_t answer = amqpv_enter(bytes, length, &at, &cursor);
-        if (answer == AMQPV_OK && step->tag == AMQPV_TABLE) {
-            answer = (equal_keys == AMQPV_FIRST_KEY ? amqpv_find_first : amqpv_find)(bytes, length, &cursor, step->key,
+        int32_t result = amqpv_enter(bytes, length, &at, &cursor);
+        if (result == AMQPV_OK && step->tag == AMQPV_TABLE) {
+            result = (equal_keys == AMQPV_FIRST_KEY ? amqpv_find_first : amqpv_find)(bytes, length, &cursor, step->key,
                                                                                   step->key_length, &at);
         } else {
-            for (size_t n = 0; answer == AMQPV_OK && n <= step->index; n++) {
-                answer = amqpv_next(bytes, length, &cursor, &at);
+            for (size_t n = 0; result == AMQPV_OK && n <= step->index; n++) {
+                result = amqpv_next(bytes, length, &cursor, &at);
             }
         }
-        if (answer != AMQPV_OK) {
-            return answer;
+        if (result != AMQPV_OK) {
+            return result;
         }
     }
     *entry = at;
@@ -168,13 +168,13 @@ static void find_paths(const uint8_t *bytes, size_t length, amqpv_entry from) {
         struct path path = paths[i / 3];
         amqpv_entry wanted;
         uint32_t equal_keys = i % 3 == 2 ? (uint32_t)random_number() | 2 : i % 3;
-        int32_t answer = !is_valid    ? AMQPV_INVALID
+        int32_t result = !is_valid    ? AMQPV_INVALID
                          : i % 3 == 2 ? AMQPV_BAD_TAG
                                       : step_by_step(bytes, length, from, steps + path.from, path.count, equal_keys, &wanted);
         held it = fresh((amqpv_cursor){{0, 0}, 0}), old = it;
-        CHECK(amqpv_find_path(bytes, length, &from, steps + path.from, path.count, equal_keys, &it.entry) == answer);
-        check_rest(&it, &old, answer);
-        CHECK(answer != AMQPV_OK || is_same_entry(&it.entry, &wanted));
+        CHECK(amqpv_find_path(bytes, length, &from, steps + path.from, path.count, equal_keys, &it.entry) == result);
+        check_rest(&it, &old, result);
+        CHECK(result != AMQPV_OK || is_same_entry(&it.entry, &wanted));
     }
 }
 
@@ -193,13 +193,13 @@ static void read_table(const untagged *it) {
     memset(measures, 0x5a, sizeof measures);
     memset(&entry, 0x5a, sizeof entry);
     tagged = old = entry;
-    int32_t answer = amqpv_read(it->tagged, it->length + 1, 64, 3, &tagged, counts);
-    CHECK(amqpv_read_table(it->bytes, it->length, 64, 3, &entry, counts + 1) == answer);
-    CHECK(amqpv_measure_table(it->bytes, it->length, 64, 3, measures, counts + 2) == answer);
-    CHECK(amqpv_measure_value(it->tagged, it->length + 1, 64, 3, measures + 1, counts + 3) == answer);
+    int32_t result = amqpv_read(it->tagged, it->length + 1, 64, 3, &tagged, counts);
+    CHECK(amqpv_read_table(it->bytes, it->length, 64, 3, &entry, counts + 1) == result);
+    CHECK(amqpv_measure_table(it->bytes, it->length, 64, 3, measures, counts + 2) == result);
+    CHECK(amqpv_measure_value(it->tagged, it->length + 1, 64, 3, measures + 1, counts + 3) == result);
     calls += 4;
-    CHECK(counts[1] == counts[0] - (answer == AMQPV_OK) && counts[2] == counts[1] && counts[3] == counts[0]);
-    if (answer != AMQPV_OK) {
+    CHECK(counts[1] == counts[0] - (result == AMQPV_OK) && counts[2] == counts[1] && counts[3] == counts[0]);
+    if (result != AMQPV_OK) {
         CHECK(memcmp(&entry, &old, sizeof old) == 0 && memcmp(&tagged, &old, sizeof old) == 0 && measures[0].length == measures[1].values);
         return;
     }
@@ -219,14 +219,14 @@ static void find_problem(const untagged *it, uint32_t rules) {
     size_t count;
     memset(&tagged, 0x5a, sizeof tagged);
     problem = old = tagged;
-    int32_t answer = amqpv_first_problem(it->tagged, it->length + 1, rules, 64, 3, &tagged);
-    CHECK(amqpv_first_problem_in_table(it->bytes, it->length, rules, 64, 3, &problem) == answer);
+    int32_t result = amqpv_first_problem(it->tagged, it->length + 1, rules, 64, 3, &tagged);
+    CHECK(amqpv_first_problem_in_table(it->bytes, it->length, rules, 64, 3, &problem) == result);
     calls += 2;
     if (rules == AMQPV_RULES_READ) {
-        CHECK((answer == AMQPV_NONE) == (amqpv_read(it->tagged, it->length + 1, 64, 3, &entry, &count) == AMQPV_OK));
+        CHECK((result == AMQPV_NONE) == (amqpv_read(it->tagged, it->length + 1, 64, 3, &entry, &count) == AMQPV_OK));
     }
-    CHECK(answer == AMQPV_OK || (answer == AMQPV_NONE && memcmp(&problem, &old, sizeof old) == 0));
-    if (answer == AMQPV_OK) {
+    CHECK(result == AMQPV_OK || (result == AMQPV_NONE && memcmp(&problem, &old, sizeof old) == 0));
+    if (result == AMQPV_OK) {
         CHECK(problem.offset == tagged.offset - (tagged.offset > 0) && problem.offset <= it->length);
         CHECK(problem.kind == tagged.kind && 0 < problem.kind && problem.kind <= AMQPV_PROBLEM_KEY_NOT_UTF8);
         CHECK(problem.kind != AMQPV_PROBLEM_KEY_NOT_UTF8 || rules == AMQPV_RULES_READ);
@@ -237,25 +237,25 @@ static void find_problem(const untagged *it, uint32_t rules) {
 }
 
 /* Reads the value, and enters the container that a corrupted entry denotes. */
-static void front(const uint8_t *bytes, size_t length, amqpv_cursor cursor) {
+static void read_and_enter(const uint8_t *bytes, size_t length, amqpv_cursor cursor) {
     size_t count = 77;
     held it = fresh(cursor);
     held old = it;
-    int32_t answer = amqpv_read(bytes, length, 64, 3, &it.entry, &count);
-    check_rest(&it, &old, answer);
-    CHECK(answer != AMQPV_OK || (0 < count && count <= length));
-    CHECK(answer != AMQPV_MORE || count > 0);
-    CHECK(answer == AMQPV_OK || answer == AMQPV_MORE || count == 0);
+    int32_t result = amqpv_read(bytes, length, 64, 3, &it.entry, &count);
+    check_rest(&it, &old, result);
+    CHECK(result != AMQPV_OK || (0 < count && count <= length));
+    CHECK(result != AMQPV_MORE || count > 0);
+    CHECK(result == AMQPV_OK || result == AMQPV_MORE || count == 0);
 
     amqpv_entry read = it.entry;
     it = old;
     int32_t first = amqpv_first(bytes, length, &it.entry);
-    CHECK(answer != AMQPV_OK || is_same_entry(&it.entry, &read));
+    CHECK(result != AMQPV_OK || is_same_entry(&it.entry, &read));
     check_rest(&it, &old, first);
-    CHECK(answer != AMQPV_OK || first == AMQPV_OK);
+    CHECK(result != AMQPV_OK || first == AMQPV_OK);
     if (first == AMQPV_OK) {
         check_entry(&it.entry, length);
-        CHECK(it.entry.value.offset == 0 && (answer != AMQPV_OK || it.entry.value.length == count));
+        CHECK(it.entry.value.offset == 0 && (result != AMQPV_OK || it.entry.value.length == count));
     } else {
         CHECK(first == AMQPV_MORE || first == AMQPV_UNKNOWN_TAG);
     }
@@ -264,10 +264,10 @@ static void front(const uint8_t *bytes, size_t length, amqpv_cursor cursor) {
     corrupt.content = cursor.left;
     corrupt.tag = cursor.tag;
     old = it;
-    answer = amqpv_enter(bytes, length, &corrupt, &it.cursor);
+    result = amqpv_enter(bytes, length, &corrupt, &it.cursor);
     calls++;
-    CHECK(it.before == old.before && it.between == old.between && it.behind == old.behind);
-    CHECK((answer == AMQPV_OK) == (is_inside(cursor.left, length) && is_container(cursor.tag)));
+    CHECK(it.before == old.before && it.between == old.between && it.after == old.after);
+    CHECK((result == AMQPV_OK) == (is_inside(cursor.left, length) && is_container(cursor.tag)));
 }
 
 /* Tries the bytes after the first, for which a table's type tag is taken. */
@@ -287,9 +287,9 @@ static void try_cursor(slice bytes, size_t offset, size_t left, uint8_t tag) {
     memset(&cursor, 0, sizeof cursor);
     cursor.left = (amqpv_span){offset, left};
     cursor.tag = tag;
-    seen seen = walk(bytes.at, bytes.length, cursor);
+    seen seen = iterate(bytes.at, bytes.length, cursor);
     find(bytes.at, bytes.length, cursor, &seen);
-    front(bytes.at, bytes.length, cursor);
+    read_and_enter(bytes.at, bytes.length, cursor);
     find_paths(bytes.at, bytes.length, (amqpv_entry){.content = cursor.left, .tag = tag});
     find_paths(bytes.at, bytes.length, (amqpv_entry){.key = cursor.left, .tag = tag});
     find_paths(bytes.at, bytes.length, (amqpv_entry){.value = cursor.left, .tag = tag});

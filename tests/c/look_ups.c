@@ -113,7 +113,7 @@ static const uint8_t *placed(slice given) {
 static const struct {
     slice bytes;
     uint32_t frame, depth;
-    int32_t answer;
+    int32_t result;
     size_t count, values, levels;
 } tables[] = {
     {SLICE("\0\0\0\0"), 5, 1, AMQPV_OK, 4, 1, 1},
@@ -139,11 +139,11 @@ static void try_tables(void) {
         const uint8_t *bytes = placed(tables[i].bytes);
         amqpv_entry entry = {.tag = 'x', .bits = 7};
         amqpv_measure measure = {7, 8, 9};
-        CHECK(amqpv_read_table(bytes, length, tables[i].frame, tables[i].depth, &entry, counts) == tables[i].answer);
-        CHECK(amqpv_measure_table(bytes, length, tables[i].frame, tables[i].depth, &measure, counts + 1) == tables[i].answer);
+        CHECK(amqpv_read_table(bytes, length, tables[i].frame, tables[i].depth, &entry, counts) == tables[i].result);
+        CHECK(amqpv_measure_table(bytes, length, tables[i].frame, tables[i].depth, &measure, counts + 1) == tables[i].result);
         calls += 2;
         CHECK(counts[0] == tables[i].count && counts[1] == counts[0]);
-        if (tables[i].answer != AMQPV_OK) {
+        if (tables[i].result != AMQPV_OK) {
             CHECK(entry.tag == 'x' && entry.bits == 7 && entry.value.length == 0);
             CHECK(measure.length == 7 && measure.values == 8 && measure.levels == 9);
             continue;
@@ -159,7 +159,7 @@ static void try_tables(void) {
 static void try_measures(void) {
     static const struct {
         slice bytes;
-        int32_t answer;
+        int32_t result;
         size_t count, values, levels;
     } values[] = {
         {SLICE("VV"), AMQPV_OK, 1, 1, 0},
@@ -174,10 +174,10 @@ static void try_measures(void) {
     for (size_t i = 0; i < COUNT(values); i++) {
         size_t count = 77;
         amqpv_measure measure = {7, 8, 9};
-        CHECK(amqpv_measure_value(placed(values[i].bytes), values[i].bytes.length, 64, 2, &measure, &count) == values[i].answer);
+        CHECK(amqpv_measure_value(placed(values[i].bytes), values[i].bytes.length, 64, 2, &measure, &count) == values[i].result);
         calls++;
         CHECK(count == values[i].count);
-        if (values[i].answer == AMQPV_OK) {
+        if (values[i].result == AMQPV_OK) {
             CHECK(measure.length == count && measure.values == values[i].values && measure.levels == values[i].levels);
         } else {
             CHECK(measure.length == 7 && measure.values == 8 && measure.levels == 9);
@@ -224,13 +224,13 @@ static void try_problems(void) {
         }
         const uint8_t *bytes = placed((slice){given.at + untagged, given.length - untagged});
         amqpv_problem problem = {7, 8, 9};
-        int32_t answer = (untagged ? amqpv_first_problem_in_table : amqpv_first_problem)(bytes, given.length - untagged, values[i / 2].rules, 64, 2, &problem);
+        int32_t result = (untagged ? amqpv_first_problem_in_table : amqpv_first_problem)(bytes, given.length - untagged, values[i / 2].rules, 64, 2, &problem);
         calls++;
         size_t offset = values[i / 2].offset;
         if (values[i / 2].kind == 0) {
-            CHECK(answer == AMQPV_NONE && problem.offset == 7 && problem.kind == 8 && problem.tag == 9);
+            CHECK(result == AMQPV_NONE && problem.offset == 7 && problem.kind == 8 && problem.tag == 9);
         } else {
-            CHECK(answer == AMQPV_OK && problem.kind == values[i / 2].kind && problem.tag == values[i / 2].tag);
+            CHECK(result == AMQPV_OK && problem.kind == values[i / 2].kind && problem.tag == values[i / 2].tag);
             CHECK(problem.offset == (offset > 0 ? offset - untagged : 0));
         }
     }
@@ -246,7 +246,7 @@ static void try_problems(void) {
 /* a: {b: 7, then a byte that is no pair}, and what follows; without the type tag the same a byte before. */
 static void try_malformed(void) {
     static const slice headers = SLICE("F\0\0\0\26\1aF\0\0\0\10\1bI\0\0\0\7z\1cA\0\0\0\0");
-    const amqpv_step path[] = {AMQPV_KEY("a"), AMQPV_KEY("b")}, behind[] = {AMQPV_KEY("c")}, other[] = {AMQPV_KEY("a"), AMQPV_KEY("x")};
+    const amqpv_step path[] = {AMQPV_KEY("a"), AMQPV_KEY("b")}, next[] = {AMQPV_KEY("c")}, other[] = {AMQPV_KEY("a"), AMQPV_KEY("x")};
     amqpv_entry table, entry;
     const uint8_t *bytes = placed(headers);
     CHECK(amqpv_first(bytes, headers.length, &table) == AMQPV_OK);
@@ -256,7 +256,7 @@ static void try_malformed(void) {
     CHECK(entry.bits == 7 && entry.value.offset == 14 && entry.value.length == 5 && entry.content.length == 0);
     CHECK(find(headers.length, &table, path, 2, AMQPV_LAST_KEY, &entry) == AMQPV_MALFORMED);
     CHECK(find(headers.length, &table, other, 2, AMQPV_FIRST_KEY, &entry) == AMQPV_MALFORMED);
-    CHECK(find(headers.length, &table, behind, 1, AMQPV_LAST_KEY, &entry) == AMQPV_OK && entry.value.offset == 22);
+    CHECK(find(headers.length, &table, next, 1, AMQPV_LAST_KEY, &entry) == AMQPV_OK && entry.value.offset == 22);
 }
 
 /* x-death: [{count: 3}], as a content header has it. */

@@ -13,7 +13,7 @@ static uint8_t given[16 << 20], buffer[1 << 20];
 static size_t length;
 static const char *name;
 static uint32_t depth;
-static int32_t answer = AMQPV_INVALID;
+static int32_t result = AMQPV_INVALID;
 static amqpv_problem problem;
 
 static int is_called(const char *other) {
@@ -31,25 +31,25 @@ static void *make_call(void *unused) {
     amqpv_measure measure;
     size_t count;
     if (is_called("amqpv_read")) {
-        answer = amqpv_read(given, length, UINT32_MAX, depth, &entry, &count);
+        result = amqpv_read(given, length, UINT32_MAX, depth, &entry, &count);
     } else if (is_called("amqpv_read_table")) {
-        answer = amqpv_read_table(given, length, UINT32_MAX, depth, &entry, &count);
+        result = amqpv_read_table(given, length, UINT32_MAX, depth, &entry, &count);
     } else if (is_called("amqpv_measure_value")) {
-        answer = amqpv_measure_value(given, length, UINT32_MAX, depth, &measure, &count);
+        result = amqpv_measure_value(given, length, UINT32_MAX, depth, &measure, &count);
     } else if (is_called("amqpv_measure_table")) {
-        answer = amqpv_measure_table(given, length, UINT32_MAX, depth, &measure, &count);
+        result = amqpv_measure_table(given, length, UINT32_MAX, depth, &measure, &count);
     } else if (is_called("amqpv_first_problem")) {
-        answer = found(amqpv_first_problem(given, length, AMQPV_RULES_READ, UINT32_MAX, depth, &problem));
+        result = found(amqpv_first_problem(given, length, AMQPV_RULES_READ, UINT32_MAX, depth, &problem));
     } else if (is_called("amqpv_first_problem_in_table")) {
-        answer = found(amqpv_first_problem_in_table(given, length, AMQPV_RULES_READ, UINT32_MAX, depth, &problem));
+        result = found(amqpv_first_problem_in_table(given, length, AMQPV_RULES_READ, UINT32_MAX, depth, &problem));
     } else if (is_called("amqpv_put_value")) {
-        answer = amqpv_put_value(buffer, sizeof buffer, &top, given, 0, given, length, UINT32_MAX, depth);
+        result = amqpv_put_value(buffer, sizeof buffer, &top, given, 0, given, length, UINT32_MAX, depth);
     } else if (is_called("amqpv_canonical")) {
-        answer = amqpv_canonical(given, length, UINT32_MAX, depth, buffer, sizeof buffer, &count);
+        result = amqpv_canonical(given, length, UINT32_MAX, depth, buffer, sizeof buffer, &count);
     } else if (is_called("amqpv_to_json")) {
-        answer = amqpv_to_json(given, length, UINT32_MAX, depth, buffer, sizeof buffer, &count);
+        result = amqpv_to_json(given, length, UINT32_MAX, depth, buffer, sizeof buffer, &count);
     } else if (is_called("amqpv_from_json")) {
-        answer = amqpv_from_json(given, length, depth, buffer, sizeof buffer, &count);
+        result = amqpv_from_json(given, length, depth, buffer, sizeof buffer, &count);
     }
     return unused;
 }
@@ -67,6 +67,6 @@ int main(int words, char **word) {
     uint8_t *lowest = pages_between(pages);
     CHECK(pthread_attr_setstack(&how, lowest, pages * page_size) == 0);
     CHECK(pthread_create(&thread, &how, make_call, NULL) == 0 && pthread_join(thread, NULL) == 0);
-    puts(answer == AMQPV_OK ? "done" : answer == AMQPV_MALFORMED ? "AMQPV_MALFORMED" : answer == AMQPV_NOT_JSON ? "AMQPV_NOT_JSON" : "another code");
+    puts(result == AMQPV_OK ? "done" : result == AMQPV_MALFORMED ? "AMQPV_MALFORMED" : result == AMQPV_NOT_JSON ? "AMQPV_NOT_JSON" : "another code");
     return 0;
 }

@@ -4,24 +4,16 @@
  * isn't proved: the proofs are of pointers to something.
  */
 #include "amqp_values.h"
+#include "condition.h"
 
 #include <stdio.h>
 #include <stdlib.h>
 #include <string.h>
 
-#define CHECK(condition)                                                                  \
-    do {                                                                                  \
-        if (!(condition)) {                                                               \
-            fprintf(stderr, "line %d, %s: not so: %s\n", __LINE__, tried, #condition);    \
-            abort();                                                                      \
-        }                                                                                 \
-    } while (0)
-
 #define FRAME 1024
 #define DEPTH 8
-#define ROOM 32
+#define CAPACITY 32
 
-static const char *tried = "";
 static unsigned calls;
 
 /* All that a call can leave. */
@@ -33,7 +25,7 @@ typedef struct left {
     amqpv_problem problem;
     amqpv_container into, body;
     size_t count;
-    uint8_t room[ROOM];
+    uint8_t buffer[CAPACITY];
 } left;
 
 /* The pair of the empty key with a Void, and a table of it. */
@@ -63,7 +55,7 @@ static void check_same(const left *a, const left *b) {
     CHECK(a->problem.offset == b->problem.offset && a->problem.kind == b->problem.kind && a->problem.tag == b->problem.tag);
     CHECK(is_same_span(a->into.written, b->into.written) && a->into.tag == b->into.tag);
     CHECK(is_same_span(a->body.written, b->body.written) && a->body.tag == b->body.tag);
-    CHECK(memcmp(a->room, b->room, ROOM) == 0);
+    CHECK(memcmp(a->buffer, b->buffer, CAPACITY) == 0);
 }
 
 static left fresh(amqpv_cursor cursor, uint8_t into) {
@@ -88,7 +80,7 @@ static left fresh(amqpv_cursor cursor, uint8_t into) {
             const uint8_t *bytes = (const uint8_t *)at;                                                \
             const char *text = (const char *)at;                                                       \
             /* a buffer of no bytes, too */                                                            \
-            uint8_t *buffer = is_null ? NULL : no_room + sizeof no_room;                               \
+            uint8_t *buffer = is_null ? NULL : no_bytes + sizeof no_bytes;                               \
             amqpv_step step = {text, 0, 0, AMQPV_TABLE}, by_index = {text, 0, 0, AMQPV_ARRAY};         \
             amqpv_pair pair = {text, 0, bytes, 0, 0, AMQPV_LONG_STRING, 0};                            \
             (void)bytes, (void)text, (void)buffer, (void)step, (void)by_index, (void)pair;             \
@@ -99,7 +91,7 @@ static left fresh(amqpv_cursor cursor, uint8_t into) {
         check_same(&with_null, &with_none);                                                            \
     } while (0)
 
-static uint8_t no_room[1];
+static uint8_t no_bytes[1];
 static const amqpv_cursor from_start = {{0, 0}, AMQPV_TABLE}, of_array = {{0, 0}, AMQPV_ARRAY}, outside = {{1, 0}, AMQPV_TABLE};
 
 static void try_reading(void) {
@@ -141,20 +133,20 @@ static void try_building(void) {
     const uint8_t tags[] = {AMQPV_ARRAY, AMQPV_TABLE};
     for (int i = 0; i < 2; i++) {
         uint8_t tag = tags[i];
-        TRY(AMQPV_OK, pairs, tag, amqpv_put(all->room, ROOM, &all->into, text, 0, AMQPV_LONG_INT, 7, 0));
-        TRY(AMQPV_OK, pairs, tag, amqpv_put_bytes(all->room, ROOM, &all->into, text, 0, AMQPV_LONG_STRING, "ab", 2));
-        TRY(AMQPV_OK, pairs, tag, amqpv_put_bytes(all->room, ROOM, &all->into, text, 0, AMQPV_BYTE_ARRAY, at, 0));
-        TRY(AMQPV_OK, pairs, tag, amqpv_put_value(all->room, ROOM, &all->into, text, 0, BYTES_OF(table), FRAME, DEPTH));
-        TRY(AMQPV_MORE, pairs, tag, amqpv_put_value(all->room, ROOM, &all->into, text, 0, bytes, 0, FRAME, DEPTH));
-        TRY(AMQPV_OK, pairs, tag, amqpv_open(all->room, ROOM, &all->into, text, 0, AMQPV_TABLE, &all->body));
+        TRY(AMQPV_OK, pairs, tag, amqpv_put(all->buffer, CAPACITY, &all->into, text, 0, AMQPV_LONG_INT, 7, 0));
+        TRY(AMQPV_OK, pairs, tag, amqpv_put_bytes(all->buffer, CAPACITY, &all->into, text, 0, AMQPV_LONG_STRING, "ab", 2));
+        TRY(AMQPV_OK, pairs, tag, amqpv_put_bytes(all->buffer, CAPACITY, &all->into, text, 0, AMQPV_BYTE_ARRAY, at, 0));
+        TRY(AMQPV_OK, pairs, tag, amqpv_put_value(all->buffer, CAPACITY, &all->into, text, 0, BYTES_OF(table), FRAME, DEPTH));
+        TRY(AMQPV_MORE, pairs, tag, amqpv_put_value(all->buffer, CAPACITY, &all->into, text, 0, bytes, 0, FRAME, DEPTH));
+        TRY(AMQPV_OK, pairs, tag, amqpv_open(all->buffer, CAPACITY, &all->into, text, 0, AMQPV_TABLE, &all->body));
         TRY(AMQPV_NO_ROOM, pairs, tag, amqpv_put(buffer, 0, &all->into, text, 0, AMQPV_VOID, 0, 0));
         TRY(AMQPV_NO_ROOM, pairs, tag, amqpv_put_bytes(buffer, 0, &all->into, text, 0, AMQPV_LONG_STRING, at, 0));
         TRY(AMQPV_NO_ROOM, pairs, tag, amqpv_put_value(buffer, 0, &all->into, text, 0, BYTES_OF(table), FRAME, DEPTH));
         TRY(AMQPV_NO_ROOM, pairs, tag, amqpv_open(buffer, 0, &all->into, text, 0, AMQPV_ARRAY, &all->body));
     }
-    TRY(AMQPV_OK, pairs, 'F', amqpv_put_bytes(all->room, ROOM, &all->into, "k", 1, AMQPV_LONG_STRING, at, 0));
-    TRY(AMQPV_OK, pairs, 'A', amqpv_write_table(is_null ? NULL : &pair, 0, all->room, ROOM, &all->count));
-    TRY(AMQPV_OK, pairs, 'A', amqpv_write_table(&pair, 1, all->room, ROOM, &all->count));
+    TRY(AMQPV_OK, pairs, 'F', amqpv_put_bytes(all->buffer, CAPACITY, &all->into, "k", 1, AMQPV_LONG_STRING, at, 0));
+    TRY(AMQPV_OK, pairs, 'A', amqpv_write_table(is_null ? NULL : &pair, 0, all->buffer, CAPACITY, &all->count));
+    TRY(AMQPV_OK, pairs, 'A', amqpv_write_table(&pair, 1, all->buffer, CAPACITY, &all->count));
     TRY(AMQPV_NO_ROOM, pairs, 'A', amqpv_write_table(&pair, 1, buffer, 0, &all->count));
     TRY(AMQPV_NO_ROOM, pairs, 'A', amqpv_write_table(is_null ? NULL : &pair, 0, buffer, 0, &all->count));
     amqpv_container body = {{5, 0}, AMQPV_TABLE};
@@ -164,13 +156,13 @@ static void try_building(void) {
 }
 
 static void try_allocating(void) {
-    TRY(AMQPV_MORE, pairs, 'A', amqpv_canonical(bytes, 0, FRAME, DEPTH, all->room, ROOM, &all->count));
+    TRY(AMQPV_MORE, pairs, 'A', amqpv_canonical(bytes, 0, FRAME, DEPTH, all->buffer, CAPACITY, &all->count));
     TRY(AMQPV_MORE, pairs, 'A', amqpv_canonical(bytes, 0, FRAME, DEPTH, buffer, 0, &all->count));
     TRY(AMQPV_NO_ROOM, pairs, 'A', amqpv_canonical(BYTES_OF(table), FRAME, DEPTH, buffer, 0, &all->count));
     TRY(AMQPV_NO_ROOM, pairs, 'A', amqpv_canonical(BYTES_OF(twice), FRAME, DEPTH, buffer, 0, &all->count));
-    TRY(AMQPV_MORE, pairs, 'A', amqpv_to_json(bytes, 0, FRAME, DEPTH, (char *)all->room, ROOM, &all->count));
+    TRY(AMQPV_MORE, pairs, 'A', amqpv_to_json(bytes, 0, FRAME, DEPTH, (char *)all->buffer, CAPACITY, &all->count));
     TRY(AMQPV_NO_ROOM, pairs, 'A', amqpv_to_json(BYTES_OF(table), FRAME, DEPTH, (char *)buffer, 0, &all->count));
-    TRY(AMQPV_NOT_JSON, pairs, 'A', amqpv_from_json(text, 0, DEPTH, all->room, ROOM, &all->count));
+    TRY(AMQPV_NOT_JSON, pairs, 'A', amqpv_from_json(text, 0, DEPTH, all->buffer, CAPACITY, &all->count));
     TRY(AMQPV_NOT_JSON, pairs, 'A', amqpv_from_json(text, 0, DEPTH, buffer, 0, &all->count));
     TRY(AMQPV_NO_ROOM, pairs, 'A', amqpv_from_json(AMQPV_LITERAL("{\"\":null}"), DEPTH, buffer, 0, &all->count));
 }
