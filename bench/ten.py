@@ -5,6 +5,10 @@ Each is a table, its type tag included, since librabbitmq and Go read nothing el
 
 import random
 import struct
+from collections.abc import Callable, Iterator
+
+# A dict is a table, a list an array, bytes are an encoding already.
+Value = bytes | dict[str, "Value"] | list["Value"]
 
 FORMS = {"t": "?", "b": "b", "B": "B", "s": "h", "u": "H", "I": "i", "i": "I", "l": "q", "T": "Q", "f": "f", "d": "d"}
 
@@ -12,31 +16,31 @@ FORMS = {"t": "?", "b": "b", "B": "B", "s": "h", "u": "H", "I": "i", "i": "I", "
 class Input:
     """A value's encoding and its canonical form; `row` is for tables, `label` for the picture."""
 
-    def __init__(self, row, label, value):
+    def __init__(self, row: str, label: str, value: Value) -> None:
         self.row, self.label, self.given, self.canonical = row, label, encoded(value, False), encoded(value, True)
 
 
-def number(tag, value):
+def number(tag: str, value: float) -> bytes:
     return tag.encode() + struct.pack(f">{FORMS[tag]}", value)
 
 
-def counted(tag, content):
+def counted(tag: bytes, content: bytes) -> bytes:
     return tag + struct.pack(">I", len(content)) + content
 
 
-def text(content):
+def text(content: str) -> bytes:
     return counted(b"S", content.encode())
 
 
-def encoded(value, ascending):
-    """The encoding of a value: a dict is a table, a list an array, bytes are an encoding already."""
+def encoded(value: Value, ascending: bool) -> bytes:
+    """The encoding of a value."""
     if isinstance(value, dict):
         pairs = sorted(value.items(), key=lambda it: it[0].encode()) if ascending else value.items()
         return counted(b"F", b"".join(bytes([len(key)]) + key.encode() + encoded(it, ascending) for key, it in pairs))
     return counted(b"A", b"".join(encoded(it, ascending) for it in value)) if isinstance(value, list) else value
 
 
-def every_type():
+def every_type() -> dict[str, Value]:
     return {
         "aaaa": number("b", 42), "bar": {}, "bbbb": number("B", 64), "blah": number("t", False), "cccc": number("s", 32),
         "dddd": number("u", 132), "eeee": number("I", -53), "ffff": number("i", 66666), "foo": [number("t", True), b"V"],
@@ -46,7 +50,7 @@ def every_type():
     }  # fmt: skip
 
 
-def death(count, reason, queue, exchange, key, time):
+def death(count: int, reason: str, queue: str, exchange: str, key: str, time: int) -> dict[str, Value]:
     return {"count": number("l", count), "reason": text(reason), "queue": text(queue), "time": number("T", time),
             "exchange": text(exchange), "routing-keys": [text(key)]}  # fmt: skip
 
@@ -55,7 +59,7 @@ def death(count, reason, queue, exchange, key, time):
 FIRST_COUNT = 3
 
 
-def message_headers():
+def message_headers() -> dict[str, Value]:
     dice = random.Random(2)
     return {
         "x-death": [
@@ -69,7 +73,7 @@ def message_headers():
     }  # fmt: skip
 
 
-def server_properties():
+def server_properties() -> dict[str, Value]:
     able = ("publisher_confirms exchange_exchange_bindings basic.nack consumer_cancel_notify connection.blocked consumer_priorities "
             "authentication_failure_close per_consumer_qos direct_reply_to").split()  # fmt: skip
     return {
@@ -80,20 +84,20 @@ def server_properties():
     }  # fmt: skip
 
 
-def queue_arguments():
+def queue_arguments() -> bytes:
     return encoded({"x-max-length": number("I", 10_000), "x-queue-type": text("quorum")}, False)
 
 
-def entries(count, at_random=True):
-    makes = (lambda it: number("I", it), lambda it: text(f"value-{it}"), lambda it: number("t", it % 2),
+def entries(count: int, at_random: bool = True) -> dict[str, Value]:
+    makes: tuple[Callable[[int], bytes], ...] = (lambda it: number("I", it), lambda it: text(f"value-{it}"), lambda it: number("t", it % 2),
              lambda it: number("l", it * 1000003), lambda it: number("T", 1700000000 + it))  # fmt: skip
-    pairs = [(f"key-{it:06}", makes[it % 5](it)) for it in range(count)]
+    pairs: list[tuple[str, Value]] = [(f"key-{it:06}", makes[it % 5](it)) for it in range(count)]
     if at_random:
         random.Random(count).shuffle(pairs)
     return dict(pairs)
 
 
-def nested(levels):
+def nested(levels: int) -> bytes:
     """A table in a table, `levels` in all."""
     value = encoded({}, True)
     for _ in range(levels - 1):
@@ -101,13 +105,13 @@ def nested(levels):
     return value
 
 
-def small_tables(count):
+def small_tables(count: int) -> dict[str, Value]:
     return {"v": [{"id": number("I", it), "name": text(f"item-{it}"), "open": number("t", it % 3 == 0)} for it in range(count)]}
 
 
-def ten():
+def ten() -> Iterator[Input]:
     dice = random.Random(1)
-    numbers = [number("I", dice.randrange(-(2**31), 2**31)) for _ in range(100_000)]
+    numbers: list[Value] = [number("I", dice.randrange(-(2**31), 2**31)) for _ in range(100_000)]
     yield Input("a table with every type, 199 bytes", "every type", every_type())
     yield Input("message headers with three `x-death` entries, 656 bytes", "message headers", message_headers())
     yield Input("a server's properties, 480 bytes", "server's properties", server_properties())
@@ -123,12 +127,13 @@ def ten():
 class Stream:
     """Small values one after another, which are only read."""
 
-    def __init__(self, count):
+    def __init__(self, count: int) -> None:
         self.row, self.label, self.given, self.canonical = f"a stream of {count:,} small tables, 7.5 MB", "a stream", stream(count), None
 
 
-def stream(count):
+def stream(count: int) -> bytes:
     """The bytes of a stream: a client's properties, an `x-death` and a queue's arguments, by turns."""
-    client = {"product": text("client"), "version": text("1.0"), "capabilities": {"basic.nack": number("t", True)}}
+    client: Value = {"product": text("client"), "version": text("1.0"), "capabilities": {"basic.nack": number("t", True)}}
     death_of_one = death(1, "expired", "orders.work", "orders", "orders.created", 1700000100)
-    return b"".join(encoded((client, death_of_one, {"x-max-length": number("I", 1000)})[it % 3], False) for it in range(count))
+    values: tuple[Value, ...] = (client, death_of_one, {"x-max-length": number("I", 1000)})
+    return b"".join(encoded(values[it % 3], False) for it in range(count))

@@ -212,7 +212,7 @@ static int gets(void) {
     return done;
 }
 
-static int asks_for_room(void) {
+static int asks_for_capacity(void) {
     amqpv_container into = {{0, 0}, AMQPV_TABLE};
     for (size_t i = 0; i < entry_count; i++) {
         size_t count;
@@ -394,7 +394,7 @@ static const struct {
     {"amqpv_find_path of the last key", finds_by_path},
     {"amqpv_find_path of the last index", finds_by_index},
     {"amqpv_as_int and others of all entries", gets},
-    {"amqpv_needed of all entries", asks_for_room},
+    {"amqpv_needed of all entries", asks_for_capacity},
     {"amqpv_put of all entries", builds},
     {"amqpv_put_int and others of all values", rebuilds},
     {"amqpv_write_table", writes_table},
