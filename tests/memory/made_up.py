@@ -3,7 +3,7 @@
 No clause can state that an allocation failed. A body that returns OutOfMemory above a size keeps its contract, so its
 form is what is rejected: OutOfMemory, of whatever error, and AllocError are made by From<AllocError>, which `?` calls,
 or on the right of a match arm with no guard, each alternative of whose pattern names such an error. Failure and
-out_of_memory() are what amq_protocol_types calls it. A request that can't succeed makes it up too: whatever asks for memory by a
+out_of_memory() are what parsers call it. A request that can't succeed makes it up too: whatever asks for memory by a
 number is a line of BY_NUMBER, whether it is called there or only named.
 
 Nor can a clause state with which error a reader or a writer of std failed: the bodies that call one for a trait of ours are PASSED_ON.
@@ -11,19 +11,19 @@ Nor can a clause state with which error a reader or a writer of std failed: the 
 
 import re
 import sys
+from collections.abc import Iterator
 from pathlib import Path
 
 sys.path.append(str(Path(__file__).resolve().parents[2] / ".ci"))
 
 from crates import TOP
 
-# Tests, and programs that provoke such errors.
-LEFT_OUT = set("""
-    test_codec test_alloc_failure test_malformed test_sizes test_support""".split())
-# The lines that are otherwise, each once in its file, and why.
+# How the crates begin that are tests, or programs that provoke such errors.
+LEFT_OUT = "test_"
+# The lines that are otherwise, each once in its file.
 LISTED = {
-    ("amqp_json/src/text.rt", "Err(e) if e.is_memory() => return Err(JsonError::OutOfMemory),"):
-        "the kit's error has no variants: a call tells that it is of memory",
+    # the kit's error has no variants: a call returns whether it is of memory
+    ("amqp_json/src/text.rt", "Err(e) if e.is_memory() => return Err(JsonError::OutOfMemory),"),
 }
 # The lines that ask for memory by a number, and what bounds that.
 BY_NUMBER = {
@@ -63,7 +63,7 @@ IMPORTED = r"\buse std::alloc::(?:AllocError;|\{[^}]*\bAllocError\b)"
 MAKER = r"\bimpl From<AllocError> for [^{]*\{|\bpub fn out_of_memory\(\)[^{]*\{"
 
 
-def end_of(code, at, ends):
+def end_of(code: str, at: int, ends: str) -> int:
     """After the first of `ends` from here on in no bracket that opens after here, or at the end of the one round it."""
     depth = 0
     for it in range(at, len(code)):
@@ -75,7 +75,7 @@ def end_of(code, at, ends):
     return len(code)
 
 
-def cut(code, head, ends):
+def cut(code: str, head: str, ends: str) -> str:
     """The code with blanks for each thing that begins so, up to one of these."""
     while found := re.search(head, code):
         end = end_of(code, found.start(), ends)
@@ -84,7 +84,7 @@ def cut(code, head, ends):
     return code
 
 
-def brackets(code, at):
+def brackets(code: str, at: int) -> Iterator[int]:
     """The places of the brackets round a place, the innermost first."""
     depth = 0
     for it in range(at - 1, -1, -1):
@@ -94,7 +94,7 @@ def brackets(code, at):
             depth = 0
 
 
-def before(code, at):
+def before(code: str, at: int) -> str:
     """What is before a place in its arm, statement or argument."""
     depth = 0
     for it in range(at - 1, -1, -1):
@@ -104,7 +104,7 @@ def before(code, at):
     return code[:at]
 
 
-def is_pattern(code, at):
+def is_pattern(code: str, at: int) -> bool:
     """Whether what is here is part of a pattern."""
     end = at
     for it in brackets(code, at):
@@ -113,11 +113,13 @@ def is_pattern(code, at):
         if re.search(r"\bmatches!$", code[:it]):
             return True
         at, end = it, end_of(code, it, ")]")
-    front, behind = before(code, at), re.match(r"[^;,{}=]*(=>|=(?!=))?", code[end:])[1]
-    return behind == "=>" and not re.search(r"\bif\b|=>", front) or behind == "=" and bool(re.search(r"\blet\b[^=]*$", front))
+    start, follows = before(code, at), re.match(r"[^;,{}=]*(=>|=(?!=))?", code[end:])
+    arrow = follows[1] if follows else None
+    is_arm = arrow == "=>" and not re.search(r"\bif\b|=>", start)
+    return is_arm or arrow == "=" and bool(re.search(r"\blet\b[^=]*$", start))
 
 
-def is_passed_on(code, at):
+def is_passed_on(code: str, at: int) -> bool:
     """Whether it is in an arm that only such an error reaches."""
     for place in (at, *brackets(code, at)):
         pattern, arrow, _ = before(code, place).rpartition("=>")
@@ -126,12 +128,21 @@ def is_passed_on(code, at):
     return False
 
 
-def made_up(text):
-    """Yields the lines of a file that make it up or ask for memory by a number."""
+def silenced(text: str) -> str:
+    """A file's code, with blanks for comments, strings, clauses, ghost items and tests."""
     code = re.sub(SILENT, lambda it: re.sub(r"\S", " ", it[0]), text, flags=re.DOTALL)
     code = cut(code, r"\b(?:requires|ensures\*?|invariant)\s*(?:\w+\s*)?\{", "}")
     code = cut(code, r"\bghost\b", ";,")
-    code = cut(code, r"#\[cfg\(test\)\]", ";}")
+    return cut(code, r"#\[cfg\(test\)\]", ";}")
+
+
+def line_of(text: str, at: int) -> int:
+    return text.count("\n", 0, at) + 1
+
+
+def made_up(text: str) -> Iterator[int]:
+    """Yields the lines of a file that make it up or ask for memory by a number."""
+    code = silenced(text)
     if re.search(RENAMED, code):
         yield 1
     is_imported = bool(re.search(IMPORTED, code))
@@ -145,17 +156,28 @@ def made_up(text):
         is_known = found[0] != "AllocError" or is_imported
         is_made = any(begin <= at < end for begin, end in makers)
         if not (is_known and (is_made or is_pattern(code, at) or is_passed_on(code, at))):
-            yield text.count("\n", 0, at) + 1
-    yield from (text.count("\n", 0, it.start()) + 1 for it in re.finditer(REQUEST, code, re.VERBOSE))
+            yield line_of(text, at)
+    yield from (line_of(text, it.start()) for it in re.finditer(REQUEST, code, re.VERBOSE))
 
 
-def faults():
+def sources() -> Iterator[tuple[str, str]]:
+    """Yields each source that is judged, by its name below crates/, and what it has."""
+    for file in sorted(TOP.glob("crates/*/src/**/*.rt")):
+        name = file.relative_to(TOP / "crates").as_posix()
+        if not name.startswith(LEFT_OUT) and not re.search(r"/src/tests[./]|/src/exhausted\.rt$", name):
+            yield name, file.read_text()
+
+
+def is_in(name: str, body: str) -> bool:
+    """Whether a source is there and has a body, however it is laid out."""
+    file = TOP / "crates" / name
+    return file.is_file() and body in " ".join(file.read_text().split())
+
+
+def faults() -> Iterator[str]:
     """Yields the places at which the sources make it up, by file and line."""
     listed, by_number = set(LISTED), set(BY_NUMBER)
-    for file in sorted(TOP.glob("crates/*/src/**/*.rt")):
-        name, text = file.relative_to(TOP / "crates").as_posix(), file.read_text()
-        if name.split("/")[0] in LEFT_OUT or re.search(r"/src/tests[./]|/src/exhausted\.rt$", name):
-            continue
+    for name, text in sources():
         for number in sorted(set(made_up(text))):
             line = text.splitlines()[number - 1].strip()
             if (name, line) in listed:
@@ -165,7 +187,7 @@ def faults():
             else:
                 yield f"crates/{name}:{number}: makes up that memory ran out, or asks for it by a number: {line}"
     for name, body in PASSED_ON.items():
-        if body not in " ".join((TOP / "crates" / name).read_text().split()):
+        if not is_in(name, body):
             yield f"crates/{name}: a call isn't passed on as it is: {body}"
     yield from (f"crates/{name} has no line to be listed: {line}" for name, line in sorted(listed))
     yield from (f"no source has the line to be listed: {line}" for line in sorted(by_number))
