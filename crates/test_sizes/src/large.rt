@@ -1,5 +1,6 @@
 //! The calls that may run out of memory, on what is large: they return what they do of what is
-//! small. A line for each has its name, and `same` if its result is what it should be.
+//! small. A line for each has its name, and `same` if its result is what it should be. What is
+//! escaped is printed.
 //!
 //! `tests/memory/sizes` runs it, by a word for what standard input has.
 
@@ -51,6 +52,7 @@ pub fn run<P: Print, R: Read>(rt: &P, alloc: Global, kind: &str, input: &mut R) 
         "repeated" => of_repeated(rt, alloc, bytes),
         "vector" => of_vector(rt, alloc, bytes),
         "flags" => of_flags(rt, alloc, bytes),
+        "unprintable" => of_unprintable(rt, alloc, bytes),
         _ => Err(io::Error::from(ErrorKind::InvalidInput)),
     }
 }
@@ -368,6 +370,12 @@ fn of_vector<P: Print>(rt: &P, alloc: Global, bytes: &[u8]) -> io::Result<()> {
         BackToTheBuffer::reserve(&mut vector, bytes.len())
     )?;
     println!(rt; "{}", vector.len())
+}
+
+/// Prints bytes as `escape` writes them.
+fn of_unprintable<P: Print>(rt: &P, alloc: Global, bytes: &[u8]) -> io::Result<()> {
+    let text = escape(alloc, bytes)?;
+    println!(rt; "{text}")
 }
 
 /// Calls on packed flags, which have no names.
