@@ -21,6 +21,8 @@ NEEDS = {
     "docs": (), "test": (), "oracle": (), "show": (), "alloc-failures": (), "sizes": (), "c": ("nm", "pkg-config", "clang", "qemu-x86_64", "aarch64-linux-gnu-gcc"),
     "counts": ("valgrind",), "broker": (f"{BIN}/rabbitmq-server", "epmd", "amqp-publish", PYTHON), "mutants": (),
 }
+# The step that proves, and those that need nothing that it leaves.
+PROOFS, NEED_NO_PROOFS = "rt ci", {"docs", "test"}
 # The modules that the clients of .ci/broker need, and how many tables are sent in .ci/run and .ci/whole.
 MODULES = ("pika", "amqp")
 TABLES = {"run": 500, "whole": 10000}
@@ -75,8 +77,13 @@ def gate(name, words):
     text = re.findall(r"(?m)^# ?(.*)$", (TOP / ".ci" / name).read_text().partition("\n")[2])
     how = {"description": "\n".join(text), "formatter_class": argparse.RawDescriptionHelpFormatter}
     reader = argparse.ArgumentParser(prog=f".ci/{name}", **how)
-    reader.add_argument("--without", action="append", default=[], choices=[*NEEDS], metavar="NAME")
-    without = reader.parse_args(words).without
+    # in .ci/whole rt ci runs the tests and the stored runs
+    names = [it for it in NEEDS if it != "test" or not tries_all]
+    reader.add_argument("--without", action="append", default=[], choices=names, metavar="NAME")
+    reader.add_argument("--only", action="append", default=[], choices=[PROOFS, *names], metavar="NAME")
+    said = reader.parse_args(words)
+    only = said.only or [PROOFS, *names]
+    without = [it for it in NEEDS if it not in only or it in said.without]
     if os.environ.get("CI"):
         # what it couldn't install is missing below
         subprocess.run([TOP / ".ci/setup", *(["--without", "broker"] if "broker" in without else [])])
@@ -85,27 +92,26 @@ def gate(name, words):
         return 1
     with Steps(name) as steps:
         copy = steps.folder / "copy"
-        copy_repository(copy, left_out)
-        if not tries_all:
-            # .ci/test runs the tests; the mutants of must-fail/ are tried with the others, and carried over as they are
-            leave_out_tests(copy)
-        scripts, tests = copy / ".ci", copy / "tests"
-        proved = steps.add("rt ci", ["rt", "ci", *["--anew"] * tries_all], cwd=copy, **{"judge": by_proved} if tries_all else {}, tells=r"(?<=^rt: )\w+(: its tests)? (proved|NOT PROVED|ran|is kept)\b|: NOT REFUSED|BAD EDIT")
+        scripts, tests, proved = copy / ".ci", copy / "tests", ()
+        if PROOFS in only or {*NEEDS} - {*without} - NEED_NO_PROOFS:
+            copy_repository(copy, left_out)
+            if not tries_all:
+                # .ci/test runs the tests; the mutants of must-fail/ are tried with the others, and carried over as they are
+                leave_out_tests(copy)
+            is_anew = tries_all and PROOFS in only
+            proved = (steps.add(PROOFS, ["rt", "ci", *["--anew"] * is_anew], cwd=copy, **{"judge": by_proved} if tries_all else {}, tells=r"(?<=^rt: )\w+(: its tests)? (proved|NOT PROVED|ran|is kept)\b|: NOT REFUSED|BAD EDIT"),)
         words = {
             "docs": ([TOP / ".ci/docs"], ()),
             "test": ([TOP / ".ci/test", "--jobs", 2], ()),
-            "oracle": ([scripts / "oracle"], (proved,)),
-            "show": ([scripts / "show"], (proved,)),
-            "alloc-failures": ([tests / "memory/alloc-failures"], (proved,)),
-            "sizes": ([tests / "memory/sizes"], (proved,)),
-            "c": ([tests / "c/run", "--built"], (proved,)),
-            "counts": ([tests / "counts/run", "--built"], (proved,)),
-            "broker": ([scripts / "broker", "--built", "--tables", TABLES[name]], (proved,)),
-            "mutants": ([scripts / "mutants", "--built", "--must-fail", TOP, "--record", TOP / KEYS, *["--all"] * tries_all], (proved,)),
+            "oracle": ([scripts / "oracle"], proved),
+            "show": ([scripts / "show"], proved),
+            "alloc-failures": ([tests / "memory/alloc-failures"], proved),
+            "sizes": ([tests / "memory/sizes"], proved),
+            "c": ([tests / "c/run", "--built"], proved),
+            "counts": ([tests / "counts/run", "--built"], proved),
+            "broker": ([scripts / "broker", "--built", "--tables", TABLES[name]], proved),
+            "mutants": ([scripts / "mutants", "--built", "--must-fail", TOP, "--record", TOP / KEYS, *["--all"] * tries_all], proved),
         }
-        if tries_all:
-            # rt ci has run the tests and the stored runs
-            del words["test"]
         for step, (command, after) in words.items():
             if step not in without:
                 tries_mutants = step == "mutants"
@@ -113,7 +119,7 @@ def gate(name, words):
                 steps.add(step, command, cwd=copy if command[0].is_relative_to(copy) else TOP, after=after, **how)
         os.environ["COMMIT_NUMBER"] = said_by("git", "-C", str(TOP), "rev-list", "--count", "HEAD")
         steps.run()
-        steps.notes += [f"left out: {it}" for it in without]
+        steps.notes += [f"only: {it}" for it in said.only] + [f"left out: {it}" for it in said.without]
         steps.notes += [it.last_line for it in steps.steps if it.name == "mutants"]
         return steps.ended()
 
