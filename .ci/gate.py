@@ -18,7 +18,7 @@ KIT_LINE = "rattle-kit-13f"
 # What each step needs besides the kit; `python3`, `cc` and `c++` can't be left out.
 ALWAYS = ("git", "python3", "cc", "c++")
 NEEDS = {
-    "docs": (), "test": (), "oracle": (), "show": (), "alloc-failures": (), "sizes": (), "c": ("nm", "pkg-config", "clang", "qemu-x86_64", "aarch64-linux-gnu-gcc"),
+    "docs": (), "test": (), "oracle": (), "show": (), "alloc-failures": (), "sizes": (), "wire": (), "c": ("nm", "pkg-config", "clang", "qemu-x86_64", "aarch64-linux-gnu-gcc"),
     "counts": ("valgrind",), "broker": (f"{BIN}/rabbitmq-server", "epmd", "amqp-publish", PYTHON), "mutants": (),
 }
 # The step that proves, and those that need nothing that it leaves.
@@ -107,6 +107,7 @@ def gate(name, words):
             "show": ([scripts / "show"], proved),
             "alloc-failures": ([tests / "memory/alloc-failures"], proved),
             "sizes": ([tests / "memory/sizes"], proved),
+            "wire": ([tests / "wire/run"], proved),
             "c": ([tests / "c/run", "--built"], proved),
             "counts": ([tests / "counts/run", "--built"], proved),
             "broker": ([scripts / "broker", "--built", "--tables", TABLES[name]], proved),
