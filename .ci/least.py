@@ -1,10 +1,12 @@
 """The least number of what each step counts, so that what isn't run any more is noticed.
 
 Each line of .ci/least.rows is STEP NAME NUMBER, none of them with a space. A step that counts fewer by that name fails.
-The step's command runs it with --write, and then sets its numbers to what it counted.
+With --write a step's script sets its numbers to what it counted.
 """
 
 import sys
+from collections.abc import Iterator, Mapping
+from typing import Any
 
 from crates import TOP
 
@@ -13,21 +15,21 @@ FILE = TOP / ".ci/least.rows"
 IS_WRITING = "--write" in sys.argv[1:]
 
 
-def rows():
+def rows() -> dict[tuple[str, str], int]:
     """The numbers, by step and name."""
     lines = [it.split(" ") for it in FILE.read_text().splitlines()]
     return {(step, name): int(number) for step, name, number in lines}
 
 
-def least(step, name):
+def least(step: str, name: str) -> int:
     """The least number of what a step counts by this name."""
     number = rows().get((step, name))
     if number is None:
-        sys.exit(f"{FILE.name} has no line for {step} {name}: its step writes it with --write")
+        sys.exit(f"{FILE.name} has no line for {step} {name}: with --write the step writes it")
     return number
 
 
-def too_few(step, counts):
+def too_few(step: str, counts: Mapping[str, int]) -> Iterator[str]:
     """Yields what a step counted too few of. What has a line and no count was counted as none."""
     for name in sorted({*counts, *(it for of, it in rows() if of == step)}):
         count, wants = counts.get(name, 0), least(step, name)
@@ -35,14 +37,14 @@ def too_few(step, counts):
             yield f"{count} of {name}, where {wants} are the least"
 
 
-def write(step, counts):
+def write(step: str, counts: Mapping[str, int]) -> None:
     """Sets the numbers of a step to these."""
     kept = {key: number for key, number in rows().items() if key[0] != step}
     numbers = kept | {(step, name): count for name, count in counts.items()}
     FILE.write_text("".join(f"{of} {name} {number}\n" for (of, name), number in sorted(numbers.items())))
 
 
-def judge(checks, step, counts):
+def judge(checks: Any, step: str, counts: Mapping[str, int]) -> None:
     """Checks that a step counted enough, or with --write sets its numbers if nothing failed."""
     if not IS_WRITING:
         wrong = [*too_few(step, counts)]
