@@ -104,7 +104,7 @@ def gate(name, words):
             "docs": ([TOP / ".ci/docs"], ()),
             "test": ([TOP / ".ci/test", "--jobs", 2], ()),
             "oracle": ([scripts / "oracle"], proved),
-            "show": ([scripts / "show"], proved),
+            "show": ([tests / "show/run"], proved),
             "alloc-failures": ([tests / "memory/alloc-failures"], proved),
             "sizes": ([tests / "memory/sizes"], proved),
             "wire": ([tests / "wire/run"], proved),

@@ -142,12 +142,6 @@ def content(path: Path) -> bytes:
     return path.read_bytes() if path.exists() else b""
 
 
-def given(case: Path) -> bytes:
-    """What a case of examples/show has on standard input."""
-    digits = case.with_suffix(".hex")
-    return bytes.fromhex(digits.read_text()) if digits.exists() else content(case.with_suffix(".in"))
-
-
 def within(kind: int, most: int, words: Sequence[str | Path], given: bytes) -> subprocess.CompletedProcess[bytes]:
     """Runs a program that may have at most n of a resource, such as resource.RLIMIT_STACK."""
     limit = lambda: resource.setrlimit(kind, (most, most))
