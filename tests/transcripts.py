@@ -14,7 +14,7 @@ otherwise it is empty. `NAME=VALUE` before the program is a variable. `>/dev/tty
 
 Below the command are the lines of standard output, those of standard error, each after `2> `, and the exit status in brackets
 if it isn't 0. A line that ends with ` (no-eol)` has no line end, and one that ends with ` (esc)` has escapes, such as `\x1b`.
-A line is written with escapes if not all of it is printable, or if it can be taken for something else, as `\x5b1] (esc)`.
+A line is written with escapes if not all of it is printable, or if it can be taken for something else, as `[1] (esc)`.
 """
 
 import re
@@ -169,7 +169,7 @@ def _shown(data: bytes) -> str:
     if text.encode() == data and text.isprintable() and not MISTAKEN.match(text):
         return text
     escaped = data.decode("latin-1").encode("unicode_escape").decode()
-    return f"{escaped} (esc)" if not MISTAKEN.match(escaped) else rf"\x{ord(escaped[0]):02x}{escaped[1:]} (esc)"
+    return escaped.replace(">", r"\x3e") + " (esc)"
 
 
 def _line(line: str) -> bytes:
