@@ -103,6 +103,7 @@ def _matches(path: Path) -> Iterator[re.Match[str]]:
 
 
 def _case(found: re.Match[str]) -> Case:
+    """The case that a part of a transcript has."""
     name, command, document, output = found.groups()
     tokens, lines = _tokens(command), [it[4:] for it in document.split("\n")[:-1]]
     end, to = _taken(tokens, "<<"), Output(_taken(tokens, ">"))
@@ -114,9 +115,9 @@ def _case(found: re.Match[str]) -> Case:
     while "|" in tokens:
         at = tokens.index("|")
         given, tokens = _written(tokens[:at], given), tokens[at + 1 :]
-    variables = [*takewhile(lambda it: "=" in it, tokens)]
-    words = tuple(tokens[len(variables) :])
-    return Case(name, words, dict(_pair(it) for it in variables), given, to, _ending(output))
+    named = [*takewhile(lambda it: "=" in it, tokens)]
+    variables = {name: value for name, _, value in (it.partition("=") for it in named)}
+    return Case(name, tuple(tokens[len(named) :]), variables, given, to, _ending(output))
 
 
 def _tokens(command: str) -> list[str]:
@@ -183,8 +184,3 @@ def _line(line: str) -> bytes:
 def _unescaped(text: str) -> bytes:
     """The bytes of what has escapes."""
     return text.encode().decode("unicode_escape").encode("latin-1")
-
-
-def _pair(text: str) -> tuple[str, str]:
-    name, _, value = text.partition("=")
-    return name, value
