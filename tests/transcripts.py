@@ -7,14 +7,16 @@ r"""Cases of programs as transcripts: what is typed, and what a program then pri
       2> amqp_show: "-": line 1, column 7: no hexadecimal
       [2]
 
-A case has a name of letters, digits and `_`, and one command, which a shell takes as it is. Standard input is what `echo` or
-`printf` writes, or a here-document, whose lines begin with `> `; after `xxd -r -p` it is the bytes that these digits denote;
-otherwise it is empty. `NAME=VALUE` before the program is a variable. `>/dev/tty` makes standard output a terminal,
-`>/dev/full` a device that is full, and `| true` a pipe that nobody reads. Lines that begin with `#` are comments.
+A case has a name of letters, digits and `_`, and one command, which a shell takes as it is. Standard input is what
+`echo` or `printf` writes, or a here-document, whose lines begin with `> `; after `xxd -r -p` it is the bytes that
+these digits denote; otherwise it is empty. `NAME=VALUE` before the program is a variable. `>/dev/tty` makes standard
+output a terminal, `>/dev/full` a device that is full, and `| true` a pipe that nobody reads. Lines that begin with `#`
+are comments.
 
-Below the command are the lines of standard output, those of standard error, each after `2> `, and the exit status in brackets
-if it isn't 0. A line that ends with ` (no-eol)` has no line end, and one that ends with ` (esc)` has escapes, such as `\x1b`.
-A line is written with escapes if not all of it is printable, or if it can be taken for something else, as `[1] (esc)`.
+Below the command are the lines of standard output, those of standard error, each after `2> `, and the exit status in
+brackets if it isn't 0. A line that ends with ` (no-eol)` has no line end, and one that ends with ` (esc)` has escapes,
+such as `\x1b`. It is written so if not all of it is printable, or if it can be taken for something else, such as
+`[1] (esc)`.
 """
 
 import re
@@ -67,6 +69,7 @@ class Case:
     """A case: its name, the program and its words, its variables, what comes in, and how it has to end."""
 
     name: str
+    program: str
     words: tuple[str, ...]
     variables: Mapping[str, str]
     given: bytes
@@ -75,12 +78,14 @@ class Case:
 
 
 def cases(place: Path) -> dict[str, Case]:
-    """The cases of a transcript, or of those of a folder, in order, by their names."""
+    """The cases of a transcript, or of those of a folder, in order, by their names. They have one program."""
     found: dict[str, Case] = {}
     for case in (_case(it) for path in sorted(place.glob("*.t")) or [place] for it in _matches(path)):
         if case.name in found:
             raise Malformed(f"two cases are called {case.name}")
         found[case.name] = case
+    if len(programs := {it.program for it in found.values()}) != 1:
+        raise Malformed(f"the cases of {place.name} have one program, and not {sorted(programs)}")
     return found
 
 
@@ -117,7 +122,8 @@ def _case(found: re.Match[str]) -> Case:
         given, tokens = _written(tokens[:at], given), tokens[at + 1 :]
     named = [*takewhile(lambda it: "=" in it, tokens)]
     variables = {name: value for name, _, value in (it.partition("=") for it in named)}
-    return Case(name, tuple(tokens[len(named) :]), variables, given, to, _ending(output))
+    program, *words = tokens[len(named) :] or [""]
+    return Case(name, program, tuple(words), variables, given, to, _ending(output))
 
 
 def _tokens(command: str) -> list[str]:
