@@ -29,7 +29,7 @@ PLACES = {
         "flags": "src/flags specs/flags proofs/FlagBits",
         "parsing": "src/parsing specs/parsing proofs/lemmas/parsing proofs/ParsingLaws",
         "generation": "src/generation specs/generation proofs/lemmas/generation proofs/Lengths",
-        "stream": "src/stream specs/stream proofs/lemmas/stream",
+        "stream": "src/stream specs/stream proofs/lemmas/stream proofs/StreamLaws",
     },
 }
 # Files that only name others.

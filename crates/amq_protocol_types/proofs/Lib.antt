@@ -1,4 +1,5 @@
 mod lemmas
 mod FlagBits
 pub mod ParsingLaws
+pub mod StreamLaws
 pub mod Lengths

@@ -1,4 +1,4 @@
--- The laws of reading within limits and from a source, for the proofs of other crates to cite.
+-- The laws of reading within limits, for the proofs of other crates to cite.
 
 -- what asks for more bytes: which, and how many its header counts at most
 pub use Rattle.amq_protocol_types.proofs.lemmas.parsing.Waits.{more_wanted, wanted_more, wanted_within, kept_within}
@@ -17,5 +17,3 @@ pub use Rattle.amq_protocol_types.proofs.lemmas.parsing.Plain.{IsPlain as IsPlai
 -- the bodies of containers, a value or a pair at a time
 pub use Rattle.amq_protocol_types.proofs.lemmas.parsing.Bodies.{Goes, Goes-start, Goes-step, Goes-end, Goes-refused, rest_shorter}
 pub use Rattle.amq_protocol_types.proofs.lemmas.parsing.TableBodies.{Walks, Walks-start, Walks-step, Walks-end, Walks-bad_key, Walks-bad_value, key_shorter}
--- calls of a source, and then further ones
-pub use Rattle.amq_protocol_types.proofs.lemmas.stream.Calls.{reaches_on}

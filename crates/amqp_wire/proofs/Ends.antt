@@ -2,7 +2,7 @@
 use Rattle.std.proofs.Common.{◌≡◌, ◌⊎◌, ℕ, Result, Err, inl, inr, sym, subst}
 use Rattle.std.specs.declared.io.ErrorKind.{ErrorKind}
 use Rattle.amq_protocol_types.specs.stream.Sources.{Reaches}
-use Rattle.amq_protocol_types.proofs.lemmas.stream.Calls.{reaches_on}
+use Rattle.amq_protocol_types.proofs.StreamLaws.{reaches_on}
 use Rattle.amqp_wire.specs.declared.fault.WireFault.{WireFault}
 use Rattle.amqp_wire.specs.declared.fault.WireFault.TheVariants.{OutOfMemory}
 use Rattle.amqp_wire.specs.Ends.{Accepts, IsSourceFault, IsSinkFault, EndsAnswers, EndsRun}

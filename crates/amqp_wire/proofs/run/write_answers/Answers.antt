@@ -1,6 +1,6 @@
 use Rattle.std.proofs.Common.{◌∙◌, rules}
 use Rattle.amq_protocol_types.specs.stream.Sources.Reaches.{here}
-use Rattle.amq_protocol_types.proofs.lemmas.stream.Calls.{reaches_on}
+use Rattle.amq_protocol_types.proofs.StreamLaws.{reaches_on}
 use Rattle.amqp_wire.proofs.Ends.{ends_answers}
 use Rattle.amqp_wire.specs.Lines.{said_in}
 use Rattle.amqp_wire.proofs.Fronts.{written_more, written_part, first_answer}

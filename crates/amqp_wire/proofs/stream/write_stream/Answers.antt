@@ -3,7 +3,7 @@ use Rattle.std.specs.Option.{IfSome}
 use Rattle.std.specs.Io.KnownBytes.{Appends}
 use Rattle.amqp_value_core.specs.Inputs.{IsBytes}
 use Rattle.amq_protocol_types.specs.stream.Sources.Reaches.{here}
-use Rattle.amq_protocol_types.proofs.lemmas.stream.Calls.{reaches_on}
+use Rattle.amq_protocol_types.proofs.StreamLaws.{reaches_on}
 use Rattle.amqp_wire.proofs.Ends.{ends_read, ends_write}
 use Rattle.amqp_wire.specs.Lines.{AppendsFront}
 use Rattle.amqp_wire.specs.Streams.{stream_text}
