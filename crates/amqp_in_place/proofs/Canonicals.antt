@@ -1,5 +1,5 @@
 -- Canonical encodings at the start of bytes.
-use Rattle.std.proofs.Common.{◌≡◌, ◌<◌, ◌≤◌, ◌+◌, ◌-◌, ◌^◌, ℕ, zero, suc, Bool, true, false, cond, nat_eq, eqb, List, [], ◌∷◌, ◌++◌, length, drop, get_or, Fits, w8, Option, Some, None, refl, sym, ap, ◌∙◌, subst, arith, length-append, eq-eqb}
+use Rattle.std.proofs.Common.{◌≡◌, ◌<◌, ◌≤◌, ◌+◌, ◌-◌, ◌^◌, ℕ, suc, Bool, true, false, cond, nat_eq, eqb, List, [], ◌∷◌, ◌++◌, length, drop, get_or, Fits, w8, Option, Some, None, refl, sym, ap, ◌∙◌, subst, arith, length-append, eq-eqb}
 use Rattle.std.specs.Map.{lookup}
 use Rattle.std.specs.List.{AllByRecursion}
 use Rattle.std.specs.Option.{IfSome, option_eq}
@@ -18,15 +18,16 @@ use Rattle.amqp_value_core.specs.Strings.{IsShort}
 use Rattle.amqp_value_core.specs.declared.types.amqp_type.AMQPType.{AMQPType}
 use Rattle.amqp_value_core.specs.declared.types.amqp_type.AMQPType.TheVariants as amqp
 use Rattle.amqp_value_core.proofs.Ids.{row_holds, kind_read}
-use Rattle.amqp_value_core.specs.Values.{Tree, short, long, array, table, Trees, no_trees, tree, Entries, no_entries, entry, ComesBefore, depth}
+use Rattle.amqp_value_core.specs.Values.{Tree, short, array, table, Trees, no_trees, tree, Entries, no_entries, entry, ComesBefore, depth}
 use Rattle.amqp_value_core.specs.Members.{greatest_depth, entries_depth, CanonBody, CanonPairs}
 use Rattle.amqp_value_core.specs.Layouts.{Layout, fixed}
 use Rattle.amqp_value_core.specs.Grammar.{short_field, long_field, Wire, wire, Raw, raw_fixed, raw_short, raw_long, raw_octets, raw_array, raw_table, no_values as no_value_there, value, no_pairs as no_pair_there, pair}
 use Rattle.amqp_value_core.specs.Nesting.{WireWithin, OutcomeWithin}
-use Rattle.amqp_value_core.specs.Outcomes.{found, more, unknown, lack, NeedsMoreOr, Outcome}
-use Rattle.amqp_value_core.specs.Payloads.{RawFront, RawOutcome, CanonRaw}
+use Rattle.amqp_value_core.specs.Outcomes.{found, more, unknown, lack, Outcome}
+use Rattle.amqp_value_core.specs.Payloads.{RawOutcome, CanonRaw}
 use Rattle.amqp_value_core.specs.Canonical.{IsStrict, Canon}
-use Rattle.amqp_value_core.proofs.GrammarLaws.{one_reading, one_raw_reading, one_raw_outcome, raw_found, wire_found, wire_found_within, front_within, depth_within, text_within, text_is_canon, what_is_read, read_is_value, canon_is_wire, canon_fits, canon_is_text, canon, canon_array, canon_table, canon_value, canon_pair, canon_rises, rising_pairs, short_bytes, one_outcome, bytes_front}
+use Rattle.amqp_value_core.proofs.Bytes.{bytes_front}
+use Rattle.amqp_value_core.proofs.GrammarLaws.{raw_front, one_large, one_reading, one_raw_reading, one_raw_outcome, raw_found, wire_found, wire_found_within, front_within, depth_within, text_within, text_is_canon, what_is_read, read_is_value, canon_is_wire, canon_fits, canon_is_text, canon, canon_array, canon_table, canon_value, canon_pair, canon_rises, rising_pairs, short_bytes, one_outcome}
 use Rattle.amqp_value_core.specs.Inputs.{IsBytes, slice_bytes}
 use Rattle.amqp_value_core.specs.declared.input.SliceInput.{SliceInput}
 use Rattle.amq_protocol_types.specs.declared.parsing.limits.Limits.{Limits}
@@ -113,18 +114,10 @@ plain_payload _ _ _ (raw_octets s fits) plain none strict = ((raw_octets s fits,
 plain_payload _ _ _ (raw_array body vs fits all) plain none strict = absurd plain
 plain_payload _ _ _ (raw_table body ps fits all) plain none strict = absurd plain
 
--- what is found after the type tag is there
-raw_front : (type : AMQPType) (s : List ℕ) (v : Tree) (rest : List ℕ) → RawOutcome type s (found v rest) → RawFront type s (found v rest)
-raw_front type s v rest x = by (lack type s) x
-  where
-    by : (n : ℕ) → NeedsMoreOr n (RawFront type s (found v rest)) (found v rest) → RawFront type s (found v rest)
-    by zero f = f
-    by (suc n) e = absurd cc
-
 -- so a value with no alternate tag that is no container is canonical
 pub plain_front : (d : ℕ) (s : List ℕ) (r : ValueRef) (rest : List ℕ) → IsHead s (head.Plain r) rest → IsFirstSpelling s → CanonFront d s rest
 plain_front d s r rest (type, mid, (c, here, k), q) spelled =
-    let f = raw_front type mid (plain_tree r) rest q.2 in
+    let f = raw_front (Raw type) (lack type mid) mid rest (plain_tree r) q.2 in
     let first = subst IsFirstSpelling here spelled in
     let strict : IsStrict type f.0 =
     strict_by type f.0 (λ e. strict_front f.0 rest (subst (λ (t : List ℕ). IsStrict amqp.Boolean t) f.2 (first.2 (boolean_letter c (k ∙ ap Some e))))) in
@@ -132,12 +125,6 @@ plain_front d s r rest (type, mid, (c, here, k), q) spelled =
     (c ∷ f.0, plain_tree r, canon c type f.0 (plain_tree r) k first.0 first.1 p.0, omega (arith, p.1), here ∙ ap (λ (t : List ℕ). c ∷ t) f.2)
 
 -- ---- containers
-
--- two bodies after their lengths at the start of bytes are one
-one_large : (a b x y : List ℕ) → length a < 2 ^ 32 → length b < 2 ^ 32 → long_field a ++ x ≡ long_field b ++ y → a ≡ b
-one_large a b x y few less e =
-    let same = one_raw_reading amqp.LongString (long_field a) (long_field b) x y (long a) (long b) (raw_long a few) (raw_long b less) e in
-    cc
 
 -- the payload of a canonical array
 record CanonArray (body : List ℕ) (v : Tree) : Type 0 where
@@ -152,7 +139,7 @@ canon_array_body _ _ _ (raw_short s is, x) t body rest left few e = absurd cc
 canon_array_body _ _ _ (raw_long s fits, x) t body rest left few e = absurd cc
 canon_array_body _ _ _ (raw_octets s fits, x) t body rest left few e = absurd cc
 canon_array_body _ _ _ (raw_array a vs fits p, x) t body rest left few e =
-    record { values = vs; all = subst (λ (b : List ℕ). CanonBody b vs) (one_large a body left rest fits few e) (p, x); is = refl }
+    record { values = vs; all = subst (λ (b : List ℕ). CanonBody b vs) (one_large a body left rest fits few e).0 (p, x); is = refl }
 canon_array_body _ _ _ (raw_table a es fits p, x) t body rest left few e = absurd cc
 
 -- and of a canonical table
@@ -169,7 +156,7 @@ canon_table_body _ _ _ (raw_long s fits, x) t body rest left few e = absurd cc
 canon_table_body _ _ _ (raw_octets s fits, x) t body rest left few e = absurd cc
 canon_table_body _ _ _ (raw_array a vs fits p, x) t body rest left few e = absurd cc
 canon_table_body _ _ _ (raw_table a es fits p, x) t body rest left few e =
-    record { entries = es; all = subst (λ (b : List ℕ). CanonPairs b es) (one_large a body left rest fits few e) (p, x); is = ap table (rising_pairs es (canon_rises a es p x)) }
+    record { entries = es; all = subst (λ (b : List ℕ). CanonPairs b es) (one_large a body left rest fits few e).0 (p, x); is = ap table (rising_pairs es (canon_rises a es p x)) }
 
 -- the type tag that is first, and the canonical payload after it
 record CanonTyped (type : AMQPType) (mid left : List ℕ) (v : Tree) : Type 0 where

@@ -37,7 +37,7 @@ counted_there w b = by (nat_lt (length b) (byte_len w))
     by false = omega arith
 
 -- a slice of all that is after n bytes
-left_over : (n : ℕ) (s : List ℕ) → take (length s - n) (drop n s) ≡ drop n s
+pub left_over : (n : ℕ) (s : List ℕ) → take (length s - n) (drop n s) ≡ drop n s
 left_over n s = take_all (length s - n) (drop n s) (omega (arith, length-drop n s))
 
 module _ (first : Search) (len : List ℕ → ℕ) where

@@ -4,9 +4,8 @@ use Rattle.std.specs.Prelude.{Result, Ok, Err, MatchResult, is_err, max, option_
 use Rattle.std.specs.Borrow.{Bor}
 use Rattle.std.specs.List.{list_any}
 use Rattle.std.specs.Ordering.{nat_cmp, is_eq}
-use Rattle.std.specs.declared.cmp.Ordering.{Ordering}
 use Rattle.std.specs.BTreeMap.{is_at}
-use Rattle.std.specs.BTreeSet.{BTreeSet, contains, contains_by, IsEmpty, Updates}
+use Rattle.std.specs.BTreeSet.{BTreeSet, contains, IsEmpty, Updates}
 use Rattle.std.specs.Cmp.Lexicographic.{slice_cmp, bytes_decides, texts_ties}
 use Rattle.std.proofs.lemmas.Bool.{false≢true, leb-true, leb-false}
 use Rattle.std.proofs.lemmas.List.{take_all, length-drop, drop-drop, drop_all, length-take-le}
@@ -19,14 +18,10 @@ use Rattle.amqp_in_place.specs.declared.rabbitmq.warning.KeyFault.TheVariants.{R
 use Rattle.amqp_in_place.specs.Problems.{pair_len}
 use Rattle.amqp_in_place.specs.RabbitmqSeen.{Has, Tells, key_of, behind_key}
 use Rattle.amqp_in_place.specs.RabbitmqWarnings.{Place, is_faulty, fault_in_values, fault_in_pairs}
+use Rattle.amqp_in_place.proofs.FirstProblems.{left_over}
+use Rattle.amqp_in_place.proofs.RepeatedKeys.{has, by_bytes}
 
 -- ---- the keys in the set
-
-abbrev by_bytes : Bor (List ℕ) → Bor (List ℕ) → Ordering
-by_bytes x y = slice_cmp nat_cmp x.now y.now
-
-abbrev has : BTreeSet (Bor (List ℕ)) → List ℕ → Bool
-has t k = contains_by (λ (j : Bor (List ℕ)). slice_cmp nat_cmp k j.now) t
 
 not_not : (b : Bool) → not (not b) ≡ b
 not_not true = refl
@@ -79,9 +74,6 @@ again n (Some p) = ap (λ (k : ℕ). Some k) (omega arith)
 none_more : (x : Option ℕ) → option_map (λ k. 0 + k) x ≡ x
 none_more None = refl
 none_more (Some p) = ap (λ (k : ℕ). Some k) (omega arith)
-
-left_over : (n : ℕ) (s : List ℕ) → take (length s - n) (drop n s) ≡ drop n s
-left_over n s = take_all (length s - n) (drop n s) (omega (arith, length-drop n s))
 
 some_left : (n : ℕ) (s : List ℕ) → n < length s → 0 < length (drop n s)
 some_left n s some = omega (arith, some, length-drop n s)

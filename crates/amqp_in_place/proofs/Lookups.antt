@@ -1,11 +1,11 @@
 -- Looking up what is in a container.
-use Rattle.std.proofs.Common.{◌≡◌, ◌<◌, ◌↔◌, ℕ, suc, Bool, true, false, cond, List, length, Option, Some, None, refl, sym, ap, ◌∙◌, subst, arith, length-append}
+use Rattle.std.proofs.Common.{◌≡◌, ◌↔◌, ℕ, suc, Bool, true, false, cond, List, length, Option, Some, None, refl, sym, ap, ◌∙◌, subst, arith, length-append}
 use Rattle.std.specs.Option.{option_or, is_some}
 use Rattle.std.specs.Borrow.{Bor}
 use Rattle.amqp_value_core.specs.Values.{Tree, Trees, no_trees, tree, Entries, no_entries, entry}
 use Rattle.amqp_value_core.specs.Maps.{same_bytes, last_at, value_at, has_key}
-use Rattle.amqp_value_core.specs.Grammar.{Wire, wire, ArrayBody, no_values, value, TableBody, no_pairs, pair}
-use Rattle.amqp_value_core.proofs.GrammarLaws.{last_stays, key_has_value}
+use Rattle.amqp_value_core.specs.Grammar.{ArrayBody, no_values, value, TableBody, no_pairs, pair}
+use Rattle.amqp_value_core.proofs.GrammarLaws.{option_or-assoc, option_or-none, length-wire, last_stays, key_has_value}
 use Rattle.amqp_value_core.specs.Inputs.{slice_bytes}
 use Rattle.amqp_value_core.specs.declared.input.SliceInput.{SliceInput}
 use Rattle.amqp_in_place.specs.Bodies.{HasEntries}
@@ -15,9 +15,6 @@ use Rattle.amqp_in_place.specs.Written.{WrittenPairs, WrittenAt}
 use Rattle.amqp_in_place.specs.Encoded.{EncodedPairs, EncodedAt}
 
 -- ---- emptiness
-
-length-wire : (w : List ℕ) (v : Tree) → Wire w v → 0 < length w
-length-wire _ _ (wire c type b v k p) = omega arith
 
 -- no pairs are written in no bytes, and only there
 pub no_pairs_at : (s : List ℕ) (ps : Entries) → TableBody s ps → (length s ≡ 0) ↔ (ps ≡ no_entries)
@@ -48,17 +45,9 @@ EncodedLooks key s rest at = LooksBy EncodedAt EncodedPairs key s rest at
 abbrev pub PassesBy : (List ℕ → Entries → Type 0) → List ℕ → List ℕ → List ℕ → Type 0
 PassesBy Body key s rest = (ps : Entries) → Body s ps → (qs : Entries) × Body rest qs × (value_at key ps ≡ value_at key qs)
 
-pub or_none : (o : Option Tree) → o ≡ option_or o None
-or_none None = refl
-or_none (Some v) = refl
-
-pub or_or : (a b c : Option Tree) → option_or (option_or a b) c ≡ option_or a (option_or b c)
-or_or None b c = refl
-or_or (Some v) b c = refl
-
 module _ (Is : Tree → List ℕ → List ℕ → Type 0) (Body : List ℕ → Entries → Type 0) where
   pub looks-start : (key s : List ℕ) → LooksBy Is Body key s s None
-  looks-start key s = λ ps p. (ps, None, p, tt, or_none (last_at key ps))
+  looks-start key s = λ ps p. (ps, None, p, tt, sym (option_or-none (last_at key ps)))
 
   -- one pair more
   pub looks-step : (key s rest : List ℕ) (old new : Option (Bor (List ℕ))) (x : Bor (List ℕ) × Bor (List ℕ) × Bor (List ℕ)) (b : Bool)
@@ -80,7 +69,7 @@ module _ (Is : Tree → List ℕ → List ℕ → Type 0) (Body : List ℕ → E
           let same : b ≡ c = is ∙ ap (same_bytes key) given.0 in
           let now = option_or (cond c (Some v) None) seen in
           let begins : BeginsBy Is now new = subst (BeginsBy Is now) (sym (made ∙ ap (λ d. cond d (Some x.1) old) same)) (pick c v seen given.1 there) in
-          (rs, now, given.2, begins, e ∙ or_or (last_at key rs) (cond c (Some v) None) seen)
+          (rs, now, given.2, begins, e ∙ option_or-assoc (last_at key rs) (cond c (Some v) None) seen)
 
   -- no pair more
   pub looks-end : (key s rest : List ℕ) (at : Option (Bor (List ℕ))) → LooksBy Is Body key s rest at → ((qs : Entries) → Body rest qs → NextKeyBy Is Body qs None)

@@ -17,7 +17,7 @@ use Rattle.amqp_value_core.specs.Layouts.{Layout, fixed}
 use Rattle.amqp_value_core.specs.Grammar.{short_field, long_field, Wire, wire, Raw, raw_fixed, raw_short, raw_long, raw_octets, raw_array, raw_table, ArrayBody, no_values, value, TableBody, no_pairs, pair}
 use Rattle.amqp_value_core.specs.Nesting.{nesting, raw_nesting, body_nesting, pairs_nesting, OutcomeWithin}
 use Rattle.amqp_value_core.specs.Outcomes.{found}
-use Rattle.amqp_value_core.proofs.GrammarLaws.{one_reading, one_raw_reading, wire_found_within, depth_within, body_nesting-le, pairs_nesting-le}
+use Rattle.amqp_value_core.proofs.GrammarLaws.{no_empty_wire, same_large, one_reading, one_raw_reading, wire_found_within, depth_within, body_nesting-le, pairs_nesting-le}
 use Rattle.amqp_value_core.specs.Inputs.{slice_bytes}
 use Rattle.amqp_value_core.specs.declared.input.SliceInput.{SliceInput}
 use Rattle.amqp_in_place.specs.declared.head.Head.TheVariants as head
@@ -106,14 +106,6 @@ table_held _ _ _ (raw_table body ps fits all) t = record { body = body; pairs = 
 
 -- ---- one measure for an encoding
 
--- two bodies after their lengths are one
-same_large : (a b : List ℕ) → long_field a ≡ long_field b → a ≡ b
-same_large a b e = ap (drop 4) e
-
--- an encoding isn't empty
-no_empty : (w rest : List ℕ) (v : Tree) → Wire w v → w ++ rest ≡ [] → ⊥
-no_empty _ rest _ (wire c type b v k p) e = cc
-
 mutual
   -- in an encoding one number of values is written, and containers nest one number of levels
   pub same_wire : (w u : List ℕ) (v z : Tree) (p : Wire w v) (q : Wire u z) → w ≡ u → (written w v p ≡ written u z q) × (nesting w v p ≡ nesting u z q)
@@ -141,8 +133,8 @@ mutual
   same_values : (b c : List ℕ) (vs us : Trees) (p : ArrayBody b vs) (q : ArrayBody c us) → b ≡ c
       → (body_written b vs p ≡ body_written c us q) × (body_nesting b vs p ≡ body_nesting c us q)
   same_values _ _ _ _ no_values no_values e = (refl, refl)
-  same_values _ _ _ _ no_values (value w more v us p all) e = absurd (no_empty w more v p (sym e))
-  same_values _ _ _ _ (value w more v vs p all) no_values e = absurd (no_empty w more v p e)
+  same_values _ _ _ _ no_values (value w more v us p all) e = absurd (no_empty_wire w more v p (sym e))
+  same_values _ _ _ _ (value w more v vs p all) no_values e = absurd (no_empty_wire w more v p e)
   same_values _ _ _ _ (value w more v vs p all) (value w2 more2 v2 us p2 all2) e =
       let one = one_reading w w2 more more2 v v2 p p2 e in
       let first = same_wire w w2 v v2 p p2 one.0 in

@@ -11,11 +11,11 @@ use Rattle.amqp_value_core.specs.declared.types.amqp_type.AMQPType.TheVariants a
 use Rattle.amqp_value_core.specs.Ids.{kind}
 use Rattle.amqp_value_core.specs.Inputs.{IsBytes}
 use Rattle.amqp_value_core.proofs.Bytes.{bytes_take, bytes_drop}
-use Rattle.amqp_value_core.specs.Values.{Tree, scalar, array, table, Trees, tree, Entries, no_entries, insert}
+use Rattle.amqp_value_core.specs.Values.{Tree, scalar, array, table, tree, Entries, no_entries, insert}
 use Rattle.amqp_value_core.specs.Layouts.{Layout, fixed}
 use Rattle.amqp_value_core.specs.Outcomes.{Reading, found, more, unknown, malformed, length_field, counted, lack, lack_of}
 use Rattle.amqp_value_core.specs.Decode.{framed, raw_outcome_by, outcome_by, values_by, is_key, pairs_onto, meaning}
-use Rattle.amqp_value_core.proofs.GrammarLaws.{within_holds, within_is}
+use Rattle.amqp_value_core.proofs.GrammarLaws.{and_others, and_pairs, within_holds, within_is}
 use Rattle.amq_protocol_types.specs.declared.parsing.limits.Limits.{Limits}
 use Rattle.amq_protocol_types.specs.parsing.Headers.{extent, extent_of, extent_at, raw_extent, first_of}
 use Rattle.amq_protocol_types.specs.parsing.Limits.{Within}
@@ -82,12 +82,6 @@ one_behind n None (Some v) h = tt
 one_behind n (Some p) None h = tt
 one_behind n None None h = absurd h
 one_behind n (Some p) (Some v) h = absurd h
-
-abbrev and_others : (List ℕ → Reading) → ℕ → Reading → Option Trees
-and_others read n o = elim o [ found v rest ↦ option_map (tree v) (values_by read n rest) | _ ↦ None ]
-
-abbrev and_pairs : (List ℕ → Reading) → ℕ → Entries → List ℕ → Reading → Option Entries
-and_pairs read n es k o = elim o [ found v rest ↦ pairs_onto read n (insert k v es) rest | _ ↦ None ]
 
 -- the first of some values, and the others
 next_tells : (first : Search) (read : List ℕ → Reading) (n : ℕ) (s : List ℕ) → 0 < length s

@@ -116,7 +116,7 @@ abbrev pub has : BTreeSet (Bor (List ℕ)) → List ℕ → Bool
 has t k = contains_by (λ (j : Bor (List ℕ)). slice_cmp nat_cmp k j.now) t
 
 -- the order of the set's keys
-abbrev by_bytes : Bor (List ℕ) → Bor (List ℕ) → Ordering
+abbrev pub by_bytes : Bor (List ℕ) → Bor (List ℕ) → Ordering
 by_bytes x y = slice_cmp nat_cmp x.now y.now
 
 -- a key occurs once more than among the pairs that are left if the set has it

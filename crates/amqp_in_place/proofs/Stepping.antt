@@ -9,11 +9,11 @@ use Rattle.std.specs.Borrow.{Bor}
 use Rattle.amqp_value_core.specs.Strings.{IsShort}
 use Rattle.amqp_value_core.specs.declared.types.amqp_type.AMQPType.TheVariants as amqp
 use Rattle.amqp_value_core.specs.Values.{Tree, Trees, tree, Entries, entry, short}
-use Rattle.amqp_value_core.specs.Grammar.{short_field, Wire, wire, raw_short, ArrayBody, no_values, value, TableBody, no_pairs, pair}
+use Rattle.amqp_value_core.specs.Grammar.{short_field, Wire, raw_short, ArrayBody, no_values, value, TableBody, no_pairs, pair}
 use Rattle.amqp_value_core.specs.Nesting.{nesting, OutcomeWithin}
 use Rattle.amqp_value_core.specs.Outcomes.{Reading, found, more, unknown, malformed, Outcome}
 use Rattle.amqp_value_core.specs.Payloads.{RawOutcome}
-use Rattle.amqp_value_core.proofs.GrammarLaws.{found_front, one_outcome_within, one_raw_reading, one_raw_outcome, raw_found, wire_found_within, short_bytes}
+use Rattle.amqp_value_core.proofs.GrammarLaws.{length-wire, found_front, one_outcome_within, one_raw_reading, one_raw_outcome, raw_found, wire_found_within, short_bytes}
 use Rattle.amqp_value_core.specs.Inputs.{slice_bytes}
 use Rattle.amqp_value_core.specs.declared.input.SliceInput.{SliceInput}
 use Rattle.amq_protocol_types.specs.declared.parsing.errors.Err.TheVariants.{Incomplete, Error, Failure}
@@ -72,10 +72,6 @@ meant_values h i is m = ∥∥₁_map (subst (λ (k : Head). ∥ IsMeant k ∥�
 
 pub meant_pairs : (h : Head) (i : SliceInput) → h ≡ head.FieldTable i → ∥ IsMeant h ∥₁ → ∥ HasPairs (slice_bytes i) ∥₁
 meant_pairs h i is m = ∥∥₁_map (subst (λ (k : Head). ∥ IsMeant k ∥₁) is m) (λ (x : IsMeant (head.FieldTable i)). (x.1.1.0, x.1.1.1))
-
--- an encoding has at least one byte
-length-wire : (w : List ℕ) (v : Tree) → Wire w v → 0 < length w
-length-wire _ _ (wire c type b v k p) = omega arith
 
 -- ---- the value at the start
 

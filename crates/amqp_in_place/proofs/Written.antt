@@ -1,5 +1,5 @@
 -- What is read in place, as it is written.
-use Rattle.std.proofs.Common.{◌≡◌, ◌<◌, ◌^◌, ℕ, List, ◌∷◌, ◌++◌, length, take, drop, get_or, Some, None, refl, sym, ap, ◌∙◌, subst, arith}
+use Rattle.std.proofs.Common.{◌≡◌, ◌<◌, ℕ, List, ◌∷◌, ◌++◌, length, take, drop, get_or, Some, None, refl, sym, ap, ◌∙◌, subst, arith}
 use Rattle.std.proofs.lemmas.List.{take_at, drop_at}
 use Rattle.std.specs.Borrow.{Bor}
 use Rattle.amqp_value_core.specs.declared.types.amqp_type.AMQPType.{AMQPType}
@@ -8,9 +8,9 @@ use Rattle.amqp_value_core.specs.Ids.{kind}
 use Rattle.amqp_value_core.specs.Inputs.{slice_bytes}
 use Rattle.amqp_value_core.specs.declared.input.SliceInput.{SliceInput}
 use Rattle.amqp_value_core.specs.Layouts.{fixed}
-use Rattle.amqp_value_core.specs.Values.{Tree, octets, Trees, Entries}
-use Rattle.amqp_value_core.specs.Grammar.{long_field, Wire, wire, Raw, raw_fixed, raw_short, raw_long, raw_octets, raw_array, raw_table, ArrayBody, no_values, value, TableBody, no_pairs, pair}
-use Rattle.amqp_value_core.proofs.GrammarLaws.{one_raw_reading}
+use Rattle.amqp_value_core.specs.Values.{Tree, Trees, Entries}
+use Rattle.amqp_value_core.specs.Grammar.{Wire, wire, Raw, raw_fixed, raw_short, raw_long, raw_octets, raw_array, raw_table, ArrayBody, no_values, value, TableBody, no_pairs, pair}
+use Rattle.amqp_value_core.proofs.GrammarLaws.{one_large}
 use Rattle.amq_protocol_types.specs.parsing.Bodies.{IsLengthPrefixed}
 use Rattle.amq_protocol_types.specs.parsing.Headers.{extent}
 use Rattle.amq_protocol_types.specs.parsing.PayloadResults.{IsType}
@@ -42,12 +42,6 @@ plain_is (at.FieldArray a) v x y = absurd x
 plain_is (at.FieldTable t) v x y = absurd x
 plain_is _ v x y = y
 
--- bytes after their length are these bytes alone
-one_long : (b c x y : List ℕ) → length b < 2 ^ 32 → length c < 2 ^ 32 → long_field b ++ x ≡ long_field c ++ y → b ≡ c
-one_long b c x y few less e =
-    let same = (one_raw_reading amqp.ByteArray (long_field b) (long_field c) x y (octets b) (octets c) (raw_octets b few) (raw_octets c less) e).1 in
-    cc
-
 -- the body of an array, and of a table
 array_written : (type : AMQPType) (b mid body left rest : List ℕ) (v : Tree) (p : Raw type b v) (a : ArrayRef) → type ≡ amqp.FieldArray → IsLengthPrefixed mid body rest → mid ≡ b ++ left
     → array_body a ≡ body → IsWritten (at.FieldArray a) (raw_written type b v p)
@@ -56,7 +50,7 @@ array_written _ _ mid body left rest _ (raw_short s short) a is x e refers = abs
 array_written _ _ mid body left rest _ (raw_long s fits) a is x e refers = absurd cc
 array_written _ _ mid body left rest _ (raw_octets s fits) a is x e refers = absurd cc
 array_written _ _ mid body left rest _ (raw_array s vs fits all) a is x e refers =
-    let same : s ≡ array_body a = one_long s body left rest fits x.fits (sym e ∙ x.framed) ∙ sym refers in
+    let same : s ≡ array_body a = (one_large s body left rest fits x.fits (sym e ∙ x.framed)).0 ∙ sym refers in
     let ts = values_written s vs all in
     (ts, subst (λ (t : List ℕ). WrittenValues t ts) same (vs, all, refl), refl)
 array_written _ _ mid body left rest _ (raw_table s ps fits all) a is x e refers = absurd cc
@@ -69,7 +63,7 @@ table_written _ _ mid body left rest _ (raw_long s fits) t is x e refers = absur
 table_written _ _ mid body left rest _ (raw_octets s fits) t is x e refers = absurd cc
 table_written _ _ mid body left rest _ (raw_array s vs fits all) t is x e refers = absurd cc
 table_written _ _ mid body left rest _ (raw_table s ps fits all) t is x e refers =
-    let same : s ≡ table_body t = one_long s body left rest fits x.fits (sym e ∙ x.framed) ∙ sym refers in
+    let same : s ≡ table_body t = (one_large s body left rest fits x.fits (sym e ∙ x.framed)).0 ∙ sym refers in
     let ts = pairs_written s ps all in
     (ts, subst (λ (u : List ℕ). WrittenPairs u ts) same (ps, all, refl), refl)
 
