@@ -13,7 +13,13 @@ from crates import TOP
 # For each part of a crate, which others it may cite.
 RULES = {
     "amqp_value_core": {"types": (), "grammar": ("types",), "values": ("grammar", "types")},
-    "amq_protocol_types": {"flags": (), "parsing": ("flags",), "generation": ("flags",), "stream": ("parsing",)},
+    "amq_protocol_types": {
+        "flags": (),
+        "parsing": ("flags",),
+        "generation": ("flags",),
+        "stream": ("parsing",),
+        "errors": ("parsing", "generation", "stream"),
+    },
 }
 # What each part has of src/, specs/ and proofs/; of two entries that fit a file, the longer one is right.
 PLACES = {
@@ -30,6 +36,7 @@ PLACES = {
         "parsing": "src/parsing specs/parsing proofs/lemmas/parsing proofs/ParsingLaws",
         "generation": "src/generation specs/generation proofs/lemmas/generation proofs/Lengths",
         "stream": "src/stream specs/stream proofs/lemmas/stream proofs/StreamLaws",
+        "errors": "src/errors",
     },
 }
 # Files that only name others.

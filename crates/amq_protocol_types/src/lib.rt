@@ -34,6 +34,7 @@
 //! `CALLING.md` has the public contracts and a proved caller, `crates/examples` complete programs.
 #![tactic(auto)]
 
+mod errors;
 pub mod flags;
 pub mod generation;
 pub mod parsing;
@@ -47,3 +48,4 @@ pub use amqp_value_core::types::{
     Timestamp, TryCopyError, Void,
 };
 pub use amqp_value_core::value::AMQPValue;
+pub use errors::Error;

@@ -1,8 +1,8 @@
 //! The headers of a message that was dead-lettered: an array of tables under the key `x-death`.
 
-use crate::fault::Fault;
 use amq_protocol_types::parsing::{SliceInput, parse_value};
-use amq_protocol_types::{AMQPValue, FieldTable};
+use amq_protocol_types::{AMQPValue, Error, FieldTable};
+use anyhow::Result;
 use std::alloc::Global;
 
 /// Headers as RabbitMQ writes them: `retry`, which is true, and `x-death` with one entry.
@@ -21,19 +21,21 @@ fn value_at<'a>(table: &'a FieldTable, key: &str) -> Option<&'a AMQPValue> {
 }
 
 /// How often the message was dead-lettered for the first reason that is named.
-fn deaths(headers: &FieldTable) -> Option<i64> {
-    let entries = value_at(headers, "x-death")?.as_array()?;
+fn deaths(headers: &AMQPValue) -> Option<i64> {
+    let entries = value_at(headers.as_field_table()?, "x-death")?.as_array()?;
     let first = entries.as_slice().first()?.as_field_table()?;
     value_at(first, "count")?.as_long_long_int()
 }
 
+/// How often that was, by the headers of a message.
+fn read_deaths(alloc: Global) -> Result<Option<i64>, Error> {
+    let (_rest, headers) = parse_value(alloc, SliceInput::new(HEADERS))?;
+    Ok(deaths(&headers))
+}
+
 /// Prints what is under `x-death`.
-pub fn run<P: Print>(rt: &P, alloc: Global) -> Result<(), Fault> {
-    let (_rest, value) = parse_value(alloc, SliceInput::new(HEADERS))?;
-    let Some(headers) = value.as_field_table() else {
-        return Err(Fault::Read);
-    };
-    match deaths(headers) {
+pub fn run<P: Print>(rt: &P, alloc: Global) -> Result<()> {
+    match read_deaths(alloc)? {
         Some(count) => println!(rt; "headers: dead-lettered {count} times")?,
         None => println!(rt; "headers: never dead-lettered")?,
     }

@@ -1,9 +1,9 @@
 //! A message's headers looked up in place: nothing is copied, and nothing is allocated.
 
-use crate::fault::Fault;
 use crate::headers::HEADERS;
 use amq_protocol_types::stream::Limits;
 use amqp_in_place::{TableRef, is_canonical, read_in_place};
+use anyhow::{Result, bail};
 
 /// How often the message was dead-lettered for the first reason that is named.
 fn deaths(headers: TableRef<'_>) -> Option<i64> {
@@ -13,14 +13,14 @@ fn deaths(headers: TableRef<'_>) -> Option<i64> {
 
 /// Prints how often, whether the message is to be tried again, and whether its headers can be
 /// compared by their bytes: they are in their canonical encoding.
-pub fn run<P: Print>(rt: &P) -> Result<(), Fault> {
+pub fn run<P: Print>(rt: &P) -> Result<()> {
     let limits = Limits {
         frame: 1_048_576,
         depth: 64,
     };
     let (value, _rest) = read_in_place(HEADERS, limits)?;
     let Some(headers) = value.as_field_table() else {
-        return Err(Fault::Read);
+        bail!("the headers are no table");
     };
     if let Some(count) = deaths(headers) {
         println!(rt; "in place: dead-lettered {count} times")?;

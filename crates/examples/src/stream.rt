@@ -1,7 +1,7 @@
 //! Values of a stream, one after another, within limits.
 
-use crate::fault::Fault;
 use amq_protocol_types::stream::{Limits, StreamError, ValueReader};
+use anyhow::Result;
 use std::alloc::Global;
 use std::io::ErrorKind;
 
@@ -9,7 +9,7 @@ use std::io::ErrorKind;
 const STREAM: &[u8] = b"VS\0\0\0\x04testS\0\x10\0\0";
 
 /// Prints the values that a stream yields, and why there are no more.
-pub fn run<P: Print>(rt: &P, alloc: Global) -> Result<(), Fault> {
+pub fn run<P: Print>(rt: &P, alloc: Global) -> Result<()> {
     let limits = Limits {
         frame: 1_048_576,
         depth: 64,
@@ -24,9 +24,8 @@ pub fn run<P: Print>(rt: &P, alloc: Global) -> Result<(), Fault> {
             }
             // nothing that came is lost: ask again
             Err(StreamError::Read(ErrorKind::Interrupted)) => {}
-            Err(StreamError::Read(_)) => return Err(Fault::Output),
-            // nor is it here, once there is memory again
-            Err(StreamError::OutOfMemory) => return Err(Fault::OutOfMemory),
+            // nor is it here, once the reader works or there is memory again
+            Err(error @ (StreamError::Read(_) | StreamError::OutOfMemory)) => Err(error)?,
             // the stream ended inside a value, or what came is rejected
             Err(error) => {
                 println!(rt; "stream: {error}")?;

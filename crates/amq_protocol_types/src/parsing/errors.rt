@@ -9,13 +9,17 @@ use std::fmt;
 use std::marker::Model;
 
 /// Why a parser returned no value.
-#[derive(Clone, Debug, PartialEq, Drop)]
+#[derive(Clone, Debug, PartialEq, Drop, thiserror::Error)]
+#[error_bound(E: fmt::Display)]
 pub enum Err<E> {
     /// More bytes are needed: call again with more input.
+    #[error("incomplete input ({0})")]
     Incomplete(Needed),
     /// The input is invalid, whatever bytes follow.
+    #[error("{0}")]
     Error(E),
     /// Out of memory, whatever the input is.
+    #[error("{0}")]
     Failure(E),
 }
 
@@ -26,6 +30,15 @@ pub enum Needed {
     Unknown,
     /// This many bytes, at least 1, for the field that is being read.
     Size(usize),
+}
+
+impl fmt::Display for Needed {
+    fn fmt<W: fmt::Write>(&self, f: &mut fmt::Formatter<W>) -> fmt::Result {
+        match self {
+            Needed::Unknown => f.write_str("more bytes are needed"),
+            Needed::Size(n) => write!(f, "bytes needed: {n}"),
+        }
+    }
 }
 
 /// The kind of an error.
