@@ -1,20 +1,20 @@
-pub mod HeadLemmas
-pub mod Reading
-pub mod Stepping
-pub mod Written
-pub mod Lookups
-pub mod Owning
-pub mod OneValue
-pub mod Skipping
-pub mod Places
-pub mod Encoded
+mod HeadLemmas
+mod Reading
+mod Stepping
+mod Written
+mod Lookups
+mod Owning
+mod OneValue
+mod Skipping
+mod Places
+mod Encoded
 pub mod Canonicals
-pub mod RepeatedKeys
-pub mod Keys
-pub mod Paths
-pub mod FirstProblems
-pub mod ProblemReadings
-pub mod KeyFaults
-pub mod Untagged
-pub mod Measuring
-pub mod CanonicalTables
+mod RepeatedKeys
+mod Keys
+mod Paths
+mod FirstProblems
+mod ProblemReadings
+mod KeyFaults
+mod Untagged
+mod Measuring
+mod CanonicalTables
