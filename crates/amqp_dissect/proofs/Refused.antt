@@ -9,23 +9,20 @@ use Rattle.amqp_value_core.specs.declared.types.amqp_type.AMQPType.TheVariants a
 use Rattle.amqp_value_core.specs.Values.{no_entries, short}
 use Rattle.amqp_value_core.specs.Grammar.{short_field, long_field, raw_short}
 use Rattle.amqp_value_core.specs.Nesting.{OutcomeWithin}
-use Rattle.amqp_value_core.specs.Outcomes.{more, malformed, lack, frame_lack, counted, NeedsMoreOr, Heavy}
+use Rattle.amqp_value_core.specs.Outcomes.{more, malformed, lack, frame_lack, counted, Heavy}
 use Rattle.amqp_value_core.specs.Payloads.{RawFront, RawOutcome}
-use Rattle.amqp_value_core.proofs.GrammarLaws.{raw_to_value_within, raw_found, raw_whole, wire_found_within, short_bytes}
+use Rattle.amqp_value_core.proofs.GrammarLaws.{NeedsMoreOr-more, raw_to_value_within, raw_found, raw_whole, wire_found_within, short_bytes}
 use Rattle.amq_protocol_types.specs.declared.parsing.errors.Err.TheVariants.{Incomplete, Error}
 use Rattle.amq_protocol_types.specs.declared.parsing.errors.Needed.TheVariants.{Size}
 use Rattle.amq_protocol_types.specs.declared.parsing.errors.ErrorKind.TheVariants.{MapRes, Eof}
 use Rattle.amq_protocol_types.specs.parsing.Refusals.{Refusal, inside}
 use Rattle.amq_protocol_types.specs.parsing.ParseResults.{Refuses}
 use Rattle.amq_protocol_types.specs.parsing.Bodies.{IsNoBody, IsNoTable}
-use Rattle.amq_protocol_types.proofs.ParsingLaws.{Refuses-weaker, Goes, Goes-step, Goes-refused, Walks-start, Walks-step, Walks-bad_key, Walks-bad_value, array_refused, array_too_deep, table_refused, table_too_deep}
+use Rattle.amq_protocol_types.proofs.ParsingLaws.{Refuses-weaker, Goes-start, Goes-step, Goes-refused, Walks-start, Walks-step, Walks-bad_key, Walks-bad_value, array_refused, array_too_deep, table_refused, table_too_deep}
 use Rattle.amqp_dissect.specs.declared.problem.Problem.{Problem}
 use Rattle.amqp_dissect.specs.declared.problem.Problem.TheVariants.{NoTypeTag, UnknownTypeTag, Cut}
 use Rattle.amqp_dissect.specs.Problems.{IsContainer, NoValue, no_type_tag, unknown_type_tag, cut, too_deep, in_array, in_table, NoValues, bad_value, after_value, NoPairs, cut_key, key_not_utf8, bad_pair, after_pair}
 use Rattle.amqp_dissect.specs.Ends.{refusal_of}
-
-goes_start : (d : ℕ) (s : List ℕ) → Goes d s [] s
-goes_start d s = record { whole = λ vs x. x; only = λ vs x. (vs, x); shorter = omega arith }
 
 deep_eof : (n : ℕ) (p : Problem) → 2 ≤ n → refusal_of n p ≡ Error Eof
 deep_eof zero p h = absurd (omega arith)
@@ -39,10 +36,6 @@ inside_eof zero _ = refl
 inside_eof (suc zero) (Cut type n) = refl
 inside_eof (suc zero) _ = refl
 inside_eof (suc (suc n)) p = refl
-
-lacks_or : (n : ℕ) (P : Type 0) → 0 < n → NeedsMoreOr n P (more n)
-lacks_or zero P h = absurd (omega arith)
-lacks_or (suc n) P h = refl
 
 heavy : (d : ℕ) (s : List ℕ) (e : Refusal) → Refuses (OutcomeWithin d s) ⊥ e → Refuses (OutcomeWithin d s) (Heavy s) e
 heavy d s e x = Refuses-weaker (OutcomeWithin d s) (OutcomeWithin d s) ⊥ (Heavy s) e (λ o y. y) (λ h. absurd h) x
@@ -72,7 +65,7 @@ mutual
   value_refused _ _ _ _ (no_type_tag d) = refl
   value_refused _ _ _ _ (unknown_type_tag d c b none) = rw none refl
   value_refused _ _ _ _ (cut d c type b n k some is) =
-      raw_to_value_within d c type b (more n) k (rw is (lacks_or n _ some))
+      raw_to_value_within d c type b (more n) k (rw is (NeedsMoreOr-more n _ some))
   value_refused _ _ _ _ (too_deep c type body rest k is fits) = deep_container c type body rest k is fits
   value_refused _ _ _ _ (in_array d c body rest o p k fits x) =
       rw (deep_eof (5 + o) p (omega arith))
@@ -86,15 +79,15 @@ mutual
   values_refused : (d : ℕ) (s : List ℕ) (o : ℕ) (p : Problem) → NoValues d s o p → IsNoBody d s malformed
   values_refused _ _ _ _ (bad_value d s o p some x) =
       subst (Refuses (IsNoBody d s) (0 < length s)) (inside_eof o p)
-      (Goes-refused d s [] s (refusal_of o p) (goes_start d s) some (heavy d s (refusal_of o p) (value_refused d s o p x)))
+      (Goes-refused d s [] s (refusal_of o p) (Goes-start d s) some (heavy d s (refusal_of o p) (value_refused d s o p x)))
   values_refused _ _ _ _ (after_value d w v s o p y x) = λ vs q.
-      let m = (Goes-step d (w ++ s) [] (w ++ s) v s (goes_start d (w ++ s)) (wire_found_within d w s v y.0 y.1)).only vs q in
+      let m = (Goes-step d (w ++ s) [] (w ++ s) v s (Goes-start d (w ++ s)) (wire_found_within d w s v y.0 y.1)).only vs q in
       values_refused d s o p x m.0 m.1
 
   pairs_refused : (d : ℕ) (s : List ℕ) (o : ℕ) (p : Problem) → NoPairs d s o p → IsNoTable d s malformed
   pairs_refused _ _ _ _ (cut_key d n s h) =
       Walks-bad_key d (n ∷ s) no_entries (n ∷ s) (Incomplete (Size (n - length s))) (Walks-start d (n ∷ s)) (omega arith)
-      (rw (short_lack n s) (lacks_or (n - length s) _ (omega arith)))
+      (rw (short_lack n s) (NeedsMoreOr-more (n - length s) _ (omega arith)))
   pairs_refused _ _ _ _ (key_not_utf8 d k s none) =
       Walks-bad_key d (short_field k ++ s) no_entries (short_field k ++ s) (Error MapRes) (Walks-start d (short_field k ++ s)) (omega arith) (refl, no_text_key k s none)
   pairs_refused _ _ _ _ (bad_pair d k s o p key x) =
