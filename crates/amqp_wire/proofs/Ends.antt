@@ -1,11 +1,10 @@
 -- How the calls of a run end it.
-use Rattle.std.proofs.Common.{◌≡◌, ◌⊎◌, ℕ, Result, Err, inl, inr, sym, subst}
+use Rattle.std.proofs.Common.{◌≡◌, ℕ, Result, Err, inl, inr, sym, subst}
 use Rattle.std.specs.declared.io.ErrorKind.{ErrorKind}
 use Rattle.amq_protocol_types.specs.stream.Sources.{Reaches}
 use Rattle.amq_protocol_types.proofs.StreamLaws.{reaches_on}
 use Rattle.amqp_wire.specs.declared.fault.WireFault.{WireFault}
-use Rattle.amqp_wire.specs.declared.fault.WireFault.TheVariants.{OutOfMemory}
-use Rattle.amqp_wire.specs.Ends.{Accepts, IsSourceFault, IsSinkFault, EndsAnswers, EndsRun}
+use Rattle.amqp_wire.specs.Ends.{Accepts, IsSourceFault, IsSinkFault, IsReadFault, EndsRead, EndsAnswers, EndsRun}
 
 -- a fault after further calls is one after all calls
 pub source_later : {R : Type 0} (goes : R → R → Type 0) (fails : R → ErrorKind → R → Type 0) (a b c : R) (f : WireFault) → Reaches goes a b → IsSourceFault goes fails b f c → IsSourceFault goes fails a f c
@@ -14,15 +13,20 @@ source_later goes fails a b c f before (kind, (last, more, failed), is) = (kind,
 pub sink_later : {W : Type 0} (takes : W → ℕ → W → Type 0) (fails : W → ErrorKind → W → Type 0) (a b c : W) (f : WireFault) → Reaches (Accepts takes) a b → IsSinkFault takes fails b f c → IsSinkFault takes fails a f c
 sink_later takes fails a b c f before (last, more, why) = (last, reaches_on (Accepts takes) a b last before more, why)
 
+pub read_later : {R : Type 0} (goes : R → R → Type 0) (fails : R → ErrorKind → R → Type 0) (a b c : R) (f : WireFault) → Reaches goes a b → IsReadFault goes fails b f c → IsReadFault goes fails a f c
+read_later goes fails a b c f before (inl (out, more)) = inl (out, reaches_on goes a b c before more)
+read_later goes fails a b c f before (inr fault) = inr (source_later goes fails a b c f before fault)
+
+-- what is read ends with the fault of its last part
+pub ends_part : {R T : Type 0} (goes : R → R → Type 0) (fails : R → ErrorKind → R → Type 0) (a b c : R) (e : WireFault) (r : Result T WireFault) → Reaches goes a b → IsReadFault goes fails b e c → r ≡ Err e → EndsRead goes fails a r c
+ends_part {R} {T} goes fails a b c e r before why is =
+    subst (λ (q : Result T WireFault). EndsRead goes fails a q c) (sym is) (read_later goes fails a b c e before why)
+
 -- a run whose source fails, or that runs out of memory
 pub ends_read : {R W T : Type 0} (goes : R → R → Type 0) (fails : R → ErrorKind → R → Type 0) (takes : W → ℕ → W → Type 0) (rejects : W → ErrorKind → W → Type 0) (a b c : R) (s t : W) (e : WireFault) (r : Result T WireFault)
-    → Reaches goes a b → ((e ≡ OutOfMemory) × Reaches goes b c) ⊎ IsSourceFault goes fails b e c → Reaches (Accepts takes) s t → r ≡ Err e → EndsRun goes fails takes rejects a s r c t
+    → Reaches goes a b → IsReadFault goes fails b e c → Reaches (Accepts takes) s t → r ≡ Err e → EndsRun goes fails takes rejects a s r c t
 ends_read {R} {W} {T} goes fails takes rejects a b c s t e r before why written is =
-    subst (λ (q : Result T WireFault). EndsRun goes fails takes rejects a s q c t) (sym is) (by why)
-  where
-    by : ((e ≡ OutOfMemory) × Reaches goes b c) ⊎ IsSourceFault goes fails b e c → EndsRun {T = T} goes fails takes rejects a s (Err e) c t
-    by (inl (out, more)) = inl (inl (out, reaches_on goes a b c before more), written)
-    by (inr fault) = inl (inr (source_later goes fails a b c e before fault), written)
+    subst (λ (q : Result T WireFault). EndsRun goes fails takes rejects a s q c t) (sym is) (inl (read_later goes fails a b c e before why, written))
 
 -- a run whose sink fails
 pub ends_write : {R W T : Type 0} (goes : R → R → Type 0) (fails : R → ErrorKind → R → Type 0) (takes : W → ℕ → W → Type 0) (rejects : W → ErrorKind → W → Type 0) (a b : R) (s t u : W) (e : WireFault) (r : Result T WireFault)

@@ -1,5 +1,6 @@
 mod Ends
 mod Outcomes
 mod Fronts
+mod Sources
 mod Rooms
 mod Streams

@@ -1,6 +1,7 @@
 -- Why a run ends: what its source and its sink did.
-use Rattle.std.specs.Prelude.{◌≡◌, ◌⊎◌, ℕ, Result, Ok, Err, IsErr}
+use Rattle.std.specs.Prelude.{◌≡◌, ◌⊎◌, ℕ, Result, Ok, Err}
 use Rattle.std.specs.declared.io.ErrorKind.{ErrorKind}
+use Rattle.std.specs.declared.io.ErrorKind.TheVariants as kind
 use Rattle.amq_protocol_types.specs.stream.Sources.{Reaches, Stops}
 use Rattle.amqp_wire.specs.declared.fault.WireFault.{WireFault}
 use Rattle.amqp_wire.specs.declared.fault.WireFault.TheVariants.{OutOfMemory, Io}
@@ -9,6 +10,10 @@ use Rattle.amqp_wire.specs.Faults.{fault_of}
 -- a call of a sink accepts some bytes or none
 abbrev pub Accepts : {W : Type 0} → (W → ℕ → W → Type 0) → W → W → Type 0
 Accepts takes from to = (n : ℕ) × takes from n to
+
+-- a call of a source that is followed by another: it returned no error, or was interrupted
+abbrev pub Continues : {R : Type 0} → (R → R → Type 0) → (R → ErrorKind → R → Type 0) → R → R → Type 0
+Continues goes fails from to = goes from to ⊎ fails from kind.Interrupted to
 
 -- the source returned an error, of a kind that is this fault, and none before
 abbrev pub IsSourceFault : {R : Type 0} → (R → R → Type 0) → (R → ErrorKind → R → Type 0) → R → WireFault → R → Type 0
@@ -19,29 +24,40 @@ abbrev pub IsSinkFault : {W : Type 0} → (W → ℕ → W → Type 0) → (W �
 IsSinkFault {W} takes fails from fault to = (last : W) × Reaches (Accepts takes) from last
     × (((kind : ErrorKind) × fails last kind to × (fault ≡ fault_of kind)) ⊎ (takes last 0 to × (fault ≡ Io)))
 
--- what is read ends with the source's fault, or with no error of the source if memory ran out or
--- there is a result
+-- the fault of what is read: memory ran out with no error of the source, or it is the source's
+abbrev pub IsReadFault : {R : Type 0} → (R → R → Type 0) → (R → ErrorKind → R → Type 0) → R → WireFault → R → Type 0
+IsReadFault goes fails from fault to = ((fault ≡ OutOfMemory) × Reaches goes from to) ⊎ IsSourceFault goes fails from fault to
+
+-- the fault of results that are written: memory ran out with no error of the sink, or it is the sink's
+abbrev pub IsAnswerFault : {W : Type 0} → (W → ℕ → W → Type 0) → (W → ErrorKind → W → Type 0) → W → WireFault → W → Type 0
+IsAnswerFault takes fails from fault to = ((fault ≡ OutOfMemory) × Reaches (Accepts takes) from to) ⊎ IsSinkFault takes fails from fault to
+
+-- what is read ends with its fault, or with no error of the source if there is a result
 abbrev pub EndsRead : {R T : Type 0} → (R → R → Type 0) → (R → ErrorKind → R → Type 0) → R → Result T WireFault → R → Type 0
 EndsRead goes fails from (Ok x) to = Reaches goes from to
-EndsRead goes fails from (Err fault) to = ((fault ≡ OutOfMemory) × Reaches goes from to) ⊎ IsSourceFault goes fails from fault to
+EndsRead goes fails from (Err fault) to = IsReadFault goes fails from fault to
 
 -- what is written ends with the sink's fault, or all is accepted
 abbrev pub EndsWrite : {W T : Type 0} → (W → ℕ → W → Type 0) → (W → ErrorKind → W → Type 0) → W → Result T WireFault → W → Type 0
 EndsWrite takes fails from (Ok x) to = Reaches (Accepts takes) from to
 EndsWrite takes fails from (Err fault) to = IsSinkFault takes fails from fault to
 
--- the same, if memory may run out
+-- results that are written end with their fault, or all is accepted
 abbrev pub EndsAnswers : {W T : Type 0} → (W → ℕ → W → Type 0) → (W → ErrorKind → W → Type 0) → W → Result T WireFault → W → Type 0
 EndsAnswers takes fails from (Ok x) to = Reaches (Accepts takes) from to
-EndsAnswers takes fails from (Err fault) to = ((fault ≡ OutOfMemory) × Reaches (Accepts takes) from to) ⊎ IsSinkFault takes fails from fault to
-
--- the same, if before that an error may end it with nothing written
-abbrev pub EndsLines : {W T : Type 0} → (W → ℕ → W → Type 0) → (W → ErrorKind → W → Type 0) → W → Result T WireFault → W → Type 0
-EndsLines takes fails from result to = (IsErr result × (to ≡ from)) ⊎ EndsAnswers takes fails from result to
+EndsAnswers takes fails from (Err fault) to = IsAnswerFault takes fails from fault to
 
 -- a run ends as what is read does, or as what is written does
 abbrev pub EndsRun : {R W T : Type 0} → (R → R → Type 0) → (R → ErrorKind → R → Type 0) → (W → ℕ → W → Type 0) → (W → ErrorKind → W → Type 0) → R → W → Result T WireFault → R → W → Type 0
 EndsRun goes fails takes rejects from start (Ok x) to end = Reaches goes from to × Reaches (Accepts takes) start end
 EndsRun goes fails takes rejects from start (Err fault) to end =
-    ((((fault ≡ OutOfMemory) × Reaches goes from to) ⊎ IsSourceFault goes fails from fault to) × Reaches (Accepts takes) start end)
+    (IsReadFault goes fails from fault to × Reaches (Accepts takes) start end)
     ⊎ (Reaches goes from to × IsSinkFault takes rejects start fault end)
+
+-- a run of lines ends with the source's fault and nothing written, or, once all is read, as results
+-- do; a call of the source that is interrupted is followed by another
+abbrev pub EndsLines : {R W T : Type 0} → (R → R → Type 0) → (R → ErrorKind → R → Type 0) → (W → ℕ → W → Type 0) → (W → ErrorKind → W → Type 0) → R → W → Result T WireFault → R → W → Type 0
+EndsLines goes fails takes rejects from start (Ok x) to end = Reaches (Continues goes fails) from to × Reaches (Accepts takes) start end
+EndsLines goes fails takes rejects from start (Err fault) to end =
+    (IsReadFault (Continues goes fails) fails from fault to × (end ≡ start))
+    ⊎ (Reaches (Continues goes fails) from to × IsAnswerFault takes rejects start fault end)

@@ -7,6 +7,7 @@
 mod exhausted;
 mod fault;
 mod line;
+mod read;
 mod run;
 mod sink;
 mod stream;

@@ -7,28 +7,32 @@ ghost use Rattle.amqp_wire.specs.Lines.{output, output_by, output_within, said_i
 
 use crate::fault::WireFault;
 use crate::line::{Form, ended_answer_to};
+use crate::read::read_all;
 use crate::sink::Sink;
-use amq_protocol_types::stream::Limits;
+use amq_protocol_types::stream::{Limits, Source};
 use bstr::ByteSlice;
 use std::alloc::Global;
-use std::io::Read;
 
 /// Reads all that the reader has, and writes a line for each line of it. A line ends at `\n` or
 /// `\r\n`, or with the input, and is bytes in hexadecimal, in either case.
-pub fn run<R: Read, W: Sink>(alloc: Global, reader: &mut R, writer: &mut W) -> Result<(), WireFault>
+pub fn run<R: Source, W: Sink>(
+    alloc: Global,
+    reader: &mut R,
+    writer: &mut W,
+) -> Result<(), WireFault>
     ensures ok { OnOk result (Answers output
         (R.remaining reader.old) (W.contents writer.old) (W.contents writer.new)) }
     ensures err { OnErr result (AnswersFront output
         (R.remaining reader.old) (W.contents writer.old) (W.contents writer.new)) }
     ensures end { OnOk result (IsAtEnd (R.remaining reader.new)) }
-    ensures ends { EndsLines W.takes W.fails writer.old result writer.new }
+    ensures ends { EndsLines R.goes R.fails W.takes W.fails reader.old writer.old result reader.new writer.new }
 {
     run_in_form(alloc, reader, writer, Form::Whole)
 }
 
 /// Does what `run` does, and passes the parser the bytes of each line as two slices, cut after `at`
 /// bytes, or after the last if there are fewer.
-pub fn run_split<R: Read, W: Sink>(
+pub fn run_split<R: Source, W: Sink>(
     alloc: Global,
     reader: &mut R,
     writer: &mut W,
@@ -39,14 +43,14 @@ pub fn run_split<R: Read, W: Sink>(
     ensures err { OnErr result (AnswersFront output
         (R.remaining reader.old) (W.contents writer.old) (W.contents writer.new)) }
     ensures end { OnOk result (IsAtEnd (R.remaining reader.new)) }
-    ensures ends { EndsLines W.takes W.fails writer.old result writer.new }
+    ensures ends { EndsLines R.goes R.fails W.takes W.fails reader.old writer.old result reader.new writer.new }
 {
     run_in_form(alloc, reader, writer, Form::Split(at))
 }
 
 /// Does what `run` does, and reads each value within the limits: one that has more bytes, or nests
 /// deeper, is rejected.
-pub fn run_within<R: Read, W: Sink>(
+pub fn run_within<R: Source, W: Sink>(
     alloc: Global,
     reader: &mut R,
     writer: &mut W,
@@ -57,13 +61,13 @@ pub fn run_within<R: Read, W: Sink>(
     ensures err { OnErr result (AnswersFront (output_within limits)
         (R.remaining reader.old) (W.contents writer.old) (W.contents writer.new)) }
     ensures end { OnOk result (IsAtEnd (R.remaining reader.new)) }
-    ensures ends { EndsLines W.takes W.fails writer.old result writer.new }
+    ensures ends { EndsLines R.goes R.fails W.takes W.fails reader.old writer.old result reader.new writer.new }
 {
     run_in_form(alloc, reader, writer, Form::Within(limits))
 }
 
 /// Reads all that the reader has, and writes the result of each line of it.
-fn run_in_form<R: Read, W: Sink>(
+fn run_in_form<R: Source, W: Sink>(
     alloc: Global,
     reader: &mut R,
     writer: &mut W,
@@ -74,10 +78,9 @@ fn run_in_form<R: Read, W: Sink>(
     ensures err { OnErr result (AnswersFront (output_by (said_in form))
         (R.remaining reader.old) (W.contents writer.old) (W.contents writer.new)) }
     ensures end { OnOk result (IsAtEnd (R.remaining reader.new)) }
-    ensures ends { EndsLines W.takes W.fails writer.old result writer.new }
+    ensures ends { EndsLines R.goes R.fails W.takes W.fails reader.old writer.old result reader.new writer.new }
 {
-    let mut input = Vec::new(alloc);
-    reader.read_to_end(&mut input)?;
+    let input = read_all(alloc, reader)?;
     write_answers(alloc, input.as_slice(), writer, form)
 }
 
