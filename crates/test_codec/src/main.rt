@@ -6,6 +6,8 @@
 #[cfg(test)]
 mod conversions;
 #[cfg(test)]
+mod errors;
+#[cfg(test)]
 mod field;
 #[cfg(test)]
 mod flags;
