@@ -1,0 +1,175 @@
+//! Arrays and tables are checked within the limits of the process before they are parsed.
+
+use crate::{
+    FieldArray, FieldTable, ShortShortUInt,
+    calls::{self, Measure, Problem},
+    limits::{self, Limits, Refusal, Refused},
+    parsing::{
+        ParserError, ParserErrors, ParserResult, parse_long_uint,
+        traits::{Needed, ParsableInput},
+        within_limits,
+    },
+};
+use cookie_factory::GenError;
+use nom::error::{ErrorKind, ParseError};
+use std::{any::TypeId, io, marker::PhantomData, ptr};
+
+/// How many bytes the length of an array or a table has, and its type tag.
+const LENGTH: usize = 4;
+const TAG: usize = 1;
+
+/// What is checked and then parsed: an array or a table without its type tag.
+pub(crate) trait Container: Sized {
+    /// Measures all of it, within limits.
+    fn measure(bytes: &[u8], limits: &Limits) -> Result<Measure, Refusal>;
+
+    /// Parses what was checked.
+    fn parse(bytes: &[u8]) -> ParserResult<&[u8], Self>;
+
+    /// What a refused one becomes, if that isn't an error.
+    fn refused(refusal: Refusal, refused: Refused) -> Option<Self>;
+}
+
+impl Container for FieldTable {
+    fn measure(bytes: &[u8], limits: &Limits) -> Result<Measure, Refusal> {
+        Ok(calls::measure_table(bytes, limits.bytes, limits.depth)?)
+    }
+
+    fn parse(bytes: &[u8]) -> ParserResult<&[u8], Self> {
+        within_limits::parse_field_table(bytes)
+    }
+
+    fn refused(refusal: Refusal, refused: Refused) -> Option<Self> {
+        let is_marked = match refused {
+            Refused::Error => false,
+            Refused::Marked => refusal != Refusal::Malformed,
+            Refused::MarkedIfMalformed => true,
+        };
+        is_marked.then(|| refusal.table())
+    }
+}
+
+impl Container for FieldArray {
+    fn measure(bytes: &[u8], limits: &Limits) -> Result<Measure, Refusal> {
+        let depth = limits.depth.checked_sub(1).ok_or(Refusal::TooDeep)?;
+        let mut all = Measure { length: LENGTH, values: 1, levels: 1 };
+        while let Some(left) = bytes.get(all.length..).filter(|it| !it.is_empty()) {
+            let value = calls::measure_value(left, limits.bytes, depth)?;
+            all.length += value.length;
+            all.values += value.values;
+            all.levels = all.levels.max(1 + value.levels);
+            within_values(&all, limits)?;
+        }
+        Ok(all)
+    }
+
+    fn parse(bytes: &[u8]) -> ParserResult<&[u8], Self> {
+        within_limits::parse_field_array(bytes)
+    }
+
+    fn refused(_: Refusal, _: Refused) -> Option<Self> {
+        None
+    }
+}
+
+impl From<Problem> for Refusal {
+    fn from(problem: Problem) -> Self {
+        match problem {
+            Problem::TooDeep => Self::TooDeep,
+            Problem::TooLarge => Self::TooLarge,
+            Problem::Malformed => Self::Malformed,
+        }
+    }
+}
+
+fn within_values(measure: &Measure, limits: &Limits) -> Result<(), Refusal> {
+    let is_within = u32::try_from(measure.values).is_ok_and(|it| it <= limits.values);
+    is_within.then_some(()).ok_or(Refusal::TooManyValues)
+}
+
+/// Parses an array or a table without its type tag, if it is within the limits of the process.
+pub(crate) fn parse_container<I: ParsableInput, T: Container>(input: I) -> ParserResult<I, T> {
+    let limits = limits::get();
+    let (after, length) = parse_long_uint(input.clone())?;
+    let length = usize::try_from(length).unwrap_or(usize::MAX);
+    let has_all = after.input_len() >= length;
+    let is_within = length.saturating_add(LENGTH + TAG) <= usize::try_from(limits.bytes).unwrap_or(usize::MAX);
+    if !has_all {
+        return Err(if is_within {
+            nom::Err::Incomplete(Needed::new(length - after.input_len()))
+        } else {
+            error(Refusal::TooLarge)
+        });
+    }
+    let (rest, field) = input.take_split(LENGTH + length);
+    let parsed = if is_within {
+        with_bytes(&field, |bytes| parse_within(bytes, &limits))
+    } else {
+        Err(Refusal::TooLarge)
+    };
+    match parsed {
+        Ok(value) => Ok((rest, value?)),
+        Err(refusal) => match T::refused(refusal, limits.refused) {
+            Some(value) => Ok((rest, value)),
+            None => Err(error(refusal)),
+        },
+    }
+}
+
+fn parse_within<T: Container>(bytes: &[u8], limits: &Limits) -> Result<Result<T, ParserError>, Refusal> {
+    within_values(&T::measure(bytes, limits)?, limits)?;
+    Ok(T::parse(bytes).map(|(_, value)| value))
+}
+
+/// The error that a refused container is: that of the crate if it is malformed.
+fn error(refusal: Refusal) -> ParserError {
+    let kind = match refusal {
+        Refusal::Malformed => ErrorKind::Eof,
+        Refusal::TooLarge | Refusal::TooDeep | Refusal::TooManyValues => ErrorKind::TooLarge,
+    };
+    nom::Err::Error(ParserErrors::from_error_kind((), kind))
+}
+
+/// Calls a function with the bytes of an input, which are copied unless it is a slice.
+fn with_bytes<I: ParsableInput, T>(input: &I, f: impl FnOnce(&[u8]) -> T) -> T {
+    match slice_of(input) {
+        Some(bytes) => f(bytes),
+        None => f(&input.iter_elements().collect::<Vec<u8>>()),
+    }
+}
+
+/// The bytes of an input that is a slice.
+#[allow(unsafe_code)]
+fn slice_of<I>(input: &I) -> Option<&[u8]> {
+    // SAFETY: `I` is `&[u8]` of some lifetime, which `input` can't outlive
+    (id_of::<I>() == TypeId::of::<&[u8]>()).then(|| unsafe { *ptr::from_ref(input).cast() })
+}
+
+/// The id of a type, whatever lifetimes it has: those aren't part of an id.
+#[allow(unsafe_code)]
+fn id_of<T>() -> TypeId {
+    trait Named {
+        fn id(&self) -> TypeId
+        where
+            Self: 'static;
+    }
+
+    impl<T> Named for PhantomData<T> {
+        fn id(&self) -> TypeId
+        where
+            Self: 'static,
+        {
+            TypeId::of::<T>()
+        }
+    }
+
+    let named: &dyn Named = &PhantomData::<T>;
+    // SAFETY: only the lifetime changes, and a `PhantomData` refers to nothing
+    unsafe { std::mem::transmute::<&dyn Named, &'static (dyn Named + 'static)>(named) }.id()
+}
+
+/// The length of a short string, as its one byte holds it.
+pub(crate) fn short_length(text: &str) -> Result<ShortShortUInt, GenError> {
+    ShortShortUInt::try_from(text.len())
+        .map_err(|_| GenError::IoError(io::Error::new(io::ErrorKind::InvalidInput, "a short string exceeds 255 bytes")))
+}
