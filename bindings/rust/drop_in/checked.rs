@@ -102,11 +102,8 @@ pub(crate) fn parse_container<I: ParsableInput, T: Container>(input: I) -> Parse
         });
     }
     let (rest, field) = input.take_split(LENGTH + length);
-    let parsed = if is_within {
-        with_bytes(&field, |bytes| parse_within(bytes, &limits))
-    } else {
-        Err(Refusal::TooLarge)
-    };
+    let parsed =
+        if is_within { with_bytes(&field, |bytes| parse_within(bytes, &limits)) } else { Err(Refusal::TooLarge) };
     match parsed {
         Ok(value) => Ok((rest, value?)),
         Err(refusal) => match T::refused(refusal, limits.refused) {

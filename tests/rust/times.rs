@@ -1,0 +1,47 @@
+//! How long the drop-in takes next to the Rust crate: times FILE..
+//!
+//! Each file has a table with its type tag. A line has the least time of the crate and the ratio of the drop-in's, over an input
+//! of one slice, and the same over one of two. They take turns in each round, so that both see the machine as it is.
+
+mod halves;
+
+use halves::Halves;
+use std::hint::black_box;
+use std::time::{Duration, Instant};
+
+const ROUNDS: usize = 41;
+/// What a round takes at least.
+const LEAST: Duration = Duration::from_millis(4);
+
+/// How long one call takes, on average.
+fn timed(calls: u32, call: &mut dyn FnMut()) -> Duration {
+    let begin = Instant::now();
+    (0..calls).for_each(|_| call());
+    begin.elapsed() / calls
+}
+
+/// The least times of two calls, by turns.
+fn least(theirs: &mut dyn FnMut(), ours: &mut dyn FnMut()) -> (Duration, Duration) {
+    let calls = LEAST.as_nanos() / timed(1, theirs).as_nanos().max(1) + 1;
+    let calls = u32::try_from(calls).unwrap_or(u32::MAX);
+    let rounds = (0..ROUNDS).map(|_| (timed(calls, theirs), timed(calls, ours)));
+    rounds.fold((Duration::MAX, Duration::MAX), |(a, b), (c, d)| (a.min(c), b.min(d)))
+}
+
+fn main() {
+    let most = u32::MAX;
+    drop_in::limits::set(drop_in::limits::Limits { bytes: most, depth: 1000, values: most, ..Default::default() });
+    for path in std::env::args().skip(1) {
+        let bytes = std::fs::read(&path).expect("the file can be read");
+        let (one, two) = (&bytes[..], Halves::of(&bytes, bytes.len() / 2));
+        let slice = least(&mut || drop(black_box(original::parsing::parse_value(black_box(one)))), &mut || {
+            drop(black_box(drop_in::parsing::parse_value(black_box(one))))
+        });
+        let halves = least(&mut || drop(black_box(original::parsing::parse_value(black_box(two)))), &mut || {
+            drop(black_box(drop_in::parsing::parse_value(black_box(two))))
+        });
+        let micros = |it: Duration| it.as_secs_f64() * 1e6;
+        let ratio = |(theirs, ours): (Duration, Duration)| micros(ours) / micros(theirs);
+        println!("{:.2} {:.3} {:.2} {:.3}", micros(slice.0), ratio(slice), micros(halves.0), ratio(halves));
+    }
+}
