@@ -36,7 +36,7 @@ fn headers(content: &[u8]) -> Done<FieldTable> {
 }
 
 impl Client {
-    /// Connects, and consumes from a queue.
+    /// Connects, and consumes from a queue with a prefetch of 1.
     fn consume(port: &str, queue: &str) -> Done<Self> {
         let mut client = Self(TcpStream::connect(format!("127.0.0.1:{port}"))?);
         client.0.write_all(b"AMQP\x00\x00\x09\x01")?;
@@ -47,6 +47,7 @@ impl Client {
         client.send(0, (10, 31), &tune)?;
         client.call(0, (10, 40), &[short("/"), short(""), vec![0]].concat(), (10, 41))?;
         client.call(1, (20, 10), &short(""), (20, 11))?;
+        client.call(1, (60, 10), &[0, 0, 0, 0, 0, 1, 0], (60, 11))?;
         let consume = [&[0, 0], &short(queue)[..], &short(""), &[0], &long("")].concat();
         client.call(1, (60, 20), &consume, (60, 21))?;
         Ok(client)

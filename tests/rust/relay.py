@@ -6,7 +6,7 @@ from pathlib import Path
 from types import TracebackType
 
 from rabbitmq import Broker
-from wire import Connection
+from wire import EMPTY, Connection
 
 
 class Relay:
@@ -30,10 +30,10 @@ class Relay:
         self.connection.drop()
         self.broker.__exit__(kind, error, trace)
 
-    def queue(self) -> str:
-        """A fresh queue with the messages in it."""
+    def queue(self, arguments: bytes = EMPTY) -> str:
+        """A fresh queue with the messages in it; a durable one if it has arguments."""
         name = f"relayed {next(self.names)}"
-        self.connection.queue(name)
+        self.connection.queue(name, arguments, is_durable=arguments != EMPTY)
         for body, headers in self.messages:
             self.connection.publish("", name, headers, body=body.encode())
             self.connection.confirmed()
