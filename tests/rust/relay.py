@@ -5,8 +5,10 @@ import shutil
 from pathlib import Path
 from types import TracebackType
 
-from rabbitmq import Broker
+from rabbitmq import BIN, Broker
 from wire import EMPTY, Connection
+
+__all__ = ["BIN", "Relay"]
 
 
 class Relay:
