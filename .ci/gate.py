@@ -19,7 +19,7 @@ KIT_LINE = "rattle-kit-13f"
 ALWAYS = ("git", "python3", "cc", "c++")
 NEEDS = {
     "docs": (), "test": (), "oracle": (), "show": (), "alloc-failures": (), "sizes": (), "wire": (), "c": ("nm", "pkg-config", "clang", "qemu-x86_64", "aarch64-linux-gnu-gcc"),
-    "counts": ("valgrind",), "broker": (f"{BIN}/rabbitmq-server", "epmd", "amqp-publish", PYTHON), "mutants": (),
+    "counts": ("valgrind",), "rust": (), "broker": (f"{BIN}/rabbitmq-server", "epmd", "amqp-publish", PYTHON), "mutants": (),
 }
 # The step that proves, and those that need nothing that it leaves.
 PROOFS, NEED_NO_PROOFS = "rt ci", {"docs", "test"}
@@ -110,6 +110,7 @@ def gate(name, words):
             "wire": ([tests / "wire/run"], proved),
             "c": ([tests / "c/run", "--built"], proved),
             "counts": ([tests / "counts/run", "--built"], proved),
+            "rust": ([tests / "rust/run", "--built"], proved),
             "broker": ([scripts / "broker", "--built", "--tables", TABLES[name]], proved),
             "mutants": ([scripts / "mutants", "--built", "--must-fail", TOP, "--record", TOP / KEYS, *["--all"] * tries_all], proved),
         }

@@ -4,14 +4,14 @@ use crate::{
     FieldArray, FieldTable, ShortShortUInt,
     calls::{self, Measure, Problem},
     limits::{self, Limits, Refusal, Refused},
-    parsing::{
-        ParserError, ParserErrors, ParserResult, parse_long_uint,
-        traits::{Needed, ParsableInput},
-        within_limits,
-    },
+    parsing::{ParserError, ParserErrors, ParserResult, parse_long_uint, traits::ParsableInput, within_limits},
 };
 use cookie_factory::GenError;
-use nom::error::{ErrorKind, ParseError};
+use nom::{
+    Parser,
+    bytes::streaming::take,
+    error::{ErrorKind, ParseError},
+};
 use std::{any::TypeId, io, marker::PhantomData, ptr};
 
 /// How many bytes the length of an array or a table has, and its type tag.
@@ -92,16 +92,12 @@ pub(crate) fn parse_container<I: ParsableInput, T: Container>(input: I) -> Parse
     let limits = limits::get();
     let (after, length) = parse_long_uint(input.clone())?;
     let length = usize::try_from(length).unwrap_or(usize::MAX);
-    let has_all = after.input_len() >= length;
     let is_within = length.saturating_add(LENGTH + TAG) <= usize::try_from(limits.bytes).unwrap_or(usize::MAX);
-    if !has_all {
-        return Err(if is_within {
-            nom::Err::Incomplete(Needed::new(length - after.input_len()))
-        } else {
-            error(Refusal::TooLarge)
-        });
+    if after.input_len() < length && !is_within {
+        return Err(error(Refusal::TooLarge));
     }
-    let (rest, field) = input.take_split(LENGTH + length);
+    let (rest, _) = take::<_, _, ParserErrors>(length).parse(after)?;
+    let field = input.take(LENGTH + length);
     let parsed =
         if is_within { with_bytes(&field, |bytes| parse_within(bytes, &limits)) } else { Err(Refusal::TooLarge) };
     match parsed {
