@@ -8,10 +8,10 @@ import subprocess
 import sys
 
 import least
-from clients import PYTHON
 from crates import TOP, said_by
 from lib import TEST_CRATES, Steps, by_last_line, copy_repository, leave_out_tests
-from rabbitmq import BIN
+from tests.rabbitmq.broker import BIN
+from tests.rabbitmq.clients import PYTHON
 
 # The kit that all of this is proved with.
 KIT_LINE = "rattle-kit-13f"
@@ -19,11 +19,11 @@ KIT_LINE = "rattle-kit-13f"
 ALWAYS = ("git", "python3", "cc", "c++")
 NEEDS = {
     "docs": (), "test": (), "oracle": (), "show": (), "alloc-failures": (), "sizes": (), "wire": (), "c": ("nm", "pkg-config", "clang", "qemu-x86_64", "aarch64-linux-gnu-gcc"),
-    "counts": ("valgrind",), "rust": (), "broker": (f"{BIN}/rabbitmq-server", "epmd", "amqp-publish", PYTHON), "mutants": (),
+    "counts": ("valgrind",), "broker": (f"{BIN}/rabbitmq-server", "epmd", "amqp-publish", PYTHON), "mutants": (),
 }
 # The step that proves, and those that need nothing that it leaves.
 PROOFS, NEED_NO_PROOFS = "rt ci", {"docs", "test"}
-# The modules that the clients of .ci/broker need, and how many tables are sent in .ci/run and .ci/whole.
+# The modules that the clients of tests/rabbitmq need, and how many tables are sent in .ci/run and .ci/whole.
 MODULES = ("pika", "amqp")
 TABLES = {"run": 500, "whole": 10000}
 KEYS = ".ci/mutant-keys"
@@ -103,15 +103,14 @@ def gate(name, words):
         words = {
             "docs": ([TOP / ".ci/docs"], ()),
             "test": ([TOP / ".ci/test", "--jobs", 2], ()),
-            "oracle": ([scripts / "oracle"], proved),
+            "oracle": ([tests / "model/run"], proved),
             "show": ([tests / "show/run"], proved),
             "alloc-failures": ([tests / "memory/alloc-failures"], proved),
             "sizes": ([tests / "memory/sizes"], proved),
             "wire": ([tests / "wire/run"], proved),
             "c": ([tests / "c/run", "--built"], proved),
             "counts": ([tests / "counts/run", "--built"], proved),
-            "rust": ([tests / "rust/run", "--built"], proved),
-            "broker": ([scripts / "broker", "--built", "--tables", TABLES[name]], proved),
+            "broker": ([tests / "rabbitmq/run", "--built", "--tables", TABLES[name]], proved),
             "mutants": ([scripts / "mutants", "--built", "--must-fail", TOP, "--record", TOP / KEYS, *["--all"] * tries_all], proved),
         }
         for step, (command, after) in words.items():

@@ -20,6 +20,9 @@ from typing import Any
 
 from crates import TOP, Crates, kit, said_by
 
+# What is tested with is in tests/, a package.
+sys.path.append(str(TOP))
+
 # The crates that have tests, and a program that only replays: .ci/test runs them, and .ci/whole proves them too.
 TEST_CRATES = ("test_codec",)
 # The crates of the calls for C: those that don't allocate, and those that do.

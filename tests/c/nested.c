@@ -2,7 +2,7 @@
  * Makes a call of include/amqp_values.h that recurses, on what standard input has: nested NAME DEPTH. It is made
  * in a thread whose stack has as many bytes as this program's may have (RLIMIT_STACK), in pages after one
  * that can't be accessed. DEPTH is the limit on depth. Prints `done`, or which code was returned instead.
- * .ci/nesting.py has the inputs and the stacks.
+ * tests/model/nesting.py has the inputs and the stacks.
  */
 #include "check.h"
 

@@ -6,9 +6,9 @@ from collections.abc import Iterator
 from pathlib import Path
 from random import Random
 
-sys.path.append(str(Path(__file__).resolve().parents[2] / ".ci"))
+sys.path.append(str(Path(__file__).resolve().parents[2]))
 
-from printed import SIGNED, TYPES, write  # noqa: E402
+from tests.model.printed import SIGNED, TYPES, write  # noqa: E402
 
 # By the name of a type its type tag; LongLongUInt and ShortString have none.
 TAGS = {name: tag for tag, (name, _) in TYPES.items() if tag not in "UL"}

@@ -1,6 +1,6 @@
 //! Calls on what nests deep, each by its name. Who runs this sets the stack.
 //!
-//! A call is an arm of `of_encoding` or one of the functions after it. `.ci/nesting.py` reads these
+//! A call is an arm of `of_encoding` or one of the functions after it. `tests/model/nesting.py` reads these
 //! arms: it runs each, and one with `limits` is a call that a limit on depth bounds.
 
 use amq_protocol_types::generation::{WriteContext, gen_value};

@@ -3,7 +3,7 @@
 import struct
 from fractions import Fraction
 
-from printed import COUNTED, DEPTH, SIGNED, TYPES, Failure, Unread, field, read, taken
+from tests.model.printed import COUNTED, DEPTH, SIGNED, TYPES, Failure, Unread, field, read, taken
 
 PLAIN = "tbBsuIilfdDSxTV"
 INTEGERS = "bBsuIil"

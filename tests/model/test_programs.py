@@ -10,15 +10,15 @@ import re
 import sys
 from contextlib import suppress
 from itertools import zip_longest
+from pathlib import Path
 
-import least
-from crates import TOP
-from lib import Checks, content
-from printed import FRAME_MAX, Dissection, Unread, checked, field, json_of, json_text, measures, nested, read, write
+sys.path.insert(0, str(Path(__file__).resolve().parents[2]))
 
-sys.path.append(str(TOP / "tests"))
+from tests.model.printed import FRAME_MAX, TOP, Dissection, Unread, checked, field, json_of, json_text, measures, nested, read, write  # noqa: E402
+from tests.transcripts import Output, cases  # noqa: E402
 
-from transcripts import Output, cases
+import least  # noqa: E402
+from lib import Checks, content  # noqa: E402
 
 CRATES = TOP / "crates"
 CASES = cases(TOP / "tests/show")

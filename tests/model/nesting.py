@@ -3,7 +3,7 @@
 
 `recommended` runs the calls for C with the limits that the header recommends, on the stack that it names.
 
-By itself it measures: .ci/nesting.py PROGRAM NAME.. prints what a level takes of each call, and the call besides.
+By itself it measures: tests/model/nesting.py PROGRAM NAME.. prints what a level takes of each call, and the call besides.
 """
 import functools
 import re
@@ -12,11 +12,14 @@ import struct
 import sys
 from bisect import bisect
 from collections.abc import Callable
+from pathlib import Path
 from typing import NamedTuple
 
-from crates import TOP
-from lib import within
-from printed import nested
+sys.path.insert(0, str(Path(__file__).resolve().parents[2]))
+
+from tests.model.printed import TOP, nested  # noqa: E402
+
+from lib import within  # noqa: E402
 
 PAGE, HEADING = TOP / "docs/PROMISES.md", "## What nesting takes of the stack"
 # How many bytes an input has that no limit lets through, and the limit and the stack that it is read with.

@@ -1,7 +1,7 @@
 #!/usr/bin/env python3
-"""Checks examples/python/amqp_values.py over a shared object, by the reader and writer of printed.py: python_values.py LIBRARY
+"""Checks examples/python/amqp_values.py over a shared object, by the reader and writer of printed.py: tests/python/test_values.py LIBRARY
 
-.ci/broker has from it how values of one are written for the other. The last line is 'N passed, M failed'.
+tests/rabbitmq has from it how values of one are written for the other. The last line is 'N passed, M failed'.
 """
 
 import doctest
@@ -12,12 +12,15 @@ import struct
 import sys
 from datetime import datetime, timedelta, timezone
 from decimal import Decimal
+from pathlib import Path
 from unittest.mock import Mock
 
-from crates import TOP
-from lib import Checks
-from printed import FRAME, Dissection, captured, extent, field, inputs, json_of, nested, outcome, read, table_of, untagged, value_of, write
-from tables import EVERY_TYPE, first_problem, integer_of, number, odd_table, random_table, raw, types_in
+sys.path.insert(0, str(Path(__file__).resolve().parents[2]))
+
+from tests.model.printed import FRAME, TOP, Dissection, captured, extent, field, inputs, json_of, nested, outcome, read, table_of, untagged, value_of, write
+from tests.model.tables import EVERY_TYPE, first_problem, integer_of, number, odd_table, random_table, raw, types_in  # noqa: E402
+
+from lib import Checks  # noqa: E402
 
 sys.path.insert(0, str(TOP / "examples/python"))
 import amqp_values as av  # noqa: E402

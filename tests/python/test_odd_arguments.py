@@ -1,5 +1,5 @@
 #!/usr/bin/env python3
-"""Tries odd arguments on each function and class of examples/python/amqp_values.py: .ci/python LIBRARY [--write] [NAME]..
+"""Tries odd arguments on each function and class of examples/python/amqp_values.py: tests/python/test_odd_arguments.py LIBRARY [--write] [NAME]..
 
 Each gets arguments from a fixed seed, 100,000 times and in a separate process: what it takes, of every type and at every edge,
 and mistakes of every kind. A call returns, or raises what docs/C.md lists:
@@ -36,12 +36,14 @@ from enum import Enum, IntEnum
 from fractions import Fraction
 from pathlib import Path
 
-import least
-from crates import TOP
-from lib import Checks
-from printed import TYPES, captured, damaged, extent, field, json_of, json_text, lack, nested, read, value_of, write
-from python_values import UTC, av, form
-from tables import odd_table, random_table, raw
+sys.path.insert(0, str(Path(__file__).resolve().parents[2]))
+
+from tests.model.printed import TOP, TYPES, captured, damaged, extent, field, json_of, json_text, lack, nested, read, value_of, write
+from tests.model.tables import odd_table, random_table, raw
+from tests.python.test_values import UTC, av, form
+
+import least  # noqa: E402
+from lib import Checks  # noqa: E402
 
 CALLS = 100_000
 ERRORS = {it for it in vars(av).values() if isinstance(it, type) and issubclass(it, av.Error)}
@@ -956,7 +958,7 @@ def tried(names, given, folder):
 
 
 def main():
-    reader = argparse.ArgumentParser(prog=".ci/python", description=__doc__, formatter_class=argparse.RawDescriptionHelpFormatter)
+    reader = argparse.ArgumentParser(prog="tests/python/test_odd_arguments.py", description=__doc__, formatter_class=argparse.RawDescriptionHelpFormatter)
     reader.add_argument("library")
     reader.add_argument("names", nargs="*", metavar="NAME")
     reader.add_argument("--write", action="store_true")

@@ -8,7 +8,7 @@ import subprocess
 import time
 from pathlib import Path
 
-from wire import Closed, Connection
+from tests.rabbitmq.wire import Closed, Connection
 
 BIN = Path("/usr/lib/rabbitmq/bin")
 PLUGINS = "[rabbitmq_shovel,rabbitmq_federation]."

@@ -1,5 +1,5 @@
 #!/usr/bin/env python3
-"""Holds the calls for C against a running RabbitMQ and its clients: .ci/broker [--built] [--tables N] [--seed N]
+"""Holds the calls for C against a running RabbitMQ and its clients: tests/rabbitmq/run [--built] [--tables N] [--seed N]
 
 Starts RabbitMQ of Debian 12 in a fresh folder, on free ports of 127.0.0.1, and ends it. The calls for C are called by
 examples/python/amqp_values.py, in one shared object of both libraries, which are built with `rt lib` if they are older than
@@ -30,17 +30,20 @@ from collections import Counter
 from concurrent.futures import ThreadPoolExecutor
 from pathlib import Path
 
-import clients
-from crates import Crates
-from lib import Checks, end_descendants, end_on_signals, shared_object
-from printed import FRAME, Unread, field, json_of, json_text, nested, read, write
-from python_values import av, error_of, form, python_of
-from rabbitmq import BIN, TRACED, Broker
-from tables import (
+sys.path.insert(0, str(Path(__file__).resolve().parents[2]))
+
+from tests.model.printed import FRAME, Unread, field, json_of, json_text, nested, read, write
+from tests.model.tables import (  # noqa: E402
     EVERY_TYPE, INFINITY, INTEGERS, NAN, NO_TAG, PLAIN, ROWS, container_of, decimal, erlang, first_problem, float_of, is_read, matches,
     number, odd_table, random_table, row_of, table, text, types_in,
 )
-from wire import FRAME_MAX, Closed
+from tests.python.test_values import av, error_of, form, python_of  # noqa: E402
+from tests.rabbitmq import clients  # noqa: E402
+from tests.rabbitmq.broker import BIN, TRACED, Broker  # noqa: E402
+from tests.rabbitmq.wire import FRAME_MAX, Closed  # noqa: E402
+
+from crates import Crates  # noqa: E402
+from lib import Checks, end_descendants, end_on_signals, shared_object  # noqa: E402
 
 HERE = Path(__file__).resolve().parent
 # What it does at most: the minutes, and the seconds until a message comes that takes its time.
@@ -591,7 +594,7 @@ CHECKS = [
 
 
 def main():
-    reader = argparse.ArgumentParser(prog=".ci/broker", description=__doc__, formatter_class=argparse.RawDescriptionHelpFormatter)
+    reader = argparse.ArgumentParser(prog="tests/rabbitmq/run", description=__doc__, formatter_class=argparse.RawDescriptionHelpFormatter)
     reader.add_argument("--built", action="store_true", help="over what `rt ci` has left")
     reader.add_argument("--tables", type=int, default=10000, help="how many random tables (10000)")
     reader.add_argument("--seed", type=int, default=1, help="of what is random (1)")

@@ -1,0 +1,1 @@
+"""The calls for C against a running RabbitMQ and its clients."""
