@@ -18,13 +18,14 @@ KIT_LINE = "rattle-kit-13f"
 # What each step needs besides the kit; `python3`, `cc` and `c++` can't be left out.
 ALWAYS = ("git", "python3", "cc", "c++")
 NEEDS = {
-    "docs": (), "test": (), "oracle": (), "show": (), "alloc-failures": (), "sizes": (), "wire": (), "c": ("nm", "pkg-config", "clang", "qemu-x86_64", "aarch64-linux-gnu-gcc"),
+    "docs": (), "test": (), "model": (PYTHON,), "show": (), "alloc-failures": (), "sizes": (), "wire": (), "c": ("nm", "pkg-config", "clang", "qemu-x86_64", "aarch64-linux-gnu-gcc"),
     "counts": ("valgrind",), "broker": (f"{BIN}/rabbitmq-server", "epmd", "amqp-publish", PYTHON), "mutants": (),
 }
 # The step that proves, and those that need nothing that it leaves.
-PROOFS, NEED_NO_PROOFS = "rt ci", {"docs", "test"}
-# The modules that the clients of tests/rabbitmq need, and how many tables are sent in .ci/run and .ci/whole.
-MODULES = ("pika", "amqp")
+PROOFS, NEED_NO_PROOFS = "rt ci", {"docs", "test", "model"}
+# The modules of Debian's Python that each step needs, and how many tables are sent in .ci/run and .ci/whole.
+PYTEST = ("pytest", "xdist", "hypothesis")
+MODULES = {"model": PYTEST, "broker": ("pika", "amqp")}
 TABLES = {"run": 500, "whole": 10000}
 KEYS = ".ci/mutant-keys"
 # Of a mutant that is named, what only has to be mended in its block.
@@ -39,8 +40,9 @@ def missing(without):
         yield f"rt version prints {line or 'nothing'}, and not {KIT_LINE}"
     needs = [*ALWAYS, *(it for step, words in NEEDS.items() if step not in without for it in words)]
     lacks = [it for it in needs if not shutil.which(it)]
-    if "broker" not in without and PYTHON not in lacks:
-        lacks += [f"the module {it} of {PYTHON}" for it in MODULES if subprocess.run([PYTHON, "-c", f"import {it}"], capture_output=True).returncode]
+    modules = sorted({it for step, names in MODULES.items() if step not in without for it in names})
+    if PYTHON not in lacks:
+        lacks += [f"the module {it} of {PYTHON}" for it in modules if subprocess.run([PYTHON, "-c", f"import {it}"], capture_output=True).returncode]
     yield from (f"{it} is missing (.ci/setup installs it)" for it in lacks)
 
 
@@ -100,10 +102,12 @@ def gate(name, words):
                 leave_out_tests(copy)
             is_anew = tries_all and PROOFS in only
             proved = (steps.add(PROOFS, ["rt", "ci", *["--anew"] * is_anew], cwd=copy, **{"judge": by_proved} if tries_all else {}, tells=r"(?<=^rt: )\w+(: its tests)? (proved|NOT PROVED|ran|is kept)\b|: NOT REFUSED|BAD EDIT"),)
+        # what is random is tried otherwise in each run
+        random = ["--random"] * tries_all
         words = {
             "docs": ([TOP / ".ci/docs"], ()),
             "test": ([TOP / ".ci/test", "--jobs", 2], ()),
-            "oracle": ([tests / "model/run"], proved),
+            "model": ([TOP / "tests/model/run", *random], ()),
             "show": ([tests / "show/run"], proved),
             "alloc-failures": ([tests / "memory/alloc-failures"], proved),
             "sizes": ([tests / "memory/sizes"], proved),

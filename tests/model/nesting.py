@@ -1,25 +1,24 @@
-#!/usr/bin/env python3
-"""What nesting takes of the stack: the table of docs/PROMISES.md, and the runs by which tests/memory/sizes and tests/c/run hold it.
+"""What nesting takes of the stack: the table of docs/PROMISES.md, and the runs that hold it.
 
 `recommended` runs the calls for C with the limits that the header recommends, on the stack that it names.
 
-By itself it measures: tests/model/nesting.py PROGRAM NAME.. prints what a level takes of each call, and the call besides.
+`python3 -m tests.model.nesting PROGRAM NAME..` prints what a level takes of each call, and the call besides.
 """
+
 import functools
 import re
 import resource
 import struct
 import sys
 from bisect import bisect
-from collections.abc import Callable
+from collections.abc import Callable, Iterator, Mapping
 from pathlib import Path
 from typing import NamedTuple
 
-sys.path.insert(0, str(Path(__file__).resolve().parents[2]))
+from crates import TOP
+from lib import within
 
-from tests.model.printed import TOP, nested  # noqa: E402
-
-from lib import within  # noqa: E402
+from tests.model.printed import nested
 
 PAGE, HEADING = TOP / "docs/PROMISES.md", "## What nesting takes of the stack"
 # How many bytes an input has that no limit lets through, and the limit and the stack that it is read with.
@@ -32,49 +31,50 @@ FORMS = {"arrays in arrays": "A", "tables in tables": "F", "arrays and tables": 
 KEY = b"\x04Void"
 
 
-def encoding(form, depth, innermost=b"V"):
+def encoding(form: str, depth: int, innermost: bytes = b"V") -> bytes:
     """An encoding that nests that deep."""
     return nested(form, depth, innermost, KEY)
 
 
-def payload(form, depth, key=KEY):
+def payload(form: str, depth: int, key: bytes = KEY) -> bytes:
     """What follows the type tag of a table that has a pair, and nests that deep."""
     inner = key + encoding(form, depth - 1)
     return struct.pack(">I", len(inner)) + inner
 
 
-def values(form, depth):
-    """The same of an array."""
+def values(form: str, depth: int) -> bytes:
+    """What follows the type tag of an array that nests that deep."""
     return payload(form, depth, b"")
 
 
-def not_canonical(form, depth):
+def not_canonical(form: str, depth: int) -> bytes:
     """An encoding whose innermost boolean shows that it isn't canonical."""
     return encoding(form, depth, b"t\x07")
 
 
-def json_text(form, depth):
+def json_text(form: str, depth: int) -> bytes:
     tags = (form * depth)[:depth]
-    opened, closed = ("".join(of[tag] for tag in tags) for of in ({"A": "[", "F": '{"a":'}, {"A": "]", "F": "}"}))
+    opened = "".join("[" if it == "A" else '{"a":' for it in tags)
+    closed = "".join("]" if it == "A" else "}" for it in tags)
     return f"{opened}null{closed[::-1]}".encode()
 
 
-def type_tags(form, depth):
+def type_tags(form: str, depth: int) -> bytes:
     """The type tags of a value that the program makes by itself, the innermost first."""
     return (form * depth)[:depth].encode()
 
 
-def brackets(form, depth):
-    """The same of a JSON value."""
+def brackets(form: str, depth: int) -> bytes:
+    """The brackets of a JSON value that the program makes by itself, the innermost first."""
     return type_tags(form, depth).translate(bytes.maketrans(b"AF", b"[{"))
 
 
 class Call(NamedTuple):
     """The words that have a program make it, what it is made on, and how deep; JSON has a limit by itself."""
 
-    words: list
-    make: Callable
-    depths: tuple
+    words: list[str]
+    make: Callable[[str, int], bytes]
+    depths: tuple[int, ...]
 
 
 DEEP, DEEPER, OF_JSON, UNLIMITED = (LIMIT, 1000), (LIMIT, 10_000), (LIMIT, 127), (LIMIT, 1000, 10_000)
@@ -83,59 +83,65 @@ STOPPING = ("warnings", "warnings_in_table")
 # What a call returns that rejects the nesting.
 REJECTED = re.compile(r"kind: Eof|TooDeep|invalid JSON at|refused|AMQPV_MALFORMED|AMQPV_NOT_JSON")
 # The calls of nested.c, the third on what has it read, write and compare.
+OF_ENCODINGS = ("amqpv_read", "amqpv_measure_value", "amqpv_first_problem", "amqpv_put_value")
+OF_TABLES = ("amqpv_read_table", "amqpv_measure_table", "amqpv_first_problem_in_table")
 FOR_C = {
-    **{name: Call([name], encoding, DEEPER) for name in ("amqpv_read", "amqpv_measure_value", "amqpv_first_problem", "amqpv_put_value")},
-    **{name: Call([name], payload, DEEPER) for name in ("amqpv_read_table", "amqpv_measure_table", "amqpv_first_problem_in_table")},
+    **{it: Call([it], encoding, DEEPER) for it in OF_ENCODINGS},
+    **{it: Call([it], payload, DEEPER) for it in OF_TABLES},
     "amqpv_to_json": Call(["amqpv_to_json"], encoding, DEEP),
     "amqpv_canonical": Call(["amqpv_canonical"], not_canonical, DEEP),
     "amqpv_from_json": Call(["amqpv_from_json"], json_text, OF_JSON),
 }
-MADE = {"encoding": encoding, "payload": payload, "values": values, "tree": type_tags, "document": brackets, "text": json_text}
+MADE: dict[str, Callable[[str, int], bytes]] = {
+    "encoding": encoding, "payload": payload, "values": values, "tree": type_tags, "document": brackets,
+    "text": json_text,
+}  # fmt: skip
 
 
-def calls():
+def calls() -> Iterator[tuple[str, Call]]:
     """Yields the calls of test_malformed, by name: the arms of its functions of_encoding and so on."""
     text = (TOP / "crates/test_malformed/src/nested.rt").read_text()
     for kind, make in MADE.items():
-        body = re.search(rf"(?ms)^fn of_{kind}\(.*?^}}", text)[0]
+        (body,) = re.findall(rf"(?ms)^fn of_{kind}\(.*?^}}", text)
         for name, arm in re.findall(r'(?m)^ {8}"(\S+)" => (.*(?:\n {9}.*)*)', body):
-            yield name, Call([kind, name], make, OF_JSON if kind == "text" else DEEPER if "limits" in arm else UNLIMITED)
+            depths = OF_JSON if kind == "text" else DEEPER if "limits" in arm else UNLIMITED
+            yield name, Call([kind, name], make, depths)
 
 
 CALLS = dict(calls())
 
 
-def table():
+def table() -> tuple[dict[str, int], int]:
     """What a level takes of each call by the page, and what a call takes besides."""
     section = PAGE.read_text().partition(HEADING)[2].partition("\n## ")[0]
     rows = re.findall(r"(?m)^\| (.*) \| ([\d,]+) \|$", section)
     figures = {name: int(figure.replace(",", "")) for cell, figure in rows for name in re.findall(r"`([^`]+)`", cell)}
     besides, wrong = re.search(r"(\d+) KiB besides", section), set(figures) - set(CALLS) - set(FOR_C)
     if not besides or wrong:
-        sys.exit(f"refused: {HEADING[3:]} of {PAGE.name} names {wrong}, which nothing makes, or lacks what calls take besides")
+        sys.exit(f"{PAGE.name}, {HEADING[3:]}: it names {wrong}, which nothing makes, or lacks what calls take besides")
     return figures, int(besides[1]) << 10
 
 
-def answer(program, call, depth, given, stack):
+def answer(program: Path | str, call: Call, depth: int, given: bytes, stack: int) -> str:
     """What a call returns on a stack of n bytes, or how the program ended."""
     done = within(resource.RLIMIT_STACK, stack, [program, *call.words, str(depth)], given)
-    return f"status {done.returncode}" if done.returncode else done.stdout.decode().strip()
+    return f"status {done.returncode}" if done.returncode else str(done.stdout.decode().strip())
 
 
 @functools.cache
-def long_input(make, form):
+def long_input(make: Callable[[str, int], bytes], form: str) -> bytes:
     a_level = (len(make(form, 200)) - len(make(form, 100))) / 100
     return make(form, int(LONG / a_level) + 1)
 
 
-def judged(program, made):
+def judged(program: Path | str, made: Mapping[str, Call]) -> Iterator[tuple[str, str]]:
     """Yields the name of each check of these calls, and what was returned instead of what should be.
 
     A call that isn't in the page's table doesn't recurse: it is done on what no limit lets through, on the small stack.
     """
     figures, besides = table()
     for name, call in made.items():
-        figure = figures.get(name)
+        figure = figures.get(name, 0)
         for said, form in FORMS.items():
             for depth in call.depths if figure else ():
                 got = answer(program, call, depth, call.make(form, depth), besides + depth * figure)
@@ -150,42 +156,49 @@ def judged(program, made):
             yield f"{name}, half of the stack", "it is enough" if "status -11" not in halves else ""
 
 
-def in_header():
+def in_header() -> tuple[dict[str, int], int, dict[str, int]]:
     """The header's limits, and what a call takes of the stack by it, besides and for each level."""
     text = HEADER.read_text()
     limits = {name: int(number) for name, number in re.findall(r"(AMQPV_\w*DEPTH) = (\d+)", text)}
     rows = re.findall(r"(?m)^ \*\s+(\d+)(?: bytes)?\s+in (amqpv_.*)$", text)
     figures = {name: int(figure) for figure, names in rows for name in re.findall(r"amqpv_\w+", names)}
-    return limits, int(re.search(r"The stack suffices: (\d+) KiB", text)[1]) << 10, figures
+    (besides,) = re.findall(r"The stack suffices: (\d+) KiB", text)
+    return limits, int(besides) << 10, figures
 
 
-def recommended(program):
+def recommended(program: Path | str) -> Iterator[tuple[str, str]]:
     """Yields the name of each check of the calls for C with the header's limits, and what was returned instead.
 
-    Each is done on the stack that the header names, which is at most 64 KiB, and what nests deeper is rejected on 64 KiB.
+    Each is done on the stack that the header names, at most 64 KiB, and what nests deeper is rejected on 64 KiB.
     """
     limits, besides, figures = in_header()
     of_page = {name: figure for name, figure in table()[0].items() if name in FOR_C}
-    yield "the header's figures", figures != of_page and f"those of {PAGE.name} are {of_page}"
+    yield "the header's figures", "" if figures == of_page else f"those of {PAGE.name} are {of_page}"
     for name, call in FOR_C.items():
         limit = limits["AMQPV_JSON_DEPTH" if "json" in name else "AMQPV_DEPTH"]
         stack = besides + limit * figures.get(name, THREAD)
-        yield f"{name}, {limit} deep", stack > THREAD and f"by the header it takes {stack} bytes of stack"
+        yield f"{name}, {limit} deep", f"by the header it takes {stack} bytes of stack" if stack > THREAD else ""
         for said, form in FORMS.items():
             for size in (stack, THREAD):
                 got = answer(program, call, limit, call.make(form, limit), size)
                 yield f"{name}, {limit} {said} on {size} bytes of stack", "" if got == "done" else got
             got = answer(program, call, limit, long_input(call.make, form), THREAD)
-            yield f"{name}, {LONG} bytes of {said} on {THREAD} bytes of stack", "" if REJECTED.search(got) else got or "nothing"
+            wrong = "" if REJECTED.search(got) else got or "nothing"
+            yield f"{name}, {LONG} bytes of {said} on {THREAD} bytes of stack", wrong
 
 
-def least(program, call, depth):
+def least(program: Path | str, call: Call, depth: int) -> int:
     """The least stack, of those that the kernel tells apart, on which a call is done, whatever the form."""
-    is_done = lambda form, pages: answer(program, call, depth, call.make(form, depth), pages << 12) == "done"
-    return bisect(range(1 << 11), False, key=lambda pages: all(is_done(form, pages) for form in FORMS.values())) << 12
+
+    def is_done(pages: int) -> bool:
+        return all(
+            answer(program, call, depth, call.make(form, depth), pages << 12) == "done" for form in FORMS.values()
+        )
+
+    return bisect(range(1 << 11), False, key=is_done) << 12
 
 
-def main():
+def main() -> None:
     program, *names = sys.argv[1:]
     for name in names:
         call = {**CALLS, **FOR_C}[name]

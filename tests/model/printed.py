@@ -7,10 +7,12 @@ import json
 import math
 import random
 import struct
+from collections.abc import Callable, Iterable, Iterator, Sequence
 from dataclasses import dataclass
 from datetime import datetime, timedelta
 from decimal import Decimal
 from fractions import Fraction
+from typing import Any
 
 from crates import TOP
 
@@ -20,12 +22,13 @@ FRAME, DEPTH = 2**20, 64
 # RabbitMQ's usual frame-max.
 FRAME_MAX = 2**17
 # Each type tag's type, and the width of its payload, or None if a length counts it.
-TYPES = {
-    "t": ("Boolean", 1), "b": ("ShortShortInt", 1), "B": ("ShortShortUInt", 1), "s": ("ShortInt", 2), "U": ("ShortInt", 2),
-    "u": ("ShortUInt", 2), "I": ("LongInt", 4), "i": ("LongUInt", 4), "l": ("LongLongInt", 8), "L": ("LongLongInt", 8),
-    "f": ("Float", 4), "d": ("Double", 8), "D": ("DecimalValue", 5), "S": ("LongString", None), "x": ("ByteArray", None),
-    "A": ("FieldArray", None), "F": ("FieldTable", None), "T": ("Timestamp", 8), "V": ("Void", 0),
-}
+TYPES: dict[str, tuple[str, int | None]] = {
+    "t": ("Boolean", 1), "b": ("ShortShortInt", 1), "B": ("ShortShortUInt", 1), "s": ("ShortInt", 2),
+    "U": ("ShortInt", 2), "u": ("ShortUInt", 2), "I": ("LongInt", 4), "i": ("LongUInt", 4), "l": ("LongLongInt", 8),
+    "L": ("LongLongInt", 8), "f": ("Float", 4), "d": ("Double", 8), "D": ("DecimalValue", 5), "S": ("LongString", None),
+    "x": ("ByteArray", None), "A": ("FieldArray", None), "F": ("FieldTable", None), "T": ("Timestamp", 8),
+    "V": ("Void", 0),
+}  # fmt: skip
 # The tags that are written as another.
 ALTERNATE = {"U": "s", "L": "l"}
 SIGNED = ("ShortShortInt", "ShortInt", "LongInt", "LongLongInt")
@@ -39,7 +42,7 @@ LAST_DATE = 253402207200
 UNPRINTABLE = {*range(0x20), *range(0x7F, 0xA0), 0x61C, 0x200E, 0x200F, *range(0x202A, 0x202F), *range(0x2066, 0x206A)}
 
 
-def extent(data):
+def extent(data: bytes) -> int:
     """How many bytes the value at the start has at least."""
     if not data or chr(data[0]) not in TYPES:
         return 0
@@ -49,36 +52,38 @@ def extent(data):
     return 5 + int.from_bytes(data[1:5], "big") if len(data) >= 5 else 5
 
 
-def lack(data):
+def lack(data: bytes) -> int:
     """How many more bytes the field needs that is being read: the type tag, or a field of the payload."""
     return 1 if data in (b"", b"D") else max(0, extent(data) - len(data))
 
 
-# Values: the type tag that each is written with, and its content
+# Values: the type tag that each is written with, and its content: of a table a dict, of an array a list, else bytes
+
+Value = tuple[str, Any]
 
 
 class Unread(Exception):
     """Why there is no value, as amqp_wire prints it."""
 
 
-def read(data):
+def read(data: bytes) -> tuple[Value, bytes]:
     """Returns the value at the start of some bytes, and what is left after it."""
     if needs := lack(data):
         raise Unread(f"more {needs}")
     tag, end = chr(data[0]), extent(data)
     if tag not in TYPES:
         raise Unread("refused MapOpt")
-    content, rest = data[5 if tag in COUNTED else 1 : end], data[end:]
+    content: Any = data[5 if tag in COUNTED else 1 : end]
     if tag == "t":
         content = bytes([content != b"\0"])
     try:
         content = items(content) if tag == "A" else entries(content) if tag == "F" else content
     except (Unread, UnicodeDecodeError):
         raise Unread("refused Eof") from None
-    return (ALTERNATE.get(tag, tag), content), rest
+    return (ALTERNATE.get(tag, tag), content), data[end:]
 
 
-def items(body):
+def items(body: bytes) -> list[Value]:
     found = []
     while body:
         value, body = read(body)
@@ -86,7 +91,7 @@ def items(body):
     return found
 
 
-def entries(body):
+def entries(body: bytes) -> dict[bytes, Value]:
     found = {}
     while body:
         key, body = body[: 1 + body[0]], body[1 + body[0] :]
@@ -97,17 +102,22 @@ def entries(body):
     return found
 
 
-def write(value):
+def write(value: Value) -> bytes:
     """The bytes of a value."""
     tag, content = value
     if tag == "A":
         content = b"".join(map(write, content))
     if tag == "F":
         content = b"".join(bytes([len(key)]) + key + write(it) for key, it in sorted(content.items()))
-    return field(tag.encode(), content) if tag in COUNTED else tag.encode() + content
+    return encoded(tag, content)
 
 
-def json_of(value):
+def encoded(tag: str, payload: bytes) -> bytes:
+    """An encoding: the type tag, the length of what a length counts, and the payload."""
+    return field(tag.encode(), payload) if tag in COUNTED else tag.encode() + payload
+
+
+def json_of(value: Value) -> Any:
     """The JSON of a value."""
     tag, content = value
     name = TYPES[tag][0]
@@ -133,7 +143,7 @@ def json_of(value):
     return number if tag == "l" else {name: number}
 
 
-def json_text(value):
+def json_text(value: Value) -> str:
     """The JSON of a value as amqp_show prints it."""
     text = json.dumps(json_of(value), ensure_ascii=False, separators=(",", ":"))
     return "".join(f"\\u{ord(c):04x}" if ord(c) in UNPRINTABLE else c for c in text)
@@ -144,6 +154,10 @@ def json_text(value):
 
 class Failure(Exception):
     """The offset at which a value fails, and why."""
+
+
+# A key of a table: the offset of the table's body, and the key's bytes.
+Place = tuple[int, bytes]
 
 
 @dataclass
@@ -158,23 +172,25 @@ class Part:
     note: str = ""
     is_cut: bool = False
 
-    def noted(self, asks_notes):
+    def noted(self, asks_notes: bool) -> str:
         """That what begins here is cut, or what isn't canonical, if notes are asked for."""
         return " (cut)" if self.is_cut else f" (not canonical: {self.note})" if self.note and asks_notes else ""
 
 
 class Dissection:
-    """The parts of the value at the start of some bytes, up to its end or to its fault, and what is cut by the bytes' end.
+    """The parts of the value at the start of some bytes, up to its end or its fault, and what is cut by the bytes' end.
 
     A table is read as if its type tag came before the bytes, and offsets are those of the bytes.
     """
 
-    def __init__(self, data, subject="value"):
+    def __init__(self, data: bytes, subject: str = "value") -> None:
         self.subject, self.left_out = subject, int(subject == "table")
         self.data = data = b"F" * self.left_out + data
-        self.parts, self.failure, self.end = [], None, 0
+        self.parts: list[Part] = []
+        self.failure: Failure | None = None
+        self.end = 0
         # The type tags at each key of each table.
-        self.tags = {}
+        self.tags: dict[Place, list[Part]] = {}
         try:
             if extent(data) > FRAME:
                 raise Failure(0, f"the {subject} has more bytes than --frame allows")
@@ -182,20 +198,21 @@ class Dissection:
         except Failure as why:
             self.failure = self.failure or why
 
-    def offset(self, at):
+    def offset(self, at: int) -> int:
         return max(0, at - self.left_out)
 
-    def failed(self):
+    def failed(self) -> str:
         """The offset at which it fails, and why."""
+        assert self.failure
         at, why = self.failure.args
         return f"offset {self.offset(at)}: {why}"
 
-    def part(self, at, end, level, kind, type=""):
+    def part(self, at: int, end: int, level: int, kind: str, type: str = "") -> Part:
         part = Part(at, level, kind, type, self.data[at:end])
         self.parts += [part] if at < end else []
         return part
 
-    def value(self, at, end, level, depth, is_open, key=None):
+    def value(self, at: int, end: int, level: int, depth: int, is_open: bool, key: Place | None = None) -> int:
         """Takes a value apart that begins at an offset, and returns the offset of its end.
 
         What is open ends at the bytes' end. If it is cut there it is taken apart as far as it has come; what the
@@ -237,14 +254,14 @@ class Dissection:
             raise failure
         return end
 
-    def entries(self, tag, at, end, level, depth, is_open):
+    def entries(self, tag: str, at: int, end: int, level: int, depth: int, is_open: bool) -> None:
         table, key = at, None
         while at < end:
             if tag == "F":
                 at, key = self.key(at, end, level + 1, is_open, key)
-            at = self.value(at, end, level + 1, depth - 1, is_open, (table, key) if tag == "F" else None)
+            at = self.value(at, end, level + 1, depth - 1, is_open, None if key is None else (table, key))
 
-    def key(self, at, end, level, is_open, last):
+    def key(self, at: int, end: int, level: int, is_open: bool, last: bytes | None) -> tuple[int, bytes]:
         """Takes a key apart, and returns the offset of its end, and the key."""
         count, stop = self.data[at], at + 1 + self.data[at]
         is_cut = is_open and stop > end
@@ -264,12 +281,12 @@ class Dissection:
         return min(stop, end), key
 
 
-def following(data, end):
+def following(data: bytes, end: int) -> str:
     """How many bytes are after a value. No more than the limit and one are read."""
     return f"at least {FRAME + 1 - end}" if len(data) > FRAME else str(len(data) - end)
 
 
-def outcome(dissection):
+def outcome(dissection: Dissection) -> str:
     """What reading within the limits results in."""
     data = dissection.data
     if not dissection.failure:
@@ -282,7 +299,7 @@ def outcome(dissection):
     return "refused, Eof" if chr(data[0]) in TYPES else "refused, MapOpt"
 
 
-def hints(data, subject):
+def hints(data: bytes, subject: str) -> list[str]:
     """That bytes which aren't a value, by the first of them, are a table without its type tag."""
     if subject == "table" or data and chr(data[0]) in TYPES:
         return []
@@ -294,7 +311,7 @@ def hints(data, subject):
 # Strings
 
 
-def escaped(c):
+def escaped(c: str) -> str:
     if c in '"\\':
         return f"\\{c}"
     if ord(c) not in UNPRINTABLE:
@@ -302,14 +319,14 @@ def escaped(c):
     return f"\\x{ord(c):02x}" if ord(c) < 128 else f"\\u{{{ord(c):04x}}}"
 
 
-def quoted(data):
+def quoted(data: bytes) -> str:
     try:
         return '"' + "".join(map(escaped, data.decode("utf-8"))) + '"'
     except UnicodeDecodeError:
         return '"' + "".join(escaped(chr(b)) if 0x20 <= b < 0x7F else f"\\x{b:02x}" for b in data) + '"'
 
 
-def shortest_float(data):
+def shortest_float(data: bytes) -> Decimal:
     """The shortest decimal that reads back as a finite Float above 0, of those the nearest, and of two the even one."""
     bits = int.from_bytes(data, "big")
     exact = Fraction(struct.unpack(">f", data)[0])
@@ -326,7 +343,7 @@ def shortest_float(data):
     raise AssertionError(data)
 
 
-def number_of(name, data):
+def number_of(name: str, data: bytes) -> str:
     """The number of a Float or a Double."""
     (number,) = struct.unpack(">f" if name == "Float" else ">d", data)
     if number != number:
@@ -347,7 +364,7 @@ def number_of(name, data):
     return f"{sign}{digits[0]}{'.' if digits[1:] else ''}{digits[1:]}e{before - 1}"
 
 
-def text_of(name, data):
+def text_of(name: str, data: bytes) -> str:
     """A payload as a string."""
     if name == "Boolean":
         return "false" if data == b"\0" else "true"
@@ -367,7 +384,7 @@ def text_of(name, data):
     return str(number)
 
 
-def repeated(dissection):
+def repeated(dissection: Dissection) -> Iterator[str]:
     """A line for each key that is repeated in its table."""
     for (_, key), found in sorted(dissection.tags.items()):
         if len(found) > 1:
@@ -376,12 +393,13 @@ def repeated(dissection):
             yield f"* the key {quoted(key)} comes {len(found)} times: first {first}, last {last}; {ends}"
 
 
-def indentation(level):
+def indentation(level: int) -> str:
     return "  " * level if level <= 32 else f"{'  ' * 32}[{level}] "
 
 
-def tree(parts, asks_notes):
-    lines, has_key = [], False
+def tree(parts: Iterable[Part], asks_notes: bool) -> list[str]:
+    lines: list[str] = []
+    has_key = False
     for part in parts:
         if part.kind == "tag" and has_key:
             lines[-1] += f": {part.text}"
@@ -392,24 +410,33 @@ def tree(parts, asks_notes):
     return lines
 
 
-def part_lines(dissection, asks_notes):
+def meaning(part: Part) -> str:
+    """What a part's bytes mean, for its line."""
+    match part.kind:
+        case "tag":
+            return f"type tag {part.bytes.decode('latin-1')}, {part.type}"
+        case "length":
+            return f"length {int.from_bytes(part.bytes, 'big')}"
+        case "key length":
+            return f"key length {part.bytes[0]}"
+        case "key":
+            return f"key {quoted(part.bytes)}"
+    return text_of(part.type, part.bytes)
+
+
+def part_lines(dissection: Dissection, asks_notes: bool) -> Iterator[str]:
     for part in dissection.parts[dissection.left_out :]:
         digits = part.bytes[:8].hex() + (".." if len(part.bytes) > 8 else "")
-        what = {
-            "tag": lambda: f"type tag {part.bytes.decode('latin-1')}, {part.type}",
-            "length": lambda: f"length {int.from_bytes(part.bytes, 'big')}",
-            "key length": lambda: f"key length {part.bytes[0]}",
-            "key": lambda: f"key {quoted(part.bytes)}",
-            "payload": lambda: text_of(part.type, part.bytes),
-        }[part.kind]()
         at = dissection.offset(part.offset)
-        yield f"{at:>6}  {digits:<18}  {indentation(part.level)}{what}{part.noted(asks_notes)}"
+        yield f"{at:>6}  {digits:<18}  {indentation(part.level)}{meaning(part)}{part.noted(asks_notes)}"
 
 
 # What a run of amqp_show prints: standard output, standard error and the status
 
+Printed = tuple[str, str, int]
 
-def printed(data, asks_notes=False, subject="value"):
+
+def printed(data: bytes, asks_notes: bool = False, subject: str = "value") -> Printed:
     """Of `amqp_show --tree --bytes`, with `--canonical` and with `--table`, or without them."""
     found = Dissection(data, subject)
     lines = [*tree(found.parts, asks_notes), *part_lines(found, asks_notes), *repeated(found)]
@@ -417,41 +444,43 @@ def printed(data, asks_notes=False, subject="value"):
     return "".join(f"{line}\n" for line in [*lines, f"= {outcome(found)}"]), "", int(bool(found.failure))
 
 
-def on_a_line(data, subject, line_of):
+def on_a_line(data: bytes, subject: str, line_of: Callable[[Dissection], str]) -> Printed:
     """Of a form that has a line for a value, and messages for the rest."""
     found = Dissection(data, subject)
     if found.failure:
-        said = [f"{found.failed()}; {outcome(found)}", *hints(data, subject)]
-        return "", "".join(f'amqp_show: "-": {it}\n' for it in said), 1
+        lines = [f"{found.failed()}; {outcome(found)}", *hints(data, subject)]
+        return "", "".join(f'amqp_show: "-": {it}\n' for it in lines), 1
     follows = len(found.data) > found.end
     said = f'amqp_show: "-": {following(found.data, found.end)} bytes follow the {subject}\n' if follows else ""
     return f"{line_of(found)}\n", said, 0
 
 
-def printed_json(data, subject="value"):
+def printed_json(data: bytes, subject: str = "value") -> Printed:
     """Of `amqp_show --json`, with `--table` or without it."""
     return on_a_line(data, subject, lambda found: json_text(read(found.data)[0]))
 
 
-def measured(data, subject="value"):
+def measured(data: bytes, subject: str = "value") -> Printed:
     """Of `amqp_show --measure`, with `--table` or without it."""
     return on_a_line(data, subject, measures)
 
 
-def measures(found):
+def measures(found: Dissection) -> str:
     """How many bytes and values what was taken apart has, and how deep its containers nest."""
     tags = [it for it in found.parts if it.kind == "tag"]
     levels = max(it.level + (it.type in ("FieldArray", "FieldTable")) for it in tags)
     return f"bytes {found.offset(found.end)}, values {len(tags)}, levels {levels}"
 
 
-def streamed(values):
+def streamed(values: Iterable[bytes]) -> dict[str, Printed]:
     """Of `amqp_show --stream --keep-going` on values and rejected ones, one after another, by the form."""
     trees, texts, lines_of_measures, said, offset = "", "", "", "", 0
     for data in values:
         shown, _, status = printed(data)
         *lines, last = shown.splitlines(keepends=True)
-        trees += "".join(lines) + (f"= no value at {offset}: {last[2:]}" if status else f"= a value of {len(data)} bytes at {offset}\n")
+        trees += "".join(lines) + (
+            f"= no value at {offset}: {last[2:]}" if status else f"= a value of {len(data)} bytes at {offset}\n"
+        )
         text, why, _ = printed_json(data)
         texts += text
         lines_of_measures += measured(data)[0]
@@ -460,7 +489,7 @@ def streamed(values):
     return {"tree and parts": (trees, "", 1), "JSON": (texts, said, 1), "measures": (lines_of_measures, said, 1)}
 
 
-def checked(data, subject="value", frame_max=FRAME_MAX):
+def checked(data: bytes, subject: str = "value", frame_max: int = FRAME_MAX) -> Printed:
     """Of `amqp_show --check rabbitmq`, with `--table` or without it, and with `--frame-max`."""
     left_out = int(subject == "table")
     data = b"F" * left_out + data
@@ -477,24 +506,23 @@ def checked(data, subject="value", frame_max=FRAME_MAX):
         return f"! offset {max(0, at - left_out)}: {why}\n= {verdict}\n", "", 1
 
 
-def taken(data, at, end, depth, inside="", rules="RabbitMQ"):
+def taken(data: bytes, at: int, end: int, depth: int, inside: str = "", rules: str = "RabbitMQ") -> int:
     """Returns the offset of the end of a value that RabbitMQ takes, or fails at the first thing that it doesn't.
 
-    The failure also has the type tag of the container that it is in. Other rules are those of what is read here: "any keys",
-    and "read", by which keys are UTF-8.
+    The failure also has the type tag of the container that it is in. Other rules are those of what is read here: "any
+    keys", and "read", by which keys are UTF-8.
     """
     begin, stop = at, at + extent(data[at:end][:5])
-    fails = lambda why: Failure(begin, why, inside)
-    tags = {*TYPES} - {"U"} if rules == "RabbitMQ" else TYPES
+    tags = {*TYPES} - ({"U"} if rules == "RabbitMQ" else set())
     if at == end or chr(data[at]) in tags and stop > end:
-        raise fails("a value is expected; too few bytes are left")
+        raise Failure(begin, "a value is expected; too few bytes are left", inside)
     tag = chr(data[at])
     if tag not in tags:
-        raise fails(f"a type tag is expected; RabbitMQ knows no {data[at]:02x}")
+        raise Failure(begin, f"a type tag is expected; RabbitMQ knows no {data[at]:02x}", inside)
     if rules == "RabbitMQ" and tag in "fd" and not math.isfinite(struct.unpack(f">{tag}", data[at + 1 : stop])[0]):
-        raise fails("the number is an infinity or a NaN")
+        raise Failure(begin, "the number is an infinity or a NaN", inside)
     if tag in "AF" and not depth:
-        raise fails("containers nest deeper than --depth allows")
+        raise Failure(begin, "containers nest deeper than --depth allows", inside)
     at += 5
     while tag in "AF" and at < stop:
         if tag == "F":
@@ -507,7 +535,7 @@ def taken(data, at, end, depth, inside="", rules="RabbitMQ"):
     return stop
 
 
-def pairs(data, at):
+def pairs(data: bytes, at: int) -> Iterator[tuple[int, int, bytes]]:
     """Yields each pair in a value that RabbitMQ takes: the offset of its table, its own, and its key."""
     container, tag, stop = at, chr(data[at]), at + extent(data[at : at + 5])
     at += 5
@@ -520,17 +548,19 @@ def pairs(data, at):
         at += extent(data[at : at + 5])
 
 
-def is_utf8(key):
+def is_utf8(key: bytes) -> bool:
     try:
-        return key.decode("utf-8") is not None
+        key.decode("utf-8")
     except UnicodeDecodeError:
         return False
+    return True
 
 
-def warned(data, end, left_out, subject, frame_max):
+def warned(data: bytes, end: int, left_out: int, subject: str, frame_max: int) -> Iterator[str]:
     """A line for what is doubtful in a value that RabbitMQ takes: the first key of each kind, and its size."""
-    found, seen = [*pairs(data, 0)], set()
-    again = [(at, key) for table, at, key in found if (table, key) in seen or seen.add((table, key))]
+    found = [*pairs(data, 0)]
+    first = {(table, key): at for table, at, key in reversed(found)}
+    again = [(at, key) for table, at, key in found if first[table, key] < at]
     others = [(at, key) for _, at, key in found if not is_utf8(key)]
     ends = "comes again; this library takes the last, RabbitMQ the first", "isn't UTF-8; this library refuses it"
     for places, why in zip((again, others), ends):
@@ -543,29 +573,31 @@ def warned(data, end, left_out, subject, frame_max):
 # Inputs
 
 
-def field(tag, body):
+def field(tag: bytes, body: bytes) -> bytes:
     return tag + struct.pack(">I", len(body)) + body
 
 
-def value_of(make, depth):
+def value_of(make: random.Random, depth: int) -> bytes:
     """An encoding of a value, of any type."""
     tag = make.choice("tbBsUuIilLfdDSxTVAF" if depth else "tbBsUuIilLfdDSxTV")
     width = TYPES[tag][1]
     if width is not None:
         return tag.encode() + make.randbytes(width)
     if tag in "Sx":
-        return field(tag.encode(), make.choice([b"", "gr\u00fc\u00df \u202e\u0085\"\\\x1b[31m".encode(), make.randbytes(17)]))
+        return field(
+            tag.encode(), make.choice([b"", 'gr\u00fc\u00df \u202e\u0085"\\\x1b[31m'.encode(), make.randbytes(17)])
+        )
     entries = [value_of(make, depth - 1) for _ in range(make.randrange(5))]
     return table_of(make, entries) if tag == "F" else field(b"A", b"".join(entries))
 
 
-def table_of(make, values):
+def table_of(make: random.Random, values: Sequence[bytes]) -> bytes:
     """A table of some values, at few keys."""
     keys = [make.choice([b"", b"a", b"b", b"a\x7f", "\u00e9".encode()]) for _ in values]
     return field(b"F", b"".join(bytes([len(key)]) + key + it for key, it in zip(keys, values)))
 
 
-def nested(form, depth, inside, key=b"\1k"):
+def nested(form: str, depth: int, inside: bytes, key: bytes = b"\1k") -> bytes:
     """An encoding of n containers, each in the one before, with the type tags of the form again and again."""
     parts, length = [inside], len(inside)
     for tag in reversed((form * depth)[:depth]):
@@ -575,31 +607,56 @@ def nested(form, depth, inside, key=b"\1k"):
     return b"".join(reversed(parts))
 
 
-def numbers(make):
+def numbers(make: random.Random) -> Iterator[bytes]:
     """Floats, Doubles and Timestamps at every edge, in arrays."""
-    floats = [*range(0, 1 << 31, 1 << 23), *range(1, 1 << 31, 1 << 23), 0x7F7FFFFF, *(make.getrandbits(32) for _ in range(1000))]
+    floats = [
+        *range(0, 1 << 31, 1 << 23),
+        *range(1, 1 << 31, 1 << 23),
+        0x7F7FFFFF,
+        *(make.getrandbits(32) for _ in range(1000)),
+    ]
     floats += [int.from_bytes(struct.pack(">f", 10.0**it), "big") for it in range(-38, 39)]
-    doubles = [*range(0, 1 << 63, 1 << 52), *range(1, 1 << 63, 1 << 52), (0x7FF << 52) - 1, *(make.getrandbits(64) for _ in range(1000))]
+    doubles = [
+        *range(0, 1 << 63, 1 << 52),
+        *range(1, 1 << 63, 1 << 52),
+        (0x7FF << 52) - 1,
+        *(make.getrandbits(64) for _ in range(1000)),
+    ]
     doubles += [int.from_bytes(struct.pack(">d", -(10.0**it)), "big") for it in range(-323, 309)]
-    times = [0, 951782400, 1735689600, *(LAST_DATE + it for it in (-1, 0, 1, 10**5)), 2**63 - 1, 2**63, 2**64 - 1]
+    times = [
+        0,
+        951782400,
+        1735689600,
+        *(LAST_DATE + it for it in (-1, 0, 1, 10**5)),
+        2**63 - 1,
+        2**63,
+        2**64 - 1,
+    ]
     times += [make.randrange(LAST_DATE) for _ in range(100)]
     yield field(b"A", b"".join(b"f" + struct.pack(">I", it) for it in floats))
     yield field(b"A", b"".join(b"d" + struct.pack(">Q", it) for it in doubles))
     yield field(b"A", b"".join(b"T" + struct.pack(">Q", it) for it in times))
 
 
-def damaged(make, data):
+def damaged(make: random.Random, data: bytes) -> bytes:
     """The bytes with one of them another, one more or one less."""
     at = make.randrange(len(data))
-    return make.choice([data[:at], data[:at] + make.randbytes(1) + data[at + 1 :], data[:at] + data[at + 1 :], data[:at] + b"\xff" + data[at:]])
+    return make.choice(
+        [
+            data[:at],
+            data[:at] + make.randbytes(1) + data[at + 1 :],
+            data[:at] + data[at + 1 :],
+            data[:at] + b"\xff" + data[at:],
+        ]
+    )
 
 
-def captured():
+def captured() -> list[bytes]:
     lines = [it for it in CAPTURED.read_text().splitlines() if it and not it.startswith("#")]
     return [bytes.fromhex(it.rpartition(": ")[2]) for it in lines]
 
 
-def inputs():
+def inputs() -> Iterator[bytes]:
     """Inputs of every kind: types, keys, strings, nesting, what was really sent, and damage to all of it."""
     make, tables = random.Random(9), captured()
     yield from [b"", b"_", b"\0"]
@@ -607,7 +664,9 @@ def inputs():
     for size in (0, 1, 17, 256, 65536, 70000):
         yield from (field(tag, make.randbytes(size)) for tag in (b"S", b"x"))
         yield field(b"S", b"\xc3\xa9" * (size // 2))
-    yield from (field(b"F", bytes([size]) + b"k" * size + it) for size in (0, 1, 40, 255) for it in (b"V", b"t\7", b"z", b""))
+    yield from (
+        field(b"F", bytes([size]) + b"k" * size + it) for size in (0, 1, 40, 255) for it in (b"V", b"t\7", b"z", b"")
+    )
     for count in (1, 2, 63, 64, 65, 200):
         yield from (nested(tag, count, inside) for tag in "AF" for inside in (b"V", b"z", b"I\0", b"A\0\0\0\0"))
     yield field(b"S", b"\7" * (FRAME - 5))
@@ -629,11 +688,14 @@ def inputs():
     yield field(b"F", b"".join(it + b"V" for it in keys))
 
 
-def untagged():
+def untagged() -> list[bytes]:
     """The tables among them without their type tag: also cut and damaged ones, and some that bytes follow."""
     return [it[1:] for it in inputs() if it[:1] == b"F"]
 
 
-def stream():
+def stream() -> list[bytes]:
     """The inputs whose length is known, each up to its end, rejected ones too, and at last one that is cut."""
-    return [*(data[: extent(data)] for data in inputs() if 0 < extent(data) <= len(data)), max(captured(), key=len)[:100]]
+    return [
+        *(data[: extent(data)] for data in inputs() if 0 < extent(data) <= len(data)),
+        max(captured(), key=len)[:100],
+    ]

@@ -1,18 +1,21 @@
 """Tables to send to a broker, in the form of printed.py, and what RabbitMQ makes of tables, predicted."""
 
 import struct
+from collections.abc import Iterator
 from fractions import Fraction
+from random import Random
+from typing import Any
 
-from tests.model.printed import COUNTED, DEPTH, SIGNED, TYPES, Failure, Unread, field, read, taken
+from tests.model.printed import DEPTH, SIGNED, TYPES, Failure, Unread, Value, encoded, field, read, taken
 
 PLAIN = "tbBsuIilfdDSxTV"
 INTEGERS = "bBsuIil"
 # How RabbitMQ calls each type in Erlang.
 ERLANG = {
-    "t": "bool", "b": "byte", "B": "unsignedbyte", "s": "short", "u": "unsignedshort", "I": "signedint", "i": "unsignedint",
-    "l": "long", "f": "float", "d": "double", "D": "decimal", "S": "longstr", "x": "binary", "A": "array", "F": "table",
-    "T": "timestamp", "V": "void",
-}
+    "t": "bool", "b": "byte", "B": "unsignedbyte", "s": "short", "u": "unsignedshort", "I": "signedint",
+    "i": "unsignedint", "l": "long", "f": "float", "d": "double", "D": "decimal", "S": "longstr", "x": "binary",
+    "A": "array", "F": "table", "T": "timestamp", "V": "void",
+}  # fmt: skip
 # Of keys; with no capitals of ASCII none is CC or BCC, which the broker takes for names of queues.
 LETTERS = "abcdefghijklmnopqrstuvwxyz0123456789-_. ÄÖäöüßéñλΩж漢字🐇"
 
@@ -20,43 +23,51 @@ LETTERS = "abcdefghijklmnopqrstuvwxyz0123456789-_. ÄÖäöüßéñλΩж漢字�
 # Values
 
 
-def number(tag, value):
+def width_of(tag: str) -> int:
+    """How many bytes a payload of a type has that no length counts."""
+    width = TYPES[tag][1]
+    assert width is not None, tag
+    return width
+
+
+def number(tag: str, value: int) -> Value:
     """A value of an integer type, a Boolean or a Timestamp."""
-    return tag, value.to_bytes(TYPES[tag][1], "big", signed=TYPES[tag][0] in SIGNED)
+    return tag, value.to_bytes(width_of(tag), "big", signed=TYPES[tag][0] in SIGNED)
 
 
-def float_of(tag, value):
-    return tag, struct.pack(">f" if tag == "f" else ">d", value)
+def float_of(tag: str, value: float) -> Value:
+    return tag, struct.pack(f">{tag}", value)
 
 
-def decimal(scale, value):
+def decimal(scale: int, value: int) -> Value:
     return "D", struct.pack(">BI", scale, value)
 
 
-def text(value):
+def text(value: str) -> Value:
     return "S", value.encode()
 
 
-def table(**entries):
+def table(**entries: Value) -> Value:
     """A table of these entries; `_` in a name is `-` in its key."""
     return "F", {key.replace("_", "-").encode(): value for key, value in entries.items()}
 
 
-def integer_of(value):
+def integer_of(value: Value) -> int:
     """The number of an integer, or of a Timestamp."""
     return int.from_bytes(value[1], "big", signed=TYPES[value[0]][0] in SIGNED)
 
 
 # A value of every type, and both kinds of container inside each other.
 EVERY_TYPE = table(
-    boolean=number("t", 1), byte=number("b", -2), unsigned_byte=number("B", 254), short=number("s", -300), unsigned_short=number("u", 65000),
-    int=number("I", -70000), unsigned_int=number("i", 4 * 10**9), long=number("l", -(2**40)), float=float_of("f", 1.5), double=float_of("d", -0.25),
-    decimal=decimal(2, 314), text=text("grüß 漢"), bytes=("x", b"\0\xff"), time=number("T", 1_800_000_000), nothing=("V", b""),
+    boolean=number("t", 1), byte=number("b", -2), unsigned_byte=number("B", 254), short=number("s", -300),
+    unsigned_short=number("u", 65000), int=number("I", -70000), unsigned_int=number("i", 4 * 10**9),
+    long=number("l", -(2**40)), float=float_of("f", 1.5), double=float_of("d", -0.25), decimal=decimal(2, 314),
+    text=text("grüß 漢"), bytes=("x", b"\0\xff"), time=number("T", 1_800_000_000), nothing=("V", b""),
     list=("A", [number("I", 1), table(inner=("A", []))]), table=table(z=text(""), a=table()),
-)
+)  # fmt: skip
 
 
-def random_value(make, depth):
+def random_value(make: Random, depth: int) -> Value:
     """A value of any type; numbers are finite."""
     tag = make.choice(PLAIN + "AF" * 2 if depth else PLAIN)
     if tag == "A":
@@ -67,23 +78,24 @@ def random_value(make, depth):
         return tag, make.choice([b"", random_key(make), make.randbytes(make.randrange(40))])
     if tag == "t":
         return tag, make.choice([b"\0", b"\1"])
-    width = TYPES[tag][1]
-    content = make.choice([b"\0" * width, b"\x80" + b"\0" * width, b"\x7f" + b"\xff" * width, b"\xff" * width, make.randbytes(width)])[:width]
+    width = width_of(tag)
+    edges = [b"\0" * width, b"\x80" + b"\0" * width, b"\x7f" + b"\xff" * width, b"\xff" * width]
+    content = make.choice([*edges, make.randbytes(width)])[:width]
     return random_value(make, depth) if oddity_of(tag, content) else (tag, content)
 
 
-def random_table(make, depth=3):
+def random_table(make: Random, depth: int = 3) -> Value:
     return "F", {random_key(make): random_value(make, depth) for _ in range(make.choice([0, 1, 2, 3, 5, 8]))}
 
 
-def random_key(make):
+def random_key(make: Random) -> bytes:
     """UTF-8 of at most 255 bytes."""
     if make.random() < 0.02:
         return make.choice([b"", b"k" * 255, "漢".encode() * 85])
     return "".join(make.choice(LETTERS) for _ in range(make.randrange(1, 12))).encode()
 
 
-def types_in(value):
+def types_in(value: Value) -> Iterator[str]:
     """The type tag of a value, and of each in it."""
     tag, content = value
     yield tag
@@ -91,23 +103,28 @@ def types_in(value):
         yield from types_in(it)
 
 
-def oddity_of(tag, content):
+def oddity_of(tag: str, content: bytes) -> str:
     """Whether it is a NaN or an infinity, in which case RabbitMQ takes it for no number."""
     if tag not in "fd":
         return ""
-    (found,) = struct.unpack(">f" if tag == "f" else ">d", content)
+    (found,) = struct.unpack(f">{tag}", content)
     return "NaN" if found != found else "infinity" if abs(found) == float("inf") else ""
 
 
 # What RabbitMQ makes of them
 
 
-# What it closes the connection for, and what isn't read here, by the kind in include/amqp_values.h, as printed.py words it.
-PROBLEMS = {1: "RabbitMQ knows no", 2: "an infinity or a NaN", 3: "a value is expected", 4: "a key is expected", 5: "nest deeper", 7: "isn't UTF-8"}
+# What it closes the connection for, and what isn't read here, by the kind in include/amqp_values.h: printed.py's words.
+PROBLEMS = {
+    1: "RabbitMQ knows no", 2: "an infinity or a NaN", 3: "a value is expected", 4: "a key is expected",
+    5: "nest deeper", 7: "isn't UTF-8",
+}  # fmt: skip
+# The offset, the kind, and the tag if that is unknown.
+Problem = tuple[int, int, int]
 ROWS = ["U", "unknown tag", "NaN f", "NaN d", "infinity f", "infinity d", "value cut", "key cut"]
 
 
-def first_problem(data, rules="RabbitMQ", depth=DEPTH):
+def first_problem(data: bytes, rules: str = "RabbitMQ", depth: int = DEPTH) -> Problem | None:
     """The first thing in a value that the rules don't allow: offset, kind and unknown tag, or None."""
     try:
         taken(data, 0, len(data), depth, rules=rules)
@@ -118,23 +135,27 @@ def first_problem(data, rules="RabbitMQ", depth=DEPTH):
     return None
 
 
-def row_of(data, problem):
+def row_of(data: bytes, problem: Problem) -> str:
     """The row of ROWS that a problem is of."""
     at, kind, tag = problem
     if kind == 1:
         return "U" if tag == ord("U") else "unknown tag"
-    return ROWS[kind + 3] if kind > 2 else f"{oddity_of(chr(data[at]), data[at + 1 : at + 1 + TYPES[chr(data[at])][1]])} {chr(data[at])}"
+    if kind > 2:
+        return ROWS[kind + 3]
+    type_tag = chr(data[at])
+    return f"{oddity_of(type_tag, data[at + 1 : at + 1 + width_of(type_tag)])} {type_tag}"
 
 
-def container_of(data):
+def container_of(data: bytes) -> str:
     """The type tag of the container that the first problem is in."""
     try:
-        return taken(data, 0, len(data), DEPTH) and ""
+        taken(data, 0, len(data), DEPTH)
     except Failure as failure:
-        return failure.args[2]
+        return str(failure.args[2])
+    return ""
 
 
-def is_read(data):
+def is_read(data: bytes) -> bool:
     """Whether some bytes are one value here."""
     try:
         return not read(data)[1]
@@ -142,13 +163,13 @@ def is_read(data):
         return False
 
 
-def term(value):
-    """What RabbitMQ compares of a value: numbers by their value, strings by their bytes, what is nested with its types."""
+def term(value: Value) -> tuple[str, Any]:
+    """What RabbitMQ compares of a value: numbers by value, strings by their bytes, what is nested with its types."""
     tag, content = value
     if tag in INTEGERS or tag == "T":
         return "number", Fraction(integer_of(value))
     if tag in "fd":
-        return "number", Fraction(struct.unpack(">f" if tag == "f" else ">d", content)[0])
+        return "number", Fraction(struct.unpack(f">{tag}", content)[0])
     if tag == "A":
         return "list", [(it[0], term(it)) for it in content]
     if tag == "F":
@@ -156,12 +177,12 @@ def term(value):
     return "string" if tag in "Sx" else tag, content
 
 
-def matches(argument, header):
+def matches(argument: Value, header: Value) -> bool:
     """Whether the argument of a binding to a headers exchange matches a header."""
     return argument[0] == "V" or term(argument) == term(header)
 
 
-def erlang(value):
+def erlang(value: Value) -> str:
     """A value as Erlang prints it by ~w."""
     tag, content = value
     if tag in "Sx":
@@ -171,28 +192,32 @@ def erlang(value):
     if tag == "F":
         return "[" + ",".join(f"{{{binary(key)},{ERLANG[it[0]]},{erlang(it)}}}" for key, it in content.items()) + "]"
     if tag in "fd":
-        return repr(struct.unpack(">f" if tag == "f" else ">d", content)[0])
+        return repr(struct.unpack(f">{tag}", content)[0])
     if tag == "D":
         return f"{{{content[0]},{int.from_bytes(content[1:], 'big')}}}"
     return {"t": "true" if content == b"\1" else "false", "V": "undefined"}.get(tag) or str(integer_of(value))
 
 
-def binary(data):
+def binary(data: bytes) -> str:
     return f"<<{','.join(map(str, data))}>>"
 
 
 # Bytes that are odd
 
-NAN = [bytes.fromhex(it) for it in ("667fc00000", "66ffc00000", "667f800001", "667fffffff", "647ff8000000000000", "64fff0000000000001", "647fffffffffffffff")]
+NAN_FLOATS = ("7fc00000", "ffc00000", "7f800001", "7fffffff")
+NAN_DOUBLES = ("7ff8000000000000", "fff0000000000001", "7fffffffffffffff")
+NAN = [b"f" + bytes.fromhex(it) for it in NAN_FLOATS] + [b"d" + bytes.fromhex(it) for it in NAN_DOUBLES]
 INFINITY = [bytes.fromhex(it) for it in ("667f800000", "66ff800000", "647ff0000000000000", "64fff0000000000000")]
 NO_TAG = [b"\0", b"_\1a", b"z", b"\xff", b"n\0"]
-CUT = [field(b"A", b"VI\0\0\0"), field(b"A", b"S\0\0\0\5four"), field(b"A", b"F\0\0"), field(b"F", b"\1aI\0"), field(b"F", b"\1a"), field(b"F", b"\1ax\0\0\0\1")]
+CUT = [field(b"A", it) for it in (b"VI\0\0\0", b"S\0\0\0\5four", b"F\0\0")]
+CUT += [field(b"F", it) for it in (b"\1aI\0", b"\1a", b"\1ax\0\0\0\1")]
 KEY_CUT = [field(b"F", b"\1aV\5four"), field(b"F", b"\xff"), field(b"F", b"\2a")]
 # What is odd and taken: other bytes for true, the alternate tag L, keys that aren't UTF-8, equal keys.
-TAKEN = [b"t\7", b"t\xff", b"L" + b"\xff" * 8, b"L" + b"\0" * 8, field(b"F", b"\2\xff\xfeV"), field(b"F", b"\1aV\1aI\0\0\0\1")]
+TAKEN = [b"t\7", b"t\xff", b"L" + b"\xff" * 8, b"L" + b"\0" * 8]
+TAKEN += [field(b"F", b"\2\xff\xfeV"), field(b"F", b"\1aV\1aI\0\0\0\1")]
 
 
-def odd_table(make):
+def odd_table(make: Random) -> bytes:
     """A table with something odd or cut somewhere in it, or one of its bytes changed, or none of these."""
     kinds = [NAN, INFINITY, [b"U\xff\xfe"], NO_TAG, CUT, KEY_CUT, *[TAKEN] * 5]
     kind = make.randrange(len(kinds) + 3)
@@ -207,7 +232,7 @@ def odd_table(make):
     return data
 
 
-def contained(make, tag, value):
+def contained(make: Random, tag: str, value: bytes) -> bytes:
     """A container with a value among others."""
     values = [raw(random_value(make, 1)) for _ in range(make.randrange(3))]
     values.insert(make.randrange(len(values) + 1), value)
@@ -217,11 +242,11 @@ def contained(make, tag, value):
     return field(b"F", b"".join(bytes([len(key)]) + key + it for key, it in zip(keys, values)))
 
 
-def raw(value):
+def raw(value: Value) -> bytes:
     """The bytes of a value, with the keys of tables in their order."""
     tag, content = value
     if tag == "A":
         content = b"".join(map(raw, content))
     if tag == "F":
         content = b"".join(bytes([len(key)]) + key + raw(it) for key, it in content.items())
-    return field(tag.encode(), content) if tag in COUNTED else tag.encode() + content
+    return encoded(tag, content)

@@ -1,41 +1,40 @@
-#!/usr/bin/env python3
-"""Checks what crates/test_malformed and crates/amqp_wire must print, by printed.py's reader and writer.
+"""What crates/test_malformed and crates/amqp_wire have to print, by the reader and writer of printed.py.
 
-Compares that with the files `stdout` of both, which `rt ci` compares with what the programs print; with --write it
-writes that of test_malformed, and how many lines and cases there are at least (.ci/least.rows). By docs/JSON.md and docs/SHOW.md it also checks what the cases of tests/show with JSON, measures
-and RabbitMQ must print, which tests/show/run compares with what amqp_show prints.
+Compares that with the files `stdout` of both, which `rt ci` compares with what the programs print. By docs/JSON.md and
+docs/SHOW.md it also checks what the cases of tests/show with JSON, measures and RabbitMQ must print, which tests/show/run
+compares with what amqp_show prints.
 """
+
 import json
 import re
-import sys
+from collections.abc import Callable, Iterator, Sequence
 from contextlib import suppress
-from itertools import zip_longest
-from pathlib import Path
+from typing import Any
 
-sys.path.insert(0, str(Path(__file__).resolve().parents[2]))
+from crates import TOP
+from lib import content
 
-from tests.model.printed import FRAME_MAX, TOP, Dissection, Unread, checked, field, json_of, json_text, measures, nested, read, write  # noqa: E402
-from tests.transcripts import Output, cases  # noqa: E402
+from tests.model.printed import FRAME_MAX, Dissection, Unread, checked, field, json_of, json_text
+from tests.model.printed import measures, nested, read, write
+from tests.transcripts import Case, Output, cases
 
-import least  # noqa: E402
-from lib import Checks, content  # noqa: E402
+Recorder = Callable[[str, object], None]
 
 CRATES = TOP / "crates"
-CASES = cases(TOP / "tests/show")
 # The colours of a terminal.
 COLOURS = re.compile(r"\x1b\[\d+m")
 
 
-def shown(data):
+def shown(data: bytes) -> str:
     if len(data) <= 40:
         return data.hex()
-    hash = 2166136261
+    found = 2166136261
     for byte in data:
-        hash = (hash ^ byte) * 16777619 % 2**32
-    return f"{len(data)} bytes {hash:08x}"
+        found = (found ^ byte) * 16777619 % 2**32
+    return f"{len(data)} bytes {found:08x}"
 
 
-def answer(data, written=shown):
+def answer(data: bytes, written: Callable[[bytes], str] = shown) -> str:
     """What a program prints of some bytes, with what it writes in that form."""
     try:
         value, rest = read(data)
@@ -44,7 +43,7 @@ def answer(data, written=shown):
         return str(why)
 
 
-def built():
+def built() -> Iterator[tuple[str, bytes]]:
     arrays = nested("A", 200, b"")
     tables = nested("F", 199, b"F\0\0\0\0", b"\0V\0")
     yield "200 arrays", arrays
@@ -57,7 +56,7 @@ def built():
     yield "the greatest length inside", b"A\0\0\0\5S\xff\xff\xff\xff"
 
 
-def damaged(table):
+def damaged(table: bytes) -> Iterator[tuple[str, bytes]]:
     for n in range(len(table)):
         yield f"the first {n} bytes", table[:n]
     for at in range(len(table)):
@@ -65,7 +64,7 @@ def damaged(table):
             yield f"{byte} at byte {at}", table[:at] + bytes([byte]) + table[at + 1 :]
 
 
-def rooms(text):
+def rooms(text: bytes) -> Iterator[str]:
     for before, room in [*((b"", n) for n in range(200)), (b"", 300), (b"\1\2\3", 100)]:
         is_enough = room >= len(text)
         put = before + text if is_enough else before
@@ -101,7 +100,7 @@ PUT = {
 }
 
 
-def devices():
+def devices() -> Iterator[str]:
     for name, pieces in PUT.items():
         whole = b"".join(pieces)
         for calls in range(len(whole)):
@@ -111,7 +110,7 @@ def devices():
         yield f"{name} after {len(whole)}: Ok(()) position {len(whole)} faults 0 taken {whole.hex()}"
 
 
-def hostile(table):
+def hostile(table: bytes) -> Iterator[str]:
     """The lines of test_malformed."""
     for name, data in [*built(), *damaged(table)]:
         yield f"{name}: {answer(data)}"
@@ -119,13 +118,13 @@ def hostile(table):
     yield from devices()
 
 
-def line(text):
+def line(text: str) -> str:
     """What amqp_wire prints of a line."""
     return answer(bytes.fromhex(text), bytes.hex) if re.fullmatch("([0-9a-fA-F]{2})*", text) else "not hex"
 
 
-def lines_of(case):
-    """What amqp_show must print of the inputs of a case, as JSON or measures: of each up to one value, or all, or a malformed one."""
+def lines_of(case: Case) -> Iterator[str]:
+    """What amqp_show must print of a case's inputs as JSON or measures: of each up to one value, all, or a malformed one."""
     words = case.words
     subject = "table" if "--table" in words else "value"
     for file in [it for it in words if not it.startswith("--")] or ["-"]:
@@ -139,16 +138,22 @@ def lines_of(case):
                 data = data if "--stream" in words else b""
 
 
-def tag_of(words):
+def tag_of(words: Sequence[str]) -> bytes:
     """The type tag that is left out."""
     return b"F" if "--table" in words else b""
 
 
-def judged_cases():
-    """Yields the cases of amqp_show that JSON, encodings, measures and RabbitMQ decide, and whether each is what it should be."""
-    for name, case in CASES.items():
+def is_judged(case: Case) -> bool:
+    """Whether a case is within the limits of the model, and ends well enough to print something."""
+    is_limited = {"--frame", "--depth", "--raw"} & {*case.words}
+    return not is_limited and case.output in (Output.PIPE, Output.TERMINAL) and case.wants.status != 2
+
+
+def judged_cases() -> Iterator[tuple[str, bool]]:
+    """Yields the cases of amqp_show that JSON, encodings, measures and RabbitMQ decide, and whether each is right."""
+    for name, case in cases(TOP / "tests/show").items():
         words, status = case.words, case.wants.status
-        if {"--frame", "--depth", "--raw"} & {*words} or case.output not in (Output.PIPE, Output.TERMINAL) or status == 2:
+        if not is_judged(case):
             continue
         wants = case.wants.out.decode()
         if {"--json", "--measure"} & {*words}:
@@ -163,32 +168,29 @@ def judged_cases():
             yield name, not rest and write(value) == data and json_of(value) == json.loads(case.given)
 
 
-def wrong_lines(crate, lines):
-    """Yields each line that a crate's stored output has other than these."""
-    stored = content(CRATES / crate / "stdout").decode().splitlines()
-    for number, (want, has) in enumerate(zip_longest(lines, stored), 1):
-        if want != has:
-            yield f"{crate}/stdout:{number}: it has '{has}', and should have '{want}'"
+def stored_lines(crate: str) -> list[str]:
+    """The lines that a crate has to print."""
+    return str(content(CRATES / crate / "stdout").decode()).splitlines()
 
 
-def main():
-    sys.setrecursionlimit(10000)
-    checks = Checks("oracle")
-    lines = [*hostile(bytes.fromhex((CRATES / "test_malformed" / "stdin").read_text()))]
-    if least.IS_WRITING:
-        (CRATES / "test_malformed" / "stdout").write_text("\n".join(lines) + "\n")
-    said = [line(text) for text in (CRATES / "amqp_wire" / "stdin").read_text().splitlines()]
+def test_malformed_input(record_property: Recorder, is_writing: bool) -> None:
+    """What crates/test_malformed has to print, which --write writes anew."""
+    lines = [*hostile(bytes.fromhex((CRATES / "test_malformed/stdin").read_text()))]
+    if is_writing:
+        (CRATES / "test_malformed/stdout").write_text("\n".join(lines) + "\n")
+    record_property("test_malformed_lines", len(lines))
+    assert stored_lines("test_malformed") == lines
+
+
+def test_lines_of_hexadecimal(record_property: Recorder) -> None:
+    """What crates/amqp_wire has to print of each line."""
+    lines = [line(text) for text in (CRATES / "amqp_wire/stdin").read_text().splitlines()]
+    record_property("amqp_wire_lines", len(lines))
+    assert stored_lines("amqp_wire") == lines
+
+
+def test_cases_of_amqp_show(record_property: Recorder) -> None:
+    """The cases of amqp_show that JSON, encodings, measures and RabbitMQ decide."""
     judged = [*judged_cases()]
-    counts = {"test_malformed_lines": len(lines), "amqp_wire_lines": len(said), "amqp_show_cases": len(judged)}
-    for name, wrong in (
-        ("test_malformed_lines", wrong_lines("test_malformed", lines)),
-        ("amqp_wire_lines", wrong_lines("amqp_wire", said)),
-        ("amqp_show_cases", (f"{it} of tests/show: it should be something else" for it, is_well in judged if not is_well)),
-    ):
-        checks.tell(f"{counts[name]} {name}", next(wrong, ""))
-    least.judge(checks, "oracle", counts)
-    return checks.ended()
-
-
-if __name__ == "__main__":
-    sys.exit(main())
+    record_property("amqp_show_cases", len(judged))
+    assert not [name for name, is_well in judged if not is_well]

@@ -1,0 +1,56 @@
+"""What all tests share: how random they are, whether files are written anew, and the shared object of the calls for C."""
+
+import random
+
+import amqp_values as av
+import pytest
+from crates import Crates
+from hypothesis import settings
+from lib import shared_object
+
+# Of a property, the examples that are tried: the same in each run, or others in each.
+settings.register_profile("fixed", derandomize=True, deadline=None, database=None)
+settings.register_profile("random", derandomize=False, deadline=None, database=None, max_examples=1000)
+
+
+def pytest_addoption(parser: pytest.Parser) -> None:
+    group = parser.getgroup("this repository")
+    group.addoption("--write", action="store_true", help="write files and least numbers anew")
+    group.addoption("--random", action="store_true", help="another seed in each run")
+    group.addoption("--seed", type=int, help="of what is random (1)")
+    group.addoption("--library", metavar="PATH", help="the shared object of the calls for C, which is built otherwise")
+    group.addoption("--built", action="store_true", help="build it over what `rt ci` has left")
+
+
+def pytest_configure(config: pytest.Config) -> None:
+    is_random = config.getoption("--random")
+    settings.load_profile("random" if is_random else "fixed")
+    if config.option.seed is None:
+        config.option.seed = random.randrange(2**32) if is_random else 1
+
+
+def pytest_report_header(config: pytest.Config) -> str:
+    return f"seed: {config.option.seed}"
+
+
+@pytest.fixture(scope="session")
+def seed(request: pytest.FixtureRequest) -> int:
+    """The seed of what is random."""
+    return int(request.config.option.seed)
+
+
+@pytest.fixture
+def is_writing(request: pytest.FixtureRequest) -> bool:
+    """Whether files are to be written anew."""
+    return bool(request.config.getoption("--write"))
+
+
+@pytest.fixture(scope="session")
+def library(request: pytest.FixtureRequest, tmp_path_factory: pytest.TempPathFactory) -> str:
+    """The path of the shared object of the calls for C, which the module has loaded."""
+    path = request.config.getoption("--library")
+    if not path:
+        path, wrong = shared_object(Crates(), tmp_path_factory.mktemp("library"), request.config.getoption("--built"))
+        assert not wrong, wrong
+    av.load(str(path))
+    return str(path)
