@@ -6,7 +6,9 @@ import signal
 import socket
 import subprocess
 import time
+from collections.abc import Mapping
 from pathlib import Path
+from typing import Any
 
 from tests.rabbitmq.wire import Closed, Connection
 
@@ -15,12 +17,15 @@ PLUGINS = "[rabbitmq_shovel,rabbitmq_federation]."
 # A virtual host whose messages the broker also reports to amq.rabbitmq.trace.
 TRACED = "traced"
 # Two processors at most, no waiting in a loop, and its port for other nodes on 127.0.0.1 too.
-ERLANG = f"+S 2:2 +sbwt none +sbwtdcpu none +sbwtdio none -kernel inet_dist_use_interface {{127,0,0,1}} -rabbit trace_vhosts [<<\"{TRACED}\">>]"
-# How often it is tried, since another process may take a port that was free, and the seconds for each try, and for an expression.
+ERLANG = (
+    "+S 2:2 +sbwt none +sbwtdcpu none +sbwtdio none -kernel inet_dist_use_interface {127,0,0,1} "
+    f'-rabbit trace_vhosts [<<"{TRACED}">>]'
+)
+# How often it is tried, since another process may take a port that was free; the seconds for each try, and for an expression.
 TRIES, SECONDS = 3, 200
 
 
-def free_ports(count):
+def free_ports(count: int) -> list[int]:
     """Ports that nobody uses now; all are bound at once, so that they differ."""
     sockets = [socket.create_server(("127.0.0.1", 0)) for _ in range(count)]
     ports = [it.getsockname()[1] for it in sockets]
@@ -29,38 +34,50 @@ def free_ports(count):
     return ports
 
 
-def ends_with_us():
+def ends_with_us() -> None:
     """Has a child killed as soon as this process ends, however it ends (PR_SET_PDEATHSIG); what it execs keeps that."""
     ctypes.CDLL(None).prctl(1, signal.SIGKILL, 0, 0, 0)
 
 
-def definitions(port):
+def definitions(port: int) -> dict[str, Any]:
     """What the broker begins with: its virtual hosts, one user, a shovel, and an exchange that is federated."""
     uri = f"amqp://127.0.0.1:{port}"
-    shovel = {"src-protocol": "amqp091", "src-uri": uri, "src-queue": "shovel from", "dest-protocol": "amqp091", "dest-uri": uri}
-    shovel |= {"dest-queue": "shovel to", "dest-add-forward-headers": True, "dest-add-timestamp-header": True, "reconnect-delay": 1}
+    shovel = {"src-protocol": "amqp091", "src-uri": uri, "src-queue": "shovel from"}
+    shovel |= {"dest-protocol": "amqp091", "dest-uri": uri, "dest-queue": "shovel to"}
+    headers = {"dest-add-forward-headers": True, "dest-add-timestamp-header": True}
     upstream = {"uri": uri, "exchange": "upstream", "reconnect-delay": 1}
+    anything = {"configure": ".*", "write": ".*", "read": ".*"}
+    federated = {"vhost": "/", "name": "federated", "pattern": "^downstream$", "apply-to": "exchanges"}
     return {
         "vhosts": [{"name": it} for it in ("/", TRACED)],
         "users": [{"name": "guest", "password": "guest", "tags": "administrator"}],
-        "permissions": [{"user": "guest", "vhost": it, "configure": ".*", "write": ".*", "read": ".*"} for it in ("/", TRACED)],
+        "permissions": [{"user": "guest", "vhost": it, **anything} for it in ("/", TRACED)],
         "parameters": [
             {"vhost": "/", "component": "federation-upstream", "name": "up", "value": upstream},
-            {"vhost": "/", "component": "shovel", "name": "moving", "value": shovel},
+            {
+                "vhost": "/",
+                "component": "shovel",
+                "name": "moving",
+                "value": {**shovel, **headers, "reconnect-delay": 1},
+            },
         ],
-        "policies": [
-            {"vhost": "/", "name": "federated", "pattern": "^downstream$", "apply-to": "exchanges", "definition": {"federation-upstream": "up"}}
-        ],
+        "policies": [{**federated, "definition": {"federation-upstream": "up"}}],
     }
 
 
 class Broker:
     """A running broker; a with statement ends it."""
 
-    def __init__(self, folder):
-        self.folder, self.processes, self.port = Path(folder), [], 0
+    home: Path
+    environment: Mapping[str, str]
+    # how long it took until it was ready
+    seconds: float
 
-    def __enter__(self):
+    def __init__(self, folder: Path) -> None:
+        self.folder, self.port = folder, 0
+        self.processes: list[subprocess.Popen[bytes]] = []
+
+    def __enter__(self) -> "Broker":
         for number in range(TRIES):
             begun = time.time()
             self.start(self.folder / f"broker{number}")
@@ -72,17 +89,17 @@ class Broker:
             self.end()
         raise RuntimeError(f"the broker didn't start: {self.printed()}")
 
-    def __exit__(self, *_):
+    def __exit__(self, *_: object) -> None:
         self.end()
 
-    def start(self, home):
+    def start(self, home: Path) -> None:
         self.home = home
         home.mkdir()
         self.port, between, names = free_ports(3)
         (home / "plugins").write_text(PLUGINS)
         (home / "definitions.json").write_text(json.dumps(definitions(self.port)))
-        settings = [f"load_definitions = {home}/definitions.json", "log.file = false", "log.console = true", "log.console.level = critical"]
-        (home / "rabbitmq.conf").write_text("\n".join([*settings, ""]))
+        settings = ["log.file = false", "log.console = true", "log.console.level = critical"]
+        (home / "rabbitmq.conf").write_text("\n".join([f"load_definitions = {home}/definitions.json", *settings, ""]))
         (home / "rabbitmq-env.conf").touch()
         # no variable of the machine's counts; in HOME Erlang makes its cookie
         self.environment = {
@@ -97,25 +114,25 @@ class Broker:
             "ERL_EPMD_ADDRESS": "127.0.0.1", "ERL_EPMD_PORT": f"{names}", "ERL_CRASH_DUMP": f"{home}/erl_crash.dump",
             # its script becomes the broker then, instead of a parent of it
             "RUNNING_UNDER_SYSTEMD": "true",
-        }
+        }  # fmt: skip
         self.run("epmd", "-port", names, "-address", "127.0.0.1")
         self.run(BIN / "rabbitmq-server")
 
-    def run(self, *words):
+    def run(self, *words: object) -> None:
         """Starts a process that ends with this one."""
-        how = {"cwd": self.home, "env": self.environment, "preexec_fn": ends_with_us, "start_new_session": True}
+        how: dict[str, Any] = {"cwd": self.home, "env": self.environment, "preexec_fn": ends_with_us}
         with open(self.home / "printed", "ab") as out:
-            words = [str(it) for it in words]
-            self.processes.append(subprocess.Popen(words, stdin=subprocess.DEVNULL, stdout=out, stderr=out, **how))
+            how |= {"stdin": subprocess.DEVNULL, "stdout": out, "stderr": out, "start_new_session": True}
+            self.processes.append(subprocess.Popen([str(it) for it in words], **how))
 
-    def has_ended(self):
+    def has_ended(self) -> bool:
         return any(it.poll() is not None for it in self.processes)
 
-    def printed(self):
+    def printed(self) -> str:
         """The end of what it printed."""
         return (self.home / "printed").read_text(errors="replace")[-3000:]
 
-    def is_ready(self):
+    def is_ready(self) -> bool:
         """Whether it takes connections."""
         try:
             self.connection().close()
@@ -123,23 +140,25 @@ class Broker:
             return False
         return True
 
-    def connection(self, **how):
+    def connection(self, **how: Any) -> Connection:
         return Connection(self.port, **how)
 
-    def asked(self, expression):
-        """What an Erlang expression prints in a node next to the broker, in which R(module, function, arguments) is called.
+    def asked(self, expression: str) -> str:
+        """What an Erlang expression prints in a node next to the broker, in which R(module, function, arguments) is one there.
 
         As `rabbitmqctl eval`, which takes several times as long.
         """
         call = f"R = fun(M, F, A) -> rpc:call('{self.environment['RABBITMQ_NODENAME']}', M, F, A) end"
-        words = ["erl", "-noinput", "-hidden", "-boot", "no_dot_erlang", "-start_epmd", "false", "-sname", "asking@localhost"]
-        words += ["-kernel", "inet_dist_use_interface", "{127,0,0,1}", "-eval", f"{call}, {expression}, halt()."]
-        done = subprocess.run(words, env=self.environment, cwd=self.home, capture_output=True, text=True, timeout=SECONDS)
+        words = ["erl", "-noinput", "-hidden", "-boot", "no_dot_erlang", "-start_epmd", "false"]
+        words += ["-sname", "asking@localhost", "-kernel", "inet_dist_use_interface", "{127,0,0,1}"]
+        words += ["-eval", f"{call}, {expression}, halt()."]
+        how: dict[str, Any] = {"env": self.environment, "cwd": self.home, "capture_output": True, "text": True}
+        done = subprocess.run(words, **how, timeout=SECONDS)
         if done.returncode:
             raise RuntimeError(f"erl: {done.stdout[-1000:]}{done.stderr[-1000:]}")
-        return done.stdout.strip()
+        return str(done.stdout).strip()
 
-    def end(self):
+    def end(self) -> None:
         for it in reversed(self.processes):
             it.kill()
             it.wait()

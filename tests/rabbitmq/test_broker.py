@@ -1,301 +1,271 @@
-#!/usr/bin/env python3
-"""Holds the calls for C against a running RabbitMQ and its clients: tests/rabbitmq/run [--built] [--tables N] [--seed N]
+"""Holds the calls for C against a running RabbitMQ and its clients.
 
-Starts RabbitMQ of Debian 12 in a fresh folder, on free ports of 127.0.0.1, and ends it. The calls for C are called by
-examples/python/amqp_values.py, in one shared object of both libraries, which are built with `rt lib` if they are older than
-their sources, or, with --built, over what `rt ci` has left here. .ci/setup installs the broker and the clients.
+RabbitMQ of Debian 12 runs in a fresh folder, on free ports of 127.0.0.1. The calls for C are called by
+examples/python/amqp_values.py, in one shared object of both libraries. .ci/setup installs the broker and the clients.
 
-- Random tables come back equal, by the calls and by the separate reader of printed.py: untouched, and read and written
-  by the broker's own codec, which a header BCC and dead-lettering have it do. --tables sets their number (10000).
+- Random tables come back equal, by the calls and by the reader of the model: untouched, and read and written by the broker's
+  own codec, which a header BCC and dead-lettering have it do. --tables sets their number.
 - What the broker and its clients write is read as meant: the server's properties, x-death, a quorum queue, a trace, a
   shovel, a federation link, pika, py-amqp, amqp-publish. What is built here the broker sees as meant: client-properties,
   and the arguments of queues, bindings and consumers.
 - It closes the connection for the tables in which amqpv_first_problem finds something, and for no others; of equal keys a
   headers exchange takes what amqpv_find_first does. What else it does otherwise is as docs/DIFFERENCES.md states, predicted
-  by tables.py.
-
-The counts come at the end, and the last line is what was tried of tables, and 'N passed, M failed'.
+  by the model's tables.py.
 """
 
-import argparse
 import json
-import random
-import signal
 import subprocess
-import sys
-import tempfile
-import time
-import traceback
 from collections import Counter
+from collections.abc import Callable, Iterator, Sequence
 from concurrent.futures import ThreadPoolExecutor
-from pathlib import Path
+from random import Random
+from typing import Any, NamedTuple
 
-sys.path.insert(0, str(Path(__file__).resolve().parents[2]))
+import amqp_values as av
+import pytest
+from crates import TOP
 
-from tests.model.printed import FRAME, Unread, field, json_of, json_text, nested, read, write
-from tests.model.tables import (  # noqa: E402
-    EVERY_TYPE, INFINITY, INTEGERS, NAN, NO_TAG, PLAIN, ROWS, container_of, decimal, erlang, first_problem, float_of, is_read, matches,
-    number, odd_table, random_table, row_of, table, text, types_in,
-)
-from tests.python.test_values import av, error_of, form, python_of  # noqa: E402
-from tests.rabbitmq import clients  # noqa: E402
-from tests.rabbitmq.broker import BIN, TRACED, Broker  # noqa: E402
-from tests.rabbitmq.wire import FRAME_MAX, Closed  # noqa: E402
+from tests.model.printed import FRAME, Unread, Value, field, json_of, json_text, nested, read, write
+from tests.model.tables import EVERY_TYPE, INFINITY, INTEGERS, NAN, NO_TAG, PLAIN, ROWS, Problem
+from tests.model.tables import container_of, decimal, erlang, first_problem, float_of, is_read, matches
+from tests.model.tables import number, odd_table, random_table, row_of, table, text, types_in
+from tests.python.values import error_of, form
+from tests.rabbitmq import clients
+from tests.rabbitmq.broker import TRACED, Broker
+from tests.rabbitmq.found import DEATH, arguments, awaited, built, closed_by, dead_lettered, dying
+from tests.rabbitmq.found import entry_at, first_with, is_now, python_at, value_at, without
+from tests.rabbitmq.wire import FRAME_MAX, Closed, Connection, Message
 
-from crates import Crates  # noqa: E402
-from lib import Checks, end_descendants, end_on_signals, shared_object  # noqa: E402
-
-HERE = Path(__file__).resolve().parent
-# What it does at most: the minutes, and the seconds until a message comes that takes its time.
-MINUTES, PATIENCE = 10, 60
-BATCH = 200
-ODD, ROUTED = 2000, 300
-DEATH = (b"x-death", b"x-first-death-exchange", b"x-first-death-queue", b"x-first-death-reason")
+BATCH, ODD, ROUTED = 200, 2000, 300
+EMPTY_TEXT, VOID = text(""), ("V", b"")
 
 
-class Run:
-    """The broker, the calls for C, and the checks that are counted."""
-
-    def __init__(self, broker, checks, words):
-        self.broker, self.checks, self.words = broker, checks, words
-        self.make, self.counts, self.tables = random.Random(words.seed), [], []
-
-    def connection(self, **how):
-        return self.broker.connection(**how)
-
-    def equal(self, what, found, wanted):
-        return self.checks.tell(what, "" if found == wanted else f"{found!r}, and not {wanted!r}"[:600])
-
-    def count(self, what, tried, wrong):
-        """One check of many things that were tried, and their number for the end."""
-        self.tables.append(f"{what}: {tried - len(wrong)} of {tried}")
-        lacks = "" if tried else "nothing was tried"
-        self.checks.tell(f"{what}, {tried}", f"{len(wrong)}, of which the first is {str(wrong[0])[:600]}" if wrong else lacks)
-
-    def arguments(self, **entries):
-        return built(table(**entries))
-
-    def awaited(self, connection, queue, keeps=False, repeats=lambda: None):
-        """The next message of a queue, which may take its time."""
-        end = time.time() + PATIENCE
-        while time.time() < end:
-            repeats()
-            if found := connection.get(queue, keeps):
-                return found
-            time.sleep(0.02)
-        raise TimeoutError(f"nothing came to {queue}")
-
-
-# What is built and found, in the form of printed.py
-
-
-def built(value):
-    return av.dumps(python_of(value))
-
-
-def entry_at(data, *path):
-    """The entry at a path, of equal keys by the last; None if there is none."""
-    return av.entry(data).find(path, first=False)
-
-
-def value_at(data, *path):
-    found = entry_at(data, *path)
-    return found and form(found.value)
-
-
-def first_with(data, key):
-    """The value at a key, of equal keys by the first; None if there is none."""
-    found = av.entry(data).get(key)
-    return found and found.value
-
-
-def without(data, *keys):
-    """A table without these keys, of which each other entry is copied as it is."""
-    return av.dumps({it.key: it.encoding for it in av.entries(data) if it.key.encode() not in keys})
+def none_of(wrong: Sequence[Any]) -> str:
+    """How many are wrong, and the first of them; nothing if none is."""
+    return f"{len(wrong)}, of which the first is {str(wrong[0])[:600]}" if wrong else ""
 
 
 # Random tables
 
 
-def sent_tables(run):
-    """Tables, the first of every type, each with its encoding as the calls build it."""
-    for at in range(run.words.tables):
-        value = random_table(run.make) if at else EVERY_TYPE
-        yield value, built(value)
+class Way(NamedTuple):
+    """How a table is sent: what is made of it, the queue to which it goes, and those to which it comes."""
+
+    make: Callable[[Random, Value, bytes], bytes]
+    queue: str
+    back: tuple[str, ...]
 
 
-def check_tables(run):
-    """Sends tables by four ways, and compares what comes back."""
-    connection = run.connection()
-    connection.queue("as built")
-    connection.queue("copied")
-    connection.queue("back")
-    connection.queue("dead", run.arguments(x_message_ttl=number("I", 0), x_dead_letter_exchange=text(""), x_dead_letter_routing_key=text("back")))
-    consumers = {connection.consume(it): it for it in ("as built", "copied", "back")}
-    tried, types, wrong = Counter(), Counter(), {it: [] for it in WAYS}
-    tables = [*sent_tables(run)]
-    for begin in range(0, len(tables), BATCH):
-        batch = tables[begin : begin + BATCH]
-        for way, (make, queue, back) in WAYS.items():
-            sent = [make(run, value, data) for value, data in batch]
-            connection.write(b"".join(connection.message("", queue, it, {"message_id": f"{at}"}) for at, it in enumerate(sent)))
-            came = {it: [] for it in back}
-            for _ in range(len(batch) * len(back)):
-                message = connection.delivery()
-                came[consumers[message.consumer]].append(message)
-            for messages in came.values():
-                tried[way] += len(messages)
-                for at, ((value, data), message) in enumerate(zip(batch, messages, strict=True)):
-                    is_mine = message.properties["message_id"] == b"%d" % at
-                    if wrongly := differs(run, way, value, data, message.headers) if is_mine else "another message":
-                        wrong[way].append(f"{data.hex()}: {wrongly}")
-        for value, _ in batch:
-            types.update(types_in(value))
-    for way in WAYS:
-        run.count(f"tables {way} come back equal", tried[way], wrong[way])
-    lacks = {*PLAIN, "A", "F"} - types.keys()
-    run.checks.tell("every type was sent", lacks and f"not {sorted(lacks)}")
-    run.counts.append("values sent by type: " + ", ".join(f"{tag} {types[tag]}" for tag in sorted(types, key=str.lower)))
-    connection.close()
+def as_built(_: Random, value: Value, data: bytes) -> bytes:
+    return data
 
 
-def with_copy(run, value, data):
+def with_copy(make: Random, value: Value, data: bytes) -> bytes:
     """The table, and in it a header that has the broker send a copy to a queue."""
     entries = [*value[1].items()]
-    entries.insert(run.make.randrange(len(entries) + 1), (b"BCC", ("A", [text("copied")])))
+    entries.insert(make.randrange(len(entries) + 1), (b"BCC", ("A", [text("copied")])))
     return built(("F", dict(entries)))
 
 
-# How each is made, the queue to which it is sent, and those to which it comes.
+def from_json(_: Random, value: Value, data: bytes) -> bytes:
+    return av.from_json(json_text(value))
+
+
 WAYS = {
-    "as built": (lambda run, value, data: data, "as built", ["as built"]),
-    "with BCC": (with_copy, "as built", ["as built", "copied"]),
-    "dead-lettered": (lambda run, value, data: data, "dead", ["back"]),
-    "from JSON, dead-lettered": (lambda run, value, data: av.from_json(json_text(value)), "dead", ["back"]),
+    "as built": Way(as_built, "as built", ("as built",)),
+    "with BCC": Way(with_copy, "as built", ("as built", "copied")),
+    "dead-lettered": Way(as_built, "dead", ("back",)),
+    "from JSON, dead-lettered": Way(from_json, "dead", ("back",)),
 }
 
 
-def differs(run, way, value, data, back):
-    """What differs in a table that came back, by the calls and by the separate reader."""
+@pytest.fixture(scope="session")
+def tables(request: pytest.FixtureRequest, seed: int) -> list[tuple[Value, bytes]]:
+    """Tables, the first of every type, each with its encoding as the calls build it."""
+    make = Random(seed)
+    values = [EVERY_TYPE, *(random_table(make) for _ in range(request.config.getoption("--tables") - 1))]
+    return [(value, built(value)) for value in values]
+
+
+@pytest.fixture
+def consumers(connection: Connection) -> dict[bytes, str]:
+    """The queues to which tables come back, by their consumers."""
+    for it in ("as built", "copied", "back"):
+        connection.queue(it)
+    connection.queue("dead", arguments(**dying("back")))
+    return {connection.consume(it): it for it in ("as built", "copied", "back")}
+
+
+def delivered(connection: Connection, consumers: dict[bytes, str], way: Way, count: int) -> Iterator[list[Message]]:
+    """The next messages of each queue to which they come."""
+    came: dict[str, list[Message]] = {it: [] for it in way.back}
+    for _ in range(count * len(way.back)):
+        message = connection.delivery()
+        came[consumers[message.consumer]].append(message)
+    yield from came.values()
+
+
+@pytest.mark.parametrize("name", WAYS)
+def test_tables_come_back_equal(
+    name: str,
+    connection: Connection,
+    consumers: dict[bytes, str],
+    tables: list[tuple[Value, bytes]],
+    make: Random,
+    notes: list[str],
+) -> None:
+    way, tried = WAYS[name], 0
+    wrong: list[str] = []
+    for begin in range(0, len(tables), BATCH):
+        batch = tables[begin : begin + BATCH]
+        sent = [way.make(make, value, data) for value, data in batch]
+        frames = [connection.message("", way.queue, it, {"message_id": f"{at}"}) for at, it in enumerate(sent)]
+        connection.write(b"".join(frames))
+        for messages in delivered(connection, consumers, way, len(batch)):
+            tried += len(messages)
+            for at, ((value, data), message) in enumerate(zip(batch, messages, strict=True)):
+                is_mine = message.properties["message_id"] == b"%d" % at
+                wrongly = differs(name, value, data, message.headers) if is_mine else "another message"
+                wrong += [f"{data.hex()}: {wrongly}"] if wrongly else []
+    notes.append(f"tables {name} come back equal: {tried - len(wrong)} of {tried}")
+    assert tried and none_of(wrong) == ""
+
+
+def differs(name: str, value: Value, data: bytes, back: bytes) -> str:
+    """What differs in a table that came back, by the calls and by the reader of the model."""
     try:
-        return differs_if_read(run, way, value, data, back)
+        return differs_if_read(name, value, data, back)
     except (av.Error, Unread) as why:
         return f"{back.hex()}, {why}"
 
 
-def differs_if_read(run, way, value, data, back):
-    if way == "as built":
+def differs_if_read(name: str, value: Value, data: bytes, back: bytes) -> str:
+    if name == "as built":
         if back != data or json.loads(av.to_json(back)) != json_of(value):
             return f"{back.hex()}, as JSON {av.to_json(back)}"
-    elif "dead" in way:
+    elif "dead" in name:
         if value_at(back, b"x-death", 0, b"reason") != text("expired"):
             return f"{back.hex()}, without x-death"
         back = without(back, *DEATH)
-    is_equal = av.canonical(back) == av.canonical(data) == write(value) and form(av.loads(back)) == value and read(back) == (value, b"")
+    is_canonical = av.canonical(back) == av.canonical(data) == write(value)
+    is_equal = is_canonical and form(av.loads(back)) == value and read(back) == (value, b"")
     return "" if is_equal else back.hex()
+
+
+def test_every_type_is_sent(tables: list[tuple[Value, bytes]], notes: list[str]) -> None:
+    types = Counter(it for value, _ in tables for it in types_in(value))
+    notes.append("values sent by type: " + ", ".join(f"{tag} {types[tag]}" for tag in sorted(types, key=str.lower)))
+    assert {*PLAIN, "A", "F"} <= types.keys()
 
 
 # What the broker writes
 
 
-def check_deaths(run):
+def test_deaths(connection: Connection) -> None:
     """A message that expires in one queue and is rejected from another, four times."""
-    connection = run.connection()
     connection.exchange("again", "direct")
-    connection.queue("first", run.arguments(x_message_ttl=number("I", 1), x_dead_letter_exchange=text(""), x_dead_letter_routing_key=text("work")))
-    connection.queue("work", run.arguments(x_dead_letter_exchange=text("again"), x_dead_letter_routing_key=text("first")))
+    connection.queue("first", arguments(**dying("work", after=1)))
+    connection.queue("work", arguments(**dead_lettered("first", exchange="again")))
     connection.bind("first", "again", "first")
-    connection.publish("", "first", run.arguments(mine=number("s", 5)))
+    connection.publish("", "first", arguments(mine=number("s", 5)))
     for count in range(1, 5):
-        message = run.awaited(connection, "work", keeps=True)
+        message = awaited(connection, "work", keeps=True)
         data, at = message.headers, (b"x-death", 0)
-        run.equal(f"x-death, round {count}: the count", value_at(data, *at, b"count"), number("l", count))
-        found = [value_at(data, *at, it) for it in (b"queue", b"reason", b"exchange")] + [value_at(data, *at, b"routing-keys", 0)]
-        run.equal(f"x-death, round {count}: the first", found, [text(it) for it in ("first", "expired", "", "first")])
-        run.checks.tell(f"x-death, round {count}: the time", is_now(entry_at(data, *at, b"time")))
-        second = [value_at(data, b"x-death", 1, it) if count > 1 else entry_at(data, b"x-death", 1) for it in (b"queue", b"reason", b"count")]
-        run.equal(f"x-death, round {count}: the second", second, [text("work"), text("rejected"), number("l", count - 1)] if count > 1 else [None] * 3)
-        run.equal(f"x-death, round {count}: my own", value_at(data, b"mine"), number("s", 5))
+        assert value_at(data, *at, b"count") == number("l", count)
+        found = [value_at(data, *at, it) for it in (b"queue", b"reason", b"exchange")]
+        assert found == [text("first"), text("expired"), EMPTY_TEXT]
+        assert value_at(data, *at, b"routing-keys", 0) == text("first")
+        assert is_now(entry_at(data, *at, b"time"))
+        if count == 1:
+            assert entry_at(data, b"x-death", 1) is None
+        else:
+            found = [value_at(data, b"x-death", 1, it) for it in (b"queue", b"reason", b"count")]
+            assert found == [text("work"), text("rejected"), number("l", count - 1)]
+        assert value_at(data, b"mine") == number("s", 5)
         connection.reject(message)
-    connection.close()
 
 
-def is_now(entry, tag="T"):
-    """What is wrong with a time that should be of this minute, in seconds."""
-    return "" if entry and entry.tag == tag and abs(entry.value - time.time()) < 120 else f"{entry and entry.value!r}"
-
-
-def check_quorum(run):
-    """A quorum queue, which counts how often it delivered a message."""
-    connection = run.connection()
-    arguments = run.arguments(x_queue_type=text("quorum"), x_delivery_limit=number("I", 2), x_dead_letter_exchange=text(""), x_dead_letter_routing_key=text("limited"))
+def test_quorum_queue(connection: Connection) -> None:
+    """A quorum queue counts how often it delivered a message."""
+    limit = arguments(x_queue_type=text("quorum"), x_delivery_limit=number("I", 2), **dead_lettered("limited"))
     connection.queue("limited")
-    connection.queue("quorum", arguments, is_durable=True)
-    connection.publish("", "quorum", run.arguments(mine=("V", b"")))
+    connection.queue("quorum", limit, is_durable=True)
+    connection.publish("", "quorum", arguments(mine=VOID))
     for count in range(3):
-        message = run.awaited(connection, "quorum", keeps=True)
+        message = awaited(connection, "quorum", keeps=True)
         found = value_at(message.headers, b"x-delivery-count") or number("l", 0)
-        run.equal(f"a quorum queue: x-delivery-count {count}", found, number("l", count))
+        assert found == number("l", count)
         connection.reject(message, goes_back=True)
-    data = run.awaited(connection, "limited").headers
-    found = [value_at(data, b"x-death", 0, it) for it in (b"reason", b"queue", b"count")]
-    run.equal("a quorum queue: x-death", found, [text("delivery_limit"), text("quorum"), number("l", 1)])
-    run.equal("a quorum queue: my own", value_at(data, b"mine"), ("V", b""))
-    connection.close()
+    data = awaited(connection, "limited").headers
+    deaths = [value_at(data, b"x-death", 0, it) for it in (b"reason", b"queue", b"count")]
+    assert deaths == [text("delivery_limit"), text("quorum"), number("l", 1)]
+    assert value_at(data, b"mine") == VOID
 
 
-def check_trace(run):
+def test_trace(broker: Broker) -> None:
     """What the broker reports of a message that is published and delivered."""
-    connection = run.connection(vhost=TRACED)
+    connection = broker.connection(vhost=TRACED)
     connection.queue("plain")
     connection.queue("reports")
     for key in ("publish.#", "deliver.plain"):
         connection.bind("reports", "amq.rabbitmq.trace", key)
-    data = built(EVERY_TYPE)
-    connection.publish("", "plain", data, {"priority": 3, "content_type": "text/plain"})
+    connection.publish("", "plain", built(EVERY_TYPE), {"priority": 3, "content_type": "text/plain"})
     connection.get("plain")
-    for kind in ("publish", "deliver"):
-        message = run.awaited(connection, "reports")
+    for wanted in ("publish.", "deliver.plain"):
+        message = awaited(connection, "reports")
         report = message.headers
-        run.equal(f"a trace, {kind}: its key", message.key.decode(), {"publish": "publish.", "deliver": "deliver.plain"}[kind])
-        found = [value_at(report, *it) for it in ([b"exchange_name"], [b"routing_keys", 0], [b"properties", b"content_type"])]
-        run.equal(f"a trace, {kind}: where to", found, [text(""), text("plain"), text("text/plain")])
+        assert message.key.decode() == wanted
+        assert value_at(report, b"exchange_name") == EMPTY_TEXT
+        assert value_at(report, b"routing_keys", 0) == text("plain")
+        assert value_at(report, b"properties", b"content_type") == text("text/plain")
         inside = entry_at(report, b"properties", b"headers")
-        run.equal(f"a trace, {kind}: the headers", av.canonical(inside.encoding), write(EVERY_TYPE))
-        run.equal(f"a trace, {kind}: the priority", entry_at(report, b"properties", b"priority").value, 3)
+        assert inside and av.canonical(inside.encoding) == write(EVERY_TYPE)
+        assert python_at(report, b"properties", b"priority") == 3
     connection.close()
 
 
-def check_moved(run):
-    """Messages that a shovel and a federation link move."""
-    connection = run.connection()
-    data = built(EVERY_TYPE)
+def test_shovel(connection: Connection) -> None:
     for name in ("shovel from", "shovel to"):
         connection.queue(name, is_durable=True)
-    connection.publish("", "shovel from", data)
-    moved = run.awaited(connection, "shovel to").headers
-    found = [value_at(moved, b"x-shovelled", 0, it) for it in (b"src-queue", b"dest-queue", b"shovel-type", b"shovel-name")]
-    run.equal("a shovel: x-shovelled", found, [text(it) for it in ("shovel from", "shovel to", "dynamic", "moving")])
-    run.checks.tell("a shovel: the time", is_now(entry_at(moved, b"x-shovelled-timestamp"), "l"))
-    run.equal("a shovel: the rest", av.canonical(without(moved, b"x-shovelled", b"x-shovelled-timestamp")), write(EVERY_TYPE))
+    connection.publish("", "shovel from", built(EVERY_TYPE))
+    moved = awaited(connection, "shovel to").headers
+    names = (b"src-queue", b"dest-queue", b"shovel-type", b"shovel-name")
+    found = [value_at(moved, b"x-shovelled", 0, it) for it in names]
+    assert found == [text(it) for it in ("shovel from", "shovel to", "dynamic", "moving")]
+    assert is_now(entry_at(moved, b"x-shovelled-timestamp"), "l")
+    assert av.canonical(without(moved, b"x-shovelled", b"x-shovelled-timestamp")) == write(EVERY_TYPE)
+
+
+def test_federation(connection: Connection) -> None:
     for name in ("upstream", "downstream"):
         connection.exchange(name, "fanout")
     connection.queue("federated")
     connection.bind("federated", "downstream")
-    moved = run.awaited(connection, "federated", repeats=lambda: connection.publish("upstream", "", data)).headers
+    again = lambda: connection.publish("upstream", "", built(EVERY_TYPE))
+    moved = awaited(connection, "federated", repeats=again).headers
     found = [value_at(moved, b"x-received-from", 0, it) for it in (b"exchange", b"redelivered", b"vhost")]
-    run.equal("a federation link: x-received-from", found, [text("downstream"), number("t", 0), text("/")])
-    run.equal("a federation link: the rest", av.canonical(without(moved, b"x-received-from")), write(EVERY_TYPE))
-    connection.close()
+    assert found == [text("downstream"), number("t", 0), text("/")]
+    assert av.canonical(without(moved, b"x-received-from")) == write(EVERY_TYPE)
 
 
 # What the broker reads
 
+# What it has, in Erlang: properties of clients, and arguments of queues, bindings and consumers.
+SEEN = """
+    P = [P || [{client_properties, P}] <- R(rabbit_networking, connection_info_all, [[client_properties]]),
+         lists:keymember(<<"boolean">>, 1, P)],
+    Q = [{N, A} || [{name, {_, _, _, <<"seen", _/binary>> = N}}, {arguments, A}]
+         <- R(rabbit_amqqueue, info_all, [<<"/">>, [name, arguments]])],
+    B = [A || {binding, {_, _, _, <<"seen">>}, _, _, A} <- R(rabbit_binding, list, [<<"/">>])],
+    C = [V || C <- R(rabbit_amqqueue, consumers_all, [<<"/">>]),
+         lists:member({consumer_tag, <<"seen">>}, C), {arguments, V} <- C],
+    io:format("~w~n~w~n~w~n~w~n", [P, lists:sort(Q), B, C])"""
 
-def check_properties(run):
+
+def test_what_is_built_is_seen(broker: Broker) -> None:
     """The properties of both sides, and the arguments of queues, bindings and consumers, as the broker sees them."""
-    connection, every = run.connection(client_properties=built(EVERY_TYPE)), built(EVERY_TYPE)
-    queues = {}
+    connection, every = broker.connection(client_properties=built(EVERY_TYPE)), built(EVERY_TYPE)
+    queues: dict[str, Value] = {}
     for tag in INTEGERS:
         for at, key in enumerate((b"x-max-length", b"x-max-length-bytes", b"x-message-ttl", b"x-max-priority")):
             value = "F", {key: number(tag, 100 + at)}
@@ -304,331 +274,333 @@ def check_properties(run):
     connection.queue("bound")
     connection.bind("bound", "seen", "", every)
     connection.consume("bound", every, "seen")
-    expression = """
-        P = [P || [{client_properties, P}] <- R(rabbit_networking, connection_info_all, [[client_properties]]), lists:keymember(<<"boolean">>, 1, P)],
-        Q = [{N, A} || [{name, {_, _, _, <<"seen", _/binary>> = N}}, {arguments, A}] <- R(rabbit_amqqueue, info_all, [<<"/">>, [name, arguments]])],
-        B = [A || {binding, {_, _, _, <<"seen">>}, _, _, A} <- R(rabbit_binding, list, [<<"/">>])],
-        C = [V || C <- R(rabbit_amqqueue, consumers_all, [<<"/">>]), lists:member({consumer_tag, <<"seen">>}, C), {arguments, V} <- C],
-        io:format("~w~n~w~n~w~n~w~n", [P, lists:sort(Q), B, C])"""
-    seen = run.broker.asked(" ".join(expression.split())).split("\n")
-    by_key = "F", dict(sorted(EVERY_TYPE[1].items()))
-    arguments = ",".join(f"{{{erlang(text(name))},{erlang(value)}}}" for name, value in sorted(queues.items()))
-    wanted = {"client-properties": f"[{erlang(EVERY_TYPE)}]", f"the arguments of {len(queues)} queues": f"[{arguments}]"}
-    wanted |= {"a binding's arguments": f"[{erlang(by_key)}]", "a consumer's arguments": f"[{erlang(EVERY_TYPE)}]"}
-    for (what, text_of), found in zip(wanted.items(), seen):
-        run.equal(f"the broker sees {what}", found, text_of)
+    of_clients, of_queues, of_bindings, of_consumers = broker.asked(" ".join(SEEN.split())).split("\n")
+    assert of_clients == f"[{erlang(EVERY_TYPE)}]"
+    named = [f"{{{erlang(text(name))},{erlang(value)}}}" for name, value in sorted(queues.items())]
+    assert of_queues == f"[{','.join(named)}]"
+    assert of_bindings == f"[{erlang(('F', dict(sorted(EVERY_TYPE[1].items()))))}]"
+    assert of_consumers == f"[{erlang(EVERY_TYPE)}]"
     connection.close()
 
 
-def check_arguments(run):
-    """That the broker acts by arguments of every integer type, and which other types it rejects."""
-    connection = run.connection()
+def test_arguments_of_every_integer_type(connection: Connection) -> None:
+    """The broker acts by them."""
     connection.exchange("by number", "headers")
     connection.queue("in turn")
     connection.consume("in turn", consumer="none")
     for tag in INTEGERS:
         name = f"at most 3, by {tag}"
-        connection.queue(name, run.arguments(x_max_length=number(tag, 3)))
-        connection.bind(name, "by number", "", run.arguments(k=number(tag, 5)))
+        connection.queue(name, arguments(x_max_length=number(tag, 3)))
+        connection.bind(name, "by number", "", arguments(k=number(tag, 5)))
     connection.confirms()
     for count in range(5):
-        connection.publish("by number", "", run.arguments(k=number("I", 5), count=number("I", count)))
+        connection.publish("by number", "", arguments(k=number("I", 5), count=number("I", count)))
         connection.confirmed()
     for tag in INTEGERS:
         left = []
         while message := connection.get(f"at most 3, by {tag}"):
-            left.append(entry_at(message.headers, b"count").value)
-        run.equal(f"a binding and a length by {tag}", left, [2, 3, 4])
-        consumer = connection.consume("in turn", run.arguments(x_priority=number(tag, 5)), f"by {tag}")
+            left.append(python_at(message.headers, b"count"))
+        assert left == [2, 3, 4], tag
+        consumer = connection.consume("in turn", arguments(x_priority=number(tag, 5)), f"by {tag}")
         connection.publish("", "in turn")
-        run.equal(f"a consumer's priority by {tag}", connection.delivery().consumer, consumer)
+        assert connection.delivery().consumer == consumer, tag
         connection.cancel(consumer)
-    connection.close()
-    others = {"T": number("T", 3), "d": float_of("d", 3), "D": decimal(0, 3), "S": text("3"), "t": number("t", 1), "V": ("V", b"")}
-    for tag, value in others.items():
-        run.equal(f"a length by {tag}", closed_by(run, lambda it: it.queue("", run.arguments(x_max_length=value))), ("channel", 406))
 
 
-def closed_by(run, act, **how):
-    """What the broker closes, and why, when something is done over a new connection."""
-    try:
-        connection = run.connection(**how)
-        act(connection)
-        connection.close()
-    except Closed as why:
-        return why.what, why.code
-    return None
+NO_LENGTHS = {
+    "T": number("T", 3), "d": float_of("d", 3), "D": decimal(0, 3), "S": text("3"), "t": number("t", 1), "V": VOID,
+}  # fmt: skip
+
+
+@pytest.mark.parametrize("tag", NO_LENGTHS)
+def test_other_types_are_no_length(tag: str, broker: Broker) -> None:
+    length = arguments(x_max_length=NO_LENGTHS[tag])
+    assert closed_by(broker, lambda it: it.queue("", length)) == ("channel", 406)
 
 
 # What it closes the connection for
 
 
-def check_closing(run):
-    """Tables with something odd in them as headers: what amqpv_first_problem calls a problem closes the connection, and what
-    it passes doesn't. A third opinion is tables.first_problem, of which the offset, the kind and the tag agree too."""
-    connection, rows, of_broker, of_calls, of_reading = None, Counter(), [], [], []
-    for _ in range(ODD):
-        data = odd_table(run.make)
-        problem = av.first_problem(data)
-        if connection is None:
-            connection = run.connection()
-            connection.confirms()
+class Publisher:
+    """Publishes tables as headers, over a new connection if the broker has closed the one before."""
+
+    def __init__(self, broker: Broker) -> None:
+        self.broker = broker
+        self.connection: Connection | None = None
+
+    def closed(self, data: bytes) -> tuple[str, int] | None:
+        """What the broker closes, and why, when a table is published."""
+        if self.connection is None:
+            self.connection = self.broker.connection()
+            self.connection.confirms()
         try:
-            connection.publish("", "nowhere", data)
-            connection.confirmed()
-            closed = None
+            self.connection.publish("", "nowhere", data)
+            self.connection.confirmed()
         except Closed as why:
-            closed = why.what, why.code
-            connection.drop()
-            connection = None
-        if closed != (("connection", 541) if problem else None):
+            self.connection.drop()
+            self.connection = None
+            return why.what, why.code
+        return None
+
+
+def row_in(data: bytes, problem: Problem | None) -> str:
+    """What kind of table it is, by its first problem, and the container of that."""
+    if problem:
+        return f"{row_of(data, problem)} in {container_of(data)}"
+    return "none" if is_read(data) else "none, unread here"
+
+
+def test_odd_tables_as_headers(broker: Broker, make: Random, notes: list[str]) -> None:
+    """What amqpv_first_problem calls a problem closes the connection, and what it passes doesn't.
+
+    A third opinion is the model's, of which the offset, the kind and the tag agree too.
+    """
+    publisher, rows = Publisher(broker), Counter[str]()
+    of_broker, of_calls, of_reading = [], [], []
+    for _ in range(ODD):
+        data = odd_table(make)
+        problem, predicted = av.first_problem(data), first_problem(data)
+        if (closed := publisher.closed(data)) != (("connection", 541) if problem else None):
             of_broker.append(f"{data.hex()}: {closed}, and its first problem {problem}")
-        bare, predicted = av.first_problem(data[1:], table=True), first_problem(data)
+        bare = av.first_problem(data[1:], table=True)
         if problem != predicted or bare != (problem and (max(0, problem[0] - 1), *problem[1:])):
             of_calls.append(f"{data.hex()}: {problem}, without its type tag {bare}, predicted {predicted}")
         if is_read(data) == bool(error_of(lambda: av.loads(data))):
             of_reading.append(data.hex())
-        rows.update([f"{row_of(data, predicted)} in {container_of(data)}" if predicted else "none" if is_read(data) else "none, unread here"])
-    run.count("odd tables close the connection exactly if amqpv_first_problem has one", ODD, of_broker)
-    run.count("problems of odd tables, with the type tag and without, are as predicted", ODD, of_calls)
-    run.count("odd tables that are read here or aren't, as predicted", ODD, of_reading)
-    run.counts.append("odd tables by their first problem: " + ", ".join(f"{it} {rows[it]}" for it in sorted(rows)))
+        rows[row_in(data, predicted)] += 1
+    notes.append("odd tables by their first problem: " + ", ".join(f"{it} {rows[it]}" for it in sorted(rows)))
+    assert (none_of(of_broker), none_of(of_calls), none_of(of_reading)) == ("", "", "")
     wanted = [f"{row} in {tag}" for row in ROWS for tag in "AF" if (row, tag) != ("key cut", "A")]
-    lacks = [it for it in [*wanted, "none", "none, unread here"] if rows[it] < ODD / 200]
-    run.checks.tell("odd tables of every row, in arrays and in tables", lacks and f"few of {lacks}")
+    assert not [it for it in [*wanted, "none", "none, unread here"] if rows[it] < ODD / 200]
 
 
-def check_closing_elsewhere(run):
-    """The same in methods and client-properties: the socket is closed there, with no reason."""
-    connection = run.connection()
+# What is done with a table but for headers.
+ACTS: dict[str, Callable[[Connection, bytes], object]] = {
+    "queue.declare": lambda connection, data: connection.queue("", data),
+    "queue.bind": lambda connection, data: connection.bind("closing", "closing", "", data),
+    "basic.consume": lambda connection, data: connection.consume("closing", data),
+}
+
+
+@pytest.fixture
+def closing(connection: Connection) -> Connection:
+    """A connection, and what odd tables are passed to."""
     connection.queue("closing")
     connection.exchange("closing", "headers")
-    acts = {
-        "queue.declare": lambda data: lambda it: it.queue("", data),
-        "queue.bind": lambda data: lambda it: it.bind("closing", "closing", "", data),
-        "basic.consume": lambda data: lambda it: it.consume("closing", data),
-    }
-    odd = [field(b"F", b"\1a" + it) for it in (*NAN, *INFINITY, b"U\0\1", *NO_TAG, b"I\0", b"")]
-    tried = [(name, data) for data in odd for name in (*acts, "client-properties")]
+    return connection
 
-    def tried_in(name, data):
-        return closed_by(run, acts[name](data)) if name in acts else closed_by(run, lambda it: None, client_properties=data)
+
+@pytest.mark.usefixtures("closing")
+def test_odd_tables_elsewhere(broker: Broker) -> None:
+    """The socket is closed for them in methods and client-properties, with no reason."""
+    odd = [field(b"F", b"\1a" + it) for it in (*NAN, *INFINITY, b"U\0\1", *NO_TAG, b"I\0", b"")]
+    tried = [(name, data) for data in odd for name in (*ACTS, "client-properties")]
+
+    def closed(name: str, data: bytes) -> tuple[str, int] | None:
+        if name in ACTS:
+            return closed_by(broker, lambda it: ACTS[name](it, data))
+        return closed_by(broker, lambda it: None, client_properties=data)
 
     # of client-properties the broker closes the socket three seconds later
     with ThreadPoolExecutor(len(odd)) as pool:
-        found = pool.map(tried_in, *zip(*tried))
-    wrong = [f"{data.hex()} in {name}: {it}" for (name, data), it in zip(tried, found) if it != ("socket", 0)]
-    run.count("odd tables in methods and client-properties that close the socket", len(tried), wrong)
+        found = pool.map(closed, *zip(*tried))
+    assert (
+        none_of([f"{data.hex()} in {name}: {it}" for (name, data), it in zip(tried, found) if it != ("socket", 0)])
+        == ""
+    )
+
+
+@pytest.mark.usefixtures("closing")
+@pytest.mark.parametrize("name", ACTS)
+def test_what_is_taken_elsewhere(name: str, broker: Broker) -> None:
+    """L, another true and a key that isn't UTF-8."""
     data = field(b"F", b"\1aL" + b"\xff" * 8 + b"\1bt\7\1\xffV")
-    found = [closed_by(run, act(data)) for act in acts.values()]
-    run.equal("L, another true and a key that isn't UTF-8 in methods", found, [None] * 3)
-    connection.close()
+    assert closed_by(broker, lambda it: ACTS[name](it, data)) is None
 
 
 # What it does otherwise
 
 
-def check_equal_keys(run):
-    """That of equal keys the first counts for the broker."""
-    connection, numbers = run.connection(), range(5)
+def received(connection: Connection, queue: str) -> list[int]:
+    """The numbers of the messages that are in a queue."""
+    found = []
+    while message := connection.get(queue):
+        found.append(int(message.properties["message_id"]))
+    return found
+
+
+def test_equal_keys_are_routed_by_the_first(connection: Connection, make: Random) -> None:
+    numbers, repeated = range(5), 0
     connection.exchange("first", "headers")
     for it in numbers:
         connection.queue(f"first {it}")
-        connection.bind(f"first {it}", "first", "", run.arguments(k=number("I", it)))
+        connection.bind(f"first {it}", "first", "", arguments(k=number("I", it)))
     connection.confirms()
-    wanted, repeated = {it: [] for it in numbers}, 0
+    wanted: dict[int, list[int]] = {it: [] for it in numbers}
     for at in range(ROUTED):
-        pairs = [(run.make.choice([b"k", b"k", b"a", b"z"]), run.make.randrange(5)) for _ in range(run.make.randrange(1, 6))]
-        data = field(b"F", b"".join(bytes([len(key)]) + key + b"I" + it.to_bytes(4, "big") for key, it in pairs))
+        pairs = [(make.choice([b"k", b"k", b"a", b"z"]), make.randrange(5)) for _ in range(make.randrange(1, 6))]
+        data = field(b"F", b"".join(bytes([len(key)]) + key + write(number("I", it)) for key, it in pairs))
         if (first := first_with(data, "k")) is not None:
-            wanted[first].append(b"%d" % at)
+            wanted[first].append(at)
             repeated += first != av.loads(data)["k"]
         connection.publish("first", "", data, {"message_id": f"{at}"})
         connection.confirmed()
-    wrong = []
     for it in numbers:
-        found = []
-        while message := connection.get(f"first {it}"):
-            found.append(message.properties["message_id"])
-        wrong += [f"message {at} to {it}" for at in sorted({*found} ^ {*wanted[it]})]
-    run.count("messages with equal keys, routed by the first", ROUTED, wrong)
-    run.checks.tell("equal keys with another last value", repeated < ROUTED / 5 and f"only {repeated}")
-    connection.queue("two", field(b"F", b"".join(b"\x0cx-max-lengthI" + it.to_bytes(4, "big") for it in (2, 3))))
+        assert sorted(received(connection, f"first {it}")) == wanted[it]
+    assert repeated >= ROUTED / 5
+
+
+def test_the_first_of_equal_arguments(connection: Connection) -> None:
+    connection.confirms()
+    connection.queue("two", field(b"F", b"".join(b"\x0cx-max-length" + write(number("I", it)) for it in (2, 3))))
     for _ in range(5):
         connection.publish("", "two")
         connection.confirmed()
-    run.equal("x-max-length twice: the first", connection.count("two"), 2)
-    for it in ("sent to", "copied first", "copied last"):
+    assert connection.count("two") == 2
+
+
+def test_the_first_of_equal_headers(connection: Connection) -> None:
+    connection.confirms()
+    queues = ("sent to", "copied first", "copied last")
+    for it in queues:
         connection.queue(it)
-    both = b"".join(b"\3BCC" + write(("A", [text(it)])) for it in ("copied first", "copied last"))
+    both = b"".join(b"\3BCC" + write(("A", [text(it)])) for it in queues[1:])
     connection.publish("", "sent to", field(b"F", both))
     connection.confirmed()
-    run.equal("BCC twice: the first", [connection.count(it) for it in ("sent to", "copied first", "copied last")], [1, 1, 0])
-    connection.close()
+    assert [connection.count(it) for it in queues] == [1, 1, 0]
 
 
-def check_equality(run):
+def compared() -> list[Value]:
+    """Values of which some are equal to a headers exchange."""
+    numbers = [number(tag, it) for tag in INTEGERS for it in (0, 5)] + [number(tag, -1) for tag in "bsIl"]
+    numbers += [float_of(tag, it) for tag in "fd" for it in (0.0, -0.0, 5.0, 1.5)]
+    numbers += [number("T", 5), decimal(0, 5), number("t", 0), number("t", 1), VOID]
+    strings = [text("5"), ("x", b"5"), EMPTY_TEXT, ("x", b"")]
+    arrays: list[Value] = [("A", []), ("A", [number("I", 5)]), ("A", [number("l", 5)])]
+    five, empty = number("I", 5), EMPTY_TEXT
+    tables = [table(), table(a=five), table(a=number("l", 5)), table(a=five, b=empty), table(b=empty, a=five)]
+    return [*numbers, *strings, *arrays, *tables]
+
+
+def test_equality(connection: Connection, notes: list[str]) -> None:
     """Which values a headers exchange takes for equal."""
-    connection = run.connection()
-    values = [number(tag, it) for tag in INTEGERS for it in (0, 5)] + [number(tag, -1) for tag in "bsIl"] + [number("T", 5)]
-    values += [float_of(tag, it) for tag in "fd" for it in (0.0, -0.0, 5.0, 1.5)] + [decimal(0, 5), number("t", 0), number("t", 1), ("V", b"")]
-    values += [text("5"), ("x", b"5"), text(""), ("x", b""), ("A", []), table(), ("A", [number("I", 5)]), ("A", [number("l", 5)])]
-    values += [table(a=number("I", 5)), table(a=number("l", 5)), table(a=number("I", 5), b=text("")), table(b=text(""), a=number("I", 5))]
+    values, wrong, equal_here = compared(), [], 0
     connection.exchange("equal", "headers")
     connection.confirms()
     for at, value in enumerate(values):
         connection.queue(f"equal {at}")
-        connection.bind(f"equal {at}", "equal", "", run.arguments(k=value))
+        connection.bind(f"equal {at}", "equal", "", arguments(k=value))
     for at, value in enumerate(values):
-        connection.publish("equal", "", run.arguments(k=value), {"message_id": f"{at}"})
+        connection.publish("equal", "", arguments(k=value), {"message_id": f"{at}"})
         connection.confirmed()
-    wrong, equal_here = [], 0
     for at, argument in enumerate(values):
-        found = set()
-        while message := connection.get(f"equal {at}"):
-            found.add(int(message.properties["message_id"]))
+        found = {*received(connection, f"equal {at}")}
         wanted = {it for it, header in enumerate(values) if matches(argument, header)}
         wrong += [f"{argument} and {values[it]}" for it in found ^ wanted]
         equal_here += sum((it in found) == (write(argument) == write(header)) for it, header in enumerate(values))
-    run.count("pairs that a headers exchange takes for equal or not, as predicted", len(values) ** 2, wrong)
-    run.counts.append(f"of these pairs equal there exactly if equal here: {equal_here}")
-    connection.close()
+    notes.append(f"of {len(values) ** 2} pairs equal there exactly if equal here: {equal_here}")
+    assert none_of(wrong) == ""
 
 
-def check_writing(run):
-    """How the broker writes what it read, and how deep that may nest."""
-    connection = run.connection()
+# Entries that the broker writes otherwise: another true, L, an empty key, a key twice.
+PAIRS = b"\1bt\7" + b"\1aL" + b"\xff" * 8 + b"\0V" + b"\1a" + write(float_of("d", -0.0))
+
+
+def test_what_is_rewritten(connection: Connection) -> None:
+    """L and another true are written l and 1, in their order."""
     for it in ("to", "copy"):
         connection.queue(it)
-    connection.queue("dies", run.arguments(x_message_ttl=number("I", 0), x_dead_letter_exchange=text(""), x_dead_letter_routing_key=text("to")))
-    copied, pairs = b"\3BCC" + write(("A", [text("copy")])), b"\1bt\7" + b"\1aL" + b"\xff" * 8 + b"\0V" + b"\1a" + write(float_of("d", -0.0))
-    connection.publish("", "to", field(b"F", pairs + copied))
-    rewritten = field(b"F", pairs.replace(b"t\7", b"t\1").replace(b"aL", b"al"))
-    run.equal("L and another true are written l and 1, in their order", run.awaited(connection, "copy").headers, rewritten)
-    run.equal("both messages are", run.awaited(connection, "to").headers, rewritten)
-    connection.publish("", "dies", field(b"F", b"\1zV" + pairs))
-    back = run.awaited(connection, "to").headers
-    keys = [it.key.encode() for it in av.entries(back)]
-    run.equal("dead-lettering puts the keys in order", keys, [b"", b"a", b"a", b"b", *DEATH, b"z"])
-    run.equal("of equal keys the first stays before", type(first_with(back, "a")), int)
-    for tag, count in (("A", 20000), ("F", 5000)):
-        data = field(b"F", b"\1k" + nested(tag, count - 1, field(tag.encode(), b"")))
-        connection.publish("", "to", data)
-        run.equal(f"{count} levels of {tag} pass", run.awaited(connection, "to").headers, data)
-        run.equal(f"{count} levels of {tag} are too deep here", error_of(lambda: av.loads(data)), av.Malformed)
+    connection.publish("", "to", field(b"F", PAIRS + b"\3BCC" + write(("A", [text("copy")]))))
+    rewritten = field(b"F", PAIRS.replace(b"t\7", b"t\1").replace(b"aL", b"al"))
+    assert [awaited(connection, it).headers for it in ("copy", "to")] == [rewritten] * 2
+
+
+def test_dead_lettering_puts_keys_in_order(connection: Connection) -> None:
+    connection.queue("in order")
+    connection.queue("disordered", arguments(**dying("in order")))
+    connection.publish("", "disordered", field(b"F", b"\1zV" + PAIRS))
+    back = awaited(connection, "in order").headers
+    assert [it.key for it in av.entries(back)] == ["", "a", "a", "b", *(it.decode() for it in DEATH), "z"]
+    assert type(first_with(back, "a")) is int
+
+
+@pytest.mark.parametrize("tag, count", [("A", 20000), ("F", 5000)])
+def test_deep_tables_pass(tag: str, count: int, connection: Connection) -> None:
+    connection.queue("deep")
+    data = field(b"F", b"\1k" + nested(tag, count - 1, field(tag.encode(), b"")))
+    connection.publish("", "deep", data)
+    assert awaited(connection, "deep").headers == data
+    assert error_of(lambda: av.loads(data)) is av.Malformed
+
+
+def test_a_key_that_is_not_utf8_passes(connection: Connection) -> None:
+    connection.queue("latin")
+    connection.queue("latin dies", arguments(**dying("latin")))
     data = field(b"F", b"\2\xf6\xdfI\0\0\0\5")
-    connection.publish("", "dies", data)
-    back = run.awaited(connection, "to").headers
-    run.checks.tell("a key that isn't UTF-8 passes", data[5:] not in back and back.hex())
-    run.equal("a key that isn't UTF-8 isn't read here", error_of(lambda: av.loads(back)), av.Malformed)
-    connection.close()
+    connection.publish("", "latin dies", data)
+    back = awaited(connection, "latin").headers
+    assert data[5:] in back
+    assert error_of(lambda: av.loads(back)) is av.Malformed
 
 
-def check_frames(run):
-    """That the broker sends larger frames than it agreed to, and so larger tables than its clients may send."""
-    connection = run.connection()
+def test_frames(connection: Connection, notes: list[str]) -> None:
+    """The broker sends larger frames than it agreed to, and so larger tables than its clients may send."""
     connection.queue("large")
-    connection.queue("ends", run.arguments(x_message_ttl=number("I", 0), x_dead_letter_exchange=text(""), x_dead_letter_routing_key=text("large")))
-    data = run.arguments(k=("x", bytes(FRAME_MAX - 8 - 14 - 11)))
+    connection.queue("ends", arguments(**dying("large")))
+    data = arguments(k=("x", bytes(FRAME_MAX - 8 - 14 - 11)))
     connection.publish("", "ends", data)
-    message = run.awaited(connection, "large")
+    message = awaited(connection, "large")
     back = message.headers
-    run.counts.append(f"a table of {len(data)} bytes came back with {len(back)}, in a frame of {message.frame}, where {FRAME_MAX} were agreed")
-    run.checks.tell("a larger frame than agreed", message.frame <= FRAME_MAX and f"{message.frame}")
-    run.equal("a limit of frame-max rejects its table", error_of(lambda: av.loads(back, frame=FRAME_MAX)), av.TooLarge)
-    run.equal("the default limit of amqp_show doesn't", av.entry(back, frame=FRAME).length, len(back))
-    run.equal("the rest of it", av.canonical(without(back, *DEATH)), data)
-    connection.close()
+    came = f"a table of {len(data)} bytes came back with {len(back)}, in a frame of {message.frame}"
+    notes.append(f"{came}, where {FRAME_MAX} were agreed")
+    assert message.frame > FRAME_MAX
+    assert error_of(lambda: av.loads(back, frame=FRAME_MAX)) is av.TooLarge
+    assert av.entry(back, frame=FRAME).length == len(back)
+    assert av.canonical(without(back, *DEATH)) == data
 
 
 # Its clients
 
 
-def check_clients(run):
-    """What pika, py-amqp and amqp-publish write is read as they mean it, and what they read of what is built here."""
-    connection, port = run.connection(), run.broker.port
-    for it in ("from a client", "to a client"):
+@pytest.mark.parametrize("client", clients.CLIENTS)
+def test_client(client: str, connection: Connection, broker: Broker) -> None:
+    """What a client writes is read as it means it, and it reads what is built here, as known."""
+    sent, received_from = f"from {client}", f"to {client}"
+    for it in (sent, received_from):
         connection.queue(it)
-    own = json.loads(av.to_json(connection.server_properties))
-    connection.confirms()
     # py-amqp takes s for a short string, and then fails
-    others = "F", {key: it for key, it in EVERY_TYPE[1].items() if it[0] != "s"}
-    for client, headers in (("pika", EVERY_TYPE), ("py-amqp", others)):
-        connection.publish("", "to a client", built(headers))
-        connection.confirmed()
-        words = [clients.PYTHON, HERE / "clients.py", client, port, "from a client", "to a client"]
-        done = subprocess.run([str(it) for it in words], capture_output=True, text=True, timeout=100)
-        if done.returncode:
-            run.checks.tell(client, done.stderr[-600:])
-            continue
-        printed, message = json.loads(done.stdout), run.awaited(connection, "from a client")
-        run.equal(f"{client}: the server's properties", printed["server"], own)
-        run.equal(f"{client}: its headers are read as it means them", value_at(message.headers), clients.meant(client)[0])
-        known = {key: clients.READS[client].get(key, it) for key, it in clients.READS.items() if key.encode() in headers[1]}
-        run.equal(f"{client}: it reads {len(known)} headers, as known", printed["read"], known)
-    connection.close()
+    left_out = "s" if client == "py-amqp" else ""
+    headers = "F", {key: it for key, it in EVERY_TYPE[1].items() if it[0] != left_out}
+    connection.confirms()
+    connection.publish("", received_from, built(headers))
+    connection.confirmed()
+    words = [clients.PYTHON, "-B", "-m", clients.__name__, client, f"{broker.port}", sent, received_from]
+    done = subprocess.run(words, cwd=TOP, capture_output=True, text=True, timeout=100)
+    assert not done.returncode, done.stderr[-600:]
+    printed = json.loads(done.stdout)
+    assert printed["server"] == json.loads(av.to_json(connection.server_properties))
+    assert value_at(awaited(connection, sent).headers) == clients.meant(client)[0]
+    known = clients.READS | clients.OTHERWISE[client]
+    assert printed["read"] == {key: it for key, it in known.items() if key.encode() in headers[1]}
 
 
-def check_publish(run):
-    """What amqp-publish writes of headers: strings, a key twice, and a key in Latin-1."""
-    connection = run.connection()
+def published(connection: Connection, broker: Broker, *headers: bytes) -> bytes:
+    """What amqp-publish writes of headers."""
+    words = ["amqp-publish", "--server", "127.0.0.1", "--port", f"{broker.port}", "-r", "from a command", "-b", ""]
+    subprocess.run([*words, *(word for it in headers for word in (b"-H", it))], check=True, timeout=60)
+    return awaited(connection, "from a command").headers
+
+
+def test_amqp_publish(connection: Connection, broker: Broker) -> None:
+    """It writes strings, a key twice, and a key in Latin-1."""
     connection.queue("from a command")
-
-    def published(*headers):
-        words = ["amqp-publish", "--server", "127.0.0.1", "--port", f"{run.broker.port}", "-r", "from a command", "-b", ""]
-        subprocess.run([*words, *(word for it in headers for word in ("-H", it))], check=True, timeout=60)
-        return run.awaited(connection, "from a command").headers
-
-    data = published(b"k: 1", "other: ä".encode(), b"k: 2")
-    found = [(it.key.encode(), form(it.value)) for it in av.entries(data)]
-    run.equal("amqp-publish: a key twice, and text", found, [(b"k", text("1")), (b"other", text("ä")), (b"k", text("2"))])
-    run.equal("amqp-publish: of equal keys the last is found here", value_at(data, b"k"), text("2"))
-    run.equal("amqp-publish: a key in Latin-1 isn't read here", error_of(lambda: av.loads(published(b"gr\xf6\xdfe: 5"))), av.Malformed)
-    connection.close()
+    data = published(connection, broker, b"k: 1", "other: ä".encode(), b"k: 2")
+    found = [(it.key, form(it.value)) for it in av.entries(data)]
+    assert found == [("k", text("1")), ("other", text("ä")), ("k", text("2"))]
+    assert value_at(data, b"k") == text("2")
+    latin = published(connection, broker, b"gr\xf6\xdfe: 5")
+    assert error_of(lambda: av.loads(latin)) is av.Malformed
 
 
-CHECKS = [
-    check_deaths, check_quorum, check_trace, check_moved, check_properties, check_arguments, check_closing_elsewhere, check_closing,
-    check_equal_keys, check_equality, check_writing, check_frames, check_clients, check_publish, check_tables,
-]
-
-
-def main():
-    reader = argparse.ArgumentParser(prog="tests/rabbitmq/run", description=__doc__, formatter_class=argparse.RawDescriptionHelpFormatter)
-    reader.add_argument("--built", action="store_true", help="over what `rt ci` has left")
-    reader.add_argument("--tables", type=int, default=10000, help="how many random tables (10000)")
-    reader.add_argument("--seed", type=int, default=1, help="of what is random (1)")
-    words = reader.parse_args()
-    checks, counts, tables = Checks("broker"), [], []
-    end_on_signals()
-    signal.signal(signal.SIGALRM, lambda *_: sys.exit(f"broker: not done within {MINUTES} minutes"))
-    if not (BIN / "rabbitmq-server").exists():
-        checks.tell("RabbitMQ", "it is missing (.ci/setup installs it)")
-        return checks.ended()
-    try:
-        with tempfile.TemporaryDirectory(prefix="broker-", ignore_cleanup_errors=True) as folder:
-            path, wrong = shared_object(Crates(), Path(folder), words.built)
-            if checks.tell("the shared object links", wrong):
-                av.load(str(path))
-                signal.alarm(60 * MINUTES)
-                with Broker(folder) as broker:
-                    print(f"broker: ready after {broker.seconds:.1f} s; {words.tables} tables, seed {words.seed}", flush=True)
-                    run = Run(broker, checks, words)
-                    counts, tables = run.counts, run.tables
-                    for check in CHECKS:
-                        begun = time.time()
-                        try:
-                            check(run)
-                        except Exception as why:
-                            traceback.print_exc()
-                            checks.tell(check.__name__, f"it ended by {why!r}"[:600])
-                        counts.append(f"{check.__name__.removeprefix('check_').replace('_', ' ')}: {time.time() - begun:.1f} s")
-                    checks.tell("it runs to the end", broker.has_ended() and broker.printed())
-    finally:
-        end_descendants()
-    print("\n".join(counts))
-    return checks.ended("; ".join(tables))
-
-
-if __name__ == "__main__":
-    sys.exit(main())
+def test_the_broker_runs_to_the_end(broker: Broker) -> None:
+    assert not broker.has_ended(), broker.printed()

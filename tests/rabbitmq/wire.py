@@ -5,13 +5,19 @@ On the wire a table has no type tag: `bare` removes it, and `Arguments.table` ad
 
 import socket
 import struct
+from collections.abc import Callable, Mapping
+from contextlib import suppress
+from typing import Any
 
 # The properties of a message in the order of their bits, from the highest.
 PROPERTIES = {
     "content_type": "s", "content_encoding": "s", "headers": "F", "delivery_mode": "o", "priority": "o",
     "correlation_id": "s", "reply_to": "s", "expiration": "s", "message_id": "s", "timestamp": "T",
     "type": "s", "user_id": "s", "app_id": "s", "cluster_id": "s",
-}
+}  # fmt: skip
+# A property: a string, a table, or a number.
+Property = str | bytes | int
+Method = tuple[int, int]
 EMPTY = b"F\0\0\0\0"
 FRAME_MAX, SECONDS = 131072, 60
 METHOD, HEADER, BODY, HEARTBEAT, END = 1, 2, 3, 8, b"\xce"
@@ -28,21 +34,21 @@ CONFIRM, CONFIRM_OK = (85, 10), (85, 11)
 class Closed(Exception):
     """The broker closed the socket (code 0), or by a method the connection or the channel."""
 
-    def __init__(self, what, code=0, text=""):
+    def __init__(self, what: str, code: int = 0, text: str = "") -> None:
         super().__init__(f"the {what} was closed: {code} {text}")
         self.what, self.code, self.text = what, code, text
 
 
-def short(text):
+def short(text: str | bytes) -> bytes:
     data = text.encode() if isinstance(text, str) else text
     return bytes([len(data)]) + data
 
 
-def long(data):
+def long(data: bytes) -> bytes:
     return struct.pack(">I", len(data)) + data
 
 
-def bare(table):
+def bare(table: bytes) -> bytes:
     assert table[:1] == b"F", table[:5]
     return table[1:]
 
@@ -50,37 +56,44 @@ def bare(table):
 class Arguments:
     """The fields of a method or of a content header, taken from the start."""
 
-    def __init__(self, data):
+    def __init__(self, data: bytes) -> None:
         self.data, self.at = data, 0
 
-    def take(self, count):
+    def take(self, count: int) -> bytes:
         piece = self.data[self.at : self.at + count]
         assert len(piece) == count, "a field is cut"
         self.at += count
         return piece
 
-    def number(self, form):
-        return struct.unpack(f">{form}", self.take(struct.calcsize(f">{form}")))[0]
+    def number(self, form: str) -> int:
+        return int(struct.unpack(f">{form}", self.take(struct.calcsize(f">{form}")))[0])
 
-    def short(self):
+    def short(self) -> bytes:
         return self.take(self.number("B"))
 
-    def long(self):
+    def long(self) -> bytes:
         return self.take(self.number("I"))
 
-    def table(self):
+    def table(self) -> bytes:
         return b"F" + long(self.long())
 
-    def properties(self):
+    def property(self, form: str) -> bytes | int:
+        if form in "sF":
+            return self.short() if form == "s" else self.table()
+        return self.number("B" if form == "o" else "Q")
+
+    def properties(self) -> tuple[int, dict[str, bytes | int]]:
         """The size of a body, and a message's properties."""
         _, _, size, flags = self.number("H"), self.number("H"), self.number("Q"), self.number("H")
-        take = {"s": self.short, "F": self.table, "o": lambda: self.number("B"), "T": lambda: self.number("Q")}
-        return size, {name: take[form]() for at, (name, form) in enumerate(PROPERTIES.items()) if flags >> 15 - at & 1}
+        names = [it for at, it in enumerate(PROPERTIES) if flags >> 15 - at & 1]
+        return size, {it: self.property(PROPERTIES[it]) for it in names}
 
 
-def header_of(size, properties):
+def header_of(size: int, properties: Mapping[str, Property]) -> bytes:
     """The content header of a message."""
-    put = {"s": short, "F": bare, "o": lambda it: bytes([it]), "T": lambda it: struct.pack(">Q", it)}
+    put: dict[str, Callable[[Any], bytes]] = {
+        "s": short, "F": bare, "o": lambda it: bytes([it]), "T": lambda it: struct.pack(">Q", it),
+    }  # fmt: skip
     flags = sum(1 << 15 - at for at, name in enumerate(PROPERTIES) if name in properties)
     fields = (put[form](properties[name]) for name, form in PROPERTIES.items() if name in properties)
     return struct.pack(">HHQH", 60, 0, size, flags) + b"".join(fields)
@@ -89,7 +102,7 @@ def header_of(size, properties):
 class Message:
     """A message as it came, to a consumer or since it was asked for."""
 
-    def __init__(self, method, header, body):
+    def __init__(self, method: bytes, header: "Header", body: bytes) -> None:
         fields = Arguments(method)
         self.consumer = fields.short() if header.is_delivery else b""
         self.tag, self.is_again = fields.number("Q"), fields.number("B")
@@ -97,14 +110,16 @@ class Message:
         self.frame = header.frame
 
     @property
-    def headers(self):
-        return self.properties.get("headers", EMPTY)
+    def headers(self) -> bytes:
+        found = self.properties.get("headers", EMPTY)
+        assert isinstance(found, bytes)
+        return found
 
 
 class Header:
     """A content header, and how many bytes its frame had."""
 
-    def __init__(self, payload, is_delivery):
+    def __init__(self, payload: bytes, is_delivery: bool) -> None:
         self.is_delivery, self.frame = is_delivery, len(payload) + 8
         self.size, self.properties = Arguments(payload).properties()
 
@@ -112,35 +127,35 @@ class Header:
 class Connection:
     """A connection with one channel. What comes while something else is waited for is kept."""
 
-    def __init__(self, port, client_properties=EMPTY, vhost="/"):
+    def __init__(self, port: int, client_properties: bytes = EMPTY, vhost: str = "/") -> None:
         self.socket = socket.create_connection(("127.0.0.1", port), SECONDS)
         self.socket.setsockopt(socket.IPPROTO_TCP, socket.TCP_NODELAY, 1)
-        self.file, self.inbox = self.socket.makefile("rb"), []
+        self.file = self.socket.makefile("rb")
+        self.inbox: list[tuple[Method, Any]] = []
         self.socket.sendall(b"AMQP\0\0\x09\x01")
         start = Arguments(self.wait(START))
         start.take(2)
         self.server_properties = start.table()
-        self.call(START_OK, bare(client_properties) + short("PLAIN") + long(b"\0guest\0guest") + short("en_US"), TUNE, channel=0)
+        log_in = short("PLAIN") + long(b"\0guest\0guest") + short("en_US")
+        self.call(START_OK, bare(client_properties) + log_in, TUNE, channel=0)
         self.send(TUNE_OK, struct.pack(">HIH", 8, FRAME_MAX, 0), channel=0)
         self.call(OPEN, short(vhost) + short("") + b"\0", OPEN_OK, channel=0)
         self.call(CHANNEL_OPEN, short(""), CHANNEL_OPEN_OK)
 
     # Frames
 
-    def frame(self, kind, payload, channel=1):
+    def frame(self, kind: int, payload: bytes, channel: int = 1) -> bytes:
         return struct.pack(">BHI", kind, channel, len(payload)) + payload + END
 
-    def send(self, method, arguments, channel=1):
+    def send(self, method: Method, arguments: bytes, channel: int = 1) -> None:
         self.write(self.frame(METHOD, struct.pack(">HH", *method) + arguments, channel))
 
-    def write(self, data):
-        try:
+    def write(self, data: bytes) -> None:
+        # (what the broker sent before it closed is still to be read)
+        with suppress(BrokenPipeError, ConnectionResetError):
             self.socket.sendall(data)
-        except (BrokenPipeError, ConnectionResetError):
-            # what the broker sent before it closed is still to be read
-            pass
 
-    def read(self, count):
+    def read(self, count: int) -> bytes:
         try:
             data = self.file.read(count)
         except ConnectionResetError:
@@ -149,20 +164,21 @@ class Connection:
             raise Closed("socket")
         return data
 
-    def read_frame(self):
+    def read_frame(self) -> tuple[int, bytes]:
         kind, _, size = struct.unpack(">BHI", self.read(7))
         payload = self.read(size)
         assert self.read(1) == END
         return (kind, payload) if kind != HEARTBEAT else self.read_frame()
 
-    def event(self):
+    def event(self) -> tuple[Method, Any]:
         """The next method and its arguments, or the message that it begins."""
         kind, payload = self.read_frame()
         assert kind == METHOD, kind
-        method, rest = struct.unpack(">HH", payload[:4]), payload[4:]
+        fields = Arguments(payload)
+        method, rest = (fields.number("H"), fields.number("H")), payload[4:]
         if method in (CLOSE, CHANNEL_CLOSE):
-            fields = Arguments(rest)
-            raise Closed("connection" if method == CLOSE else "channel", fields.number("H"), fields.short().decode(errors="replace"))
+            what = "connection" if method == CLOSE else "channel"
+            raise Closed(what, fields.number("H"), fields.short().decode(errors="replace"))
         if method not in (DELIVER, GET_OK):
             return method, rest
         header, body = Header(self.read_frame()[1], method == DELIVER), b""
@@ -170,7 +186,7 @@ class Connection:
             body += self.read_frame()[1]
         return method, Message(rest, header, body)
 
-    def wait(self, *methods):
+    def wait(self, *methods: Method) -> Any:
         """The arguments of the next of these methods, or its message."""
         for at, (method, rest) in enumerate(self.inbox):
             if method in methods:
@@ -182,71 +198,81 @@ class Connection:
                 return rest
             self.inbox.append((method, rest))
 
-    def call(self, method, arguments, *replies, channel=1):
+    def call(self, method: Method, arguments: bytes, *replies: Method, channel: int = 1) -> Any:
         self.send(method, arguments, channel)
         return self.wait(*replies)
 
-    def close(self):
-        try:
+    def close(self) -> None:
+        with suppress(Closed, OSError):
             self.call(CLOSE, struct.pack(">H", 200) + short("") + struct.pack(">HH", 0, 0), CLOSE_OK, channel=0)
-        except (Closed, OSError):
-            pass
         self.drop()
 
-    def drop(self):
+    def drop(self) -> None:
         """Closes the socket, and nothing more."""
         self.file.close()
         self.socket.close()
 
     # Methods
 
-    def exchange(self, name, kind, arguments=EMPTY):
-        self.call(EXCHANGE_DECLARE, b"\0\0" + short(name) + short(kind) + b"\0" + bare(arguments), EXCHANGE_DECLARE_OK)
+    def exchange(self, name: str, kind: str, arguments: bytes = EMPTY) -> None:
+        fields = b"\0\0" + short(name) + short(kind) + b"\0" + bare(arguments)
+        self.call(EXCHANGE_DECLARE, fields, EXCHANGE_DECLARE_OK)
 
-    def queue(self, name="", arguments=EMPTY, is_durable=False):
+    def queue(self, name: str = "", arguments: bytes = EMPTY, is_durable: bool = False) -> str:
         """Declares a queue that goes with the broker, and returns its name."""
         fields = b"\0\0" + short(name) + bytes([2 * is_durable]) + bare(arguments)
         return Arguments(self.call(QUEUE_DECLARE, fields, QUEUE_DECLARE_OK)).short().decode()
 
-    def count(self, queue):
+    def count(self, queue: str) -> int:
         """How many messages are ready in a queue (which has to be there)."""
         fields = Arguments(self.call(QUEUE_DECLARE, b"\0\0" + short(queue) + b"\1" + bare(EMPTY), QUEUE_DECLARE_OK))
         fields.short()
         return fields.number("I")
 
-    def bind(self, queue, exchange, key="", arguments=EMPTY):
-        self.call(BIND, b"\0\0" + short(queue) + short(exchange) + short(key) + b"\0" + bare(arguments), BIND_OK)
+    def bind(self, queue: str, exchange: str, key: str = "", arguments: bytes = EMPTY) -> None:
+        fields = b"\0\0" + short(queue) + short(exchange) + short(key) + b"\0" + bare(arguments)
+        self.call(BIND, fields, BIND_OK)
 
-    def confirms(self):
+    def confirms(self) -> None:
         """Has the broker confirm each message that is published from now on."""
         self.call(CONFIRM, b"\0", CONFIRM_OK)
 
-    def confirmed(self):
+    def confirmed(self) -> None:
         self.wait(ACK)
 
-    def message(self, exchange, key, headers=EMPTY, properties=(), body=b""):
+    def message(
+        self,
+        exchange: str,
+        key: str,
+        headers: bytes = EMPTY,
+        properties: Mapping[str, Property] | None = None,
+        body: bytes = b"",
+    ) -> bytes:
         """The frames of a message to publish."""
-        header = header_of(len(body), {"headers": headers, **dict(properties)})
+        header = header_of(len(body), {"headers": headers, **(properties or {})})
         method = struct.pack(">HH", *PUBLISH) + b"\0\0" + short(exchange) + short(key) + b"\0"
         return self.frame(METHOD, method) + self.frame(HEADER, header) + (self.frame(BODY, body) if body else b"")
 
-    def publish(self, *message, **more):
+    def publish(self, *message: Any, **more: Any) -> None:
         self.write(self.message(*message, **more))
 
-    def get(self, queue, keeps=False):
+    def get(self, queue: str, keeps: bool = False) -> Message | None:
         """A message, or None; if it is kept, it has to be acknowledged or rejected."""
         found = self.call(GET, b"\0\0" + short(queue) + bytes([not keeps]), GET_OK, GET_EMPTY)
         return found if isinstance(found, Message) else None
 
-    def consume(self, queue, arguments=EMPTY, consumer=""):
+    def consume(self, queue: str, arguments: bytes = EMPTY, consumer: str = "") -> bytes:
         """Has the messages of a queue delivered, which are acknowledged by that."""
-        return Arguments(self.call(CONSUME, b"\0\0" + short(queue) + short(consumer) + b"\2" + bare(arguments), CONSUME_OK)).short()
+        fields = b"\0\0" + short(queue) + short(consumer) + b"\2" + bare(arguments)
+        return Arguments(self.call(CONSUME, fields, CONSUME_OK)).short()
 
-    def cancel(self, consumer):
+    def cancel(self, consumer: bytes) -> None:
         self.call(CANCEL, short(consumer) + b"\0", CANCEL_OK)
 
-    def delivery(self):
-        return self.wait(DELIVER)
+    def delivery(self) -> Message:
+        found = self.wait(DELIVER)
+        assert isinstance(found, Message)
+        return found
 
-    def reject(self, message, goes_back=False):
+    def reject(self, message: Message, goes_back: bool = False) -> None:
         self.send(REJECT, struct.pack(">QB", message.tag, goes_back))

@@ -1,0 +1,54 @@
+"""The broker, which all tests share, and what is noted by them for the end."""
+
+import signal
+from collections.abc import Iterator
+from pathlib import Path
+from random import Random
+
+import pytest
+
+from tests.rabbitmq.broker import Broker
+from tests.rabbitmq.wire import Connection
+
+# The minutes that all of it takes at most.
+MINUTES = 10
+NOTES: list[str] = []
+
+
+def pytest_addoption(parser: pytest.Parser) -> None:
+    group = parser.getgroup("this repository")
+    group.addoption("--tables", type=int, default=10000, help="how many random tables are sent (10000)")
+
+
+def pytest_terminal_summary() -> None:
+    print("", *NOTES, sep="\n")
+
+
+@pytest.fixture
+def notes() -> list[str]:
+    """Lines that are printed at the end."""
+    return NOTES
+
+
+@pytest.fixture(scope="session")
+def broker(library: str, tmp_path_factory: pytest.TempPathFactory) -> Iterator[Broker]:
+    """A running broker; the calls for C are there."""
+    signal.signal(signal.SIGALRM, lambda *_: pytest.exit(f"not done within {MINUTES} minutes", 1))
+    signal.alarm(60 * MINUTES)
+    with Broker(Path(tmp_path_factory.mktemp("broker"))) as found:
+        yield found
+    signal.alarm(0)
+
+
+@pytest.fixture
+def connection(broker: Broker) -> Iterator[Connection]:
+    """A connection to the broker."""
+    found = broker.connection()
+    yield found
+    found.close()
+
+
+@pytest.fixture
+def make(request: pytest.FixtureRequest, seed: int) -> Random:
+    """What is random in a test."""
+    return Random(f"{request.node.name} {seed}")
