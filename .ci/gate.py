@@ -18,14 +18,14 @@ KIT_LINE = "rattle-kit-13f"
 # What each step needs besides the kit; `python3`, `cc` and `c++` can't be left out.
 ALWAYS = ("git", "python3", "cc", "c++")
 NEEDS = {
-    "docs": (), "test": (), "model": (PYTHON,), "show": (), "alloc-failures": (), "sizes": (), "wire": (), "python": (PYTHON,), "c": ("nm", "pkg-config", "clang", "qemu-x86_64", "aarch64-linux-gnu-gcc"),
+    "docs": (), "test": (), "style": (PYTHON, "mypy", "black"), "model": (PYTHON,), "show": (), "alloc-failures": (), "sizes": (), "wire": (), "python": (PYTHON,), "c": ("nm", "pkg-config", "clang", "qemu-x86_64", "aarch64-linux-gnu-gcc"),
     "counts": ("valgrind",), "broker": (f"{BIN}/rabbitmq-server", "epmd", "amqp-publish", PYTHON), "mutants": (),
 }
 # The step that proves, and those that need nothing that it leaves.
-PROOFS, NEED_NO_PROOFS = "rt ci", {"docs", "test", "model"}
+PROOFS, NEED_NO_PROOFS = "rt ci", {"docs", "test", "style", "model"}
 # The modules of Debian's Python that each step needs, and how many tables are sent in .ci/run and .ci/whole.
 PYTEST = ("pytest", "xdist", "hypothesis")
-MODULES = {"model": PYTEST, "python": PYTEST, "broker": ("pika", "amqp")}
+MODULES = {"style": PYTEST, "model": PYTEST, "python": PYTEST, "broker": (*PYTEST, "pika", "amqp")}
 TABLES = {"run": 500, "whole": 10000}
 KEYS = ".ci/mutant-keys"
 # Of a mutant that is named, what only has to be mended in its block.
@@ -107,6 +107,7 @@ def gate(name, words):
         words = {
             "docs": ([TOP / ".ci/docs"], ()),
             "test": ([TOP / ".ci/test", "--jobs", 2], ()),
+            "style": ([TOP / "tests/style/run"], ()),
             "model": ([TOP / "tests/model/run", *random], ()),
             "show": ([tests / "show/run"], proved),
             "alloc-failures": ([tests / "memory/alloc-failures"], proved),

@@ -56,7 +56,7 @@ def tracked(*forms):
 
 def comments():
     """Yields each line of the sources' comments, by its file and number."""
-    for name, path in tracked("crates", ".ci", "tests/c", "tests/counts", "tests/memory", "tests/model", "tests/python", "tests/rabbitmq", "tests/wire", "include", "examples").items():
+    for name, path in tracked("crates", ".ci", "tests/c", "tests/counts", "tests/memory", "tests/model", "tests/python", "tests/rabbitmq", "tests/style", "tests/wire", "include", "examples").items():
         text = path.read_text(errors="replace")
         forms = [form for key, form in COMMENTS.items() if name.endswith(key) or text.startswith(f"{key}\n")]
         for found in re.finditer(forms[0], text, re.DOTALL | re.MULTILINE) if forms else ():

@@ -1,0 +1,1 @@
+"""How what is written in Python is formatted and typed."""
