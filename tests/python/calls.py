@@ -35,7 +35,7 @@ Try = tuple[Callable[[], Any], Check]
 FLAGS: list[Any] = [True, True, True, False, 2, "no", [], None, 0.0]
 # Whether of equal keys the first is found.
 FIRST: list[Any] = [True, False, None, "x", 2, 0.0]
-# What is no path: of which a key alone could be one, and others.
+# A key, of which each is no path.
 KEYS_ONLY: list[Any] = ["key", b"key", bytearray(b"a"), memoryview(b"a")]
 
 
