@@ -19,7 +19,7 @@ KIT_LINE = "rattle-kit-13f"
 ALWAYS = ("git", "python3", "cc", "c++")
 NEEDS = {
     "docs": (), "test": (), "style": (PYTHON, "mypy", "black"), "model": (PYTHON,), "show": (), "alloc-failures": (), "sizes": (), "wire": (), "python": (PYTHON,), "c": ("nm", "pkg-config", "clang", "qemu-x86_64", "aarch64-linux-gnu-gcc"),
-    "counts": ("valgrind",), "broker": (f"{BIN}/rabbitmq-server", "epmd", "amqp-publish", PYTHON), "mutants": (),
+    "counts": ("valgrind",), "rust": (), "broker": (f"{BIN}/rabbitmq-server", "epmd", "amqp-publish", PYTHON), "mutants": (),
 }
 # The step that proves, and those that need nothing that it leaves.
 PROOFS, NEED_NO_PROOFS = "rt ci", {"docs", "test", "style", "model"}
@@ -116,6 +116,7 @@ def gate(name, words):
             "c": ([tests / "c/run", "--built"], proved),
             "python": ([tests / "python/run", "--built", *random], proved),
             "counts": ([tests / "counts/run", "--built"], proved),
+            "rust": ([tests / "rust/run", "--built"], proved),
             "broker": ([tests / "rabbitmq/run", "--built", "--tables", TABLES[name]], proved),
             "mutants": ([scripts / "mutants", "--built", "--must-fail", TOP, "--record", TOP / KEYS, *["--all"] * tries_all], proved),
         }
