@@ -2,7 +2,7 @@ use Rattle.std.proofs.Common.{rules, subst, sym}
 use Rattle.std.specs.Io.KnownBytes.{Consumes}
 use Rattle.std.proofs.KnownBytes.{Consumes-nil}
 use Rattle.amq_protocol_types.specs.stream.Sources.Reaches.{here}
-use Rattle.amq_protocol_types.proofs.lemmas.stream.Calls.{reaches_on}
+use Rattle.amq_protocol_types.proofs.StreamLaws.{reaches_on}
 use Rattle.amqp_wire.specs.Ends.{Continues}
 use Rattle.amqp_wire.proofs.Ends.{ends_part}
 use Rattle.amqp_wire.proofs.Sources.{consumed_more}
