@@ -25,6 +25,24 @@ impl Read for BrokenReader<'_> {
     }
 }
 
+/// Yields the bytes of a string, and is interrupted before each byte and at the end.
+#[derive(Drop)]
+struct InterruptedReader<'a> {
+    text: &'a [u8],
+    is_interrupted: bool,
+}
+
+impl Read for InterruptedReader<'_> {
+    fn read(&mut self, buf: &mut [u8]) -> io::Result<usize> {
+        self.is_interrupted = !self.is_interrupted;
+        if self.is_interrupted {
+            return Err(io::Error::from(ErrorKind::Interrupted));
+        }
+        let most = buf.len().min(1);
+        self.text.read(&mut buf[..most])
+    }
+}
+
 /// How a writer fails.
 #[derive(Clone, Copy)]
 enum Failing {
@@ -175,6 +193,23 @@ fn each_kind_of_fault_of_the_reader_is_told(rt: HostRuntime) -> Result<(), Fail>
         ends_with_the_fault(&rt, rt.alloc(), *kind);
     }
     Ok(())
+}
+
+#[test]
+fn lines_are_read_on_after_each_interruption(rt: HostRuntime) {
+    for program in [Lines, Split(1), Within(9, 2)] {
+        let mut reader = InterruptedReader {
+            text: b"56\n7a",
+            is_interrupted: false,
+        };
+        let mut out = Vec::new(rt.alloc());
+        let answer = run_program(&rt, rt.alloc(), program, &mut reader, &mut out);
+        assert_eq!(rt; answer, Ok(()));
+        assert_eq!(rt;
+            out.as_slice(),
+            b"value 56 rest 0\nrefused MapOpt\n".as_slice()
+        );
+    }
 }
 
 /// Void, and the beginning of a long string.
