@@ -1,7 +1,6 @@
 //! Conversions of JSON, and strings of bytes, that succeed.
 
-use amqp_value_core::types::{AMQPType, ByteArray, LongString, ShortString};
-use amqp_value_core::value::AMQPValue;
+use amq_protocol_types::{AMQPType, AMQPValue, ByteArray, LongString, ShortString};
 use serde_json::Value;
 use std::alloc::{AllocError, Global};
 use std::test::Fail;

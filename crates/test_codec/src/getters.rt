@@ -1,10 +1,9 @@
 //! The type tags of the types, and the getters of their fields.
 
-use amqp_value_core::types::{
-    AMQPType, ByteArray, DecimalValue, Double, FieldArray, FieldTable, Float, LongString,
-    ShortString,
+use amq_protocol_types::{
+    AMQPType, AMQPValue, ByteArray, DecimalValue, Double, FieldArray, FieldTable, Float,
+    LongString, ShortString,
 };
-use amqp_value_core::value::AMQPValue;
 use std::test::Fail;
 
 /// The type tags of the types.

@@ -1,7 +1,7 @@
 //! Types that are written as JSON and read from it.
 
 use amq_protocol_types::flags::AMQPFlags;
-use amqp_value_core::types::{AMQPType, ByteArray, DecimalValue, LongString};
+use amq_protocol_types::{AMQPType, ByteArray, DecimalValue, LongString};
 use serde::{Deserialize, Serialize};
 use std::alloc::Global;
 use std::test::Fail;

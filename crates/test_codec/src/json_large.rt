@@ -1,8 +1,7 @@
 //! Values of 50,000 bytes and more, and of thousands of entries: none is too large.
 
 use crate::json_texts::goes_both_ways;
-use amqp_value_core::types::{FieldArray, FieldTable, LongString, ShortString};
-use amqp_value_core::value::AMQPValue;
+use amq_protocol_types::{AMQPValue, FieldArray, FieldTable, LongString, ShortString};
 use std::fmt::Write;
 use std::test::Fail;
 

@@ -1,10 +1,10 @@
 //! The JSON text of each type of value, written by hand, and texts that are rejected.
 
-use amqp_json::{JsonError, from_json, to_json};
-use amqp_value_core::types::{
-    ByteArray, DecimalValue, Double, FieldArray, FieldTable, Float, LongString, ShortString,
+use amq_protocol_types::{
+    AMQPValue, ByteArray, DecimalValue, Double, FieldArray, FieldTable, Float, LongString,
+    ShortString,
 };
-use amqp_value_core::value::AMQPValue;
+use amqp_json::{JsonError, from_json, to_json};
 use std::alloc::Global;
 use std::test::Fail;
 

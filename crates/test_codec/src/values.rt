@@ -1,11 +1,10 @@
 //! What no clause states: that calls which allocate succeed if there is memory, and printed
 //! strings.
 
-use amqp_value_core::types::{
-    AMQPType, ByteArray, DecimalValue, Double, FieldArray, FieldTable, Float, LongString,
-    ShortString, TryCopyError,
+use amq_protocol_types::{
+    AMQPType, AMQPValue, ByteArray, DecimalValue, Double, FieldArray, FieldTable, Float,
+    LongString, ShortString, TryCopyError,
 };
-use amqp_value_core::value::AMQPValue;
 use std::alloc::{AllocError, Global};
 use std::cmp::Ordering;
 use std::fmt::Display;

@@ -2,8 +2,7 @@
 
 use super::{needs, refuses};
 use amq_protocol_types::parsing::*;
-use amqp_value_core::types::{FieldArray, FieldTable};
-use amqp_value_core::value::AMQPValue;
+use amq_protocol_types::{AMQPValue, FieldArray, FieldTable};
 use std::alloc::{AllocError, Global};
 use std::test::Fail;
 

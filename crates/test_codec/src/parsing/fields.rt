@@ -4,7 +4,7 @@ use super::{needs, reads};
 use crate::field::Field;
 use Field::*;
 use amq_protocol_types::parsing::*;
-use amqp_value_core::types::{AMQPType, DecimalValue};
+use amq_protocol_types::{AMQPType, DecimalValue};
 
 const ZEROS: &[u8] = &[0, 0, 0, 0, 0, 0, 0, 0];
 
@@ -70,12 +70,12 @@ fn is_read(field: Field, bytes: &[u8], left: usize) -> bool {
         LongLongUInt(n) => reads(parse_long_long_uint(i), n, left),
         Float(bits) => reads(
             parse_float(i),
-            amqp_value_core::types::Float::from_bits(bits),
+            amq_protocol_types::Float::from_bits(bits),
             left,
         ),
         Double(bits) => reads(
             parse_double(i),
-            amqp_value_core::types::Double::from_bits(bits),
+            amq_protocol_types::Double::from_bits(bits),
             left,
         ),
         Timestamp(n) => reads(parse_timestamp(i), n, left),

@@ -2,8 +2,7 @@
 
 use super::refuses;
 use amq_protocol_types::parsing::*;
-use amqp_value_core::types::{AMQPType, ByteArray, DecimalValue, LongString, ShortString};
-use amqp_value_core::value::AMQPValue;
+use amq_protocol_types::{AMQPType, AMQPValue, ByteArray, DecimalValue, LongString, ShortString};
 use std::alloc::Global;
 use std::test::Fail;
 
