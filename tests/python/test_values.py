@@ -58,8 +58,8 @@ REJECTED: list[tuple[Any, type[Exception]]] = [
 
 
 def named(value: Any) -> str:
-    """A short name of a value for a test, of printable characters of ASCII."""
-    return f"{ascii(value):.40}"
+    """A short name of a value for a test, the same in each process and printable in ASCII."""
+    return f"{re.sub(' at 0x[0-9a-f]+', '', ascii(value)):.40}"
 
 
 @pytest.mark.parametrize("value, digits", ROWS, ids=map(named, (it for it, _ in ROWS)))
