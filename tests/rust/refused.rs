@@ -117,7 +117,7 @@ fn bytes_up_to_the_limit_are_read_and_no_more() {
 fn a_claim_above_the_limit_is_not_waited_for() {
     under(LIMITS, || {
         assert_eq!(text_of(parse_value(&b"F\xff\xff\xff\xff"[..])), "Parser error: Nom(TooLarge)");
-        assert_eq!(text_of(parse_field_array(&[0, 0x10, 0, 0][..])), "Parser error: Nom(TooLarge)");
+        assert_eq!(text_of(parse_field_array(&[0, 0x0f, 0xff, 0xfc][..])), "Parser error: Nom(TooLarge)");
         assert_eq!(text_of(parse_field_table(&[0, 0x0f, 0xff, 0xfb, 0][..])), "Incomplete(Size(1048570))");
         assert_eq!(text_of(parse_field_table(&[0, 0, 0][..])), "Incomplete(Size(1))");
     });
