@@ -82,6 +82,13 @@ fn nesting_up_to_the_limit_is_read_and_no_deeper() {
 }
 
 #[test]
+fn the_keys_stay_those_that_applications_compare() {
+    let keys = [Refusal::TooLarge, Refusal::TooDeep, Refusal::TooManyValues, Refusal::Malformed].map(Refusal::key);
+    let reasons = ["too-large", "too-deep", "too-many-values", "malformed"];
+    assert_eq!(keys.map(str::to_owned), reasons.map(|it| format!("x-refused-{it}")));
+}
+
+#[test]
 fn deep_tables_in_two_slices_and_with_their_tag_are_refused_too() {
     under(LIMITS, || {
         let bytes = nested(b'F', 20_000);
