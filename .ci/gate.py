@@ -28,8 +28,6 @@ PYTEST = ("pytest", "xdist", "hypothesis")
 MODULES = {"style": PYTEST, "model": PYTEST, "python": PYTEST, "broker": (*PYTEST, "pika", "amqp")}
 TABLES = {"run": 500, "whole": 10000}
 KEYS = ".ci/mutant-keys"
-# Of a mutant that is named, what only has to be mended in its block.
-TO_BE_MENDED = re.compile(r"only a proof no longer fits|no goal of its clauses|\S+ is proved without the answers")
 REJECTED = re.compile(r"(\d+) rejected now, (\d+) carried over from an earlier run, (\d+) where only a proof no longer fits, (\d+) not rejected")
 
 
@@ -56,21 +54,11 @@ def by_proved(step):
 
 
 def by_rejected(step):
-    """How many mutants were rejected, and how many weren't, by the last line and those that are named.
-
-    So far two kinds are named and don't fail: those that only a proof file rejects, with no reason, and those of which only another clause than they
-    name fails. Not all crates have been tried since .ci/mutants distinguishes these.
-    """
-    text = step.out.read_text(errors="replace").rstrip("\n")
-    last = text.split("\n")[-1]
+    """How many mutants were rejected, and how many weren't, or not by what they name, by the last line."""
+    last = step.out.read_text(errors="replace").rstrip("\n").split("\n")[-1]
     if not (found := REJECTED.fullmatch(last)):
         return 0, 1, f"ended with status {step.status} and no last line that counts"
-    named = re.findall(r"(?m)^[^:\n]+: (?:NOT REJECTED|NOT TRIED|FAILED): (.*)$", text)
-    mended_later = [it for it in named if TO_BE_MENDED.match(it)]
-    if failed := len(named) - len(mended_later):
-        return int(found[1]), failed, last
-    step.status = 0
-    return int(found[1]), 0, f"{last}: {len(mended_later)} to be mended" if mended_later else last
+    return int(found[1]), int(found[4]), last
 
 
 def gate(name, words):
