@@ -6,7 +6,7 @@ ghost use Rattle.amqp_bench.specs.Dissected.{IsDissectedTo, IsFaultOfDissection}
 use crate::fault::Fault;
 use amq_protocol_types::stream::Limits;
 use amqp_dissect::dissect;
-use std::alloc::Global;
+use std::alloc::{AllocError, Global};
 
 /// How many bytes the parts of the value at the start of `bytes` have, if no allocation fails.
 pub fn length_of_parts(alloc: Global, bytes: &[u8]) -> Result<usize, Fault>
@@ -17,5 +17,8 @@ pub fn length_of_parts(alloc: Global, bytes: &[u8]) -> Result<usize, Fault>
         frame: u32::MAX,
         depth: u32::MAX,
     };
-    Ok(dissect(alloc, bytes, limits)?.offset)
+    match dissect(alloc, bytes, limits) {
+        Ok(dissection) => Ok(dissection.offset),
+        Err(AllocError) => Err(Fault::OutOfMemory),
+    }
 }

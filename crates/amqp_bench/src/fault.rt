@@ -2,9 +2,6 @@
 
 ghost use Rattle.std.specs.Prelude.{◌≡◌, ◌<◌, ◌^◌, IfOk};
 ghost use Rattle.amqp_bench.specs.Calls.{code_of, answer_of};
-ghost use Rattle.amqp_bench.specs.declared.fault.Fault.TheVariants.{OutOfMemory};
-
-use std::alloc::AllocError;
 
 /// Why a call returns no number of bytes.
 #[derive(Clone, Copy)]
@@ -33,14 +30,6 @@ impl Fault {
             Fault::TooSmall => -4,
             Fault::Unread => -5,
         }
-    }
-}
-
-impl From<AllocError> for Fault {
-    ghost from_gives = { λ _ fault. fault ≡ OutOfMemory };
-
-    fn from(_error: AllocError) -> Fault {
-        Fault::OutOfMemory
     }
 }
 
