@@ -4,7 +4,8 @@ use Rattle.std.proofs.lemmas.List.{take_at}
 use Rattle.amqp_value_core.specs.Values.{Tree}
 use Rattle.amqp_value_core.specs.Outcomes.{found}
 use Rattle.amqp_value_core.specs.Texts.{text}
-use Rattle.amqp_value_core.proofs.GrammarLaws.{canon_is_text, bytes_front, front_within, bounded_wire}
+use Rattle.amqp_value_core.proofs.Bytes.{bytes_front}
+use Rattle.amqp_value_core.proofs.GrammarLaws.{canon_is_text, front_within, bounded_wire}
 use Rattle.amqp_value_core.specs.Inputs.{IsBytes}
 use Rattle.amq_protocol_types.specs.declared.parsing.errors.Err.TheVariants.{Incomplete, Error, Failure}
 use Rattle.amq_protocol_types.specs.declared.parsing.errors.Needed.TheVariants.{Unknown, Size}
