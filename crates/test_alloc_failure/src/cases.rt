@@ -1,7 +1,7 @@
 //! The table of cases.
 
 use crate::appends::Append;
-use crate::constructors::Constructor;
+use crate::constructors::{Constructor, Entries};
 use crate::conversions::Document;
 use crate::conversions::Document::{Null, Seven, Text};
 use crate::fixtures::Piece::{Bytes, Pairs, Times};
@@ -65,6 +65,7 @@ enum Step {
     AppendEach(Append, u8),
     Construct(Constructor, usize),
     FromPairs(usize),
+    FromEntries(Entries),
     Inspect,
     CloneAll(&'static [Plan]),
     TryFrom(&'static [AMQPType], &'static [Document]),
@@ -93,9 +94,9 @@ enum Step {
 
 use self::Step::{
     AppendEach, CloneAll, Construct, ContainerToOwned, CountUntagged, FillVector, FirstProblem,
-    FlagsFromBytes, FromPairs, Generate, GeneratePayloads, GenerateSlice, GetBytes, GetFirst,
-    GetFlag, GetPath, Inspect, Next, NextAfterFailure, OfText, Parse, ParseEach, ParseSplit,
-    ParseValues, RepeatedKey, Skip, ToOwned, TryFrom, Warned,
+    FlagsFromBytes, FromEntries, FromPairs, Generate, GeneratePayloads, GenerateSlice, GetBytes,
+    GetFirst, GetFlag, GetPath, Inspect, Next, NextAfterFailure, OfText, Parse, ParseEach,
+    ParseSplit, ParseValues, RepeatedKey, Skip, ToOwned, TryFrom, Warned,
 };
 
 /// A table with the LongLongInt 1 at `a`, and its JSON.
@@ -255,10 +256,12 @@ fn constructed() -> &'static [Case] {
     "place_of_a_new_key" ALLOC [AppendEach(Append::Place("c"), 1)]
     "place_of_a_key_that_is_there" NO_ALLOC [AppendEach(Append::Place("b"), 1)]
     "from_pairs" ALLOC [FromPairs(2), FromPairs(100)]
+    "from_entries" MEMORY [FromEntries(Entries::Seventeen)]
     "made_without_memory" NO_ALLOC [
         Construct(Constructor::TryCopy, 256), Construct(Constructor::TryNew, 256),
         Construct(Constructor::TryCopy, 0), Construct(Constructor::FromText, 0),
         Construct(Constructor::LongString, 0), Construct(Constructor::ByteArray, 0), FromPairs(0),
+        FromEntries(Entries::None),
     ]
     "looked_at_without_memory" NO_ALLOC [Inspect]
     };
@@ -479,6 +482,7 @@ impl Step {
             AppendEach(append, count) => appends::run(h, append, count),
             Construct(constructor, length) => constructors::construct(h, constructor, length),
             FromPairs(count) => constructors::from_pairs(h, count),
+            FromEntries(mut entries) => h.run(&mut entries),
             Inspect => constructors::inspect_fixtures(h),
             CloneAll(plans) => constructors::clone_all(h, plans),
             TryFrom(types, documents) => conversions::try_from(h, types, documents),

@@ -12,6 +12,34 @@ use std::alloc::{AllocError, Global};
 use std::{io, mem};
 use test_support::TABLE;
 
+/// What `from_entries` makes a table of.
+#[derive(Clone, Copy)]
+pub enum Entries {
+    None,
+    /// Sixteen keys, one more than a node of a table holds, and the first again.
+    Seventeen,
+}
+
+const SEVENTEEN: [(&str, u8); 17] = [
+    ("p", 1),
+    ("o", 2),
+    ("n", 3),
+    ("m", 4),
+    ("l", 5),
+    ("k", 6),
+    ("j", 7),
+    ("i", 8),
+    ("h", 9),
+    ("g", 10),
+    ("f", 11),
+    ("e", 12),
+    ("d", 13),
+    ("c", 14),
+    ("b", 15),
+    ("a", 16),
+    ("p", 17),
+];
+
 /// `ShortString::try_copy` and `try_new`, `LongString::from_text` and `from_slice`, and
 /// `ByteArray::from_slice`.
 #[derive(Clone, Copy)]
@@ -90,6 +118,20 @@ impl Call for FromPairs {
     fn call(&mut self, alloc: Global) -> Result<AnyValue, AllocError> {
         let pairs = mem::replace(&mut self.pairs, Vec::new(alloc));
         Ok(AnyValue::FieldTable(FieldTable::from_pairs(alloc, pairs)?))
+    }
+}
+
+impl Call for Entries {
+    type Error = TryCopyError;
+
+    fn call(&mut self, alloc: Global) -> Result<AnyValue, TryCopyError> {
+        Ok(AnyValue::FieldTable(match self {
+            Entries::None => FieldTable::from_entries::<&str, 0>(alloc, [])?,
+            Entries::Seventeen => {
+                let entries = SEVENTEEN.map(|(key, n)| (key, AMQPValue::ShortShortUInt(n)));
+                FieldTable::from_entries(alloc, entries)?
+            }
+        }))
     }
 }
 

@@ -281,6 +281,7 @@ fn of_table<P: Print>(rt: &P, alloc: Global, payload: &[u8], t: &FieldTable) -> 
     tell(rt, "FieldTable::insert", inserted(alloc, t), t)?;
     tell(rt, "FieldTable::place", placed(alloc, t), t)?;
     tell(rt, "FieldTable::from_pairs", gathered(alloc, t), t)?;
+    tell_entries(rt, alloc, t)?;
     tell(rt, "TableRef::to_owned", owned_table(alloc, payload), t)?;
     let mut x = WriteContext::from(Vec::new(alloc));
     let done = gen_field_table(t, &mut x);
@@ -312,6 +313,18 @@ fn gathered(alloc: Global, from: &FieldTable) -> Result<FieldTable, AllocError> 
         pairs.push((key.clone(alloc)?, value.clone(alloc)?))?;
     }
     FieldTable::from_pairs(alloc, pairs)
+}
+
+/// Prints whether `from_entries` makes a table of one entry: a key of 255 bytes, and a table.
+fn tell_entries<P: Print>(rt: &P, alloc: Global, inner: &FieldTable) -> io::Result<()> {
+    let letters = vec![in alloc; b'k'; 255]?;
+    let key = str::from_utf8(letters.as_slice()).map_err(unmade)?;
+    let entries = [(key, AMQPValue::from(inner.clone(alloc)?))];
+    let made = FieldTable::from_entries(alloc, entries);
+    let mut table = FieldTable::new_in(alloc);
+    let key = ShortString::try_copy(alloc, key).map_err(unmade)?;
+    table.place(key, AMQPValue::from(inner.clone(alloc)?))?;
+    tell(rt, "FieldTable::from_entries", made, &table)
 }
 
 /// A table that is read in place, and copied.
