@@ -2,6 +2,7 @@
 PREFIX = /usr/local
 DESTDIR =
 FOLDER = out/dist
+TARGET = x86_64-unknown-linux-gnu
 
 all: $(FOLDER)
 
@@ -16,7 +17,11 @@ install: all
 	mkdir -p "$(DESTDIR)$(PREFIX)"
 	cp -dR $(FOLDER)/. "$(DESTDIR)$(PREFIX)"
 
+# the archive at the place at which bindings/rust/amqp-values-sys links it
+rust: all
+	install -D -m 644 $(FOLDER)/lib/libamqp_values.a bindings/rust/amqp-values-sys/lib/$(TARGET)/libamqp_values.a
+
 dist: all
 	tar -C $(FOLDER) -czf out/amqp_values.tar.gz .
 
-.PHONY: all check install dist
+.PHONY: all check install rust dist

@@ -1,0 +1,793 @@
+//! The calls for C of `libamqp_values.a`, as `include/amqp_values.h` declares them.
+//!
+//! `bindings/rust/declarations` makes this file. C's `char` is `u8` here, since each text has a length. The crate `amqp-values`
+//! has safe Rust over it.
+//!
+//! # What callers ensure
+//!
+//! ```text
+//! AMQP 0-9-1 field tables for C11 and C++: reading values in place, building them in a caller's
+//! buffer, their canonical encoding, and JSON. docs/C.md has examples and how to link,
+//! docs/GRAMMAR.md the bytes, and docs/JSON.md the JSON of each type.
+//!
+//! Functions return an amqpv_result. With any but AMQPV_OK the structs and the buffer stay unchanged; a
+//! `count` is always set. No function keeps state, prints or ends the process, and calls in several threads
+//! don't affect each other. Only amqpv_canonical, amqpv_to_json and amqpv_from_json allocate.
+//!
+//! Preconditions:
+//! - No pointer is NULL, except to bytes, a text, a key, steps, pairs or a buffer of length 0 (tested, not
+//!   proved).
+//!   A pointer to a struct or a count points to one that is aligned. What a function only writes (an entry,
+//!   a count, a measure, a problem, the cursor of amqpv_enter, the body of amqpv_open) need not be
+//!   initialised.
+//! - `length` bytes can be read at `bytes` or `text`, and `key_length` at `key`, also those of a step or a
+//!   pair; `step_count` steps at `steps`, and `pair_count` pairs at `pairs`. `capacity` bytes can be written
+//!   at `buffer`, and by the building functions also read. None of these exceeds PTRDIFF_MAX bytes.
+//! - What a function writes (a struct, a count, the buffer) overlaps neither the bytes, nor the text,
+//!   nor the key, nor a step, a pair or what these point to, nor another struct or count of the call. During
+//!   the call no other thread writes any of these, nor reads what the function writes.
+//! - The stack suffices: 24 KiB, and for each level of nesting that the limits of the call allow, on x86-64
+//!         56 bytes in amqpv_read, amqpv_read_table and amqpv_put_value
+//!        160       in amqpv_first_problem and amqpv_first_problem_in_table
+//!        272       in amqpv_measure_value and amqpv_measure_table
+//!        368       in amqpv_canonical
+//!        928       in amqpv_from_json
+//!       1056       in amqpv_to_json
+//!   The others don't recurse.
+//! - Three functions that allocate have one more, stated before them.
+//!
+//! There are no others: a cursor, an entry or a container may hold any numbers, since each call checks
+//! them. A corrupted one results in wrong entries, AMQPV_NONE, AMQPV_MALFORMED or AMQPV_INVALID, or in a
+//! write elsewhere in the buffer. No memory of the caller is accessed but what is passed. Every span that
+//! is returned is inside `bytes`, or that of a container inside `buffer`. Offsets count from these, so
+//! structs can be copied, stored, and used after the bytes were moved.
+//! ```
+#![no_std]
+#![allow(non_camel_case_types)]
+
+use core::ffi::c_void;
+
+/// The version of this header and of the libraries that define its calls.
+pub const AMQPV_VERSION_MAJOR: u32 = 0;
+
+/// See [`AMQPV_VERSION_MAJOR`].
+pub const AMQPV_VERSION_MINOR: u32 = 1;
+
+/// See [`AMQPV_VERSION_MAJOR`].
+pub const AMQPV_VERSION_PATCH: u32 = 0;
+
+/// See [`AMQPV_VERSION_MAJOR`].
+pub const AMQPV_VERSION: &str = "0.1.0";
+
+/// 10000 * major + 100 * minor + patch.
+pub const AMQPV_VERSION_NUMBER: u32 = 100;
+
+/// What a function returns.
+pub type amqpv_result = i32;
+/// Done.
+pub const AMQPV_OK: amqpv_result = 0;
+/// No entry is left, none has the key, or the path leads to none; or there is no problem.
+pub const AMQPV_NONE: amqpv_result = 1;
+/// The bytes end before the value does: more are needed.
+pub const AMQPV_MORE: amqpv_result = -1;
+/// The first byte is no type tag.
+pub const AMQPV_UNKNOWN_TAG: amqpv_result = -2;
+/// The bytes are complete and no value, or one that nests deeper than `depth`; or an entry is truncated or has no type
+/// tag.
+pub const AMQPV_MALFORMED: amqpv_result = -3;
+/// The value has more than `frame` bytes; or what is put, or the body that is closed, has 2^32 bytes or more.
+pub const AMQPV_TOO_LARGE: amqpv_result = -4;
+/// A struct isn't inside the bytes or the buffer, or is of no container (to find a key: of no table); or no such body
+/// can be closed there.
+pub const AMQPV_INVALID: amqpv_result = -5;
+/// Out of memory (only functions that allocate).
+pub const AMQPV_NO_MEMORY: amqpv_result = -6;
+/// The buffer is too small (only functions that write to one).
+pub const AMQPV_NO_ROOM: amqpv_result = -7;
+/// The text isn't UTF-8, nests too deep, is no JSON, or the JSON of no value (only amqpv_from_json).
+pub const AMQPV_NOT_JSON: amqpv_result = -8;
+/// The value has no encoding (only amqpv_from_json).
+pub const AMQPV_NO_ENCODING: amqpv_result = -9;
+/// An entry with this key can't be put there.
+pub const AMQPV_BAD_KEY: amqpv_result = -10;
+/// The function doesn't take the type tag, also of a step, `equal_keys` or `rules`.
+pub const AMQPV_BAD_TAG: amqpv_result = -11;
+/// The number, or the scale, is out of the type's range.
+pub const AMQPV_OUT_OF_RANGE: amqpv_result = -12;
+
+/// Limits that suit untrusted bytes: a `frame`, a `depth`, and the `depth` or `nesting` of amqpv_to_json and
+/// amqpv_from_json. With these each function is content with a stack of 64 KiB, on x86-64. (RabbitMQ sends more than
+/// its usual frame-max, 131072.).
+pub const AMQPV_FRAME: u32 = 1048576;
+/// See [`AMQPV_FRAME`].
+pub const AMQPV_DEPTH: u32 = 64;
+/// See [`AMQPV_FRAME`].
+pub const AMQPV_JSON_DEPTH: u32 = 32;
+
+/// How deep JSON text may nest at most that amqpv_from_json reads.
+pub const AMQPV_JSON_NESTING: u32 = 127;
+
+/// The type tags of entries. Two have an alternate tag in bytes: `U` is returned as `s`, `L` as `l`.
+pub const AMQPV_BOOLEAN: u8 = b't';
+/// See [`AMQPV_BOOLEAN`].
+pub const AMQPV_SHORT_SHORT_INT: u8 = b'b';
+/// See [`AMQPV_BOOLEAN`].
+pub const AMQPV_SHORT_SHORT_UINT: u8 = b'B';
+/// See [`AMQPV_BOOLEAN`].
+pub const AMQPV_SHORT_INT: u8 = b's';
+/// See [`AMQPV_BOOLEAN`].
+pub const AMQPV_SHORT_UINT: u8 = b'u';
+/// See [`AMQPV_BOOLEAN`].
+pub const AMQPV_LONG_INT: u8 = b'I';
+/// See [`AMQPV_BOOLEAN`].
+pub const AMQPV_LONG_UINT: u8 = b'i';
+/// See [`AMQPV_BOOLEAN`].
+pub const AMQPV_LONG_LONG_INT: u8 = b'l';
+/// See [`AMQPV_BOOLEAN`].
+pub const AMQPV_FLOAT: u8 = b'f';
+/// See [`AMQPV_BOOLEAN`].
+pub const AMQPV_DOUBLE: u8 = b'd';
+/// See [`AMQPV_BOOLEAN`].
+pub const AMQPV_DECIMAL: u8 = b'D';
+/// See [`AMQPV_BOOLEAN`].
+pub const AMQPV_LONG_STRING: u8 = b'S';
+/// See [`AMQPV_BOOLEAN`].
+pub const AMQPV_BYTE_ARRAY: u8 = b'x';
+/// See [`AMQPV_BOOLEAN`].
+pub const AMQPV_ARRAY: u8 = b'A';
+/// See [`AMQPV_BOOLEAN`].
+pub const AMQPV_TABLE: u8 = b'F';
+/// See [`AMQPV_BOOLEAN`].
+pub const AMQPV_TIMESTAMP: u8 = b'T';
+/// See [`AMQPV_BOOLEAN`].
+pub const AMQPV_VOID: u8 = b'V';
+
+/// A range of bytes.
+#[repr(C)]
+#[derive(Clone, Copy, Debug, Default, PartialEq, Eq)]
+pub struct amqpv_span {
+    /// How many bytes are before it.
+    pub offset: usize,
+    /// How many bytes it has.
+    pub length: usize,
+}
+
+/// A value, and in a table its key.
+#[repr(C)]
+#[derive(Clone, Copy, Debug, Default, PartialEq, Eq)]
+pub struct amqpv_entry {
+    /// The key's bytes, without their length; length 0 in an array or at the start.
+    pub key: amqpv_span,
+    /// The complete encoding of the value, type tag included: pass it on as it is.
+    pub value: amqpv_span,
+    /// The bytes of a string or byte array, or the body of a container; else length 0.
+    pub content: amqpv_span,
+    /// A boolean: 0 or 1; a signed number: (int64_t)bits; an unsigned one or a timestamp: bits; a Float: its 32 bits; a
+    /// Double: its 64 bits; a decimal: its number without the point; else 0.
+    pub bits: u64,
+    /// The type tag, one of the above.
+    pub tag: u8,
+    /// How many digits of a decimal are after the point; else 0.
+    pub scale: u8,
+}
+
+/// The entries of an array or a table that are still to be read.
+#[repr(C)]
+#[derive(Clone, Copy, Debug, Default, PartialEq, Eq)]
+pub struct amqpv_cursor {
+    /// The bytes of the body that are left.
+    pub left: amqpv_span,
+    /// AMQPV_ARRAY or AMQPV_TABLE.
+    pub tag: u8,
+}
+
+/// A step of a path: into a table by a key, or into an array by an index.
+#[repr(C)]
+#[derive(Clone, Copy, Debug, PartialEq, Eq)]
+pub struct amqpv_step {
+    /// Into a table: the key; into an array it isn't looked at.
+    pub key: *const u8,
+    /// How many bytes are at `key`.
+    pub key_length: usize,
+    /// Into an array: how many values are before the one that is meant.
+    pub index: usize,
+    /// What the step is into: AMQPV_TABLE or AMQPV_ARRAY.
+    pub tag: u8,
+}
+
+/// A pair of a table that amqpv_write_table writes: its key, and its value by a type tag.
+#[repr(C)]
+#[derive(Clone, Copy, Debug, PartialEq, Eq)]
+pub struct amqpv_pair {
+    /// UTF-8 of at most 255 bytes.
+    pub key: *const u8,
+    /// How many bytes are at `key`.
+    pub key_length: usize,
+    /// Of a string or a byte array: its bytes.
+    pub bytes: *const c_void,
+    /// Of a string or a byte array: how many bytes it has; else 0.
+    pub length: usize,
+    /// Of a value of fixed width: as in an amqpv_entry.
+    pub bits: u64,
+    /// AMQPV_LONG_STRING, AMQPV_BYTE_ARRAY, or the type tag of a value of fixed width.
+    pub tag: u8,
+    /// Of a value of fixed width: as in an amqpv_entry.
+    pub scale: u8,
+}
+
+/// Which of equal keys counts: the last, as for amqpv_find, or the first, as for amqpv_find_first.
+pub const AMQPV_LAST_KEY: u32 = 0;
+/// See [`AMQPV_LAST_KEY`].
+pub const AMQPV_FIRST_KEY: u32 = 1;
+
+/// How large a value is, by its encoding.
+#[repr(C)]
+#[derive(Clone, Copy, Debug, Default, PartialEq, Eq)]
+pub struct amqpv_measure {
+    /// How many of the bytes it has.
+    pub length: usize,
+    /// How many values are written in it: itself, and all in containers, also of equal keys.
+    pub values: usize,
+    /// How deep containers nest: 0 if it is none, 1 if it contains none.
+    pub levels: usize,
+}
+
+/// What amqpv_read reads.
+pub const AMQPV_RULES_READ: u32 = 0;
+/// The same, with any bytes as keys.
+pub const AMQPV_RULES_ANY_KEYS: u32 = 1;
+/// What RabbitMQ 3.10.8 takes; for anything else it closes the connection: any bytes as keys, but no tag `U`, and no
+/// Float or Double that isn't finite.
+pub const AMQPV_RULES_RABBITMQ: u32 = 2;
+
+/// The byte is no type tag, or none that RabbitMQ knows.
+pub const AMQPV_PROBLEM_UNKNOWN_TAG: u8 = 1;
+/// A Float or a Double is an infinity or a NaN, for RabbitMQ.
+pub const AMQPV_PROBLEM_NOT_FINITE: u8 = 2;
+/// A value goes past the end of its container or of the bytes, or is missing.
+pub const AMQPV_PROBLEM_CUT: u8 = 3;
+/// A key goes past the end of its table.
+pub const AMQPV_PROBLEM_KEY_CUT: u8 = 4;
+/// A container nests deeper than `depth`: RabbitMQ has no such limit.
+pub const AMQPV_PROBLEM_TOO_DEEP: u8 = 5;
+/// The value has more than `frame` bytes.
+pub const AMQPV_PROBLEM_TOO_LARGE: u8 = 6;
+/// A key isn't UTF-8 (only for AMQPV_RULES_READ).
+pub const AMQPV_PROBLEM_KEY_NOT_UTF8: u8 = 7;
+
+/// A problem of a value.
+#[repr(C)]
+#[derive(Clone, Copy, Debug, Default, PartialEq, Eq)]
+pub struct amqpv_problem {
+    /// How many bytes are before the value with the problem, or before the pair if its key is cut or isn't UTF-8.
+    pub offset: usize,
+    /// One of the above.
+    pub kind: u8,
+    /// The byte that is no type tag, or none that RabbitMQ knows; else 0.
+    pub tag: u8,
+}
+
+/// An array or a table that is being built in a buffer.
+#[repr(C)]
+#[derive(Clone, Copy, Debug, Default, PartialEq, Eq)]
+pub struct amqpv_container {
+    /// Its body, as far as it is written; the offset counts from `buffer`.
+    pub written: amqpv_span,
+    /// AMQPV_ARRAY or AMQPV_TABLE.
+    pub tag: u8,
+}
+
+extern "C" {
+    /// Returns the AMQPV_VERSION_NUMBER of the library that is linked.
+    pub fn amqpv_version() -> u32;
+
+    /// Reads the value at the start of the bytes within limits, checks all of it, the UTF-8 of keys included, and
+    /// returns its entry: at most `frame` bytes, and containers nested at most `depth` deep. One pass, which doesn't
+    /// look at the bytes of strings and byte arrays.
+    ///
+    /// `count` becomes how many bytes the value has (AMQPV_OK), or how many more the field that is being read needs
+    /// (AMQPV_MORE; with these it may ask for more again), else 0. Also returns AMQPV_UNKNOWN_TAG, AMQPV_MALFORMED or
+    /// AMQPV_TOO_LARGE: amqpv_first_problem finds why, and the offset.
+    pub fn amqpv_read(
+        bytes: *const u8,
+        length: usize,
+        frame: u32,
+        depth: u32,
+        entry: *mut amqpv_entry,
+        count: *mut usize,
+    ) -> amqpv_result;
+
+    /// Reads the table without its type tag at the start of the bytes (its length, then its pairs), as methods and
+    /// content headers have it, and returns its entry. Limits, checks and `count` are as for amqpv_read of the type tag
+    /// and the bytes: `frame` counts the tag too, `count` doesn't.
+    ///
+    /// The `value` of the entry is the table's bytes, here without the type tag, its `content` the pairs. Pass it to
+    /// amqpv_enter or amqpv_find_path as that of amqpv_read. Returns AMQPV_OK, AMQPV_MORE, AMQPV_MALFORMED or
+    /// AMQPV_TOO_LARGE.
+    pub fn amqpv_read_table(
+        bytes: *const u8,
+        length: usize,
+        frame: u32,
+        depth: u32,
+        entry: *mut amqpv_entry,
+        count: *mut usize,
+    ) -> amqpv_result;
+
+    /// Measure the value at the start of the bytes, or the table without its type tag: to reject one before something
+    /// is made of it. Limits, checks, `count` and the code are those of amqpv_read, or of amqpv_read_table.
+    pub fn amqpv_measure_value(
+        bytes: *const u8,
+        length: usize,
+        frame: u32,
+        depth: u32,
+        measure: *mut amqpv_measure,
+        count: *mut usize,
+    ) -> amqpv_result;
+
+    /// See [`amqpv_measure_value`].
+    pub fn amqpv_measure_table(
+        bytes: *const u8,
+        length: usize,
+        frame: u32,
+        depth: u32,
+        measure: *mut amqpv_measure,
+        count: *mut usize,
+    ) -> amqpv_result;
+
+    /// Find the first problem, by its offset, in the value at the start of the bytes, or in the table without its type
+    /// tag, which begins with its length. `rules` is AMQPV_RULES_READ, AMQPV_RULES_ANY_KEYS or AMQPV_RULES_RABBITMQ.
+    /// The limits count the type tag as if it were there, `offset` doesn't, and is 0 for the table itself. Booleans may
+    /// be any byte. If amqpv_read needs more bytes, the value is cut, at 0.
+    ///
+    /// Return AMQPV_OK if there is a problem, AMQPV_NONE if the rules allow the value, and it is within the limits, or
+    /// AMQPV_BAD_TAG for other `rules`.
+    pub fn amqpv_first_problem(
+        bytes: *const u8,
+        length: usize,
+        rules: u32,
+        frame: u32,
+        depth: u32,
+        problem: *mut amqpv_problem,
+    ) -> amqpv_result;
+
+    /// See [`amqpv_first_problem`].
+    pub fn amqpv_first_problem_in_table(
+        bytes: *const u8,
+        length: usize,
+        rules: u32,
+        frame: u32,
+        depth: u32,
+        problem: *mut amqpv_problem,
+    ) -> amqpv_result;
+
+    /// Returns the entry of the value at the start of the bytes, by its type tag and its length only.
+    ///
+    /// Returns AMQPV_OK, AMQPV_MORE (it doesn't return how many bytes are missing) or AMQPV_UNKNOWN_TAG. Takes constant
+    /// time. AMQPV_OK doesn't mean that the body of an array or a table is well-formed: amqpv_read checks that, and
+    /// amqpv_first_problem with AMQPV_RULES_ANY_KEYS if keys may be any bytes.
+    pub fn amqpv_first(bytes: *const u8, length: usize, entry: *mut amqpv_entry) -> amqpv_result;
+
+    /// Sets a cursor before the first entry of the array or the table that `entry` denotes.
+    ///
+    /// Returns AMQPV_OK or AMQPV_INVALID. Takes constant time.
+    pub fn amqpv_enter(
+        bytes: *const u8,
+        length: usize,
+        entry: *const amqpv_entry,
+        cursor: *mut amqpv_cursor,
+    ) -> amqpv_result;
+
+    /// Returns the next entry, and sets the cursor after it. Pairs come in the order in which they are written, each of
+    /// several equal keys too.
+    ///
+    /// Returns AMQPV_OK, AMQPV_NONE at the end, AMQPV_MALFORMED if no complete entry comes next, or AMQPV_INVALID. If
+    /// the value was read with AMQPV_OK, and the cursor is from it, only the first two. Takes constant time whatever
+    /// the entry contains: it looks at the key's length, the type tag and the value's length. It checks neither the
+    /// UTF-8 of the key nor the body of a container: amqpv_read does.
+    pub fn amqpv_next(
+        bytes: *const u8,
+        length: usize,
+        cursor: *mut amqpv_cursor,
+        entry: *mut amqpv_entry,
+    ) -> amqpv_result;
+
+    /// Returns the entry with the key, of those that the cursor has left in a table: of equal keys the last. It
+    /// iterates over all of them, by their keys and the headers of their values, and the cursor stays unchanged.
+    ///
+    /// Returns AMQPV_OK, AMQPV_NONE if none has the key, AMQPV_MALFORMED if what is left isn't complete entries, one
+    /// after another, or AMQPV_INVALID, also for the cursor of an array.
+    pub fn amqpv_find(
+        bytes: *const u8,
+        length: usize,
+        cursor: *const amqpv_cursor,
+        key: *const u8,
+        key_length: usize,
+        entry: *mut amqpv_entry,
+    ) -> amqpv_result;
+
+    /// As amqpv_find, but of equal keys the first, which RabbitMQ takes. It looks at no byte after the value that it
+    /// returns.
+    ///
+    /// Returns AMQPV_OK, also if what comes after that value is malformed; AMQPV_NONE if none has the key;
+    /// AMQPV_MALFORMED if none has it before the first entry that isn't complete; or AMQPV_INVALID, also for the cursor
+    /// of an array.
+    pub fn amqpv_find_first(
+        bytes: *const u8,
+        length: usize,
+        cursor: *const amqpv_cursor,
+        key: *const u8,
+        key_length: usize,
+        entry: *mut amqpv_entry,
+    ) -> amqpv_result;
+
+    /// Returns the entry that a path leads to from `from`, an array or a table: what amqpv_enter, and then amqpv_find,
+    /// amqpv_find_first or `index` + 1 calls of amqpv_next return, for each step in its turn. With no step it is `from`
+    /// itself. `equal_keys` is AMQPV_LAST_KEY or AMQPV_FIRST_KEY. `entry` isn't the struct `from`. It doesn't recurse,
+    /// and looks only at keys, headers, and a number that it returns.
+    ///
+    /// Returns AMQPV_OK. Returns AMQPV_NONE if a step finds nothing, also if it is at a value of another type: a step
+    /// by a key at an array or a string, or one by an index at a table. Returns AMQPV_MALFORMED if a step's look-up
+    /// does, as amqpv_find, amqpv_find_first or amqpv_next. Returns AMQPV_INVALID if a span of `from` isn't inside the
+    /// bytes, and else AMQPV_BAD_TAG if `equal_keys` is another number, or a step that is taken has another tag.
+    pub fn amqpv_find_path(
+        bytes: *const u8,
+        length: usize,
+        from: *const amqpv_entry,
+        steps: *const amqpv_step,
+        step_count: usize,
+        equal_keys: u32,
+        entry: *mut amqpv_entry,
+    ) -> amqpv_result;
+
+    /// Return what a value of fixed width is in C, by the entry's tag, bits and scale: an integer of any signed or
+    /// unsigned type, a boolean as 0 or 1, a timestamp, a decimal (`number` without the point, and how many of its
+    /// digits are after the point), a Float or a Double.
+    ///
+    /// Return AMQPV_OK, AMQPV_BAD_TAG for an entry of another type, or AMQPV_OUT_OF_RANGE: amqpv_as_int from 2^63 on,
+    /// amqpv_as_uint below 0, and the others for bits that no value of the type has.
+    pub fn amqpv_as_int(entry: *const amqpv_entry, number: *mut i64) -> amqpv_result;
+
+    /// See [`amqpv_as_int`].
+    pub fn amqpv_as_uint(entry: *const amqpv_entry, number: *mut u64) -> amqpv_result;
+
+    /// See [`amqpv_as_int`].
+    pub fn amqpv_as_bool(entry: *const amqpv_entry, truth: *mut i32) -> amqpv_result;
+
+    /// See [`amqpv_as_int`].
+    pub fn amqpv_as_timestamp(entry: *const amqpv_entry, seconds: *mut u64) -> amqpv_result;
+
+    /// See [`amqpv_as_int`].
+    pub fn amqpv_as_decimal(entry: *const amqpv_entry, number: *mut u32, scale: *mut u8) -> amqpv_result;
+
+    /// The next three functions allocate by malloc, realloc and free, and free all of it before they return. Their
+    /// precondition: malloc, realloc and free are of one allocator that aligns as C requires, and the three functions
+    /// aren't called from a signal handler.
+    ///
+    /// They never return AMQPV_INVALID. The buffer after the bytes that are written stays unchanged.
+    ///
+    /// Writes the canonical encoding of the value at the start of the bytes, read within the limits of amqpv_read, to
+    /// the start of the buffer: bytes that are the same exactly for equal values, so they can be compared, hashed or
+    /// signed. It has no alternate tag, booleans are 0 or 1, and the keys of each table ascend by their bytes, each
+    /// once, with the last of its values. It never has more bytes than the value was read from, so a capacity of what
+    /// amqpv_read counts is enough.
+    ///
+    /// `count` becomes how many bytes were written (AMQPV_OK), how many more the field that is being read needs
+    /// (AMQPV_MORE), or which capacity is needed (AMQPV_NO_ROOM), else 0. Also returns AMQPV_UNKNOWN_TAG,
+    /// AMQPV_MALFORMED, AMQPV_TOO_LARGE or AMQPV_NO_MEMORY. Bytes that are canonical already are copied after one pass,
+    /// without allocating; for others a tree and the encoding are allocated.
+    pub fn amqpv_canonical(
+        bytes: *const u8,
+        length: usize,
+        frame: u32,
+        depth: u32,
+        buffer: *mut u8,
+        capacity: usize,
+        count: *mut usize,
+    ) -> amqpv_result;
+
+    /// Writes the JSON text of the value at the start of the bytes, read within the limits of amqpv_read, to the start
+    /// of the buffer: UTF-8, with no spaces between its parts and no terminating zero. No two values have one JSON.
+    ///
+    /// `count` becomes how many bytes were written (AMQPV_OK), how many more the field that is being read needs
+    /// (AMQPV_MORE), or which capacity is needed (AMQPV_NO_ROOM), else 0. Also returns AMQPV_UNKNOWN_TAG,
+    /// AMQPV_MALFORMED, AMQPV_TOO_LARGE or AMQPV_NO_MEMORY. It allocates a tree and a JSON value.
+    pub fn amqpv_to_json(
+        bytes: *const u8,
+        length: usize,
+        frame: u32,
+        depth: u32,
+        buffer: *mut u8,
+        capacity: usize,
+        count: *mut usize,
+    ) -> amqpv_result;
+
+    /// Writes the canonical encoding of the value that a JSON text denotes to the start of the buffer. Exactly the JSON
+    /// of a value is read, with any spaces, escapes and order of members; of a key that comes twice in one object the
+    /// last value counts. A text of amqpv_to_json is read as the value that it was written for, if it nests at most
+    /// `nesting` deep.
+    ///
+    /// A text with more than `nesting` arrays and objects open at once, or with more than AMQPV_JSON_NESTING, is
+    /// AMQPV_NOT_JSON: brackets are counted before anything else.
+    ///
+    /// `count` becomes how many bytes were written (AMQPV_OK), or which capacity is needed (AMQPV_NO_ROOM), else 0.
+    /// Also returns AMQPV_NOT_JSON, AMQPV_NO_MEMORY, or AMQPV_NO_ENCODING if the value contains a ShortString, which
+    /// has no type tag, or if a length is too large for its field. It allocates a JSON value, a tree and the encoding.
+    pub fn amqpv_from_json(
+        text: *const u8,
+        length: usize,
+        nesting: u32,
+        buffer: *mut u8,
+        capacity: usize,
+        count: *mut usize,
+    ) -> amqpv_result;
+
+    /// Writes the table of some pairs to the start of the buffer, in their order and without its type tag, as methods
+    /// and content headers have it: its length, then the pairs. It may have equal keys: readers take the last, RabbitMQ
+    /// the first. Checks all pairs before it writes. Takes constant time for each, except for what it copies and reads.
+    ///
+    /// `count` becomes how many bytes were written (AMQPV_OK), or which capacity is needed (AMQPV_NO_ROOM), else 0. An
+    /// error of the first pair that can't be written comes before AMQPV_NO_ROOM: AMQPV_BAD_KEY if its key isn't UTF-8
+    /// or has more than 255 bytes; then AMQPV_BAD_TAG, also for an alternate tag or a container; AMQPV_OUT_OF_RANGE if
+    /// no value of the type has these bits and this scale; or AMQPV_TOO_LARGE if its string or byte array, or all pairs
+    /// up to it, have 2^32 bytes or more.
+    pub fn amqpv_write_table(
+        pairs: *const amqpv_pair,
+        pair_count: usize,
+        buffer: *mut u8,
+        capacity: usize,
+        count: *mut usize,
+    ) -> amqpv_result;
+
+    /// The functions below build an array or a table in a buffer, entry by entry. A body is the entries of an array or
+    /// a table, without its type tag and length. At first the buffer is the body of an array:
+    ///
+    /// `amqpv_container top = {{0, 0}, AMQPV_ARRAY};`
+    ///
+    /// Each function appends an entry to `into`, of which `written` then ends after it, and leaves the rest of the
+    /// buffer unchanged. In a table `key` is the entry's key, UTF-8 of at most 255 bytes; in an array `key_length` is
+    /// 0. A table may get equal keys: readers take the last, and amqpv_canonical keeps only that. Each takes constant
+    /// time, except for what it copies and reads.
+    ///
+    /// The first error in this order is returned: AMQPV_INVALID if `into` isn't inside the buffer or has another tag,
+    /// AMQPV_BAD_KEY if it can't have the key, AMQPV_BAD_TAG if the function doesn't take the type tag,
+    /// AMQPV_OUT_OF_RANGE, AMQPV_TOO_LARGE or another error of what is put, and AMQPV_NO_ROOM if the entry doesn't fit:
+    /// amqpv_needed counts the capacity that it needs. The bytes up to the end of `into` can then be copied to a larger
+    /// buffer.
+    ///
+    /// Counts the least capacity of a buffer with which an entry can be put into `into`: by the length of its key, its
+    /// type tag, and how many bytes a string or a byte array has, or the `content` of what amqpv_put_value puts. For
+    /// amqpv_open and for a value of fixed width `content_length` is 0.
+    ///
+    /// `count` becomes the capacity, or 0. Returns AMQPV_OK, AMQPV_INVALID, AMQPV_BAD_KEY, AMQPV_BAD_TAG (also for an
+    /// alternate tag) or AMQPV_TOO_LARGE.
+    pub fn amqpv_needed(
+        into: *const amqpv_container,
+        key_length: usize,
+        tag: u8,
+        content_length: usize,
+        count: *mut usize,
+    ) -> amqpv_result;
+
+    /// Appends a value of fixed width, by its type tag, bits and scale as in an amqpv_entry: a signed number as
+    /// (uint64_t)(int64_t)n, a boolean as 0 or 1, and a scale of 0 except for a decimal.
+    ///
+    /// Returns AMQPV_OK or an error from above: AMQPV_BAD_TAG also for an alternate tag, AMQPV_OUT_OF_RANGE if no value
+    /// of the type has these bits and this scale.
+    pub fn amqpv_put(
+        buffer: *mut u8,
+        capacity: usize,
+        into: *mut amqpv_container,
+        key: *const u8,
+        key_length: usize,
+        tag: u8,
+        bits: u64,
+        scale: u8,
+    ) -> amqpv_result;
+
+    /// Append a value of fixed width by what it is in C. A signed number's tag is AMQPV_SHORT_SHORT_INT,
+    /// AMQPV_SHORT_INT, AMQPV_LONG_INT or AMQPV_LONG_LONG_INT, an unsigned one's AMQPV_SHORT_SHORT_UINT,
+    /// AMQPV_SHORT_UINT or AMQPV_LONG_UINT. Every `truth` but 0 is true. A decimal is `number` with `scale` digits
+    /// after the point.
+    ///
+    /// Return AMQPV_OK or an error from above: of a number AMQPV_BAD_TAG for another tag, AMQPV_OUT_OF_RANGE if its
+    /// type doesn't have it. The others never return these.
+    pub fn amqpv_put_int(
+        buffer: *mut u8,
+        capacity: usize,
+        into: *mut amqpv_container,
+        key: *const u8,
+        key_length: usize,
+        tag: u8,
+        number: i64,
+    ) -> amqpv_result;
+
+    /// See [`amqpv_put_int`].
+    pub fn amqpv_put_uint(
+        buffer: *mut u8,
+        capacity: usize,
+        into: *mut amqpv_container,
+        key: *const u8,
+        key_length: usize,
+        tag: u8,
+        number: u64,
+    ) -> amqpv_result;
+
+    /// See [`amqpv_put_int`].
+    pub fn amqpv_put_bool(
+        buffer: *mut u8,
+        capacity: usize,
+        into: *mut amqpv_container,
+        key: *const u8,
+        key_length: usize,
+        truth: i32,
+    ) -> amqpv_result;
+
+    /// See [`amqpv_put_int`].
+    pub fn amqpv_put_timestamp(
+        buffer: *mut u8,
+        capacity: usize,
+        into: *mut amqpv_container,
+        key: *const u8,
+        key_length: usize,
+        seconds: u64,
+    ) -> amqpv_result;
+
+    /// See [`amqpv_put_int`].
+    pub fn amqpv_put_decimal(
+        buffer: *mut u8,
+        capacity: usize,
+        into: *mut amqpv_container,
+        key: *const u8,
+        key_length: usize,
+        number: u32,
+        scale: u8,
+    ) -> amqpv_result;
+
+    /// See [`amqpv_put_int`].
+    pub fn amqpv_put_void(
+        buffer: *mut u8,
+        capacity: usize,
+        into: *mut amqpv_container,
+        key: *const u8,
+        key_length: usize,
+    ) -> amqpv_result;
+
+    /// Appends a string or a byte array: `tag` is AMQPV_LONG_STRING or AMQPV_BYTE_ARRAY.
+    ///
+    /// Returns AMQPV_OK or an error from above: AMQPV_TOO_LARGE from 2^32 bytes on.
+    pub fn amqpv_put_bytes(
+        buffer: *mut u8,
+        capacity: usize,
+        into: *mut amqpv_container,
+        key: *const u8,
+        key_length: usize,
+        tag: u8,
+        bytes: *const c_void,
+        length: usize,
+    ) -> amqpv_result;
+
+    /// Appends a string, as amqpv_put_bytes with AMQPV_LONG_STRING.
+    pub fn amqpv_put_string(
+        buffer: *mut u8,
+        capacity: usize,
+        into: *mut amqpv_container,
+        key: *const u8,
+        key_length: usize,
+        text: *const u8,
+        length: usize,
+    ) -> amqpv_result;
+
+    /// Appends the value at the start of other bytes: reads it within limits as amqpv_read does, and copies its
+    /// encoding as it is. Bytes after it aren't looked at.
+    ///
+    /// Returns AMQPV_OK, AMQPV_INVALID, AMQPV_BAD_KEY, AMQPV_NO_ROOM, or what amqpv_read returns for the bytes.
+    pub fn amqpv_put_value(
+        buffer: *mut u8,
+        capacity: usize,
+        into: *mut amqpv_container,
+        key: *const u8,
+        key_length: usize,
+        bytes: *const u8,
+        length: usize,
+        frame: u32,
+        depth: u32,
+    ) -> amqpv_result;
+
+    /// Begins an entry whose value is an array or a table: writes the key, the tag (AMQPV_ARRAY or AMQPV_TABLE) and
+    /// four bytes of 0. `body` is then that container, empty, to which entries are appended. `into` stays unchanged
+    /// until amqpv_close: nothing may be put into it meanwhile, which would overwrite the body. A body that is
+    /// abandoned needs no call.
+    ///
+    /// Returns AMQPV_OK, AMQPV_INVALID, AMQPV_BAD_KEY, AMQPV_BAD_TAG or AMQPV_NO_ROOM.
+    pub fn amqpv_open(
+        buffer: *mut u8,
+        capacity: usize,
+        into: *const amqpv_container,
+        key: *const u8,
+        key_length: usize,
+        tag: u8,
+        body: *mut amqpv_container,
+    ) -> amqpv_result;
+
+    /// Ends the entry that amqpv_open began in `into`: writes the length of `body` to the four bytes before it, and the
+    /// end of `into` is then that of the body.
+    ///
+    /// Returns AMQPV_OK, AMQPV_TOO_LARGE if the body has 2^32 bytes or more, or AMQPV_INVALID if `body` isn't inside
+    /// the buffer, or if a key that is allowed there, the body's tag and four bytes aren't between the end of `into`
+    /// and the body. It checks only that, and not the contents of the body: that the body was begun in `into`, and that
+    /// nothing was put there since, is up to the caller.
+    pub fn amqpv_close(
+        buffer: *mut u8,
+        capacity: usize,
+        into: *mut amqpv_container,
+        body: *const amqpv_container,
+    ) -> amqpv_result;
+}
+
+#[cfg(target_pointer_width = "64")]
+const _: () = {
+    use core::mem::{align_of, size_of};
+    assert!(size_of::<amqpv_span>() == 16 && align_of::<amqpv_span>() == 8);
+    assert!(size_of::<amqpv_entry>() == 64 && align_of::<amqpv_entry>() == 8);
+    assert!(size_of::<amqpv_cursor>() == 24 && align_of::<amqpv_cursor>() == 8);
+    assert!(size_of::<amqpv_step>() == 32 && align_of::<amqpv_step>() == 8);
+    assert!(size_of::<amqpv_pair>() == 48 && align_of::<amqpv_pair>() == 8);
+    assert!(size_of::<amqpv_measure>() == 24 && align_of::<amqpv_measure>() == 8);
+    assert!(size_of::<amqpv_problem>() == 16 && align_of::<amqpv_problem>() == 8);
+    assert!(size_of::<amqpv_container>() == 24 && align_of::<amqpv_container>() == 8);
+};
+
+#[cfg(all(test, target_pointer_width = "64"))]
+mod tests {
+    use super::*;
+    use core::mem::MaybeUninit;
+    use core::ptr::addr_of;
+
+    macro_rules! offset {
+        ($of:ty, $field:ident) => {{
+            let it = MaybeUninit::<$of>::uninit();
+            // SAFETY: the place is only named, and is inside `it`
+            let field = unsafe { addr_of!((*it.as_ptr()).$field) };
+            field as usize - it.as_ptr() as usize
+        }};
+    }
+
+    #[test]
+    fn fields_have_the_offsets_of_c() {
+        assert_eq!(offset!(amqpv_span, offset), 0);
+        assert_eq!(offset!(amqpv_span, length), 8);
+        assert_eq!(offset!(amqpv_entry, key), 0);
+        assert_eq!(offset!(amqpv_entry, value), 16);
+        assert_eq!(offset!(amqpv_entry, content), 32);
+        assert_eq!(offset!(amqpv_entry, bits), 48);
+        assert_eq!(offset!(amqpv_entry, tag), 56);
+        assert_eq!(offset!(amqpv_entry, scale), 57);
+        assert_eq!(offset!(amqpv_cursor, left), 0);
+        assert_eq!(offset!(amqpv_cursor, tag), 16);
+        assert_eq!(offset!(amqpv_step, key), 0);
+        assert_eq!(offset!(amqpv_step, key_length), 8);
+        assert_eq!(offset!(amqpv_step, index), 16);
+        assert_eq!(offset!(amqpv_step, tag), 24);
+        assert_eq!(offset!(amqpv_pair, key), 0);
+        assert_eq!(offset!(amqpv_pair, key_length), 8);
+        assert_eq!(offset!(amqpv_pair, bytes), 16);
+        assert_eq!(offset!(amqpv_pair, length), 24);
+        assert_eq!(offset!(amqpv_pair, bits), 32);
+        assert_eq!(offset!(amqpv_pair, tag), 40);
+        assert_eq!(offset!(amqpv_pair, scale), 41);
+        assert_eq!(offset!(amqpv_measure, length), 0);
+        assert_eq!(offset!(amqpv_measure, values), 8);
+        assert_eq!(offset!(amqpv_measure, levels), 16);
+        assert_eq!(offset!(amqpv_problem, offset), 0);
+        assert_eq!(offset!(amqpv_problem, kind), 8);
+        assert_eq!(offset!(amqpv_problem, tag), 9);
+        assert_eq!(offset!(amqpv_container, written), 0);
+        assert_eq!(offset!(amqpv_container, tag), 16);
+    }
+
+    #[test]
+    fn the_library_has_the_version_of_the_declarations() {
+        // SAFETY: the call has no precondition
+        assert_eq!(unsafe { amqpv_version() }, AMQPV_VERSION_NUMBER);
+    }
+}
