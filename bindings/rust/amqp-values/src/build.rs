@@ -1,0 +1,157 @@
+use crate::calls::Body;
+use crate::value::Payload;
+use crate::{ValueRef, WriteError};
+use amqp_values_sys::{amqpv_container, amqpv_span, AMQPV_ARRAY, AMQPV_TABLE};
+
+/// How many bytes the length of a table has.
+const LENGTH: usize = 4;
+
+/// Builds a table in a buffer, pair by pair.
+///
+/// After an error nothing of the pair is in the table, and others may be put.
+pub struct TableBuilder<'b>(Body<'b>);
+
+/// Builds an array in a buffer, value by value, as a [`TableBuilder`] builds a table.
+pub struct ArrayBuilder<'b>(Body<'b>);
+
+impl<'b> TableBuilder<'b> {
+    /// Makes an empty table at the start of a buffer.
+    ///
+    /// # Errors
+    ///
+    /// [`WriteError::BufferTooSmall`], of less than four bytes.
+    pub fn new(buffer: &'b mut [u8]) -> Result<Self, WriteError> {
+        if buffer.len() < LENGTH {
+            return Err(WriteError::BufferTooSmall { needed: LENGTH });
+        }
+        let written = amqpv_span { offset: LENGTH, length: 0 };
+        Ok(Self(Body { buffer, into: amqpv_container { written, tag: AMQPV_TABLE } }))
+    }
+
+    /// Appends a pair. A key may come again: RabbitMQ takes the first pair, other readers the last.
+    ///
+    /// # Errors
+    ///
+    /// Each [`WriteError`].
+    pub fn put<'v>(&mut self, key: &str, value: impl Into<ValueRef<'v>>) -> Result<(), WriteError> {
+        self.0.put_value(key, value.into())
+    }
+
+    /// Appends a key with a table, which a function fills.
+    ///
+    /// # Errors
+    ///
+    /// Each [`WriteError`], and that of the function.
+    pub fn put_table(
+        &mut self,
+        key: &str,
+        fill: impl FnOnce(&mut TableBuilder<'_>) -> Result<(), WriteError>,
+    ) -> Result<(), WriteError> {
+        self.0.put_table(key, fill)
+    }
+
+    /// Appends a key with an array, which a function fills.
+    ///
+    /// # Errors
+    ///
+    /// Each [`WriteError`], and that of the function.
+    pub fn put_array(
+        &mut self,
+        key: &str,
+        fill: impl FnOnce(&mut ArrayBuilder<'_>) -> Result<(), WriteError>,
+    ) -> Result<(), WriteError> {
+        self.0.put_array(key, fill)
+    }
+
+    /// Returns the table without its type tag, as methods and content headers have it: its length, then its pairs.
+    ///
+    /// # Errors
+    ///
+    /// [`WriteError::TooLarge`] if the pairs have 2^32 bytes or more.
+    pub fn finish(self) -> Result<&'b [u8], WriteError> {
+        let Body { buffer, into } = self.0;
+        let length = u32::try_from(into.written.length).map_err(|_| WriteError::TooLarge)?;
+        buffer[..LENGTH].copy_from_slice(&length.to_be_bytes());
+        Ok(&buffer[..LENGTH + into.written.length])
+    }
+}
+
+impl ArrayBuilder<'_> {
+    /// Appends a value.
+    ///
+    /// # Errors
+    ///
+    /// [`WriteError::BufferTooSmall`] or [`WriteError::TooLarge`].
+    pub fn push<'v>(&mut self, value: impl Into<ValueRef<'v>>) -> Result<(), WriteError> {
+        self.0.put_value("", value.into())
+    }
+
+    /// Appends a table, which a function fills.
+    ///
+    /// # Errors
+    ///
+    /// Those of [`push`](Self::push), and that of the function.
+    pub fn push_table(
+        &mut self,
+        fill: impl FnOnce(&mut TableBuilder<'_>) -> Result<(), WriteError>,
+    ) -> Result<(), WriteError> {
+        self.0.put_table("", fill)
+    }
+
+    /// Appends an array, which a function fills.
+    ///
+    /// # Errors
+    ///
+    /// Those of [`push`](Self::push), and that of the function.
+    pub fn push_array(
+        &mut self,
+        fill: impl FnOnce(&mut ArrayBuilder<'_>) -> Result<(), WriteError>,
+    ) -> Result<(), WriteError> {
+        self.0.put_array("", fill)
+    }
+}
+
+impl Body<'_> {
+    fn put_value(&mut self, key: &str, value: ValueRef<'_>) -> Result<(), WriteError> {
+        match value.parts() {
+            (tag, Payload::Fixed { bits, scale }) => self.put(key, tag, bits, scale),
+            (tag, Payload::Bytes(bytes)) => self.put_bytes(key, tag, bytes),
+            (tag, Payload::Body(bytes)) => self.put_body(key, tag, bytes),
+        }
+    }
+
+    /// Appends an array or a table with the body of one that was read.
+    fn put_body(&mut self, key: &str, tag: u8, bytes: &[u8]) -> Result<(), WriteError> {
+        let mut body = self.open(key, tag, bytes.len())?;
+        match self.buffer[body.written.offset..].get_mut(..bytes.len()) {
+            Some(free) => free.copy_from_slice(bytes),
+            None => return Err(self.too_small(key, tag, bytes.len())),
+        }
+        body.written.length = bytes.len();
+        self.close(&body)
+    }
+
+    fn put_table(
+        &mut self,
+        key: &str,
+        fill: impl FnOnce(&mut TableBuilder<'_>) -> Result<(), WriteError>,
+    ) -> Result<(), WriteError> {
+        let into = self.open(key, AMQPV_TABLE, 0)?;
+        let mut table = TableBuilder(Body { buffer: self.buffer, into });
+        fill(&mut table)?;
+        let body = table.0.into;
+        self.close(&body)
+    }
+
+    fn put_array(
+        &mut self,
+        key: &str,
+        fill: impl FnOnce(&mut ArrayBuilder<'_>) -> Result<(), WriteError>,
+    ) -> Result<(), WriteError> {
+        let into = self.open(key, AMQPV_ARRAY, 0)?;
+        let mut array = ArrayBuilder(Body { buffer: self.buffer, into });
+        fill(&mut array)?;
+        let body = array.0.into;
+        self.close(&body)
+    }
+}

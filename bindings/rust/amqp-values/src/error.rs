@@ -1,0 +1,106 @@
+use core::fmt;
+
+/// Why bytes aren't read.
+#[derive(Clone, Copy, Debug, PartialEq, Eq)]
+pub enum Error {
+    /// The bytes end before the value does.
+    Incomplete {
+        /// How many more bytes the field that is being read needs. More may be missing after these.
+        missing: usize,
+    },
+    /// The bytes are no value, or one that is beyond the limits.
+    Problem(Problem),
+}
+
+/// Something in a value that isn't allowed.
+#[derive(Clone, Copy, Debug, PartialEq, Eq)]
+pub struct Problem {
+    /// How many bytes are before the value with the problem, or before the pair if its key is cut or isn't UTF-8.
+    pub offset: usize,
+    /// What it is.
+    pub kind: ProblemKind,
+}
+
+/// What is wrong with a value, or with a key.
+#[derive(Clone, Copy, Debug, PartialEq, Eq)]
+#[non_exhaustive]
+pub enum ProblemKind {
+    /// The byte isn't a type tag, or none that RabbitMQ knows.
+    UnknownTag(u8),
+    /// A Float or a Double is an infinity or a NaN, which RabbitMQ doesn't take.
+    NotFinite,
+    /// A value goes past the end of its container or of the bytes, or is missing.
+    Cut,
+    /// A key goes past the end of its table.
+    KeyCut,
+    /// A key isn't UTF-8.
+    KeyNotUtf8,
+    /// A container nests deeper than [`Limits::depth`](crate::Limits::depth).
+    TooDeep,
+    /// The value has more bytes than [`Limits::bytes`](crate::Limits::bytes).
+    TooLarge,
+    /// More values are written in it than [`Limits::values`](crate::Limits::values).
+    TooManyValues,
+}
+
+/// Why an entry isn't put into a buffer, which then stays unchanged.
+#[derive(Clone, Copy, Debug, PartialEq, Eq)]
+#[non_exhaustive]
+pub enum WriteError {
+    /// The buffer is too small.
+    BufferTooSmall {
+        /// How many bytes it needs for all entries up to this one.
+        needed: usize,
+    },
+    /// The key has more than 255 bytes.
+    KeyTooLong,
+    /// A string, a byte array or a container has 2^32 bytes or more.
+    TooLarge,
+}
+
+impl fmt::Display for Error {
+    fn fmt(&self, f: &mut fmt::Formatter<'_>) -> fmt::Result {
+        match self {
+            Self::Incomplete { missing } => write!(f, "{missing} more bytes are needed"),
+            Self::Problem(problem) => problem.fmt(f),
+        }
+    }
+}
+
+impl fmt::Display for Problem {
+    fn fmt(&self, f: &mut fmt::Formatter<'_>) -> fmt::Result {
+        write!(f, "{}, at {}", self.kind, self.offset)
+    }
+}
+
+impl fmt::Display for ProblemKind {
+    fn fmt(&self, f: &mut fmt::Formatter<'_>) -> fmt::Result {
+        f.write_str(match self {
+            Self::UnknownTag(tag) => return write!(f, "unknown type tag {tag:#04x}"),
+            Self::NotFinite => "a number that isn't finite",
+            Self::Cut => "a value is cut",
+            Self::KeyCut => "a key is cut",
+            Self::KeyNotUtf8 => "a key isn't UTF-8",
+            Self::TooDeep => "too deep",
+            Self::TooLarge => "too large",
+            Self::TooManyValues => "too many values",
+        })
+    }
+}
+
+impl fmt::Display for WriteError {
+    fn fmt(&self, f: &mut fmt::Formatter<'_>) -> fmt::Result {
+        match self {
+            Self::BufferTooSmall { needed } => write!(f, "the buffer needs {needed} bytes"),
+            Self::KeyTooLong => f.write_str("the key has more than 255 bytes"),
+            Self::TooLarge => f.write_str("too large"),
+        }
+    }
+}
+
+#[cfg(feature = "std")]
+impl std::error::Error for Error {}
+#[cfg(feature = "std")]
+impl std::error::Error for Problem {}
+#[cfg(feature = "std")]
+impl std::error::Error for WriteError {}

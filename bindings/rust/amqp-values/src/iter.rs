@@ -1,0 +1,74 @@
+use crate::calls::{cursor, key_of, next};
+use crate::{ArrayRef, TableRef, ValueRef};
+use amqp_values_sys::{amqpv_cursor, AMQPV_ARRAY, AMQPV_TABLE};
+use core::iter::FusedIterator;
+
+/// The values of an array, in their order.
+#[derive(Clone, Debug)]
+pub struct ArrayValues<'a> {
+    body: &'a [u8],
+    cursor: amqpv_cursor,
+}
+
+/// The pairs of a table as they are written, each of several equal keys too.
+#[derive(Clone, Debug)]
+pub struct TablePairs<'a> {
+    body: &'a [u8],
+    cursor: amqpv_cursor,
+}
+
+impl<'a> Iterator for ArrayValues<'a> {
+    type Item = ValueRef<'a>;
+
+    #[inline]
+    fn next(&mut self) -> Option<Self::Item> {
+        next(self.body, &mut self.cursor).map(|entry| ValueRef::of(self.body, &entry))
+    }
+}
+
+impl<'a> Iterator for TablePairs<'a> {
+    type Item = (&'a str, ValueRef<'a>);
+
+    #[inline]
+    fn next(&mut self) -> Option<Self::Item> {
+        let entry = next(self.body, &mut self.cursor)?;
+        Some((key_of(self.body, &entry), ValueRef::of(self.body, &entry)))
+    }
+}
+
+impl FusedIterator for ArrayValues<'_> {}
+impl FusedIterator for TablePairs<'_> {}
+
+impl<'a> ArrayRef<'a> {
+    /// Returns the values.
+    #[must_use]
+    pub fn iter(self) -> ArrayValues<'a> {
+        ArrayValues { body: self.body(), cursor: cursor(self.body(), AMQPV_ARRAY) }
+    }
+}
+
+impl<'a> TableRef<'a> {
+    /// Returns the pairs.
+    #[must_use]
+    pub fn iter(self) -> TablePairs<'a> {
+        TablePairs { body: self.body(), cursor: cursor(self.body(), AMQPV_TABLE) }
+    }
+}
+
+impl<'a> IntoIterator for ArrayRef<'a> {
+    type Item = ValueRef<'a>;
+    type IntoIter = ArrayValues<'a>;
+
+    fn into_iter(self) -> Self::IntoIter {
+        self.iter()
+    }
+}
+
+impl<'a> IntoIterator for TableRef<'a> {
+    type Item = (&'a str, ValueRef<'a>);
+    type IntoIter = TablePairs<'a>;
+
+    fn into_iter(self) -> Self::IntoIter {
+        self.iter()
+    }
+}

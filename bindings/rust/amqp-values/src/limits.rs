@@ -1,0 +1,37 @@
+/// Limits on a value that is read or checked, with all that it contains.
+///
+/// A thread's stack has to suffice for 24 KiB and `depth` times 272 bytes.
+#[derive(Clone, Copy, Debug, PartialEq, Eq)]
+pub struct Limits {
+    /// How many bytes it may have, its type tag included.
+    pub bytes: u32,
+    /// How deep arrays and tables may nest, itself included. More than [`Limits::MOST_DEPTH`] is as much as that.
+    pub depth: u32,
+    /// How many values may be written in it, itself included.
+    pub values: u32,
+}
+
+impl Limits {
+    /// 1 MiB, 64 levels, and 16384 values: limits that suit untrusted bytes.
+    pub const DEFAULT: Self = Self { bytes: 1 << 20, depth: 64, values: 1 << 14 };
+
+    /// The most levels: the stack that they take is less than the 2 MiB that a thread of `std` has.
+    pub const MOST_DEPTH: u32 = 4096;
+}
+
+impl Default for Limits {
+    fn default() -> Self {
+        Self::DEFAULT
+    }
+}
+
+/// How large a value is, by its encoding.
+#[derive(Clone, Copy, Debug, PartialEq, Eq)]
+pub struct Measure {
+    /// How many bytes it has.
+    pub bytes: usize,
+    /// How many values are written in it: itself, and all in containers, also of equal keys.
+    pub values: usize,
+    /// How deep containers nest: 0 if it is none, 1 if it contains none.
+    pub levels: usize,
+}

@@ -1,0 +1,67 @@
+use crate::calls::{find, find_first};
+use crate::{ArrayRef, TableRef, ValueRef};
+
+/// A step from a container to a value in it.
+#[derive(Clone, Copy, Debug, PartialEq, Eq)]
+pub enum PathStep<'p> {
+    /// To the value at this key of a table.
+    Key(&'p str),
+    /// To the value at this position of an array, counted from 0.
+    Index(usize),
+}
+
+/// Which of several pairs with an equal key a look-up takes.
+#[derive(Clone, Copy, Debug, PartialEq, Eq)]
+pub enum EqualKeys {
+    /// The first, as RabbitMQ takes: [`TableRef::get_first`].
+    First,
+    /// The last, as `amq-protocol-types` takes: [`TableRef::get`].
+    Last,
+}
+
+impl<'a> ArrayRef<'a> {
+    /// Returns the value at a position, counted from 0.
+    #[must_use]
+    pub fn get(self, index: usize) -> Option<ValueRef<'a>> {
+        self.iter().nth(index)
+    }
+}
+
+impl<'a> TableRef<'a> {
+    /// Returns the value at a key, of equal keys the last one's.
+    #[must_use]
+    pub fn get(self, key: &str) -> Option<ValueRef<'a>> {
+        find(self.body(), key).map(|entry| ValueRef::of(self.body(), &entry))
+    }
+
+    /// Returns the value at a key, of equal keys the first one's, as RabbitMQ takes.
+    #[must_use]
+    pub fn get_first(self, key: &str) -> Option<ValueRef<'a>> {
+        find_first(self.body(), key).map(|entry| ValueRef::of(self.body(), &entry))
+    }
+
+    /// Returns the value that the steps lead to, as [`ValueRef::get_path`].
+    #[must_use]
+    pub fn get_path(self, path: &[PathStep<'_>], of_equal: EqualKeys) -> Option<ValueRef<'a>> {
+        ValueRef::FieldTable(self).get_path(path, of_equal)
+    }
+}
+
+impl<'a> ValueRef<'a> {
+    /// Returns the value that the steps lead to, one after another from this value on; no steps lead to the value itself.
+    ///
+    /// `None` if a step finds nothing: no such key, no such position, or a value of another type.
+    #[must_use]
+    pub fn get_path(self, path: &[PathStep<'_>], of_equal: EqualKeys) -> Option<Self> {
+        path.iter().try_fold(self, |at, step| at.step(*step, of_equal))
+    }
+
+    fn step(self, step: PathStep<'_>, of_equal: EqualKeys) -> Option<Self> {
+        match (self, step, of_equal) {
+            (Self::FieldTable(table), PathStep::Key(key), EqualKeys::First) => table.get_first(key),
+            (Self::FieldTable(table), PathStep::Key(key), EqualKeys::Last) => table.get(key),
+            (Self::FieldArray(array), PathStep::Index(index), _) => array.get(index),
+            _ => None,
+        }
+    }
+}

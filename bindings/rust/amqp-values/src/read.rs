@@ -1,0 +1,45 @@
+use crate::calls::{content_of, TABLE, VALUE};
+use crate::{Error, Limits, Measure, TableRef, ValueRef};
+
+/// Reads the value at the start of the bytes, its type tag included: checks all of it, the UTF-8 of keys too, and returns it
+/// with the bytes after it.
+///
+/// It is one pass, which doesn't look at the bytes of strings. If there are more of these than [`Limits::values`], another one
+/// counts the values.
+///
+/// # Errors
+///
+/// [`Error::Incomplete`] if more bytes are needed, else the first [`Problem`](crate::Problem).
+pub fn read(bytes: &[u8], limits: Limits) -> Result<(ValueRef<'_>, &[u8]), Error> {
+    let (entry, length) = VALUE.read(bytes, limits)?;
+    Ok((ValueRef::of(bytes, &entry), &bytes[length..]))
+}
+
+/// Reads the table without its type tag at the start of the bytes, as methods and content headers have it: its length, then
+/// its pairs. [`Limits::bytes`] counts the tag as if it were there.
+///
+/// # Errors
+///
+/// Those of [`read`].
+pub fn read_table(bytes: &[u8], limits: Limits) -> Result<(TableRef<'_>, &[u8]), Error> {
+    let (entry, length) = TABLE.read(bytes, limits)?;
+    Ok((TableRef::of(content_of(bytes, &entry)), &bytes[length..]))
+}
+
+/// Checks what [`read`] would read, and returns how large it is: to reject a value before something is made of it.
+///
+/// # Errors
+///
+/// Those of [`read`].
+pub fn check(bytes: &[u8], limits: Limits) -> Result<Measure, Error> {
+    VALUE.measure(bytes, limits)
+}
+
+/// Checks what [`read_table`] would read, and returns how large it is.
+///
+/// # Errors
+///
+/// Those of [`read`].
+pub fn check_table(bytes: &[u8], limits: Limits) -> Result<Measure, Error> {
+    TABLE.measure(bytes, limits)
+}

@@ -1,0 +1,116 @@
+//! What is built is read again.
+
+use amqp_values::{read_table, DecimalValue, Limits, TableBuilder, TableRef, ValueRef, WriteError};
+
+fn table(bytes: &[u8]) -> TableRef<'_> {
+    let (table, rest) = read_table(bytes, Limits::DEFAULT).expect("a table");
+    assert_eq!(rest, b"");
+    table
+}
+
+/// A table with a value of each type, and with those of another table.
+fn build<'b>(buffer: &'b mut [u8], other: TableRef<'_>) -> Result<&'b [u8], WriteError> {
+    let mut table = TableBuilder::new(buffer)?;
+    table.put("t", true)?;
+    table.put("b", -2_i8)?;
+    table.put("B", 254_u8)?;
+    table.put("s", i16::MIN)?;
+    table.put("u", u16::MAX)?;
+    table.put("I", -53)?;
+    table.put("i", u32::MAX)?;
+    table.put("l", i64::MIN)?;
+    table.put("f", 1.5_f32)?;
+    table.put("d", f64::NEG_INFINITY)?;
+    table.put("D", ValueRef::DecimalValue(DecimalValue { scale: 255, value: u32::MAX }))?;
+    table.put("S", "text")?;
+    table.put("x", ValueRef::ByteArray(b"\xff\0"))?;
+    table.put("T", ValueRef::Timestamp(u64::MAX))?;
+    table.put("", ValueRef::Void)?;
+    table.put_array("A", |array| {
+        array.push(7)?;
+        array.push_array(|empty| empty.push_table(|_| Ok(())))?;
+        array.push_table(|table| table.put("k", "v"))
+    })?;
+    table.put_table("F", |table| other.iter().try_for_each(|(key, value)| table.put(key, value)))?;
+    table.put("F", ValueRef::FieldTable(other))?;
+    table.finish()
+}
+
+#[test]
+fn what_is_built_is_read_again() {
+    let mut buffer = [0; 64];
+    let mut first = TableBuilder::new(&mut buffer).unwrap();
+    first.put_array("a", |array| array.push("b")).unwrap();
+    first.put_table("t", |table| table.put("k", 1)).unwrap();
+    let other = first.finish().unwrap();
+    let mut buffer = [0; 512];
+    let built = build(&mut buffer, table(other)).unwrap();
+    let read = table(built);
+    let kinds: String = read.iter().map(|(key, _)| key).collect();
+    assert_eq!(kinds, "tbBsuIilfdDSxTAFF");
+    for (key, value) in [
+        ("t", ValueRef::Boolean(true)),
+        ("b", ValueRef::ShortShortInt(-2)),
+        ("B", ValueRef::ShortShortUInt(254)),
+        ("s", ValueRef::ShortInt(i16::MIN)),
+        ("u", ValueRef::ShortUInt(u16::MAX)),
+        ("I", ValueRef::LongInt(-53)),
+        ("i", ValueRef::LongUInt(u32::MAX)),
+        ("l", ValueRef::LongLongInt(i64::MIN)),
+        ("f", ValueRef::Float(1.5)),
+        ("d", ValueRef::Double(f64::NEG_INFINITY)),
+        ("D", ValueRef::DecimalValue(DecimalValue { scale: 255, value: u32::MAX })),
+        ("S", ValueRef::LongString(b"text")),
+        ("x", ValueRef::ByteArray(b"\xff\0")),
+        ("T", ValueRef::Timestamp(u64::MAX)),
+        ("", ValueRef::Void),
+    ] {
+        assert_eq!(read.get(key), Some(value));
+    }
+    assert_eq!(read.get("F"), Some(ValueRef::FieldTable(table(other))));
+    assert_eq!(read.get_first("F"), Some(ValueRef::FieldTable(table(other))));
+    let array = b"A\0\0\0\x1cI\0\0\0\x07A\0\0\0\x05F\0\0\0\0F\0\0\0\x08\x01kS\0\0\0\x01v";
+    assert!(built.windows(array.len()).any(|it| it == array), "{built:02x?}");
+}
+
+#[test]
+fn each_buffer_but_one_that_is_large_enough_is_too_small() {
+    let other = [0, 0, 0, 4, 1, b'k', b't', 1];
+    let mut large = [0; 512];
+    let length = build(&mut large, table(&other)).unwrap().len();
+    for capacity in 0..length {
+        let mut buffer = vec![0; capacity];
+        match build(&mut buffer, table(&other)) {
+            Err(WriteError::BufferTooSmall { needed }) => assert!(capacity < needed && needed <= length),
+            other => panic!("{other:?} of {capacity} bytes"),
+        }
+    }
+    assert!(build(&mut vec![0; length], table(&other)).is_ok());
+}
+
+#[test]
+fn an_entry_that_fails_leaves_nothing() {
+    let mut buffer = [0; 16];
+    let mut built = TableBuilder::new(&mut buffer).unwrap();
+    let key = "k".repeat(256);
+    assert_eq!(built.put(&key, 1), Err(WriteError::KeyTooLong));
+    assert_eq!(built.put_table(&key, |_| Ok(())), Err(WriteError::KeyTooLong));
+    assert_eq!(built.put("k", "0123456789"), Err(WriteError::BufferTooSmall { needed: 21 }));
+    assert_eq!(
+        built.put_array("k", |array| {
+            array.push(ValueRef::Void)?;
+            array.push(1_i64)
+        }),
+        Err(WriteError::BufferTooSmall { needed: 21 })
+    );
+    built.put("k", 2).unwrap();
+    assert_eq!(built.finish().unwrap(), b"\0\0\0\x07\x01kI\0\0\0\x02");
+}
+
+#[test]
+fn a_key_may_have_255_bytes() {
+    let (mut buffer, key) = ([0; 512], "k".repeat(255));
+    let mut built = TableBuilder::new(&mut buffer).unwrap();
+    built.put(&key, ValueRef::Void).unwrap();
+    assert_eq!(table(built.finish().unwrap()).get(&key), Some(ValueRef::Void));
+}

@@ -1,0 +1,185 @@
+//! What is read, and what isn't.
+
+use amqp_values::{
+    check, check_table, rabbitmq, read, read_table, DecimalValue, EqualKeys, Error, Limits, Measure, PathStep::*,
+    Problem, ProblemKind, TableRef, ValueRef,
+};
+
+const LIMITS: Limits = Limits::DEFAULT;
+
+/// A type tag, and the length of a body before it.
+fn counted(tag: u8, body: &[u8]) -> Vec<u8> {
+    [&[tag], &(body.len() as u32).to_be_bytes()[..], body].concat()
+}
+
+fn table(bytes: &[u8]) -> TableRef<'_> {
+    let (value, rest) = read(bytes, LIMITS).expect("a value");
+    assert_eq!(rest, b"");
+    value.as_table().expect("a table")
+}
+
+fn problem<T>(result: Result<T, Error>) -> Option<(ProblemKind, usize)> {
+    match result {
+        Err(Error::Problem(Problem { kind, offset })) => Some((kind, offset)),
+        _ => None,
+    }
+}
+
+/// Tables in each other, as many as levels.
+fn nested(levels: usize) -> Vec<u8> {
+    let lengths = (0..levels as u32).rev().map(|inside| (6 * inside).to_be_bytes());
+    lengths.enumerate().flat_map(|(at, length)| [&b"\0F"[usize::from(at == 0)..], &length[..]].concat()).collect()
+}
+
+#[test]
+fn each_type_is_read_with_what_follows() {
+    let decimal = DecimalValue { scale: 2, value: 0xffff_ffff };
+    let read_as: [(&[u8], ValueRef<'_>); 18] = [
+        (b"t\x07", ValueRef::Boolean(true)),
+        (b"b\xfe", ValueRef::ShortShortInt(-2)),
+        (b"B\xfe", ValueRef::ShortShortUInt(254)),
+        (b"s\x80\0", ValueRef::ShortInt(i16::MIN)),
+        (b"U\x80\0", ValueRef::ShortInt(i16::MIN)),
+        (b"u\xff\xff", ValueRef::ShortUInt(u16::MAX)),
+        (b"I\x80\0\0\0", ValueRef::LongInt(i32::MIN)),
+        (b"i\xff\xff\xff\xff", ValueRef::LongUInt(u32::MAX)),
+        (b"l\x80\0\0\0\0\0\0\0", ValueRef::LongLongInt(i64::MIN)),
+        (b"L\x80\0\0\0\0\0\0\0", ValueRef::LongLongInt(i64::MIN)),
+        (b"f\x3f\xc0\0\0", ValueRef::Float(1.5)),
+        (b"d\xc0\x04\0\0\0\0\0\0", ValueRef::Double(-2.5)),
+        (b"D\x02\xff\xff\xff\xff", ValueRef::DecimalValue(decimal)),
+        (b"S\0\0\0\x02\xff\0", ValueRef::LongString(b"\xff\0")),
+        (b"x\0\0\0\x02\xff\0", ValueRef::ByteArray(b"\xff\0")),
+        (b"T\xff\xff\xff\xff\xff\xff\xff\xff", ValueRef::Timestamp(u64::MAX)),
+        (b"V", ValueRef::Void),
+        (b"S\0\0\0\0", ValueRef::LongString(b"")),
+    ];
+    for (bytes, value) in read_as {
+        let more = [bytes, b"rest"].concat();
+        assert_eq!(read(&more, LIMITS), Ok((value, &b"rest"[..])));
+        assert_eq!(check(&more, LIMITS), Ok(Measure { bytes: bytes.len(), values: 1, levels: 0 }));
+    }
+    let (value, _) = read(b"f\xff\x80\0\x01", LIMITS).unwrap();
+    assert!(matches!(value, ValueRef::Float(number) if number.to_bits() == 0xff80_0001));
+}
+
+#[test]
+fn pairs_come_as_they_are_written_and_keys_may_be_equal() {
+    let inner = counted(b'A', b"I\0\0\0\x07S\0\0\0\x01a");
+    let body = [b"\x01kb\x01\x02\xc3\xa9", &inner[..], b"\x01kb\x02"].concat();
+    let bytes = counted(b'F', &body);
+    let read = table(&bytes);
+    let keys: Vec<_> = read.iter().map(|(key, _)| key).collect();
+    assert_eq!(keys, ["k", "é", "k"]);
+    assert_eq!(read.get("k"), Some(ValueRef::ShortShortInt(2)));
+    assert_eq!(read.get_first("k"), Some(ValueRef::ShortShortInt(1)));
+    assert_eq!((read.get(""), read.get_first("kk")), (None, None));
+    let values: Vec<_> = read.get("é").and_then(ValueRef::as_array).unwrap().iter().collect();
+    assert_eq!(values, [ValueRef::LongInt(7), ValueRef::LongString(b"a")]);
+    assert_eq!(values[1].as_str(), Some("a"));
+    assert_eq!(read_table(&bytes[1..], LIMITS), Ok((read, &b""[..])));
+    assert_eq!(check_table(&bytes[1..], LIMITS), Ok(Measure { bytes: bytes.len() - 1, values: 6, levels: 2 }));
+}
+
+#[test]
+fn a_path_leads_by_keys_and_positions() {
+    let inner = counted(b'A', &[b"V", &counted(b'F', b"\x01kb\x01\x01kb\x02")[..]].concat());
+    let bytes = counted(b'F', &[b"\x01a", &inner[..]].concat());
+    let read = table(&bytes);
+    let path = [Key("a"), Index(1), Key("k")];
+    assert_eq!(read.get_path(&path, EqualKeys::First).and_then(ValueRef::as_int), Some(1));
+    assert_eq!(read.get_path(&path, EqualKeys::Last).and_then(ValueRef::as_int), Some(2));
+    assert_eq!(read.get_path(&[], EqualKeys::Last), Some(ValueRef::FieldTable(read)));
+    for none in
+        [&[Key("b")][..], &[Index(0)], &[Key("a"), Index(2)], &[Key("a"), Key("k")], &[Key("a"), Index(0), Index(0)]]
+    {
+        assert_eq!(read.get_path(none, EqualKeys::First), None, "{none:?}");
+    }
+}
+
+#[test]
+fn cut_bytes_say_how_many_are_missing() {
+    for (bytes, missing) in [(&b""[..], 1), (b"I\0", 3), (b"F\0\0", 2), (b"F\0\0\0\x0a\x01k", 8), (b"S\0\0\0\x01", 1)] {
+        assert_eq!(read(bytes, LIMITS), Err(Error::Incomplete { missing }));
+        assert_eq!(check(bytes, LIMITS), Err(Error::Incomplete { missing }));
+    }
+    assert_eq!(read_table(b"\0\0\0", LIMITS), Err(Error::Incomplete { missing: 1 }));
+}
+
+#[test]
+fn a_problem_has_its_offset() {
+    for (bytes, kind, offset) in [
+        (&b"z"[..], ProblemKind::UnknownTag(b'z'), 0),
+        (b"A\0\0\0\x03t\x01z", ProblemKind::UnknownTag(b'z'), 7),
+        (b"F\0\0\0\x03\x01kI", ProblemKind::Cut, 7),
+        (b"F\0\0\0\x02\x05k", ProblemKind::KeyCut, 5),
+        (b"F\0\0\0\x03\x01\xffV", ProblemKind::KeyNotUtf8, 5),
+        (b"S\xff\xff\xff\xff", ProblemKind::TooLarge, 0),
+    ] {
+        assert_eq!(problem(read(bytes, LIMITS)), Some((kind, offset)));
+        assert_eq!(problem(check(bytes, LIMITS)), Some((kind, offset)));
+    }
+    assert_eq!(problem(read_table(b"\0\0\0\x03\x01kz", LIMITS)), Some((ProblemKind::UnknownTag(b'z'), 6)));
+}
+
+#[test]
+fn values_up_to_a_limit_are_read_and_no_more() {
+    let bytes = counted(b'A', b"VVVVVVVVV");
+    let limits = Limits { bytes: bytes.len() as u32, depth: 1, values: 10 };
+    assert!(read(&bytes, limits).is_ok() && check(&bytes, limits).is_ok());
+    for (limits, kind) in [
+        (Limits { bytes: limits.bytes - 1, ..limits }, ProblemKind::TooLarge),
+        (Limits { depth: 0, ..limits }, ProblemKind::TooDeep),
+        (Limits { values: 9, ..limits }, ProblemKind::TooManyValues),
+    ] {
+        assert_eq!(problem(read(&bytes, limits)), Some((kind, 0)));
+        assert_eq!(problem(check(&bytes, limits)), Some((kind, 0)));
+    }
+    let tables = counted(b'F', b"\x01kV\x01kV");
+    let limits = Limits { bytes: tables.len() as u32, depth: 1, values: 3 };
+    assert!(read_table(&tables[1..], limits).is_ok() && check_table(&tables[1..], limits).is_ok());
+    let fewer = Limits { values: 2, ..limits };
+    assert_eq!(problem(read_table(&tables[1..], fewer)), Some((ProblemKind::TooManyValues, 0)));
+    assert_eq!(problem(check_table(&tables[1..], fewer)), Some((ProblemKind::TooManyValues, 0)));
+}
+
+#[test]
+fn no_nesting_ends_a_thread() {
+    let limits = Limits { bytes: u32::MAX, depth: u32::MAX, values: u32::MAX };
+    let most = Limits::MOST_DEPTH as usize;
+    let worker = std::thread::Builder::new().stack_size(2 << 20).spawn(move || {
+        let deepest = check_table(&nested(most)[1..], limits).map(|it| it.levels);
+        assert_eq!(deepest, Ok(most));
+        for levels in [most + 1, 20_000] {
+            let bytes = nested(levels);
+            assert_eq!(problem(check_table(&bytes[1..], limits)).map(|it| it.0), Some(ProblemKind::TooDeep));
+            assert_eq!(problem(read(&bytes, limits)).map(|it| it.0), Some(ProblemKind::TooDeep));
+            assert_eq!(rabbitmq::first_problem(&bytes, limits).map(|it| it.kind), Some(ProblemKind::TooDeep));
+        }
+    });
+    worker.unwrap().join().expect("the thread ends well");
+}
+
+#[test]
+fn rabbitmq_has_other_rules() {
+    let found = |body: &[u8]| {
+        let bytes = counted(b'F', body);
+        let [of_value, of_table] =
+            [rabbitmq::first_problem(&bytes, LIMITS), rabbitmq::first_problem_in_table(&bytes[1..], LIMITS)];
+        assert_eq!(of_value.map(|it| (it.kind, it.offset - 1)), of_table.map(|it| (it.kind, it.offset)));
+        of_value.map(|it| (it.kind, it.offset))
+    };
+    assert_eq!(found(b"\x01\xffV\x01kf\x7f\x7f\xff\xff"), None);
+    assert_eq!(found(b"\x01kU\0\0"), Some((ProblemKind::UnknownTag(b'U'), 7)));
+    assert_eq!(found(b"\x01kf\x7f\x80\0\0"), Some((ProblemKind::NotFinite, 7)));
+    assert_eq!(found(b"\x01kd\xff\xf8\0\0\0\0\0\0"), Some((ProblemKind::NotFinite, 7)));
+}
+
+#[test]
+fn errors_are_those_of_std() {
+    let failed = || -> Result<(), Box<dyn std::error::Error>> {
+        read(b"A\0\0\0\x01z", LIMITS)?;
+        Ok(())
+    };
+    assert_eq!(failed().unwrap_err().to_string(), "unknown type tag 0x7a, at 5");
+}
