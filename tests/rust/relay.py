@@ -5,8 +5,8 @@ import shutil
 from pathlib import Path
 from types import TracebackType
 
-from rabbitmq import BIN, Broker
-from wire import EMPTY, Connection
+from tests.rabbitmq.broker import BIN, Broker
+from tests.rabbitmq.wire import EMPTY, Connection
 
 __all__ = ["BIN", "Relay"]
 
