@@ -9,9 +9,11 @@ const LENGTH: usize = 4;
 /// Builds a table in a buffer, pair by pair.
 ///
 /// After an error nothing of the pair is in the table, and others may be put.
+#[derive(Debug)]
 pub struct TableBuilder<'b>(Body<'b>);
 
 /// Builds an array in a buffer, value by value, as a [`TableBuilder`] builds a table.
+#[derive(Debug)]
 pub struct ArrayBuilder<'b>(Body<'b>);
 
 impl<'b> TableBuilder<'b> {

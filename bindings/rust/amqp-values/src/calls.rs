@@ -2,7 +2,7 @@
 //!
 //! Most of what the header asks of callers holds for references: that bytes can be read or written, as many as a slice has, at
 //! most `isize::MAX`; that structs are aligned; that what is written overlaps nothing, and that no other thread sees it.
-//! `Limits` asks for the stack.
+//! `Limits` states the stack.
 #![allow(unsafe_code)]
 
 use crate::{Error, Limits, Measure, Problem, ProblemKind, WriteError};
@@ -150,6 +150,7 @@ fn find_by(call: FindCall, body: &[u8], key: &str) -> Option<amqpv_entry> {
 }
 
 /// A body that is being built in a buffer.
+#[derive(Debug)]
 pub(crate) struct Body<'b> {
     pub(crate) buffer: &'b mut [u8],
     pub(crate) into: amqpv_container,
