@@ -743,46 +743,50 @@ mod tests {
     use core::mem::MaybeUninit;
     use core::ptr::addr_of;
 
-    macro_rules! offset {
+    fn size_at<T>(_: *const T) -> usize {
+        core::mem::size_of::<T>()
+    }
+
+    macro_rules! place {
         ($of:ty, $field:ident) => {{
             let it = MaybeUninit::<$of>::uninit();
             // SAFETY: the place is only named, and is inside `it`
             let field = unsafe { addr_of!((*it.as_ptr()).$field) };
-            field as usize - it.as_ptr() as usize
+            (field as usize - it.as_ptr() as usize, size_at(field))
         }};
     }
 
     #[test]
-    fn fields_have_the_offsets_of_c() {
-        assert_eq!(offset!(amqpv_span, offset), 0);
-        assert_eq!(offset!(amqpv_span, length), 8);
-        assert_eq!(offset!(amqpv_entry, key), 0);
-        assert_eq!(offset!(amqpv_entry, value), 16);
-        assert_eq!(offset!(amqpv_entry, content), 32);
-        assert_eq!(offset!(amqpv_entry, bits), 48);
-        assert_eq!(offset!(amqpv_entry, tag), 56);
-        assert_eq!(offset!(amqpv_entry, scale), 57);
-        assert_eq!(offset!(amqpv_cursor, left), 0);
-        assert_eq!(offset!(amqpv_cursor, tag), 16);
-        assert_eq!(offset!(amqpv_step, key), 0);
-        assert_eq!(offset!(amqpv_step, key_length), 8);
-        assert_eq!(offset!(amqpv_step, index), 16);
-        assert_eq!(offset!(amqpv_step, tag), 24);
-        assert_eq!(offset!(amqpv_pair, key), 0);
-        assert_eq!(offset!(amqpv_pair, key_length), 8);
-        assert_eq!(offset!(amqpv_pair, bytes), 16);
-        assert_eq!(offset!(amqpv_pair, length), 24);
-        assert_eq!(offset!(amqpv_pair, bits), 32);
-        assert_eq!(offset!(amqpv_pair, tag), 40);
-        assert_eq!(offset!(amqpv_pair, scale), 41);
-        assert_eq!(offset!(amqpv_measure, length), 0);
-        assert_eq!(offset!(amqpv_measure, values), 8);
-        assert_eq!(offset!(amqpv_measure, levels), 16);
-        assert_eq!(offset!(amqpv_problem, offset), 0);
-        assert_eq!(offset!(amqpv_problem, kind), 8);
-        assert_eq!(offset!(amqpv_problem, tag), 9);
-        assert_eq!(offset!(amqpv_container, written), 0);
-        assert_eq!(offset!(amqpv_container, tag), 16);
+    fn fields_are_where_c_has_them() {
+        assert_eq!(place!(amqpv_span, offset), (0, 8));
+        assert_eq!(place!(amqpv_span, length), (8, 8));
+        assert_eq!(place!(amqpv_entry, key), (0, 16));
+        assert_eq!(place!(amqpv_entry, value), (16, 16));
+        assert_eq!(place!(amqpv_entry, content), (32, 16));
+        assert_eq!(place!(amqpv_entry, bits), (48, 8));
+        assert_eq!(place!(amqpv_entry, tag), (56, 1));
+        assert_eq!(place!(amqpv_entry, scale), (57, 1));
+        assert_eq!(place!(amqpv_cursor, left), (0, 16));
+        assert_eq!(place!(amqpv_cursor, tag), (16, 1));
+        assert_eq!(place!(amqpv_step, key), (0, 8));
+        assert_eq!(place!(amqpv_step, key_length), (8, 8));
+        assert_eq!(place!(amqpv_step, index), (16, 8));
+        assert_eq!(place!(amqpv_step, tag), (24, 1));
+        assert_eq!(place!(amqpv_pair, key), (0, 8));
+        assert_eq!(place!(amqpv_pair, key_length), (8, 8));
+        assert_eq!(place!(amqpv_pair, bytes), (16, 8));
+        assert_eq!(place!(amqpv_pair, length), (24, 8));
+        assert_eq!(place!(amqpv_pair, bits), (32, 8));
+        assert_eq!(place!(amqpv_pair, tag), (40, 1));
+        assert_eq!(place!(amqpv_pair, scale), (41, 1));
+        assert_eq!(place!(amqpv_measure, length), (0, 8));
+        assert_eq!(place!(amqpv_measure, values), (8, 8));
+        assert_eq!(place!(amqpv_measure, levels), (16, 8));
+        assert_eq!(place!(amqpv_problem, offset), (0, 8));
+        assert_eq!(place!(amqpv_problem, kind), (8, 1));
+        assert_eq!(place!(amqpv_problem, tag), (9, 1));
+        assert_eq!(place!(amqpv_container, written), (0, 16));
+        assert_eq!(place!(amqpv_container, tag), (16, 1));
     }
 
     #[test]
