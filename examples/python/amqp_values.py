@@ -235,7 +235,10 @@ _calls: dict[str, Any] = {}
 
 def load(path: str | None = None) -> None:
     """Loads the library, as the first call does: by a path, by AMQP_VALUES in the environment, or as the system finds it."""
-    library = ctypes.CDLL(os.environ.get("AMQP_VALUES") or "libamqp_values.so.0" if path is None else path)
+    found = os.environ.get("AMQP_VALUES") or "libamqp_values.so.0" if path is None else path
+    # of a path that isn't UTF-8 versions of Python differ in what they raise
+    os.fsencode(found).decode()
+    library = ctypes.CDLL(found)
     try:
         calls = {name: library[f"amqpv_{name}"] for name in _PARAMETERS}
     except AttributeError as lacking:
