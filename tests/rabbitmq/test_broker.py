@@ -80,8 +80,8 @@ WAYS = {
 
 
 @pytest.fixture(scope="session")
-def tables(request: pytest.FixtureRequest, seed: int) -> list[tuple[Value, bytes]]:
-    """Tables, the first of every type, each with its encoding as the calls build it."""
+def tables(request: pytest.FixtureRequest, seed: int, library: str) -> list[tuple[Value, bytes]]:
+    """Tables, the first of every type, each with its encoding as the calls of the library build it."""
     make = Random(seed)
     values = [EVERY_TYPE, *(random_table(make) for _ in range(request.config.getoption("--tables") - 1))]
     return [(value, built(value)) for value in values]
