@@ -1,17 +1,16 @@
 //! How long the crate `amqp-values` takes next to the Rust crate: values_times FILE..
 //!
 //! Each file has a table with its type tag. A line has how long the Rust crate parses it, and as ratios to that reading,
-//! checking, and checking before parsing. Then it has how long `amqpv_next` takes for each of the outermost pairs, the ratio to
-//! such a function in Rust, and how long the safe iterator takes.
+//! checking, and checking before parsing. Then it has how long `amqpv_next` takes for each entry of all arrays and tables, the
+//! ratio to such a function in Rust, and how long the safe iterators take.
 
 mod clock;
 
-use amqp_values::{Limits, TablePairs, ValueRef, check, read};
+use amqp_values::{Limits, ValueRef, check, read};
 use amqp_values_sys::{AMQPV_OK, amqpv_cursor, amqpv_entry, amqpv_next, amqpv_span};
 use clock::least;
 use original::parsing::parse_value;
 use std::hint::black_box;
-use std::time::Duration;
 
 const LIMITS: Limits = Limits { bytes: u32::MAX, depth: 1000, values: u32::MAX };
 
@@ -45,24 +44,34 @@ fn bits(tag: u8, payload: &[u8]) -> u64 {
     }
 }
 
-/// What `amqpv_next` does with a table, in Rust.
+/// What `amqpv_next` does, in Rust: whether there is an entry.
 #[inline(never)]
-fn next(bytes: &[u8], cursor: &mut amqpv_cursor) -> Option<amqpv_entry> {
+fn next(bytes: &[u8], cursor: &mut amqpv_cursor, entry: &mut amqpv_entry) -> bool {
+    next_of(bytes, cursor).map(|it| *entry = it).is_some()
+}
+
+#[inline(always)]
+fn next_of(bytes: &[u8], cursor: &mut amqpv_cursor) -> Option<amqpv_entry> {
     let at = cursor.left.offset;
     let left = bytes.get(at..)?.get(..cursor.left.length)?;
-    let (length, after) = left.split_first()?;
-    let (key, value) = after.split_at_checked(usize::from(*length))?;
+    let (key, value) = if cursor.tag == b'F' {
+        let (length, after) = left.split_first()?;
+        let (key, value) = after.split_at_checked(usize::from(*length))?;
+        (span(at + 1, key.len()), value)
+    } else {
+        (span(at, 0), left)
+    };
     let (tag, after) = value.split_first()?;
     let (width, header) = width(*tag, after)?;
     let payload = after.get(..width)?;
-    let begin = at + 1 + key.len();
+    let begin = at + left.len() - value.len();
     let end = begin + 1 + width;
     let (scale, number) = if *tag == b'D' { (payload[0], &payload[1..]) } else { (0, payload) };
     cursor.left = span(end, cursor.left.length - (end - at));
     Some(amqpv_entry {
-        key: span(at + 1, key.len()),
+        key,
         value: span(begin, 1 + width),
-        content: if header > 0 { span(begin + 1 + header, width - header) } else { span(end, 0) },
+        content: if header > 0 { span(begin + 1 + header, width - header) } else { span(begin, 0) },
         bits: if header > 0 { 0 } else { bits(*tag, number) },
         tag: match tag {
             b'U' => b's',
@@ -73,28 +82,52 @@ fn next(bytes: &[u8], cursor: &mut amqpv_cursor) -> Option<amqpv_entry> {
     })
 }
 
-fn next_in_c(bytes: &[u8], cursor: &mut amqpv_cursor) -> Option<amqpv_entry> {
-    let mut entry = amqpv_entry::default();
+fn next_in_c(bytes: &[u8], cursor: &mut amqpv_cursor, entry: &mut amqpv_entry) -> bool {
     // SAFETY: the bytes can be read, and both structs are borrowed alone
-    let result = unsafe { amqpv_next(bytes.as_ptr(), bytes.len(), cursor, &mut entry) };
-    (result == AMQPV_OK).then_some(entry)
+    unsafe { amqpv_next(bytes.as_ptr(), bytes.len(), cursor, entry) == AMQPV_OK }
 }
 
-type Next = fn(&[u8], &mut amqpv_cursor) -> Option<amqpv_entry>;
+type Next = fn(&[u8], &mut amqpv_cursor, &mut amqpv_entry) -> bool;
 
-/// The entries of a table's body, as `next` has them.
-fn entries(body: &[u8], next: Next) -> impl Iterator<Item = amqpv_entry> {
-    let mut cursor = amqpv_cursor { left: span(0, body.len()), tag: b'F' };
-    std::iter::from_fn(move || next(body, &mut cursor))
+/// Calls a function with each entry of a body, as `next` has them.
+fn for_each(tag: u8, body: &[u8], next: Next, mut f: impl FnMut(&amqpv_entry)) {
+    let mut cursor = amqpv_cursor { left: span(0, body.len()), tag };
+    let mut entry = amqpv_entry::default();
+    while next(body, &mut cursor, &mut entry) {
+        f(&entry);
+    }
 }
 
-/// All that is in the entries, so that none of it is left out.
-fn sum(body: &[u8], next: Next) -> u64 {
-    entries(body, next).fold(0, |sum, it| sum ^ it.bits ^ (it.content.offset ^ it.value.length) as u64)
+/// All that is in the entries of some bodies, so that none of it is left out.
+fn sum(bodies: &[(u8, &[u8])], next: Next) -> u64 {
+    let mut sum = 0;
+    for (tag, body) in bodies {
+        for_each(*tag, body, next, |it| sum ^= it.bits ^ (it.content.offset ^ it.value.length ^ it.key.length) as u64);
+    }
+    sum
 }
 
-fn sum_of(pairs: TablePairs<'_>) -> usize {
-    pairs.map(|(key, value)| key.len() ^ usize::from(matches!(value, ValueRef::Void))).fold(0, |a, b| a ^ b)
+/// The bodies of all arrays and tables in a body, itself included, and how many entries they have.
+fn bodies<'a>(tag: u8, body: &'a [u8], all: &mut Vec<(u8, &'a [u8])>) -> usize {
+    all.push((tag, body));
+    let mut count = 0;
+    for_each(tag, body, next, |it| {
+        count += 1;
+        if matches!(it.tag, b'A' | b'F') {
+            count += bodies(it.tag, &body[it.content.offset..][..it.content.length], all);
+        }
+    });
+    count
+}
+
+/// What is in a value and all that it contains, by the safe iterators.
+fn sum_of(value: ValueRef<'_>) -> usize {
+    match value {
+        ValueRef::FieldArray(array) => array.iter().map(sum_of).fold(1, |a, b| a ^ b),
+        ValueRef::FieldTable(table) => table.iter().map(|(key, it)| key.len() ^ sum_of(it)).fold(2, |a, b| a ^ b),
+        ValueRef::LongString(bytes) | ValueRef::ByteArray(bytes) => bytes.len(),
+        _ => 3,
+    }
 }
 
 /// Takes what a call returned, so that none of it is left out.
@@ -105,10 +138,10 @@ fn keep<T>(value: T) {
 fn main() {
     for path in std::env::args().skip(1) {
         let bytes = std::fs::read(&path).expect("the file can be read");
-        let (bytes, body) = (&bytes[..], &bytes[5..]);
-        let (value, _) = read(bytes, LIMITS).expect("a value");
-        let table = value.as_table().expect("a table");
-        assert!(entries(body, next).eq(entries(body, next_in_c)), "both have the same entries");
+        let bytes = &bytes[..];
+        let mut all = Vec::new();
+        let count = bodies(b'F', &bytes[5..], &mut all);
+        assert_eq!(sum(&all, next), sum(&all, next_in_c), "both have the same entries");
 
         let parse = || keep(parse_value(black_box(bytes)));
         let checks = || keep(check(black_box(bytes), LIMITS));
@@ -118,12 +151,14 @@ fn main() {
             checks();
             parse();
         });
-        let of_next = least(&mut || keep(sum(black_box(body), next)), &mut || keep(sum(black_box(body), next_in_c)));
-        let (_, safe) = least(&mut { parse }, &mut || keep(sum_of(black_box(table).iter())));
+        let (value, _) = read(bytes, LIMITS).expect("a value");
+        let of_next = least(&mut || keep(sum(black_box(&all), next)), &mut || keep(sum(black_box(&all), next_in_c)));
+        let safe = || keep(sum_of(black_box(value)));
+        let (safe, _) = least(&mut { safe }, &mut { safe });
 
-        let ratio = |(theirs, ours): (Duration, Duration)| ours.as_secs_f64() / theirs.as_secs_f64();
-        let nanos = |it: Duration| it.as_secs_f64() * 1e9 / table.iter().count() as f64;
-        print!("{:.2} {:.3} {:.3} {:.3} ", reading.0.as_secs_f64() * 1e6, ratio(reading), ratio(checking), ratio(both));
+        let ratio = |(theirs, ours): (f64, f64)| ours / theirs;
+        let nanos = |it: f64| it * 1e9 / count as f64;
+        print!("{:.2} {:.3} {:.3} {:.3} ", reading.0 * 1e6, ratio(reading), ratio(checking), ratio(both));
         println!("{:.1} {:.3} {:.1}", nanos(of_next.1), ratio(of_next), nanos(safe));
     }
 }
