@@ -5,10 +5,11 @@ import sys
 from collections.abc import Iterator
 from pathlib import Path
 from random import Random
+from typing import Any
 
 sys.path.append(str(Path(__file__).resolve().parents[2]))
 
-from tests.model.printed import SIGNED, TYPES, write  # noqa: E402
+from tests.model.printed import SIGNED, TYPES, Value, write  # noqa: E402
 
 # By the name of a type its type tag; LongLongUInt and ShortString have none.
 TAGS = {name: tag for tag, (name, _) in TYPES.items() if tag not in "UL"}
@@ -28,8 +29,21 @@ GENERATORS = {
 }  # fmt: skip
 # Pieces of text: each width of UTF-8, and its least and greatest characters.
 LETTERS = "ab x-\0\x7f\x80é߿ࠀ漢￿𐀀🐇\U0010ffff"
+# JSON that a value may be made of, with what is next to the ends of each type's range.
+ENDS = [sign * 2**it + off for it in (7, 8, 15, 16, 31, 32, 63, 64) for off in (-1, 0, 1) for sign in (1, -1)]
+JSON: list[Any] = [None, True, False, "", "test", "a" * 255, 42, -42, 42.42, [], {}, *ENDS]
 # Bytes that aren't UTF-8: too long forms, halves of pairs, cut characters, what is past the last one.
-NOT_UTF8 = [b"\x80", b"\xc0\x80", b"\xc3", b"\xe0\x80\x80", b"\xed\xa0\x80", b"\xf4\x90\x80\x80", b"\xf0\x9f\x90", b"\xff", b"\xf8\x88\x80\x80\x80"]
+NOT_UTF8 = [
+    b"\x80",
+    b"\xc0\x80",
+    b"\xc3",
+    b"\xe0\x80\x80",
+    b"\xed\xa0\x80",
+    b"\xf4\x90\x80\x80",
+    b"\xf0\x9f\x90",
+    b"\xff",
+    b"\xf8\x88\x80\x80\x80",
+]
 
 
 # ---- words
@@ -44,7 +58,7 @@ def listed(names: list[bytes]) -> str:
     return "".join(f".{it.hex()}" for it in names) or "-"
 
 
-def word(value: tuple) -> str:
+def word(value: Value) -> str:
     """A value, as printed.py has it: its type tag, and its content."""
     tag, content = value
     name = TYPES[tag][0]
@@ -72,17 +86,23 @@ def text(make: Random, most: int = 12) -> bytes:
 
 def number(make: Random, width: int) -> bytes:
     """The bytes of a number: ends of ranges, and any."""
-    edges = [b"\0" * width, b"\xff" * width, b"\x7f" + b"\xff" * (width - 1), b"\x80" + b"\0" * (width - 1), b"\0" * (width - 1) + b"\1"]
+    edges = [
+        b"\0" * width,
+        b"\xff" * width,
+        b"\x7f" + b"\xff" * (width - 1),
+        b"\x80" + b"\0" * (width - 1),
+        b"\0" * (width - 1) + b"\1",
+    ]
     return make.choice([*edges, make.randbytes(width), make.randbytes(width)])
 
 
-def value(make: Random, depth: int = 3) -> tuple:
+def value(make: Random, depth: int = 3) -> Value:
     """A value of any type and depth, with infinities and NaNs too."""
     tag = make.choice("tbBsuIilfdDSxTV" + "AF" * 3 * (depth > 0))
     return value_of(make, tag, depth)
 
 
-def value_of(make: Random, tag: str, depth: int = 3) -> tuple:
+def value_of(make: Random, tag: str, depth: int = 3) -> Value:
     if tag == "A":
         return tag, [value(make, depth - 1) for _ in range(make.choice([0, 1, 2, 3, 6]))]
     if tag == "F":
@@ -149,8 +169,20 @@ def json_of(make: Random) -> str:
     """A JSON text, of numbers at the ends of each type's range."""
     edge = make.choice([0, 7, 8, 15, 16, 31, 32, 53, 63, 64])
     whole = make.choice([1, -1]) * (1 << edge) + make.randrange(-2, 3)
-    found = make.choice([None, True, False, whole, whole, whole, whole / 3, 1e300, "", text(make).decode(), "a" * make.choice([254, 255, 256]), [], [1], {}, {"a": None}])
-    return json.dumps(found, ensure_ascii=make.random() < 0.5)
+    texts = ["", text(make).decode(), "a" * make.choice([254, 255, 256])]
+    it: Any = [None, True, False, whole, whole, whole, whole / 3, 1e300, *texts, [], [1], {}, {"a": None}]
+    return json.dumps(make.choice(it), ensure_ascii=make.random() < 0.5)
+
+
+def values_at_ends() -> Iterator[Value]:
+    """Of each type the values with the least and the greatest bytes, or with nothing and something in them."""
+    contents: dict[str, list[Any]] = {
+        tag: [b"\0" * (width or 0), b"\xff" * (width or 0)] for tag, (_, width) in TYPES.items()
+    }
+    contents |= {tag: [b"", b"*\1\2\3"] for tag in "Sx"}
+    contents |= {"t": [b"\0", b"\1"], "A": [[], [("V", b"")] * 3]}
+    contents |= {"F": [{}, {b"test": ("f", b"B)\xae\x14"), b"test2": ("t", b"\0")}]}
+    yield from ((tag, content) for tag in "tbBsuIilfdDTSxAFV" for content in contents[tag])
 
 
 # ---- requests
@@ -158,9 +190,9 @@ def json_of(make: Random) -> str:
 
 def worked() -> Iterator[str]:
     """Those of the crate's own tests, and the ends of every range."""
-    zeros, ones = {tag: b"\0" * (width or 4) for tag, (_, width) in TYPES.items() if width != 0}, {}
-    for tag, (_, width) in TYPES.items():
-        ones[tag] = b"\xff" * (width or 0) if width is not None else b"\0\0\0\4test" if tag in "Sx" else b""
+    zeros = {tag: b"\0" * (width or 4) for tag, (_, width) in TYPES.items() if width != 0}
+    ones = {tag: b"\xff" * width for tag, (_, width) in TYPES.items() if width is not None}
+    ones |= {"S": b"\0\0\0\4test", "x": b"\0\0\0\4test", "A": b"", "F": b""}
     table = b"\4test" + b"S\0\0\0\4test" + b"\2tt" + b"V"
     for call, tag in PARSERS.items():
         yield from (f"parse {call} {digits(it)}" for it in (zeros.get(tag, b"\0"), ones.get(tag, b"\4test"), b""))
@@ -178,24 +210,24 @@ def worked() -> Iterator[str]:
     yield from (f"gen_id 2 {it}" for it in (0, 10, 65535))
     names, flags = "abcdefghij", [1, 0, 0, 1, 1, 1, 0, 0, 1, 1]
     for count in range(11):
-        added = "".join(f".{name.encode().hex()}{'+' if flag else '!'}" for name, flag in zip(names[:count], flags)) or "-"
+        of = zip(names[:count], flags)
+        added = "".join(f".{name.encode().hex()}{'+' if flag else '!'}" for name, flag in of) or "-"
         yield from (f"flags {added} {digits(it)}" for it in (b"a", b"b", b"h", b"z"))
         yield from (f"gen_flags {room} {added}" for room in (0, 1, 2, 3))
-        yield from (f"{call} {listed([it.encode() for it in names[:count]])} {digits(it)}" for call in ("parse_flags", "from_bytes") for it in (b"\x0d", b"\xdd\2", b""))
+        named = listed([it.encode() for it in names[:count]])
+        for call in ("parse_flags", "from_bytes"):
+            yield from (f"{call} {named} {digits(it)}" for it in (b"\x0d", b"\xdd\2", b""))
     for name in NAMES:
-        for found in (None, True, False, "", "test", "a" * 255, 42, -42, 42.42, [], {}, *(sign * 2**it + off for it in (7, 8, 15, 16, 31, 32, 63, 64) for off in (-1, 0, 1) for sign in (1, -1))):
-            yield f"try_from {name} {digits(json.dumps(found).encode())}"
+        yield from (f"try_from {name} {digits(json.dumps(it).encode())}" for it in JSON)
     yield from (f"try_new {digits(b'a' * it)}" for it in (0, 2, 255, 256, 300))
     yield from (f"long_string {digits(it)}" for it in (b"string ref", b"bytes", b"h\xffi", *NOT_UTF8))
-    for tag in "tbBsuIilfdDTSxAFV":
-        width = TYPES[tag][1]
-        contents = [b"\0" * width, b"\xff" * width] if width is not None else [b"", b"*\1\2\3"] if tag in "Sx" else [[], [("V", b"")] * 3] if tag == "A" else [{}, {b"test": ("f", b"B)\xae\x14"), b"test2": ("t", b"\0")}]
-        for it in [(tag, b"\1" if tag == "t" and content == b"\xff" else content) for content in contents]:
-            least = len(write(it)) - 1
-            yield from (f"gen gen_value {room} {word(it)}" for room in range(least + 3))
-            yield from (f"gen {call} {room} {word(it)}" for call, of in GENERATORS.items() if of == tag for room in range(least + 2))
-            yield f"value {word(it)}"
-            yield f"equal {word(it)} {word(it)}"
+    for it in values_at_ends():
+        least = len(write(it)) - 1
+        yield from (f"gen gen_value {room} {word(it)}" for room in range(least + 3))
+        calls = [call for call, tag in GENERATORS.items() if tag == it[0]]
+        yield from (f"gen {call} {room} {word(it)}" for call in calls for room in range(least + 2))
+        yield f"value {word(it)}"
+        yield f"equal {word(it)} {word(it)}"
     yield "value ShortString:78"
     yield "gen gen_value 3 ShortString:78"
 
@@ -204,7 +236,6 @@ def sample(count: int) -> list[str]:
     """The requests whose answers are committed: those that are worked, and so many others."""
     make = Random(10_06_03)
     return [*worked(), *(request(make) for _ in range(count))]
-
 
 
 def request(make: Random) -> str:
@@ -242,7 +273,9 @@ def parse(make: Random) -> str:
     call, tag = make.choice([*PARSERS.items()])
     if call == "parse_short_string":
         data = make.choice([text(make), make.choice(NOT_UTF8), text(make) + make.choice(NOT_UTF8)])
-        data = bytes([make.choice([len(data), len(data), make.randrange(256)])]) + data + make.randbytes(make.randrange(3))
+        data = (
+            bytes([make.choice([len(data), len(data), make.randrange(256)])]) + data + make.randbytes(make.randrange(3))
+        )
     elif call == "parse_type":
         data = make.randbytes(make.randrange(3))
     else:
@@ -279,8 +312,7 @@ def generate(make: Random) -> str:
             data = make.randbytes(make.randrange(6))
             return f"gen_with_len {make.randrange(12)} {digits(data)}"
         case 3:
-            data = make.choice([text(make), b"a" * make.randrange(250, 256), text(make) * make.randrange(10)])
-            return f"gen gen_short_string {make.choice([len(data), len(data) + 1, len(data) + 2, 300])} LongString:{digits(data[: 255 - 255 % max(1, len(data))] if len(data) > 255 else data)}"
+            return generate_short_string(make)
         case 4 | 5 | 6:
             call, tag = make.choice([*GENERATORS.items()])
             it = value_of(make, tag)
@@ -290,6 +322,13 @@ def generate(make: Random) -> str:
             least = len(write(it)) - (call == "gen_raw_value")
     room = max(0, least + make.choice([0, 0, 0, 0, 1, 100, -1, -2, -make.randrange(least + 1)]))
     return f"gen {call} {room} {word(it)}"
+
+
+def generate_short_string(make: Random) -> str:
+    """Of a text that is no longer than a ShortString may be."""
+    made = make.choice([text(make), b"a" * make.randrange(250, 256), text(make) * make.randrange(10)])
+    room = make.choice([len(made), len(made) + 1, len(made) + 2, 300])
+    return f"gen gen_short_string {room} LongString:{digits(made if len(made) <= 255 else b'')}"
 
 
 def equal(make: Random) -> str:
