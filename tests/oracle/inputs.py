@@ -85,7 +85,9 @@ def text(make: Random, most: int = 12) -> bytes:
 
 
 def number(make: Random, width: int) -> bytes:
-    """The bytes of a number: ends of ranges, and any."""
+    """The bytes of a number: ends of ranges, and any. A Void has none."""
+    if not width:
+        return b""
     edges = [
         b"\0" * width,
         b"\xff" * width,
@@ -158,11 +160,16 @@ def nested(make: Random) -> bytes:
     return data
 
 
-def equal_keys(make: Random) -> bytes:
-    """A table, each of whose keys may come again, in any order."""
-    keys = [text(make, 3) for _ in range(3)]
-    body = b"".join(bytes([len(key)]) + key + write(value(make, 1)) for key in make.choices(keys, k=make.randrange(6)))
+def table_of(make: Random, names: int, count: int) -> bytes:
+    """A table with so many pairs, in any order, whose keys are one of so many."""
+    keys = [text(make, 3) for _ in range(names)]
+    body = b"".join(bytes([len(key)]) + key + write(value(make, 1)) for key in make.choices(keys, k=count))
     return b"F" + len(body).to_bytes(4, "big") + body
+
+
+def equal_keys(make: Random) -> bytes:
+    """A table, each of whose keys may come again; once in a while a large one, which is read in another way."""
+    return table_of(make, *make.choices([(3, make.randrange(6)), (300, make.randrange(1000, 2000))], [500, 1])[0])
 
 
 def json_of(make: Random) -> str:
@@ -200,6 +207,7 @@ def worked() -> Iterator[str]:
         yield f"parse parse_value {digits(data)}"
         yield f"wire {digits(data)}"
     yield f"parse parse_field_table {digits(len(table).to_bytes(4, 'big') + table)}"
+    yield from (f"{call} {digits(table_of(Random(2), 300, 1000))}" for call in ("parse parse_value", "wire"))
     array = b"S\0\0\0\4testV"
     yield f"parse parse_field_array {digits(len(array).to_bytes(4, 'big') + array)}"
     for name in NAMES:
