@@ -25,7 +25,7 @@ pub fn parse(alloc: Global, call: &str, bytes: &[u8]) -> Answer {
         let (first, second) = bytes.split_at(at);
         let split = parse_from(alloc, call, SplitInput::new(first, second))?;
         if split.as_str() != whole.as_str() {
-            return Ok(format!(in alloc; "{whole}, and in two slices {split}")?);
+            return both(alloc, whole.as_str(), split.as_str());
         }
     }
     Ok(whole)
@@ -37,9 +37,14 @@ pub fn parse_raw(alloc: Global, amqp_type: AMQPType, bytes: &[u8]) -> Answer {
     let (first, second) = bytes.split_at(bytes.len() / 2);
     let split = raw_from(alloc, amqp_type, SplitInput::new(first, second))?;
     if split.as_str() != whole.as_str() {
-        return Ok(format!(in alloc; "{whole}, and in two slices {split}")?);
+        return both(alloc, whole.as_str(), split.as_str());
     }
     Ok(whole)
+}
+
+/// What is read of one slice and of two, if that differs.
+fn both(alloc: Global, whole: &str, split: &str) -> Answer {
+    Ok(format!(in alloc; "{whole}, and in two slices {split}")?)
 }
 
 /// What a parser returns: a value, already as a word, and the bytes after it, or an error.
@@ -146,23 +151,43 @@ fn listed<'a>(alloc: Global, names: &'a [String]) -> Result<Vec<&'a str>, AllocE
     Ok(list)
 }
 
-/// What `parse_flags` returns.
+/// What `parse_flags` returns, of one slice and of two.
 pub fn parse_named(alloc: Global, names: &str, bytes: &[u8]) -> Answer {
     let names = names_of(alloc, names)?;
     let names = listed(alloc, names.as_slice())?;
-    match parse_flags(alloc, SliceInput::new(bytes), names.as_slice()) {
+    let whole = flags_from(alloc, SliceInput::new(bytes), names.as_slice())?;
+    let (first, second) = bytes.split_at(bytes.len() / 2);
+    let split = flags_from(alloc, SplitInput::new(first, second), names.as_slice())?;
+    if split.as_str() != whole.as_str() {
+        return both(alloc, whole.as_str(), split.as_str());
+    }
+    Ok(whole)
+}
+
+fn flags_from<I: ParsableInput>(alloc: Global, input: I, names: &[&str]) -> Answer {
+    match parse_flags(alloc, input, names) {
         Ok((rest, flags)) => {
-            let held = flags_text(alloc, &flags, names.as_slice())?;
+            let held = flags_text(alloc, &flags, names)?;
             told(alloc, held.as_str(), rest)
         }
         Err(error) => refused(alloc, error),
     }
 }
 
-/// What `AMQPFlags::from_bytes` returns.
+/// What `AMQPFlags::from_bytes` returns, of one slice and of two.
 pub fn flags_from_bytes(alloc: Global, names: &str, bytes: &[u8]) -> Answer {
     let names = names_of(alloc, names)?;
     let names = listed(alloc, names.as_slice())?;
-    let flags = AMQPFlags::from_bytes(alloc, names.as_slice(), SliceInput::new(bytes))?;
-    Ok(flags_text(alloc, &flags, names.as_slice())?)
+    let whole = unpacked(alloc, SliceInput::new(bytes), names.as_slice())?;
+    let (first, second) = bytes.split_at(bytes.len() / 2);
+    let split = unpacked(alloc, SplitInput::new(first, second), names.as_slice())?;
+    if split.as_str() != whole.as_str() {
+        return both(alloc, whole.as_str(), split.as_str());
+    }
+    Ok(whole)
+}
+
+fn unpacked<I: ParsableInput>(alloc: Global, input: I, names: &[&str]) -> Answer {
+    let flags = AMQPFlags::from_bytes(alloc, names, input)?;
+    Ok(flags_text(alloc, &flags, names)?)
 }
