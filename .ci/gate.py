@@ -9,7 +9,8 @@ import sys
 
 import least
 from crates import TOP, said_by
-from lib import TEST_CRATES, Steps, by_last_line, copy_repository, leave_out_tests
+from lib import Steps, by_last_line, copy_repository, leave_out_tests
+from tests.oracle.sides import is_at_hand
 from tests.rabbitmq.broker import BIN
 from tests.rabbitmq.clients import PYTHON
 
@@ -19,7 +20,7 @@ KIT_LINE = "rattle-kit-13f"
 ALWAYS = ("git", "python3", "cc", "c++")
 NEEDS = {
     "docs": (), "test": (), "style": (PYTHON, "mypy", "black"), "model": (PYTHON,), "show": (), "alloc-failures": (), "sizes": (), "wire": (), "python": (PYTHON,), "c": ("nm", "pkg-config", "clang", "qemu-x86_64", "aarch64-linux-gnu-gcc"),
-    "counts": ("valgrind",), "rust": (), "broker": (f"{BIN}/rabbitmq-server", "epmd", "amqp-publish", PYTHON), "mutants": (),
+    "counts": ("valgrind",), "rust": (), "crate": (), "broker": (f"{BIN}/rabbitmq-server", "epmd", "amqp-publish", PYTHON), "mutants": (),
 }
 # The step that proves, and those that need nothing that it leaves.
 PROOFS, NEED_NO_PROOFS = "rt ci", {"docs", "test", "style", "model"}
@@ -28,6 +29,7 @@ PYTEST = ("pytest", "xdist", "hypothesis")
 MODULES = {"style": PYTEST, "model": PYTEST, "python": PYTEST, "broker": (*PYTEST, "pika", "amqp")}
 TABLES = {"run": 500, "whole": 10000}
 KEYS = ".ci/mutant-keys"
+NO_CRATE = "neither AMQ_PROTOCOL_TYPES names the Rust crate's folder nor cargo has kept it"
 REJECTED = re.compile(r"(\d+) rejected now, (\d+) carried over from an earlier run, (\d+) where only a proof no longer fits, (\d+) not rejected")
 
 
@@ -42,6 +44,8 @@ def missing(without):
     if PYTHON not in lacks:
         lacks += [f"the module {it} of {PYTHON}" for it in modules if subprocess.run([PYTHON, "-c", f"import {it}"], capture_output=True).returncode]
     yield from (f"{it} is missing (.ci/setup installs it)" for it in lacks)
+    if "crate" not in without and not is_at_hand():
+        yield f"{NO_CRATE} (--without crate leaves its step out)"
 
 
 def by_proved(step):
@@ -63,7 +67,7 @@ def by_rejected(step):
 
 def gate(name, words):
     """Runs the steps of .ci/NAME, and returns the exit status."""
-    left_out, tries_all = ((), True) if name == "whole" else (TEST_CRATES, False)
+    tries_all = name == "whole"
     text = re.findall(r"(?m)^# ?(.*)$", (TOP / ".ci" / name).read_text().partition("\n")[2])
     how = {"description": "\n".join(text), "formatter_class": argparse.RawDescriptionHelpFormatter}
     reader = argparse.ArgumentParser(prog=f".ci/{name}", **how)
@@ -73,7 +77,9 @@ def gate(name, words):
     reader.add_argument("--only", action="append", default=[], choices=[PROOFS, *names], metavar="NAME")
     said = reader.parse_args(words)
     only = said.only or [PROOFS, *names]
-    without = [it for it in NEEDS if it not in only or it in said.without]
+    # (before a release it isn't left out unasked)
+    lacks_crate = not tries_all and "crate" in {*only} - {*said.without} and not is_at_hand()
+    without = [it for it in NEEDS if it not in only or it in said.without or it == "crate" and lacks_crate]
     if os.environ.get("CI"):
         # what it couldn't install is missing below
         subprocess.run([TOP / ".ci/setup", *(["--without", "broker"] if "broker" in without else [])])
@@ -84,7 +90,7 @@ def gate(name, words):
         copy = steps.folder / "copy"
         scripts, tests, proved = copy / ".ci", copy / "tests", ()
         if PROOFS in only or {*NEEDS} - {*without} - NEED_NO_PROOFS:
-            copy_repository(copy, left_out)
+            copy_repository(copy)
             if not tries_all:
                 # .ci/test runs the tests; the mutants of must-fail/ are tried with the others, and carried over as they are
                 leave_out_tests(copy)
@@ -105,6 +111,7 @@ def gate(name, words):
             "python": ([tests / "python/run", "--built", *random], proved),
             "counts": ([tests / "counts/run", "--built"], proved),
             "rust": ([tests / "rust/run", "--built"], proved),
+            "crate": ([tests / "oracle/run"], proved),
             "broker": ([tests / "rabbitmq/run", "--built", "--tables", TABLES[name]], proved),
             "mutants": ([scripts / "mutants", "--built", "--must-fail", TOP, "--record", TOP / KEYS, *["--all"] * tries_all], proved),
         }
@@ -116,6 +123,7 @@ def gate(name, words):
         os.environ["COMMIT_NUMBER"] = said_by("git", "-C", str(TOP), "rev-list", "--count", "HEAD")
         steps.run()
         steps.notes += [f"only: {it}" for it in said.only] + [f"left out: {it}" for it in said.without]
+        steps.notes += [f"left out: crate, since {NO_CRATE}"] * lacks_crate
         steps.notes += [it.last_line for it in steps.steps if it.name == "mutants"]
         return steps.ended()
 

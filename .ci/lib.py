@@ -23,7 +23,7 @@ from crates import TOP, Crates, kit, said_by
 # What is tested with is in tests/, a package.
 sys.path.append(str(TOP))
 
-# The crates that have tests, and a program that only replays: .ci/test runs them, and .ci/whole proves them too.
+# The crates of tests and of a program that only replays: .ci/test runs the tests, and .ci/whole proves them too.
 TEST_CRATES = ("test_codec",)
 # The crates of the calls for C: those that don't allocate, and those that do.
 CALLS_FOR_C = ("amqp_c", "amqp_c_alloc")
@@ -53,14 +53,17 @@ def copy_repository(to: Path, without: Collection[str] = ()) -> None:
 
 
 def leave_out_tests(folder: Path) -> None:
-    """Takes the tests of other crates, and must-fail/, out of a copy, for `rt ci`."""
+    """Takes the crates' tests, and must-fail/, out of a copy, for `rt ci`: the modules `tests`, and of TEST_CRATES all."""
     for root in [*folder.glob("crates/*/src/lib.rt"), *folder.glob("crates/*/src/main.rt")]:
-        text = root.read_text()
-        if TESTS in text:
-            # (without two empty lines, as rt wants it)
-            root.write_text(text.replace(TESTS, "").replace("\n\n\n", "\n\n"))
-            (root.parent / "tests.rt").unlink()
-            shutil.rmtree(root.parent / "tests", ignore_errors=True)
+        text, crate = root.read_text(), root.parents[1]
+        for declared, name in re.findall(r"(#\[cfg\(test\)\]\nmod (\w+);\n)", text):
+            if declared == TESTS or crate.name in TEST_CRATES:
+                # (without two empty lines, as rt wants it)
+                text = text.replace(declared, "").replace("\n\n\n", "\n\n")
+                (root.parent / f"{name}.rt").unlink()
+                for part in SOURCES:
+                    shutil.rmtree(crate / part / name, ignore_errors=True)
+        root.write_text(text)
     for edits in folder.glob("crates/*/must-fail"):
         shutil.rmtree(edits)
 
