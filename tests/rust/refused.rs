@@ -131,6 +131,16 @@ fn a_claim_above_the_limit_is_not_waited_for() {
 }
 
 #[test]
+fn a_value_that_claims_more_than_its_array_has_is_malformed() {
+    under(LIMITS, || {
+        for claim in [6_u32, 1 << 20, u32::MAX] {
+            let body = [&b"x"[..], &claim.to_be_bytes()].concat();
+            assert_eq!(text_of(parse_field_array(&counted(&body)[..])), "Parser error: Nom(Eof)", "{claim}");
+        }
+    });
+}
+
+#[test]
 fn values_up_to_the_limit_are_read_and_no_more() {
     under(Limits { values: 10, ..LIMITS }, || {
         assert!(parse_field_array(&voids(9)[..]).is_ok());

@@ -9,9 +9,10 @@ use std::ffi::c_int;
 const OK: c_int = 0;
 /// What the problems go by: what the calls read.
 const RULES_READ: u32 = 0;
-/// The kinds of problem that are beyond a limit.
+/// The kind of problem of what nests deeper than `depth`.
 const TOO_DEEP: u8 = 5;
-const TOO_LARGE: u8 = 6;
+/// The limit on bytes, which is none: what is measured is all there.
+const FRAME: u32 = u32::MAX;
 
 /// How large a value is, by its encoding.
 #[repr(C)]
@@ -77,42 +78,33 @@ unsafe extern "C" {
 pub(crate) enum Problem {
     /// It nests deeper than `depth`.
     TooDeep,
-    /// It has more than `frame` bytes.
-    TooLarge,
-    /// The bytes are no value.
+    /// The bytes are no value, or it claims more than they are.
     Malformed,
 }
 
-/// Measures the value at the start of the bytes, its type tag included, within limits.
-pub(crate) fn measure_value(bytes: &[u8], frame: u32, depth: u32) -> Result<Measure, Problem> {
-    measured(amqpv_measure_value, amqpv_first_problem, bytes, frame, depth)
+/// Measures the value at the start of the bytes, its type tag included, within a limit on nesting.
+pub(crate) fn measure_value(bytes: &[u8], depth: u32) -> Result<Measure, Problem> {
+    measured(amqpv_measure_value, amqpv_first_problem, bytes, depth)
 }
 
-/// Measures the table without its type tag at the start of the bytes, within limits.
-pub(crate) fn measure_table(bytes: &[u8], frame: u32, depth: u32) -> Result<Measure, Problem> {
-    measured(amqpv_measure_table, amqpv_first_problem_in_table, bytes, frame, depth)
+/// Measures the table without its type tag at the start of the bytes, within a limit on nesting.
+pub(crate) fn measure_table(bytes: &[u8], depth: u32) -> Result<Measure, Problem> {
+    measured(amqpv_measure_table, amqpv_first_problem_in_table, bytes, depth)
 }
 
-fn measured(
-    measure_by: MeasureCall,
-    find_by: ProblemCall,
-    bytes: &[u8],
-    frame: u32,
-    depth: u32,
-) -> Result<Measure, Problem> {
+fn measured(measure_by: MeasureCall, find_by: ProblemCall, bytes: &[u8], depth: u32) -> Result<Measure, Problem> {
     let (mut measure, mut count) = (Measure::default(), 0);
     // SAFETY: the header's preconditions. `bytes` can be read and has at most isize::MAX bytes; the structs are
     // borrowed alone; the stack is that of `Limits::depth`, of which each level takes less than a guard page.
-    let result = unsafe { measure_by(bytes.as_ptr(), bytes.len(), frame, depth, &mut measure, &mut count) };
+    let result = unsafe { measure_by(bytes.as_ptr(), bytes.len(), FRAME, depth, &mut measure, &mut count) };
     if result == OK {
         return Ok(measure);
     }
     let mut problem = FirstProblem::default();
     // SAFETY: as before, of the other call.
-    let result = unsafe { find_by(bytes.as_ptr(), bytes.len(), RULES_READ, frame, depth, &mut problem) };
+    let result = unsafe { find_by(bytes.as_ptr(), bytes.len(), RULES_READ, FRAME, depth, &mut problem) };
     Err(match problem.kind {
         TOO_DEEP if result == OK => Problem::TooDeep,
-        TOO_LARGE if result == OK => Problem::TooLarge,
         _ => Problem::Malformed,
     })
 }

@@ -32,7 +32,7 @@ pub(crate) trait Container: Sized {
 
 impl Container for FieldTable {
     fn measure(bytes: &[u8], limits: &Limits) -> Result<Measure, Refusal> {
-        Ok(calls::measure_table(bytes, limits.bytes, limits.depth)?)
+        Ok(calls::measure_table(bytes, limits.depth)?)
     }
 
     fn parse(bytes: &[u8]) -> ParserResult<&[u8], Self> {
@@ -54,7 +54,7 @@ impl Container for FieldArray {
         let depth = limits.depth.checked_sub(1).ok_or(Refusal::TooDeep)?;
         let mut all = Measure { length: LENGTH, values: 1, levels: 1 };
         while let Some(left) = bytes.get(all.length..).filter(|it| !it.is_empty()) {
-            let value = calls::measure_value(left, limits.bytes, depth)?;
+            let value = calls::measure_value(left, depth)?;
             all.length += value.length;
             all.values += value.values;
             all.levels = all.levels.max(1 + value.levels);
@@ -76,7 +76,6 @@ impl From<Problem> for Refusal {
     fn from(problem: Problem) -> Self {
         match problem {
             Problem::TooDeep => Self::TooDeep,
-            Problem::TooLarge => Self::TooLarge,
             Problem::Malformed => Self::Malformed,
         }
     }
