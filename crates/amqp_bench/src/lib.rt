@@ -8,10 +8,8 @@
 ghost use Rattle.std.specs.Prelude.{length, codes};
 ghost use Rattle.amqp_bench.specs.Calls.{Answers, AnswersAs, IsTaken, IsLookedUp, IsWritten, HasNoRoom, limits, widest, IsTakenWithin, IsFaultWithin, IsFaultInPieces, IsFaultOfCanonical};
 ghost use Rattle.amqp_in_place.specs.Canonicals.{IsCanonicalLen};
-ghost use Rattle.amqp_bench.specs.Dissected.{IsDissectedTo, IsFaultOfDissection};
 
 mod calls;
-mod dissecting;
 mod fault;
 mod pieces;
 #[cfg(test)]
@@ -20,7 +18,6 @@ mod within;
 
 use amq_protocol_types::stream::Limits;
 use calls::{decode, encode, find, scan};
-use dissecting::length_of_parts;
 use fault::answer;
 use std::alloc::Global;
 use within::{decode_in_pieces, decode_within, measure_canonical};
@@ -103,12 +100,4 @@ pub extern "C" fn amqp_bench_encode_n(
     ensures { Answers bytes.now (IsWritten times bytes.now (length out.old)) (HasNoRoom bytes.now (length out.old)) result }
 {
     answer(encode(alloc, bytes, out, times))
-}
-
-/// Dissects the value at the start of `bytes`, drops the parts, and returns how many bytes they had.
-#[unsafe(no_mangle)]
-pub extern "C" fn amqp_bench_dissect(alloc: Global, bytes: &[u8]) -> i64
-    ensures { AnswersAs (IsDissectedTo bytes.now) (IsFaultOfDissection bytes.now) result }
-{
-    answer(length_of_parts(alloc, bytes))
 }

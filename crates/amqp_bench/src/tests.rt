@@ -89,10 +89,3 @@ fn measures_what_is_canonical(rt: HostRuntime) {
     assert_eq!(rt; amqp_bench_canonical_len(b"U\0\x07"), -2);
     assert_eq!(rt; amqp_bench_canonical_len(b"F\0\0\0\x03\x01-"), -2);
 }
-
-#[test]
-fn dissects_a_value(rt: HostRuntime) {
-    assert_eq!(rt; amqp_bench_dissect(rt.alloc(), b"F\0\0\0\x03\x01-Vz"), 8);
-    assert_eq!(rt; amqp_bench_dissect(rt.alloc(), b"F\0\0\0\x03\x01-z"), 7);
-    assert_eq!(rt; amqp_bench_dissect(rt.alloc(), b"z"), 0);
-}
