@@ -9,7 +9,7 @@ import sys
 
 import least
 from crates import TOP, said_by
-from lib import Steps, by_last_line, copy_repository, leave_out_tests
+from lib import TEST_CRATES, Steps, by_last_line, copy_repository, leave_out_tests
 from tests.oracle.sides import is_at_hand
 from tests.rabbitmq.broker import BIN
 from tests.rabbitmq.clients import PYTHON
@@ -90,7 +90,8 @@ def gate(name, words):
         copy = steps.folder / "copy"
         scripts, tests, proved = copy / ".ci", copy / "tests", ()
         if PROOFS in only or {*NEEDS} - {*without} - NEED_NO_PROOFS:
-            copy_repository(copy)
+            # only the step crate asks a crate of tests
+            copy_repository(copy, () if tries_all or "crate" not in without else TEST_CRATES)
             if not tries_all:
                 # .ci/test runs the tests; the mutants of must-fail/ are tried with the others, and carried over as they are
                 leave_out_tests(copy)
