@@ -157,6 +157,14 @@ fn a_table_is_made_of_entries(rt: HostRuntime) -> Result<(), Fail> {
 }
 
 #[test]
+fn a_thousand_entries_are_inserted(rt: HostRuntime) -> Result<(), Fail> {
+    let entries = [7; 1000].map(|n| ("k", AMQPValue::ShortShortUInt(n)));
+    let table = FieldTable::from_entries(rt.alloc(), entries)?;
+    assert!(rt; table.contains_key("k"));
+    Ok(())
+}
+
+#[test]
 fn no_entry_has_a_longer_key_than_255_bytes(rt: HostRuntime) -> Result<(), Fail> {
     let alloc = rt.alloc();
     for (n, fits) in [(255, true), (256, false)] {

@@ -25,19 +25,20 @@ impl Read for BrokenReader<'_> {
     }
 }
 
-/// Yields the bytes of a string, and is interrupted before each byte and at the end.
+/// Yields the bytes of a string, and is interrupted three times before each byte and at the end.
 #[derive(Drop)]
 struct InterruptedReader<'a> {
     text: &'a [u8],
-    is_interrupted: bool,
+    interruptions: u8,
 }
 
 impl Read for InterruptedReader<'_> {
     fn read(&mut self, buf: &mut [u8]) -> io::Result<usize> {
-        self.is_interrupted = !self.is_interrupted;
-        if self.is_interrupted {
+        if self.interruptions < 3 {
+            self.interruptions += 1;
             return Err(io::Error::from(ErrorKind::Interrupted));
         }
+        self.interruptions = 0;
         let most = buf.len().min(1);
         self.text.read(&mut buf[..most])
     }
@@ -200,7 +201,7 @@ fn lines_are_read_on_after_each_interruption(rt: HostRuntime) {
     for program in [Lines, Split(1), Within(9, 2)] {
         let mut reader = InterruptedReader {
             text: b"56\n7a",
-            is_interrupted: false,
+            interruptions: 0,
         };
         let mut out = Vec::new(rt.alloc());
         let answer = run_program(&rt, rt.alloc(), program, &mut reader, &mut out);
