@@ -9,11 +9,11 @@ use Rattle.std.proofs.lemmas.List.{drop-drop}
 use Rattle.amqp_value_core.specs.Grammar.{long_field}
 use Rattle.amq_protocol_types.specs.declared.generation.error.GenError.{GenError}
 use Rattle.amq_protocol_types.specs.generation.Outputs.{OutputState, Writes}
-use Rattle.amq_protocol_types.specs.generation.BufferOutput.{IsWhole, Truncates, PatchesLength, filled}
-use Rattle.amq_protocol_types.specs.generation.Lengths.{OnlyAppends, Reserved, AppendsWithLength, RefusesWithLength}
+use Rattle.amq_protocol_types.specs.generation.BufferOutput.{IsConsistentOutput, TruncatesTo, PatchesLength, filled}
+use Rattle.amq_protocol_types.specs.generation.Lengths.{OnlyAppends, IsReserved, AppendsWithLength, RefusesWithLength}
 use Rattle.amq_protocol_types.specs.generation.Contexts.{start_of, state_of}
 use Rattle.amq_protocol_types.specs.declared.generation.context.WriteContext.{WriteContext}
-use Rattle.amq_protocol_types.proofs.lemmas.generation.Rooms.{nothing_appended, told_back, front_overwritten}
+use Rattle.amq_protocol_types.proofs.lemmas.generation.Capacities.{nothing_appended, reported_back, prefix_overwritten}
 
 -- the position counts what was appended
 pub counted : (a b : Option (List ℕ)) (n m : ℕ) (xs : List ℕ) → IsSome a → IfSome a (λ put. length put ≡ n) → IsSome b → IfSome b (λ put. length put ≡ m) → Appends a b xs → m ≡ n + length xs
@@ -22,8 +22,8 @@ counted (Some put) None n m xs h e k d p = absurd cc
 counted (Some put) (Some all) n m xs h e k d p = sym d ∙ ap length p ∙ length-append put xs ∙ ap (λ i. i + length xs) e
 
 -- what only appends leaves the position or raises it
-pub behind : {s t : OutputState} {r : Result (Unit {0}) GenError} → IsWhole s → IsWhole t → OnlyAppends s r t → s.position ≤ t.position
-behind {s = s} {t = t} here there o =
+pub after : {s t : OutputState} {r : Result (Unit {0}) GenError} → IsConsistentOutput s → IsConsistentOutput t → OnlyAppends s r t → s.position ≤ t.position
+after {s = s} {t = t} here there o =
     let n = counted s.written t.written s.position t.position o.more here.written here.counted there.written there.counted o.appended in
     omega arith
 
@@ -51,15 +51,15 @@ then_appends {s = s} {t = t} {u = u} {r = r} p q = record {
     by (Err _) e = tt
 
 -- what was appended after four reserved bytes was taken back with them
-pub taken_back : {s t u w : OutputState} {r : Result (Unit {0}) GenError} (at : ℕ) → at ≡ s.position → IsWhole s → Writes true ⊤ (replicate 4 0) s (Ok tt) t → OnlyAppends t r u → Truncates at u w → w.written ≡ s.written
+pub taken_back : {s t u w : OutputState} {r : Result (Unit {0}) GenError} (at : ℕ) → at ≡ s.position → IsConsistentOutput s → Writes true ⊤ (replicate 4 0) s (Ok tt) t → OnlyAppends t r u → TruncatesTo at u w → w.written ≡ s.written
 taken_back {s = s} {t = t} {u = u} {w = w} at place whole p o back =
-    told_back s.written u.written w.written s.position (replicate 4 0 ++ o.more) whole.counted whole.written
+    reported_back s.written u.written w.written s.position (replicate 4 0 ++ o.more) whole.counted whole.written
     (Appends-trans s.written t.written u.written (replicate 4 0) o.more p.appended o.appended)
     (back.written ∙ ap (λ n. option_map (take n) u.written) place)
 
 -- a call appended after four reserved bytes, which were then filled with the number of what it
 -- appended, or were taken back with that
-module _ {W : Type 0} (seen : W → OutputState) (may : WriteContext W → Result (Unit {0}) GenError → WriteContext W → Type 0) (old before after new : WriteContext W) (at : ℕ) (place : at ≡ (state_of seen old).position) (whole : IsWhole (state_of seen old)) (end : IsWhole (state_of seen after)) (reserved : Reserved seen old before) (appends : (x y : WriteContext W) (r : Result (Unit {0}) GenError) → may x r y → OnlyAppends (state_of seen x) r (state_of seen y)) (called : may before (Ok tt) after) where
+module _ {W : Type 0} (seen : W → OutputState) (may : WriteContext W → Result (Unit {0}) GenError → WriteContext W → Type 0) (old before after new : WriteContext W) (at : ℕ) (place : at ≡ (state_of seen old).position) (whole : IsConsistentOutput (state_of seen old)) (end : IsConsistentOutput (state_of seen after)) (reserved : IsReserved seen old before) (appends : (x y : WriteContext W) (r : Result (Unit {0}) GenError) → may x r y → OnlyAppends (state_of seen x) r (state_of seen y)) (called : may before (Ok tt) after) where
   abbrev s : OutputState
   s = state_of seen old
 
@@ -94,7 +94,7 @@ module _ {W : Type 0} (seen : W → OutputState) (may : WriteContext W → Resul
 
     -- so that is after its length
     put : Appends s.written w.written (long_field o.more)
-    put = subst (λ (x : OutputState). Appends s.written x.written (long_field o.more)) (sym number) (front_overwritten s.written u.written s.position (replicate 4 0) (to_be_bytes w32 (length o.more)) o.more whole.counted refl both)
+    put = subst (λ (x : OutputState). Appends s.written x.written (long_field o.more)) (sym number) (prefix_overwritten s.written u.written s.position (replicate 4 0) (to_be_bytes w32 (length o.more)) o.more whole.counted refl both)
 
     -- and is all that was put
     moved : w.position ≡ s.position + length (long_field o.more)

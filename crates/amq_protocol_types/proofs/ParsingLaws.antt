@@ -9,11 +9,11 @@ pub use Rattle.amq_protocol_types.proofs.lemmas.parsing.Whole.{found_all, failed
 -- what is ASCII is UTF-8
 pub use Rattle.amq_protocol_types.proofs.lemmas.parsing.Copies.{ascii_is_utf8}
 -- what an error of one reading means for another
-pub use Rattle.amq_protocol_types.proofs.lemmas.parsing.Refused.{Refuses-weaker}
+pub use Rattle.amq_protocol_types.proofs.lemmas.parsing.Refused.{IsRefusal-weaker}
 -- payloads: of types of fixed width, and of a container once its body is read
 pub use Rattle.amq_protocol_types.proofs.lemmas.parsing.Payloads.{unsigned_outcome, void_found}
 pub use Rattle.amq_protocol_types.proofs.lemmas.parsing.Frames.{long_found, octets_found, array_found, array_refused, array_too_deep, table_found, table_refused, table_too_deep}
-pub use Rattle.amq_protocol_types.proofs.lemmas.parsing.Plain.{IsPlain as IsPlainPayload, plain_found}
+pub use Rattle.amq_protocol_types.proofs.lemmas.parsing.Plain.{IsPlainPayload, plain_found}
 -- the bodies of containers, a value or a pair at a time
-pub use Rattle.amq_protocol_types.proofs.lemmas.parsing.Bodies.{Goes, Goes-start, Goes-step, Goes-end, Goes-refused, rest_shorter}
-pub use Rattle.amq_protocol_types.proofs.lemmas.parsing.TableBodies.{Walks, Walks-start, Walks-step, Walks-end, Walks-bad_key, Walks-bad_value, key_shorter}
+pub use Rattle.amq_protocol_types.proofs.lemmas.parsing.Bodies.{ArrayBodyRead, ArrayBodyRead-start, ArrayBodyRead-step, ArrayBodyRead-end, ArrayBodyRead-refused, rest_shorter}
+pub use Rattle.amq_protocol_types.proofs.lemmas.parsing.TableBodies.{TableBodyRead, TableBodyRead-start, TableBodyRead-step, TableBodyRead-end, TableBodyRead-bad_key, TableBodyRead-bad_value, key_shorter}

@@ -71,7 +71,8 @@ impl AMQPFlags {
     ) -> Result<AMQPFlags, AllocError>
         ensures ok { IfOk result
             (λ flags. flags_of flags ≡ unpack (map (λ n. n.now) names.now) (I.bytes bytes)) }
-        ensures err { OnErr result (0 < length (unpack (map (λ n. n.now) names.now) (I.bytes bytes))) }
+        ensures err { OnErr result
+            (0 < length (unpack (map (λ n. n.now) names.now) (I.bytes bytes))) }
     {
         let mut flags = AMQPFlags::new_in(alloc);
         for (n, name) in names.iter().enumerate() {

@@ -21,7 +21,7 @@ use Rattle.amq_protocol_types.specs.parsing.Untagged.{tagged, RefusesUntagged}
 use Rattle.amqp_in_place.specs.InPlaceResults.{NeedsNoMemory}
 use Rattle.amqp_in_place.specs.Canonicals.{IsCanonicalLen, IsCanonicalWithin, CanonEntries, IsFirstSpelling}
 use Rattle.amqp_in_place.proofs.Untagged.{table_head}
-use Rattle.amqp_in_place.proofs.Canonicals.{table_front, table_inside, canon_len, len_front, one_len, len_all, all_len}
+use Rattle.amqp_in_place.proofs.Canonicals.{table_at_start, table_inside, canon_len, prefix_of_len, one_len, len_all, all_len}
 
 -- the type tag is no alternate one
 first_spelling : (s : List ℕ) → IsFirstSpelling (tagged amqp.FieldTable s)
@@ -33,14 +33,14 @@ module _ (l : Limits) (s : List ℕ) (i : SliceInput) (rest : List ℕ) (f : IsL
       → IsCanonicalLen l (tagged amqp.FieldTable s) (1 + n)
   table_len bytes fits some all n size =
       let t = tagged amqp.FieldTable s in
-      canon_len l t rest (1 + n) (omega arith, bytes) fits (table_front l.depth t i rest (table_head s i rest f) (first_spelling s) some all) (omega (arith, size))
+      canon_len l t rest (1 + n) (omega arith, bytes) fits (table_at_start l.depth t i rest (table_head s i rest f) (first_spelling s) some all) (omega (arith, size))
 
   -- and only that
   pub len_inside : (n : ℕ) → IsCanonicalLen l (tagged amqp.FieldTable s) n → (0 < l.depth) × CanonEntries (l.depth - 1) None (slice_bytes i)
   len_inside n x =
       let t = tagged amqp.FieldTable s in
-      let front = len_front l t n x in
-      table_inside l.depth t i rest front.0 (table_head s i rest f) front.1
+      let prefix = prefix_of_len l t n x in
+      table_inside l.depth t i rest prefix.0 (table_head s i rest f) prefix.1
 
 -- what is rejected isn't found
 not_found : (l : Limits) (s : List ℕ) (e : Refusal) (v : Tree) (rest : List ℕ) → RefusesUntagged l amqp.FieldTable s e → NeedsNoMemory e

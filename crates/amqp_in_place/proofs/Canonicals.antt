@@ -26,8 +26,8 @@ use Rattle.amqp_value_core.specs.Nesting.{WireWithin, OutcomeWithin}
 use Rattle.amqp_value_core.specs.Outcomes.{found, more, unknown, lack, Outcome}
 use Rattle.amqp_value_core.specs.Payloads.{RawOutcome, CanonRaw}
 use Rattle.amqp_value_core.specs.Canonical.{IsStrict, Canon}
-use Rattle.amqp_value_core.proofs.Bytes.{bytes_front}
-use Rattle.amqp_value_core.proofs.GrammarLaws.{raw_front, one_large, one_reading, one_raw_reading, one_raw_outcome, raw_found, wire_found, wire_found_within, front_within, depth_within, text_within, text_is_canon, what_is_read, read_is_value, canon_is_wire, canon_fits, canon_is_text, canon, canon_array, canon_table, canon_value, canon_pair, canon_rises, rising_pairs, short_bytes, one_outcome}
+use Rattle.amqp_value_core.proofs.Bytes.{bytes_before}
+use Rattle.amqp_value_core.proofs.GrammarLaws.{raw_prefix, one_large, one_reading, one_raw_reading, one_raw_outcome, raw_found, wire_found, wire_found_within, prefix_within, depth_within, text_within, text_is_canon, what_is_read, read_is_value, canon_is_wire, canon_fits, canon_is_text, canon, canon_array, canon_table, canon_value, canon_pair, canon_rises, rising_pairs, short_bytes, one_outcome}
 use Rattle.amqp_value_core.specs.Inputs.{IsBytes, slice_bytes}
 use Rattle.amqp_value_core.specs.declared.input.SliceInput.{SliceInput}
 use Rattle.amq_protocol_types.specs.declared.parsing.limits.Limits.{Limits}
@@ -38,13 +38,13 @@ use Rattle.amq_protocol_types.specs.declared.parsing.header.Header.TheVariants a
 use Rattle.amq_protocol_types.proofs.ParsingLaws.{more_wanted}
 use Rattle.amq_protocol_types.specs.parsing.PayloadResults.{IsType}
 use Rattle.amq_protocol_types.specs.parsing.Refusals.{Refusal}
-use Rattle.amq_protocol_types.specs.parsing.ParseResults.{Refuses}
+use Rattle.amq_protocol_types.specs.parsing.ParseResults.{IsRefusal}
 use Rattle.amqp_in_place.specs.declared.head.Head.TheVariants as head
 use Rattle.amqp_in_place.specs.declared.refs.ValueRef.{ValueRef}
 use Rattle.amqp_in_place.specs.Refs.{plain_tree}
 use Rattle.amqp_in_place.specs.Heads.{IsPlainType, IsHead, IsKeyFrame}
-use Rattle.amqp_in_place.specs.Canonicals.{IsCanonicalLen, IsCanonicalWithin, IsReadAsWritten, CanonFront, CanonValues, IsAbove, AreAbove, CanonEntries, IsFirstSpelling}
-use Rattle.amqp_in_place.proofs.Stepping.{AtFront, refusal_of_none}
+use Rattle.amqp_in_place.specs.Canonicals.{IsCanonicalLen, IsCanonicalWithin, IsReadAsWritten, CanonPrefix, CanonValues, IsAbove, AreAbove, CanonEntries, IsFirstSpelling}
+use Rattle.amqp_in_place.proofs.Stepping.{IsAtStart, refusal_of_none}
 
 -- ---- type tags and booleans
 
@@ -72,9 +72,9 @@ pub no_short_letter : (c : ℕ) → kind c ≡ Some amqp.ShortString → ⊥
 no_short_letter c k = let r = kind_read c amqp.ShortString k in absurd cc
 
 -- a boolean's byte is 0 or 1, whatever is after it
-strict_front : (b rest : List ℕ) → IsStrict amqp.Boolean (b ++ rest) → IsStrict amqp.Boolean b
-strict_front [] rest x = tt
-strict_front (c ∷ b) rest x = x
+strict_prefix : (b rest : List ℕ) → IsStrict amqp.Boolean (b ++ rest) → IsStrict amqp.Boolean b
+strict_prefix [] rest x = tt
+strict_prefix (c ∷ b) rest x = x
 
 strict_by : (type : AMQPType) (b : List ℕ) → (type ≡ amqp.Boolean → IsStrict amqp.Boolean b) → IsStrict type b
 strict_by amqp.Boolean b f = f refl
@@ -100,8 +100,8 @@ canon_spelling : (w rest : List ℕ) (v : Tree) → Canon w v → IsFirstSpellin
 canon_spelling _ rest _ (wire c type b v k p, is) =
     (is.0, is.1, λ e. strict_payload type b v (p, is.2) (same_Some type amqp.Boolean (sym k ∙ ap kind e)) rest)
 
-pub front_spelling : (d : ℕ) (s rest : List ℕ) → CanonFront d s rest → IsFirstSpelling s
-front_spelling d s rest (w, v, x, deep, e) = subst IsFirstSpelling (sym e) (canon_spelling w rest v x)
+pub spelling_at_start : (d : ℕ) (s rest : List ℕ) → CanonPrefix d s rest → IsFirstSpelling s
+spelling_at_start d s rest (w, v, x, deep, e) = subst IsFirstSpelling (sym e) (canon_spelling w rest v x)
 
 -- ---- values that are no containers
 
@@ -115,12 +115,12 @@ plain_payload _ _ _ (raw_array body vs fits all) plain none strict = absurd plai
 plain_payload _ _ _ (raw_table body ps fits all) plain none strict = absurd plain
 
 -- so a value with no alternate tag that is no container is canonical
-pub plain_front : (d : ℕ) (s : List ℕ) (r : ValueRef) (rest : List ℕ) → IsHead s (head.Plain r) rest → IsFirstSpelling s → CanonFront d s rest
-plain_front d s r rest (type, mid, (c, here, k), q) spelled =
-    let f = raw_front (Raw type) (lack type mid) mid rest (plain_tree r) q.2 in
+pub plain_at_start : (d : ℕ) (s : List ℕ) (r : ValueRef) (rest : List ℕ) → IsHead s (head.Plain r) rest → IsFirstSpelling s → CanonPrefix d s rest
+plain_at_start d s r rest (type, mid, (c, here, k), q) spelled =
+    let f = raw_prefix (Raw type) (lack type mid) mid rest (plain_tree r) q.2 in
     let first = subst IsFirstSpelling here spelled in
     let strict : IsStrict type f.0 =
-    strict_by type f.0 (λ e. strict_front f.0 rest (subst (λ (t : List ℕ). IsStrict amqp.Boolean t) f.2 (first.2 (boolean_letter c (k ∙ ap Some e))))) in
+    strict_by type f.0 (λ e. strict_prefix f.0 rest (subst (λ (t : List ℕ). IsStrict amqp.Boolean t) f.2 (first.2 (boolean_letter c (k ∙ ap Some e))))) in
     let p = plain_payload type f.0 (plain_tree r) f.1 q.1 (λ e. no_short_letter c (k ∙ ap Some e)) strict in
     (c ∷ f.0, plain_tree r, canon c type f.0 (plain_tree r) k first.0 first.1 p.0, omega (arith, p.1), here ∙ ap (λ (t : List ℕ). c ∷ t) f.2)
 
@@ -162,64 +162,64 @@ canon_table_body _ _ _ (raw_table a es fits p, x) t body rest left few e =
 record CanonTyped (type : AMQPType) (mid left : List ℕ) (v : Tree) : Type 0 where
   pub payload : List ℕ
   pub is_canon : CanonRaw type payload v
-  pub front : mid ≡ payload ++ left
+  pub prefix : mid ≡ payload ++ left
 
 canon_typed : (s mid : List ℕ) (type : AMQPType) (w left : List ℕ) (v : Tree) → IsType s type mid → Canon w v → s ≡ w ++ left → CanonTyped type mid left v
 canon_typed s mid type _ left _ (c, here, k) (wire d type2 b v k2 p, is) e =
     let both : c ∷ mid ≡ d ∷ (b ++ left) = sym here ∙ e in
     let head : c ≡ d = cc in
     let same : type2 ≡ type = same_Some type2 type (sym k2 ∙ (ap kind (sym head) ∙ k)) in
-    record { payload = b; is_canon = subst (λ (t : AMQPType). CanonRaw t b v) same (p, is.2); front = cc }
+    record { payload = b; is_canon = subst (λ (t : AMQPType). CanonRaw t b v) same (p, is.2); prefix = cc }
 
 module _ (d : ℕ) (s : List ℕ) (i : SliceInput) (rest : List ℕ) where
   -- an array with no alternate tag is canonical if its body is
-  pub array_front : IsHead s (head.FieldArray i) rest → IsFirstSpelling s → 0 < d → CanonValues (d - 1) (slice_bytes i) → CanonFront d s rest
-  array_front (type, mid, (c, here, k), q) spelled some (vs, all, deep) =
+  pub array_at_start : IsHead s (head.FieldArray i) rest → IsFirstSpelling s → 0 < d → CanonValues (d - 1) (slice_bytes i) → CanonPrefix d s rest
+  array_at_start (type, mid, (c, here, k), q) spelled some (vs, all, deep) =
       let body = slice_bytes i in
       let first = subst IsFirstSpelling here spelled in
       (c ∷ long_field body, array vs, canon c amqp.FieldArray (long_field body) (array vs) (k ∙ ap Some q.0) first.0 first.1 (canon_array body vs q.1.fits all), omega arith, here ∙ ap (λ (t : List ℕ). c ∷ t) q.1.framed)
 
   -- and only there
-  pub array_inside : (left : List ℕ) → IsHead s (head.FieldArray i) rest → CanonFront d s left → (0 < d) × CanonValues (d - 1) (slice_bytes i)
+  pub array_inside : (left : List ℕ) → IsHead s (head.FieldArray i) rest → CanonPrefix d s left → (0 < d) × CanonValues (d - 1) (slice_bytes i)
   array_inside left (type, mid, p, q) (w, v, x, deep, e) =
       let t = canon_typed s mid type w left v p x e in
-      let b = canon_array_body type t.payload v t.is_canon q.0 (slice_bytes i) rest left q.1.fits (sym t.front ∙ q.1.framed) in
+      let b = canon_array_body type t.payload v t.is_canon q.0 (slice_bytes i) rest left q.1.fits (sym t.prefix ∙ q.1.framed) in
       let size : depth v ≡ 1 + greatest_depth b.values = ap depth b.is in
       (omega (arith, size), (b.values, b.all, omega (arith, size)))
 
   -- and so it is of a table
-  pub table_front : IsHead s (head.FieldTable i) rest → IsFirstSpelling s → 0 < d → CanonEntries (d - 1) None (slice_bytes i) → CanonFront d s rest
-  table_front (type, mid, (c, here, k), q) spelled some (es, all, first_of, deep) =
+  pub table_at_start : IsHead s (head.FieldTable i) rest → IsFirstSpelling s → 0 < d → CanonEntries (d - 1) None (slice_bytes i) → CanonPrefix d s rest
+  table_at_start (type, mid, (c, here, k), q) spelled some (es, all, first_of, deep) =
       let body = slice_bytes i in
       let first = subst IsFirstSpelling here spelled in
       (c ∷ long_field body, table es, canon c amqp.FieldTable (long_field body) (table es) (k ∙ ap Some q.0) first.0 first.1 (canon_table body es q.1.fits all), omega arith, here ∙ ap (λ (t : List ℕ). c ∷ t) q.1.framed)
 
-  pub table_inside : (left : List ℕ) → IsHead s (head.FieldTable i) rest → CanonFront d s left → (0 < d) × CanonEntries (d - 1) None (slice_bytes i)
+  pub table_inside : (left : List ℕ) → IsHead s (head.FieldTable i) rest → CanonPrefix d s left → (0 < d) × CanonEntries (d - 1) None (slice_bytes i)
   table_inside left (type, mid, p, q) (w, v, x, deep, e) =
       let t = canon_typed s mid type w left v p x e in
-      let b = canon_table_body type t.payload v t.is_canon q.0 (slice_bytes i) rest left q.1.fits (sym t.front ∙ q.1.framed) in
+      let b = canon_table_body type t.payload v t.is_canon q.0 (slice_bytes i) rest left q.1.fits (sym t.prefix ∙ q.1.framed) in
       let size : depth v ≡ 1 + entries_depth b.entries = ap depth b.is in
       (omega (arith, size), (b.entries, b.all, tt, omega (arith, size)))
 
 -- a canonical encoding is there, so is a value
-pub canon_at : (d : ℕ) (s left : List ℕ) → CanonFront d s left → AtFront s
-canon_at d s left (w, v, x, deep, e) = record { value_there = v; bytes = w; left = left; is_wire = canon_is_wire w v x; front = e }
+pub canon_at : (d : ℕ) (s left : List ℕ) → CanonPrefix d s left → IsAtStart s
+canon_at d s left (w, v, x, deep, e) = record { value_there = v; bytes = w; left = left; is_wire = canon_is_wire w v x; prefix = e }
 
 -- the rest is returned if a test holds
-pub some_rest : (d : ℕ) (s : List ℕ) (i : SliceInput) (b : Bool) (r : Option SliceInput) → r ≡ then_some b i → (b ≡ true → CanonFront d s (slice_bytes i))
-    → IfSome r (λ (rest : SliceInput). CanonFront d s (slice_bytes rest))
-some_rest d s i true r is f = subst (λ (o : Option SliceInput). IfSome o (λ (rest : SliceInput). CanonFront d s (slice_bytes rest))) (sym is) (f refl)
-some_rest d s i false r is f = subst (λ (o : Option SliceInput). IfSome o (λ (rest : SliceInput). CanonFront d s (slice_bytes rest))) (sym is) tt
+pub some_rest : (d : ℕ) (s : List ℕ) (i : SliceInput) (b : Bool) (r : Option SliceInput) → r ≡ then_some b i → (b ≡ true → CanonPrefix d s (slice_bytes i))
+    → IfSome r (λ (rest : SliceInput). CanonPrefix d s (slice_bytes rest))
+some_rest d s i true r is f = subst (λ (o : Option SliceInput). IfSome o (λ (rest : SliceInput). CanonPrefix d s (slice_bytes rest))) (sym is) (f refl)
+some_rest d s i false r is f = subst (λ (o : Option SliceInput). IfSome o (λ (rest : SliceInput). CanonPrefix d s (slice_bytes rest))) (sym is) tt
 
-pub no_rest : (d : ℕ) (s : List ℕ) (i : SliceInput) (b : Bool) (r : Option SliceInput) → r ≡ then_some b i → (b ≡ false → (left : List ℕ) → CanonFront d s left → ⊥)
-    → r ≡ None → (left : List ℕ) → CanonFront d s left → ⊥
+pub no_rest : (d : ℕ) (s : List ℕ) (i : SliceInput) (b : Bool) (r : Option SliceInput) → r ≡ then_some b i → (b ≡ false → (left : List ℕ) → CanonPrefix d s left → ⊥)
+    → r ≡ None → (left : List ℕ) → CanonPrefix d s left → ⊥
 no_rest d s i true r is f none = absurd (let e : Some i ≡ None = sym is ∙ none in cc)
 no_rest d s i false r is f none = f refl
 
 -- ---- bodies
 
 -- and takes at least one byte
-pub rest_shorter : (d : ℕ) (s rest : List ℕ) → CanonFront d s rest → length rest < length s
+pub rest_shorter : (d : ℕ) (s rest : List ℕ) → CanonPrefix d s rest → length rest < length s
 rest_shorter d s rest (_, _, (wire c type b v k p, is), deep, e) = omega (arith, ap length e, length-append b rest)
 
 -- if no byte is left there is no value
@@ -227,26 +227,26 @@ pub no_values : (d : ℕ) (s : List ℕ) → length s ≡ 0 → CanonValues d s
 no_values d s none = subst (CanonValues d) (sym (nil_from_length s none)) (no_trees, (no_value_there, tt), omega arith)
 
 -- otherwise the first of them is at the start
-pub first_value : (d : ℕ) (s : List ℕ) → 0 < length s → CanonValues d s → (left : List ℕ) × CanonFront d s left × CanonValues d left
+pub first_value : (d : ℕ) (s : List ℕ) → 0 < length s → CanonValues d s → (left : List ℕ) × CanonPrefix d s left × CanonValues d left
 first_value d _ some (_, (no_value_there, all), deep) = absurd (omega arith)
 first_value d _ some (_, (value w left v vs first others, is), deep) = (left, (w, v, (first, is.0), omega arith, refl), (vs, (others, is.1), omega arith))
 
 -- what is after one canonical encoding is after each
-one_rest : (d : ℕ) (s x y : List ℕ) → CanonFront d s x → CanonFront d s y → x ≡ y
+one_rest : (d : ℕ) (s x y : List ℕ) → CanonPrefix d s x → CanonPrefix d s y → x ≡ y
 one_rest d s x y (w, v, p, deep, e) (u, z, q, deep2, f) = (one_reading w u x y v z (canon_is_wire w v p) (canon_is_wire u z q) (sym e ∙ f)).2
 
-module _ (d : ℕ) (s after : List ℕ) (front : CanonFront d s after) where
+module _ (d : ℕ) (s after : List ℕ) (prefix : CanonPrefix d s after) where
   -- after the first value the others are values, if all of them are
   pub values_after : CanonValues d s → CanonValues d after
   values_after all =
-      let first = first_value d s (omega (arith, rest_shorter d s after front)) all in
-      subst (CanonValues d) (one_rest d s first.0 after first.1 front) first.2
+      let first = first_value d s (omega (arith, rest_shorter d s after prefix)) all in
+      subst (CanonValues d) (one_rest d s first.0 after first.1 prefix) first.2
 
   -- and all of them are, if they are
   pub values_before : CanonValues d after → CanonValues d s
-  values_before (vs, all, deep) = by front
+  values_before (vs, all, deep) = by prefix
     where
-      by : CanonFront d s after → CanonValues d s
+      by : CanonPrefix d s after → CanonValues d s
       by (w, v, x, less, e) = (tree v vs, subst (λ (t : List ℕ). CanonBody t (tree v vs)) (sym e) (canon_value w after v vs x all), omega arith)
 
 -- ---- keys
@@ -272,27 +272,27 @@ no_pairs d j s none = subst (CanonEntries d j) (sym (nil_from_length s none)) (n
     by (Some k) = tt
 
 -- the first of some pairs: its key, above the one before it, its value and the others
-record FirstPair (d : ℕ) (j : Option (Bor (List ℕ))) (s : List ℕ) : Type 0 where
+record CanonicalFirstPair (d : ℕ) (j : Option (Bor (List ℕ))) (s : List ℕ) : Type 0 where
   pub key : List ℕ
-  pub behind : List ℕ
+  pub after_key : List ℕ
   pub left : List ℕ
-  pub framed : s ≡ short_field key ++ behind
+  pub framed : s ≡ short_field key ++ after_key
   pub short_key : IsShort key
   pub above : IsAbove j key
-  pub front : CanonFront d behind left
+  pub prefix : CanonPrefix d after_key left
   pub others : (k : Bor (List ℕ)) → k.now ≡ key → CanonEntries d (Some k) left
 
-first_pair : (d : ℕ) (j : Option (Bor (List ℕ))) (s : List ℕ) → 0 < length s → CanonEntries d j s → FirstPair d j s
+first_pair : (d : ℕ) (j : Option (Bor (List ℕ))) (s : List ℕ) → 0 < length s → CanonEntries d j s → CanonicalFirstPair d j s
 first_pair d j _ some (_, (no_pair_there, all), above, deep) = absurd (omega arith)
 first_pair d j _ some (_, (pair k w left v es key first pairs, is), above, deep) =
     record {
       key = k;
-      behind = w ++ left;
+      after_key = w ++ left;
       left = left;
       framed = refl;
       short_key = key;
       above = by j above;
-      front = (w, v, (first, is.1), omega arith, refl);
+      prefix = (w, v, (first, is.1), omega arith, refl);
       others = λ j e. (es, (pairs, is.2), rw e is.0, omega arith);
     }
   where
@@ -301,19 +301,19 @@ first_pair d j _ some (_, (pair k w left v es key first pairs, is), above, deep)
     by (Some i) y = y
 
 -- if there are pairs, and not zero, a key is read
-pub key_there : (d : ℕ) (j : Option (Bor (List ℕ))) (s : List ℕ) (e : Refusal) → 0 < length s → CanonEntries d j s → Refuses (RawOutcome amqp.ShortString s) ⊥ e → ⊥
+pub key_there : (d : ℕ) (j : Option (Bor (List ℕ))) (s : List ℕ) (e : Refusal) → 0 < length s → CanonEntries d j s → IsRefusal (RawOutcome amqp.ShortString s) ⊥ e → ⊥
 key_there d j s e some all x =
     let p = first_pair d j s some all in
-    let here : RawOutcome amqp.ShortString s (found (short p.key) p.behind) =
-    subst (λ (t : List ℕ). RawOutcome amqp.ShortString t (found (short p.key) p.behind)) (sym p.framed) (raw_found amqp.ShortString (short_field p.key) p.behind (short p.key) (raw_short p.key p.short_key)) in
-    refusal_of_none (RawOutcome amqp.ShortString s) (λ o y other. other (short p.key) p.behind (one_raw_outcome amqp.ShortString s o (found (short p.key) p.behind) y here)) e x
+    let here : RawOutcome amqp.ShortString s (found (short p.key) p.after_key) =
+    subst (λ (t : List ℕ). RawOutcome amqp.ShortString t (found (short p.key) p.after_key)) (sym p.framed) (raw_found amqp.ShortString (short_field p.key) p.after_key (short p.key) (raw_short p.key p.short_key)) in
+    refusal_of_none (RawOutcome amqp.ShortString s) (λ o y other. other (short p.key) p.after_key (one_raw_outcome amqp.ShortString s o (found (short p.key) p.after_key) y here)) e x
 
 -- a key that is at the start is the first pair's
-module _ (d : ℕ) (j : Option (Bor (List ℕ))) (s key behind : List ℕ) (f : IsKeyFrame s key behind) where
-  same_key : (p : FirstPair d j s) → (p.key ≡ key) × (p.behind ≡ behind)
+module _ (d : ℕ) (j : Option (Bor (List ℕ))) (s key after_key : List ℕ) (f : IsKeyFrame s key after_key) where
+  same_key : (p : CanonicalFirstPair d j s) → (p.key ≡ key) × (p.after_key ≡ after_key)
   same_key p =
-      let here = short_bytes key behind (short_field p.key) p.behind (short p.key) (raw_short p.key p.short_key) (sym f.framed ∙ p.framed) in
-      let same = one_raw_reading amqp.ShortString (short_field p.key) (short_field key) p.behind behind (short p.key) (short key) (raw_short p.key p.short_key) (raw_short key here) (sym p.framed ∙ f.framed) in
+      let here = short_bytes key after_key (short_field p.key) p.after_key (short p.key) (raw_short p.key p.short_key) (sym f.framed ∙ p.framed) in
+      let same = one_raw_reading amqp.ShortString (short_field p.key) (short_field key) p.after_key after_key (short p.key) (short key) (raw_short p.key p.short_key) (raw_short key here) (sym p.framed ∙ f.framed) in
       (cc, same.2)
 
   there : 0 < length s
@@ -332,29 +332,29 @@ module _ (d : ℕ) (j : Option (Bor (List ℕ))) (s key behind : List ℕ) (f : 
       subst (IsAbove j) (same_key p).0 p.above
 
   -- a canonical encoding is after it
-  pub value_behind : CanonEntries d j s → (left : List ℕ) × CanonFront d behind left
-  value_behind all =
+  pub value_after : CanonEntries d j s → (left : List ℕ) × CanonPrefix d after_key left
+  value_after all =
       let p = first_pair d j s there all in
-      (p.left, subst (λ (t : List ℕ). CanonFront d t p.left) (same_key p).1 p.front)
+      (p.left, subst (λ (t : List ℕ). CanonPrefix d t p.left) (same_key p).1 p.prefix)
 
-  module _ (after : List ℕ) (front : CanonFront d behind after) where
+  module _ (after : List ℕ) (prefix : CanonPrefix d after_key after) where
     -- after the first pair the others are pairs, if all of them are
     pub pairs_after : (k : Bor (List ℕ)) → k.now ≡ key → CanonEntries d j s → CanonEntries d (Some k) after
     pairs_after k e all =
         let p = first_pair d j s there all in
         let same = same_key p in
-        let here : CanonFront d behind p.left = subst (λ (t : List ℕ). CanonFront d t p.left) same.1 p.front in
-        subst (CanonEntries d (Some k)) (one_rest d behind p.left after here front) (p.others k (e ∙ sym same.0))
+        let here : CanonPrefix d after_key p.left = subst (λ (t : List ℕ). CanonPrefix d t p.left) same.1 p.prefix in
+        subst (CanonEntries d (Some k)) (one_rest d after_key p.left after here prefix) (p.others k (e ∙ sym same.0))
 
     -- and all of them are, if they are
     pub pairs_before : (k : Bor (List ℕ)) → k.now ≡ key → IsUtf8 key → IsAbove j key → CanonEntries d (Some k) after → CanonEntries d j s
-    pairs_before k e utf8 above (es, all, before, deep) = by front
+    pairs_before k e utf8 above (es, all, before, deep) = by prefix
       where
         over : (j : Option (Bor (List ℕ))) (v : Tree) → IsAbove j key → AreAbove j (entry key v es)
         over None v y = tt
         over (Some i) v y = y
 
-        by : CanonFront d behind after → CanonEntries d j s
+        by : CanonPrefix d after_key after → CanonEntries d j s
         by (w, v, x, less, g) =
             let is : IsShort key = record { few = f.few; utf8 = utf8 } in
             let pairs = canon_pair key w after v es is x (subst (λ (t : List ℕ). ComesBefore t es) e before) all in
@@ -362,7 +362,7 @@ module _ (d : ℕ) (j : Option (Bor (List ℕ))) (s key behind : List ℕ) (f : 
 
     -- what is after the pair is shorter
     pub pair_shorter : length after < length s
-    pair_shorter = omega (arith, ap length f.framed, length-append key behind, rest_shorter d behind after front)
+    pair_shorter = omega (arith, ap length f.framed, length-append key after_key, rest_shorter d after_key after prefix)
 
 -- ---- limits
 
@@ -382,14 +382,14 @@ canon_found d w rest v bytes x deep =
 
 module _ (l : Limits) (s : List ℕ) where
   -- a canonical encoding at the start, as deep as the limits allow
-  pub canon_len : (rest : List ℕ) (n : ℕ) → IsBytes s → extent s ≤ l.frame → CanonFront l.depth s rest → length s ≡ n + length rest → IsCanonicalLen l s n
+  pub canon_len : (rest : List ℕ) (n : ℕ) → IsBytes s → extent s ≤ l.frame → CanonPrefix l.depth s rest → length s ≡ n + length rest → IsCanonicalLen l s n
   canon_len rest n bytes fits (w, v, x, deep, e) size =
-      let front : IsBytes w = bytes_front w rest (subst IsBytes e bytes) in
-      (w, rest, v, e, omega (arith, size, ap length e, length-append w rest), x, (fits, subst (λ (t : List ℕ). OutcomeWithin l.depth t (found v rest)) (sym e) (canon_found l.depth w rest v front x deep)))
+      let prefix : IsBytes w = bytes_before w rest (subst IsBytes e bytes) in
+      (w, rest, v, e, omega (arith, size, ap length e, length-append w rest), x, (fits, subst (λ (t : List ℕ). OutcomeWithin l.depth t (found v rest)) (sym e) (canon_found l.depth w rest v prefix x deep)))
 
-  pub len_front : (n : ℕ) → IsCanonicalLen l s n → (rest : List ℕ) × CanonFront l.depth s rest
-  len_front n (w, rest, v, e, size, x, within) =
-      let f = front_within l.depth s rest v within.1 in
+  pub prefix_of_len : (n : ℕ) → IsCanonicalLen l s n → (rest : List ℕ) × CanonPrefix l.depth s rest
+  prefix_of_len n (w, rest, v, e, size, x, within) =
+      let f = prefix_within l.depth s rest v within.1 in
       (rest, (w, v, x, depth_within l.depth f.0 v f.1, e))
 
   -- its header shows that it is there
@@ -427,16 +427,16 @@ module _ (l : Limits) (s : List ℕ) where
 
   pub written_canon : IsBytes s → IsReadAsWritten l s → IsCanonicalWithin l s
   written_canon bytes (v, within, e) =
-      let f = front_within l.depth s [] v within.1 in
+      let f = prefix_within l.depth s [] v within.1 in
       let read = what_is_read f.0 v f.1.0 in
-      let is = read_is_value f.0 v (bytes_front f.0 [] (subst IsBytes f.2 bytes)) f.1.0 in
+      let is = read_is_value f.0 v (bytes_before f.0 [] (subst IsBytes f.2 bytes)) f.1.0 in
       (v, subst (λ (t : List ℕ). Canon t v) (sym e) (text_is_canon v is read.0 read.1), within)
 
   -- so a length decides, and its absence
-  pub told_by_len : (r : Option ℕ) (b : Bool) → b ≡ option_eq eqb r (Some (length s)) → IfSome r (λ n. IsCanonicalLen l s n) → (r ≡ None → (n : ℕ) → IsCanonicalLen l s n → ⊥)
+  pub known_by_len : (r : Option ℕ) (b : Bool) → b ≡ option_eq eqb r (Some (length s)) → IfSome r (λ n. IsCanonicalLen l s n) → (r ≡ None → (n : ℕ) → IsCanonicalLen l s n → ⊥)
       → (b ≡ true → IsCanonicalWithin l s) × (b ≡ false → IsCanonicalWithin l s → ⊥)
-  told_by_len None b is some none = (λ t. absurd (false≢true (sym is ∙ t)), λ f x. none refl (length s) (all_len x))
-  told_by_len (Some n) b is some none = (
+  known_by_len None b is some none = (λ t. absurd (false≢true (sym is ∙ t)), λ f x. none refl (length s) (all_len x))
+  known_by_len (Some n) b is some none = (
     λ t. len_all (subst (IsCanonicalLen l s) (eqb-true n (length s) (sym is ∙ t)) some),
     λ f x. absurd (false≢true (sym f ∙ (is ∙ eq-eqb n (length s) (one_len n (length s) some (all_len x))))),
   )

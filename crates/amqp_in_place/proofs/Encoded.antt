@@ -15,14 +15,14 @@ use Rattle.amqp_in_place.specs.declared.refs.ValueRef.{ValueRef}
 use Rattle.amqp_in_place.specs.declared.refs.ValueRef.TheVariants as at
 use Rattle.amqp_in_place.specs.Refs.{array_body, table_body}
 use Rattle.amqp_in_place.specs.Heads.{IsHead, RefersTo}
-use Rattle.amqp_in_place.specs.Places.{IsFramed, LiesIn}
+use Rattle.amqp_in_place.specs.Places.{IsFramed, IsViewIn}
 use Rattle.amqp_in_place.specs.Encoded.{values_encoded, pairs_encoded, EncodedValues, EncodedPairs, EncodedAt, IsViewOf}
 use Rattle.amqp_in_place.specs.Walks.{NextViewIs, NextEncodedKeyIs}
 use Rattle.amqp_in_place.proofs.HeadLemmas.{only}
-use Rattle.amqp_in_place.proofs.Places.{lies}
+use Rattle.amqp_in_place.proofs.Places.{inside}
 
 -- what is before the rest is the value's encoding, all of it
-whole : (w left : List ℕ) (r : ValueRef) → LiesIn (w ++ left) r left → LiesIn w r []
+whole : (w left : List ℕ) (r : ValueRef) → IsViewIn (w ++ left) r left → IsViewIn w r []
 whole w left r x = by r x
   where
     cut : (u : List ℕ) → w ++ left ≡ u ++ left → w ≡ u ++ []
@@ -31,7 +31,7 @@ whole w left r x = by r x
     framed : (type : AMQPType) (body : List ℕ) → IsFramed type (w ++ left) body left → IsFramed type w body []
     framed type body f = (f.0, f.1, f.2, cut (f.0 ∷ long_field body) f.3)
 
-    by : (r : ValueRef) → LiesIn (w ++ left) r left → LiesIn w r []
+    by : (r : ValueRef) → IsViewIn (w ++ left) r left → IsViewIn w r []
     by (at.LongString b) y = framed amqp.LongString b.now y
     by (at.ByteArray b) y = framed amqp.ByteArray b.now y
     by (at.FieldArray a) y = framed amqp.FieldArray (array_body a) y
@@ -39,15 +39,15 @@ whole w left r x = by r x
     by _ y = (y.0, y.1, cut y.0 y.2)
 
 -- what refers to what is in the head of an encoding is a view of it
-head_view : (s : List ℕ) (h : Head) (r : ValueRef) (rest w left : List ℕ) (v : Tree) → IsHead s h rest → RefersTo h r → Wire w v → s ≡ w ++ left → LiesIn w r []
+head_view : (s : List ℕ) (h : Head) (r : ValueRef) (rest w left : List ℕ) (v : Tree) → IsHead s h rest → RefersTo h r → Wire w v → s ≡ w ++ left → IsViewIn w r []
 head_view s h r rest w left v is refers p e =
-    let behind : left ≡ rest = (only s h rest w left v is p e).1 in
-    let here : LiesIn s r left = subst (λ (t : List ℕ). LiesIn s r t) (sym behind) (lies s h r rest is refers) in
-    whole w left r (subst (λ (t : List ℕ). LiesIn t r left) e here)
+    let after : left ≡ rest = (only s h rest w left v is p e).1 in
+    let here : IsViewIn s r left = subst (λ (t : List ℕ). IsViewIn s r t) (sym after) (inside s h r rest is refers) in
+    whole w left r (subst (λ (t : List ℕ). IsViewIn t r left) e here)
 
 -- so is what refers to what is at the start
-pub front_view : (s : List ℕ) (h : Head) (r : ValueRef) (rest left : List ℕ) (e : Tree) → IsHead s h rest → RefersTo h r → EncodedAt e s left → IsViewOf r e
-front_view s h r rest left e is refers (w, v, p, front, same) = (w, head_view s h r rest w left v is refers p front, same)
+pub view_at_start : (s : List ℕ) (h : Head) (r : ValueRef) (rest left : List ℕ) (e : Tree) → IsHead s h rest → RefersTo h r → EncodedAt e s left → IsViewOf r e
+view_at_start s h r rest left e is refers (w, v, p, prefix, same) = (w, head_view s h r rest w left v is refers p prefix, same)
 
 -- the first of some values
 pub value_view : (s : List ℕ) (h : Head) (x : ValueRef × SliceInput) (es : Trees) → 0 < length s → IsHead s h (slice_bytes x.1) → RefersTo h x.0 → EncodedValues s es → NextViewIs es (Some x)
@@ -57,9 +57,9 @@ value_view s h x es some is refers (vs, p, same) = subst (λ (us : Trees). NextV
     by _ _ no_values some is = absurd (omega arith)
     by _ _ (value w left v vs first others) some is =
         let rest = slice_bytes x.1 in
-        let behind : left ≡ rest = (only (w ++ left) h rest w left v is first refl).1 in
+        let after : left ≡ rest = (only (w ++ left) h rest w left v is first refl).1 in
         let us = values_encoded left vs others in
-        ((w, head_view (w ++ left) h x.0 rest w left v is refers first refl, refl), subst (λ (u : List ℕ). EncodedValues u us) behind (vs, others, refl))
+        ((w, head_view (w ++ left) h x.0 rest w left v is refers first refl, refl), subst (λ (u : List ℕ). EncodedValues u us) after (vs, others, refl))
 
 pub no_value_view : (s : List ℕ) (es : Trees) → length s ≡ 0 → EncodedValues s es → NextViewIs es None
 no_value_view s es none (vs, p, same) = subst (λ (us : Trees). NextViewIs us None) (sym same) (by s vs p none)
@@ -71,7 +71,7 @@ no_value_view s es none (vs, p, same) = subst (λ (us : Trees). NextViewIs us No
 -- the first of some pairs, whose key counts n bytes
 pub key_encoded : (s named : List ℕ) (n : ℕ) (x : Bor (List ℕ) × Bor (List ℕ) × Bor (List ℕ)) (es : Entries) → s ≡ n ∷ named → x.0.now ≡ take n named → x.1.now ≡ drop n named
     → x.2.now ≡ drop (extent (drop n named)) (drop n named) → EncodedPairs s es → NextEncodedKeyIs es (Some x)
-key_encoded s named n x es e key behind rest (ps, p, same) = subst (λ (qs : Entries). NextEncodedKeyIs qs (Some x)) (sym same) (by s ps p e)
+key_encoded s named n x es e key after rest (ps, p, same) = subst (λ (qs : Entries). NextEncodedKeyIs qs (Some x)) (sym same) (by s ps p e)
   where
     by : (s : List ℕ) (ps : Entries) (p : TableBody s ps) → s ≡ n ∷ named → NextEncodedKeyIs (pairs_encoded s ps p) (Some x)
     by _ _ no_pairs e = absurd cc
@@ -83,7 +83,7 @@ key_encoded s named n x es e key behind rest (ps, p, same) = subst (λ (qs : Ent
         rest ∙ (ap (λ (t : List ℕ). drop (extent t) t) value ∙ drop_at w left (extent (w ++ left)) (sym (wire_extent w left v first))) in
         let us = pairs_encoded left ps others in (
           key ∙ (ap (take n) here ∙ take_at k (w ++ left) n size),
-          (w, v, first, behind ∙ (value ∙ ap (λ (t : List ℕ). w ++ t) (sym end)), refl),
+          (w, v, first, after ∙ (value ∙ ap (λ (t : List ℕ). w ++ t) (sym end)), refl),
           subst (λ (t : List ℕ). EncodedPairs t us) (sym end) (ps, others, refl),
         )
 

@@ -61,15 +61,15 @@ module _ (first : Search) (len : List ℕ → ℕ) where
   entry_stops (c ∷ s) p some found = rw found refl
 
   -- the first n bytes of s are entries without a problem
-  pub record Reached (s : List ℕ) (n : ℕ) : Type 0 where
+  pub record IsFreeOfProblems (s : List ℕ) (n : ℕ) : Type 0 where
     pub within : n ≤ length s
     pub same : in_entries first len 0 s ≡ option_map (further n) (in_entries first len 0 (drop n s))
 
-  pub Reached-start : (s : List ℕ) → Reached s 0
-  Reached-start s = record { within = omega arith; same = sym (further_none (in_entries first len 0 s)) }
+  pub IsFreeOfProblems-start : (s : List ℕ) → IsFreeOfProblems s 0
+  IsFreeOfProblems-start s = record { within = omega arith; same = sym (further_none (in_entries first len 0 s)) }
 
-  pub Reached-step : (s t : List ℕ) (n m : ℕ) → Reached s n → t ≡ drop n s → first t ≡ None → m ≡ len t → 0 < m → m ≤ length t → Reached s (n + m)
-  Reached-step s t n m at e none is some most = record {
+  pub IsFreeOfProblems-step : (s t : List ℕ) (n m : ℕ) → IsFreeOfProblems s n → t ≡ drop n s → first t ≡ None → m ≡ len t → 0 < m → m ≤ length t → IsFreeOfProblems s (n + m)
+  IsFreeOfProblems-step s t n m at e none is some most = record {
     within = omega (arith, at.within, most, ap length e, length-drop n s);
     same =
         let more : in_entries first len 0 (drop n s) ≡ option_map (further m) (in_entries first len 0 (drop (n + m) s)) =
@@ -78,16 +78,16 @@ module _ (first : Search) (len : List ℕ → ℕ) where
   }
 
   -- likewise if the bytes that are left are taken as a slice
-  pub Reached-next : (s : List ℕ) (n m : ℕ) → Reached s n → first (take (length s - n) (drop n s)) ≡ None → m ≡ len (take (length s - n) (drop n s))
-      → 0 < m → m ≤ length (take (length s - n) (drop n s)) → Reached s (n + m)
-  Reached-next s n m at = Reached-step s (take (length s - n) (drop n s)) n m at (left_over n s)
+  pub IsFreeOfProblems-next : (s : List ℕ) (n m : ℕ) → IsFreeOfProblems s n → first (take (length s - n) (drop n s)) ≡ None → m ≡ len (take (length s - n) (drop n s))
+      → 0 < m → m ≤ length (take (length s - n) (drop n s)) → IsFreeOfProblems s (n + m)
+  IsFreeOfProblems-next s n m at = IsFreeOfProblems-step s (take (length s - n) (drop n s)) n m at (left_over n s)
 
-  pub Reached-stop : (s t : List ℕ) (n : ℕ) (p : Problem) → Reached s n → t ≡ drop n s → 0 < length t → first t ≡ Some p → in_entries first len 0 s ≡ Some (further n p)
-  Reached-stop s t n p at e some found =
+  pub IsFreeOfProblems-stop : (s t : List ℕ) (n : ℕ) (p : Problem) → IsFreeOfProblems s n → t ≡ drop n s → 0 < length t → first t ≡ Some p → in_entries first len 0 s ≡ Some (further n p)
+  IsFreeOfProblems-stop s t n p at e some found =
       at.same ∙ ap (option_map (further n)) (ap (in_entries first len 0) (sym e) ∙ entry_stops t p some found)
 
-  pub Reached-end : (s : List ℕ) (n : ℕ) → Reached s n → length s ≤ n → in_entries first len 0 s ≡ None
-  Reached-end s n at all = at.same ∙ ap (λ t. option_map (further n) (in_entries first len 0 t)) (drop_all n s all)
+  pub IsFreeOfProblems-end : (s : List ℕ) (n : ℕ) → IsFreeOfProblems s n → length s ≤ n → in_entries first len 0 s ≡ None
+  IsFreeOfProblems-end s n at all = at.same ∙ ap (λ t. option_map (further n) (in_entries first len 0 t)) (drop_all n s all)
 
 -- a payload has at least the bytes of its first field
 pub first_there : (type : AMQPType) (b : List ℕ) → first_of (fixed type) (length_field type) ≤ raw_extent type b

@@ -9,8 +9,8 @@ use Rattle.amqp_value_core.specs.declared.types.amqp_type.AMQPType.TheVariants a
 use Rattle.amqp_value_core.specs.Values.{Tree, Trees, Entries, no_entries, insert_all, short, array, table}
 use Rattle.amqp_value_core.specs.Grammar.{short_field, long_field, Wire, raw_short, raw_array, raw_table}
 use Rattle.amqp_value_core.specs.Nesting.{nesting, RawWithin, BodyWithin, OutcomeWithin, RawOutcomeWithin}
-use Rattle.amqp_value_core.specs.Outcomes.{Reading, found, more, unknown, malformed, lack, frame_lack, counted, NeedsMoreOr, FrontBy, Outcome}
-use Rattle.amqp_value_core.specs.Payloads.{RawFront, RawOutcome}
+use Rattle.amqp_value_core.specs.Outcomes.{Reading, found, more, unknown, malformed, lack, frame_lack, counted, NeedsMoreOr, PrefixBy, Outcome}
+use Rattle.amqp_value_core.specs.Payloads.{RawPrefix, RawOutcome}
 use Rattle.amqp_value_core.proofs.GrammarLaws.{one_outcome_within, one_raw_reading, value_to_raw, raw_to_value_within, raw_whole, raw_found, wire_found, wire_found_within, array_body, table_body, short_bytes}
 use Rattle.amqp_value_core.specs.Inputs.{slice_bytes}
 use Rattle.amqp_value_core.specs.declared.input.SliceInput.{SliceInput}
@@ -20,18 +20,18 @@ use Rattle.amq_protocol_types.specs.declared.parsing.errors.ErrorKind.TheVariant
 use Rattle.amq_protocol_types.specs.parsing.Refusals.{Refusal}
 use Rattle.amq_protocol_types.specs.parsing.PayloadResults.{IsType, IsNoType, OnlyLacks}
 use Rattle.amq_protocol_types.specs.parsing.Bodies.{IsLengthPrefixed, IsTable, IsNoBody, IsNoTable}
-use Rattle.amq_protocol_types.specs.parsing.ParseResults.{Refuses}
-use Rattle.amq_protocol_types.proofs.ParsingLaws.{Refuses-weaker, unsigned_outcome, IsPlainPayload, plain_found, array_found, array_refused, array_too_deep, table_found, table_refused, table_too_deep}
+use Rattle.amq_protocol_types.specs.parsing.ParseResults.{IsRefusal}
+use Rattle.amq_protocol_types.proofs.ParsingLaws.{IsRefusal-weaker, long_found, octets_found, void_found, unsigned_outcome, IsPlainPayload, plain_found, array_found, array_refused, array_too_deep, table_found, table_refused, table_too_deep}
 use Rattle.amqp_in_place.specs.declared.head.Head.{Head}
 use Rattle.amqp_in_place.specs.declared.head.Head.TheVariants as head
 use Rattle.amqp_in_place.specs.declared.refs.ValueRef.{ValueRef}
 use Rattle.amqp_in_place.specs.declared.refs.ValueRef.TheVariants as at
 use Rattle.amqp_in_place.specs.Refs.{plain_tree, Denotes}
 use Rattle.amqp_in_place.specs.InPlaceResults.{HeadRefuses}
-use Rattle.amqp_in_place.specs.Heads.{IsPlain, IsPlainType, RawHeadIs, IsHead, AtAnyDepth, Means, IsKeyFrame}
+use Rattle.amqp_in_place.specs.Heads.{IsPlainRef, IsPlainType, RawHeadIs, IsHead, AtAnyDepth, HeadMeans, IsKeyFrame}
 
 -- a value that is no container denotes its tree
-pub plain_stands : (r : ValueRef) → IsPlain r → Denotes r (plain_tree r)
+pub plain_stands : (r : ValueRef) → IsPlainRef r → Denotes r (plain_tree r)
 plain_stands (at.FieldArray a) p = absurd p
 plain_stands (at.FieldTable t) p = absurd p
 plain_stands _ p = refl
@@ -51,26 +51,26 @@ module _ (s mid : List ℕ) (type : AMQPType) (p : IsType s type mid) where
   typed_lack : (n : ℕ) → RawOutcome type mid (more n) → AtAnyDepth s (more n)
   typed_lack n x = λ d. typed d (more n) (by d (lack type mid) x)
     where
-      by : (d k : ℕ) → NeedsMoreOr k (RawFront type mid (more n)) (more n) → NeedsMoreOr k (FrontBy (RawWithin d type) mid (more n)) (more n)
+      by : (d k : ℕ) → NeedsMoreOr k (RawPrefix type mid (more n)) (more n) → NeedsMoreOr k (PrefixBy (RawWithin d type) mid (more n)) (more n)
       by d zero f = absurd f
       by d (suc k) e = e
 
   -- the result for the payload is the value's
-  pub head_answer : (r : Result (SliceInput × Head) Refusal) → MatchResult r (λ x. RawHeadIs type mid x.1 (slice_bytes x.0)) (OnlyLacks (RawOutcome type mid) ⊥)
+  pub head_result : (r : Result (SliceInput × Head) Refusal) → MatchResult r (λ x. RawHeadIs type mid x.1 (slice_bytes x.0)) (OnlyLacks (RawOutcome type mid) ⊥)
       → MatchResult r (λ x. IsHead s x.1 (slice_bytes x.0)) (HeadRefuses (AtAnyDepth s))
-  head_answer (Ok x) q = (type, mid, p, q)
-  head_answer (Err (Incomplete Unknown)) q = absurd q
-  head_answer (Err (Incomplete (Size n))) q = typed_lack n q
-  head_answer (Err (Error k)) q = absurd q
-  head_answer (Err (Failure k)) q = q
+  head_result (Ok x) q = (type, mid, p, q)
+  head_result (Err (Incomplete Unknown)) q = absurd q
+  head_result (Err (Incomplete (Size n))) q = typed_lack n q
+  head_result (Err (Error k)) q = absurd q
+  head_result (Err (Failure k)) q = q
 
   -- what is at the start of the value, if there is an encoding
-  payload_front : (w left : List ℕ) (v : Tree) → Wire w v → s ≡ w ++ left → RawFront type mid (found v left)
-  payload_front w left v q e =
+  payload_at_start : (w left : List ℕ) (v : Tree) → Wire w v → s ≡ w ++ left → RawPrefix type mid (found v left)
+  payload_at_start w left v q e =
       let x : Outcome s (found v left) = subst (λ (t : List ℕ). Outcome t (found v left)) (sym e) (wire_found w left v q) in
       by (lack type mid) (value_to_raw p.0 type mid (found v left) p.2 (subst (λ (t : List ℕ). Outcome t (found v left)) p.1 x))
     where
-      by : (n : ℕ) → NeedsMoreOr n (RawFront type mid (found v left)) (found v left) → RawFront type mid (found v left)
+      by : (n : ℕ) → NeedsMoreOr n (RawPrefix type mid (found v left)) (found v left) → RawPrefix type mid (found v left)
       by zero f = f
       by (suc n) f = absurd cc
 
@@ -81,12 +81,15 @@ unsigned_lacks s (Incomplete (Size n)) x = unsigned_outcome s (more n) x
 unsigned_lacks s (Error k) x = x
 unsigned_lacks s (Failure k) x = x
 
+-- what the arms of a payload's head are proved by
+pub ruleset payload_heads = (long_found, octets_found, void_found, unsigned_outcome, unsigned_lacks)
+
 -- if no type is read, no value is
 none_there : (s : List ℕ) (o : Reading) → IsNoType s o → AtAnyDepth s o
 none_there [] o x = λ d. x
 none_there (c ∷ b) o x = λ d. rw x.1 x.0
 
-pub no_head : (s : List ℕ) (e : Refusal) → Refuses (IsNoType s) ⊥ e → HeadRefuses (AtAnyDepth s) e
+pub no_head : (s : List ℕ) (e : Refusal) → IsRefusal (IsNoType s) ⊥ e → HeadRefuses (AtAnyDepth s) e
 no_head s (Incomplete Unknown) x = x
 no_head s (Incomplete (Size n)) x = none_there s (more n) x
 no_head s (Error MapOpt) x = (refl, none_there s unknown x)
@@ -101,7 +104,7 @@ no_head s (Error TooLarge) x = absurd x
 no_head s (Failure k) x = x
 
 -- an error of the head is one of reading, whatever is wanted of it
-pub head_refuses : (Is : Reading → Type 0) (e : Refusal) → HeadRefuses Is e → Refuses Is ⊥ e
+pub head_refuses : (Is : Reading → Type 0) (e : Refusal) → HeadRefuses Is e → IsRefusal Is ⊥ e
 head_refuses Is (Incomplete Unknown) x = x
 head_refuses Is (Incomplete (Size n)) x = x
 head_refuses Is (Error MapOpt) x = x.1
@@ -112,9 +115,9 @@ head_refuses Is (Error TooLarge) x = absurd (let e = x.0 in cc)
 head_refuses Is (Failure k) x = x
 
 -- and so it is within each depth
-pub head_within : (d : ℕ) (s : List ℕ) (e : Refusal) → HeadRefuses (AtAnyDepth s) e → Refuses (OutcomeWithin d s) ⊥ e
+pub head_within : (d : ℕ) (s : List ℕ) (e : Refusal) → HeadRefuses (AtAnyDepth s) e → IsRefusal (OutcomeWithin d s) ⊥ e
 head_within d s e x =
-    Refuses-weaker (AtAnyDepth s) (OutcomeWithin d s) ⊥ ⊥ e (λ o y. y d) (λ h. h) (head_refuses (AtAnyDepth s) e x)
+    IsRefusal-weaker (AtAnyDepth s) (OutcomeWithin d s) ⊥ ⊥ e (λ o y. y d) (λ h. h) (head_refuses (AtAnyDepth s) e x)
 
 -- ---- what a head is found to mean
 
@@ -156,7 +159,7 @@ module _ (d : ℕ) (s : List ℕ) (i : SliceInput) (rest : List ℕ) where
   table_deep h none = as_table h malformed (λ mid f. table_too_deep d mid (slice_bytes i) rest f none)
 
 -- what is at the start is what the head means, and no more
-pub only : (s : List ℕ) (h : Head) (rest w left : List ℕ) (v : Tree) → IsHead s h rest → Wire w v → s ≡ w ++ left → Means h v × (left ≡ rest)
+pub only : (s : List ℕ) (h : Head) (rest w left : List ℕ) (v : Tree) → IsHead s h rest → Wire w v → s ≡ w ++ left → HeadMeans h v × (left ≡ rest)
 only s (head.Plain r) rest w left v (type, mid, p, q) x e =
     let d = nesting w v x in
     let here : OutcomeWithin d s (found v left) = subst (λ (t : List ℕ). OutcomeWithin d t (found v left)) (sym e) (wire_found_within d w left v x (omega arith)) in
@@ -165,13 +168,13 @@ only s (head.Plain r) rest w left v (type, mid, p, q) x e =
     (subst (Denotes r) one (plain_stands r q.0), cc)
 only s (head.FieldArray i) rest w left v (type, mid, p, q) x e =
     let f = q.1 in
-    let raw : RawFront amqp.FieldArray mid (found v left) = subst (λ (t : AMQPType). RawFront t mid (found v left)) q.0 (payload_front s mid type p w left v x e) in
+    let raw : RawPrefix amqp.FieldArray mid (found v left) = subst (λ (t : AMQPType). RawPrefix t mid (found v left)) q.0 (payload_at_start s mid type p w left v x e) in
     let b = array_body (slice_bytes i) rest raw.0 left v f.fits raw.1 (sym f.framed ∙ raw.2) in
     let same = one_raw_reading amqp.FieldArray raw.0 (long_field (slice_bytes i)) left rest v (array b.0) raw.1 (raw_array (slice_bytes i) b.0 f.fits b.1) (sym raw.2 ∙ f.framed) in
     ((b.0, b.1, same.1), same.2)
 only s (head.FieldTable i) rest w left v (type, mid, p, q) x e =
     let f = q.1 in
-    let raw : RawFront amqp.FieldTable mid (found v left) = subst (λ (t : AMQPType). RawFront t mid (found v left)) q.0 (payload_front s mid type p w left v x e) in
+    let raw : RawPrefix amqp.FieldTable mid (found v left) = subst (λ (t : AMQPType). RawPrefix t mid (found v left)) q.0 (payload_at_start s mid type p w left v x e) in
     let b = table_body (slice_bytes i) rest raw.0 left v f.fits raw.1 (sym f.framed ∙ raw.2) in
     let es = insert_all no_entries b.0 in
     let same = one_raw_reading amqp.FieldTable raw.0 (long_field (slice_bytes i)) left rest v (table es) raw.1 (raw_table (slice_bytes i) b.0 f.fits b.1) (sym raw.2 ∙ f.framed) in
@@ -190,8 +193,8 @@ module _ (s body rest : List ℕ) (f : IsKeyFrame s body rest) where
   -- a key whose bytes aren't UTF-8 is rejected
   pub key_refused : (IsUtf8 body → ⊥) → RawOutcome amqp.ShortString s malformed
   key_refused none =
-      let front : RawFront amqp.ShortString s malformed = λ b left v p d. none (short_bytes body rest b left v p (sym f.framed ∙ d)).utf8 in
-      raw_whole amqp.ShortString s malformed key_whole front
+      let prefix : RawPrefix amqp.ShortString s malformed = λ b left v p d. none (short_bytes body rest b left v p (sym f.framed ∙ d)).utf8 in
+      raw_whole amqp.ShortString s malformed key_whole prefix
 
   -- a key whose bytes are UTF-8 is found
   pub key_found : IsUtf8 body → RawOutcome amqp.ShortString s (found (short body) rest)

@@ -16,8 +16,8 @@ use Rattle.amq_protocol_types.specs.parsing.Headers.{extent}
 use Rattle.amqp_in_place.specs.declared.rabbitmq.warning.KeyFault.{KeyFault}
 use Rattle.amqp_in_place.specs.declared.rabbitmq.warning.KeyFault.TheVariants.{Repeated, NotUtf8}
 use Rattle.amqp_in_place.specs.Problems.{pair_len}
-use Rattle.amqp_in_place.specs.RabbitmqSeen.{Has, Tells, key_of, behind_key}
-use Rattle.amqp_in_place.specs.RabbitmqWarnings.{Place, is_faulty, fault_in_values, fault_in_pairs}
+use Rattle.amqp_in_place.specs.RabbitmqSeen.{HasKeys, IsKeyFaultReport, key_of, after_key}
+use Rattle.amqp_in_place.specs.RabbitmqWarnings.{WarningPlace, is_faulty, fault_in_values, fault_in_pairs}
 use Rattle.amqp_in_place.proofs.FirstProblems.{left_over}
 use Rattle.amqp_in_place.proofs.RepeatedKeys.{has, by_bytes}
 
@@ -28,7 +28,7 @@ not_not true = refl
 not_not false = refl
 
 -- a key that is put into the set
-has_more : (t u : BTreeSet (Bor (List ℕ))) (x : Bor (List ℕ)) (keys : List (List ℕ)) → Has Repeated t keys → Updates by_bytes t u x true → Has Repeated u (x.now ∷ keys)
+has_more : (t u : BTreeSet (Bor (List ℕ))) (x : Bor (List ℕ)) (keys : List (List ℕ)) → HasKeys Repeated t keys → Updates by_bytes t u x true → HasKeys Repeated u (x.now ∷ keys)
 has_more t u x keys all updates k = by (same_bytes k x.now) refl
   where
     other : (b : Bool) → same_bytes k x.now ≡ false → same_bytes x.now k ≡ b → b ≡ false
@@ -42,15 +42,15 @@ has_more t u x keys all updates k = by (same_bytes k x.now) refl
         let apart : is_at (by_bytes x) q ≡ false = sym (texts_ties x.now k) ∙ other (same_bytes x.now k) is refl in
         updates.2 q apart ∙ all k
 
-pub tells_repeated : (t u : BTreeSet (Bor (List ℕ))) (x : Bor (List ℕ)) (added : Bool) → added ≡ not (contains by_bytes t x) → Updates by_bytes t u x true → Tells Repeated t u x.now (not added)
+pub tells_repeated : (t u : BTreeSet (Bor (List ℕ))) (x : Bor (List ℕ)) (added : Bool) → added ≡ not (contains by_bytes t x) → Updates by_bytes t u x true → IsKeyFaultReport Repeated t u x.now (not added)
 tells_repeated t u x added is updates keys all =
     (ap not is ∙ (not_not (contains by_bytes t x) ∙ all x.now), λ e. has_more t u x keys all updates)
 
-pub has_none : (fault : KeyFault) (t : BTreeSet (Bor (List ℕ))) → IsEmpty t → Has fault t []
+pub has_none : (fault : KeyFault) (t : BTreeSet (Bor (List ℕ))) → IsEmpty t → HasKeys fault t []
 has_none Repeated t none = λ k. ap (list_any (λ (j : Bor (List ℕ)). is_eq (slice_cmp nat_cmp k j.now))) none
 has_none NotUtf8 t none = tt
 
-pub tells_utf8 : {E : Type 0} (t : BTreeSet (Bor (List ℕ))) (k : List ℕ) (r : Result (Unit {0}) E) (b : Bool) → MatchResult r (λ x. IsUtf8 k) (λ x. IsUtf8 k → ⊥) → b ≡ is_err r → Tells NotUtf8 t t k b
+pub tells_utf8 : {E : Type 0} (t : BTreeSet (Bor (List ℕ))) (k : List ℕ) (r : Result (Unit {0}) E) (b : Bool) → MatchResult r (λ x. IsUtf8 k) (λ x. IsUtf8 k → ⊥) → b ≡ is_err r → IsKeyFaultReport NotUtf8 t t k b
 tells_utf8 {E} t k r b is e keys all = (e ∙ by r is, λ f. tt)
   where
     other : (IsUtf8 k → ⊥) → (c : Bool) → is_utf8 k ≡ c → true ≡ not c
@@ -82,7 +82,7 @@ at_least : (n : ℕ) → max n 1 ≡ suc (n - 1)
 at_least zero = refl
 at_least (suc n) = omega arith
 
-module _ (value : Place) where
+module _ (value : WarningPlace) where
   over_values : (n : ℕ) (s : List ℕ) → fault_in_values value n s ≡ option_map (λ k. n + k) (fault_in_values value 0 (drop n s))
   over_values zero s = sym (none_more (fault_in_values value 0 s))
   over_values (suc n) [] = refl
@@ -94,14 +94,14 @@ module _ (value : Place) where
   value_over (c ∷ s) n some none is = rw (none, sym is) (ap (option_map suc) (over_values n s) ∙ again n (fault_in_values value 0 (drop n s)))
 
   -- the first is after the first n bytes of s, or there is none
-  abbrev pub Values : List ℕ → ℕ → Type 0
-  Values s n = fault_in_values value 0 s ≡ option_map (λ k. n + k) (fault_in_values value 0 (drop n s))
+  abbrev pub ValuesPassed : List ℕ → ℕ → Type 0
+  ValuesPassed s n = fault_in_values value 0 s ≡ option_map (λ k. n + k) (fault_in_values value 0 (drop n s))
 
-  pub Values-start : (s : List ℕ) → Values s 0
-  Values-start s = sym (none_more (fault_in_values value 0 s))
+  pub ValuesPassed-start : (s : List ℕ) → ValuesPassed s 0
+  ValuesPassed-start s = sym (none_more (fault_in_values value 0 s))
 
-  pub Values-next : (s t : List ℕ) (n m : ℕ) → Values s n → n < length s → t ≡ take (length s - n) (drop n s) → value t ≡ None → m ≡ max (extent t) 1 → Values s (n + m)
-  Values-next s t n m at some e none most =
+  pub ValuesPassed-next : (s t : List ℕ) (n m : ℕ) → ValuesPassed s n → n < length s → t ≡ take (length s - n) (drop n s) → value t ≡ None → m ≡ max (extent t) 1 → ValuesPassed s (n + m)
+  ValuesPassed-next s t n m at some e none most =
       let is : m ≡ suc (extent t - 1) = most ∙ at_least (extent t) in
       let same : t ≡ drop n s = e ∙ left_over n s in
       let more : fault_in_values value 0 (drop n s) ≡ option_map (λ k. m + k) (fault_in_values value 0 (drop (n + m) s)) =
@@ -113,15 +113,15 @@ module _ (value : Place) where
   value_stops [] p some is = absurd (omega (arith, some))
   value_stops (c ∷ s) p some is = rw is refl
 
-  pub Values-stop : (s t : List ℕ) (n p : ℕ) → Values s n → n < length s → t ≡ take (length s - n) (drop n s) → value t ≡ Some p → fault_in_values value 0 s ≡ Some (n + p)
-  Values-stop s t n p at some e is =
+  pub ValuesPassed-stop : (s t : List ℕ) (n p : ℕ) → ValuesPassed s n → n < length s → t ≡ take (length s - n) (drop n s) → value t ≡ Some p → fault_in_values value 0 s ≡ Some (n + p)
+  ValuesPassed-stop s t n p at some e is =
       let same : t ≡ drop n s = e ∙ left_over n s in
       at ∙ ap (option_map (λ k. n + k)) (ap (fault_in_values value 0) (sym same) ∙ value_stops t p (subst (λ (u : List ℕ). 0 < length u) (sym same) (some_left n s some)) is)
 
-  pub Values-end : (s : List ℕ) (n : ℕ) → Values s n → length s ≤ n → fault_in_values value 0 s ≡ None
-  Values-end s n at all = at ∙ ap (λ t. option_map (λ k. n + k) (fault_in_values value 0 t)) (drop_all n s all)
+  pub ValuesPassed-end : (s : List ℕ) (n : ℕ) → ValuesPassed s n → length s ≤ n → fault_in_values value 0 s ≡ None
+  ValuesPassed-end s n at all = at ∙ ap (λ t. option_map (λ k. n + k) (fault_in_values value 0 t)) (drop_all n s all)
 
-module _ (fault : KeyFault) (value : Place) where
+module _ (fault : KeyFault) (value : WarningPlace) where
   over_pairs : (earlier : List (List ℕ)) (n : ℕ) (s : List ℕ) → fault_in_pairs fault value earlier n s ≡ option_map (λ k. n + k) (fault_in_pairs fault value earlier 0 (drop n s))
   over_pairs earlier zero s = sym (none_more (fault_in_pairs fault value earlier 0 s))
   over_pairs earlier (suc n) [] = refl
@@ -152,69 +152,69 @@ module _ (fault : KeyFault) (value : Place) where
           goes (pair_len (k ∷ s) - 1) ∙ ends (pair_len (k ∷ s) - 1) (1 + length (take k s) + extent (drop k s)) (omega (arith, less)) (omega (arith, long))
 
   -- the bytes of a pair, of which some may be missing
-  pair_over : (earlier : List (List ℕ)) (s : List ℕ) → 0 < length s → is_faulty fault earlier (key_of s) ≡ false → value (behind_key s) ≡ None
-      → fault_in_pairs fault value earlier 0 s ≡ option_map (λ k. 1 + length (key_of s) + extent (behind_key s) + k) (fault_in_pairs fault value (key_of s ∷ earlier) 0 (drop (1 + length (key_of s) + extent (behind_key s)) s))
+  pair_over : (earlier : List (List ℕ)) (s : List ℕ) → 0 < length s → is_faulty fault earlier (key_of s) ≡ false → value (after_key s) ≡ None
+      → fault_in_pairs fault value earlier 0 s ≡ option_map (λ k. 1 + length (key_of s) + extent (after_key s) + k) (fault_in_pairs fault value (key_of s ∷ earlier) 0 (drop (1 + length (key_of s) + extent (after_key s)) s))
   pair_over earlier [] some good none = absurd (omega (arith, some))
   pair_over earlier (k ∷ s) some good none = rw (good, none) (whole_or_cut (take k s ∷ earlier) k s)
 
   -- the first is after the first n bytes of s, or there is none, and the set has the keys in them
-  pub record Pairs (s : List ℕ) (n : ℕ) (t : BTreeSet (Bor (List ℕ))) : Type 0 where
+  pub record PairsPassed (s : List ℕ) (n : ℕ) (t : BTreeSet (Bor (List ℕ))) : Type 0 where
     pub earlier : List (List ℕ)
-    pub there : Has fault t earlier
+    pub there : HasKeys fault t earlier
     pub same : fault_in_pairs fault value [] 0 s ≡ option_map (λ k. n + k) (fault_in_pairs fault value earlier 0 (drop n s))
 
-  pub Pairs-start : (s : List ℕ) (t : BTreeSet (Bor (List ℕ))) → IsEmpty t → Pairs s 0 t
-  Pairs-start s t none = record { earlier = []; there = has_none fault t none; same = sym (none_more (fault_in_pairs fault value [] 0 s)) }
+  pub PairsPassed-start : (s : List ℕ) (t : BTreeSet (Bor (List ℕ))) → IsEmpty t → PairsPassed s 0 t
+  PairsPassed-start s t none = record { earlier = []; there = has_none fault t none; same = sym (none_more (fault_in_pairs fault value [] 0 s)) }
 
-  pub Pairs-next : (s r : List ℕ) (n m : ℕ) (t u : BTreeSet (Bor (List ℕ))) → Pairs s n t → n < length s → r ≡ take (length s - n) (drop n s) → Tells fault t u (key_of r) false
-      → value (behind_key r) ≡ None → m ≡ 1 + length (key_of r) + extent (behind_key r) → Pairs s (n + m) u
-  Pairs-next s r n m t u at some e tells none is =
+  pub PairsPassed-next : (s r : List ℕ) (n m : ℕ) (t u : BTreeSet (Bor (List ℕ))) → PairsPassed s n t → n < length s → r ≡ take (length s - n) (drop n s) → IsKeyFaultReport fault t u (key_of r) false
+      → value (after_key r) ≡ None → m ≡ 1 + length (key_of r) + extent (after_key r) → PairsPassed s (n + m) u
+  PairsPassed-next s r n m t u at some e tells none is =
       let same : r ≡ drop n s = e ∙ left_over n s in
-      let told = tells at.earlier at.there in
+      let reported = tells at.earlier at.there in
       let more : fault_in_pairs fault value at.earlier 0 (drop n s) ≡ option_map (λ k. m + k) (fault_in_pairs fault value (key_of r ∷ at.earlier) 0 (drop (n + m) s)) =
-      ap (fault_in_pairs fault value at.earlier 0) (sym same) ∙ (subst (λ i. fault_in_pairs fault value at.earlier 0 r ≡ option_map (λ k. i + k) (fault_in_pairs fault value (key_of r ∷ at.earlier) 0 (drop i r))) (sym is) (pair_over at.earlier r (subst (λ (v : List ℕ). 0 < length v) (sym same) (some_left n s some)) (sym told.0) none)
+      ap (fault_in_pairs fault value at.earlier 0) (sym same) ∙ (subst (λ i. fault_in_pairs fault value at.earlier 0 r ≡ option_map (λ k. i + k) (fault_in_pairs fault value (key_of r ∷ at.earlier) 0 (drop i r))) (sym is) (pair_over at.earlier r (subst (λ (v : List ℕ). 0 < length v) (sym same) (some_left n s some)) (sym reported.0) none)
       ∙ ap (λ v. option_map (λ k. m + k) (fault_in_pairs fault value (key_of r ∷ at.earlier) 0 v)) (ap (drop m) same ∙ drop-drop m n s)) in
       record {
         earlier = key_of r ∷ at.earlier;
-        there = told.1 refl;
+        there = reported.1 refl;
         same = at.same ∙ (ap (option_map (λ k. n + k)) more ∙ twice n m (fault_in_pairs fault value (key_of r ∷ at.earlier) 0 (drop (n + m) s)));
       }
 
-  -- the same as the code has it, from the key k and the bytes v after it
-  pub Pairs-on : (s r k v : List ℕ) (n m : ℕ) (t u : BTreeSet (Bor (List ℕ))) (b : Bool) → Pairs s n t → n < length s → r ≡ take (length s - n) (drop n s) → k ≡ key_of r → v ≡ behind_key r
-      → Tells fault t u k b → b ≡ false → value v ≡ None → m ≡ n + 1 + length k + extent v → Pairs s m u
-  Pairs-on s r k v n m t u b at some e is_key is_rest tells good none is =
-      let told : Tells fault t u (key_of r) false = subst (λ (c : Bool). Tells fault t u (key_of r) c) good (subst (λ (j : List ℕ). Tells fault t u j b) is_key tells) in
-      let sums : n + (1 + length (key_of r) + extent (behind_key r)) ≡ m = omega (arith, is, ap length is_key, ap extent is_rest) in
-      subst (λ (i : ℕ). Pairs s i u) sums (Pairs-next s r n (1 + length (key_of r) + extent (behind_key r)) t u at some e told (ap value (sym is_rest) ∙ none) refl)
+  -- the next pair as the code has it, by the key k and the bytes v after it
+  pub PairsPassed-on : (s r k v : List ℕ) (n m : ℕ) (t u : BTreeSet (Bor (List ℕ))) (b : Bool) → PairsPassed s n t → n < length s → r ≡ take (length s - n) (drop n s) → k ≡ key_of r → v ≡ after_key r
+      → IsKeyFaultReport fault t u k b → b ≡ false → value v ≡ None → m ≡ n + 1 + length k + extent v → PairsPassed s m u
+  PairsPassed-on s r k v n m t u b at some e is_key is_rest tells good none is =
+      let reported : IsKeyFaultReport fault t u (key_of r) false = subst (λ (c : Bool). IsKeyFaultReport fault t u (key_of r) c) good (subst (λ (j : List ℕ). IsKeyFaultReport fault t u j b) is_key tells) in
+      let sums : n + (1 + length (key_of r) + extent (after_key r)) ≡ m = omega (arith, is, ap length is_key, ap extent is_rest) in
+      subst (λ (i : ℕ). PairsPassed s i u) sums (PairsPassed-next s r n (1 + length (key_of r) + extent (after_key r)) t u at some e reported (ap value (sym is_rest) ∙ none) refl)
 
   faulty_stops : (earlier : List (List ℕ)) (s : List ℕ) → 0 < length s → is_faulty fault earlier (key_of s) ≡ true → fault_in_pairs fault value earlier 0 s ≡ Some 0
   faulty_stops earlier [] some is = absurd (omega (arith, some))
   faulty_stops earlier (k ∷ s) some is = rw is refl
 
-  pub Pairs-key : (s r : List ℕ) (n : ℕ) (t u : BTreeSet (Bor (List ℕ))) → Pairs s n t → n < length s → r ≡ take (length s - n) (drop n s) → Tells fault t u (key_of r) true
+  pub PairsPassed-key : (s r : List ℕ) (n : ℕ) (t u : BTreeSet (Bor (List ℕ))) → PairsPassed s n t → n < length s → r ≡ take (length s - n) (drop n s) → IsKeyFaultReport fault t u (key_of r) true
       → fault_in_pairs fault value [] 0 s ≡ Some n
-  Pairs-key s r n t u at some e tells =
+  PairsPassed-key s r n t u at some e tells =
       let same : r ≡ drop n s = e ∙ left_over n s in
       let stops = faulty_stops at.earlier r (subst (λ (v : List ℕ). 0 < length v) (sym same) (some_left n s some)) (sym (tells at.earlier at.there).0) in
       let z : n + 0 ≡ n = omega arith in
       at.same ∙ (ap (option_map (λ k. n + k)) (ap (fault_in_pairs fault value at.earlier 0) (sym same) ∙ stops) ∙ ap (λ (k : ℕ). Some k) z)
 
   -- a value after a key that is cut is no bytes
-  value_stops_pair : (earlier : List (List ℕ)) (s : List ℕ) (p : ℕ) → 0 < length s → is_faulty fault earlier (key_of s) ≡ false → value (behind_key s) ≡ Some p → p < length (behind_key s)
+  value_stops_pair : (earlier : List (List ℕ)) (s : List ℕ) (p : ℕ) → 0 < length s → is_faulty fault earlier (key_of s) ≡ false → value (after_key s) ≡ Some p → p < length (after_key s)
       → fault_in_pairs fault value earlier 0 s ≡ Some (1 + length (key_of s) + p)
   value_stops_pair earlier [] p some good is within = absurd (omega (arith, some))
   value_stops_pair earlier (k ∷ s) p some good is within =
       let long : length (take k s) ≡ k = length-take-le k s (omega (arith, within, length-drop k s)) in
       rw (good, is, long) refl
 
-  pub Pairs-value : (s r : List ℕ) (n p : ℕ) (t u : BTreeSet (Bor (List ℕ))) → Pairs s n t → n < length s → r ≡ take (length s - n) (drop n s) → Tells fault t u (key_of r) false
-      → value (behind_key r) ≡ Some p → p < length (behind_key r) → fault_in_pairs fault value [] 0 s ≡ Some (n + 1 + length (key_of r) + p)
-  Pairs-value s r n p t u at some e tells is within =
+  pub PairsPassed-value : (s r : List ℕ) (n p : ℕ) (t u : BTreeSet (Bor (List ℕ))) → PairsPassed s n t → n < length s → r ≡ take (length s - n) (drop n s) → IsKeyFaultReport fault t u (key_of r) false
+      → value (after_key r) ≡ Some p → p < length (after_key r) → fault_in_pairs fault value [] 0 s ≡ Some (n + 1 + length (key_of r) + p)
+  PairsPassed-value s r n p t u at some e tells is within =
       let same : r ≡ drop n s = e ∙ left_over n s in
       let stops = value_stops_pair at.earlier r p (subst (λ (v : List ℕ). 0 < length v) (sym same) (some_left n s some)) (sym (tells at.earlier at.there).0) is within in
       let sums : n + (1 + length (key_of r) + p) ≡ n + 1 + length (key_of r) + p = omega arith in
       at.same ∙ (ap (option_map (λ k. n + k)) (ap (fault_in_pairs fault value at.earlier 0) (sym same) ∙ stops) ∙ ap (λ (k : ℕ). Some k) sums)
 
-  pub Pairs-end : (s : List ℕ) (n : ℕ) (t : BTreeSet (Bor (List ℕ))) → Pairs s n t → length s ≤ n → fault_in_pairs fault value [] 0 s ≡ None
-  Pairs-end s n t at all = at.same ∙ ap (λ v. option_map (λ k. n + k) (fault_in_pairs fault value at.earlier 0 v)) (drop_all n s all)
+  pub PairsPassed-end : (s : List ℕ) (n : ℕ) (t : BTreeSet (Bor (List ℕ))) → PairsPassed s n t → length s ≤ n → fault_in_pairs fault value [] 0 s ≡ None
+  PairsPassed-end s n t at all = at.same ∙ ap (λ v. option_map (λ k. n + k) (fault_in_pairs fault value at.earlier 0 v)) (drop_all n s all)

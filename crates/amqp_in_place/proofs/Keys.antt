@@ -12,7 +12,7 @@ use Rattle.amq_protocol_types.specs.parsing.Headers.{extent}
 use Rattle.amq_protocol_types.proofs.ParsingLaws.{wire_extent}
 use Rattle.amqp_in_place.specs.InPlaceResults.{IsLeft}
 use Rattle.amqp_in_place.specs.Bodies.{HasPairs}
-use Rattle.amqp_in_place.specs.Walks.{HasFront, NextKeyIs}
+use Rattle.amqp_in_place.specs.Walks.{HasEncodingAtStart, NextKeyIs}
 use Rattle.amqp_in_place.proofs.Places.{left_of_left}
 
 -- the first of some pairs, whose key counts n bytes
@@ -24,7 +24,7 @@ record FirstKey (named : List ℕ) (n : ℕ) (ps : Entries) : Type 0 where
   pub is_wire : Wire bytes value_there
   pub are : ps ≡ entry (take n named) value_there others
   pub few : n ≤ length named
-  pub front : drop n named ≡ bytes ++ left
+  pub prefix : drop n named ≡ bytes ++ left
   pub more_pairs : TableBody left others
 
 first_key : (s named : List ℕ) (n : ℕ) (ps : Entries) → s ≡ n ∷ named → TableBody s ps → FirstKey named n ps
@@ -40,7 +40,7 @@ first_key _ named n _ e (pair k w left v ps is p all) =
       is_wire = p;
       are = ap (λ (j : List ℕ). entry j v ps) (sym (ap (take n) (sym here) ∙ take_at k (w ++ left) n size));
       few = omega (arith, ap length here, length-append k (w ++ left));
-      front = ap (drop n) (sym here) ∙ drop_at k (w ++ left) n size;
+      prefix = ap (drop n) (sym here) ∙ drop_at k (w ++ left) n size;
       more_pairs = all;
     }
 
@@ -48,13 +48,13 @@ first_key _ named n _ e (pair k w left v ps is p all) =
 module _ (s named : List ℕ) (n : ℕ) (e : s ≡ n ∷ named) where
   -- its value takes as many bytes as its header counts
   wide : (ps : Entries) (f : FirstKey named n ps) → extent (drop n named) ≡ length f.bytes
-  wide ps f = ap extent f.front ∙ wire_extent f.bytes f.left f.value_there f.is_wire
+  wide ps f = ap extent f.prefix ∙ wire_extent f.bytes f.left f.value_there f.is_wire
 
-  behind : (ps : Entries) (f : FirstKey named n ps) → drop (extent (drop n named)) (drop n named) ≡ f.left
-  behind ps f = ap (drop (extent (drop n named))) f.front ∙ drop_at f.bytes f.left (extent (drop n named)) (sym (wide ps f))
+  after : (ps : Entries) (f : FirstKey named n ps) → drop (extent (drop n named)) (drop n named) ≡ f.left
+  after ps f = ap (drop (extent (drop n named))) f.prefix ∙ drop_at f.bytes f.left (extent (drop n named)) (sym (wide ps f))
 
   value_here : (ps : Entries) (f : FirstKey named n ps) → Outcome (drop n named) (found f.value_there f.left)
-  value_here ps f = subst (λ (t : List ℕ). Outcome t (found f.value_there f.left)) (sym f.front) (wire_found f.bytes f.left f.value_there f.is_wire)
+  value_here ps f = subst (λ (t : List ℕ). Outcome t (found f.value_there f.left)) (sym f.prefix) (wire_found f.bytes f.left f.value_there f.is_wire)
 
   -- the key is all there, and its value is
   pub key_few : ∥ HasPairs s ∥₁ → n ≤ length named
@@ -64,23 +64,23 @@ module _ (s named : List ℕ) (n : ℕ) (e : s ≡ n ∷ named) where
   value_few has =
       ∥∥₁_elim has le_prop (λ (p : HasPairs s).
       let f = first_key s named n p.0 e p.1 in
-      omega (arith, wide p.0 f, ap length f.front, length-append f.bytes f.left))
+      omega (arith, wide p.0 f, ap length f.prefix, length-append f.bytes f.left))
 
-  pub value_begins : ∥ HasPairs s ∥₁ → ∥ HasFront (drop n named) ∥₁
+  pub value_begins : ∥ HasPairs s ∥₁ → ∥ HasEncodingAtStart (drop n named) ∥₁
   value_begins has =
       ∥∥₁_map has (λ (p : HasPairs s).
       let f = first_key s named n p.0 e p.1 in
       (f.value_there, f.left, value_here p.0 f))
 
   -- pairs are after it
-  pub keys_behind : ∥ HasPairs s ∥₁ → (length (drop (extent (drop n named)) (drop n named)) < length s) × ∥ HasPairs (drop (extent (drop n named)) (drop n named)) ∥₁
-  keys_behind has = (
+  pub keys_after : ∥ HasPairs s ∥₁ → (length (drop (extent (drop n named)) (drop n named)) < length s) × ∥ HasPairs (drop (extent (drop n named)) (drop n named)) ∥₁
+  keys_after has = (
     ∥∥₁_elim has le_prop (λ (p : HasPairs s).
         let f = first_key s named n p.0 e p.1 in
-        omega (arith, ap length (behind p.0 f), ap length f.front, length-append f.bytes f.left, length-drop n named, ap length e)),
+        omega (arith, ap length (after p.0 f), ap length f.prefix, length-append f.bytes f.left, length-drop n named, ap length e)),
     ∥∥₁_map has (λ (p : HasPairs s).
         let f = first_key s named n p.0 e p.1 in
-        (f.others, subst (λ (t : List ℕ). TableBody t f.others) (sym (behind p.0 f)) f.more_pairs)),
+        (f.others, subst (λ (t : List ℕ). TableBody t f.others) (sym (after p.0 f)) f.more_pairs)),
   )
 
   -- the key that is given is that of the first pair
@@ -88,9 +88,9 @@ module _ (s named : List ℕ) (n : ℕ) (e : s ≡ n ∷ named) where
       → x.2.now ≡ drop (extent (drop n named)) (drop n named) → TableBody s ps → NextKeyIs ps (Some x)
   key_given ps x key value rest p =
       let f = first_key s named n ps e p in
-      let here : Outcome x.1.now (found f.value_there x.2.now) = rw (value, rest, behind ps f) (value_here ps f) in
+      let here : Outcome x.1.now (found f.value_there x.2.now) = rw (value, rest, after ps f) (value_here ps f) in
       let given : NextKeyIs (entry (take n named) f.value_there f.others) (Some x) =
-      (key, here, subst (λ (t : List ℕ). TableBody t f.others) (sym (rest ∙ behind ps f)) f.more_pairs) in
+      (key, here, subst (λ (t : List ℕ). TableBody t f.others) (sym (rest ∙ after ps f)) f.more_pairs) in
       subst (λ (qs : Entries). NextKeyIs qs (Some x)) (sym f.are) given
 
   -- what is given is inside the bytes

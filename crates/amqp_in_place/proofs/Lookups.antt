@@ -32,8 +32,8 @@ no_values_at _ _ (value w left v vs p all) = (λ e. absurd (omega (arith, length
 abbrev pub LooksBy : (Tree → List ℕ → List ℕ → Type 0) → (List ℕ → Entries → Type 0) → List ℕ → List ℕ → List ℕ → Option (Bor (List ℕ)) → Type 0
 LooksBy Is Body key s rest at = (ps : Entries) → Body s ps → (qs : Entries) × (seen : Option Tree) × Body rest qs × BeginsBy Is seen at × (last_at key ps ≡ option_or (last_at key qs) seen)
 
-abbrev pub Looks : List ℕ → List ℕ → List ℕ → Option (Bor (List ℕ)) → Type 0
-Looks key s rest at = LooksBy IsReadAt TableBody key s rest at
+abbrev pub IsLookupSoFar : List ℕ → List ℕ → List ℕ → Option (Bor (List ℕ)) → Type 0
+IsLookupSoFar key s rest at = LooksBy IsReadAt TableBody key s rest at
 
 abbrev pub WrittenLooks : List ℕ → List ℕ → List ℕ → Option (Bor (List ℕ)) → Type 0
 WrittenLooks key s rest at = LooksBy WrittenAt WrittenPairs key s rest at

@@ -1,31 +1,33 @@
 -- Measuring encodings in place.
-use Rattle.std.proofs.Common.{◌≡◌, ◌<◌, ◌≤◌, ◌+◌, ◌-◌, ◌^◌, ℕ, suc, max, List, [], ◌∷◌, ◌++◌, length, drop, Some, refl, sym, ap, ap₂, ◌∙◌, subst, arith, length-append}
-use Rattle.std.specs.Str.{IsUtf8}
+use Rattle.std.proofs.Common.{◌≡◌, ◌<◌, ◌≤◌, ◌+◌, ◌-◌, ◌^◌, ℕ, suc, max, List, [], ◌∷◌, ◌++◌, length, drop, Some, None, refl, sym, ap, ap₂, ◌∙◌, subst, arith, length-append}
+use Rattle.std.specs.Borrow.{Bor}
 use Rattle.std.specs.Ordering.{nat_cmp, match_ordering}
 use Rattle.std.specs.Cmp.Lexicographic.{slice_cmp}
 use Rattle.std.specs.declared.cmp.Ordering.{Ordering}
 use Rattle.std.specs.declared.cmp.Ordering.TheVariants.{Less, Equal, Greater}
-use Rattle.std.proofs.lemmas.List.{nil_from_length}
 use Rattle.std.proofs.lemmas.Option.{same_Some}
 use Rattle.amqp_value_core.specs.Ids.{kind}
 use Rattle.amqp_value_core.specs.Strings.{IsShort}
 use Rattle.amqp_value_core.specs.declared.types.amqp_type.AMQPType.{AMQPType}
 use Rattle.amqp_value_core.specs.declared.types.amqp_type.AMQPType.TheVariants as amqp
-use Rattle.amqp_value_core.specs.Values.{Tree, short, array, table, Trees, no_trees, tree, Entries, no_entries, entry, insert, insert_all, count, depth}
+use Rattle.amqp_value_core.specs.Values.{Tree, short, long, octets, array, table, Trees, no_trees, tree, Entries, no_entries, entry, insert, insert_all, count, depth}
 use Rattle.amqp_value_core.specs.Members.{count_all, entries_count}
 use Rattle.amqp_value_core.specs.Layouts.{Layout, fixed}
 use Rattle.amqp_value_core.specs.Grammar.{short_field, long_field, Wire, wire, Raw, raw_fixed, raw_short, raw_long, raw_octets, raw_array, raw_table, ArrayBody, no_values, value, TableBody, no_pairs, pair}
-use Rattle.amqp_value_core.specs.Nesting.{nesting, raw_nesting, body_nesting, pairs_nesting, OutcomeWithin}
-use Rattle.amqp_value_core.specs.Outcomes.{found}
-use Rattle.amqp_value_core.proofs.GrammarLaws.{no_empty_wire, same_large, one_reading, one_raw_reading, wire_found_within, depth_within, body_nesting-le, pairs_nesting-le}
+use Rattle.amqp_value_core.specs.Nesting.{nesting, raw_nesting, body_nesting, pairs_nesting}
+use Rattle.amqp_value_core.proofs.GrammarLaws.{no_empty_wire, same_large, one_reading, one_raw_reading, depth_within, body_nesting-le, pairs_nesting-le}
 use Rattle.amqp_value_core.specs.Inputs.{slice_bytes}
 use Rattle.amqp_value_core.specs.declared.input.SliceInput.{SliceInput}
-use Rattle.amqp_in_place.specs.declared.head.Head.TheVariants as head
+use Rattle.amqp_in_place.specs.declared.refs.ArrayRef.{ArrayRef}
+use Rattle.amqp_in_place.specs.declared.refs.TableRef.{TableRef}
 use Rattle.amqp_in_place.specs.declared.refs.ValueRef.{ValueRef}
-use Rattle.amqp_in_place.specs.Refs.{plain_tree}
-use Rattle.amqp_in_place.specs.Heads.{IsPlainType, IsHead, IsKeyFrame}
-use Rattle.amqp_in_place.specs.Measures.{written, raw_written, body_written, pairs_written, OfEncoding, HoldsFront, HoldsValues, HoldsPairs}
-use Rattle.amqp_in_place.proofs.Places.{payload_of}
+use Rattle.amqp_in_place.specs.declared.refs.ValueRef.TheVariants as at
+use Rattle.amqp_in_place.specs.Refs.{array_body, table_body, plain_tree, Denotes}
+use Rattle.amqp_in_place.specs.Bodies.{HasValues, HasPairs}
+use Rattle.amqp_in_place.specs.Heads.{IsPlainRef, IsPlainType}
+use Rattle.amqp_in_place.specs.Places.{IsFramed, IsViewIn, IsPairViewIn}
+use Rattle.amqp_in_place.specs.Walks.{NextValueIs, NextPairIs}
+use Rattle.amqp_in_place.specs.Measures.{written, raw_written, body_written, pairs_written, OfEncoding, IsValueView, HoldsFirst, HoldsValues, HoldsPairs}
 
 -- ---- at least one byte for each value
 
@@ -191,176 +193,219 @@ mutual
 
 -- ---- values
 
--- what is found is there
-pub front_found : (d : ℕ) (s rest : List ℕ) (n l : ℕ) (h : HoldsFront d s rest n l) → OutcomeWithin d s (found h.meaning rest)
-front_found d s rest n l h =
-    subst (λ (t : List ℕ). OutcomeWithin d t (found h.meaning rest)) (sym h.front)
-    (wire_found_within d h.encoding rest h.meaning h.is_wire (omega (arith, h.levels, h.within)))
+-- the tree isn't a container's
+abbrev IsMeasuredLeaf : Tree → Type 0
+IsMeasuredLeaf (array vs) = ⊥
+IsMeasuredLeaf (table es) = ⊥
+IsMeasuredLeaf _ = Unit {0}
 
--- and has at least as many bytes as values are written in it
-pub front_bytes : (d : ℕ) (s rest : List ℕ) (n l : ℕ) → HoldsFront d s rest n l → n + length rest ≤ length s
-front_bytes d s rest n l h =
-    omega (arith, h.values, written-le h.encoding h.meaning h.is_wire, ap length h.front, length-append h.encoding rest)
+leaf_held : (type : AMQPType) (b : List ℕ) (v : Tree) (p : Raw type b v) → IsMeasuredLeaf v → (raw_written type b v p ≡ 1) × (raw_nesting type b v p ≡ 0)
+leaf_held _ _ _ (raw_array body vs fits all) leaf = absurd leaf
+leaf_held _ _ _ (raw_table body ps fits all) leaf = absurd leaf
+leaf_held _ _ _ (raw_fixed type f b row len) leaf = (refl, refl)
+leaf_held _ _ _ (raw_short s is) leaf = (refl, refl)
+leaf_held _ _ _ (raw_long s fits) leaf = (refl, refl)
+leaf_held _ _ _ (raw_octets s fits) leaf = (refl, refl)
 
-pub plain_holds : (d : ℕ) (s : List ℕ) (r : ValueRef) (rest : List ℕ) → IsHead s (head.Plain r) rest → HoldsFront d s rest 1 0
-plain_holds d s r rest (type, mid, (c, here, k), q) =
-    let x = payload_of type mid rest (plain_tree r) q.2 in
-    let h = plain_held type x.0 (plain_tree r) x.1 q.1 in
-    record {
-      encoding = c ∷ x.0;
-      meaning = plain_tree r;
-      is_wire = wire c type x.0 (plain_tree r) k x.1;
-      front = here ∙ ap (λ (t : List ℕ). c ∷ t) x.2;
-      values = sym h.0;
-      levels = sym h.1;
-      within = omega arith;
-    }
+-- a payload after its type tag
+typed_holds : (c : ℕ) (type : AMQPType) (b : List ℕ) (v : Tree) (k : kind c ≡ Some type) (p : Raw type b v) (s rest : List ℕ) → s ≡ c ∷ (b ++ rest)
+    → HoldsFirst s rest (raw_written type b v p) (raw_nesting type b v p)
+typed_holds c type b v k p s rest e =
+    record { encoding = c ∷ b; meaning = v; is_wire = wire c type b v k p; prefix = e; values = refl; levels = refl }
 
-module _ (d : ℕ) (s : List ℕ) (i : SliceInput) (rest : List ℕ) (n l : ℕ) (some : 0 < d) where
-  pub array_holds : IsHead s (head.FieldArray i) rest → HoldsValues (d - 1) (slice_bytes i) n l → HoldsFront d s rest (1 + n) (1 + l)
-  array_holds (type, mid, (c, here, k), q) h =
-      let body = slice_bytes i in
-      record {
-        encoding = c ∷ long_field body;
-        meaning = array h.trees;
-        is_wire = wire c amqp.FieldArray (long_field body) (array h.trees) (k ∙ ap Some q.0) (raw_array body h.trees q.1.fits h.are);
-        front = here ∙ ap (λ (t : List ℕ). c ∷ t) q.1.framed;
-        values = omega (arith, h.values);
-        levels = omega (arith, h.levels);
-        within = omega (arith, some, h.within);
-      }
+wire_holds : (w : List ℕ) (v : Tree) → Wire w v → IsMeasuredLeaf v → (s rest : List ℕ) → s ≡ w ++ rest → HoldsFirst s rest 1 0
+wire_holds _ _ (wire c type b v k p) leaf s rest e =
+    let h = leaf_held type b v p leaf in
+    subst (λ (n : ℕ). HoldsFirst s rest 1 n) h.1 (subst (λ (n : ℕ). HoldsFirst s rest n (raw_nesting type b v p)) h.0 (typed_holds c type b v k p s rest e))
 
-  pub table_holds : IsHead s (head.FieldTable i) rest → HoldsPairs (d - 1) (slice_bytes i) n l → HoldsFront d s rest (1 + n) (1 + l)
-  table_holds (type, mid, (c, here, k), q) h =
-      let body = slice_bytes i in
-      record {
-        encoding = c ∷ long_field body;
-        meaning = table (insert_all no_entries h.pairs);
-        is_wire = wire c amqp.FieldTable (long_field body) (table (insert_all no_entries h.pairs)) (k ∙ ap Some q.0) (raw_table body h.pairs q.1.fits h.are);
-        front = here ∙ ap (λ (t : List ℕ). c ∷ t) q.1.framed;
-        values = omega (arith, h.values);
-        levels = omega (arith, h.levels);
-        within = omega (arith, some, h.within);
-      }
+-- a value that isn't a container
+pub plain_holds : (r : ValueRef) → IsPlainRef r → (s rest : List ℕ) → IsViewIn s r rest → HoldsFirst s rest 1 0
+plain_holds (at.FieldArray a) plain s rest x = absurd plain
+plain_holds (at.FieldTable t) plain s rest x = absurd plain
+plain_holds (at.LongString b) plain s rest x = typed_holds x.0 amqp.LongString (long_field b.now) (long b.now) x.1 (raw_long b.now x.2) s rest x.3
+plain_holds (at.ByteArray b) plain s rest x = typed_holds x.0 amqp.ByteArray (long_field b.now) (octets b.now) x.1 (raw_octets b.now x.2) s rest x.3
+plain_holds r plain s rest x = wire_holds x.0 (plain_tree r) x.1 tt s rest x.2
+
+prefix_as : (s rest : List ℕ) (n m l k : ℕ) → n ≡ m → l ≡ k → HoldsFirst s rest n l → HoldsFirst s rest m k
+prefix_as s rest n m l k e f h = rw (sym e, sym f) h
+
+-- what matches no container
+pub is_plain : (r : ValueRef) → ((a : ArrayRef) → r ≡ at.FieldArray a → ⊥) → ((t : TableRef) → r ≡ at.FieldTable t → ⊥) → IsPlainRef r
+is_plain (at.FieldArray a) no_array no_table = no_array a refl
+is_plain (at.FieldTable t) no_array no_table = no_table t refl
+is_plain _ no_array no_table = tt
+
+-- the bodies of containers that are at the start of some bytes
+pub array_viewed : (r : ValueRef) (a : ArrayRef) → r ≡ at.FieldArray a → IsValueView r → length (array_body a) < 2 ^ 32
+array_viewed r a e x = by (subst IsValueView e x)
+  where
+    by : IsValueView (at.FieldArray a) → length (array_body a) < 2 ^ 32
+    by (s, rest, v, (c, k, few, same), den) = few
+
+pub table_viewed : (r : ValueRef) (t : TableRef) → r ≡ at.FieldTable t → IsValueView r → length (table_body t) < 2 ^ 32
+table_viewed r t e x = by (subst IsValueView e x)
+  where
+    by : IsValueView (at.FieldTable t) → length (table_body t) < 2 ^ 32
+    by (s, rest, v, (c, k, few, same), den) = few
+
+-- a container, by what is in its body
+pub array_holds : (s body rest : List ℕ) (n l : ℕ) → IsFramed amqp.FieldArray s body rest → HoldsValues body n l → HoldsFirst s rest (1 + n) (1 + l)
+array_holds s body rest n l (c, k, few, e) h =
+    prefix_as s rest (suc (body_written body h.trees h.are)) (1 + n) (suc (body_nesting body h.trees h.are)) (1 + l) (omega (arith, h.values)) (omega (arith, h.levels))
+    (typed_holds c amqp.FieldArray (long_field body) (array h.trees) k (raw_array body h.trees few h.are) s rest e)
+
+pub table_holds : (s body rest : List ℕ) (n l : ℕ) → IsFramed amqp.FieldTable s body rest → HoldsPairs body n l → HoldsFirst s rest (1 + n) (1 + l)
+table_holds s body rest n l (c, k, few, e) h =
+    prefix_as s rest (suc (pairs_written body h.pairs h.are)) (1 + n) (suc (pairs_nesting body h.pairs h.are)) (1 + l) (omega (arith, h.values)) (omega (arith, h.levels))
+    (typed_holds c amqp.FieldTable (long_field body) (table (insert_all no_entries h.pairs)) k (raw_table body h.pairs few h.are) s rest e)
+
+-- it has at least as many bytes as values are written in it
+pub bytes_at_start : (s rest : List ℕ) (n l : ℕ) → HoldsFirst s rest n l → n + length rest ≤ length s
+bytes_at_start s rest n l h = omega (arith, h.values, written-le h.encoding h.meaning h.is_wire, ap length h.prefix, length-append h.encoding rest)
+
+-- how many bytes are in a container
+abbrev pub body_len : ValueRef → ℕ
+body_len (at.FieldArray a) = length (array_body a)
+body_len (at.FieldTable t) = length (table_body t)
+body_len _ = 0
+
+-- at most as many as its encoding has, and if it has any fewer
+body_in : (r : ValueRef) (s rest : List ℕ) → IsViewIn s r rest → body_len r ≤ length s
+body_in (at.FieldArray a) s rest (c, k, few, e) = omega (arith, ap length e, length-append (array_body a) rest)
+body_in (at.FieldTable t) s rest (c, k, few, e) = omega (arith, ap length e, length-append (table_body t) rest)
+body_in _ s rest x = omega arith
+
+pub body_shorter : (r : ValueRef) (s rest : List ℕ) → IsViewIn s r rest → length rest < length s → body_len r < length s
+body_shorter (at.FieldArray a) s rest (c, k, few, e) less = omega (arith, ap length e, length-append (array_body a) rest)
+body_shorter (at.FieldTable t) s rest (c, k, few, e) less = omega (arith, ap length e, length-append (table_body t) rest)
+body_shorter _ s rest x less = omega (arith, less)
+
+pub pair_shorter : (s : List ℕ) (x : Bor (List ℕ) × ValueRef × SliceInput) → IsPairViewIn s x.0.now x.1 (slice_bytes x.2) → length (slice_bytes x.2) < length s → body_len x.1 < length s
+pair_shorter s (key, r, i) (after, e, inside) less = by (body_len r) (body_in r after (slice_bytes i) inside)
+  where
+    by : (n : ℕ) → n ≤ length after → n < length s
+    by n most = omega (arith, most, ap length e, length-append key.now after)
 
 -- ---- bodies
 
-values_as : (d : ℕ) (s : List ℕ) (n m l k : ℕ) → n ≡ m → l ≡ k → HoldsValues d s n l → HoldsValues d s m k
-values_as d s n m l k e f h =
-    record { trees = h.trees; are = h.are; values = sym e ∙ h.values; levels = sym f ∙ h.levels; within = omega (arith, f, h.within) }
+values_as : (s : List ℕ) (n m l k : ℕ) → n ≡ m → l ≡ k → HoldsValues s n l → HoldsValues s m k
+values_as s n m l k e f h = rw (sym e, sym f) h
 
-pairs_as : (d : ℕ) (s : List ℕ) (n m l k : ℕ) → n ≡ m → l ≡ k → HoldsPairs d s n l → HoldsPairs d s m k
-pairs_as d s n m l k e f h =
-    record { pairs = h.pairs; are = h.are; values = sym e ∙ h.values; levels = sym f ∙ h.levels; within = omega (arith, f, h.within) }
+pairs_as : (s : List ℕ) (n m l k : ℕ) → n ≡ m → l ≡ k → HoldsPairs s n l → HoldsPairs s m k
+pairs_as s n m l k e f h = rw (sym e, sym f) h
 
 -- a value before others
-value_more : (d : ℕ) (s rest : List ℕ) (n m l k : ℕ) → HoldsFront d s rest n l → HoldsValues d rest m k → HoldsValues d s (n + m) (max l k)
-value_more d s rest n m l k f h =
-    subst (λ (t : List ℕ). HoldsValues d t (n + m) (max l k)) (sym f.front)
+value_more : (s rest : List ℕ) (n m l k : ℕ) → HoldsFirst s rest n l → HoldsValues rest m k → HoldsValues s (n + m) (max l k)
+value_more s rest n m l k f h =
+    subst (λ (t : List ℕ). HoldsValues t (n + m) (max l k)) (sym f.prefix)
     (record {
       trees = tree f.meaning h.trees;
       are = value f.encoding rest f.meaning h.trees f.is_wire h.are;
       values = ap₂ (λ (i j : ℕ). i + j) f.values h.values;
       levels = ap₂ max f.levels h.levels;
-      within = omega (arith, f.within, h.within);
     })
 
 -- a pair before others
-pair_more : (d : ℕ) (s key behind rest : List ℕ) (n m l k : ℕ) → IsKeyFrame s key behind → IsUtf8 key → HoldsFront d behind rest n l → HoldsPairs d rest m k
-    → HoldsPairs d s (n + m) (max l k)
-pair_more d s key behind rest n m l k g utf8 f h =
-    let is : IsShort key = record { few = g.few; utf8 = utf8 } in
-    subst (λ (t : List ℕ). HoldsPairs d t (n + m) (max l k)) (sym (g.framed ∙ ap (λ (t : List ℕ). short_field key ++ t) f.front))
+pair_more : (s key after rest : List ℕ) (n m l k : ℕ) → IsShort key → s ≡ short_field key ++ after → HoldsFirst after rest n l → HoldsPairs rest m k → HoldsPairs s (n + m) (max l k)
+pair_more s key after rest n m l k is e f h =
+    subst (λ (t : List ℕ). HoldsPairs t (n + m) (max l k)) (sym (e ∙ ap (λ (t : List ℕ). short_field key ++ t) f.prefix))
     (record {
       pairs = entry key f.meaning h.pairs;
       are = pair key f.encoding rest f.meaning h.pairs is f.is_wire h.are;
       values = ap₂ (λ (i j : ℕ). i + j) f.values h.values;
       levels = ap₂ max f.levels h.levels;
-      within = omega (arith, f.within, h.within);
     })
 
--- n values are written before `rest`, and l levels nest in them: with what is in `rest` that is
+-- values are left, and before them n are written and l levels nest: with what is in `rest` that is
 -- what is in the body s
-pub record ValuesSoFar (d : ℕ) (s : List ℕ) (n l : ℕ) (rest : List ℕ) : Type 0 where
-  pub all : (m k : ℕ) → HoldsValues d rest m k → HoldsValues d s (n + m) (max l k)
+pub record ValuesSoFar (s : List ℕ) (n l : ℕ) (rest : List ℕ) : Type 0 where
+  pub left : HasValues rest
+  pub all : (m k : ℕ) → HoldsValues rest m k → HoldsValues s (n + m) (max l k)
   pub few : n + length rest ≤ length s
 
-pub values_start : (d : ℕ) (s : List ℕ) → ValuesSoFar d s 0 0 s
-values_start d s = record { all = λ m k h. values_as d s m (0 + m) k (max 0 k) (omega arith) (omega arith) h; few = omega arith }
+pub values_start : (s : List ℕ) → HasValues s → ValuesSoFar s 0 0 s
+values_start s are = record { left = are; all = λ m k h. values_as s m (0 + m) k (max 0 k) (omega arith) (omega arith) h; few = omega arith }
 
-pub values_step : (d : ℕ) (s : List ℕ) (n l : ℕ) (left : List ℕ) (m k : ℕ) (rest : List ℕ) → ValuesSoFar d s n l left → HoldsFront d left rest m k
-    → ValuesSoFar d s (n + m) (max l k) rest
-values_step d s n l left m k rest g f =
+-- the next value is one, and values are after it
+pub value_next : (vs : Trees) (x : ValueRef × SliceInput) → NextValueIs vs (Some x) → ((v : Tree) × Denotes x.0 v) × HasValues (slice_bytes x.1)
+value_next no_trees x is = absurd is
+value_next (tree v vs) x is = ((v, is.0), (vs, is.1))
+
+pub values_step : (s : List ℕ) (n l : ℕ) (left : List ℕ) (m k : ℕ) (rest : List ℕ) → ValuesSoFar s n l left → HasValues rest → HoldsFirst left rest m k → ValuesSoFar s (n + m) (max l k) rest
+values_step s n l left m k rest g are f =
     record {
+      left = are;
       all = λ j i h.
-          values_as d s (n + (m + j)) (n + m + j) (max l (max k i)) (max (max l k) i) (omega arith) (omega arith)
-          (g.all (m + j) (max k i) (value_more d left rest m j k i f h));
-      few = omega (arith, g.few, front_bytes d left rest m k f);
+          values_as s (n + (m + j)) (n + m + j) (max l (max k i)) (max (max l k) i) (omega arith) (omega arith)
+          (g.all (m + j) (max k i) (value_more left rest m j k i f h));
+      few = omega (arith, g.few, bytes_at_start left rest m k f);
     }
 
-pub values_end : (d : ℕ) (s : List ℕ) (n l : ℕ) (rest : List ℕ) → ValuesSoFar d s n l rest → length rest ≡ 0 → HoldsValues d s n l
-values_end d s n l rest g none =
-    values_as d s (n + 0) n (max l 0) l (omega arith) (omega arith)
-    (g.all 0 0
-    (subst (λ (t : List ℕ). HoldsValues d t 0 0) (sym (nil_from_length rest none))
-    (record { trees = no_trees; are = no_values; values = refl; levels = refl; within = omega arith })))
+pub values_end : (s : List ℕ) (n l : ℕ) (rest : List ℕ) (vs : Trees) → ValuesSoFar s n l rest → ArrayBody rest vs → NextValueIs vs None → HoldsValues s n l
+values_end s n l _ _ g no_values is =
+    values_as s (n + 0) n (max l 0) l (omega arith) (omega arith) (g.all 0 0 (record { trees = no_trees; are = no_values; values = refl; levels = refl }))
+values_end s n l _ _ g (value w rest v vs first others) is = absurd is
 
 -- and so of pairs
-pub record PairsSoFar (d : ℕ) (s : List ℕ) (n l : ℕ) (rest : List ℕ) : Type 0 where
-  pub all : (m k : ℕ) → HoldsPairs d rest m k → HoldsPairs d s (n + m) (max l k)
+pub record PairsSoFar (s : List ℕ) (n l : ℕ) (rest : List ℕ) : Type 0 where
+  pub left : HasPairs rest
+  pub all : (m k : ℕ) → HoldsPairs rest m k → HoldsPairs s (n + m) (max l k)
   pub few : n + length rest ≤ length s
 
-pub pairs_start : (d : ℕ) (s : List ℕ) → PairsSoFar d s 0 0 s
-pairs_start d s = record { all = λ m k h. pairs_as d s m (0 + m) k (max 0 k) (omega arith) (omega arith) h; few = omega arith }
+pub pairs_start : (s : List ℕ) → HasPairs s → PairsSoFar s 0 0 s
+pairs_start s are = record { left = are; all = λ m k h. pairs_as s m (0 + m) k (max 0 k) (omega arith) (omega arith) h; few = omega arith }
 
-pub pairs_step : (d : ℕ) (s : List ℕ) (n l : ℕ) (left key behind : List ℕ) (m k : ℕ) (rest : List ℕ) → PairsSoFar d s n l left → IsKeyFrame left key behind → IsUtf8 key
-    → HoldsFront d behind rest m k → PairsSoFar d s (n + m) (max l k) rest
-pairs_step d s n l left key behind m k rest g is utf8 f =
+-- the next pair has a key and a value, and pairs are after it
+pub record NextPair (x : Bor (List ℕ) × ValueRef × SliceInput) : Type 0 where
+  pub short_key : IsShort x.0.now
+  pub meant : (v : Tree) × Denotes x.1 v
+  pub left : HasPairs (slice_bytes x.2)
+
+pub pair_next : (s : List ℕ) (ps : Entries) (x : Bor (List ℕ) × ValueRef × SliceInput) → TableBody s ps → NextPairIs ps (Some x) → NextPair x
+pair_next _ _ x no_pairs is = absurd is
+pair_next _ _ x (pair k w rest v ps key first others) is = record { short_key = subst IsShort (sym is.0) key; meant = (v, is.1); left = (ps, is.2) }
+
+pub pairs_step : (s : List ℕ) (n l : ℕ) (left : List ℕ) (m k : ℕ) (x : Bor (List ℕ) × ValueRef × SliceInput) → PairsSoFar s n l left → NextPair x
+    → (inside : IsPairViewIn left x.0.now x.1 (slice_bytes x.2)) → HoldsFirst inside.0 (slice_bytes x.2) m k → PairsSoFar s (n + m) (max l k) (slice_bytes x.2)
+pairs_step s n l left m k x g next inside f =
+    let key = x.0.now in
+    let rest = slice_bytes x.2 in
     record {
+      left = next.left;
       all = λ j i h.
-          pairs_as d s (n + (m + j)) (n + m + j) (max l (max k i)) (max (max l k) i) (omega arith) (omega arith)
-          (g.all (m + j) (max k i) (pair_more d left key behind rest m j k i is utf8 f h));
-      few = omega (arith, g.few, ap length is.framed, length-append key behind, front_bytes d behind rest m k f);
+          pairs_as s (n + (m + j)) (n + m + j) (max l (max k i)) (max (max l k) i) (omega arith) (omega arith)
+          (g.all (m + j) (max k i) (pair_more left key inside.0 rest m j k i next.short_key inside.1 f h));
+      few = omega (arith, g.few, ap length inside.1, length-append key inside.0, bytes_at_start inside.0 rest m k f);
     }
 
-pub pairs_end : (d : ℕ) (s : List ℕ) (n l : ℕ) (rest : List ℕ) → PairsSoFar d s n l rest → length rest ≡ 0 → HoldsPairs d s n l
-pairs_end d s n l rest g none =
-    pairs_as d s (n + 0) n (max l 0) l (omega arith) (omega arith)
-    (g.all 0 0
-    (subst (λ (t : List ℕ). HoldsPairs d t 0 0) (sym (nil_from_length rest none))
-    (record { pairs = no_entries; are = no_pairs; values = refl; levels = refl; within = omega arith })))
+pub pairs_end : (s : List ℕ) (n l : ℕ) (rest : List ℕ) (ps : Entries) → PairsSoFar s n l rest → TableBody rest ps → NextPairIs ps None → HoldsPairs s n l
+pairs_end s n l _ _ g no_pairs is =
+    pairs_as s (n + 0) n (max l 0) l (omega arith) (omega arith) (g.all 0 0 (record { pairs = no_entries; are = no_pairs; values = refl; levels = refl }))
+pairs_end s n l _ _ g (pair k w rest v ps key first others) is = absurd is
 
 -- in a body few values are written, and few levels nest
-pub values_small : (d : ℕ) (s : List ℕ) (n l : ℕ) → HoldsValues d s n l → length s < 2 ^ 32 → (n < 2 ^ 32) × (l < 2 ^ 32)
-values_small d s n l h few =
-    (omega (arith, h.values, few, body_written-le s h.trees h.are), omega (arith, h.levels, few, body_nesting-le s h.trees h.are))
+pub values_small : (s : List ℕ) (n l : ℕ) → HoldsValues s n l → length s < 2 ^ 32 → (n < 2 ^ 32) × (l < 2 ^ 32)
+values_small s n l h few = (omega (arith, h.values, few, body_written-le s h.trees h.are), omega (arith, h.levels, few, body_nesting-le s h.trees h.are))
 
-pub pairs_small : (d : ℕ) (s : List ℕ) (n l : ℕ) → HoldsPairs d s n l → length s < 2 ^ 32 → (n < 2 ^ 32) × (l < 2 ^ 32)
-pairs_small d s n l h few =
-    (omega (arith, h.values, few, pairs_written-le s h.pairs h.are), omega (arith, h.levels, few, pairs_nesting-le s h.pairs h.are))
-
-pub array_fits : (s : List ℕ) (i : SliceInput) (rest : List ℕ) → IsHead s (head.FieldArray i) rest → length (slice_bytes i) < 2 ^ 32
-array_fits s i rest (type, mid, p, q) = q.1.fits
-
-pub table_fits : (s : List ℕ) (i : SliceInput) (rest : List ℕ) → IsHead s (head.FieldTable i) rest → length (slice_bytes i) < 2 ^ 32
-table_fits s i rest (type, mid, p, q) = q.1.fits
+pub pairs_small : (s : List ℕ) (n l : ℕ) → HoldsPairs s n l → length s < 2 ^ 32 → (n < 2 ^ 32) × (l < 2 ^ 32)
+pairs_small s n l h few = (omega (arith, h.values, few, pairs_written-le s h.pairs h.are), omega (arith, h.levels, few, pairs_nesting-le s h.pairs h.are))
 
 -- ---- the encoding at the start
 
-drop_front : (w rest : List ℕ) → drop (length w) (w ++ rest) ≡ rest
-drop_front [] rest = refl
-drop_front (c ∷ w) rest = drop_front w rest
+drop_prefix : (w rest : List ℕ) → drop (length w) (w ++ rest) ≡ rest
+drop_prefix [] rest = refl
+drop_prefix (c ∷ w) rest = drop_prefix w rest
 
 -- the rest is what is left after the bytes of the encoding
 pub rest_dropped : (s w rest : List ℕ) → s ≡ w ++ rest → drop (length s - length rest) s ≡ rest
 rest_dropped s w rest e =
     let size : length s - length rest ≡ length w = omega (arith, ap length e, length-append w rest) in
-    ap₂ (λ (n : ℕ) (t : List ℕ). drop n t) size e ∙ drop_front w rest
+    ap₂ (λ (n : ℕ) (t : List ℕ). drop n t) size e ∙ drop_prefix w rest
 
-module _ (d : ℕ) (s rest : List ℕ) (n l : ℕ) (h : HoldsFront d s rest n l) where
+module _ (s rest : List ℕ) (n l : ℕ) (h : HoldsFirst s rest n l) where
   -- whichever encoding is at the start, it is this one
   this_one : (w left : List ℕ) (v : Tree) (p : Wire w v) → s ≡ w ++ left → (h.encoding ≡ w) × (rest ≡ left)
-  this_one w left v p e = let same = one_reading h.encoding w rest left h.meaning v h.is_wire p (sym h.front ∙ e) in (same.0, same.2)
+  this_one w left v p e = let same = one_reading h.encoding w rest left h.meaning v h.is_wire p (sym h.prefix ∙ e) in (same.0, same.2)
 
   pub measured_bytes : OfEncoding s (λ w v p. length s ≡ length w + length rest)
   measured_bytes w left v p e = omega (arith, ap length e, length-append w left, ap length (this_one w left v p e).1)

@@ -8,7 +8,7 @@ use Rattle.amq_protocol_types.specs.declared.parsing.errors.Needed.TheVariants.{
 use Rattle.amq_protocol_types.specs.declared.parsing.errors.ErrorKind.{ErrorKind}
 use Rattle.amq_protocol_types.specs.declared.parsing.errors.ErrorKind.TheVariants.{MapOpt, MapRes, Eof, OutOfMemory, TooLarge}
 use Rattle.amq_protocol_types.specs.parsing.Refusals.{Refusal}
-use Rattle.amq_protocol_types.specs.parsing.ParseResults.{Refuses}
+use Rattle.amq_protocol_types.specs.parsing.ParseResults.{IsRefusal}
 use Rattle.amq_protocol_types.specs.parsing.Bodies.{IsNoBody, IsTable, IsNoTable}
 use Rattle.amqp_in_place.specs.Bodies.{HasValues, HasPairs, HasEntries}
 
@@ -16,7 +16,7 @@ no_prop : IsProp ⊥
 no_prop x y = absurd x
 
 -- if bytes are values, the only error is out of memory
-pub values_there : (d : ℕ) (s : List ℕ) (e : Refusal) → length s ≤ d → ∥ HasValues s ∥₁ → Refuses (IsNoBody d s) (0 < length s) e → ((k : ErrorKind) → e ≡ Failure k → ⊥) → ⊥
+pub values_there : (d : ℕ) (s : List ℕ) (e : Refusal) → length s ≤ d → ∥ HasValues s ∥₁ → IsRefusal (IsNoBody d s) (0 < length s) e → ((k : ErrorKind) → e ≡ Failure k → ⊥) → ⊥
 values_there d s (Incomplete Unknown) deep has x other = absurd x
 values_there d s (Incomplete (Size n)) deep has x other = absurd x
 values_there d s (Error MapOpt) deep has x other = absurd x
@@ -28,7 +28,7 @@ values_there d s (Error TooLarge) deep has x other = absurd x
 values_there d s (Failure k) deep has x other = other k refl
 
 -- and if they are pairs
-pub pairs_there : (d : ℕ) (s : List ℕ) (e : Refusal) → length s ≤ d → ∥ HasPairs s ∥₁ → Refuses (IsNoTable d s) (0 < length s) e → ((k : ErrorKind) → e ≡ Failure k → ⊥) → ⊥
+pub pairs_there : (d : ℕ) (s : List ℕ) (e : Refusal) → length s ≤ d → ∥ HasPairs s ∥₁ → IsRefusal (IsNoTable d s) (0 < length s) e → ((k : ErrorKind) → e ≡ Failure k → ⊥) → ⊥
 pairs_there d s (Incomplete Unknown) deep has x other = absurd x
 pairs_there d s (Incomplete (Size n)) deep has x other = absurd x
 pairs_there d s (Error MapOpt) deep has x other = absurd x

@@ -19,7 +19,7 @@ use Rattle.amqp_in_place.specs.declared.path.EqualKeys.TheVariants as equal
 use Rattle.amqp_in_place.specs.Bodies.{HasEntries}
 use Rattle.amqp_in_place.specs.Refs.{array_body, table_body, Denotes}
 use Rattle.amqp_in_place.specs.Walks.{FoundBy, FoundIs}
-use Rattle.amqp_in_place.specs.Places.{IsFramed, LiesIn, LiesWithin}
+use Rattle.amqp_in_place.specs.Places.{IsFramed, IsViewIn, IsViewWithin}
 use Rattle.amqp_in_place.specs.Paths.{pair_at, at_step, at_path, StepsTo, LeadsTo, content}
 
 -- ---- one step
@@ -36,13 +36,13 @@ last_found of k b result is found v (es, p, e) =
 -- ---- the path
 
 -- the rest of the path leads from here to what the path leads to from r
-abbrev pub Follows : (ValueRef → Tree → Type 0) → EqualKeys → List PathStep → List PathStep → ValueRef → ValueRef → Type 0
-Follows Is of path left r here = (t : Tree) → Is r t → (u : Tree) × Is here u × (at_path of path t ≡ at_path of left u)
+abbrev pub PathLeadsTo : (ValueRef → Tree → Type 0) → EqualKeys → List PathStep → List PathStep → ValueRef → ValueRef → Type 0
+PathLeadsTo Is of path left r here = (t : Tree) → Is r t → (u : Tree) × Is here u × (at_path of path t ≡ at_path of left u)
 
 module _ (Is : ValueRef → Tree → Type 0) (of : EqualKeys) (path : List PathStep) (r : ValueRef) where
   -- a step that finds something
-  follows-step : (s : PathStep) (left : List PathStep) (here next : ValueRef) → Follows Is of path (s ∷ left) r here
-      → ((u : Tree) → Is here u → FoundBy Is (at_step of s u) (Some next)) → Follows Is of path left r next
+  follows-step : (s : PathStep) (left : List PathStep) (here next : ValueRef) → PathLeadsTo Is of path (s ∷ left) r here
+      → ((u : Tree) → Is here u → FoundBy Is (at_step of s u) (Some next)) → PathLeadsTo Is of path left r next
   follows-step s left here next before found = λ t is.
       let x = before t is in
       by (at_step of s x.0) (found x.0 x.1) x.2
@@ -51,19 +51,19 @@ module _ (Is : ValueRef → Tree → Type 0) (of : EqualKeys) (path : List PathS
       by None y e = absurd y
       by (Some u) y e = (u, y, e)
 
-  pub follows-next : (i j : ℕ) (d : PathStep) (here next : ValueRef) → i < length path → j ≡ suc i → Follows Is of path (drop i path) r here
-      → ((u : Tree) → Is here u → FoundBy Is (at_step of (get_or path i d) u) (Some next)) → Follows Is of path (drop j path) r next
+  pub follows-next : (i j : ℕ) (d : PathStep) (here next : ValueRef) → i < length path → j ≡ suc i → PathLeadsTo Is of path (drop i path) r here
+      → ((u : Tree) → Is here u → FoundBy Is (at_step of (get_or path i d) u) (Some next)) → PathLeadsTo Is of path (drop j path) r next
   follows-next i j d here next few after before found =
       let s = get_or path i d in
-      let first = subst (λ (left : List PathStep). Follows Is of path left r here) (drop-cons path i d few) before in
-      subst (λ (n : ℕ). Follows Is of path (drop n path) r next) (sym after) (follows-step s (drop (suc i) path) here next first found)
+      let first = subst (λ (left : List PathStep). PathLeadsTo Is of path left r here) (drop-cons path i d few) before in
+      subst (λ (n : ℕ). PathLeadsTo Is of path (drop n path) r next) (sym after) (follows-step s (drop (suc i) path) here next first found)
 
 -- the rest of the path leads from here to the views to which the path leads from r
-abbrev pub Leads : EqualKeys → List PathStep → List PathStep → ValueRef → ValueRef → Type 0
-Leads of path left r here = (end : ValueRef) → LeadsTo of left here end → LeadsTo of path r end
+abbrev pub PathLeadsToView : EqualKeys → List PathStep → List PathStep → ValueRef → ValueRef → Type 0
+PathLeadsToView of path left r here = (end : ValueRef) → LeadsTo of left here end → LeadsTo of path r end
 
-pub leads-next : (of : EqualKeys) (path : List PathStep) (r : ValueRef) (i j : ℕ) (d : PathStep) (here next : ValueRef) → i < length path → j ≡ suc i → Leads of path (drop i path) r here
-    → StepsTo of (get_or path i d) here next → Leads of path (drop j path) r next
+pub leads-next : (of : EqualKeys) (path : List PathStep) (r : ValueRef) (i j : ℕ) (d : PathStep) (here next : ValueRef) → i < length path → j ≡ suc i → PathLeadsToView of path (drop i path) r here
+    → StepsTo of (get_or path i d) here next → PathLeadsToView of path (drop j path) r next
 leads-next of path r i j d here next few after before steps = λ end x.
     let there = subst (λ (n : ℕ). LeadsTo of (drop n path) next end) after x in
     before end (subst (λ (left : List PathStep). LeadsTo of left here end) (sym (drop-cons path i d few)) (next, steps, there))
@@ -71,45 +71,45 @@ leads-next of path r i j d here next few after before steps = λ end x.
 -- ---- the bytes that it is in
 
 -- what is in a part of some bytes is in them
-lies_before_more : (s more rest : List ℕ) (r : ValueRef) → LiesIn s r rest → LiesIn (s ++ more) r (rest ++ more)
-lies_before_more s more rest r x = by r x
+is_in_before_more : (s more rest : List ℕ) (r : ValueRef) → IsViewIn s r rest → IsViewIn (s ++ more) r (rest ++ more)
+is_in_before_more s more rest r x = by r x
   where
     framed : (type : AMQPType) (body : List ℕ) → IsFramed type s body rest → IsFramed type (s ++ more) body (rest ++ more)
     framed type body f = (f.0, f.1, f.2, ap (λ (t : List ℕ). t ++ more) f.3 ∙ ap (λ (t : List ℕ). f.0 ∷ t) (append_assoc (long_field body) rest more))
 
-    by : (r : ValueRef) → LiesIn s r rest → LiesIn (s ++ more) r (rest ++ more)
+    by : (r : ValueRef) → IsViewIn s r rest → IsViewIn (s ++ more) r (rest ++ more)
     by (at.LongString b) y = framed amqp.LongString b.now y
     by (at.ByteArray b) y = framed amqp.ByteArray b.now y
     by (at.FieldArray a) y = framed amqp.FieldArray (array_body a) y
     by (at.FieldTable t) y = framed amqp.FieldTable (table_body t) y
     by _ y = (y.0, y.1, ap (λ (t : List ℕ). t ++ more) y.2 ∙ append_assoc y.0 rest more)
 
-within_part : (before part after : List ℕ) (r : ValueRef) → LiesWithin part r → LiesWithin (before ++ (part ++ after)) r
-within_part before part after r (ahead, behind, rest, e, x) = (
+within_part : (before part after : List ℕ) (r : ValueRef) → IsViewWithin part r → IsViewWithin (before ++ (part ++ after)) r
+within_part before part after r (ahead, tail, rest, e, x) = (
   before ++ ahead,
-  behind ++ after,
+  tail ++ after,
   rest ++ after,
-  ap (λ (t : List ℕ). before ++ (t ++ after)) e ∙ (ap (λ (t : List ℕ). before ++ t) (append_assoc ahead behind after) ∙ sym (append_assoc before ahead (behind ++ after))),
-  lies_before_more behind after rest r x,
+  ap (λ (t : List ℕ). before ++ (t ++ after)) e ∙ (ap (λ (t : List ℕ). before ++ t) (append_assoc ahead tail after) ∙ sym (append_assoc before ahead (tail ++ after))),
+  is_in_before_more tail after rest r x,
 )
 
 -- what is in a container that is in some bytes is in them
-lies_deeper : (s : List ℕ) (r q : ValueRef) → LiesWithin s r → LiesWithin (content r) q → LiesWithin s q
-lies_deeper s r q x y = by r x y
+is_in_deeper : (s : List ℕ) (r q : ValueRef) → IsViewWithin s r → IsViewWithin (content r) q → IsViewWithin s q
+is_in_deeper s r q x y = by r x y
   where
-    inside : (type : AMQPType) (b before behind rest : List ℕ) → s ≡ before ++ behind → IsFramed type behind b rest → LiesWithin b q → LiesWithin s q
-    inside type b before behind rest e f z =
+    inside : (type : AMQPType) (b before after rest : List ℕ) → s ≡ before ++ after → IsFramed type after b rest → IsViewWithin b q → IsViewWithin s q
+    inside type b before after rest e f z =
         let prefix = f.0 ∷ to_be_bytes w32 (length b) in
         let parts : s ≡ (before ++ prefix) ++ (b ++ rest) =
         e ∙ (ap (λ (t : List ℕ). before ++ t) (f.3 ∙ ap (λ (t : List ℕ). f.0 ∷ t) (append_assoc (to_be_bytes w32 (length b)) b rest)) ∙ sym (append_assoc before prefix (b ++ rest))) in
-        subst (λ (t : List ℕ). LiesWithin t q) (sym parts) (within_part (before ++ prefix) b rest q z)
+        subst (λ (t : List ℕ). IsViewWithin t q) (sym parts) (within_part (before ++ prefix) b rest q z)
 
-    by : (r : ValueRef) → LiesWithin s r → LiesWithin (content r) q → LiesWithin s q
-    by (at.FieldArray a) (before, behind, rest, e, f) z = inside amqp.FieldArray (array_body a) before behind rest e f z
-    by (at.FieldTable t) (before, behind, rest, e, f) z = inside amqp.FieldTable (table_body t) before behind rest e f z
-    by _ x z = subst (λ (t : List ℕ). LiesWithin t q) (append-nil s) (within_part s [] [] q z)
+    by : (r : ValueRef) → IsViewWithin s r → IsViewWithin (content r) q → IsViewWithin s q
+    by (at.FieldArray a) (before, after, rest, e, f) z = inside amqp.FieldArray (array_body a) before after rest e f z
+    by (at.FieldTable t) (before, after, rest, e, f) z = inside amqp.FieldTable (table_body t) before after rest e f z
+    by _ x z = subst (λ (t : List ℕ). IsViewWithin t q) (append-nil s) (within_part s [] [] q z)
 
 -- so is what a path leads to, of which i steps were taken
-pub lies_step : (i : ℕ) (r here next : ValueRef) → (i ≡ 0 → here ≡ r) → (0 < i → LiesWithin (content r) here) → LiesWithin (content here) next → LiesWithin (content r) next
-lies_step zero r here next start within x = subst (λ (q : ValueRef). LiesWithin (content q) next) (start refl) x
-lies_step (suc i) r here next start within x = lies_deeper (content r) here next (within (omega arith)) x
+pub is_in_step : (i : ℕ) (r here next : ValueRef) → (i ≡ 0 → here ≡ r) → (0 < i → IsViewWithin (content r) here) → IsViewWithin (content here) next → IsViewWithin (content r) next
+is_in_step zero r here next start within x = subst (λ (q : ValueRef). IsViewWithin (content q) next) (start refl) x
+is_in_step (suc i) r here next start within x = is_in_deeper (content r) here next (within (omega arith)) x

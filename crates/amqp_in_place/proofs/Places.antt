@@ -6,8 +6,8 @@ use Rattle.amqp_value_core.specs.Ids.{kind}
 use Rattle.amqp_value_core.specs.Values.{Tree, long, octets}
 use Rattle.amqp_value_core.specs.Grammar.{short_field, long_field, Raw, raw_fixed, raw_short, raw_long, raw_octets, raw_array, raw_table}
 use Rattle.amqp_value_core.specs.Outcomes.{found, lack, NeedsMoreOr}
-use Rattle.amqp_value_core.specs.Payloads.{RawFront, RawOutcome}
-use Rattle.amqp_value_core.proofs.GrammarLaws.{front_within}
+use Rattle.amqp_value_core.specs.Payloads.{RawPrefix, RawOutcome}
+use Rattle.amqp_value_core.proofs.GrammarLaws.{prefix_within}
 use Rattle.amqp_value_core.specs.Inputs.{slice_bytes}
 use Rattle.amqp_value_core.specs.declared.input.SliceInput.{SliceInput}
 use Rattle.amqp_in_place.specs.declared.head.Head.{Head}
@@ -17,7 +17,7 @@ use Rattle.amqp_in_place.specs.declared.refs.ValueRef.TheVariants as at
 use Rattle.amqp_in_place.specs.Refs.{plain_tree, array_body, table_body}
 use Rattle.amqp_in_place.specs.InPlaceResults.{IsLeft}
 use Rattle.amqp_in_place.specs.Heads.{IsHead, RefersTo}
-use Rattle.amqp_in_place.specs.Places.{IsFramed, LiesIn, LiesWithin, PairLiesIn}
+use Rattle.amqp_in_place.specs.Places.{IsFramed, IsViewIn, IsViewWithin, IsPairViewIn}
 use Rattle.amq_protocol_types.specs.parsing.PayloadResults.{IsType}
 use Rattle.amqp_in_place.proofs.HeadLemmas.{plain_read}
 
@@ -43,10 +43,10 @@ octets_bytes _ _ _ b (raw_array s vs fits p) e = absurd cc
 octets_bytes _ _ _ b (raw_table s ps fits p) e = absurd cc
 
 -- what a payload is that is found
-pub payload_of : (type : AMQPType) (s rest : List ℕ) (v : Tree) → RawOutcome type s (found v rest) → (w : List ℕ) × Raw type w v × (s ≡ w ++ rest)
+payload_of : (type : AMQPType) (s rest : List ℕ) (v : Tree) → RawOutcome type s (found v rest) → (w : List ℕ) × Raw type w v × (s ≡ w ++ rest)
 payload_of type s rest v x = by (lack type s) x
   where
-    by : (n : ℕ) → NeedsMoreOr n (RawFront type s (found v rest)) (found v rest) → RawFront type s (found v rest)
+    by : (n : ℕ) → NeedsMoreOr n (RawPrefix type s (found v rest)) (found v rest) → RawPrefix type s (found v rest)
     by zero f = f
     by (suc n) f = absurd cc
 
@@ -54,39 +54,39 @@ framed : (type other : AMQPType) (s mid body rest w : List ℕ) → IsType s oth
 framed type other s mid body rest w (c, is, tag) e (one, same, few) =
     (c, subst (λ (t : AMQPType). kind c ≡ Some t) one tag, few, is ∙ ap (λ (t : List ℕ). c ∷ t) (e ∙ ap (λ (t : List ℕ). t ++ rest) same))
 
-pub plain_lies : (s : List ℕ) (r : ValueRef) (rest : List ℕ) → IsHead s (head.Plain r) rest → LiesIn s r rest
-plain_lies s (at.LongString b) rest (type, mid, p, q) =
+pub plain_is_in : (s : List ℕ) (r : ValueRef) (rest : List ℕ) → IsHead s (head.Plain r) rest → IsViewIn s r rest
+plain_is_in s (at.LongString b) rest (type, mid, p, q) =
     let x = payload_of type mid rest (long b.now) q.2 in
     framed amqp.LongString type s mid b.now rest x.0 p x.2 (long_bytes type x.0 (long b.now) b.now x.1 refl)
-plain_lies s (at.ByteArray b) rest (type, mid, p, q) =
+plain_is_in s (at.ByteArray b) rest (type, mid, p, q) =
     let x = payload_of type mid rest (octets b.now) q.2 in
     framed amqp.ByteArray type s mid b.now rest x.0 p x.2 (octets_bytes type x.0 (octets b.now) b.now x.1 refl)
-plain_lies s (at.FieldArray a) rest (type, mid, p, q) = absurd q.0
-plain_lies s (at.FieldTable t) rest (type, mid, p, q) = absurd q.0
-plain_lies s r rest is = let f = front_within 0 s rest (plain_tree r) (plain_read s r rest is 0) in (f.0, f.1.0, f.2)
+plain_is_in s (at.FieldArray a) rest (type, mid, p, q) = absurd q.0
+plain_is_in s (at.FieldTable t) rest (type, mid, p, q) = absurd q.0
+plain_is_in s r rest is = let f = prefix_within 0 s rest (plain_tree r) (plain_read s r rest is 0) in (f.0, f.1.0, f.2)
 
-pub array_lies : (s : List ℕ) (i : SliceInput) (rest : List ℕ) → IsHead s (head.FieldArray i) rest → IsFramed amqp.FieldArray s (slice_bytes i) rest
-array_lies s i rest (type, mid, p, q) = framed amqp.FieldArray type s mid (slice_bytes i) rest (long_field (slice_bytes i)) p q.1.framed (q.0, refl, q.1.fits)
+pub array_is_in : (s : List ℕ) (i : SliceInput) (rest : List ℕ) → IsHead s (head.FieldArray i) rest → IsFramed amqp.FieldArray s (slice_bytes i) rest
+array_is_in s i rest (type, mid, p, q) = framed amqp.FieldArray type s mid (slice_bytes i) rest (long_field (slice_bytes i)) p q.1.framed (q.0, refl, q.1.fits)
 
-pub table_lies : (s : List ℕ) (i : SliceInput) (rest : List ℕ) → IsHead s (head.FieldTable i) rest → IsFramed amqp.FieldTable s (slice_bytes i) rest
-table_lies s i rest (type, mid, p, q) = framed amqp.FieldTable type s mid (slice_bytes i) rest (long_field (slice_bytes i)) p q.1.framed (q.0, refl, q.1.fits)
+pub table_is_in : (s : List ℕ) (i : SliceInput) (rest : List ℕ) → IsHead s (head.FieldTable i) rest → IsFramed amqp.FieldTable s (slice_bytes i) rest
+table_is_in s i rest (type, mid, p, q) = framed amqp.FieldTable type s mid (slice_bytes i) rest (long_field (slice_bytes i)) p q.1.framed (q.0, refl, q.1.fits)
 
 -- so what refers to what is in the head does
-pub lies : (s : List ℕ) (h : Head) (r : ValueRef) (rest : List ℕ) → IsHead s h rest → RefersTo h r → LiesIn s r rest
-lies s (head.Plain q) r rest is e = subst (λ (x : ValueRef). LiesIn s x rest) (sym e) (plain_lies s q rest is)
-lies s (head.FieldArray i) (at.FieldArray a) rest is e = subst (λ (t : List ℕ). IsFramed amqp.FieldArray s t rest) (sym e) (array_lies s i rest is)
-lies s (head.FieldArray i) _ rest is e = absurd e
-lies s (head.FieldTable i) (at.FieldTable t) rest is e = subst (λ (u : List ℕ). IsFramed amqp.FieldTable s u rest) (sym e) (table_lies s i rest is)
-lies s (head.FieldTable i) _ rest is e = absurd e
+pub inside : (s : List ℕ) (h : Head) (r : ValueRef) (rest : List ℕ) → IsHead s h rest → RefersTo h r → IsViewIn s r rest
+inside s (head.Plain q) r rest is e = subst (λ (x : ValueRef). IsViewIn s x rest) (sym e) (plain_is_in s q rest is)
+inside s (head.FieldArray i) (at.FieldArray a) rest is e = subst (λ (t : List ℕ). IsFramed amqp.FieldArray s t rest) (sym e) (array_is_in s i rest is)
+inside s (head.FieldArray i) _ rest is e = absurd e
+inside s (head.FieldTable i) (at.FieldTable t) rest is e = subst (λ (u : List ℕ). IsFramed amqp.FieldTable s u rest) (sym e) (table_is_in s i rest is)
+inside s (head.FieldTable i) _ rest is e = absurd e
 
 -- what is inside the bytes leaves the rest of them
-lies_before : (s : List ℕ) (r : ValueRef) (rest : List ℕ) → LiesIn s r rest → IsLeft s rest
-lies_before s r rest x = by r x
+is_in_before : (s : List ℕ) (r : ValueRef) (rest : List ℕ) → IsViewIn s r rest → IsLeft s rest
+is_in_before s r rest x = by r x
   where
     after : (type : AMQPType) (body : List ℕ) → IsFramed type s body rest → IsLeft s rest
     after type body f = (f.0 ∷ long_field body, f.3)
 
-    by : (r : ValueRef) → LiesIn s r rest → IsLeft s rest
+    by : (r : ValueRef) → IsViewIn s r rest → IsLeft s rest
     by (at.LongString b) y = after amqp.LongString b.now y
     by (at.ByteArray b) y = after amqp.ByteArray b.now y
     by (at.FieldArray a) y = after amqp.FieldArray (array_body a) y
@@ -101,17 +101,17 @@ pub nothing_before : (s : List ℕ) → IsLeft s s
 nothing_before s = ([], refl)
 
 -- one step of an iteration over s, of which `rest` is left
-module _ (s rest behind : List ℕ) (r : ValueRef) (left : IsLeft s rest) where
-  pub value_left : LiesIn rest r behind → IsLeft s behind
-  value_left x = left_of_left s rest behind left (lies_before rest r behind x)
+module _ (s rest after : List ℕ) (r : ValueRef) (left : IsLeft s rest) where
+  pub value_left : IsViewIn rest r after → IsLeft s after
+  value_left x = left_of_left s rest after left (is_in_before rest r after x)
 
-  pub value_within : LiesIn rest r behind → LiesWithin s r
-  value_within x = (left.0, rest, behind, left.1, x)
+  pub value_within : IsViewIn rest r after → IsViewWithin s r
+  value_within x = (left.0, rest, after, left.1, x)
 
-  pub pair_left : (key : List ℕ) → PairLiesIn rest key r behind → IsLeft s behind
-  pair_left key x = left_of_left s rest behind left (left_of_left rest x.0 behind (short_field key, x.1) (lies_before x.0 r behind x.2))
+  pub pair_left : (key : List ℕ) → IsPairViewIn rest key r after → IsLeft s after
+  pair_left key x = left_of_left s rest after left (left_of_left rest x.0 after (short_field key, x.1) (is_in_before x.0 r after x.2))
 
-  pub pair_within : (key : List ℕ) → PairLiesIn rest key r behind → LiesWithin s r
+  pub pair_within : (key : List ℕ) → IsPairViewIn rest key r after → IsViewWithin s r
   pair_within key x =
       let before = left_of_left s rest x.0 left (short_field key, x.1) in
-      (before.0, x.0, behind, before.1, x.2)
+      (before.0, x.0, after, before.1, x.2)

@@ -34,15 +34,15 @@ use Rattle.amqp_in_place.proofs.FirstProblems.{counted_there, entry_passed, entr
 
 -- the outcome that a problem of this offset and kind explains; none is at 1, between a type tag and
 -- the entries
-abbrev Explains : Reading → ℕ → ProblemKind → Type 0
-Explains o zero Cut = (n : ℕ) × (o ≡ more n)
-Explains o zero (UnknownTag c) = o ≡ unknown
-Explains o zero TooLarge = ⊥
-Explains o zero _ = o ≡ malformed
-Explains o (suc n) _ = (0 < n) × (o ≡ malformed)
+abbrev ExplainsReading : Reading → ℕ → ProblemKind → Type 0
+ExplainsReading o zero Cut = (n : ℕ) × (o ≡ more n)
+ExplainsReading o zero (UnknownTag c) = o ≡ unknown
+ExplainsReading o zero TooLarge = ⊥
+ExplainsReading o zero _ = o ≡ malformed
+ExplainsReading o (suc n) _ = (0 < n) × (o ≡ malformed)
 
 -- what holds of each outcome but a value
-explained : (P : Reading → Type 0) → ((n : ℕ) → P (more n)) → P unknown → P malformed → (o : Reading) (n : ℕ) (k : ProblemKind) → Explains o n k → P o
+explained : (P : Reading → Type 0) → ((n : ℕ) → P (more n)) → P unknown → P malformed → (o : Reading) (n : ℕ) (k : ProblemKind) → ExplainsReading o n k → P o
 explained P cut no_tag bad o zero Cut e = subst P (sym e.1) (cut e.0)
 explained P cut no_tag bad o zero (UnknownTag c) e = subst P (sym e) no_tag
 explained P cut no_tag bad o zero TooLarge e = absurd e
@@ -50,18 +50,18 @@ explained P cut no_tag bad o zero _ e = subst P (sym e) bad
 explained P cut no_tag bad o (suc n) k e = subst P (sym e.1) bad
 
 -- a problem in an entry
-explains_inside : (n : ℕ) (k : ProblemKind) → 1 < n → Explains malformed n k
+explains_inside : (n : ℕ) (k : ProblemKind) → 1 < n → ExplainsReading malformed n k
 explains_inside zero k some = absurd (omega arith)
 explains_inside (suc n) k some = (omega arith, refl)
 
 -- the first problem in s explains the outcome, or there is none and the value of `len` bytes is
 -- found
-abbrev Tells : ℕ → List ℕ → Reading → Option Problem → Type 0
-Tells len s o None = (v : Tree) × (o ≡ found v (drop len s)) × (0 < len) × (len ≤ length s)
-Tells len s o (Some p) = Explains o p.offset p.kind
+abbrev ProblemExplains : ℕ → List ℕ → Reading → Option Problem → Type 0
+ProblemExplains len s o None = (v : Tree) × (o ≡ found v (drop len s)) × (0 < len) × (len ≤ length s)
+ProblemExplains len s o (Some p) = ExplainsReading o p.offset p.kind
 
-abbrev TellsOf : Search → (List ℕ → Reading) → Type 0
-TellsOf first read = (s : List ℕ) → IsBytes s → Tells (extent s) s (read s) (first s)
+abbrev SearchExplains : Search → (List ℕ → Reading) → Type 0
+SearchExplains first read = (s : List ℕ) → IsBytes s → ProblemExplains (extent s) s (read s) (first s)
 
 -- ---- entries
 
@@ -77,16 +77,16 @@ one_further n f (Some p) None h = tt
 one_further n f None None h = absurd h
 one_further n f (Some p) (Some v) h = absurd h
 
-one_behind : {A : Type 0} (n : ℕ) (x : Option Problem) (y : Option A) → OneOf x y → OneOf (option_map (further n) x) y
-one_behind n None (Some v) h = tt
-one_behind n (Some p) None h = tt
-one_behind n None None h = absurd h
-one_behind n (Some p) (Some v) h = absurd h
+one_after : {A : Type 0} (n : ℕ) (x : Option Problem) (y : Option A) → OneOf x y → OneOf (option_map (further n) x) y
+one_after n None (Some v) h = tt
+one_after n (Some p) None h = tt
+one_after n None None h = absurd h
+one_after n (Some p) (Some v) h = absurd h
 
 -- the first of some values, and the others
 next_tells : (first : Search) (read : List ℕ → Reading) (n : ℕ) (s : List ℕ) → 0 < length s
     → (0 < extent s → OneOf (in_entries first extent 0 (drop (extent s) s)) (values_by read n (drop (extent s) s)))
-    → (x : Option Problem) → first s ≡ x → Tells (extent s) s (read s) x → OneOf (in_entries first extent 0 s) (and_others read n (read s))
+    → (x : Option Problem) → first s ≡ x → ProblemExplains (extent s) s (read s) x → OneOf (in_entries first extent 0 s) (and_others read n (read s))
 next_tells first read n s some others None none (v, e, pos, most) =
     rw (entry_passed first extent s (extent s) none refl pos most, e)
     (one_further (extent s) (tree v) (in_entries first extent 0 (drop (extent s) s)) (values_by read n (drop (extent s) s)) (others pos))
@@ -95,11 +95,11 @@ next_tells first read n s some others (Some p) stops why =
     (explained (λ o. OneOf (Some p) (and_others read n o)) (λ m. tt) tt tt (read s) p.offset p.kind why)
 
 -- values one after another
-values_tell : (first : Search) (read : List ℕ → Reading) → TellsOf first read → (n : ℕ) (s : List ℕ) → IsBytes s → length s ≤ n
+values_tell : (first : Search) (read : List ℕ → Reading) → SearchExplains first read → (n : ℕ) (s : List ℕ) → IsBytes s → length s ≤ n
     → OneOf (in_entries first extent 0 s) (values_by read n s)
-values_tell first read tells n [] bytes room = tt
-values_tell first read tells zero (c ∷ b) bytes room = absurd (omega arith)
-values_tell first read tells (suc n) (c ∷ b) bytes room =
+values_tell first read tells n [] bytes enough = tt
+values_tell first read tells zero (c ∷ b) bytes enough = absurd (omega arith)
+values_tell first read tells (suc n) (c ∷ b) bytes enough =
     let s = c ∷ b in
     next_tells first read n s (omega arith)
     (λ pos. values_tell first read tells n (drop (extent s) s) (bytes_drop (extent s) s bytes) (omega (arith, pos, length-drop (extent s) s)))
@@ -113,7 +113,7 @@ in_pairs value s = in_entries (in_pair ByReading value) pair_len 0 s
 named_tells : (value : Search) (read : List ℕ → Reading) (n : ℕ) (es : Entries) (k : ℕ) (t : List ℕ)
     → k ≤ length t → in_pair ByReading value (k ∷ t) ≡ option_map (further (1 + k)) (value (drop k t))
     → ((v : Tree) → OneOf (in_pairs value (drop (extent (drop k t)) (drop k t))) (pairs_onto read n (insert (take k t) v es) (drop (extent (drop k t)) (drop k t))))
-    → (x : Option Problem) → value (drop k t) ≡ x → Tells (extent (drop k t)) (drop k t) (read (drop k t)) x
+    → (x : Option Problem) → value (drop k t) ≡ x → ProblemExplains (extent (drop k t)) (drop k t) (read (drop k t)) x
     → OneOf (in_pairs value (k ∷ t)) (and_pairs read n es (take k t) (read (drop k t)))
 named_tells value read n es k t there is others None none (v, e, pos, most) =
     let first = in_pair ByReading value in
@@ -123,14 +123,14 @@ named_tells value read n es k t there is others None none (v, e, pos, most) =
     let same : len ≡ suc (k + extent u) = omega arith in
     let before : drop len (k ∷ t) ≡ rest = ap (λ (m : ℕ). drop m (k ∷ t)) same ∙ sym (drop-drop (extent u) k t) in
     rw (entry_passed first pair_len (k ∷ t) len (is ∙ ap (option_map (further (1 + k))) none) refl (omega arith) (omega (arith, length-drop k t, there, most)), before, e)
-    (one_behind len (in_pairs value rest) (pairs_onto read n (insert (take k t) v es) rest) (others v))
+    (one_after len (in_pairs value rest) (pairs_onto read n (insert (take k t) v es) rest) (others v))
 named_tells value read n es k t there is others (Some p) stops why =
     let q = further (1 + k) p in
     rw (entry_stops (in_pair ByReading value) pair_len (k ∷ t) q (omega arith) (is ∙ ap (option_map (further (1 + k))) stops))
     (explained (λ o. OneOf (Some q) (and_pairs read n es (take k t) o)) (λ m. tt) tt tt (read (drop k t)) p.offset p.kind why)
 
 -- the first of some pairs, and the others
-pair_tells : (value : Search) (read : List ℕ → Reading) → TellsOf value read → (n : ℕ) (es : Entries) (k : ℕ) (t : List ℕ) → IsBytes (k ∷ t)
+pair_tells : (value : Search) (read : List ℕ → Reading) → SearchExplains value read → (n : ℕ) (es : Entries) (k : ℕ) (t : List ℕ) → IsBytes (k ∷ t)
     → ((fs : Entries) (m : ℕ) → OneOf (in_pairs value (drop m (drop k t))) (pairs_onto read n fs (drop m (drop k t))))
     → OneOf (in_pairs value (k ∷ t)) (pairs_onto read (suc n) es (k ∷ t))
 pair_tells value read tells n es k t bytes others = elim (cases_lt (length t) k) [
@@ -155,11 +155,11 @@ pair_tells value read tells n es k t bytes others = elim (cases_lt (length t) k)
         rw (entry_stops (in_pair ByReading value) pair_len (k ∷ t) (here KeyNotUtf8) (omega arith) is, none) tt
 
 -- pairs one after another
-pairs_tell : (value : Search) (read : List ℕ → Reading) → TellsOf value read → (n : ℕ) (es : Entries) (s : List ℕ) → IsBytes s → length s ≤ n
+pairs_tell : (value : Search) (read : List ℕ → Reading) → SearchExplains value read → (n : ℕ) (es : Entries) (s : List ℕ) → IsBytes s → length s ≤ n
     → OneOf (in_pairs value s) (pairs_onto read n es s)
-pairs_tell value read tells n es [] bytes room = tt
-pairs_tell value read tells zero es (k ∷ t) bytes room = absurd (omega arith)
-pairs_tell value read tells (suc n) es (k ∷ t) bytes room =
+pairs_tell value read tells n es [] bytes enough = tt
+pairs_tell value read tells zero es (k ∷ t) bytes enough = absurd (omega arith)
+pairs_tell value read tells (suc n) es (k ∷ t) bytes enough =
     pair_tells value read tells n es k t bytes
     (λ fs m. pairs_tell value read tells n fs (drop m (drop k t)) (bytes_drop m (drop k t) (bytes_drop k t bytes.1)) (omega (arith, length-drop m (drop k t), length-drop k t)))
 
@@ -167,20 +167,20 @@ pairs_tell value read tells (suc n) es (k ∷ t) bytes room =
 
 -- a problem in the bytes of a complete length-prefixed field explains that they are malformed, or
 -- there is none and they mean a value
-abbrev Means : Option Problem → Option Tree → Type 0
-Means None (Some v) = Unit {0}
-Means (Some p) None = Explains malformed p.offset p.kind
-Means _ _ = ⊥
+abbrev IsProblemOrValue : Option Problem → Option Tree → Type 0
+IsProblemOrValue None (Some v) = Unit {0}
+IsProblemOrValue (Some p) None = ExplainsReading malformed p.offset p.kind
+IsProblemOrValue _ _ = ⊥
 
-body_means : {A : Type 0} (f : A → Tree) (x : Option Problem) (y : Option A) → OneOf x y → Means (option_map (further 5) x) (option_map f y)
+body_means : {A : Type 0} (f : A → Tree) (x : Option Problem) (y : Option A) → OneOf x y → IsProblemOrValue (option_map (further 5) x) (option_map f y)
 body_means f None (Some v) h = tt
 body_means f (Some p) None h = explains_inside (5 + p.offset) p.kind (omega arith)
 body_means f None None h = absurd h
 body_means f (Some p) (Some v) h = absurd h
 
 -- what is in a length-prefixed field, if that is known of the values in it
-field_means : (d : ℕ) → TellsOf (in_value ByReading (inside ByReading d)) (outcome_by (meaning d))
-    → (type : AMQPType) (b : List ℕ) → IsBytes b → fixed type ≡ None → type ≢ amqp.ShortString → Means (inside ByReading (suc d) type b) (meaning (suc d) type (drop 4 b))
+field_means : (d : ℕ) → SearchExplains (in_value ByReading (inside ByReading d)) (outcome_by (meaning d))
+    → (type : AMQPType) (b : List ℕ) → IsBytes b → fixed type ≡ None → type ≢ amqp.ShortString → IsProblemOrValue (inside ByReading (suc d) type b) (meaning (suc d) type (drop 4 b))
 field_means d tells amqp.ShortString b bytes row long = absurd (long refl)
 field_means d tells amqp.LongString b bytes row long = tt
 field_means d tells amqp.ByteArray b bytes row long = tt
@@ -198,7 +198,7 @@ field_means d tells amqp.FieldTable b bytes row long =
 field_means d tells _ b bytes row long = absurd cc
 
 -- likewise if no container is allowed
-no_field_means : (type : AMQPType) (b : List ℕ) → fixed type ≡ None → type ≢ amqp.ShortString → Means (inside ByReading 0 type b) (meaning 0 type (drop 4 b))
+no_field_means : (type : AMQPType) (b : List ℕ) → fixed type ≡ None → type ≢ amqp.ShortString → IsProblemOrValue (inside ByReading 0 type b) (meaning 0 type (drop 4 b))
 no_field_means amqp.ShortString b row long = absurd (long refl)
 no_field_means amqp.LongString b row long = tt
 no_field_means amqp.ByteArray b row long = tt
@@ -208,15 +208,15 @@ no_field_means _ b row long = absurd cc
 
 -- what is in length-prefixed fields in which containers nest at most d deep
 abbrev FieldsMean : ℕ → Type 0
-FieldsMean d = (type : AMQPType) (b : List ℕ) → IsBytes b → fixed type ≡ None → type ≢ amqp.ShortString → Means (inside ByReading d type b) (meaning d type (drop 4 b))
+FieldsMean d = (type : AMQPType) (b : List ℕ) → IsBytes b → fixed type ≡ None → type ≢ amqp.ShortString → IsProblemOrValue (inside ByReading d type b) (meaning d type (drop 4 b))
 
 -- a complete length-prefixed field after a type tag
 framed_tells : (mean : List ℕ → Option Tree) (c len : ℕ) (b : List ℕ) (x : Option Problem) → len ≡ 4 + counted w32 b → len ≤ length b
-    → Means x (mean (take (counted w32 b) (drop 4 b))) → Tells (suc len) (c ∷ b) (framed w32 mean b) x
+    → IsProblemOrValue x (mean (take (counted w32 b) (drop 4 b))) → ProblemExplains (suc len) (c ∷ b) (framed w32 mean b) x
 framed_tells mean c len b x is there h = by x (mean (take (counted w32 b) (drop 4 b))) h
   where
-    by : (x : Option Problem) (y : Option Tree) → Means x y
-        → Tells (suc len) (c ∷ b) (elim y [ Some v ↦ found v (drop (counted w32 b) (drop 4 b)) | None ↦ malformed ]) x
+    by : (x : Option Problem) (y : Option Tree) → IsProblemOrValue x y
+        → ProblemExplains (suc len) (c ∷ b) (elim y [ Some v ↦ found v (drop (counted w32 b) (drop 4 b)) | None ↦ malformed ]) x
     by None (Some v) h =
         let same : 4 + counted w32 b ≡ len = sym is in
         (v, ap (found v) (drop-drop (counted w32 b) 4 b ∙ ap (λ (n : ℕ). drop n b) same), omega arith, omega arith)
@@ -276,7 +276,7 @@ more_needed d type b (suc n) some = (suc n, refl)
 
 -- a payload whose bytes are all there, after a type tag
 field_tells : (d : ℕ) → FieldsMean d → (c : ℕ) (type : AMQPType) (b : List ℕ) → IsBytes b → fixed type ≡ None → type ≢ amqp.ShortString → extent_of None w32 b ≤ length b
-    → Tells (suc (extent_of None w32 b)) (c ∷ b) (framed w32 (meaning d type) b) (inside ByReading d type (take (extent_of None w32 b) b))
+    → ProblemExplains (suc (extent_of None w32 b)) (c ∷ b) (framed w32 (meaning d type) b) (inside ByReading d type (take (extent_of None w32 b) b))
 field_tells d mean c type b bytes row long there =
     let n = counted w32 b in
     let len = extent_of None w32 b in
@@ -284,21 +284,21 @@ field_tells d mean c type b bytes row long there =
     let is : len ≡ 4 + n = rw test refl in
     let body : drop 4 (take len b) ≡ take n (drop 4 b) = ap (λ (m : ℕ). drop 4 (take m b)) is ∙ drop-take 4 n b in
     framed_tells (meaning d type) c len b (inside ByReading d type (take len b)) is there
-    (subst (λ (t : List ℕ). Means (inside ByReading d type (take len b)) (meaning d type t)) body (mean type (take len b) (bytes_take len b bytes) row long))
+    (subst (λ (t : List ℕ). IsProblemOrValue (inside ByReading d type (take len b)) (meaning d type t)) body (mean type (take len b) (bytes_take len b bytes) row long))
 
 whole_tells : (d : ℕ) → FieldsMean d → (c : ℕ) (type : AMQPType) (b : List ℕ) → IsBytes b → type ≢ amqp.ShortString → (o : Option Layout) → fixed type ≡ o
     → extent_of o (length_field type) b ≤ length b
-    → Tells (suc (extent_of o (length_field type) b)) (c ∷ b) (by_layout d type b o) (inside ByReading d type (take (extent_of o (length_field type) b) b))
+    → ProblemExplains (suc (extent_of o (length_field type) b)) (c ∷ b) (by_layout d type b o) (inside ByReading d type (take (extent_of o (length_field type) b) b))
 whole_tells d mean c type b bytes long (Some f) row there =
     rw (fixed_sound d type f (take f.width b) row) (scalar (f.denotes (take f.width b)), refl, omega arith, omega arith)
 whole_tells d mean c type b bytes long None row there =
     subst (λ (w : Width). extent_of None w b ≤ length b
-    → Tells (suc (extent_of None w b)) (c ∷ b) (framed w (meaning d type) b) (inside ByReading d type (take (extent_of None w b) b))) (sym (four_bytes type row long))
+    → ProblemExplains (suc (extent_of None w b)) (c ∷ b) (framed w (meaning d type) b) (inside ByReading d type (take (extent_of None w b) b))) (sym (four_bytes type row long))
     (field_tells d mean c type b bytes row long) there
 
 -- a payload after a type tag
 payload_tells : (d : ℕ) → FieldsMean d → (c : ℕ) (type : AMQPType) (b : List ℕ) → IsBytes b → type ≢ amqp.ShortString
-    → Tells (suc (raw_extent type b)) (c ∷ b) (raw_outcome_by (meaning d) type b) (in_payload (inside ByReading d) type b)
+    → ProblemExplains (suc (raw_extent type b)) (c ∷ b) (raw_outcome_by (meaning d) type b) (in_payload (inside ByReading d) type b)
 payload_tells d mean c type b bytes long = elim (cases_lt (length b) (raw_extent type b)) [
   | inl cut ↦
       rw (lt-ltb (length b) (raw_extent type b) cut)
@@ -307,18 +307,18 @@ payload_tells d mean c type b bytes long = elim (cases_lt (length b) (raw_extent
       let len = raw_extent type b in
       let none = lack_none (fixed type) (length_field type) b (first_there type b) there in
       rw (le-ltb (length b) len there)
-      (subst (λ (n : ℕ). Tells (suc len) (c ∷ b) (by_lack d type b n) (inside ByReading d type (take len b))) (sym none)
+      (subst (λ (n : ℕ). ProblemExplains (suc len) (c ∷ b) (by_lack d type b n) (inside ByReading d type (take len b))) (sym none)
       (whole_tells d mean c type b bytes long (fixed type) refl there))
 ]
 
 -- ---- values
 
-value_tells : (d : ℕ) → FieldsMean d → TellsOf (in_value ByReading (inside ByReading d)) (outcome_by (meaning d))
+value_tells : (d : ℕ) → FieldsMean d → SearchExplains (in_value ByReading (inside ByReading d)) (outcome_by (meaning d))
 value_tells d mean [] bytes = (1, refl)
 value_tells d mean (c ∷ b) bytes = by (kind c) refl
   where
     by : (k : Option AMQPType) → kind c ≡ k
-        → Tells (extent_at k b) (c ∷ b) (elim k [ None ↦ unknown | Some type ↦ raw_outcome_by (meaning d) type b ])
+        → ProblemExplains (extent_at k b) (c ∷ b) (elim k [ None ↦ unknown | Some type ↦ raw_outcome_by (meaning d) type b ])
         (elim k [ None ↦ Some (here (UnknownTag c)) | Some type ↦ in_payload (inside ByReading d) type b ])
     by None is = refl
     by (Some type) is = payload_tells d mean c type b bytes.1 (λ e. no_short_letter c (is ∙ ap Some e))
@@ -328,7 +328,7 @@ fields_mean zero type b bytes row long = no_field_means type b row long
 fields_mean (suc d) type b bytes row long = field_means d (value_tells d (fields_mean d)) type b bytes row long
 
 -- the first problem within a depth explains the outcome, or there is none and a value is found
-problem_tells : (d : ℕ) → TellsOf (in_value ByReading (inside ByReading d)) (outcome_by (meaning d))
+problem_tells : (d : ℕ) → SearchExplains (in_value ByReading (inside ByReading d)) (outcome_by (meaning d))
 problem_tells d = value_tells d (fields_mean d)
 
 -- ---- within limits
@@ -343,18 +343,18 @@ module _ (l : Limits) (s : List ℕ) (bytes : IsBytes s) (fits : extent s ≤ l.
   is_read = (fits, within_holds l.depth s bytes)
 
   -- no value is found if a problem explains the outcome
-  not_found : (n : ℕ) (k : ProblemKind) → Explains here_read n k → FindsValue l s → ⊥
+  not_found : (n : ℕ) (k : ProblemKind) → ExplainsReading here_read n k → FindsValue l s → ⊥
   not_found n k why (v, rest, x) =
       let is : found v rest ≡ here_read = (within_is l.depth s (found v rest) bytes).0 x.1 in
       explained (λ (o : Reading). found v rest ≡ o → ⊥) (λ m e. cc) (λ e. cc) (λ e. cc) here_read n k why is
 
   -- there is no problem exactly if a value is found
-  none_if_found : (x : Option Problem) → Tells (extent s) s here_read x → IsNone x ↔ FindsValue l s
+  none_if_found : (x : Option Problem) → ProblemExplains (extent s) s here_read x → IsNone x ↔ FindsValue l s
   none_if_found None (v, e, some, most) = (λ none. (v, drop (extent s) s, subst (Within l s) e is_read), λ found. refl)
   none_if_found (Some p) why = (λ none. cc, λ found. absurd (not_found p.offset p.kind why found))
 
   -- what a problem explains is what reading results in
-  fails_at : (n : ℕ) (k : ProblemKind) → Explains here_read n k → FailsAt l s n k
+  fails_at : (n : ℕ) (k : ProblemKind) → ExplainsReading here_read n k → FailsAt l s n k
   fails_at zero Cut e = (e.0, subst (Within l s) e.1 is_read)
   fails_at zero (UnknownTag c) e = subst (Within l s) e is_read
   fails_at zero TooLarge e = absurd e
@@ -362,25 +362,25 @@ module _ (l : Limits) (s : List ℕ) (bytes : IsBytes s) (fits : extent s ≤ l.
   fails_at (suc n) k e = subst (Within l s) e.1 is_read
 
   -- so it is with an offset that doesn't count the type tag
-  fails_behind : (n : ℕ) (k : ProblemKind) → Explains here_read n k → FailsAt l s (n - 1) k
-  fails_behind zero k e = fails_at zero k e
-  fails_behind (suc zero) k e = absurd (omega (arith, e.0))
-  fails_behind (suc (suc n)) k e =
+  fails_after : (n : ℕ) (k : ProblemKind) → ExplainsReading here_read n k → FailsAt l s (n - 1) k
+  fails_after zero k e = fails_at zero k e
+  fails_after (suc zero) k e = absurd (omega (arith, e.0))
+  fails_after (suc (suc n)) k e =
       let before : suc n ≡ suc (suc n) - 1 = omega arith in
       subst (λ (m : ℕ). FailsAt l s m k) before (subst (Within l s) e.1 is_read)
 
-  fails : (x : Option Problem) → Tells (extent s) s here_read x → IfSome x (λ p. FailsAt l s p.offset p.kind)
+  fails : (x : Option Problem) → ProblemExplains (extent s) s here_read x → IfSome x (λ p. FailsAt l s p.offset p.kind)
   fails None tells = tt
   fails (Some p) why = fails_at p.offset p.kind why
 
-  fails_untagged : (x : Option Problem) → Tells (extent s) s here_read x → IfSome (option_map untagged x) (λ p. FailsAt l s p.offset p.kind)
+  fails_untagged : (x : Option Problem) → ProblemExplains (extent s) s here_read x → IfSome (option_map untagged x) (λ p. FailsAt l s p.offset p.kind)
   fails_untagged None tells = tt
-  fails_untagged (Some p) why = fails_behind p.offset p.kind why
+  fails_untagged (Some p) why = fails_after p.offset p.kind why
 
 -- what holds of the first problem by the rules of reading, if it does of a value that is too large,
 -- and of a problem that explains the outcome
 by_limits : (P : Option Problem → Type 0) (l : Limits) (s : List ℕ) → IsBytes s → (l.frame < extent s → P (Some (here TooLarge)))
-    → (extent s ≤ l.frame → (x : Option Problem) → Tells (extent s) s (outcome_by (meaning l.depth) s) x → P x) → P (problem_of ByReading l s)
+    → (extent s ≤ l.frame → (x : Option Problem) → ProblemExplains (extent s) s (outcome_by (meaning l.depth) s) x → P x) → P (problem_of ByReading l s)
 by_limits P l s bytes large small = elim (cases_lt l.frame (extent s)) [
   | inl exceeds ↦ rw (lt-ltb l.frame (extent s) exceeds) (large exceeds)
   | inr fits ↦

@@ -4,17 +4,17 @@ use Rattle.amqp_value_core.specs.declared.types.amqp_type.AMQPType.TheVariants a
 use Rattle.amqp_value_core.specs.Values.{Tree, Entries, short}
 use Rattle.amqp_value_core.specs.Nesting.{OutcomeWithin}
 use Rattle.amqp_value_core.specs.Outcomes.{Reading, found, unknown, malformed, lack, NeedsMoreOr, Heavy}
-use Rattle.amqp_value_core.specs.Payloads.{RawFront, RawOutcome}
+use Rattle.amqp_value_core.specs.Payloads.{RawPrefix, RawOutcome}
 use Rattle.amqp_value_core.specs.Outcomes.{Outcome}
-use Rattle.amqp_value_core.proofs.GrammarLaws.{unlimited, front_within}
+use Rattle.amqp_value_core.proofs.GrammarLaws.{unlimited, prefix_within}
 use Rattle.amqp_in_place.specs.InPlaceResults.{IsLeft}
 use Rattle.amq_protocol_types.specs.declared.parsing.errors.Err.TheVariants.{Incomplete, Error, Failure}
 use Rattle.amq_protocol_types.specs.declared.parsing.errors.Needed.TheVariants.{Unknown, Size}
 use Rattle.amq_protocol_types.specs.declared.parsing.errors.ErrorKind.TheVariants.{MapOpt, MapRes, Eof, OutOfMemory, TooLarge}
 use Rattle.amq_protocol_types.specs.parsing.Refusals.{Refusal, inside}
-use Rattle.amq_protocol_types.specs.parsing.ParseResults.{Refuses}
+use Rattle.amq_protocol_types.specs.parsing.ParseResults.{IsRefusal}
 use Rattle.amq_protocol_types.specs.parsing.Bodies.{IsNoBody, IsNoTable}
-use Rattle.amq_protocol_types.proofs.ParsingLaws.{Refuses-weaker, Goes, Goes-refused, Walks, Walks-bad_key, Walks-bad_value}
+use Rattle.amq_protocol_types.proofs.ParsingLaws.{IsRefusal-weaker, ArrayBodyRead, ArrayBodyRead-refused, TableBodyRead, TableBodyRead-bad_key, TableBodyRead-bad_value}
 use Rattle.std.specs.Prelude.{All}
 use Rattle.std.specs.Str.{IsUtf8}
 use Rattle.std.proofs.lemmas.Str.{IsUtf8-from_ascii}
@@ -25,40 +25,40 @@ pub all_ascii_is_utf8 : (s : List ℕ) → All (λ b. b < 128) s → IsUtf8 s
 all_ascii_is_utf8 s ascii = IsUtf8-from_ascii s (IsAscii-from_all s ascii)
 
 -- what isn't there when memory runs out isn't there
-no_heavy : (Is : Reading → Type 0) (heavy : Type 0) (e : Refusal) → Refuses Is ⊥ e → Refuses Is heavy e
-no_heavy Is heavy e x = Refuses-weaker Is Is ⊥ heavy e (λ o y. y) (λ h. absurd h) x
+no_heavy : (Is : Reading → Type 0) (heavy : Type 0) (e : Refusal) → IsRefusal Is ⊥ e → IsRefusal Is heavy e
+no_heavy Is heavy e x = IsRefusal-weaker Is Is ⊥ heavy e (λ o y. y) (λ h. absurd h) x
 
 -- the error of what is in a body, if nothing is allocated: the body isn't one
-told : (Is Now : Reading → Type 0) (heavy : Type 0) (e : Refusal) → Refuses Is ⊥ e → Refuses Now heavy (inside e) → Now malformed
-told Is Now heavy (Incomplete m) x y = y
-told Is Now heavy (Error k) x y = y
-told Is Now heavy (Failure k) x y = absurd x.1
+reported : (Is Now : Reading → Type 0) (heavy : Type 0) (e : Refusal) → IsRefusal Is ⊥ e → IsRefusal Now heavy (inside e) → Now malformed
+reported Is Now heavy (Incomplete m) x y = y
+reported Is Now heavy (Error k) x y = y
+reported Is Now heavy (Failure k) x y = absurd x.1
 
-pub bad_value : (d : ℕ) (s : List ℕ) (xs : List Tree) (rest : List ℕ) (e : Refusal) → Goes d s xs rest → 0 < length rest
-    → Refuses (OutcomeWithin d rest) ⊥ e → IsNoBody d s malformed
+pub bad_value : (d : ℕ) (s : List ℕ) (xs : List Tree) (rest : List ℕ) (e : Refusal) → ArrayBodyRead d s xs rest → 0 < length rest
+    → IsRefusal (OutcomeWithin d rest) ⊥ e → IsNoBody d s malformed
 bad_value d s xs rest e g h x =
-    told (OutcomeWithin d rest) (IsNoBody d s) (0 < length s) e x (Goes-refused d s xs rest e g h (no_heavy (OutcomeWithin d rest) (Heavy rest) e x))
+    reported (OutcomeWithin d rest) (IsNoBody d s) (0 < length s) e x (ArrayBodyRead-refused d s xs rest e g h (no_heavy (OutcomeWithin d rest) (Heavy rest) e x))
 
-pub bad_pair : (d : ℕ) (s : List ℕ) (es : Entries) (rest k behind : List ℕ) (e : Refusal) → Walks d s es rest
-    → RawOutcome amqp.ShortString rest (found (short k) behind) → Refuses (OutcomeWithin d behind) ⊥ e → IsNoTable d s malformed
-bad_pair d s es rest k behind e g x y =
-    told (OutcomeWithin d behind) (IsNoTable d s) (0 < length s) e y (Walks-bad_value d s es rest k behind e g x (no_heavy (OutcomeWithin d behind) (Heavy behind) e y))
+pub bad_pair : (d : ℕ) (s : List ℕ) (es : Entries) (rest k after : List ℕ) (e : Refusal) → TableBodyRead d s es rest
+    → RawOutcome amqp.ShortString rest (found (short k) after) → IsRefusal (OutcomeWithin d after) ⊥ e → IsNoTable d s malformed
+bad_pair d s es rest k after e g x y =
+    reported (OutcomeWithin d after) (IsNoTable d s) (0 < length s) e y (TableBodyRead-bad_value d s es rest k after e g x (no_heavy (OutcomeWithin d after) (Heavy after) e y))
 
 -- a key that isn't read
-pub no_key_there : (d : ℕ) (s : List ℕ) (es : Entries) (rest : List ℕ) → Walks d s es rest → 0 < length rest → RawOutcome amqp.ShortString rest malformed → IsNoTable d s malformed
-no_key_there d s es rest g h x = Walks-bad_key d s es rest (Error MapRes) g h (refl, x)
+pub no_key_there : (d : ℕ) (s : List ℕ) (es : Entries) (rest : List ℕ) → TableBodyRead d s es rest → 0 < length rest → RawOutcome amqp.ShortString rest malformed → IsNoTable d s malformed
+no_key_there d s es rest g h x = TableBodyRead-bad_key d s es rest (Error MapRes) g h (refl, x)
 
 no_unknown : (s : List ℕ) → RawOutcome amqp.ShortString s unknown → ⊥
 no_unknown s x = by (lack amqp.ShortString s) x
   where
-    by : (n : ℕ) → NeedsMoreOr n (RawFront amqp.ShortString s unknown) unknown → ⊥
+    by : (n : ℕ) → NeedsMoreOr n (RawPrefix amqp.ShortString s unknown) unknown → ⊥
     by zero f = f
     by (suc n) e = absurd cc
 
-pub bad_key : (d : ℕ) (s : List ℕ) (es : Entries) (rest : List ℕ) (e : Refusal) → Walks d s es rest → 0 < length rest
-    → Refuses (RawOutcome amqp.ShortString rest) ⊥ e → IsNoTable d s malformed
+pub bad_key : (d : ℕ) (s : List ℕ) (es : Entries) (rest : List ℕ) (e : Refusal) → TableBodyRead d s es rest → 0 < length rest
+    → IsRefusal (RawOutcome amqp.ShortString rest) ⊥ e → IsNoTable d s malformed
 bad_key d s es rest (Incomplete Unknown) g h x = absurd x
-bad_key d s es rest (Incomplete (Size n)) g h x = Walks-bad_key d s es rest (Incomplete (Size n)) g h x
+bad_key d s es rest (Incomplete (Size n)) g h x = TableBodyRead-bad_key d s es rest (Incomplete (Size n)) g h x
 bad_key d s es rest (Error Eof) g h x = no_key_there d s es rest g h x
 bad_key d s es rest (Error MapOpt) g h x = absurd (no_unknown rest x)
 bad_key d s es rest (Error MapRes) g h x = absurd x
@@ -67,9 +67,9 @@ bad_key d s es rest (Error TooLarge) g h x = absurd x
 bad_key d s es rest (Failure k) g h x = absurd x.1
 
 -- a depth that the bytes can't pass limits no error
-pub unlimited_refused : (d : ℕ) (s : List ℕ) (e : Refusal) → d ≡ length s → Refuses (OutcomeWithin d s) ⊥ e → Refuses (Outcome s) ⊥ e
-unlimited_refused d s e is x = Refuses-weaker (OutcomeWithin d s) (Outcome s) ⊥ ⊥ e (λ o y. unlimited d s o (omega arith) y) (λ h. h) x
+pub unlimited_refused : (d : ℕ) (s : List ℕ) (e : Refusal) → d ≡ length s → IsRefusal (OutcomeWithin d s) ⊥ e → IsRefusal (Outcome s) ⊥ e
+unlimited_refused d s e is x = IsRefusal-weaker (OutcomeWithin d s) (Outcome s) ⊥ ⊥ e (λ o y. unlimited d s o (omega arith) y) (λ h. h) x
 
 -- what is found leaves the rest of the input
-pub left_behind : (d : ℕ) (s : List ℕ) (v : Tree) (rest : List ℕ) → OutcomeWithin d s (found v rest) → IsLeft s rest
-left_behind d s v rest x = let f = front_within d s rest v x in (f.0, f.2)
+pub left_after : (d : ℕ) (s : List ℕ) (v : Tree) (rest : List ℕ) → OutcomeWithin d s (found v rest) → IsLeft s rest
+left_after d s v rest x = let f = prefix_within d s rest v x in (f.0, f.2)

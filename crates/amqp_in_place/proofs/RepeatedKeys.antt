@@ -58,11 +58,11 @@ rising_once (entry j v ps) rises k = by (same_bytes k j) refl (rising_once ps ri
 -- ---- the iteration that checks whether keys are ascending
 
 -- the keys are ascending if those that are left are, above the one before them
-abbrev pub Rises : List ℕ → List ℕ → Option (Bor (List ℕ)) → Type 0
-Rises s rest j = (ps : Entries) → TableBody s ps → (qs : Entries) × TableBody rest qs × (IsRising ps ↔ (AreAbove j qs × IsRising qs))
+abbrev pub KeysAscend : List ℕ → List ℕ → Option (Bor (List ℕ)) → Type 0
+KeysAscend s rest j = (ps : Entries) → TableBody s ps → (qs : Entries) × TableBody rest qs × (IsRising ps ↔ (AreAbove j qs × IsRising qs))
 
-pub Rises-start : (s : List ℕ) → Rises s s None
-Rises-start s = λ ps p. (ps, p, (λ r. (tt, r), λ r. r.1))
+pub KeysAscend-start : (s : List ℕ) → KeysAscend s s None
+KeysAscend-start s = λ ps p. (ps, p, (λ r. (tt, r), λ r. r.1))
 
 above_first : (j : Option (Bor (List ℕ))) (k : List ℕ) (v : Tree) (ps : Entries) → IsAbove j k ↔ AreAbove j (entry k v ps)
 above_first None k v ps = (λ x. x, λ x. x)
@@ -72,11 +72,11 @@ above_none : (j : Option (Bor (List ℕ))) → AreAbove j no_entries
 above_none None = tt
 above_none (Some i) = tt
 
-module _ (s rest : List ℕ) (j : Option (Bor (List ℕ))) (rises : Rises s rest j) where
+module _ (s rest : List ℕ) (j : Option (Bor (List ℕ))) (rises : KeysAscend s rest j) where
   -- the next key is above it
-  pub Rises-step : (x : Bor (List ℕ) × ValueRef × SliceInput) (k : Bor (List ℕ)) → ((qs : Entries) → TableBody rest qs → NextPairIs qs (Some x)) → k.now ≡ x.0.now → IsAbove j k.now
-      → Rises s (slice_bytes x.2) (Some k)
-  Rises-step x k next same above = λ ps p.
+  pub KeysAscend-step : (x : Bor (List ℕ) × ValueRef × SliceInput) (k : Bor (List ℕ)) → ((qs : Entries) → TableBody rest qs → NextPairIs qs (Some x)) → k.now ≡ x.0.now → IsAbove j k.now
+      → KeysAscend s (slice_bytes x.2) (Some k)
+  KeysAscend-step x k next same above = λ ps p.
       let at = rises ps p in
       by at.0 (next at.0 at.1) at.2
     where
@@ -89,9 +89,9 @@ module _ (s rest : List ℕ) (j : Option (Bor (List ℕ))) (rises : Rises s rest
           (rs, given.2, (λ p. let r = iff.0 p in (subst (λ (t : List ℕ). ComesBefore t rs) (sym is) r.1.0, r.1.1), λ r. iff.1 (first, (subst (λ (t : List ℕ). ComesBefore t rs) is r.0, r.1))))
 
   -- the next key isn't above it
-  pub Rises-fall : (x : Bor (List ℕ) × ValueRef × SliceInput) (k : List ℕ) → ((qs : Entries) → TableBody rest qs → NextPairIs qs (Some x)) → k ≡ x.0.now → (IsAbove j k → ⊥)
+  pub KeysAscend-fall : (x : Bor (List ℕ) × ValueRef × SliceInput) (k : List ℕ) → ((qs : Entries) → TableBody rest qs → NextPairIs qs (Some x)) → k ≡ x.0.now → (IsAbove j k → ⊥)
       → (ps : Entries) → TableBody s ps → IsRising ps → ⊥
-  Rises-fall x k next same falls = λ ps p r.
+  KeysAscend-fall x k next same falls = λ ps p r.
       let at = rises ps p in
       by at.0 (next at.0 at.1) (at.2.0 r).0
     where
@@ -100,8 +100,8 @@ module _ (s rest : List ℕ) (j : Option (Bor (List ℕ))) (rises : Rises s rest
       by (entry i v rs) given are = falls (subst (IsAbove j) (sym (same ∙ given.0)) ((above_first j i v rs).1 are))
 
   -- no key is left
-  pub Rises-end : ((qs : Entries) → TableBody rest qs → NextPairIs qs None) → (ps : Entries) → TableBody s ps → IsRising ps
-  Rises-end next ps p =
+  pub KeysAscend-end : ((qs : Entries) → TableBody rest qs → NextPairIs qs None) → (ps : Entries) → TableBody s ps → IsRising ps
+  KeysAscend-end next ps p =
       let at = rises ps p in
       at.2.1 (by at.0 (next at.0 at.1))
     where
@@ -120,11 +120,11 @@ abbrev pub by_bytes : Bor (List ℕ) → Bor (List ℕ) → Ordering
 by_bytes x y = slice_cmp nat_cmp x.now y.now
 
 -- a key occurs once more than among the pairs that are left if the set has it
-abbrev pub Seen : List ℕ → List ℕ → BTreeSet (Bor (List ℕ)) → Type 0
-Seen s rest t = (ps : Entries) → TableBody s ps → (qs : Entries) × TableBody rest qs × ((k : List ℕ) → times_at k ps ≡ one_if (has t k) + times_at k qs)
+abbrev pub KeysAreSeen : List ℕ → List ℕ → BTreeSet (Bor (List ℕ)) → Type 0
+KeysAreSeen s rest t = (ps : Entries) → TableBody s ps → (qs : Entries) × TableBody rest qs × ((k : List ℕ) → times_at k ps ≡ one_if (has t k) + times_at k qs)
 
-pub Seen-start : (s : List ℕ) (t : BTreeSet (Bor (List ℕ))) → IsEmpty t → Seen s s t
-Seen-start s t none = λ ps p. (
+pub KeysAreSeen-start : (s : List ℕ) (t : BTreeSet (Bor (List ℕ))) → IsEmpty t → KeysAreSeen s s t
+KeysAreSeen-start s t none = λ ps p. (
   ps,
   p,
   λ k.
@@ -133,11 +133,11 @@ Seen-start s t none = λ ps p. (
       omega (arith, one),
 )
 
-module _ (s rest : List ℕ) (t : BTreeSet (Bor (List ℕ))) (seen : Seen s rest t) where
+module _ (s rest : List ℕ) (t : BTreeSet (Bor (List ℕ))) (seen : KeysAreSeen s rest t) where
   -- a new key is added to the set
-  pub Seen-step : (x : Bor (List ℕ) × ValueRef × SliceInput) (u : BTreeSet (Bor (List ℕ))) → ((qs : Entries) → TableBody rest qs → NextPairIs qs (Some x))
-      → contains by_bytes t x.0 ≡ false → Updates by_bytes t u x.0 true → Seen s (slice_bytes x.2) u
-  Seen-step x u next new updates = λ ps p.
+  pub KeysAreSeen-step : (x : Bor (List ℕ) × ValueRef × SliceInput) (u : BTreeSet (Bor (List ℕ))) → ((qs : Entries) → TableBody rest qs → NextPairIs qs (Some x))
+      → contains by_bytes t x.0 ≡ false → Updates by_bytes t u x.0 true → KeysAreSeen s (slice_bytes x.2) u
+  KeysAreSeen-step x u next new updates = λ ps p.
       let at = seen ps p in
       by at.0 (next at.0 at.1) at.2
     where
@@ -169,9 +169,9 @@ module _ (s rest : List ℕ) (t : BTreeSet (Bor (List ℕ))) (seen : Seen s rest
       )
 
   -- a key that the set has occurs twice
-  pub Seen-again : (x : Bor (List ℕ) × ValueRef × SliceInput) → ((qs : Entries) → TableBody rest qs → NextPairIs qs (Some x)) → contains by_bytes t x.0 ≡ true
+  pub KeysAreSeen-again : (x : Bor (List ℕ) × ValueRef × SliceInput) → ((qs : Entries) → TableBody rest qs → NextPairIs qs (Some x)) → contains by_bytes t x.0 ≡ true
       → (ps : Entries) → TableBody s ps → RepeatedIs ps (Some x.0)
-  Seen-again x next old ps p =
+  KeysAreSeen-again x next old ps p =
       let at = seen ps p in
       by at.0 (next at.0 at.1) (at.2 x.0.now)
     where
@@ -183,8 +183,8 @@ module _ (s rest : List ℕ) (t : BTreeSet (Bor (List ℕ))) (seen : Seen s rest
           omega (arith, before, here, e)
 
   -- if no pair is left no key occurs twice
-  pub Seen-end : ((qs : Entries) → TableBody rest qs → NextPairIs qs None) → (ps : Entries) → TableBody s ps → RepeatedIs ps None
-  Seen-end next ps p =
+  pub KeysAreSeen-end : ((qs : Entries) → TableBody rest qs → NextPairIs qs None) → (ps : Entries) → TableBody s ps → RepeatedIs ps None
+  KeysAreSeen-end next ps p =
       let at = seen ps p in
       λ k. by k at.0 (next at.0 at.1) (at.2 k)
     where

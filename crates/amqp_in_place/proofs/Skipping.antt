@@ -6,7 +6,7 @@ use Rattle.amqp_value_core.specs.declared.types.amqp_type.AMQPType.TheVariants a
 use Rattle.amqp_value_core.specs.Values.{long}
 use Rattle.amqp_value_core.specs.Grammar.{long_field, wire, raw_long}
 use Rattle.amqp_value_core.specs.Outcomes.{Reading, more, unknown, Outcome}
-use Rattle.amqp_value_core.proofs.GrammarLaws.{found_front, front_within, unlimited}
+use Rattle.amqp_value_core.proofs.GrammarLaws.{found_prefix, prefix_within, unlimited}
 use Rattle.amqp_value_core.specs.Inputs.{slice_bytes}
 use Rattle.amq_protocol_types.specs.parsing.Refusals.{Refusal}
 use Rattle.amq_protocol_types.specs.parsing.PayloadResults.{IsType}
@@ -34,7 +34,7 @@ frame_extent s mid body rest type p f is =
 
 pub skipped : (s : List ℕ) (h : Head) (rest : List ℕ) → IsHead s h rest → extent s + length rest ≡ length s
 skipped s (head.Plain r) rest is =
-    let f = front_within 0 s rest (plain_tree r) (plain_read s r rest is 0) in
+    let f = prefix_within 0 s rest (plain_tree r) (plain_read s r rest is 0) in
     omega (arith, ap extent f.2, wire_extent f.0 rest (plain_tree r) f.1.0, ap length f.2, length-append f.0 rest)
 skipped s (head.FieldArray i) rest (type, mid, p, q) = frame_extent s mid (slice_bytes i) rest type p q.1 (ap (λ t. extent_at (Some t) mid) q.0)
 skipped s (head.FieldTable i) rest (type, mid, p, q) = frame_extent s mid (slice_bytes i) rest type p q.1 (ap (λ t. extent_at (Some t) mid) q.0)
@@ -42,7 +42,7 @@ skipped s (head.FieldTable i) rest (type, mid, p, q) = frame_extent s mid (slice
 -- if a value is found it takes that many
 pub width_of_found : (s : List ℕ) (n : ℕ) → n ≡ extent s → IsWidthOfFound s n
 width_of_found s n e v rest x =
-    let f = found_front s rest v x in
+    let f = found_prefix s rest v x in
     omega (arith, e, ap extent f.2, wire_extent f.0 rest v f.1, ap length f.2, length-append f.0 rest)
 
 -- what is rejected whatever the limit on depth is rejected without a limit

@@ -13,22 +13,22 @@ use Rattle.amqp_value_core.specs.Grammar.{short_field, Wire, raw_short, ArrayBod
 use Rattle.amqp_value_core.specs.Nesting.{nesting, OutcomeWithin}
 use Rattle.amqp_value_core.specs.Outcomes.{Reading, found, more, unknown, malformed, Outcome}
 use Rattle.amqp_value_core.specs.Payloads.{RawOutcome}
-use Rattle.amqp_value_core.proofs.GrammarLaws.{length-wire, found_front, one_outcome_within, one_raw_reading, one_raw_outcome, raw_found, wire_found_within, short_bytes}
+use Rattle.amqp_value_core.proofs.GrammarLaws.{length-wire, found_prefix, one_outcome_within, one_raw_reading, one_raw_outcome, raw_found, wire_found_within, short_bytes}
 use Rattle.amqp_value_core.specs.Inputs.{slice_bytes}
 use Rattle.amqp_value_core.specs.declared.input.SliceInput.{SliceInput}
 use Rattle.amq_protocol_types.specs.declared.parsing.errors.Err.TheVariants.{Incomplete, Error, Failure}
 use Rattle.amq_protocol_types.specs.declared.parsing.errors.Needed.TheVariants.{Unknown, Size}
 use Rattle.amq_protocol_types.specs.declared.parsing.errors.ErrorKind.TheVariants.{MapOpt, MapRes, Eof, OutOfMemory, TooLarge}
 use Rattle.amq_protocol_types.specs.parsing.Refusals.{Refusal}
-use Rattle.amq_protocol_types.specs.parsing.ParseResults.{Refuses}
+use Rattle.amq_protocol_types.specs.parsing.ParseResults.{IsRefusal}
 use Rattle.amqp_in_place.specs.Bodies.{HasValues, HasPairs}
 use Rattle.amqp_in_place.specs.declared.head.Head.{Head}
 use Rattle.amqp_in_place.specs.declared.head.Head.TheVariants as head
 use Rattle.amqp_in_place.specs.declared.refs.ValueRef.{ValueRef}
 use Rattle.amqp_in_place.specs.Refs.{Denotes}
 use Rattle.amqp_in_place.specs.InPlaceResults.{HeadRefuses}
-use Rattle.amqp_in_place.specs.Heads.{IsHead, AtAnyDepth, Means, IsMeant, IsKeyFrame}
-use Rattle.amqp_in_place.specs.Walks.{HasFront, NextValueIs, NextPairIs}
+use Rattle.amqp_in_place.specs.Heads.{IsHead, AtAnyDepth, HeadMeans, HeadHasMeaning, IsKeyFrame}
+use Rattle.amqp_in_place.specs.Walks.{HasEncodingAtStart, NextValueIs, NextPairIs}
 use Rattle.amqp_in_place.proofs.HeadLemmas.{only, head_refuses}
 
 -- what can't be has one proof at most
@@ -36,7 +36,7 @@ no_prop : IsProp ⊥
 no_prop x y = absurd x
 
 -- if reading finds something it isn't rejected
-pub refusal_of_none : (Is : Reading → Type 0) → ((o : Reading) → Is o → ((v : Tree) (left : List ℕ) → o ≡ found v left → ⊥) → ⊥) → (e : Refusal) → Refuses Is ⊥ e → ⊥
+pub refusal_of_none : (Is : Reading → Type 0) → ((o : Reading) → Is o → ((v : Tree) (left : List ℕ) → o ≡ found v left → ⊥) → ⊥) → (e : Refusal) → IsRefusal Is ⊥ e → ⊥
 refusal_of_none Is f (Incomplete Unknown) x = x
 refusal_of_none Is f (Incomplete (Size n)) x = f (more n) x (λ v left e. cc)
 refusal_of_none Is f (Error MapOpt) x = f unknown x (λ v left e. cc)
@@ -47,54 +47,54 @@ refusal_of_none Is f (Error TooLarge) x = x
 refusal_of_none Is f (Failure k) x = x.1
 
 -- a value is at the beginning of s, and `left` after it
-pub record AtFront (s : List ℕ) : Type 0 where
+pub record IsAtStart (s : List ℕ) : Type 0 where
   pub value_there : Tree
   pub bytes : List ℕ
   pub left : List ℕ
   pub is_wire : Wire bytes value_there
-  pub front : s ≡ bytes ++ left
+  pub prefix : s ≡ bytes ++ left
 
 -- so its head is read
-pub never_refused : (s : List ℕ) (e : Refusal) → AtFront s → HeadRefuses (AtAnyDepth s) e → ⊥
+pub never_refused : (s : List ℕ) (e : Refusal) → IsAtStart s → HeadRefuses (AtAnyDepth s) e → ⊥
 never_refused s e a x =
     let d = nesting a.bytes a.value_there a.is_wire in
     let here : OutcomeWithin d s (found a.value_there a.left) =
-    subst (λ (t : List ℕ). OutcomeWithin d t (found a.value_there a.left)) (sym a.front) (wire_found_within d a.bytes a.left a.value_there a.is_wire (omega arith)) in
+    subst (λ (t : List ℕ). OutcomeWithin d t (found a.value_there a.left)) (sym a.prefix) (wire_found_within d a.bytes a.left a.value_there a.is_wire (omega arith)) in
     refusal_of_none (AtAnyDepth s) (λ o y other. other a.value_there a.left (one_outcome_within d s o (found a.value_there a.left) (y d) here)) e (head_refuses (AtAnyDepth s) e x)
 
 -- and means it
-meant : (s : List ℕ) (h : Head) (rest : List ℕ) → IsHead s h rest → (a : AtFront s) → Means h a.value_there × (a.left ≡ rest)
-meant s h rest is a = only s h rest a.bytes a.left a.value_there is a.is_wire a.front
+meant : (s : List ℕ) (h : Head) (rest : List ℕ) → IsHead s h rest → (a : IsAtStart s) → HeadMeans h a.value_there × (a.left ≡ rest)
+meant s h rest is a = only s h rest a.bytes a.left a.value_there is a.is_wire a.prefix
 
 -- the bodies of heads that mean something
-pub meant_values : (h : Head) (i : SliceInput) → h ≡ head.FieldArray i → ∥ IsMeant h ∥₁ → ∥ HasValues (slice_bytes i) ∥₁
-meant_values h i is m = ∥∥₁_map (subst (λ (k : Head). ∥ IsMeant k ∥₁) is m) (λ (x : IsMeant (head.FieldArray i)). (x.1.0, x.1.1))
+pub meant_values : (h : Head) (i : SliceInput) → h ≡ head.FieldArray i → ∥ HeadHasMeaning h ∥₁ → ∥ HasValues (slice_bytes i) ∥₁
+meant_values h i is m = ∥∥₁_map (subst (λ (k : Head). ∥ HeadHasMeaning k ∥₁) is m) (λ (x : HeadHasMeaning (head.FieldArray i)). (x.1.0, x.1.1))
 
-pub meant_pairs : (h : Head) (i : SliceInput) → h ≡ head.FieldTable i → ∥ IsMeant h ∥₁ → ∥ HasPairs (slice_bytes i) ∥₁
-meant_pairs h i is m = ∥∥₁_map (subst (λ (k : Head). ∥ IsMeant k ∥₁) is m) (λ (x : IsMeant (head.FieldTable i)). (x.1.1.0, x.1.1.1))
+pub meant_pairs : (h : Head) (i : SliceInput) → h ≡ head.FieldTable i → ∥ HeadHasMeaning h ∥₁ → ∥ HasPairs (slice_bytes i) ∥₁
+meant_pairs h i is m = ∥∥₁_map (subst (λ (k : Head). ∥ HeadHasMeaning k ∥₁) is m) (λ (x : HeadHasMeaning (head.FieldTable i)). (x.1.1.0, x.1.1.1))
 
 -- ---- the value at the start
 
-at_front : (s : List ℕ) (v : Tree) (rest : List ℕ) → Outcome s (found v rest) → AtFront s
-at_front s v rest x = let f = found_front s rest v x in record { value_there = v; bytes = f.0; left = rest; is_wire = f.1; front = f.2 }
+at_start : (s : List ℕ) (v : Tree) (rest : List ℕ) → Outcome s (found v rest) → IsAtStart s
+at_start s v rest x = let f = found_prefix s rest v x in record { value_there = v; bytes = f.0; left = rest; is_wire = f.1; prefix = f.2 }
 
 -- its head is read
-pub front_there : (s : List ℕ) (e : Refusal) → ∥ HasFront s ∥₁ → HeadRefuses (AtAnyDepth s) e → ⊥
-front_there s e has x = ∥∥₁_elim has no_prop (λ (p : HasFront s). never_refused s e (at_front s p.0 p.1 p.2) x)
+pub value_there_not_refused : (s : List ℕ) (e : Refusal) → ∥ HasEncodingAtStart s ∥₁ → HeadRefuses (AtAnyDepth s) e → ⊥
+value_there_not_refused s e has x = ∥∥₁_elim has no_prop (λ (p : HasEncodingAtStart s). never_refused s e (at_start s p.0 p.1 p.2) x)
 
 -- and means it
-pub front_means : (s : List ℕ) (h : Head) (rest : List ℕ) → IsHead s h rest → (v : Tree) (left : List ℕ) → Outcome s (found v left) → Means h v
-unfolding at_front
-front_means s h rest is v left x = (meant s h rest is (at_front s v left x)).0
+pub meaning_at_start : (s : List ℕ) (h : Head) (rest : List ℕ) → IsHead s h rest → (v : Tree) (left : List ℕ) → Outcome s (found v left) → HeadMeans h v
+unfolding at_start
+meaning_at_start s h rest is v left x = (meant s h rest is (at_start s v left x)).0
 
-pub front_meant : (s : List ℕ) (h : Head) (rest : List ℕ) → IsHead s h rest → ∥ HasFront s ∥₁ → ∥ IsMeant h ∥₁
-front_meant s h rest is has = ∥∥₁_map has (λ (p : HasFront s). (p.0, front_means s h rest is p.0 p.1 p.2))
+pub is_meant_at_start : (s : List ℕ) (h : Head) (rest : List ℕ) → IsHead s h rest → ∥ HasEncodingAtStart s ∥₁ → ∥ HeadHasMeaning h ∥₁
+is_meant_at_start s h rest is has = ∥∥₁_map has (λ (p : HasEncodingAtStart s). (p.0, meaning_at_start s h rest is p.0 p.1 p.2))
 
 -- ---- values
 
 -- the first of some values
 record FirstValue (s : List ℕ) (vs : Trees) : Type 0 where
-  pub at : AtFront s
+  pub at : IsAtStart s
   pub others : Trees
   pub are : vs ≡ tree at.value_there others
   pub more_values : ArrayBody at.left others
@@ -102,7 +102,7 @@ record FirstValue (s : List ℕ) (vs : Trees) : Type 0 where
 first_value : (s : List ℕ) (vs : Trees) → 0 < length s → ArrayBody s vs → FirstValue s vs
 first_value _ _ some no_values = absurd (omega arith)
 first_value _ _ some (value w left v vs p all) =
-    record { at = record { value_there = v; bytes = w; left = left; is_wire = p; front = refl }; others = vs; are = refl; more_values = all }
+    record { at = record { value_there = v; bytes = w; left = left; is_wire = p; prefix = refl }; others = vs; are = refl; more_values = all }
 
 -- a head is read
 pub value_there : (s : List ℕ) (e : Refusal) → 0 < length s → ∥ HasValues s ∥₁ → HeadRefuses (AtAnyDepth s) e → ⊥
@@ -110,18 +110,18 @@ value_there s e some has x = ∥∥₁_elim has no_prop (λ (p : HasValues s). n
 
 module _ (s : List ℕ) (h : Head) (rest : List ℕ) (some : 0 < length s) (is : IsHead s h rest) where
   -- it means something
-  pub value_meant : ∥ HasValues s ∥₁ → ∥ IsMeant h ∥₁
+  pub value_meant : ∥ HasValues s ∥₁ → ∥ HeadHasMeaning h ∥₁
   value_meant has =
       ∥∥₁_map has (λ (p : HasValues s).
       let a = (first_value s p.0 some p.1).at in
       (a.value_there, (meant s h rest is a).0))
 
   -- values are after it
-  pub values_behind : ∥ HasValues s ∥₁ → (length rest < length s) × ∥ HasValues rest ∥₁
-  values_behind has = (
+  pub values_after : ∥ HasValues s ∥₁ → (length rest < length s) × ∥ HasValues rest ∥₁
+  values_after has = (
     ∥∥₁_elim has le_prop (λ (p : HasValues s).
         let a = (first_value s p.0 some p.1).at in
-        omega (arith, ap length (meant s h rest is a).1, ap length a.front, length-append a.bytes a.left, length-wire a.bytes a.value_there a.is_wire)),
+        omega (arith, ap length (meant s h rest is a).1, ap length a.prefix, length-append a.bytes a.left, length-wire a.bytes a.value_there a.is_wire)),
     ∥∥₁_map has (λ (p : HasValues s).
         let first = first_value s p.0 some p.1 in
         (first.others, subst (λ (t : List ℕ). ArrayBody t first.others) (meant s h rest is first.at).1 first.more_values)),
@@ -129,7 +129,7 @@ module _ (s : List ℕ) (h : Head) (rest : List ℕ) (some : 0 < length s) (is :
 
 -- the value that is given is the first
 pub value_given : (s : List ℕ) (h : Head) (vs : Trees) (x : ValueRef × SliceInput) → 0 < length s → IsHead s h (slice_bytes x.1)
-    → ((v : Tree) → Means h v → Denotes x.0 v) → ArrayBody s vs → NextValueIs vs (Some x)
+    → ((v : Tree) → HeadMeans h v → Denotes x.0 v) → ArrayBody s vs → NextValueIs vs (Some x)
 value_given s h vs x some is stands p =
     let first = first_value s vs some p in
     let m = meant s h (slice_bytes x.1) is first.at in
@@ -145,7 +145,7 @@ no_value_given _ _ e (value w left v vs p all) = absurd (omega (arith, length-ap
 -- ---- pairs
 
 -- if there are pairs, and not zero, a key is read
-pub key_there : (s : List ℕ) (e : Refusal) → 0 < length s → ∥ HasPairs s ∥₁ → Refuses (RawOutcome amqp.ShortString s) ⊥ e → ⊥
+pub key_there : (s : List ℕ) (e : Refusal) → 0 < length s → ∥ HasPairs s ∥₁ → IsRefusal (RawOutcome amqp.ShortString s) ⊥ e → ⊥
 key_there s e some has x =
     ∥∥₁_elim has no_prop (λ (p : HasPairs s). refusal_of_none (RawOutcome amqp.ShortString s) (λ o y other. by s p.0 o some p.1 y other) e x)
   where
@@ -158,61 +158,61 @@ key_there s e some has x =
 
 -- the first of some pairs, whose key was read: its value is at the beginning of what is after
 -- the key
-record FirstPair (s key behind : List ℕ) (ps : Entries) : Type 0 where
-  pub at : AtFront behind
+record FirstPairStep (s key after : List ℕ) (ps : Entries) : Type 0 where
+  pub at : IsAtStart after
   pub others : Entries
   pub are : ps ≡ entry key at.value_there others
   pub short_key : IsShort key
   pub more_pairs : TableBody at.left others
 
-first_pair : (s key behind : List ℕ) (ps : Entries) → IsKeyFrame s key behind → TableBody s ps → FirstPair s key behind ps
-first_pair _ key behind _ f no_pairs = let e = f.framed in absurd cc
-first_pair _ key behind _ f (pair k w left v ps is p all) =
-    let here = short_bytes key behind (short_field k) (w ++ left) (short k) (raw_short k is) (sym f.framed) in
-    let same = one_raw_reading amqp.ShortString (short_field k) (short_field key) (w ++ left) behind (short k) (short key) (raw_short k is) (raw_short key here) f.framed in
+first_pair : (s key after : List ℕ) (ps : Entries) → IsKeyFrame s key after → TableBody s ps → FirstPairStep s key after ps
+first_pair _ key after _ f no_pairs = let e = f.framed in absurd cc
+first_pair _ key after _ f (pair k w left v ps is p all) =
+    let here = short_bytes key after (short_field k) (w ++ left) (short k) (raw_short k is) (sym f.framed) in
+    let same = one_raw_reading amqp.ShortString (short_field k) (short_field key) (w ++ left) after (short k) (short key) (raw_short k is) (raw_short key here) f.framed in
     let one : k ≡ key = cc in
     record {
-      at = record { value_there = v; bytes = w; left = left; is_wire = p; front = sym same.2 };
+      at = record { value_there = v; bytes = w; left = left; is_wire = p; prefix = sym same.2 };
       others = ps;
       are = ap (λ j. entry j v ps) one;
       short_key = here;
       more_pairs = all;
     }
 
-module _ (s key behind : List ℕ) (f : IsKeyFrame s key behind) where
+module _ (s key after : List ℕ) (f : IsKeyFrame s key after) where
   -- the key is UTF-8
   pub key_utf8 : ∥ HasPairs s ∥₁ → IsUtf8 key
   key_utf8 has =
-      IsUtf8-from_is_utf8 key (∥∥₁_elim has (Bool-set _ _) (λ (p : HasPairs s). is_utf8-from_IsUtf8 key (first_pair s key behind p.0 f p.1).short_key.utf8))
+      IsUtf8-from_is_utf8 key (∥∥₁_elim has (Bool-set _ _) (λ (p : HasPairs s). is_utf8-from_IsUtf8 key (first_pair s key after p.0 f p.1).short_key.utf8))
 
   -- a head is read after it
-  pub pair_there : (e : Refusal) → ∥ HasPairs s ∥₁ → HeadRefuses (AtAnyDepth behind) e → ⊥
-  pair_there e has x = ∥∥₁_elim has no_prop (λ (p : HasPairs s). never_refused behind e (first_pair s key behind p.0 f p.1).at x)
+  pub pair_there : (e : Refusal) → ∥ HasPairs s ∥₁ → HeadRefuses (AtAnyDepth after) e → ⊥
+  pair_there e has x = ∥∥₁_elim has no_prop (λ (p : HasPairs s). never_refused after e (first_pair s key after p.0 f p.1).at x)
 
   -- it means something
-  pub pair_meant : (h : Head) (rest : List ℕ) → IsHead behind h rest → ∥ HasPairs s ∥₁ → ∥ IsMeant h ∥₁
+  pub pair_meant : (h : Head) (rest : List ℕ) → IsHead after h rest → ∥ HasPairs s ∥₁ → ∥ HeadHasMeaning h ∥₁
   pair_meant h rest is has =
       ∥∥₁_map has (λ (p : HasPairs s).
-      let a = (first_pair s key behind p.0 f p.1).at in
-      (a.value_there, (meant behind h rest is a).0))
+      let a = (first_pair s key after p.0 f p.1).at in
+      (a.value_there, (meant after h rest is a).0))
 
   -- pairs are after it
-  pub pairs_behind : (h : Head) (rest : List ℕ) → IsHead behind h rest → ∥ HasPairs s ∥₁ → (length rest < length s) × ∥ HasPairs rest ∥₁
-  pairs_behind h rest is has = (
+  pub pairs_after : (h : Head) (rest : List ℕ) → IsHead after h rest → ∥ HasPairs s ∥₁ → (length rest < length s) × ∥ HasPairs rest ∥₁
+  pairs_after h rest is has = (
     ∥∥₁_elim has le_prop (λ (p : HasPairs s).
-        let a = (first_pair s key behind p.0 f p.1).at in
-        omega (arith, ap length (meant behind h rest is a).1, ap length a.front, length-append a.bytes a.left, ap length f.framed, length-append key behind)),
+        let a = (first_pair s key after p.0 f p.1).at in
+        omega (arith, ap length (meant after h rest is a).1, ap length a.prefix, length-append a.bytes a.left, ap length f.framed, length-append key after)),
     ∥∥₁_map has (λ (p : HasPairs s).
-        let first = first_pair s key behind p.0 f p.1 in
-        (first.others, subst (λ (t : List ℕ). TableBody t first.others) (meant behind h rest is first.at).1 first.more_pairs)),
+        let first = first_pair s key after p.0 f p.1 in
+        (first.others, subst (λ (t : List ℕ). TableBody t first.others) (meant after h rest is first.at).1 first.more_pairs)),
   )
 
 -- the pair that is given is the first
-pub pair_given : (s : List ℕ) (h : Head) (ps : Entries) (behind : List ℕ) (x : Bor (List ℕ) × ValueRef × SliceInput) → IsKeyFrame s x.0.now behind
-    → IsHead behind h (slice_bytes x.2) → ((v : Tree) → Means h v → Denotes x.1 v) → TableBody s ps → NextPairIs ps (Some x)
-pair_given s h ps behind x f is stands p =
-    let first = first_pair s x.0.now behind ps f p in
-    let m = meant behind h (slice_bytes x.2) is first.at in
+pub pair_given : (s : List ℕ) (h : Head) (ps : Entries) (after : List ℕ) (x : Bor (List ℕ) × ValueRef × SliceInput) → IsKeyFrame s x.0.now after
+    → IsHead after h (slice_bytes x.2) → ((v : Tree) → HeadMeans h v → Denotes x.1 v) → TableBody s ps → NextPairIs ps (Some x)
+pair_given s h ps after x f is stands p =
+    let first = first_pair s x.0.now after ps f p in
+    let m = meant after h (slice_bytes x.2) is first.at in
     let given : NextPairIs (entry x.0.now first.at.value_there first.others) (Some x) =
     (refl, stands first.at.value_there m.0, subst (λ (t : List ℕ). TableBody t first.others) m.1 first.more_pairs) in
     subst (λ (qs : Entries). NextPairIs qs (Some x)) (sym first.are) given

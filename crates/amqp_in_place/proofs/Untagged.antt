@@ -4,7 +4,7 @@ use Rattle.std.specs.Int.{w32}
 use Rattle.amqp_value_core.specs.declared.types.amqp_type.AMQPType.TheVariants as amqp
 use Rattle.amqp_value_core.specs.Values.{Entries, table}
 use Rattle.amqp_value_core.specs.Nesting.{WireWithin, OutcomeWithin}
-use Rattle.amqp_value_core.specs.Outcomes.{Reading, found, more, malformed, frame_lack, NeedsMoreOr, FrontBy}
+use Rattle.amqp_value_core.specs.Outcomes.{Reading, found, more, malformed, frame_lack, NeedsMoreOr, PrefixBy}
 use Rattle.amqp_value_core.specs.Inputs.{slice_bytes}
 use Rattle.amqp_value_core.specs.declared.input.SliceInput.{SliceInput}
 use Rattle.amq_protocol_types.specs.declared.parsing.errors.Err.TheVariants.{Incomplete, Error, Failure}
@@ -12,7 +12,7 @@ use Rattle.amq_protocol_types.specs.declared.parsing.errors.Needed.TheVariants.{
 use Rattle.amq_protocol_types.specs.declared.parsing.errors.ErrorKind.TheVariants.{MapOpt, MapRes, Eof, OutOfMemory, TooLarge}
 use Rattle.amq_protocol_types.specs.declared.parsing.limits.Limits.{Limits}
 use Rattle.amq_protocol_types.specs.parsing.Refusals.{Refusal}
-use Rattle.amq_protocol_types.specs.parsing.ParseResults.{Refuses}
+use Rattle.amq_protocol_types.specs.parsing.ParseResults.{IsRefusal}
 use Rattle.amq_protocol_types.specs.parsing.Bodies.{IsLengthPrefixed, IsCutLengthPrefixed, IsTable, IsNoTable}
 use Rattle.amq_protocol_types.specs.parsing.Headers.{extent}
 use Rattle.amq_protocol_types.specs.parsing.Untagged.{tagged, UntaggedWithin, RefusesUntagged}
@@ -29,12 +29,12 @@ table_head s i rest f = (amqp.FieldTable, s, (70, refl, refl), (refl, f))
 lacking : (d : ℕ) (s : List ℕ) (o : Reading) → IsCutLengthPrefixed s o → OutcomeWithin d (tagged amqp.FieldTable s) o
 lacking d s o x = by (frame_lack w32 s) x.0 x.1
   where
-    by : (n : ℕ) → 0 < n → o ≡ more n → NeedsMoreOr n (FrontBy (WireWithin d) (tagged amqp.FieldTable s) o) o
+    by : (n : ℕ) → 0 < n → o ≡ more n → NeedsMoreOr n (PrefixBy (WireWithin d) (tagged amqp.FieldTable s) o) o
     by zero some e = absurd (omega (arith, some))
     by (suc n) some e = e
 
 -- the error of the length-prefixed field is the table's, and needs no memory
-pub cut_table : (l : Limits) (s : List ℕ) (e : Refusal) → extent (tagged amqp.FieldTable s) ≤ l.frame → Refuses (IsCutLengthPrefixed s) ⊥ e
+pub cut_table : (l : Limits) (s : List ℕ) (e : Refusal) → extent (tagged amqp.FieldTable s) ≤ l.frame → IsRefusal (IsCutLengthPrefixed s) ⊥ e
     → RefusesUntagged l amqp.FieldTable s e × NeedsNoMemory e
 cut_table l s (Incomplete Unknown) fits x = absurd x
 cut_table l s (Incomplete (Size n)) fits x = ((fits, lacking l.depth s (more n) x), tt)

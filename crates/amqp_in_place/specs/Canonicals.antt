@@ -26,8 +26,8 @@ abbrev pub IsReadAsWritten : Limits → List ℕ → Type 0
 IsReadAsWritten l s = (v : Tree) × Within l s (found v []) × (s ≡ text v)
 
 -- a canonical encoding is before `rest`, and containers nest at most d deep in its value
-abbrev pub CanonFront : ℕ → List ℕ → List ℕ → Type 0
-CanonFront d s rest = (w : List ℕ) × (v : Tree) × Canon w v × (depth v ≤ d) × (s ≡ w ++ rest)
+abbrev pub CanonPrefix : ℕ → List ℕ → List ℕ → Type 0
+CanonPrefix d s rest = (w : List ℕ) × (v : Tree) × Canon w v × (depth v ≤ d) × (s ≡ w ++ rest)
 
 -- the bytes are canonical encodings one after another, and containers nest at most d deep in each
 abbrev pub CanonValues : ℕ → List ℕ → Type 0

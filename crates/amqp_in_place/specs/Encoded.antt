@@ -3,7 +3,7 @@ use Rattle.std.specs.Prelude.{ℕ, ◌≡◌, List, [], ◌++◌}
 use Rattle.amqp_value_core.specs.Values.{Tree, octets, Trees, no_trees, tree, Entries, no_entries, entry}
 use Rattle.amqp_value_core.specs.Grammar.{Wire, ArrayBody, TableBody, no_values, value, no_pairs, pair}
 use Rattle.amqp_in_place.specs.declared.refs.ValueRef.{ValueRef}
-use Rattle.amqp_in_place.specs.Places.{LiesIn}
+use Rattle.amqp_in_place.specs.Places.{IsViewIn}
 
 -- the encodings of the values in a body, each as a byte array
 abbrev pub values_encoded : (body : List ℕ) (vs : Trees) → ArrayBody body vs → Trees
@@ -29,4 +29,4 @@ EncodedAt e s rest = (w : List ℕ) × (v : Tree) × Wire w v × (s ≡ w ++ res
 
 -- what is referred to is that of exactly the encoding: of a container all bytes of its body
 abbrev pub IsViewOf : ValueRef → Tree → Type 0
-IsViewOf r e = (w : List ℕ) × LiesIn w r [] × (e ≡ octets w)
+IsViewOf r e = (w : List ℕ) × IsViewIn w r [] × (e ≡ octets w)

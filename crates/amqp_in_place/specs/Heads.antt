@@ -18,10 +18,10 @@ use Rattle.amqp_in_place.specs.Refs.{array_body, table_body, plain_tree, Denotes
 use Rattle.amqp_in_place.specs.Bodies.{HasEntries}
 
 -- the value isn't a container
-abbrev pub IsPlain : ValueRef → Type 0
-IsPlain (at.FieldArray a) = ⊥
-IsPlain (at.FieldTable t) = ⊥
-IsPlain _ = Unit {0}
+abbrev pub IsPlainRef : ValueRef → Type 0
+IsPlainRef (at.FieldArray a) = ⊥
+IsPlainRef (at.FieldTable t) = ⊥
+IsPlainRef _ = Unit {0}
 
 -- the type isn't one of a container
 abbrev pub IsPlainType : AMQPType → Type 0
@@ -31,7 +31,7 @@ IsPlainType _ = Unit {0}
 
 -- the head of a payload of the type: a scalar or a string, or the body of a container
 abbrev pub RawHeadIs : AMQPType → List ℕ → Head → List ℕ → Type 0
-RawHeadIs type s (head.Plain r) rest = IsPlain r × IsPlainType type × RawOutcome type s (found (plain_tree r) rest)
+RawHeadIs type s (head.Plain r) rest = IsPlainRef r × IsPlainType type × RawOutcome type s (found (plain_tree r) rest)
 RawHeadIs type s (head.FieldArray i) rest = (type ≡ amqp.FieldArray) × IsLengthPrefixed s (slice_bytes i) rest
 RawHeadIs type s (head.FieldTable i) rest = (type ≡ amqp.FieldTable) × IsLengthPrefixed s (slice_bytes i) rest
 
@@ -44,14 +44,14 @@ abbrev pub AtAnyDepth : List ℕ → Reading → Type 0
 AtAnyDepth s o = (d : ℕ) → OutcomeWithin d s o
 
 -- v is what the head means
-abbrev pub Means : Head → Tree → Type 0
-Means (head.Plain r) v = Denotes r v
-Means (head.FieldArray i) v = (vs : Trees) × ArrayBody (slice_bytes i) vs × (v ≡ array vs)
-Means (head.FieldTable i) v = (es : Entries) × HasEntries (slice_bytes i) es × (v ≡ table es)
+abbrev pub HeadMeans : Head → Tree → Type 0
+HeadMeans (head.Plain r) v = Denotes r v
+HeadMeans (head.FieldArray i) v = (vs : Trees) × ArrayBody (slice_bytes i) vs × (v ≡ array vs)
+HeadMeans (head.FieldTable i) v = (es : Entries) × HasEntries (slice_bytes i) es × (v ≡ table es)
 
 -- the head means something
-abbrev pub IsMeant : Head → Type 0
-IsMeant h = (v : Tree) × Means h v
+abbrev pub HeadHasMeaning : Head → Type 0
+HeadHasMeaning h = (v : Tree) × HeadMeans h v
 
 -- the value is what is in the head
 abbrev pub RefersTo : Head → ValueRef → Type 0

@@ -2,6 +2,9 @@
 use Rattle.std.specs.Prelude.{ℕ, ◌≡◌, ◌+◌, List, ◌++◌, length}
 use Rattle.amqp_value_core.specs.Values.{Tree}
 use Rattle.amqp_value_core.specs.Outcomes.{Reading, found, unknown, Outcome}
+use Rattle.amqp_value_core.specs.Nesting.{OutcomeWithin}
+use Rattle.amqp_in_place.specs.declared.refs.ValueRef.{ValueRef}
+use Rattle.amqp_in_place.specs.Refs.{Denotes}
 use Rattle.amq_protocol_types.specs.declared.parsing.errors.Err.TheVariants.{Failure}
 use Rattle.amq_protocol_types.specs.declared.parsing.errors.ErrorKind.TheVariants.{MapOpt}
 use Rattle.amq_protocol_types.specs.parsing.ParseResults.{RefusesAs}
@@ -16,6 +19,11 @@ NeedsNoMemory _ = Unit {0}
 -- denotes no type
 abbrev pub HeadRefuses : (Reading → Type 0) → Refusal → Type 0
 HeadRefuses Is e = RefusesAs (λ kind. (kind ≡ MapOpt) × Is unknown) Is ⊥ e
+
+-- a value is read from the start of s, in which containers nest at most d deep: `view` denotes it,
+-- and `rest` is after it
+abbrev pub IsReadInPlaceWithin : ℕ → List ℕ → ValueRef → List ℕ → Type 0
+IsReadInPlaceWithin d s view rest = (v : Tree) × Denotes view v × OutcomeWithin d s (found v rest)
 
 -- the rest is what is left of s after the bytes before it
 abbrev pub IsLeft : List ℕ → List ℕ → Type 0

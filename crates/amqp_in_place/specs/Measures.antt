@@ -1,9 +1,12 @@
 -- What an encoding holds: how many values are written in it.
-use Rattle.std.specs.Prelude.{ℕ, suc, ◌+◌, ◌≤◌, ◌≡◌, List, ◌++◌}
+use Rattle.std.specs.Prelude.{ℕ, suc, ◌+◌, ◌≡◌, List, ◌++◌}
 use Rattle.amqp_value_core.specs.declared.types.amqp_type.AMQPType.{AMQPType}
 use Rattle.amqp_value_core.specs.Values.{Tree, Trees, Entries}
 use Rattle.amqp_value_core.specs.Grammar.{Wire, Raw, ArrayBody, TableBody, wire, raw_fixed, raw_short, raw_long, raw_octets, raw_array, raw_table, no_values, value, no_pairs, pair}
 use Rattle.amqp_value_core.specs.Nesting.{nesting, body_nesting, pairs_nesting}
+use Rattle.amqp_in_place.specs.declared.refs.ValueRef.{ValueRef}
+use Rattle.amqp_in_place.specs.Refs.{Denotes}
+use Rattle.amqp_in_place.specs.Places.{IsViewIn}
 
 -- a value counts 1, and a container also what is in its body: of equal keys each pair's value
 abbrev mutual
@@ -30,30 +33,29 @@ abbrev mutual
 abbrev pub OfEncoding : List ℕ → ((w : List ℕ) (v : Tree) → Wire w v → Type 0) → Type 0
 OfEncoding s P = (w rest : List ℕ) (v : Tree) (p : Wire w v) → s ≡ w ++ rest → P w v p
 
--- an encoding is before `rest`: n values are written in it, and its containers nest l levels deep,
--- which is at most d
-pub record HoldsFront (d : ℕ) (s rest : List ℕ) (n l : ℕ) : Type 0 where
+-- a value is referred to that is at the start of some bytes
+abbrev pub IsValueView : ValueRef → Type 0
+IsValueView r = (s rest : List ℕ) × (v : Tree) × IsViewIn s r rest × Denotes r v
+
+-- an encoding is before `rest`: n values are written in it, and its containers nest l levels deep
+pub record HoldsFirst (s rest : List ℕ) (n l : ℕ) : Type 0 where
   pub encoding : List ℕ
   pub meaning : Tree
   pub is_wire : Wire encoding meaning
-  pub front : s ≡ encoding ++ rest
+  pub prefix : s ≡ encoding ++ rest
   pub values : n ≡ written encoding meaning is_wire
   pub levels : l ≡ nesting encoding meaning is_wire
-  pub within : l ≤ d
 
--- the bytes are values one after another: n are written in them, and containers nest l levels
--- deep, which is at most d
-pub record HoldsValues (d : ℕ) (s : List ℕ) (n l : ℕ) : Type 0 where
+-- the bytes are values one after another: n are written in them, and containers nest l levels deep
+pub record HoldsValues (s : List ℕ) (n l : ℕ) : Type 0 where
   pub trees : Trees
   pub are : ArrayBody s trees
   pub values : n ≡ body_written s trees are
   pub levels : l ≡ body_nesting s trees are
-  pub within : l ≤ d
 
 -- and so of pairs
-pub record HoldsPairs (d : ℕ) (s : List ℕ) (n l : ℕ) : Type 0 where
+pub record HoldsPairs (s : List ℕ) (n l : ℕ) : Type 0 where
   pub pairs : Entries
   pub are : TableBody s pairs
   pub values : n ≡ pairs_written s pairs are
   pub levels : l ≡ pairs_nesting s pairs are
-  pub within : l ≤ d

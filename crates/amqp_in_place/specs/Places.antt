@@ -14,17 +14,17 @@ IsFramed type s body rest = (c : ℕ) × (kind c ≡ Some type) × (length body 
 
 -- the value is at the beginning of s, and `rest` is after it: a string, a byte array or the
 -- body of a container after a type tag and its length, and any other value's encoding
-abbrev pub LiesIn : List ℕ → ValueRef → List ℕ → Type 0
-LiesIn s (at.LongString b) rest = IsFramed amqp.LongString s b.now rest
-LiesIn s (at.ByteArray b) rest = IsFramed amqp.ByteArray s b.now rest
-LiesIn s (at.FieldArray a) rest = IsFramed amqp.FieldArray s (array_body a) rest
-LiesIn s (at.FieldTable t) rest = IsFramed amqp.FieldTable s (table_body t) rest
-LiesIn s r rest = (w : List ℕ) × Wire w (plain_tree r) × (s ≡ w ++ rest)
+abbrev pub IsViewIn : List ℕ → ValueRef → List ℕ → Type 0
+IsViewIn s (at.LongString b) rest = IsFramed amqp.LongString s b.now rest
+IsViewIn s (at.ByteArray b) rest = IsFramed amqp.ByteArray s b.now rest
+IsViewIn s (at.FieldArray a) rest = IsFramed amqp.FieldArray s (array_body a) rest
+IsViewIn s (at.FieldTable t) rest = IsFramed amqp.FieldTable s (table_body t) rest
+IsViewIn s r rest = (w : List ℕ) × Wire w (plain_tree r) × (s ≡ w ++ rest)
 
 -- and so somewhere in s
-abbrev pub LiesWithin : List ℕ → ValueRef → Type 0
-LiesWithin s r = (before behind rest : List ℕ) × (s ≡ before ++ behind) × LiesIn behind r rest
+abbrev pub IsViewWithin : List ℕ → ValueRef → Type 0
+IsViewWithin s r = (before after rest : List ℕ) × (s ≡ before ++ after) × IsViewIn after r rest
 
 -- the key is at the beginning of s after its length in one byte, and the value is after it
-abbrev pub PairLiesIn : List ℕ → List ℕ → ValueRef → List ℕ → Type 0
-PairLiesIn s key r rest = (behind : List ℕ) × (s ≡ short_field key ++ behind) × LiesIn behind r rest
+abbrev pub IsPairViewIn : List ℕ → List ℕ → ValueRef → List ℕ → Type 0
+IsPairViewIn s key r rest = (after : List ℕ) × (s ≡ short_field key ++ after) × IsViewIn after r rest

@@ -88,6 +88,20 @@ inside rules (suc depth) amqp.FieldArray b = option_map (further 5) (in_entries 
 inside rules (suc depth) amqp.FieldTable b = option_map (further 5) (in_entries (in_pair rules (in_value rules (inside rules depth))) pair_len 0 (drop 4 b))
 inside rules depth _ b = None
 
+-- the first problem in a value, in values and in pairs, if containers may nest `depth` deep in each
+-- value
+abbrev pub value_problem : Rules → ℕ → Search
+value_problem rules depth = in_value rules (inside rules depth)
+
+abbrev pub values_problem : Rules → ℕ → Search
+values_problem rules depth = in_entries (value_problem rules depth) extent 0
+
+abbrev pub pair_problem : Rules → ℕ → Search
+pair_problem rules depth = in_pair rules (value_problem rules depth)
+
+abbrev pub pairs_problem : Rules → ℕ → Search
+pairs_problem rules depth = in_entries (pair_problem rules depth) pair_len 0
+
 -- the first problem in the value at the start of s, within the limits
 abbrev pub problem_of : Rules → Limits → Search
 problem_of rules l s = if nat_lt l.frame (extent s) then Some (here TooLarge) else in_value rules (inside rules l.depth) s

@@ -11,19 +11,19 @@ use Rattle.amqp_in_place.specs.declared.rabbitmq.warning.KeyFault.TheVariants.{R
 use Rattle.amqp_in_place.specs.RabbitmqWarnings.{is_faulty}
 
 -- the set has the keys, if it is needed
-abbrev pub Has : KeyFault → BTreeSet (Bor (List ℕ)) → List (List ℕ) → Type 0
-Has Repeated t keys = (k : List ℕ) → contains_by (λ (j : Bor (List ℕ)). slice_cmp nat_cmp k j.now) t ≡ list_any (same_bytes k) keys
-Has NotUtf8 t keys = Unit {0}
+abbrev pub HasKeys : KeyFault → BTreeSet (Bor (List ℕ)) → List (List ℕ) → Type 0
+HasKeys Repeated t keys = (k : List ℕ) → contains_by (λ (j : Bor (List ℕ)). slice_cmp nat_cmp k j.now) t ≡ list_any (same_bytes k) keys
+HasKeys NotUtf8 t keys = Unit {0}
 
 -- what is reported of a key is right, after whichever keys the set had, and then the set has it too
-abbrev pub Tells : KeyFault → BTreeSet (Bor (List ℕ)) → BTreeSet (Bor (List ℕ)) → List ℕ → Bool → Type 0
-Tells fault t u k faulty = (keys : List (List ℕ)) → Has fault t keys → (faulty ≡ is_faulty fault keys k) × (faulty ≡ false → Has fault u (k ∷ keys))
+abbrev pub IsKeyFaultReport : KeyFault → BTreeSet (Bor (List ℕ)) → BTreeSet (Bor (List ℕ)) → List ℕ → Bool → Type 0
+IsKeyFaultReport fault t u k faulty = (keys : List (List ℕ)) → HasKeys fault t keys → (faulty ≡ is_faulty fault keys k) × (faulty ≡ false → HasKeys fault u (k ∷ keys))
 
 -- the key of the pair at the start, or its bytes that are left, and the bytes after it
 abbrev pub key_of : List ℕ → List ℕ
 key_of [] = []
 key_of (k ∷ s) = take k s
 
-abbrev pub behind_key : List ℕ → List ℕ
-behind_key [] = []
-behind_key (k ∷ s) = drop k s
+abbrev pub after_key : List ℕ → List ℕ
+after_key [] = []
+after_key (k ∷ s) = drop k s

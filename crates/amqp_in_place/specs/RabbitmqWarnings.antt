@@ -22,34 +22,49 @@ is_faulty Repeated earlier k = list_any (same_bytes k) earlier
 is_faulty NotUtf8 earlier k = not (is_utf8 k)
 
 -- the number of bytes before the first pair whose key has the fault, if there is one
-abbrev pub Place : Type 0
-Place = List ℕ → Option ℕ
+abbrev pub WarningPlace : Type 0
+WarningPlace = List ℕ → Option ℕ
 
 -- that in values one after another: `value` is that in the value at the start, and n how many bytes
 -- are left of a value before them
-abbrev pub fault_in_values : Place → ℕ → Place
+abbrev pub fault_in_values : WarningPlace → ℕ → WarningPlace
 fault_in_values value n [] = None
 fault_in_values value zero (c ∷ s) = option_or (value (c ∷ s)) (option_map suc (fault_in_values value (extent (c ∷ s) - 1) s))
 fault_in_values value (suc n) (c ∷ s) = option_map suc (fault_in_values value n s)
 
 -- and in pairs, after those with the keys `earlier`: the pair at the start, then one in its value,
 -- then one in the pairs after it
-abbrev pub fault_in_pairs : KeyFault → Place → List (List ℕ) → ℕ → Place
+abbrev pub fault_in_pairs : KeyFault → WarningPlace → List (List ℕ) → ℕ → WarningPlace
 fault_in_pairs fault value earlier n [] = None
 fault_in_pairs fault value earlier zero (k ∷ s) = if is_faulty fault earlier (take k s) then Some 0 else option_or (option_map (λ n. 1 + k + n) (value (drop k s))) (option_map suc (fault_in_pairs fault value (take k s ∷ earlier) (pair_len (k ∷ s) - 1) s))
 fault_in_pairs fault value earlier (suc n) (k ∷ s) = option_map suc (fault_in_pairs fault value earlier n s)
 
 -- and in a value, by what is in its payload
-abbrev pub fault_in_value : (Option AMQPType → Place) → Place
+abbrev pub fault_in_value : (Option AMQPType → WarningPlace) → WarningPlace
 fault_in_value inside [] = None
 fault_in_value inside (c ∷ b) = inside (kind c) (take (extent (c ∷ b) - 1) b)
 
 -- in a payload, with the bytes before it from its type tag on, and containers `depth` deep: the
 -- entries of a container are 5 bytes further on
-abbrev pub fault_inside : KeyFault → ℕ → Option AMQPType → Place
+abbrev pub fault_inside : KeyFault → ℕ → Option AMQPType → WarningPlace
 fault_inside fault (suc depth) (Some amqp.FieldArray) b = option_map (λ n. 5 + n) (fault_in_values (fault_in_value (fault_inside fault depth)) 0 (drop 4 b))
 fault_inside fault (suc depth) (Some amqp.FieldTable) b = option_map (λ n. 5 + n) (fault_in_pairs fault (fault_in_value (fault_inside fault depth)) [] 0 (drop 4 b))
 fault_inside fault depth type b = None
+
+-- the first pair with the fault in a value, in values and in pairs, if containers nest `depth` deep
+-- in each value
+abbrev pub value_fault : KeyFault → ℕ → WarningPlace
+value_fault fault depth = fault_in_value (fault_inside fault depth)
+
+abbrev pub values_fault : KeyFault → ℕ → WarningPlace
+values_fault fault depth = fault_in_values (value_fault fault depth) 0
+
+abbrev pub pairs_fault : KeyFault → ℕ → WarningPlace
+pairs_fault fault depth = fault_in_pairs fault (value_fault fault depth) [] 0
+
+-- and in a table without its type tag: as with the type tag, and one byte less before it
+abbrev pub table_fault : KeyFault → ℕ → WarningPlace
+table_fault fault depth s = option_map (λ n. n - 1) (value_fault fault depth (id_of amqp.FieldTable ∷ s))
 
 -- the first of each in the value at the start, and whether its bytes without the type tag, and the
 -- 8 bytes of a frame, are more than the frame-max, if that isn't 0

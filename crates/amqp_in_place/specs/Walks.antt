@@ -9,7 +9,7 @@ use Rattle.amqp_value_core.specs.declared.input.SliceInput.{SliceInput}
 use Rattle.amqp_in_place.specs.declared.refs.ValueRef.{ValueRef}
 use Rattle.amqp_in_place.specs.Refs.{Denotes}
 use Rattle.amqp_in_place.specs.Bodies.{HasValues, HasPairs}
-use Rattle.amqp_in_place.specs.Written.{IsWritten, WrittenValues, WrittenPairs, WrittenAt}
+use Rattle.amqp_in_place.specs.Written.{IsWrittenAs, WrittenValues, WrittenPairs, WrittenAt}
 use Rattle.amqp_in_place.specs.Encoded.{IsViewOf, EncodedValues, EncodedPairs, EncodedAt}
 
 -- the first of the values is returned, and the bytes of the others: a value by `Is`, bytes by
@@ -23,7 +23,7 @@ abbrev pub NextValueIs : Trees → Option (ValueRef × SliceInput) → Type 0
 NextValueIs vs x = NextValueBy Denotes ArrayBody vs x
 
 abbrev pub NextWrittenIs : Trees → Option (ValueRef × SliceInput) → Type 0
-NextWrittenIs ts x = NextValueBy IsWritten WrittenValues ts x
+NextWrittenIs ts x = NextValueBy IsWrittenAs WrittenValues ts x
 
 abbrev pub NextViewIs : Trees → Option (ValueRef × SliceInput) → Type 0
 NextViewIs es x = NextValueBy IsViewOf EncodedValues es x
@@ -45,8 +45,8 @@ MorePairs n None = Unit {0}
 MorePairs n (Some x) = (length (slice_bytes x.2) < n) × ∥ HasPairs (slice_bytes x.2) ∥₁
 
 -- a value is read from the start
-abbrev pub HasFront : List ℕ → Type 0
-HasFront s = (v : Tree) × (rest : List ℕ) × Outcome s (found v rest)
+abbrev pub HasEncodingAtStart : List ℕ → Type 0
+HasEncodingAtStart s = (v : Tree) × (rest : List ℕ) × Outcome s (found v rest)
 
 -- the value is read from the start of s, and `rest` is left
 abbrev pub IsReadAt : Tree → List ℕ → List ℕ → Type 0
@@ -111,7 +111,7 @@ FoundIs v r = FoundBy Denotes v r
 
 -- what is found is the tree as it is written, if there is one
 abbrev pub WrittenIs : Option Tree → Option ValueRef → Type 0
-WrittenIs t r = FoundBy IsWritten t r
+WrittenIs t r = FoundBy IsWrittenAs t r
 
 -- what is found is a view of exactly the encoding, if there is one
 abbrev pub ViewIs : Option Tree → Option ValueRef → Type 0

@@ -37,10 +37,10 @@ abbrev pub WrittenPairs : List ℕ → Entries → Type 0
 WrittenPairs s ps = (es : Entries) × (p : TableBody s es) × (ps ≡ pairs_written s es p)
 
 -- t is the value that is referred to, as it is written
-abbrev pub IsWritten : ValueRef → Tree → Type 0
-IsWritten (at.FieldArray a) t = (ts : Trees) × WrittenValues (array_body a) ts × (t ≡ array ts)
-IsWritten (at.FieldTable b) t = (ps : Entries) × WrittenPairs (table_body b) ps × (t ≡ table ps)
-IsWritten r t = t ≡ plain_tree r
+abbrev pub IsWrittenAs : ValueRef → Tree → Type 0
+IsWrittenAs (at.FieldArray a) t = (ts : Trees) × WrittenValues (array_body a) ts × (t ≡ array ts)
+IsWrittenAs (at.FieldTable b) t = (ps : Entries) × WrittenPairs (table_body b) ps × (t ≡ table ps)
+IsWrittenAs r t = t ≡ plain_tree r
 
 -- an encoding is at the start of s and `rest` after it; t is its value, as it is written
 abbrev pub WrittenAt : Tree → List ℕ → List ℕ → Type 0

@@ -8,7 +8,7 @@ ghost use Rattle.amqp_in_place.specs.Refs.{array_body};
 ghost use Rattle.amqp_in_place.specs.Walks.{FoundIs, WrittenIs, ViewIs, tree_at};
 ghost use Rattle.amqp_in_place.specs.Written.{WrittenValues};
 ghost use Rattle.amqp_in_place.specs.Encoded.{EncodedValues};
-ghost use Rattle.amqp_in_place.specs.Places.{LiesWithin};
+ghost use Rattle.amqp_in_place.specs.Places.{IsViewWithin};
 
 use super::refs::{ArrayRef, ValueRef};
 use super::steps::next_value;
@@ -37,16 +37,16 @@ impl<'a> ArrayRef<'a> {
         ensures value { (vs : Trees) → ArrayBody (array_body self.entry) vs → FoundIs (tree_at index vs) result }
         ensures written { (ts : Trees) → WrittenValues (array_body self.entry) ts → WrittenIs (tree_at index ts) result }
         ensures view { (es : Trees) → EncodedValues (array_body self.entry) es → ViewIs (tree_at index es) result }
-        ensures lies { IfSome result (λ r. LiesWithin (array_body self.entry) r) }
+        ensures inside { IfSome result (λ r. IsViewWithin (array_body self.entry) r) }
     {
         let mut left = index;
         let mut rest = self.body();
-        'values: while let Some((value, behind)) = next_value(rest) {
+        'values: while let Some((value, after)) = next_value(rest) {
             if left == 0 {
                 return Some(value);
             }
             left -= 1;
-            rest = behind;
+            rest = after;
         }
         None
     }

@@ -3,7 +3,7 @@
 ghost use Rattle.std.specs.Prelude.{◌≡◌, ◌+◌, true, false, ℕ, List, length, None, IfSome};
 ghost use Rattle.amqp_value_core.specs.Inputs.{slice_bytes};
 ghost use Rattle.amq_protocol_types.specs.parsing.Untagged.{tagged};
-ghost use Rattle.amqp_in_place.specs.Canonicals.{IsCanonicalLen, IsCanonicalWithin, IsReadAsWritten, CanonFront, CanonValues, CanonEntries, IsAbove, IsFirstSpelling};
+ghost use Rattle.amqp_in_place.specs.Canonicals.{IsCanonicalLen, IsCanonicalWithin, IsReadAsWritten, CanonPrefix, CanonValues, CanonEntries, IsAbove, IsFirstSpelling};
 
 use super::head::{Head, read_head, read_key, read_table_head};
 use super::read::check_utf8;
@@ -76,8 +76,8 @@ pub fn canonical_table_len(bytes: &[u8], limits: Limits) -> Option<usize>
 // What is after a canonical encoding in which containers nest at most `depth` deep.
 #[cycle(canonical)]
 fn after_canonical<'a>(i: SliceInput<'a>, depth: usize) -> Option<SliceInput<'a>>
-    ensures rest { IfSome result (λ rest. CanonFront depth (slice_bytes i.entry) (slice_bytes rest)) }
-    ensures none { result ≡ None → (rest : List ℕ) → CanonFront depth (slice_bytes i.entry) rest → ⊥ }
+    ensures rest { IfSome result (λ rest. CanonPrefix depth (slice_bytes i.entry) (slice_bytes rest)) }
+    ensures none { result ≡ None → (rest : List ℕ) → CanonPrefix depth (slice_bytes i.entry) rest → ⊥ }
 {
     if !is_first_spelling(i.as_slice()) {
         return None;
@@ -121,7 +121,7 @@ fn are_canonical_pairs<'a>(body: SliceInput<'a>, depth: usize) -> bool
     let mut rest = body;
     let mut previous: Option<&[u8]> = None;
     'pairs: while rest.input_len() > 0 {
-        let Ok((behind, key)) = read_key(rest) else {
+        let Ok((after_key, key)) = read_key(rest) else {
             return false;
         };
         let key = key.as_slice();
@@ -131,7 +131,7 @@ fn are_canonical_pairs<'a>(body: SliceInput<'a>, depth: usize) -> bool
         let Ok(()) = check_utf8(key) else {
             return false;
         };
-        let Some(after) = after_canonical(behind, depth) else {
+        let Some(after) = after_canonical(after_key, depth) else {
             return false;
         };
         rest = after;

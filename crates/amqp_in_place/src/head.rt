@@ -1,10 +1,12 @@
 //! What follows a type tag, one level deep.
 
+// Tactics at functions: each names what all arms of a `match`, or all errors, are proved by.
+
 ghost use Rattle.std.specs.Prelude.{◌≡◌, ◌≢◌, ◌≤◌, MatchResult, IfErr, IfOk};
 ghost use Rattle.amqp_value_core.specs.Payloads.{RawOutcome};
 ghost use Rattle.amqp_value_core.specs.Inputs.{slice_bytes};
 ghost use Rattle.amq_protocol_types.specs.parsing.PayloadResults.{OnlyLacks};
-ghost use Rattle.amq_protocol_types.specs.parsing.ParseResults.{Refuses};
+ghost use Rattle.amq_protocol_types.specs.parsing.ParseResults.{IsRefusal};
 ghost use Rattle.amq_protocol_types.specs.parsing.Bodies.{IsLengthPrefixed};
 ghost use Rattle.amq_protocol_types.specs.parsing.Headers.{extent};
 ghost use Rattle.amq_protocol_types.specs.parsing.Untagged.{tagged, RefusesUntagged};
@@ -31,7 +33,7 @@ pub(crate) enum Head<'a> {
 
 // Reads a type tag and what is after it, one level deep.
 #[inline(always)]
-#[tactic(auto, using(crate::proofs::HeadLemmas::head_answer, crate::proofs::HeadLemmas::no_head))]
+#[tactic(auto, using(crate::proofs::HeadLemmas::head_result, crate::proofs::HeadLemmas::no_head))]
 pub(crate) fn read_head<'a>(i: SliceInput<'a>) -> ParserResult<SliceInput<'a>, Head<'a>>
     ensures { MatchResult result
         (λ x. IsHead (slice_bytes i.entry) x.1 (slice_bytes x.0))
@@ -43,7 +45,7 @@ pub(crate) fn read_head<'a>(i: SliceInput<'a>) -> ParserResult<SliceInput<'a>, H
 
 // Reads what is after a type tag.
 #[inline(always)]
-#[tactic(auto, using(amq_protocol_types::proofs::ParsingLaws::long_found, amq_protocol_types::proofs::ParsingLaws::octets_found, amq_protocol_types::proofs::ParsingLaws::void_found, amq_protocol_types::proofs::ParsingLaws::unsigned_outcome, crate::proofs::HeadLemmas::unsigned_lacks))]
+#[tactic(auto, using(crate::proofs::HeadLemmas::payload_heads))]
 fn read_payload_head<'a>(
     amqp_type: AMQPType,
     i: SliceInput<'a>,
@@ -134,8 +136,10 @@ pub(crate) fn read_table_head<'a>(
     i: SliceInput<'a>,
     limits: Limits,
 ) -> ParserResult<SliceInput<'a>, SliceInput<'a>>
-    ensures body { IfOk result (λ x. IsLengthPrefixed (slice_bytes i.entry) (slice_bytes x.1) (slice_bytes x.0)) }
-    ensures fits { IfOk result (λ _. extent (tagged AMQPType.FieldTable (slice_bytes i.entry)) ≤ limits.frame) }
+    ensures body { IfOk result (λ x.
+        IsLengthPrefixed (slice_bytes i.entry) (slice_bytes x.1) (slice_bytes x.0)) }
+    ensures fits { IfOk result (λ _.
+        extent (tagged AMQPType.FieldTable (slice_bytes i.entry)) ≤ limits.frame) }
     ensures err { IfErr result (RefusesUntagged limits AMQPType.FieldTable (slice_bytes i.entry)) }
     ensures no_memory { IfErr result NeedsNoMemory }
 {
@@ -160,7 +164,7 @@ fn tagged_table_len<'a>(i: SliceInput<'a>) -> usize
 pub(crate) fn read_key<'a>(i: SliceInput<'a>) -> ParserResult<SliceInput<'a>, SliceInput<'a>>
     ensures { MatchResult result
         (λ x. IsKeyFrame (slice_bytes i.entry) (slice_bytes x.1) (slice_bytes x.0))
-        (Refuses (RawOutcome AMQPType.ShortString (slice_bytes i.entry)) ⊥) }
+        (IsRefusal (RawOutcome AMQPType.ShortString (slice_bytes i.entry)) ⊥) }
 {
     let (i, len) = parse_short_short_uint(i)?;
     let len = usize::from(len);

@@ -58,13 +58,13 @@ impl<'a> Iterator for ArrayValues<'a> {
     ghost use Rattle.amqp_value_core.specs.Grammar.{ArrayBody};
     ghost use Rattle.amqp_in_place.specs.Suffix.{values_left};
     ghost use Rattle.amqp_in_place.specs.Walks.{ValueStep};
-    ghost use Rattle.amqp_in_place.specs.Places.{LiesIn};
+    ghost use Rattle.amqp_in_place.specs.Places.{IsViewIn};
 
     type Item = ValueRef<'a>;
 
     ghost next_gives = { λ s r t.
         ((vs : Trees) → ArrayBody (values_left s) vs → ValueStep vs r (values_left t))
-        × IfSome r (λ x. LiesIn (values_left s) x (values_left t)) };
+        × IfSome r (λ x. IsViewIn (values_left s) x (values_left t)) };
 
     ghost remaining = { λ s. at_most (length (values_left s)) };
 
@@ -82,13 +82,13 @@ impl<'a> Iterator for TablePairs<'a> {
     ghost use Rattle.amqp_value_core.specs.Grammar.{TableBody};
     ghost use Rattle.amqp_in_place.specs.Suffix.{pairs_left};
     ghost use Rattle.amqp_in_place.specs.Walks.{PairStep};
-    ghost use Rattle.amqp_in_place.specs.Places.{PairLiesIn};
+    ghost use Rattle.amqp_in_place.specs.Places.{IsPairViewIn};
 
     type Item = (&'a str, ValueRef<'a>);
 
     ghost next_gives = { λ s r t.
         ((ps : Entries) → TableBody (pairs_left s) ps → PairStep ps r (pairs_left t))
-        × IfSome r (λ x. PairLiesIn (pairs_left s) x.0.now x.1 (pairs_left t)) };
+        × IfSome r (λ x. IsPairViewIn (pairs_left s) x.0.now x.1 (pairs_left t)) };
 
     ghost remaining = { λ s. at_most (length (pairs_left s)) };
 

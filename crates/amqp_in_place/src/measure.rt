@@ -1,23 +1,22 @@
 //! How large an encoded value is, measured in place.
 
-ghost use Rattle.std.specs.Prelude.{◌≡◌, ◌+◌, ◌^◌, ◌<◌, ◌≤◌, max, drop, length, None, MatchResult, IfErr, IfOk, IfSome};
+ghost use Rattle.std.specs.Prelude.{ℕ, List, ◌≡◌, ◌+◌, ◌^◌, ◌<◌, ◌≤◌, max, drop, length, MatchResult, IfErr, IfOk};
 ghost use Rattle.amqp_value_core.specs.Values.{Tree, count, depth};
-ghost use Rattle.amqp_value_core.specs.Nesting.{nesting, OutcomeWithin};
-ghost use Rattle.amqp_value_core.specs.Outcomes.{found, malformed};
+ghost use Rattle.amqp_value_core.specs.Nesting.{nesting};
+ghost use Rattle.amqp_value_core.specs.Outcomes.{found};
 ghost use Rattle.amqp_value_core.specs.Inputs.{slice_bytes};
-ghost use Rattle.amq_protocol_types.specs.parsing.ParseResults.{Refuses};
-ghost use Rattle.amq_protocol_types.specs.parsing.Bodies.{IsNoBody, IsNoTable};
 ghost use Rattle.amq_protocol_types.specs.parsing.Limits.{Within, RefusesWithin};
 ghost use Rattle.amq_protocol_types.specs.parsing.Untagged.{tagged, UntaggedWithin, RefusesUntagged};
+ghost use Rattle.amqp_in_place.specs.Bodies.{HasValues, HasPairs};
 ghost use Rattle.amqp_in_place.specs.InPlaceResults.{NeedsNoMemory};
-ghost use Rattle.amqp_in_place.specs.Measures.{written, OfEncoding, HoldsFront, HoldsValues, HoldsPairs};
+ghost use Rattle.amqp_in_place.specs.Places.{IsViewIn};
+ghost use Rattle.amqp_in_place.specs.Measures.{written, OfEncoding, IsValueView, HoldsFirst, HoldsValues, HoldsPairs};
 
-use super::head::{Head, read_head, read_key, read_table_head};
-use super::read::check_utf8;
-use amq_protocol_types::parsing::errors::{lacks, refused};
-use amq_protocol_types::parsing::header::{Header, header_of};
-use amq_protocol_types::parsing::{ErrorKind, Limits, ParserError, ParserResult};
-use amqp_value_core::input::{ParsableInput, SliceInput};
+use super::read::{read_in_place, read_table_in_place};
+use super::refs::ValueRef;
+use super::steps::{next_pair, next_value};
+use amq_protocol_types::parsing::{Limits, ParserError};
+use amqp_value_core::input::SliceInput;
 use amqp_value_core::types::AMQPType;
 
 /// How large a value is, by its encoding.
@@ -33,7 +32,8 @@ pub struct Measure {
 }
 
 /// Measures the value at the start of the bytes, before it is parsed: with the errors of
-/// `read_in_place`, in one pass, without allocating.
+/// `read_in_place`, and without allocating. It reads the value in place, and then counts what is in
+/// the view.
 ///
 /// Limits on length and depth bound the memory of its tree loosely: 131 kB of small values become
 /// megabytes. The number of values, with the length, bounds it closely, so a caller may reject too
@@ -50,16 +50,8 @@ pub fn measure_value(bytes: &[u8], limits: Limits) -> Result<Measure, ParserErro
     ensures tree { IfOk result (λ m.
         OfEncoding bytes.now (λ w v p. (count v ≤ m.values) × (depth v ≤ m.levels))) }
 {
-    let i = SliceInput::new(bytes);
-    match header_of(i, limits.frame) {
-        Header::Unknown => Err(refused(ErrorKind::MapOpt)),
-        Header::TooLarge => Err(refused(ErrorKind::TooLarge)),
-        Header::Lacks(n) => Err(lacks(n)),
-        Header::Whole => {
-            let (rest, held) = held_by_value(i, limits.depth as usize)?;
-            Ok(held.in_bytes(bytes.len() - rest.input_len()))
-        }
-    }
+    let (value, rest) = read_in_place(bytes, limits)?;
+    Ok(held_by_value(value).in_bytes(bytes.len() - rest.len()))
 }
 
 /// Measures the table at the start of the bytes as `measure_value` does, without its type tag: its
@@ -81,18 +73,9 @@ pub fn measure_table(bytes: &[u8], limits: Limits) -> Result<Measure, ParserErro
     ensures tree { IfOk result (λ m. OfEncoding (tagged AMQPType.FieldTable bytes.now)
         (λ w v p. (count v ≤ m.values) × (depth v ≤ m.levels))) }
 {
-    let (rest, body) = read_table_head(SliceInput::new(bytes), limits)?;
-    if limits.depth == 0 {
-        return Err(refused(ErrorKind::Eof));
-    }
-    let Some(inside) = held_by_pairs(body, limits.depth as usize - 1) else {
-        return Err(refused(ErrorKind::Eof));
-    };
-    Ok(
-        inside
-            .with_container()
-            .in_bytes(bytes.len() - rest.input_len()),
-    )
+    let (table, rest) = read_table_in_place(bytes, limits)?;
+    let held = held_by_value(ValueRef::FieldTable(table));
+    Ok(held.in_bytes(bytes.len() - rest.len()))
 }
 
 // How many values there are, and how many levels containers nest in them.
@@ -141,91 +124,55 @@ impl Held {
     }
 }
 
-// What a value holds, itself included, in which containers nest at most `depth` deep.
+// What a value holds, itself included.
 #[cycle(measurer)]
-fn held_by_value<'a>(i: SliceInput<'a>, depth: usize) -> ParserResult<SliceInput<'a>, Held>
-    ensures { MatchResult result
-        (λ x. HoldsFront depth (slice_bytes i.entry) (slice_bytes x.0) x.1.values x.1.levels)
-        (Refuses (OutcomeWithin depth (slice_bytes i.entry)) ⊥) }
+fn held_by_value<'a>(value: ValueRef<'a>) -> Held
+    requires { IsValueView value }
+    ensures { (s rest : List ℕ) → IsViewIn s value.entry rest
+        → HoldsFirst s rest result.values result.levels }
 {
-    let (rest, head) = read_head(i)?;
-    match head {
-        Head::Plain(_) => Ok((
-            rest,
-            Held {
-                values: 1,
-                levels: 0,
-            },
-        )),
-        Head::FieldArray(body) => {
-            if depth == 0 {
-                return Err(refused(ErrorKind::Eof));
-            }
-            let Some(inside) = held_by_values(body, depth - 1) else {
-                return Err(refused(ErrorKind::Eof));
-            };
-            Ok((rest, inside.with_container()))
-        }
-        Head::FieldTable(body) => {
-            if depth == 0 {
-                return Err(refused(ErrorKind::Eof));
-            }
-            let Some(inside) = held_by_pairs(body, depth - 1) else {
-                return Err(refused(ErrorKind::Eof));
-            };
-            Ok((rest, inside.with_container()))
-        }
+    match value {
+        ValueRef::FieldArray(array) => held_by_values(array.body()).with_container(),
+        ValueRef::FieldTable(table) => held_by_pairs(table.body()).with_container(),
+        _ => Held {
+            values: 1,
+            levels: 0,
+        },
     }
 }
 
-// What a body holds, if it is values one after another, in each of which containers nest at most
-// `depth` deep.
+// What the values in a body hold.
 #[cycle(measurer)]
-fn held_by_values<'a>(body: SliceInput<'a>, depth: usize) -> Option<Held>
-    requires { length (slice_bytes body) < 2 ^ 32 }
-    ensures some { IfSome result (λ held. HoldsValues depth (slice_bytes body.entry) held.values held.levels) }
-    ensures none { result ≡ None → IsNoBody depth (slice_bytes body.entry) malformed }
+fn held_by_values<'a>(body: SliceInput<'a>) -> Held
+    requires { HasValues (slice_bytes body) × (length (slice_bytes body) < 2 ^ 32) }
+    ensures { HoldsValues (slice_bytes body.entry) result.values result.levels }
 {
     let mut held = Held {
         values: 0,
         levels: 0,
     };
     let mut rest = body;
-    'values: while rest.input_len() > 0 {
-        let Ok((after, value)) = held_by_value(rest, depth) else {
-            return None;
-        };
-        held = held.and(value);
+    'values: while let Some((value, after)) = next_value(rest) {
+        held = held.and(held_by_value(value));
         rest = after;
     }
-    Some(held)
+    held
 }
 
-// What a body holds, if it is keys, each with a value, one after another, and containers nest at
-// most `depth` deep in each value.
+// What the values of the pairs in a body hold.
 #[cycle(measurer)]
-fn held_by_pairs<'a>(body: SliceInput<'a>, depth: usize) -> Option<Held>
-    requires { length (slice_bytes body) < 2 ^ 32 }
-    ensures some { IfSome result (λ held. HoldsPairs depth (slice_bytes body.entry) held.values held.levels) }
-    ensures none { result ≡ None → IsNoTable depth (slice_bytes body.entry) malformed }
+fn held_by_pairs<'a>(body: SliceInput<'a>) -> Held
+    requires { HasPairs (slice_bytes body) × (length (slice_bytes body) < 2 ^ 32) }
+    ensures { HoldsPairs (slice_bytes body.entry) result.values result.levels }
 {
     let mut held = Held {
         values: 0,
         levels: 0,
     };
     let mut rest = body;
-    'pairs: while rest.input_len() > 0 {
-        let Ok((behind, key)) = read_key(rest) else {
-            return None;
-        };
-        let Ok(()) = check_utf8(key.as_slice()) else {
-            return None;
-        };
-        let Ok((after, value)) = held_by_value(behind, depth) else {
-            return None;
-        };
-        held = held.and(value);
+    'pairs: while let Some((_, value, after)) = next_pair(rest) {
+        held = held.and(held_by_value(value));
         rest = after;
     }
-    Some(held)
+    held
 }

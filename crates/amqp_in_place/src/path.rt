@@ -5,8 +5,8 @@ ghost use Rattle.amqp_value_core.specs.Values.{Tree};
 ghost use Rattle.amqp_in_place.specs.declared.refs.ValueRef.TheVariants as at;
 ghost use Rattle.amqp_in_place.specs.Refs.{Denotes, table_body};
 ghost use Rattle.amqp_in_place.specs.Walks.{FoundIs, WrittenIs};
-ghost use Rattle.amqp_in_place.specs.Written.{IsWritten};
-ghost use Rattle.amqp_in_place.specs.Places.{LiesWithin};
+ghost use Rattle.amqp_in_place.specs.Written.{IsWrittenAs};
+ghost use Rattle.amqp_in_place.specs.Places.{IsViewWithin};
 ghost use Rattle.amqp_in_place.specs.Paths.{at_step, at_path, content, StepsTo, LeadsTo};
 
 use super::refs::{TableRef, ValueRef};
@@ -35,11 +35,11 @@ impl<'a> ValueRef<'a> {
     /// no table or array. Each step iterates over the pairs or values of one container, by their
     /// lengths; it doesn't recurse.
     pub fn get_path(self, path: &[PathStep<'_>], of_equal: EqualKeys) -> Option<ValueRef<'a>>
-        ensures written { (t : Tree) → IsWritten self.entry t → WrittenIs (at_path of_equal path.now t) result }
+        ensures written { (t : Tree) → IsWrittenAs self.entry t → WrittenIs (at_path of_equal path.now t) result }
         ensures last { of_equal ≡ EqualKeys.Last → (v : Tree) → Denotes self.entry v
             → FoundIs (at_path of_equal path.now v) result }
         ensures itself { path.now ≡ [] → result ≡ Some self.entry }
-        ensures lies { path.now ≢ [] → IfSome result (λ r. LiesWithin (content self.entry) r) }
+        ensures inside { path.now ≢ [] → IfSome result (λ r. IsViewWithin (content self.entry) r) }
         ensures view { IfSome result (LeadsTo of_equal path.now self.entry) }
     {
         let mut at = self;
@@ -51,10 +51,10 @@ impl<'a> ValueRef<'a> {
 
     // The value that one step leads to.
     fn step(self, step: PathStep<'_>, of_equal: EqualKeys) -> Option<ValueRef<'a>>
-        ensures written { (t : Tree) → IsWritten self.entry t → WrittenIs (at_step of_equal step.entry t) result }
+        ensures written { (t : Tree) → IsWrittenAs self.entry t → WrittenIs (at_step of_equal step.entry t) result }
         ensures last { of_equal ≡ EqualKeys.Last → (v : Tree) → Denotes self.entry v
             → FoundIs (at_step of_equal step.entry v) result }
-        ensures lies { IfSome result (λ r. LiesWithin (content self.entry) r) }
+        ensures inside { IfSome result (λ r. IsViewWithin (content self.entry) r) }
         ensures view { IfSome result (StepsTo of_equal step.entry self.entry) }
     {
         match step {
@@ -81,12 +81,12 @@ impl<'a> TableRef<'a> {
     /// Returns the value that the steps lead to, the first of them a key of this table; otherwise as
     /// [`ValueRef::get_path`].
     pub fn get_path(self, path: &[PathStep<'_>], of_equal: EqualKeys) -> Option<ValueRef<'a>>
-        ensures written { (t : Tree) → IsWritten (at.FieldTable self.entry) t
+        ensures written { (t : Tree) → IsWrittenAs (at.FieldTable self.entry) t
             → WrittenIs (at_path of_equal path.now t) result }
         ensures last { of_equal ≡ EqualKeys.Last → (v : Tree) → Denotes (at.FieldTable self.entry) v
             → FoundIs (at_path of_equal path.now v) result }
         ensures itself { path.now ≡ [] → result ≡ Some (at.FieldTable self.entry) }
-        ensures lies { path.now ≢ [] → IfSome result (λ r. LiesWithin (table_body self.entry) r) }
+        ensures inside { path.now ≢ [] → IfSome result (λ r. IsViewWithin (table_body self.entry) r) }
         ensures view { IfSome result (LeadsTo of_equal path.now (at.FieldTable self.entry)) }
     {
         ValueRef::FieldTable(self).get_path(path, of_equal)

@@ -6,7 +6,7 @@ ghost use Rattle.amqp_value_core.specs.Layouts.{fixed};
 ghost use Rattle.amqp_value_core.specs.Outcomes.{length_field};
 ghost use Rattle.amq_protocol_types.specs.parsing.Headers.{extent, raw_extent, first_of};
 ghost use Rattle.amq_protocol_types.specs.parsing.Untagged.{tagged};
-ghost use Rattle.amqp_in_place.specs.Problems.{known, allow_key, want_finite, are_ones, here, further, untagged, in_entries, in_payload, in_value, in_pair, pair_len, inside, problem_of, problem_in_table_of};
+ghost use Rattle.amqp_in_place.specs.Problems.{known, allow_key, want_finite, are_ones, here, further, untagged, in_payload, value_problem, values_problem, pair_problem, pairs_problem, pair_len, inside, problem_of, problem_in_table_of};
 ghost use Rattle.amqp_in_place.specs.ProblemResults.{GoesOver, FindsValue, FailsAt};
 
 use crate::read::check_utf8;
@@ -20,7 +20,7 @@ use amqp_value_core::types::AMQPType;
 pub enum Rules {
     /// What `read_in_place` reads.
     Reading,
-    /// The same, with any bytes as keys.
+    /// What `read_in_place` reads, and any bytes as keys.
     AnyKeys,
     /// What RabbitMQ takes, as was found by tests: any bytes as keys, but no type tag `U`, and no
     /// Float or Double that is an infinity or a NaN.
@@ -64,7 +64,7 @@ impl Problem {
         Problem { offset: 0, kind }
     }
 
-    // The same problem, with this many bytes more before it.
+    // This problem, if that many more bytes are before it.
     fn further(self, count: usize) -> Self
         requires { self.offset + count < 2 ^ 64 }
         ensures { result ≡ further count self }
@@ -75,7 +75,7 @@ impl Problem {
         }
     }
 
-    // The same problem, without the type tag before it.
+    // This problem, by its offset without the type tag.
     fn untagged(self) -> Self
         ensures { result ≡ untagged self }
     {
@@ -133,9 +133,10 @@ pub fn first_problem_in_table(table: &[u8], rules: Rules, limits: Limits) -> Opt
 // The length of the value at the start, or the first problem in it.
 #[cycle(problems)]
 fn value(bytes: &[u8], rules: Rules, depth: u32) -> Result<usize, Problem>
-    ensures { GoesOver (in_value rules (inside rules depth) bytes.now) (extent bytes.now) (length bytes.now) result }
+    ensures { GoesOver (value_problem rules depth bytes.now)
+        (extent bytes.now) (length bytes.now) result }
 {
-    let Some((tag, behind)) = bytes.split_first() else {
+    let Some((tag, after)) = bytes.split_first() else {
         return Err(Problem::here(ProblemKind::Cut));
     };
     let Some(amqp_type) = known_type(rules, *tag) else {
@@ -143,14 +144,14 @@ fn value(bytes: &[u8], rules: Rules, depth: u32) -> Result<usize, Problem>
     };
     payload(
         amqp_type,
-        behind,
+        after,
         value_len(SliceInput::new(bytes)),
         rules,
         depth,
     )
 }
 
-// The same of a value by its payload, if it has `len` bytes with its type tag.
+// The first problem in a payload of a type, or how many bytes the value has, `len` with its type tag.
 #[cycle(problems)]
 fn payload(
     amqp_type: AMQPType,
@@ -160,7 +161,8 @@ fn payload(
     depth: u32,
 ) -> Result<usize, Problem>
     requires { len ≡ suc (raw_extent amqp_type bytes.now) }
-    ensures { GoesOver (in_payload (inside rules depth) amqp_type bytes.now) len (suc (length bytes.now)) result }
+    ensures { GoesOver (in_payload (inside rules depth) amqp_type bytes.now)
+        len (suc (length bytes.now)) result }
 {
     if bytes.len() < len - 1 {
         return Err(Problem::here(ProblemKind::Cut));
@@ -204,7 +206,7 @@ fn inside(amqp_type: AMQPType, bytes: &[u8], rules: Rules, depth: u32) -> Option
 // The first problem in values one after another.
 #[cycle(problems)]
 fn values(body: &[u8], rules: Rules, depth: u32) -> Option<Problem>
-    ensures first { result ≡ in_entries (in_value rules (inside rules depth)) extent 0 body.now }
+    ensures first { result ≡ values_problem rules depth body.now }
     ensures inside { IfSome result (λ p. p.offset ≤ length body.now) }
 {
     let mut at = 0;
@@ -220,7 +222,7 @@ fn values(body: &[u8], rules: Rules, depth: u32) -> Option<Problem>
 // The first problem in pairs one after another.
 #[cycle(problems)]
 fn pairs(body: &[u8], rules: Rules, depth: u32) -> Option<Problem>
-    ensures first { result ≡ in_entries (in_pair rules (in_value rules (inside rules depth))) pair_len 0 body.now }
+    ensures first { result ≡ pairs_problem rules depth body.now }
     ensures inside { IfSome result (λ p. p.offset ≤ length body.now) }
 {
     let mut at = 0;
@@ -236,7 +238,8 @@ fn pairs(body: &[u8], rules: Rules, depth: u32) -> Option<Problem>
 // The length of the pair at the start, or the first problem in it.
 #[cycle(problems)]
 fn pair(bytes: &[u8], rules: Rules, depth: u32) -> Result<usize, Problem>
-    ensures { GoesOver (in_pair rules (in_value rules (inside rules depth)) bytes.now) (pair_len bytes.now) (length bytes.now) result }
+    ensures { GoesOver (pair_problem rules depth bytes.now)
+        (pair_len bytes.now) (length bytes.now) result }
 {
     let Some((count, named)) = bytes.split_first() else {
         return Err(Problem::here(ProblemKind::KeyCut));

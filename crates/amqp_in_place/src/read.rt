@@ -1,20 +1,22 @@
 //! Reading a value in place.
 
+// Tactics at functions: each names the lemmas that prove several clauses or several arms.
+
 ghost use Rattle.std.specs.Str.{IsUtf8};
-ghost use Rattle.std.specs.Prelude.{◌≡◌, ◌++◌, ◌↔◌, IsTrue, true, false, length, MatchResult, IfErr, IfOk};
+ghost use Rattle.std.specs.Prelude.{◌≡◌, ◌++◌, ◌↔◌, ◌<◌, ◌^◌, IsTrue, true, false, length, MatchResult, IfErr, IfOk};
 ghost use Rattle.amqp_value_core.specs.Values.{Tree, Trees, Entries, table};
 ghost use Rattle.amqp_value_core.specs.Grammar.{long_field};
 ghost use Rattle.amqp_value_core.specs.Nesting.{BodyWithin, PairsWithin, OutcomeWithin};
 ghost use Rattle.amqp_value_core.specs.Outcomes.{Outcome, found, malformed};
 ghost use Rattle.amqp_value_core.specs.Inputs.{slice_bytes};
-ghost use Rattle.amq_protocol_types.specs.parsing.ParseResults.{Refuses};
+ghost use Rattle.amq_protocol_types.specs.parsing.ParseResults.{IsRefusal};
 ghost use Rattle.amq_protocol_types.specs.parsing.Bodies.{IsNoBody, IsTable, IsNoTable};
 ghost use Rattle.amq_protocol_types.specs.parsing.Limits.{Within, RefusesWithin};
 ghost use Rattle.amq_protocol_types.specs.parsing.Untagged.{UntaggedWithin, RefusesUntagged};
 ghost use Rattle.amqp_in_place.specs.Bodies.{HasEntries};
 ghost use Rattle.amqp_in_place.specs.Refs.{table_body, Denotes, IsOneValue, IsOneTable};
-ghost use Rattle.amqp_in_place.specs.InPlaceResults.{IsLeft, NeedsNoMemory};
-ghost use Rattle.amqp_in_place.specs.Places.{LiesIn};
+ghost use Rattle.amqp_in_place.specs.InPlaceResults.{IsLeft, IsReadInPlaceWithin, NeedsNoMemory};
+ghost use Rattle.amqp_in_place.specs.Places.{IsViewIn};
 
 use super::head::{Head, read_head, read_key, read_table_head};
 use super::refs::{ArrayRef, TableRef, ValueRef};
@@ -30,7 +32,7 @@ use simdutf8::basic::Utf8Error;
 ///
 /// All of the value is validated, keys' UTF-8 too. Nothing is copied or allocated. By measurements
 /// it uses stack for at most `limits.depth` levels; docs/PROMISES.md has what one takes.
-#[tactic(auto, using(crate::proofs::OneValue::one_value, crate::proofs::Reading::left_behind))]
+#[tactic(auto, using(crate::proofs::OneValue::one_value, crate::proofs::Reading::left_after))]
 pub fn read_in_place(bytes: &[u8], limits: Limits) -> Result<(ValueRef<'_>, &[u8]), ParserError>
     ensures within { MatchResult result
         (λ x. (v : Tree) × Denotes x.0 v × Within limits bytes.now (found v x.1.now))
@@ -38,7 +40,7 @@ pub fn read_in_place(bytes: &[u8], limits: Limits) -> Result<(ValueRef<'_>, &[u8
     ensures no_memory { IfErr result NeedsNoMemory }
     ensures one { IfOk result (λ x. IsOneValue x.0) }
     ensures rest { IfOk result (λ x. IsLeft bytes.now x.1.now) }
-    ensures lies { IfOk result (λ x. LiesIn bytes.now x.0 x.1.now) }
+    ensures inside { IfOk result (λ x. IsViewIn bytes.now x.0 x.1.now) }
 {
     let i = SliceInput::new(bytes);
     match header_of(i, limits.frame) {
@@ -57,14 +59,14 @@ pub fn read_in_place(bytes: &[u8], limits: Limits) -> Result<(ValueRef<'_>, &[u8
 ///
 /// It uses stack for each level of nesting, which only the input's length bounds: for bytes from
 /// untrusted peers use `read_in_place`. docs/PROMISES.md has measurements.
-#[tactic(auto, using(crate::proofs::OneValue::one_value, crate::proofs::Reading::left_behind))]
+#[tactic(auto, using(crate::proofs::OneValue::one_value, crate::proofs::Reading::left_after))]
 pub fn read_in_place_unlimited(bytes: &[u8]) -> Result<(ValueRef<'_>, &[u8]), ParserError>
     ensures outcome { MatchResult result
         (λ x. (v : Tree) × Denotes x.0 v × Outcome bytes.now (found v x.1.now))
-        (Refuses (Outcome bytes.now) ⊥) }
+        (IsRefusal (Outcome bytes.now) ⊥) }
     ensures one { IfOk result (λ x. IsOneValue x.0) }
     ensures rest { IfOk result (λ x. IsLeft bytes.now x.1.now) }
-    ensures lies { IfOk result (λ x. LiesIn bytes.now x.0 x.1.now) }
+    ensures inside { IfOk result (λ x. IsViewIn bytes.now x.0 x.1.now) }
 {
     let (rest, value) = value_within(SliceInput::new(bytes), bytes.len())?;
     Ok((value, rest.as_slice()))
@@ -76,6 +78,7 @@ pub fn read_in_place_unlimited(bytes: &[u8]) -> Result<(ValueRef<'_>, &[u8]), Pa
 /// It returns what `read_in_place` does of the type tag `F` and the bytes, within the same limits:
 /// `frame` counts the type tag, and `depth` the table. Nothing is copied or allocated. It recurses
 /// at most `limits.depth` levels deep, as `read_in_place` does.
+#[inline(always)]
 pub fn read_table_in_place(
     bytes: &[u8],
     limits: Limits,
@@ -87,7 +90,8 @@ pub fn read_table_in_place(
     ensures no_memory { IfErr result NeedsNoMemory }
     ensures one { IfOk result (λ x. IsOneTable x.0) }
     ensures rest { IfOk result (λ x. IsLeft bytes.now x.1.now) }
-    ensures lies { IfOk result (λ x. bytes.now ≡ long_field (table_body x.0) ++ x.1.now) }
+    ensures inside { IfOk result (λ x. bytes.now ≡ long_field (table_body x.0) ++ x.1.now) }
+    ensures few { IfOk result (λ x. length (table_body x.0) < 2 ^ 32) }
 {
     let (rest, body) = read_table_head(SliceInput::new(bytes), limits)?;
     if limits.depth == 0 {
@@ -105,9 +109,9 @@ pub fn read_table_in_place(
 #[tactic(auto, using(crate::proofs::HeadLemmas::head_within))]
 fn value_within<'a>(i: SliceInput<'a>, depth: usize) -> ParserResult<SliceInput<'a>, ValueRef<'a>>
     ensures outcome { MatchResult result
-        (λ x. (v : Tree) × Denotes x.1 v × OutcomeWithin depth (slice_bytes i.entry) (found v (slice_bytes x.0)))
-        (Refuses (OutcomeWithin depth (slice_bytes i.entry)) ⊥) }
-    ensures lies { IfOk result (λ x. LiesIn (slice_bytes i.entry) x.1 (slice_bytes x.0)) }
+        (λ x. IsReadInPlaceWithin depth (slice_bytes i.entry) x.1 (slice_bytes x.0))
+        (IsRefusal (OutcomeWithin depth (slice_bytes i.entry)) ⊥) }
+    ensures inside { IfOk result (λ x. IsViewIn (slice_bytes i.entry) x.1 (slice_bytes x.0)) }
 {
     let (rest, head) = read_head(i)?;
     match head {
@@ -161,13 +165,13 @@ fn are_pairs<'a>(body: SliceInput<'a>, depth: usize) -> bool
 {
     let mut rest = body;
     'pairs: while rest.input_len() > 0 {
-        let Ok((behind, key)) = read_key(rest) else {
+        let Ok((after_key, key)) = read_key(rest) else {
             return false;
         };
         let Ok(()) = check_utf8(key.as_slice()) else {
             return false;
         };
-        let Ok((after, _)) = value_within(behind, depth) else {
+        let Ok((after, _)) = value_within(after_key, depth) else {
             return false;
         };
         rest = after;
@@ -203,8 +207,8 @@ fn is_ascii_by_words(bytes: &[u8]) -> bool
     bytes.is_ascii()
 }
 
-// The same of bytes that aren't ASCII, by compares, since not every processor has the look-ups that
-// take as long. It isn't in line, since what it takes of the stack would be taken at each level.
+// Whether bytes are UTF-8, by compares: table look-ups take as long, and not every processor has
+// them. It isn't in line, since what it takes of the stack would be taken at each level.
 #[cold]
 #[inline(never)]
 fn is_utf8(bytes: &[u8]) -> bool

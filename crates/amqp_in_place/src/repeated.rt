@@ -32,11 +32,11 @@ impl<'a> TableRef<'a> {
         }
         let mut seen = BTreeSet::new(alloc);
         let mut rest = self.body();
-        'pairs: while let Some((key, _, behind)) = next_pair(rest) {
+        'pairs: while let Some((key, _, after)) = next_pair(rest) {
             if !seen.insert(key)? {
                 return Ok(Some(key));
             }
-            rest = behind;
+            rest = after;
         }
         Ok(None)
     }
@@ -50,12 +50,12 @@ fn keys_rise<'a>(pairs: SliceInput<'a>) -> bool
 {
     let mut rest = pairs;
     let mut previous: Option<&[u8]> = None;
-    'pairs: while let Some((key, _, behind)) = next_pair(rest) {
+    'pairs: while let Some((key, _, after)) = next_pair(rest) {
         let key = key.as_bytes();
         if !is_above(previous, key) {
             return false;
         }
-        rest = behind;
+        rest = after;
         previous = Some(key);
     }
     true

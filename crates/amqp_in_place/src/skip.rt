@@ -1,5 +1,7 @@
 //! The length of a value.
 
+// The tactic at the function names one lemma for each clause.
+
 ghost use Rattle.std.specs.Prelude.{◌≡◌, ◌<◌, ◌≤◌, length, IfErr, IfOk};
 ghost use Rattle.amqp_value_core.specs.Outcomes.{Outcome};
 ghost use Rattle.amq_protocol_types.specs.parsing.Headers.{extent};

@@ -7,12 +7,12 @@ ghost use Rattle.amqp_value_core.specs.Outcomes.{Outcome, found};
 ghost use Rattle.amqp_value_core.specs.Inputs.{slice_bytes};
 ghost use Rattle.amqp_in_place.specs.Bodies.{HasValues, HasPairs};
 ghost use Rattle.amqp_in_place.specs.Refs.{Denotes};
-ghost use Rattle.amqp_in_place.specs.Heads.{IsMeant, Means, RefersTo};
-ghost use Rattle.amqp_in_place.specs.Places.{LiesIn, PairLiesIn};
+ghost use Rattle.amqp_in_place.specs.Heads.{HeadHasMeaning, HeadMeans, RefersTo};
+ghost use Rattle.amqp_in_place.specs.Places.{IsViewIn, IsPairViewIn};
 ghost use Rattle.amqp_in_place.specs.InPlaceResults.{IsLeft};
-ghost use Rattle.amqp_in_place.specs.Walks.{HasFront, NextValueIs, NextWrittenIs, NextViewIs, MoreValues, NextPairIs, MorePairs, NextKeyIs, NextWrittenKeyIs, NextEncodedKeyIs, MoreKeys};
+ghost use Rattle.amqp_in_place.specs.Walks.{HasEncodingAtStart, NextValueIs, NextWrittenIs, NextViewIs, MoreValues, NextPairIs, MorePairs, NextKeyIs, NextWrittenKeyIs, NextEncodedKeyIs, MoreKeys};
 ghost use Rattle.amqp_in_place.specs.Encoded.{IsViewOf, EncodedAt, EncodedValues, EncodedPairs};
-ghost use Rattle.amqp_in_place.specs.Written.{IsWritten, WrittenAt, WrittenValues, WrittenPairs};
+ghost use Rattle.amqp_in_place.specs.Written.{IsWrittenAs, WrittenAt, WrittenValues, WrittenPairs};
 
 use super::head::{Head, read_head, read_key};
 use super::refs::{ArrayRef, TableRef, ValueRef};
@@ -23,8 +23,8 @@ use std::str;
 // The value of a head that is known to have one.
 #[inline(always)]
 fn value_of<'a>(head: Head<'a>) -> ValueRef<'a>
-    requires { ∥ IsMeant head ∥₁ }
-    ensures means { (v : Tree) → Means head.entry v → Denotes result v }
+    requires { ∥ HeadHasMeaning head ∥₁ }
+    ensures means { (v : Tree) → HeadMeans head.entry v → Denotes result v }
     ensures refers { RefersTo head.entry result }
 {
     match head {
@@ -35,12 +35,12 @@ fn value_of<'a>(head: Head<'a>) -> ValueRef<'a>
 }
 
 // The value at the start of bytes, if there is one.
-pub(crate) fn front_value<'a>(bytes: &'a [u8]) -> ValueRef<'a>
-    requires { ∥ HasFront bytes.now ∥₁ }
+pub(crate) fn first_value_there<'a>(bytes: &'a [u8]) -> ValueRef<'a>
+    requires { ∥ HasEncodingAtStart bytes.now ∥₁ }
     ensures value { (v : Tree) (rest : List ℕ) → Outcome bytes.now (found v rest) → Denotes result v }
-    ensures written { (t : Tree) (rest : List ℕ) → WrittenAt t bytes.now rest → IsWritten result t }
+    ensures written { (t : Tree) (rest : List ℕ) → WrittenAt t bytes.now rest → IsWrittenAs result t }
     ensures view { (e : Tree) (rest : List ℕ) → EncodedAt e bytes.now rest → IsViewOf result e }
-    ensures lies { (rest : List ℕ) × LiesIn bytes.now result rest }
+    ensures inside { (rest : List ℕ) × IsViewIn bytes.now result rest }
 {
     let Ok((_, head)) = read_head(SliceInput::new(bytes)) else {
         unreachable!()
@@ -56,7 +56,7 @@ pub(crate) fn next_value<'a>(bytes: SliceInput<'a>) -> Option<(ValueRef<'a>, Sli
     ensures written { (ts : Trees) → WrittenValues (slice_bytes bytes.entry) ts → NextWrittenIs ts result }
     ensures view { (es : Trees) → EncodedValues (slice_bytes bytes.entry) es → NextViewIs es result }
     ensures more { MoreValues (length (slice_bytes bytes.entry)) result }
-    ensures lies { IfSome result (λ x. LiesIn (slice_bytes bytes.entry) x.0 (slice_bytes x.1)) }
+    ensures inside { IfSome result (λ x. IsViewIn (slice_bytes bytes.entry) x.0 (slice_bytes x.1)) }
 {
     if bytes.input_len() == 0 {
         return None;
@@ -75,16 +75,16 @@ pub(crate) fn next_pair<'a>(
     requires { ∥ HasPairs (slice_bytes bytes) ∥₁ }
     ensures pair { (ps : Entries) → TableBody (slice_bytes bytes.entry) ps → NextPairIs ps result }
     ensures more { MorePairs (length (slice_bytes bytes.entry)) result }
-    ensures lies { IfSome result (λ x. PairLiesIn (slice_bytes bytes.entry) x.0.now x.1 (slice_bytes x.2)) }
+    ensures inside { IfSome result (λ x. IsPairViewIn (slice_bytes bytes.entry) x.0.now x.1 (slice_bytes x.2)) }
 {
     if bytes.input_len() == 0 {
         return None;
     }
-    let Ok((behind, key)) = read_key(bytes) else {
+    let Ok((after, key)) = read_key(bytes) else {
         unreachable!()
     };
     let key = unsafe { str::from_utf8_unchecked(key.as_slice()) };
-    let Ok((rest, head)) = read_head(behind) else {
+    let Ok((rest, head)) = read_head(after) else {
         unreachable!()
     };
     Some((key, value_of(head), rest))
@@ -99,12 +99,12 @@ pub(crate) fn next_key<'a>(pairs: &'a [u8]) -> Option<(&'a [u8], &'a [u8], &'a [
     ensures written { (ps : Entries) → WrittenPairs pairs.now ps → NextWrittenKeyIs ps result }
     ensures encoded { (es : Entries) → EncodedPairs pairs.now es → NextEncodedKeyIs es result }
     ensures more { MoreKeys (length pairs.now) result }
-    ensures front { IfSome result (λ x. ∥ HasFront x.1.now ∥₁) }
+    ensures prefix { IfSome result (λ x. ∥ HasEncodingAtStart x.1.now ∥₁) }
     ensures value { IfSome result (λ x. IsLeft pairs.now x.1.now) }
     ensures left { IfSome result (λ x. IsLeft pairs.now x.2.now) }
 {
     let (count, named) = pairs.split_first()?;
     let (key, value) = named.split_at(usize::from(*count));
-    let (_, behind) = value.split_at(value_len(SliceInput::new(value)));
-    Some((key, value, behind))
+    let (_, after) = value.split_at(value_len(SliceInput::new(value)));
+    Some((key, value, after))
 }

@@ -1,5 +1,7 @@
 //! Access to the entries of a table.
 
+// Tactics at functions: each names the one lemma on tables that proves its clause.
+
 ghost use Rattle.std.specs.Prelude.{◌≡◌, ◌<◌, ◌↔◌, IsTrue, IfSome, length, MatchResult};
 ghost use Rattle.amqp_value_core.specs.Values.{Entries, no_entries};
 ghost use Rattle.amqp_value_core.specs.Maps.{has_key, value_at, last_at};
@@ -8,14 +10,14 @@ ghost use Rattle.amqp_value_core.specs.Containers.{table_view};
 ghost use Rattle.amqp_in_place.specs.InPlaceResults.{IsLeft};
 ghost use Rattle.amqp_in_place.specs.Bodies.{HasPairs, HasEntries};
 ghost use Rattle.amqp_in_place.specs.Refs.{table_body};
-ghost use Rattle.amqp_in_place.specs.Walks.{FoundIs, WrittenIs, ViewIs, HasFront, BeginsAt, WrittenBegins, EncodedBegins};
+ghost use Rattle.amqp_in_place.specs.Walks.{FoundIs, WrittenIs, ViewIs, HasEncodingAtStart, BeginsAt, WrittenBegins, EncodedBegins};
 ghost use Rattle.amqp_in_place.specs.Written.{WrittenPairs};
 ghost use Rattle.amqp_in_place.specs.Encoded.{EncodedPairs};
 ghost use Rattle.amqp_in_place.specs.Keys.{first_at};
-ghost use Rattle.amqp_in_place.specs.Places.{LiesWithin};
+ghost use Rattle.amqp_in_place.specs.Places.{IsViewWithin};
 
 use super::refs::{TableRef, ValueRef};
-use super::steps::{front_value, next_key};
+use super::steps::{first_value_there, next_key};
 use amq_protocol_types::parsing::{Err, parse_table_body};
 use amqp_value_core::input::ParsableInput;
 use amqp_value_core::types::FieldTable;
@@ -43,10 +45,10 @@ impl<'a> TableRef<'a> {
         ensures value { (es : Entries) → HasEntries (table_body self.entry) es → FoundIs (value_at key.now es) result }
         ensures written { (ps : Entries) → WrittenPairs (table_body self.entry) ps → WrittenIs (last_at key.now ps) result }
         ensures view { (es : Entries) → EncodedPairs (table_body self.entry) es → ViewIs (last_at key.now es) result }
-        ensures lies { IfSome result (λ r. LiesWithin (table_body self.entry) r) }
+        ensures inside { IfSome result (λ r. IsViewWithin (table_body self.entry) r) }
     {
         let at = last_at(self.as_bytes(), key.as_bytes())?;
-        Some(front_value(at))
+        Some(first_value_there(at))
     }
 
     /// Returns the value of the first pair with the key, as RabbitMQ does; `get` returns the last
@@ -55,10 +57,10 @@ impl<'a> TableRef<'a> {
         ensures value { (ps : Entries) → TableBody (table_body self.entry) ps → FoundIs (first_at key.now ps) result }
         ensures written { (ps : Entries) → WrittenPairs (table_body self.entry) ps → WrittenIs (first_at key.now ps) result }
         ensures view { (es : Entries) → EncodedPairs (table_body self.entry) es → ViewIs (first_at key.now es) result }
-        ensures lies { IfSome result (λ r. LiesWithin (table_body self.entry) r) }
+        ensures inside { IfSome result (λ r. IsViewWithin (table_body self.entry) r) }
     {
         let at = first_at(self.as_bytes(), key.as_bytes())?;
-        Some(front_value(at))
+        Some(first_value_there(at))
     }
 
     /// Whether the table has the key.
@@ -92,16 +94,16 @@ fn last_at<'a>(pairs: &'a [u8], key: &[u8]) -> Option<&'a [u8]>
     ensures value { (es : Entries) → HasEntries pairs.now es → BeginsAt (value_at key.now es) result }
     ensures written { (ps : Entries) → WrittenPairs pairs.now ps → WrittenBegins (last_at key.now ps) result }
     ensures encoded { (es : Entries) → EncodedPairs pairs.now es → EncodedBegins (last_at key.now es) result }
-    ensures front { IfSome result (λ at. ∥ HasFront at.now ∥₁) }
+    ensures prefix { IfSome result (λ at. ∥ HasEncodingAtStart at.now ∥₁) }
     ensures left { IfSome result (λ at. IsLeft pairs.now at.now) }
 {
     let mut at = None;
     let mut rest = pairs;
-    'pairs: while let Some((name, value, behind)) = next_key(rest) {
+    'pairs: while let Some((name, value, after)) = next_key(rest) {
         if key == name {
             at = Some(value);
         }
-        rest = behind;
+        rest = after;
     }
     at
 }
@@ -112,15 +114,15 @@ fn first_at<'a>(pairs: &'a [u8], key: &[u8]) -> Option<&'a [u8]>
     ensures value { (ps : Entries) → TableBody pairs.now ps → BeginsAt (first_at key.now ps) result }
     ensures written { (ps : Entries) → WrittenPairs pairs.now ps → WrittenBegins (first_at key.now ps) result }
     ensures encoded { (es : Entries) → EncodedPairs pairs.now es → EncodedBegins (first_at key.now es) result }
-    ensures front { IfSome result (λ at. ∥ HasFront at.now ∥₁) }
+    ensures prefix { IfSome result (λ at. ∥ HasEncodingAtStart at.now ∥₁) }
     ensures left { IfSome result (λ at. IsLeft pairs.now at.now) }
 {
     let mut rest = pairs;
-    'pairs: while let Some((name, value, behind)) = next_key(rest) {
+    'pairs: while let Some((name, value, after)) = next_key(rest) {
         if key == name {
             return Some(value);
         }
-        rest = behind;
+        rest = after;
     }
     None
 }

@@ -10,93 +10,93 @@ use Rattle.amqp_screen.specs.Screens.{prints}
 use Rattle.amqp_screen.specs.Escapes.{shown_in, escape_in, indent, if_colours, colour_begin, colour_end, coloured}
 use Rattle.amqp_screen.specs.declared.push.Form.{Form}
 use Rattle.amqp_screen.specs.declared.screen.Colour.{Colour}
-use Rattle.amqp_screen.specs.Pushes.{shown, Adds, AddsFront, Pushes, PushesWhole}
+use Rattle.amqp_screen.specs.Pushes.{shown, AddsText, AddsPrefix, PushesText, PushesWhole}
 use Rattle.amqp_screen.specs.declared.screen.Screen.{Screen}
 
 -- nothing is added
-pub adds_nothing : (a : Screen) → Adds a a []
+pub adds_nothing : (a : Screen) → AddsText a a []
 adds_nothing a = record { text = sym (append-nil (shown a)); colours = refl }
 
 -- two strings
-pub adds_both : (a b c : Screen) (x y : List ℕ) → Adds a b x → Adds b c y → Adds a c (x ++ y)
+pub adds_both : (a b c : Screen) (x y : List ℕ) → AddsText a b x → AddsText b c y → AddsText a c (x ++ y)
 adds_both a b c x y p q = record { text = q.text ∙ ap (λ s. s ++ y) p.text ∙ append_assoc (shown a) x y; colours = q.colours ∙ p.colours }
 
 -- a prefix of the first string, or of the second after the first
-pub front_of_first : (a b : Screen) (x y : List ℕ) → AddsFront a b x → AddsFront a b (x ++ y)
-front_of_first a b x y (front, missing, rest, is, p) = (front, missing, rest ++ y, ap (λ s. s ++ y) is ∙ append_assoc front (missing ∷ rest) y, p)
+pub prefix_of_first : (a b : Screen) (x y : List ℕ) → AddsPrefix a b x → AddsPrefix a b (x ++ y)
+prefix_of_first a b x y (prefix, missing, rest, is, p) = (prefix, missing, rest ++ y, ap (λ s. s ++ y) is ∙ append_assoc prefix (missing ∷ rest) y, p)
 
-pub front_of_second : (a b c : Screen) (x y : List ℕ) → Adds a b x → AddsFront b c y → AddsFront a c (x ++ y)
-front_of_second a b c x y p (front, missing, rest, is, q) =
-    (x ++ front, missing, rest, ap (λ s. x ++ s) is ∙ sym (append_assoc x front (missing ∷ rest)), adds_both a b c x front p q)
+pub prefix_of_second : (a b c : Screen) (x y : List ℕ) → AddsText a b x → AddsPrefix b c y → AddsPrefix a c (x ++ y)
+prefix_of_second a b c x y p (prefix, missing, rest, is, q) =
+    (x ++ prefix, missing, rest, ap (λ s. x ++ s) is ∙ sym (append_assoc x prefix (missing ∷ rest)), adds_both a b c x prefix p q)
 
 -- nothing of a string that isn't empty
-pub front_none : (a b : Screen) (d : ℕ) (x : List ℕ) → Adds a b [] → AddsFront a b (d ∷ x)
-front_none a b d x p = ([], d, x, refl, p)
+pub prefix_none : (a b : Screen) (d : ℕ) (x : List ℕ) → AddsText a b [] → AddsPrefix a b (d ∷ x)
+prefix_none a b d x p = ([], d, x, refl, p)
 
 -- the last string of two
-pub pushes_last : {T E : Type 0} (r : Result T E) (a b c : Screen) (x y : List ℕ) → Adds a b x → Pushes r b c y → Pushes r a c (x ++ y)
+pub pushes_last : {T E : Type 0} (r : Result T E) (a b c : Screen) (x y : List ℕ) → AddsText a b x → PushesText r b c y → PushesText r a c (x ++ y)
 pushes_last (Ok v) a b c x y p q = adds_both a b c x y p q
-pushes_last (Err e) a b c x y p q = front_of_second a b c x y p q
+pushes_last (Err e) a b c x y p q = prefix_of_second a b c x y p q
 
-pub pushes_whole : {T E : Type 0} (r : Result T E) (a b : Screen) (d : ℕ) (x : List ℕ) → PushesWhole r a b (d ∷ x) → Pushes r a b (d ∷ x)
+pub pushes_whole : {T E : Type 0} (r : Result T E) (a b : Screen) (d : ℕ) (x : List ℕ) → PushesWhole r a b (d ∷ x) → PushesText r a b (d ∷ x)
 pushes_whole (Ok v) a b d x p = p
-pushes_whole (Err e) a b d x p = front_none a b d x p
+pushes_whole (Err e) a b d x p = prefix_none a b d x p
 
 -- what a `?` returns after a string of which a prefix is added
-pub stopped : {T E : Type 0} (Q : E → Type 0) (r : Result T E) (a b : Screen) (x : List ℕ) → IsErrAnd r Q → AddsFront a b x → Pushes r a b x
+pub stopped : {T E : Type 0} (Q : E → Type 0) (r : Result T E) (a b : Screen) (x : List ℕ) → IsErrAnd r Q → AddsPrefix a b x → PushesText r a b x
 stopped Q (Ok v) a b x h p = absurd h
 stopped Q (Err e) a b x h p = p
 
 -- a character that prints
-pushes_some : {T E : Type 0} (r : Result T E) (a b : Screen) (x : List ℕ) → 1 ≤ length x → PushesWhole r a b x → Pushes r a b x
+pushes_some : {T E : Type 0} (r : Result T E) (a b : Screen) (x : List ℕ) → 1 ≤ length x → PushesWhole r a b x → PushesText r a b x
 pushes_some r a b [] h p = absurd (omega arith)
 pushes_some r a b (d ∷ x) h p = pushes_whole r a b d x p
 
-pub pushes_printed : {T E : Type 0} (r : Result T E) (a b : Screen) (f : Form) (c : ℕ) → prints c ≡ true → PushesWhole r a b (encode_utf8 c) → Pushes r a b (shown_in f c)
+pub pushes_printed : {T E : Type 0} (r : Result T E) (a b : Screen) (f : Form) (c : ℕ) → prints c ≡ true → PushesWhole r a b (encode_utf8 c) → PushesText r a b (shown_in f c)
 pushes_printed r a b f c e p =
     let is : shown_in f c ≡ encode_utf8 c = ap (λ b. cond b (encode_utf8 c) (escape_in f c)) e in
     let some : 1 ≤ length (encode_utf8 c) = subst (λ n. 1 ≤ n) (sym (length-encode c)) (len_utf8_bounds c).0 in
-    subst (Pushes r a b) (sym is) (pushes_some r a b (encode_utf8 c) some p)
+    subst (PushesText r a b) (sym is) (pushes_some r a b (encode_utf8 c) some p)
 
 -- ---- characters, one after another
 -- one more
-pub words_more : (f : ℕ → List ℕ) (a b d : Screen) (ys : List ℕ) (c : ℕ) → Adds a b (flat_map f ys) → Adds b d (f c) → Adds a d (flat_map f (ys ++ c ∷ []))
+pub words_more : (f : ℕ → List ℕ) (a b d : Screen) (ys : List ℕ) (c : ℕ) → AddsText a b (flat_map f ys) → AddsText b d (f c) → AddsText a d (flat_map f (ys ++ c ∷ []))
 words_more f a b d ys c p q =
-    subst (Adds a d) (sym (flat_map-append f ys (c ∷ []) ∙ ap (λ s. flat_map f ys ++ s) (append-nil (f c)))) (adds_both a b d _ _ p q)
+    subst (AddsText a d) (sym (flat_map-append f ys (c ∷ []) ∙ ap (λ s. flat_map f ys ++ s) (append-nil (f c)))) (adds_both a b d _ _ p q)
 
 -- all of them
-pub words_all : (f : ℕ → List ℕ) (a b : Screen) (ys all : List ℕ) → map (λ y. y) ys ≡ all → Adds a b (flat_map f ys) → Adds a b (flat_map f all)
-words_all f a b ys all e p = subst (λ l. Adds a b (flat_map f l)) (sym (map-id ys) ∙ e) p
+pub words_all : (f : ℕ → List ℕ) (a b : Screen) (ys all : List ℕ) → map (λ y. y) ys ≡ all → AddsText a b (flat_map f ys) → AddsText a b (flat_map f all)
+words_all f a b ys all e p = subst (λ l. AddsText a b (flat_map f l)) (sym (map-id ys) ∙ e) p
 
 -- the next one, of which a prefix is added
-pub words_front : (f : ℕ → List ℕ) (a b d : Screen) (ys all : List ℕ) (c : ℕ)
+pub words_prefix : (f : ℕ → List ℕ) (a b d : Screen) (ys all : List ℕ) (c : ℕ)
     → map (λ y. y) ys ≡ take (length ys) all → (length ys < length all) × (c ≡ get_or all (length ys) c)
-    → Adds a b (flat_map f ys) → AddsFront b d (f c) → AddsFront a d (flat_map f all)
-words_front f a b d ys all c so_far (less, is) p q =
+    → AddsText a b (flat_map f ys) → AddsPrefix b d (f c) → AddsPrefix a d (flat_map f all)
+words_prefix f a b d ys all c so_far (less, is) p q =
     let n = length ys in
-    let front : ys ≡ take n all = sym (map-id ys) ∙ so_far in
+    let prefix : ys ≡ take n all = sym (map-id ys) ∙ so_far in
     let left : drop n all ≡ c ∷ drop (suc n) all = drop-cons all n c less ∙ ap (λ y. y ∷ drop (suc n) all) (sym is) in
-    let parts : all ≡ ys ++ c ∷ drop (suc n) all = sym (take-append-drop n all) ∙ ap (λ s. s ++ drop n all) (sym front) ∙ ap (λ s. ys ++ s) left in
-    subst (AddsFront a d) (sym (ap (flat_map f) parts ∙ flat_map-append f ys (c ∷ drop (suc n) all)))
-    (front_of_second a b d _ _ p (front_of_first b d (f c) (flat_map f (drop (suc n) all)) q))
+    let parts : all ≡ ys ++ c ∷ drop (suc n) all = sym (take-append-drop n all) ∙ ap (λ s. s ++ drop n all) (sym prefix) ∙ ap (λ s. ys ++ s) left in
+    subst (AddsPrefix a d) (sym (ap (flat_map f) parts ∙ flat_map-append f ys (c ∷ drop (suc n) all)))
+    (prefix_of_second a b d _ _ p (prefix_of_first b d (f c) (flat_map f (drop (suc n) all)) q))
 
 -- ---- spaces
-pub indent_more : (a b d : Screen) (k : ℕ) → Adds a b (indent k) → Adds b d (32 ∷ 32 ∷ []) → Adds a d (indent (k + 1))
+pub indent_more : (a b d : Screen) (k : ℕ) → AddsText a b (indent k) → AddsText b d (32 ∷ 32 ∷ []) → AddsText a d (indent (k + 1))
 indent_more a b d k p q =
-    subst (Adds a d) (replicate-append-replicate (k * 2) 2 32 ∙ ap (λ n. replicate n 32) (omega arith)) (adds_both a b d (indent k) (32 ∷ 32 ∷ []) p q)
+    subst (AddsText a d) (replicate-append-replicate (k * 2) 2 32 ∙ ap (λ n. replicate n 32) (omega arith)) (adds_both a b d (indent k) (32 ∷ 32 ∷ []) p q)
 
-pub indent_front : (a b d : Screen) (k level : ℕ) → k < level → Adds a b (indent k) → Adds b d [] → AddsFront a d (indent level)
-indent_front a b d k level h p q =
+pub indent_prefix : (a b d : Screen) (k level : ℕ) → k < level → AddsText a b (indent k) → AddsText b d [] → AddsPrefix a d (indent level)
+indent_prefix a b d k level h p q =
     let m = level * 2 - k * 2 - 1 in
-    subst (AddsFront a d) (replicate-append-replicate (k * 2) (suc m) 32 ∙ ap (λ n. replicate n 32) (omega arith)) (front_of_second a b d (indent k) (32 ∷ replicate m 32) p (front_none b d 32 (replicate m 32) q))
+    subst (AddsPrefix a d) (replicate-append-replicate (k * 2) (suc m) 32 ∙ ap (λ n. replicate n 32) (omega arith)) (prefix_of_second a b d (indent k) (32 ∷ replicate m 32) p (prefix_none b d 32 (replicate m 32) q))
 
 -- ---- colours
-pub coloured_front : (a b c : Screen) (colour : Colour) (text : List ℕ)
-    → Adds a b (if_colours a.has_colours (colour_begin colour)) → AddsFront b c text → AddsFront a c (coloured a.has_colours colour text)
-coloured_front a b c colour text p q = front_of_second a b c _ _ p (front_of_first b c text _ q)
+pub coloured_prefix : (a b c : Screen) (colour : Colour) (text : List ℕ)
+    → AddsText a b (if_colours a.has_colours (colour_begin colour)) → AddsPrefix b c text → AddsPrefix a c (coloured a.has_colours colour text)
+coloured_prefix a b c colour text p q = prefix_of_second a b c _ _ p (prefix_of_first b c text _ q)
 
 pub coloured_all : {T E : Type 0} (r : Result T E) (a b c d : Screen) (colour : Colour) (text : List ℕ)
-    → Adds a b (if_colours a.has_colours (colour_begin colour)) → Adds b c text → Pushes r c d (if_colours c.has_colours colour_end)
-    → Pushes r a d (coloured a.has_colours colour text)
+    → AddsText a b (if_colours a.has_colours (colour_begin colour)) → AddsText b c text → PushesText r c d (if_colours c.has_colours colour_end)
+    → PushesText r a d (coloured a.has_colours colour text)
 coloured_all r a b c d colour text p q h =
-    pushes_last r a b d _ _ p (pushes_last r b c d text _ q (subst (λ has. Pushes r c d (if_colours has colour_end)) (q.colours ∙ p.colours) h))
+    pushes_last r a b d _ _ p (pushes_last r b c d text _ q (subst (λ has. PushesText r c d (if_colours has colour_end)) (q.colours ∙ p.colours) h))

@@ -9,13 +9,13 @@ use Rattle.amqp_screen.specs.declared.print.PrintError.{PrintError}
 use Rattle.amqp_screen.specs.declared.print.PrintError.TheVariants.{Closed, Failed, Terminal}
 
 -- known bytes grow by a prefix of the bytes, and at least a byte is missing
-abbrev pub AppendsFront : Option (List ℕ) → Option (List ℕ) → List ℕ → Type 0
-AppendsFront old new bytes = (front : List ℕ) × (missing : ℕ) × (rest : List ℕ) × (bytes ≡ front ++ missing ∷ rest) × Appends old new front
+abbrev pub AppendsPrefix : Option (List ℕ) → Option (List ℕ) → List ℕ → Type 0
+AppendsPrefix old new bytes = (prefix : List ℕ) × (missing : ℕ) × (rest : List ℕ) × (bytes ≡ prefix ++ missing ∷ rest) × Appends old new prefix
 
 -- known bytes grow by all of the bytes, or after an error by a prefix
-abbrev pub Writes : {T E : Type 0} → Result T E → Option (List ℕ) → Option (List ℕ) → List ℕ → Type 0
-Writes (Ok _) old new bytes = Appends old new bytes
-Writes (Err _) old new bytes = AppendsFront old new bytes
+abbrev pub WritesText : {T E : Type 0} → Result T E → Option (List ℕ) → Option (List ℕ) → List ℕ → Type 0
+WritesText (Ok _) old new bytes = Appends old new bytes
+WritesText (Err _) old new bytes = AppendsPrefix old new bytes
 
 -- by the kind of what a writer fails with: nobody reads if it is a broken pipe, and otherwise that is
 -- the cause

@@ -7,20 +7,20 @@ abbrev pub shown : Screen → List ℕ
 shown s = string_bytes s.text
 
 -- more comes after what was there before
-pub record Adds (old new : Screen) (more : List ℕ) : Type 0 where
+pub record AddsText (old new : Screen) (more : List ℕ) : Type 0 where
   pub text : shown new ≡ shown old ++ more
   pub colours : new.has_colours ≡ old.has_colours
 
 -- a prefix of the text is added, and at least a byte of it is missing
-abbrev pub AddsFront : Screen → Screen → List ℕ → Type 0
-AddsFront old new text = (front : List ℕ) × (missing : ℕ) × (rest : List ℕ) × (text ≡ front ++ missing ∷ rest) × Adds old new front
+abbrev pub AddsPrefix : Screen → Screen → List ℕ → Type 0
+AddsPrefix old new text = (prefix : List ℕ) × (missing : ℕ) × (rest : List ℕ) × (text ≡ prefix ++ missing ∷ rest) × AddsText old new prefix
 
 -- all of the text is added, or a prefix if memory runs out
-abbrev pub Pushes : {T E : Type 0} → Result T E → Screen → Screen → List ℕ → Type 0
-Pushes (Ok _) old new text = Adds old new text
-Pushes (Err _) old new text = AddsFront old new text
+abbrev pub PushesText : {T E : Type 0} → Result T E → Screen → Screen → List ℕ → Type 0
+PushesText (Ok _) old new text = AddsText old new text
+PushesText (Err _) old new text = AddsPrefix old new text
 
 -- all of the text is added, or nothing if memory runs out
 abbrev pub PushesWhole : {T E : Type 0} → Result T E → Screen → Screen → List ℕ → Type 0
-PushesWhole (Ok _) old new text = Adds old new text
-PushesWhole (Err _) old new text = Adds old new []
+PushesWhole (Ok _) old new text = AddsText old new text
+PushesWhole (Err _) old new text = AddsText old new []

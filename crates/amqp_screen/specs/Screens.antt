@@ -27,6 +27,6 @@ abbrev pub is_showable : Bool → List ℕ → Bool
 is_showable colours [] = true
 is_showable colours (c ∷ s) = (prints c || (c == 10 || (colours && (c == 27 && names_colour s)))) && is_showable colours s
 
--- the same of a string in UTF-8
+-- so does each character of a string in UTF-8
 abbrev pub IsShowable : Bool → List ℕ → Type 0
 IsShowable colours text = IsTrue (is_showable colours (chars text))

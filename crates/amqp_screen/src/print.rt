@@ -3,7 +3,7 @@
 ghost use Rattle.std.specs.Prelude.{◌≡◌, ◌↔◌, ◌<◌, ◌≤◌, [], length, IsTrue, IsFalse, OnOk, OnErr, IfOk, IfErr, IsErrOf};
 ghost use Rattle.std.specs.Io.KnownBytes.{Keeps, WriteAppends};
 ghost use Rattle.amqp_screen.specs.Pushes.{shown};
-ghost use Rattle.amqp_screen.specs.Prints.{Writes, IsWriteError, error_of};
+ghost use Rattle.amqp_screen.specs.Prints.{WritesText, IsWriteError, error_of};
 
 use crate::screen::Screen;
 use std::io;
@@ -56,7 +56,7 @@ impl Screen {
 
     /// Writes the string, and empties the screen if all of it is written.
     pub fn print_to<W: Write>(&mut self, writer: &mut W) -> Result<(), PrintError>
-        ensures written { Writes result (W.contents writer.old) (W.contents writer.new)
+        ensures written { WritesText result (W.contents writer.old) (W.contents writer.new)
             (shown self.old) }
         ensures emptied { OnOk result (shown self.new ≡ []) }
         ensures kept { OnErr result (self.new ≡ self.old) }
@@ -81,9 +81,10 @@ pub fn print_raw(rt: &HostRuntime, bytes: &[u8]) -> Result<(), PrintError> {
 /// Writes bytes as they are, unless the writer is a terminal.
 pub fn raw_to<W: Write>(writer: &mut W, is_terminal: bool, bytes: &[u8]) -> Result<(), PrintError>
     ensures terminal { IsErrOf result PrintError.Terminal ↔ IsTrue is_terminal }
-    ensures untouched { IsTrue is_terminal → Keeps (W.contents writer.old) (W.contents writer.new) }
-    ensures written { IsFalse is_terminal → Writes result (W.contents writer.old) (W.contents writer.new)
-        bytes.now }
+    ensures untouched { IsTrue is_terminal
+        → Keeps (W.contents writer.old) (W.contents writer.new) }
+    ensures written { IsFalse is_terminal
+        → WritesText result (W.contents writer.old) (W.contents writer.new) bytes.now }
     ensures which { IsFalse is_terminal → IfErr result IsWriteError }
 {
     if is_terminal {
@@ -94,7 +95,7 @@ pub fn raw_to<W: Write>(writer: &mut W, is_terminal: bool, bytes: &[u8]) -> Resu
 
 // Writes all of the bytes.
 fn write_out<W: Write>(bytes: &[u8], writer: &mut W) -> Result<(), PrintError>
-    ensures written { Writes result (W.contents writer.old) (W.contents writer.new) bytes.now }
+    ensures written { WritesText result (W.contents writer.old) (W.contents writer.new) bytes.now }
     ensures which { IfErr result IsWriteError }
 {
     let mut rest = bytes;
@@ -110,7 +111,8 @@ fn write_out<W: Write>(bytes: &[u8], writer: &mut W) -> Result<(), PrintError>
 // `Write` doesn't state how a writer fails: that each other error is passed on is tested.
 fn write_some<W: Write>(bytes: &[u8], writer: &mut W) -> Result<usize, PrintError>
     ensures some { IfOk result (λ n. (0 < n) × (n ≤ length bytes.now)) }
-    ensures written { WriteAppends (W.contents writer.old) (W.contents writer.new) result bytes.now }
+    ensures written { WriteAppends (W.contents writer.old) (W.contents writer.new)
+        result bytes.now }
     ensures which { IfErr result IsWriteError }
 {
     for _try in 0..u64::MAX {

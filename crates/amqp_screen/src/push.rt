@@ -4,7 +4,7 @@ ghost use Rattle.std.specs.Prelude.{◌≡◌, ◌∷◌, ◌++◌, [], IsTrue, 
 ghost use Rattle.std.specs.Char.{encode_utf8};
 ghost use Rattle.amqp_screen.specs.Screens.{prints, IsShowable};
 ghost use Rattle.amqp_screen.specs.Escapes.{in_text, in_lines, in_json, words_in, shown_in, escape, json_escape, two_digits, four_digits, coloured, colour_begin, colour_end, if_colours, indent};
-ghost use Rattle.amqp_screen.specs.Pushes.{shown, Pushes, PushesWhole};
+ghost use Rattle.amqp_screen.specs.Pushes.{shown, PushesText, PushesWhole};
 
 use crate::character::{does_print, hex_digit};
 use crate::screen::{Colour, Screen};
@@ -35,14 +35,14 @@ impl Screen {
 
     /// Adds words in a line.
     pub fn push_text(&mut self, words: &str) -> Result<(), AllocError>
-        ensures added { Pushes result self.old self.new (in_text words.now) }
+        ensures added { PushesText result self.old self.new (in_text words.now) }
     {
         self.push_words(words, Form::Text)
     }
 
     /// Adds words in lines: each line end stays one.
     pub fn push_lines(&mut self, words: &str) -> Result<(), AllocError>
-        ensures added { Pushes result self.old self.new (in_lines words.now) }
+        ensures added { PushesText result self.old self.new (in_lines words.now) }
     {
         self.push_words(words, Form::Lines)
     }
@@ -50,14 +50,14 @@ impl Screen {
     /// Adds a JSON text in a line. It stays the same JSON: what doesn't print is only in its
     /// strings, in which it may be escaped.
     pub fn push_json(&mut self, json: &str) -> Result<(), AllocError>
-        ensures added { Pushes result self.old self.new (in_json json.now) }
+        ensures added { PushesText result self.old self.new (in_json json.now) }
     {
         self.push_words(json, Form::Json)
     }
 
     /// Adds words in a colour, if there are colours.
     pub fn push_coloured(&mut self, words: &str, colour: Colour) -> Result<(), AllocError>
-        ensures added { Pushes result self.old self.new
+        ensures added { PushesText result self.old self.new
             (coloured self.old.has_colours colour (in_text words.now)) }
     {
         self.begin(colour)?;
@@ -74,7 +74,7 @@ impl Screen {
 
     /// Adds two spaces for each level.
     pub fn indent(&mut self, level: u32) -> Result<(), AllocError>
-        ensures added { Pushes result self.old self.new (indent level) }
+        ensures added { PushesText result self.old self.new (indent level) }
     {
         for _level in 0..level {
             self.append("  ")?;
@@ -84,14 +84,14 @@ impl Screen {
 
     /// Adds words, and ends the line.
     pub fn push_line(&mut self, words: &str) -> Result<(), AllocError>
-        ensures added { Pushes result self.old self.new (in_text words.now ++ 10 ∷ []) }
+        ensures added { PushesText result self.old self.new (in_text words.now ++ 10 ∷ []) }
     {
         self.push_text(words)?;
         self.end_line()
     }
 
     fn push_words(&mut self, words: &str, form: Form) -> Result<(), AllocError>
-        ensures added { Pushes result self.old self.new (words_in form words.now) }
+        ensures added { PushesText result self.old self.new (words_in form words.now) }
     {
         for c in words.chars() {
             self.push_character(c, form)?;
@@ -100,7 +100,7 @@ impl Screen {
     }
 
     fn push_character(&mut self, c: char, form: Form) -> Result<(), AllocError>
-        ensures added { Pushes result self.old self.new (shown_in form c) }
+        ensures added { PushesText result self.old self.new (shown_in form c) }
     {
         if does_print(c) {
             return self.push(c);
@@ -133,7 +133,7 @@ impl Screen {
     // `\u{`, four digits and `}`.
     fn push_escape(&mut self, c: char) -> Result<(), AllocError>
         requires { IsFalse (prints c) }
-        ensures added { Pushes result self.old self.new (escape c) }
+        ensures added { PushesText result self.old self.new (escape c) }
     {
         let code = u32::from(c) as u16;
         if code < 128 {
@@ -148,21 +148,21 @@ impl Screen {
     // Adds a character that doesn't print, as a JSON string has it.
     fn push_json_escape(&mut self, c: char) -> Result<(), AllocError>
         requires { IsFalse (prints c) }
-        ensures added { Pushes result self.old self.new (json_escape c) }
+        ensures added { PushesText result self.old self.new (json_escape c) }
     {
         self.append("\\u")?;
         self.push_four_digits(u32::from(c) as u16)
     }
 
     fn push_two_digits(&mut self, number: u8) -> Result<(), AllocError>
-        ensures added { Pushes result self.old self.new (two_digits number) }
+        ensures added { PushesText result self.old self.new (two_digits number) }
     {
         self.push(hex_digit(number / 16))?;
         self.push(hex_digit(number % 16))
     }
 
     fn push_four_digits(&mut self, number: u16) -> Result<(), AllocError>
-        ensures added { Pushes result self.old self.new (four_digits number) }
+        ensures added { PushesText result self.old self.new (four_digits number) }
     {
         self.push_two_digits((number / 256) as u8)?;
         self.push_two_digits((number % 256) as u8)
@@ -170,7 +170,7 @@ impl Screen {
 
     // Begins a colour, if there are colours.
     fn begin(&mut self, colour: Colour) -> Result<(), AllocError>
-        ensures added { Pushes result self.old self.new
+        ensures added { PushesText result self.old self.new
             (if_colours self.old.has_colours (colour_begin colour)) }
     {
         if !self.has_colours {
@@ -184,7 +184,7 @@ impl Screen {
     }
 
     fn end_colour(&mut self) -> Result<(), AllocError>
-        ensures added { Pushes result self.old self.new
+        ensures added { PushesText result self.old self.new
             (if_colours self.old.has_colours colour_end) }
     {
         if !self.has_colours {

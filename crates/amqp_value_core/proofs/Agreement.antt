@@ -7,14 +7,14 @@ use Rattle.amqp_value_core.specs.Ids.{kind}
 use Rattle.amqp_value_core.specs.Grammar.{Wire, Raw}
 use Rattle.amqp_value_core.specs.Nesting.{WireWithin, RawWithin, OutcomeWithin}
 use Rattle.amqp_value_core.specs.Inputs.{IsBytes}
-use Rattle.amqp_value_core.specs.Outcomes.{Reading, found, more, unknown, malformed, NeedsMoreOr, lack, FrontBy, OutcomeBy, Outcome}
+use Rattle.amqp_value_core.specs.Outcomes.{Reading, found, more, unknown, malformed, NeedsMoreOr, lack, PrefixBy, OutcomeBy, Outcome}
 use Rattle.amqp_value_core.specs.Payloads.{RawOutcome}
 use Rattle.amqp_value_core.specs.Decode.{outcome_by, meaning, outcome, raw_outcome}
 use Rattle.amqp_value_core.proofs.Found.{found_wire, found_raw}
 use Rattle.amqp_value_core.proofs.Limited.{one_outcome_within}
 use Rattle.amqp_value_core.proofs.Outcomes.{NeedsMoreOr-weaker, one_outcome, one_raw_outcome}
 use Rattle.amqp_value_core.proofs.Nests.{nesting-le, raw_nesting-le}
-use Rattle.amqp_value_core.proofs.Sound.{Ends, WireEnds, raw_ends, wire_ends, means_spelled}
+use Rattle.amqp_value_core.proofs.Sound.{PrefixOrError, WireEnds, raw_ends, wire_ends, means_spelled}
 
 -- an encoding at the start is the outcome
 outcome_at : (s w rest : List ℕ) (v : Tree) → Wire w v → s ≡ w ++ rest → outcome s ≡ found v rest
@@ -27,18 +27,18 @@ raw_outcome_at type s b rest v p is =
     subst (λ x. raw_outcome type x ≡ found v rest) (sym is) (found_raw (length (b ++ rest)) type b rest v p (omega (arith, raw_nesting-le type b v p, length-append b rest)))
 
 -- if each P at the start is the outcome, an error means that there is no such P
-front_by : (P Q : List ℕ → Tree → Type 0) (s : List ℕ) (o : Reading) → ((w rest : List ℕ) (v : Tree) → P w v → s ≡ w ++ rest → o ≡ found v rest)
-    → ((w : List ℕ) (v : Tree) → Q w v → P w v) → Ends Q s o → FrontBy P s o
-front_by P Q s (found v rest) finds forget (w, q, is) = (w, forget w v q, is)
-front_by P Q s malformed finds forget ends = λ w rest v p is. let e = finds w rest v p is in cc
-front_by P Q s (more n) finds forget ends = ends
-front_by P Q s unknown finds forget ends = ends
+prefix_by : (P Q : List ℕ → Tree → Type 0) (s : List ℕ) (o : Reading) → ((w rest : List ℕ) (v : Tree) → P w v → s ≡ w ++ rest → o ≡ found v rest)
+    → ((w : List ℕ) (v : Tree) → Q w v → P w v) → PrefixOrError Q s o → PrefixBy P s o
+prefix_by P Q s (found v rest) finds forget (w, q, is) = (w, forget w v q, is)
+prefix_by P Q s malformed finds forget ends = λ w rest v p is. let e = finds w rest v p is in cc
+prefix_by P Q s (more n) finds forget ends = ends
+prefix_by P Q s unknown finds forget ends = ends
 
 -- reading a payload results in what the function returns
 pub raw_outcome_holds : (type : AMQPType) (s : List ℕ) → IsBytes s → RawOutcome type s (raw_outcome type s)
 raw_outcome_holds type s bytes =
     NeedsMoreOr-weaker (lack type s) _ _ (raw_outcome type s)
-    (front_by (Raw type) (RawWithin (length s) type) s (raw_outcome type s) (raw_outcome_at type s) (λ b v q. q.0))
+    (prefix_by (Raw type) (RawWithin (length s) type) s (raw_outcome type s) (raw_outcome_at type s) (λ b v q. q.0))
     (raw_ends (length s) (meaning (length s)) (means_spelled (length s)) type s bytes)
 
 -- and to nothing else
@@ -51,10 +51,10 @@ outcome_by_ends : (depth : ℕ) (P : List ℕ → Tree → Type 0) (s : List ℕ
     → ((w rest : List ℕ) (v : Tree) → P w v → s ≡ w ++ rest → o ≡ found v rest) → WireEnds depth s o → OutcomeBy P s o
 outcome_by_ends depth P [] o forget finds ends = ends
 outcome_by_ends depth P (c ∷ b) o forget finds ends = at_kind (kind c) ends where
-  at_kind : (k : Option AMQPType) → MatchOption k (o ≡ unknown) (λ type. NeedsMoreOr (lack type b) (Ends (WireWithin depth) (c ∷ b) o) o)
-      → MatchOption k (o ≡ unknown) (λ type. NeedsMoreOr (lack type b) (FrontBy P (c ∷ b) o) o)
+  at_kind : (k : Option AMQPType) → MatchOption k (o ≡ unknown) (λ type. NeedsMoreOr (lack type b) (PrefixOrError (WireWithin depth) (c ∷ b) o) o)
+      → MatchOption k (o ≡ unknown) (λ type. NeedsMoreOr (lack type b) (PrefixBy P (c ∷ b) o) o)
   at_kind None is = is
-  at_kind (Some type) ends = NeedsMoreOr-weaker (lack type b) _ _ o (front_by P (WireWithin depth) (c ∷ b) o finds forget) ends
+  at_kind (Some type) ends = NeedsMoreOr-weaker (lack type b) _ _ o (prefix_by P (WireWithin depth) (c ∷ b) o finds forget) ends
 
 -- reading a value results in what the function returns
 pub outcome_holds : (s : List ℕ) → IsBytes s → Outcome s (outcome s)

@@ -18,20 +18,20 @@ use Rattle.amqp_value_core.specs.Members.{greatest_depth, entries_depth, count_a
 -- ---- entries that are put
 
 -- size, count and depth of some entries are at most these
-pub record Within (bytes values deep : ℕ) (es : Entries) : Type 0 where
+pub record EntriesWithin (bytes values deep : ℕ) (es : Entries) : Type 0 where
   pub size : pairs_size es ≤ bytes
   pub count : entries_count es ≤ values
   pub depth : entries_depth es ≤ deep
 
 -- entries grow by no more than is put
 put_within : (k : List ℕ) (v : Tree) (es : Entries)
-    → Within (1 + length k + (size v + pairs_size es)) (count v + entries_count es) (max (depth v) (entries_depth es)) (insert k v es)
+    → EntriesWithin (1 + length k + (size v + pairs_size es)) (count v + entries_count es) (max (depth v) (entries_depth es)) (insert k v es)
 put_within k v no_entries = record { size = omega (arith, pairs_size_more k v no_entries); count = omega arith; depth = omega arith }
 put_within k v (entry j u es) = by (slice_cmp nat_cmp k j) (put_within k v es)
   where
     by : (o : Ordering)
-        → Within (1 + length k + (size v + pairs_size es)) (count v + entries_count es) (max (depth v) (entries_depth es)) (insert k v es)
-        → Within (1 + length k + (size v + pairs_size (entry j u es))) (count v + entries_count (entry j u es)) (max (depth v) (entries_depth (entry j u es)))
+        → EntriesWithin (1 + length k + (size v + pairs_size es)) (count v + entries_count es) (max (depth v) (entries_depth es)) (insert k v es)
+        → EntriesWithin (1 + length k + (size v + pairs_size (entry j u es))) (count v + entries_count (entry j u es)) (max (depth v) (entries_depth (entry j u es)))
         (match_ordering o (entry k v (entry j u es)) (entry j v es) (entry j u (insert k v es)))
     by Less inner = record { size = omega (arith, pairs_size_more k v (entry j u es)); count = omega arith; depth = omega arith }
     by Equal inner = record { size = omega (arith, pairs_size_more j v es, pairs_size_more j u es); count = omega arith; depth = omega arith }
@@ -39,7 +39,7 @@ put_within k v (entry j u es) = by (slice_cmp nat_cmp k j) (put_within k v es)
 
 -- so they do if pairs are inserted one after another
 pub onto_within : (ps es : Entries)
-    → Within (pairs_size ps + pairs_size es) (entries_count ps + entries_count es) (max (entries_depth ps) (entries_depth es)) (insert_all es ps)
+    → EntriesWithin (pairs_size ps + pairs_size es) (entries_count ps + entries_count es) (max (entries_depth ps) (entries_depth es)) (insert_all es ps)
 onto_within no_entries es = record { size = omega arith; count = omega arith; depth = omega arith }
 onto_within (entry k v ps) es =
     let first = put_within k v es in
@@ -66,18 +66,18 @@ row_wide type f b row = subst IsWide row (rows_wide type) b
 -- ---- encodings
 
 -- a size, a count and five times a depth are at most n
-record Bounded (n bytes values deep : ℕ) : Type 0 where
+record AreAtMost (n bytes values deep : ℕ) : Type 0 where
   pub size : bytes ≤ n
   pub count : values ≤ n
   pub depth : 5 * deep ≤ n
 
 mutual
   -- an encoding is as long as its value is large
-  wire_bounded : (w : List ℕ) (v : Tree) → Wire w v → Bounded (length w) (size v) (count v) (depth v)
+  wire_bounded : (w : List ℕ) (v : Tree) → Wire w v → AreAtMost (length w) (size v) (count v) (depth v)
   wire_bounded _ _ (wire c type b v k p) = raw_bounded type b v p
 
   -- and a payload one byte less
-  raw_bounded : (type : AMQPType) (b : List ℕ) (v : Tree) → Raw type b v → Bounded (suc (length b)) (size v) (count v) (depth v)
+  raw_bounded : (type : AMQPType) (b : List ℕ) (v : Tree) → Raw type b v → AreAtMost (suc (length b)) (size v) (count v) (depth v)
   raw_bounded _ _ _ (raw_fixed type f b row len) =
       record { size = omega (arith, size_of_scalar (f.denotes b), row_wide type f b row); count = omega arith; depth = omega arith }
   raw_bounded _ _ _ (raw_short s is) = record { size = omega arith; count = omega arith; depth = omega arith }
@@ -96,7 +96,7 @@ mutual
       }
 
   -- an array's body is as long as its values are large
-  body_bounded : (body : List ℕ) (vs : Trees) → ArrayBody body vs → Bounded (length body) (body_size vs) (count_all vs) (greatest_depth vs)
+  body_bounded : (body : List ℕ) (vs : Trees) → ArrayBody body vs → AreAtMost (length body) (body_size vs) (count_all vs) (greatest_depth vs)
   body_bounded _ _ no_values = record { size = omega arith; count = omega arith; depth = omega arith }
   body_bounded _ _ (value w more v vs p all) =
       let first = wire_bounded w v p in
@@ -109,7 +109,7 @@ mutual
       }
 
   -- and a table's is as long as its pairs are
-  pairs_bounded : (body : List ℕ) (ps : Entries) → TableBody body ps → Bounded (length body) (pairs_size ps) (entries_count ps) (entries_depth ps)
+  pairs_bounded : (body : List ℕ) (ps : Entries) → TableBody body ps → AreAtMost (length body) (pairs_size ps) (entries_count ps) (entries_depth ps)
   pairs_bounded _ _ no_pairs = record { size = omega arith; count = omega arith; depth = omega arith }
   pairs_bounded _ _ (pair k w more v ps is p all) =
       let first = wire_bounded w v p in

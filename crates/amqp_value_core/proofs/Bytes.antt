@@ -6,19 +6,19 @@ use Rattle.std.specs.Int.{w8, w16, w32, w64, from_be_bytes}
 use Rattle.amqp_value_core.specs.Inputs.{IsBytes}
 
 -- a part of some bytes is bytes
-pub bytes_front : (s t : List ℕ) → IsBytes (s ++ t) → IsBytes s
-bytes_front [] t bytes = tt
-bytes_front (c ∷ s) t bytes = (bytes.0, bytes_front s t bytes.1)
+pub bytes_before : (s t : List ℕ) → IsBytes (s ++ t) → IsBytes s
+bytes_before [] t bytes = tt
+bytes_before (c ∷ s) t bytes = (bytes.0, bytes_before s t bytes.1)
 
-pub bytes_behind : (s t : List ℕ) → IsBytes (s ++ t) → IsBytes t
-bytes_behind [] t bytes = bytes
-bytes_behind (c ∷ s) t bytes = bytes_behind s t bytes.1
+pub bytes_after : (s t : List ℕ) → IsBytes (s ++ t) → IsBytes t
+bytes_after [] t bytes = bytes
+bytes_after (c ∷ s) t bytes = bytes_after s t bytes.1
 
 pub bytes_take : (n : ℕ) (s : List ℕ) → IsBytes s → IsBytes (take n s)
-bytes_take n s bytes = bytes_front (take n s) (drop n s) (subst IsBytes (sym (take-append-drop n s)) bytes)
+bytes_take n s bytes = bytes_before (take n s) (drop n s) (subst IsBytes (sym (take-append-drop n s)) bytes)
 
 pub bytes_drop : (n : ℕ) (s : List ℕ) → IsBytes s → IsBytes (drop n s)
-bytes_drop n s bytes = bytes_behind (take n s) (drop n s) (subst IsBytes (sym (take-append-drop n s)) bytes)
+bytes_drop n s bytes = bytes_after (take n s) (drop n s) (subst IsBytes (sym (take-append-drop n s)) bytes)
 
 -- each is below 256
 pub byte_at : (s : List ℕ) → IsBytes s → (i : ℕ) → get_or s i 0 < 256

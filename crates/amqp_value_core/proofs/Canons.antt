@@ -21,7 +21,7 @@ use Rattle.amqp_value_core.specs.Maps.{IsRising}
 use Rattle.amqp_value_core.specs.Canonical.{IsStrict, IsCanon, IsCanonRaw, IsCanonBody, IsCanonPairs, Canon}
 use Rattle.amqp_value_core.specs.Payloads.{CanonRaw}
 use Rattle.amqp_value_core.specs.Members.{CanonBody, CanonPairs}
-use Rattle.amqp_value_core.proofs.Bytes.{bytes_front, bytes_behind, byte_at}
+use Rattle.amqp_value_core.proofs.Bytes.{bytes_before, bytes_after, byte_at}
 use Rattle.amqp_value_core.proofs.Tables.{rising_pairs}
 use Rattle.amqp_value_core.proofs.Ids.{kind_read}
 use Rattle.amqp_value_core.proofs.Shortest.{what_is_read}
@@ -73,8 +73,8 @@ row_at P c [] all = tt
 row_at P c (r ∷ rows) all = by (nat_eq c r.0) refl (row_at P c rows all.1)
   where
     by : (t : Bool) → nat_eq c r.0 ≡ t → IfSome (lookup (nat_eq c) rows) (P c) → IfSome (cond t (Some r.1) (lookup (nat_eq c) rows)) (P c)
-    by true is behind = subst (λ d. P d r.1) (sym (eqb-true c r.0 is)) all.0
-    by false is behind = behind
+    by true is after = subst (λ d. P d r.1) (sym (eqb-true c r.0 is)) all.0
+    by false is after = after
 
 -- a letter that is no alternate tag is the one that is written
 abbrev IsFirst : ℕ → AMQPType → Type 0
@@ -202,24 +202,24 @@ mutual
   raw_is_payload _ _ _ (raw_long s fits) read bytes all = (refl, refl)
   raw_is_payload _ _ _ (raw_octets s fits) read bytes all = (refl, refl)
   raw_is_payload _ _ _ (raw_array b vs fits p) read bytes all =
-      (refl, ap long_field (body_is_texts b vs p (bytes_behind (to_be_bytes w32 (length b)) b bytes) all))
+      (refl, ap long_field (body_is_texts b vs p (bytes_after (to_be_bytes w32 (length b)) b bytes) all))
   raw_is_payload _ _ _ (raw_table b ps fits p) read bytes all =
-      let texts = pairs_are_keyed b ps p (bytes_behind (to_be_bytes w32 (length b)) b bytes) all in
+      let texts = pairs_are_keyed b ps p (bytes_after (to_be_bytes w32 (length b)) b bytes) all in
       (refl, ap long_field (texts ∙ ap pairs (sym (rising_pairs ps (canon_rises b ps p all)))))
 
   -- canonical encodings one after another are `text` of the values, joined
   body_is_texts : (b : List ℕ) (vs : Trees) (p : ArrayBody b vs) → IsBytes b → IsCanonBody b vs p → b ≡ body vs
   body_is_texts _ _ no_values bytes all = refl
   body_is_texts _ _ (value w more v vs first others) bytes all =
-      ap₂ ◌++◌ (wire_is_text w v first (bytes_front w more bytes) all.0) (body_is_texts more vs others (bytes_behind w more bytes) all.1)
+      ap₂ ◌++◌ (wire_is_text w v first (bytes_before w more bytes) all.0) (body_is_texts more vs others (bytes_after w more bytes) all.1)
 
   -- with keys before them too
   pairs_are_keyed : (b : List ℕ) (ps : Entries) (p : TableBody b ps) → IsBytes b → IsCanonPairs b ps p → b ≡ pairs ps
   pairs_are_keyed _ _ no_pairs bytes all = refl
   pairs_are_keyed _ _ (pair k w more v ps key first others) bytes all =
-      let behind = bytes_behind (short_field k) (w ++ more) bytes in
+      let after = bytes_after (short_field k) (w ++ more) bytes in
       ap (λ (x : List ℕ). short_field k ++ x)
-      (ap₂ ◌++◌ (wire_is_text w v first (bytes_front w more behind) all.1) (pairs_are_keyed more ps others (bytes_behind w more behind) all.2))
+      (ap₂ ◌++◌ (wire_is_text w v first (bytes_before w more after) all.1) (pairs_are_keyed more ps others (bytes_after w more after) all.2))
 
 pub canon_is_text : (w : List ℕ) (v : Tree) → IsBytes w → Canon w v → w ≡ text v
 canon_is_text w v bytes (p, is) = wire_is_text w v p bytes is

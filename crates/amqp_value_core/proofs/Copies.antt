@@ -15,26 +15,26 @@ use Rattle.amqp_value_core.specs.NeedsNoAlloc.{NeedsNoAlloc}
 use Rattle.amqp_value_core.specs.View.{view}
 use Rattle.amqp_value_core.specs.Containers.{trees, entries, array_items, array_view, table_entries, table_view}
 
-abbrev pub Pair : Type 0
-Pair = List ℕ × AMQPValue
+abbrev pub StoredPair : Type 0
+StoredPair = List ℕ × AMQPValue
 
 -- if keys are ascending, the first comes before a later one
-comes_before : (k : List ℕ) (es : List Pair) (e : Pair) (more : List Pair) → AllByRecursion (λ j. slice_cmp nat_cmp k j ≡ Less) (keys_of (es ++ e ∷ more)) → slice_cmp nat_cmp k e.0 ≡ Less
+comes_before : (k : List ℕ) (es : List StoredPair) (e : StoredPair) (more : List StoredPair) → AllByRecursion (λ j. slice_cmp nat_cmp k j ≡ Less) (keys_of (es ++ e ∷ more)) → slice_cmp nat_cmp k e.0 ≡ Less
 comes_before k [] e more h = h.0
 comes_before k (x ∷ es) e more h = comes_before k es e more h.1
 
 -- an entry whose key is after all others is put at the end
-pub put_at_the_end : (done : List Pair) (e : Pair) (more : List Pair) → IsStrictlySortedBy (slice_cmp nat_cmp) (keys_of (done ++ e ∷ more))
+pub put_at_the_end : (done : List StoredPair) (e : StoredPair) (more : List StoredPair) → IsStrictlySortedBy (slice_cmp nat_cmp) (keys_of (done ++ e ∷ more))
     → insert e.0 (view e.1) (entries done) ≡ entries (done ++ e ∷ [])
 unfolding IsStrictlySortedBy
 put_at_the_end [] e more h = refl
 put_at_the_end (first ∷ done) e more h =
-    let behind : slice_cmp nat_cmp e.0 first.0 ≡ Greater =
+    let after : slice_cmp nat_cmp e.0 first.0 ≡ Greater =
     nat_list_cmp_total.antisymm e.0 first.0 ∙ ap ordering_reverse (comes_before first.0 done e more h.0) in
-    rw behind (ap (entry first.0 (view first.1)) (put_at_the_end done e more h.1))
+    rw after (ap (entry first.0 (view first.1)) (put_at_the_end done e more h.1))
 
 -- two tables are the same value if their entries are
-pub table_again : (v : AMQPValue) (t u : FieldTable) (es : List Pair) → v ≡ value.FieldTable t → es ≡ table_entries t → table_view u ≡ entries es → view (value.FieldTable u) ≡ view v
+pub table_again : (v : AMQPValue) (t u : FieldTable) (es : List StoredPair) → v ≡ value.FieldTable t → es ≡ table_entries t → table_view u ≡ entries es → view (value.FieldTable u) ≡ view v
 table_again v t u es is inner same =
     let shown : (w : FieldTable) → view (value.FieldTable w) ≡ table (table_view w) = λ w. search (rules, the_lemmas) in
     rw (is, shown t, shown u, ← inner) (ap table same)
@@ -44,7 +44,7 @@ no_items : (vs : List AMQPValue) → trees vs ≡ no_trees → vs ≡ []
 no_items [] is = refl
 no_items (v ∷ vs) is = absurd (cc is)
 
-no_pairs : (es : List Pair) → entries es ≡ no_entries → es ≡ []
+no_pairs : (es : List StoredPair) → entries es ≡ no_entries → es ≡ []
 no_pairs [] is = refl
 no_pairs (e ∷ es) is = absurd (cc is)
 

@@ -54,10 +54,10 @@ fixed_found : (mean : Meaning) (type : AMQPType) (f : Layout) (b rest : List ℕ
     → raw_outcome_by mean type (b ++ rest) ≡ found (scalar (f.denotes b)) rest
 fixed_found mean type f b rest is wide =
     let whole = lack_of-none (Some f) (length_field type) (b ++ rest) (subst FirstWithin is (first_within type)) (omega (arith, length-append b rest)) in
-    let front : take f.width (b ++ rest) ≡ b = ap (λ n. take n (b ++ rest)) (sym wide) ∙ take-append_seam b rest in
-    let behind : drop f.width (b ++ rest) ≡ rest = ap (λ n. drop n (b ++ rest)) (sym wide) ∙ drop-append_seam b rest in
+    let prefix : take f.width (b ++ rest) ≡ b = ap (λ n. take n (b ++ rest)) (sym wide) ∙ take-append_seam b rest in
+    let after : drop f.width (b ++ rest) ≡ rest = ap (λ n. drop n (b ++ rest)) (sym wide) ∙ drop-append_seam b rest in
     ap (λ n. by_lack n mean type (b ++ rest)) (ap (λ o. lack_of o (length_field type) (b ++ rest)) is ∙ whole)
-    ∙ (ap (λ o. by_layout o mean type (b ++ rest)) is ∙ λ i. found (scalar (f.denotes (front i))) (behind i))
+    ∙ (ap (λ o. by_layout o mean type (b ++ rest)) is ∙ λ i. found (scalar (f.denotes (prefix i))) (after i))
 
 -- a payload with a length field is found, if the bytes that it counts have a meaning
 framed_found : (mean : Meaning) (type : AMQPType) (l s rest : List ℕ) (v : Tree) → fixed type ≡ None
@@ -68,14 +68,14 @@ framed_found mean type l s rest v is field_wide counts means =
     let b = (l ++ s) ++ rest in
     let field : take (byte_len w) b ≡ l =
     ap (λ n. take n b) (sym field_wide) ∙ (ap (take (length l)) (append_assoc l s rest) ∙ take-append_seam l (s ++ rest)) in
-    let behind : drop (byte_len w) b ≡ s ++ rest =
+    let after : drop (byte_len w) b ≡ s ++ rest =
     ap (λ n. drop n b) (sym field_wide) ∙ (ap (drop (length l)) (append_assoc l s rest) ∙ drop-append_seam l (s ++ rest)) in
     let n : counted w b ≡ length s = ap (from_be_bytes w) field ∙ counts in
     let size : length b ≡ length l + length s + length rest = length-append (l ++ s) rest ∙ ap (λ k. k + length rest) (length-append l s) in
     let whole = lack_of-none None w b tt (omega arith) in
     ap (λ k. by_lack k mean type b) (ap (λ o. lack_of o w b) is ∙ whole)
     ∙ (ap (λ o. by_layout o mean type b) is
-    ∙ ((λ i. by_meaning (mean type (take (n i) (behind i))) (drop (n i) (behind i)))
+    ∙ ((λ i. by_meaning (mean type (take (n i) (after i))) (drop (n i) (after i)))
     ∙ ((λ i. by_meaning (mean type (take-append_seam s rest i)) (drop-append_seam s rest i))
     ∙ ap (λ o. by_meaning o rest) means)))
 
@@ -91,7 +91,7 @@ is_key-true k s is =
 -- what starts with a value's encoding is that value, and then the others
 value_first : (read : List ℕ → Reading) (n : ℕ) (w rest : List ℕ) (v : Tree) → Wire w v → length (w ++ rest) ≤ suc n
     → read (w ++ rest) ≡ found v rest → values_by read (suc n) (w ++ rest) ≡ option_map (tree v) (values_by read n rest)
-value_first read n _ rest _ (wire c type b v is raw) room first = ap (and_others read n) first
+value_first read n _ rest _ (wire c type b v is raw) enough first = ap (and_others read n) first
 
 -- a body means the array of its values, if they are found one level further in
 array_means : (depth deep : ℕ) (body : List ℕ) (vs : Trees) → suc deep ≤ depth
@@ -142,17 +142,17 @@ mutual
   -- and a body's values are those that it encodes
   found_body : (depth n : ℕ) (body : List ℕ) (vs : Trees) (p : ArrayBody body vs) → body_nesting body vs p ≤ depth → length body ≤ n
       → values_by (outcome_by (meaning depth)) n body ≡ Some vs
-  found_body depth n _ _ no_values within room = refl
-  found_body depth zero _ _ (value w rest v vs first others) within room = absurd (omega (arith, length-append w rest, length-wire w v first))
-  found_body depth (suc n) _ _ (value w rest v vs first others) within room =
-      value_first (outcome_by (meaning depth)) n w rest v first room (found_wire depth w rest v first (omega arith))
+  found_body depth n _ _ no_values within enough = refl
+  found_body depth zero _ _ (value w rest v vs first others) within enough = absurd (omega (arith, length-append w rest, length-wire w v first))
+  found_body depth (suc n) _ _ (value w rest v vs first others) within enough =
+      value_first (outcome_by (meaning depth)) n w rest v first enough (found_wire depth w rest v first (omega arith))
       ∙ ap (option_map (tree v)) (found_body depth n rest vs others (omega arith) (omega (arith, length-append w rest, length-wire w v first)))
 
   -- and its pairs are put one after another
   found_pairs : (depth n : ℕ) (es : Entries) (body : List ℕ) (ps : Entries) (p : TableBody body ps) → pairs_nesting body ps p ≤ depth → length body ≤ n
       → pairs_onto (outcome_by (meaning depth)) n es body ≡ Some (insert_all es ps)
-  found_pairs depth n es _ _ no_pairs within room = refl
-  found_pairs depth zero es _ _ (pair k w rest v ps key first others) within room = absurd (omega arith)
-  found_pairs depth (suc n) es _ _ (pair k w rest v ps key first others) within room =
+  found_pairs depth n es _ _ no_pairs within enough = refl
+  found_pairs depth zero es _ _ (pair k w rest v ps key first others) within enough = absurd (omega arith)
+  found_pairs depth (suc n) es _ _ (pair k w rest v ps key first others) within enough =
       pair_first (outcome_by (meaning depth)) n es k (w ++ rest) rest v key (found_wire depth w rest v first (omega arith))
       ∙ found_pairs depth n (insert k v es) rest ps others (omega arith) (omega (arith, length-append k (w ++ rest), length-append w rest, length-wire w v first))

@@ -13,13 +13,13 @@ use Rattle.amqp_value_core.specs.Maps.{same_bytes, value_at, last_at, IsRising}
 use Rattle.amqp_value_core.specs.View.{view}
 use Rattle.amqp_value_core.specs.Containers.{entries}
 use Rattle.amqp_value_core.proofs.GrammarLaws.{same_tables, pairs_rise, last_stays, option_or-none}
-use Rattle.amqp_value_core.proofs.Copies.{Pair}
+use Rattle.amqp_value_core.proofs.Copies.{StoredPair}
 
 abbrev order : List ℕ → List ℕ → Ordering
 order = slice_cmp nat_cmp
 
 -- what is found among entries
-found_at : (k : List ℕ) (es : List Pair) → value_at k (entries es) ≡ option_map view (lookup (is_at (order k)) es)
+found_at : (k : List ℕ) (es : List StoredPair) → value_at k (entries es) ≡ option_map view (lookup (is_at (order k)) es)
 found_at k [] = refl
 found_at k (e ∷ es) = by (same_bytes k e.0) (is_at (order k) e.0) (texts_ties k e.0) (found_at k es)
   where
@@ -31,7 +31,7 @@ found_at k (e ∷ es) = by (same_bytes k e.0) (is_at (order k) e.0) (texts_ties 
     by false true same others = absurd cc
 
 -- what pairs leave at a key that are put onto a function in turn
-last_put : (k : List ℕ) (ps : List Pair) (f : List ℕ → Option AMQPValue) → option_map view (update_all (eq_by_cmp order) f ps k) ≡ option_or (last_at k (entries ps)) (option_map view (f k))
+last_put : (k : List ℕ) (ps : List StoredPair) (f : List ℕ → Option AMQPValue) → option_map view (update_all (eq_by_cmp order) f ps k) ≡ option_or (last_at k (entries ps)) (option_map view (f k))
 last_put k [] f = refl
 last_put k (p ∷ ps) f =
     last_put k ps (update (eq_by_cmp order) f p.0 (Some p.1))
@@ -46,17 +46,17 @@ last_put k (p ∷ ps) f =
     by None false true e = absurd cc
 
 -- a map's keys are ascending
-rise : (es : List Pair) → IsStrictlySortedBy order (keys_of es) → IsRising (entries es)
+rise : (es : List StoredPair) → IsStrictlySortedBy order (keys_of es) → IsRising (entries es)
 unfolding IsStrictlySortedBy
 rise [] h = tt
 rise (e ∷ es) h = (first es h, rise es h.1)
   where
-    first : (es : List Pair) → IsStrictlySortedBy order (keys_of (e ∷ es)) → ComesBefore e.0 (entries es)
+    first : (es : List StoredPair) → IsStrictlySortedBy order (keys_of (e ∷ es)) → ComesBefore e.0 (entries es)
     first [] h = tt
     first (x ∷ es) h = h.0.0
 
 -- the entries of a map into which each pair was inserted in turn are what the pairs result in
-pub made_of : (ps es : List Pair) → ((k : List ℕ) → lookup (is_at (order k)) es ≡ update_all (eq_by_cmp order) (λ _. None) ps k) → IsStrictlySortedBy order (keys_of es) → entries es ≡ insert_all no_entries (entries ps)
+pub made_of : (ps es : List StoredPair) → ((k : List ℕ) → lookup (is_at (order k)) es ≡ update_all (eq_by_cmp order) (λ _. None) ps k) → IsStrictlySortedBy order (keys_of es) → entries es ≡ insert_all no_entries (entries ps)
 made_of ps es found sorted =
     same_tables _ _ (rise es sorted) (pairs_rise (entries ps))
     (λ k. found_at k es ∙ ap (option_map view) (found k) ∙ last_put k ps (λ _. None) ∙ option_or-none (last_at k (entries ps)) ∙ sym (last_stays k (entries ps)))

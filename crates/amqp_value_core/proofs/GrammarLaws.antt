@@ -8,7 +8,7 @@ pub use Rattle.amqp_value_core.proofs.Spelling.{size_of_scalar, size_of_array, s
 -- outcomes: of a canonical encoding, with more bytes, and that there is one
 pub use Rattle.amqp_value_core.proofs.Reading.{reading_back}
 pub use Rattle.amqp_value_core.proofs.MoreBytes.{NeedsMoreOr-more, more_bytes, more_raw_bytes}
-pub use Rattle.amqp_value_core.proofs.Outcomes.{NeedsMoreOr-weaker, raw_front, one_outcome, one_raw_outcome}
+pub use Rattle.amqp_value_core.proofs.Outcomes.{NeedsMoreOr-weaker, raw_prefix, one_outcome, one_raw_outcome}
 -- the outcome as a function: its cases by what is first
 pub use Rattle.amqp_value_core.proofs.Found.{and_others, and_pairs}
 -- and that no payload but a short string, an array or a table is malformed
@@ -23,7 +23,7 @@ pub use Rattle.amqp_value_core.proofs.Shortest.{what_is_read, what_raw_reads, re
 pub use Rattle.amqp_value_core.proofs.Canons.{canon_is_wire, canon_fits, canon_is_text, canonical_wire, canon, canon_array, canon_table, canon_value, canon_pair, canon_rises}
 pub use Rattle.amqp_value_core.proofs.TextCanon.{text_is_canon, is_canonical}
 -- the words of the headline
-pub use Rattle.amqp_value_core.proofs.Headlines.{found_front, bounded_wire, bounded_found, is_shortest, injective}
+pub use Rattle.amqp_value_core.proofs.Headlines.{found_prefix, bounded_wire, bounded_found, is_shortest, injective}
 -- from a payload of the type that a first byte denotes to the value: the outcome, and that it
 -- may allocate
 pub use Rattle.amqp_value_core.proofs.Outcomes.{raw_to_value, value_to_raw, raw_to_heavy}
@@ -35,7 +35,7 @@ pub use Rattle.amqp_value_core.proofs.Headers.{counted-long_field, lack_of-long_
 pub use Rattle.amqp_value_core.proofs.Reading.{array_body}
 pub use Rattle.amqp_value_core.proofs.Reading.{table_body, short_bytes}
 -- reading if containers nest at most that deep
-pub use Rattle.amqp_value_core.proofs.Limited.{one_outcome_within, front_within, raw_to_value_within, value_to_raw_within, more_bytes_within, raw_whole_within, raw_found_within, wire_found_within, raw_outcome_same, unlimited, raw_unlimited, deep_enough}
+pub use Rattle.amqp_value_core.proofs.Limited.{one_outcome_within, prefix_within, raw_to_value_within, value_to_raw_within, more_bytes_within, raw_whole_within, raw_found_within, wire_found_within, raw_outcome_same, unlimited, raw_unlimited, deep_enough}
 pub use Rattle.amqp_value_core.proofs.Reading.{array_body_within, table_body_within}
 pub use Rattle.amqp_value_core.proofs.TextDepth.{text_within, text_again, depth_within}
 pub use Rattle.amqp_value_core.proofs.Agreement.{within_holds, within_is}

@@ -4,16 +4,16 @@ use Rattle.std.proofs.Common.{◌≡◌, ◌-◌, ℕ, List, length, ap, subst, 
 use Rattle.amqp_value_core.specs.Values.{Tree}
 use Rattle.amqp_value_core.specs.Grammar.{Wire}
 use Rattle.amqp_value_core.specs.Outcomes.{found, Outcome}
-use Rattle.amqp_value_core.specs.Readings.{Front}
+use Rattle.amqp_value_core.specs.Readings.{WirePrefix}
 use Rattle.amqp_value_core.specs.Texts.{text}
 use Rattle.amqp_value_core.specs.Headline.{IsWritableIn, IsShortest, TellsApart}
-use Rattle.amqp_value_core.proofs.Outcomes.{front_found}
+use Rattle.amqp_value_core.proofs.Outcomes.{prefix_found}
 use Rattle.amqp_value_core.proofs.Bounds.{bounds}
 use Rattle.amqp_value_core.proofs.Shortest.{what_is_read, shortest, same_text_same_value}
 
 -- what is found has an encoding at the start
-pub found_front : (s rest : List ℕ) (v : Tree) → Outcome s (found v rest) → Front s (found v rest)
-found_front s rest v x = front_found Wire s rest v x
+pub found_prefix : (s rest : List ℕ) (v : Tree) → Outcome s (found v rest) → WirePrefix s (found v rest)
+found_prefix s rest v x = prefix_found Wire s rest v x
 
 -- a value that was read is bounded by its encoding
 pub bounded_wire : (w : List ℕ) (v : Tree) → Wire w v → IsWritableIn (length w) v
@@ -25,9 +25,9 @@ bounded_wire w v p =
 -- so by the bytes that reading it took
 pub bounded_found : (s rest : List ℕ) (v : Tree) → Outcome s (found v rest) → IsWritableIn (length s - length rest) v
 bounded_found s rest v x =
-    let front = found_front s rest v x in
-    let taken : length front.0 ≡ length s - length rest = omega (arith, ap length front.2, length-append front.0 rest) in
-    subst (λ (n : ℕ). IsWritableIn n v) taken (bounded_wire front.0 v front.1)
+    let prefix = found_prefix s rest v x in
+    let taken : length prefix.0 ≡ length s - length rest = omega (arith, ap length prefix.2, length-append prefix.0 rest) in
+    subst (λ (n : ℕ). IsWritableIn n v) taken (bounded_wire prefix.0 v prefix.1)
 
 -- the canonical encoding is a shortest encoding
 pub is_shortest : (v : Tree) → IsShortest v

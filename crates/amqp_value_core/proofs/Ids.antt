@@ -13,8 +13,8 @@ row_holds P test [] all = tt
 row_holds P test (r ∷ rows) all = by (test r.0) (row_holds P test rows all.1)
   where
     by : (t : Bool) → IfSome (lookup test rows) P → IfSome (cond t (Some r.1) (lookup test rows)) P
-    by true behind = all.0
-    by false behind = behind
+    by true after = all.0
+    by false after = after
 
 -- a type that a letter denotes is read as itself
 rows_read : AllByRecursion (λ (r : ℕ × AMQPType). read_as r.1 ≡ Some r.1) letters

@@ -1,7 +1,7 @@
 pub mod Ids
 mod Splits
 pub mod Bytes
-mod Fronts
+mod Prefixes
 mod Headers
 mod Unique
 mod Tables

@@ -5,44 +5,44 @@ use Rattle.amqp_value_core.specs.declared.types.amqp_type.AMQPType.{AMQPType}
 use Rattle.amqp_value_core.specs.Values.{Tree}
 use Rattle.amqp_value_core.specs.Ids.{kind}
 use Rattle.amqp_value_core.specs.Grammar.{Wire, wire, Raw}
-use Rattle.amqp_value_core.specs.Outcomes.{Reading, found, more, unknown, malformed, lack, NeedsMoreOr, FrontBy, RawOutcomeBy, OutcomeBy, Outcome}
+use Rattle.amqp_value_core.specs.Outcomes.{Reading, found, more, unknown, malformed, lack, NeedsMoreOr, PrefixBy, RawOutcomeBy, OutcomeBy, Outcome}
 use Rattle.amqp_value_core.specs.Payloads.{RawOutcome}
 use Rattle.amqp_value_core.specs.Nesting.{nesting, WireWithin, RawWithin, OutcomeWithin, RawOutcomeWithin}
 use Rattle.amqp_value_core.specs.Readings.{StillWaits, with_more}
-use Rattle.amqp_value_core.proofs.Fronts.{one_held}
+use Rattle.amqp_value_core.proofs.Prefixes.{one_held}
 use Rattle.amqp_value_core.proofs.Headers.{lack-raw}
 use Rattle.amqp_value_core.proofs.MoreBytes.{more_raw_bytes_by, more_bytes_by}
-use Rattle.amqp_value_core.proofs.Outcomes.{One, NeedsMoreOr-weaker, raw_whole_by, front_found, raw_to_value_by, value_to_raw_by, one_outcome_by}
+use Rattle.amqp_value_core.proofs.Outcomes.{HasOnePrefix, NeedsMoreOr-weaker, raw_whole_by, prefix_found, raw_to_value_by, value_to_raw_by, one_outcome_by}
 use Rattle.amqp_value_core.proofs.Unique.{one_reading}
 use Rattle.amqp_value_core.proofs.Nests.{nesting-le, raw_nesting-le}
 
 -- ---- of any P
 
 -- P decides what Q does, if they hold of the same prefixes
-front_same : (P Q : List ℕ → Tree → Type 0) (s : List ℕ) (o : Reading) → ((b rest : List ℕ) (v : Tree) → s ≡ b ++ rest → P b v → Q b v)
-    → ((b rest : List ℕ) (v : Tree) → s ≡ b ++ rest → Q b v → P b v) → FrontBy P s o → FrontBy Q s o
-front_same P Q s (found v rest) there back (b, p, e) = (b, there b rest v e p, e)
-front_same P Q s malformed there back none = λ b rest v q e. none b rest v (back b rest v e q) e
-front_same P Q s (more n) there back f = absurd f
-front_same P Q s unknown there back f = absurd f
+prefix_same : (P Q : List ℕ → Tree → Type 0) (s : List ℕ) (o : Reading) → ((b rest : List ℕ) (v : Tree) → s ≡ b ++ rest → P b v → Q b v)
+    → ((b rest : List ℕ) (v : Tree) → s ≡ b ++ rest → Q b v → P b v) → PrefixBy P s o → PrefixBy Q s o
+prefix_same P Q s (found v rest) there back (b, p, e) = (b, there b rest v e p, e)
+prefix_same P Q s malformed there back none = λ b rest v q e. none b rest v (back b rest v e q) e
+prefix_same P Q s (more n) there back f = absurd f
+prefix_same P Q s unknown there back f = absurd f
 
 pub raw_outcome_same : (P Q : List ℕ → Tree → Type 0) (type : AMQPType) (s : List ℕ) (o : Reading) → ((b rest : List ℕ) (v : Tree) → s ≡ b ++ rest → P b v → Q b v)
     → ((b rest : List ℕ) (v : Tree) → s ≡ b ++ rest → Q b v → P b v) → RawOutcomeBy P type s o → RawOutcomeBy Q type s o
-raw_outcome_same P Q type s o there back x = NeedsMoreOr-weaker (lack type s) (FrontBy P s o) (FrontBy Q s o) o (front_same P Q s o there back) x
+raw_outcome_same P Q type s o there back x = NeedsMoreOr-weaker (lack type s) (PrefixBy P s o) (PrefixBy Q s o) o (prefix_same P Q s o there back) x
 
 outcome_same : (P Q : List ℕ → Tree → Type 0) (s : List ℕ) (o : Reading) → ((b rest : List ℕ) (v : Tree) → s ≡ b ++ rest → P b v → Q b v)
     → ((b rest : List ℕ) (v : Tree) → s ≡ b ++ rest → Q b v → P b v) → OutcomeBy P s o → OutcomeBy Q s o
 outcome_same P Q [] o there back x = x
 outcome_same P Q (c ∷ b) o there back x = by (kind c) x
   where
-    by : (k : Option AMQPType) → MatchOption k (o ≡ unknown) (λ type. NeedsMoreOr (lack type b) (FrontBy P (c ∷ b) o) o)
-        → MatchOption k (o ≡ unknown) (λ type. NeedsMoreOr (lack type b) (FrontBy Q (c ∷ b) o) o)
+    by : (k : Option AMQPType) → MatchOption k (o ≡ unknown) (λ type. NeedsMoreOr (lack type b) (PrefixBy P (c ∷ b) o) o)
+        → MatchOption k (o ≡ unknown) (λ type. NeedsMoreOr (lack type b) (PrefixBy Q (c ∷ b) o) o)
     by None e = e
-    by (Some type) y = NeedsMoreOr-weaker (lack type b) (FrontBy P (c ∷ b) o) (FrontBy Q (c ∷ b) o) o (front_same P Q (c ∷ b) o there back) y
+    by (Some type) y = NeedsMoreOr-weaker (lack type b) (PrefixBy P (c ∷ b) o) (PrefixBy Q (c ∷ b) o) o (prefix_same P Q (c ∷ b) o there back) y
 
 -- ---- within a depth
 
-one_within : (d : ℕ) → One (WireWithin d)
+one_within : (d : ℕ) → HasOnePrefix (WireWithin d)
 one_within d b c x y v u p q e = one_reading b c x y v u p.0 q.0 e
 
 -- reading a value within a depth results in one outcome
@@ -50,8 +50,8 @@ pub one_outcome_within : (d : ℕ) (s : List ℕ) (o p : Reading) → OutcomeWit
 one_outcome_within d s o p x y = one_outcome_by (WireWithin d) (one_within d) s o p x y
 
 -- what is found is at the start
-pub front_within : (d : ℕ) (s rest : List ℕ) (v : Tree) → OutcomeWithin d s (found v rest) → (w : List ℕ) × WireWithin d w v × (s ≡ w ++ rest)
-front_within d s rest v x = front_found (WireWithin d) s rest v x
+pub prefix_within : (d : ℕ) (s rest : List ℕ) (v : Tree) → OutcomeWithin d s (found v rest) → (w : List ℕ) × WireWithin d w v × (s ≡ w ++ rest)
+prefix_within d s rest v x = prefix_found (WireWithin d) s rest v x
 
 -- an encoding at the start of c and b, if c is a type tag: a payload of c's type is at the start
 -- of b
@@ -73,7 +73,7 @@ value_to_raw_within d c type b o k x =
     value_to_raw_by (RawWithin d type) (WireWithin d) c type k (λ p v q. (wire c type p v k q.0, q.1)) b (λ w rest v q e. raw_of_wire d c type b w rest v k q.0 q.1 e) o x
 
 -- a complete length-prefixed field results in what its prefix decides
-pub raw_whole_within : (d : ℕ) (type : AMQPType) (s : List ℕ) (o : Reading) → lack type s ≡ 0 → FrontBy (RawWithin d type) s o → RawOutcomeWithin d type s o
+pub raw_whole_within : (d : ℕ) (type : AMQPType) (s : List ℕ) (o : Reading) → lack type s ≡ 0 → PrefixBy (RawWithin d type) s o → RawOutcomeWithin d type s o
 raw_whole_within d type s o whole f = raw_whole_by (RawWithin d type) type s o whole f
 
 -- a payload is found at the start

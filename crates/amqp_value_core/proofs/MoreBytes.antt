@@ -5,10 +5,10 @@ use Rattle.amqp_value_core.specs.declared.types.amqp_type.AMQPType.{AMQPType}
 use Rattle.amqp_value_core.specs.Values.{Tree}
 use Rattle.amqp_value_core.specs.Ids.{kind}
 use Rattle.amqp_value_core.specs.Grammar.{Wire, Raw}
-use Rattle.amqp_value_core.specs.Outcomes.{Reading, found, more, unknown, malformed, lack, NeedsMoreOr, FrontBy, RawOutcomeBy, OutcomeBy, Outcome}
+use Rattle.amqp_value_core.specs.Outcomes.{Reading, found, more, unknown, malformed, lack, NeedsMoreOr, PrefixBy, RawOutcomeBy, OutcomeBy, Outcome}
 use Rattle.amqp_value_core.specs.Payloads.{RawOutcome}
 use Rattle.amqp_value_core.specs.Readings.{with_more, StillWaits}
-use Rattle.amqp_value_core.proofs.Fronts.{front_inside}
+use Rattle.amqp_value_core.proofs.Prefixes.{prefix_inside}
 use Rattle.amqp_value_core.proofs.Headers.{extent, extent-whole, extent-append, extent-raw, lack-whole, lack-append}
 use Rattle.amqp_value_core.proofs.Outcomes.{raw_whole_by, value_to_raw, raw_to_value, unknown_outcome}
 
@@ -17,7 +17,7 @@ use Rattle.amqp_value_core.proofs.Outcomes.{raw_whole_by, value_to_raw, raw_to_v
 raw_inside : (type : AMQPType) (s t b rest : List ℕ) (v : Tree) → lack type s ≡ 0 → Raw type b v → s ++ t ≡ b ++ rest → s ≡ b ++ drop (length b) s
 raw_inside type s t b rest v whole p e =
     let same : extent type s ≡ length b = sym (extent-append type s t whole) ∙ (ap (extent type) e ∙ extent-raw type b rest v p) in
-    front_inside s t b rest e (omega (arith, same, extent-whole type s whole))
+    prefix_inside s t b rest e (omega (arith, same, extent-whole type s whole))
 
 -- if n bytes are missing, that is the outcome
 pub NeedsMoreOr-more : (n : ℕ) (P : Type 0) → 0 < n → NeedsMoreOr n P (more n)
@@ -27,19 +27,19 @@ NeedsMoreOr-more (suc n) P lt = refl
 -- P holds of payloads of the type
 module _ (P : List ℕ → Tree → Type 0) (type : AMQPType) (raw : (b : List ℕ) (v : Tree) → P b v → Raw type b v) (s t : List ℕ) where
   -- what decides a complete length-prefixed field decides it with more bytes
-  front_append : (o : Reading) → lack type s ≡ 0 → FrontBy P s o → FrontBy P (s ++ t) (with_more o t)
-  front_append (found v rest) whole f = (f.0, f.1, ap (λ (x : List ℕ). x ++ t) f.2 ∙ append_assoc f.0 rest t)
-  front_append malformed whole f = λ b rest v p e.
+  prefix_append : (o : Reading) → lack type s ≡ 0 → PrefixBy P s o → PrefixBy P (s ++ t) (with_more o t)
+  prefix_append (found v rest) whole f = (f.0, f.1, ap (λ (x : List ℕ). x ++ t) f.2 ∙ append_assoc f.0 rest t)
+  prefix_append malformed whole f = λ b rest v p e.
       f b (drop (length b) s) v p (raw_inside type s t b rest v whole (raw b v p) e)
-  front_append (more n) whole f = absurd f
-  front_append unknown whole f = absurd f
+  prefix_append (more n) whole f = absurd f
+  prefix_append unknown whole f = absurd f
 
   -- the outcome of reading a payload, with more bytes
   pub more_raw_bytes_by : (o : Reading) → RawOutcomeBy P type s o → StillWaits o t → RawOutcomeBy P type (s ++ t) (with_more o t)
   more_raw_bytes_by o x waits = by (lack type s) refl x
     where
-      by : (n : ℕ) → lack type s ≡ n → NeedsMoreOr n (FrontBy P s o) o → RawOutcomeBy P type (s ++ t) (with_more o t)
-      by zero whole f = raw_whole_by P type (s ++ t) (with_more o t) (lack-whole type s t whole) (front_append o whole f)
+      by : (n : ℕ) → lack type s ≡ n → NeedsMoreOr n (PrefixBy P s o) o → RawOutcomeBy P type (s ++ t) (with_more o t)
+      by zero whole f = raw_whole_by P type (s ++ t) (with_more o t) (lack-whole type s t whole) (prefix_append o whole f)
       by (suc n) e is =
           let less : length t < suc n = subst (λ (r : Reading). StillWaits r t) is waits in
           let left : lack type (s ++ t) ≡ suc n - length t = lack-append type s t (rw e less) ∙ ap (λ (m : ℕ). m - length t) e in

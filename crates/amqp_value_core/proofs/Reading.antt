@@ -14,10 +14,10 @@ use Rattle.amqp_value_core.specs.Members.{all_readable, entries_readable, AllFit
 use Rattle.amqp_value_core.specs.InMemory.{IsValue, AreValues, AreEntries}
 use Rattle.amqp_value_core.specs.Readings.{unread, read_back}
 use Rattle.amqp_value_core.specs.Outcomes.{counted, found, malformed, lack, Outcome}
-use Rattle.amqp_value_core.specs.Payloads.{RawFront}
-use Rattle.amqp_value_core.proofs.Fronts.{same_fronts}
+use Rattle.amqp_value_core.specs.Payloads.{RawPrefix}
+use Rattle.amqp_value_core.proofs.Prefixes.{same_prefixes}
 use Rattle.amqp_value_core.proofs.Headers.{counted-long_field, lack_of-long_field}
-use Rattle.amqp_value_core.proofs.Unique.{one_front, one_key}
+use Rattle.amqp_value_core.proofs.Unique.{one_prefix, one_key}
 use Rattle.amqp_value_core.proofs.Outcomes.{raw_of_wire, raw_whole, raw_to_value, wire_found}
 use Rattle.amqp_value_core.proofs.Spelling.{text_is_wire}
 
@@ -25,15 +25,15 @@ use Rattle.amqp_value_core.proofs.Spelling.{text_is_wire}
 pub one_large : (s t x y : List ℕ) → length s < 2 ^ 32 → length t < 2 ^ 32 → long_field s ++ x ≡ long_field t ++ y → (s ≡ t) × (x ≡ y)
 one_large s t x y short_s short_t e =
     let len : length s ≡ length t = sym (counted-long_field s x short_s) ∙ (ap (counted w32) e ∙ counted-long_field t y short_t) in
-    same_fronts s t x y len (ap (drop 4) e)
+    same_prefixes s t x y len (ap (drop 4) e)
 
 -- the payload of an array is a body after its length, which nests no deeper than the payload, which
 -- counts one more
 pub array_body_within : (d : ℕ) (s x b y : List ℕ) (z : Tree) → length s < 2 ^ 32 → (p : Raw amqp.FieldArray b z) → raw_nesting amqp.FieldArray b z p ≤ d
     → long_field s ++ x ≡ b ++ y → (us : Trees) × (q : ArrayBody s us) × (suc (body_nesting s us q) ≤ d)
 array_body_within d s x _ y _ fits (raw_fixed type f b row len) within e = absurd cc
-array_body_within d s x _ y _ fits (raw_array c us room p) within e =
-    let same = one_large s c x y fits room e in
+array_body_within d s x _ y _ fits (raw_array c us bounded p) within e =
+    let same = one_large s c x y fits bounded e in
     let at = subst (λ (t : List ℕ). (q : ArrayBody t us) × (suc (body_nesting t us q) ≤ d)) (sym same.0) (p, within) in
     (us, at.0, at.1)
 
@@ -44,8 +44,8 @@ array_body s x b y z fits p e = let r = array_body_within (raw_nesting amqp.Fiel
 pub table_body_within : (d : ℕ) (s x b y : List ℕ) (z : Tree) → length s < 2 ^ 32 → (p : Raw amqp.FieldTable b z) → raw_nesting amqp.FieldTable b z p ≤ d
     → long_field s ++ x ≡ b ++ y → (ps : Entries) × (q : TableBody s ps) × (suc (pairs_nesting s ps q) ≤ d)
 table_body_within d s x _ y _ fits (raw_fixed type f b row len) within e = absurd cc
-table_body_within d s x _ y _ fits (raw_table c ps room p) within e =
-    let same = one_large s c x y fits room e in
+table_body_within d s x _ y _ fits (raw_table c ps bounded p) within e =
+    let same = one_large s c x y fits bounded e in
     let at = subst (λ (t : List ℕ). (q : TableBody t ps) × (suc (pairs_nesting t ps q) ≤ d)) (sym same.0) (p, within) in
     (ps, at.0, at.1)
 
@@ -95,7 +95,7 @@ mutual
   body_readable (tree v vs) _ _ is fits no_values e = absurd (no_empty_text v (body vs) e)
   body_readable (tree v vs) _ _ is fits (value w more z us p all) e =
       let r = text_readable v (body vs) w more z is.0 fits.0 p e in
-      let same = one_front (text v) w (body vs) more v z (text_is_wire v is.0 fits.0 r) p e in
+      let same = one_prefix (text v) w (body vs) more v z (text_is_wire v is.0 fits.0 r) p e in
       and_from (readable v) (all_readable vs) r (body_readable vs more us is.1 fits.1 all same.1)
 
   -- and those that with their keys are a table's pairs
@@ -103,19 +103,19 @@ mutual
   pairs_readable no_entries b ps are fits p e = refl
   pairs_readable (entry k v es) _ _ are fits no_pairs e = absurd cc
   pairs_readable (entry k v es) _ _ are fits (pair j w more z ps key p all) e =
-      let behind = one_key k j (text v ++ pairs es) (w ++ more) e in
-      let r = text_readable v (pairs es) w more z are.1 fits.0 p behind.1 in
-      let same = one_front (text v) w (pairs es) more v z (text_is_wire v are.1 fits.0 r) p behind.1 in
+      let after = one_key k j (text v ++ pairs es) (w ++ more) e in
+      let r = text_readable v (pairs es) w more z are.1 fits.0 p after.1 in
+      let same = one_prefix (text v) w (pairs es) more v z (text_is_wire v are.1 fits.0 r) p after.1 in
       and_from (readable v) (entries_readable es) r (pairs_readable es more ps are.3 fits.1 all same.1)
 
 -- if a value of an array is not readable, no prefix is a payload of an array
-no_array : (vs : Trees) (rest : List ℕ) → AreValues vs → Fits (array vs) → all_readable vs ≡ false → RawFront amqp.FieldArray (long_field (body vs) ++ rest) malformed
+no_array : (vs : Trees) (rest : List ℕ) → AreValues vs → Fits (array vs) → all_readable vs ≡ false → RawPrefix amqp.FieldArray (long_field (body vs) ++ rest) malformed
 no_array vs rest is fits r b y z p e =
     let found = array_body (body vs) rest b y z fits.0 p e in
     both_ways (all_readable vs) r (body_readable vs (body vs) found.0 is fits.1 found.1 refl)
 
 -- if a value of a table is not readable, no prefix is a payload of a table
-no_table : (es : Entries) (rest : List ℕ) → AreEntries es → Fits (table es) → entries_readable es ≡ false → RawFront amqp.FieldTable (long_field (pairs es) ++ rest) malformed
+no_table : (es : Entries) (rest : List ℕ) → AreEntries es → Fits (table es) → entries_readable es ≡ false → RawPrefix amqp.FieldTable (long_field (pairs es) ++ rest) malformed
 no_table es rest are fits r b y z p e =
     let found = table_body (pairs es) rest b y z fits.0 p e in
     both_ways (entries_readable es) r (pairs_readable es (pairs es) found.0 are fits.1 found.1 refl)
@@ -123,7 +123,7 @@ no_table es rest are fits r b y z p e =
 -- a complete length-prefixed field after a type tag is malformed, if no prefix of it is a
 -- payload
 malformed_frame : (type : AMQPType) (s rest : List ℕ) → kind (id_of type) ≡ Some type → lack type (long_field s ++ rest) ≡ 0
-    → RawFront type (long_field s ++ rest) malformed → Outcome (id_of type ∷ (long_field s ++ rest)) malformed
+    → RawPrefix type (long_field s ++ rest) malformed → Outcome (id_of type ∷ (long_field s ++ rest)) malformed
 malformed_frame type s rest k whole none =
     raw_to_value (id_of type) type (long_field s ++ rest) malformed k (raw_whole type (long_field s ++ rest) malformed whole none)
 

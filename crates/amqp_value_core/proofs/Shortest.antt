@@ -18,7 +18,7 @@ use Rattle.amqp_value_core.specs.Members.{all_readable, entries_readable, AllFit
 use Rattle.amqp_value_core.specs.InMemory.{IsScalar, IsValue, AreValues, AreEntries}
 use Rattle.amqp_value_core.specs.Inputs.{IsBytes}
 use Rattle.amqp_value_core.specs.Maps.{IsRising}
-use Rattle.amqp_value_core.proofs.Bytes.{bytes_front, bytes_behind, bytes_take, bytes_drop, below_1, below_2, below_4, below_8}
+use Rattle.amqp_value_core.proofs.Bytes.{bytes_before, bytes_after, bytes_take, bytes_drop, below_1, below_2, below_4, below_8}
 use Rattle.amqp_value_core.proofs.Tables.{Each, each-onto, pairs_rise}
 use Rattle.amqp_value_core.proofs.Unique.{one_meaning}
 use Rattle.amqp_value_core.proofs.Spelling.{text_is_wire}
@@ -33,26 +33,26 @@ no_short c type k e =
     cc
 
 -- a value whose lengths fit their fields, and which is readable
-record IsWritten (v : Tree) : Type 0 where
+record IsEncodable (v : Tree) : Type 0 where
   pub fits : Fits v
   pub reads : IsTrue (readable v)
 
--- the same of each value of a table
-entries_fit : (es : Entries) → Each (λ k v. IsWritten v) es → EntriesFit es
+-- so is each value of a table
+entries_fit : (es : Entries) → Each (λ k v. IsEncodable v) es → EntriesFit es
 entries_fit no_entries each = tt
 entries_fit (entry k v es) each = (each.0.fits, entries_fit es each.1)
 
-entries_read : (es : Entries) → Each (λ k v. IsWritten v) es → IsTrue (entries_readable es)
+entries_read : (es : Entries) → Each (λ k v. IsEncodable v) es → IsTrue (entries_readable es)
 entries_read no_entries each = refl
 entries_read (entry k v es) each = and_from (readable v) (entries_readable es) each.0.reads (entries_read es each.1)
 
 mutual
   -- the value of an encoding fits, and is readable
-  wire_written : (w : List ℕ) (v : Tree) → Wire w v → IsWritten v
+  wire_written : (w : List ℕ) (v : Tree) → Wire w v → IsEncodable v
   wire_written _ _ (wire c type b v k p) = raw_written type b v (no_short c type k) p
 
   -- so does that of a payload, but of a short string's
-  raw_written : (type : AMQPType) (b : List ℕ) (v : Tree) → type ≢ amqp.ShortString → Raw type b v → IsWritten v
+  raw_written : (type : AMQPType) (b : List ℕ) (v : Tree) → type ≢ amqp.ShortString → Raw type b v → IsEncodable v
   raw_written _ _ _ other (raw_fixed type f b row len) = record { fits = tt; reads = refl }
   raw_written _ _ _ other (raw_short s is) = absurd (other refl)
   raw_written _ _ _ other (raw_long s fits) = record { fits = fits; reads = refl }
@@ -61,7 +61,7 @@ mutual
       let inner = body_written body vs all in
       record { fits = (omega (arith, fits, array_size body vs all), inner.0); reads = inner.1 }
   raw_written _ _ _ other (raw_table body ps fits all) =
-      let each = each-onto (λ k v. IsWritten v) ps no_entries (pairs_written body ps all) tt in
+      let each = each-onto (λ k v. IsEncodable v) ps no_entries (pairs_written body ps all) tt in
       record {
         fits = (omega (arith, fits, table_size body ps all), entries_fit (insert_all no_entries ps) each);
         reads = entries_read (insert_all no_entries ps) each;
@@ -74,7 +74,7 @@ mutual
       let others = body_written more vs all in
       ((first.fits, others.0), and_from (readable v) (all_readable vs) first.reads others.1)
 
-  pairs_written : (body : List ℕ) (ps : Entries) → TableBody body ps → Each (λ k v. IsWritten v) ps
+  pairs_written : (body : List ℕ) (ps : Entries) → TableBody body ps → Each (λ k v. IsEncodable v) ps
   pairs_written _ _ no_pairs = tt
   pairs_written _ _ (pair k w more v ps is p all) = (wire_written w v p, pairs_written more ps all)
 
@@ -116,21 +116,21 @@ mutual
   raw_value _ _ _ bytes (raw_short s is) = is
   raw_value _ _ _ bytes (raw_long s fits) = tt
   raw_value _ _ _ bytes (raw_octets s fits) = tt
-  raw_value _ _ _ bytes (raw_array body vs fits all) = body_values body vs (bytes_behind (to_be_bytes w32 (length body)) body bytes) all
+  raw_value _ _ _ bytes (raw_array body vs fits all) = body_values body vs (bytes_after (to_be_bytes w32 (length body)) body bytes) all
   raw_value _ _ _ bytes (raw_table body ps fits all) =
-      let pairs = pairs_values body ps (bytes_behind (to_be_bytes w32 (length body)) body bytes) all in
+      let pairs = pairs_values body ps (bytes_after (to_be_bytes w32 (length body)) body bytes) all in
       are_entries (insert_all no_entries ps) (each-onto (λ k v. IsShort k × IsValue v) ps no_entries pairs tt) (pairs_rise ps)
 
   body_values : (body : List ℕ) (vs : Trees) → IsBytes body → ArrayBody body vs → AreValues vs
   body_values _ _ bytes no_values = tt
   body_values _ _ bytes (value w more v vs p all) =
-      (wire_value w v (bytes_front w more bytes) p, body_values more vs (bytes_behind w more bytes) all)
+      (wire_value w v (bytes_before w more bytes) p, body_values more vs (bytes_after w more bytes) all)
 
   pairs_values : (body : List ℕ) (ps : Entries) → IsBytes body → TableBody body ps → Each (λ k v. IsShort k × IsValue v) ps
   pairs_values _ _ bytes no_pairs = tt
   pairs_values _ _ bytes (pair k w more v ps is p all) =
-      let behind = bytes_behind (short_field k) (w ++ more) bytes in
-      ((is, wire_value w v (bytes_front w more behind) p), pairs_values more ps (bytes_behind w more behind) all)
+      let after = bytes_after (short_field k) (w ++ more) bytes in
+      ((is, wire_value w v (bytes_before w more after) p), pairs_values more ps (bytes_after w more after) all)
 
 -- ---- the laws
 

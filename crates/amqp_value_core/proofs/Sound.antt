@@ -19,16 +19,16 @@ use Rattle.amqp_value_core.specs.Nesting.{WireWithin, RawWithin, BodyWithin, Pai
 use Rattle.amqp_value_core.specs.Inputs.{IsBytes}
 use Rattle.amqp_value_core.specs.Outcomes.{Reading, found, more, unknown, malformed, NeedsMoreOr, length_field, counted, lack, lack_of, frame_lack}
 use Rattle.amqp_value_core.specs.Decode.{Meaning, framed, raw_outcome_by, outcome_by, values_by, is_short, is_key, pairs_onto, meaning}
-use Rattle.amqp_value_core.proofs.Bytes.{bytes_behind, bytes_take, bytes_drop, byte_at}
+use Rattle.amqp_value_core.proofs.Bytes.{bytes_after, bytes_take, bytes_drop, byte_at}
 use Rattle.amqp_value_core.proofs.Headers.{extent_of-whole}
 use Rattle.amqp_value_core.proofs.Outcomes.{NeedsMoreOr-weaker}
 use Rattle.amqp_value_core.proofs.Found.{by_kind, by_layout, by_lack, by_meaning, and_others, and_pairs, and_key}
 
 -- P holds of a prefix of s and the value that was found in it, or s is rejected
-abbrev pub Ends : (List ℕ → Tree → Type 0) → List ℕ → Reading → Type 0
-Ends P s (found v rest) = (b : List ℕ) × P b v × (s ≡ b ++ rest)
-Ends P s malformed = Unit {0}
-Ends P s _ = ⊥
+abbrev pub PrefixOrError : (List ℕ → Tree → Type 0) → List ℕ → Reading → Type 0
+PrefixOrError P s (found v rest) = (b : List ℕ) × P b v × (s ≡ b ++ rest)
+PrefixOrError P s malformed = Unit {0}
+PrefixOrError P s _ = ⊥
 
 -- P holds of a prefix of s and the value that was found in it, if one was
 abbrev IfFound : (List ℕ → Tree → Type 0) → List ℕ → Reading → Type 0
@@ -37,76 +37,76 @@ IfFound P s _ = Unit {0}
 
 -- reading a payload returns what is missing, otherwise finds a payload or fails
 abbrev pub RawEnds : ℕ → AMQPType → List ℕ → Reading → Type 0
-RawEnds depth type b o = NeedsMoreOr (lack type b) (Ends (RawWithin depth type) b o) o
+RawEnds depth type b o = NeedsMoreOr (lack type b) (PrefixOrError (RawWithin depth type) b o) o
 
 -- reading a value returns what is missing, or that there is no type tag, else finds an encoding
 -- or fails
 abbrev pub WireEnds : ℕ → List ℕ → Reading → Type 0
 WireEnds depth [] o = o ≡ more 1
-WireEnds depth (c ∷ b) o = MatchOption (kind c) (o ≡ unknown) (λ type. NeedsMoreOr (lack type b) (Ends (WireWithin depth) (c ∷ b) o) o)
+WireEnds depth (c ∷ b) o = MatchOption (kind c) (o ≡ unknown) (λ type. NeedsMoreOr (lack type b) (PrefixOrError (WireWithin depth) (c ∷ b) o) o)
 
 -- what some bytes mean has them for a payload, after each length field that counts them
-abbrev pub Means : ℕ → Meaning → Type 0
-Means depth mean = (type : AMQPType) (l s : List ℕ) → IsBytes l → length l ≡ byte_len (length_field type)
+abbrev pub IsSoundMeaning : ℕ → Meaning → Type 0
+IsSoundMeaning depth mean = (type : AMQPType) (l s : List ℕ) → IsBytes l → length l ≡ byte_len (length_field type)
     → from_be_bytes (length_field type) l ≡ length s → IsBytes s → IfSome (mean type s) (RawWithin depth type (l ++ s))
 
 -- reading what has a meaning
-by_meaning_ends : (P : List ℕ → Tree → Type 0) (s b rest : List ℕ) (v : Option Tree) → IfSome v (P b) → s ≡ b ++ rest → Ends P s (by_meaning v rest)
+by_meaning_ends : (P : List ℕ → Tree → Type 0) (s b rest : List ℕ) (v : Option Tree) → IfSome v (P b) → s ≡ b ++ rest → PrefixOrError P s (by_meaning v rest)
 by_meaning_ends P s b rest None spelled is = tt
 by_meaning_ends P s b rest (Some v) spelled is = (b, spelled, is)
 
 -- reading a payload with a length field
-framed_ends : (depth : ℕ) (mean : Meaning) (type : AMQPType) (b : List ℕ) → Means depth mean → IsBytes b → frame_lack (length_field type) b ≡ 0
-    → Ends (RawWithin depth type) b (framed (length_field type) (mean type) b)
+framed_ends : (depth : ℕ) (mean : Meaning) (type : AMQPType) (b : List ℕ) → IsSoundMeaning depth mean → IsBytes b → frame_lack (length_field type) b ≡ 0
+    → PrefixOrError (RawWithin depth type) b (framed (length_field type) (mean type) b)
 framed_ends depth mean type b means bytes whole =
     let w = length_field type in
     let l = take (byte_len w) b in
-    let behind = drop (byte_len w) b in
+    let after = drop (byte_len w) b in
     let n = counted w b in
-    let s = take n behind in
+    let s = take n after in
     let enough = extent_of-whole None w b whole in
     let wide : length l ≡ byte_len w = length-take (byte_len w) b ∙ omega (arith, enough) in
-    let counts : n ≡ length s = omega (arith, enough, length-take n behind, length-drop (byte_len w) b) in
-    let is : b ≡ (l ++ s) ++ drop n behind =
-    sym (take-append-drop (byte_len w) b) ∙ (ap (λ t. l ++ t) (sym (take-append-drop n behind)) ∙ sym (append_assoc l s (drop n behind))) in
-    by_meaning_ends (RawWithin depth type) b (l ++ s) (drop n behind) (mean type s)
-    (means type l s (bytes_take (byte_len w) b bytes) wide counts (bytes_take n behind (bytes_drop (byte_len w) b bytes))) is
+    let counts : n ≡ length s = omega (arith, enough, length-take n after, length-drop (byte_len w) b) in
+    let is : b ≡ (l ++ s) ++ drop n after =
+    sym (take-append-drop (byte_len w) b) ∙ (ap (λ t. l ++ t) (sym (take-append-drop n after)) ∙ sym (append_assoc l s (drop n after))) in
+    by_meaning_ends (RawWithin depth type) b (l ++ s) (drop n after) (mean type s)
+    (means type l s (bytes_take (byte_len w) b bytes) wide counts (bytes_take n after (bytes_drop (byte_len w) b bytes))) is
 
 -- reading a payload with no byte missing
-by_layout_ends : (depth : ℕ) (mean : Meaning) (type : AMQPType) (b : List ℕ) → Means depth mean → IsBytes b
-    → (f : Option Layout) → fixed type ≡ f → lack_of f (length_field type) b ≡ 0 → Ends (RawWithin depth type) b (by_layout f mean type b)
+by_layout_ends : (depth : ℕ) (mean : Meaning) (type : AMQPType) (b : List ℕ) → IsSoundMeaning depth mean → IsBytes b
+    → (f : Option Layout) → fixed type ≡ f → lack_of f (length_field type) b ≡ 0 → PrefixOrError (RawWithin depth type) b (by_layout f mean type b)
 by_layout_ends depth mean type b means bytes None is whole = framed_ends depth mean type b means bytes whole
 by_layout_ends depth mean type b means bytes (Some f) is whole =
     let field = extent_of-whole (Some f) (length_field type) b whole in
     (take f.width b, (raw_fixed type f (take f.width b) is (length-take f.width b ∙ omega arith), omega arith), sym (take-append-drop f.width b))
 
 -- reading a payload
-pub raw_ends : (depth : ℕ) (mean : Meaning) → Means depth mean → (type : AMQPType) (b : List ℕ) → IsBytes b → RawEnds depth type b (raw_outcome_by mean type b)
+pub raw_ends : (depth : ℕ) (mean : Meaning) → IsSoundMeaning depth mean → (type : AMQPType) (b : List ℕ) → IsBytes b → RawEnds depth type b (raw_outcome_by mean type b)
 raw_ends depth mean means type b bytes = at_lack (lack type b) refl where
-  at_lack : (n : ℕ) → lack type b ≡ n → NeedsMoreOr n (Ends (RawWithin depth type) b (by_lack n mean type b)) (by_lack n mean type b)
+  at_lack : (n : ℕ) → lack type b ≡ n → NeedsMoreOr n (PrefixOrError (RawWithin depth type) b (by_lack n mean type b)) (by_lack n mean type b)
   at_lack (suc n) is = refl
   at_lack zero is = by_layout_ends depth mean type b means bytes (fixed type) refl is
 
 -- with its type tag before it, a payload is an encoding
-id_before : (depth c : ℕ) (type : AMQPType) (b : List ℕ) (o : Reading) → kind c ≡ Some type → Ends (RawWithin depth type) b o → Ends (WireWithin depth) (c ∷ b) o
+id_before : (depth c : ℕ) (type : AMQPType) (b : List ℕ) (o : Reading) → kind c ≡ Some type → PrefixOrError (RawWithin depth type) b o → PrefixOrError (WireWithin depth) (c ∷ b) o
 id_before depth c type b (found v rest) is (raw, (p, within), split) = (c ∷ raw, (wire c type raw v is p, within), ap (λ t. c ∷ t) split)
 id_before depth c type b malformed is ends = tt
 id_before depth c type b (more n) is ends = ends
 id_before depth c type b unknown is ends = ends
 
 -- reading a value
-pub wire_ends : (depth : ℕ) (mean : Meaning) → Means depth mean → (s : List ℕ) → IsBytes s → WireEnds depth s (outcome_by mean s)
+pub wire_ends : (depth : ℕ) (mean : Meaning) → IsSoundMeaning depth mean → (s : List ℕ) → IsBytes s → WireEnds depth s (outcome_by mean s)
 wire_ends depth mean means [] bytes = refl
 wire_ends depth mean means (c ∷ b) bytes = at_kind (kind c) refl where
   at_kind : (k : Option AMQPType) → kind c ≡ k
-      → MatchOption k (by_kind k mean b ≡ unknown) (λ type. NeedsMoreOr (lack type b) (Ends (WireWithin depth) (c ∷ b) (by_kind k mean b)) (by_kind k mean b))
+      → MatchOption k (by_kind k mean b ≡ unknown) (λ type. NeedsMoreOr (lack type b) (PrefixOrError (WireWithin depth) (c ∷ b) (by_kind k mean b)) (by_kind k mean b))
   at_kind None is = refl
   at_kind (Some type) is =
-      NeedsMoreOr-weaker (lack type b) (Ends (RawWithin depth type) b (raw_outcome_by mean type b)) (Ends (WireWithin depth) (c ∷ b) (raw_outcome_by mean type b))
+      NeedsMoreOr-weaker (lack type b) (PrefixOrError (RawWithin depth type) b (raw_outcome_by mean type b)) (PrefixOrError (WireWithin depth) (c ∷ b) (raw_outcome_by mean type b))
       (raw_outcome_by mean type b) (id_before depth c type b (raw_outcome_by mean type b) is) (raw_ends depth mean means type b bytes.1)
 
 -- reading found what it found
-if_found : (P : List ℕ → Tree → Type 0) (s : List ℕ) (o : Reading) → Ends P s o → IfFound P s o
+if_found : (P : List ℕ → Tree → Type 0) (s : List ℕ) (o : Reading) → PrefixOrError P s o → IfFound P s o
 if_found P s (found v rest) ends = ends
 if_found P s (more n) ends = tt
 if_found P s unknown ends = tt
@@ -116,11 +116,11 @@ if_found P s malformed ends = tt
 wire_found : (depth : ℕ) (s : List ℕ) (o : Reading) → WireEnds depth s o → IfFound (WireWithin depth) s o
 wire_found depth [] o ends = subst (IfFound (WireWithin depth) []) (sym ends) tt
 wire_found depth (c ∷ b) o ends = at_kind (kind c) ends where
-  at_lack : (n : ℕ) → NeedsMoreOr n (Ends (WireWithin depth) (c ∷ b) o) o → IfFound (WireWithin depth) (c ∷ b) o
+  at_lack : (n : ℕ) → NeedsMoreOr n (PrefixOrError (WireWithin depth) (c ∷ b) o) o → IfFound (WireWithin depth) (c ∷ b) o
   at_lack (suc n) is = subst (IfFound (WireWithin depth) (c ∷ b)) (sym is) tt
   at_lack zero ends = if_found (WireWithin depth) (c ∷ b) o ends
 
-  at_kind : (k : Option AMQPType) → MatchOption k (o ≡ unknown) (λ type. NeedsMoreOr (lack type b) (Ends (WireWithin depth) (c ∷ b) o) o) → IfFound (WireWithin depth) (c ∷ b) o
+  at_kind : (k : Option AMQPType) → MatchOption k (o ≡ unknown) (λ type. NeedsMoreOr (lack type b) (PrefixOrError (WireWithin depth) (c ∷ b) o) o) → IfFound (WireWithin depth) (c ∷ b) o
   at_kind None is = subst (IfFound (WireWithin depth) (c ∷ b)) (sym is) tt
   at_kind (Some type) ends = at_lack (lack type b) ends
 
@@ -136,7 +136,7 @@ others_end : (depth : ℕ) (read : List ℕ → Reading) (n : ℕ) (s : List ℕ
     → ((rest : List ℕ) → IsBytes rest → IfSome (values_by read n rest) (BodyWithin depth rest))
     → IfSome (and_others read n o) (BodyWithin depth s)
 others_end depth read n s (found v rest) bytes (w, first, is) others =
-    tree_ends depth s w rest v (values_by read n rest) first is (others rest (bytes_behind w rest (subst IsBytes is bytes)))
+    tree_ends depth s w rest v (values_by read n rest) first is (others rest (bytes_after w rest (subst IsBytes is bytes)))
 others_end depth read n s (more k) bytes ends others = tt
 others_end depth read n s unknown bytes ends others = tt
 others_end depth read n s malformed bytes ends others = tt
@@ -167,14 +167,14 @@ pair_ends depth es k t w rest v (Some fs) key (p, within) is (ps, (q, all_within
     subst (λ x. PairsOnto depth es (short_field k ++ x) fs) (sym is) (entry k v ps, (pair k w rest v ps key p q, omega arith), onto_es)
 
 -- what is after the first key, and what the other pairs are
-pairs_behind : (depth : ℕ) (read : List ℕ → Reading) (n : ℕ) (es : Entries) (k t : List ℕ) (o : Reading) → IsShort k → IsBytes t → IfFound (WireWithin depth) t o
+pairs_after : (depth : ℕ) (read : List ℕ → Reading) (n : ℕ) (es : Entries) (k t : List ℕ) (o : Reading) → IsShort k → IsBytes t → IfFound (WireWithin depth) t o
     → ((fs : Entries) (rest : List ℕ) → IsBytes rest → IfSome (pairs_onto read n fs rest) (PairsOnto depth fs rest))
     → IfSome (and_pairs read n es k o) (PairsOnto depth es (short_field k ++ t))
-pairs_behind depth read n es k t (found v rest) key bytes (w, first, is) others =
-    pair_ends depth es k t w rest v (pairs_onto read n (insert k v es) rest) key first is (others (insert k v es) rest (bytes_behind w rest (subst IsBytes is bytes)))
-pairs_behind depth read n es k t (more m) key bytes ends others = tt
-pairs_behind depth read n es k t unknown key bytes ends others = tt
-pairs_behind depth read n es k t malformed key bytes ends others = tt
+pairs_after depth read n es k t (found v rest) key bytes (w, first, is) others =
+    pair_ends depth es k t w rest v (pairs_onto read n (insert k v es) rest) key first is (others (insert k v es) rest (bytes_after w rest (subst IsBytes is bytes)))
+pairs_after depth read n es k t (more m) key bytes ends others = tt
+pairs_after depth read n es k t unknown key bytes ends others = tt
+pairs_after depth read n es k t malformed key bytes ends others = tt
 
 -- what the first key is, and what the pairs are
 key_ends : (depth : ℕ) (read : List ℕ → Reading) → ((s : List ℕ) → IsBytes s → IfFound (WireWithin depth) s (read s))
@@ -191,7 +191,7 @@ key_ends depth read reads n es c s bytes others = at_test (is_key c s) refl wher
       let counts : length k ≡ c = length-take c s ∙ omega arith in
       let whole : short_field k ++ drop c s ≡ c ∷ s = λ i. counts i ∷ take-append-drop c s i in
       subst (λ x. IfSome (and_pairs read n es k (read (drop c s))) (PairsOnto depth es x)) whole
-      (pairs_behind depth read n es k (drop c s) (read (drop c s)) (is_short-holds k both.1) (bytes_drop c s bytes) (reads (drop c s) (bytes_drop c s bytes)) others)
+      (pairs_after depth read n es k (drop c s) (read (drop c s)) (is_short-holds k both.1) (bytes_drop c s bytes) (reads (drop c s) (bytes_drop c s bytes)) others)
 
 -- pairs that are put one after another are pairs
 pairs_end : (depth : ℕ) (read : List ℕ → Reading) → ((s : List ℕ) → IsBytes s → IfFound (WireWithin depth) s (read s))
@@ -237,7 +237,7 @@ table_end depth l s bytes four counts (Some es) (ps, (p, within), is) =
     (large_end (λ b. RawWithin (suc depth) amqp.FieldTable b (table (insert_all no_entries ps))) l s bytes four counts (λ fits. (raw_table s ps fits p, omega arith)))
 
 -- what bytes mean, they encode
-pub means_spelled : (depth : ℕ) → Means depth (meaning depth)
+pub means_spelled : (depth : ℕ) → IsSoundMeaning depth (meaning depth)
 means_spelled depth amqp.ShortString l s field one counts bytes = short_end depth l s one counts (is_short s) refl
 means_spelled depth amqp.LongString l s field four counts bytes =
     large_end (λ b. RawWithin depth amqp.LongString b (long s)) l s field four counts (λ fits. (raw_long s fits, omega arith))

@@ -72,8 +72,8 @@ put-last : (es : Entries) (k : List ℕ) (v : Tree) (fs : Entries) → IsRising 
 unfolding join
 put-last no_entries k v fs rises = refl
 put-last (entry j u es) k v fs rises =
-    let behind = greater j k (comes_before es j k u v fs rises) in
-    ap (λ (o : Ordering). match_ordering o (entry k v (entry j u es)) (entry j v es) (entry j u (insert k v es))) behind
+    let after = greater j k (comes_before es j k u v fs rises) in
+    ap (λ (o : Ordering). match_ordering o (entry k v (entry j u es)) (entry j v es) (entry j u (insert k v es))) after
     ∙ ap (entry j u) (put-last es k v fs rises.1)
 
 -- sorted entries that are put after others are joined to them

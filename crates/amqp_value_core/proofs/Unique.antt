@@ -5,20 +5,20 @@ use Rattle.amqp_value_core.specs.Values.{Tree, scalar, short, long, octets, arra
 use Rattle.amqp_value_core.specs.Ids.{kind}
 use Rattle.amqp_value_core.specs.Layouts.{Layout, fixed}
 use Rattle.amqp_value_core.specs.Grammar.{short_field, long_field, Wire, wire, Raw, raw_fixed, raw_short, raw_long, raw_octets, raw_array, raw_table, ArrayBody, no_values, value, TableBody, no_pairs, pair}
-use Rattle.amqp_value_core.proofs.Fronts.{same_fronts, one_held}
+use Rattle.amqp_value_core.proofs.Prefixes.{same_prefixes, one_held}
 use Rattle.amqp_value_core.proofs.Headers.{extent, extent-raw}
 
 -- two payloads of one type at the start of a list are one
-one_raw_front : (type : AMQPType) (b c x y : List ℕ) (v u : Tree) → Raw type b v → Raw type c u → b ++ x ≡ c ++ y → (b ≡ c) × (x ≡ y)
-one_raw_front type b c x y v u p q e =
-    same_fronts b c x y (sym (extent-raw type b x v p) ∙ (ap (extent type) e ∙ extent-raw type c y u q)) e
+one_raw_prefix : (type : AMQPType) (b c x y : List ℕ) (v u : Tree) → Raw type b v → Raw type c u → b ++ x ≡ c ++ y → (b ≡ c) × (x ≡ y)
+one_raw_prefix type b c x y v u p q e =
+    same_prefixes b c x y (sym (extent-raw type b x v p) ∙ (ap (extent type) e ∙ extent-raw type c y u q)) e
 
 -- two encodings at the start of a list are one
-pub one_front : (w u x y : List ℕ) (v z : Tree) → Wire w v → Wire u z → w ++ x ≡ u ++ y → (w ≡ u) × (x ≡ y)
-one_front _ _ x y _ _ (wire c type b v k p) (wire d type2 b2 z k2 q) e =
+pub one_prefix : (w u x y : List ℕ) (v z : Tree) → Wire w v → Wire u z → w ++ x ≡ u ++ y → (w ≡ u) × (x ≡ y)
+one_prefix _ _ x y _ _ (wire c type b v k p) (wire d type2 b2 z k2 q) e =
     let head : c ≡ d = cc in
     let same : type2 ≡ type = one_held (kind c) type2 type (ap kind head ∙ k2) k in
-    let rest = one_raw_front type b b2 x y v z p (subst (λ (t : AMQPType). Raw t b2 z) same q) (cc) in
+    let rest = one_raw_prefix type b b2 x y v z p (subst (λ (t : AMQPType). Raw t b2 z) same q) (cc) in
     (cc, rest.1)
 
 -- an encoding has a first byte
@@ -33,7 +33,7 @@ same_large s t e = ap (drop 4) e
 pub one_key : (j k x y : List ℕ) → short_field j ++ x ≡ short_field k ++ y → (j ≡ k) × (x ≡ y)
 one_key j k x y e =
     let count : length j ≡ length k = cc in
-    same_fronts j k x y count (ap (drop 1) e)
+    same_prefixes j k x y count (ap (drop 1) e)
 
 mutual
   -- a payload of one type has one meaning
@@ -63,7 +63,7 @@ mutual
   one_body_meaning _ _ _ _ no_values (value w more v us p all) e = absurd (no_empty_wire w more v p (sym e))
   one_body_meaning _ _ _ _ (value w more v vs p all) no_values e = absurd (no_empty_wire w more v p e)
   one_body_meaning _ _ _ _ (value w more v vs p all) (value w2 more2 v2 us p2 all2) e =
-      let same = one_front w w2 more more2 v v2 p p2 e in
+      let same = one_prefix w w2 more more2 v v2 p p2 e in
       ap₂ tree (one_meaning w w2 v v2 p p2 same.0) (one_body_meaning more more2 vs us all all2 same.1)
 
   -- a table's body has one list of pairs
@@ -73,18 +73,18 @@ mutual
   one_pairs_meaning _ _ _ _ (pair k w more v ps is p all) no_pairs e = absurd cc
   one_pairs_meaning _ _ _ _ (pair k w more v ps is p all) (pair k2 w2 more2 v2 qs is2 p2 all2) e =
       let key = one_key k k2 (w ++ more) (w2 ++ more2) e in
-      let same = one_front w w2 more more2 v v2 p p2 key.1 in
+      let same = one_prefix w w2 more more2 v v2 p p2 key.1 in
       ap (λ (j : List ℕ). entry j v ps) key.0
       ∙ ap₂ (entry k2) (one_meaning w w2 v v2 p p2 same.0) (one_pairs_meaning more more2 ps qs all all2 same.1)
 
 -- a list has one prefix that is a payload of the type, with one meaning
 pub one_raw_reading : (type : AMQPType) (b c x y : List ℕ) (v u : Tree) → Raw type b v → Raw type c u → b ++ x ≡ c ++ y → (b ≡ c) × (v ≡ u) × (x ≡ y)
 one_raw_reading type b c x y v u p q e =
-    let same = one_raw_front type b c x y v u p q e in
+    let same = one_raw_prefix type b c x y v u p q e in
     (same.0, one_raw_meaning type b c v u p q same.0, same.1)
 
 -- a list has one prefix that is an encoding, with one meaning
 pub one_reading : (w u x y : List ℕ) (v z : Tree) → Wire w v → Wire u z → w ++ x ≡ u ++ y → (w ≡ u) × (v ≡ z) × (x ≡ y)
 one_reading w u x y v z p q e =
-    let same = one_front w u x y v z p q e in
+    let same = one_prefix w u x y v z p q e in
     (same.0, one_meaning w u v z p q same.0, same.1)

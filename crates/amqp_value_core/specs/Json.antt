@@ -56,5 +56,5 @@ copied d amqp.LongString = as_str d
 copied d _ = None
 
 -- a string is copied that isn't empty: what allocates
-abbrev pub TakesMemory : Data → AMQPType → Type 0
-TakesMemory d type = (s : List ℕ) × (copied d type ≡ Some s) × (0 < length s)
+abbrev pub JsonAllocates : Data → AMQPType → Type 0
+JsonAllocates d type = (s : List ℕ) × (copied d type ≡ Some s) × (0 < length s)

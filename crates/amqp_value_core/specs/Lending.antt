@@ -8,12 +8,12 @@ use Rattle.amqp_value_core.specs.Containers.{table_view}
 
 module _ (s : MutBor FieldTable) {E : Type 0} where
   -- s is lent in r; at `Err` it keeps its entries
-  abbrev pub Rests : Result (MutBor FieldTable) E → Fml
-  Rests r = RestsIfErr the_row s (λ t. t.ghost_name) r (λ last. table_view last ≡ table_view s.now)
+  abbrev pub LentOrKept : Result (MutBor FieldTable) E → Fml
+  LentOrKept r = RestsIfErr the_row s (λ t. t.ghost_name) r (λ last. table_view last ≡ table_view s.now)
 
-  -- the same, if what was lent is in a struct
-  abbrev pub RestsIn : Result Lent E → Fml
-  RestsIn r = RestsIfErr the_row s (λ h. h.table.ghost_name) r (λ last. table_view last ≡ table_view s.now)
+  -- s is lent in the struct in r; at `Err` it keeps its entries
+  abbrev pub LentOrKeptIn : Result Lent E → Fml
+  LentOrKeptIn r = RestsIfErr the_row s (λ h. h.table.ghost_name) r (λ last. table_view last ≡ table_view s.now)
 
 -- what was lent, out of its struct
 abbrev pub bare_of : {E : Type 0} → Result Lent E → Result (MutBor FieldTable) E

@@ -38,7 +38,7 @@ pub mod Members
 pub mod InMemory
 -- what reading results in if more bytes follow, and of what was written
 pub mod Readings
--- the same outcomes as a function
+-- those outcomes, as a function
 pub mod Decode
 -- encodings in which containers nest at most that deep
 pub mod Nesting

@@ -53,21 +53,21 @@ NeedsMoreOr zero P o = P
 NeedsMoreOr (suc n) P o = o ≡ more (suc n)
 
 -- P holds of a prefix of s and what is found, or of no prefix and no value
-abbrev pub FrontBy : (List ℕ → Tree → Type 0) → List ℕ → Reading → Type 0
-FrontBy P s (found v rest) = (b : List ℕ) × P b v × (s ≡ b ++ rest)
-FrontBy P s malformed = (b rest : List ℕ) (v : Tree) → P b v → s ≡ b ++ rest → ⊥
-FrontBy P s _ = ⊥
+abbrev pub PrefixBy : (List ℕ → Tree → Type 0) → List ℕ → Reading → Type 0
+PrefixBy P s (found v rest) = (b : List ℕ) × P b v × (s ≡ b ++ rest)
+PrefixBy P s malformed = (b rest : List ℕ) (v : Tree) → P b v → s ≡ b ++ rest → ⊥
+PrefixBy P s _ = ⊥
 
 -- reading a payload of the type from s results in o, if P holds of its payloads
 abbrev pub RawOutcomeBy : (List ℕ → Tree → Type 0) → AMQPType → List ℕ → Reading → Type 0
-RawOutcomeBy P type s o = NeedsMoreOr (lack type s) (FrontBy P s o) o
+RawOutcomeBy P type s o = NeedsMoreOr (lack type s) (PrefixBy P s o) o
 
 -- reading a value from s results in o, by the first of these that holds: there is no byte, and one
 -- is needed; the first byte isn't a type tag; more bytes of the payload are needed; P holds of a
 -- prefix and a value; it holds of no prefix
 abbrev pub OutcomeBy : (List ℕ → Tree → Type 0) → List ℕ → Reading → Type 0
 OutcomeBy P [] o = o ≡ more 1
-OutcomeBy P (c ∷ b) o = MatchOption (kind c) (o ≡ unknown) (λ type. NeedsMoreOr (lack type b) (FrontBy P (c ∷ b) o) o)
+OutcomeBy P (c ∷ b) o = MatchOption (kind c) (o ≡ unknown) (λ type. NeedsMoreOr (lack type b) (PrefixBy P (c ∷ b) o) o)
 
 -- reading a value from s results in o
 abbrev pub Outcome : List ℕ → Reading → Type 0

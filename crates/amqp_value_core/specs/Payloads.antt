@@ -4,11 +4,11 @@ use Rattle.amqp_value_core.specs.declared.types.amqp_type.AMQPType.{AMQPType}
 use Rattle.amqp_value_core.specs.Values.{Tree}
 use Rattle.amqp_value_core.specs.Grammar.{Raw}
 use Rattle.amqp_value_core.specs.Canonical.{IsCanonRaw}
-use Rattle.amqp_value_core.specs.Outcomes.{Reading, FrontBy, RawOutcomeBy}
+use Rattle.amqp_value_core.specs.Outcomes.{Reading, PrefixBy, RawOutcomeBy}
 
 -- a prefix of s is a payload of the type, or no prefix is
-abbrev pub RawFront : AMQPType → List ℕ → Reading → Type 0
-RawFront type s o = FrontBy (Raw type) s o
+abbrev pub RawPrefix : AMQPType → List ℕ → Reading → Type 0
+RawPrefix type s o = PrefixBy (Raw type) s o
 
 -- reading a payload of the type from s results in o
 abbrev pub RawOutcome : AMQPType → List ℕ → Reading → Type 0

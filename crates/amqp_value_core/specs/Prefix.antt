@@ -2,5 +2,5 @@
 use Rattle.std.specs.Prelude.{ℕ, ◌≡◌, List, ◌++◌}
 
 -- a is a prefix of s
-abbrev pub IsFront : List ℕ → List ℕ → Type 0
-IsFront a s = (rest : List ℕ) × (s ≡ a ++ rest)
+abbrev pub IsPrefix : List ℕ → List ℕ → Type 0
+IsPrefix a s = (rest : List ℕ) × (s ≡ a ++ rest)

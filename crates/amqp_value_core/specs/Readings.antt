@@ -2,7 +2,7 @@
 use Rattle.std.specs.Prelude.{ℕ, ◌-◌, ◌<◌, List, ◌++◌, length, if◌then◌else◌}
 use Rattle.amqp_value_core.specs.Values.{Tree, short, readable}
 use Rattle.amqp_value_core.specs.Grammar.{Wire}
-use Rattle.amqp_value_core.specs.Outcomes.{Reading, found, unknown, malformed, more, FrontBy}
+use Rattle.amqp_value_core.specs.Outcomes.{Reading, found, unknown, malformed, more, PrefixBy}
 
 -- the outcome if t follows
 abbrev pub with_more : Reading → List ℕ → Reading
@@ -27,5 +27,5 @@ abbrev pub read_back : Tree → List ℕ → Reading
 read_back v rest = if readable v then found v rest else unread v
 
 -- a prefix of s is an encoding, or no prefix is
-abbrev pub Front : List ℕ → Reading → Type 0
-Front s o = FrontBy Wire s o
+abbrev pub WirePrefix : List ℕ → Reading → Type 0
+WirePrefix s o = PrefixBy Wire s o

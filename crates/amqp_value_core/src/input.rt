@@ -1,7 +1,7 @@
 //! The inputs of parsers.
 
 ghost use Rattle.std.specs.Prelude.{◌≡◌, ◌<◌, ◌≤◌, List, ℕ, length, slice_index, take, drop};
-ghost use Rattle.amqp_value_core.specs.Prefix.{IsFront};
+ghost use Rattle.amqp_value_core.specs.Prefix.{IsPrefix};
 ghost use Rattle.amqp_value_core.specs.Inputs.{IsBytes};
 
 mod split;
@@ -39,7 +39,7 @@ pub trait ParsableInput: Copy {
     /// A prefix of the bytes as a slice: as many as are contiguous, possibly zero. Parsers copy
     /// bytes chunk by chunk, and byte by byte if a chunk is empty. An implementor may leave it out.
     fn chunk(&self) -> &[u8]
-        ensures { IsFront result.now (bytes self.now) }
+        ensures { IsPrefix result.now (bytes self.now) }
     {
         &[]
     }
@@ -106,7 +106,7 @@ impl<'a> ParsableInput for SliceInput<'a> {
     /// All of the bytes.
     fn chunk(&self) -> &[u8]
         ensures all { result.now ≡ slice_bytes self.now }
-        ensures front { IsFront result.now (slice_bytes self.now) }
+        ensures prefix { IsPrefix result.now (slice_bytes self.now) }
     {
         self.as_slice()
     }

@@ -10,7 +10,7 @@ ghost use Rattle.amqp_value_core.specs.Payloads.{RawOutcome};
 ghost use Rattle.amqp_value_core.specs.Texts.{payload, text, size, Fits};
 ghost use Rattle.amqp_value_core.specs.Grammar.{Wire, Raw};
 ghost use Rattle.amqp_value_core.specs.InMemory.{IsValue};
-ghost use Rattle.amqp_value_core.specs.Readings.{read_back, StillWaits, with_more, Front};
+ghost use Rattle.amqp_value_core.specs.Readings.{read_back, StillWaits, with_more, WirePrefix};
 ghost use Rattle.amqp_value_core.specs.Ids.{kind};
 ghost use Rattle.amqp_value_core.specs.Inputs.{IsBytes};
 ghost use Rattle.amqp_value_core.specs.Outcomes.{Reading, Outcome, Heavy, RawHeavy, found, malformed};
@@ -139,7 +139,7 @@ pub fn bounds()
 
 /// What an encoding means can be written and read again: its lengths fit their fields, and each
 /// value in it has a type tag that is read. If the encoding is bytes, what it means is a value.
-/// The same holds of a payload, but a short string's, which no type tag denotes.
+/// That holds of a payload too, except a short string's, which no type tag denotes.
 #[tactic(auto, using(crate::proofs::GrammarLaws::what_is_read, crate::proofs::GrammarLaws::what_raw_reads, crate::proofs::GrammarLaws::read_is_value, crate::proofs::GrammarLaws::raw_value))]
 pub fn what_is_read()
     ensures fits { (w : List ℕ) (v : Tree) → Wire w v → Fits v × IsTrue (readable v) }
@@ -182,9 +182,9 @@ pub fn canonical_wire()
 {}
 
 /// What reading finds has an encoding at the start, and keeps to the number of bytes taken.
-#[tactic(auto, using(crate::proofs::GrammarLaws::found_front, crate::proofs::GrammarLaws::bounded_found))]
+#[tactic(auto, using(crate::proofs::GrammarLaws::found_prefix, crate::proofs::GrammarLaws::bounded_found))]
 pub fn what_is_found()
-    ensures front { (s rest : List ℕ) (v : Tree) → Outcome s (found v rest) → Front s (found v rest) }
+    ensures prefix { (s rest : List ℕ) (v : Tree) → Outcome s (found v rest) → WirePrefix s (found v rest) }
     ensures bounded { (s rest : List ℕ) (v : Tree) → Outcome s (found v rest)
         → IsWritableIn (length s - length rest) v }
 {}
@@ -205,7 +205,8 @@ pub fn outcome_computes()
     ensures only { (s : List ℕ) (o : Reading) → IsBytes s → Outcome s o ↔ (o ≡ outcome s) }
 {}
 
-/// The same of reading a payload, for each type.
+/// Reading a payload of a type has an outcome, it has no other, and the function `raw_outcome`
+/// computes it.
 #[tactic(auto, using(crate::proofs::Agreement::raw_outcome_holds, crate::proofs::Agreement::raw_outcome_is))]
 pub fn raw_outcome_computes()
     ensures holds { (type : AMQPType) (s : List ℕ) → IsBytes s

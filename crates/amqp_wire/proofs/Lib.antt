@@ -1,6 +1,6 @@
 mod Ends
 mod Outcomes
-mod Fronts
+mod Prefixes
 mod Sources
-mod Rooms
+mod Capacities
 mod Streams

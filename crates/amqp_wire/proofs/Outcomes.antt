@@ -10,7 +10,7 @@ use Rattle.amq_protocol_types.specs.declared.parsing.errors.Needed.TheVariants.{
 use Rattle.amq_protocol_types.specs.declared.parsing.errors.ErrorKind.TheVariants.{MapOpt, MapRes, Eof, OutOfMemory, TooLarge}
 use Rattle.amq_protocol_types.specs.declared.parsing.limits.Limits.{Limits}
 use Rattle.amq_protocol_types.specs.parsing.Refusals.{Refusal}
-use Rattle.amq_protocol_types.specs.parsing.ParseResults.{Refuses}
+use Rattle.amq_protocol_types.specs.parsing.ParseResults.{IsRefusal}
 use Rattle.amq_protocol_types.specs.parsing.Headers.{extent}
 use Rattle.amq_protocol_types.specs.parsing.Limits.{Within, RefusesWithin}
 use Rattle.amqp_wire.specs.Lines.{said, said_within, read_within}
@@ -28,7 +28,7 @@ pub said_of_outcome : (s : List ℕ) (o : Reading) → IsBytes s → Outcome s o
 said_of_outcome s o fit here = ap said ((outcome_is s o fit).0 here)
 
 -- and what is printed of an error
-pub said_of_refusal : (s : List ℕ) (e : Refusal) (t : List ℕ) → IsBytes s → Refuses (Outcome s) (Heavy s) e → IsSaid e t → t ≡ said (outcome s)
+pub said_of_refusal : (s : List ℕ) (e : Refusal) (t : List ℕ) → IsBytes s → IsRefusal (Outcome s) (Heavy s) e → IsSaid e t → t ≡ said (outcome s)
 said_of_refusal s (Incomplete Unknown) t fit right is = absurd right
 said_of_refusal s (Incomplete (Size n)) t fit right is = is ∙ said_of_outcome s (more n) fit right
 said_of_refusal s (Error MapOpt) t fit right is = is ∙ said_of_outcome s unknown fit right

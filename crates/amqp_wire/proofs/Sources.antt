@@ -4,12 +4,12 @@ use Rattle.std.specs.Prelude.{OnOk}
 use Rattle.std.specs.Io.KnownBytes.{Consumes}
 use Rattle.std.proofs.KnownBytes.{Consumes-trans}
 use Rattle.std.specs.declared.io.ErrorKind.{ErrorKind}
-use Rattle.amq_protocol_types.specs.stream.Sources.{Reaches}
-use Rattle.amq_protocol_types.specs.stream.Sources.Reaches.{there}
-use Rattle.amqp_wire.specs.Ends.{Continues}
+use Rattle.amq_protocol_types.specs.stream.Sources.{SourceReaches}
+use Rattle.amq_protocol_types.specs.stream.Sources.SourceReaches.{there}
+use Rattle.amqp_wire.specs.Ends.{SourceContinues}
 
 -- the last call, if it returned no error
-pub goes_on : {S T E : Type 0} (goes : S → S → Type 0) (fails : S → ErrorKind → S → Type 0) (a b c : S) (r : Result T E) → Reaches (Continues goes fails) a b → OnOk r (goes b c) → OnOk r (Reaches (Continues goes fails) a c)
+pub goes_on : {S T E : Type 0} (goes : S → S → Type 0) (fails : S → ErrorKind → S → Type 0) (a b c : S) (r : Result T E) → SourceReaches (SourceContinues goes fails) a b → OnOk r (goes b c) → OnOk r (SourceReaches (SourceContinues goes fails) a c)
 goes_on goes fails a b c (Ok x) before went = there a b c before (inl went)
 goes_on goes fails a b c (Err e) before went = tt
 

@@ -66,13 +66,13 @@ abbrev pub output_within : Limits → List ℕ → List ℕ
 output_within l xs = output_by (λ s. said_within (read_within l s)) xs
 
 -- known bytes grow by a prefix of the output
-abbrev pub AppendsFront : Option (List ℕ) → Option (List ℕ) → List ℕ → Type 0
-AppendsFront old new text = (front : List ℕ) × (rest : List ℕ) × (text ≡ front ++ rest) × Appends old new front
+abbrev pub AppendsTextPrefix : Option (List ℕ) → Option (List ℕ) → List ℕ → Type 0
+AppendsTextPrefix old new text = (prefix : List ℕ) × (rest : List ℕ) × (text ≡ prefix ++ rest) × Appends old new prefix
 
 -- if what is left to be read is known, what was written grows by its result
-abbrev pub Answers : (List ℕ → List ℕ) → Option (List ℕ) → Option (List ℕ) → Option (List ℕ) → Type 0
-Answers answer input old new = IfSome input (λ xs. Appends old new (answer xs))
+abbrev pub AppendsResult : (List ℕ → List ℕ) → Option (List ℕ) → Option (List ℕ) → Option (List ℕ) → Type 0
+AppendsResult printed input old new = IfSome input (λ xs. Appends old new (printed xs))
 
 -- or by a prefix of it
-abbrev pub AnswersFront : (List ℕ → List ℕ) → Option (List ℕ) → Option (List ℕ) → Option (List ℕ) → Type 0
-AnswersFront answer input old new = IfSome input (λ xs. AppendsFront old new (answer xs))
+abbrev pub AppendsResultPrefix : (List ℕ → List ℕ) → Option (List ℕ) → Option (List ℕ) → Option (List ℕ) → Type 0
+AppendsResultPrefix printed input old new = IfSome input (λ xs. AppendsTextPrefix old new (printed xs))

@@ -23,6 +23,6 @@ IsSaid (Error kind) t = t ≡ codes "refused " ++ kind_name kind
 IsSaid (Failure kind) t = ⊥
 
 -- a parser returns how many more bytes are needed
-abbrev pub IsTold : Refusal → Type 0
-IsTold (Incomplete Unknown) = ⊥
-IsTold _ = Unit {0}
+abbrev pub IsKnownRefusal : Refusal → Type 0
+IsKnownRefusal (Incomplete Unknown) = ⊥
+IsKnownRefusal _ = Unit {0}

@@ -49,8 +49,8 @@ abbrev pub BeginsNone : Limits → List ℕ → Type 0
 BeginsNone l s = (w rest : List ℕ) (v : Tree) → s ≡ w ++ rest → WireWithin l.depth w v → length w ≤ l.frame → ⊥
 
 -- the values of a stream, as many as are one after another, and what is left after them
-abbrev pub AreValues : Limits → List ℕ → List Tree → List ℕ → Type 0
-AreValues l s vs left = BeginsWith l s vs left × BeginsNone l left
+abbrev pub AreStreamValues : Limits → List ℕ → List Tree → List ℕ → Type 0
+AreStreamValues l s vs left = BeginsWith l s vs left × BeginsNone l left
 
 -- the lines of values
 abbrev pub value_lines : List Tree → List ℕ
@@ -60,17 +60,17 @@ value_lines (v ∷ vs) = value_line v ++ value_lines vs
 -- the lines of a stream are those of its first values, or if there are fewer those of all and a
 -- last line
 abbrev pub AreLines : Limits → ℕ → List ℕ → Type 0
-AreLines l most s = (vs : List Tree) (left : List ℕ) → AreValues l s vs left
+AreLines l most s = (vs : List Tree) (left : List ℕ) → AreStreamValues l s vs left
     → (most ≤ length vs → stream_text l most s ≡ value_lines (take most vs))
     × (length vs < most → stream_text l most s ≡ value_lines vs ++ last_line left (read_within l left))
 
 -- each stream has values, if only zero, and its lines are theirs
 abbrev pub HasLines : Limits → ℕ → Type 0
-HasLines l most = (s : List ℕ) → IsBytes s → ((vs : List Tree) × (left : List ℕ) × AreValues l s vs left) × AreLines l most s
+HasLines l most = (s : List ℕ) → IsBytes s → ((vs : List Tree) × (left : List ℕ) × AreStreamValues l s vs left) × AreLines l most s
 
 -- if s begins with n values, all after them is left
-abbrev pub Leaves : Limits → ℕ → List ℕ → Option (List ℕ) → Type 0
-Leaves l n s now = (vs : List Tree) (left : List ℕ) → BeginsWith l s vs left → length vs ≡ n → now ≡ Some left
+abbrev pub LeavesAfterValues : Limits → ℕ → List ℕ → Option (List ℕ) → Type 0
+LeavesAfterValues l n s now = (vs : List Tree) (left : List ℕ) → BeginsWith l s vs left → length vs ≡ n → now ≡ Some left
 
 -- ---- one line
 

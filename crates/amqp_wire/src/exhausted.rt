@@ -25,7 +25,7 @@ enum Program {
 const LINES: &[u8] = b"\n7a\n41000000027300\n560a\n550005\n5\nxy\n";
 
 /// The results.
-const ANSWERS: &[u8] =
+const PRINTED: &[u8] =
     b"more 1\nrefused MapOpt\nrefused Eof\nvalue 56 rest 1\nvalue 730005 rest 0\nnot hex\nnot hex\n";
 
 /// Values, and a byte that begins none.
@@ -41,9 +41,9 @@ const LIMITS: Limits = Limits {
 
 /// What is run, on what, and what it writes.
 const PROGRAMS: &[(Program, &[u8], &[u8])] = &[
-    (Lines, LINES, ANSWERS),
-    (Split, LINES, ANSWERS),
-    (Within, LINES, ANSWERS),
+    (Lines, LINES, PRINTED),
+    (Split, LINES, PRINTED),
+    (Within, LINES, PRINTED),
     (Stream, BYTES, VALUES),
 ];
 
@@ -103,13 +103,13 @@ fn refusals(
     let mut refusals = 0u64;
     for _ in 0..BLOCKS {
         out.clear();
-        let answer = run_program(alloc, program, input, out);
+        let outcome = run_program(alloc, program, input, out);
         assert!(rt; lines.starts_with(out.as_slice()), "{program:?}");
-        if answer.is_ok() {
+        if outcome.is_ok() {
             return refusals;
         }
         assert!(rt;
-            matches!(answer, Err(WireFault::OutOfMemory)),
+            matches!(outcome, Err(WireFault::OutOfMemory)),
             "{program:?}"
         );
         refusals = refusals.saturating_add(1);
@@ -121,7 +121,7 @@ fn refusals(
 #[test]
 fn results_come_once_there_is_memory(rt: HostRuntime) -> Result<(), Fail> {
     let alloc = rt.alloc();
-    let mut out = Vec::with_capacity(alloc, ANSWERS.len())?;
+    let mut out = Vec::with_capacity(alloc, PRINTED.len())?;
     let mut blocks = Vec::with_capacity(alloc, BLOCKS)?;
     for row in PROGRAMS {
         take_all(alloc, &mut blocks);

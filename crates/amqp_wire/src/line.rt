@@ -7,7 +7,7 @@ ghost use Rattle.amqp_value_core.specs.View.{view};
 ghost use Rattle.amqp_value_core.specs.Texts.{text, size, Fits};
 ghost use Rattle.hex.specs.Hex.{encode_lower};
 ghost use Rattle.amqp_wire.specs.Lines.{line_by, read_within, said, said_in, said_of_value, said_within};
-ghost use Rattle.amqp_wire.specs.Refusals.{kind_name, IsSaid, IsTold};
+ghost use Rattle.amqp_wire.specs.Refusals.{kind_name, IsSaid, IsKnownRefusal};
 
 use amq_protocol_types::AMQPValue;
 use amq_protocol_types::generation::{SliceOutput, WriteContext, gen_value};
@@ -30,14 +30,14 @@ pub enum Form {
     Within(Limits),
 }
 
-/// The canonical encoding of a value in hexadecimal. It is first written to a buffer of `room`
+/// The canonical encoding of a value in hexadecimal. It is first written to a buffer of `capacity`
 /// bytes, which holds it.
-fn hex_of(alloc: Global, value: &AMQPValue, room: usize) -> Result<String, AllocError>
+fn hex_of(alloc: Global, value: &AMQPValue, capacity: usize) -> Result<String, AllocError>
     requires fits { Fits (view value.now) }
-    requires room { size (view value.now) ≤ room }
+    requires capacity { size (view value.now) ≤ capacity }
     ensures hex { IfOk result (λ hex. string_bytes hex ≡ encode_lower (text (view value.now))) }
 {
-    let mut bytes = vec![in alloc; 0; room]?;
+    let mut bytes = vec![in alloc; 0; capacity]?;
     let mut context = WriteContext::from(SliceOutput::new(bytes.as_mut_slice()));
     gen_value(value, &mut context).unwrap();
     let (output, _) = context.into_inner();
@@ -46,14 +46,14 @@ fn hex_of(alloc: Global, value: &AMQPValue, room: usize) -> Result<String, Alloc
 
 /// What is printed of a value that was read from `count` bytes, of which `rest` is left after it.
 /// It is written to a buffer of as many bytes as it was read from.
-fn value_answer<I: ParsableInput>(
+fn value_text<I: ParsableInput>(
     alloc: Global,
     value: &AMQPValue,
     count: usize,
     rest: I,
 ) -> Result<String, AllocError>
     requires { IsWritableIn (count - length (I.bytes rest)) (view value.now) }
-    ensures { IfOk result (λ answer. string_bytes answer ≡ said_of_value (view value.now) (length (I.bytes rest))) }
+    ensures { IfOk result (λ printed. string_bytes printed ≡ said_of_value (view value.now) (length (I.bytes rest))) }
 {
     let left = rest.input_len();
     let hex = hex_of(alloc, value, count.saturating_sub(left))?;
@@ -74,9 +74,9 @@ pub fn name_of(kind: ErrorKind) -> &'static str
 }
 
 /// What is printed of an error.
-fn refusal_answer(alloc: Global, error: ParserError) -> Result<String, AllocError>
-    requires { IsTold error }
-    ensures { IfOk result (λ answer. IsSaid error (string_bytes answer)) }
+fn refusal_text(alloc: Global, error: ParserError) -> Result<String, AllocError>
+    requires { IsKnownRefusal error }
+    ensures { IfOk result (λ printed. IsSaid error (string_bytes printed)) }
 {
     match error {
         Err::Incomplete(Needed::Size(lack)) => format!(in alloc; "more {lack}"),
@@ -90,61 +90,61 @@ fn refusal_answer(alloc: Global, error: ParserError) -> Result<String, AllocErro
 }
 
 /// What is printed of the bytes that a line denotes.
-fn answer_to_bytes<I: ParsableInput>(alloc: Global, bytes: I) -> Result<String, AllocError>
-    ensures { IfOk result (λ answer. string_bytes answer ≡ said (outcome (I.bytes bytes))) }
+fn result_of_bytes<I: ParsableInput>(alloc: Global, bytes: I) -> Result<String, AllocError>
+    ensures { IfOk result (λ printed. string_bytes printed ≡ said (outcome (I.bytes bytes))) }
 {
     let count = bytes.input_len();
     match parse_value(alloc, bytes) {
-        Ok((rest, value)) => value_answer(alloc, &value, count, rest),
-        Err(error) => refusal_answer(alloc, error),
+        Ok((rest, value)) => value_text(alloc, &value, count, rest),
+        Err(error) => refusal_text(alloc, error),
     }
 }
 
 /// What is printed of them if they are read within limits.
-fn answer_within<I: ParsableInput>(
+fn result_within<I: ParsableInput>(
     alloc: Global,
     bytes: I,
     limits: Limits,
 ) -> Result<String, AllocError>
-    ensures { IfOk result (λ answer. string_bytes answer ≡ said_within (read_within limits (I.bytes bytes))) }
+    ensures { IfOk result (λ printed. string_bytes printed ≡ said_within (read_within limits (I.bytes bytes))) }
 {
     let count = bytes.input_len();
     match parse_value_within(alloc, bytes, limits) {
-        Ok((rest, value)) => value_answer(alloc, &value, count, rest),
-        Err(error) => refusal_answer(alloc, error),
+        Ok((rest, value)) => value_text(alloc, &value, count, rest),
+        Err(error) => refusal_text(alloc, error),
     }
 }
 
 /// What is printed of the bytes that a line denotes, read in the form `form`.
-fn answer_in_form(alloc: Global, bytes: &[u8], form: Form) -> Result<String, AllocError>
-    ensures { IfOk result (λ answer. string_bytes answer ≡ said_in form bytes.now) }
+fn result_in_form(alloc: Global, bytes: &[u8], form: Form) -> Result<String, AllocError>
+    ensures { IfOk result (λ printed. string_bytes printed ≡ said_in form bytes.now) }
 {
     match form {
-        Form::Whole => answer_to_bytes(alloc, SliceInput::new(bytes)),
+        Form::Whole => result_of_bytes(alloc, SliceInput::new(bytes)),
         Form::Split(at) => {
             let (first, second) = bytes.split_at(at.min(bytes.len()));
-            answer_to_bytes(alloc, SplitInput::new(first, second))
+            result_of_bytes(alloc, SplitInput::new(first, second))
         }
-        Form::Within(limits) => answer_within(alloc, SliceInput::new(bytes), limits),
+        Form::Within(limits) => result_within(alloc, SliceInput::new(bytes), limits),
     }
 }
 
 /// The result of a line, without its end.
-fn answer_to(alloc: Global, input: &[u8], form: Form) -> Result<String, AllocError>
-    ensures { IfOk result (λ answer. string_bytes answer ≡ line_by (said_in form) input.now) }
+fn result_of_line(alloc: Global, input: &[u8], form: Form) -> Result<String, AllocError>
+    ensures { IfOk result (λ printed. string_bytes printed ≡ line_by (said_in form) input.now) }
 {
     match hex::decode(alloc, input) {
-        Ok(bytes) => answer_in_form(alloc, bytes.as_slice(), form),
+        Ok(bytes) => result_in_form(alloc, bytes.as_slice(), form),
         Err(FromHexError::OutOfMemory) => Err(AllocError),
         Err(_) => String::from_str(alloc, "not hex"),
     }
 }
 
 /// The result of a line, with a line feed at its end.
-pub fn ended_answer_to(alloc: Global, input: &[u8], form: Form) -> Result<Vec<u8>, AllocError>
+pub fn ended_result_of_line(alloc: Global, input: &[u8], form: Form) -> Result<Vec<u8>, AllocError>
     ensures { IfOk result (λ bytes. bytes.items ≡ line_by (said_in form) input.now ++ 10 ∷ []) }
 {
-    let mut answer = answer_to(alloc, input, form)?;
-    answer.push('\n')?;
-    Ok(answer.into_bytes())
+    let mut printed = result_of_line(alloc, input, form)?;
+    printed.push('\n')?;
+    Ok(printed.into_bytes())
 }

@@ -4,8 +4,8 @@ ghost use Rattle.std.specs.Prelude.{◌≡◌, ℕ, List, ◌++◌, length, IfEr
 ghost use Rattle.std.specs.Io.{ReadsAtMost};
 ghost use Rattle.std.specs.Io.KnownBytes.{Consumes, IsAtEnd, ReadConsumes};
 ghost use Rattle.std.specs.IoError.{error_kind};
-ghost use Rattle.amq_protocol_types.specs.stream.Sources.{Reaches, Stops};
-ghost use Rattle.amqp_wire.specs.Ends.{Continues, EndsRead};
+ghost use Rattle.amq_protocol_types.specs.stream.Sources.{SourceReaches, SourceStops};
+ghost use Rattle.amqp_wire.specs.Ends.{SourceContinues, EndsRead};
 
 use crate::fault::WireFault;
 use amq_protocol_types::stream::Source;
@@ -21,8 +21,8 @@ const BLOCK: usize = 8192;
 fn read_again<R: Source>(reader: &mut R, buf: &mut [u8]) -> io::Result<usize>
     ensures bound { ReadsAtMost result buf.new }
     ensures bytes { ReadConsumes (R.remaining reader.old) (R.remaining reader.new) result buf.new }
-    ensures goes { OnOk result (Reaches (Continues R.goes R.fails) reader.old reader.new) }
-    ensures fails { IfErr result (λ e. Stops (Continues R.goes R.fails) R.fails reader.old (error_kind e) reader.new) }
+    ensures goes { OnOk result (SourceReaches (SourceContinues R.goes R.fails) reader.old reader.new) }
+    ensures fails { IfErr result (λ e. SourceStops (SourceContinues R.goes R.fails) R.fails reader.old (error_kind e) reader.new) }
 {
     'calls: for _ in 0..u64::MAX {
         match reader.read_some(buf) {
@@ -40,7 +40,7 @@ fn read_block<R: Source>(bytes: &mut Vec<u8>, reader: &mut R) -> Result<usize, W
     ensures ok { IfOk result (λ n. (more : List ℕ) × (length more ≡ n) × (bytes.new.items ≡ bytes.old.items ++ more)
         × Consumes (R.remaining reader.old) (R.remaining reader.new) more) }
     ensures end { IfOk result (λ n. n ≡ 0 → IsAtEnd (R.remaining reader.new)) }
-    ensures ends { EndsRead (Continues R.goes R.fails) R.fails reader.old result reader.new }
+    ensures ends { EndsRead (SourceContinues R.goes R.fails) R.fails reader.old result reader.new }
 {
     let mut block = [0; BLOCK];
     let n = read_again(reader, &mut block)?;
@@ -52,7 +52,7 @@ fn read_block<R: Source>(bytes: &mut Vec<u8>, reader: &mut R) -> Result<usize, W
 pub fn read_all<R: Source>(alloc: Global, reader: &mut R) -> Result<Vec<u8>, WireFault>
     ensures all { IfOk result (λ bytes. IfSome (R.remaining reader.old) (λ xs. bytes.items ≡ xs)) }
     ensures end { OnOk result (IsAtEnd (R.remaining reader.new)) }
-    ensures ends { EndsRead (Continues R.goes R.fails) R.fails reader.old result reader.new }
+    ensures ends { EndsRead (SourceContinues R.goes R.fails) R.fails reader.old result reader.new }
 {
     let mut bytes = Vec::new(alloc);
     'reads: loop {

@@ -2,11 +2,11 @@
 
 ghost use Rattle.std.specs.Prelude.{◌<◌, OnOk, OnErr, length};
 ghost use Rattle.std.specs.Io.KnownBytes.{Appends, IsAtEnd};
-ghost use Rattle.amqp_wire.specs.Ends.{EndsAnswers, EndsLines, EndsWrite};
-ghost use Rattle.amqp_wire.specs.Lines.{output, output_by, output_within, said_in, AppendsFront, Answers, AnswersFront};
+ghost use Rattle.amqp_wire.specs.Ends.{EndsResults, EndsLines, EndsWrite};
+ghost use Rattle.amqp_wire.specs.Lines.{output, output_by, output_within, said_in, AppendsTextPrefix, AppendsResult, AppendsResultPrefix};
 
 use crate::fault::WireFault;
-use crate::line::{Form, ended_answer_to};
+use crate::line::{Form, ended_result_of_line};
 use crate::read::read_all;
 use crate::sink::Sink;
 use amq_protocol_types::stream::{Limits, Source};
@@ -20,9 +20,9 @@ pub fn run<R: Source, W: Sink>(
     reader: &mut R,
     writer: &mut W,
 ) -> Result<(), WireFault>
-    ensures ok { OnOk result (Answers output
+    ensures ok { OnOk result (AppendsResult output
         (R.remaining reader.old) (W.contents writer.old) (W.contents writer.new)) }
-    ensures err { OnErr result (AnswersFront output
+    ensures err { OnErr result (AppendsResultPrefix output
         (R.remaining reader.old) (W.contents writer.old) (W.contents writer.new)) }
     ensures end { OnOk result (IsAtEnd (R.remaining reader.new)) }
     ensures ends { EndsLines R.goes R.fails W.takes W.fails reader.old writer.old result reader.new writer.new }
@@ -38,9 +38,9 @@ pub fn run_split<R: Source, W: Sink>(
     writer: &mut W,
     at: usize,
 ) -> Result<(), WireFault>
-    ensures ok { OnOk result (Answers output
+    ensures ok { OnOk result (AppendsResult output
         (R.remaining reader.old) (W.contents writer.old) (W.contents writer.new)) }
-    ensures err { OnErr result (AnswersFront output
+    ensures err { OnErr result (AppendsResultPrefix output
         (R.remaining reader.old) (W.contents writer.old) (W.contents writer.new)) }
     ensures end { OnOk result (IsAtEnd (R.remaining reader.new)) }
     ensures ends { EndsLines R.goes R.fails W.takes W.fails reader.old writer.old result reader.new writer.new }
@@ -56,9 +56,9 @@ pub fn run_within<R: Source, W: Sink>(
     writer: &mut W,
     limits: Limits,
 ) -> Result<(), WireFault>
-    ensures ok { OnOk result (Answers (output_within limits)
+    ensures ok { OnOk result (AppendsResult (output_within limits)
         (R.remaining reader.old) (W.contents writer.old) (W.contents writer.new)) }
-    ensures err { OnErr result (AnswersFront (output_within limits)
+    ensures err { OnErr result (AppendsResultPrefix (output_within limits)
         (R.remaining reader.old) (W.contents writer.old) (W.contents writer.new)) }
     ensures end { OnOk result (IsAtEnd (R.remaining reader.new)) }
     ensures ends { EndsLines R.goes R.fails W.takes W.fails reader.old writer.old result reader.new writer.new }
@@ -73,31 +73,31 @@ fn run_in_form<R: Source, W: Sink>(
     writer: &mut W,
     form: Form,
 ) -> Result<(), WireFault>
-    ensures ok { OnOk result (Answers (output_by (said_in form))
+    ensures ok { OnOk result (AppendsResult (output_by (said_in form))
         (R.remaining reader.old) (W.contents writer.old) (W.contents writer.new)) }
-    ensures err { OnErr result (AnswersFront (output_by (said_in form))
+    ensures err { OnErr result (AppendsResultPrefix (output_by (said_in form))
         (R.remaining reader.old) (W.contents writer.old) (W.contents writer.new)) }
     ensures end { OnOk result (IsAtEnd (R.remaining reader.new)) }
     ensures ends { EndsLines R.goes R.fails W.takes W.fails reader.old writer.old result reader.new writer.new }
 {
     let input = read_all(alloc, reader)?;
-    write_answers(alloc, input.as_slice(), writer, form)
+    write_results(alloc, input.as_slice(), writer, form)
 }
 
 /// Writes the results of the lines of `input`.
-fn write_answers<W: Sink>(
+fn write_results<W: Sink>(
     alloc: Global,
     input: &[u8],
     writer: &mut W,
     form: Form,
 ) -> Result<(), WireFault>
     ensures ok { OnOk result (Appends (W.contents writer.old) (W.contents writer.new) (output_by (said_in form) input.now)) }
-    ensures err { OnErr result (AppendsFront (W.contents writer.old) (W.contents writer.new) (output_by (said_in form) input.now)) }
-    ensures ends { EndsAnswers W.takes W.fails writer.old result writer.new }
+    ensures err { OnErr result (AppendsTextPrefix (W.contents writer.old) (W.contents writer.new) (output_by (said_in form) input.now)) }
+    ensures ends { EndsResults W.takes W.fails writer.old result writer.new }
 {
     for line in input.lines() {
-        let answer = ended_answer_to(alloc, line, form)?;
-        write_out(answer.as_slice(), writer)?;
+        let printed = ended_result_of_line(alloc, line, form)?;
+        write_out(printed.as_slice(), writer)?;
     }
     Ok(())
 }
@@ -105,7 +105,7 @@ fn write_answers<W: Sink>(
 /// Writes all of the bytes. Each error of the writer ends it, and so does one that accepts zero.
 pub fn write_out<W: Sink>(bytes: &[u8], writer: &mut W) -> Result<(), WireFault>
     ensures ok { OnOk result (Appends (W.contents writer.old) (W.contents writer.new) bytes.now) }
-    ensures err { OnErr result (AppendsFront (W.contents writer.old) (W.contents writer.new) bytes.now) }
+    ensures err { OnErr result (AppendsTextPrefix (W.contents writer.old) (W.contents writer.new) bytes.now) }
     ensures some { OnErr result (0 < length bytes.now) }
     ensures ends { EndsWrite W.takes W.fails writer.old result writer.new }
 {

@@ -7,9 +7,9 @@ ghost use Rattle.amqp_value_core.specs.Texts.{size, Fits};
 ghost use Rattle.amqp_value_core.specs.View.{view};
 ghost use Rattle.amq_protocol_types.specs.stream.Readers.{kept, has_failed, limits_of};
 ghost use Rattle.amqp_wire.specs.Ends.{EndsRead, EndsRun};
-ghost use Rattle.amqp_wire.specs.Lines.{AppendsFront};
+ghost use Rattle.amqp_wire.specs.Lines.{AppendsTextPrefix};
 ghost use Rattle.amqp_wire.specs.Refusals.{kind_name};
-ghost use Rattle.amqp_wire.specs.Streams.{value_line, stream_text, HasLines, Leaves, IsLine};
+ghost use Rattle.amqp_wire.specs.Streams.{value_line, stream_text, HasLines, LeavesAfterValues, IsLine};
 
 use crate::fault::WireFault;
 use crate::line::name_of;
@@ -94,9 +94,9 @@ pub fn run_stream<R: Source, W: Sink>(
     ensures ok { OnOk result (IfSome (R.remaining reader.old) (λ s. IsBytes s →
         Appends (W.contents writer.old) (W.contents writer.new) (stream_text limits most s))) }
     ensures rest { OnOk result (IfSome (R.remaining reader.old) (λ s. IsBytes s →
-        Leaves limits most s (R.remaining reader.new))) }
+        LeavesAfterValues limits most s (R.remaining reader.new))) }
     ensures err { OnErr result (IfSome (R.remaining reader.old) (λ s. IsBytes s →
-        AppendsFront (W.contents writer.old) (W.contents writer.new) (stream_text limits most s))) }
+        AppendsTextPrefix (W.contents writer.old) (W.contents writer.new) (stream_text limits most s))) }
     ensures ends { EndsRun R.goes R.fails W.takes W.fails reader.old writer.old result reader.new writer.new }
     ensures values { HasLines limits most }
 {
@@ -115,9 +115,9 @@ fn write_stream<R: Source, W: Sink>(
     ensures ok { OnOk result (IfSome (R.remaining reader.old) (λ s. IsBytes s →
         Appends (W.contents writer.old) (W.contents writer.new) (stream_text limits most s))) }
     ensures rest { OnOk result (IfSome (R.remaining reader.old) (λ s. IsBytes s →
-        Leaves limits most s (R.remaining reader.new))) }
+        LeavesAfterValues limits most s (R.remaining reader.new))) }
     ensures err { OnErr result (IfSome (R.remaining reader.old) (λ s. IsBytes s →
-        AppendsFront (W.contents writer.old) (W.contents writer.new) (stream_text limits most s))) }
+        AppendsTextPrefix (W.contents writer.old) (W.contents writer.new) (stream_text limits most s))) }
     ensures ends { EndsRun R.goes R.fails W.takes W.fails reader.old writer.old result reader.new writer.new }
 {
     let mut values = Values::new(alloc, limits);

@@ -1,4 +1,4 @@
-pub mod Rooms
+pub mod Capacities
 pub mod Slices
 pub mod Steps
 pub mod Texts

@@ -1,4 +1,4 @@
 pub mod Comes
-pub mod Told
+pub mod AllHeld
 pub mod Calls
 pub mod Fillings

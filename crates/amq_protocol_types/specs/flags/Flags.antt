@@ -1,7 +1,8 @@
 -- Flags: names with booleans, and the bits that denote these.
-use Rattle.std.specs.Prelude.{ℕ, zero, suc, ◌+◌, ◌*◌, ◌/◌, ◌%◌, ◌<◌, ◌≤◌, ◌-◌, ◌==◌, ◌≡◌, Bool, Option, Some, None, String, string_bytes, List, [], ◌∷◌, ◌++◌, length, take, drop, map, if◌then◌else◌}
+use Rattle.std.specs.Prelude.{ℕ, zero, suc, ◌+◌, ◌*◌, ◌/◌, ◌%◌, ◌<◌, ◌≤◌, ◌-◌, ◌==◌, ◌≡◌, Bool, Option, Some, None, String, string_bytes, List, [], ◌∷◌, ◌++◌, length, take, drop, map, slice_index, if◌then◌else◌}
 use Rattle.std.specs.declared.alloc.Global.{Global}
-use Rattle.std.specs.List.{zip}
+use Rattle.std.specs.Int.{bit_at}
+use Rattle.std.specs.List.{zip, range_with_len}
 use Rattle.amqp_value_core.specs.Maps.{same_bytes}
 use Rattle.amqp_value_core.specs.Outcomes.{Reading, more}
 use Rattle.amq_protocol_types.specs.declared.flags.AMQPFlags.{AMQPFlags}
@@ -48,15 +49,13 @@ packed (suc n) bs = number_of (take 8 bs) ∷ packed n (drop 8 bs)
 abbrev pub pack : List Bool → List ℕ
 pack bs = packed (bytes_for (length bs)) bs
 
--- the n lowest bits of a number, the lowest first
-unfoldable pub low_bits : ℕ → ℕ → List Bool
-low_bits zero c = []
-low_bits (suc n) c = (c % 2 == 1) ∷ low_bits n (c / 2)
+-- bit number n of bytes: bit n % 8, counted from the lowest, of byte n / 8
+abbrev pub bit_of : List ℕ → ℕ → Bool
+bit_of s n = bit_at (slice_index s (n / 8)) (n % 8) == 1
 
 -- the bits of bytes, those of the first byte first
 abbrev pub bits : List ℕ → List Bool
-bits [] = []
-bits (c ∷ s) = low_bits 8 c ++ bits s
+bits s = map (bit_of s) (range_with_len 0 (8 * length s))
 
 -- the names in order with the bits, as long as both last
 abbrev pub unpack : List (List ℕ) → List ℕ → List Flag

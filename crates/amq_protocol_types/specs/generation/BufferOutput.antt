@@ -8,16 +8,16 @@ use Rattle.amq_protocol_types.specs.declared.generation.error.GenError.TheVarian
 use Rattle.amq_protocol_types.specs.generation.Outputs.{OutputState, HasFailed, Writes}
 
 -- whether a call that writes succeeded, or its error, without the value that it returns
-abbrev pub answer_of : {T : Type 0} → Result T GenError → Result (Unit {0}) GenError
-answer_of (Ok _) = Ok tt
-answer_of (Err e) = Err e
+abbrev pub outcome_of : {T : Type 0} → Result T GenError → Result (Unit {0}) GenError
+outcome_of (Ok _) = Ok tt
+outcome_of (Err e) = Err e
 
 -- what a buffer is viewed as: its bytes, as many as its position counts, and after them as many as
 -- its capacity is
-pub record IsWhole (s : OutputState) : Type 0 where
+pub record IsConsistentOutput (s : OutputState) : Type 0 where
   pub written : IsSome s.written
   pub counted : IfSome s.written (λ put. length put ≡ s.position)
-  pub tail : IfSome s.room (λ room. length s.tail ≡ room)
+  pub tail : IfSome s.capacity (λ capacity. length s.tail ≡ capacity)
 
 -- One piece of bytes was written completely, or rejected.
 pub record AppendsBytes (is_buffer : Bool) (bytes : List ℕ) (before : OutputState) (result : Result (Unit {0}) GenError) (after : OutputState) : Type 0 where
@@ -34,24 +34,24 @@ pub record RefusedAsLong (before : OutputState) (result : Result (Unit {0}) GenE
   pub unchanged : after ≡ before
 
 -- The capacity was made sufficient for n more bytes, or the call failed; nothing else changed.
-pub record MakesRoom (is_buffer : Bool) (n : ℕ) (before : OutputState) (result : Result (Unit {0}) GenError) (after : OutputState) : Type 0 where
+pub record PromisesCapacity (is_buffer : Bool) (n : ℕ) (before : OutputState) (result : Result (Unit {0}) GenError) (after : OutputState) : Type 0 where
   pub written : after.written ≡ before.written
   pub position : after.position ≡ before.position
-  pub room : after.room ≡ before.room
+  pub capacity : after.capacity ≡ before.capacity
   pub tail : after.tail ≡ before.tail
   -- a buffer now promises that many
   pub promise : IsTrue is_buffer → OnOk result (n ≤ after.promise)
   -- with fixed capacity it succeeds exactly when they fit
-  pub fits : OnOk result (IfSome before.room (λ room. n ≤ room))
-  pub succeeds : IfSome before.room (λ room. n ≤ room → IsOk result)
+  pub fits : OnOk result (IfSome before.capacity (λ capacity. n ≤ capacity))
+  pub succeeds : IfSome before.capacity (λ capacity. n ≤ capacity → IsOk result)
   -- the errors: when each may come
-  pub too_small : IsErrOf result BufferTooSmall → (room : ℕ) × (before.room ≡ Some room) × (room < n)
+  pub too_small : IsErrOf result BufferTooSmall → (capacity : ℕ) × (before.capacity ≡ Some capacity) × (capacity < n)
   pub too_long : IsErrOf result LengthTooLong → ⊥
   pub failed : IfErr result (λ e. (kind : ErrorKind) → e ≡ IoError kind → HasFailed before after)
   pub offset : IsErrOf result InvalidOffset → 2 ^ 64 ≤ before.position + n
   -- only a buffer may run out of memory; by `no_other` its capacity is open
   pub memory : IsErrOf result OutOfMemory → IsTrue is_buffer
-  pub no_other : IsSome before.room → IfErr result (λ e. e ≡ BufferTooSmall)
+  pub no_other : IsSome before.capacity → IfErr result (λ e. e ≡ BufferTooSmall)
   -- faults are never taken back
   pub faults : before.faults ≤ after.faults
 
@@ -64,10 +64,10 @@ abbrev pub filled : OutputState → ℕ → List ℕ → OutputState
 filled s at bytes = record s { written = option_map (λ put. overwrite put at bytes) s.written }
 
 -- The bytes written were cut to the first `at`, and the capacity grew by what was cut.
-pub record Truncates (at : ℕ) (before : OutputState) (after : OutputState) : Type 0 where
+pub record TruncatesTo (at : ℕ) (before : OutputState) (after : OutputState) : Type 0 where
   pub written : after.written ≡ option_map (take at) before.written
   pub position : after.position ≡ at
-  pub room : after.room ≡ option_map (λ room. room + (before.position - at)) before.room
+  pub capacity : after.capacity ≡ option_map (λ capacity. capacity + (before.position - at)) before.capacity
   pub faults : after.faults ≡ before.faults
 
 -- The number of the bytes written after the four at `at` was filled in there, big-endian; if it
@@ -77,4 +77,4 @@ pub record PatchesLength (at : ℕ) (before : OutputState) (result : Result (Uni
   pub filled : OnOk result (after ≡ filled before at (to_be_bytes w32 (before.position - at - 4)))
   pub too_long : OnErr result (2 ^ 32 ≤ before.position - at - 4)
   pub refused : IfErr result (λ e. e ≡ LengthTooLong)
-  pub back : OnErr result (Truncates at before after)
+  pub back : OnErr result (TruncatesTo at before after)

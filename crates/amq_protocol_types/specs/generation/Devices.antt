@@ -8,7 +8,7 @@ use Rattle.amq_protocol_types.specs.generation.Outputs.{OutputState}
 
 -- what a device's output is viewed as, if the device reports the bytes that it holds
 abbrev pub seen_device : {W : Type 0} → (W → Option (List ℕ)) → IoOutput W → OutputState
-seen_device contents s = record { written = contents s.device; position = s.at; room = None; promise = 0; faults = s.faults; tail = [] }
+seen_device contents s = record { written = contents s.device; position = s.at; capacity = None; promise = 0; faults = s.faults; tail = [] }
 
 -- the device
 abbrev pub device_of : {W : Type 0} → IoOutput W → W

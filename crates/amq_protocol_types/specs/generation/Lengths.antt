@@ -19,7 +19,7 @@ pub record OnlyAppends (before : OutputState) (result : Result (Unit {0}) GenErr
   pub tail : OnOk result (after.tail ≡ drop (length more) before.tail)
 
 -- Four bytes of 0 were put to `old`, and `before` is the context then.
-pub record Reserved {W : Type 0} (seen : W → OutputState) (old before : WriteContext W) : Type 0 where
+pub record IsReserved {W : Type 0} (seen : W → OutputState) (old before : WriteContext W) : Type 0 where
   pub zeros : Writes true ⊤ (replicate 4 0) (state_of seen old) (Ok tt) (state_of seen before)
   pub start : start_of before ≡ start_of old
 
@@ -29,7 +29,7 @@ pub record AppendsWithLength {W : Type 0} (seen : W → OutputState) (may : Writ
   -- the context before the call and that after it
   pub before : WriteContext W
   pub after : WriteContext W
-  pub reserved : Reserved seen old before
+  pub reserved : IsReserved seen old before
   pub called : may before (Ok tt) after
   -- what the call appended, and how four bytes count it
   pub more : List ℕ
@@ -46,7 +46,7 @@ pub record AppendsWithLength {W : Type 0} (seen : W → OutputState) (may : Writ
 pub record MayRefuse {W : Type 0} (seen : W → OutputState) (may : WriteContext W → Result (Unit {0}) GenError → WriteContext W → Type 0) (old new : WriteContext W) (e : GenError) : Type 0 where
   pub before : WriteContext W
   pub after : WriteContext W
-  pub reserved : Reserved seen old before
+  pub reserved : IsReserved seen old before
   pub called : may before (Err e) after
   pub start : start_of new ≡ start_of after
 
@@ -55,7 +55,7 @@ pub record MayRefuse {W : Type 0} (seen : W → OutputState) (may : WriteContext
 pub record MayPassLength {W : Type 0} (seen : W → OutputState) (may : WriteContext W → Result (Unit {0}) GenError → WriteContext W → Type 0) (old new : WriteContext W) : Type 0 where
   pub before : WriteContext W
   pub after : WriteContext W
-  pub reserved : Reserved seen old before
+  pub reserved : IsReserved seen old before
   pub called : may before (Ok tt) after
   pub more : List ℕ
   pub appended : Appends (state_of seen before).written (state_of seen after).written more

@@ -13,7 +13,7 @@ pub record OutputState : Type 0 where
   -- its position
   pub position : ℕ
   -- how many more bytes fit; `None` if the capacity is open
-  pub room : Option ℕ
+  pub capacity : Option ℕ
   -- that many further bytes can't be rejected
   pub promise : ℕ
   -- how often its device failed
@@ -37,20 +37,20 @@ pub record Writes (is_buffer : Bool) (lengths : Type 0) (bytes : List ℕ) (befo
   -- an error leaves a buffer's position, bytes and capacity as they were
   pub stayed : IsTrue is_buffer → OnErr result (after.position ≡ before.position)
   pub kept : IsTrue is_buffer → OnErr result (after.written ≡ before.written)
-  pub room_kept : IsTrue is_buffer → OnErr result (after.room ≡ before.room)
+  pub capacity_kept : IsTrue is_buffer → OnErr result (after.capacity ≡ before.capacity)
   -- it succeeds only if each length fits its field, and the bytes fit the capacity
   pub fits : OnOk result lengths
-  pub room : OnOk result (IfSome before.room (λ room. length bytes ≤ room))
-  pub room_left : OnOk result (after.room ≡ option_map (λ room. room - length bytes) before.room)
+  pub capacity : OnOk result (IfSome before.capacity (λ capacity. length bytes ≤ capacity))
+  pub capacity_left : OnOk result (after.capacity ≡ option_map (λ capacity. capacity - length bytes) before.capacity)
   -- with fixed capacity it succeeds whenever they do
-  pub succeeds : lengths → IfSome before.room (λ room. length bytes ≤ room → IsOk result)
+  pub succeeds : lengths → IfSome before.capacity (λ capacity. length bytes ≤ capacity → IsOk result)
   -- the errors: when each may come
-  pub too_small : IsErrOf result BufferTooSmall → (room : ℕ) × (before.room ≡ Some room) × (room < length bytes)
+  pub too_small : IsErrOf result BufferTooSmall → (capacity : ℕ) × (before.capacity ≡ Some capacity) × (capacity < length bytes)
   pub too_long : IsErrOf result LengthTooLong → lengths → ⊥
   pub failed : IfErr result (λ e. (kind : ErrorKind) → e ≡ IoError kind → HasFailed before after)
   pub offset : IsErrOf result InvalidOffset → 2 ^ 64 ≤ before.position + length bytes
   -- only a buffer may run out of memory; by `no_other` its capacity is open
   pub memory : IsErrOf result OutOfMemory → IsTrue is_buffer
-  pub no_other : IsSome before.room → IfErr result (λ e. (e ≡ BufferTooSmall) ⊎ (e ≡ LengthTooLong))
+  pub no_other : IsSome before.capacity → IfErr result (λ e. (e ≡ BufferTooSmall) ⊎ (e ≡ LengthTooLong))
   -- faults are never taken back
   pub faults : before.faults ≤ after.faults

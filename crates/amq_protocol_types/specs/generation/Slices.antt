@@ -10,4 +10,4 @@ pub record Sliced : Type 0 where
 -- the output that it is viewed as: the capacity left is fixed and can't be rejected, and it is no
 -- device
 abbrev pub seen_slice : Sliced → OutputState
-seen_slice s = record { written = Some s.put; position = length s.put; room = Some (length s.tail); promise = length s.tail; faults = 0; tail = s.tail }
+seen_slice s = record { written = Some s.put; position = length s.put; capacity = Some (length s.tail); promise = length s.tail; faults = 0; tail = s.tail }

@@ -18,7 +18,7 @@ use Rattle.amq_protocol_types.specs.generation.Outputs.{OutputState}
 -- as many bytes is enough.
 pub record WritesWhatIs (Is : List ℕ → Type 0) (before : OutputState) (result : Result (Unit {0}) GenError) : Type 0 where
   pub never_too_long : (w : List ℕ) → Is w → IsErrOf result LengthTooLong → ⊥
-  pub succeeds : (w : List ℕ) → Is w → IfSome before.room (λ room. length w ≤ room → IsOk result)
+  pub succeeds : (w : List ℕ) → Is w → IfSome before.capacity (λ capacity. length w ≤ capacity → IsOk result)
 
 -- so it is with a value's encodings
 abbrev pub WritesWhatWasRead : Tree → OutputState → Result (Unit {0}) GenError → Type 0
@@ -29,7 +29,7 @@ abbrev pub WritesPayloadRead : AMQPType → Tree → OutputState → Result (Uni
 WritesPayloadRead type v before result = WritesWhatIs (λ b. Raw type b v) before result
 
 -- what holds of a value whose encoding was written
-pub record IsWritten (v : Tree) : Type 0 where
+pub record IsReadBackAndCanonical (v : Tree) : Type 0 where
   -- it is a value in memory
   pub value : IsValue v
   -- its encoding is read as it, whatever follows, or rejected if the value isn't readable

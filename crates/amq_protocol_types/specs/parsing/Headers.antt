@@ -37,8 +37,8 @@ wanted [] = 1
 wanted (c ∷ b) = wanted_at (kind c) b
 
 -- the first byte is a type tag, and the bytes of its payload are all there
-abbrev pub IsWhole : List ℕ → Type 0
-IsWhole s = (wanted s ≡ 0) × (0 < extent s)
+abbrev pub IsWholeValue : List ℕ → Type 0
+IsWholeValue s = (wanted s ≡ 0) × (0 < extent s)
 
 -- how many bytes the first field of a payload has
 abbrev pub first_of : Option Layout → Width → ℕ

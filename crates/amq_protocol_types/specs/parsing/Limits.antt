@@ -15,8 +15,8 @@ use Rattle.amq_protocol_types.specs.declared.parsing.header.Header.{Header}
 use Rattle.amq_protocol_types.specs.declared.parsing.header.Header.TheVariants as header
 use Rattle.amq_protocol_types.specs.declared.parsing.limits.Limits.{Limits}
 use Rattle.amq_protocol_types.specs.parsing.Refusals.{Refusal}
-use Rattle.amq_protocol_types.specs.parsing.ParseResults.{Refuses}
-use Rattle.amq_protocol_types.specs.parsing.Headers.{extent, wanted, IsWhole}
+use Rattle.amq_protocol_types.specs.parsing.ParseResults.{IsRefusal}
+use Rattle.amq_protocol_types.specs.parsing.Headers.{extent, wanted, IsWholeValue}
 
 -- reading s within limits results in o: the value has no more bytes than the limit `frame` allows,
 -- by what has come of it, and containers nest within the depth
@@ -26,7 +26,7 @@ Within l s o = (extent s ≤ l.frame) × OutcomeWithin l.depth s o
 -- an error of reading s within limits is right
 abbrev pub RefusesWithin : Limits → List ℕ → Refusal → Type 0
 RefusesWithin l s (Error TooLarge) = l.frame < extent s
-RefusesWithin l s e = (extent s ≤ l.frame) × Refuses (OutcomeWithin l.depth s) (Heavy s) e
+RefusesWithin l s e = (extent s ≤ l.frame) × IsRefusal (OutcomeWithin l.depth s) (Heavy s) e
 
 -- reading s within limits results in exactly one outcome, and in none if the value is too large
 abbrev pub HasOneOutcomeWithin : Limits → List ℕ → Type 0
@@ -88,4 +88,4 @@ abbrev pub IsHeader : ℕ → List ℕ → Header → Type 0
 IsHeader frame s header.Unknown = Outcome s unknown × (extent s ≤ frame)
 IsHeader frame s header.TooLarge = frame < extent s
 IsHeader frame s (header.Lacks n) = (extent s ≤ frame) × (0 < n) × (n ≡ wanted s)
-IsHeader frame s header.Whole = (extent s ≤ frame) × IsWhole s
+IsHeader frame s header.Whole = (extent s ≤ frame) × IsWholeValue s

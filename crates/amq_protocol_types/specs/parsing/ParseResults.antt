@@ -23,8 +23,8 @@ RefusesAs IsError Is heavy (Error kind) = IsError kind
 RefusesAs IsError Is heavy (Failure kind) = (kind ≡ OutOfMemory) × heavy
 
 -- an error of reading a value is right
-abbrev pub Refuses : (Reading → Type 0) → Type 0 → Refusal → Type 0
-Refuses Is heavy e = RefusesAs (RightKind Is) Is heavy e
+abbrev pub IsRefusal : (Reading → Type 0) → Type 0 → Refusal → Type 0
+IsRefusal Is heavy e = RefusesAs (RightKind Is) Is heavy e
 
 -- reading s results in exactly one outcome: the value, the rest and the error are determined
 abbrev pub HasOneOutcome : List ℕ → Type 0

@@ -39,5 +39,5 @@ abbrev pub IsNumberRead : Width → List ℕ → ℕ → List ℕ → Type 0
 IsNumberRead w s n rest = s ≡ to_be_bytes w n ++ rest
 
 -- a number of the width isn't all there, and that many more bytes are needed
-abbrev pub IsCut : Width → List ℕ → Reading → Type 0
-IsCut w s o = (length s < byte_len w) × (o ≡ more (byte_len w - length s))
+abbrev pub IsCutPayload : Width → List ℕ → Reading → Type 0
+IsCutPayload w s o = (length s < byte_len w) × (o ≡ more (byte_len w - length s))

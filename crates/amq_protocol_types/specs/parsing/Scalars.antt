@@ -6,15 +6,15 @@ use Rattle.amqp_value_core.specs.Values.{Scalar, scalar, number}
 use Rattle.amqp_value_core.specs.Payloads.{RawOutcome}
 use Rattle.amqp_value_core.specs.Outcomes.{found}
 use Rattle.amq_protocol_types.specs.parsing.Refusals.{Refusal}
-use Rattle.amq_protocol_types.specs.parsing.ParseResults.{Refuses}
-use Rattle.amq_protocol_types.specs.parsing.PayloadResults.{OnlyLacks, IsNumberRead, IsCut}
+use Rattle.amq_protocol_types.specs.parsing.ParseResults.{IsRefusal}
+use Rattle.amq_protocol_types.specs.parsing.PayloadResults.{OnlyLacks, IsNumberRead, IsCutPayload}
 
 -- the result is the unsigned number of the first bytes, big-endian, and what is left after them; or
 -- more bytes are needed, and it counts how many
 abbrev pub ReadsUnsigned : {I : Type 0} → Width → (I → List ℕ) → I → Result (I × ℕ) Refusal → Type 0
 ReadsUnsigned w bytes i result = MatchResult result
     (λ x. IsNumberRead w (bytes i) x.1 (bytes x.0))
-    (Refuses (IsCut w (bytes i)) ⊥)
+    (IsRefusal (IsCutPayload w (bytes i)) ⊥)
 
 -- the result is what a payload of the type at the start means, as viewed by `shown`, and what is
 -- left after it; or more bytes are needed, and it counts how many

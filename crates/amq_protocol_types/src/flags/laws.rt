@@ -8,7 +8,6 @@ ghost use Rattle.amq_protocol_types.specs.flags.Flags.{Flag, names_of, values_of
 
 /// Flag number n is bit n % 8, counted from the lowest, of byte n / 8. The bits left over are 0,
 /// and there are no more bytes than the flags need.
-#[tactic(auto, using(crate::proofs::FlagBits::flag_is_bit, crate::proofs::FlagBits::left_over, crate::proofs::FlagBits::length_pack))]
 pub fn flags_are_bits()
     ensures bit { (bs : List Bool) (n : ℕ) → n < length bs
         → (bit_at (slice_index (pack bs) (n / 8)) (n % 8) == 1) ≡ slice_index_or bs n false }
@@ -18,7 +17,6 @@ pub fn flags_are_bits()
 {}
 
 /// Packed flags are unpacked by their names as the same flags.
-#[tactic(auto, using(crate::proofs::FlagBits::unpacked))]
 pub fn flags_are_unpacked()
     ensures { (fs : List Flag) → unpack (names_of fs) (pack (values_of fs)) ≡ fs }
 {}

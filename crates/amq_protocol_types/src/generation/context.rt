@@ -1,5 +1,5 @@
 ghost use Rattle.std.specs.Prelude.{◌≡◌, ◌-◌, ◌+◌, ◌≤◌, true, ⊤, IfOk, length, replicate};
-ghost use Rattle.amq_protocol_types.specs.generation.BufferOutput.{IsWhole, AppendsBytes, MakesRoom, answer_of, filled, Truncates};
+ghost use Rattle.amq_protocol_types.specs.generation.BufferOutput.{IsConsistentOutput, AppendsBytes, PromisesCapacity, outcome_of, filled, TruncatesTo};
 ghost use Rattle.amq_protocol_types.specs.generation.Outputs.{Writes};
 ghost use Rattle.amq_protocol_types.specs.generation.Contexts.{output_of, start_of, state_of};
 
@@ -43,7 +43,7 @@ impl<W: Output> WriteContext<W> {
 
     // Reserves capacity for `n` more bytes, so that a buffer won't reject them, or fails.
     pub(crate) fn make_room(&mut self, n: usize) -> GenResult
-        ensures made { MakesRoom W.is_buffer n
+        ensures made { PromisesCapacity W.is_buffer n
             (state_of W.seen self.old) result (state_of W.seen self.new) }
         ensures start { start_of self.new ≡ start_of self.old }
     {
@@ -64,7 +64,7 @@ impl<W: BackToTheBuffer> WriteContext<W> {
     // The output's position.
     pub(crate) fn at(&self) -> u64
         ensures at { result ≡ (state_of W.seen self.now).position }
-        ensures whole { IsWhole (state_of W.seen self.now) }
+        ensures whole { IsConsistentOutput (state_of W.seen self.now) }
     {
         self.output.position()
     }
@@ -72,10 +72,10 @@ impl<W: BackToTheBuffer> WriteContext<W> {
     // Appends `n` bytes of 0 and returns the position before them, or fails.
     pub(crate) fn reserve(&mut self, n: usize) -> Result<u64, GenError>
         ensures written { Writes true ⊤ (replicate n 0)
-            (state_of W.seen self.old) (answer_of result) (state_of W.seen self.new) }
+            (state_of W.seen self.old) (outcome_of result) (state_of W.seen self.new) }
         ensures place { IfOk result (λ at. at ≡ (state_of W.seen self.old).position) }
         ensures start { start_of self.new ≡ start_of self.old }
-        ensures whole { IsWhole (state_of W.seen self.old) }
+        ensures whole { IsConsistentOutput (state_of W.seen self.old) }
     {
         self.output.reserve(n)
     }
@@ -92,7 +92,7 @@ impl<W: BackToTheBuffer> WriteContext<W> {
     // Takes back the bytes from the output's position `at` on.
     pub(crate) fn back_to(&mut self, at: u64)
         requires { at ≤ (state_of W.seen self.old).position }
-        ensures back { Truncates at (state_of W.seen self.old) (state_of W.seen self.new) }
+        ensures back { TruncatesTo at (state_of W.seen self.old) (state_of W.seen self.new) }
         ensures start { start_of self.new ≡ start_of self.old }
     {
         self.output.back_to(at);

@@ -1,5 +1,5 @@
 ghost use Rattle.std.specs.Prelude.{◌≡◌, length, false, IsOk};
-ghost use Rattle.amq_protocol_types.specs.generation.BufferOutput.{AppendsBytes, MakesRoom};
+ghost use Rattle.amq_protocol_types.specs.generation.BufferOutput.{AppendsBytes, PromisesCapacity};
 ghost use Rattle.amq_protocol_types.specs.generation.Devices.{seen_device, device_of, AppendsToDevice};
 
 use crate::generation::{GenError, GenResult, Output};
@@ -67,7 +67,7 @@ impl<W: Write> Output for IoOutput<W> {
 
     /// Does nothing.
     fn make_room(&mut self, n: usize) -> GenResult
-        ensures made { MakesRoom false n
+        ensures made { PromisesCapacity false n
             (seen_device W.contents self.old) result (seen_device W.contents self.new) }
         ensures ok { IsOk result }
         ensures unchanged { self.new ≡ self.old }

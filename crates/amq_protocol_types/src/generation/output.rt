@@ -1,6 +1,6 @@
 ghost use Rattle.std.specs.Prelude.{◌≡◌, ◌+◌, ◌≤◌, Bool, true, ⊤, IfOk, length, replicate};
 ghost use Rattle.amq_protocol_types.specs.generation.Outputs.{OutputState, Writes};
-ghost use Rattle.amq_protocol_types.specs.generation.BufferOutput.{IsWhole, AppendsBytes, MakesRoom, answer_of, filled, Truncates};
+ghost use Rattle.amq_protocol_types.specs.generation.BufferOutput.{IsConsistentOutput, AppendsBytes, PromisesCapacity, outcome_of, filled, TruncatesTo};
 
 use crate::generation::{GenError, GenResult};
 
@@ -23,7 +23,7 @@ pub trait Output {
     /// Reserves capacity for `n` more bytes, so that a buffer won't reject them, or returns an
     /// error.
     fn make_room(&mut self, n: usize) -> GenResult
-        ensures { MakesRoom is_buffer n (seen self.old) result (seen self.new) };
+        ensures { PromisesCapacity is_buffer n (seen self.old) result (seen self.new) };
 
     /// The number of bytes before the next one.
     fn position(&self) -> u64
@@ -42,7 +42,7 @@ pub trait BackToTheBuffer: Output {
     /// Appends `n` bytes of 0 and returns the position before them, or returns an error.
     fn reserve(&mut self, n: usize) -> Result<u64, GenError>
         ensures written { Writes true ⊤ (replicate n 0)
-            (Self.seen self.old) (answer_of result) (Self.seen self.new) }
+            (Self.seen self.old) (outcome_of result) (Self.seen self.new) }
         ensures place { IfOk result (λ at. at ≡ (Self.seen self.old).position) };
 
     /// Overwrites the bytes from `at` on with `bytes`.
@@ -53,9 +53,9 @@ pub trait BackToTheBuffer: Output {
     /// Cuts the buffer to the position `at`.
     fn back_to(&mut self, at: u64)
         requires { at ≤ (Self.seen self.old).position }
-        ensures { Truncates at (Self.seen self.old) (Self.seen self.new) };
+        ensures { TruncatesTo at (Self.seen self.old) (Self.seen self.new) };
 
     ghost is_one: { Self.is_buffer ≡ true };
 
-    ghost whole: { (s : Self) → IsWhole (Self.seen s) };
+    ghost whole: { (s : Self) → IsConsistentOutput (Self.seen s) };
 }

@@ -40,7 +40,8 @@ pub fn gen_boolean<W: Output>(b: Boolean, x: &mut WriteContext<W>) -> GenResult
 
 /// Writes a signed integer in one byte.
 pub fn gen_short_short_int<W: Output>(n: ShortShortInt, x: &mut WriteContext<W>) -> GenResult
-    ensures put { AppendsThrough W.is_buffer W.seen (to_be_bytes w8 (cast_unsigned w8 n)) x.old result x.new }
+    ensures put { AppendsThrough W.is_buffer W.seen (to_be_bytes w8 (cast_unsigned w8 n))
+        x.old result x.new }
     ensures start { KeepsStart x.old x.new }
 {
     x.put(&i8::to_be_bytes(n))
@@ -56,7 +57,8 @@ pub fn gen_short_short_uint<W: Output>(n: ShortShortUInt, x: &mut WriteContext<W
 
 /// Writes a signed integer in two bytes, big-endian.
 pub fn gen_short_int<W: Output>(n: ShortInt, x: &mut WriteContext<W>) -> GenResult
-    ensures put { AppendsThrough W.is_buffer W.seen (to_be_bytes w16 (cast_unsigned w16 n)) x.old result x.new }
+    ensures put { AppendsThrough W.is_buffer W.seen (to_be_bytes w16 (cast_unsigned w16 n))
+        x.old result x.new }
     ensures start { KeepsStart x.old x.new }
 {
     x.put(&i16::to_be_bytes(n))
@@ -72,7 +74,8 @@ pub fn gen_short_uint<W: Output>(n: ShortUInt, x: &mut WriteContext<W>) -> GenRe
 
 /// Writes a signed integer in four bytes, big-endian.
 pub fn gen_long_int<W: Output>(n: LongInt, x: &mut WriteContext<W>) -> GenResult
-    ensures put { AppendsThrough W.is_buffer W.seen (to_be_bytes w32 (cast_unsigned w32 n)) x.old result x.new }
+    ensures put { AppendsThrough W.is_buffer W.seen (to_be_bytes w32 (cast_unsigned w32 n))
+        x.old result x.new }
     ensures start { KeepsStart x.old x.new }
 {
     x.put(&i32::to_be_bytes(n))
@@ -88,7 +91,8 @@ pub fn gen_long_uint<W: Output>(n: LongUInt, x: &mut WriteContext<W>) -> GenResu
 
 /// Writes a signed integer in eight bytes, big-endian.
 pub fn gen_long_long_int<W: Output>(n: LongLongInt, x: &mut WriteContext<W>) -> GenResult
-    ensures put { AppendsThrough W.is_buffer W.seen (to_be_bytes w64 (cast_unsigned w64 n)) x.old result x.new }
+    ensures put { AppendsThrough W.is_buffer W.seen (to_be_bytes w64 (cast_unsigned w64 n))
+        x.old result x.new }
     ensures start { KeepsStart x.old x.new }
 {
     x.put(&i64::to_be_bytes(n))
@@ -104,7 +108,8 @@ pub fn gen_long_long_uint<W: Output>(n: LongLongUInt, x: &mut WriteContext<W>) -
 
 /// Writes the bits of a floating-point number in four bytes, big-endian.
 pub fn gen_float<W: Output>(f: Float, x: &mut WriteContext<W>) -> GenResult
-    ensures put { AppendsThrough W.is_buffer W.seen (to_be_bytes w32 (float_bits f)) x.old result x.new }
+    ensures put { AppendsThrough W.is_buffer W.seen (to_be_bytes w32 (float_bits f))
+        x.old result x.new }
     ensures start { KeepsStart x.old x.new }
 {
     gen_long_uint(f.to_bits(), x)
@@ -112,7 +117,8 @@ pub fn gen_float<W: Output>(f: Float, x: &mut WriteContext<W>) -> GenResult
 
 /// Writes the bits of a floating-point number in eight bytes, big-endian.
 pub fn gen_double<W: Output>(f: Double, x: &mut WriteContext<W>) -> GenResult
-    ensures put { AppendsThrough W.is_buffer W.seen (to_be_bytes w64 (double_bits f)) x.old result x.new }
+    ensures put { AppendsThrough W.is_buffer W.seen (to_be_bytes w64 (double_bits f))
+        x.old result x.new }
     ensures start { KeepsStart x.old x.new }
 {
     gen_long_long_uint(f.to_bits(), x)
@@ -129,7 +135,8 @@ pub fn gen_timestamp<W: Output>(n: Timestamp, x: &mut WriteContext<W>) -> GenRes
 /// Writes a decimal number: its scale in one byte, then its digits as an unsigned integer in four
 /// bytes, big-endian.
 pub fn gen_decimal_value<W: Output>(d: DecimalValue, x: &mut WriteContext<W>) -> GenResult
-    ensures put { AppendsThrough W.is_buffer W.seen (spelled (decimal d.scale d.value)) x.old result x.new }
+    ensures put { AppendsThrough W.is_buffer W.seen (spelled (decimal d.scale d.value))
+        x.old result x.new }
     ensures start { KeepsStart x.old x.new }
 {
     let [a, b, c, e] = u32::to_be_bytes(d.value);

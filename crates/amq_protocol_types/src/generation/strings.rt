@@ -51,7 +51,8 @@ pub fn gen_long_string<W: Output>(s: &[u8], x: &mut WriteContext<W>) -> GenResul
 ///
 /// More bytes are rejected with `LengthTooLong` before a byte is written, whatever the capacity.
 pub fn gen_byte_array<W: Output>(a: &ByteArray, x: &mut WriteContext<W>) -> GenResult
-    ensures written { Writes W.is_buffer (length (octets_of a.now) < 2 ^ 32) (long_field (octets_of a.now))
+    ensures written { Writes W.is_buffer (length (octets_of a.now) < 2 ^ 32)
+        (long_field (octets_of a.now))
         (state_of W.seen x.old) result (state_of W.seen x.new) }
     ensures too_long { 2 ^ 32 ≤ length (octets_of a.now)
         → RefusedAsLong (state_of W.seen x.old) result (state_of W.seen x.new) }

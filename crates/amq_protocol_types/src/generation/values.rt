@@ -8,7 +8,7 @@ ghost use Rattle.amqp_value_core.specs.Texts.{text, Fits, payload};
 ghost use Rattle.amqp_value_core.specs.InMemory.{IsValue};
 ghost use Rattle.amq_protocol_types.specs.generation.Outputs.{Writes};
 ghost use Rattle.amq_protocol_types.specs.generation.BufferOutput.{PatchesLength};
-ghost use Rattle.amq_protocol_types.specs.generation.Written.{WritesWhatWasRead, WritesPayloadRead, IsWritten, IsPayloadReadBack, IsShortestAndUnique};
+ghost use Rattle.amq_protocol_types.specs.generation.Written.{WritesWhatWasRead, WritesPayloadRead, IsReadBackAndCanonical, IsPayloadReadBack, IsShortestAndUnique};
 ghost use Rattle.amq_protocol_types.specs.generation.Contexts.{state_of, KeepsStart};
 
 use crate::generation::{
@@ -26,14 +26,13 @@ use amqp_value_core::value::AMQPValue;
 /// a value that was parsed, a buffer as long as the bytes it was parsed from is enough. A value
 /// that holds a `ShortString`, except as a key, has no encoding: it is written with the byte `_` as
 /// type tag, and the parsers reject it.
-#[tactic(auto, using(amqp_value_core::proofs::GrammarLaws::is_shortest, amqp_value_core::proofs::GrammarLaws::injective, amqp_value_core::proofs::GrammarLaws::is_canonical, crate::proofs::lemmas::generation::WhatWasRead::writes_what_was_read))]
 pub fn gen_value<W: BackToTheBuffer>(v: &AMQPValue, x: &mut WriteContext<W>) -> GenResult
     ensures written { Writes true (Fits (view v.now)) (text (view v.now))
         (state_of W.seen x.old) result (state_of W.seen x.new) }
     ensures start { KeepsStart x.old x.new }
     ensures fits_input_size { WritesWhatWasRead (view v.now) (state_of W.seen x.old) result }
     ensures encoding { IsShortestAndUnique (view v.now) }
-    ensures ok { OnOk result (IsWritten (view v.now)) }
+    ensures ok { OnOk result (IsReadBackAndCanonical (view v.now)) }
 {
     write_value(v, x)
 }
@@ -92,14 +91,14 @@ pub fn gen_raw_value<W: BackToTheBuffer>(v: &AMQPValue, x: &mut WriteContext<W>)
 
 /// Writes an array: the length of its body in four bytes, then its values, each after its type tag.
 #[cycle(values)]
-#[tactic(auto, using(crate::proofs::lemmas::generation::WhatWasRead::writes_payload_read))]
 pub fn gen_field_array<W: BackToTheBuffer>(a: &FieldArray, x: &mut WriteContext<W>) -> GenResult
     ensures written { Writes true (Fits (array (array_view a.now)))
         (payload (array (array_view a.now)))
         (state_of W.seen x.old) result (state_of W.seen x.new) }
     ensures start { KeepsStart x.old x.new }
     ensures value { OnOk result (IsValue (array (array_view a.now))) }
-    ensures read_back { OnOk result (IsPayloadReadBack AMQPType.FieldArray (array (array_view a.now))) }
+    ensures read_back { OnOk result
+        (IsPayloadReadBack AMQPType.FieldArray (array (array_view a.now))) }
     ensures fits_input_size { WritesPayloadRead AMQPType.FieldArray (array (array_view a.now))
         (state_of W.seen x.old) result }
 {
@@ -116,14 +115,14 @@ pub fn gen_field_array<W: BackToTheBuffer>(a: &FieldArray, x: &mut WriteContext<
 /// Writes a table: the length of its body in four bytes, then its entries, each its key as a short
 /// string and its value after its type tag, sorted by the keys' bytes.
 #[cycle(values)]
-#[tactic(auto, using(crate::proofs::lemmas::generation::WhatWasRead::writes_payload_read))]
 pub fn gen_field_table<W: BackToTheBuffer>(t: &FieldTable, x: &mut WriteContext<W>) -> GenResult
     ensures written { Writes true (Fits (table (table_view t.now)))
         (payload (table (table_view t.now)))
         (state_of W.seen x.old) result (state_of W.seen x.new) }
     ensures start { KeepsStart x.old x.new }
     ensures value { OnOk result (IsValue (table (table_view t.now))) }
-    ensures read_back { OnOk result (IsPayloadReadBack AMQPType.FieldTable (table (table_view t.now))) }
+    ensures read_back { OnOk result
+        (IsPayloadReadBack AMQPType.FieldTable (table (table_view t.now))) }
     ensures fits_input_size { WritesPayloadRead AMQPType.FieldTable (table (table_view t.now))
         (state_of W.seen x.old) result }
 {

@@ -1,5 +1,5 @@
 ghost use Rattle.std.specs.Prelude.{◌≡◌, ◌+◌, ⊤, true, IfOk, IfErr, length, replicate};
-ghost use Rattle.amq_protocol_types.specs.generation.BufferOutput.{AppendsBytes, MakesRoom, answer_of};
+ghost use Rattle.amq_protocol_types.specs.generation.BufferOutput.{AppendsBytes, PromisesCapacity, outcome_of};
 ghost use Rattle.amq_protocol_types.specs.generation.Outputs.{Writes};
 ghost use Rattle.amq_protocol_types.specs.generation.Vectors.{seen_vector};
 ghost use Rattle.amq_protocol_types.specs.declared.generation.error.GenError.TheVariants.{OutOfMemory};
@@ -23,14 +23,15 @@ impl Output for Vec<u8> {
     ghost seen = { seen_vector };
 
     fn put(&mut self, bytes: &[u8]) -> GenResult
-        ensures put { AppendsBytes true bytes.now (seen_vector self.old) result (seen_vector self.new) }
+        ensures put { AppendsBytes true bytes.now
+            (seen_vector self.old) result (seen_vector self.new) }
         ensures refused { IfErr result (λ e. e ≡ OutOfMemory) }
     {
         Ok(self.extend_from_slice(bytes)?)
     }
 
     fn make_room(&mut self, n: usize) -> GenResult
-        ensures made { MakesRoom true n (seen_vector self.old) result (seen_vector self.new) }
+        ensures made { PromisesCapacity true n (seen_vector self.old) result (seen_vector self.new) }
         ensures refused { IfErr result (λ e. e ≡ OutOfMemory) }
     {
         Ok(self.try_reserve(n)?)
@@ -54,7 +55,7 @@ impl BackToTheBuffer for Vec<u8> {
 
     fn reserve(&mut self, n: usize) -> Result<u64, GenError>
         ensures written { Writes true ⊤ (replicate n 0)
-            (seen_vector self.old) (answer_of result) (seen_vector self.new) }
+            (seen_vector self.old) (outcome_of result) (seen_vector self.new) }
         ensures place { IfOk result (λ at. at ≡ (seen_vector self.old).position) }
         ensures refused { IfErr result (λ e. e ≡ OutOfMemory) }
     {

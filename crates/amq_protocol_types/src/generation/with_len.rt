@@ -19,11 +19,16 @@ pub fn gen_with_len<W: BackToTheBuffer, F: FnOnce(&mut WriteContext<W>) -> GenRe
 ) -> GenResult
     requires callable { F.IsAlwaysCallable f }
     requires appends { (old new : WriteContext W) (r : Result (Unit {0}) GenError) →
-        FnOnceReturnsAtMut F.FnOnce f old r new → OnlyAppends (state_of W.seen old) r (state_of W.seen new) }
-    ensures ok { OnOk result (AppendsWithLength W.seen (FnOnceReturnsAtMut F.FnOnce f) x.old x.new) }
-    ensures err { IfErr result (RefusesWithLength W.seen (FnOnceReturnsAtMut F.FnOnce f) x.old x.new) }
-    ensures kept { OnErr result ((state_of W.seen x.new).written ≡ (state_of W.seen x.old).written) }
-    ensures stayed { OnErr result ((state_of W.seen x.new).position ≡ (state_of W.seen x.old).position) }
+        FnOnceReturnsAtMut F.FnOnce f old r new
+        → OnlyAppends (state_of W.seen old) r (state_of W.seen new) }
+    ensures ok { OnOk result
+        (AppendsWithLength W.seen (FnOnceReturnsAtMut F.FnOnce f) x.old x.new) }
+    ensures err { IfErr result
+        (RefusesWithLength W.seen (FnOnceReturnsAtMut F.FnOnce f) x.old x.new) }
+    ensures kept { OnErr result
+        ((state_of W.seen x.new).written ≡ (state_of W.seen x.old).written) }
+    ensures stayed { OnErr result
+        ((state_of W.seen x.new).position ≡ (state_of W.seen x.old).position) }
     ensures only { OnlyAppends (state_of W.seen x.old) result (state_of W.seen x.new) }
 {
     let at = x.reserve(4)?;

@@ -7,7 +7,6 @@ use std::alloc::{AllocError, Global};
 
 /// Copies all bytes of the input. An empty input doesn't allocate.
 #[inline(always)]
-#[tactic(auto, using(crate::proofs::lemmas::parsing::Copies::whole_front))]
 pub fn copy_of<I: ParsableInput>(alloc: Global, input: I) -> Result<Vec<u8>, AllocError>
     ensures ok { IfOk result (λ bytes. bytes.items ≡ I.bytes input) }
     ensures err { OnErr result (0 < length (I.bytes input)) }

@@ -1,7 +1,7 @@
 //! The parser of flags.
 
 ghost use Rattle.std.specs.Prelude.{MatchResult, map, length};
-ghost use Rattle.amq_protocol_types.specs.parsing.ParseResults.{Refuses};
+ghost use Rattle.amq_protocol_types.specs.parsing.ParseResults.{IsRefusal};
 ghost use Rattle.amq_protocol_types.specs.flags.Flags.{flags_of, AreFlagsRead, AreFlagsCut, AreFlagsHeavy};
 
 use super::errors::{ParserResult, lacks};
@@ -20,7 +20,8 @@ pub fn parse_flags<I: ParsableInput>(
 ) -> ParserResult<I, AMQPFlags>
     ensures { MatchResult result
         (λ x. AreFlagsRead (map (λ n. n.now) names.now) (I.bytes i) (flags_of x.1) (I.bytes x.0))
-        (Refuses (AreFlagsCut (length names.now) (I.bytes i)) (AreFlagsHeavy (length names.now) (I.bytes i))) }
+        (IsRefusal (AreFlagsCut (length names.now) (I.bytes i))
+        (AreFlagsHeavy (length names.now) (I.bytes i))) }
 {
     let len = names.len().div_ceil(8);
     let there = i.input_len();

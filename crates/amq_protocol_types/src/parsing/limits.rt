@@ -4,8 +4,7 @@
 /// sends frames above its usual `frame_max`, which is 131,072.
 #[derive(Clone, Copy, Debug, PartialEq, Eq)]
 pub struct Limits {
-    /// The most bytes that a value's encoding may have, with its type tag and lengths. It is no
-    /// AMQP frame.
+    /// The most bytes that a value's encoding may have, from its type tag to its end.
     pub frame: u32,
     /// How deep containers may nest in a value: 0 for none, 1 for containers of scalars and strings
     /// only. Each entry that is written counts, even if its key occurs again.

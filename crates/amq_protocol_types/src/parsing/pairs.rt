@@ -43,7 +43,6 @@ impl TableBuilder {
 
     // Keeps one pair more.
     #[inline(always)]
-    #[tactic(auto, using(crate::proofs::lemmas::parsing::Gathered::one_more))]
     pub(crate) fn push(&mut self, k: ShortString, v: AMQPValue) -> Result<(), AllocError>
         ensures { OnOk result (kept self.new ≡ insert k (view v) (kept self.old)) }
     {

@@ -6,7 +6,7 @@ ghost use Rattle.amqp_value_core.specs.Names.{read_as};
 ghost use Rattle.amqp_value_core.specs.Contents.{float_bits, double_bits};
 ghost use Rattle.amqp_value_core.specs.Inputs.{IsBytes};
 ghost use Rattle.amqp_value_core.specs.Values.{boolean, decimal};
-ghost use Rattle.amq_protocol_types.specs.parsing.ParseResults.{Refuses};
+ghost use Rattle.amq_protocol_types.specs.parsing.ParseResults.{IsRefusal};
 ghost use Rattle.amq_protocol_types.specs.parsing.PayloadResults.{IsType, IsNoType};
 ghost use Rattle.amq_protocol_types.specs.parsing.Scalars.{ReadsUnsigned, ReadsScalar, ReadsNumber};
 
@@ -22,7 +22,7 @@ use amqp_value_core::types::{
 pub fn parse_type<I: ParsableInput>(i: I) -> ParserResult<I, AMQPType>
     ensures id { MatchResult result
         (λ x. IsType (I.bytes i) x.1 (I.bytes x.0))
-        (Refuses (IsNoType (I.bytes i)) ⊥) }
+        (IsRefusal (IsNoType (I.bytes i)) ⊥) }
     ensures read_back { IfOk result (λ x. read_as x.1 ≡ Some x.1) }
 {
     let (i, id) = parse_short_short_uint(i)?;

@@ -6,7 +6,7 @@ ghost use Rattle.amqp_value_core.specs.Values.{short, long, octets};
 ghost use Rattle.amqp_value_core.specs.Contents.{long_bytes, octets_of};
 ghost use Rattle.amqp_value_core.specs.Payloads.{RawOutcome};
 ghost use Rattle.amqp_value_core.specs.Outcomes.{RawHeavy, found};
-ghost use Rattle.amq_protocol_types.specs.parsing.ParseResults.{Refuses};
+ghost use Rattle.amq_protocol_types.specs.parsing.ParseResults.{IsRefusal};
 ghost use Rattle.amq_protocol_types.specs.parsing.PayloadResults.{OnlyLacks, RawRefuses};
 ghost use Rattle.amq_protocol_types.specs.parsing.Bodies.{IsLengthPrefixed, IsCutLengthPrefixed};
 
@@ -70,9 +70,9 @@ fn whole<'a>(in_pieces: bool, joined: &'a [u8], chunk: &'a [u8]) -> &'a [u8]
 
 // The string that bytes are, if they are UTF-8. Most keys are ASCII, which takes less to check.
 #[inline(always)]
-#[tactic(auto, using(crate::proofs::lemmas::parsing::Copies::ascii_is_utf8))]
 fn text_of(bytes: &[u8]) -> Option<&str>
-    ensures { MatchOption result (IsUtf8 bytes.now → ⊥) (λ text. (text.now ≡ bytes.now) × IsUtf8 bytes.now) }
+    ensures { MatchOption result (IsUtf8 bytes.now → ⊥)
+        (λ text. (text.now ≡ bytes.now) × IsUtf8 bytes.now) }
 {
     if bytes.is_ascii() {
         return Some(unsafe { str::from_utf8_unchecked(bytes) });
@@ -89,8 +89,10 @@ fn text_of(bytes: &[u8]) -> Option<&str>
 #[inline(always)]
 pub fn parse_long_string<I: ParsableInput>(alloc: Global, i: I) -> ParserResult<I, LongString>
     ensures { MatchResult result
-        (λ x. RawOutcome AMQPType.LongString (I.bytes i) (found (long (long_bytes x.1)) (I.bytes x.0)))
-        (OnlyLacks (RawOutcome AMQPType.LongString (I.bytes i)) (RawHeavy AMQPType.LongString (I.bytes i))) }
+        (λ x. RawOutcome AMQPType.LongString (I.bytes i)
+        (found (long (long_bytes x.1)) (I.bytes x.0)))
+        (OnlyLacks (RawOutcome AMQPType.LongString (I.bytes i))
+        (RawHeavy AMQPType.LongString (I.bytes i))) }
 {
     let (i, body) = parse_length_prefixed(i)?;
     let bytes = copy_of(alloc, body)?;
@@ -102,8 +104,10 @@ pub fn parse_long_string<I: ParsableInput>(alloc: Global, i: I) -> ParserResult<
 /// It allocates only for an array that isn't empty and whose bytes are all there.
 pub fn parse_byte_array<I: ParsableInput>(alloc: Global, i: I) -> ParserResult<I, ByteArray>
     ensures { MatchResult result
-        (λ x. RawOutcome AMQPType.ByteArray (I.bytes i) (found (octets (octets_of x.1)) (I.bytes x.0)))
-        (OnlyLacks (RawOutcome AMQPType.ByteArray (I.bytes i)) (RawHeavy AMQPType.ByteArray (I.bytes i))) }
+        (λ x. RawOutcome AMQPType.ByteArray (I.bytes i)
+        (found (octets (octets_of x.1)) (I.bytes x.0)))
+        (OnlyLacks (RawOutcome AMQPType.ByteArray (I.bytes i))
+        (RawHeavy AMQPType.ByteArray (I.bytes i))) }
 {
     let (i, body) = parse_length_prefixed(i)?;
     let bytes = copy_of(alloc, body)?;
@@ -116,7 +120,7 @@ pub fn parse_byte_array<I: ParsableInput>(alloc: Global, i: I) -> ParserResult<I
 pub fn parse_length_prefixed<I: ParsableInput>(i: I) -> ParserResult<I, I>
     ensures { MatchResult result
         (λ x. IsLengthPrefixed (I.bytes i) (I.bytes x.1) (I.bytes x.0))
-        (Refuses (IsCutLengthPrefixed (I.bytes i)) ⊥) }
+        (IsRefusal (IsCutLengthPrefixed (I.bytes i)) ⊥) }
 {
     let (i, len) = parse_long_uint(i)?;
     let len = len as usize;

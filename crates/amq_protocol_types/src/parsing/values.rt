@@ -8,7 +8,7 @@ ghost use Rattle.amqp_value_core.specs.Payloads.{RawOutcome};
 ghost use Rattle.amqp_value_core.specs.View.{view};
 ghost use Rattle.amqp_value_core.specs.Containers.{array_view, table_view};
 ghost use Rattle.amqp_value_core.specs.Headline.{IsWritableIn};
-ghost use Rattle.amq_protocol_types.specs.parsing.ParseResults.{Refuses, HasOneOutcome, KeepsOutcome};
+ghost use Rattle.amq_protocol_types.specs.parsing.ParseResults.{IsRefusal, HasOneOutcome, KeepsOutcome};
 ghost use Rattle.amq_protocol_types.specs.parsing.PayloadResults.{RawRefuses};
 ghost use Rattle.amq_protocol_types.specs.parsing.Bodies.{IsNoBody, IsTable, IsNoTable};
 
@@ -38,11 +38,10 @@ use std::alloc::Global;
 /// `parse_value_within`. docs/PROMISES.md has measurements. It allocates only for strings, byte
 /// arrays and containers whose bytes are all there.
 #[inline(always)]
-#[tactic(auto, using(crate::proofs::lemmas::parsing::Appends::has_one_outcome, amqp_value_core::proofs::GrammarLaws::more_bytes))]
 pub fn parse_value<I: ParsableInput>(alloc: Global, i: I) -> ParserResult<I, AMQPValue>
     ensures outcome { MatchResult result
         (λ x. Outcome (I.bytes i) (found (view x.1) (I.bytes x.0)))
-        (Refuses (Outcome (I.bytes i)) (Heavy (I.bytes i))) }
+        (IsRefusal (Outcome (I.bytes i)) (Heavy (I.bytes i))) }
     ensures one { HasOneOutcome (I.bytes i) }
     ensures more_bytes { KeepsOutcome (I.bytes i) }
     ensures bounded { IfOk result (λ x.
@@ -61,7 +60,7 @@ pub(crate) fn value_within<I: ParsableInput>(
 ) -> ParserResult<I, AMQPValue>
     ensures { MatchResult result
         (λ x. OutcomeWithin depth (I.bytes i) (found (view x.1) (I.bytes x.0)))
-        (Refuses (OutcomeWithin depth (I.bytes i)) (Heavy (I.bytes i))) }
+        (IsRefusal (OutcomeWithin depth (I.bytes i)) (Heavy (I.bytes i))) }
 {
     let (i, amqp_type) = parse_type(i)?;
     payload_within(alloc, amqp_type, i, depth)
@@ -92,6 +91,7 @@ pub fn parse_raw_value<I: ParsableInput>(
 // one.
 #[cycle(parser)]
 #[inline(always)]
+// The tactic names the lemma that the errors of most arms share.
 #[tactic(auto, using(crate::proofs::lemmas::parsing::Plain::plain_lacks))]
 fn payload_within<I: ParsableInput>(
     alloc: Global,
@@ -102,7 +102,7 @@ fn payload_within<I: ParsableInput>(
     requires { amqp_type ≢ AMQPType.ShortString }
     ensures { MatchResult result
         (λ x. RawOutcomeWithin depth amqp_type (I.bytes i) (found (view x.1) (I.bytes x.0)))
-        (Refuses (RawOutcomeWithin depth amqp_type (I.bytes i)) (RawHeavy amqp_type (I.bytes i))) }
+        (IsRefusal (RawOutcomeWithin depth amqp_type (I.bytes i)) (RawHeavy amqp_type (I.bytes i))) }
 {
     match amqp_type {
         AMQPType::Boolean => {
@@ -184,8 +184,10 @@ fn payload_within<I: ParsableInput>(
 #[inline(always)]
 pub fn parse_field_array<I: ParsableInput>(alloc: Global, i: I) -> ParserResult<I, FieldArray>
     ensures { MatchResult result
-        (λ x. RawOutcome AMQPType.FieldArray (I.bytes i) (found (array (array_view x.1)) (I.bytes x.0)))
-        (Refuses (RawOutcome AMQPType.FieldArray (I.bytes i)) (RawHeavy AMQPType.FieldArray (I.bytes i))) }
+        (λ x. RawOutcome AMQPType.FieldArray (I.bytes i)
+        (found (array (array_view x.1)) (I.bytes x.0)))
+        (IsRefusal (RawOutcome AMQPType.FieldArray (I.bytes i))
+        (RawHeavy AMQPType.FieldArray (I.bytes i))) }
 {
     array_within(alloc, i, i.input_len())
 }
@@ -199,8 +201,10 @@ pub(crate) fn array_within<I: ParsableInput>(
     depth: usize,
 ) -> ParserResult<I, FieldArray>
     ensures { MatchResult result
-        (λ x. RawOutcomeWithin depth AMQPType.FieldArray (I.bytes i) (found (array (array_view x.1)) (I.bytes x.0)))
-        (Refuses (RawOutcomeWithin depth AMQPType.FieldArray (I.bytes i)) (RawHeavy AMQPType.FieldArray (I.bytes i))) }
+        (λ x. RawOutcomeWithin depth AMQPType.FieldArray (I.bytes i)
+        (found (array (array_view x.1)) (I.bytes x.0)))
+        (IsRefusal (RawOutcomeWithin depth AMQPType.FieldArray (I.bytes i))
+        (RawHeavy AMQPType.FieldArray (I.bytes i))) }
 {
     let (i, body) = parse_length_prefixed(i)?;
     if depth == 0 {
@@ -220,7 +224,7 @@ pub fn parse_array_body<I: ParsableInput>(
 ) -> Result<FieldArray, ParserError>
     ensures { MatchResult result
         (λ array. BodyWithin depth (I.bytes body) (array_view array))
-        (Refuses (IsNoBody depth (I.bytes body)) (0 < length (I.bytes body))) }
+        (IsRefusal (IsNoBody depth (I.bytes body)) (0 < length (I.bytes body))) }
 {
     let mut array = FieldArray::new_in(alloc);
     let mut rest = body;
@@ -242,8 +246,10 @@ pub fn parse_array_body<I: ParsableInput>(
 #[inline(always)]
 pub fn parse_field_table<I: ParsableInput>(alloc: Global, i: I) -> ParserResult<I, FieldTable>
     ensures { MatchResult result
-        (λ x. RawOutcome AMQPType.FieldTable (I.bytes i) (found (table (table_view x.1)) (I.bytes x.0)))
-        (Refuses (RawOutcome AMQPType.FieldTable (I.bytes i)) (RawHeavy AMQPType.FieldTable (I.bytes i))) }
+        (λ x. RawOutcome AMQPType.FieldTable (I.bytes i)
+        (found (table (table_view x.1)) (I.bytes x.0)))
+        (IsRefusal (RawOutcome AMQPType.FieldTable (I.bytes i))
+        (RawHeavy AMQPType.FieldTable (I.bytes i))) }
 {
     table_within(alloc, i, i.input_len())
 }
@@ -257,8 +263,10 @@ pub(crate) fn table_within<I: ParsableInput>(
     depth: usize,
 ) -> ParserResult<I, FieldTable>
     ensures { MatchResult result
-        (λ x. RawOutcomeWithin depth AMQPType.FieldTable (I.bytes i) (found (table (table_view x.1)) (I.bytes x.0)))
-        (Refuses (RawOutcomeWithin depth AMQPType.FieldTable (I.bytes i)) (RawHeavy AMQPType.FieldTable (I.bytes i))) }
+        (λ x. RawOutcomeWithin depth AMQPType.FieldTable (I.bytes i)
+        (found (table (table_view x.1)) (I.bytes x.0)))
+        (IsRefusal (RawOutcomeWithin depth AMQPType.FieldTable (I.bytes i))
+        (RawHeavy AMQPType.FieldTable (I.bytes i))) }
 {
     let (i, body) = parse_length_prefixed(i)?;
     if depth == 0 {
@@ -278,7 +286,7 @@ pub fn parse_table_body<I: ParsableInput>(
 ) -> Result<FieldTable, ParserError>
     ensures { MatchResult result
         (λ table. IsTable depth (I.bytes body) (table_view table))
-        (Refuses (IsNoTable depth (I.bytes body)) (0 < length (I.bytes body))) }
+        (IsRefusal (IsNoTable depth (I.bytes body)) (0 < length (I.bytes body))) }
 {
     if body.input_len() == 0 {
         return Ok(FieldTable::new_in(alloc));
@@ -286,11 +294,11 @@ pub fn parse_table_body<I: ParsableInput>(
     let mut pairs = TableBuilder::new(alloc, body);
     let mut rest = body;
     'pairs: while rest.input_len() > 0 {
-        let (behind_key, key) = match parse_short_string(alloc, rest) {
+        let (after_key, key) = match parse_short_string(alloc, rest) {
             Ok(read) => read,
             Err(e) => return Err(inside(e)),
         };
-        let (after, value) = match value_within(alloc, behind_key, depth) {
+        let (after, value) = match value_within(alloc, after_key, depth) {
             Ok(read) => read,
             Err(e) => return Err(inside(e)),
         };

@@ -66,13 +66,15 @@ pub fn parse_field_array_within<I: ParsableInput>(
     limits: Limits,
 ) -> ParserResult<I, FieldArray>
     ensures within { MatchResult result
-        (λ x. UntaggedWithin limits AMQPType.FieldArray (I.bytes i) (found (array (array_view x.1)) (I.bytes x.0)))
+        (λ x. UntaggedWithin limits AMQPType.FieldArray (I.bytes i)
+        (found (array (array_view x.1)) (I.bytes x.0)))
         (RefusesUntagged limits AMQPType.FieldArray (I.bytes i)) }
     ensures payload { IsPayloadWithin limits AMQPType.FieldArray (I.bytes i) }
     ensures read_back { ReadsPayloadsBack limits AMQPType.FieldArray }
     ensures laws { LawsWithin limits (tagged AMQPType.FieldArray (I.bytes i)) }
     ensures value { IfOk result (λ x.
-        IsReadWithin limits (suc (length (I.bytes i)) - length (I.bytes x.0)) (array (array_view x.1))) }
+        IsReadWithin limits (suc (length (I.bytes i)) - length (I.bytes x.0))
+        (array (array_view x.1))) }
 {
     read_array_within(alloc, i, limits)
 }
@@ -84,7 +86,8 @@ fn read_array_within<I: ParsableInput>(
     limits: Limits,
 ) -> ParserResult<I, FieldArray>
     ensures within { MatchResult result
-        (λ x. UntaggedWithin limits AMQPType.FieldArray (I.bytes i) (found (array (array_view x.1)) (I.bytes x.0)))
+        (λ x. UntaggedWithin limits AMQPType.FieldArray (I.bytes i)
+        (found (array (array_view x.1)) (I.bytes x.0)))
         (RefusesUntagged limits AMQPType.FieldArray (I.bytes i)) }
     ensures bytes { IsBytes (I.bytes i) }
 {
@@ -105,13 +108,15 @@ pub fn parse_field_table_within<I: ParsableInput>(
     limits: Limits,
 ) -> ParserResult<I, FieldTable>
     ensures within { MatchResult result
-        (λ x. UntaggedWithin limits AMQPType.FieldTable (I.bytes i) (found (table (table_view x.1)) (I.bytes x.0)))
+        (λ x. UntaggedWithin limits AMQPType.FieldTable (I.bytes i)
+        (found (table (table_view x.1)) (I.bytes x.0)))
         (RefusesUntagged limits AMQPType.FieldTable (I.bytes i)) }
     ensures payload { IsPayloadWithin limits AMQPType.FieldTable (I.bytes i) }
     ensures read_back { ReadsPayloadsBack limits AMQPType.FieldTable }
     ensures laws { LawsWithin limits (tagged AMQPType.FieldTable (I.bytes i)) }
     ensures value { IfOk result (λ x.
-        IsReadWithin limits (suc (length (I.bytes i)) - length (I.bytes x.0)) (table (table_view x.1))) }
+        IsReadWithin limits (suc (length (I.bytes i)) - length (I.bytes x.0))
+        (table (table_view x.1))) }
 {
     read_table_within(alloc, i, limits)
 }
@@ -123,7 +128,8 @@ fn read_table_within<I: ParsableInput>(
     limits: Limits,
 ) -> ParserResult<I, FieldTable>
     ensures within { MatchResult result
-        (λ x. UntaggedWithin limits AMQPType.FieldTable (I.bytes i) (found (table (table_view x.1)) (I.bytes x.0)))
+        (λ x. UntaggedWithin limits AMQPType.FieldTable (I.bytes i)
+        (found (table (table_view x.1)) (I.bytes x.0)))
         (RefusesUntagged limits AMQPType.FieldTable (I.bytes i)) }
     ensures bytes { IsBytes (I.bytes i) }
 {

@@ -1,10 +1,10 @@
 //! The bytes of a value that isn't complete.
 
-ghost use Rattle.std.specs.Prelude.{◌≡◌, ◌<◌, ◌≤◌, ◌+◌, ◌++◌, ℕ, List, [], length, take, drop, max, min, vec_len, vec_capacity, IfOk, OnOk, OnErr, IfErr};
-ghost use Rattle.std.specs.Io.KnownBytes.{Consumes, Keeps, IsAtEnd};
+ghost use Rattle.std.specs.Prelude.{◌≡◌, ◌<◌, ◌≤◌, ◌+◌, ℕ, List, [], length, take, drop, max, min, vec_len, vec_capacity, IfOk, OnOk, OnErr, IfErr};
+ghost use Rattle.std.specs.Io.KnownBytes.{Keeps, IsAtEnd};
 ghost use Rattle.std.specs.IoError.{error_kind};
 ghost use Rattle.amq_protocol_types.specs.stream.Passing.{IsPassing};
-ghost use Rattle.amq_protocol_types.specs.stream.Sources.{KeepsKind};
+ghost use Rattle.amq_protocol_types.specs.stream.Sources.{GivesBytes, GainsBytes, KeepsKind};
 
 use super::error::StreamError;
 use super::source::Source;
@@ -40,8 +40,9 @@ impl Model for Pending {
 fn grow(buffer: &mut Vec<u8>, most: usize) -> Result<(), AllocError>
     requires some { 0 < most }
     ensures same { buffer.new.items ≡ buffer.old.items }
-    ensures room { OnOk result (vec_len buffer.new < vec_capacity buffer.new) }
-    ensures bounded { vec_capacity buffer.new ≤ max (vec_capacity buffer.old) (vec_len buffer.old + max (vec_len buffer.old) 8192) }
+    ensures space { OnOk result (vec_len buffer.new < vec_capacity buffer.new) }
+    ensures bounded { vec_capacity buffer.new
+        ≤ max (vec_capacity buffer.old) (vec_len buffer.old + max (vec_len buffer.old) 8192) }
 {
     if buffer.len() == buffer.capacity() {
         buffer.reserve_exact(most.min(buffer.len()).max(BLOCK))?;
@@ -56,7 +57,7 @@ fn make_room(buffer: &mut Vec<u8>, count: usize, most: usize) -> Result<usize, A
     requires within { count ≤ vec_len buffer.old }
     ensures same { take count buffer.new.items ≡ take count buffer.old.items }
     ensures within { count ≤ vec_len buffer.new }
-    ensures room { IfOk result (λ n. (0 < n) × (n ≤ most) × (count + n ≤ vec_len buffer.new)) }
+    ensures space { IfOk result (λ n. (0 < n) × (n ≤ most) × (count + n ≤ vec_len buffer.new)) }
     ensures bounded { vec_len buffer.new ≤ max (vec_len buffer.old) (count + min most 65_536) }
 {
     if count == buffer.len() {
@@ -67,47 +68,49 @@ fn make_room(buffer: &mut Vec<u8>, count: usize, most: usize) -> Result<usize, A
     Ok(most.min(buffer.len() - count))
 }
 
-// Asks the reader once for at most `room` bytes, and puts those that it returns after the first
+// Asks the reader once for at most `space` bytes, and puts those that it returns after the first
 // `count`.
-fn read_behind<R: Source>(
+fn read_after<R: Source>(
     bytes: &mut [u8],
     count: usize,
     reader: &mut R,
-    room: usize,
+    space: usize,
 ) -> io::Result<usize>
-    requires some { 0 < room }
-    requires within { count + room ≤ length bytes.old }
-    ensures front { take count bytes.new ≡ take count bytes.old }
-    ensures fits { IfOk result (λ n. n ≤ room) }
-    ensures ok { IfOk result (λ n. Consumes (R.remaining reader.old) (R.remaining reader.new) (take n (drop count bytes.new))) }
+    requires some { 0 < space }
+    requires within { count + space ≤ length bytes.old }
+    ensures prefix { take count bytes.new ≡ take count bytes.old }
+    ensures fits { IfOk result (λ n. n ≤ space) }
+    ensures ok { IfOk result
+        (λ n. GivesBytes R.Source reader.old (take n (drop count bytes.new)) reader.new) }
     ensures end { IfOk result (λ n. n ≡ 0 → IsAtEnd (R.remaining reader.new)) }
     ensures err { OnErr result (Keeps (R.remaining reader.old) (R.remaining reader.new)) }
     ensures length { length bytes.new ≡ length bytes.old }
     ensures goes { OnOk result (R.goes reader.old reader.new) }
     ensures fails { IfErr result (λ e. R.fails reader.old (error_kind e) reader.new) }
 {
-    reader.read_some(&mut bytes[count..count + room])
+    reader.read_some(&mut bytes[count..count + space])
 }
 
-// The same with the bytes of a vector.
+// Asks the reader as `read_after` does, for bytes after the first `count` of a vector.
 fn read_into<R: Source>(
     buffer: &mut Vec<u8>,
     count: usize,
     reader: &mut R,
-    room: usize,
+    space: usize,
 ) -> io::Result<usize>
-    requires some { 0 < room }
-    requires within { count + room ≤ vec_len buffer.old }
-    ensures front { take count buffer.new.items ≡ take count buffer.old.items }
-    ensures fits { IfOk result (λ n. n ≤ room) }
-    ensures ok { IfOk result (λ n. Consumes (R.remaining reader.old) (R.remaining reader.new) (take n (drop count buffer.new.items))) }
+    requires some { 0 < space }
+    requires within { count + space ≤ vec_len buffer.old }
+    ensures prefix { take count buffer.new.items ≡ take count buffer.old.items }
+    ensures fits { IfOk result (λ n. n ≤ space) }
+    ensures ok { IfOk result
+        (λ n. GivesBytes R.Source reader.old (take n (drop count buffer.new.items)) reader.new) }
     ensures end { IfOk result (λ n. n ≡ 0 → IsAtEnd (R.remaining reader.new)) }
     ensures err { OnErr result (Keeps (R.remaining reader.old) (R.remaining reader.new)) }
     ensures length { vec_len buffer.new ≡ vec_len buffer.old }
     ensures goes { OnOk result (R.goes reader.old reader.new) }
     ensures fails { IfErr result (λ e. R.fails reader.old (error_kind e) reader.new) }
 {
-    read_behind(buffer.as_mut_slice(), count, reader, room)
+    read_after(buffer.as_mut_slice(), count, reader, space)
 }
 
 impl Pending {
@@ -140,15 +143,15 @@ impl Pending {
         most: usize,
     ) -> Result<usize, StreamError>
         requires { 0 < most }
-        ensures ok { IfOk result (λ n. (more : List ℕ) × (length more ≡ n) × (n ≤ most) × (self.new ≡ self.old ++ more)
-            × Consumes (R.remaining reader.old) (R.remaining reader.new) more) }
+        ensures ok { IfOk result
+            (GainsBytes R.Source most self.old reader.old self.new reader.new) }
         ensures end { IfOk result (λ n. n ≡ 0 → IsAtEnd (R.remaining reader.new)) }
         ensures err { IfErr result (λ e. IsPassing e × (self.new ≡ self.old)
             × Keeps (R.remaining reader.old) (R.remaining reader.new)) }
         ensures kind { KeepsKind R.goes R.fails reader.old result reader.new }
     {
-        let room = make_room(&mut self.buffer, self.count, most)?;
-        match read_into(&mut self.buffer, self.count, reader, room) {
+        let space = make_room(&mut self.buffer, self.count, most)?;
+        match read_into(&mut self.buffer, self.count, reader, space) {
             Ok(n) => {
                 self.count += n;
                 Ok(n)

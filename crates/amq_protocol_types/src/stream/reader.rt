@@ -42,7 +42,8 @@ impl<R: Source> ValueReader<R> {
     /// Reads the next value; returns `None` if the reader ended after the value before. After
     /// `None` a later call asks the reader again.
     pub fn next(&mut self) -> Result<Option<AMQPValue>, StreamError>
-        ensures { ReadsNext R.remaining R.goes R.fails (values_of self.old) (reader_of self.old) result (values_of self.new) (reader_of self.new) }
+        ensures { ReadsNext R.Source (values_of self.old) (reader_of self.old) result
+            (values_of self.new) (reader_of self.new) }
     {
         self.values.next_from(&mut self.reader)
     }

@@ -1,9 +1,8 @@
 //! Values from a reader, one after another.
 
-ghost use Rattle.std.specs.Prelude.{◌≡◌, ◌<◌, ◌≤◌, ◌++◌, List, ℕ, Option, false, []};
-ghost use Rattle.std.specs.Io.KnownBytes.{Consumes, IsAtEnd};
+ghost use Rattle.std.specs.Prelude.{◌≡◌, ◌<◌, ◌≤◌, false, []};
 ghost use Rattle.std.proofs.Props.{props};
-ghost use Rattle.amq_protocol_types.specs.parsing.Headers.{IsWaiting, IsWhole, extent, wanted};
+ghost use Rattle.amq_protocol_types.specs.parsing.Headers.{IsWaiting, IsWholeValue, extent, wanted};
 
 use super::error::StreamError;
 use super::pending::Pending;
@@ -29,7 +28,7 @@ pub struct Values {
 
 impl Values {
     ghost use Rattle.amq_protocol_types.specs.stream.Sources.{KeepsKind, IsNoRead};
-    ghost use Rattle.amq_protocol_types.specs.stream.Readers.{kept, has_failed, limits_of, Answers, ReadsNext};
+    ghost use Rattle.amq_protocol_types.specs.stream.Readers.{kept, has_failed, limits_of, IsOutcomeOfKept, IsOutcomeAtEnd, ReadsOutcome, ReadsNext};
 
     /// Makes a state with nothing retained. It doesn't allocate. Precondition: `limits.frame` isn't
     /// 0.
@@ -49,9 +48,8 @@ impl Values {
 
     /// Reads the next value; returns `None` if the reader ended after the value before. The reader
     /// may be another one each time: an incomplete value is continued from it.
-    #[tactic(auto, using(crate::proofs::ParsingLaws::kept_within))]
     pub fn next_from<R: Source>(&mut self, reader: &mut R) -> Result<Option<AMQPValue>, StreamError>
-        ensures { ReadsNext R.remaining R.goes R.fails self.old reader.old result self.new reader.new }
+        ensures { ReadsNext R.Source self.old reader.old result self.new reader.new }
     {
         if self.failed {
             return Err(StreamError::Failed);
@@ -62,9 +60,7 @@ impl Values {
     // Reads until the value is complete, or isn't one.
     fn read_value<R: Source>(&mut self, reader: &mut R) -> Result<Option<AMQPValue>, StreamError>
         requires not_failed { has_failed self.old ≡ false }
-        ensures answer { (x : List ℕ)
-            × Consumes (R.remaining reader.old) (R.remaining reader.new) x
-            × Answers (limits_of self.old) (kept self.old ++ x) (R.remaining reader.new) (kept self.new) (has_failed self.new) result }
+        ensures outcome { ReadsOutcome R.Source self.old reader.old result self.new reader.new }
         ensures kind { KeepsKind R.goes R.fails reader.old result reader.new }
         ensures limits { limits_of self.new ≡ limits_of self.old }
     {
@@ -91,9 +87,9 @@ impl Values {
     // The value that is retained completely.
     fn whole(&mut self) -> Result<Option<AMQPValue>, StreamError>
         requires not_failed { has_failed self.old ≡ false }
-        requires whole { IsWhole (kept self.old) }
+        requires whole { IsWholeValue (kept self.old) }
         requires within { extent (kept self.old) ≤ self.old.limits.frame }
-        ensures answer { (left : Option (List ℕ)) → Answers (limits_of self.old) (kept self.old) left (kept self.new) (has_failed self.new) result }
+        ensures outcome { IsOutcomeOfKept self.old result self.new }
         ensures no_read { IsNoRead result }
         ensures limits { limits_of self.new ≡ limits_of self.old }
     {
@@ -120,7 +116,7 @@ impl Values {
         requires not_failed { has_failed self.old ≡ false }
         requires wants { 0 < wanted (kept self.old) }
         requires within { extent (kept self.old) ≤ self.old.limits.frame }
-        ensures answer { (left : Option (List ℕ)) → IsAtEnd left → Answers (limits_of self.old) (kept self.old) left (kept self.new) (has_failed self.new) result }
+        ensures outcome { IsOutcomeAtEnd self.old result self.new }
         ensures no_read { IsNoRead result }
         ensures limits { limits_of self.new ≡ limits_of self.old }
     {

@@ -1,10 +1,10 @@
 //! What RabbitMQ takes, and others may not.
 
-ghost use Rattle.std.specs.Prelude.{◌≡◌, ◌<◌, ◌+◌, ◌-◌, ◌^◌, ◌&&◌, ◌∷◌, nat_lt, suc, IfOk, IfSome, OnErr, length, take, drop, option_map, []};
+ghost use Rattle.std.specs.Prelude.{◌≡◌, ◌<◌, ◌+◌, ◌-◌, ◌^◌, ◌&&◌, ◌∷◌, nat_lt, suc, IfOk, IfSome, OnErr, length};
 ghost use Rattle.amqp_value_core.specs.Ids.{id_of};
 ghost use Rattle.amq_protocol_types.specs.parsing.Headers.{extent};
-ghost use Rattle.amqp_in_place.specs.RabbitmqSeen.{Tells, key_of, behind_key};
-ghost use Rattle.amqp_in_place.specs.RabbitmqWarnings.{fault_in_value, fault_in_values, fault_in_pairs, fault_inside, warnings_of, warnings_in_table_of};
+ghost use Rattle.amqp_in_place.specs.RabbitmqSeen.{IsKeyFaultReport, key_of, after_key};
+ghost use Rattle.amqp_in_place.specs.RabbitmqWarnings.{fault_inside, value_fault, values_fault, pairs_fault, table_fault, warnings_of, warnings_in_table_of};
 
 use crate::read::check_utf8;
 use amq_protocol_types::parsing::Limits;
@@ -64,7 +64,8 @@ pub fn warnings_in_table(
     limits: Limits,
     frame_max: u32,
 ) -> Result<Warned, AllocError>
-    ensures warned { IfOk result (λ warned. warned ≡ warnings_in_table_of limits frame_max table.now) }
+    ensures warned { IfOk result (λ warned.
+        warned ≡ warnings_in_table_of limits frame_max table.now) }
     ensures err { OnErr result (4 < length table.now) }
 {
     let len = value_len(SplitInput::new(b"F", table));
@@ -93,7 +94,7 @@ fn in_table(
 ) -> Result<Option<usize>, AllocError>
     requires { len ≡ extent (id_of AMQPType.FieldTable ∷ table.now) }
     ensures err { OnErr result (4 < length table.now) }
-    ensures first { IfOk result (λ x. x ≡ option_map (λ n. n - 1) (fault_in_value (fault_inside fault depth) (id_of AMQPType.FieldTable ∷ table.now))) }
+    ensures first { IfOk result (λ x. x ≡ table_fault fault depth table.now) }
 {
     let payload = &table[..table.len().min(len.saturating_sub(1))];
     let place = inside(alloc, fault, Some(AMQPType::FieldTable), payload, depth)?;
@@ -108,15 +109,15 @@ fn in_value(
     bytes: &[u8],
     depth: u32,
 ) -> Result<Option<usize>, AllocError>
-    ensures first { IfOk result (λ x. x ≡ fault_in_value (fault_inside fault depth) bytes.now) }
+    ensures first { IfOk result (λ x. x ≡ value_fault fault depth bytes.now) }
     ensures inside { IfOk result (λ x. IfSome x (λ n. n < length bytes.now)) }
     ensures err { OnErr result (5 < length bytes.now) }
 {
-    let Some((tag, behind)) = bytes.split_first() else {
+    let Some((tag, after)) = bytes.split_first() else {
         return Ok(None);
     };
     let len = value_len(SliceInput::new(bytes)).saturating_sub(1);
-    let payload = &behind[..behind.len().min(len)];
+    let payload = &after[..after.len().min(len)];
     inside(
         alloc,
         fault,
@@ -159,7 +160,7 @@ fn in_values(
     body: &[u8],
     depth: u32,
 ) -> Result<Option<usize>, AllocError>
-    ensures first { IfOk result (λ x. x ≡ fault_in_values (fault_in_value (fault_inside fault depth)) 0 body.now) }
+    ensures first { IfOk result (λ x. x ≡ values_fault fault depth body.now) }
     ensures inside { IfOk result (λ x. IfSome x (λ n. n < length body.now)) }
     ensures err { OnErr result (0 < length body.now) }
 {
@@ -182,7 +183,7 @@ fn in_pairs(
     body: &[u8],
     depth: u32,
 ) -> Result<Option<usize>, AllocError>
-    ensures first { IfOk result (λ x. x ≡ fault_in_pairs fault (fault_in_value (fault_inside fault depth)) [] 0 body.now) }
+    ensures first { IfOk result (λ x. x ≡ pairs_fault fault depth body.now) }
     ensures inside { IfOk result (λ x. IfSome x (λ n. n < length body.now)) }
     ensures err { OnErr result (0 < length body.now) }
 {
@@ -193,11 +194,11 @@ fn in_pairs(
         if is_faulty(fault, &mut seen, key)? {
             return Ok(Some(at));
         }
-        let behind = at + 1 + key.len();
+        let after = at + 1 + key.len();
         if let Some(offset) = in_value(alloc, fault, value, depth)? {
-            return Ok(Some(behind + offset));
+            return Ok(Some(after + offset));
         }
-        at = behind + value_len(SliceInput::new(value));
+        at = after + value_len(SliceInput::new(value));
     }
     Ok(None)
 }
@@ -205,8 +206,9 @@ fn in_pairs(
 // The key of the pair at the start, or its bytes that are left, and what is after it.
 fn split_key(bytes: &[u8]) -> (&[u8], &[u8])
     ensures key { result.0.now ≡ key_of bytes.now }
-    ensures behind { result.1.now ≡ behind_key bytes.now }
-    ensures len { 0 < length bytes.now → length result.0.now + length result.1.now < length bytes.now }
+    ensures after { result.1.now ≡ after_key bytes.now }
+    ensures len { 0 < length bytes.now
+        → length result.0.now + length result.1.now < length bytes.now }
 {
     let Some((count, named)) = bytes.split_first() else {
         return (bytes, bytes);
@@ -220,7 +222,7 @@ fn is_faulty<'a>(
     seen: &mut BTreeSet<&'a [u8]>,
     key: &'a [u8],
 ) -> Result<bool, AllocError>
-    ensures { IfOk result (λ faulty. Tells fault seen.old seen.new key.now faulty) }
+    ensures { IfOk result (λ faulty. IsKeyFaultReport fault seen.old seen.new key.now faulty) }
 {
     match fault {
         KeyFault::Repeated => Ok(!seen.insert(key)?),

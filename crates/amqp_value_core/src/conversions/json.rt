@@ -4,7 +4,7 @@ ghost use Rattle.std.specs.Prelude.{◌≡◌, option_map, IfOk, OnErr};
 ghost use Rattle.serde_json.specs.View.{view as document};
 ghost use Rattle.amqp_value_core.specs.declared.types.amqp_type.AMQPType.TheVariants as amqp;
 ghost use Rattle.amqp_value_core.specs.View.{view};
-ghost use Rattle.amqp_value_core.specs.Json.{json, TakesMemory};
+ghost use Rattle.amqp_value_core.specs.Json.{json, JsonAllocates};
 
 use crate::types::{AMQPType, LongString, ShortString, TryCopyError};
 use crate::value::AMQPValue;
@@ -25,7 +25,7 @@ impl AMQPValue {
         amqp_type: AMQPType,
     ) -> Result<Option<AMQPValue>, AllocError>
         ensures ok { IfOk result (λ v. option_map view v ≡ json (document value.now) amqp_type) }
-        ensures err { OnErr result (TakesMemory (document value.now) amqp_type) }
+        ensures err { OnErr result (JsonAllocates (document value.now) amqp_type) }
     {
         match amqp_type {
             AMQPType::Boolean => Ok(boolean(value)),
@@ -120,7 +120,7 @@ fn void(value: &Value) -> Option<AMQPValue>
 
 fn short_string(alloc: Global, value: &Value) -> Result<Option<AMQPValue>, AllocError>
     ensures ok { IfOk result (λ v. option_map view v ≡ json (document value.now) amqp.ShortString) }
-    ensures err { OnErr result (TakesMemory (document value.now) amqp.ShortString) }
+    ensures err { OnErr result (JsonAllocates (document value.now) amqp.ShortString) }
 {
     let Some(text) = value.as_str() else {
         return Ok(None);
@@ -134,7 +134,7 @@ fn short_string(alloc: Global, value: &Value) -> Result<Option<AMQPValue>, Alloc
 
 fn long_string(alloc: Global, value: &Value) -> Result<Option<AMQPValue>, AllocError>
     ensures ok { IfOk result (λ v. option_map view v ≡ json (document value.now) amqp.LongString) }
-    ensures err { OnErr result (TakesMemory (document value.now) amqp.LongString) }
+    ensures err { OnErr result (JsonAllocates (document value.now) amqp.LongString) }
 {
     match value.as_str() {
         Some(text) => Ok(Some(AMQPValue::LongString(LongString::from_text(alloc, text)?))),

@@ -33,7 +33,7 @@ impl<'a> SplitInput<'a> {
 }
 
 impl<'a> ParsableInput for SplitInput<'a> {
-    ghost use Rattle.amqp_value_core.specs.Prefix.{IsFront};
+    ghost use Rattle.amqp_value_core.specs.Prefix.{IsPrefix};
     ghost use Rattle.amqp_value_core.specs.Splits.{split_first, split_second};
 
     ghost bytes = { λ s. split_first s ++ split_second s };
@@ -89,7 +89,7 @@ impl<'a> ParsableInput for SplitInput<'a> {
 
     /// The first part that isn't empty.
     fn chunk(&self) -> &[u8]
-        ensures front { IsFront result.now (split_first self.now ++ split_second self.now) }
+        ensures prefix { IsPrefix result.now (split_first self.now ++ split_second self.now) }
         ensures some { 0 < length (split_first self.now ++ split_second self.now) → 0 < length result.now }
     {
         if self.first.is_empty() {

@@ -5,7 +5,7 @@ ghost use Rattle.amqp_value_core.specs.Maps.{has_key};
 ghost use Rattle.amqp_value_core.specs.View.{view};
 ghost use Rattle.amqp_value_core.specs.Containers.{entries, named, names, table_entries, table_view};
 ghost use Rattle.amqp_value_core.specs.Short.{AreCopiesRefused, first_too_long};
-ghost use Rattle.amqp_value_core.specs.Lending.{Rests, RestsIn, bare_of};
+ghost use Rattle.amqp_value_core.specs.Lending.{LentOrKept, LentOrKeptIn, bare_of};
 
 use crate::types::{ShortString, TryCopyError};
 use crate::value::AMQPValue;
@@ -59,7 +59,7 @@ impl FieldTable {
     /// Inserts a value at a key, replaces the old one if there was one, and returns the table. If
     /// an allocation fails the table is unchanged, and the key and the value are dropped.
     pub fn insert(&mut self, k: ShortString, v: AMQPValue) -> Result<&mut FieldTable, AllocError>
-        ensures* unchanged_at_err { sem 𝓛 (Rests self.entry result) }
+        ensures* unchanged_at_err { sem 𝓛 (LentOrKept self.entry result) }
         ensures same { IfOk result (λ r. r.ghost_name ≡ self.entry.ghost_name) }
         ensures ok { IfOk result (λ r. table_view r.now ≡ insert k (view v) (table_view self.old)) }
     {
@@ -67,7 +67,7 @@ impl FieldTable {
     }
 
     fn lend(&mut self, k: ShortString, v: AMQPValue) -> Result<Lent<'_>, AllocError>
-        ensures* unchanged_at_err { sem 𝓛 (RestsIn self.entry result) }
+        ensures* unchanged_at_err { sem 𝓛 (LentOrKeptIn self.entry result) }
         ensures same { IfOk result (λ r. r.table.ghost_name ≡ self.entry.ghost_name) }
         ensures ok { IfOk result (λ r. table_view r.table.now ≡ insert k (view v) (table_view self.old)) }
     {

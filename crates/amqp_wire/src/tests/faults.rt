@@ -181,15 +181,15 @@ fn ends_with_the_fault(rt: &impl Abort, alloc: Global, kind: ErrorKind) {
                 let text = &text[..at];
                 let mut reader = BrokenReader { text, kind };
                 let mut out = Vec::new(alloc);
-                let answer = run_program(rt, alloc, *program, &mut reader, &mut out);
-                assert_eq!(rt; answer, Err(fault_of(kind)), "{kind:?} after {text:?}");
+                let outcome = run_program(rt, alloc, *program, &mut reader, &mut out);
+                assert_eq!(rt; outcome, Err(fault_of(kind)), "{kind:?} after {text:?}");
             }
         }
     }
 }
 
 #[test]
-fn each_kind_of_fault_of_the_reader_is_told(rt: HostRuntime) -> Result<(), Fail> {
+fn each_kind_of_fault_of_the_reader_is_reported(rt: HostRuntime) -> Result<(), Fail> {
     for kind in kinds(rt.alloc())?.as_slice() {
         ends_with_the_fault(&rt, rt.alloc(), *kind);
     }
@@ -204,8 +204,8 @@ fn lines_are_read_on_after_each_interruption(rt: HostRuntime) {
             interruptions: 0,
         };
         let mut out = Vec::new(rt.alloc());
-        let answer = run_program(&rt, rt.alloc(), program, &mut reader, &mut out);
-        assert_eq!(rt; answer, Ok(()));
+        let outcome = run_program(&rt, rt.alloc(), program, &mut reader, &mut out);
+        assert_eq!(rt; outcome, Ok(()));
         assert_eq!(rt;
             out.as_slice(),
             b"value 56 rest 0\nrefused MapOpt\n".as_slice()
@@ -218,11 +218,11 @@ const CUT: &[u8] = &[86, 83, 0, 0, 0, 4, 116];
 
 #[test]
 fn a_fault_of_the_reader_ends_it(rt: HostRuntime) {
-    for (at, (program, text, kind, answer, written)) in READERS.iter().enumerate() {
+    for (at, (program, text, kind, outcome, written)) in READERS.iter().enumerate() {
         let mut reader = BrokenReader { text, kind: *kind };
         let mut out = Vec::new(rt.alloc());
-        let answered = run_program(&rt, rt.alloc(), *program, &mut reader, &mut out);
-        assert_eq!(rt; answered, *answer, "row {at}");
+        let returned = run_program(&rt, rt.alloc(), *program, &mut reader, &mut out);
+        assert_eq!(rt; returned, *outcome, "row {at}");
         assert_eq!(rt; out.as_slice(), written.as_bytes(), "row {at}");
     }
 }
@@ -244,13 +244,13 @@ fn is_taken(
     input: &[u8],
     lines: &[u8],
     mut writer: BrokenWriter,
-    answer: Result<(), WireFault>,
+    outcome: Result<(), WireFault>,
 ) {
     let mut reader = input;
-    let answered = run_program(rt, alloc, program, &mut reader, &mut writer);
-    assert_eq!(rt; answered, answer);
+    let returned = run_program(rt, alloc, program, &mut reader, &mut writer);
+    assert_eq!(rt; returned, outcome);
     assert!(rt; lines.starts_with(writer.taken.as_slice()));
-    assert_eq!(rt; writer.taken.len() == lines.len(), answer.is_ok());
+    assert_eq!(rt; writer.taken.len() == lines.len(), outcome.is_ok());
 }
 
 /// A writer that fails so ends each run with the fault, whichever of its calls that is.
@@ -262,15 +262,15 @@ fn ends_each_run(rt: &impl Abort, alloc: Global, failing: Failing, fault: WireFa
                 calls,
                 failing,
             };
-            let answer = if calls < *needed { Err(fault) } else { Ok(()) };
+            let outcome = if calls < *needed { Err(fault) } else { Ok(()) };
             let lines = lines.as_bytes();
-            is_taken(rt, alloc, *program, input, lines, writer, answer);
+            is_taken(rt, alloc, *program, input, lines, writer, outcome);
         }
     }
 }
 
 #[test]
-fn each_kind_of_fault_of_the_writer_is_told(rt: HostRuntime) -> Result<(), Fail> {
+fn each_kind_of_fault_of_the_writer_is_reported(rt: HostRuntime) -> Result<(), Fail> {
     for kind in kinds(rt.alloc())?.as_slice() {
         ends_each_run(&rt, rt.alloc(), With(*kind), fault_of(*kind));
     }

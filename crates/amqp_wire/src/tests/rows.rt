@@ -212,7 +212,7 @@ const ROWS: &[(Program, &[u8], &str, usize)] = &[
 ];
 
 // What is written for the input, and what stays in the reader.
-fn answers(
+fn prints(
     rt: &impl Abort,
     alloc: Global,
     program: Program,
@@ -222,8 +222,8 @@ fn answers(
 ) {
     let mut reader = input;
     let mut out = Vec::new(alloc);
-    let answer = run_program(rt, alloc, program, &mut reader, &mut out);
-    assert_eq!(rt; answer, Ok(()), "for {input:?}");
+    let outcome = run_program(rt, alloc, program, &mut reader, &mut out);
+    assert_eq!(rt; outcome, Ok(()), "for {input:?}");
     assert_eq!(rt; out.as_slice(), written, "for {input:?}");
     assert_eq!(rt; reader.len(), left, "for {input:?}");
 }
@@ -231,7 +231,7 @@ fn answers(
 #[test]
 fn what_is_read_has_its_result(rt: HostRuntime) {
     for (program, input, written, left) in ROWS {
-        answers(&rt, rt.alloc(), *program, input, written.as_bytes(), *left);
+        prints(&rt, rt.alloc(), *program, input, written.as_bytes(), *left);
     }
 }
 
@@ -261,7 +261,7 @@ const TABLE: &str = "46000000c2\
 fn a_table_is_read_over_each_cut(rt: HostRuntime) -> Result<(), Fail> {
     let want = format!(in rt.alloc(); "value {TABLE} rest 0\n")?;
     for at in 0..200 {
-        answers(
+        prints(
             &rt,
             rt.alloc(),
             Split(at),

@@ -4,8 +4,8 @@ use Rattle.std.specs.Option.{option_map}
 use Rattle.std.proofs.lemmas.Bool.{false≢true}
 use Rattle.amq_protocol_types.specs.declared.generation.error.GenError.{GenError}
 use Rattle.amq_protocol_types.specs.generation.Outputs.{OutputState, Writes}
-use Rattle.amq_protocol_types.specs.generation.BufferOutput.{AppendsBytes, MakesRoom}
-use Rattle.amq_protocol_types.proofs.lemmas.generation.Rooms.{nothing_appended, both_too_many, still_fixed, rest_fits}
+use Rattle.amq_protocol_types.specs.generation.BufferOutput.{AppendsBytes, PromisesCapacity}
+use Rattle.amq_protocol_types.proofs.lemmas.generation.Capacities.{nothing_appended, both_too_many, still_fixed, rest_fits}
 use Rattle.amq_protocol_types.proofs.lemmas.generation.Steps.{bytes_put, both_put, failed_since}
 
 -- some bytes were put, and a buffer won't reject those after them, n in all
@@ -13,26 +13,26 @@ pub record PutSoFar (b : Bool) (n : ℕ) (done : List ℕ) (before after : Outpu
   pub written : Writes b (Unit {0}) done before (Ok tt) after
   pub promise : IsTrue b → n ≤ after.promise + length done
 
-no_less : (room : Option ℕ) → room ≡ option_map (λ n. n - 0) room
+no_less : (capacity : Option ℕ) → capacity ≡ option_map (λ n. n - 0) capacity
 no_less None = refl
 no_less (Some n) = ap Some (omega arith)
 
-none_fit : (room : Option ℕ) → IfSome room (λ n. 0 ≤ n)
+none_fit : (capacity : Option ℕ) → IfSome capacity (λ n. 0 ≤ n)
 none_fit None = tt
 none_fit (Some n) = omega arith
 
 -- the buffer was grown, and nothing is written yet
-pub room_made : {b : Bool} {n m : ℕ} {s t : OutputState} → n ≡ m → MakesRoom b n s (Ok tt) t → PutSoFar b m [] s t
-room_made {s = s} {t = t} same m = record {
+pub capacity_promised : {b : Bool} {n m : ℕ} {s t : OutputState} → n ≡ m → PromisesCapacity b n s (Ok tt) t → PutSoFar b m [] s t
+capacity_promised {s = s} {t = t} same m = record {
   written =
-      bytes_put (nothing_appended s.written t.written m.written) (m.position ∙ omega arith) m.tail tt (none_fit s.room) (m.room ∙ no_less s.room) m.faults;
+      bytes_put (nothing_appended s.written t.written m.written) (m.position ∙ omega arith) m.tail tt (none_fit s.capacity) (m.capacity ∙ no_less s.capacity) m.faults;
   promise = λ is. omega (arith, m.promise is);
 }
 
 -- growing the buffer for the bytes was rejected
-pub room_refused : {b : Bool} {n : ℕ} {s t : OutputState} {e : GenError} (all : List ℕ) → n ≡ length all → MakesRoom b n s (Err e) t → Writes b (Unit {0}) all s (Err e) t
-room_refused {b = b} {n = n} {s = s} {t = t} {e = e} all count m =
-    let P : ℕ → Type 0 = λ k. MakesRoom b k s (Err e) t in
+pub capacity_refused : {b : Bool} {n : ℕ} {s t : OutputState} {e : GenError} (all : List ℕ) → n ≡ length all → PromisesCapacity b n s (Err e) t → Writes b (Unit {0}) all s (Err e) t
+capacity_refused {b = b} {n = n} {s = s} {t = t} {e = e} all count m =
+    let P : ℕ → Type 0 = λ k. PromisesCapacity b k s (Err e) t in
     let r = subst P count m in
     record {
       appended = tt;
@@ -40,10 +40,10 @@ room_refused {b = b} {n = n} {s = s} {t = t} {e = e} all count m =
       tail = tt;
       stayed = λ _. r.position;
       kept = λ _. r.written;
-      room_kept = λ _. r.room;
+      capacity_kept = λ _. r.capacity;
       fits = tt;
-      room = tt;
-      room_left = tt;
+      capacity = tt;
+      capacity_left = tt;
       succeeds = λ _. r.succeeds;
       too_small = r.too_small;
       too_long = λ is _. r.too_long is;
@@ -75,17 +75,17 @@ refused_later {b = b} {n = n} {done = xs} {ys = ys} {s = s} {t = t} {u = u} {e =
       tail = tt;
       stayed = λ is. absurd (no_buffer is);
       kept = λ is. absurd (no_buffer is);
-      room_kept = λ is. absurd (no_buffer is);
+      capacity_kept = λ is. absurd (no_buffer is);
       fits = tt;
-      room = tt;
-      room_left = tt;
-      succeeds = λ _. rest_fits _ s.room t.room _ _ _ long p.room_left (q.succeeds tt);
-      too_small = λ is. both_too_many s.room t.room _ _ _ long p.room p.room_left (q.too_small is);
+      capacity = tt;
+      capacity_left = tt;
+      succeeds = λ _. rest_fits _ s.capacity t.capacity _ _ _ long p.capacity_left (q.succeeds tt);
+      too_small = λ is. both_too_many s.capacity t.capacity _ _ _ long p.capacity p.capacity_left (q.too_small is);
       too_long = λ is. q.too_long is;
       failed = λ kind is. failed_since s t u u p.faults refl (q.failed kind is);
       offset = λ is. omega (arith, q.offset is, p.moved);
       memory = λ is. q.memory is;
-      no_other = λ fixed. q.no_other (still_fixed s.room t.room _ p.room_left fixed);
+      no_other = λ fixed. q.no_other (still_fixed s.capacity t.capacity _ p.capacity_left fixed);
       faults = omega (arith, p.faults, q.faults);
     }
 
@@ -96,7 +96,7 @@ all_put {b = b} {s = s} {t = t} all same so_far =
     subst P same so_far.written
 
 -- one byte more of all is left
-pub one_fits : (done rest behind all : List ℕ) (b : ℕ) → rest ≡ b ∷ behind → done ++ rest ≡ all → length done + 1 ≤ length all
-one_fits done rest behind all b is whole =
+pub one_fits : (done rest after all : List ℕ) (b : ℕ) → rest ≡ b ∷ after → done ++ rest ≡ all → length done + 1 ≤ length all
+one_fits done rest after all b is whole =
     let long = ap length (ap (λ l. done ++ l) (sym is) ∙ whole) in
-    omega (arith, long, length-append done (b ∷ behind))
+    omega (arith, long, length-append done (b ∷ after))

@@ -8,10 +8,10 @@ use Rattle.amqp_value_core.specs.Readings.{read_back}
 use Rattle.amqp_value_core.specs.Outcomes.{Outcome}
 use Rattle.amqp_value_core.proofs.GrammarLaws.{reading_back, value_to_raw, is_canonical}
 use Rattle.amq_protocol_types.specs.declared.generation.error.GenError.{GenError}
-use Rattle.amq_protocol_types.specs.generation.Written.{IsWritten, IsPayloadReadBack}
+use Rattle.amq_protocol_types.specs.generation.Written.{IsReadBackAndCanonical, IsPayloadReadBack}
 
 -- a value whose encoding was written
-pub written : (v : Tree) (r : Result (Unit {0}) GenError) → OnOk r (IsValue v) → OnOk r (Fits v) → OnOk r (IsWritten v)
+pub written : (v : Tree) (r : Result (Unit {0}) GenError) → OnOk r (IsValue v) → OnOk r (Fits v) → OnOk r (IsReadBackAndCanonical v)
 written v (Ok _) is fits = record { value = is; read_back = λ rest. reading_back v rest is fits; canonical = is_canonical v is fits }
 written v (Err _) is fits = tt
 

@@ -45,5 +45,5 @@ fill_before s xs ys bytes from at was same h fit =
     let put : take at new ≡ overwrite (take at xs) from ys = same_lists _ _ (search (rules, places)) (λ n d l. grind (arith, places)) in
     let long : length (take at new) ≡ length (take at xs) = search (rules, places) in
     let tail : drop at new ≡ drop at xs = drop-put_mid from k xs ys at (omega arith) (omega arith) (omega arith) in
-    let seen : seen_slice (cut_at new at) ≡ filled (seen_slice (cut_at xs at)) from ys = λ i. record { written = Some (put i); position = long i; room = Some (length (tail i)); promise = length (tail i); faults = 0; tail = tail i } in
+    let seen : seen_slice (cut_at new at) ≡ filled (seen_slice (cut_at xs at)) from ys = λ i. record { written = Some (put i); position = long i; capacity = Some (length (tail i)); promise = length (tail i); faults = 0; tail = tail i } in
     seen ∙ (λ i. filled (seen_slice (was i)) from (same i))

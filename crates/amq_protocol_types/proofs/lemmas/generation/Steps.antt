@@ -9,23 +9,23 @@ use Rattle.amqp_value_core.specs.Grammar.{long_field}
 use Rattle.amq_protocol_types.specs.declared.generation.error.GenError.{GenError}
 use Rattle.amq_protocol_types.specs.declared.generation.error.GenError.TheVariants.{LengthTooLong}
 use Rattle.amq_protocol_types.specs.generation.Outputs.{OutputState, Writes, HasFailed}
-use Rattle.amq_protocol_types.specs.generation.BufferOutput.{IsWhole, Truncates, PatchesLength, filled}
-use Rattle.amq_protocol_types.proofs.lemmas.generation.Rooms.{both_fit, both_left, room_back, both_too_many, still_fixed, rest_fits, told_back, front_overwritten, any_room}
+use Rattle.amq_protocol_types.specs.generation.BufferOutput.{IsConsistentOutput, TruncatesTo, PatchesLength, filled}
+use Rattle.amq_protocol_types.proofs.lemmas.generation.Capacities.{both_fit, both_left, capacity_back, both_too_many, still_fixed, rest_fits, reported_back, prefix_overwritten, any_capacity}
 
 -- bytes were put: what holds of errors then holds too
 pub bytes_put : {b : Bool} {A : Type 0} {xs : List ℕ} {s t : OutputState} → Appends s.written t.written xs → t.position ≡ s.position + length xs → t.tail ≡ drop (length xs) s.tail → A
-    → IfSome s.room (λ room. length xs ≤ room) → t.room ≡ option_map (λ room. room - length xs) s.room → s.faults ≤ t.faults → Writes b A xs s (Ok tt) t
-bytes_put {s = s} appended moved tail fits room left faults = record {
+    → IfSome s.capacity (λ capacity. length xs ≤ capacity) → t.capacity ≡ option_map (λ capacity. capacity - length xs) s.capacity → s.faults ≤ t.faults → Writes b A xs s (Ok tt) t
+bytes_put {s = s} appended moved tail fits capacity left faults = record {
   appended = appended;
   moved = moved;
   tail = tail;
   stayed = λ _. tt;
   kept = λ _. tt;
-  room_kept = λ _. tt;
+  capacity_kept = λ _. tt;
   fits = fits;
-  room = room;
-  room_left = left;
-  succeeds = λ _. any_room _ s.room _ refl;
+  capacity = capacity;
+  capacity_left = left;
+  succeeds = λ _. any_capacity _ s.capacity _ refl;
   too_small = λ e. cc;
   too_long = λ e _. cc;
   failed = tt;
@@ -42,7 +42,7 @@ both_put {xs = xs} {ys = ys} {s = s} {t = t} {u = u} C zs both lengths p q =
     let P : List ℕ → Type 0 = λ l. Appends s.written u.written l in
     bytes_put (subst P (sym both) (Appends-trans s.written t.written u.written xs ys p.appended q.appended)) (omega (arith, p.moved, q.moved))
     (q.tail ∙ ap (drop (length ys)) p.tail ∙ drop-drop (length ys) (length xs) s.tail ∙ ap (λ n. drop n s.tail) (sym sum)) (lengths p.fits q.fits)
-    (both_fit s.room t.room _ _ _ sum p.room p.room_left q.room) (both_left s.room t.room u.room _ _ _ sum p.room_left q.room_left) (omega (arith, p.faults, q.faults))
+    (both_fit s.capacity t.capacity _ _ _ sum p.capacity p.capacity_left q.capacity) (both_left s.capacity t.capacity u.capacity _ _ _ sum p.capacity_left q.capacity_left) (omega (arith, p.faults, q.faults))
 
 -- a device that failed in a later call has failed since an earlier one
 pub failed_since : (s t u w : OutputState) → s.faults ≤ t.faults → w.faults ≡ u.faults → HasFailed t u → HasFailed s w
@@ -50,29 +50,29 @@ failed_since s t u w before after (inl more) = inl (omega arith)
 failed_since s t u w before after (inr most) = inr (after ∙ most)
 
 -- xs were put, ys rejected, and xs taken back: so more than both was rejected
-pub refused : {A B : Type 0} {xs ys : List ℕ} {s t u w : OutputState} {e : GenError} (C : Type 0) (zs : List ℕ) (at : ℕ) → at ≡ s.position → IsWhole s → length xs + length ys ≤ length zs → (C → B) → Writes true A xs s (Ok tt) t → Writes true B ys t (Err e) u → Truncates at u w → Writes true C zs s (Err e) w
+pub refused : {A B : Type 0} {xs ys : List ℕ} {s t u w : OutputState} {e : GenError} (C : Type 0) (zs : List ℕ) (at : ℕ) → at ≡ s.position → IsConsistentOutput s → length xs + length ys ≤ length zs → (C → B) → Writes true A xs s (Ok tt) t → Writes true B ys t (Err e) u → TruncatesTo at u w → Writes true C zs s (Err e) w
 refused {xs = xs} {ys = ys} {s = s} {t = t} {u = u} {w = w} {e = e} C zs at place whole long lengths p q back =
     let kept : u.position ≡ t.position = q.stayed refl in
-    let told : u.written ≡ t.written = q.kept refl in
-    let room : u.room ≡ t.room = q.room_kept refl in
+    let reported : u.written ≡ t.written = q.kept refl in
+    let capacity : u.capacity ≡ t.capacity = q.capacity_kept refl in
     let cut : u.position - at ≡ length xs = omega (arith, p.moved) in
     record {
       appended = tt;
       moved = tt;
       tail = tt;
       stayed = λ _. back.position ∙ place;
-      kept = λ _. told_back s.written t.written w.written s.position xs whole.counted whole.written p.appended (back.written ∙ (λ i. option_map (take (place i)) (told i)));
-      room_kept = λ _. room_back s.room t.room w.room (length xs) p.room p.room_left (back.room ∙ (λ i. option_map (λ n. n + cut i) (room i)));
+      kept = λ _. reported_back s.written t.written w.written s.position xs whole.counted whole.written p.appended (back.written ∙ (λ i. option_map (take (place i)) (reported i)));
+      capacity_kept = λ _. capacity_back s.capacity t.capacity w.capacity (length xs) p.capacity p.capacity_left (back.capacity ∙ (λ i. option_map (λ n. n + cut i) (capacity i)));
       fits = tt;
-      room = tt;
-      room_left = tt;
-      succeeds = λ c. rest_fits _ s.room t.room _ _ _ long p.room_left (q.succeeds (lengths c));
-      too_small = λ is. both_too_many s.room t.room _ _ _ long p.room p.room_left (q.too_small is);
+      capacity = tt;
+      capacity_left = tt;
+      succeeds = λ c. rest_fits _ s.capacity t.capacity _ _ _ long p.capacity_left (q.succeeds (lengths c));
+      too_small = λ is. both_too_many s.capacity t.capacity _ _ _ long p.capacity p.capacity_left (q.too_small is);
       too_long = λ is c. q.too_long is (lengths c);
       failed = λ kind is. failed_since s t u w p.faults back.faults (q.failed kind is);
       offset = λ is. omega (arith, q.offset is, p.moved);
       memory = λ is. q.memory is;
-      no_other = λ fixed. q.no_other (still_fixed s.room t.room _ p.room_left fixed);
+      no_other = λ fixed. q.no_other (still_fixed s.capacity t.capacity _ p.capacity_left fixed);
       faults = omega (arith, p.faults, q.faults, back.faults);
     }
 
@@ -84,10 +84,10 @@ refused_as_long s C long = record {
   tail = tt;
   stayed = λ _. refl;
   kept = λ _. refl;
-  room_kept = λ _. refl;
+  capacity_kept = λ _. refl;
   fits = tt;
-  room = tt;
-  room_left = tt;
+  capacity = tt;
+  capacity_left = tt;
   succeeds = λ c. absurd (long c);
   too_small = λ e. cc;
   too_long = λ _. long;
@@ -99,12 +99,12 @@ refused_as_long s C long = record {
 }
 
 -- zeros were put, and then more; the zeros were overwritten
-pub filled_in : {A : Type 0} (zeros more : List ℕ) {s t : OutputState} (C : Type 0) (ys : List ℕ) → IsWhole s → length zeros ≡ length ys → (A → C) → Writes true A (zeros ++ more) s (Ok tt) t → Writes true C (ys ++ more) s (Ok tt) (filled t s.position ys)
+pub filled_in : {A : Type 0} (zeros more : List ℕ) {s t : OutputState} (C : Type 0) (ys : List ℕ) → IsConsistentOutput s → length zeros ≡ length ys → (A → C) → Writes true A (zeros ++ more) s (Ok tt) t → Writes true C (ys ++ more) s (Ok tt) (filled t s.position ys)
 filled_in zeros more {s = s} {t = t} C ys whole same lengths p =
     let sum : length (ys ++ more) ≡ length (zeros ++ more) = length-append ys more ∙ ap (λ n. n + length more) (sym same) ∙ sym (length-append zeros more) in
-    let Fit : ℕ → Type 0 = λ n. IfSome s.room (λ room. n ≤ room) in
-    bytes_put (front_overwritten s.written t.written s.position zeros ys more whole.counted same p.appended) (p.moved ∙ ap (λ n. s.position + n) (sym sum))
-    (p.tail ∙ ap (λ n. drop n s.tail) (sym sum)) (lengths p.fits) (subst Fit (sym sum) p.room) (p.room_left ∙ ap (λ n. option_map (λ m. m - n) s.room) (sym sum)) p.faults
+    let Fit : ℕ → Type 0 = λ n. IfSome s.capacity (λ capacity. n ≤ capacity) in
+    bytes_put (prefix_overwritten s.written t.written s.position zeros ys more whole.counted same p.appended) (p.moved ∙ ap (λ n. s.position + n) (sym sum))
+    (p.tail ∙ ap (λ n. drop n s.tail) (sym sum)) (lengths p.fits) (subst Fit (sym sum) p.capacity) (p.capacity_left ∙ ap (λ n. option_map (λ m. m - n) s.capacity) (sym sum)) p.faults
 
 -- what a buffer wrote, whatever shows that it is one
 pub by_buffer : {b : Bool} {A : Type 0} {xs : List ℕ} {s t : OutputState} → b ≡ true → Writes b A xs s (Ok tt) t → Writes true A xs s (Ok tt) t
@@ -113,12 +113,12 @@ by_buffer {A = A} {xs = xs} {s = s} {t = t} e p =
     subst P e p
 
 -- after four reserved bytes some bytes of `all` were put, ys rejected, and all taken back
-pub refused_inside : {A B : Type 0} (some all : List ℕ) {ys : List ℕ} {s t u w : OutputState} {e : GenError} (C : Type 0) (at : ℕ) → at ≡ s.position → IsWhole s → length some + length ys ≤ length all → (C → B) → Writes true A (replicate 4 0 ++ some) s (Ok tt) t → Writes true B ys t (Err e) u → Truncates at u w → Writes true C (long_field all) s (Err e) w
+pub refused_inside : {A B : Type 0} (some all : List ℕ) {ys : List ℕ} {s t u w : OutputState} {e : GenError} (C : Type 0) (at : ℕ) → at ≡ s.position → IsConsistentOutput s → length some + length ys ≤ length all → (C → B) → Writes true A (replicate 4 0 ++ some) s (Ok tt) t → Writes true B ys t (Err e) u → TruncatesTo at u w → Writes true C (long_field all) s (Err e) w
 refused_inside some all C at place whole long lengths p q back = refused C (long_field all) at place whole (omega arith) lengths p q back
 
 -- after four reserved bytes all were put; their number was filled in, or doesn't fit and all are
 -- taken back
-pub length_put : {A : Type 0} (all : List ℕ) {s t w : OutputState} (r : Result (Unit {0}) GenError) (C : Type 0) (at : ℕ) → at ≡ s.position → IsWhole s → (2 ^ 32 ≤ length all → C → ⊥) → (length all < 2 ^ 32 → A → C) → Writes true A (replicate 4 0 ++ all) s (Ok tt) t → PatchesLength at t r w → Writes true C (long_field all) s r w
+pub length_put : {A : Type 0} (all : List ℕ) {s t w : OutputState} (r : Result (Unit {0}) GenError) (C : Type 0) (at : ℕ) → at ≡ s.position → IsConsistentOutput s → (2 ^ 32 ≤ length all → C → ⊥) → (length all < 2 ^ 32 → A → C) → Writes true A (replicate 4 0 ++ all) s (Ok tt) t → PatchesLength at t r w → Writes true C (long_field all) s r w
 length_put all {s = s} {t = t} {w = w} (Ok _) C at place whole long short p f =
     let count : t.position - at - 4 ≡ length all = omega (arith, p.moved) in
     let few : length all < 2 ^ 32 = omega (arith, f.fits) in

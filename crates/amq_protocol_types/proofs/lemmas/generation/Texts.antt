@@ -69,7 +69,7 @@ within_at [] k d h = absurd (omega arith)
 within_at (v ∷ vs) zero d h = omega (arith, length-append (text (view v)) (body (trees vs)))
 within_at (v ∷ vs) (suc k) d h = omega (arith, length-append (text (view v)) (body (trees vs)), length-append (text (view v)) (body (trees (take k vs))), within_at vs k d (omega arith))
 
--- the same of an element, by its own name
+-- what each element fits, by the element's own name
 pub fits_of : (vs : List AMQPValue) (k : ℕ) (v : AMQPValue) → k < length vs → v ≡ get_or vs k v → AllFit (trees vs) → Fits (view v)
 fits_of vs k v h e p =
     let P : AMQPValue → Type 0 = λ u. Fits (view u) in

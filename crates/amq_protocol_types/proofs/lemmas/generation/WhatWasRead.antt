@@ -10,9 +10,9 @@ use Rattle.amq_protocol_types.specs.generation.Outputs.{OutputState, Writes}
 use Rattle.amq_protocol_types.specs.generation.Written.{WritesWhatWasRead, WritesPayloadRead}
 
 -- what succeeds if n bytes fit does if more do
-in_more_room : (P : Type 0) (room : Option ℕ) (n m : ℕ) → n ≤ m → IfSome room (λ r. n ≤ r → P) → IfSome room (λ r. m ≤ r → P)
-in_more_room P None n m le h = tt
-in_more_room P (Some r) n m le h = λ fit. h (omega arith)
+in_more_capacity : (P : Type 0) (capacity : Option ℕ) (n m : ℕ) → n ≤ m → IfSome capacity (λ r. n ≤ r → P) → IfSome capacity (λ r. m ≤ r → P)
+in_more_capacity P None n m le h = tt
+in_more_capacity P (Some r) n m le h = λ fit. h (omega arith)
 
 -- what writes a value's canonical encoding writes a value that was read
 pub writes_what_was_read : {v : Tree} {s t : OutputState} {r : Result (Unit {0}) GenError} → Writes true (Fits v) (text v) s r t → WritesWhatWasRead v s r
@@ -20,7 +20,7 @@ writes_what_was_read {v = v} {s = s} p = record {
   never_too_long = λ w q e. p.too_long e (bounded_wire w v q).fits;
   succeeds = λ w q.
       let bound = bounded_wire w v q in
-      in_more_room _ s.room (length (text v)) (length w) (bound.size) (p.succeeds bound.fits);
+      in_more_capacity _ s.capacity (length (text v)) (length w) (bound.size) (p.succeeds bound.fits);
 }
 
 -- and what writes a payload of the type, a payload that was read
@@ -30,5 +30,5 @@ writes_payload_read {type = type} {v = v} {s = s} other p = record {
   never_too_long = λ b q e. p.too_long e (what_raw_reads type b v other q).0;
   succeeds = λ b q.
       let bound = raw_bounds type b v q in
-      in_more_room _ s.room (length (payload v)) (length b) (omega (arith, bound.0, length_of_payload v)) (p.succeeds (what_raw_reads type b v other q).0);
+      in_more_capacity _ s.capacity (length (payload v)) (length b) (omega (arith, bound.0, length_of_payload v)) (p.succeeds (what_raw_reads type b v other q).0);
 }

@@ -7,8 +7,8 @@ use Rattle.amqp_value_core.specs.Headline.{IsWritableIn}
 use Rattle.amqp_value_core.specs.Texts.{text}
 use Rattle.amqp_value_core.specs.Inputs.{IsBytes}
 use Rattle.amqp_value_core.specs.Outcomes.{found, length_field}
-use Rattle.amqp_value_core.proofs.Bytes.{bytes_front}
-use Rattle.amqp_value_core.proofs.GrammarLaws.{front_within, bounded_wire, wire_found_within, text_within, text_again, depth_within, bounds, injective, extent-raw}
+use Rattle.amqp_value_core.proofs.Bytes.{bytes_before}
+use Rattle.amqp_value_core.proofs.GrammarLaws.{prefix_within, bounded_wire, wire_found_within, text_within, text_again, depth_within, bounds, injective, extent-raw}
 use Rattle.amq_protocol_types.specs.declared.parsing.limits.Limits.{Limits}
 use Rattle.amq_protocol_types.specs.parsing.Refusals.{Refusal}
 use Rattle.amq_protocol_types.specs.parsing.Headers.{raw_extent, extent_at, extent}
@@ -37,16 +37,16 @@ tells_apart_within d v = λ u w x bytes_w bytes_x p q. injective v u w x bytes_w
 -- what was read within limits is read again within them
 read_again : (l : Limits) (s rest : List ℕ) (v : Tree) → IsBytes s → Within l s (found v rest) → IsReadAgain l v
 read_again l s rest v bytes (few, x) = λ t.
-    let f = front_within l.depth s rest v x in
+    let f = prefix_within l.depth s rest v x in
     let w = f.0 in
-    let again = text_again l.depth w v (bytes_front w rest (subst IsBytes f.2 bytes)) f.1 in
+    let again = text_again l.depth w v (bytes_before w rest (subst IsBytes f.2 bytes)) f.1 in
     let small : extent s ≡ length w = ap extent f.2 ∙ wire_extent w rest v f.1.0 in
     (omega (arith, few, small, wire_extent (text v) t v again.0, (bounds w v f.1.0).0), wire_found_within l.depth (text v) t v again.0 again.1)
 
 -- what was read within limits keeps them, and the bytes that it was read from bound it
 what_was_read : (l : Limits) (s rest : List ℕ) (v : Tree) → IsBytes s → Within l s (found v rest) → IsReadWithin l (length s - length rest) v
 what_was_read l s rest v bytes x =
-    let f = front_within l.depth s rest v x.1 in
+    let f = prefix_within l.depth s rest v x.1 in
     let taken : length f.0 ≡ length s - length rest = omega (arith, ap length f.2, length-append f.0 rest) in
     record {
       bounded = subst (λ (n : ℕ). IsWritableIn n v) taken (bounded_wire f.0 v f.1.0);
@@ -57,8 +57,8 @@ what_was_read l s rest v bytes x =
     }
 
 -- so of what a parser returns, which `value` views as a tree
-pub read_answer : {I V : Type 0} (bytes : I → List ℕ) (value : V → Tree) (l : Limits) (s : List ℕ) (r : Result (I × V) Refusal)
+pub read_result : {I V : Type 0} (bytes : I → List ℕ) (value : V → Tree) (l : Limits) (s : List ℕ) (r : Result (I × V) Refusal)
     → MatchResult r (λ x. Within l s (found (value x.1) (bytes x.0))) (RefusesWithin l s) → IsBytes s
     → IfOk r (λ x. IsReadWithin l (length s - length (bytes x.0)) (value x.1))
-read_answer bytes value l s (Ok x) p is = what_was_read l s (bytes x.0) (value x.1) is p
-read_answer bytes value l s (Err e) p is = tt
+read_result bytes value l s (Ok x) p is = what_was_read l s (bytes x.0) (value x.1) is p
+read_result bytes value l s (Err e) p is = tt

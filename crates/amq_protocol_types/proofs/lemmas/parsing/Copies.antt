@@ -4,25 +4,25 @@ use Rattle.std.proofs.lemmas.Bool.{ltb-false}
 use Rattle.std.proofs.lemmas.List.{append-nil, nil_from_length, length-append, length-take}
 use Rattle.std.specs.Str.{IsUtf8, IsAscii}
 use Rattle.std.proofs.lemmas.Str.{IsUtf8-from_ascii}
-use Rattle.amqp_value_core.specs.Prefix.{IsFront}
+use Rattle.amqp_value_core.specs.Prefix.{IsPrefix}
 
 -- what is ASCII is UTF-8
 pub ascii_is_utf8 : (s : List ℕ) → IsAscii s → IsUtf8 s
 ascii_is_utf8 s ascii = IsUtf8-from_ascii s ascii
 
 -- a prefix with as many bytes as there are is all of them
-pub whole_front : (a s : List ℕ) → IsFront a s → length a ≡ length s → a ≡ s
-whole_front a s (rest, e) same =
+pub whole_prefix : (a s : List ℕ) → IsPrefix a s → length a ≡ length s → a ≡ s
+whole_prefix a s (rest, e) same =
     let none = nil_from_length rest (omega (arith, length-append a rest, ap length e)) in
     sym (append-nil a) ∙ ap (λ l. a ++ l) (sym none) ∙ sym e
 
--- the same of the first n bytes, if n are there
-whole_taken : (a body left : List ℕ) (n : ℕ) → IsFront a body → body ≡ take n left → n ≤ length left → n ≤ length a → a ≡ take n left
+-- a prefix with at least n bytes is all of the first n, if n are there
+whole_taken : (a body left : List ℕ) (n : ℕ) → IsPrefix a body → body ≡ take n left → n ≤ length left → n ≤ length a → a ≡ take n left
 whole_taken a body left n (rest, e) is there enough =
     let size = length-take n left in
-    whole_front a body (rest, e) (omega (arith, length-append a rest, ap length e, ap length is, size)) ∙ is
+    whole_prefix a body (rest, e) (omega (arith, length-append a rest, ap length e, ap length is, size)) ∙ is
 
 -- what was joined if a prefix is shorter than n, and else the prefix, is the first n bytes
-pub whole_or_joined : (a joined body left whole : List ℕ) (n : ℕ) (short : Bool) → IsFront a body → body ≡ take n left → n ≤ length left → short ≡ nat_lt (length a) n → (short ≡ true → joined ≡ body) → whole ≡ (if short then joined else a) → whole ≡ take n left
-whole_or_joined a joined body left whole n true front is there test made e = e ∙ made refl ∙ is
-whole_or_joined a joined body left whole n false front is there test made e = e ∙ whole_taken a body left n front is there (ltb-false (length a) n (sym test))
+pub whole_or_joined : (a joined body left whole : List ℕ) (n : ℕ) (short : Bool) → IsPrefix a body → body ≡ take n left → n ≤ length left → short ≡ nat_lt (length a) n → (short ≡ true → joined ≡ body) → whole ≡ (if short then joined else a) → whole ≡ take n left
+whole_or_joined a joined body left whole n true prefix is there test made e = e ∙ made refl ∙ is
+whole_or_joined a joined body left whole n false prefix is there test made e = e ∙ whole_taken a body left n prefix is there (ltb-false (length a) n (sym test))

@@ -11,14 +11,14 @@ use Rattle.amqp_value_core.specs.Layouts.{fixed}
 use Rattle.amqp_value_core.specs.Strings.{IsShort}
 use Rattle.amqp_value_core.specs.Grammar.{short_field, long_field, Raw, raw_short, raw_long, raw_octets, raw_array, raw_table}
 use Rattle.amqp_value_core.specs.Nesting.{RawWithin, BodyWithin, RawOutcomeWithin}
-use Rattle.amqp_value_core.specs.Outcomes.{Reading, found, more, unknown, malformed, length_field, counted, frame_lack, lack_of, lack, FrontBy, RawHeavy}
+use Rattle.amqp_value_core.specs.Outcomes.{Reading, found, more, unknown, malformed, length_field, counted, frame_lack, lack_of, lack, PrefixBy, RawHeavy}
 use Rattle.amqp_value_core.specs.Payloads.{RawOutcome}
 use Rattle.amqp_value_core.proofs.GrammarLaws.{array_body_within, table_body_within, raw_found_within, raw_whole_within, short_bytes, counted-long_field, lack_of-long_field, raw_found, raw_whole}
 use Rattle.amq_protocol_types.specs.parsing.Refusals.{Refusal}
-use Rattle.amq_protocol_types.specs.parsing.ParseResults.{Refuses}
+use Rattle.amq_protocol_types.specs.parsing.ParseResults.{IsRefusal}
 use Rattle.amq_protocol_types.specs.parsing.Bodies.{IsLengthPrefixed, IsNoBody, IsTable, IsNoTable}
 use Rattle.amq_protocol_types.specs.parsing.PayloadResults.{IsNumberRead}
-use Rattle.amq_protocol_types.proofs.lemmas.parsing.Refused.{Refuses-weaker}
+use Rattle.amq_protocol_types.proofs.lemmas.parsing.Refused.{IsRefusal-weaker}
 
 -- ---- a length in four bytes
 
@@ -43,14 +43,14 @@ module _ (type : AMQPType) (s body rest : List ℕ) (row : fixed type ≡ None) 
   frame_found_within d v p = rw f.framed (raw_found_within d type (long_field body) rest v p)
 
   -- what decides about the body decides about the length-prefixed field
-  frame_refused_within : (d : ℕ) (Is : Reading → Type 0) → ((o : Reading) → Is o → FrontBy (RawWithin d type) s o) → (r : Refusal) → Refuses Is (0 < length body) r
-      → Refuses (RawOutcomeWithin d type s) (RawHeavy type s) r
-  frame_refused_within d Is front r x =
-      Refuses-weaker Is (RawOutcomeWithin d type s) (0 < length body) (RawHeavy type s) r
-      (λ o y. raw_whole_within d type s o frame_whole (front o y)) frame_heavy x
+  frame_refused_within : (d : ℕ) (Is : Reading → Type 0) → ((o : Reading) → Is o → PrefixBy (RawWithin d type) s o) → (r : Refusal) → IsRefusal Is (0 < length body) r
+      → IsRefusal (RawOutcomeWithin d type s) (RawHeavy type s) r
+  frame_refused_within d Is prefix r x =
+      IsRefusal-weaker Is (RawOutcomeWithin d type s) (0 < length body) (RawHeavy type s) r
+      (λ o y. raw_whole_within d type s o frame_whole (prefix o y)) frame_heavy x
 
   -- a complete length-prefixed field that no prefix decides is malformed
-  frame_malformed : (d : ℕ) → FrontBy (RawWithin d type) s malformed → RawOutcomeWithin d type s malformed
+  frame_malformed : (d : ℕ) → PrefixBy (RawWithin d type) s malformed → RawOutcomeWithin d type s malformed
   frame_malformed d none = raw_whole_within d type s malformed frame_whole none
 
 module _ (s body rest : List ℕ) (f : IsLengthPrefixed s body rest) where
@@ -68,14 +68,14 @@ module _ (d : ℕ) (s body rest : List ℕ) (f : IsLengthPrefixed s body rest) w
   array_found vs some p = frame_found_within amqp.FieldArray s body rest refl refl f d (array vs) (raw_array body vs f.fits p.0, omega (arith, p.1))
 
   -- if the body isn't one, no prefix is an array
-  no_array : (o : Reading) → IsNoBody (d - 1) body o → FrontBy (RawWithin d amqp.FieldArray) s o
+  no_array : (o : Reading) → IsNoBody (d - 1) body o → PrefixBy (RawWithin d amqp.FieldArray) s o
   no_array malformed none = λ b left v p e. let r = array_body_within d body rest b left v f.fits p.0 p.1 (sym f.framed ∙ e) in none r.0 (r.1, omega (arith, r.2))
   no_array (found v left) none = absurd none
   no_array (more m) none = absurd none
   no_array unknown none = absurd none
 
   -- the error of the body is the array's
-  pub array_refused : (r : Refusal) → Refuses (IsNoBody (d - 1) body) (0 < length body) r → Refuses (RawOutcomeWithin d amqp.FieldArray s) (RawHeavy amqp.FieldArray s) r
+  pub array_refused : (r : Refusal) → IsRefusal (IsNoBody (d - 1) body) (0 < length body) r → IsRefusal (RawOutcomeWithin d amqp.FieldArray s) (RawHeavy amqp.FieldArray s) r
   array_refused r x = frame_refused_within amqp.FieldArray s body rest refl refl f d (IsNoBody (d - 1) body) no_array r x
 
   -- if no container may be there, there is no array
@@ -91,14 +91,14 @@ module _ (d : ℕ) (s body rest : List ℕ) (f : IsLengthPrefixed s body rest) w
       (frame_found_within amqp.FieldTable s body rest refl refl f d (table (insert_all no_entries p.0)) (raw_table body p.0 f.fits p.1.0, omega (arith, p.1.1)))
 
   -- if the body isn't one, no prefix is a table
-  no_table : (o : Reading) → IsNoTable (d - 1) body o → FrontBy (RawWithin d amqp.FieldTable) s o
+  no_table : (o : Reading) → IsNoTable (d - 1) body o → PrefixBy (RawWithin d amqp.FieldTable) s o
   no_table malformed none = λ b left v p e. let r = table_body_within d body rest b left v f.fits p.0 p.1 (sym f.framed ∙ e) in none r.0 (r.1, omega (arith, r.2))
   no_table (found v left) none = absurd none
   no_table (more m) none = absurd none
   no_table unknown none = absurd none
 
   -- the error of the body is the table's
-  pub table_refused : (r : Refusal) → Refuses (IsNoTable (d - 1) body) (0 < length body) r → Refuses (RawOutcomeWithin d amqp.FieldTable s) (RawHeavy amqp.FieldTable s) r
+  pub table_refused : (r : Refusal) → IsRefusal (IsNoTable (d - 1) body) (0 < length body) r → IsRefusal (RawOutcomeWithin d amqp.FieldTable s) (RawHeavy amqp.FieldTable s) r
   table_refused r x = frame_refused_within amqp.FieldTable s body rest refl refl f d (IsNoTable (d - 1) body) no_table r x
 
   pub table_too_deep : d ≡ 0 → RawOutcomeWithin d amqp.FieldTable s malformed

@@ -9,7 +9,7 @@ use Rattle.amqp_value_core.specs.Values.{Tree, Scalar, boolean, number, decimal,
 use Rattle.amqp_value_core.specs.Layouts.{Layout, fixed, truth, whole_number}
 use Rattle.amqp_value_core.specs.Grammar.{Raw, raw_fixed}
 use Rattle.amqp_value_core.specs.Outcomes.{Reading, found, more, unknown, malformed, lack}
-use Rattle.amqp_value_core.specs.Payloads.{RawFront, RawOutcome}
+use Rattle.amqp_value_core.specs.Payloads.{RawPrefix, RawOutcome}
 use Rattle.amqp_value_core.proofs.GrammarLaws.{NeedsMoreOr-weaker, raw_found}
 use Rattle.amq_protocol_types.specs.parsing.PayloadResults.{IsNumberRead}
 
@@ -19,32 +19,32 @@ pub fixed_found : (type : AMQPType) (f : Layout) (s b rest : List ℕ) → fixed
 fixed_found type f s b rest row len e = rw e (raw_found type b rest (scalar (f.denotes b)) (raw_fixed type f b row len))
 
 -- the bytes of n in the width are as many as the width has, and n is read back from them
-pub record ReadsBack (w : Width) (n : ℕ) : Type 0 where
+pub record WidthReadsBack (w : Width) (n : ℕ) : Type 0 where
   pub wide : length (to_be_bytes w n) ≡ byte_len w
   pub back : from_be_bytes w (to_be_bytes w n) ≡ n
 
 -- so it is with each number that fits
-pub ReadsBack-8 : (n : ℕ) → n < 2 ^ 8 → ReadsBack w8 n
-ReadsBack-8 n h = record { wide = refl; back = omega arith }
+pub WidthReadsBack-8 : (n : ℕ) → n < 2 ^ 8 → WidthReadsBack w8 n
+WidthReadsBack-8 n h = record { wide = refl; back = omega arith }
 
-pub ReadsBack-16 : (n : ℕ) → n < 2 ^ 16 → ReadsBack w16 n
-ReadsBack-16 n h = record { wide = refl; back = from_be_bytes-to_be_bytes_2 n h }
+pub WidthReadsBack-16 : (n : ℕ) → n < 2 ^ 16 → WidthReadsBack w16 n
+WidthReadsBack-16 n h = record { wide = refl; back = from_be_bytes-to_be_bytes_2 n h }
 
-pub ReadsBack-32 : (n : ℕ) → n < 2 ^ 32 → ReadsBack w32 n
-ReadsBack-32 n h = record { wide = refl; back = from_be_bytes-to_be_bytes_4 n h }
+pub WidthReadsBack-32 : (n : ℕ) → n < 2 ^ 32 → WidthReadsBack w32 n
+WidthReadsBack-32 n h = record { wide = refl; back = from_be_bytes-to_be_bytes_4 n h }
 
-pub ReadsBack-64 : (n : ℕ) → n < 2 ^ 64 → ReadsBack w64 n
-ReadsBack-64 n h = record { wide = refl; back = from_be_bytes-to_be_bytes_8 n h }
+pub WidthReadsBack-64 : (n : ℕ) → n < 2 ^ 64 → WidthReadsBack w64 n
+WidthReadsBack-64 n h = record { wide = refl; back = from_be_bytes-to_be_bytes_8 n h }
 
 -- the bytes of n at the start are read as n, of a type that is one number
-pub number_found : (type : AMQPType) (w : Width) (s rest : List ℕ) (n : ℕ) → fixed type ≡ Some (whole_number w type) → ReadsBack w n
+pub number_found : (type : AMQPType) (w : Width) (s rest : List ℕ) (n : ℕ) → fixed type ≡ Some (whole_number w type) → WidthReadsBack w n
     → IsNumberRead w s n rest → RawOutcome type s (found (scalar (number type n)) rest)
 number_found type w s rest n row r e =
     subst (λ (m : ℕ). RawOutcome type s (found (scalar (number type m)) rest)) r.back
     (fixed_found type (whole_number w type) s (to_be_bytes w n) rest row r.wide e)
 
 -- and so is a signed number that has the bits of n
-pub signed_found : (type : AMQPType) (w : Width) (s rest : List ℕ) (n : ℕ) (z : ℤ) → fixed type ≡ Some (whole_number w type) → ReadsBack w n
+pub signed_found : (type : AMQPType) (w : Width) (s rest : List ℕ) (n : ℕ) (z : ℤ) → fixed type ≡ Some (whole_number w type) → WidthReadsBack w n
     → cast_unsigned w (cast_signed w n) ≡ n → z ≡ cast_signed w n → IsNumberRead w s n rest
     → RawOutcome type s (found (scalar (number type (cast_unsigned w (cast_signed w (cast_unsigned w z))))) rest)
 signed_found type w s rest n z row r same is e =
@@ -55,7 +55,7 @@ signed_found type w s rest n z row r same is e =
     bits = rw (is, same, same) refl
 
 -- a truth value at the start is read
-pub boolean_found : (s rest : List ℕ) (n : ℕ) → ReadsBack w8 n → IsNumberRead w8 s n rest
+pub boolean_found : (s rest : List ℕ) (n : ℕ) → WidthReadsBack w8 n → IsNumberRead w8 s n rest
     → RawOutcome amqp.Boolean s (found (scalar (boolean (not (nat_eq n 0)))) rest)
 boolean_found s rest n r e =
     subst (λ (x : Scalar). RawOutcome amqp.Boolean s (found (scalar x) rest)) (ap boolean (ap truth r.back ∙ as_not (nat_eq n 0)))
@@ -66,7 +66,7 @@ boolean_found s rest n r e =
     as_not false = refl
 
 -- a decimal number at the start is read: its scale, and its digits after it
-pub decimal_found : (s middle rest : List ℕ) (scale n : ℕ) → ReadsBack w8 scale → ReadsBack w32 n
+pub decimal_found : (s middle rest : List ℕ) (scale n : ℕ) → WidthReadsBack w8 scale → WidthReadsBack w32 n
     → IsNumberRead w8 s scale middle → IsNumberRead w32 middle n rest → RawOutcome amqp.DecimalValue s (found (scalar (decimal scale n)) rest)
 decimal_found s middle rest scale n first second d e =
     subst (λ (x : Scalar). RawOutcome amqp.DecimalValue s (found (scalar x) rest)) (ap₂ decimal first.back second.back)
@@ -84,11 +84,11 @@ module _ (s : List ℕ) where
   as_unsigned : (b : List ℕ) (v : Tree) → Raw amqp.LongLongInt b v → Raw amqp.LongLongUInt b v
   as_unsigned _ _ (raw_fixed type f b row len) = raw_fixed amqp.LongLongUInt f b row len
 
-  unsigned_front : (o : Reading) → RawFront amqp.LongLongInt s o → RawFront amqp.LongLongUInt s o
-  unsigned_front (found v rest) f = (f.0, as_unsigned f.0 v f.1, f.2)
-  unsigned_front malformed f = λ b rest v p e. f b rest v (as_signed b v p) e
-  unsigned_front (more n) f = f
-  unsigned_front unknown f = f
+  unsigned_prefix : (o : Reading) → RawPrefix amqp.LongLongInt s o → RawPrefix amqp.LongLongUInt s o
+  unsigned_prefix (found v rest) f = (f.0, as_unsigned f.0 v f.1, f.2)
+  unsigned_prefix malformed f = λ b rest v p e. f b rest v (as_signed b v p) e
+  unsigned_prefix (more n) f = f
+  unsigned_prefix unknown f = f
 
   pub unsigned_outcome : (o : Reading) → RawOutcome amqp.LongLongInt s o → RawOutcome amqp.LongLongUInt s o
-  unsigned_outcome o x = NeedsMoreOr-weaker (lack amqp.LongLongInt s) (RawFront amqp.LongLongInt s o) (RawFront amqp.LongLongUInt s o) o (unsigned_front o) x
+  unsigned_outcome o x = NeedsMoreOr-weaker (lack amqp.LongLongInt s) (RawPrefix amqp.LongLongInt s o) (RawPrefix amqp.LongLongUInt s o) o (unsigned_prefix o) x

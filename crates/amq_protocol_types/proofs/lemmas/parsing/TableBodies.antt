@@ -8,18 +8,18 @@ use Rattle.amqp_value_core.specs.Grammar.{short_field, Wire, Raw, raw_short, Tab
 use Rattle.amqp_value_core.specs.Nesting.{pairs_nesting, PairsWithin, OutcomeWithin}
 use Rattle.amqp_value_core.specs.Outcomes.{Reading, found, more, unknown, malformed, lack, Heavy}
 use Rattle.amqp_value_core.specs.Payloads.{RawOutcome}
-use Rattle.amqp_value_core.proofs.GrammarLaws.{raw_front, one_key, one_reading, one_outcome_within, one_raw_outcome, raw_found, wire_found_within, front_within}
+use Rattle.amqp_value_core.proofs.GrammarLaws.{raw_prefix, one_key, one_reading, one_outcome_within, one_raw_outcome, raw_found, wire_found_within, prefix_within}
 use Rattle.amq_protocol_types.specs.declared.parsing.errors.Err.TheVariants.{Incomplete, Error, Failure}
 use Rattle.amq_protocol_types.specs.declared.parsing.errors.Needed.TheVariants.{Unknown, Size}
 use Rattle.amq_protocol_types.specs.declared.parsing.errors.ErrorKind.TheVariants.{MapOpt, MapRes, Eof, OutOfMemory, TooLarge}
 use Rattle.amq_protocol_types.specs.parsing.Refusals.{Refusal, inside}
-use Rattle.amq_protocol_types.specs.parsing.ParseResults.{Refuses}
+use Rattle.amq_protocol_types.specs.parsing.ParseResults.{IsRefusal}
 use Rattle.amq_protocol_types.specs.parsing.PayloadResults.{RawRefuses}
 use Rattle.amq_protocol_types.specs.parsing.Bodies.{IsTable, IsNoTable}
 use Rattle.amq_protocol_types.proofs.lemmas.parsing.Bodies.{rest_shorter}
 
 -- es are the entries of what was read of the body s, and `rest` is left
-pub record Walks (d : ℕ) (s : List ℕ) (es : Entries) (rest : List ℕ) : Type 0 where
+pub record TableBodyRead (d : ℕ) (s : List ℕ) (es : Entries) (rest : List ℕ) : Type 0 where
   -- the pairs of what is left, inserted into those entries, are what the body's pairs result in
   pub whole : (ps : Entries) → PairsWithin d rest ps → (qs : Entries) × PairsWithin d s qs × (insert_all es ps ≡ insert_all no_entries qs)
   -- what is left has pairs if the body has
@@ -30,16 +30,16 @@ pub record Walks (d : ℕ) (s : List ℕ) (es : Entries) (rest : List ℕ) : Typ
 key_of : (b k : List ℕ) → Raw amqp.ShortString b (short k) → (b ≡ short_field k) × IsShort k
 key_of _ _ (raw_short s is) = (refl, is)
 
-key_front : (s k rest : List ℕ) → RawOutcome amqp.ShortString s (found (short k) rest) → (s ≡ short_field k ++ rest) × IsShort k
-key_front s k rest x =
-    let f = raw_front (Raw amqp.ShortString) (lack amqp.ShortString s) s rest (short k) x in
+key_at_start : (s k rest : List ℕ) → RawOutcome amqp.ShortString s (found (short k) rest) → (s ≡ short_field k ++ rest) × IsShort k
+key_at_start s k rest x =
+    let f = raw_prefix (Raw amqp.ShortString) (lack amqp.ShortString s) s rest (short k) x in
     let key = key_of f.0 k f.1 in
     (f.2 ∙ ap (λ (b : List ℕ). b ++ rest) key.0, key.1)
 
 -- what is left after a key is shorter
 pub key_shorter : (s k rest : List ℕ) → RawOutcome amqp.ShortString s (found (short k) rest) → length rest < length s
 key_shorter s k rest x =
-    let f = key_front s k rest x in
+    let f = key_at_start s k rest x in
     omega (arith, ap length f.0, length-append k rest)
 
 -- pairs that aren't empty begin with a key that is read
@@ -52,74 +52,74 @@ no_key _ _ o x other h (pair k w left v ps is p all) =
     (raw_found amqp.ShortString (short_field k) (w ++ left) (short k) (raw_short k is)))
 
 -- and after it a value that is read
-no_value : (d : ℕ) (s k behind : List ℕ) (ps : Entries) (o : Reading) → s ≡ short_field k ++ behind → OutcomeWithin d behind o
+no_value : (d : ℕ) (s k after : List ℕ) (ps : Entries) (o : Reading) → s ≡ short_field k ++ after → OutcomeWithin d after o
     → ((v : Tree) (rest : List ℕ) → o ≡ found v rest → ⊥) → (q : TableBody s ps) → pairs_nesting s ps q ≤ d → ⊥
-no_value d _ k behind _ o e x other no_pairs within = absurd cc
-no_value d _ k behind _ o e x other (pair j w left v ps at p all) within =
-    let rest : behind ≡ w ++ left = (one_key k j behind (w ++ left) (sym e)).1 in
-    other v left (one_outcome_within d behind o (found v left) x (subst (λ (t : List ℕ). OutcomeWithin d t (found v left)) (sym rest) (wire_found_within d w left v p (omega arith))))
+no_value d _ k after _ o e x other no_pairs within = absurd cc
+no_value d _ k after _ o e x other (pair j w left v ps at p all) within =
+    let rest : after ≡ w ++ left = (one_key k j after (w ++ left) (sym e)).1 in
+    other v left (one_outcome_within d after o (found v left) x (subst (λ (t : List ℕ). OutcomeWithin d t (found v left)) (sym rest) (wire_found_within d w left v p (omega arith))))
 
 -- after the first pair are pairs
-pairs_behind : (d : ℕ) (s k w rest : List ℕ) (v : Tree) (ps : Entries) → Wire w v → s ≡ short_field k ++ (w ++ rest) → (q : TableBody s ps) → pairs_nesting s ps q ≤ d
+pairs_after : (d : ℕ) (s k w rest : List ℕ) (v : Tree) (ps : Entries) → Wire w v → s ≡ short_field k ++ (w ++ rest) → (q : TableBody s ps) → pairs_nesting s ps q ≤ d
     → (qs : Entries) × PairsWithin d rest qs
-pairs_behind d _ k w rest v _ p e no_pairs within = absurd cc
-pairs_behind d _ k w rest v _ p e (pair j u left z ps at q all) within =
-    let behind : w ++ rest ≡ u ++ left = (one_key k j (w ++ rest) (u ++ left) (sym e)).1 in
-    let same = one_reading w u rest left v z p q behind in
+pairs_after d _ k w rest v _ p e no_pairs within = absurd cc
+pairs_after d _ k w rest v _ p e (pair j u left z ps at q all) within =
+    let after : w ++ rest ≡ u ++ left = (one_key k j (w ++ rest) (u ++ left) (sym e)).1 in
+    let same = one_reading w u rest left v z p q after in
     (ps, subst (λ (t : List ℕ). PairsWithin d t ps) (sym same.2) (all, omega arith))
 
 -- before the first pair
-pub Walks-start : (d : ℕ) (s : List ℕ) → Walks d s no_entries s
-Walks-start d s = record { whole = λ ps p. (ps, p, refl); only = λ qs p. (qs, p); shorter = omega arith }
+pub TableBodyRead-start : (d : ℕ) (s : List ℕ) → TableBodyRead d s no_entries s
+TableBodyRead-start d s = record { whole = λ ps p. (ps, p, refl); only = λ qs p. (qs, p); shorter = omega arith }
 
 -- after one pair more
-pub Walks-step : (d : ℕ) (s : List ℕ) (es : Entries) (left k behind : List ℕ) (v : Tree) (rest : List ℕ) → Walks d s es left
-    → RawOutcome amqp.ShortString left (found (short k) behind) → OutcomeWithin d behind (found v rest) → Walks d s (insert k v es) rest
-Walks-step d s es left k behind v rest g x y =
-    let key = key_front left k behind x in
-    let f = front_within d behind rest v y in
+pub TableBodyRead-step : (d : ℕ) (s : List ℕ) (es : Entries) (left k after : List ℕ) (v : Tree) (rest : List ℕ) → TableBodyRead d s es left
+    → RawOutcome amqp.ShortString left (found (short k) after) → OutcomeWithin d after (found v rest) → TableBodyRead d s (insert k v es) rest
+TableBodyRead-step d s es left k after v rest g x y =
+    let key = key_at_start left k after x in
+    let f = prefix_within d after rest v y in
     let all : left ≡ short_field k ++ (f.0 ++ rest) = key.0 ∙ ap (λ (t : List ℕ). short_field k ++ t) f.2 in
     record {
       whole = λ ps p. g.whole (entry k v ps) (subst (λ (t : List ℕ). PairsWithin d t (entry k v ps)) (sym all) (pair k f.0 rest v ps key.1 f.1.0 p.0, omega (arith, f.1.1, p.1)));
-      only = λ qs p. let m = g.only qs p in pairs_behind d left k f.0 rest v m.0 f.1.0 all m.1.0 m.1.1;
-      shorter = omega (arith, g.shorter, key_shorter left k behind x, rest_shorter d behind v rest y);
+      only = λ qs p. let m = g.only qs p in pairs_after d left k f.0 rest v m.0 f.1.0 all m.1.0 m.1.1;
+      shorter = omega (arith, g.shorter, key_shorter left k after x, rest_shorter d after v rest y);
     }
 
 -- after the last pair
-pub Walks-end : (d : ℕ) (s : List ℕ) (es : Entries) (rest : List ℕ) → Walks d s es rest → length rest ≡ 0 → IsTable d s es
-Walks-end d s es rest g e = g.whole no_entries (subst (λ (t : List ℕ). PairsWithin d t no_entries) (sym (nil_from_length rest e)) (no_pairs, omega arith))
+pub TableBodyRead-end : (d : ℕ) (s : List ℕ) (es : Entries) (rest : List ℕ) → TableBodyRead d s es rest → length rest ≡ 0 → IsTable d s es
+TableBodyRead-end d s es rest g e = g.whole no_entries (subst (λ (t : List ℕ). PairsWithin d t no_entries) (sym (nil_from_length rest e)) (no_pairs, omega arith))
 
 -- if a key can't be read there are no pairs
-stuck_at_key : (d : ℕ) (s : List ℕ) (es : Entries) (rest : List ℕ) (o : Reading) → Walks d s es rest → 0 < length rest → RawOutcome amqp.ShortString rest o
+stuck_at_key : (d : ℕ) (s : List ℕ) (es : Entries) (rest : List ℕ) (o : Reading) → TableBodyRead d s es rest → 0 < length rest → RawOutcome amqp.ShortString rest o
     → ((v : Tree) (left : List ℕ) → o ≡ found v left → ⊥) → IsNoTable d s malformed
 stuck_at_key d s es rest o g h x other = λ qs p. let m = g.only qs p in no_key rest m.0 o x other h m.1.0
 
 -- the error of a key, for the table round it
-pub Walks-bad_key : (d : ℕ) (s : List ℕ) (es : Entries) (rest : List ℕ) (e : Refusal) → Walks d s es rest → 0 < length rest
-    → RawRefuses amqp.ShortString rest e → Refuses (IsNoTable d s) (0 < length s) (inside e)
-Walks-bad_key d s es rest (Incomplete Unknown) g h x = absurd x
-Walks-bad_key d s es rest (Incomplete (Size n)) g h x = stuck_at_key d s es rest (more n) g h x (λ v left e. cc)
-Walks-bad_key d s es rest (Error k) g h x = stuck_at_key d s es rest malformed g h x.1 (λ v left e. cc)
-Walks-bad_key d s es rest (Failure k) g h x = (x.0, omega (arith, g.shorter))
+pub TableBodyRead-bad_key : (d : ℕ) (s : List ℕ) (es : Entries) (rest : List ℕ) (e : Refusal) → TableBodyRead d s es rest → 0 < length rest
+    → RawRefuses amqp.ShortString rest e → IsRefusal (IsNoTable d s) (0 < length s) (inside e)
+TableBodyRead-bad_key d s es rest (Incomplete Unknown) g h x = absurd x
+TableBodyRead-bad_key d s es rest (Incomplete (Size n)) g h x = stuck_at_key d s es rest (more n) g h x (λ v left e. cc)
+TableBodyRead-bad_key d s es rest (Error k) g h x = stuck_at_key d s es rest malformed g h x.1 (λ v left e. cc)
+TableBodyRead-bad_key d s es rest (Failure k) g h x = (x.0, omega (arith, g.shorter))
 
 -- if a value can't be read after its key there are no pairs
-stuck_at_value : (d : ℕ) (s : List ℕ) (es : Entries) (rest k behind : List ℕ) (o : Reading) → Walks d s es rest
-    → RawOutcome amqp.ShortString rest (found (short k) behind) → OutcomeWithin d behind o
+stuck_at_value : (d : ℕ) (s : List ℕ) (es : Entries) (rest k after : List ℕ) (o : Reading) → TableBodyRead d s es rest
+    → RawOutcome amqp.ShortString rest (found (short k) after) → OutcomeWithin d after o
     → ((v : Tree) (left : List ℕ) → o ≡ found v left → ⊥) → IsNoTable d s malformed
-stuck_at_value d s es rest k behind o g x y other = λ qs p.
+stuck_at_value d s es rest k after o g x y other = λ qs p.
     let m = g.only qs p in
-    let key = key_front rest k behind x in
-    no_value d rest k behind m.0 o key.0 y other m.1.0 m.1.1
+    let key = key_at_start rest k after x in
+    no_value d rest k after m.0 o key.0 y other m.1.0 m.1.1
 
 -- the error of a value, for the table round it
-pub Walks-bad_value : (d : ℕ) (s : List ℕ) (es : Entries) (rest k behind : List ℕ) (e : Refusal) → Walks d s es rest
-    → RawOutcome amqp.ShortString rest (found (short k) behind) → Refuses (OutcomeWithin d behind) (Heavy behind) e
-    → Refuses (IsNoTable d s) (0 < length s) (inside e)
-Walks-bad_value d s es rest k behind (Incomplete Unknown) g x y = absurd y
-Walks-bad_value d s es rest k behind (Incomplete (Size n)) g x y = stuck_at_value d s es rest k behind (more n) g x y (λ v left e. cc)
-Walks-bad_value d s es rest k behind (Error MapOpt) g x y = stuck_at_value d s es rest k behind unknown g x y (λ v left e. cc)
-Walks-bad_value d s es rest k behind (Error Eof) g x y = stuck_at_value d s es rest k behind malformed g x y (λ v left e. cc)
-Walks-bad_value d s es rest k behind (Error MapRes) g x y = absurd y
-Walks-bad_value d s es rest k behind (Error OutOfMemory) g x y = absurd y
-Walks-bad_value d s es rest k behind (Error TooLarge) g x y = absurd y
-Walks-bad_value d s es rest k behind (Failure f) g x y = (y.0, omega (arith, g.shorter, key_shorter rest k behind x))
+pub TableBodyRead-bad_value : (d : ℕ) (s : List ℕ) (es : Entries) (rest k after : List ℕ) (e : Refusal) → TableBodyRead d s es rest
+    → RawOutcome amqp.ShortString rest (found (short k) after) → IsRefusal (OutcomeWithin d after) (Heavy after) e
+    → IsRefusal (IsNoTable d s) (0 < length s) (inside e)
+TableBodyRead-bad_value d s es rest k after (Incomplete Unknown) g x y = absurd y
+TableBodyRead-bad_value d s es rest k after (Incomplete (Size n)) g x y = stuck_at_value d s es rest k after (more n) g x y (λ v left e. cc)
+TableBodyRead-bad_value d s es rest k after (Error MapOpt) g x y = stuck_at_value d s es rest k after unknown g x y (λ v left e. cc)
+TableBodyRead-bad_value d s es rest k after (Error Eof) g x y = stuck_at_value d s es rest k after malformed g x y (λ v left e. cc)
+TableBodyRead-bad_value d s es rest k after (Error MapRes) g x y = absurd y
+TableBodyRead-bad_value d s es rest k after (Error OutOfMemory) g x y = absurd y
+TableBodyRead-bad_value d s es rest k after (Error TooLarge) g x y = absurd y
+TableBodyRead-bad_value d s es rest k after (Failure f) g x y = (y.0, omega (arith, g.shorter, key_shorter rest k after x))

@@ -11,15 +11,15 @@ use Rattle.amq_protocol_types.specs.declared.parsing.errors.Err.TheVariants.{Inc
 use Rattle.amq_protocol_types.specs.declared.parsing.errors.ErrorKind.TheVariants.{MapOpt, MapRes, Eof, OutOfMemory, TooLarge}
 use Rattle.amq_protocol_types.specs.declared.parsing.limits.Limits.{Limits}
 use Rattle.amq_protocol_types.specs.parsing.Refusals.{Refusal}
-use Rattle.amq_protocol_types.specs.parsing.ParseResults.{Refuses}
+use Rattle.amq_protocol_types.specs.parsing.ParseResults.{IsRefusal}
 use Rattle.amq_protocol_types.specs.parsing.Headers.{raw_extent, extent_at, extent}
 use Rattle.amq_protocol_types.specs.parsing.Limits.{RefusesWithin}
 use Rattle.amq_protocol_types.specs.parsing.Untagged.{tagged, UntaggedWithin, RefusesUntagged, IsPayloadWithin, ReadsPayloadsBack}
 use Rattle.amq_protocol_types.proofs.lemmas.parsing.Again.{reads_back}
-use Rattle.amq_protocol_types.proofs.lemmas.parsing.Refused.{Refuses-weaker}
+use Rattle.amq_protocol_types.proofs.lemmas.parsing.Refused.{IsRefusal-weaker}
 
 -- an error of reading a value that isn't too large is right within limits
-limited_refusal : (l : Limits) (s : List ℕ) (e : Refusal) → extent s ≤ l.frame → Refuses (OutcomeWithin l.depth s) (Heavy s) e → RefusesWithin l s e
+limited_refusal : (l : Limits) (s : List ℕ) (e : Refusal) → extent s ≤ l.frame → IsRefusal (OutcomeWithin l.depth s) (Heavy s) e → RefusesWithin l s e
 limited_refusal l s (Incomplete n) few x = (few, x)
 limited_refusal l s (Error MapOpt) few x = (few, x)
 limited_refusal l s (Error MapRes) few x = absurd x
@@ -41,13 +41,13 @@ module _ (l : Limits) (type : AMQPType) (k : kind (id_of type) ≡ Some type) (s
 
   -- what the parser of the payload returns, over an input that shows `bytes` and values that are
   -- viewed by `value`, is right within limits
-  pub untagged_answer : {I V : Type 0} (bytes : I → List ℕ) (value : V → Tree) (r : Result (I × V) Refusal) → raw_extent type s < l.frame
-      → MatchResult r (λ x. RawOutcomeWithin l.depth type s (found (value x.1) (bytes x.0))) (Refuses (RawOutcomeWithin l.depth type s) (RawHeavy type s))
+  pub untagged_result : {I V : Type 0} (bytes : I → List ℕ) (value : V → Tree) (r : Result (I × V) Refusal) → raw_extent type s < l.frame
+      → MatchResult r (λ x. RawOutcomeWithin l.depth type s (found (value x.1) (bytes x.0))) (IsRefusal (RawOutcomeWithin l.depth type s) (RawHeavy type s))
       → MatchResult r (λ x. UntaggedWithin l type s (found (value x.1) (bytes x.0))) (RefusesUntagged l type s)
-  untagged_answer bytes value (Ok x) few p = (payload_within (found (value x.1) (bytes x.0))).1 (few, p)
-  untagged_answer bytes value (Err e) few p =
+  untagged_result bytes value (Ok x) few p = (payload_within (found (value x.1) (bytes x.0))).1 (few, p)
+  untagged_result bytes value (Err e) few p =
       limited_refusal l (tagged type s) e (omega (arith, tagged_extent, few))
-      (Refuses-weaker (RawOutcomeWithin l.depth type s) (OutcomeWithin l.depth (tagged type s)) (RawHeavy type s) (Heavy (tagged type s)) e
+      (IsRefusal-weaker (RawOutcomeWithin l.depth type s) (OutcomeWithin l.depth (tagged type s)) (RawHeavy type s) (Heavy (tagged type s)) e
       (λ o x. raw_to_value_within l.depth (id_of type) type s o k x) (λ x. raw_to_heavy (id_of type) type s k x) p)
 
 -- a payload that was written is read back: after its type tag it is the canonical encoding

@@ -10,8 +10,8 @@ use Rattle.amqp_value_core.specs.Ids.{kind}
 use Rattle.amqp_value_core.specs.Layouts.{Layout, fixed}
 use Rattle.amqp_value_core.specs.Grammar.{Wire}
 use Rattle.amqp_value_core.specs.Nesting.{OutcomeWithin}
-use Rattle.amqp_value_core.specs.Outcomes.{found, more, unknown, length_field, lack_of, lack, NeedsMoreOr, FrontBy, OutcomeBy}
-use Rattle.amqp_value_core.proofs.GrammarLaws.{NeedsMoreOr-more, more_bytes, wire_found, front_within, first_within, fields_lack_cut, fields_lack_known, frame_lack_cut, frame_lack_known, counted-append}
+use Rattle.amqp_value_core.specs.Outcomes.{found, more, unknown, length_field, lack_of, lack, NeedsMoreOr, PrefixBy, OutcomeBy}
+use Rattle.amqp_value_core.proofs.GrammarLaws.{NeedsMoreOr-more, more_bytes, wire_found, prefix_within, first_within, fields_lack_cut, fields_lack_known, frame_lack_cut, frame_lack_known, counted-append}
 use Rattle.amq_protocol_types.specs.parsing.Headers.{extent_of, extent_at, extent, wanted_at, wanted, IsWaiting}
 use Rattle.amq_protocol_types.proofs.lemmas.parsing.Extents.{extent_cut, extent_known}
 use Rattle.amq_protocol_types.proofs.lemmas.parsing.Whole.{found_whole}
@@ -25,7 +25,7 @@ more_wanted P [] h = refl
 more_wanted P (c ∷ b) h = by (kind c) h
   where
     by : (k : Option AMQPType) → 0 < wanted_at k b
-        → MatchOption k (more (wanted_at k b) ≡ unknown) (λ type. NeedsMoreOr (lack type b) (FrontBy P (c ∷ b) (more (wanted_at k b))) (more (wanted_at k b)))
+        → MatchOption k (more (wanted_at k b) ≡ unknown) (λ type. NeedsMoreOr (lack type b) (PrefixBy P (c ∷ b) (more (wanted_at k b))) (more (wanted_at k b)))
     by None lt = absurd (omega arith)
     by (Some type) lt = NeedsMoreOr-more (lack type b) _ lt
 
@@ -34,11 +34,11 @@ pub wanted_more : (P : List ℕ → Tree → Type 0) (s : List ℕ) (n : ℕ) �
 wanted_more P [] n x = cc
 wanted_more P (c ∷ b) n x = by (kind c) x
   where
-    at : (m : ℕ) → NeedsMoreOr m (FrontBy P (c ∷ b) (more n)) (more n) → m ≡ n
+    at : (m : ℕ) → NeedsMoreOr m (PrefixBy P (c ∷ b) (more n)) (more n) → m ≡ n
     at zero none = absurd none
     at (suc m) is = cc
 
-    by : (k : Option AMQPType) → MatchOption k (more n ≡ unknown) (λ type. NeedsMoreOr (lack type b) (FrontBy P (c ∷ b) (more n)) (more n))
+    by : (k : Option AMQPType) → MatchOption k (more n ≡ unknown) (λ type. NeedsMoreOr (lack type b) (PrefixBy P (c ∷ b) (more n)) (more n))
         → wanted_at k b ≡ n
     by None is = absurd cc
     by (Some type) y = at (lack type b) y
@@ -72,8 +72,8 @@ extent-append (c ∷ b) m lt = by (kind c) lt
 -- ---- waiting
 
 -- the first n bytes of two lists, if n reaches the second
-take_behind : (s m : List ℕ) (n : ℕ) → length s ≤ n → take n (s ++ m) ≡ s ++ take (n - length s) m
-take_behind s m n le =
+take_after : (s m : List ℕ) (n : ℕ) → length s ≤ n → take n (s ++ m) ≡ s ++ take (n - length s) m
+take_after s m n le =
     let j = n - length s in
     let all : n ≡ length s + j = omega arith in
     ap (λ (k : ℕ). take k (s ++ m)) all ∙ take-add (length s) j (s ++ m)
@@ -84,24 +84,24 @@ pub waits_more : (frame : ℕ) (s m : List ℕ) → IsWaiting frame s → extent
 waits_more frame s m waits within few n lt = elim (cases_lt n (length s)) [
   | inl inside ↦
       rw (take-append-le n s m (omega arith)) (waits n inside)
-  | inr behind ↦
+  | inr after ↦
       let j = n - length s in
       let part = take j m in
       let len : length part ≡ j = length-take-le j m (omega (arith, length-append s m)) in
-      let front : take n (s ++ m) ≡ s ++ part = take_behind s m n behind in
-      rw front (omega (arith, len, wanted-append s part (omega (arith, len, length-append s m)), length-append s m), omega (arith, extent-append s part (omega (arith, len, length-append s m))))
+      let prefix : take n (s ++ m) ≡ s ++ part = take_after s m n after in
+      rw prefix (omega (arith, len, wanted-append s part (omega (arith, len, length-append s m)), length-append s m), omega (arith, extent-append s part (omega (arith, len, length-append s m))))
 ]
 
 -- a value that is found when all before had to wait is all that came
-pub nothing_behind : (frame d : ℕ) (s : List ℕ) (v : Tree) (rest : List ℕ) → IsWaiting frame s → OutcomeWithin d s (found v rest) → rest ≡ []
-nothing_behind frame d s v rest waits x =
-    let f = front_within d s rest v x in
+pub nothing_after : (frame d : ℕ) (s : List ℕ) (v : Tree) (rest : List ℕ) → IsWaiting frame s → OutcomeWithin d s (found v rest) → rest ≡ []
+nothing_after frame d s v rest waits x =
+    let f = prefix_within d s rest v x in
     let w = f.0 in
     let len = ap length f.2 ∙ length-append w rest in
     elim (cases_lt (length w) (length s)) [
       | inl less ↦
-          let front : take (length w) s ≡ w = ap (take (length w)) f.2 ∙ take_at w rest (length w) refl in
-          let lacks : 0 < wanted w = subst (λ (t : List ℕ). 0 < wanted t) front (waits (length w) less).0 in
+          let prefix : take (length w) s ≡ w = ap (take (length w)) f.2 ∙ take_at w rest (length w) refl in
+          let lacks : 0 < wanted w = subst (λ (t : List ℕ). 0 < wanted t) prefix (waits (length w) less).0 in
           let none : wanted (w ++ []) ≡ 0 = (found_whole Wire (w ++ []) [] v (wire_found w [] v f.1.0)).0 in
           absurd (omega (arith, ap wanted (append-nil w)))
       | inr whole ↦ nil_from_length rest (omega arith)

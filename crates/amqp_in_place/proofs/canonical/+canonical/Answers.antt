@@ -5,12 +5,12 @@ use Rattle.amqp_in_place.specs.Canonicals.{CanonValues, CanonEntries, IsAbove, I
 use Rattle.amqp_in_place.specs.Heads.{IsHead}
 use Rattle.amqp_in_place.specs.declared.head.Head.{Head}
 use Rattle.amqp_in_place.proofs.Stepping.{never_refused}
-use Rattle.amqp_in_place.proofs.Canonicals.{some_rest, no_rest, front_spelling, plain_front, array_front, array_inside, table_front, table_inside, canon_at, rest_shorter, no_values, first_value, values_after, values_before, no_pairs, key_there, key_utf8, key_above, value_behind, pairs_after, pairs_before, pair_shorter}
+use Rattle.amqp_in_place.proofs.Canonicals.{some_rest, no_rest, spelling_at_start, plain_at_start, array_at_start, array_inside, table_at_start, table_inside, canon_at, rest_shorter, no_values, first_value, values_after, values_before, no_pairs, key_there, key_utf8, key_above, value_after, pairs_after, pairs_before, pair_shorter}
 use Rattle.amqp_in_place.proofs.canonical.+canonical.Goals as goal
 
 pub after_canonical-returns-then-not-is_first_spelling-clause-none : goal.after_canonical-returns-then-not-is_first_spelling-clause-none
 after_canonical-returns-then-not-is_first_spelling-clause-none t c = λ _ left x.
-    c.is_first_spelling.ensures.no (search rules) (subst IsFirstSpelling (sym c.as_slice.ensures) (front_spelling c.args.depth (slice_bytes c.args.i) left x))
+    c.is_first_spelling.ensures.no (search rules) (subst IsFirstSpelling (sym c.as_slice.ensures) (spelling_at_start c.args.depth (slice_bytes c.args.i) left x))
 
 pub after_canonical-returns-in_default-clause-none : goal.after_canonical-returns-in_default-clause-none
 after_canonical-returns-in_default-clause-none t c = λ _ left x.
@@ -22,7 +22,7 @@ after_canonical-returns-in-Plain-clause-rest t c =
     let s = slice_bytes c.args.i in
     let rest = slice_bytes c.in-Ok.rest in
     let h = subst (λ (h : Head). IsHead s h rest) c.in-Plain.is c.in-Ok.ensures in
-    plain_front c.args.depth s c.in-Plain.field-0 rest h (subst IsFirstSpelling c.as_slice.ensures (c.is_first_spelling.ensures.yes (search rules)))
+    plain_at_start c.args.depth s c.in-Plain.field-0 rest h (subst IsFirstSpelling c.as_slice.ensures (c.is_first_spelling.ensures.yes (search rules)))
 
 pub after_canonical-returns-in_err-checked_sub-in-FieldArray-clause-none : goal.after_canonical-returns-in_err-checked_sub-in-FieldArray-clause-none
 after_canonical-returns-in_err-checked_sub-in-FieldArray-clause-none t c = λ _ left x.
@@ -41,7 +41,7 @@ after_canonical-returns-in_ok-checked_sub-in-FieldArray-clause-rest t c =
     let less = c.in_ok-checked_sub-in-FieldArray.ensures in
     let spelled = subst IsFirstSpelling c.as_slice.ensures (c.is_first_spelling.ensures.yes (search rules)) in
     some_rest c.args.depth s c.in-Ok.rest c.are_canonical_values.result c.then_some.result c.then_some.ensures
-    (λ t. array_front c.args.depth s body rest h spelled less.0 (subst (λ (d : ℕ). CanonValues d (slice_bytes body)) less.1 (c.are_canonical_values.ensures.yes t)))
+    (λ t. array_at_start c.args.depth s body rest h spelled less.0 (subst (λ (d : ℕ). CanonValues d (slice_bytes body)) less.1 (c.are_canonical_values.ensures.yes t)))
 
 pub after_canonical-returns-in_ok-checked_sub-in-FieldArray-clause-none : goal.after_canonical-returns-in_ok-checked_sub-in-FieldArray-clause-none
 after_canonical-returns-in_ok-checked_sub-in-FieldArray-clause-none t c =
@@ -70,7 +70,7 @@ after_canonical-returns-in_ok-checked_sub-in-FieldTable-clause-rest t c =
     let less = c.in_ok-checked_sub-in-FieldTable.ensures in
     let spelled = subst IsFirstSpelling c.as_slice.ensures (c.is_first_spelling.ensures.yes (search rules)) in
     some_rest c.args.depth s c.in-Ok.rest c.are_canonical_pairs.result c.then_some-in-FieldTable.result c.then_some-in-FieldTable.ensures
-    (λ t. table_front c.args.depth s body rest h spelled less.0 (subst (λ (d : ℕ). CanonEntries d None (slice_bytes body)) less.1 (c.are_canonical_pairs.ensures.yes t)))
+    (λ t. table_at_start c.args.depth s body rest h spelled less.0 (subst (λ (d : ℕ). CanonEntries d None (slice_bytes body)) less.1 (c.are_canonical_pairs.ensures.yes t)))
 
 pub after_canonical-returns-in_ok-checked_sub-in-FieldTable-clause-none : goal.after_canonical-returns-in_ok-checked_sub-in-FieldTable-clause-none
 after_canonical-returns-in_ok-checked_sub-in-FieldTable-clause-none t c =
@@ -97,10 +97,10 @@ pub are_canonical_values-values-preserved : goal.are_canonical_values-values-pre
 are_canonical_values-values-preserved t c =
     let rest = slice_bytes c.values.rest in
     let after = slice_bytes c.in-Some.after in
-    let front = c.in-Some.ensures.rest in (
-      λ all. values_after c.args.depth rest after front (c.values.invariant.0 all),
-      λ all. c.values.invariant.1 (values_before c.args.depth rest after front all),
-      omega (arith, rest_shorter c.args.depth rest after front, c.values.invariant.2),
+    let prefix = c.in-Some.ensures.rest in (
+      λ all. values_after c.args.depth rest after prefix (c.values.invariant.0 all),
+      λ all. c.values.invariant.1 (values_before c.args.depth rest after prefix all),
+      omega (arith, rest_shorter c.args.depth rest after prefix, c.values.invariant.2),
     )
 
 pub are_canonical_values-returns-clause-yes : goal.are_canonical_values-returns-clause-yes
@@ -114,37 +114,37 @@ are_canonical_pairs-returns-in_default-clause-no t c = λ _ all.
 
 pub are_canonical_pairs-returns-then-not-is_above-clause-no : goal.are_canonical_pairs-returns-then-not-is_above-clause-no
 are_canonical_pairs-returns-then-not-is_above-clause-no t c = λ _ all.
-    let above = key_above c.args.depth c.pairs.previous (slice_bytes c.pairs.rest) (slice_bytes c.in-Ok.key) (slice_bytes c.in-Ok.behind) c.in-Ok.ensures (c.pairs.invariant.0 all) in
+    let above = key_above c.args.depth c.pairs.previous (slice_bytes c.pairs.rest) (slice_bytes c.in-Ok.key) (slice_bytes c.in-Ok.after_key) c.in-Ok.ensures (c.pairs.invariant.0 all) in
     c.is_above.ensures.no (search rules) (subst (IsAbove c.pairs.previous) (sym c.as_slice-key.ensures) above)
 
 pub are_canonical_pairs-returns-in_default-check_utf8-clause-no : goal.are_canonical_pairs-returns-in_default-check_utf8-clause-no
 are_canonical_pairs-returns-in_default-check_utf8-clause-no t c = λ _ all.
-    let utf8 = key_utf8 c.args.depth c.pairs.previous (slice_bytes c.pairs.rest) (slice_bytes c.in-Ok.key) (slice_bytes c.in-Ok.behind) c.in-Ok.ensures (c.pairs.invariant.0 all) in
+    let utf8 = key_utf8 c.args.depth c.pairs.previous (slice_bytes c.pairs.rest) (slice_bytes c.in-Ok.key) (slice_bytes c.in-Ok.after_key) c.in-Ok.ensures (c.pairs.invariant.0 all) in
     c.in_default-check_utf8.ensures (subst IsUtf8 (sym c.as_slice-key.ensures) utf8)
 
 pub are_canonical_pairs-returns-in_default-after_canonical-clause-no : goal.are_canonical_pairs-returns-in_default-after_canonical-clause-no
 are_canonical_pairs-returns-in_default-after_canonical-clause-no t c = λ _ all.
-    let x = value_behind c.args.depth c.pairs.previous (slice_bytes c.pairs.rest) (slice_bytes c.in-Ok.key) (slice_bytes c.in-Ok.behind) c.in-Ok.ensures (c.pairs.invariant.0 all) in
+    let x = value_after c.args.depth c.pairs.previous (slice_bytes c.pairs.rest) (slice_bytes c.in-Ok.key) (slice_bytes c.in-Ok.after_key) c.in-Ok.ensures (c.pairs.invariant.0 all) in
     c.after_canonical.ensures.none c.in_default-after_canonical.is x.0 x.1
 
 pub are_canonical_pairs-pairs-smaller : goal.are_canonical_pairs-pairs-smaller
 are_canonical_pairs-pairs-smaller t c =
-    pair_shorter c.args.depth c.pairs.previous (slice_bytes c.pairs.rest) (slice_bytes c.in-Ok.key) (slice_bytes c.in-Ok.behind) c.in-Ok.ensures (slice_bytes c.in-Some.after) c.in-Some.ensures.rest
+    pair_shorter c.args.depth c.pairs.previous (slice_bytes c.pairs.rest) (slice_bytes c.in-Ok.key) (slice_bytes c.in-Ok.after_key) c.in-Ok.ensures (slice_bytes c.in-Some.after) c.in-Some.ensures.rest
 
 pub are_canonical_pairs-pairs-preserved : goal.are_canonical_pairs-pairs-preserved
 are_canonical_pairs-pairs-preserved t c =
     let j = c.pairs.previous in
     let rest = slice_bytes c.pairs.rest in
     let key = slice_bytes c.in-Ok.key in
-    let behind = slice_bytes c.in-Ok.behind in
+    let after_key = slice_bytes c.in-Ok.after_key in
     let after = slice_bytes c.in-Some.after in
-    let front = c.in-Some.ensures.rest in
+    let prefix = c.in-Some.ensures.rest in
     let same = c.as_slice-key.ensures in
     let utf8 = subst IsUtf8 same c.in-Ok-check_utf8.ensures in
     let above = subst (IsAbove j) same (c.is_above.ensures.yes (search rules)) in (
-      λ all. pairs_after c.args.depth j rest key behind c.in-Ok.ensures after front c.as_slice-key.result same (c.pairs.invariant.0 all),
-      λ all. c.pairs.invariant.1 (pairs_before c.args.depth j rest key behind c.in-Ok.ensures after front c.as_slice-key.result same utf8 above all),
-      omega (arith, pair_shorter c.args.depth j rest key behind c.in-Ok.ensures after front, c.pairs.invariant.2),
+      λ all. pairs_after c.args.depth j rest key after_key c.in-Ok.ensures after prefix c.as_slice-key.result same (c.pairs.invariant.0 all),
+      λ all. c.pairs.invariant.1 (pairs_before c.args.depth j rest key after_key c.in-Ok.ensures after prefix c.as_slice-key.result same utf8 above all),
+      omega (arith, pair_shorter c.args.depth j rest key after_key c.in-Ok.ensures after prefix, c.pairs.invariant.2),
     )
 
 pub are_canonical_pairs-returns-clause-yes : goal.are_canonical_pairs-returns-clause-yes

@@ -1,8 +1,8 @@
 use Rattle.std.proofs.Common.{ℕ, ◌-◌, List, length, sym, ap, subst, arith}
 use Rattle.amqp_value_core.specs.Inputs.{IsBytes, slice_bytes}
 use Rattle.amq_protocol_types.specs.parsing.Limits.{IsHeader}
-use Rattle.amqp_in_place.specs.Canonicals.{CanonFront}
-use Rattle.amqp_in_place.proofs.Canonicals.{canon_len, len_front, len_header, rest_shorter}
+use Rattle.amqp_in_place.specs.Canonicals.{CanonPrefix}
+use Rattle.amqp_in_place.proofs.Canonicals.{canon_len, prefix_of_len, len_header, rest_shorter}
 use Rattle.amqp_in_place.proofs.canonical.canonical_len.Goals as goal
 
 pub returns-in_default-clause-none : goal.returns-in_default-clause-none
@@ -12,8 +12,8 @@ returns-in_default-clause-none c = λ _ n x.
 
 pub returns-in_err-rest-clause-none : goal.returns-in_err-rest-clause-none
 returns-in_err-rest-clause-none c = λ _ n x.
-    let f = len_front c.args.limits c.args.bytes.now n x in
-    c.after_canonical.ensures.none c.in_err-rest.was f.0 (subst (λ (s : List ℕ). CanonFront c.args.limits.depth s f.0) (sym c.new-i.ensures) f.1)
+    let f = prefix_of_len c.args.limits c.args.bytes.now n x in
+    c.after_canonical.ensures.none c.in_err-rest.was f.0 (subst (λ (s : List ℕ). CanonPrefix c.args.limits.depth s f.0) (sym c.new-i.ensures) f.1)
 
 pub overflow_sub-result : goal.overflow_sub-result
 overflow_sub-result c =
@@ -25,8 +25,8 @@ pub returns-clause-len : goal.returns-clause-len
 returns-clause-len c =
     let s = c.args.bytes.now in
     let rest = slice_bytes c.in_ok-rest.rest in
-    let front = subst (λ (s : List ℕ). CanonFront c.args.limits.depth s rest) c.new-i.ensures c.in_ok-rest.ensures.rest in
+    let prefix = subst (λ (s : List ℕ). CanonPrefix c.args.limits.depth s rest) c.new-i.ensures c.in_ok-rest.ensures.rest in
     let bytes = subst IsBytes c.new-i.ensures c.header_of.ensures.bytes in
     let here = subst (λ (s : List ℕ). IsHeader c.args.limits.frame s c.header_of.result) c.new-i.ensures c.header_of.ensures.header in
     let whole = rw c.in-Whole.is at here in
-    canon_len c.args.limits s rest (length s - c.input_len.result) bytes whole.0 front (omega (arith, c.input_len.ensures.count, rest_shorter c.args.limits.depth s rest front))
+    canon_len c.args.limits s rest (length s - c.input_len.result) bytes whole.0 prefix (omega (arith, c.input_len.ensures.count, rest_shorter c.args.limits.depth s rest prefix))

@@ -1,37 +1,48 @@
-use Rattle.std.proofs.Common.{ℕ, List, ◌∙◌, subst, arith}
-use Rattle.amqp_value_core.specs.Inputs.{slice_bytes}
-use Rattle.amqp_in_place.specs.Measures.{HoldsFront}
-use Rattle.amqp_in_place.proofs.Measuring.{measured_bytes, measured_values, measured_levels, measured_tree}
+use Rattle.std.proofs.Common.{◌≡◌, ◌-◌, ℕ, length, drop, ap, ◌∙◌, arith}
+use Rattle.amqp_in_place.proofs.Measuring.{rest_dropped, measured_bytes, measured_values, measured_levels, measured_tree}
 use Rattle.amqp_in_place.proofs.measure.measure_value.Goals as goal
 
-pub returns-in_ok-rest-in-Whole-clause-bytes : goal.returns-in_ok-rest-in-Whole-clause-bytes
-returns-in_ok-rest-in-Whole-clause-bytes c =
-    let rest = slice_bytes c.in_ok-rest-in-Whole.rest in
-    let held = c.in_ok-rest-in-Whole.held in
-    let h = subst (λ (s : List ℕ). HoldsFront c.args.limits.depth s rest held.values held.levels) c.new-i.ensures c.in_ok-rest-in-Whole.ensures in (
-      omega (arith, c.in_bytes.ensures.bytes),
-      λ w left v p e.
-          omega (arith, c.in_bytes.ensures.bytes, c.input_len.ensures.count, measured_bytes c.args.limits.depth c.args.bytes.now rest held.values held.levels h w left v p e),
-    )
+pub held_by_value-requires : goal.held_by_value-requires
+held_by_value-requires c =
+    let read = c.in_ok-value.ensures.within in
+    (c.args.bytes.now, c.in_ok-value.rest.now, read.0, c.in_ok-value.ensures.inside, read.1)
 
-pub returns-in_ok-rest-in-Whole-clause-values : goal.returns-in_ok-rest-in-Whole-clause-values
-returns-in_ok-rest-in-Whole-clause-values c = λ w left v p e.
-    let rest = slice_bytes c.in_ok-rest-in-Whole.rest in
-    let held = c.in_ok-rest-in-Whole.held in
-    let h = subst (λ (s : List ℕ). HoldsFront c.args.limits.depth s rest held.values held.levels) c.new-i.ensures c.in_ok-rest-in-Whole.ensures in
-    c.in_bytes.ensures.values ∙ measured_values c.args.limits.depth c.args.bytes.now rest held.values held.levels h w left v p e
+pub returns-clause-within : goal.returns-clause-within
+returns-clause-within c =
+    let s = c.args.bytes.now in
+    let rest = c.in_ok-value.rest.now in
+    let read = c.in_ok-value.ensures.within in
+    let before = c.in_ok-value.ensures.rest in
+    let size : c.in_bytes.result.bytes ≡ length s - length rest = omega (arith, c.in_bytes.ensures.bytes) in
+    let left : drop c.in_bytes.result.bytes s ≡ rest = ap (λ (n : ℕ). drop n s) size ∙ rest_dropped s before.0 rest before.1 in
+    (read.0, rw left read.2)
 
-pub returns-in_ok-rest-in-Whole-clause-levels : goal.returns-in_ok-rest-in-Whole-clause-levels
-returns-in_ok-rest-in-Whole-clause-levels c = λ w left v p e.
-    let rest = slice_bytes c.in_ok-rest-in-Whole.rest in
-    let held = c.in_ok-rest-in-Whole.held in
-    let h = subst (λ (s : List ℕ). HoldsFront c.args.limits.depth s rest held.values held.levels) c.new-i.ensures c.in_ok-rest-in-Whole.ensures in
-    c.in_bytes.ensures.levels ∙ measured_levels c.args.limits.depth c.args.bytes.now rest held.values held.levels h w left v p e
+pub returns-clause-bytes : goal.returns-clause-bytes
+returns-clause-bytes c =
+    let s = c.args.bytes.now in
+    let rest = c.in_ok-value.rest.now in
+    let held = c.held_by_value.result in
+    let h = c.held_by_value.ensures s rest c.in_ok-value.ensures.inside in
+    (omega (arith, c.in_bytes.ensures.bytes), λ w left v p e. omega (arith, c.in_bytes.ensures.bytes, measured_bytes s rest held.values held.levels h w left v p e))
 
-pub returns-in_ok-rest-in-Whole-clause-tree : goal.returns-in_ok-rest-in-Whole-clause-tree
-returns-in_ok-rest-in-Whole-clause-tree c = λ w left v p e.
-    let rest = slice_bytes c.in_ok-rest-in-Whole.rest in
-    let held = c.in_ok-rest-in-Whole.held in
-    let h = subst (λ (s : List ℕ). HoldsFront c.args.limits.depth s rest held.values held.levels) c.new-i.ensures c.in_ok-rest-in-Whole.ensures in
-    let t = measured_tree c.args.limits.depth c.args.bytes.now rest held.values held.levels h w left v p e in
+pub returns-clause-values : goal.returns-clause-values
+returns-clause-values c = λ w left v p e.
+    let s = c.args.bytes.now in
+    let rest = c.in_ok-value.rest.now in
+    let held = c.held_by_value.result in
+    c.in_bytes.ensures.values ∙ measured_values s rest held.values held.levels (c.held_by_value.ensures s rest c.in_ok-value.ensures.inside) w left v p e
+
+pub returns-clause-levels : goal.returns-clause-levels
+returns-clause-levels c = λ w left v p e.
+    let s = c.args.bytes.now in
+    let rest = c.in_ok-value.rest.now in
+    let held = c.held_by_value.result in
+    c.in_bytes.ensures.levels ∙ measured_levels s rest held.values held.levels (c.held_by_value.ensures s rest c.in_ok-value.ensures.inside) w left v p e
+
+pub returns-clause-tree : goal.returns-clause-tree
+returns-clause-tree c = λ w left v p e.
+    let s = c.args.bytes.now in
+    let rest = c.in_ok-value.rest.now in
+    let held = c.held_by_value.result in
+    let t = measured_tree s rest held.values held.levels (c.held_by_value.ensures s rest c.in_ok-value.ensures.inside) w left v p e in
     (omega (arith, t.0, c.in_bytes.ensures.values), omega (arith, t.1, c.in_bytes.ensures.levels))

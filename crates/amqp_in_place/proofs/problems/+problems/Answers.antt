@@ -3,7 +3,7 @@ use Rattle.std.specs.Prelude.{option_map}
 use Rattle.std.proofs.lemmas.List.{length-take-le}
 use Rattle.amq_protocol_types.specs.parsing.Headers.{extent}
 use Rattle.amqp_in_place.specs.Problems.{further, in_value, in_pair, pair_len, inside}
-use Rattle.amqp_in_place.proofs.FirstProblems.{Reached-next, payload_there, array_inside, table_inside}
+use Rattle.amqp_in_place.proofs.FirstProblems.{IsFreeOfProblems-next, payload_there, array_inside, table_inside}
 use Rattle.amqp_in_place.proofs.problems.+problems.Goals as goal
 
 pub payload-returns-in-Some : goal.payload-returns-in-Some
@@ -37,9 +37,9 @@ inside-returns-in_ok-pairs-in-FieldTable-clause-first t c =
 pub values-values-preserved : goal.values-values-preserved
 values-values-preserved t c =
     let h = c.in-Ok.ensures in
-    Reached-next (in_value c.args.rules (inside c.args.rules c.args.depth)) extent c.args.body.now c.values.at c.in-Ok.len c.values.invariant h.0 h.1 h.2 h.3
+    IsFreeOfProblems-next (in_value c.args.rules (inside c.args.rules c.args.depth)) extent c.args.body.now c.values.at c.in-Ok.len c.values.invariant h.0 h.1 h.2 h.3
 
 pub pairs-pairs-preserved : goal.pairs-pairs-preserved
 pairs-pairs-preserved t c =
     let h = c.in-Ok.ensures in
-    Reached-next (in_pair c.args.rules (in_value c.args.rules (inside c.args.rules c.args.depth))) pair_len c.args.body.now c.pairs.at c.in-Ok.len c.pairs.invariant h.0 h.1 h.2 h.3
+    IsFreeOfProblems-next (in_pair c.args.rules (in_value c.args.rules (inside c.args.rules c.args.depth))) pair_len c.args.body.now c.pairs.at c.in-Ok.len c.pairs.invariant h.0 h.1 h.2 h.3

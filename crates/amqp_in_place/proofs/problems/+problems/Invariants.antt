@@ -1,7 +1,7 @@
 use Rattle.std.proofs.Common.{length, ◌+◌, ◌-◌, ◌*◌}
 use Rattle.amq_protocol_types.specs.parsing.Headers.{extent}
 use Rattle.amqp_in_place.specs.Problems.{in_value, in_pair, pair_len, inside}
-use Rattle.amqp_in_place.proofs.FirstProblems.{Reached}
+use Rattle.amqp_in_place.proofs.FirstProblems.{IsFreeOfProblems}
 use Rattle.amqp_in_place.proofs.problems.+problems.Given as goal
 
 -- a call has fewer bytes than its caller, or as many and less to do
@@ -24,13 +24,13 @@ abbrev pub decreases-pair : goal.decreases-pair
 decreases-pair l = 4 * length l.bytes.now + 1
 
 abbrev pub invariant-values-values : goal.invariant-values-values
-invariant-values-values l = Reached (in_value l.fn.rules (inside l.fn.rules l.fn.depth)) extent l.fn.body l.at
+invariant-values-values l = IsFreeOfProblems (in_value l.fn.rules (inside l.fn.rules l.fn.depth)) extent l.fn.body l.at
 
 abbrev pub decreases-values-values : goal.decreases-values-values
 decreases-values-values l = length l.fn.body - l.at
 
 abbrev pub invariant-pairs-pairs : goal.invariant-pairs-pairs
-invariant-pairs-pairs l = Reached (in_pair l.fn.rules (in_value l.fn.rules (inside l.fn.rules l.fn.depth))) pair_len l.fn.body l.at
+invariant-pairs-pairs l = IsFreeOfProblems (in_pair l.fn.rules (in_value l.fn.rules (inside l.fn.rules l.fn.depth))) pair_len l.fn.body l.at
 
 abbrev pub decreases-pairs-pairs : goal.decreases-pairs-pairs
 decreases-pairs-pairs l = length l.fn.body - l.at

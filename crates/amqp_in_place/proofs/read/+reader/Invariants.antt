@@ -1,7 +1,7 @@
 use Rattle.std.proofs.Common.{List, length, ◌+◌, ◌*◌}
 use Rattle.amqp_value_core.specs.Values.{Tree, Entries}
 use Rattle.amqp_value_core.specs.Inputs.{slice_bytes}
-use Rattle.amq_protocol_types.proofs.ParsingLaws.{Goes, Walks}
+use Rattle.amq_protocol_types.proofs.ParsingLaws.{ArrayBodyRead, TableBodyRead}
 use Rattle.amqp_in_place.proofs.read.+reader.Given as goal
 
 -- a call has a shorter input than its caller, or as long a one and less to do
@@ -15,13 +15,13 @@ abbrev pub decreases-are_pairs : goal.decreases-are_pairs
 decreases-are_pairs l = 2 * length (slice_bytes l.body) + 1
 
 abbrev pub invariant-are_values-values : goal.invariant-are_values-values
-invariant-are_values-values l = (xs : List Tree) × Goes l.fn.depth (slice_bytes l.fn.body) xs (slice_bytes l.rest)
+invariant-are_values-values l = (xs : List Tree) × ArrayBodyRead l.fn.depth (slice_bytes l.fn.body) xs (slice_bytes l.rest)
 
 abbrev pub decreases-are_values-values : goal.decreases-are_values-values
 decreases-are_values-values l = length (slice_bytes l.rest)
 
 abbrev pub invariant-are_pairs-pairs : goal.invariant-are_pairs-pairs
-invariant-are_pairs-pairs l = (es : Entries) × Walks l.fn.depth (slice_bytes l.fn.body) es (slice_bytes l.rest)
+invariant-are_pairs-pairs l = (es : Entries) × TableBodyRead l.fn.depth (slice_bytes l.fn.body) es (slice_bytes l.rest)
 
 abbrev pub decreases-are_pairs-pairs : goal.decreases-are_pairs-pairs
 decreases-are_pairs-pairs l = length (slice_bytes l.rest)

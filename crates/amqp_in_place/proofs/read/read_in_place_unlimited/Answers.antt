@@ -3,7 +3,7 @@ use Rattle.std.proofs.lemmas.Result.{err_from_is_err_and}
 use Rattle.amqp_value_core.specs.Outcomes.{Outcome, found}
 use Rattle.amqp_value_core.proofs.GrammarLaws.{unlimited}
 use Rattle.amqp_value_core.specs.Inputs.{slice_bytes}
-use Rattle.amq_protocol_types.specs.parsing.ParseResults.{Refuses}
+use Rattle.amq_protocol_types.specs.parsing.ParseResults.{IsRefusal}
 use Rattle.amqp_in_place.proofs.Reading.{unlimited_refused}
 use Rattle.amqp_in_place.proofs.read.read_in_place_unlimited.Goals as goal
 
@@ -12,7 +12,7 @@ returns-in_err-rest-clause-outcome c =
     let p = err_from_is_err_and c.from_residual.result c.from_residual.ensures.1 in
     let e = c.in_err-rest.field-0.0 in
     rw (p.1, p.2)
-    (subst (λ (s : List ℕ). Refuses (Outcome s) ⊥ e) c.new.ensures
+    (subst (λ (s : List ℕ). IsRefusal (Outcome s) ⊥ e) c.new.ensures
     (unlimited_refused (length c.args.bytes.now) (slice_bytes c.new.result) e (ap length (sym c.new.ensures)) c.in_err-rest.ensures.outcome))
 
 pub returns-clause-outcome : goal.returns-clause-outcome

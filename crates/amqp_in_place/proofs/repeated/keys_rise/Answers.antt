@@ -1,11 +1,11 @@
 use Rattle.std.proofs.Common.{rules}
 use Rattle.amqp_value_core.specs.Inputs.{slice_bytes}
-use Rattle.amqp_in_place.proofs.RepeatedKeys.{Rises-step}
+use Rattle.amqp_in_place.proofs.RepeatedKeys.{KeysAscend-step}
 use Rattle.amqp_in_place.proofs.repeated.keys_rise.Goals as goal
 
 pub pairs-preserved : goal.pairs-preserved
 pairs-preserved c =
     record {
       pairs = search rules;
-      rises = Rises-step (slice_bytes c.args.pairs) (slice_bytes c.pairs.rest) c.pairs.previous c.pairs.invariant.rises (c.in-Some.key, c.in-Some.field-0-1, c.in-Some.behind) c.as_bytes-key.result c.in-Some.ensures.pair c.as_bytes-key.ensures.value (search rules);
+      rises = KeysAscend-step (slice_bytes c.args.pairs) (slice_bytes c.pairs.rest) c.pairs.previous c.pairs.invariant.rises (c.in-Some.key, c.in-Some.field-0-1, c.in-Some.after) c.as_bytes-key.result c.in-Some.ensures.pair c.as_bytes-key.ensures.value (search rules);
     }

@@ -1,14 +1,14 @@
 use Rattle.std.proofs.Common.{length}
 use Rattle.amqp_value_core.specs.Inputs.{slice_bytes}
 use Rattle.amqp_in_place.specs.Bodies.{HasPairs}
-use Rattle.amqp_in_place.proofs.RepeatedKeys.{Rises}
+use Rattle.amqp_in_place.proofs.RepeatedKeys.{KeysAscend}
 use Rattle.amqp_in_place.proofs.repeated.keys_rise.Given as goal
 
 -- pairs are left, and the keys before them are ascending up to the previous one
 abbrev pub invariant-pairs : goal.invariant-pairs
 invariant-pairs l = record {
   pairs : ∥ HasPairs (slice_bytes l.rest) ∥₁;
-  rises : Rises (slice_bytes l.fn.pairs) (slice_bytes l.rest) l.previous;
+  rises : KeysAscend (slice_bytes l.fn.pairs) (slice_bytes l.rest) l.previous;
 }
 
 abbrev pub decreases-pairs : goal.decreases-pairs

@@ -3,8 +3,8 @@ use Rattle.std.proofs.lemmas.Grind.{common_steps}
 use Rattle.amq_protocol_types.specs.parsing.Headers.{extent}
 use Rattle.amqp_in_place.specs.InPlaceResults.{IsLeft}
 use Rattle.amqp_in_place.specs.Bodies.{HasPairs}
-use Rattle.amqp_in_place.specs.Walks.{HasFront, NextWrittenKeyIs, NextEncodedKeyIs}
-use Rattle.amqp_in_place.proofs.Keys.{key_few, value_few, value_begins, keys_behind, key_given, value_left, rest_left}
+use Rattle.amqp_in_place.specs.Walks.{HasEncodingAtStart, NextWrittenKeyIs, NextEncodedKeyIs}
+use Rattle.amqp_in_place.proofs.Keys.{key_few, value_few, value_begins, keys_after, key_given, value_left, rest_left}
 use Rattle.amqp_in_place.proofs.Written.{key_written, no_key_written}
 use Rattle.amqp_in_place.proofs.Encoded.{key_encoded, no_key_encoded}
 use Rattle.amqp_in_place.proofs.steps.next_key.Goals as goal
@@ -62,12 +62,12 @@ returns-clause-more c =
     let value : c.split_at.result.1.now ≡ drop c.from.result named = c.split_at.ensures.back in
     let size : c.value_len.result ≡ extent (drop c.from.result named) = c.value_len.ensures.extent ∙ (ap extent c.new.ensures ∙ ap extent value) in
     let rest = c.split_at-2.ensures.back ∙ (ap (λ (n : ℕ). drop n c.split_at.result.1.now) size ∙ ap (drop (extent (drop c.from.result named))) value) in
-    subst (λ (t : List ℕ). (length t < length c.args.pairs.now) × ∥ HasPairs t ∥₁) (sym rest) (keys_behind c.args.pairs.now named c.from.result e c.requires)
+    subst (λ (t : List ℕ). (length t < length c.args.pairs.now) × ∥ HasPairs t ∥₁) (sym rest) (keys_after c.args.pairs.now named c.from.result e c.requires)
 
-pub returns-clause-front : goal.returns-clause-front
-returns-clause-front c =
+pub returns-clause-prefix : goal.returns-clause-prefix
+returns-clause-prefix c =
     let e : c.args.pairs.now ≡ c.from.result ∷ c.in_ok-count.named.now = grind (arith, common_steps) in
-    subst (λ (t : List ℕ). ∥ HasFront t ∥₁) (sym c.split_at.ensures.back) (value_begins c.args.pairs.now c.in_ok-count.named.now c.from.result e c.requires)
+    subst (λ (t : List ℕ). ∥ HasEncodingAtStart t ∥₁) (sym c.split_at.ensures.back) (value_begins c.args.pairs.now c.in_ok-count.named.now c.from.result e c.requires)
 
 pub returns-clause-value : goal.returns-clause-value
 returns-clause-value c =

@@ -1,7 +1,7 @@
 use Rattle.std.proofs.Common.{arith}
 use Rattle.amqp_value_core.specs.Inputs.{slice_bytes}
-use Rattle.amqp_in_place.proofs.Stepping.{value_there, value_meant, value_given, values_behind}
-use Rattle.amqp_in_place.proofs.Places.{lies}
+use Rattle.amqp_in_place.proofs.Stepping.{value_there, value_meant, value_given, values_after}
+use Rattle.amqp_in_place.proofs.Places.{inside}
 use Rattle.amqp_in_place.proofs.Written.{value_written, no_value_written}
 use Rattle.amqp_in_place.proofs.Encoded.{value_view, no_value_view}
 use Rattle.amqp_in_place.proofs.steps.next_value.Goals as goal
@@ -24,10 +24,10 @@ pub returns-then-input_len-eq0-clause-written : goal.returns-then-input_len-eq0-
 returns-then-input_len-eq0-clause-written c = λ ts p. no_value_written (slice_bytes c.args.bytes) ts (omega arith) p
 
 pub returns-clause-more : goal.returns-clause-more
-returns-clause-more c = values_behind (slice_bytes c.args.bytes) c.in-Ok.head (slice_bytes c.in-Ok.rest) (omega arith) c.in-Ok.ensures c.requires
+returns-clause-more c = values_after (slice_bytes c.args.bytes) c.in-Ok.head (slice_bytes c.in-Ok.rest) (omega arith) c.in-Ok.ensures c.requires
 
-pub returns-clause-lies : goal.returns-clause-lies
-returns-clause-lies c = lies (slice_bytes c.args.bytes) c.in-Ok.head c.value_of.result (slice_bytes c.in-Ok.rest) c.in-Ok.ensures c.value_of.ensures.refers
+pub returns-clause-inside : goal.returns-clause-inside
+returns-clause-inside c = inside (slice_bytes c.args.bytes) c.in-Ok.head c.value_of.result (slice_bytes c.in-Ok.rest) c.in-Ok.ensures c.value_of.ensures.refers
 
 pub returns-clause-view : goal.returns-clause-view
 returns-clause-view c = λ es p.

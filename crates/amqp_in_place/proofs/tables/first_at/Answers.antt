@@ -28,26 +28,26 @@ pairs-preserved c =
     let other = sym c.if-eq.false ∙ c.eq.ensures in
     record {
       pairs = x.ensures.more.1;
-      passes = passes-step IsReadAt TableBody key s rest (x.name, x.value, x.behind) c.pairs.invariant.passes x.ensures.key other;
-      written = passes-step WrittenAt WrittenPairs key s rest (x.name, x.value, x.behind) c.pairs.invariant.written x.ensures.written other;
-      encoded = passes-step EncodedAt EncodedPairs key s rest (x.name, x.value, x.behind) c.pairs.invariant.encoded x.ensures.encoded other;
-      left = left_of_left s rest x.behind.now c.pairs.invariant.left x.ensures.left;
+      passes = passes-step IsReadAt TableBody key s rest (x.name, x.value, x.after) c.pairs.invariant.passes x.ensures.key other;
+      written = passes-step WrittenAt WrittenPairs key s rest (x.name, x.value, x.after) c.pairs.invariant.written x.ensures.written other;
+      encoded = passes-step EncodedAt EncodedPairs key s rest (x.name, x.value, x.after) c.pairs.invariant.encoded x.ensures.encoded other;
+      left = left_of_left s rest x.after.now c.pairs.invariant.left x.ensures.left;
     }
 
 pub returns-then-eq-clause-value : goal.returns-then-eq-clause-value
 returns-then-eq-clause-value c =
     let x = c.in-Some in
-    passes-here IsReadAt TableBody c.args.key.now c.args.pairs.now c.pairs.rest.now (x.name, x.value, x.behind) c.pairs.invariant.passes x.ensures.key (sym c.if-eq.true ∙ c.eq.ensures)
+    passes-here IsReadAt TableBody c.args.key.now c.args.pairs.now c.pairs.rest.now (x.name, x.value, x.after) c.pairs.invariant.passes x.ensures.key (sym c.if-eq.true ∙ c.eq.ensures)
 
 pub returns-then-eq-clause-written : goal.returns-then-eq-clause-written
 returns-then-eq-clause-written c =
     let x = c.in-Some in
-    passes-here WrittenAt WrittenPairs c.args.key.now c.args.pairs.now c.pairs.rest.now (x.name, x.value, x.behind) c.pairs.invariant.written x.ensures.written (sym c.if-eq.true ∙ c.eq.ensures)
+    passes-here WrittenAt WrittenPairs c.args.key.now c.args.pairs.now c.pairs.rest.now (x.name, x.value, x.after) c.pairs.invariant.written x.ensures.written (sym c.if-eq.true ∙ c.eq.ensures)
 
 pub returns-then-eq-clause-encoded : goal.returns-then-eq-clause-encoded
 returns-then-eq-clause-encoded c =
     let x = c.in-Some in
-    passes-here EncodedAt EncodedPairs c.args.key.now c.args.pairs.now c.pairs.rest.now (x.name, x.value, x.behind) c.pairs.invariant.encoded x.ensures.encoded (sym c.if-eq.true ∙ c.eq.ensures)
+    passes-here EncodedAt EncodedPairs c.args.key.now c.args.pairs.now c.pairs.rest.now (x.name, x.value, x.after) c.pairs.invariant.encoded x.ensures.encoded (sym c.if-eq.true ∙ c.eq.ensures)
 
 pub returns-then-eq-clause-left : goal.returns-then-eq-clause-left
 returns-then-eq-clause-left c = left_of_left c.args.pairs.now c.pairs.rest.now c.in-Some.value.now c.pairs.invariant.left c.in-Some.ensures.value

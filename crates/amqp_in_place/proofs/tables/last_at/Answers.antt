@@ -17,8 +17,8 @@ pairs-init c =
       written = looks-start WrittenAt WrittenPairs key s;
       encoded = looks-start EncodedAt EncodedPairs key s;
       left = nothing_before s;
-      front = tt;
-      lies = tt;
+      prefix = tt;
+      inside = tt;
     }
 
 pub pairs-preserved-then-eq : goal.pairs-preserved-then-eq
@@ -30,12 +30,12 @@ pairs-preserved-then-eq c =
     let made = ap (λ (b : Bool). cond b (Some x.value) c.pairs.at) (sym c.if-eq.true) in
     record {
       pairs = x.ensures.more.1;
-      looks = looks-step IsReadAt TableBody key s rest c.pairs.at (Some x.value) (x.name, x.value, x.behind) c.eq.result c.pairs.invariant.looks x.ensures.key c.eq.ensures made;
-      written = looks-step WrittenAt WrittenPairs key s rest c.pairs.at (Some x.value) (x.name, x.value, x.behind) c.eq.result c.pairs.invariant.written x.ensures.written c.eq.ensures made;
-      encoded = looks-step EncodedAt EncodedPairs key s rest c.pairs.at (Some x.value) (x.name, x.value, x.behind) c.eq.result c.pairs.invariant.encoded x.ensures.encoded c.eq.ensures made;
-      left = left_of_left s rest x.behind.now c.pairs.invariant.left x.ensures.left;
-      front = x.ensures.front;
-      lies = left_of_left s rest x.value.now c.pairs.invariant.left x.ensures.value;
+      looks = looks-step IsReadAt TableBody key s rest c.pairs.at (Some x.value) (x.name, x.value, x.after) c.eq.result c.pairs.invariant.looks x.ensures.key c.eq.ensures made;
+      written = looks-step WrittenAt WrittenPairs key s rest c.pairs.at (Some x.value) (x.name, x.value, x.after) c.eq.result c.pairs.invariant.written x.ensures.written c.eq.ensures made;
+      encoded = looks-step EncodedAt EncodedPairs key s rest c.pairs.at (Some x.value) (x.name, x.value, x.after) c.eq.result c.pairs.invariant.encoded x.ensures.encoded c.eq.ensures made;
+      left = left_of_left s rest x.after.now c.pairs.invariant.left x.ensures.left;
+      prefix = x.ensures.prefix;
+      inside = left_of_left s rest x.value.now c.pairs.invariant.left x.ensures.value;
     }
 
 pub pairs-preserved : goal.pairs-preserved
@@ -47,12 +47,12 @@ pairs-preserved c =
     let made = ap (λ (b : Bool). cond b (Some x.value) c.pairs.at) (sym c.if-eq.false) in
     record {
       pairs = x.ensures.more.1;
-      looks = looks-step IsReadAt TableBody key s rest c.pairs.at c.pairs.at (x.name, x.value, x.behind) c.eq.result c.pairs.invariant.looks x.ensures.key c.eq.ensures made;
-      written = looks-step WrittenAt WrittenPairs key s rest c.pairs.at c.pairs.at (x.name, x.value, x.behind) c.eq.result c.pairs.invariant.written x.ensures.written c.eq.ensures made;
-      encoded = looks-step EncodedAt EncodedPairs key s rest c.pairs.at c.pairs.at (x.name, x.value, x.behind) c.eq.result c.pairs.invariant.encoded x.ensures.encoded c.eq.ensures made;
-      left = left_of_left s rest x.behind.now c.pairs.invariant.left x.ensures.left;
-      front = c.pairs.invariant.front;
-      lies = c.pairs.invariant.lies;
+      looks = looks-step IsReadAt TableBody key s rest c.pairs.at c.pairs.at (x.name, x.value, x.after) c.eq.result c.pairs.invariant.looks x.ensures.key c.eq.ensures made;
+      written = looks-step WrittenAt WrittenPairs key s rest c.pairs.at c.pairs.at (x.name, x.value, x.after) c.eq.result c.pairs.invariant.written x.ensures.written c.eq.ensures made;
+      encoded = looks-step EncodedAt EncodedPairs key s rest c.pairs.at c.pairs.at (x.name, x.value, x.after) c.eq.result c.pairs.invariant.encoded x.ensures.encoded c.eq.ensures made;
+      left = left_of_left s rest x.after.now c.pairs.invariant.left x.ensures.left;
+      prefix = c.pairs.invariant.prefix;
+      inside = c.pairs.invariant.inside;
     }
 
 pub returns-clause-value : goal.returns-clause-value

@@ -1,20 +1,20 @@
 use Rattle.std.proofs.Common.{length, IfSome}
 use Rattle.amqp_in_place.specs.Bodies.{HasPairs}
 use Rattle.amqp_in_place.specs.InPlaceResults.{IsLeft}
-use Rattle.amqp_in_place.specs.Walks.{HasFront}
-use Rattle.amqp_in_place.proofs.Lookups.{Looks, WrittenLooks, EncodedLooks}
+use Rattle.amqp_in_place.specs.Walks.{HasEncodingAtStart}
+use Rattle.amqp_in_place.proofs.Lookups.{IsLookupSoFar, WrittenLooks, EncodedLooks}
 use Rattle.amqp_in_place.proofs.tables.last_at.Given as goal
 
 -- pairs are left, and the place of a found value is that by those before them
 abbrev pub invariant-pairs : goal.invariant-pairs
 invariant-pairs l = record {
   pairs : ∥ HasPairs l.rest ∥₁;
-  looks : Looks l.key l.fn.pairs l.rest l.at;
+  looks : IsLookupSoFar l.key l.fn.pairs l.rest l.at;
   written : WrittenLooks l.key l.fn.pairs l.rest l.at;
   encoded : EncodedLooks l.key l.fn.pairs l.rest l.at;
   left : IsLeft l.fn.pairs l.rest;
-  front : IfSome l.at (λ at. ∥ HasFront at.now ∥₁);
-  lies : IfSome l.at (λ at. IsLeft l.fn.pairs at.now);
+  prefix : IfSome l.at (λ at. ∥ HasEncodingAtStart at.now ∥₁);
+  inside : IfSome l.at (λ at. IsLeft l.fn.pairs at.now);
 }
 
 abbrev pub decreases-pairs : goal.decreases-pairs

@@ -1,10 +1,10 @@
 use Rattle.std.proofs.Common.{◌≡◌, Some, rules}
 use Rattle.amqp_value_core.specs.View.{view}
 use Rattle.amq_protocol_types.specs.generation.Slices.{seen_slice}
-use Rattle.amqp_wire.proofs.Rooms.{finds_room}
+use Rattle.amqp_wire.proofs.Capacities.{has_capacity}
 use Rattle.amqp_wire.proofs.line.hex_of.Goals as goal
 
 pub unwrap-requires : goal.unwrap-requires
 unwrap-requires c =
-    let room : (seen_slice c.from-context.result.output).room ≡ Some c.args.room = search rules in
-    finds_room (view c.args.value.now) c.args.room c.gen_value.ensures.written room c.requires.fits c.requires.room
+    let capacity : (seen_slice c.from-context.result.output).capacity ≡ Some c.args.capacity = search rules in
+    has_capacity (view c.args.value.now) c.args.capacity c.gen_value.ensures.written capacity c.requires.fits c.requires.capacity

@@ -1,9 +1,9 @@
 use Rattle.std.proofs.Common.{rules, subst, sym}
 use Rattle.std.specs.Io.KnownBytes.{Consumes}
 use Rattle.std.proofs.KnownBytes.{Consumes-nil}
-use Rattle.amq_protocol_types.specs.stream.Sources.Reaches.{here}
+use Rattle.amq_protocol_types.specs.stream.Sources.SourceReaches.{here}
 use Rattle.amq_protocol_types.proofs.StreamLaws.{reaches_on}
-use Rattle.amqp_wire.specs.Ends.{Continues}
+use Rattle.amqp_wire.specs.Ends.{SourceContinues}
 use Rattle.amqp_wire.proofs.Ends.{ends_part}
 use Rattle.amqp_wire.proofs.Sources.{consumed_more}
 use Rattle.amqp_wire.proofs.read.read_all.Goals as goal
@@ -21,5 +21,5 @@ returns-then-branch-eq0-clause-ends g c = reaches_on _ _ _ _ c.reads.invariant.1
 
 pub returns-in_err-read_block-clause-ends : goal.returns-in_err-read_block-clause-ends
 returns-in_err-read_block-clause-ends g c =
-    ends_part (Continues g.R.Source.goes g.R.Source.fails) g.R.Source.fails c.args.reader.now c.reads.reader c.read_block.new.reader c.in_err-read_block.field-0.0 c.from_residual.result
+    ends_part (SourceContinues g.R.Source.goes g.R.Source.fails) g.R.Source.fails c.args.reader.now c.reads.reader c.read_block.new.reader c.in_err-read_block.field-0.0 c.from_residual.result
     c.reads.invariant.1 c.in_err-read_block.ensures.ends (search rules)

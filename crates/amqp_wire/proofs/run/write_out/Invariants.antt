@@ -1,14 +1,14 @@
 use Rattle.std.proofs.Common.{length}
-use Rattle.amq_protocol_types.specs.stream.Sources.{Reaches}
-use Rattle.amqp_wire.specs.Ends.{Accepts}
-use Rattle.amqp_wire.proofs.Fronts.{Written}
+use Rattle.amq_protocol_types.specs.stream.Sources.{SourceReaches}
+use Rattle.amqp_wire.specs.Ends.{SinkAccepts}
+use Rattle.amqp_wire.proofs.Prefixes.{IsOutputUpTo}
 use Rattle.amqp_wire.proofs.run.write_out.Given as goal
 
 -- all that is gone from the bytes was appended, with no error of the sink
 abbrev pub invariant-writes : goal.invariant-writes
 invariant-writes g l =
-    Written (g.W.Sink.contents l.initial.writer) (g.W.Sink.contents l.writer) l.fn.bytes l.rest
-    × Reaches (Accepts g.W.Sink.takes) l.initial.writer l.writer
+    IsOutputUpTo (g.W.Sink.contents l.initial.writer) (g.W.Sink.contents l.writer) l.fn.bytes l.rest
+    × SourceReaches (SinkAccepts g.W.Sink.takes) l.initial.writer l.writer
 
 abbrev pub decreases-writes : goal.decreases-writes
 decreases-writes g l = length l.rest

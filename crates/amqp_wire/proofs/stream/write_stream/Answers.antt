@@ -2,12 +2,12 @@ use Rattle.std.proofs.Common.{◌≡◌, ℕ, Bool, ◌-◌, true, false, subst,
 use Rattle.std.specs.Option.{IfSome}
 use Rattle.std.specs.Io.KnownBytes.{Appends}
 use Rattle.amqp_value_core.specs.Inputs.{IsBytes}
-use Rattle.amq_protocol_types.specs.stream.Sources.Reaches.{here}
+use Rattle.amq_protocol_types.specs.stream.Sources.SourceReaches.{here}
 use Rattle.amq_protocol_types.proofs.StreamLaws.{reaches_on}
 use Rattle.amqp_wire.proofs.Ends.{ends_read, ends_write}
-use Rattle.amqp_wire.specs.Lines.{AppendsFront}
+use Rattle.amqp_wire.specs.Lines.{AppendsTextPrefix}
 use Rattle.amqp_wire.specs.Streams.{stream_text}
-use Rattle.amqp_wire.proofs.Streams.{Progress, LineTold, on_err, on_last, on_last_left, on_end_left, on_more}
+use Rattle.amqp_wire.proofs.Streams.{Progress, LineIs, on_err, on_last, on_last_left, on_end_left, on_more}
 use Rattle.amqp_wire.proofs.stream.write_stream.Goals as goal
 
 pub returns-in_err-write_out-clause-err : goal.returns-in_err-write_out-clause-err
@@ -19,10 +19,10 @@ returns-in_err-write_out-clause-err g c =
     let b = g.W.Sink.contents c.values.writer in
     let d = g.W.Sink.contents c.write_out.new.writer in
     let line = c.in_ok-line.line.items in
-    let told = subst (λ l. LineTold l now new line c.in_ok-line.is_value) c.values.invariant.2 c.in_ok-line.ensures.line in
-    let front : AppendsFront b d line = search rules in
-    let t : IfSome held (λ s. IsBytes s → AppendsFront a d (stream_text c.args.limits c.args.most s)) =
-    on_err c.args.limits c.args.most c.values.left held now new a b d line c.in_ok-line.is_value (omega arith) c.values.invariant.3 told front in
+    let reported = subst (λ l. LineIs l now new line c.in_ok-line.is_value) c.values.invariant.2 c.in_ok-line.ensures.line in
+    let prefix : AppendsTextPrefix b d line = search rules in
+    let t : IfSome held (λ s. IsBytes s → AppendsTextPrefix a d (stream_text c.args.limits c.args.most s)) =
+    on_err c.args.limits c.args.most c.values.left held now new a b d line c.in_ok-line.is_value (omega arith) c.values.invariant.3 reported prefix in
     search rules
 
 pub returns-then-not-is_value-clause-ok : goal.returns-then-not-is_value-clause-ok
@@ -34,11 +34,11 @@ returns-then-not-is_value-clause-ok g c =
     let b = g.W.Sink.contents c.values.writer in
     let d = g.W.Sink.contents c.write_out.new.writer in
     let line = c.in_ok-line.line.items in
-    let told = subst (λ l. LineTold l now new line c.in_ok-line.is_value) c.values.invariant.2 c.in_ok-line.ensures.line in
+    let reported = subst (λ l. LineIs l now new line c.in_ok-line.is_value) c.values.invariant.2 c.in_ok-line.ensures.line in
     let last : c.in_ok-line.is_value ≡ false = search rules in
     let all : Appends b d line = search rules in
     on_last c.args.limits c.args.most c.values.left held now new a b d line (omega arith) c.values.invariant.3
-    (subst (λ (t : Bool). LineTold c.args.limits now new line t) last told) all
+    (subst (λ (t : Bool). LineIs c.args.limits now new line t) last reported) all
 
 pub returns-then-not-is_value-clause-rest : goal.returns-then-not-is_value-clause-rest
 returns-then-not-is_value-clause-rest g c =
@@ -49,10 +49,10 @@ returns-then-not-is_value-clause-rest g c =
     let b = g.W.Sink.contents c.values.writer in
     let d = g.W.Sink.contents c.write_out.new.writer in
     let line = c.in_ok-line.line.items in
-    let told = subst (λ l. LineTold l now new line c.in_ok-line.is_value) c.values.invariant.2 c.in_ok-line.ensures.line in
+    let reported = subst (λ l. LineIs l now new line c.in_ok-line.is_value) c.values.invariant.2 c.in_ok-line.ensures.line in
     let last : c.in_ok-line.is_value ≡ false = search rules in
     on_last_left c.args.limits c.args.most c.values.left held now new _ a b line (omega arith) c.values.invariant.3
-    (subst (λ (t : Bool). LineTold c.args.limits now new line t) last told)
+    (subst (λ (t : Bool). LineIs c.args.limits now new line t) last reported)
 
 pub returns-clause-rest : goal.returns-clause-rest
 returns-clause-rest g c =
@@ -72,7 +72,7 @@ values-preserved g c =
     let b = g.W.Sink.contents c.values.writer in
     let d = g.W.Sink.contents c.write_out.new.writer in
     let line = c.in_ok-line.line.items in
-    let told = subst (λ l. LineTold l now new line c.in_ok-line.is_value) c.values.invariant.2 c.in_ok-line.ensures.line in
+    let reported = subst (λ l. LineIs l now new line c.in_ok-line.is_value) c.values.invariant.2 c.in_ok-line.ensures.line in
     let one : c.in_ok-line.is_value ≡ true = search rules in
     let all : Appends b d line = search rules in
     let more = c.in_ok-line.ensures.more one in (
@@ -80,7 +80,7 @@ values-preserved g c =
       more.1,
       c.next_line.ensures.limits ∙ c.values.invariant.2,
       on_more c.args.limits c.args.most c.values.left (c.values.left - 1) held now new a b d line (omega arith) c.values.invariant.3
-          (subst (λ (t : Bool). LineTold c.args.limits now new line t) one told) all,
+          (subst (λ (t : Bool). LineIs c.args.limits now new line t) one reported) all,
       reaches_on _ _ _ _ c.values.invariant.4 c.in_ok-line.ensures.ends,
       reaches_on _ _ _ _ c.values.invariant.5 c.in_ok-write_out.ensures.ends,
     )

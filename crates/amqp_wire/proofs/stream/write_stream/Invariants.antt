@@ -1,7 +1,7 @@
 use Rattle.std.proofs.Common.{◌≡◌, [], false}
 use Rattle.amq_protocol_types.specs.stream.Readers.{kept, has_failed, limits_of}
-use Rattle.amq_protocol_types.specs.stream.Sources.{Reaches}
-use Rattle.amqp_wire.specs.Ends.{Accepts}
+use Rattle.amq_protocol_types.specs.stream.Sources.{SourceReaches}
+use Rattle.amqp_wire.specs.Ends.{SinkAccepts}
 use Rattle.amqp_wire.proofs.Streams.{Progress}
 use Rattle.amqp_wire.proofs.stream.write_stream.Given as goal
 
@@ -12,8 +12,8 @@ invariant-values g l =
     × (has_failed l.values ≡ false)
     × (limits_of l.values ≡ l.fn.limits)
     × Progress l.fn.limits l.fn.most l.left (g.R.Source.remaining l.initial.reader) (g.R.Source.remaining l.reader) (g.W.Sink.contents l.initial.writer) (g.W.Sink.contents l.writer)
-    × Reaches g.R.Source.goes l.initial.reader l.reader
-    × Reaches (Accepts g.W.Sink.takes) l.initial.writer l.writer
+    × SourceReaches g.R.Source.goes l.initial.reader l.reader
+    × SourceReaches (SinkAccepts g.W.Sink.takes) l.initial.writer l.writer
 
 abbrev pub decreases-values : goal.decreases-values
 decreases-values g l = l.left

@@ -1,6 +1,6 @@
 use Rattle.std.proofs.Common.{string_bytes, arith, rules}
 use Rattle.amq_protocol_types.specs.flags.Flags.{flags_of}
-use Rattle.amq_protocol_types.proofs.FlagBits.{next_flag, names_end, bits_end, some_flag}
+use Rattle.amq_protocol_types.proofs.FlagBits.{next_flag, all_unpacked, some_flag}
 use Rattle.amq_protocol_types.proofs.flags.AMQPFlags.from_bytes.Goals as goal
 use Rattle.amq_protocol_types.proofs.flags.AMQPFlags.from_bytes.Goals.{else-loop-n-test, then-loop-n-test+then-n-input_len}
 
@@ -16,11 +16,13 @@ returns-in_err-add_flag-clause-err g c =
 
 pub loop-n-preserved : goal.loop-n-preserved
 loop-n-preserved g c =
-    next_flag c.args.names.now (g.I.ParsableInput.bytes c.args.bytes) c.loop-n.n _ (string_bytes c.in_ok-from_str.field-0) c.byte_at.result (flags_of c.loop-n.flags) (flags_of c.add_flag.new.self) _ c.loop-n-test.true c.in_ok-from_str.ensures.ok (omega arith) c.byte_at.ensures c.in_ok-add_flag.ensures.ok c.loop-n.invariant
+    next_flag c.args.names.now (g.I.ParsableInput.bytes c.args.bytes) c.loop-n.n _ (string_bytes c.in_ok-from_str.field-0) c.byte_at.result (flags_of c.loop-n.flags) (flags_of c.add_flag.new.self)
+    c.loop-n-test.true (omega arith) c.in_ok-from_str.ensures.ok c.byte_at.ensures c.loop-n.invariant c.in_ok-add_flag.ensures.ok
 
 pub returns-clause-ok : goal.returns-clause-ok
 returns-clause-ok g c =
+    let all = all_unpacked c.args.names.now (g.I.ParsableInput.bytes c.args.bytes) c.loop-n.n (flags_of c.loop-n.flags) in
     elim c.loop-n-test.branch [
-      | else-loop-n-test w ↦ names_end c.args.names.now _ c.loop-n.n (flags_of c.loop-n.flags) _ (omega arith) c.loop-n.invariant
-      | then-loop-n-test+then-n-input_len w ↦ bits_end _ (g.I.ParsableInput.bytes c.args.bytes) c.loop-n.n (flags_of c.loop-n.flags) _ (omega arith) c.loop-n.invariant
+      | else-loop-n-test w ↦ all (omega arith) c.loop-n.invariant
+      | then-loop-n-test+then-n-input_len w ↦ all (omega arith) c.loop-n.invariant
     ]

@@ -9,12 +9,12 @@ loop-eight-preserved c =
     let steps = c.in-Some.ensures.steps in
     let size = c.loop-eight.invariant.0 in
     let bytes = c.loop-eight.bytes.items in
-    let behind = pack (values_of (listed (chunks_rest c.next.new.self))) in
+    let after = pack (values_of (listed (chunks_rest c.next.new.self))) in
     let byte = flags_chunk _ c.in-Some.eight.now (chunks_rest c.next.new.self) _ size steps.1.0 steps.1.1 steps.1.2 in (
       steps.0 ∙ size,
-      ap (λ l. l ++ behind) c.in_ok-push.ensures.items
-          ∙ append_assoc bytes (c.byte_of.result ∷ []) behind
-          ∙ ap (λ b. bytes ++ b ∷ behind) c.byte_of.ensures
+      ap (λ l. l ++ after) c.in_ok-push.ensures.items
+          ∙ append_assoc bytes (c.byte_of.result ∷ []) after
+          ∙ ap (λ b. bytes ++ b ∷ after) c.byte_of.ensures
           ∙ ap (λ l. bytes ++ l) (sym byte)
           ∙ c.loop-eight.invariant.1,
     )

@@ -1,13 +1,18 @@
-use Rattle.std.proofs.Common.{sym, ◌∙◌, ap}
+use Rattle.std.proofs.Common.{true, false, sym, ◌∙◌, ap}
+use Rattle.amqp_value_core.specs.Maps.{same_bytes}
 use Rattle.amq_protocol_types.specs.flags.Flags.{listed, flag_named}
-use Rattle.amq_protocol_types.proofs.FlagBits.{named_here, named_behind}
+use Rattle.amq_protocol_types.proofs.FlagBits.{named_more}
 use Rattle.amq_protocol_types.proofs.flags.AMQPFlags.get_flag.Goals as goal
 
 pub returns-then-eq : goal.returns-then-eq
 returns-then-eq c =
-    named_here c.args.name.now c.deref-n-items.result.now c.loop-n.n-index c.loop-n-item.result c.as_str.result.now _ c.loop-n-test.true c.loop-n-item.is c.as_str.ensures.value (sym c.if-eq.true ∙ c.eq.ensures) c.loop-n.invariant
+    let equal = sym c.if-eq.true ∙ c.eq.ensures ∙ ap (λ t. same_bytes t c.args.name.now) c.as_str.ensures.value in
+    sym (named_more c.args.name.now c.deref-n-items.result.now c.loop-n.n-index c.loop-n-item.result true c.loop-n-test.true c.loop-n-item.is equal)
+    ∙ c.loop-n.invariant
     ∙ ap (λ l. flag_named c.args.name.now (listed l)) c.deref-n-items.ensures.value
 
 pub loop-n-preserved : goal.loop-n-preserved
 loop-n-preserved c =
-    named_behind c.args.name.now c.deref-n-items.result.now c.loop-n.n-index c.loop-n-item.result c.as_str.result.now _ c.loop-n-test.true c.loop-n-item.is c.as_str.ensures.value (sym c.if-eq.false ∙ c.eq.ensures) c.loop-n.invariant
+    let other = sym c.if-eq.false ∙ c.eq.ensures ∙ ap (λ t. same_bytes t c.args.name.now) c.as_str.ensures.value in
+    sym (named_more c.args.name.now c.deref-n-items.result.now c.loop-n.n-index c.loop-n-item.result false c.loop-n-test.true c.loop-n-item.is other)
+    ∙ c.loop-n.invariant

@@ -3,10 +3,10 @@ use Rattle.amqp_value_core.specs.Containers.{array_items, trees, table_entries}
 use Rattle.amqp_value_core.specs.Texts.{body}
 use Rattle.amqp_value_core.specs.Members.{AllFit}
 use Rattle.amqp_value_core.specs.InMemory.{AreValues}
-use Rattle.amq_protocol_types.specs.generation.BufferOutput.{IsWhole}
+use Rattle.amq_protocol_types.specs.generation.BufferOutput.{IsConsistentOutput}
 use Rattle.amq_protocol_types.specs.generation.Outputs.{Writes}
 use Rattle.amq_protocol_types.specs.generation.Contexts.{start_of, state_of}
-use Rattle.amq_protocol_types.proofs.lemmas.generation.Tables.{HasPut}
+use Rattle.amq_protocol_types.proofs.lemmas.generation.Tables.{HasPutEntries}
 use Rattle.amq_protocol_types.proofs.generation.values.+values.Given as goal
 
 abbrev pub invariant-gen_field_array-loop-v : goal.invariant-gen_field_array-loop-v
@@ -15,7 +15,7 @@ invariant-gen_field_array-loop-v g l =
     let done = trees (take l.v-index l.v-items) in
     record {
       items : l.v-items ≡ array_items l.fn.a;
-      whole : IsWhole (state_of seen l.fn.x);
+      whole : IsConsistentOutput (state_of seen l.fn.x);
       place : l.at ≡ (state_of seen l.fn.x).position;
       written : Writes true (AllFit done) (replicate 4 0 ++ body done) (state_of seen l.fn.x) (Ok tt) (state_of seen l.x);
       start : start_of l.x ≡ start_of l.fn.x;
@@ -26,8 +26,8 @@ abbrev pub invariant-gen_field_table-loop-k : goal.invariant-gen_field_table-loo
 invariant-gen_field_table-loop-k g l =
     let seen = g.W.Output.seen in
     record {
-      whole : IsWhole (state_of seen l.fn.x);
+      whole : IsConsistentOutput (state_of seen l.fn.x);
       place : l.at ≡ (state_of seen l.fn.x).position;
       start : start_of l.x ≡ start_of l.fn.x;
-      put : HasPut (table_entries l.fn.t) l.k-iterator (state_of seen l.fn.x) (state_of seen l.x);
+      put : HasPutEntries (table_entries l.fn.t) l.k-iterator (state_of seen l.fn.x) (state_of seen l.x);
     }

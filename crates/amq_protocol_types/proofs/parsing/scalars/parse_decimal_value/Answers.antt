@@ -1,5 +1,5 @@
 use Rattle.std.proofs.Common.{arith}
-use Rattle.amq_protocol_types.proofs.lemmas.parsing.Payloads.{ReadsBack-8, ReadsBack-32, decimal_found}
+use Rattle.amq_protocol_types.proofs.lemmas.parsing.Payloads.{WidthReadsBack-8, WidthReadsBack-32, decimal_found}
 use Rattle.amq_protocol_types.proofs.parsing.scalars.parse_decimal_value.Goals as goal
 
 pub returns : goal.returns
@@ -7,4 +7,4 @@ returns g c =
     let scale = c.in_ok-i.scale in
     let n = c.in_ok-i-2.value in
     decimal_found (g.I.ParsableInput.bytes c.args.i) (g.I.ParsableInput.bytes c.in_ok-i.i) (g.I.ParsableInput.bytes c.in_ok-i-2.i) scale n
-    (ReadsBack-8 scale (omega arith)) (ReadsBack-32 n (omega arith)) c.in_ok-i.ensures.number c.in_ok-i-2.ensures.number
+    (WidthReadsBack-8 scale (omega arith)) (WidthReadsBack-32 n (omega arith)) c.in_ok-i.ensures.number c.in_ok-i-2.ensures.number

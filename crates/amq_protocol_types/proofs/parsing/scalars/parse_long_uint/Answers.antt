@@ -2,7 +2,7 @@ use Rattle.std.proofs.Common.{refl, arith, rules}
 use Rattle.std.specs.Int.{w32}
 use Rattle.amqp_value_core.specs.declared.types.amqp_type.AMQPType.TheVariants as amqp
 use Rattle.amq_protocol_types.specs.parsing.PayloadResults.{IsNumberRead}
-use Rattle.amq_protocol_types.proofs.lemmas.parsing.Payloads.{ReadsBack-32, number_found}
+use Rattle.amq_protocol_types.proofs.lemmas.parsing.Payloads.{WidthReadsBack-32, number_found}
 use Rattle.amq_protocol_types.proofs.parsing.scalars.parse_long_uint.Goals as goal
 
 pub returns-clause-payload : goal.returns-clause-payload
@@ -11,4 +11,4 @@ returns-clause-payload g c =
     let rest = g.I.ParsableInput.bytes c.take_from.result in
     let n = c.from_be_bytes-n.result in
     let read : IsNumberRead w32 s n rest = search rules in
-    number_found amqp.LongUInt w32 s rest n refl (ReadsBack-32 n (omega arith)) read
+    number_found amqp.LongUInt w32 s rest n refl (WidthReadsBack-32 n (omega arith)) read

@@ -12,20 +12,20 @@ use Rattle.amqp_value_core.specs.Containers.{array_items, array_view, entries, t
 use Rattle.amqp_value_core.specs.Outcomes.{found}
 use Rattle.amqp_value_core.specs.Payloads.{RawOutcome}
 use Rattle.amq_protocol_types.specs.parsing.Gathering.{kept}
-use Rattle.amq_protocol_types.proofs.lemmas.parsing.Bodies.{Goes-start, Goes-step, Goes-end, Goes-refused, rest_shorter}
-use Rattle.amq_protocol_types.proofs.lemmas.parsing.TableBodies.{Walks-start, Walks-step, Walks-end, Walks-bad_key, Walks-bad_value, key_shorter}
+use Rattle.amq_protocol_types.proofs.lemmas.parsing.Bodies.{ArrayBodyRead-start, ArrayBodyRead-step, ArrayBodyRead-end, ArrayBodyRead-refused, rest_shorter}
+use Rattle.amq_protocol_types.proofs.lemmas.parsing.TableBodies.{TableBodyRead-start, TableBodyRead-step, TableBodyRead-end, TableBodyRead-bad_key, TableBodyRead-bad_value, key_shorter}
 use Rattle.amq_protocol_types.proofs.lemmas.parsing.Frames.{array_found, array_refused, array_too_deep, table_found, table_refused, table_too_deep}
 use Rattle.amqp_value_core.specs.Nesting.{RawOutcomeWithin}
 use Rattle.amq_protocol_types.proofs.lemmas.parsing.Plain.{plain_found, plain_arm, unsigned_refuses}
 use Rattle.amq_protocol_types.proofs.lemmas.parsing.Payloads.{unsigned_outcome, void_found}
-use Rattle.amq_protocol_types.proofs.lemmas.parsing.Typed.{typed_answer}
+use Rattle.amq_protocol_types.proofs.lemmas.parsing.Typed.{typed_result}
 use Rattle.amq_protocol_types.proofs.lemmas.parsing.Views.{view-Void}
 use Rattle.amq_protocol_types.proofs.parsing.values.+parser.Goals as goal
 
 pub parse_array_body-returns-in-Err : goal.parse_array_body-returns-in-Err
 parse_array_body-returns-in-Err g t c =
     rw c.inside.ensures
-    (Goes-refused c.args.depth _ _ (g.I.ParsableInput.bytes c.entries.rest) c.in-Err.e c.entries.invariant (omega arith) c.in-Err.ensures)
+    (ArrayBodyRead-refused c.args.depth _ _ (g.I.ParsableInput.bytes c.entries.rest) c.in-Err.e c.entries.invariant (omega arith) c.in-Err.ensures)
 
 pub parse_array_body-entries-smaller : goal.parse_array_body-entries-smaller
 parse_array_body-entries-smaller g t c =
@@ -35,47 +35,47 @@ pub parse_array_body-entries-preserved : goal.parse_array_body-entries-preserved
 parse_array_body-entries-preserved g t c =
     let grown : array_items c.push.new.self ≡ array_items c.entries.array ++ c.in-Ok.read.1 ∷ [] = search rules in
     rw (grown, map_push)
-    (Goes-step c.args.depth _ _ (g.I.ParsableInput.bytes c.entries.rest) (view c.in-Ok.read.1) _ c.entries.invariant c.in-Ok.ensures)
+    (ArrayBodyRead-step c.args.depth _ _ (g.I.ParsableInput.bytes c.entries.rest) (view c.in-Ok.read.1) _ c.entries.invariant c.in-Ok.ensures)
 
 pub parse_array_body-returns : goal.parse_array_body-returns
 parse_array_body-returns g t c =
-    Goes-end c.args.depth (g.I.ParsableInput.bytes c.args.body) (map view (array_items c.entries.array)) (g.I.ParsableInput.bytes c.entries.rest) c.entries.invariant (omega arith)
+    ArrayBodyRead-end c.args.depth (g.I.ParsableInput.bytes c.args.body) (map view (array_items c.entries.array)) (g.I.ParsableInput.bytes c.entries.rest) c.entries.invariant (omega arith)
 
 pub parse_table_body-returns-in-Err : goal.parse_table_body-returns-in-Err
 parse_table_body-returns-in-Err g t c =
     rw c.inside.ensures
-    (Walks-bad_key c.args.depth _ (kept c.pairs.pairs) (g.I.ParsableInput.bytes c.pairs.rest) c.in-Err.e c.pairs.invariant (omega arith) c.in-Err.ensures)
+    (TableBodyRead-bad_key c.args.depth _ (kept c.pairs.pairs) (g.I.ParsableInput.bytes c.pairs.rest) c.in-Err.e c.pairs.invariant (omega arith) c.in-Err.ensures)
 
 pub parse_table_body-returns-in-Err-value_within : goal.parse_table_body-returns-in-Err-value_within
 parse_table_body-returns-in-Err-value_within g t c =
     rw c.inside-in-Err-value_within.ensures
-    (Walks-bad_value c.args.depth _ (kept c.pairs.pairs) (g.I.ParsableInput.bytes c.pairs.rest) c.in-Ok.read.1 (g.I.ParsableInput.bytes c.in-Ok.read.0) c.in-Err-value_within.e
+    (TableBodyRead-bad_value c.args.depth _ (kept c.pairs.pairs) (g.I.ParsableInput.bytes c.pairs.rest) c.in-Ok.read.1 (g.I.ParsableInput.bytes c.in-Ok.read.0) c.in-Err-value_within.e
     c.pairs.invariant c.in-Ok.ensures c.in-Err-value_within.ensures)
 
 pub parse_table_body-pairs-smaller : goal.parse_table_body-pairs-smaller
 parse_table_body-pairs-smaller g t c =
     let rest = g.I.ParsableInput.bytes c.pairs.rest in
-    let behind = g.I.ParsableInput.bytes c.in-Ok.read.0 in
+    let after_key = g.I.ParsableInput.bytes c.in-Ok.read.0 in
     let after = g.I.ParsableInput.bytes c.in-Ok-value_within.read.0 in
-    omega (arith, key_shorter rest c.in-Ok.read.1 behind c.in-Ok.ensures, rest_shorter c.args.depth behind (view c.in-Ok-value_within.read.1) after c.in-Ok-value_within.ensures)
+    omega (arith, key_shorter rest c.in-Ok.read.1 after_key c.in-Ok.ensures, rest_shorter c.args.depth after_key (view c.in-Ok-value_within.read.1) after c.in-Ok-value_within.ensures)
 
 pub parse_table_body-pairs-preserved : goal.parse_table_body-pairs-preserved
 parse_table_body-pairs-preserved g t c =
     let grown : kept c.push.new.self ≡ insert c.in-Ok.read.1 (view c.in-Ok-value_within.read.1) (kept c.pairs.pairs) = search rules in
     rw grown
-    (Walks-step c.args.depth _ (kept c.pairs.pairs) (g.I.ParsableInput.bytes c.pairs.rest) c.in-Ok.read.1 (g.I.ParsableInput.bytes c.in-Ok.read.0)
+    (TableBodyRead-step c.args.depth _ (kept c.pairs.pairs) (g.I.ParsableInput.bytes c.pairs.rest) c.in-Ok.read.1 (g.I.ParsableInput.bytes c.in-Ok.read.0)
     (view c.in-Ok-value_within.read.1) _ c.pairs.invariant c.in-Ok.ensures c.in-Ok-value_within.ensures)
 
 pub parse_table_body-returns : goal.parse_table_body-returns
 parse_table_body-returns g t c =
     rw c.in_ok-into_table.ensures
-    (Walks-end c.args.depth (g.I.ParsableInput.bytes c.args.body) (kept c.pairs.pairs) (g.I.ParsableInput.bytes c.pairs.rest) c.pairs.invariant (omega arith))
+    (TableBodyRead-end c.args.depth (g.I.ParsableInput.bytes c.args.body) (kept c.pairs.pairs) (g.I.ParsableInput.bytes c.pairs.rest) c.pairs.invariant (omega arith))
 
 pub parse_table_body-returns-then-input_len-eq0 : goal.parse_table_body-returns-then-input_len-eq0
 parse_table_body-returns-then-input_len-eq0 g t c =
     let s = g.I.ParsableInput.bytes c.args.body in
     let none : table_view c.new_in.result ≡ no_entries = ap entries c.new_in.ensures in
-    rw none (Walks-end c.args.depth s no_entries s (Walks-start c.args.depth s) (omega arith))
+    rw none (TableBodyRead-end c.args.depth s no_entries s (TableBodyRead-start c.args.depth s) (omega arith))
 
 pub array_within-returns-in_err-array : goal.array_within-returns-in_err-array
 array_within-returns-in_err-array g t c =
@@ -103,7 +103,7 @@ table_within-returns g t c =
 
 pub value_within-returns : goal.value_within-returns
 value_within-returns g t c =
-    typed_answer c.args.depth (g.I.ParsableInput.bytes c.args.i) (g.I.ParsableInput.bytes c.in_ok-i.i) c.in_ok-i.amqp_type c.in_ok-i.ensures.id
+    typed_result c.args.depth (g.I.ParsableInput.bytes c.args.i) (g.I.ParsableInput.bytes c.in_ok-i.i) c.in_ok-i.amqp_type c.in_ok-i.ensures.id
     g.I.ParsableInput.bytes c.payload_within.result c.payload_within.ensures
 
 pub array_within-returns-then-depth-eq0 : goal.array_within-returns-then-depth-eq0
@@ -117,7 +117,7 @@ table_within-returns-then-depth-eq0 g t c =
     (table_too_deep c.args.depth (g.I.ParsableInput.bytes c.args.i) (g.I.ParsableInput.bytes c.in_ok-i.body) (g.I.ParsableInput.bytes c.in_ok-i.i) c.in_ok-i.ensures c.if-depth-eq0.true)
 
 pub parse_array_body-entries-init : goal.parse_array_body-entries-init
-parse_array_body-entries-init g t c = rw c.new_in-array.ensures (Goes-start c.args.depth (g.I.ParsableInput.bytes c.args.body))
+parse_array_body-entries-init g t c = rw c.new_in-array.ensures (ArrayBodyRead-start c.args.depth (g.I.ParsableInput.bytes c.args.body))
 
 pub payload_within-returns-in_ok-i-in-FieldArray : goal.payload_within-returns-in_ok-i-in-FieldArray
 payload_within-returns-in_ok-i-in-FieldArray g t c =

@@ -2,8 +2,8 @@ use Rattle.std.proofs.Common.{length, map, ◌+◌, ◌*◌}
 use Rattle.amqp_value_core.specs.View.{view}
 use Rattle.amqp_value_core.specs.Containers.{array_items}
 use Rattle.amq_protocol_types.specs.parsing.Gathering.{kept}
-use Rattle.amq_protocol_types.proofs.lemmas.parsing.Bodies.{Goes}
-use Rattle.amq_protocol_types.proofs.lemmas.parsing.TableBodies.{Walks}
+use Rattle.amq_protocol_types.proofs.lemmas.parsing.Bodies.{ArrayBodyRead}
+use Rattle.amq_protocol_types.proofs.lemmas.parsing.TableBodies.{TableBodyRead}
 use Rattle.amq_protocol_types.proofs.parsing.values.+parser.Given as goal
 
 -- a call has a shorter input than its caller, or as long a one and less to do
@@ -21,7 +21,7 @@ decreases-parse_array_body g l = 4 * length (g.I.ParsableInput.bytes l.body) + 1
 
 abbrev pub invariant-parse_array_body-entries : goal.invariant-parse_array_body-entries
 invariant-parse_array_body-entries g l =
-    Goes l.fn.depth (g.I.ParsableInput.bytes l.fn.body) (map view (array_items l.array)) (g.I.ParsableInput.bytes l.rest)
+    ArrayBodyRead l.fn.depth (g.I.ParsableInput.bytes l.fn.body) (map view (array_items l.array)) (g.I.ParsableInput.bytes l.rest)
 
 abbrev pub decreases-parse_array_body-entries : goal.decreases-parse_array_body-entries
 decreases-parse_array_body-entries g l = length (g.I.ParsableInput.bytes l.rest)
@@ -34,7 +34,7 @@ decreases-parse_table_body g l = 4 * length (g.I.ParsableInput.bytes l.body) + 1
 
 abbrev pub invariant-parse_table_body-pairs : goal.invariant-parse_table_body-pairs
 invariant-parse_table_body-pairs g l =
-    Walks l.fn.depth (g.I.ParsableInput.bytes l.fn.body) (kept l.pairs) (g.I.ParsableInput.bytes l.rest)
+    TableBodyRead l.fn.depth (g.I.ParsableInput.bytes l.fn.body) (kept l.pairs) (g.I.ParsableInput.bytes l.rest)
 
 abbrev pub decreases-parse_table_body-pairs : goal.decreases-parse_table_body-pairs
 decreases-parse_table_body-pairs g l = length (g.I.ParsableInput.bytes l.rest)

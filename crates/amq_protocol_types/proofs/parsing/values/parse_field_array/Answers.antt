@@ -1,9 +1,9 @@
 use Rattle.amqp_value_core.specs.declared.types.amqp_type.AMQPType.TheVariants as amqp
 use Rattle.amqp_value_core.specs.Values.{array}
 use Rattle.amqp_value_core.specs.Containers.{array_view}
-use Rattle.amq_protocol_types.proofs.lemmas.parsing.Plain.{raw_unlimited_answer}
+use Rattle.amq_protocol_types.proofs.lemmas.parsing.Plain.{raw_unlimited_result}
 use Rattle.amq_protocol_types.proofs.parsing.values.parse_field_array.Goals as goal
 
 pub returns : goal.returns
 returns g c =
-    raw_unlimited_answer g.I.ParsableInput.bytes (λ x. array (array_view x)) amqp.FieldArray c.input_len.result (g.I.ParsableInput.bytes c.args.i) c.array_within.result c.input_len.ensures.count c.array_within.ensures
+    raw_unlimited_result g.I.ParsableInput.bytes (λ x. array (array_view x)) amqp.FieldArray c.input_len.result (g.I.ParsableInput.bytes c.args.i) c.array_within.result c.input_len.ensures.count c.array_within.ensures

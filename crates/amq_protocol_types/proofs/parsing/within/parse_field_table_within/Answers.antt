@@ -3,7 +3,7 @@ use Rattle.amqp_value_core.specs.declared.types.amqp_type.AMQPType.TheVariants a
 use Rattle.amqp_value_core.specs.Values.{table}
 use Rattle.amqp_value_core.specs.Containers.{table_view}
 use Rattle.amq_protocol_types.specs.parsing.Untagged.{tagged}
-use Rattle.amq_protocol_types.proofs.lemmas.parsing.Again.{read_answer}
+use Rattle.amq_protocol_types.proofs.lemmas.parsing.Again.{read_result}
 use Rattle.amq_protocol_types.proofs.lemmas.parsing.Appends.{laws_within}
 use Rattle.amq_protocol_types.proofs.lemmas.parsing.Untagged.{payload_within, reads_payloads_back}
 use Rattle.amq_protocol_types.proofs.parsing.within.parse_field_table_within.Goals as goal
@@ -19,5 +19,5 @@ returns-clause-laws g c = laws_within c.args.limits (tagged amqp.FieldTable (g.I
 
 pub returns-clause-value : goal.returns-clause-value
 returns-clause-value g c =
-    read_answer g.I.ParsableInput.bytes (λ x. table (table_view x)) c.args.limits (tagged amqp.FieldTable (g.I.ParsableInput.bytes c.args.i)) c.read_table_within.result c.read_table_within.ensures.within
+    read_result g.I.ParsableInput.bytes (λ x. table (table_view x)) c.args.limits (tagged amqp.FieldTable (g.I.ParsableInput.bytes c.args.i)) c.read_table_within.result c.read_table_within.ensures.within
     (omega arith, c.read_table_within.ensures.bytes)

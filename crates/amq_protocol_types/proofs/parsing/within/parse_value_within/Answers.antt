@@ -1,5 +1,5 @@
 use Rattle.amqp_value_core.specs.View.{view}
-use Rattle.amq_protocol_types.proofs.lemmas.parsing.Again.{read_answer}
+use Rattle.amq_protocol_types.proofs.lemmas.parsing.Again.{read_result}
 use Rattle.amq_protocol_types.proofs.lemmas.parsing.Appends.{laws_within}
 use Rattle.amq_protocol_types.proofs.parsing.within.parse_value_within.Goals as goal
 
@@ -7,4 +7,4 @@ pub returns-clause-laws : goal.returns-clause-laws
 returns-clause-laws g c = laws_within c.args.limits (g.I.ParsableInput.bytes c.args.i) c.read_within.ensures.bytes
 
 pub returns-clause-value : goal.returns-clause-value
-returns-clause-value g c = read_answer g.I.ParsableInput.bytes view c.args.limits (g.I.ParsableInput.bytes c.args.i) c.read_within.result c.read_within.ensures.within c.read_within.ensures.bytes
+returns-clause-value g c = read_result g.I.ParsableInput.bytes view c.args.limits (g.I.ParsableInput.bytes c.args.i) c.read_within.result c.read_within.ensures.within c.read_within.ensures.bytes

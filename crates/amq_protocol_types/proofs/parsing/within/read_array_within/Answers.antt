@@ -2,9 +2,9 @@ use Rattle.std.proofs.Common.{refl, arith}
 use Rattle.amqp_value_core.specs.declared.types.amqp_type.AMQPType.TheVariants as amqp
 use Rattle.amqp_value_core.specs.Values.{array}
 use Rattle.amqp_value_core.specs.Containers.{array_view}
-use Rattle.amq_protocol_types.proofs.lemmas.parsing.Untagged.{untagged_answer}
+use Rattle.amq_protocol_types.proofs.lemmas.parsing.Untagged.{untagged_result}
 use Rattle.amq_protocol_types.proofs.parsing.within.read_array_within.Goals as goal
 
 pub returns-clause-within : goal.returns-clause-within
 returns-clause-within g c =
-    untagged_answer c.args.limits amqp.FieldArray refl (g.I.ParsableInput.bytes c.args.i) g.I.ParsableInput.bytes (λ x. array (array_view x)) c.array_within.result (omega (arith, c.counted_len.ensures.extent)) c.array_within.ensures
+    untagged_result c.args.limits amqp.FieldArray refl (g.I.ParsableInput.bytes c.args.i) g.I.ParsableInput.bytes (λ x. array (array_view x)) c.array_within.result (omega (arith, c.counted_len.ensures.extent)) c.array_within.ensures

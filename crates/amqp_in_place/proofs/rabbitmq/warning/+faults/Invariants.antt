@@ -1,6 +1,6 @@
 use Rattle.std.proofs.Common.{length, ◌+◌, ◌-◌, ◌*◌}
 use Rattle.amqp_in_place.specs.RabbitmqWarnings.{fault_in_value, fault_inside}
-use Rattle.amqp_in_place.proofs.KeyFaults.{Values, Pairs}
+use Rattle.amqp_in_place.proofs.KeyFaults.{ValuesPassed, PairsPassed}
 use Rattle.amqp_in_place.proofs.rabbitmq.warning.+faults.Given as goal
 
 -- a call has fewer bytes than its caller, or as many and less to do
@@ -17,13 +17,13 @@ abbrev pub decreases-in_pairs : goal.decreases-in_pairs
 decreases-in_pairs l = 4 * length l.body.now + 1
 
 abbrev pub invariant-in_values-values : goal.invariant-in_values-values
-invariant-in_values-values l = Values (fault_in_value (fault_inside l.fn.fault l.fn.depth)) l.fn.body l.at
+invariant-in_values-values l = ValuesPassed (fault_in_value (fault_inside l.fn.fault l.fn.depth)) l.fn.body l.at
 
 abbrev pub decreases-in_values-values : goal.decreases-in_values-values
 decreases-in_values-values l = length l.fn.body - l.at
 
 abbrev pub invariant-in_pairs-pairs : goal.invariant-in_pairs-pairs
-invariant-in_pairs-pairs l = Pairs l.fn.fault (fault_in_value (fault_inside l.fn.fault l.fn.depth)) l.fn.body l.at l.seen
+invariant-in_pairs-pairs l = PairsPassed l.fn.fault (fault_in_value (fault_inside l.fn.fault l.fn.depth)) l.fn.body l.at l.seen
 
 abbrev pub decreases-in_pairs-pairs : goal.decreases-in_pairs-pairs
 decreases-in_pairs-pairs l = length l.fn.body - l.at

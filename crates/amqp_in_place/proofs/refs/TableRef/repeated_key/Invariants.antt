@@ -2,14 +2,14 @@ use Rattle.std.proofs.Common.{length}
 use Rattle.amqp_value_core.specs.Inputs.{slice_bytes}
 use Rattle.amqp_in_place.specs.Bodies.{HasPairs}
 use Rattle.amqp_in_place.specs.Refs.{table_body}
-use Rattle.amqp_in_place.proofs.RepeatedKeys.{Seen}
+use Rattle.amqp_in_place.proofs.RepeatedKeys.{KeysAreSeen}
 use Rattle.amqp_in_place.proofs.refs.TableRef.repeated_key.Given as goal
 
 -- pairs are left, and the set has the keys of those before them, each once
 abbrev pub invariant-pairs : goal.invariant-pairs
 invariant-pairs l = record {
   pairs : ∥ HasPairs (slice_bytes l.rest) ∥₁;
-  seen : Seen (table_body l.fn.self) (slice_bytes l.rest) l.seen;
+  seen : KeysAreSeen (table_body l.fn.self) (slice_bytes l.rest) l.seen;
 }
 
 abbrev pub decreases-pairs : goal.decreases-pairs

@@ -1,6 +1,6 @@
 use Rattle.std.proofs.Common.{List, ℕ, ◌<◌, length, subst, arith}
 use Rattle.amqp_value_core.specs.Inputs.{slice_bytes}
-use Rattle.amq_protocol_types.specs.parsing.ParseResults.{Refuses}
+use Rattle.amq_protocol_types.specs.parsing.ParseResults.{IsRefusal}
 use Rattle.amq_protocol_types.specs.parsing.Bodies.{IsNoTable}
 use Rattle.amqp_in_place.proofs.Owning.{pairs_there}
 use Rattle.amqp_in_place.proofs.refs.TableRef.to_owned.Goals as goal
@@ -8,7 +8,7 @@ use Rattle.amqp_in_place.proofs.refs.TableRef.to_owned.Goals as goal
 pub returns-in-Err-Failure : goal.returns-in-Err-Failure
 returns-in-Err-Failure c =
     let s = slice_bytes c.body-body.result in
-    let x = subst (Refuses (IsNoTable c.input_len.result s) (0 < length s)) c.in-Err-Failure.field-0-is c.in-Err-Failure.ensures in
+    let x = subst (IsRefusal (IsNoTable c.input_len.result s) (0 < length s)) c.in-Err-Failure.field-0-is c.in-Err-Failure.ensures in
     subst (λ (t : List ℕ). 0 < length t) c.body-body.ensures.body x.1
 
 pub unreachable-requires : goal.unreachable-requires

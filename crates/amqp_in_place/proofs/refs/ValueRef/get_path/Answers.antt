@@ -1,7 +1,7 @@
 use Rattle.std.proofs.Common.{◌+◌, arith}
 use Rattle.amqp_in_place.specs.Refs.{Denotes}
-use Rattle.amqp_in_place.specs.Written.{IsWritten}
-use Rattle.amqp_in_place.proofs.Paths.{follows-next, leads-next, lies_step}
+use Rattle.amqp_in_place.specs.Written.{IsWrittenAs}
+use Rattle.amqp_in_place.proofs.Paths.{follows-next, leads-next, is_in_step}
 use Rattle.amqp_in_place.proofs.refs.ValueRef.get_path.Goals as goal
 
 pub loop-step-preserved : goal.loop-step-preserved
@@ -12,9 +12,9 @@ loop-step-preserved c =
     let x = c.in_ok-at in
     let known = c.loop-step.invariant in
     record {
-      written = follows-next IsWritten c.args.of_equal path c.args.self i (i + 1) _ here x.at c.loop-step-test.true (omega arith) known.written x.ensures.written;
+      written = follows-next IsWrittenAs c.args.of_equal path c.args.self i (i + 1) _ here x.at c.loop-step-test.true (omega arith) known.written x.ensures.written;
       last = λ is. follows-next Denotes c.args.of_equal path c.args.self i (i + 1) _ here x.at c.loop-step-test.true (omega arith) (known.last is) (x.ensures.last is);
       start = λ e. absurd (omega (arith, e));
-      lies = λ some. lies_step i c.args.self here x.at known.start known.lies x.ensures.lies;
+      inside = λ some. is_in_step i c.args.self here x.at known.start known.inside x.ensures.inside;
       view = leads-next c.args.of_equal path c.args.self i (i + 1) _ here x.at c.loop-step-test.true (omega arith) known.view x.ensures.view;
     }

@@ -1,18 +1,18 @@
 use Rattle.std.proofs.Common.{◌≡◌, ◌<◌, drop}
 use Rattle.amqp_in_place.specs.declared.path.EqualKeys.TheVariants as equal
 use Rattle.amqp_in_place.specs.Refs.{Denotes}
-use Rattle.amqp_in_place.specs.Written.{IsWritten}
-use Rattle.amqp_in_place.specs.Places.{LiesWithin}
+use Rattle.amqp_in_place.specs.Written.{IsWrittenAs}
+use Rattle.amqp_in_place.specs.Places.{IsViewWithin}
 use Rattle.amqp_in_place.specs.Paths.{content}
-use Rattle.amqp_in_place.proofs.Paths.{Follows, Leads}
+use Rattle.amqp_in_place.proofs.Paths.{PathLeadsTo, PathLeadsToView}
 use Rattle.amqp_in_place.proofs.refs.ValueRef.get_path.Given as goal
 
 -- the rest of the path leads from here to what the path leads to
 abbrev pub invariant-loop-step : goal.invariant-loop-step
 invariant-loop-step l = record {
-  written : Follows IsWritten l.fn.of_equal l.fn.path (drop l.step-index l.fn.path) l.fn.self l.at;
-  last : l.fn.of_equal ≡ equal.Last → Follows Denotes l.fn.of_equal l.fn.path (drop l.step-index l.fn.path) l.fn.self l.at;
+  written : PathLeadsTo IsWrittenAs l.fn.of_equal l.fn.path (drop l.step-index l.fn.path) l.fn.self l.at;
+  last : l.fn.of_equal ≡ equal.Last → PathLeadsTo Denotes l.fn.of_equal l.fn.path (drop l.step-index l.fn.path) l.fn.self l.at;
   start : l.step-index ≡ 0 → l.at ≡ l.fn.self;
-  lies : 0 < l.step-index → LiesWithin (content l.fn.self) l.at;
-  view : Leads l.fn.of_equal l.fn.path (drop l.step-index l.fn.path) l.fn.self l.at;
+  inside : 0 < l.step-index → IsViewWithin (content l.fn.self) l.at;
+  view : PathLeadsToView l.fn.of_equal l.fn.path (drop l.step-index l.fn.path) l.fn.self l.at;
 }

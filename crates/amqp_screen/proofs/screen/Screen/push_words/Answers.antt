@@ -1,6 +1,6 @@
 use Rattle.std.proofs.lemmas.Iterator.{YieldsList-from_chars}
 use Rattle.std.proofs.lemmas.Iterator.Consumers.{YieldsList-so_far, YieldsList-turn, YieldsList-end}
-use Rattle.amqp_screen.proofs.Adding.{stopped, words_more, words_all, words_front}
+use Rattle.amqp_screen.proofs.Adding.{stopped, words_more, words_all, words_prefix}
 use Rattle.amqp_screen.proofs.screen.Screen.push_words.Goals as goal
 
 pub loop-c-preserved : goal.loop-c-preserved
@@ -12,7 +12,7 @@ returns-in_err-push_character c =
     let so_far = YieldsList-so_far all c.loop-c.yielded _ c.loop-c.yielded_by in
     let turn = YieldsList-turn all c.loop-c.yielded _ c.loop-c.yielded_by _ _ c.in-Some.c c.in-Some.is c.next.ensures.steps in
     record {
-      added = stopped _ _ _ _ _ c.from_residual.ensures.1 (words_front _ _ _ _ c.loop-c.yielded _ c.in-Some.c so_far turn c.loop-c.invariant c.in_err-push_character.ensures.added);
+      added = stopped _ _ _ _ _ c.from_residual.ensures.1 (words_prefix _ _ _ _ c.loop-c.yielded _ c.in-Some.c so_far turn c.loop-c.invariant c.in_err-push_character.ensures.added);
     }
 
 pub returns : goal.returns

@@ -3,7 +3,7 @@ use Rattle.std.specs.Cmp.Lexicographic.{slice_cmp}
 use Rattle.std.specs.List.Sorted.{IsStrictlySortedBy}
 use Rattle.std.specs.Map.{keys_of}
 use Rattle.std.specs.Ordering.{nat_cmp}
-use Rattle.amqp_value_core.proofs.Copies.{Pair, put_at_the_end, table_again, no_items_in, no_pairs_in}
+use Rattle.amqp_value_core.proofs.Copies.{StoredPair, put_at_the_end, table_again, no_items_in, no_pairs_in}
 use Rattle.amqp_value_core.proofs.conversions.copies.+copies.Goals as goal
 
 pub copy-returns-in_ok-copy_entries-in-FieldTable :
@@ -19,7 +19,7 @@ pub copy_entries-loop-key-preserved : goal.copy_entries-loop-key-preserved
 copy_entries-loop-key-preserved t c =
     let l = c.loop-key in
     let done = l.invariant.0 in
-    let e : Pair = (c.in-Some.key.now, c.in-Some.item.now) in
+    let e : StoredPair = (c.in-Some.key.now, c.in-Some.item.now) in
     let left = c.next.new.self in
     let all : c.args.map.now.entries ≡ done ++ e ∷ left = l.invariant.1 ∙ ap (λ es. done ++ es) c.in-Some.ensures.steps in
     let last = put_at_the_end done e left (subst (λ es. IsStrictlySortedBy (slice_cmp nat_cmp) (keys_of es)) all c.iter-key-items.ensures.ordered) in (

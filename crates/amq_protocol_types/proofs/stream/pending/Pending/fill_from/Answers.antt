@@ -1,6 +1,6 @@
 use Rattle.std.proofs.Common.{take, drop, sym, subst, arith, rules}
-use Rattle.amq_protocol_types.proofs.lemmas.stream.Fillings.{length_behind, still_kept, read_on}
-use Rattle.amq_protocol_types.specs.stream.Sources.Reaches.{here, there}
+use Rattle.amq_protocol_types.proofs.lemmas.stream.Fillings.{length_after, still_kept, read_on}
+use Rattle.amq_protocol_types.specs.stream.Sources.SourceReaches.{here, there}
 use Rattle.amq_protocol_types.proofs.lemmas.stream.Calls.{kept_by}
 use Rattle.amq_protocol_types.proofs.stream.pending.Pending.fill_from.Goals as goal
 
@@ -9,23 +9,24 @@ returns-in-Ok-clause-ok g c =
     let k = c.self.inside.count in
     let n = c.in-Ok.n in
     let new = c.read_into.new.buffer.items in
-    let kept = still_kept k c.args.self.now c.self.inside.buffer.items c.make_room.new.buffer.items new c.self.view_is c.make_room.ensures.same c.read_into.ensures.front in
+    let kept = still_kept k c.args.self.now c.self.inside.buffer.items c.make_room.new.buffer.items new c.self.view_is c.make_room.ensures.same c.read_into.ensures.prefix in
     let fits = c.in-Ok.ensures.fits in
-    let room = c.in_ok-room.ensures.room in (
-      take n (drop k new),
-      length_behind k n new (omega (arith, fits, room.2, c.read_into.ensures.length)),
-      omega (arith, fits, room.1),
-      read_on k n c.args.self.now new kept,
-      c.in-Ok.ensures.ok,
-    )
+    let space = c.in_ok-space.ensures.space in
+    record {
+      bytes = take n (drop k new);
+      count = length_after k n new (omega (arith, fits, space.2, c.read_into.ensures.length));
+      bounded = omega (arith, fits, space.1);
+      retained = read_on k n c.args.self.now new kept;
+      given = c.in-Ok.ensures.ok;
+    }
 
 pub returns-in-Err-clause-err : goal.returns-in-Err-clause-err
 returns-in-Err-clause-err g c =
-    let kept = still_kept c.self.inside.count c.args.self.now c.self.inside.buffer.items c.make_room.new.buffer.items c.read_into.new.buffer.items c.self.view_is c.make_room.ensures.same c.read_into.ensures.front in
+    let kept = still_kept c.self.inside.count c.args.self.now c.self.inside.buffer.items c.make_room.new.buffer.items c.read_into.new.buffer.items c.self.view_is c.make_room.ensures.same c.read_into.ensures.prefix in
     (tt, kept, c.in-Err.ensures.err)
 
-pub returns-in_err-room-clause-kind : goal.returns-in_err-room-clause-kind
-returns-in_err-room-clause-kind g c =
+pub returns-in_err-space-clause-kind : goal.returns-in_err-space-clause-kind
+returns-in_err-space-clause-kind g c =
     kept_by g.R.Source.goes g.R.Source.fails c.args.reader.now c.args.reader.now c.from_residual.result (search rules) (here c.args.reader.now)
 
 pub returns-in-Ok-clause-kind : goal.returns-in-Ok-clause-kind

@@ -5,7 +5,7 @@ use Rattle.amq_protocol_types.specs.stream.Readers.{kept}
 use Rattle.amq_protocol_types.proofs.ParsingLaws.{more_wanted}
 use Rattle.amq_protocol_types.proofs.stream.values.Values.ended.Goals as goal
 
-pub returns-clause-answer : goal.returns-clause-answer
-returns-clause-answer c = λ left end.
+pub returns-clause-outcome : goal.returns-clause-outcome
+returns-clause-outcome c = λ left end.
     let s = kept c.args.self.now in
     (search rules, (wanted s, (c.requires.within, more_wanted (WireWithin c.args.self.now.limits.depth) s c.requires.wants)), search rules, end)

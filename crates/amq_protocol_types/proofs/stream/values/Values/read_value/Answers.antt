@@ -1,45 +1,38 @@
 use Rattle.std.proofs.Common.{rules, ℕ, refl}
-use Rattle.amq_protocol_types.specs.stream.Readers.{kept, has_failed}
-use Rattle.amq_protocol_types.specs.stream.Sources.Reaches.{here}
+use Rattle.amq_protocol_types.specs.stream.Readers.{kept}
+use Rattle.amq_protocol_types.specs.stream.Sources.SourceReaches.{here}
 use Rattle.amq_protocol_types.proofs.lemmas.stream.Calls.{reaches_on, kept_by, kept_error}
-use Rattle.amq_protocol_types.proofs.lemmas.stream.Comes.{filled_waits, joined, answered}
+use Rattle.amq_protocol_types.proofs.lemmas.stream.Comes.{filled_waits, joined, reads_outcome}
 use Rattle.amq_protocol_types.proofs.stream.values.Values.read_value.Goals as goal
 
 pub invariant_of-self-in-Lacks-clause-waiting : goal.invariant_of-self-in-Lacks-clause-waiting
 invariant_of-self-in-Lacks-clause-waiting g c =
     let r = c.reads.self in
-    let h = c.in-Lacks.ensures in
-    filled_waits r.limits.frame (kept r) c.fill_from.new.self c.in-Lacks.n c.fill_from.result _ _ _ r.waiting (search rules) (search rules) c.fill_from.ensures.ok c.fill_from.ensures.err
+    filled_waits g.R.Source c.reads.reader c.fill_from.new.reader r.limits.frame c.in-Lacks.n (kept r) c.fill_from.new.self c.fill_from.result _ _ r.waiting (search rules) (search rules) c.fill_from.ensures.ok c.fill_from.ensures.err
 
-pub returns-then-branch-eq0-clause-answer : goal.returns-then-branch-eq0-clause-answer
-returns-then-branch-eq0-clause-answer g c =
-    let rem = g.R.Source.remaining in
-    let (x, came, is) = c.reads.invariant.0 in
-    let (more, len, few, all, comes) = c.in_ok-fill_from-in-Lacks.ensures.ok in
-    let j = joined (rem c.args.reader.now) (rem c.reads.reader) (rem c.fill_from.new.reader) (kept c.args.self.now) (kept c.reads.self) c.fill_from.new.self x more came is comes all in
+pub returns-then-branch-eq0-clause-outcome : goal.returns-then-branch-eq0-clause-outcome
+returns-then-branch-eq0-clause-outcome g c =
     let last = c.fill_from.new.reader in
-    answered rem c.ended.result _ c.args.self.now.limits c.args.reader.now last last (kept c.args.self.now) c.fill_from.new.self (kept c.ended.new.self) (has_failed c.ended.new.self)
-    c.reads.invariant.2 refl j (c.ended.ensures.answer (rem last) (c.in_ok-fill_from-in-Lacks.ensures.end c.if-branch-eq0.true))
+    let fill = c.in_ok-fill_from-in-Lacks.ensures in
+    let came = joined g.R.Source c.args.reader.now c.reads.reader last _ _ (kept c.args.self.now) (kept c.reads.self) c.fill_from.new.self c.reads.invariant.0 fill.ok in
+    reads_outcome g.R.Source c.args.self.now c.args.reader.now last _ c.fill_from.new.self c.ended.result c.ended.new.self
+    c.reads.invariant.2 came (c.ended.ensures.outcome (g.R.Source.remaining last) (fill.end c.if-branch-eq0.true))
 
-pub returns-in-Whole-clause-answer : goal.returns-in-Whole-clause-answer
-returns-in-Whole-clause-answer g c =
-    let rem = g.R.Source.remaining in
-    let last = c.reads.reader in
-    answered rem c.whole.result _ c.args.self.now.limits c.args.reader.now last last (kept c.args.self.now) (kept c.reads.self) (kept c.whole.new.self) (has_failed c.whole.new.self)
-    c.reads.invariant.2 refl c.reads.invariant.0 (c.whole.ensures.answer (rem last))
+pub returns-in-Whole-clause-outcome : goal.returns-in-Whole-clause-outcome
+returns-in-Whole-clause-outcome g c =
+    reads_outcome g.R.Source c.args.self.now c.args.reader.now c.reads.reader _ (kept c.reads.self) c.whole.result c.whole.new.self
+    c.reads.invariant.2 c.reads.invariant.0 (c.whole.ensures.outcome (g.R.Source.remaining c.reads.reader))
 
 pub reads-init : goal.reads-init
 reads-init g c = (search rules, c.requires.not_failed, refl, here c.args.reader.now)
 
 pub reads-preserved : goal.reads-preserved
 reads-preserved g c =
-    let rem = g.R.Source.remaining in
-    let (x, came, is) = c.reads.invariant.0 in
-    let (more, len, few, all, comes) = c.in_ok-fill_from-in-Lacks.ensures.ok in (
-      joined (rem c.args.reader.now) (rem c.reads.reader) (rem c.fill_from.new.reader) (kept c.args.self.now) (kept c.reads.self) c.fill_from.new.self x more came is comes all,
+    let fill = c.in_ok-fill_from-in-Lacks.ensures in (
+      joined g.R.Source c.args.reader.now c.reads.reader c.fill_from.new.reader _ _ (kept c.args.self.now) (kept c.reads.self) c.fill_from.new.self c.reads.invariant.0 fill.ok,
       c.reads.invariant.1,
       c.reads.invariant.2,
-      reaches_on g.R.Source.goes c.args.reader.now c.reads.reader c.fill_from.new.reader c.reads.invariant.3 c.in_ok-fill_from-in-Lacks.ensures.kind,
+      reaches_on g.R.Source.goes c.args.reader.now c.reads.reader c.fill_from.new.reader c.reads.invariant.3 fill.kind,
     )
 
 pub returns-in_err-fill_from-in-Lacks-clause-kind : goal.returns-in_err-fill_from-in-Lacks-clause-kind

@@ -66,8 +66,8 @@ module _ {M : Type 1} (𝓤 : Ura M) (𝓛 : Logic 𝓤) (𝓜 : Model 𝓤 𝓛
     cases (Ok x) ws = id⊢ 𝓤 (Gives (Ok x) ws)
     cases (Err e) ws = id⊢ 𝓤 (Gives (Err e) ws)
 
-    told : (x : Res g.signature y.0.0) (s : Res f.signature y.0.0) (ws : Lasts f.ended y.0.0 y.0.3) → s ≡ bare_of x → ent 𝓤 (Gives x ws) (Owes s ws)
-    told x s ws e = subst (λ (t : Res f.signature y.0.0). ent 𝓤 (Gives x ws) (Owes t ws)) (sym e) (cases x ws)
+    owed : (x : Res g.signature y.0.0) (s : Res f.signature y.0.0) (ws : Lasts f.ended y.0.0 y.0.3) → s ≡ bare_of x → ent 𝓤 (Gives x ws) (Owes s ws)
+    owed x s ws e = subst (λ (t : Res f.signature y.0.0). ent 𝓤 (Gives x ws) (Owes t ws)) (sym e) (cases x ws)
 
     -- two calls: `lend`, and what it lent goes into `bare`
     walks : (k v : Val) → T (has_ty (spot_of 𝓤 𝓛.H (env code.function.locals (λ _. 0)) 2).0 k) × WT k → T (has_ty (spot_of 𝓤 𝓛.H (env code.function.locals (λ _. 0)) 3).0 v) × WT v
@@ -101,7 +101,7 @@ module _ {M : Type 1} (𝓤 : Ura M) (𝓛 : Logic 𝓤) (𝓜 : Model 𝓤 𝓛
         lands_as ! refl refl ((bare_kinds.r.laws M 𝓤 𝓛).typed y.0.0 s out is_bare [] (spot_of 𝓤 𝓛.H (env code.function.locals l) 0).0 refl) $
         -- [the table; the token; what holds of it in its struct]
         returns ! (look_at ! 0 refl) $ free_all ! refl $
-        move ! (2 ∷ []) $ use1 𝓛 (raw (Owes s ws)) (told x s ws same) $ move ! (2 ∷ 1 ∷ 0 ∷ []) $
+        move ! (2 ∷ []) $ use1 𝓛 (raw (Owes s ws)) (owed x s ws same) $ move ! (2 ∷ 1 ∷ 0 ∷ []) $
         suffices ! _ (leaves 𝓛 f.ended stayed c (At vss) out s ws (tt, (tt, (tt, tt)))) $
         nothing ! $ nothing ! $ fjoin ! $ nothing ! $ fjoin ! $ nothing ! $ fjoin ! $ move ! (1 ∷ 0 ∷ []) $ done !))))))))))
 

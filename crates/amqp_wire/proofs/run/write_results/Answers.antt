@@ -1,20 +1,20 @@
 use Rattle.std.proofs.Common.{◌∙◌, rules}
-use Rattle.amq_protocol_types.specs.stream.Sources.Reaches.{here}
+use Rattle.amq_protocol_types.specs.stream.Sources.SourceReaches.{here}
 use Rattle.amq_protocol_types.proofs.StreamLaws.{reaches_on}
-use Rattle.amqp_wire.proofs.Ends.{ends_answers}
+use Rattle.amqp_wire.proofs.Ends.{results_end}
 use Rattle.amqp_wire.specs.Lines.{said_in}
-use Rattle.amqp_wire.proofs.Fronts.{written_more, written_part, first_answer}
-use Rattle.amqp_wire.proofs.run.write_answers.Goals as goal
+use Rattle.amqp_wire.proofs.Prefixes.{written_more, written_part, first_result}
+use Rattle.amqp_wire.proofs.run.write_results.Goals as goal
 
 pub returns-in_err-write_out-clause-err : goal.returns-in_err-write_out-clause-err
 returns-in_err-write_out-clause-err g c =
-    let first = first_answer (said_in c.args.form) _ _ _ _ c.in-Some.ensures.steps (c.as_slice.ensures.value ∙ c.in_ok-answer.ensures) in
+    let first = first_result (said_in c.args.form) _ _ _ _ c.in-Some.ensures.steps (c.as_slice.ensures.value ∙ c.in_ok-printed.ensures) in
     let part = written_part _ _ _ _ _ _ _ c.loop-line.invariant.0 first c.in_err-write_out.ensures.err in
     search rules
 
 pub loop-line-preserved : goal.loop-line-preserved
 loop-line-preserved g c =
-    let first = first_answer (said_in c.args.form) _ _ _ _ c.in-Some.ensures.steps (c.as_slice.ensures.value ∙ c.in_ok-answer.ensures) in
+    let first = first_result (said_in c.args.form) _ _ _ _ c.in-Some.ensures.steps (c.as_slice.ensures.value ∙ c.in_ok-printed.ensures) in
     (written_more _ _ _ _ _ _ _ c.loop-line.invariant.0 first c.in_ok-write_out.ensures.ok, tt, tt, reaches_on _ _ _ _ c.loop-line.invariant.3 c.in_ok-write_out.ensures.ends)
 
 pub loop-line-init : goal.loop-line-init
@@ -22,5 +22,5 @@ loop-line-init g c = (search rules, tt, tt, here c.args.writer.now)
 
 pub returns-in_err-write_out-clause-ends : goal.returns-in_err-write_out-clause-ends
 returns-in_err-write_out-clause-ends g c =
-    ends_answers g.W.Sink.takes g.W.Sink.fails c.args.writer.now c.loop-line.writer c.write_out.new.writer c.in_err-write_out.field-0.0 c.from_residual-in_err-write_out.result
+    results_end g.W.Sink.takes g.W.Sink.fails c.args.writer.now c.loop-line.writer c.write_out.new.writer c.in_err-write_out.field-0.0 c.from_residual-in_err-write_out.result
     c.loop-line.invariant.3 c.in_err-write_out.ensures.ends (search rules)

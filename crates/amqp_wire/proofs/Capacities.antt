@@ -13,7 +13,7 @@ pub read_fits : (l : Limits) (s : List ℕ) (v : Tree) → WireWithin l.depth s 
 read_fits l s v p few small = let b = bounded_wire s v p.0 in (b.fits, omega (arith, b.size, few, small))
 
 -- what writes a value's canonical encoding succeeds in a buffer of its size
-pub finds_room : (v : Tree) {s t : OutputState} {r : Result (Unit {0}) GenError} (n : ℕ) → Writes true (Fits v) (text v) s r t → s.room ≡ Some n → Fits v → size v ≤ n → IsOk r
-finds_room v {r = r} n p room fits enough =
+pub has_capacity : (v : Tree) {s t : OutputState} {r : Result (Unit {0}) GenError} (n : ℕ) → Writes true (Fits v) (text v) s r t → s.capacity ≡ Some n → Fits v → size v ≤ n → IsOk r
+has_capacity v {r = r} n p capacity fits enough =
     let P : Option ℕ → Type 0 = λ o. IfSome o (λ m. length (text v) ≤ m → IsOk r) in
-    subst P room (p.succeeds fits) (omega arith)
+    subst P capacity (p.succeeds fits) (omega arith)

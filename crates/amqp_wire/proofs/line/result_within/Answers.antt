@@ -6,7 +6,7 @@ use Rattle.amq_protocol_types.specs.parsing.Limits.{RefusesWithin}
 use Rattle.amqp_wire.specs.Lines.{read_within, said_within, said_of_value}
 use Rattle.amqp_wire.specs.Refusals.{IsSaid}
 use Rattle.amqp_wire.proofs.Outcomes.{said_of_within, said_of_limited}
-use Rattle.amqp_wire.proofs.line.answer_within.Goals as goal
+use Rattle.amqp_wire.proofs.line.result_within.Goals as goal
 
 pub returns-in-Ok : goal.returns-in-Ok
 returns-in-Ok g c =
@@ -19,4 +19,4 @@ pub returns-in-Err : goal.returns-in-Err
 returns-in-Err g c =
     let s = g.I.ParsableInput.bytes c.args.bytes in
     let right : RefusesWithin c.args.limits s c.in-Err.error = search (rules, c.in-Err.ensures.within) in
-    IfOk-weaker c.refusal_answer.result (λ a. IsSaid c.in-Err.error (string_bytes a)) (λ a. string_bytes a ≡ said_within (read_within c.args.limits s)) (λ a is. said_of_limited c.args.limits s c.in-Err.error _ c.input_len-count.ensures.bytes right is) c.refusal_answer.ensures
+    IfOk-weaker c.refusal_text.result (λ a. IsSaid c.in-Err.error (string_bytes a)) (λ a. string_bytes a ≡ said_within (read_within c.args.limits s)) (λ a is. said_of_limited c.args.limits s c.in-Err.error _ c.input_len-count.ensures.bytes right is) c.refusal_text.ensures

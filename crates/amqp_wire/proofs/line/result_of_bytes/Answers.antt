@@ -3,11 +3,11 @@ use Rattle.std.proofs.lemmas.Result.{IfOk-weaker}
 use Rattle.amqp_value_core.specs.Outcomes.{Outcome, Heavy, found}
 use Rattle.amqp_value_core.specs.Decode.{outcome}
 use Rattle.amqp_value_core.specs.View.{view}
-use Rattle.amq_protocol_types.specs.parsing.ParseResults.{Refuses}
+use Rattle.amq_protocol_types.specs.parsing.ParseResults.{IsRefusal}
 use Rattle.amqp_wire.specs.Lines.{said, said_of_value}
 use Rattle.amqp_wire.specs.Refusals.{IsSaid}
 use Rattle.amqp_wire.proofs.Outcomes.{said_of_outcome, said_of_refusal}
-use Rattle.amqp_wire.proofs.line.answer_to_bytes.Goals as goal
+use Rattle.amqp_wire.proofs.line.result_of_bytes.Goals as goal
 
 pub returns-in-Ok : goal.returns-in-Ok
 returns-in-Ok g c =
@@ -19,5 +19,5 @@ returns-in-Ok g c =
 pub returns-in-Err : goal.returns-in-Err
 returns-in-Err g c =
     let s = g.I.ParsableInput.bytes c.args.bytes in
-    let right : Refuses (Outcome s) (Heavy s) c.in-Err.error = search (rules, c.in-Err.ensures.outcome) in
-    IfOk-weaker c.refusal_answer.result (λ a. IsSaid c.in-Err.error (string_bytes a)) (λ a. string_bytes a ≡ said (outcome s)) (λ a is. said_of_refusal s c.in-Err.error _ c.input_len-count.ensures.bytes right is) c.refusal_answer.ensures
+    let right : IsRefusal (Outcome s) (Heavy s) c.in-Err.error = search (rules, c.in-Err.ensures.outcome) in
+    IfOk-weaker c.refusal_text.result (λ a. IsSaid c.in-Err.error (string_bytes a)) (λ a. string_bytes a ≡ said (outcome s)) (λ a is. said_of_refusal s c.in-Err.error _ c.input_len-count.ensures.bytes right is) c.refusal_text.ensures

@@ -1,0 +1,5 @@
+use Rattle.amq_protocol_types.proofs.FlagBits.{unpacked}
+use Rattle.amq_protocol_types.proofs.flags.laws.flags_are_unpacked.Goals as goal
+
+pub returns : goal.returns
+returns c = unpacked
