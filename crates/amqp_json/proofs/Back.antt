@@ -26,7 +26,7 @@ use Rattle.amqp_value_core.specs.Json as core
 use Rattle.amqp_value_core.specs.Json.{is_within, signed_within, unsigned_below}
 use Rattle.amqp_json.specs.Names.{type_named}
 use Rattle.amqp_json.specs.Json.{under, natural, integer, hexadecimal, number_json, scalar_json, decimal_json, sole_type, table_json, long_json, json, items_json, members_json}
-use Rattle.amqp_json.specs.InMemory.{IsStored, AreStored, EntriesStored}
+use Rattle.amqp_json.specs.InMemory.{IsStored, AreStoredTrees, EntriesStored}
 use Rattle.amqp_json.specs.Reading.{long_long, text_without_capitals, long_of, bytes_in, sized_in, plain_in, value_named, ambiguous_table, value_of, values_of, entries_of, is_capital}
 
 -- a type is that of its name
@@ -102,9 +102,9 @@ digits_back b h = rw (no_capitals_in b, decode_of-encode_lower b h) refl
 sized_back : (n : ℕ) (b : List ℕ) → length b ≡ n → IsBytes b → sized_in n (hexadecimal b) ≡ Some b
 sized_back n b e h = rw (no_capitals_in b, decode_sized-encode_lower b n e h) refl
 
-bytes_behind : (x : ℕ) (xs : List ℕ) → x < 256 → IsBytes xs → IsBytes (x ∷ xs)
-bytes_behind x xs h hs zero = h
-bytes_behind x xs h hs (suc i) = hs i
+bytes_after : (x : ℕ) (xs : List ℕ) → x < 256 → IsBytes xs → IsBytes (x ∷ xs)
+bytes_after x xs h hs zero = h
+bytes_after x xs h hs (suc i) = hs i
 
 no_bytes : IsBytes []
 no_bytes i = omega arith
@@ -115,7 +115,7 @@ one_byte (suc k) n = omega arith
 
 bytes_high : (k n : ℕ) → IsBytes (bytes_high_first k n)
 bytes_high zero n = no_bytes
-bytes_high (suc k) n = bytes_behind (byte_at k n) (bytes_high_first k n) (one_byte k n) (bytes_high k n)
+bytes_high (suc k) n = bytes_after (byte_at k n) (bytes_high_first k n) (one_byte k n) (bytes_high k n)
 
 -- ---- values
 
@@ -186,7 +186,7 @@ mutual
   read_back (array vs) h = ap (option_map array) (items_back vs h)
   read_back (table es) h = table_back (members_json es) _ es refl (members_back es h)
 
-  items_back : (vs : Trees) → AreStored vs → values_of (items_json vs) ≡ Some vs
+  items_back : (vs : Trees) → AreStoredTrees vs → values_of (items_json vs) ≡ Some vs
   items_back no_trees h = refl
   items_back (tree v vs) h = rw (read_back v h.0, items_back vs h.1) refl
 

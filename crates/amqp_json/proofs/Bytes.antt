@@ -17,12 +17,12 @@ use Rattle.amqp_json.specs.Json.{under, long_json, hexadecimal}
 pub text_is_plain : (s : List ℕ) → IsUtf8 s → long_json s ≡ string s
 text_is_plain s h = rw (is_utf8-from_IsUtf8 s h)
 
-told : (s : List ℕ) (b : Bool) → is_utf8 s ≡ b → (IsUtf8 s → ⊥) → b ≡ false
-told s true e h = absurd (h (IsUtf8-from_is_utf8 s e))
-told s false e h = refl
+known : (s : List ℕ) (b : Bool) → is_utf8 s ≡ b → (IsUtf8 s → ⊥) → b ≡ false
+known s true e h = absurd (h (IsUtf8-from_is_utf8 s e))
+known s false e h = refl
 
 pub not_utf8 : (s : List ℕ) → (IsUtf8 s → ⊥) → is_utf8 s ≡ false
-not_utf8 s h = told s (is_utf8 s) refl h
+not_utf8 s h = known s (is_utf8 s) refl h
 
 -- and one that isn't is in hexadecimal
 pub bytes_are_named : (s : List ℕ) → (IsUtf8 s → ⊥) → long_json s ≡ under amqp.LongString (hexadecimal s)

@@ -10,12 +10,12 @@ use Rattle.amq_protocol_types.specs.declared.parsing.errors.Err.TheVariants.{Inc
 use Rattle.amq_protocol_types.specs.declared.parsing.errors.Needed.TheVariants.{Unknown, Size}
 use Rattle.amq_protocol_types.specs.declared.parsing.errors.ErrorKind.TheVariants.{MapOpt, MapRes, Eof, OutOfMemory, TooLarge}
 use Rattle.amq_protocol_types.specs.parsing.Refusals.{Refusal}
-use Rattle.amq_protocol_types.specs.parsing.ParseResults.{Refuses}
+use Rattle.amq_protocol_types.specs.parsing.ParseResults.{IsRefusal}
 use Rattle.amqp_json.specs.Converts.{IsReadAs}
 
 -- what reading a canonical encoding results in, whatever follows
-abbrev Back : Tree → Type 0
-Back v = (rest : List ℕ) → Outcome (text v ++ rest) (read_back v rest)
+abbrev ReadsBackTo : Tree → Type 0
+ReadsBackTo v = (rest : List ℕ) → Outcome (text v ++ rest) (read_back v rest)
 
 no_value : (v : Tree) (u : Tree) (rest : List ℕ) → unread v ≡ found u rest → ⊥
 no_value (short s) u rest e = absurd (cc e)
@@ -34,24 +34,24 @@ is_found : (b : Bool) (v : Tree) (o : Reading) → b ≡ true → cond b (found 
 is_found true v o t e = e
 is_found false v o t e = absurd (cc t)
 
-here : (v : Tree) → Back v → Outcome (text v) (read_back v [])
+here : (v : Tree) → ReadsBackTo v → Outcome (text v) (read_back v [])
 here v back = subst (λ s. Outcome s (read_back v [])) (append-nil (text v)) (back [])
 
 -- if a value is read from v's canonical encoding, v is read from it, whatever follows
-pub again : (v u : Tree) (rest : List ℕ) → Back v → Outcome (text v) (found u rest) → IsReadAs (text v) v
+pub again : (v u : Tree) (rest : List ℕ) → ReadsBackTo v → Outcome (text v) (found u rest) → IsReadAs (text v) v
 again v u rest back o =
     let same = one_outcome (text v) (read_back v []) (found u rest) (here v back) o in
     let yes : readable v ≡ true = found_readable (readable v) v u rest same in
     λ t. subst (λ (b : Bool). Outcome (text v ++ t) (cond b (found v t) (unread v))) yes (back t)
 
-refused : (v : Tree) (o : Reading) (b : Bool) → readable v ≡ b → Back v → Outcome (text v) o → (o ≡ found v [] → ⊥) → b ≡ false
+refused : (v : Tree) (o : Reading) (b : Bool) → readable v ≡ b → ReadsBackTo v → Outcome (text v) o → (o ≡ found v [] → ⊥) → b ≡ false
 refused v o false is back at other = refl
 refused v o true is back at other =
     let same = one_outcome (text v) (read_back v []) o (here v back) at in
     absurd (other (sym (is_found (readable v) v o is same)))
 
 -- if no value is read from v's canonical encoding, v isn't readable
-pub not_again : (v : Tree) (e : Refusal) → Back v → Refuses (Outcome (text v)) ⊥ e → readable v ≡ false
+pub not_again : (v : Tree) (e : Refusal) → ReadsBackTo v → IsRefusal (Outcome (text v)) ⊥ e → readable v ≡ false
 not_again v (Incomplete Unknown) back h = absurd h
 not_again v (Incomplete (Size n)) back h = refused v (more n) (readable v) refl back h (λ e. absurd (cc e))
 not_again v (Error MapOpt) back h = refused v unknown (readable v) refl back h (λ e. absurd (cc e))

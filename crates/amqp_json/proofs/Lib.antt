@@ -5,7 +5,13 @@ mod Signed
 mod Stored
 mod ReadWalks
 mod Back
-mod NoFloat
 mod Only
 mod Ones
 mod Encodings
+mod Chains
+mod Steps
+mod SortedSteps
+mod OwnedSteps
+mod Copies
+mod ReadBack
+mod Decoded

@@ -282,10 +282,10 @@ is_under _ d t h = absurd (cc h)
 -- ---- values
 
 -- what is under a type's name, if an object that is a table is that table's
-abbrev Ambiguous : Data → Type 0
-Ambiguous d = (t : Tree) → ambiguous_table d ≡ Some t → json t ≡ under amqp.FieldTable d
+abbrev IsAmbiguous : Data → Type 0
+IsAmbiguous d = (t : Tree) → ambiguous_table d ≡ Some t → json t ≡ under amqp.FieldTable d
 
-is_named : (type : AMQPType) (d : Data) (t : Tree) → Ambiguous d → value_named type d (ambiguous_table d) ≡ Some t → json t ≡ under type d
+is_named : (type : AMQPType) (d : Data) (t : Tree) → IsAmbiguous d → value_named type d (ambiguous_table d) ≡ Some t → json t ≡ under type d
 is_named amqp.FieldTable d t inner h = inner t h
 is_named type d t inner h = is_under type d t h
 
@@ -302,7 +302,7 @@ named_table ms es t (Some type) o later h =
     ap json (sym c.2) ∙ ap table_json (later c.0 c.1) ∙ rw o refl
 
 in_object : (ms : Members) (o : Option AMQPType) (t : Tree) → sole_type ms ≡ o → ((fs : Entries) → entries_of ms ≡ Some fs → members_json fs ≡ ms)
-    → ((k : List ℕ) (d : Data) (rest : Members) → ms ≡ member k d rest → Ambiguous d) → value_in o ms (entries_of ms) (first_ambiguous ms) ≡ Some t → json t ≡ object ms
+    → ((k : List ℕ) (d : Data) (rest : Members) → ms ≡ member k d rest → IsAmbiguous d) → value_in o ms (entries_of ms) (first_ambiguous ms) ≡ Some t → json t ≡ object ms
 in_object ms None t o later inner h = plain_table ms (entries_of ms) t o later h
 in_object (member k d no_members) (Some type) t o later inner h =
     is_named type d t (inner k d no_members refl) h ∙ ap (λ j. object (member j d no_members)) (sym (is_name k type o))
@@ -323,11 +323,11 @@ mutual
       ap json (sym c.2) ∙ ap array (only_items ds c.0 c.1)
   only_json (object ms) t h = in_object ms _ t refl (only_members ms) (only_inner ms) h
 
-  only_inner : (ms : Members) (k : List ℕ) (d : Data) (rest : Members) → ms ≡ member k d rest → Ambiguous d
+  only_inner : (ms : Members) (k : List ℕ) (d : Data) (rest : Members) → ms ≡ member k d rest → IsAmbiguous d
   only_inner no_members k d rest e = absurd (cc e)
-  only_inner (member j x ms) k d rest e = let same : x ≡ d = cc in subst Ambiguous same (only_ambiguous x)
+  only_inner (member j x ms) k d rest e = let same : x ≡ d = cc in subst IsAmbiguous same (only_ambiguous x)
 
-  only_ambiguous : (d : Data) → Ambiguous d
+  only_ambiguous : (d : Data) → IsAmbiguous d
   only_ambiguous (object ms) t h = named_table ms (entries_of ms) t _ refl (only_members ms) h
   only_ambiguous _ t h = absurd (cc h)
 

@@ -57,20 +57,20 @@ unfolding both
 items_next vs k v ts us t h e is p q =
     ap (λ ws. values_of (items_view ws)) (sym (taken_more vs k v h e)) ∙ values_snoc (take k vs) v ∙ rw (p, q) (ap Some (sym (ap trees is ∙ trees_snoc ts t)))
 
-none_behind : (q : Option Tree) (os : Option Trees) → os ≡ None → option_and_then (λ x. option_map (tree x) os) q ≡ None
-none_behind None os e = refl
-none_behind (Some x) os e = rw e
+nothing_after : (q : Option Tree) (os : Option Trees) → os ≡ None → option_and_then (λ x. option_map (tree x) os) q ≡ None
+nothing_after None os e = refl
+nothing_after (Some x) os e = rw e
 
 -- an item that isn't a value
 pub item_refused : (vs : List Value) (k : ℕ) (v : Value) → k < length vs → v ≡ get_or vs k v → value_of (document v) ≡ None → values_of (items_view vs) ≡ None
 item_refused [] k v h e q = absurd (omega arith)
 item_refused (x ∷ vs) zero v h e q = rw (← e, q)
-item_refused (x ∷ vs) (suc k) v h e q = none_behind (value_of (document x)) (values_of (items_view vs)) (item_refused vs k v (omega arith) e q)
+item_refused (x ∷ vs) (suc k) v h e q = nothing_after (value_of (document x)) (values_of (items_view vs)) (item_refused vs k v (omega arith) e q)
 
 -- ---- members
 
 -- what an entry that was read is made of
-record Parts (k : List ℕ) (o : Option Tree) (os : Option Entries) (es : Entries) : Type 0 where
+record EntryParts (k : List ℕ) (o : Option Tree) (os : Option Entries) (es : Entries) : Type 0 where
   first : Tree
   rest : Entries
   short : nat_le (length k) 255 ≡ true
@@ -84,7 +84,7 @@ with_short k o os s = rw s refl
 pub without_short : (k : List ℕ) (o : Option Tree) (os : Option Entries) → nat_le (length k) 255 ≡ false → with_entry k o os ≡ None
 without_short k o os s = rw s refl
 
-parts : (k : List ℕ) (b : Bool) (o : Option Tree) (os : Option Entries) (es : Entries) → nat_le (length k) 255 ≡ b → with_entry k o os ≡ Some es → Parts k o os es
+parts : (k : List ℕ) (b : Bool) (o : Option Tree) (os : Option Entries) (es : Entries) → nat_le (length k) 255 ≡ b → with_entry k o os ≡ Some es → EntryParts k o os es
 parts k true (Some x) (Some xs) es s h =
     let e : Some (entry k x xs) ≡ Some es = sym (with_short k (Some x) (Some xs) s) ∙ h in
     let whole : es ≡ entry k x xs = cc in
@@ -119,11 +119,11 @@ member_next (first ∷ done) e more es x rising p q short =
     let above : slice_cmp nat_cmp k j ≡ Greater =
     nat_list_cmp_total.antisymm k j ∙ ap ordering_reverse (of_a_later_key (λ y. string_cmp first.0 y ≡ Less) done e more rising.0) in
     let later = member_next done e more f.rest x rising.1 f.others q short in
-    let behind : insert k x (entry j f.first f.rest) ≡ entry j f.first (insert k x f.rest) = rw above refl in
+    let after : insert k x (entry j f.first f.rest) ≡ entry j f.first (insert k x f.rest) = rw above refl in
     ap (λ os. with_entry j (value_of (document first.1)) os) later
     ∙ ap (λ o. with_entry j o (Some (insert k x f.rest))) f.value
     ∙ with_short j (Some f.first) (Some (insert k x f.rest)) f.short
-    ∙ ap Some (sym (ap (insert k x) f.whole ∙ behind))
+    ∙ ap Some (sym (ap (insert k x) f.whole ∙ after))
 
 no_more : (k : List ℕ) (b : Bool) (o : Option Tree) (os : Option Entries) → nat_le (length k) 255 ≡ b → os ≡ None → with_entry k o os ≡ None
 no_more k true None os s e = rw s

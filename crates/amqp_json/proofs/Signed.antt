@@ -6,9 +6,9 @@ use Rattle.std.proofs.lemmas.Int.{to_z-of_z}
 use Rattle.std.proofs.Math.Facts.{sfits_to_z}
 use Rattle.amqp_value_core.specs.Json.{is_within}
 
-told : (w : Width) (z : ℤ) → SFits w z → is_within (2 ^ hbits w) z ≡ true
-told w (pos n) h = let low : n < 2 ^ hbits w = h.sfits in grind (arith)
-told w (negsuc n) h = let low : n < 2 ^ hbits w = h.sfits in grind (arith)
+known : (w : Width) (z : ℤ) → SFits w z → is_within (2 ^ hbits w) z ≡ true
+known w (pos n) h = let low : n < 2 ^ hbits w = h.sfits in grind (arith)
+known w (negsuc n) h = let low : n < 2 ^ hbits w = h.sfits in grind (arith)
 
 pub fits : (w : Width) (z : ℤ) → is_within (2 ^ hbits w) z ≡ true → SFits w z
 fits w (pos n) h = let low : n < 2 ^ hbits w = grind (arith) in record { sfits = low }
@@ -16,7 +16,7 @@ fits w (negsuc n) h = let low : n < 2 ^ hbits w = grind (arith) in record { sfit
 
 -- what bits denote is in the type's range
 pub is_in_range : (w : Width) (n : ℕ) → n < 2 ^ bits w → is_within (2 ^ hbits w) (cast_signed w n) ≡ true
-is_in_range w n h = told w (cast_signed w n) (sfits_to_z (record { fits = h }))
+is_in_range w n h = known w (cast_signed w n) (sfits_to_z (record { fits = h }))
 
 -- and an integer in that range is what its bits denote
 pub from_its_bits : (w : Width) (z : ℤ) → is_within (2 ^ hbits w) z ≡ true → cast_signed w (cast_unsigned w z) ≡ z

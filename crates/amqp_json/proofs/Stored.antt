@@ -16,36 +16,36 @@ use Rattle.amqp_json.specs.InMemory.{IsStored}
 use Rattle.amqp_json.specs.Reading.{is_natural_as_negative, plain_in, IsNarrow}
 use Rattle.amqp_json.proofs.Signed.{fits}
 
-abbrev Bits : Width → AMQPType → Tree → Type 0
-Bits w type v = (n : ℕ) × (n < 2 ^ bits w) × (v ≡ scalar (number type n))
+abbrev HasBits : Width → AMQPType → Tree → Type 0
+HasBits w type v = (n : ℕ) × (n < 2 ^ bits w) × (v ≡ scalar (number type n))
 
 -- a signed integer in its type's range
 signed_bits : (w : Width) (type : AMQPType) (d : Data) (v : Tree)
-    → option_map (λ z. scalar (number type (cast_unsigned w z))) (signed_within (2 ^ hbits w) d) ≡ Some v → Bits w type v
+    → option_map (λ z. scalar (number type (cast_unsigned w z))) (signed_within (2 ^ hbits w) d) ≡ Some v → HasBits w type v
 signed_bits w type d v h = by (signed d) h
   where
-    tested : (z : ℤ) (b : Bool) → is_within (2 ^ hbits w) z ≡ b → option_map (λ x. scalar (number type (cast_unsigned w x))) (if b then Some z else None) ≡ Some v → Bits w type v
+    tested : (z : ℤ) (b : Bool) → is_within (2 ^ hbits w) z ≡ b → option_map (λ x. scalar (number type (cast_unsigned w x))) (if b then Some z else None) ≡ Some v → HasBits w type v
     tested z true is e =
         let same : v ≡ scalar (number type (cast_unsigned w z)) = cc in
         (cast_unsigned w z, (laws.of_z_fits w z (fits w z is)).fits, same)
     tested z false is e = absurd cc
 
-    by : (o : Option ℤ) → option_map (λ x. scalar (number type (cast_unsigned w x))) (option_and_then (λ z. if is_within (2 ^ hbits w) z then Some z else None) o) ≡ Some v → Bits w type v
+    by : (o : Option ℤ) → option_map (λ x. scalar (number type (cast_unsigned w x))) (option_and_then (λ z. if is_within (2 ^ hbits w) z then Some z else None) o) ≡ Some v → HasBits w type v
     by None e = absurd cc
     by (Some z) e = tested z (is_within (2 ^ hbits w) z) refl e
 
 -- an unsigned one
-unsigned_bits : (w : Width) (type : AMQPType) (d : Data) (v : Tree) → option_map (λ n. scalar (number type n)) (unsigned_below (2 ^ bits w) d) ≡ Some v → Bits w type v
+unsigned_bits : (w : Width) (type : AMQPType) (d : Data) (v : Tree) → option_map (λ n. scalar (number type n)) (unsigned_below (2 ^ bits w) d) ≡ Some v → HasBits w type v
 unsigned_bits w type d v h = by (unsigned d) h
   where
-    tested : (n : ℕ) (b : Bool) → nat_lt n (2 ^ bits w) ≡ b → option_map (λ x. scalar (number type x)) (if b then Some n else None) ≡ Some v → Bits w type v
+    tested : (n : ℕ) (b : Bool) → nat_lt n (2 ^ bits w) ≡ b → option_map (λ x. scalar (number type x)) (if b then Some n else None) ≡ Some v → HasBits w type v
     tested n true is e =
         let same : v ≡ scalar (number type n) = cc in
         let low : n < 2 ^ bits w = grind (arith) in
         (n, low, same)
     tested n false is e = absurd cc
 
-    by : (o : Option ℕ) → option_map (λ x. scalar (number type x)) (option_and_then (λ n. if nat_lt n (2 ^ bits w) then Some n else None) o) ≡ Some v → Bits w type v
+    by : (o : Option ℕ) → option_map (λ x. scalar (number type x)) (option_and_then (λ n. if nat_lt n (2 ^ bits w) then Some n else None) o) ≡ Some v → HasBits w type v
     by None e = absurd cc
     by (Some n) e = tested n (nat_lt n (2 ^ bits w)) refl e
 
@@ -53,7 +53,7 @@ in_place : (b : Bool) (o : Option Tree) (v : Tree) → (if b then None else o) �
 in_place true o v e = absurd cc
 in_place false o v e = e
 
-held : (w : Width) (type : AMQPType) (v : Tree) → ((n : ℕ) → n < 2 ^ bits w → IsStored (scalar (number type n))) → Bits w type v → IsStored v
+held : (w : Width) (type : AMQPType) (v : Tree) → ((n : ℕ) → n < 2 ^ bits w → IsStored (scalar (number type n))) → HasBits w type v → IsStored v
 held w type v is x = subst IsStored (sym x.2) (is x.0 x.1)
 
 -- an integer of fewer than 64 bits

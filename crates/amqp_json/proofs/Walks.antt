@@ -20,10 +20,10 @@ use Rattle.amqp_value_core.specs.Strings.{IsShort}
 use Rattle.amqp_value_core.specs.View.{view}
 use Rattle.amqp_value_core.specs.Containers.{trees, entries, table_entries, table_view}
 use Rattle.amqp_json.specs.Json.{json, items_json, members_json}
-use Rattle.amqp_json.specs.InMemory.{IsStored, AreStored, EntriesStored}
+use Rattle.amqp_json.specs.InMemory.{IsStored, AreStoredTrees, EntriesStored}
 
-abbrev pub Pair : Type 0
-Pair = List ℕ × AMQPValue
+abbrev pub JsonPair : Type 0
+JsonPair = List ℕ × AMQPValue
 
 -- what holds of all keys holds of one in the middle
 pub of_a_later_key : {K V : Type 0} (P : K → Type 0) (es : List (K × V)) (e : K × V) (more : List (K × V)) → AllByRecursion P (keys_of (es ++ e ∷ more)) → P e.0
@@ -31,21 +31,21 @@ of_a_later_key P [] e more h = h.0
 of_a_later_key P (x ∷ es) e more h = of_a_later_key P es e more h.1
 
 -- a member whose key is after all others is put at the end
-pub put_at_the_end : (done : List Pair) (e : Pair) (more : List Pair) → IsStrictlySortedBy (slice_cmp nat_cmp) (keys_of (done ++ e ∷ more))
+pub put_at_the_end : (done : List JsonPair) (e : JsonPair) (more : List JsonPair) → IsStrictlySortedBy (slice_cmp nat_cmp) (keys_of (done ++ e ∷ more))
     → put e.0 (json (view e.1)) (members_json (entries done)) ≡ members_json (entries (done ++ e ∷ []))
 unfolding IsStrictlySortedBy
 put_at_the_end [] e more h = refl
 put_at_the_end (first ∷ done) e more h =
-    let behind : slice_cmp nat_cmp e.0 first.0 ≡ Greater =
+    let after : slice_cmp nat_cmp e.0 first.0 ≡ Greater =
     nat_list_cmp_total.antisymm e.0 first.0 ∙ ap ordering_reverse (of_a_later_key (λ j. slice_cmp nat_cmp first.0 j ≡ Less) done e more h.0) in
-    rw behind (ap (member first.0 (json (view first.1))) (put_at_the_end done e more h.1))
+    rw after (ap (member first.0 (json (view first.1))) (put_at_the_end done e more h.1))
 
 -- with one more, all are still stored
-pub entries_stored : (done : List Pair) (e : Pair) → EntriesStored (entries done) → IsShort e.0 → IsStored (view e.1) → EntriesStored (entries (done ++ e ∷ []))
+pub entries_stored : (done : List JsonPair) (e : JsonPair) → EntriesStored (entries done) → IsShort e.0 → IsStored (view e.1) → EntriesStored (entries (done ++ e ∷ []))
 entries_stored [] e all short stored = (short, stored, tt)
 entries_stored (first ∷ done) e all short stored = (all.0, all.1, entries_stored done e all.2 short stored)
 
-pub trees_stored : (done : List AMQPValue) (v : AMQPValue) → AreStored (trees done) → IsStored (view v) → AreStored (trees (done ++ v ∷ []))
+pub trees_stored : (done : List AMQPValue) (v : AMQPValue) → AreStoredTrees (trees done) → IsStored (view v) → AreStoredTrees (trees (done ++ v ∷ []))
 trees_stored [] v all stored = (stored, tt)
 trees_stored (first ∷ done) v all stored = (all.0, trees_stored done v all.1 stored)
 
@@ -84,14 +84,14 @@ pub items_next : (vs : List AMQPValue) (k : ℕ) (v : AMQPValue) (rs ps : List V
 items_next vs k v rs ps r h e is p q =
     ap items_view is ∙ items_snoc rs r ∙ rw (p, q) (sym (json_snoc (take k vs) v)) ∙ ap (λ us. items_json (trees us)) (taken_more vs k v h e)
 
-pub stored_next : (vs : List AMQPValue) (k : ℕ) (v : AMQPValue) → k < length vs → v ≡ get_or vs k v → AreStored (trees (take k vs)) → IsStored (view v) → AreStored (trees (take (k + 1) vs))
+pub stored_next : (vs : List AMQPValue) (k : ℕ) (v : AMQPValue) → k < length vs → v ≡ get_or vs k v → AreStoredTrees (trees (take k vs)) → IsStored (view v) → AreStoredTrees (trees (take (k + 1) vs))
 stored_next vs k v h e p q =
-    let P : List AMQPValue → Type 0 = λ us. AreStored (trees us) in
+    let P : List AMQPValue → Type 0 = λ us. AreStoredTrees (trees us) in
     subst P (taken_more vs k v h e) (trees_stored (take k vs) v p q)
 
 shown : (t : FieldTable) → view (value.FieldTable t) ≡ table (table_view t)
 shown t = search (rules, the_lemmas)
 
 -- a table is its entries
-pub table_is : (v : AMQPValue) (t : FieldTable) (es : List Pair) → v ≡ value.FieldTable t → es ≡ table_entries t → table (entries es) ≡ view v
-table_is v t es is inner = sym (ap view is ∙ shown t ∙ ap (λ (fs : List Pair). table (entries fs)) (sym inner))
+pub table_is : (v : AMQPValue) (t : FieldTable) (es : List JsonPair) → v ≡ value.FieldTable t → es ≡ table_entries t → table (entries es) ≡ view v
+table_is v t es is inner = sym (ap view is ∙ shown t ∙ ap (λ (fs : List JsonPair). table (entries fs)) (sym inner))

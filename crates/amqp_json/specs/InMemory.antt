@@ -14,23 +14,23 @@ abbrev mutual
   IsStored (short s) = IsShort s
   IsStored (long s) = IsBytes s
   IsStored (octets s) = IsBytes s
-  IsStored (array vs) = AreStored vs
+  IsStored (array vs) = AreStoredTrees vs
   IsStored (table es) = EntriesStored es
 
-  pub AreStored : Trees → Type 0
-  AreStored no_trees = Unit {0}
-  AreStored (tree v vs) = IsStored v × AreStored vs
+  pub AreStoredTrees : Trees → Type 0
+  AreStoredTrees no_trees = Unit {0}
+  AreStoredTrees (tree v vs) = IsStored v × AreStoredTrees vs
 
   pub EntriesStored : Entries → Type 0
   EntriesStored no_entries = Unit {0}
   EntriesStored (entry k v es) = IsShort k × IsStored v × EntriesStored es
 
 -- a value whose JSON doesn't allocate: null, true, false, or an integer with no type's name
-abbrev pub IsPlain : Tree → Type 0
-IsPlain (scalar (boolean b)) = Unit {0}
-IsPlain (scalar (number amqp.LongLongInt n)) = Unit {0}
-IsPlain (scalar void) = Unit {0}
-IsPlain _ = ⊥
+abbrev pub IsPlainTree : Tree → Type 0
+IsPlainTree (scalar (boolean b)) = Unit {0}
+IsPlainTree (scalar (number amqp.LongLongInt n)) = Unit {0}
+IsPlainTree (scalar void) = Unit {0}
+IsPlainTree _ = ⊥
 
 -- JSON that doesn't allocate to read: null, true, false, or a number
 abbrev pub IsSingle : Data → Type 0

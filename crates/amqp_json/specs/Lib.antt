@@ -10,3 +10,6 @@ pub mod Refusals
 pub mod Reading
 -- what converting returns
 pub mod Converts
+-- for private clauses: what is written of a value, and a table's pairs by their keys
+pub mod Adds
+pub mod Sorted

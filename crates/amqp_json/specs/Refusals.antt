@@ -16,7 +16,7 @@ abbrev pub IsOfNone : Data → Type 0
 IsOfNone d = (u : Tree) → IsStored u → json u ≢ d
 
 -- what an error means for what a text was read as: the text is no JSON, or the JSON of no value
-abbrev pub Tells : JsonError → Option Data → Type 0
-Tells OutOfMemory read = Unit {0}
-Tells (Syntax e) read = read ≡ None
-Tells NotAValue read = (d : Data) × (read ≡ Some d) × IsOfNone d
+abbrev pub IsJsonError : JsonError → Option Data → Type 0
+IsJsonError OutOfMemory read = Unit {0}
+IsJsonError (Syntax e) read = read ≡ None
+IsJsonError NotAValue read = (d : Data) × (read ≡ Some d) × IsOfNone d

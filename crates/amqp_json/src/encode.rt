@@ -5,7 +5,7 @@ ghost use Rattle.amqp_value_core.specs.Values.{Tree};
 ghost use Rattle.amqp_value_core.specs.Texts.{text};
 ghost use Rattle.amqp_value_core.specs.View.{view};
 ghost use Rattle.amqp_json.specs.InMemory.{IsStored};
-ghost use Rattle.amqp_json.specs.Converts.{Means, IsEncodingOf, IsReadAs, HasNoEncoding, IsRefused};
+ghost use Rattle.amqp_json.specs.Converts.{JsonTextMeans, IsEncodingOf, IsReadAs, HasNoEncoding, IsRefused};
 
 use crate::conversion_error::EncodeError;
 use crate::text::from_json;
@@ -18,9 +18,9 @@ use std::alloc::Global;
 /// The value, and a `serde_json::Value` of it, are allocated meanwhile.
 pub fn encoding_of_json(alloc: Global, json: &str) -> Result<Vec<u8>, EncodeError>
     ensures encoding { IfOk result (λ bytes. IsEncodingOf json.now bytes.items) }
-    ensures only { IfOk result (λ bytes. (v : Tree) → IsStored v → Means json.now v
+    ensures only { IfOk result (λ bytes. (v : Tree) → IsStored v → JsonTextMeans json.now v
         → bytes.items ≡ text v) }
-    ensures read_back { IfOk result (λ bytes. (v : Tree) → IsStored v → Means json.now v
+    ensures read_back { IfOk result (λ bytes. (v : Tree) → IsStored v → JsonTextMeans json.now v
         → IsReadAs bytes.items v) }
     ensures refused { IfErr result (IsRefused json.now) }
 {

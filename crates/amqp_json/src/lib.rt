@@ -7,10 +7,15 @@ mod conversion_error;
 mod decode;
 mod encode;
 mod error;
+mod in_place;
+mod keys;
 pub mod laws;
 mod names;
+mod owned;
 mod reading;
+mod sorted;
 mod text;
+mod tokens;
 mod writing;
 
 pub use conversion_error::{DecodeError, EncodeError};

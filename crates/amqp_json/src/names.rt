@@ -1,6 +1,7 @@
 //! Types by their names.
 
 ghost use Rattle.std.specs.Prelude.{◌≡◌};
+ghost use Rattle.amqp_value_core.specs.Names.{name_of};
 ghost use Rattle.amqp_json.specs.Names.{type_named};
 
 use amqp_value_core::types::AMQPType;
@@ -30,5 +31,33 @@ pub(crate) fn type_of_name(name: &str) -> Option<AMQPType>
         "ByteArray" => Some(AMQPType::ByteArray),
         "Void" => Some(AMQPType::Void),
         _ => None,
+    }
+}
+
+/// The name of a type.
+#[inline(always)]
+pub(crate) fn name_of(amqp_type: AMQPType) -> &'static str
+    ensures { result.now ≡ name_of amqp_type }
+{
+    match amqp_type {
+        AMQPType::Boolean => "Boolean",
+        AMQPType::ShortShortInt => "ShortShortInt",
+        AMQPType::ShortShortUInt => "ShortShortUInt",
+        AMQPType::ShortInt => "ShortInt",
+        AMQPType::ShortUInt => "ShortUInt",
+        AMQPType::LongInt => "LongInt",
+        AMQPType::LongUInt => "LongUInt",
+        AMQPType::LongLongInt => "LongLongInt",
+        AMQPType::LongLongUInt => "LongLongUInt",
+        AMQPType::Float => "Float",
+        AMQPType::Double => "Double",
+        AMQPType::DecimalValue => "DecimalValue",
+        AMQPType::ShortString => "ShortString",
+        AMQPType::LongString => "LongString",
+        AMQPType::FieldArray => "FieldArray",
+        AMQPType::Timestamp => "Timestamp",
+        AMQPType::FieldTable => "FieldTable",
+        AMQPType::ByteArray => "ByteArray",
+        AMQPType::Void => "Void",
     }
 }

@@ -11,7 +11,7 @@ ghost use Rattle.amqp_value_core.specs.View.{view};
 ghost use Rattle.amqp_value_core.specs.Containers.{array_view, table_view};
 ghost use Rattle.amqp_json.specs.Json.{json, sole_type};
 ghost use Rattle.amqp_value_core.specs.Strings.{IsShort};
-ghost use Rattle.amqp_json.specs.InMemory.{IsSingle, IsStored, AreStored, EntriesStored};
+ghost use Rattle.amqp_json.specs.InMemory.{IsSingle, IsStored, AreStoredTrees, EntriesStored};
 ghost use Rattle.amqp_json.specs.Refusals.{IsOnly, IsOfNone};
 ghost use Rattle.amqp_json.specs.Reading.{is_capital, text_without_capitals, bytes_in, sized_in, decimal_in, IsNarrow, plain_in, value_under, long_long, value_of, values_of, entries_of, ambiguous_table};
 
@@ -76,7 +76,7 @@ fn bytes(alloc: Global, value: &Value) -> Result<Vec<u8>, ValueError>
     }
 }
 
-// the same, for that many bytes
+// the bytes of a string of hexadecimal digits, if there are N
 fn sized<const N: usize>(value: &Value) -> Option<[u8; N]>
     ensures { result ≡ sized_in N (document value.now) }
 {
@@ -247,7 +247,7 @@ fn read(alloc: Global, value: &Value) -> Result<AMQPValue, ValueError>
 #[tactic(auto, using(crate::proofs::ReadWalks::item_refused))]
 fn read_items(alloc: Global, items: &Vec<Value>) -> Result<FieldArray, ValueError>
     ensures ok { IfOk result (λ a. values_of (items_view items.now.items) ≡ Some (array_view a)) }
-    ensures stored { IfOk result (λ a. AreStored (array_view a)) }
+    ensures stored { IfOk result (λ a. AreStoredTrees (array_view a)) }
     ensures err { IfErr result (λ e. e ≡ ValueError.NotAValue
         → values_of (items_view items.now.items) ≡ None) }
 {

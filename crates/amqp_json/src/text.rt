@@ -8,26 +8,26 @@ ghost use Rattle.amqp_value_core.specs.Values.{Tree};
 ghost use Rattle.amqp_value_core.specs.View.{view};
 ghost use Rattle.amqp_json.specs.Json.{json};
 ghost use Rattle.amqp_json.specs.InMemory.{IsStored};
-ghost use Rattle.amqp_json.specs.Refusals.{Tells};
+ghost use Rattle.amqp_json.specs.Refusals.{IsJsonError};
 
 use crate::error::{JsonError, ValueError};
+use crate::owned::owned_text;
 use crate::reading::from_value;
-use crate::writing::to_value;
 use amqp_value_core::value::AMQPValue;
 use serde_json::Value;
 use std::alloc::{AllocError, Global};
 
-/// Converts a value to its JSON text, without spaces. A `serde_json::Value` of the complete value
-/// is allocated meanwhile; if memory runs out it returns an error. `from_json` rejects the text if
-/// it nests more than 127 deep. It uses stack for each level of nesting; docs/PROMISES.md has
-/// measurements.
-#[tactic(auto, using(crate::proofs::NoFloat::no_float))]
+/// Converts a value to its JSON text, without spaces. Only the text is allocated, and the digits of
+/// the bytes at hand that are written in hexadecimal; if memory runs out it returns an error.
+/// `from_json` rejects the text if it nests more than 127 deep. It uses stack for each level of
+/// nesting; docs/PROMISES.md has measurements.
 pub fn to_json(alloc: Global, value: &AMQPValue) -> Result<String, AllocError>
     ensures text { IfOk result (λ s. string_bytes s ≡ compact_text (json (view value.now))) }
     ensures read_back { IfOk result (λ s. depth (json (view value.now)) ≤ max_depth
         → read (string_bytes s) ≡ Some (json (view value.now))) }
 {
-    to_value(alloc, value)?.to_string(alloc)
+    let json = owned_text(alloc, value)?;
+    Ok(unsafe { String::from_utf8_unchecked(json) })
 }
 
 /// Converts a JSON text to the value whose JSON it is. If an object has a key twice, the last one's
@@ -40,7 +40,7 @@ pub fn from_json(alloc: Global, text: &str) -> Result<AMQPValue, JsonError>
     ensures stored { IfOk result (λ v. IsStored (view v)) }
     ensures only { IfOk result (λ v. (u : Tree) → IsStored u → read text.now ≡ Some (json u)
         → u ≡ view v) }
-    ensures refused { IfErr result (λ e. Tells e (read text.now)) }
+    ensures refused { IfErr result (λ e. IsJsonError e (read text.now)) }
 {
     let json = match Value::from_str(alloc, text) {
         Ok(json) => json,

@@ -6,7 +6,7 @@ ghost use Rattle.serde_json.specs.View.{view as document, items_view, members_vi
 ghost use Rattle.amqp_value_core.specs.View.{view};
 ghost use Rattle.amqp_value_core.specs.Containers.{trees, entries};
 ghost use Rattle.amqp_json.specs.Json.{json, items_json, members_json, under, table_json, long_json, decimal_json, hexadecimal, sole_type};
-ghost use Rattle.amqp_json.specs.InMemory.{IsStored, IsPlain, AreStored, EntriesStored};
+ghost use Rattle.amqp_json.specs.InMemory.{IsStored, IsPlainTree, AreStoredTrees, EntriesStored};
 
 use crate::names::type_of_name;
 use amqp_value_core::types::{AMQPType, DecimalValue, ShortString};
@@ -20,7 +20,7 @@ use std::collections::BTreeMap;
 pub fn to_value(alloc: Global, value: &AMQPValue) -> Result<Value, AllocError>
     ensures json { IfOk result (λ r. document r ≡ json (view value.now)) }
     ensures stored { OnOk result (IsStored (view value.now)) }
-    ensures plain { IsPlain (view value.now) → IsOk result }
+    ensures plain { IsPlainTree (view value.now) → IsOk result }
 {
     written(alloc, value)
 }
@@ -65,7 +65,7 @@ fn decimal(alloc: Global, scale: u8, value: u32) -> Result<Value, AllocError>
 }
 
 // whether the entries' JSON would be taken for a value of another type
-fn looks_named(map: &BTreeMap<ShortString, AMQPValue>) -> bool
+pub(crate) fn looks_named(map: &BTreeMap<ShortString, AMQPValue>) -> bool
     ensures { result ≡ is_some (sole_type (members_json (entries map.now.entries))) }
 {
     let mut keys = map.iter();
@@ -79,7 +79,7 @@ fn looks_named(map: &BTreeMap<ShortString, AMQPValue>) -> bool
 fn written(alloc: Global, value: &AMQPValue) -> Result<Value, AllocError>
     ensures json { IfOk result (λ r. document r ≡ json (view value.now)) }
     ensures stored { OnOk result (IsStored (view value.now)) }
-    ensures plain { IsPlain (view value.now) → IsOk result }
+    ensures plain { IsPlainTree (view value.now) → IsOk result }
 {
     match value {
         AMQPValue::Boolean(b) => Ok(Value::from(*b)),
@@ -139,7 +139,7 @@ fn written(alloc: Global, value: &AMQPValue) -> Result<Value, AllocError>
 #[cycle(written)]
 fn written_items(alloc: Global, items: &[AMQPValue]) -> Result<Vec<Value>, AllocError>
     ensures json { IfOk result (λ r. items_view r.items ≡ items_json (trees items.now)) }
-    ensures stored { OnOk result (AreStored (trees items.now)) }
+    ensures stored { OnOk result (AreStoredTrees (trees items.now)) }
 {
     let mut values = Vec::with_capacity(alloc, items.len())?;
     for item in items {

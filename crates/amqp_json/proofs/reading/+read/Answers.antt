@@ -9,7 +9,7 @@ use Rattle.serde_json.proofs.Views.{Entry}
 use Rattle.amqp_value_core.specs.Containers.{array_items, trees, table_view}
 use Rattle.amqp_value_core.specs.Values.{insert}
 use Rattle.amqp_value_core.specs.View.{view}
-use Rattle.amqp_json.specs.InMemory.{AreStored, EntriesStored}
+use Rattle.amqp_json.specs.InMemory.{AreStoredTrees, EntriesStored}
 use Rattle.amqp_json.proofs.Walks.{trees_stored, put_stored}
 use Rattle.amqp_json.proofs.ReadWalks.{items_next, member_next, short_key, key_refused, value_refused}
 use Rattle.amqp_json.proofs.reading.+read.Goals as goal
@@ -19,7 +19,7 @@ read_items-loop-item-preserved t c =
     let values = array_items c.loop-item.values in
     let v = c.in_ok-read.field-0 in (
       items_next c.deref-item-items.result.now c.loop-item.item-index c.item-item.result values _ v c.loop-item-test.true c.item-item.is c.in_ok-push.ensures.ok c.loop-item.invariant.0 c.in_ok-read.ensures.ok,
-      subst (λ us. AreStored (trees us)) (sym c.in_ok-push.ensures.ok) (trees_stored values v c.loop-item.invariant.1 c.in_ok-read.ensures.stored),
+      subst (λ us. AreStoredTrees (trees us)) (sym c.in_ok-push.ensures.ok) (trees_stored values v c.loop-item.invariant.1 c.in_ok-read.ensures.stored),
     )
 
 -- the next member is read after those so far

@@ -7,8 +7,8 @@ use Rattle.serde_json.specs.View.{view as document, members_view}
 use Rattle.serde_json.proofs.Views.{members_view-insert_entry}
 use Rattle.amqp_value_core.specs.Values.{Tree}
 use Rattle.amqp_json.specs.Json.{json}
-use Rattle.amqp_json.specs.InMemory.{IsStored, IsPlain}
-use Rattle.amqp_json.proofs.Walks.{Pair, put_at_the_end, entries_stored, items_next, stored_next, table_is}
+use Rattle.amqp_json.specs.InMemory.{IsStored, IsPlainTree}
+use Rattle.amqp_json.proofs.Walks.{JsonPair, put_at_the_end, entries_stored, items_next, stored_next, table_is}
 use Rattle.amqp_json.proofs.writing.+written.Goals as goal
 
 pub written_items-loop-item-preserved : goal.written_items-loop-item-preserved
@@ -25,7 +25,7 @@ pub written_members-loop-key-preserved : goal.written_members-loop-key-preserved
 written_members-loop-key-preserved t c =
     let l = c.loop-key in
     let done = l.invariant.0 in
-    let e : Pair = (c.in-Some.key.now, c.in-Some.item.now) in
+    let e : JsonPair = (c.in-Some.key.now, c.in-Some.item.now) in
     let left = c.next.new.self in
     let all : c.args.map.now.entries ≡ done ++ e ∷ left = l.invariant.1 ∙ ap (λ es. done ++ es) c.in-Some.ensures.steps in
     let last = put_at_the_end done e left (subst (λ es. IsStrictlySortedBy (slice_cmp nat_cmp) (keys_of es)) all c.iter-key-items.ensures.ordered) in (
@@ -41,5 +41,5 @@ written-returns-in-FieldTable t c =
     record {
       json = subst (λ (v : Tree). IfOk c.written_table.result (λ r. document r ≡ json v)) is c.written_table.ensures.json;
       stored = subst (λ (v : Tree). OnOk c.written_table.result (IsStored v)) is c.written_table.ensures.stored;
-      plain = λ p. absurd (subst IsPlain (sym is) p);
+      plain = λ p. absurd (subst IsPlainTree (sym is) p);
     }

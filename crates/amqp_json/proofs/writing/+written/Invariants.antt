@@ -2,16 +2,16 @@ use Rattle.std.proofs.Common.{◌≡◌, List, ◌++◌, take}
 use Rattle.serde_json.specs.View.{items_view, members_view}
 use Rattle.amqp_value_core.specs.Containers.{trees, entries}
 use Rattle.amqp_json.specs.Json.{items_json, members_json}
-use Rattle.amqp_json.specs.InMemory.{AreStored, EntriesStored}
-use Rattle.amqp_json.proofs.Walks.{Pair}
+use Rattle.amqp_json.specs.InMemory.{AreStoredTrees, EntriesStored}
+use Rattle.amqp_json.proofs.Walks.{JsonPair}
 use Rattle.amqp_json.proofs.writing.+written.Given as goal
 
 -- the values so far are written
 abbrev pub invariant-written_items-loop-item : goal.invariant-written_items-loop-item
 invariant-written_items-loop-item l =
-    (items_view l.values.items ≡ items_json (trees (take l.item-index l.items))) × AreStored (trees (take l.item-index l.items))
+    (items_view l.values.items ≡ items_json (trees (take l.item-index l.items))) × AreStoredTrees (trees (take l.item-index l.items))
 
 -- the entries so far are written
 abbrev pub invariant-written_members-loop-key : goal.invariant-written_members-loop-key
 invariant-written_members-loop-key l =
-    (done : List Pair) × (l.map.entries ≡ done ++ l.key-iterator) × (members_view l.members.entries ≡ members_json (entries done)) × EntriesStored (entries done)
+    (done : List JsonPair) × (l.map.entries ≡ done ++ l.key-iterator) × (members_view l.members.entries ≡ members_json (entries done)) × EntriesStored (entries done)

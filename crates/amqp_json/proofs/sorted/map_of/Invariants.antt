@@ -1,0 +1,7 @@
+use Rattle.amqp_in_place.specs.Refs.{table_body}
+use Rattle.amqp_in_place.specs.Suffix.{pairs_left}
+use Rattle.amqp_json.proofs.SortedSteps.{Mapped}
+use Rattle.amqp_json.proofs.sorted.map_of.Given as goal
+
+abbrev pub invariant-loop-key : goal.invariant-loop-key
+invariant-loop-key l = Mapped (table_body l.fn.table) (pairs_left l.key-iterator) l.map.entries

@@ -1,0 +1,45 @@
+//! The keys of a table.
+
+ghost use Rattle.std.specs.Prelude.{◌≡◌, true, is_some};
+ghost use Rattle.amqp_value_core.specs.Values.{Entries};
+ghost use Rattle.amqp_value_core.specs.Grammar.{TableBody};
+ghost use Rattle.amqp_value_core.specs.Maps.{IsRising};
+ghost use Rattle.amqp_in_place.specs.Refs.{table_body};
+ghost use Rattle.amqp_json.specs.Json.{members_json, sole_type};
+
+use crate::names::type_of_name;
+use amqp_in_place::TableRef;
+
+/// Whether the keys ascend by their bytes.
+pub(crate) fn keys_rise(table: TableRef<'_>) -> bool
+    ensures { result ≡ true → (ps : Entries) → TableBody (table_body table.entry) ps → IsRising ps }
+{
+    let mut pairs = table.iter();
+    let Some((first, _)) = pairs.next() else {
+        return true;
+    };
+    let mut previous = first.as_bytes();
+    for (key, _) in pairs {
+        let key = key.as_bytes();
+        if !(previous < key) {
+            return false;
+        }
+        previous = key;
+    }
+    true
+}
+
+/// Whether the JSON of the pairs would be taken for a value of another type.
+pub(crate) fn looks_named(table: TableRef<'_>) -> bool
+    ensures { (ps : Entries) → TableBody (table_body table.entry) ps
+        → result ≡ is_some (sole_type (members_json ps)) }
+{
+    let mut pairs = table.iter();
+    let Some((first, _)) = pairs.next() else {
+        return false;
+    };
+    if pairs.next().is_some() {
+        return false;
+    }
+    type_of_name(first).is_some()
+}
