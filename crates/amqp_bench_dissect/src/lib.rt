@@ -5,8 +5,8 @@
 #![tactic(auto)]
 
 ghost use Rattle.std.specs.Prelude.{◌≡◌, ◌<◌, ◌≤◌, ◌^◌, length, IfSome, MatchOption};
-ghost use Rattle.amqp_bench_dissect.specs.Dissected.{widest, IsDissectedTo, answer_of, Answers};
-ghost use Rattle.amqp_dissect.specs.Memory.{TakesMemory};
+ghost use Rattle.amqp_bench_dissect.specs.Dissected.{widest, IsDissectedTo, return_value_of, ReturnsLength};
+ghost use Rattle.amqp_dissect.specs.Memory.{DissectionAllocates};
 
 #[cfg(test)]
 mod tests;
@@ -19,14 +19,14 @@ use std::alloc::Global;
 /// or -3 if an allocation failed.
 #[unsafe(no_mangle)]
 pub extern "C" fn amqp_bench_dissect(alloc: Global, bytes: &[u8]) -> i64
-    ensures { Answers bytes.now result }
+    ensures { ReturnsLength bytes.now result }
 {
-    answer(length_of_parts(alloc, bytes))
+    return_value(length_of_parts(alloc, bytes))
 }
 
 // How many bytes the parts have, if no allocation fails.
 fn length_of_parts(alloc: Global, bytes: &[u8]) -> Option<usize>
-    ensures dissected { MatchOption result (TakesMemory widest bytes.now) (IsDissectedTo bytes.now) }
+    ensures dissected { MatchOption result (DissectionAllocates widest bytes.now) (IsDissectedTo bytes.now) }
     ensures small { IfSome result (λ n. n ≤ length bytes.now) }
 {
     let limits = Limits {
@@ -39,9 +39,9 @@ fn length_of_parts(alloc: Global, bytes: &[u8]) -> Option<usize>
     }
 }
 
-fn answer(done: Option<usize>) -> i64
+fn return_value(done: Option<usize>) -> i64
     requires { IfSome done (λ n. n < 2 ^ 63) }
-    ensures { result ≡ answer_of done }
+    ensures { result ≡ return_value_of done }
 {
     match done {
         Some(n) => n as i64,

@@ -23,29 +23,29 @@ use Rattle.amq_protocol_types.specs.declared.parsing.header.Header.TheVariants a
 use Rattle.amq_protocol_types.specs.parsing.PayloadResults.{IsType}
 use Rattle.amqp_dissect.specs.declared.problem.Problem.{Problem}
 use Rattle.amqp_dissect.specs.declared.problem.Problem.TheVariants.{NoTypeTag, UnknownTypeTag, Cut, KeyCut, KeyNotUtf8, TooDeep}
-use Rattle.amqp_dissect.specs.Problems.{IsContainer, NoValue, no_type_tag, unknown_type_tag, cut, too_deep, in_array, in_table, NoValues, bad_value, after_value, NoPairs, cut_key, key_not_utf8, bad_pair, after_pair}
+use Rattle.amqp_dissect.specs.Problems.{IsContainerType, IsNoValue, no_type_tag, unknown_type_tag, cut, too_deep, in_array, in_table, NoValues, bad_value, after_value, NoPairs, cut_key, key_not_utf8, bad_pair, after_pair}
 use Rattle.amqp_dissect.specs.declared.problem.Stop.{Stop}
 use Rattle.amqp_dissect.specs.declared.problem.Stop.TheVariants.{OutOfMemory, At}
 use Rattle.amqp_dissect.specs.declared.walk.Walk.{Walk}
-use Rattle.amqp_dissect.specs.Walks.{IsAt, IsValueThen, IsKeyThen, AreValues, ArePairs, HasFrame, HasHeader, HasLengthPrefix, IsString, ahead, CanReach, GoesOn, PassesValue, PassesEntries}
-use Rattle.amq_protocol_types.specs.parsing.ParseResults.{Refuses}
+use Rattle.amqp_dissect.specs.Walks.{IsAt, IsValueThen, IsKeyThen, AreValuesWithin, ArePairsWithin, HasFrame, HasHeader, HasLengthPrefix, IsStringType, ahead, CanReach, GoesOn, PassesValue, PassesEntries}
+use Rattle.amq_protocol_types.specs.parsing.ParseResults.{IsRefusal}
 use Rattle.amqp_dissect.specs.Ends.{refusal_of}
-use Rattle.amqp_dissect.specs.Memory.{HasTypeTag, TakesMemory}
+use Rattle.amqp_dissect.specs.Memory.{HasTypeTag, DissectionAllocates}
 use Rattle.amqp_dissect.proofs.Refused.{value_refused}
-use Rattle.amqp_dissect.proofs.Windows.{window_size, window_front, window_back}
+use Rattle.amqp_dissect.proofs.Windows.{window_size, window_prefix, window_back}
 
 -- a value of n bytes at the start of s
-abbrev pub IsValueOf : ℕ → List ℕ → ℕ → Type 0
-IsValueOf d s n = (w : List ℕ) × (v : Tree) × (rest : List ℕ) × WireWithin d w v × (s ≡ w ++ rest) × (length w ≡ n)
+abbrev pub IsValueOfEntry : ℕ → List ℕ → ℕ → Type 0
+IsValueOfEntry d s n = (w : List ℕ) × (v : Tree) × (rest : List ℕ) × WireWithin d w v × (s ≡ w ++ rest) × (length w ≡ n)
 
 -- in the input it is before what follows
-pub value_then : (d : ℕ) (xs : List ℕ) (a m e : ℕ) → IsValueOf d (slice_range xs a e) (m - a) → a ≤ m → a ≤ e → e ≤ length xs → IsValueThen d (slice_range xs a e) (slice_range xs m e)
+pub value_then : (d : ℕ) (xs : List ℕ) (a m e : ℕ) → IsValueOfEntry d (slice_range xs a e) (m - a) → a ≤ m → a ≤ e → e ≤ length xs → IsValueThen d (slice_range xs a e) (slice_range xs m e)
 value_then d xs a m e (w, v, rest, p, is, n) up le in_xs =
     let back = window_back xs a e w rest is le in_xs in
     let here : a + length w ≡ m = omega arith in
     (w, v, p, is ∙ ap (λ t. w ++ t) (sym (subst (λ k. slice_range xs k e ≡ rest) here back)))
 
-pub value_within : (d : ℕ) (xs : List ℕ) (a m e : ℕ) → IsValueOf d (slice_range xs a e) (m - a) → a ≤ m → a ≤ e → e ≤ length xs → m ≤ e
+pub value_within : (d : ℕ) (xs : List ℕ) (a m e : ℕ) → IsValueOfEntry d (slice_range xs a e) (m - a) → a ≤ m → a ≤ e → e ≤ length xs → m ≤ e
 value_within d xs a m e (w, v, rest, p, is, n) up le in_xs = omega (arith, window_size xs a e w rest is le in_xs)
 
 -- ---- a type of fixed width
@@ -58,19 +58,19 @@ fields_known (Some f) first width e =
     (f, refl, ap (λ (p : ℕ × ℕ). p.0) pair, ap (λ (p : ℕ × ℕ). p.1) pair)
 
 module _ (d : ℕ) (s b : List ℕ) (type : AMQPType) (first width : ℕ) (is : IsType s type b) (known : option_map {U = ℕ × ℕ} (λ f. (f.first, f.width)) (fixed type) ≡ Some (first, width)) where
-  lacks : (n : ℕ) → 0 < n → ((f : Layout) → f.first ≡ first → f.width ≡ width → lack_of (Some f) (length_field type) b ≡ n) → NoValue d s 1 (Cut type n)
+  lacks : (n : ℕ) → 0 < n → ((f : Layout) → f.first ≡ first → f.width ≡ width → lack_of (Some f) (length_field type) b ≡ n) → IsNoValue d s 1 (Cut type n)
   lacks n some by =
       let f = fields_known (fixed type) first width known in
       let count : lack type b ≡ n = ap (λ o. lack_of o (length_field type) b) f.1 ∙ by f.0 f.2 f.3 in
-      subst (λ (t : List ℕ). NoValue d t 1 (Cut type n)) (sym is.1) (cut d is.0 type b n is.2 some count)
+      subst (λ (t : List ℕ). IsNoValue d t 1 (Cut type n)) (sym is.1) (cut d is.0 type b n is.2 some count)
 
-  pub cut_first : length b < first → NoValue d s 1 (Cut type (first - length b))
+  pub cut_first : length b < first → IsNoValue d s 1 (Cut type (first - length b))
   cut_first short = lacks (first - length b) (omega arith) (λ f one two. rw (one, lt-ltb (length b) first short) refl)
 
-  pub cut_width : first ≤ length b → length b < width → NoValue d s 1 (Cut type (width - length b))
+  pub cut_width : first ≤ length b → length b < width → IsNoValue d s 1 (Cut type (width - length b))
   cut_width there short = lacks (width - length b) (omega arith) (λ f one two. rw (one, two, le-ltb (length b) first there) refl)
 
-  pub number_read : width ≤ length b → IsValueOf d s (suc width)
+  pub number_read : width ≤ length b → IsValueOfEntry d s (suc width)
   number_read there =
       let f = fields_known (fixed type) first width known in
       let count : length (take width b) ≡ f.0.width = length-take-le width b there ∙ sym f.3 in
@@ -92,14 +92,14 @@ framed_lack amqp.FieldArray b p = refl
 framed_lack amqp.FieldTable b p = refl
 framed_lack _ b p = absurd p
 
-pub cut_frame : (d : ℕ) (s b : List ℕ) (type : AMQPType) (n : ℕ) → IsType s type b → HasLengthPrefix type → 0 < n → n ≡ frame_lack w32 b → NoValue d s 1 (Cut type n)
+pub cut_frame : (d : ℕ) (s b : List ℕ) (type : AMQPType) (n : ℕ) → IsType s type b → HasLengthPrefix type → 0 < n → n ≡ frame_lack w32 b → IsNoValue d s 1 (Cut type n)
 cut_frame d s b type n is framed some e =
-    subst (λ (t : List ℕ). NoValue d t 1 (Cut type n)) (sym is.1) (cut d is.0 type b n is.2 some (framed_lack type b framed ∙ sym e))
+    subst (λ (t : List ℕ). IsNoValue d t 1 (Cut type n)) (sym is.1) (cut d is.0 type b n is.2 some (framed_lack type b framed ∙ sym e))
 
-pub deep : (d : ℕ) (s b : List ℕ) (type : AMQPType) (n : ℕ) → d ≡ 0 → IsType s type b → IsContainer type → HasFrame b n → NoValue d s 0 TooDeep
+pub deep : (d : ℕ) (s b : List ℕ) (type : AMQPType) (n : ℕ) → d ≡ 0 → IsType s type b → IsContainerType type → HasFrame b n → IsNoValue d s 0 TooDeep
 deep d s b type n none is container (body, rest, f, e) =
     let whole : s ≡ is.0 ∷ (long_field body ++ rest) = is.1 ∙ ap (λ t. is.0 ∷ t) f.framed in
-    subst (λ k. NoValue k s 0 TooDeep) (sym none) (subst (λ (t : List ℕ). NoValue 0 t 0 TooDeep) (sym whole) (too_deep is.0 type body rest is.2 container f.fits))
+    subst (λ k. IsNoValue k s 0 TooDeep) (sym none) (subst (λ (t : List ℕ). IsNoValue 0 t 0 TooDeep) (sym whole) (too_deep is.0 type body rest is.2 container f.fits))
 
 pub header_of : (s b : List ℕ) (type : AMQPType) (at n : ℕ) → IsType s type b → HasFrame b n → HasHeader s type at (at + 5 + n)
 header_of s b type at n is (body, rest, f, e) =
@@ -109,33 +109,33 @@ pub length_large : (body : List ℕ) → length (long_field body) ≡ 4 + length
 length_large body = omega arith
 
 -- what a header counts is there
-pub header_fits : (xs : List ℕ) (a e : ℕ) (type : AMQPType) (behind : ℕ) → HasHeader (slice_range xs a e) type a behind → a ≤ e → e ≤ length xs → (a + 5 ≤ behind) × (behind ≤ e)
-header_fits xs a e type behind (c, body, rest, k, is, fits, b) le in_xs =
+pub header_fits : (xs : List ℕ) (a e : ℕ) (type : AMQPType) (after : ℕ) → HasHeader (slice_range xs a e) type a after → a ≤ e → e ≤ length xs → (a + 5 ≤ after) × (after ≤ e)
+header_fits xs a e type after (c, body, rest, k, is, fits, b) le in_xs =
     let size = window_size xs a e (c ∷ long_field body) rest is le in_xs in
     (omega arith, omega (arith, size, length_large body))
 
-string_raw : (d : ℕ) (type : AMQPType) (body : List ℕ) → IsString type → length body < 2 ^ 32 → (v : Tree) × RawWithin d type (long_field body) v
+string_raw : (d : ℕ) (type : AMQPType) (body : List ℕ) → IsStringType type → length body < 2 ^ 32 → (v : Tree) × RawWithin d type (long_field body) v
 string_raw d amqp.LongString body p fits = (long body, (raw_long body fits, omega arith))
 string_raw d amqp.ByteArray body p fits = (octets body, (raw_octets body fits, omega arith))
 string_raw d _ body p fits = absurd p
 
-pub string_read : (d : ℕ) (s : List ℕ) (type : AMQPType) (at behind : ℕ) → HasHeader s type at behind → IsString type → IsValueOf d s (behind - at)
-string_read d s type at behind (c, body, rest, k, is, fits, b) string =
+pub string_read : (d : ℕ) (s : List ℕ) (type : AMQPType) (at after : ℕ) → HasHeader s type at after → IsStringType type → IsValueOfEntry d s (after - at)
+string_read d s type at after (c, body, rest, k, is, fits, b) string =
     let r = string_raw d type body string fits in
     (c ∷ long_field body, r.0, rest, (wire c type (long_field body) r.0 k r.1.0, r.1.1), is, omega (arith, length_large body))
 
 -- ---- traversing a value
 
-pub offset_is : (d : ℕ) (s : List ℕ) (o m a : ℕ) (p : Problem) → NoValue d s o p → m ≡ a + o → NoValue d s (m - a) p
-offset_is d s o m a p x e = subst (λ k. NoValue d s k p) (let z : o ≡ m - a = omega arith in z) x
+pub offset_is : (d : ℕ) (s : List ℕ) (o m a : ℕ) (p : Problem) → IsNoValue d s o p → m ≡ a + o → IsNoValue d s (m - a) p
+offset_is d s o m a p x e = subst (λ k. IsNoValue d s k p) (let z : o ≡ m - a = omega arith in z) x
 
-pub no_byte : (d : ℕ) (s : List ℕ) (a : ℕ) → length s ≡ 0 → NoValue d s (a - a) NoTypeTag
+pub no_byte : (d : ℕ) (s : List ℕ) (a : ℕ) → length s ≡ 0 → IsNoValue d s (a - a) NoTypeTag
 no_byte d s a none =
-    offset_is d s 0 a a NoTypeTag (subst (λ (t : List ℕ). NoValue d t 0 NoTypeTag) (sym (nil_from_length s none)) (no_type_tag d)) (omega arith)
+    offset_is d s 0 a a NoTypeTag (subst (λ (t : List ℕ). IsNoValue d t 0 NoTypeTag) (sym (nil_from_length s none)) (no_type_tag d)) (omega arith)
 
-pub no_tag : (d : ℕ) (s : List ℕ) (a c : ℕ) (b : List ℕ) → s ≡ c ∷ b → kind c ≡ None → NoValue d s (a - a) (UnknownTypeTag c)
+pub no_tag : (d : ℕ) (s : List ℕ) (a c : ℕ) (b : List ℕ) → s ≡ c ∷ b → kind c ≡ None → IsNoValue d s (a - a) (UnknownTypeTag c)
 no_tag d s a c b is none =
-    offset_is d s 0 a a (UnknownTypeTag c) (subst (λ (t : List ℕ). NoValue d t 0 (UnknownTypeTag c)) (sym is) (unknown_type_tag d c b none)) (omega arith)
+    offset_is d s 0 a a (UnknownTypeTag c) (subst (λ (t : List ℕ). IsNoValue d t 0 (UnknownTypeTag c)) (sym is) (unknown_type_tag d c b none)) (omega arith)
 
 -- it covers a type tag
 pub after_tag : (old new : Walk) (end : ℕ) (type : AMQPType) (b : List ℕ) → CanReach old end → IsType (ahead old end) type b → new.input ≡ old.input → new.depth ≡ old.depth → new.at ≡ old.at + 1 → GoesOn old end new
@@ -144,7 +144,7 @@ after_tag old new end type b can (c, is, k) same deep at =
     record { input = same; depth = deep; order = omega arith; within = omega (arith, can.at) }
 
 -- it covers one
-pub passes : (d : ℕ) (old new : Walk) (end : ℕ) (u : Unit {0}) → CanReach old end → new.input ≡ old.input → new.depth ≡ old.depth → old.at < new.at → IsValueOf d (ahead old end) (new.at - old.at) → PassesValue d old end (Ok u) new
+pub passes : (d : ℕ) (old new : Walk) (end : ℕ) (u : Unit {0}) → CanReach old end → new.input ≡ old.input → new.depth ≡ old.depth → old.at < new.at → IsValueOfEntry d (ahead old end) (new.at - old.at) → PassesValue d old end (Ok u) new
 passes d old new end u can same deep up x =
     let back : old.at ≤ new.at = omega arith in
     let here = value_then d old.input.now old.at new.at end x back can.at can.inside in
@@ -156,10 +156,10 @@ passes d old new end u can same deep up x =
     }
 
 -- it stops
-pub stops : (d : ℕ) (old new : Walk) (end : ℕ) (s : Stop) → GoesOn old end new → IsAt (NoValue d (ahead old end) (new.at - old.at)) s → PassesValue d old end (Err s) new
+pub stops : (d : ℕ) (old new : Walk) (end : ℕ) (s : Stop) → GoesOn old end new → IsAt (IsNoValue d (ahead old end) (new.at - old.at)) s → PassesValue d old end (Err s) new
 stops d old new end s goes x = record { goes = goes; more = tt; value = tt; problem = x }
 
-is_at_weaker : (P Q : Problem → Type 0) → ((p : Problem) → P p → Q p) → (s : Stop) → IsAt P s → IsAt Q s
+pub is_at_weaker : (P Q : Problem → Type 0) → ((p : Problem) → P p → Q p) → (s : Stop) → IsAt P s → IsAt Q s
 is_at_weaker P Q f OutOfMemory x = x
 is_at_weaker P Q f (At p) x = f p x
 
@@ -169,40 +169,40 @@ is_at_weaker P Q f (At p) x = f p x
 -- is 5 bytes later in the value
 pub record IsBodyOf (type : AMQPType) (Are : ℕ → List ℕ → Type 0) (Fail : ℕ → List ℕ → ℕ → Problem → Type 0) : Type 0 where
   pub raw : (d : ℕ) (body : List ℕ) → length body < 2 ^ 32 → Are d body → (v : Tree) × RawWithin (suc d) type (long_field body) v
-  pub fail : (d c : ℕ) (body rest : List ℕ) (o : ℕ) (p : Problem) → kind c ≡ Some type → length body < 2 ^ 32 → Fail d body o p → NoValue (suc d) (c ∷ (long_field body ++ rest)) (5 + o) p
+  pub fail : (d c : ℕ) (body rest : List ℕ) (o : ℕ) (p : Problem) → kind c ≡ Some type → length body < 2 ^ 32 → Fail d body o p → IsNoValue (suc d) (c ∷ (long_field body ++ rest)) (5 + o) p
 
-pub of_array : IsBodyOf amqp.FieldArray AreValues NoValues
+pub of_array : IsBodyOf amqp.FieldArray AreValuesWithin NoValues
 of_array = record {
   raw = λ d body fits (vs, p). (array vs, (raw_array body vs fits p.0, omega (arith, p.1)));
   fail = in_array;
 }
 
-pub of_table : IsBodyOf amqp.FieldTable ArePairs NoPairs
+pub of_table : IsBodyOf amqp.FieldTable ArePairsWithin NoPairs
 of_table = record {
   raw = λ d body fits (ps, p). (table (insert_all no_entries ps), (raw_table body ps fits p.0, omega (arith, p.1)));
   fail = in_table;
 }
 
 -- the body of a container
-body_window : (xs : List ℕ) (a e behind : ℕ) (type : AMQPType) (h : HasHeader (slice_range xs a e) type a behind) → a ≤ e → e ≤ length xs → slice_range xs (a + 5) behind ≡ h.1
-body_window xs a e behind type (c, body, rest, k, is, fits, b) le in_xs =
+body_window : (xs : List ℕ) (a e after : ℕ) (type : AMQPType) (h : HasHeader (slice_range xs a e) type a after) → a ≤ e → e ≤ length xs → slice_range xs (a + 5) after ≡ h.1
+body_window xs a e after type (c, body, rest, k, is, fits, b) le in_xs =
     let size = window_size xs a e (c ∷ long_field body) rest is le in_xs in
-    let count : a + length (c ∷ long_field body) ≡ behind = omega (arith, length_large body) in
-    let front : slice_range xs a behind ≡ c ∷ long_field body = subst (λ k. slice_range xs a k ≡ c ∷ long_field body) count (window_front xs a e (c ∷ long_field body) rest is) in
+    let count : a + length (c ∷ long_field body) ≡ after = omega (arith, length_large body) in
+    let prefix : slice_range xs a after ≡ c ∷ long_field body = subst (λ k. slice_range xs a k ≡ c ∷ long_field body) count (window_prefix xs a e (c ∷ long_field body) rest is) in
     let tag : List ℕ = c ∷ to_be_bytes w32 (length body) in
-    let split : slice_range xs a behind ≡ tag ++ body = front in
+    let split : slice_range xs a after ≡ tag ++ body = prefix in
     let at : a + length tag ≡ a + 5 = omega arith in
-    subst (λ k. slice_range xs k behind ≡ body) at (window_back xs a behind tag body split (omega arith) (omega (arith, size)))
+    subst (λ k. slice_range xs k after ≡ body) at (window_back xs a after tag body split (omega arith) (omega (arith, size)))
 
 module _ (type : AMQPType) (Are : ℕ → List ℕ → Type 0) (Fail : ℕ → List ℕ → ℕ → Problem → Type 0) (of : IsBodyOf type Are Fail)
-    (d : ℕ) (old mid new : Walk) (end behind : ℕ) (can : CanReach old end) (same : mid.input ≡ old.input) (below : mid.depth ≡ old.depth) (start : mid.at ≡ old.at + 5)
-    (within : behind ≤ end) (some : 0 < d) (h : HasHeader (ahead old end) type old.at behind) where
-  body_ahead : ahead mid behind ≡ h.1
+    (d : ℕ) (old mid new : Walk) (end after : ℕ) (can : CanReach old end) (same : mid.input ≡ old.input) (below : mid.depth ≡ old.depth) (start : mid.at ≡ old.at + 5)
+    (within : after ≤ end) (some : 0 < d) (h : HasHeader (ahead old end) type old.at after) where
+  body_ahead : ahead mid after ≡ h.1
   body_ahead =
-      ap₂ (λ (i : Bor (List ℕ)) k. slice_range i.now k behind) same start ∙ body_window old.input.now old.at end behind type h can.at can.inside
+      ap₂ (λ (i : Bor (List ℕ)) k. slice_range i.now k after) same start ∙ body_window old.input.now old.at end after type h can.at can.inside
 
   -- traversing the entries of a container covers the container
-  pub container : (r : Result (Unit {0}) Stop) → PassesEntries (Are (d - 1)) (Fail (d - 1)) mid behind r new → PassesValue d old end r new
+  pub container : (r : Result (Unit {0}) Stop) → PassesEntries (Are (d - 1)) (Fail (d - 1)) mid after r new → PassesValue d old end r new
   container (Ok u) es =
       let v = of.raw (d - 1) h.1 h.5 (subst (Are (d - 1)) body_ahead es.entries) in
       let whole = es.whole in
@@ -213,48 +213,48 @@ module _ (type : AMQPType) (Are : ℕ → List ℕ → Type 0) (Fail : ℕ → L
       let depth : suc (d - 1) ≡ d = omega arith in
       let offset : 5 + (new.at - mid.at) ≡ new.at - old.at = omega arith in
       stops d old new end s (record { input = es.goes.input ∙ same; depth = es.goes.depth ∙ below; order = omega arith; within = omega (arith, es.goes.within) })
-      (is_at_weaker (Fail (d - 1) (ahead mid behind) (new.at - mid.at)) (NoValue d (ahead old end) (new.at - old.at))
+      (is_at_weaker (Fail (d - 1) (ahead mid after) (new.at - mid.at)) (IsNoValue d (ahead old end) (new.at - old.at))
       (λ p y.
       let made = of.fail (d - 1) h.0 h.1 h.2 (new.at - mid.at) p h.3 h.5 (subst (λ (s : List ℕ). Fail (d - 1) s (new.at - mid.at) p) body_ahead y) in
-      subst (λ k. NoValue k (ahead old end) (new.at - old.at) p) depth
-      (subst (λ k. NoValue (suc (d - 1)) (ahead old end) k p) offset
-      (subst (λ (s : List ℕ). NoValue (suc (d - 1)) s (5 + (new.at - mid.at)) p) (sym h.4) made)))
+      subst (λ k. IsNoValue k (ahead old end) (new.at - old.at) p) depth
+      (subst (λ k. IsNoValue (suc (d - 1)) (ahead old end) k p) offset
+      (subst (λ (s : List ℕ). IsNoValue (suc (d - 1)) s (5 + (new.at - mid.at)) p) (sym h.4) made)))
       s es.problem)
 
 -- ---- entries one after another
 
 -- from `old` to `now` complete entries were traversed: what holds of the rest decides about all
-pub record Passed (Are : List ℕ → Type 0) (Fail : List ℕ → ℕ → Problem → Type 0) (old : Walk) (end : ℕ) (now : Walk) : Type 0 where
+pub record EntriesPassed (Are : List ℕ → Type 0) (Fail : List ℕ → ℕ → Problem → Type 0) (old : Walk) (end : ℕ) (now : Walk) : Type 0 where
   pub goes : GoesOn old end now
   pub all : Are (ahead now end) → Are (ahead old end)
   pub fail : (o : ℕ) (p : Problem) → Fail (ahead now end) o p → Fail (ahead old end) (now.at - old.at + o) p
 
-on_again : (old mid new : Walk) (end : ℕ) → GoesOn old end mid → GoesOn mid end new → GoesOn old end new
+pub on_again : (old mid new : Walk) (end : ℕ) → GoesOn old end mid → GoesOn mid end new → GoesOn old end new
 on_again old mid new end g h = record { input = h.input ∙ g.input; depth = h.depth ∙ g.depth; order = omega (arith, g.order, h.order); within = h.within }
 
 -- how many bytes were traversed
-pub front_size : (now next : Walk) (end : ℕ) (w : List ℕ) → end ≤ length now.input.now → GoesOn now end next → ahead now end ≡ w ++ ahead next end → now.at + length w ≡ next.at
-front_size now next end w in_xs goes is =
+pub size_at_start : (now next : Walk) (end : ℕ) (w : List ℕ) → end ≤ length now.input.now → GoesOn now end next → ahead now end ≡ w ++ ahead next end → now.at + length w ≡ next.at
+size_at_start now next end w in_xs goes is =
     let here : end ≤ length next.input.now = subst (λ (i : Bor (List ℕ)). end ≤ length i.now) (sym goes.input) in_xs in
     omega (arith, goes.order, goes.within, window_size now.input.now now.at end w (ahead next end) is (omega (arith, goes.order, goes.within)) in_xs, length-between next.input.now next.at end here)
 
 module _ (Are : List ℕ → Type 0) (Fail : List ℕ → ℕ → Problem → Type 0) (old : Walk) (end : ℕ) where
-  pub passed_none : old.at ≤ end → Passed Are Fail old end old
+  pub passed_none : old.at ≤ end → EntriesPassed Are Fail old end old
   passed_none le = record {
     goes = record { input = refl; depth = refl; order = omega arith; within = le };
     all = λ h. h;
     fail = λ o p h. subst (λ k. Fail (ahead old end) k p) (let z : o ≡ old.at - old.at + o = omega arith in z) h;
   }
 
-  module _ (now : Walk) (can : CanReach old end) (g : Passed Are Fail old end now) where
+  module _ (now : Walk) (can : CanReach old end) (g : EntriesPassed Are Fail old end now) where
     pub still : end ≤ length now.input.now
     still = subst (λ (i : Bor (List ℕ)). end ≤ length i.now) (sym g.goes.input) can.inside
 
     -- an entry w more
     pub passed_one : (next : Walk) (w : List ℕ) → GoesOn now end next → ahead now end ≡ w ++ ahead next end → ((s : List ℕ) → Are s → Are (w ++ s))
-        → ((s : List ℕ) (o : ℕ) (p : Problem) → Fail s o p → Fail (w ++ s) (length w + o) p) → Passed Are Fail old end next
+        → ((s : List ℕ) (o : ℕ) (p : Problem) → Fail s o p → Fail (w ++ s) (length w + o) p) → EntriesPassed Are Fail old end next
     passed_one next w goes is more later =
-        let size = front_size now next end w still goes is in
+        let size = size_at_start now next end w still goes is in
         record {
           goes = on_again old now next end g.goes goes;
           all = λ x. g.all (subst Are (sym is) (more (ahead next end) x));
@@ -284,22 +284,22 @@ module _ (Are : List ℕ → Type 0) (Fail : List ℕ → ℕ → Problem → Ty
 
 -- ---- values
 
-module _ (d : ℕ) (old now next : Walk) (end : ℕ) (can : CanReach old end) (g : Passed (AreValues d) (NoValues d) old end now) where
-  pub value_more : (u : Unit {0}) → PassesValue d now end (Ok u) next → Passed (AreValues d) (NoValues d) old end next
+module _ (d : ℕ) (old now next : Walk) (end : ℕ) (can : CanReach old end) (g : EntriesPassed (AreValuesWithin d) (NoValues d) old end now) where
+  pub value_more : (u : Unit {0}) → PassesValue d now end (Ok u) next → EntriesPassed (AreValuesWithin d) (NoValues d) old end next
   value_more u x =
       let h = x.value in
-      passed_one (AreValues d) (NoValues d) old end now can g next h.0 x.goes h.3
+      passed_one (AreValuesWithin d) (NoValues d) old end now can g next h.0 x.goes h.3
       (λ s (vs, p). (tree h.1 vs, (value h.0 s h.1 vs h.2.0 p.0, omega (arith, h.2.1, p.1))))
       (λ s o p y. after_value d h.0 h.1 s o p h.2 y)
 
-  pub value_stop : (s : Stop) → now.at < end → PassesValue d now end (Err s) next → PassesEntries (AreValues d) (NoValues d) old end (Err s) next
+  pub value_stop : (s : Stop) → now.at < end → PassesValue d now end (Err s) next → PassesEntries (AreValuesWithin d) (NoValues d) old end (Err s) next
   value_stop s some x =
-      let long : 0 < length (ahead now end) = omega (arith, length-between now.input.now now.at end (still (AreValues d) (NoValues d) old end now can g)) in
-      entries_stop (AreValues d) (NoValues d) old end now can g next s x.goes
-      (is_at_weaker (NoValue d (ahead now end) (next.at - now.at)) (NoValues d (ahead now end) (next.at - now.at)) (λ p y. bad_value d (ahead now end) (next.at - now.at) p long y) s x.problem)
+      let long : 0 < length (ahead now end) = omega (arith, length-between now.input.now now.at end (still (AreValuesWithin d) (NoValues d) old end now can g)) in
+      entries_stop (AreValuesWithin d) (NoValues d) old end now can g next s x.goes
+      (is_at_weaker (IsNoValue d (ahead now end) (next.at - now.at)) (NoValues d (ahead now end) (next.at - now.at)) (λ p y. bad_value d (ahead now end) (next.at - now.at) p long y) s x.problem)
 
-pub values_end : (d : ℕ) (old now : Walk) (end : ℕ) (u : Unit {0}) → CanReach old end → Passed (AreValues d) (NoValues d) old end now → end ≤ now.at → PassesEntries (AreValues d) (NoValues d) old end (Ok u) now
-values_end d old now end u can g none = entries_end (AreValues d) (NoValues d) old end now can g u none (no_trees, (no_values, omega arith))
+pub values_end : (d : ℕ) (old now : Walk) (end : ℕ) (u : Unit {0}) → CanReach old end → EntriesPassed (AreValuesWithin d) (NoValues d) old end now → end ≤ now.at → PassesEntries (AreValuesWithin d) (NoValues d) old end (Ok u) now
+values_end d old now end u can g none = entries_end (AreValuesWithin d) (NoValues d) old end now can g u none (no_trees, (no_values, omega arith))
 
 -- ---- keys and pairs
 
@@ -308,49 +308,49 @@ short_key d s l n bytes m a is e short at =
     subst (λ k. NoPairs d s k (KeyCut (n - length bytes))) (let z : 0 ≡ m - a = omega arith in z)
     (subst (λ (t : List ℕ). NoPairs d t 0 (KeyCut (n - length bytes))) (sym is) (subst (λ k. NoPairs d (k ∷ bytes) 0 (KeyCut (n - length bytes))) e (cut_key d n bytes short)))
 
-small_front : (n : ℕ) (bytes : List ℕ) → n ≤ length bytes → short_field (take n bytes) ++ drop n bytes ≡ n ∷ bytes
-small_front n bytes there = ap₂ (λ k t. k ∷ t) (length-take-le n bytes there) (take-append-drop n bytes)
+pub small_prefix : (n : ℕ) (bytes : List ℕ) → n ≤ length bytes → short_field (take n bytes) ++ drop n bytes ≡ n ∷ bytes
+small_prefix n bytes there = ap₂ (λ k t. k ∷ t) (length-take-le n bytes there) (take-append-drop n bytes)
 
 pub no_text : (d : ℕ) (s : List ℕ) (l n : ℕ) (bytes : List ℕ) (m a : ℕ) → s ≡ l ∷ bytes → n ≡ l → n ≤ length bytes → (IsUtf8 (take n bytes) → ⊥) → m ≡ a + 1 → NoPairs d s (m - a) KeyNotUtf8
 no_text d s l n bytes m a is e there none at =
-    let whole : short_field (take n bytes) ++ drop n bytes ≡ s = small_front n bytes there ∙ (ap (λ k. k ∷ bytes) e ∙ sym is) in
+    let whole : short_field (take n bytes) ++ drop n bytes ≡ s = small_prefix n bytes there ∙ (ap (λ k. k ∷ bytes) e ∙ sym is) in
     subst (λ k. NoPairs d s k KeyNotUtf8) (let z : 1 ≡ m - a = omega arith in z)
     (subst (λ (t : List ℕ). NoPairs d t 1 KeyNotUtf8) whole (key_not_utf8 d (take n bytes) (drop n bytes) none))
 
 pub key_read : (xs : List ℕ) (a m e l n : ℕ) (bytes : List ℕ) → slice_range xs a e ≡ l ∷ bytes → n ≡ l → n ≤ length bytes → n ≤ 255 → IsUtf8 (take n bytes) → m ≡ a + 1 + n → a ≤ e → e ≤ length xs → IsKeyThen (slice_range xs a e) (slice_range xs m e)
 key_read xs a m e l n bytes is same there few utf8 at le in_xs =
     let k = take n bytes in
-    let whole : slice_range xs a e ≡ short_field k ++ drop n bytes = is ∙ (ap (λ j. j ∷ bytes) (sym same) ∙ sym (small_front n bytes there)) in
+    let whole : slice_range xs a e ≡ short_field k ++ drop n bytes = is ∙ (ap (λ j. j ∷ bytes) (sym same) ∙ sym (small_prefix n bytes there)) in
     let count : a + length (short_field k) ≡ m = omega (arith, length-take-le n bytes there) in
     let back : slice_range xs m e ≡ drop n bytes = subst (λ j. slice_range xs j e ≡ drop n bytes) count (window_back xs a e (short_field k) (drop n bytes) whole le in_xs) in
     (k, record { few = omega (arith, length-take-le n bytes there); utf8 = utf8 }, whole ∙ ap (λ t. short_field k ++ t) (sym back))
 
-module _ (d : ℕ) (old now mid next : Walk) (end : ℕ) (can : CanReach old end) (g : Passed (ArePairs d) (NoPairs d) old end now) (goes : GoesOn now end mid) (key : IsKeyThen (ahead now end) (ahead mid end)) where
-  pub pair_more : (u : Unit {0}) → PassesValue d mid end (Ok u) next → Passed (ArePairs d) (NoPairs d) old end next
+module _ (d : ℕ) (old now mid next : Walk) (end : ℕ) (can : CanReach old end) (g : EntriesPassed (ArePairsWithin d) (NoPairs d) old end now) (goes : GoesOn now end mid) (key : IsKeyThen (ahead now end) (ahead mid end)) where
+  pub pair_more : (u : Unit {0}) → PassesValue d mid end (Ok u) next → EntriesPassed (ArePairsWithin d) (NoPairs d) old end next
   pair_more u x =
       let h = x.value in
       let k = short_field key.0 in
       let is : ahead now end ≡ (k ++ h.0) ++ ahead next end = key.2 ∙ (ap (λ t. k ++ t) h.3 ∙ sym (append_assoc k h.0 (ahead next end))) in
-      passed_one (ArePairs d) (NoPairs d) old end now can g next (k ++ h.0) (on_again now mid next end goes x.goes) is
-      (λ s (ps, p). subst (ArePairs d) (sym (append_assoc k h.0 s)) (entry key.0 h.1 ps, (pair key.0 h.0 s h.1 ps key.1 h.2.0 p.0, omega (arith, h.2.1, p.1))))
+      passed_one (ArePairsWithin d) (NoPairs d) old end now can g next (k ++ h.0) (on_again now mid next end goes x.goes) is
+      (λ s (ps, p). subst (ArePairsWithin d) (sym (append_assoc k h.0 s)) (entry key.0 h.1 ps, (pair key.0 h.0 s h.1 ps key.1 h.2.0 p.0, omega (arith, h.2.1, p.1))))
       (λ s o p y.
       let at : length k + (length h.0 + o) ≡ length (k ++ h.0) + o = omega (arith, length-append k h.0) in
       subst (λ (t : List ℕ). NoPairs d t (length (k ++ h.0) + o) p) (sym (append_assoc k h.0 s))
       (subst (λ j. NoPairs d (k ++ (h.0 ++ s)) j p) at (after_pair d key.0 h.0 h.1 s o p key.1 h.2 y)))
 
-  pub pair_stop : (s : Stop) → PassesValue d mid end (Err s) next → PassesEntries (ArePairs d) (NoPairs d) old end (Err s) next
+  pub pair_stop : (s : Stop) → PassesValue d mid end (Err s) next → PassesEntries (ArePairsWithin d) (NoPairs d) old end (Err s) next
   pair_stop s x =
-      let size = front_size now mid end (short_field key.0) (still (ArePairs d) (NoPairs d) old end now can g) goes key.2 in
+      let size = size_at_start now mid end (short_field key.0) (still (ArePairsWithin d) (NoPairs d) old end now can g) goes key.2 in
       let at : length (short_field key.0) + (next.at - mid.at) ≡ next.at - now.at = omega (arith, size, x.goes.order) in
-      entries_stop (ArePairs d) (NoPairs d) old end now can g next s (on_again now mid next end goes x.goes)
-      (is_at_weaker (NoValue d (ahead mid end) (next.at - mid.at)) (NoPairs d (ahead now end) (next.at - now.at))
+      entries_stop (ArePairsWithin d) (NoPairs d) old end now can g next s (on_again now mid next end goes x.goes)
+      (is_at_weaker (IsNoValue d (ahead mid end) (next.at - mid.at)) (NoPairs d (ahead now end) (next.at - now.at))
       (λ p y.
       subst (λ (t : List ℕ). NoPairs d t (next.at - now.at) p) (sym key.2)
       (subst (λ j. NoPairs d (short_field key.0 ++ ahead mid end) j p) at (bad_pair d key.0 (ahead mid end) (next.at - mid.at) p key.1 y)))
       s x.problem)
 
-pub pairs_end : (d : ℕ) (old now : Walk) (end : ℕ) (u : Unit {0}) → CanReach old end → Passed (ArePairs d) (NoPairs d) old end now → end ≤ now.at → PassesEntries (ArePairs d) (NoPairs d) old end (Ok u) now
-pairs_end d old now end u can g none = entries_end (ArePairs d) (NoPairs d) old end now can g u none (no_entries, (no_pairs, omega arith))
+pub pairs_end : (d : ℕ) (old now : Walk) (end : ℕ) (u : Unit {0}) → CanReach old end → EntriesPassed (ArePairsWithin d) (NoPairs d) old end now → end ≤ now.at → PassesEntries (ArePairsWithin d) (NoPairs d) old end (Ok u) now
+pairs_end d old now end u can g none = entries_end (ArePairsWithin d) (NoPairs d) old end now can g u none (no_entries, (no_pairs, omega arith))
 
 -- ---- the complete input
 
@@ -369,11 +369,11 @@ ends_in_value l xs a n zero_is size h =
     let whole : xs ≡ y.0 ++ drop n xs = sym (whole_input xs) ∙ (y.3 ∙ ap (λ t. y.0 ++ t) (take_rest xs n)) in
     (y.1, (size, subst (λ (s : List ℕ). OutcomeWithin l.depth s (found y.1 (drop n xs))) (sym whole) (wire_found_within l.depth y.0 (drop n xs) y.1 y.2.0 y.2.1)))
 
-pub takes_memory : (l : Limits) (xs : List ℕ) (a : ℕ) → a ≡ 0 → extent xs ≤ l.frame → HasTypeTag (slice_range xs a (length xs)) → TakesMemory l xs
+pub takes_memory : (l : Limits) (xs : List ℕ) (a : ℕ) → a ≡ 0 → extent xs ≤ l.frame → HasTypeTag (slice_range xs a (length xs)) → DissectionAllocates l xs
 takes_memory l xs a zero_is size tag = (subst HasTypeTag (ap (λ k. slice_range xs k (length xs)) zero_is ∙ whole_input xs) tag, size)
 
-pub ends_in_problem : (l : Limits) (xs : List ℕ) (a n : ℕ) (p : Problem) → a ≡ 0 → extent xs ≤ l.frame → NoValue l.depth (slice_range xs a (length xs)) (n - a) p → (extent xs ≤ l.frame) × NoValue l.depth xs n p × Refuses (OutcomeWithin l.depth xs) ⊥ (refusal_of n p)
+pub ends_in_problem : (l : Limits) (xs : List ℕ) (a n : ℕ) (p : Problem) → a ≡ 0 → extent xs ≤ l.frame → IsNoValue l.depth (slice_range xs a (length xs)) (n - a) p → (extent xs ≤ l.frame) × IsNoValue l.depth xs n p × IsRefusal (OutcomeWithin l.depth xs) ⊥ (refusal_of n p)
 ends_in_problem l xs a n p zero_is size x =
     let at : n - a ≡ n = omega arith in
-    let here = subst (λ (s : List ℕ). NoValue l.depth s n p) (ap (λ k. slice_range xs k (length xs)) zero_is ∙ whole_input xs) (subst (λ k. NoValue l.depth (slice_range xs a (length xs)) k p) at x) in
+    let here = subst (λ (s : List ℕ). IsNoValue l.depth s n p) (ap (λ k. slice_range xs k (length xs)) zero_is ∙ whole_input xs) (subst (λ k. IsNoValue l.depth (slice_range xs a (length xs)) k p) at x) in
     (size, here, value_refused l.depth xs n p here)

@@ -4,4 +4,6 @@ mod Refused
 mod Pieces
 mod Entries
 mod Puts
+mod Starts
+mod Partials
 mod Escapes

@@ -1,9 +1,8 @@
 -- The parts of bytes: of one value, and of one entry more.
-use Rattle.std.proofs.Common.{◌≡◌, ◌≤◌, ◌<◌, ◌+◌, ◌^◌, inl, inr, ℕ, zero, suc, Option, Some, None, List, [], ◌∷◌, ◌++◌, length, take, drop, refl, sym, ap, ap₂, ◌∙◌, arith, append_assoc, append-nil, length-append, length-drop}
-use Rattle.std.specs.Int.{w32, to_be_bytes}
+use Rattle.std.proofs.Common.{◌≡◌, ◌≤◌, ◌<◌, ◌+◌, inl, inr, ℕ, Bool, true, false, cond, nat_lt, zero, suc, Option, Some, None, List, [], ◌∷◌, ◌++◌, length, take, drop, refl, sym, ap, ap₂, ◌∙◌, arith, append_assoc, append-nil, length-append, length-drop}
+use Rattle.std.specs.Int.{w32, from_be_bytes}
 use Rattle.std.proofs.lemmas.List.{length-take, nil_from_length, take_all, take_at}
 use Rattle.std.proofs.lemmas.Bool.{cases_lt, le-ltb}
-use Rattle.std.proofs.lemmas.Nat.{from_be_bytes-to_be_bytes_4}
 use Rattle.std.proofs.Math.ListN.{drop_of_length-le}
 use Rattle.std.proofs.Math.Seq.{take-append_seam, drop-append_seam}
 use Rattle.amqp_value_core.specs.declared.types.amqp_type.AMQPType.{AMQPType}
@@ -14,12 +13,13 @@ use Rattle.amqp_value_core.specs.Grammar.{short_field}
 use Rattle.amqp_value_core.specs.Outcomes.{length_field, counted}
 use Rattle.amq_protocol_types.specs.parsing.Headers.{extent, extent_at, extent_of, raw_extent}
 use Rattle.amqp_dissect.specs.declared.part.Field.TheVariants.{TypeTag, Length, KeyLength, Key, Payload}
-use Rattle.amqp_dissect.specs.Walks.{HasLengthPrefix, IsString}
-use Rattle.amqp_dissect.specs.PartsOf.{Piece, part, Inside, counted_parts, payload_parts, value_parts, key_parts, entries_parts, entries_at, value_at}
+use Rattle.amqp_dissect.specs.Problems.{IsContainerType}
+use Rattle.amqp_dissect.specs.Walks.{HasLengthPrefix, IsStringType}
+use Rattle.amqp_dissect.specs.PartsOf.{Piece, part, PartsInside, counted_parts, payload_parts, value_parts, key_parts, entries_parts, entries_at, value_at}
 
 -- ---- no bytes have no parts
 
-pub value_nothing : (f : Inside) (level : ℕ) → value_parts f level [] ≡ []
+pub value_nothing : (f : PartsInside) (level : ℕ) → value_parts f level [] ≡ []
 unfolding value_parts
 value_nothing f level = refl
 
@@ -38,20 +38,20 @@ counted_nothing n _ level = refl
 -- ---- as many entries as there are bytes are enough
 
 -- two ways to take entries apart agree on fewer than n bytes
-abbrev Agree : Inside → Inside → ℕ → Type 0
-Agree f g n = (l : ℕ) (t : List ℕ) → length t < n → (f amqp.FieldArray l t ≡ g amqp.FieldArray l t) × (f amqp.FieldTable l t ≡ g amqp.FieldTable l t)
+abbrev InsidesAgree : PartsInside → PartsInside → ℕ → Type 0
+InsidesAgree f g n = (l : ℕ) (t : List ℕ) → length t < n → (f amqp.FieldArray l t ≡ g amqp.FieldArray l t) × (f amqp.FieldTable l t ≡ g amqp.FieldTable l t)
 
-counted_same : (f g : Inside) (type : AMQPType) (level n : ℕ) (t : List ℕ) → length t < n → Agree f g n → counted_parts f type level t ≡ counted_parts g type level t
+counted_same : (f g : PartsInside) (type : AMQPType) (level n : ℕ) (t : List ℕ) → length t < n → InsidesAgree f g n → counted_parts f type level t ≡ counted_parts g type level t
 unfolding counted_parts
 counted_same f g amqp.FieldArray level n t less same = (same (suc level) t less).0
 counted_same f g amqp.FieldTable level n t less same = (same (suc level) t less).1
 counted_same f g _ level n t less same = refl
 
-abbrev laid : Inside → AMQPType → ℕ → List ℕ → Option Layout → List Piece
+abbrev laid : PartsInside → AMQPType → ℕ → List ℕ → Option Layout → List Piece
 laid f type level b (Some x) = part (Payload type) level b
 laid f type level b None = part (Length type) level (take 4 b) ++ counted_parts f type level (drop 4 b)
 
-payload_same : (f g : Inside) (type : AMQPType) (level n : ℕ) (b : List ℕ) → length b < n → Agree f g n → payload_parts f type level b ≡ payload_parts g type level b
+payload_same : (f g : PartsInside) (type : AMQPType) (level n : ℕ) (b : List ℕ) → length b < n → InsidesAgree f g n → payload_parts f type level b ≡ payload_parts g type level b
 unfolding payload_parts
 payload_same f g type level n b less same = by (fixed type)
   where
@@ -59,11 +59,11 @@ payload_same f g type level n b less same = by (fixed type)
     by (Some x) = refl
     by None = ap (λ s. part (Length type) level (take 4 b) ++ s) (counted_same f g type level n (drop 4 b) (omega (arith, length-drop 4 b)) same)
 
-abbrev typed : Inside → ℕ → ℕ → List ℕ → Option AMQPType → List Piece
+abbrev typed : PartsInside → ℕ → ℕ → List ℕ → Option AMQPType → List Piece
 typed f level c b None = []
 typed f level c b (Some type) = part (TypeTag type) level (c ∷ []) ++ payload_parts f type level b
 
-value_same : (f g : Inside) (level n : ℕ) (w : List ℕ) → length w ≤ n → Agree f g n → value_parts f level w ≡ value_parts g level w
+value_same : (f g : PartsInside) (level n : ℕ) (w : List ℕ) → length w ≤ n → InsidesAgree f g n → value_parts f level w ≡ value_parts g level w
 unfolding value_parts
 value_same f g level n [] less same = refl
 value_same f g level n (c ∷ b) less same = by (kind c)
@@ -100,7 +100,7 @@ fuel (suc n) zero level s a b = (nil_same (suc n) zero amqp.FieldArray level s (
 fuel (suc n) (suc m) level [] a b = (nil_same (suc n) (suc m) amqp.FieldArray level [] refl, nil_same (suc n) (suc m) amqp.FieldTable level [] refl)
 fuel (suc n) (suc m) level (c ∷ b) less lesser =
     let s : List ℕ = c ∷ b in
-    let agree : Agree (entries_parts n) (entries_parts m) (suc (length b)) = λ l t few. fuel n m l t (omega arith) (omega arith) in
+    let agree : InsidesAgree (entries_parts n) (entries_parts m) (suc (length b)) = λ l t few. fuel n m l t (omega arith) (omega arith) in
     let k : ℕ = extent s in
     let v : List ℕ = drop c b in
     let e : ℕ = extent v in (
@@ -200,11 +200,11 @@ pair_first level k w s e le =
 
 -- ---- one value
 
-value_known : (f : Inside) (level c : ℕ) (type : AMQPType) (b : List ℕ) → kind c ≡ Some type → value_parts f level (c ∷ b) ≡ part (TypeTag type) level (c ∷ []) ++ payload_parts f type level b
+value_known : (f : PartsInside) (level c : ℕ) (type : AMQPType) (b : List ℕ) → kind c ≡ Some type → value_parts f level (c ∷ b) ≡ part (TypeTag type) level (c ∷ []) ++ payload_parts f type level b
 unfolding value_parts
 value_known f level c type b k = ap (typed f level c b) k
 
-payload_known : (f : Inside) (type : AMQPType) (level : ℕ) (b : List ℕ) (o : Option Layout) → fixed type ≡ o → payload_parts f type level b ≡ laid f type level b o
+payload_known : (f : PartsInside) (type : AMQPType) (level : ℕ) (b : List ℕ) (o : Option Layout) → fixed type ≡ o → payload_parts f type level b ≡ laid f type level b o
 unfolding payload_parts
 payload_known f type level b o e = ap (laid f type level b) e
 
@@ -231,11 +231,11 @@ tag_only level c type k =
 -- a type tag, and a payload of fixed width
 pub number_parts : (level c : ℕ) (type : AMQPType) (f : Layout) (b : List ℕ) → kind c ≡ Some type → fixed type ≡ Some f → value_at level (c ∷ b) ≡ part (TypeTag type) level (c ∷ []) ++ part (Payload type) level b
 number_parts level c type f b k is =
-    let e : Inside = entries_parts (suc (length b)) in
+    let e : PartsInside = entries_parts (suc (length b)) in
     value_known e level c type b k ∙ ap (λ (t : List Piece). part (TypeTag type) level (c ∷ []) ++ t) (payload_known e type level b (Some f) is)
 
 -- a type tag, a length, and what it counts
-prefixed : (f : Inside) (level c : ℕ) (type : AMQPType) (l g : List ℕ) → kind c ≡ Some type → HasLengthPrefix type → length l ≡ 4
+prefixed : (f : PartsInside) (level c : ℕ) (type : AMQPType) (l g : List ℕ) → kind c ≡ Some type → HasLengthPrefix type → length l ≡ 4
     → value_parts f level (c ∷ (l ++ g)) ≡ (part (TypeTag type) level (c ∷ []) ++ part (Length type) level l) ++ counted_parts f type level g
 prefixed f level c type l g k p four =
     let tag : List Piece = part (TypeTag type) level (c ∷ []) in
@@ -245,41 +245,41 @@ prefixed f level c type l g k p four =
     ∙ ap₂ (λ (x y : List ℕ). part (Length type) level x ++ counted_parts f type level y) (take_at l g 4 four) back)
     ∙ sym (append_assoc tag (part (Length type) level l) (counted_parts f type level g)))
 
-pub header_parts : (level c : ℕ) (type : AMQPType) (l : List ℕ) → kind c ≡ Some type → HasLengthPrefix type → length l ≡ 4 → value_at level (c ∷ l) ≡ part (TypeTag type) level (c ∷ []) ++ part (Length type) level l
-header_parts level c type l k p four =
+-- a type tag, and a length or a prefix of one
+pub header_parts : (level c : ℕ) (type : AMQPType) (l : List ℕ) → kind c ≡ Some type → HasLengthPrefix type → length l ≤ 4 → value_at level (c ∷ l) ≡ part (TypeTag type) level (c ∷ []) ++ part (Length type) level l
+header_parts level c type l k p le =
     let n : ℕ = suc (length l) in
-    let f : Inside = entries_parts n in
-    let h : List Piece = part (TypeTag type) level (c ∷ []) ++ part (Length type) level l in
-    ap (λ (t : List ℕ). value_parts f level (c ∷ t)) (sym (append-nil l))
-    ∙ (prefixed f level c type l [] k p four ∙ (ap (λ (t : List Piece). h ++ t) (counted_nothing n type level) ∙ append-nil h))
+    let f : PartsInside = entries_parts n in
+    value_known f level c type l k
+    ∙ ap (λ (t : List Piece). part (TypeTag type) level (c ∷ []) ++ t) (payload_known f type level l None (unfixed type p)
+    ∙ (ap₂ (λ (x y : List ℕ). part (Length type) level x ++ counted_parts f type level y) (take_all 4 l le) (drop_of_length-le l le)
+    ∙ (ap (λ (t : List Piece). part (Length type) level l ++ t) (counted_nothing n type level) ∙ append-nil (part (Length type) level l))))
 
 module _ (level c : ℕ) (type : AMQPType) (l g : List ℕ) (k : kind c ≡ Some type) (p : HasLengthPrefix type) (four : length l ≡ 4) where
   counted_with : value_at level (c ∷ (l ++ g)) ≡ value_at level (c ∷ l) ++ counted_parts (entries_parts (suc (length (l ++ g)))) type level g
   counted_with =
-      let f : Inside = entries_parts (suc (length (l ++ g))) in
-      prefixed f level c type l g k p four ∙ ap (λ (t : List Piece). t ++ counted_parts f type level g) (sym (header_parts level c type l k p four))
+      let f : PartsInside = entries_parts (suc (length (l ++ g))) in
+      prefixed f level c type l g k p four ∙ ap (λ (t : List Piece). t ++ counted_parts f type level g) (sym (header_parts level c type l k p (omega (arith, four))))
 
-pub string_parts : (level c : ℕ) (type : AMQPType) (l g : List ℕ) → kind c ≡ Some type → IsString type → length l ≡ 4 → value_at level (c ∷ (l ++ g)) ≡ value_at level (c ∷ l) ++ part (Payload type) level g
+pub string_parts : (level c : ℕ) (type : AMQPType) (l g : List ℕ) → kind c ≡ Some type → IsStringType type → length l ≡ 4 → value_at level (c ∷ (l ++ g)) ≡ value_at level (c ∷ l) ++ part (Payload type) level g
 unfolding counted_parts
 string_parts level c amqp.LongString l g k p four = counted_with level c amqp.LongString l g k tt four
 string_parts level c amqp.ByteArray l g k p four = counted_with level c amqp.ByteArray l g k tt four
 string_parts level c _ l g k p four = absurd p
 
-pub array_parts : (level c : ℕ) (l g : List ℕ) → kind c ≡ Some amqp.FieldArray → length l ≡ 4 → value_at level (c ∷ (l ++ g)) ≡ value_at level (c ∷ l) ++ entries_at amqp.FieldArray (suc level) g
+pub container_parts : (level c : ℕ) (type : AMQPType) (l g : List ℕ) → kind c ≡ Some type → IsContainerType type → length l ≡ 4 → value_at level (c ∷ (l ++ g)) ≡ value_at level (c ∷ l) ++ entries_at type (suc level) g
 unfolding counted_parts
-array_parts level c l g k four =
+container_parts level c amqp.FieldArray l g k p four =
     counted_with level c amqp.FieldArray l g k tt four
     ∙ ap (λ (t : List Piece). value_at level (c ∷ l) ++ t) ((fuel (suc (length (l ++ g))) (length g) (suc level) g (omega (arith, length-append l g)) (omega arith)).0)
-
-pub table_parts : (level c : ℕ) (l g : List ℕ) → kind c ≡ Some amqp.FieldTable → length l ≡ 4 → value_at level (c ∷ (l ++ g)) ≡ value_at level (c ∷ l) ++ entries_at amqp.FieldTable (suc level) g
-unfolding counted_parts
-table_parts level c l g k four =
+container_parts level c amqp.FieldTable l g k p four =
     counted_with level c amqp.FieldTable l g k tt four
     ∙ ap (λ (t : List Piece). value_at level (c ∷ l) ++ t) ((fuel (suc (length (l ++ g))) (length g) (suc level) g (omega (arith, length-append l g)) (omega arith)).1)
+container_parts level c _ l g k p four = absurd p
 
 -- ---- no more than one value
 
-known_extent : (c : ℕ) (type : AMQPType) (b : List ℕ) → kind c ≡ Some type → extent (c ∷ b) ≡ suc (raw_extent type b)
+pub known_extent : (c : ℕ) (type : AMQPType) (b : List ℕ) → kind c ≡ Some type → extent (c ∷ b) ≡ suc (raw_extent type b)
 known_extent c type b k = ap (λ o. extent_at o b) k
 
 pub one_tag : (c : ℕ) (type : AMQPType) → kind c ≡ Some type → length (c ∷ []) ≤ extent (c ∷ [])
@@ -290,24 +290,37 @@ one_number c type f b k is le =
     let e : raw_extent type b ≡ f.width = ap (λ o. extent_of o (length_field type) b) is in
     omega (arith, known_extent c type b k)
 
-framed_extent : (type : AMQPType) (n : ℕ) (g : List ℕ) → HasLengthPrefix type → n < 2 ^ 32 → raw_extent type (to_be_bytes w32 n ++ g) ≡ 4 + n
-framed_extent type n g p fits = by type p
+framed_extent : (type : AMQPType) (l g : List ℕ) → HasLengthPrefix type → length l ≡ 4 → raw_extent type (l ++ g) ≡ 4 + from_be_bytes w32 l
+framed_extent type l g p four = by type p
   where
-    b : List ℕ
-    b = to_be_bytes w32 n ++ g
+    all : extent_of None w32 (l ++ g) ≡ 4 + from_be_bytes w32 l
+    all = rw (le-ltb (length (l ++ g)) 4 (omega (arith, length-append l g)), take_at l g 4 four) refl
 
-    all : extent_of None w32 b ≡ 4 + counted w32 b
-    all = rw (le-ltb (length b) 4 (omega arith)) refl
-
-    count : counted w32 b ≡ n
-    count = from_be_bytes-to_be_bytes_4 n fits
-
-    by : (type : AMQPType) → HasLengthPrefix type → raw_extent type b ≡ 4 + n
-    by amqp.LongString p = all ∙ ap (λ k. 4 + k) count
-    by amqp.ByteArray p = all ∙ ap (λ k. 4 + k) count
-    by amqp.FieldArray p = all ∙ ap (λ k. 4 + k) count
-    by amqp.FieldTable p = all ∙ ap (λ k. 4 + k) count
+    by : (type : AMQPType) → HasLengthPrefix type → raw_extent type (l ++ g) ≡ 4 + from_be_bytes w32 l
+    by amqp.LongString p = all
+    by amqp.ByteArray p = all
+    by amqp.FieldArray p = all
+    by amqp.FieldTable p = all
     by _ p = absurd p
 
-pub one_framed : (c : ℕ) (type : AMQPType) (n : ℕ) (g : List ℕ) → kind c ≡ Some type → HasLengthPrefix type → n < 2 ^ 32 → length g ≤ n → length (c ∷ (to_be_bytes w32 n ++ g)) ≤ extent (c ∷ (to_be_bytes w32 n ++ g))
-one_framed c type n g k p fits le = omega (arith, known_extent c type (to_be_bytes w32 n ++ g) k, framed_extent type n g p fits)
+module _ (c : ℕ) (type : AMQPType) (l g : List ℕ) (k : kind c ≡ Some type) (p : HasLengthPrefix type) (four : length l ≡ 4) where
+  pub counted_extent : extent (c ∷ (l ++ g)) ≡ 5 + from_be_bytes w32 l
+  counted_extent = omega (arith, known_extent c type (l ++ g) k, framed_extent type l g p four)
+
+  pub one_framed : length g ≤ from_be_bytes w32 l → length (c ∷ (l ++ g)) ≤ extent (c ∷ (l ++ g))
+  one_framed le = omega (arith, counted_extent, length-append l g)
+
+-- and no fewer than a type tag and a length
+pub one_length : (c : ℕ) (type : AMQPType) (l : List ℕ) → kind c ≡ Some type → HasLengthPrefix type → length l ≤ 4 → length (c ∷ l) ≤ extent (c ∷ l)
+one_length c type l k p le = omega (arith, known_extent c type l k, by type p)
+  where
+    least : (t : Bool) (n : ℕ) → 4 ≤ cond t 4 (4 + n)
+    least true n = omega arith
+    least false n = omega arith
+
+    by : (type : AMQPType) → HasLengthPrefix type → 4 ≤ raw_extent type l
+    by amqp.LongString p = least (nat_lt (length l) 4) (counted w32 l)
+    by amqp.ByteArray p = least (nat_lt (length l) 4) (counted w32 l)
+    by amqp.FieldArray p = least (nat_lt (length l) 4) (counted w32 l)
+    by amqp.FieldTable p = least (nat_lt (length l) 4) (counted w32 l)
+    by _ p = absurd p

@@ -17,8 +17,8 @@ module _ (xs : List ℕ) (a e : ℕ) (w rest : List ℕ) (is : slice_range xs a 
   window_size le in_xs = omega (arith, length-between xs a e in_xs, ap length is, length-append w rest)
 
   -- its prefix
-  pub window_front : slice_range xs a (a + length w) ≡ w
-  window_front =
+  pub window_prefix : slice_range xs a (a + length w) ≡ w
+  window_prefix =
       let zs = drop a xs in
       let whole : zs ≡ w ++ (rest ++ drop (e - a) zs) = sym (take-append-drop (e - a) zs) ∙ (ap (λ (s : List ℕ). s ++ drop (e - a) zs) is ∙ append_assoc w rest (drop (e - a) zs)) in
       let count : a + length w - a ≡ length w = omega arith in

@@ -5,7 +5,7 @@ use Rattle.amqp_value_core.specs.Outcomes.{found}
 use Rattle.amqp_value_core.specs.Nesting.{OutcomeWithin}
 use Rattle.amq_protocol_types.specs.declared.parsing.errors.ErrorKind.TheVariants.{MapOpt, Eof}
 use Rattle.amq_protocol_types.specs.parsing.Refusals.{Refusal, lacks, refused}
-use Rattle.amq_protocol_types.specs.parsing.ParseResults.{Refuses}
+use Rattle.amq_protocol_types.specs.parsing.ParseResults.{IsRefusal}
 use Rattle.amq_protocol_types.specs.parsing.Headers.{extent}
 use Rattle.amq_protocol_types.specs.parsing.Limits.{Within}
 use Rattle.amq_protocol_types.specs.declared.parsing.limits.Limits.{Limits}
@@ -13,7 +13,7 @@ use Rattle.amqp_dissect.specs.declared.dissection.End.{End}
 use Rattle.amqp_dissect.specs.declared.dissection.End.TheVariants as end
 use Rattle.amqp_dissect.specs.declared.problem.Problem.{Problem}
 use Rattle.amqp_dissect.specs.declared.problem.Problem.TheVariants.{NoTypeTag, UnknownTypeTag, Cut}
-use Rattle.amqp_dissect.specs.Problems.{NoValue}
+use Rattle.amqp_dissect.specs.Problems.{IsNoValue}
 
 -- the error that reading returns if the first entry that isn't one is at the offset: of the value
 -- itself what is missing of its type tag or payload, or that its first byte isn't a type tag; for
@@ -26,7 +26,7 @@ refusal_of _ _ = refused Eof
 
 -- after n bytes of s its value ends, as reading within the limits has it; or the first entry that
 -- isn't one is there, and reading returns that error; or, if n is 0, the value is too large
-abbrev pub Ends : Limits → List ℕ → ℕ → End → Type 0
-Ends l s n end.Value = (v : Tree) × Within l s (found v (drop n s))
-Ends l s n (end.Problem p) = (extent s ≤ l.frame) × NoValue l.depth s n p × Refuses (OutcomeWithin l.depth s) ⊥ (refusal_of n p)
-Ends l s n end.TooLarge = (n ≡ 0) × (l.frame < extent s)
+abbrev pub IsDissectionEnd : Limits → List ℕ → ℕ → End → Type 0
+IsDissectionEnd l s n end.Value = (v : Tree) × Within l s (found v (drop n s))
+IsDissectionEnd l s n (end.Problem p) = (extent s ≤ l.frame) × IsNoValue l.depth s n p × IsRefusal (OutcomeWithin l.depth s) ⊥ (refusal_of n p)
+IsDissectionEnd l s n end.TooLarge = (n ≡ 0) × (l.frame < extent s)

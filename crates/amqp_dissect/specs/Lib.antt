@@ -4,6 +4,8 @@ pub mod Parts
 pub mod PartsOf
 -- the first entry that isn't one
 pub mod Problems
+-- input that ends inside its value
+pub mod Truncated
 -- what traversing an encoding returns
 pub mod Walks
 -- escaped strings

@@ -10,5 +10,5 @@ abbrev pub HasTypeTag : List ℕ → Type 0
 HasTypeTag s = (type : AMQPType) × (rest : List ℕ) × IsType s type rest
 
 -- it does, and the value isn't too large
-abbrev pub TakesMemory : Limits → List ℕ → Type 0
-TakesMemory l s = HasTypeTag s × (extent s ≤ l.frame)
+abbrev pub DissectionAllocates : Limits → List ℕ → Type 0
+DissectionAllocates l s = HasTypeTag s × (extent s ≤ l.frame)

@@ -23,25 +23,25 @@ part field level [] = []
 part field level (c ∷ b) = (field, level, c ∷ b) ∷ []
 
 -- of the type of a container, a level and the bytes of entries: their parts
-abbrev pub Inside : Type 0
-Inside = AMQPType → ℕ → List ℕ → List Piece
+abbrev pub PartsInside : Type 0
+PartsInside = AMQPType → ℕ → List ℕ → List Piece
 
 -- what a length counts: the entries of a container, one level deeper, or the payload of a string or
 -- byte array
-unfoldable pub counted_parts : Inside → AMQPType → ℕ → List ℕ → List Piece
+unfoldable pub counted_parts : PartsInside → AMQPType → ℕ → List ℕ → List Piece
 counted_parts inside amqp.FieldArray level s = inside amqp.FieldArray (suc level) s
 counted_parts inside amqp.FieldTable level s = inside amqp.FieldTable (suc level) s
 counted_parts inside type level s = part (Payload type) level s
 
 -- after a type tag: a payload of fixed width, or a length of four bytes and what it counts
-unfoldable pub payload_parts : Inside → AMQPType → ℕ → List ℕ → List Piece
+unfoldable pub payload_parts : PartsInside → AMQPType → ℕ → List ℕ → List Piece
 payload_parts inside type level b = elim (fixed type) [
   | Some f ↦ part (Payload type) level b
   | None ↦ part (Length type) level (take 4 b) ++ counted_parts inside type level (drop 4 b)
 ]
 
 -- a value: a type tag, and the rest by the layout of its type
-unfoldable pub value_parts : Inside → ℕ → List ℕ → List Piece
+unfoldable pub value_parts : PartsInside → ℕ → List ℕ → List Piece
 value_parts inside level [] = []
 value_parts inside level (c ∷ b) = elim (kind c) [
   | None ↦ []
@@ -60,7 +60,7 @@ key_extent (n ∷ s) = suc n
 
 -- the entries of a container, one after another, at most n: in a table each is a key and a value, in
 -- an array a value; a value's type tag and its length determine how long it is (`extent`)
-unfoldable pub entries_parts : ℕ → Inside
+unfoldable pub entries_parts : ℕ → PartsInside
 entries_parts zero type level s = []
 entries_parts (suc n) amqp.FieldTable level s =
     let v = drop (key_extent s) s in
@@ -72,7 +72,7 @@ entries_parts (suc n) type level s =
     ++ entries_parts n type level (drop (extent s) s)
 
 -- the parts of entries, and of a value, at a level: no more entries are there than bytes
-abbrev pub entries_at : Inside
+abbrev pub entries_at : PartsInside
 entries_at type level s = entries_parts (length s) type level s
 
 abbrev pub value_at : ℕ → List ℕ → List Piece

@@ -2,7 +2,7 @@
 
 ghost use Rattle.std.specs.Prelude.{IfOk, OnErr};
 ghost use Rattle.amqp_dissect.specs.Dissections.{IsDissection};
-ghost use Rattle.amqp_dissect.specs.Memory.{TakesMemory};
+ghost use Rattle.amqp_dissect.specs.Memory.{DissectionAllocates};
 
 use crate::part::Part;
 use crate::problem::Problem;
@@ -43,7 +43,7 @@ pub fn dissect<'a>(
     limits: Limits,
 ) -> Result<Dissection<'a>, AllocError>
     ensures dissection { IfOk result (IsDissection limits input.entry.now) }
-    ensures memory { OnErr result (TakesMemory limits input.entry.now) }
+    ensures memory { OnErr result (DissectionAllocates limits input.entry.now) }
 {
     let mut walk = Walk::new(alloc, input, limits.depth);
     let end = walk.go(limits)?;

@@ -21,11 +21,11 @@ pub fn first_leaf<'a>(parts: &[Part<'a>]) -> Option<Leaf<'a>>
     ensures leaf { IfSome result (λ leaf. IsLeaf parts.now leaf.amqp_type leaf.payload.now) }
     ensures none { IfNone result ((type : AMQPType) (bytes : List ℕ) → IsLeaf parts.now type bytes → ⊥) }
 {
-    let (tag, behind) = parts.split_first()?;
+    let (tag, after) = parts.split_first()?;
     let Field::TypeTag(amqp_type) = tag.field else {
         return None;
     };
-    let payload = first_payload(amqp_type, behind)?;
+    let payload = first_payload(amqp_type, after)?;
     Some(Leaf { amqp_type, payload })
 }
 
@@ -47,14 +47,14 @@ fn counted_payload<'a>(amqp_type: AMQPType, parts: &[Part<'a>]) -> Option<&'a [u
     ensures payload { IfSome result (λ payload. IsCountedFirst parts.now amqp_type payload.now) }
     ensures none { IfNone result ((bytes : List ℕ) → IsCountedFirst parts.now amqp_type bytes → ⊥) }
 {
-    let (len, behind) = parts.split_first()?;
+    let (len, after) = parts.split_first()?;
     if len.field != Field::Length(amqp_type) {
         return None;
     }
     if len.bytes == [0, 0, 0, 0].as_slice() {
         return Some(&[]);
     }
-    payload_part(amqp_type, behind)
+    payload_part(amqp_type, after)
 }
 
 // The payload that is the first part.

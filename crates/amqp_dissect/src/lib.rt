@@ -7,6 +7,7 @@
 mod dissection;
 mod leaf;
 mod part;
+mod partial;
 mod problem;
 mod text;
 mod walk;
@@ -14,5 +15,6 @@ mod walk;
 pub use dissection::{Dissection, End, dissect};
 pub use leaf::{Leaf, first_leaf, leaf_of};
 pub use part::{Field, Part};
+pub use partial::{Partial, dissect_partial};
 pub use problem::Problem;
 pub use text::escape;

@@ -1,5 +1,6 @@
 //! The parts of an encoding up to the current offset.
 
+mod start;
 mod values;
 
 ghost use Rattle.std.specs.Prelude.{◌≡◌, ◌≤◌, ◌+◌, ◌-◌, ◌++◌, [], IsTrue, length, map, take, slice_range, OnOk, OnErr};

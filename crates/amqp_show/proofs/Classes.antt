@@ -6,47 +6,47 @@ use Rattle.amqp_show.specs.declared.spelling.Character.TheVariants.{Digit, Space
 use Rattle.amqp_show.specs.Characters.{digit_of, no_digit_of, digit_or, character_of}
 use Rattle.amqp_show.specs.Spelled.{IsWhite}
 
-abbrev pub Means : ℕ → Character → Type 0
-Means c (Digit value) = digit_of c ≡ Some value
-Means c Space = c ≡ 32
-Means c Blank = IsWhite c
-Means c LineEnd = c ≡ 10
-Means c Comma = c ≡ 44
-Means c Colon = c ≡ 58
-Means c Hash = c ≡ 35
-Means c Bar = c ≡ 124
-Means c Backslash = c ≡ 92
-Means c SmallX = c ≡ 120
-Means c CapitalX = c ≡ 88
-Means c Star = c ≡ 42
-Means c Other = Unit {0}
+abbrev pub IsClassOf : ℕ → Character → Type 0
+IsClassOf c (Digit value) = digit_of c ≡ Some value
+IsClassOf c Space = c ≡ 32
+IsClassOf c Blank = IsWhite c
+IsClassOf c LineEnd = c ≡ 10
+IsClassOf c Comma = c ≡ 44
+IsClassOf c Colon = c ≡ 58
+IsClassOf c Hash = c ≡ 35
+IsClassOf c Bar = c ≡ 124
+IsClassOf c Backslash = c ≡ 92
+IsClassOf c SmallX = c ≡ 120
+IsClassOf c CapitalX = c ≡ 88
+IsClassOf c Star = c ≡ 42
+IsClassOf c Other = Unit {0}
 
 -- a class that is chosen by a test
-Means-if : (c k : ℕ) (class other : Character) → (c ≡ k → Means c class) → Means c other → Means c (cond (eqb c k) class other)
-Means-if c k class rest is not = pick (eqb c k) refl where
-  pick : (b : Bool) → eqb c k ≡ b → Means c (cond b class rest)
+IsClassOf-if : (c k : ℕ) (class other : Character) → (c ≡ k → IsClassOf c class) → IsClassOf c other → IsClassOf c (cond (eqb c k) class other)
+IsClassOf-if c k class rest is not = pick (eqb c k) refl where
+  pick : (b : Bool) → eqb c k ≡ b → IsClassOf c (cond b class rest)
   pick true e = is (grind (arith, nat_tests))
   pick false e = not
 
-Means-blank : (c : ℕ) (other : Character) → Means c other → Means c (cond (eqb c 9 || eqb c 12 || eqb c 13) Blank other)
-Means-blank c rest not = pick (eqb c 9 || eqb c 12 || eqb c 13) refl where
-  pick : (b : Bool) → (eqb c 9 || eqb c 12 || eqb c 13) ≡ b → Means c (cond b Blank rest)
+IsClassOf-blank : (c : ℕ) (other : Character) → IsClassOf c other → IsClassOf c (cond (eqb c 9 || eqb c 12 || eqb c 13) Blank other)
+IsClassOf-blank c rest not = pick (eqb c 9 || eqb c 12 || eqb c 13) refl where
+  pick : (b : Bool) → (eqb c 9 || eqb c 12 || eqb c 13) ≡ b → IsClassOf c (cond b Blank rest)
   pick true e = grind (arith, nat_tests)
   pick false e = not
 
-Means-no_digit : (c : ℕ) → Means c (no_digit_of c)
-Means-no_digit c =
-    Means-if c 32 _ _ (λ e. e) (Means-if c 10 _ _ (λ e. e) (Means-blank c _ (Means-if c 44 _ _ (λ e. e) (Means-if c 58 _ _ (λ e. e) (Means-if c 35 _ _ (λ e. e) (Means-if c 124 _ _ (λ e. e)
-    (Means-if c 92 _ _ (λ e. e) (Means-if c 120 _ _ (λ e. e) (Means-if c 88 _ _ (λ e. e) (Means-if c 42 _ _ (λ e. e) tt))))))))))
+IsClassOf-no_digit : (c : ℕ) → IsClassOf c (no_digit_of c)
+IsClassOf-no_digit c =
+    IsClassOf-if c 32 _ _ (λ e. e) (IsClassOf-if c 10 _ _ (λ e. e) (IsClassOf-blank c _ (IsClassOf-if c 44 _ _ (λ e. e) (IsClassOf-if c 58 _ _ (λ e. e) (IsClassOf-if c 35 _ _ (λ e. e) (IsClassOf-if c 124 _ _ (λ e. e)
+    (IsClassOf-if c 92 _ _ (λ e. e) (IsClassOf-if c 120 _ _ (λ e. e) (IsClassOf-if c 88 _ _ (λ e. e) (IsClassOf-if c 42 _ _ (λ e. e) tt))))))))))
 
-Means-or : (c : ℕ) (value : Option ℕ) (other : Character) → digit_of c ≡ value → Means c other → Means c (digit_or value other)
-Means-or c (Some value) rest e m = e
-Means-or c None rest e m = m
+IsClassOf-or : (c : ℕ) (value : Option ℕ) (other : Character) → digit_of c ≡ value → IsClassOf c other → IsClassOf c (digit_or value other)
+IsClassOf-or c (Some value) rest e m = e
+IsClassOf-or c None rest e m = m
 
 -- what the class of a character states of it
-pub Means-class : (c : ℕ) → Means c (character_of c)
+pub IsClassOf-class : (c : ℕ) → IsClassOf c (character_of c)
 unfolding character_of
-Means-class c = Means-or c (digit_of c) (no_digit_of c) refl (Means-no_digit c)
+IsClassOf-class c = IsClassOf-or c (digit_of c) (no_digit_of c) refl (IsClassOf-no_digit c)
 
 -- a digit is one by its class
 pub class-digit : (c value : ℕ) → digit_of c ≡ Some value → character_of c ≡ Digit value

@@ -10,9 +10,9 @@ use Rattle.amqp_show.specs.declared.spelling.State.TheVariants as states
 use Rattle.amqp_show.specs.declared.spelling.Character.{Character}
 use Rattle.amqp_show.specs.declared.spelling.Character.TheVariants.{Digit, Space, Blank, LineEnd, Comma, Colon, Hash, Bar, Backslash, SmallX, CapitalX}
 use Rattle.amqp_show.specs.Characters.{digit_of, character_of}
-use Rattle.amqp_show.specs.Spelled.{Spells, Place, Margin, Inside, line_start, IsWhite, IsLineEnd, IsNoSpace, MayStand, IsMark, IsPrefix, IsOffsetEnd, number_after, ends, line_end, separator, ignored, byte, offset, end_offset}
+use Rattle.amqp_show.specs.Spelled.{Spells, Place, Margin, Inside, line_start, IsWhite, IsLineEnd, IsNoSpace, MayStand, IsMark, IsBytePrefix, IsOffsetEnd, number_after, ends, line_end, separator, ignored, byte, offset, end_offset}
 use Rattle.amqp_show.specs.Steps.{start_state, high_step, step, given_before, count_after, if_ok, read}
-use Rattle.amqp_show.proofs.Classes.{Means, Means-class, class-digit, class-white, class-line_end, class-hash, class-bar, class-space, class-comma, class-colon, class-small_x, class-capital_x, class-backslash, class-zero, digit-bound}
+use Rattle.amqp_show.proofs.Classes.{IsClassOf, IsClassOf-class, class-digit, class-white, class-line_end, class-hash, class-bar, class-space, class-comma, class-colon, class-small_x, class-capital_x, class-backslash, class-zero, digit-bound}
 
 -- the state at a place
 abbrev pub state_at : Place → State
@@ -39,8 +39,8 @@ read-byte form count value (c ∷ text) = refl
 read-space : (form : Form) (count : ℕ) (text : List ℕ) → IsNoSpace text → read form count states.Space text ≡ read form count states.Gap text
 unfolding read
 read-space form count [] h = refl
-read-space form count (c ∷ text) h = by_class (character_of c) (Means-class c) where
-  by_class : (class : Character) → Means c class → if_ok (step form count states.Space class) (λ next. given_before next (read form (count_after count next) next text)) ≡ if_ok (step form count states.Gap class) (λ next. given_before next (read form (count_after count next) next text))
+read-space form count (c ∷ text) h = by_class (character_of c) (IsClassOf-class c) where
+  by_class : (class : Character) → IsClassOf c class → if_ok (step form count states.Space class) (λ next. given_before next (read form (count_after count next) next text)) ≡ if_ok (step form count states.Gap class) (λ next. given_before next (read form (count_after count next) next text))
   by_class Space m = absurd (h m)
   by_class _ m = refl
 
@@ -52,8 +52,8 @@ read-ignored form Margin count [] [] all end = refl
 read-ignored form Inside count [] [] all end = refl
 read-ignored form Margin count [] (c ∷ text) all end = rw end (read-cons form count states.Ignored 10 text LineEnd class-line_end ∙ sym (read-cons form count states.Margin 10 text LineEnd class-line_end))
 read-ignored form Inside count [] (c ∷ text) all end = rw end (read-cons form count states.Ignored 10 text LineEnd class-line_end ∙ sym (read-cons form count states.Gap 10 text LineEnd class-line_end))
-read-ignored form place count (c ∷ characters) text all end = by_class (character_of c) (Means-class c) ∙ read-ignored form place count characters text all.1 end where
-  by_class : (class : Character) → Means c class → if_ok (step form count states.Ignored class) (λ next. given_before next (read form (count_after count next) next (characters ++ text))) ≡ read form count states.Ignored (characters ++ text)
+read-ignored form place count (c ∷ characters) text all end = by_class (character_of c) (IsClassOf-class c) ∙ read-ignored form place count characters text all.1 end where
+  by_class : (class : Character) → IsClassOf c class → if_ok (step form count states.Ignored class) (λ next. given_before next (read form (count_after count next) next (characters ++ text))) ≡ read form count states.Ignored (characters ++ text)
   by_class LineEnd m = absurd (all.0 m)
   by_class _ m = refl
 
@@ -81,7 +81,7 @@ read-offset form count number (c ∷ digits) text e = by_digit (λ value. read-o
       read-cons form count (states.Offset number) c (digits ++ text) (Digit value) (class-digit c value s)
       ∙ (ap (λ n. read form count (states.Offset n) (digits ++ text)) same ∙ goes value e)
 
--- the same at the beginning of a line
+-- an offset is read at the beginning of a line
 read-margin : (form : Form) (count first : ℕ) (digits text : List ℕ) → number_after 0 (first ∷ digits) ≡ Some count
     → read form count states.Margin ((first ∷ digits) ++ text) ≡ read form count (states.Offset count) text
 read-margin form count first digits text e = by_digit (digit_of first) refl e where
@@ -139,8 +139,8 @@ module _ (form : Form) (count high low h l : ℕ) (text : List ℕ) (is_high : d
   read-digits = read-cons form count states.Gap high (low ∷ text) (Digit h) (class-digit high h is_high)
       ∙ (given-high form count h (low ∷ text) ∙ (read-high form count h low l text is_low ∙ read-low form count h low l text (digit-bound high h is_high) is_low))
 
-  read-behind_prefix : read form count states.Prefix (high ∷ low ∷ text) ≡ option_map (λ rest. (16 * h + l) ∷ rest) (read form (count + 1) states.Gap text)
-  read-behind_prefix = read-cons form count states.Prefix high (low ∷ text) (Digit h) (class-digit high h is_high) ∙ read-low form count h low l text (digit-bound high h is_high) is_low
+  read-after_prefix : read form count states.Prefix (high ∷ low ∷ text) ≡ option_map (λ rest. (16 * h + l) ∷ rest) (read form (count + 1) states.Gap text)
+  read-after_prefix = read-cons form count states.Prefix high (low ∷ text) (Digit h) (class-digit high h is_high) ∙ read-low form count h low l text (digit-bound high h is_high) is_low
 
 after-start : (form : Form) (count : ℕ) (text : List ℕ) → given_before (start_state form) (read form (count_after count (start_state form)) (start_state form) text) ≡ read form count (state_at (line_start form)) text
 after-start Plain count text = refl
@@ -169,18 +169,18 @@ read-mark Plain Inside count mark text (inr h) = absurd h
 read-mark Hexdump Inside count mark text (inr e) = rw e (read-cons Hexdump count states.Gap 124 text Bar class-bar)
 read-mark Xxd Inside count mark text (inr e) = rw e (read-cons Xxd count states.Gap 32 (32 ∷ text) Space class-space ∙ read-cons Xxd count states.Space 32 text Space class-space)
 
-read-prefix : (form : Form) (count high low h l : ℕ) (text prefix : List ℕ) → digit_of high ≡ Some h → digit_of low ≡ Some l → IsPrefix form prefix
+read-prefix : (form : Form) (count high low h l : ℕ) (text prefix : List ℕ) → digit_of high ≡ Some h → digit_of low ≡ Some l → IsBytePrefix form prefix
     → read form count states.Gap (prefix ++ (high ∷ low ∷ text)) ≡ option_map (λ rest. (16 * h + l) ∷ rest) (read form (count + 1) states.Gap text)
 read-prefix Plain count high low h l text prefix is_high is_low (inl e) = rw e (read-digits Plain count high low h l text is_high is_low)
 read-prefix Plain count high low h l text prefix is_high is_low (inr (inl e)) =
     rw e (read-cons Plain count states.Gap 48 (120 ∷ high ∷ low ∷ text) (Digit 0) (class-digit 48 0 class-zero)
-    ∙ (read-cons Plain count states.Zero 120 (high ∷ low ∷ text) SmallX class-small_x ∙ read-behind_prefix Plain count high low h l text is_high is_low))
+    ∙ (read-cons Plain count states.Zero 120 (high ∷ low ∷ text) SmallX class-small_x ∙ read-after_prefix Plain count high low h l text is_high is_low))
 read-prefix Plain count high low h l text prefix is_high is_low (inr (inr (inl e))) =
     rw e (read-cons Plain count states.Gap 48 (88 ∷ high ∷ low ∷ text) (Digit 0) (class-digit 48 0 class-zero)
-    ∙ (read-cons Plain count states.Zero 88 (high ∷ low ∷ text) CapitalX class-capital_x ∙ read-behind_prefix Plain count high low h l text is_high is_low))
+    ∙ (read-cons Plain count states.Zero 88 (high ∷ low ∷ text) CapitalX class-capital_x ∙ read-after_prefix Plain count high low h l text is_high is_low))
 read-prefix Plain count high low h l text prefix is_high is_low (inr (inr (inr e))) =
     rw e (read-cons Plain count states.Gap 92 (120 ∷ high ∷ low ∷ text) Backslash class-backslash
-    ∙ (read-cons Plain count states.Backslash 120 (high ∷ low ∷ text) SmallX class-small_x ∙ read-behind_prefix Plain count high low h l text is_high is_low))
+    ∙ (read-cons Plain count states.Backslash 120 (high ∷ low ∷ text) SmallX class-small_x ∙ read-after_prefix Plain count high low h l text is_high is_low))
 read-prefix Hexdump count high low h l text prefix is_high is_low e = rw e (read-digits Hexdump count high low h l text is_high is_low)
 read-prefix Xxd count high low h l text prefix is_high is_low e = rw e (read-digits Xxd count high low h l text is_high is_low)
 

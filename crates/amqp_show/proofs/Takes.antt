@@ -11,16 +11,16 @@ use Rattle.amqp_show.specs.Characters.{digit_of, character_of}
 use Rattle.amqp_show.specs.declared.spelling.Position.{Position}
 use Rattle.amqp_show.specs.declared.spelling.Fault.{Fault}
 use Rattle.amqp_show.specs.declared.spelling.Spelling.{Spelling}
-use Rattle.amqp_show.specs.Positions.{behind, end_from, end_of}
-use Rattle.amqp_show.specs.Taken.{Took, IsFault, EndsEarly}
+use Rattle.amqp_show.specs.Positions.{after, end_from, end_of}
+use Rattle.amqp_show.specs.Taken.{IsTextTaken, IsTextFault, EndsEarly}
 use Rattle.amqp_show.specs.Spelled.{IsSpelling, CanBegin, CannotBegin, line_start}
 use Rattle.amqp_show.specs.Steps.{start_state, step, byte_of, given_before, count_after, if_ok, end_reason, if_none, read}
 use Rattle.amqp_show.proofs.Complete.{read-spelled, read-cons, state-start}
 use Rattle.amqp_show.proofs.Sound.{spelled-read}
 
 -- a text led from the beginning to a state, and yielded bytes
-abbrev pub Leads : Form → List ℕ → List ℕ → State → Type 0
-Leads form text bytes state = (rest : List ℕ) → read form 0 (start_state form) (text ++ rest) ≡ option_map (λ others. bytes ++ others) (read form (length bytes) state rest)
+abbrev pub TextLeads : Form → List ℕ → List ℕ → State → Type 0
+TextLeads form text bytes state = (rest : List ℕ) → read form 0 (start_state form) (text ++ rest) ≡ option_map (λ others. bytes ++ others) (read form (length bytes) state rest)
 
 with-given : (form : Form) (bytes : List ℕ) (next : State) (rest : List ℕ)
     → option_map (λ others. bytes ++ others) (given_before next (read form (count_after (length bytes) next) next rest))
@@ -31,9 +31,9 @@ with-given form bytes (states.Byte value) rest = same (read form (length bytes +
   same (Some others) = ap Some (sym (append_assoc bytes (value ∷ []) others))
 with-given form bytes next rest = ap (λ (bs : List ℕ). option_map (λ others. bs ++ others) (read form (length bs) next rest)) (sym (append-nil bytes))
 
-pub Leads-more : (form : Form) (text bytes : List ℕ) (state next : State) (c : ℕ) → Leads form text bytes state → step form (length bytes) state (character_of c) ≡ Ok next
-    → Leads form (text ++ c ∷ []) (bytes ++ option_to_list (byte_of next)) next
-Leads-more form text bytes state next c leads e rest =
+pub TextLeads-more : (form : Form) (text bytes : List ℕ) (state next : State) (c : ℕ) → TextLeads form text bytes state → step form (length bytes) state (character_of c) ≡ Ok next
+    → TextLeads form (text ++ c ∷ []) (bytes ++ option_to_list (byte_of next)) next
+TextLeads-more form text bytes state next c leads e rest =
     ap (read form 0 (start_state form)) (append_assoc text (c ∷ []) rest)
     ∙ (leads (c ∷ rest)
     ∙ (ap (option_map (λ others. bytes ++ others)) (read-cons form (length bytes) state c rest (character_of c) refl ∙ ap (λ r. if_ok r (λ next. given_before next (read form (count_after (length bytes) next) next rest))) e)
@@ -44,7 +44,7 @@ read-spelling : (form : Form) (text bytes : List ℕ) → IsSpelling form text b
 read-spelling form text bytes h = ap (λ s. read form 0 s text) (sym (state-start form)) ∙ read-spelled form (line_start form) 0 text bytes h
 
 -- after a fault no text spells bytes
-pub CannotBegin-fault : (form : Form) (text bytes : List ℕ) (state : State) (c : ℕ) (reason : Reason) → Leads form text bytes state → step form (length bytes) state (character_of c) ≡ Err reason
+pub CannotBegin-fault : (form : Form) (text bytes : List ℕ) (state : State) (c : ℕ) (reason : Reason) → TextLeads form text bytes state → step form (length bytes) state (character_of c) ≡ Err reason
     → CannotBegin form (text ++ c ∷ [])
 CannotBegin-fault form text bytes state c reason leads e rest others h =
     let is_read = read-spelling form ((text ++ c ∷ []) ++ rest) others h in
@@ -55,7 +55,7 @@ CannotBegin-fault form text bytes state c reason leads e rest others h =
     cc
 
 -- a text that ends at which it may not spells no bytes
-pub fails-at_end : (form : Form) (text bytes others : List ℕ) (state : State) (reason : Reason) → Leads form text bytes state → end_reason (length bytes) state ≡ Some reason → IsSpelling form text others → ⊥
+pub fails-at_end : (form : Form) (text bytes others : List ℕ) (state : State) (reason : Reason) → TextLeads form text bytes state → end_reason (length bytes) state ≡ Some reason → IsSpelling form text others → ⊥
 unfolding read
 fails-at_end form text bytes others state reason leads e h =
     let is_read = read-spelling form text others h in
@@ -65,68 +65,68 @@ fails-at_end form text bytes others state reason leads e h =
     cc
 
 -- a text that ends at which it may spells bytes
-pub spelled-at_end : (form : Form) (text bytes : List ℕ) (state : State) → Leads form text bytes state → end_reason (length bytes) state ≡ None → IsSpelling form text bytes
+pub spelled-at_end : (form : Form) (text bytes : List ℕ) (state : State) → TextLeads form text bytes state → end_reason (length bytes) state ≡ None → IsSpelling form text bytes
 unfolding read
 spelled-at_end form text bytes state leads e =
     spelled-read form 0 text bytes (sym (ap (read form 0 (start_state form)) (append-nil text)) ∙ (leads [] ∙ (ap (λ r. option_map (λ others. bytes ++ others) (if_none r)) e ∙ ap Some (append-nil bytes))))
 
 -- a text can go on at a state so that all of it is read
-abbrev Viable : Form → ℕ → State → Type 0
-Viable form count state = (rest bytes : List ℕ) × (read form count state rest ≡ Some bytes)
+abbrev IsViable : Form → ℕ → State → Type 0
+IsViable form count state = (rest bytes : List ℕ) × (read form count state rest ≡ Some bytes)
 
-CanBegin-viable : (form : Form) (text bytes : List ℕ) (state : State) → Leads form text bytes state → Viable form (length bytes) state → CanBegin form text
+CanBegin-viable : (form : Form) (text bytes : List ℕ) (state : State) → TextLeads form text bytes state → IsViable form (length bytes) state → CanBegin form text
 CanBegin-viable form text bytes state leads v =
     (v.0, bytes ++ v.1, spelled-read form 0 (text ++ v.0) (bytes ++ v.1) (leads v.0 ∙ ap (option_map (λ others. bytes ++ others)) v.2))
 
 -- an offset that is the count of bytes may be the end
-Viable-offset : (form : Form) (count number : ℕ) → eqb number count ≡ true → Viable form count (states.Offset number)
+IsViable-offset : (form : Form) (count number : ℕ) → eqb number count ≡ true → IsViable form count (states.Offset number)
 unfolding read
-Viable-offset form count number t = ([], [], ap (λ b. if_none (cond b None (Some OtherOffset))) t)
+IsViable-offset form count number t = ([], [], ap (λ b. if_none (cond b None (Some OtherOffset))) t)
 
-Viable-offset_step : (form : Form) (count number : ℕ) (behind : Result State Reason) (reason : Reason) → (if number == count then behind else Err OtherOffset) ≡ Err reason → reason ≢ OtherOffset
-    → Viable form count (states.Offset number)
-Viable-offset_step form count number behind reason e other = by_number (eqb number count) refl e where
-  by_number : (b : Bool) → eqb number count ≡ b → cond b behind (Err OtherOffset) ≡ Err reason → Viable form count (states.Offset number)
-  by_number true t e = Viable-offset form count number t
+IsViable-offset_step : (form : Form) (count number : ℕ) (after : Result State Reason) (reason : Reason) → (if number == count then after else Err OtherOffset) ≡ Err reason → reason ≢ OtherOffset
+    → IsViable form count (states.Offset number)
+IsViable-offset_step form count number after reason e other = by_number (eqb number count) refl e where
+  by_number : (b : Bool) → eqb number count ≡ b → cond b after (Err OtherOffset) ≡ Err reason → IsViable form count (states.Offset number)
+  by_number true t e = IsViable-offset form count number t
   by_number false t e = absurd (other (cc))
 
-Viable-offset_end : (form : Form) (count number : ℕ) (reason : Reason) → (if number == count then None else Some OtherOffset) ≡ Some reason → reason ≢ OtherOffset → Viable form count (states.Offset number)
-Viable-offset_end form count number reason e other = by_number (eqb number count) refl e where
-  by_number : (b : Bool) → eqb number count ≡ b → cond b None (Some OtherOffset) ≡ Some reason → Viable form count (states.Offset number)
-  by_number true t e = Viable-offset form count number t
+IsViable-offset_end : (form : Form) (count number : ℕ) (reason : Reason) → (if number == count then None else Some OtherOffset) ≡ Some reason → reason ≢ OtherOffset → IsViable form count (states.Offset number)
+IsViable-offset_end form count number reason e other = by_number (eqb number count) refl e where
+  by_number : (b : Bool) → eqb number count ≡ b → cond b None (Some OtherOffset) ≡ Some reason → IsViable form count (states.Offset number)
+  by_number true t e = IsViable-offset form count number t
   by_number false t e = absurd (other (cc))
 
-Viable-step : (form : Form) (count : ℕ) (state : State) (class : Character) (reason : Reason) → step form count state class ≡ Err reason → reason ≢ OtherOffset → Viable form count state
+IsViable-step : (form : Form) (count : ℕ) (state : State) (class : Character) (reason : Reason) → step form count state class ≡ Err reason → reason ≢ OtherOffset → IsViable form count state
 unfolding read character_of digit_of
-Viable-step form count states.Margin class reason e other = ([], [], refl)
-Viable-step form count (states.Offset number) (Digit value) reason e other = absurd cc
-Viable-step form count (states.Offset number) class reason e other = Viable-offset_step form count number _ reason e other
-Viable-step form count states.Zero class reason e other = (48 ∷ [], 0 ∷ [], refl)
-Viable-step form count (states.High high) class reason e other = (48 ∷ [], min (16 * high + 0) 255 ∷ [], refl)
-Viable-step form count states.Backslash class reason e other = (120 ∷ 48 ∷ 48 ∷ [], 0 ∷ [], refl)
-Viable-step form count states.Prefix class reason e other = (48 ∷ 48 ∷ [], 0 ∷ [], refl)
-Viable-step form count state class reason e other = ([], [], refl)
+IsViable-step form count states.Margin class reason e other = ([], [], refl)
+IsViable-step form count (states.Offset number) (Digit value) reason e other = absurd cc
+IsViable-step form count (states.Offset number) class reason e other = IsViable-offset_step form count number _ reason e other
+IsViable-step form count states.Zero class reason e other = (48 ∷ [], 0 ∷ [], refl)
+IsViable-step form count (states.High high) class reason e other = (48 ∷ [], min (16 * high + 0) 255 ∷ [], refl)
+IsViable-step form count states.Backslash class reason e other = (120 ∷ 48 ∷ 48 ∷ [], 0 ∷ [], refl)
+IsViable-step form count states.Prefix class reason e other = (48 ∷ 48 ∷ [], 0 ∷ [], refl)
+IsViable-step form count state class reason e other = ([], [], refl)
 
-Viable-end : (form : Form) (count : ℕ) (state : State) (reason : Reason) → end_reason count state ≡ Some reason → reason ≢ OtherOffset → Viable form count state
+IsViable-end : (form : Form) (count : ℕ) (state : State) (reason : Reason) → end_reason count state ≡ Some reason → reason ≢ OtherOffset → IsViable form count state
 unfolding read character_of digit_of
-Viable-end form count (states.Offset number) reason e other = Viable-offset_end form count number reason e other
-Viable-end form count states.Zero reason e other = (48 ∷ [], 0 ∷ [], refl)
-Viable-end form count (states.High high) reason e other = (48 ∷ [], min (16 * high + 0) 255 ∷ [], refl)
-Viable-end form count states.Backslash reason e other = (120 ∷ 48 ∷ 48 ∷ [], 0 ∷ [], refl)
-Viable-end form count states.Prefix reason e other = (48 ∷ 48 ∷ [], 0 ∷ [], refl)
-Viable-end form count _ reason e other = ([], [], refl)
+IsViable-end form count (states.Offset number) reason e other = IsViable-offset_end form count number reason e other
+IsViable-end form count states.Zero reason e other = (48 ∷ [], 0 ∷ [], refl)
+IsViable-end form count (states.High high) reason e other = (48 ∷ [], min (16 * high + 0) 255 ∷ [], refl)
+IsViable-end form count states.Backslash reason e other = (120 ∷ 48 ∷ 48 ∷ [], 0 ∷ [], refl)
+IsViable-end form count states.Prefix reason e other = (48 ∷ 48 ∷ [], 0 ∷ [], refl)
+IsViable-end form count _ reason e other = ([], [], refl)
 
-pub CanBegin-step : (form : Form) (text bytes : List ℕ) (state : State) (c : ℕ) (reason : Reason) → Leads form text bytes state → step form (length bytes) state (character_of c) ≡ Err reason → reason ≢ OtherOffset
+pub CanBegin-step : (form : Form) (text bytes : List ℕ) (state : State) (c : ℕ) (reason : Reason) → TextLeads form text bytes state → step form (length bytes) state (character_of c) ≡ Err reason → reason ≢ OtherOffset
     → CanBegin form text
-CanBegin-step form text bytes state c reason leads e other = CanBegin-viable form text bytes state leads (Viable-step form (length bytes) state (character_of c) reason e other)
+CanBegin-step form text bytes state c reason leads e other = CanBegin-viable form text bytes state leads (IsViable-step form (length bytes) state (character_of c) reason e other)
 
-pub CanBegin-end : (form : Form) (text bytes : List ℕ) (state : State) (reason : Reason) → Leads form text bytes state → end_reason (length bytes) state ≡ Some reason → reason ≢ OtherOffset → CanBegin form text
-CanBegin-end form text bytes state reason leads e other = CanBegin-viable form text bytes state leads (Viable-end form (length bytes) state reason e other)
+pub CanBegin-end : (form : Form) (text bytes : List ℕ) (state : State) (reason : Reason) → TextLeads form text bytes state → end_reason (length bytes) state ≡ Some reason → reason ≢ OtherOffset → CanBegin form text
+CanBegin-end form text bytes state reason leads e other = CanBegin-viable form text bytes state leads (IsViable-end form (length bytes) state reason e other)
 
 -- positions
-pub end_from-push : (at : Position) (text : List ℕ) (c : ℕ) → end_from at (text ++ c ∷ []) ≡ behind (end_from at text) c
+pub end_from-push : (at : Position) (text : List ℕ) (c : ℕ) → end_from at (text ++ c ∷ []) ≡ after (end_from at text) c
 end_from-push at [] c = refl
-end_from-push at (d ∷ text) c = end_from-push (behind at d) text c
+end_from-push at (d ∷ text) c = end_from-push (after at d) text c
 
 pub length-byte_of : (bytes : List ℕ) (state : State) → length (bytes ++ option_to_list (byte_of state)) ≡ count_after (length bytes) state
 length-byte_of bytes (states.Byte value) = length-append bytes (value ∷ [])
@@ -136,41 +136,41 @@ count_after-most : (count : ℕ) (state : State) → count_after count state ≤
 count_after-most count (states.Byte value) = omega arith
 count_after-most count _ = omega arith
 
-behind-lines : (at : Position) (c n : ℕ) → at.line ≤ n → (behind at c).line ≤ n + 1
-behind-lines at c n h = by_end (eqb c 10) where
+after-lines : (at : Position) (c n : ℕ) → at.line ≤ n → (after at c).line ≤ n + 1
+after-lines at c n h = by_end (eqb c 10) where
   by_end : (b : Bool) → let next : Position = cond b (record { line = at.line + 1; column = 1 }) (record { line = at.line; column = at.column + 1 }) in next.line ≤ n + 1
   by_end true = omega arith
   by_end false = omega arith
 
-behind-columns : (at : Position) (c n : ℕ) → at.column ≤ n → 1 ≤ n → (behind at c).column ≤ n + 1
-behind-columns at c n h one = by_end (eqb c 10) where
+after-columns : (at : Position) (c n : ℕ) → at.column ≤ n → 1 ≤ n → (after at c).column ≤ n + 1
+after-columns at c n h one = by_end (eqb c 10) where
   by_end : (b : Bool) → let next : Position = cond b (record { line = at.line + 1; column = 1 }) (record { line = at.line; column = at.column + 1 }) in next.column ≤ n + 1
   by_end true = omega arith
   by_end false = omega arith
 
 -- one more character is taken
-pub Took-more : (s : Spelling) (state : State) (count : ℕ) (position : Position) (text bytes : List ℕ) (c : ℕ) → Took s text bytes → step s.form s.count s.state (character_of c) ≡ Ok state
-    → count ≡ count_after s.count state → position ≡ behind s.position c
-    → Took (record { form = s.form; state = state; count = count; position = position }) (text ++ c ∷ []) (bytes ++ option_to_list (byte_of state))
-Took-more s state count position text bytes c t e counts places =
+pub IsTextTaken-more : (s : Spelling) (state : State) (count : ℕ) (position : Position) (text bytes : List ℕ) (c : ℕ) → IsTextTaken s text bytes → step s.form s.count s.state (character_of c) ≡ Ok state
+    → count ≡ count_after s.count state → position ≡ after s.position c
+    → IsTextTaken (record { form = s.form; state = state; count = count; position = position }) (text ++ c ∷ []) (bytes ++ option_to_list (byte_of state))
+IsTextTaken-more s state count position text bytes c t e counts places =
     let many = count_after-most (length bytes) state in
     let few = t.few in
     let lines = t.lines in
     let columns = t.columns in
     let longer : length (text ++ c ∷ []) ≡ length text + 1 = length-append text (c ∷ []) in
-    let same : position ≡ end_of (text ++ c ∷ []) = places ∙ (ap (λ p. behind p c) t.placed ∙ sym (end_from-push (record { line = 1; column = 1 }) text c)) in
+    let same : position ≡ end_of (text ++ c ∷ []) = places ∙ (ap (λ p. after p c) t.placed ∙ sym (end_from-push (record { line = 1; column = 1 }) text c)) in
     record {
-      reads = Leads-more s.form text bytes s.state state c t.reads (subst (λ (n : ℕ). step s.form n s.state (character_of c) ≡ Ok state) t.counted e);
+      reads = TextLeads-more s.form text bytes s.state state c t.reads (subst (λ (n : ℕ). step s.form n s.state (character_of c) ≡ Ok state) t.counted e);
       counted = counts ∙ (ap (λ n. count_after n state) t.counted ∙ sym (length-byte_of bytes state));
       few = rw (length-byte_of bytes state, longer) (omega arith);
       placed = same;
-      lines = rw (places, longer) (behind-lines s.position c (length text + 1) (omega arith));
-      columns = rw (places, longer) (behind-columns s.position c (length text + 1) (omega arith) (omega arith));
+      lines = rw (places, longer) (after-lines s.position c (length text + 1) (omega arith));
+      columns = rw (places, longer) (after-columns s.position c (length text + 1) (omega arith) (omega arith));
     }
 
 -- the character after which no text can go on
-pub IsFault-step : (s : Spelling) (text bytes : List ℕ) (c : ℕ) (fault : Fault) → Took s text bytes → step s.form s.count s.state (character_of c) ≡ Err fault.reason → fault.position ≡ s.position → IsFault s.form text c fault
-IsFault-step s text bytes c fault t e places =
+pub IsTextFault-step : (s : Spelling) (text bytes : List ℕ) (c : ℕ) (fault : Fault) → IsTextTaken s text bytes → step s.form s.count s.state (character_of c) ≡ Err fault.reason → fault.position ≡ s.position → IsTextFault s.form text c fault
+IsTextFault-step s text bytes c fault t e places =
     let stops = subst (λ (n : ℕ). step s.form n s.state (character_of c) ≡ Err fault.reason) t.counted e in
     record {
       position = places ∙ t.placed;
@@ -178,7 +178,7 @@ IsFault-step s text bytes c fault t e places =
       first = CanBegin-step s.form text bytes s.state c fault.reason t.reads stops;
     }
 
-pub EndsEarly-end : (s : Spelling) (text bytes : List ℕ) (fault : Fault) → Took s text bytes → end_reason s.count s.state ≡ Some fault.reason → fault.position ≡ s.position → EndsEarly s.form text fault
+pub EndsEarly-end : (s : Spelling) (text bytes : List ℕ) (fault : Fault) → IsTextTaken s text bytes → end_reason s.count s.state ≡ Some fault.reason → fault.position ≡ s.position → EndsEarly s.form text fault
 EndsEarly-end s text bytes fault t e places =
     let stops = subst (λ (n : ℕ). end_reason n s.state ≡ Some fault.reason) t.counted e in
     record {
@@ -187,5 +187,5 @@ EndsEarly-end s text bytes fault t e places =
       first = CanBegin-end s.form text bytes s.state fault.reason t.reads stops;
     }
 
-pub spelled-end : (s : Spelling) (text bytes : List ℕ) → Took s text bytes → end_reason s.count s.state ≡ None → IsSpelling s.form text bytes
+pub spelled-end : (s : Spelling) (text bytes : List ℕ) → IsTextTaken s text bytes → end_reason s.count s.state ≡ None → IsSpelling s.form text bytes
 spelled-end s text bytes t e = spelled-at_end s.form text bytes s.state t.reads (subst (λ (n : ℕ). end_reason n s.state ≡ None) t.counted e)

@@ -5,8 +5,8 @@ use Rattle.amqp_show.specs.declared.spelling.Form.{Form}
 use Rattle.amqp_show.specs.declared.spelling.Fault.{Fault}
 use Rattle.amqp_show.specs.declared.spelling.Spelling.{Spelling}
 use Rattle.amqp_show.specs.Spelled.{IsSpelling, form_of_text}
-use Rattle.amqp_show.specs.Taken.{EndsEarly, IsFault, Took, form_of}
-use Rattle.amqp_show.specs.Readings.{Ends, YieldedBy}
+use Rattle.amqp_show.specs.Taken.{EndsEarly, IsTextFault, IsTextTaken, form_of}
+use Rattle.amqp_show.specs.Readings.{IsReadToEnd, YieldedBy}
 
 -- the form is that of the text whose first characters determine it
 pub form-known : (a b : Option (List ℕ)) (head : List ℕ) (form : Form) → Keeps a (prepend_known head b) → ((rest : List ℕ) → form_of_text (head ++ rest) ≡ form) → IfSome a (λ text. form ≡ form_of_text text)
@@ -19,17 +19,17 @@ keeps-some None b rest k e = absurd cc
 keeps-some (Some x) None rest k e = absurd k
 keeps-some (Some x) (Some y) rest k e = ap Some k ∙ e
 
-consumes-some : (a b : Option (List ℕ)) (front rest : List ℕ) → Consumes a b front → a ≡ Some rest → (after : List ℕ) × (b ≡ Some after) × (rest ≡ front ++ after)
-consumes-some None b front rest comes e = absurd cc
-consumes-some (Some x) None front rest comes e = absurd comes
-consumes-some (Some x) (Some y) front rest comes e = let same : rest ≡ x = cc in (y, refl, same ∙ comes)
+consumes-some : (a b : Option (List ℕ)) (prefix rest : List ℕ) → Consumes a b prefix → a ≡ Some rest → (after : List ℕ) × (b ≡ Some after) × (rest ≡ prefix ++ after)
+consumes-some None b prefix rest comes e = absurd cc
+consumes-some (Some x) None prefix rest comes e = absurd comes
+consumes-some (Some x) (Some y) prefix rest comes e = let same : rest ≡ x = cc in (y, refl, same ∙ comes)
 
 at_end-some : (b : Option (List ℕ)) (after : List ℕ) → IsAtEnd b → b ≡ Some after → after ≡ []
 at_end-some None after end e = absurd cc
 at_end-some (Some y) after end e = let same : after ≡ y = cc in same ∙ end
 
-front-short : (text rest whole : List ℕ) → whole ≡ text ++ rest → length whole < 2 ^ 63 → length text < 2 ^ 63
-front-short text rest whole all small = let long : length whole ≡ length text + length rest = ap length all ∙ length-append text rest in omega arith
+prefix-short : (text rest whole : List ℕ) → whole ≡ text ++ rest → length whole < 2 ^ 63 → length text < 2 ^ 63
+prefix-short text rest whole all small = let long : length whole ≡ length text + length rest = ap length all ∙ length-append text rest in omega arith
 
 -- nothing is taken
 pub yielded-kept : (fault : Option Fault) (spelling : Option Spelling) (a b : Option (List ℕ)) (whole bytes : List ℕ) → YieldedBy fault spelling a whole bytes → Keeps a b → YieldedBy fault spelling b whole bytes
@@ -39,30 +39,30 @@ yielded-kept (Some fault) (Some s) a b whole bytes y k = y
 yielded-kept (Some fault) None a b whole bytes y k = absurd y
 
 -- it is known how the text is written
-pub yielded-begun : (s : Spelling) (form : Form) (a b : Option (List ℕ)) (whole bytes : List ℕ) → YieldedBy None None a whole bytes → Keeps a b → IfSome a (λ text. form ≡ form_of_text text) → form_of s ≡ form → Took s [] []
+pub yielded-begun : (s : Spelling) (form : Form) (a b : Option (List ℕ)) (whole bytes : List ℕ) → YieldedBy None None a whole bytes → Keeps a b → IfSome a (λ text. form ≡ form_of_text text) → form_of s ≡ form → IsTextTaken s [] []
     → YieldedBy None (Some s) b whole bytes
 yielded-begun s form None b whole bytes (is, none) k known same took = absurd cc
 yielded-begun s form (Some x) b whole bytes (is, none) k known same took =
     let whole_is : x ≡ whole = cc in
-    ([], whole, (refl, same ∙ (known ∙ ap form_of_text whole_is), subst (Took s []) (sym none) took), keeps-some (Some x) b whole k is)
+    ([], whole, (refl, same ∙ (known ∙ ap form_of_text whole_is), subst (IsTextTaken s []) (sym none) took), keeps-some (Some x) b whole k is)
 
 -- a character is taken
 pub yielded-taken : (s next : Spelling) (a b : Option (List ℕ)) (whole bytes more : List ℕ) (c : ℕ) → length whole < 2 ^ 63 → YieldedBy None (Some s) a whole bytes → Consumes a b (c ∷ []) → form_of next ≡ form_of s
-    → ((text bytes : List ℕ) → length text < 2 ^ 63 → Took s text bytes → Took next (text ++ c ∷ []) (bytes ++ more)) → YieldedBy None (Some next) b whole (bytes ++ more)
+    → ((text bytes : List ℕ) → length text < 2 ^ 63 → IsTextTaken s text bytes → IsTextTaken next (text ++ c ∷ []) (bytes ++ more)) → YieldedBy None (Some next) b whole (bytes ++ more)
 yielded-taken s next a b whole bytes more c small (text, rest, (all, form, took), is) comes same takes =
     let (after, left, begins) = consumes-some a b (c ∷ []) rest comes is in (
       text ++ c ∷ [],
       after,
-      (all ∙ (ap (λ (r : List ℕ). text ++ r) begins ∙ sym (append_assoc text (c ∷ []) after)), same ∙ form, takes text bytes (front-short text rest whole all small) took),
+      (all ∙ (ap (λ (r : List ℕ). text ++ r) begins ∙ sym (append_assoc text (c ∷ []) after)), same ∙ form, takes text bytes (prefix-short text rest whole all small) took),
       left,
     )
 
 -- a character is rejected
 pub yielded-refused : (s : Spelling) (a b : Option (List ℕ)) (whole bytes : List ℕ) (c : ℕ) (fault : Fault) → length whole < 2 ^ 63 → YieldedBy None (Some s) a whole bytes → Consumes a b (c ∷ [])
-    → ((text bytes : List ℕ) → length text < 2 ^ 63 → Took s text bytes → IsFault (form_of s) text c fault) → YieldedBy (Some fault) (Some s) b whole bytes
+    → ((text bytes : List ℕ) → length text < 2 ^ 63 → IsTextTaken s text bytes → IsTextFault (form_of s) text c fault) → YieldedBy (Some fault) (Some s) b whole bytes
 yielded-refused s a b whole bytes c fault small (text, rest, (all, form, took), is) comes fails =
     let (after, left, begins) = consumes-some a b (c ∷ []) rest comes is in
-    (text, c ∷ after, (all ∙ ap (λ (r : List ℕ). text ++ r) begins, form, took), fails text bytes (front-short text rest whole all small) took)
+    (text, c ∷ after, (all ∙ ap (λ (r : List ℕ). text ++ r) begins, form, took), fails text bytes (prefix-short text rest whole all small) took)
 
 -- nothing is left
 rest-none : (a b : Option (List ℕ)) (rest : List ℕ) → Consumes a b [] → IsAtEnd b → a ≡ Some rest → rest ≡ []
@@ -73,7 +73,7 @@ consumes-none a b rest comes is = let (after, left, begins) = consumes-some a b 
 
 -- the text may end
 pub yielded-ended : (s : Spelling) (a b : Option (List ℕ)) (whole bytes : List ℕ) → YieldedBy None (Some s) a whole bytes → Consumes a b [] → IsAtEnd b
-    → ((text bytes : List ℕ) → Took s text bytes → IsSpelling (form_of s) text bytes) → YieldedBy None (Some s) b whole bytes × Ends whole bytes
+    → ((text bytes : List ℕ) → IsTextTaken s text bytes → IsSpelling (form_of s) text bytes) → YieldedBy None (Some s) b whole bytes × IsReadToEnd whole bytes
 yielded-ended s a b whole bytes (text, rest, (all, form, took), is) comes end spells =
     let none = rest-none a b rest comes end is in
     let same : whole ≡ text = all ∙ (ap (λ (r : List ℕ). text ++ r) none ∙ append-nil text) in (
@@ -83,7 +83,7 @@ yielded-ended s a b whole bytes (text, rest, (all, form, took), is) comes end sp
 
 -- the text may not end
 pub yielded-cut : (s : Spelling) (a b : Option (List ℕ)) (whole bytes : List ℕ) (fault : Fault) → YieldedBy None (Some s) a whole bytes → Consumes a b [] → IsAtEnd b
-    → ((text bytes : List ℕ) → Took s text bytes → EndsEarly (form_of s) text fault) → YieldedBy (Some fault) (Some s) b whole bytes
+    → ((text bytes : List ℕ) → IsTextTaken s text bytes → EndsEarly (form_of s) text fault) → YieldedBy (Some fault) (Some s) b whole bytes
 yielded-cut s a b whole bytes fault (text, rest, (all, form, took), is) comes end fails =
     let none = rest-none a b rest comes end is in
     (text, [], (all ∙ ap (λ (r : List ℕ). text ++ r) none, form, took), fails text bytes took)

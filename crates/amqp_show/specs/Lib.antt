@@ -2,7 +2,7 @@
 pub mod Characters
 -- which bytes a text spells
 pub mod Spelled
--- the same, read character by character
+-- how it is read, character by character
 pub mod Steps
 -- lines and columns
 pub mod Positions

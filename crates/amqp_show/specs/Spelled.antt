@@ -52,10 +52,10 @@ IsMark form Margin mark = mark ≡ codes "#"
 IsMark form Inside mark = (mark ≡ codes "#") ⊎ IsBar form mark
 
 -- what may be right before a byte
-abbrev pub IsPrefix : Form → List ℕ → Type 0
-IsPrefix Plain prefix = (prefix ≡ []) ⊎ ((prefix ≡ codes "0x") ⊎ ((prefix ≡ codes "0X") ⊎ (prefix ≡ codes "\\x")))
-IsPrefix Hexdump prefix = prefix ≡ []
-IsPrefix Xxd prefix = prefix ≡ []
+abbrev pub IsBytePrefix : Form → List ℕ → Type 0
+IsBytePrefix Plain prefix = (prefix ≡ []) ⊎ ((prefix ≡ codes "0x") ⊎ ((prefix ≡ codes "0X") ⊎ (prefix ≡ codes "\\x")))
+IsBytePrefix Hexdump prefix = prefix ≡ []
+IsBytePrefix Xxd prefix = prefix ≡ []
 
 -- what is between an offset and the rest of its line
 abbrev pub IsOffsetEnd : Form → ℕ → Type 0
@@ -80,7 +80,7 @@ pub data Spells (form : Form) : Place → ℕ → List ℕ → List ℕ → Type
   ignored : (place : Place) (count : ℕ) (mark characters text bytes : List ℕ) → IsMark form place mark → AllByRecursion (λ c. c ≢ 10) characters → IsLineEnd text
       → Spells form place count text bytes → Spells form place count (mark ++ (characters ++ text)) bytes
   -- a byte: two digits side by side, right after their prefix if there is one
-  byte : (count high low h l : ℕ) (prefix text bytes : List ℕ) → IsPrefix form prefix → digit_of high ≡ Some h → digit_of low ≡ Some l
+  byte : (count high low h l : ℕ) (prefix text bytes : List ℕ) → IsBytePrefix form prefix → digit_of high ≡ Some h → digit_of low ≡ Some l
       → Spells form Inside (count + 1) text bytes → Spells form Inside count (prefix ++ (high ∷ low ∷ text)) ((16 * h + l) ∷ bytes)
   -- an offset, and the bytes of its line
   offset : (count first c : ℕ) (digits text bytes : List ℕ) → number_after 0 (first ∷ digits) ≡ Some count → IsOffsetEnd form c
@@ -95,11 +95,11 @@ IsSpelling form text bytes = Spells form (line_start form) 0 text bytes
 
 -- A text can go on so that it spells bytes.
 abbrev pub CanBegin : Form → List ℕ → Type 0
-CanBegin form front = (rest bytes : List ℕ) × IsSpelling form (front ++ rest) bytes
+CanBegin form prefix = (rest bytes : List ℕ) × IsSpelling form (prefix ++ rest) bytes
 
 -- However a text continues, it spells no bytes.
 abbrev pub CannotBegin : Form → List ℕ → Type 0
-CannotBegin form front = (rest bytes : List ℕ) → IsSpelling form (front ++ rest) bytes → ⊥
+CannotBegin form prefix = (rest bytes : List ℕ) → IsSpelling form (prefix ++ rest) bytes → ⊥
 
 -- How a text is written: as a dump, if it begins as one.
 abbrev pub form_of_text : List ℕ → Form

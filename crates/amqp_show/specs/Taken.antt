@@ -12,7 +12,7 @@ abbrev pub form_of : Spelling → Form
 form_of s = s.form
 
 -- These characters were taken, and yielded these bytes.
-pub record Took (s : Spelling) (text bytes : List ℕ) : Type 0 where
+pub record IsTextTaken (s : Spelling) (text bytes : List ℕ) : Type 0 where
   pub reads : (rest : List ℕ) → read s.form 0 (start_state s.form) (text ++ rest) ≡ option_map (λ others. bytes ++ others) (read s.form (length bytes) s.state rest)
   pub counted : s.count ≡ length bytes
   pub few : length bytes ≤ length text
@@ -21,7 +21,7 @@ pub record Took (s : Spelling) (text bytes : List ℕ) : Type 0 where
   pub columns : s.position.column ≤ length text + 1
 
 -- c is at the fault's position, after the text: no text that begins with both spells bytes. Unless an offset is another number than the count of bytes before it, c is the first such character.
-pub record IsFault (form : Form) (text : List ℕ) (c : ℕ) (fault : Fault) : Type 0 where
+pub record IsTextFault (form : Form) (text : List ℕ) (c : ℕ) (fault : Fault) : Type 0 where
   pub position : fault.position ≡ end_of text
   pub fails : CannotBegin form (text ++ c ∷ [])
   pub first : fault.reason ≢ OtherOffset → CanBegin form text

@@ -4,9 +4,9 @@ use amq_protocol_types::stream::Limits;
 use clap::{Arg, ArgAction, ArgMatches, Command, value_parser};
 use std::alloc::{AllocError, Global};
 
-// Eight times RabbitMQ's usual `frame_max`, which what it adds to headers exceeds, and a depth that no
-// known peer comes near.
-const FRAME: u32 = 1_048_576;
+// Eight times RabbitMQ's usual `frame_max`, which what it adds to headers exceeds, and a depth that
+// no known peer comes near.
+const MAX_BYTES: u32 = 1_048_576;
 
 const DEPTH: u32 = 64;
 
@@ -135,7 +135,7 @@ impl Settings {
             form: form_of(matches),
             colours,
             limits: Limits {
-                frame: matches.get_one::<u32>("frame").unwrap_or(FRAME),
+                frame: matches.get_one::<u32>("max-bytes").unwrap_or(MAX_BYTES),
                 depth: matches.get_one::<u32>("depth").unwrap_or(DEPTH),
             },
         }
@@ -273,10 +273,11 @@ pub fn command<'a>(alloc: Global) -> Result<Command<'a>, AllocError> {
         .arg(flag(alloc, "raw", "With --encode: write bytes as they are").requires_arg("encode")?)?
         .arg(number(
             alloc,
-            "frame",
+            "max-bytes",
             "1048576",
             "Refuse a value of more than N bytes",
-        ))?
+        )
+        .visible_alias("frame")?)?
         .arg(number(
             alloc,
             "depth",

@@ -16,7 +16,7 @@ pub fn encode_file(rt: &HostRuntime, file: &str, raw: bool, subject: Subject) ->
     let alloc = rt.alloc();
     let input = match read_file(rt, file)? {
         Ok(input) => input,
-        Err(why) => return unreadable(rt, file, why.as_str()),
+        Err(why) => return unreadable(rt, file, &why),
     };
     let Ok(json) = str::from_utf8(input.as_slice()) else {
         complain(rt, file, "the text isn't UTF-8")?;

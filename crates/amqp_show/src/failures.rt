@@ -1,12 +1,12 @@
 //! What is reported of a value that isn't shown, or is followed by bytes.
 
-use crate::arguments::Settings;
+use crate::arguments::{Settings, Subject};
 use crate::fault::Result;
 use crate::input::Tagged;
 use crate::messages::complain;
 use crate::texts::{count_text, failure_text, outcome_text};
 use crate::untagged::{LACKS_TYPE_TAG, lacks_type_tag};
-use amqp_dissect::dissect;
+use amqp_dissect::{Dissection, dissect};
 use amqp_screen::Status;
 use std::alloc::{AllocError, Global};
 
@@ -54,7 +54,16 @@ pub fn why_refused(
     settings: Settings,
 ) -> Result<String, AllocError> {
     let dissection = dissect(alloc, encoding, settings.limits)?;
-    let failure = failure_text(alloc, &dissection, settings.subject)?;
+    let failure = failure_of(alloc, &dissection, settings.subject)?;
     let outcome = outcome_text(alloc, encoding, settings)?;
     format!(in alloc; "{failure}; {outcome}")
+}
+
+// The offset at which a value fails, by its dissection, and why.
+fn failure_of(
+    alloc: Global,
+    dissection: &Dissection<'_>,
+    subject: Subject,
+) -> Result<String, AllocError> {
+    failure_text(alloc, dissection.offset, dissection.end, subject)
 }

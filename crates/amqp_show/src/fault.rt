@@ -22,8 +22,8 @@ pub enum Fault {
     #[error(transparent)]
     Json(serde_json::Error),
     /// The limits allow no value.
-    #[error("--stream with --frame 0 reads no value")]
-    NoFrame,
+    #[error("--stream with --max-bytes 0 reads no value")]
+    NoValue,
 }
 
 /// What the program does, unless a fault ends it.

@@ -6,11 +6,10 @@ ghost use Rattle.std.specs.Io.KnownBytes.{Consumes, IsAtEnd, Keeps, ReadConsumes
 ghost use Rattle.std.specs.IoError.{error_kind};
 ghost use Rattle.std.specs.declared.io.ErrorKind.{ErrorKind};
 ghost use Rattle.amqp_show.specs.Spelled.{form_of_text};
-ghost use Rattle.amqp_show.specs.Readings.{left, AnswersNext, AnswersRead, AnswersStep, Yielded};
+ghost use Rattle.amqp_show.specs.Readings.{left, KeepsYielded, TakesNext, YieldsInto, YieldsNext};
 
-use crate::spelling::{Fault, Form, Reason, Spelling};
+use crate::spelling::{Fault, Form, Spelling};
 use arrayvec::ArrayVec;
-use std::alloc::{AllocError, Global};
 use std::io;
 use std::io::{ErrorKind, Read};
 
@@ -28,7 +27,8 @@ impl<R: Read> Text<R> {
     // How the text is written. Nothing of it is taken.
     fn form(&mut self) -> io::Result<Form>
         ensures kept { Keeps (left R.remaining self.old) (left R.remaining self.new) }
-        ensures form { IfOk result (λ form. IfSome (left R.remaining self.old) (λ text. form ≡ form_of_text text)) }
+        ensures form { IfOk result (λ form.
+            IfSome (left R.remaining self.old) (λ text. form ≡ form_of_text text)) }
     {
         'reads: loop {
             if let Some(form) = form_of(self.head.as_slice()) {
@@ -43,8 +43,9 @@ impl<R: Read> Text<R> {
 
     // Takes the next character, or returns `None` at the end.
     fn next(&mut self) -> io::Result<Option<u8>>
-        ensures ok { IfOk result (λ given. Consumes (left R.remaining self.old) (left R.remaining self.new) (option_to_list given)) }
-        ensures end { IfOk result (λ given. IsNone given → IsAtEnd (left R.remaining self.new)) }
+        ensures ok { IfOk result (λ b.
+            Consumes (left R.remaining self.old) (left R.remaining self.new) (option_to_list b)) }
+        ensures end { IfOk result (λ b. IsNone b → IsAtEnd (left R.remaining self.new)) }
         ensures err { OnErr result (Keeps (left R.remaining self.old) (left R.remaining self.new)) }
     {
         match self.head.pop_at(0) {
@@ -85,23 +86,11 @@ impl<R> Hexadecimal<R> {
         }
     }
 
-    /// Why the text isn't hexadecimal, after that was found.
-    pub fn fault(&self, alloc: Global) -> Result<String, AllocError> {
-        let Some(fault) = self.fault else {
-            return String::from_str(alloc, "no fault was found");
-        };
-        let why = match fault.reason {
-            Reason::NoHexadecimal => "no hexadecimal",
-            Reason::NoDigits => "two digits are expected, right after the prefix",
-            Reason::NoSecondDigit => "a second digit is expected, right after the first",
-            Reason::LinesLeftOut => "lines are left out; hexdump -v prints them",
-            Reason::OtherOffset => "the offset isn't the number of bytes before it",
-            Reason::InsideByte => {
-                return String::from_str(alloc, "the hexadecimal ends inside a byte");
-            }
-        };
-        let position = fault.position;
-        format!(in alloc; "line {}, column {}: {why}", position.line, position.column)
+    /// What was found in the text that isn't hexadecimal.
+    pub fn fault(&self) -> Option<Fault>
+        ensures { result ≡ self.now.fault }
+    {
+        self.fault
     }
 
     // Keeps a fault to report it.
@@ -117,9 +106,9 @@ impl<R> Hexadecimal<R> {
 impl<R: Read> Hexadecimal<R> {
     // The next byte, or `None` at the end. The clause is about a text of less than 2^63 bytes.
     fn next(&mut self) -> io::Result<Option<u8>>
-        ensures answer { (whole bytes : List ℕ) → length whole < 2 ^ 63 → Yielded R.remaining self.old whole bytes
-            → AnswersNext R.remaining whole bytes result self.new }
-        ensures kind { IfErr result (λ e. IsSome self.new.fault → error_kind e ≡ ErrorKind.InvalidData) }
+        ensures outcome { YieldsNext R.remaining self.old result self.new }
+        ensures kind { IfErr result (λ e. IsSome self.new.fault
+            → error_kind e ≡ ErrorKind.InvalidData) }
     {
         if self.fault.is_some() {
             return Err(io::Error::from(ErrorKind::InvalidData));
@@ -137,10 +126,10 @@ impl<R: Read> Hexadecimal<R> {
     // Takes the next character.
     fn step(&mut self) -> io::Result<Step>
         requires { self.old.fault ≡ None }
-        ensures answer { (whole bytes : List ℕ) → length whole < 2 ^ 63 → Yielded R.remaining self.old whole bytes
-            → AnswersStep R.remaining whole bytes result self.new }
+        ensures outcome { TakesNext R.remaining self.old result self.new }
         ensures goes { OnOk result (self.new.fault ≡ None) }
-        ensures kind { IfErr result (λ e. IsSome self.new.fault → error_kind e ≡ ErrorKind.InvalidData) }
+        ensures kind { IfErr result (λ e. IsSome self.new.fault
+            → error_kind e ≡ ErrorKind.InvalidData) }
     {
         let mut spelling = self.begun()?;
         match self.text.next()? {
@@ -161,7 +150,7 @@ impl<R: Read> Hexadecimal<R> {
     // What was taken. Reads on until it is known how the text is written, unless it is.
     fn begun(&mut self) -> io::Result<Spelling>
         requires { self.old.fault ≡ None }
-        ensures yielded { (whole bytes : List ℕ) → Yielded R.remaining self.old whole bytes → Yielded R.remaining self.new whole bytes }
+        ensures yielded { KeepsYielded R.remaining self.old self.new }
         ensures is { IfOk result (λ spelling. self.new.spelling ≡ Some spelling) }
         ensures goes { self.new.fault ≡ None }
     {
@@ -178,9 +167,9 @@ impl<R: Read> Read for Hexadecimal<R> {
     fn read(&mut self, buf: &mut [u8]) -> io::Result<usize>
         ensures bound { ReadsAtMost result buf.new }
         ensures bytes { ReadConsumes None None result buf.new }
-        ensures answer { (whole bytes : List ℕ) → length whole < 2 ^ 63 → Yielded R.remaining self.old whole bytes
-            → AnswersRead R.remaining whole bytes result buf.new self.new }
-        ensures kind { IfErr result (λ e. IsSome self.new.fault → error_kind e ≡ ErrorKind.InvalidData) }
+        ensures outcome { YieldsInto R.remaining self.old result buf.new self.new }
+        ensures kind { IfErr result (λ e. IsSome self.new.fault
+            → error_kind e ≡ ErrorKind.InvalidData) }
     {
         if buf.is_empty() {
             return Ok(0);
@@ -198,7 +187,7 @@ impl<R: Read> Read for Hexadecimal<R> {
 // How a text is written that begins so, if that is known yet.
 fn form_of(head: &[u8]) -> Option<Form>
     requires { length head.now ≤ HEAD }
-    ensures known { IfSome result (λ form. (rest : List ℕ) → form_of_text (head.now ++ rest) ≡ form) }
+    ensures known { IfSome result (λ f. (rest : List ℕ) → form_of_text (head.now ++ rest) ≡ f) }
     ensures short { IsNone result → length head.now < HEAD }
     ensures whole { IsNone result → form_of_text head.now ≡ Form.Plain }
 {
@@ -217,8 +206,9 @@ fn form_of(head: &[u8]) -> Option<Form>
 
 // The next byte of a reader, or `None` at its end.
 fn next_of<R: Read>(reader: &mut R) -> io::Result<Option<u8>>
-    ensures ok { IfOk result (λ given. Consumes (R.remaining reader.old) (R.remaining reader.new) (option_to_list given)) }
-    ensures end { IfOk result (λ given. IsNone given → IsAtEnd (R.remaining reader.new)) }
+    ensures ok { IfOk result (λ b.
+        Consumes (R.remaining reader.old) (R.remaining reader.new) (option_to_list b)) }
+    ensures end { IfOk result (λ b. IsNone b → IsAtEnd (R.remaining reader.new)) }
     ensures err { OnErr result (Keeps (R.remaining reader.old) (R.remaining reader.new)) }
 {
     let mut byte = [0];

@@ -1,19 +1,41 @@
 //! What is read.
 
 use crate::arguments::{Settings, Subject};
-use crate::fault::Result;
+use crate::fault::{Fault, Result};
 use crate::hexadecimal::Hexadecimal;
-use crate::messages::why_unread;
+use crate::spelling;
 use std::alloc::Global;
 use std::fs::File;
 use std::io;
 use std::io::{BufReader, ErrorKind, Read, Stdin};
+use thiserror::Error;
 
 /// That many bytes of a stream are read at once, at most.
 pub const BLOCK: usize = 65_536;
 
+/// Why a file can't be read.
+#[derive(Debug, Drop, Error)]
+pub enum Unread {
+    /// Opening it failed, or reading on.
+    #[error("can't be read: {0}")]
+    Failed(io::Error),
+    /// It isn't hexadecimal.
+    #[error("{0}")]
+    NotHexadecimal(spelling::Fault),
+}
+
+impl Unread {
+    /// Why a file can't be read after an error, unless memory ran out: that ends the program.
+    pub fn after(error: io::Error) -> Result<Unread> {
+        match error.kind() {
+            ErrorKind::OutOfMemory => Err(Fault::OutOfMemory),
+            _ => Ok(Unread::Failed(error)),
+        }
+    }
+}
+
 /// What is read of a file, or why it can't be read.
-pub type Content<T> = Result<T, String>;
+pub type Content<T> = Result<T, Unread>;
 
 /// A file, or the standard input.
 #[derive(Drop)]
@@ -67,7 +89,7 @@ impl Tagged {
 
 /// All bytes of a file.
 pub fn read_file(rt: &HostRuntime, file: &str) -> Result<Content<Vec<u8>>> {
-    content_of(rt.alloc(), all_of(rt, file))
+    content_of(all_of(rt, file))
 }
 
 fn all_of(rt: &HostRuntime, file: &str) -> io::Result<Vec<u8>> {
@@ -81,7 +103,7 @@ fn all_of(rt: &HostRuntime, file: &str) -> io::Result<Vec<u8>> {
 pub fn read_input(rt: &HostRuntime, file: &str, settings: Settings) -> Result<Content<Tagged>> {
     let input = match Input::open(rt, file) {
         Ok(input) => input,
-        Err(error) => return Ok(Err(why_unread(rt.alloc(), &error)?)),
+        Err(error) => return Ok(Err(Unread::after(error)?)),
     };
     let left_out = settings.subject.left_out() as u64;
     let most = u64::from(settings.limits.frame)
@@ -91,22 +113,23 @@ pub fn read_input(rt: &HostRuntime, file: &str, settings: Settings) -> Result<Co
         let text = BufReader::with_capacity(rt.alloc(), BLOCK, input)?;
         return bytes_of(rt.alloc(), text, most);
     }
-    content_of(rt.alloc(), Tagged::read(rt.alloc(), input.take(most)))
+    content_of(Tagged::read(rt.alloc(), input.take(most)))
 }
 
 // The bytes that hexadecimal denotes, at most that many.
 fn bytes_of<R: Read + Drop>(alloc: Global, text: R, most: u64) -> Result<Content<Tagged>> {
     let mut digits = Hexadecimal::new(text);
-    match Tagged::read(alloc, digits.by_ref().take(most)) {
-        Err(error) if error.kind() == ErrorKind::InvalidData => Ok(Err(digits.fault(alloc)?)),
-        read => content_of(alloc, read),
+    let read = Tagged::read(alloc, digits.by_ref().take(most));
+    match digits.fault() {
+        Some(fault) => Ok(Err(Unread::NotHexadecimal(fault))),
+        None => content_of(read),
     }
 }
 
 // What was read, or why it can't be.
-fn content_of<T: Drop>(alloc: Global, read: io::Result<T>) -> Result<Content<T>> {
+fn content_of<T: Drop>(read: io::Result<T>) -> Result<Content<T>> {
     match read {
         Ok(content) => Ok(Ok(content)),
-        Err(error) => Ok(Err(why_unread(alloc, &error)?)),
+        Err(error) => Ok(Err(Unread::after(error)?)),
     }
 }

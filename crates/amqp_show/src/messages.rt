@@ -1,11 +1,9 @@
 //! Messages on the standard error.
 
 use crate::fault::{Fault, Result};
+use crate::input::Unread;
 use crate::texts::quoted;
 use amqp_screen::{PrintError, Screen, Status};
-use std::alloc::Global;
-use std::io;
-use std::io::ErrorKind;
 
 /// Prints a message about a file.
 pub fn complain(rt: &HostRuntime, file: &str, why: &str) -> Result<()> {
@@ -20,17 +18,10 @@ pub fn complain(rt: &HostRuntime, file: &str, why: &str) -> Result<()> {
 }
 
 /// Reports why a file can't be read.
-pub fn unreadable(rt: &HostRuntime, file: &str, why: &str) -> Result<Status> {
-    complain(rt, file, why)?;
+pub fn unreadable(rt: &HostRuntime, file: &str, why: &Unread) -> Result<Status> {
+    let why = format!(in rt.alloc(); "{why}")?;
+    complain(rt, file, why.as_str())?;
     Ok(Status::Mistake)
-}
-
-/// Why reading failed, unless memory ran out: that ends the program.
-pub fn why_unread(alloc: Global, error: &io::Error) -> Result<String> {
-    match error.kind() {
-        ErrorKind::OutOfMemory => Err(Fault::OutOfMemory),
-        _ => Ok(format!(in alloc; "can't be read: {error}")?),
-    }
 }
 
 /// Reports why the program can't go on, unless that is since nobody reads what it prints.

@@ -81,7 +81,7 @@ fn float_text(alloc: Global, bits: u32) -> Result<String, AllocError> {
     format!(in alloc; "{number} (bits {bits:08x})")
 }
 
-// The same of a Double.
+// The Double of these bits, as the shortest decimal that reads back as it.
 fn double_text(alloc: Global, bits: u64) -> Result<String, AllocError> {
     let mut buffer = Buffer::new();
     let number = buffer.format(f64_from_bits_with_nan(bits));

@@ -3,9 +3,12 @@
 use crate::fault::{Fault, Result};
 use crate::json::too_deep;
 use crate::texts::quoted;
-use amqp_json::{EncodeError, JsonError, encoding_of_json};
+use amq_protocol_types::AMQPValue;
+use amq_protocol_types::generation::{GenError, WriteContext, gen_value};
+use amqp_json::{EncodeError, JsonError, ValueError, from_value};
 use serde_json::{Map, Value};
 use std::alloc::{AllocError, Global};
+use thiserror::Error;
 
 const MOST_IN_A_KEY: usize = 255;
 
@@ -13,7 +16,8 @@ const NUMBER: &str =
     "a plain number is an integer from -9223372036854775808 to 9223372036854775807; \
 a Double is its bits, as {\"Double\":\"3ff0000000000000\"}";
 
-const TOO_LONG: &str = "it is longer than a length of 32 bits says";
+// The most bytes that a length of a string or of a container counts.
+const MOST: u64 = 0xffff_ffff;
 
 /// Why a text has no encoding, after `encoding_of_json` has reported so, and at which place.
 pub fn reason(alloc: Global, json: &str, error: &EncodeError) -> Result<String> {
@@ -25,7 +29,12 @@ pub fn reason(alloc: Global, json: &str, error: &EncodeError) -> Result<String> 
         EncodeError::Json(JsonError::NotAValue) | EncodeError::NoTypeTag | EncodeError::TooLong => {
             // It has been read before: only memory can be wanting.
             let value = Value::from_str(alloc, json)?;
-            reason_in(alloc, String::from_str(alloc, "$")?, &value)
+            let mut path = Vec::new(alloc);
+            match encoded_len(alloc, &mut path, &value) {
+                Err(Unknown::NoEncoding(why)) => Ok(at(alloc, path.as_slice(), why)?),
+                Err(Unknown::OutOfMemory(_)) => Err(Fault::OutOfMemory),
+                Ok(_) => Ok(format!(in alloc; "{error}")?),
+            }
         }
     }
 }
@@ -38,75 +47,169 @@ fn syntax_text(alloc: Global, json: &str, error: &serde_json::Error) -> Result<S
     }
 }
 
-// The path to the fault in a value without encoding, and why it is one.
-#[cycle(reason_in)]
-fn reason_in(alloc: Global, path: String, value: &Value) -> Result<String> {
+// A step from a part of a JSON to one inside it.
+#[derive(Clone, Copy, Debug)]
+enum Step<'a> {
+    Item(usize),
+    Key(&'a str),
+}
+
+// Why a part of a JSON has no encoding, though each part inside it has one.
+#[derive(Clone, Copy, Debug, Error)]
+enum Cause {
+    // It isn't this.
+    #[error("{0}")]
+    OtherThan(&'static str),
+    #[error("a key has {0} bytes, and 255 are the most")]
+    LongKey(usize),
+    #[error("it is longer than a length of 32 bits says")]
+    TooLong,
+}
+
+// Why the length of an encoding isn't known.
+#[derive(Debug, Drop, Error)]
+enum Unknown {
+    #[error(transparent)]
+    OutOfMemory(#[from(alloc)] AllocError),
+    // The part that the path leads to has no encoding.
+    #[error("{0}")]
+    NoEncoding(Cause),
+}
+
+// How many bytes the encoding of a value has. If it has none, the path is left at the first part
+// without one.
+#[cycle(encoded_len)]
+fn encoded_len<'a>(
+    alloc: Global,
+    path: &mut Vec<Step<'a>>,
+    value: &'a Value,
+) -> Result<u64, Unknown> {
     match value {
-        Value::Null | Value::Bool(_) | Value::String(_) => Ok(at(alloc, &path, TOO_LONG)?),
-        Value::Number(_) => Ok(at(alloc, &path, NUMBER)?),
-        Value::Array(items) => reason_in_array(alloc, path, items),
-        Value::Object(members) => reason_in_object(alloc, path, members),
+        Value::Null | Value::Bool(_) | Value::String(_) => leaf_len(alloc, value, Cause::TooLong),
+        Value::Number(_) => leaf_len(alloc, value, Cause::OtherThan(NUMBER)),
+        Value::Array(items) => items_len(alloc, path, items),
+        Value::Object(members) => match denoted_by(members) {
+            Denoted::Table => members_len(alloc, path, members),
+            Denoted::NamedTable => named_len(alloc, path, members),
+            Denoted::Leaf(wanted) => leaf_len(alloc, value, Cause::OtherThan(wanted)),
+        },
     }
 }
 
-#[cycle(reason_in)]
-fn reason_in_array(alloc: Global, path: String, items: &Vec<Value>) -> Result<String> {
+#[cycle(encoded_len)]
+fn items_len<'a>(
+    alloc: Global,
+    path: &mut Vec<Step<'a>>,
+    items: &'a Vec<Value>,
+) -> Result<u64, Unknown> {
+    let mut len: u64 = 0;
     for (index, item) in items.iter().enumerate() {
-        if !has_encoding(alloc, item)? {
-            return reason_in(alloc, format!(in alloc; "{path}[{index}]")?, item);
-        }
+        path.push(Step::Item(index))?;
+        len = len.saturating_add(encoded_len(alloc, path, item)?);
+        path.pop();
     }
-    Ok(at(alloc, &path, TOO_LONG)?)
+    container_len(len)
 }
 
-#[cycle(reason_in)]
-fn reason_in_object(alloc: Global, path: String, members: &Map<String, Value>) -> Result<String> {
-    let mut walk = members.iter();
-    if let (Some((name, inner)), None) = (walk.next(), walk.next()) {
-        match (wanted_under(name.as_str()), inner) {
-            (Some(_), Value::Object(entries))
-                if name.as_str() == "FieldTable" && is_named(entries) => {
-                return reason_in_members(alloc, step(alloc, &path, "FieldTable")?, entries);
-            }
-            (Some(wanted), _) => return Ok(at(alloc, &path, wanted)?),
-            (None, _) => {}
-        }
-    }
-    reason_in_members(alloc, path, members)
-}
-
-#[cycle(reason_in)]
-fn reason_in_members(alloc: Global, path: String, members: &Map<String, Value>) -> Result<String> {
+#[cycle(encoded_len)]
+fn members_len<'a>(
+    alloc: Global,
+    path: &mut Vec<Step<'a>>,
+    members: &'a Map<String, Value>,
+) -> Result<u64, Unknown> {
+    let mut len: u64 = 0;
     for (key, member) in members.iter() {
         if key.len() > MOST_IN_A_KEY {
-            let why = format!(in alloc; "a key has {} bytes, and 255 are the most", key.len())?;
-            return Ok(at(alloc, &path, why.as_str())?);
+            return Err(Unknown::NoEncoding(Cause::LongKey(key.len())));
         }
-        if !has_encoding(alloc, member)? {
-            return reason_in(alloc, step(alloc, &path, key.as_str())?, member);
-        }
+        path.push(Step::Key(key.as_str()))?;
+        let member_len = encoded_len(alloc, path, member)?;
+        path.pop();
+        len = len
+            .saturating_add(key.len() as u64 + 1)
+            .saturating_add(member_len);
     }
-    Ok(at(alloc, &path, TOO_LONG)?)
+    container_len(len)
 }
 
-// Whether a value has an encoding.
-fn has_encoding(alloc: Global, value: &Value) -> Result<bool> {
-    let json = value.to_string(alloc)?;
-    match encoding_of_json(alloc, json.as_str()) {
-        Ok(_) => Ok(true),
-        Err(EncodeError::OutOfMemory | EncodeError::Json(JsonError::OutOfMemory)) => {
-            Err(Fault::OutOfMemory)
+// How many bytes the encoding has of a table under its type's name, which is the only key.
+#[cycle(encoded_len)]
+fn named_len<'a>(
+    alloc: Global,
+    path: &mut Vec<Step<'a>>,
+    members: &'a Map<String, Value>,
+) -> Result<u64, Unknown> {
+    let mut len: u64 = 0;
+    for (key, member) in members.iter() {
+        if let Value::Object(entries) = member {
+            path.push(Step::Key(key.as_str()))?;
+            len = members_len(alloc, path, entries)?;
+            path.pop();
         }
-        Err(_) => Ok(false),
+    }
+    Ok(len)
+}
+
+// How many bytes a container has whose entries have that many.
+fn container_len(len: u64) -> Result<u64, Unknown> {
+    if len > MOST {
+        return Err(Unknown::NoEncoding(Cause::TooLong));
+    }
+    Ok(len + 5)
+}
+
+// How many bytes the encoding of a value has that isn't a container, or why it has none.
+fn leaf_len(alloc: Global, leaf: &Value, why: Cause) -> Result<u64, Unknown> {
+    let value = match from_value(alloc, leaf) {
+        Ok(AMQPValue::ShortString(_)) | Err(ValueError::NotAValue) => {
+            return Err(Unknown::NoEncoding(why));
+        }
+        Ok(value) => value,
+        Err(ValueError::OutOfMemory) => return Err(Unknown::OutOfMemory(AllocError)),
+    };
+    let mut context = WriteContext::from(Vec::new(alloc));
+    match gen_value(&value, &mut context) {
+        Ok(()) => Ok(context.position()),
+        Err(GenError::OutOfMemory) => Err(Unknown::OutOfMemory(AllocError)),
+        Err(_) => Err(Unknown::NoEncoding(why)),
+    }
+}
+
+// What an object denotes, if each part inside it has an encoding.
+#[derive(Clone, Copy, Debug)]
+enum Denoted {
+    // A table of its members.
+    Table,
+    // A table under its type's name, since its own only key is the name of a type.
+    NamedTable,
+    // A value that isn't a container, under the name of a type, if this is there.
+    Leaf(&'static str),
+}
+
+fn denoted_by(members: &Map<String, Value>) -> Denoted {
+    match only_member(members) {
+        Some(("FieldTable", Value::Object(entries))) if is_named(entries) => Denoted::NamedTable,
+        Some((name, _)) => match wanted_under(name) {
+            Some(wanted) => Denoted::Leaf(wanted),
+            None => Denoted::Table,
+        },
+        None => Denoted::Table,
+    }
+}
+
+fn only_member(members: &Map<String, Value>) -> Option<(&str, &Value)> {
+    let mut walk = members.iter();
+    match (walk.next(), walk.next()) {
+        (Some((name, member)), None) => Some((name.as_str(), member)),
+        _ => None,
     }
 }
 
 // Whether the name of a type is the only key.
 fn is_named(members: &Map<String, Value>) -> bool {
-    let mut walk = members.iter();
-    match (walk.next(), walk.next()) {
-        (Some((name, _)), None) => wanted_under(name.as_str()).is_some(),
-        _ => false,
+    match only_member(members) {
+        Some((name, _)) => wanted_under(name).is_some(),
+        None => false,
     }
 }
 
@@ -139,16 +242,28 @@ fn wanted_under(name: &str) -> Option<&'static str> {
     })
 }
 
-// What is reported of the value at the end of a path.
-fn at(alloc: Global, path: &String, why: &str) -> Result<String, AllocError> {
-    format!(in alloc; "{path}: {why}")
+// What is reported of the part at the end of a path: `$.a[3]["b c"]: ` and why.
+fn at(alloc: Global, path: &[Step<'_>], why: Cause) -> Result<String, AllocError> {
+    let mut text = String::from_str(alloc, "$")?;
+    for step in path {
+        push_step(alloc, &mut text, *step)?;
+    }
+    write!(text, ": {why}")?;
+    Ok(text)
 }
 
-// The path with a key: `.a`, or `["a b"]` if it has more than letters, digits and `_`.
-fn step(alloc: Global, path: &String, key: &str) -> Result<String, AllocError> {
-    if !key.is_empty() && key.bytes().all(|b| b.is_ascii_alphanumeric() || b == b'_') {
-        return format!(in alloc; "{path}.{key}");
+// Adds `[3]`, `.a`, or `["a b"]` if a key has more than letters, digits and `_`.
+fn push_step(alloc: Global, text: &mut String, step: Step<'_>) -> Result<(), AllocError> {
+    match step {
+        Step::Item(index) => write!(text, "[{index}]"),
+        Step::Key(key) if is_word(key) => write!(text, ".{key}"),
+        Step::Key(key) => {
+            let key = quoted(alloc, key.as_bytes())?;
+            write!(text, "[{key}]")
+        }
     }
-    let key = quoted(alloc, key.as_bytes())?;
-    format!(in alloc; "{path}[{key}]")
+}
+
+fn is_word(key: &str) -> bool {
+    !key.is_empty() && key.bytes().all(|b| b.is_ascii_alphanumeric() || b == b'_')
 }

@@ -3,7 +3,7 @@
 use crate::arguments::{Form, Settings};
 use crate::bytes::push_bytes;
 use crate::check::check_input;
-use crate::cut::Cut;
+use crate::cut::{cut_offsets, shown_parts};
 use crate::fault::Result;
 use crate::input::{Tagged, read_input};
 use crate::json;
@@ -13,7 +13,7 @@ use crate::repeats::push_repeats;
 use crate::texts::{failure_text, outcome_text};
 use crate::tree::push_tree;
 use crate::untagged::{LACKS_TYPE_TAG, lacks_type_tag};
-use amqp_dissect::{End, Part, dissect};
+use amqp_dissect::{End, Part, dissect_partial};
 use amqp_screen::{Colour, Screen, Status};
 use std::alloc::{AllocError, Global};
 
@@ -21,7 +21,7 @@ use std::alloc::{AllocError, Global};
 pub fn show_file(rt: &HostRuntime, file: &str, settings: Settings) -> Result<Status> {
     let input = match read_input(rt, file, settings)? {
         Ok(input) => input,
-        Err(why) => return unreadable(rt, file, why.as_str()),
+        Err(why) => return unreadable(rt, file, &why),
     };
     match settings.form {
         Form::Check { frame_max } => check_input(rt, file, &input, frame_max, settings),
@@ -65,18 +65,14 @@ pub fn push_value(
     input: &[u8],
     settings: Settings,
 ) -> Result<Status, AllocError> {
-    let dissection = dissect(alloc, input, settings.limits)?;
-    match Cut::of(alloc, input, &dissection, settings.limits)? {
-        Some(cut) => {
-            let parts = cut.parts(alloc, input, settings.limits)?;
-            push_parts(alloc, screen, parts.as_slice(), cut.offsets(), settings)?;
-        }
-        None => push_parts(alloc, screen, dissection.parts.as_slice(), &[], settings)?,
-    }
-    if dissection.end == End::Value {
+    let partial = dissect_partial(alloc, input, settings.limits)?;
+    let cut = cut_offsets(alloc, input, &partial)?;
+    let parts = shown_parts(partial.parts.as_slice(), cut.as_slice());
+    push_parts(alloc, screen, parts, cut.as_slice(), settings)?;
+    if partial.end == End::Value {
         return Ok(Status::Read);
     }
-    let failure = failure_text(alloc, &dissection, settings.subject)?;
+    let failure = failure_text(alloc, partial.offset, partial.end, settings.subject)?;
     push_failure(alloc, screen, failure.as_str())?;
     Ok(Status::Refused)
 }

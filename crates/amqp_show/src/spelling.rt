@@ -2,10 +2,13 @@
 
 ghost use Rattle.std.specs.Prelude.{◌≡◌, ◌+◌, ◌-◌, ◌^◌, ◌<◌, ◌++◌, ◌∷◌, [], ℕ, List, length, IfOk, IfErr, OnErr, OnOk, option_to_list};
 ghost use Rattle.amqp_show.specs.Characters.{character_of};
-ghost use Rattle.amqp_show.specs.Positions.{behind};
+ghost use Rattle.amqp_show.specs.Positions.{after};
 ghost use Rattle.amqp_show.specs.Spelled.{IsSpelling};
 ghost use Rattle.amqp_show.specs.Steps.{byte_of, count_after, end_reason, low_step, margin_step, offset_end, row_step, start_state, step};
-ghost use Rattle.amqp_show.specs.Taken.{EndsEarly, IsFault, Took, form_of};
+ghost use Rattle.amqp_show.specs.Taken.{EndsEarly, IsTextFault, IsTextTaken, form_of};
+
+use std::fmt;
+use thiserror::Error;
 
 /// How a text is written.
 #[derive(Clone, Copy, Debug)]
@@ -19,19 +22,25 @@ pub enum Form {
 }
 
 /// Why a text spells no bytes.
-#[derive(Clone, Copy, Debug)]
+#[derive(Clone, Copy, Debug, Error)]
 pub enum Reason {
     /// The character has no place there.
+    #[error("no hexadecimal")]
     NoHexadecimal,
     /// Two digits are expected right after a prefix.
+    #[error("two digits are expected, right after the prefix")]
     NoDigits,
     /// A second digit is expected right after the first.
+    #[error("a second digit is expected, right after the first")]
     NoSecondDigit,
     /// A line of a dump is `*`.
+    #[error("lines are left out; hexdump -v prints them")]
     LinesLeftOut,
     /// An offset isn't the number of bytes before it.
+    #[error("the offset isn't the number of bytes before it")]
     OtherOffset,
     /// The text ends inside a byte.
+    #[error("the hexadecimal ends inside a byte")]
     InsideByte,
 }
 
@@ -47,6 +56,18 @@ pub struct Position {
 pub struct Fault {
     pub position: Position,
     pub reason: Reason,
+}
+
+impl fmt::Display for Fault {
+    fn fmt<W: fmt::Write>(&self, f: &mut fmt::Formatter<W>) -> fmt::Result {
+        match self.reason {
+            Reason::InsideByte => write!(f, "{}", self.reason),
+            reason => {
+                let Position { line, column } = self.position;
+                write!(f, "line {line}, column {column}: {reason}")
+            }
+        }
+    }
 }
 
 // What a character is.
@@ -93,6 +114,7 @@ enum State {
     Ignored,
 }
 
+// Only here what a character is unfolds into its cases.
 #[tactic(auto, unfolding(crate::specs::Characters::character_of, crate::specs::Characters::digit_of))]
 fn classify(byte: u8) -> Character
     ensures { result ≡ character_of byte }
@@ -217,7 +239,7 @@ fn byte_at(state: State) -> Option<u8>
 }
 
 // How many bytes there are, after that many before the state.
-fn count_behind(count: u64, state: State) -> u64
+fn next_count(count: u64, state: State) -> u64
     ensures { count < 2 ^ 64 - 1 → result ≡ count_after count state }
 {
     match state {
@@ -239,8 +261,8 @@ fn why_unfinished(count: u64, state: State) -> Option<Reason>
 
 impl Position {
     // The position after a character that is at this one.
-    fn behind(self, byte: u8) -> Self
-        ensures { self.line < 2 ^ 64 - 1 → self.column < 2 ^ 64 - 1 → result ≡ behind self byte }
+    fn after(self, byte: u8) -> Self
+        ensures { self.line < 2 ^ 64 - 1 → self.column < 2 ^ 64 - 1 → result ≡ after self byte }
     {
         if byte == b'\n' {
             return Position {
@@ -268,7 +290,7 @@ impl Spelling {
     /// Nothing is taken yet.
     pub fn new(form: Form) -> Self
         ensures form { form_of result ≡ form }
-        ensures took { Took result [] [] }
+        ensures took { IsTextTaken result [] [] }
     {
         Spelling {
             form,
@@ -282,17 +304,17 @@ impl Spelling {
     /// are about a text of less than 2^63 bytes.
     pub fn take(&mut self, byte: u8) -> Result<Option<u8>, Fault>
         ensures form { form_of self.new ≡ form_of self.old }
-        ensures ok { (text bytes : List ℕ) → length text < 2 ^ 63 → Took self.old text bytes
-            → IfOk result (λ given. Took self.new (text ++ byte ∷ []) (bytes ++ option_to_list given)) }
-        ensures err { (text bytes : List ℕ) → length text < 2 ^ 63 → Took self.old text bytes
-            → IfErr result (λ fault. IsFault (form_of self.old) text byte fault) }
+        ensures ok { (text bytes : List ℕ) → length text < 2 ^ 63 → IsTextTaken self.old text bytes
+            → IfOk result (λ b. IsTextTaken self.new (text ++ byte ∷ []) (bytes ++ option_to_list b)) }
+        ensures err { (text bytes : List ℕ) → length text < 2 ^ 63 → IsTextTaken self.old text bytes
+            → IfErr result (λ fault. IsTextFault (form_of self.old) text byte fault) }
         ensures stays { OnErr result (self.new ≡ self.old) }
     {
         match next(self.form, self.count, self.state, classify(byte)) {
             Ok(state) => {
-                self.count = count_behind(self.count, state);
+                self.count = next_count(self.count, state);
                 self.state = state;
-                self.position = self.position.behind(byte);
+                self.position = self.position.after(byte);
                 Ok(byte_at(state))
             }
             Err(reason) => Err(self.fault(reason)),
@@ -301,9 +323,9 @@ impl Spelling {
 
     /// Whether the text may end here.
     pub fn finish(&self) -> Result<(), Fault>
-        ensures ok { (text bytes : List ℕ) → Took self.now text bytes
+        ensures ok { (text bytes : List ℕ) → IsTextTaken self.now text bytes
             → OnOk result (IsSpelling (form_of self.now) text bytes) }
-        ensures err { (text bytes : List ℕ) → Took self.now text bytes
+        ensures err { (text bytes : List ℕ) → IsTextTaken self.now text bytes
             → IfErr result (λ fault. EndsEarly (form_of self.now) text fault) }
     {
         match why_unfinished(self.count, self.state) {

@@ -4,10 +4,10 @@ use crate::arguments::{Form, Settings, Task};
 use crate::failures::{print_failure, why_refused};
 use crate::fault::{Fault, Result};
 use crate::hexadecimal::Hexadecimal;
-use crate::input::{BLOCK, Input};
+use crate::input::{BLOCK, Input, Unread};
 use crate::json::print_json;
 use crate::measure::{next_measure, print_measure};
-use crate::messages::{complain, unreadable, why_unread};
+use crate::messages::{complain, unreadable};
 use crate::recorder::Recorder;
 use crate::show::{push_name, push_value};
 use crate::texts::outcome_text;
@@ -18,7 +18,6 @@ use amq_protocol_types::stream::{StreamError, Values};
 use amqp_in_place::Measure;
 use amqp_json::to_json;
 use amqp_screen::{Screen, Status, worse};
-use std::alloc::Global;
 use std::io;
 use std::io::{BufReader, ErrorKind, Read};
 
@@ -29,7 +28,7 @@ const HEADER: usize = 5;
 pub fn show_stream(rt: &HostRuntime, file: &str, settings: Settings) -> Result<Status> {
     let input = match Input::open(rt, file) {
         Ok(input) => input,
-        Err(error) => return unreadable(rt, file, why_unread(rt.alloc(), &error)?.as_str()),
+        Err(error) => return unreadable(rt, file, &Unread::after(error)?),
     };
     let reader = BufReader::with_capacity(rt.alloc(), BLOCK, input)?;
     if let Form::Text { .. } = settings.form {
@@ -54,11 +53,13 @@ enum Source<R> {
 
 impl<R> Source<R> {
     // Why it can't be read, after an error of this kind.
-    fn fault(&self, alloc: Global, kind: ErrorKind) -> Result<String> {
-        match self {
-            Source::Text(digits) if kind == ErrorKind::InvalidData => Ok(digits.fault(alloc)?),
-            _ => why_unread(alloc, &io::Error::from(kind)),
+    fn unread(&self, kind: ErrorKind) -> Result<Unread> {
+        if let Source::Text(digits) = self {
+            if let Some(fault) = digits.fault() {
+                return Ok(Unread::NotHexadecimal(fault));
+            }
         }
+        Unread::after(io::Error::from(kind))
     }
 }
 
@@ -100,7 +101,7 @@ fn show_values<R: Read + Drop>(
     settings: Settings,
 ) -> Result<Status> {
     if settings.limits.frame == 0 {
-        return Err(Fault::NoFrame);
+        return Err(Fault::NoValue);
     }
     let mut values = Values::new(rt.alloc(), settings.limits);
     let mut recorder = Recorder::new(rt.alloc(), source);
@@ -139,7 +140,7 @@ fn show_values<R: Read + Drop>(
 
 // Reports why a source can't be read, after an error of this kind.
 fn unread<R>(rt: &HostRuntime, file: &str, source: &Source<R>, kind: ErrorKind) -> Result<Status> {
-    unreadable(rt, file, source.fault(rt.alloc(), kind)?.as_str())
+    unreadable(rt, file, &source.unread(kind)?)
 }
 
 // Whether a rejected value is passed over.
@@ -208,7 +209,7 @@ fn show_failure(
     Ok(())
 }
 
-// The same in a message, which has the value's offset if another value may follow.
+// Why there is no value, in a message, with the value's offset if another may follow.
 fn complain_of_value(
     rt: &HostRuntime,
     file: &str,

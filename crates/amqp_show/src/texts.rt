@@ -5,7 +5,7 @@ use crate::payload::leaf_text;
 use amq_protocol_types::AMQPType;
 use amq_protocol_types::parsing::{Err, ErrorKind, Needed, ParserError};
 use amq_protocol_types::stream::Limits;
-use amqp_dissect::{Dissection, End, Field, Part, Problem, escape, first_leaf, leaf_of};
+use amqp_dissect::{End, Field, Part, Problem, escape, first_leaf, leaf_of};
 use amqp_in_place::read_in_place;
 use amqp_screen::Screen;
 use std::alloc::{AllocError, Global};
@@ -86,11 +86,12 @@ pub fn quoted(alloc: Global, bytes: &[u8]) -> Result<String, AllocError> {
 /// The offset at which a value fails, and why.
 pub fn failure_text(
     alloc: Global,
-    dissection: &Dissection<'_>,
+    offset: usize,
+    end: End,
     subject: Subject,
 ) -> Result<String, AllocError> {
-    let why = end_text(alloc, dissection.end, subject)?;
-    let offset = subject.offset(dissection.offset);
+    let why = end_text(alloc, end, subject)?;
+    let offset = subject.offset(offset);
     format!(in alloc; "offset {offset}: {why}")
 }
 
@@ -155,7 +156,10 @@ fn end_text(alloc: Global, end: End, subject: Subject) -> Result<String, AllocEr
 
 /// What is reported of a value, or a table, that is too large.
 pub fn too_large_text(alloc: Global, subject: Subject) -> Result<String, AllocError> {
-    format!(in alloc; "the {} has more bytes than --frame allows", subject.name())
+    format!(in alloc;
+        "the {} has more bytes than --max-bytes allows",
+        subject.name()
+    )
 }
 
 fn problem_text(alloc: Global, problem: Problem) -> Result<String, AllocError> {

@@ -5,10 +5,10 @@ ghost use Rattle.std.specs.Int.{w32};
 ghost use Rattle.amqp_value_core.specs.Layouts.{fixed};
 ghost use Rattle.amqp_value_core.specs.Outcomes.{frame_lack};
 ghost use Rattle.amq_protocol_types.specs.parsing.PayloadResults.{IsType};
-ghost use Rattle.amqp_dissect.specs.Ends.{Ends};
-ghost use Rattle.amqp_dissect.specs.Memory.{HasTypeTag, TakesMemory};
-ghost use Rattle.amqp_dissect.specs.Problems.{IsContainer, NoValue, NoValues, NoPairs};
-ghost use Rattle.amqp_dissect.specs.Walks.{ahead, CanReach, GoesOn, PassesValue, PassesEntries, IsKeyThen, IsAt, AreValues, ArePairs, HasFrame, HasHeader, HasLengthPrefix, IsString, Puts, PutsValue, WithMemory};
+ghost use Rattle.amqp_dissect.specs.Ends.{IsDissectionEnd};
+ghost use Rattle.amqp_dissect.specs.Memory.{HasTypeTag, DissectionAllocates};
+ghost use Rattle.amqp_dissect.specs.Problems.{IsContainerType, IsNoValue, NoValues, NoPairs};
+ghost use Rattle.amqp_dissect.specs.Walks.{ahead, CanReach, GoesOn, PassesValue, PassesEntries, IsKeyThen, IsAt, AreValuesWithin, ArePairsWithin, HasFrame, HasHeader, HasLengthPrefix, IsStringType, PutsParts, PutsValueParts, WithMemory};
 ghost use Rattle.amqp_dissect.specs.PartsOf.{piece, parts_of, entries_at};
 
 use crate::dissection::End;
@@ -31,8 +31,8 @@ impl<'a> Walk<'a> {
         ensures input { self.new.input ≡ self.old.input }
         ensures parts { OnOk result
             (map piece self.new.parts.items ≡ parts_of (take self.new.at self.old.input.now)) }
-        ensures end { IfOk result (Ends limits self.old.input.now self.new.at) }
-        ensures memory { OnErr result (TakesMemory limits self.old.input.now) }
+        ensures end { IfOk result (IsDissectionEnd limits self.old.input.now self.new.at) }
+        ensures memory { OnErr result (DissectionAllocates limits self.old.input.now) }
     {
         if let Header::TooLarge = header_of(SliceInput::new(self.input), limits.frame) {
             return Ok(End::TooLarge);
@@ -50,7 +50,7 @@ impl<'a> Walk<'a> {
         requires within { CanReach self.old end }
         requires deep { depth ≤ self.old.depth }
         ensures passes { PassesValue depth self.old end result self.new }
-        ensures parts { WithMemory result (PutsValue (self.old.depth - depth) self.old self.new) }
+        ensures parts { WithMemory result (PutsValueParts (self.old.depth - depth) self.old self.new) }
         ensures memory { IfErr result (λ stop. stop ≡ Stop.OutOfMemory → HasTypeTag (ahead self.old end)) }
     {
         let Some((tag, payload)) = self.input[self.at..end].split_first() else {
@@ -81,7 +81,7 @@ impl<'a> Walk<'a> {
         requires tag { IsType (ahead self.old end) amqp_type payload.now }
         requires fixed { IsSome (fixed amqp_type) }
         ensures passes { PassesValue depth self.old end result self.new }
-        ensures parts { WithMemory result (PutsValue (self.old.depth - depth) self.old self.new) }
+        ensures parts { WithMemory result (PutsValueParts (self.old.depth - depth) self.old self.new) }
     {
         let (first, width) = fields_of(amqp_type);
         let there = payload.len();
@@ -109,12 +109,12 @@ impl<'a> Walk<'a> {
         requires tag { IsType (ahead self.old end) amqp_type payload.now }
         requires prefixed { HasLengthPrefix amqp_type }
         ensures goes { GoesOn self.old end self.new }
-        ensures parts { WithMemory result (PutsValue (self.old.depth - depth) self.old self.new) }
+        ensures parts { WithMemory result (PutsValueParts (self.old.depth - depth) self.old self.new) }
         ensures header { IfOk result (HasHeader (ahead self.old end) amqp_type self.old.at) }
         ensures at { OnOk result (self.new.at ≡ self.old.at + 5) }
-        ensures fits { IfOk result (λ behind. (self.new.at ≤ behind) × (behind ≤ end)) }
-        ensures deep { OnOk result (IsContainer amqp_type → 0 < depth) }
-        ensures problem { IfErr result (IsAt (NoValue depth (ahead self.old end) (self.new.at - self.old.at))) }
+        ensures fits { IfOk result (λ after. (self.new.at ≤ after) × (after ≤ end)) }
+        ensures deep { OnOk result (IsContainerType amqp_type → 0 < depth) }
+        ensures problem { IfErr result (IsAt (IsNoValue depth (ahead self.old end) (self.new.at - self.old.at))) }
     {
         match body_len(payload) {
             Err(lack) => {
@@ -140,12 +140,12 @@ impl<'a> Walk<'a> {
     ) -> Result<(), Stop>
         requires within { CanReach self.old end }
         requires tag { IsType (ahead self.old end) amqp_type payload.now }
-        requires string { IsString amqp_type }
+        requires string { IsStringType amqp_type }
         ensures passes { PassesValue depth self.old end result self.new }
-        ensures parts { WithMemory result (PutsValue (self.old.depth - depth) self.old self.new) }
+        ensures parts { WithMemory result (PutsValueParts (self.old.depth - depth) self.old self.new) }
     {
-        let behind = self.header(amqp_type, payload, end, depth)?;
-        self.pass(behind - self.at, Field::Payload(amqp_type), depth)?;
+        let after = self.header(amqp_type, payload, end, depth)?;
+        self.pass(after - self.at, Field::Payload(amqp_type), depth)?;
         Ok(())
     }
 
@@ -156,10 +156,10 @@ impl<'a> Walk<'a> {
         requires deep { depth ≤ self.old.depth }
         requires tag { IsType (ahead self.old end) AMQPType.FieldArray payload.now }
         ensures passes { PassesValue depth self.old end result self.new }
-        ensures parts { WithMemory result (PutsValue (self.old.depth - depth) self.old self.new) }
+        ensures parts { WithMemory result (PutsValueParts (self.old.depth - depth) self.old self.new) }
     {
-        let behind = self.header(AMQPType::FieldArray, payload, end, depth)?;
-        self.values(behind, depth - 1)
+        let after = self.header(AMQPType::FieldArray, payload, end, depth)?;
+        self.values(after, depth - 1)
     }
 
     // Traverses a table.
@@ -169,10 +169,10 @@ impl<'a> Walk<'a> {
         requires deep { depth ≤ self.old.depth }
         requires tag { IsType (ahead self.old end) AMQPType.FieldTable payload.now }
         ensures passes { PassesValue depth self.old end result self.new }
-        ensures parts { WithMemory result (PutsValue (self.old.depth - depth) self.old self.new) }
+        ensures parts { WithMemory result (PutsValueParts (self.old.depth - depth) self.old self.new) }
     {
-        let behind = self.header(AMQPType::FieldTable, payload, end, depth)?;
-        self.pairs(behind, depth - 1)
+        let after = self.header(AMQPType::FieldTable, payload, end, depth)?;
+        self.pairs(after, depth - 1)
     }
 
     // Traverses the values of an array, up to `end`.
@@ -180,9 +180,9 @@ impl<'a> Walk<'a> {
     fn values(&mut self, end: usize, depth: u32) -> Result<(), Stop>
         requires within { CanReach self.old end }
         requires deep { depth ≤ self.old.depth }
-        ensures passes { PassesEntries (AreValues depth) (NoValues depth) self.old end result self.new }
+        ensures passes { PassesEntries (AreValuesWithin depth) (NoValues depth) self.old end result self.new }
         ensures parts { WithMemory result
-            (Puts (entries_at AMQPType.FieldArray (self.old.depth - depth)) self.old self.new) }
+            (PutsParts (entries_at AMQPType.FieldArray (self.old.depth - depth)) self.old self.new) }
     {
         'values: while self.at < end {
             self.value(end, depth)?;
@@ -195,9 +195,9 @@ impl<'a> Walk<'a> {
     fn pairs(&mut self, end: usize, depth: u32) -> Result<(), Stop>
         requires within { CanReach self.old end }
         requires deep { depth ≤ self.old.depth }
-        ensures passes { PassesEntries (ArePairs depth) (NoPairs depth) self.old end result self.new }
+        ensures passes { PassesEntries (ArePairsWithin depth) (NoPairs depth) self.old end result self.new }
         ensures parts { WithMemory result
-            (Puts (entries_at AMQPType.FieldTable (self.old.depth - depth)) self.old self.new) }
+            (PutsParts (entries_at AMQPType.FieldTable (self.old.depth - depth)) self.old self.new) }
     {
         'pairs: while self.at < end {
             self.key(end, depth)?;
@@ -212,7 +212,7 @@ impl<'a> Walk<'a> {
         requires some { self.old.at < end }
         ensures goes { GoesOn self.old end self.new }
         ensures parts { WithMemory result
-            (Puts (entries_at AMQPType.FieldTable (self.old.depth - depth)) self.old self.new) }
+            (PutsParts (entries_at AMQPType.FieldTable (self.old.depth - depth)) self.old self.new) }
         ensures key { OnOk result (IsKeyThen (ahead self.old end) (ahead self.new end)) }
         ensures problem { IfErr result (IsAt (NoPairs depth (ahead self.old end) (self.new.at - self.old.at))) }
     {
@@ -234,8 +234,8 @@ impl<'a> Walk<'a> {
 }
 
 // Whether the type is that of a container.
-fn is_container(amqp_type: AMQPType) -> bool
-    ensures { IsTrue result ↔ IsContainer amqp_type }
+pub(super) fn is_container(amqp_type: AMQPType) -> bool
+    ensures { IsTrue result ↔ IsContainerType amqp_type }
 {
     matches!(amqp_type, AMQPType::FieldArray | AMQPType::FieldTable)
 }

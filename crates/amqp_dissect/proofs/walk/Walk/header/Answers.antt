@@ -1,5 +1,6 @@
-use Rattle.std.proofs.Common.{◌+◌, ◌-◌, ℕ, List, length, ap, arith, rules}
+use Rattle.std.proofs.Common.{◌+◌, ◌-◌, ◌++◌, ℕ, List, length, ap, arith, rules}
 use Rattle.std.specs.Borrow.{Bor}
+use Rattle.std.specs.Int.{w32, to_be_bytes}
 use Rattle.amqp_dissect.proofs.Entries.{cut_frame, deep, header_of, header_fits, offset_is}
 use Rattle.amqp_dissect.proofs.Puts.{nothing_puts, tag_puts, header_puts}
 use Rattle.amqp_dissect.proofs.walk.Walk.header.Goals as goal
@@ -48,4 +49,4 @@ pub returns-in_ok-pass-in-Ok-2-2-clause-parts : goal.returns-in_ok-pass-in-Ok-2-
 returns-in_ok-pass-in-Ok-2-2-clause-parts c =
     let h = header_of _ c.args.payload.now c.args.amqp_type c.args.self.now.at c.in-Ok-2.len c.requires.tag c.in-Ok-2.ensures.whole in
     header_puts c.args.depth c.args.self.now c.pass-in-Ok-2.new.self c.pass-in-Ok-2-2.new.self c.args.end c.args.amqp_type c.pass-in-Ok-2.ensures.input c.pass-in-Ok-2.ensures.depth
-    (c.args.self.now.at + 5 + c.in-Ok-2.len) h c.requires.prefixed c.in_ok-pass-in-Ok-2.ensures.at c.in_ok-pass-in-Ok-2-2.ensures.at c.in_ok-pass-in-Ok-2.ensures.parts c.in_ok-pass-in-Ok-2-2.ensures.parts
+    h.0 (to_be_bytes w32 (length h.1)) (h.1 ++ h.2) h.4 h.3 c.requires.prefixed (omega arith) c.in_ok-pass-in-Ok-2.ensures.at c.in_ok-pass-in-Ok-2-2.ensures.at c.in_ok-pass-in-Ok-2.ensures.parts c.in_ok-pass-in-Ok-2-2.ensures.parts
