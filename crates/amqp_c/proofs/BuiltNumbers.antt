@@ -13,7 +13,7 @@ use Rattle.amqp_value_core.specs.InMemory.{IsNumber}
 use Rattle.amqp_value_core.specs.Texts.{text}
 use Rattle.amqp_value_core.specs.Values.{Scalar, number, decimal, scalar}
 use Rattle.amqp_c_common.specs.Scalars.{widened}
-use Rattle.amqp_c.specs.BuiltEntries.{TellsOf}
+use Rattle.amqp_c.specs.BuiltEntries.{IsScalarOfType}
 
 -- what a conversion returned that succeeded
 pub converted : {T E : Type 0} (r : Result T E) (o : Option T) (x v : T) (P : Type 0) → o ≡ Some x → o ≡ result_ok r → OkIff r P v → P × (x ≡ v)
@@ -30,9 +30,9 @@ small_signed w n y z lt is fits =
     ((Fits-of_z {w = w} {z = z} small).fits, sym (of_z-to_z w64 n lt) ∙ ap (cast_unsigned w64) (sym same ∙ sym (to_z-of_z w z small)))
 
 -- the number of a type is determined by its bits
-pub number_told : (type its : AMQPType) (n b scale : ℕ) (e payload : List ℕ) → type ≡ its → scale ≡ 0 → IsNumber its n → b ≡ widened its n
-    → e ≡ id_of its ∷ payload → payload ≡ spelled (number its n) → (x : Scalar) × TellsOf type b scale x × (e ≡ text (scalar x))
-number_told type its n b scale e payload typed zero range same written is =
+pub number_determined : (type its : AMQPType) (n b scale : ℕ) (e payload : List ℕ) → type ≡ its → scale ≡ 0 → IsNumber its n → b ≡ widened its n
+    → e ≡ id_of its ∷ payload → payload ≡ spelled (number its n) → (x : Scalar) × IsScalarOfType type b scale x × (e ≡ text (scalar x))
+number_determined type its n b scale e payload typed zero range same written is =
     (number its n, record { in_range = range; same_type = sym typed; same_bits = same; same_scale = zero }, written ∙ ap (λ (t : List ℕ). id_of its ∷ t) is)
 
 -- one byte, as it is written

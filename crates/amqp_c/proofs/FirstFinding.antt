@@ -11,31 +11,31 @@ use Rattle.amqp_c.specs.declared.cursor.Cursor.{Cursor}
 use Rattle.amqp_c.specs.declared.entry.Entry.{Entry}
 use Rattle.amqp_c_common.specs.declared.fault.Fault.{Fault}
 use Rattle.amqp_c_common.specs.Spans.{part}
-use Rattle.amqp_c.specs.Steps.{IsHeaded, ArePairs, no_pairs as none_left, pair as one_left, HasNoKey, IsOfTable, RefusedBy, GivesLast, IsFoundIn}
+use Rattle.amqp_c.specs.Steps.{IsHeaded, ArePairEncodings, no_pairs as none_left, pair as one_left, HasNoKey, IsOfTable, RefusedBy, GivesLast, IsFoundIn}
 use Rattle.amqp_c.specs.FirstPairs.{HasFirst, none_left as no_first, here, later, first_of, LooksUpFirst}
-use Rattle.amqp_c.proofs.Finding.{one_pair, AreOf, headed, found_by, found_true}
+use Rattle.amqp_c.proofs.Finding.{one_pair, IsFoundValue, headed, found_by, found_true}
 
 -- ---- the pair at the start
 
 -- the value after a key is complete, and its pair is the first with the key; or it has another key,
 -- and the first is after it
-pub record Split (key name value : List ℕ) (w : Option (List ℕ)) : Type 0 where
+pub record FirstPairSplit (key name value : List ℕ) (w : Option (List ℕ)) : Type 0 where
   pub whole : IsHeaded value
   pub either : ((name ≡ key) × (w ≡ Some (take (extent value) value))) ⊎ ((name ≡ key → ⊥) × HasFirst key (drop (extent value) value) w)
 
-pub first_split : (key left name value : List ℕ) (w : Option (List ℕ)) → left ≡ short_field name ++ value → HasFirst key left w → Split key name value w
+pub first_split : (key left name value : List ℕ) (w : Option (List ℕ)) → left ≡ short_field name ++ value → HasFirst key left w → FirstPairSplit key name value w
 first_split key _ name value _ e no_first = absurd cc
 first_split key _ name value _ e (here v whole) =
     let (same, is) = one_pair key name v value e in
-    subst (λ (t : List ℕ). Split key name t (Some (take (extent v) v))) is record { whole = whole; either = inl (sym same, refl) }
+    subst (λ (t : List ℕ). FirstPairSplit key name t (Some (take (extent v) v))) is record { whole = whole; either = inl (sym same, refl) }
 first_split key _ name value w e (later k v _ other whole rest) =
     let (same, is) = one_pair k name v value e in
-    subst (λ (t : List ℕ). Split key name t w) is
-    (subst (λ (n : List ℕ). Split key n v w) same record { whole = whole; either = inr (other, rest) })
+    subst (λ (t : List ℕ). FirstPairSplit key name t w) is
+    (subst (λ (n : List ℕ). FirstPairSplit key n v w) same record { whole = whole; either = inr (other, rest) })
 
 -- after a pair of another key
-pub first_behind : (key left name value behind : List ℕ) (w : Option (List ℕ)) → left ≡ short_field name ++ value → (name ≡ key → ⊥) → behind ≡ drop (extent value) value → HasFirst key left w → HasFirst key behind w
-first_behind key left name value behind w e other is first =
+pub first_after : (key left name value after : List ℕ) (w : Option (List ℕ)) → left ≡ short_field name ++ value → (name ≡ key → ⊥) → after ≡ drop (extent value) value → HasFirst key left w → HasFirst key after w
+first_after key left name value after w e other is first =
     let x = first_split key left name value w e first in
     elim x.either [
       | inl same ↦ absurd (other same.0)
@@ -43,8 +43,8 @@ first_behind key left name value behind w e other is first =
     ]
 
 -- and before it
-pub first_before : (key left name value behind : List ℕ) (w : Option (List ℕ)) → left ≡ short_field name ++ value → (name ≡ key → ⊥) → IsHeaded value → behind ≡ drop (extent value) value → HasFirst key behind w → HasFirst key left w
-first_before key left name value behind w e other whole is first =
+pub first_before : (key left name value after : List ℕ) (w : Option (List ℕ)) → left ≡ short_field name ++ value → (name ≡ key → ⊥) → IsHeaded value → after ≡ drop (extent value) value → HasFirst key after w → HasFirst key left w
+first_before key left name value after w e other whole is first =
     subst (λ (t : List ℕ). HasFirst key t w) (sym e) (later name value w other whole (subst (λ (t : List ℕ). HasFirst key t w) is first))
 
 -- a pair with the key
@@ -86,7 +86,7 @@ named_first key left name value b e is so =
     e ∙ ap (λ (k : List ℕ). short_field k ++ value) (sym same)
 
 -- of pairs by their lengths it is the first
-pub first_of_pairs : (key t : List ℕ) (ps : List (List ℕ × List ℕ)) → ArePairs t ps → HasFirst key t (first_of key ps)
+pub first_of_pairs : (key t : List ℕ) (ps : List (List ℕ × List ℕ)) → ArePairEncodings t ps → HasFirst key t (first_of key ps)
 first_of_pairs key _ _ none_left = no_first
 first_of_pairs key _ _ (one_left k value ps whole all) = pick (same_bytes key k) refl (first_of_pairs key (drop (extent value) value) ps all)
   where
@@ -96,16 +96,16 @@ first_of_pairs key _ _ (one_left k value ps whole all) = pick (same_bytes key k)
     pick false so rest = later k value (first_of key ps) (differ key k so) whole rest
 
 -- and of pairs that are encoded
-pub first_laid : (key t : List ℕ) (ps : Entries) → TableBody t ps → (w : Option (List ℕ)) × HasFirst key t w × AreOf w (value_at key ps)
+pub first_laid : (key t : List ℕ) (ps : Entries) → TableBody t ps → (w : Option (List ℕ)) × HasFirst key t w × IsFoundValue w (value_at key ps)
 first_laid key _ _ no_pairs = (None, no_first, tt)
 first_laid key _ _ (pair k w rest v ps is q all) = pick (same_bytes key k) refl (first_laid key rest ps all)
   where
-    pick : (b : Bool) → same_bytes key k ≡ b → (u : Option (List ℕ)) × HasFirst key rest u × AreOf u (value_at key ps)
-        → (u : Option (List ℕ)) × HasFirst key (short_field k ++ (w ++ rest)) u × AreOf u (cond b (Some v) (value_at key ps))
+    pick : (b : Bool) → same_bytes key k ≡ b → (u : Option (List ℕ)) × HasFirst key rest u × IsFoundValue u (value_at key ps)
+        → (u : Option (List ℕ)) × HasFirst key (short_field k ++ (w ++ rest)) u × IsFoundValue u (cond b (Some v) (value_at key ps))
     pick true so others =
         let x = headed w rest v q in
         let named = subst (λ (n : List ℕ). HasFirst key (short_field n ++ (w ++ rest)) (Some (take (extent (w ++ rest)) (w ++ rest)))) ((bytes_decides key k).0 so) (here (w ++ rest) x.whole) in
-        (Some w, subst (λ (u : List ℕ). HasFirst key (short_field k ++ (w ++ rest)) (Some u)) x.front named, q)
+        (Some w, subst (λ (u : List ℕ). HasFirst key (short_field k ++ (w ++ rest)) (Some u)) x.prefix named, q)
     pick false so others =
         let x = headed w rest v q in
         let (u, first, of) = others in

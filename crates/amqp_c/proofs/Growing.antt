@@ -6,13 +6,13 @@ use Rattle.amqp_value_core.specs.declared.types.amqp_type.AMQPType.TheVariants a
 use Rattle.amqp_value_core.specs.Strings.{IsShort}
 use Rattle.amqp_value_core.specs.Grammar.{short_field, long_field, Wire, wire, raw_array, raw_table, ArrayBody, no_values, value, TableBody, no_pairs, pair}
 use Rattle.amqp_value_core.specs.Values.{Tree, scalar, short, long, octets, array, table, Trees, no_trees, tree, Entries, no_entries, entry, insert_all}
-use Rattle.amqp_c_common.specs.Spans.{part, SpanLies}
+use Rattle.amqp_c_common.specs.Spans.{part, SpanIsIn}
 use Rattle.amqp_c.specs.declared.container.Container.{Container}
 use Rattle.amqp_c.specs.Containers.{IsKeyOf, named, end_of, entry_of, up_to}
 use Rattle.amqp_c.specs.BuiltEntries.{IsOfBody}
-use Rattle.amqp_c.specs.Growth.{and_value, and_pair, Grows, IsOpen, IsEnded}
-use Rattle.amqp_c.specs.Rooms.{with_bytes, StandsAt}
-use Rattle.amqp_c.proofs.Rooms.{with_bytes-join}
+use Rattle.amqp_c.specs.Growth.{and_value, and_pair, GrowsContainer, IsOpen, IsClosed}
+use Rattle.amqp_c.specs.Buffers.{with_bytes, StandsAt}
+use Rattle.amqp_c.proofs.Buffers.{with_bytes-join}
 
 -- values, and an encoding after them
 body_and : (b w : List ℕ) (vs : Trees) (v : Tree) → ArrayBody b vs → Wire w v → ArrayBody (b ++ w) (and_value vs v)
@@ -37,7 +37,7 @@ short_key into k is (inr x) = x.1
 
 -- a container that has an entry's bytes more grows by its value
 pub grows_by : (old new k w : List ℕ) (into grown : Container) (v : Tree) → IsKeyOf into k → Wire w v
-    → part new grown.written ≡ part old into.written ++ entry_of into k w → Grows old into k v new grown
+    → part new grown.written ≡ part old into.written ++ entry_of into k w → GrowsContainer old into k v new grown
 grows_by old new k w into grown v key p more = record {
   values = λ vs is all.
       let bare : entry_of into k w ≡ w = rw is refl in
@@ -49,36 +49,36 @@ grows_by old new k w into grown v key p more = record {
 }
 
 -- what is written of a container, once bytes were written after it
-pub part_grown : (old new bytes : List ℕ) (c grown : Container) → SpanLies (length old) c.written → new ≡ with_bytes (end_of c) bytes old
+pub part_grown : (old new bytes : List ℕ) (c grown : Container) → SpanIsIn (length old) c.written → new ≡ with_bytes (end_of c) bytes old
     → grown ≡ up_to (end_of c + length bytes) c → part new grown.written ≡ part old c.written ++ bytes
-part_grown old new bytes c grown lies written reaches =
+part_grown old new bytes c grown inside written reaches =
     let o = c.written.offset in
     let n = c.written.length in
     let before = take (o + n) old in
     let rest = drop (o + n + length bytes) old in
-    let long : length before ≡ o + n = length-take-le (o + n) old lies in
+    let long : length before ≡ o + n = length-take-le (o + n) old inside in
     let cut : drop o before ≡ part old c.written = drop-take o n old in
     let size : length (drop o before) ≡ n = ap length cut ∙ length-take-le n (drop o old) (omega (arith, length-drop o old)) in
     let count : length (drop o before ++ bytes) ≡ o + n + length bytes - o = omega (arith, length-append (drop o before) bytes) in
-    let behind : drop o (with_bytes (o + n) bytes old) ≡ (drop o before ++ bytes) ++ rest =
+    let after : drop o (with_bytes (o + n) bytes old) ≡ (drop o before ++ bytes) ++ rest =
     drop-append-le o before (bytes ++ rest) (omega arith) ∙ sym (append_assoc (drop o before) bytes rest) in
     ap₂ (λ (r : List ℕ) (g : Container). part r g.written) written reaches
-    ∙ (ap (take (o + n + length bytes - o)) behind
+    ∙ (ap (take (o + n + length bytes - o)) after
     ∙ (take_at (drop o before ++ bytes) rest (o + n + length bytes - o) count
     ∙ ap (λ (t : List ℕ). t ++ bytes) cut))
 
 -- bytes that are there already are written
-with_bytes-same : (at : ℕ) (a room : List ℕ) → StandsAt at a room → with_bytes at a room ≡ room
-with_bytes-same at a room stands =
-    ap (λ (t : List ℕ). take at room ++ t)
-    (ap₂ (λ (p q : List ℕ). p ++ q) (sym stands) (sym (drop-drop (length a) at room)) ∙ take-append-drop (length a) (drop at room))
-    ∙ take-append-drop at room
+with_bytes-same : (at : ℕ) (a buffer : List ℕ) → StandsAt at a buffer → with_bytes at a buffer ≡ buffer
+with_bytes-same at a buffer stands =
+    ap (λ (t : List ℕ). take at buffer ++ t)
+    (ap₂ (λ (p q : List ℕ). p ++ q) (sym stands) (sym (drop-drop (length a) at buffer)) ∙ take-append-drop (length a) (drop at buffer))
+    ∙ take-append-drop at buffer
 
 -- after bytes that are written the buffer is as it was
-drop-with_bytes : (at : ℕ) (a room : List ℕ) → at ≤ length room → drop (at + length a) (with_bytes at a room) ≡ drop (at + length a) room
-drop-with_bytes at a room fits =
-    ap (drop (at + length a)) (sym (append_assoc (take at room) a (drop (at + length a) room)))
-    ∙ drop_at (take at room ++ a) (drop (at + length a) room) (at + length a) (omega (arith, length-append (take at room) a, length-take-le at room fits))
+drop-with_bytes : (at : ℕ) (a buffer : List ℕ) → at ≤ length buffer → drop (at + length a) (with_bytes at a buffer) ≡ drop (at + length a) buffer
+drop-with_bytes at a buffer fits =
+    ap (drop (at + length a)) (sym (append_assoc (take at buffer) a (drop (at + length a) buffer)))
+    ∙ drop_at (take at buffer ++ a) (drop (at + length a) buffer) (at + length a) (omega (arith, length-append (take at buffer) a, length-take-le at buffer fits))
 
 -- a length that is filled in between what is before a body and the body
 filled_in : (old head length_bytes content : List ℕ) (at : ℕ) → at + length head ≤ length old → at + length head + length length_bytes ≤ length old
@@ -91,9 +91,9 @@ filled_in old head l content at fits more stands body =
     let one : with_bytes next l old ≡ with_bytes at joined old =
     ap (with_bytes next l) (sym (with_bytes-same at head old stands)) ∙ with_bytes-join at next head l old refl fits in
     let here : off ≡ at + length joined = omega (arith, length-append head l) in
-    let behind : drop off (with_bytes at joined old) ≡ drop off old =
+    let after : drop off (with_bytes at joined old) ≡ drop off old =
     subst (λ (m : ℕ). drop m (with_bytes at joined old) ≡ drop m old) (sym here) (drop-with_bytes at joined old (omega arith)) in
-    let still : StandsAt off content (with_bytes at joined old) = ap (take (length content)) behind ∙ body in
+    let still : StandsAt off content (with_bytes at joined old) = ap (take (length content)) after ∙ body in
     one
     ∙ (sym (with_bytes-same off content (with_bytes at joined old) still)
     ∙ (with_bytes-join at off joined content old here more
@@ -114,20 +114,20 @@ wire_of_body tag b (long y) fits x = absurd x
 wire_of_body tag b (octets y) fits x = absurd x
 
 -- the length of an open body is filled in, and the container grows by it
-pub ended : (old new k : List ℕ) (into body grown : Container) → IsOpen old into body k → body.written.length < 2 ^ 32
-    → new ≡ with_bytes (body.written.offset - 4) (to_be_bytes w32 body.written.length) old → grown ≡ up_to (end_of body) into → IsEnded old into body new grown
-ended old new k into body grown is fits filled reaches =
+pub closed : (old new k : List ℕ) (into body grown : Container) → IsOpen old into body k → body.written.length < 2 ^ 32
+    → new ≡ with_bytes (body.written.offset - 4) (to_be_bytes w32 body.written.length) old → grown ≡ up_to (end_of body) into → IsClosed old into body new grown
+closed old new k into body grown is fits filled reaches =
     let e = end_of into in
     let head = entry_of into k (body.tag ∷ []) in
     let n = body.written.length in
     let l = to_be_bytes w32 n in
     let b = part old body.written in
-    let at = is.behind in
-    let size : length b ≡ n = length-take-le n (drop body.written.offset old) (omega (arith, is.lies, length-drop body.written.offset old)) in
+    let at = is.after in
+    let size : length b ≡ n = length-take-le n (drop body.written.offset old) (omega (arith, is.inside, length-drop body.written.offset old)) in
     let there : StandsAt (e + length head + 4) b old =
     subst (λ (o : ℕ). take (length b) (drop o old) ≡ b) at (ap (λ (m : ℕ). take m (drop body.written.offset old)) size) in
     let written : new ≡ with_bytes e (head ++ (l ++ b)) old =
-    filled ∙ (ap (λ (o : ℕ). with_bytes o l old) (omega (arith, at)) ∙ filled_in old head l b e (omega (arith, at, is.lies)) (omega (arith, at, is.lies)) is.named there) in
+    filled ∙ (ap (λ (o : ℕ). with_bytes o l old) (omega (arith, at)) ∙ filled_in old head l b e (omega (arith, at, is.inside)) (omega (arith, at, is.inside)) is.named there) in
     let field : l ++ b ≡ long_field b = ap (λ (m : ℕ). to_be_bytes w32 m ++ b) (sym size) in
     let bytes : head ++ (l ++ b) ≡ entry_of into k (body.tag ∷ long_field b) =
     append_assoc (named into.tag k) (body.tag ∷ []) (l ++ b) ∙ ap (λ (t : List ℕ). named into.tag k ++ (body.tag ∷ t)) field in

@@ -44,6 +44,6 @@ pub ends_are_ascii : (s first last : List ℕ) → length s ≤ 16 → IsFirstCh
 ends_are_ascii s first last few starts ends a b =
     let m = length s - 8 in
     let same : m + (8 - m) ≡ 8 = omega (arith, few, starts.enough) in
-    let behind : IsAscii (drop 8 s) =
+    let after : IsAscii (drop 8 s) =
     subst IsAscii (drop-drop (8 - m) m s ∙ ap (λ (k : ℕ). drop k s) same) (IsAscii-drop (drop m s) (8 - m) (subst IsAscii ends.same b)) in
-    subst IsAscii (take-append-drop 8 s) (IsAscii-append (take 8 s) (drop 8 s) (subst IsAscii starts.same a) behind)
+    subst IsAscii (take-append-drop 8 s) (IsAscii-append (take 8 s) (drop 8 s) (subst IsAscii starts.same a) after)

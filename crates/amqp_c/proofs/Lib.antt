@@ -1,6 +1,6 @@
 mod Numbers
 mod Parts
-mod Fronts
+mod Prefixes
 mod Stepping
 mod Finding
 mod FirstFinding
@@ -12,7 +12,7 @@ mod Tags
 mod EntryIntegers
 mod Opened
 mod Putting
-mod Rooms
+mod Buffers
 mod Keys
 mod Tables
 pub mod Needs

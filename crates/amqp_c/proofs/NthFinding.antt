@@ -9,12 +9,12 @@ use Rattle.amqp_c.specs.declared.cursor.Cursor.{Cursor}
 use Rattle.amqp_c.specs.declared.entry.Entry.{Entry}
 use Rattle.amqp_c_common.specs.declared.fault.Fault.{Fault}
 use Rattle.amqp_c_common.specs.declared.span.Span.{Span}
-use Rattle.amqp_c_common.specs.Spans.{part, SpanLies}
-use Rattle.amqp_c.specs.Entries.{IsTrueTo, Lies}
-use Rattle.amqp_c.specs.Steps.{IsHeaded, IsBehind, StandsAlone, EndsIn, RefusedBy, GivesLast}
+use Rattle.amqp_c_common.specs.Spans.{part, SpanIsIn}
+use Rattle.amqp_c.specs.Entries.{IsTrueTo, EntryIsIn}
+use Rattle.amqp_c.specs.Steps.{IsHeaded, IsRestOf, StandsAlone, EndsIn, RefusedBy, GivesLast}
 use Rattle.amqp_c.specs.NthValues.{IsOfArray, HasNth, too_few, here, later, nth, IsNthIn, LooksUpNth}
 use Rattle.amqp_c.proofs.Parts.{part_length}
-use Rattle.amqp_c.proofs.Finding.{AreOf, headed, found_by}
+use Rattle.amqp_c.proofs.Finding.{IsFoundValue, headed, found_by}
 
 -- ---- the value at the start
 
@@ -24,20 +24,20 @@ nth_headed _ _ _ some (here s whole) = whole
 nth_headed _ _ _ some (later n s w whole rest) = whole
 
 -- after a value
-pub nth_behind : (n : ℕ) (left behind : List ℕ) (w : Option (List ℕ)) → 0 < n → 0 < length left → behind ≡ drop (extent left) left → HasNth n left w → HasNth (n - 1) behind w
-nth_behind _ _ behind _ more some is (too_few n) = absurd (omega arith)
-nth_behind _ _ behind _ more some is (here s whole) = absurd (omega arith)
-nth_behind _ _ behind _ more some is (later n s w whole rest) =
-    subst (λ (m : ℕ). HasNth m behind w) (omega arith) (subst (λ (t : List ℕ). HasNth n t w) (sym is) rest)
+pub nth_after : (n : ℕ) (left after : List ℕ) (w : Option (List ℕ)) → 0 < n → 0 < length left → after ≡ drop (extent left) left → HasNth n left w → HasNth (n - 1) after w
+nth_after _ _ after _ more some is (too_few n) = absurd (omega arith)
+nth_after _ _ after _ more some is (here s whole) = absurd (omega arith)
+nth_after _ _ after _ more some is (later n s w whole rest) =
+    subst (λ (m : ℕ). HasNth m after w) (omega arith) (subst (λ (t : List ℕ). HasNth n t w) (sym is) rest)
 
 -- and before it
-pub nth_before : (n : ℕ) (left behind : List ℕ) (w : Option (List ℕ)) → 0 < n → IsHeaded left → behind ≡ drop (extent left) left → HasNth (n - 1) behind w → HasNth n left w
-nth_before n left behind w more whole is rest =
+pub nth_before : (n : ℕ) (left after : List ℕ) (w : Option (List ℕ)) → 0 < n → IsHeaded left → after ≡ drop (extent left) left → HasNth (n - 1) after w → HasNth n left w
+nth_before n left after w more whole is rest =
     subst (λ (m : ℕ). HasNth m left w) (omega arith) (later (n - 1) left w whole (subst (λ (t : List ℕ). HasNth (n - 1) t w) is rest))
 
 -- what is after it is the end of all bytes, too
-pub value_behind : (left behind : List ℕ) → IsHeaded left → behind ≡ drop (extent left) left → IsBehind left behind
-value_behind left behind whole is = (extent left, whole.0, whole.1, is)
+pub value_after : (left after : List ℕ) → IsHeaded left → after ≡ drop (extent left) left → IsRestOf left after
+value_after left after whole is = (extent left, whole.0, whole.1, is)
 
 -- no value is before the one
 pub nth_here : (n : ℕ) (left : List ℕ) → n ≡ 0 → IsHeaded left → HasNth n left (Some (take (extent left) left))
@@ -58,30 +58,30 @@ none_nth _ _ _ none (here s whole) = absurd (omega (arith, whole.0, whole.1))
 none_nth _ _ _ none (later n s w whole rest) = absurd (omega (arith, whole.0, whole.1))
 
 -- the place of the value's entry
-pub alone_stands : (s : List ℕ) (p : Span) (e : Entry) → SpanLies (length s) p → StandsAlone s p e → EndsIn p e → part s e.value ≡ take (extent (part s p)) (part s p)
+pub alone_stands : (s : List ℕ) (p : Span) (e : Entry) → SpanIsIn (length s) p → StandsAlone s p e → EndsIn p e → part s e.value ≡ take (extent (part s p)) (part s p)
 alone_stands s p e in_s (none, at, size) ends =
     ap (λ (o : ℕ). take e.value.length (drop o s)) at
     ∙ (sym (take-take e.value.length p.length (drop p.offset s) (omega (arith, ends.1)))
     ∙ ap (λ (n : ℕ). take n (part s p)) size)
 
-pub alone_headed : (s : List ℕ) (p : Span) (e : Entry) → SpanLies (length s) p → Lies (length s) e → StandsAlone s p e → EndsIn p e → IsHeaded (part s p)
-alone_headed s p e in_s lies (none, at, size) ends =
-    (omega (arith, lies.some, size), omega (arith, size, part_length s p in_s, ends.1))
+pub alone_headed : (s : List ℕ) (p : Span) (e : Entry) → SpanIsIn (length s) p → EntryIsIn (length s) e → StandsAlone s p e → EndsIn p e → IsHeaded (part s p)
+alone_headed s p e in_s inside (none, at, size) ends =
+    (omega (arith, inside.some, size), omega (arith, size, part_length s p in_s, ends.1))
 
 -- ---- values that are encoded
 
-nth_laid : (n : ℕ) (t : List ℕ) (vs : Trees) → ArrayBody t vs → (w : Option (List ℕ)) × HasNth n t w × AreOf w (nth n vs)
+nth_laid : (n : ℕ) (t : List ℕ) (vs : Trees) → ArrayBody t vs → (w : Option (List ℕ)) × HasNth n t w × IsFoundValue w (nth n vs)
 nth_laid n _ _ no_values = (None, too_few n, tt)
 nth_laid zero _ _ (value w rest v vs q all) =
     let x = headed w rest v q in
-    (Some w, subst (λ (u : List ℕ). HasNth 0 (w ++ rest) (Some u)) x.front (here (w ++ rest) x.whole), q)
+    (Some w, subst (λ (u : List ℕ). HasNth 0 (w ++ rest) (Some u)) x.prefix (here (w ++ rest) x.whole), q)
 nth_laid (suc n) _ _ (value w rest v vs q all) =
     let x = headed w rest v q in
     let (u, at, of) = nth_laid n rest vs all in
     (u, later n (w ++ rest) u x.whole (subst (λ (t : List ℕ). HasNth n t u) (sym x.after) at), of)
 
 nth_true : (s : List ℕ) (c : Cursor) (r : Result (Option Entry) Fault) → IfOk r (λ o. IfSome o (IsNthIn s c)) → IfOk r (λ o. IfSome o (IsTrueTo s))
-nth_true s c (Ok (Some e)) h = h.told
+nth_true s c (Ok (Some e)) h = h.reported
 nth_true s c (Ok None) h = tt
 nth_true s c (Err f) h = tt
 

@@ -1,8 +1,8 @@
--- Whether a body is one of an entry that was begun.
+-- Whether a body is one of an entry that was opened.
 use Rattle.std.proofs.Common.{◌≡◌, ◌+◌, ◌-◌, ◌≤◌, ℕ, Bool, true, false, List, [], ◌∷◌, ◌++◌, length, take, drop, refl, sym, ap, ap₂, ◌∙◌, arith, length-append, length-drop}
 use Rattle.std.specs.Bool.{MatchBool}
 use Rattle.std.proofs.lemmas.List.{take_at, length-take-le}
-use Rattle.amqp_c_common.specs.Spans.{SpanLies}
+use Rattle.amqp_c_common.specs.Spans.{SpanIsIn}
 use Rattle.amqp_c.specs.declared.container.Container.{Container}
 use Rattle.amqp_c.specs.Containers.{IsContainerTag, IsKeyOf, named, end_of, entry_of}
 use Rattle.amqp_c.specs.Growth.{IsOpen}
@@ -14,26 +14,26 @@ same_before a b x y e =
     sym (take_at a (x ∷ []) (length a) refl) ∙ (ap (take (length a)) e ∙ take_at b (y ∷ []) (length a) (sym count))
 
 -- between what `into` has and the four bytes before the body are a name and the body's type tag
-pub is_open : (room name : List ℕ) (into body : Container) (at tag : ℕ) (yes : Bool) → at ≡ end_of into → SpanLies (length room) into.written → SpanLies (length room) body.written
-    → IsContainerTag body.tag → at + 4 ≤ body.written.offset → take (body.written.offset - 4 - at) (drop at room) ≡ name ++ tag ∷ [] → tag ≡ body.tag
+pub is_open : (buffer name : List ℕ) (into body : Container) (at tag : ℕ) (yes : Bool) → at ≡ end_of into → SpanIsIn (length buffer) into.written → SpanIsIn (length buffer) body.written
+    → IsContainerTag body.tag → at + 4 ≤ body.written.offset → take (body.written.offset - 4 - at) (drop at buffer) ≡ name ++ tag ∷ [] → tag ≡ body.tag
     → MatchBool yes ((k : List ℕ) × IsKeyOf into k × (name ≡ named into.tag k)) ((k : List ℕ) → IsKeyOf into k → name ≡ named into.tag k → ⊥)
-    → MatchBool yes ((k : List ℕ) × IsOpen room into body k) ((k : List ℕ) → IsOpen room into body k → ⊥)
-is_open room name into body at tag true here lies in_room container before between same (k, key, is) =
+    → MatchBool yes ((k : List ℕ) × IsOpen buffer into body k) ((k : List ℕ) → IsOpen buffer into body k → ⊥)
+is_open buffer name into body at tag true here inside in_buffer container before between same (k, key, is) =
     let n = body.written.offset - 4 - at in
     let head = entry_of into k (body.tag ∷ []) in
-    let whole : take n (drop at room) ≡ head = between ∙ ap₂ (λ (p : List ℕ) (t : ℕ). p ++ t ∷ []) is same in
-    let count : length head ≡ n = sym (ap length whole) ∙ length-take-le n (drop at room) (omega (arith, lies, in_room, here, length-drop at room)) in (
+    let whole : take n (drop at buffer) ≡ head = between ∙ ap₂ (λ (p : List ℕ) (t : ℕ). p ++ t ∷ []) is same in
+    let count : length head ≡ n = sym (ap length whole) ∙ length-take-le n (drop at buffer) (omega (arith, inside, in_buffer, here, length-drop at buffer)) in (
       k,
       record {
-        place = (lies, key);
+        place = (inside, key);
         container = container;
-        lies = in_room;
-        named = ap₂ (λ (m o : ℕ). take m (drop o room)) count (sym here) ∙ whole;
-        behind = omega (arith, count, here, before);
+        inside = in_buffer;
+        named = ap₂ (λ (m o : ℕ). take m (drop o buffer)) count (sym here) ∙ whole;
+        after = omega (arith, count, here, before);
       },
     )
-is_open room name into body at tag false here lies in_room container before between same none = λ k o.
+is_open buffer name into body at tag false here inside in_buffer container before between same none = λ k o.
     let head = entry_of into k (body.tag ∷ []) in
-    let count : body.written.offset - 4 - at ≡ length head = omega (arith, o.behind, here) in
+    let count : body.written.offset - 4 - at ≡ length head = omega (arith, o.after, here) in
     none k o.place.1 (same_before name (named into.tag k) tag body.tag
-    (sym between ∙ (ap₂ (λ (m p : ℕ). take m (drop p room)) count here ∙ o.named)))
+    (sym between ∙ (ap₂ (λ (m p : ℕ). take m (drop p buffer)) count here ∙ o.named)))

@@ -3,11 +3,11 @@ use Rattle.std.proofs.Common.{◌≡◌, ◌+◌, ◌-◌, ◌≤◌, ℕ, List,
 use Rattle.std.proofs.lemmas.List.{take_at, take-take, drop-drop, drop-take, length-take-le}
 use Rattle.amqp_value_core.specs.Grammar.{long_field}
 use Rattle.amqp_c_common.specs.declared.span.Span.{Span}
-use Rattle.amqp_c_common.specs.Spans.{part, moved, behind, last}
+use Rattle.amqp_c_common.specs.Spans.{part, moved, rest_after, last}
 
 -- at the start
-pub part_front : (s : List ℕ) (p : Span) → p.offset ≡ 0 → part s p ≡ take p.length s
-part_front s p e = ap (λ (o : ℕ). take p.length (drop o s)) e
+pub part_prefix : (s : List ℕ) (p : Span) → p.offset ≡ 0 → part s p ≡ take p.length s
+part_prefix s p e = ap (λ (o : ℕ). take p.length (drop o s)) e
 
 -- after a type tag and a length
 pub part_content : (s mid body rest : List ℕ) (c : ℕ) (p : Span) → s ≡ c ∷ mid → mid ≡ long_field body ++ rest → p.offset ≡ 5 → p.length ≡ length body → part s p ≡ body
@@ -18,7 +18,7 @@ part_content s mid body rest c p typed framed at size =
 
 -- a part of a part
 pub part_within : (s : List ℕ) (p q : Span) → q.offset + q.length ≤ p.length → part (part s p) q ≡ part s (moved p.offset q)
-part_within s p q lies =
+part_within s p q inside =
     let here : p.length ≡ q.offset + (p.length - q.offset) = omega arith in
     let cut : drop q.offset (part s p) ≡ take (p.length - q.offset) (drop q.offset (drop p.offset s)) =
     ap (λ (n : ℕ). drop q.offset (take n (drop p.offset s))) here ∙ drop-take q.offset (p.length - q.offset) (drop p.offset s) in
@@ -28,8 +28,8 @@ part_within s p q lies =
     ∙ ap (λ (o : ℕ). take q.length (drop o s)) (omega arith)))
 
 -- what is after the first n bytes of a part
-pub part_after : (s : List ℕ) (p q : Span) (n : ℕ) → q.offset + q.length ≡ p.offset + n → n ≤ p.length → part s (behind p q) ≡ drop n (part s p)
-part_after s p q n at lies =
+pub part_after : (s : List ℕ) (p q : Span) (n : ℕ) → q.offset + q.length ≡ p.offset + n → n ≤ p.length → part s (rest_after p q) ≡ drop n (part s p)
+part_after s p q n at inside =
     let here : p.length ≡ n + (p.length - n) = omega arith in
     let left : p.offset + p.length - (q.offset + q.length) ≡ p.length - n = omega arith in
     ap (λ (k : ℕ). take k (drop (q.offset + q.length) s)) left
@@ -40,13 +40,13 @@ part_after s p q n at lies =
 
 -- how many bytes a part has
 pub part_length : (s : List ℕ) (p : Span) → p.offset + p.length ≤ length s → length (part s p) ≡ p.length
-part_length s p lies = length-take-le p.length (drop p.offset s) (omega (arith, length-drop p.offset s))
+part_length s p inside = length-take-le p.length (drop p.offset s) (omega (arith, length-drop p.offset s))
 
 -- the last n bytes of a part
 pub part_last : (s : List ℕ) (p : Span) (n : ℕ) → p.offset + p.length ≤ length s → n ≤ p.length → part s (last p n) ≡ drop (length (part s p) - n) (part s p)
-part_last s p n lies few =
+part_last s p n inside few =
     let before = p.length - n in
     let ends : n ≡ p.offset + p.length - (p.offset + before) = omega arith in
     ap (λ (k : ℕ). take k (drop (p.offset + before) s)) ends
     ∙ (part_after s p (record { offset = p.offset; length = before }) before (omega arith) (omega arith)
-    ∙ ap (λ (m : ℕ). drop (m - n) (part s p)) (sym (part_length s p lies)))
+    ∙ ap (λ (m : ℕ). drop (m - n) (part s p)) (sym (part_length s p inside)))

@@ -1,63 +1,73 @@
 -- What each call from C returns, and leaves in the buffer and at its pointers.
 use Rattle.std.specs.Prelude.{ℕ, ◌≡◌, ℤ, List, Result, IfErr, MatchResult}
-use Rattle.std.specs.Int.{w64, cast_unsigned}
-use Rattle.amqp_value_core.specs.Values.{Tree, Scalar}
 use Rattle.amqp_c_common.specs.declared.fault.Fault.{Fault}
-use Rattle.amqp_c_common.specs.ReturnCodes.{answer_of}
+use Rattle.amqp_c_common.specs.ReturnCodes.{return_code_of}
 use Rattle.amqp_c_common.specs.Reading.{limits}
 use Rattle.amqp_c.specs.declared.container.Container.{Container}
 use Rattle.amqp_c.specs.CallResults.{ok_or_old}
-use Rattle.amqp_c.specs.Containers.{IsContainerTag}
-use Rattle.amqp_c.specs.BuiltEntries.{Tells, IsScalarTag, IsSignedTag, IsUnsignedTag, IsTold, IsStringTag, IsOfBytes, IsFront, unfilled}
-use Rattle.amqp_c.specs.Faults.{Refuses, NoOther, IsTooLong, IsReadFaultInPlace, RefusesToEnd}
-use Rattle.amqp_c.specs.Growth.{IsPut, IsBegun, IsEnded}
+use Rattle.amqp_c.specs.BuiltEntries.{truth_bits}
+use Rattle.amqp_c.specs.Items.{Item, fixed_width, signed_number, unsigned_number, byte_string, first_encoding}
+use Rattle.amqp_c.specs.Faults.{IsPutFault, RefusesToOpen, RefusesToClose}
+use Rattle.amqp_c.specs.Growth.{IsEntryPut, IsOpened, IsClosed}
 
--- an entry is written or rejected; `Gives` defines of which encoding and value it may be; after an
--- error the buffer and the container are as they were
-pub record Puts (taken in_range : Type 0) (Gives : List ℕ → Tree → Type 0) (Other : Fault → Type 0) (old : List ℕ) (into : Container) (k : List ℕ) (answer : ℤ) (new : List ℕ) (grown : Container) : Type 0 where
+-- an entry with the item is written or rejected; after an error the buffer and the container are as they
+-- were
+pub record PutsEntry (item : Item) (old : List ℕ) (into : Container) (k : List ℕ) (code : ℤ) (new : List ℕ) (grown : Container) : Type 0 where
   pub done : Result Container Fault
-  pub answered : answer ≡ answer_of done
+  pub returned : code ≡ return_code_of done
   pub container : grown ≡ ok_or_old into done
-  pub put : MatchResult done (IsPut Gives old into k new) (Refuses taken in_range (λ w. (v : Tree) × Gives w v) Other old into k)
+  pub put : MatchResult done (IsEntryPut item old into k new) (IsPutFault item old into k)
   pub stays : IfErr done (λ _. new ≡ old)
 
 -- a value of fixed width is put, by its type tag, its bits and its scale
 abbrev pub PutsScalar : ℕ → ℕ → ℕ → List ℕ → Container → List ℕ → ℤ → List ℕ → Container → Type 0
-PutsScalar tag bits scale = Puts (IsScalarTag tag) ((x : Scalar) × Tells tag bits scale x) (IsTold tag bits scale) NoOther
-
--- and only if its type tag is of some kind
-abbrev pub PutsOnly : Type 0 → ℕ → ℕ → List ℕ → Container → List ℕ → ℤ → List ℕ → Container → Type 0
-PutsOnly kind tag bits = Puts kind ((x : Scalar) × Tells tag bits 0 x) (λ w v. kind × IsTold tag bits 0 w v) NoOther
+PutsScalar tag bits scale = PutsEntry (fixed_width tag bits scale)
 
 -- a signed number is put, by its type tag, and an unsigned one
 abbrev pub PutsInt : ℕ → ℤ → List ℕ → Container → List ℕ → ℤ → List ℕ → Container → Type 0
-PutsInt tag n = PutsOnly (IsSignedTag tag) tag (cast_unsigned w64 n)
+PutsInt tag n = PutsEntry (signed_number tag n)
 
 abbrev pub PutsUint : ℕ → ℕ → List ℕ → Container → List ℕ → ℤ → List ℕ → Container → Type 0
-PutsUint tag n = PutsOnly (IsUnsignedTag tag) tag n
+PutsUint tag n = PutsEntry (unsigned_number tag n)
+
+-- a boolean is put, of which every number but 0 is true
+abbrev pub PutsBool : ℤ → List ℕ → Container → List ℕ → ℤ → List ℕ → Container → Type 0
+PutsBool truth = PutsScalar 116 (truth_bits truth) 0
+
+-- a timestamp is put
+abbrev pub PutsTimestamp : ℕ → List ℕ → Container → List ℕ → ℤ → List ℕ → Container → Type 0
+PutsTimestamp seconds = PutsScalar 84 seconds 0
+
+-- a decimal is put, by its number without the point, and its scale
+abbrev pub PutsDecimal : ℕ → ℕ → List ℕ → Container → List ℕ → ℤ → List ℕ → Container → Type 0
+PutsDecimal n scale = PutsScalar 68 n scale
+
+-- an entry without a value is put
+abbrev pub PutsVoid : List ℕ → Container → List ℕ → ℤ → List ℕ → Container → Type 0
+PutsVoid = PutsScalar 86 0 0
 
 -- a long string or a byte array is put
 abbrev pub PutsBytes : ℕ → List ℕ → List ℕ → Container → List ℕ → ℤ → List ℕ → Container → Type 0
-PutsBytes tag b = Puts (IsStringTag tag) (Unit {0}) (IsOfBytes tag b) (IsTooLong tag b)
+PutsBytes tag b = PutsEntry (byte_string tag b)
 
 -- the encoding at the start of s is put, unchanged
 abbrev pub PutsValue : ℕ → ℕ → List ℕ → List ℕ → Container → List ℕ → ℤ → List ℕ → Container → Type 0
-PutsValue frame depth s = Puts (Unit {0}) (Unit {0}) (IsFront (limits frame depth) s) (IsReadFaultInPlace (limits frame depth) s)
+PutsValue frame depth s = PutsEntry (first_encoding (limits frame depth) s)
 
--- an entry is begun or rejected whose value is a container; after an error the buffer and the body
+-- an entry is opened or rejected whose value is a container; after an error the buffer and the body
 -- are as they were
-pub record Begins (tag : ℕ) (old : List ℕ) (into : Container) (k : List ℕ) (was : Container) (answer : ℤ) (new : List ℕ) (body : Container) : Type 0 where
+pub record OpensContainer (tag : ℕ) (old : List ℕ) (into : Container) (k : List ℕ) (was : Container) (code : ℤ) (new : List ℕ) (body : Container) : Type 0 where
   pub done : Result Container Fault
-  pub answered : answer ≡ answer_of done
+  pub returned : code ≡ return_code_of done
   pub container : body ≡ ok_or_old was done
-  pub begun : MatchResult done (IsBegun tag old into k new) (Refuses (IsContainerTag tag) (Unit {0}) (λ w. IsContainerTag tag × (w ≡ unfilled tag)) NoOther old into k)
+  pub opened : MatchResult done (IsOpened tag old into k new) (RefusesToOpen tag old into k)
   pub stays : IfErr done (λ _. new ≡ old)
 
--- an entry is ended whose value is a container, or rejected; after an error the buffer and the
+-- an entry is closed whose value is a container, or rejected; after an error the buffer and the
 -- container are as they were
-pub record Ends (old : List ℕ) (into body : Container) (answer : ℤ) (new : List ℕ) (grown : Container) : Type 0 where
+pub record ClosesContainer (old : List ℕ) (into body : Container) (code : ℤ) (new : List ℕ) (grown : Container) : Type 0 where
   pub done : Result Container Fault
-  pub answered : answer ≡ answer_of done
+  pub returned : code ≡ return_code_of done
   pub container : grown ≡ ok_or_old into done
-  pub ended : MatchResult done (IsEnded old into body new) (RefusesToEnd old into body)
+  pub closed : MatchResult done (IsClosed old into body new) (RefusesToClose old into body)
   pub stays : IfErr done (λ _. new ≡ old)

@@ -14,7 +14,7 @@ use Rattle.amqp_c_common.specs.Scalars.{scalar_bits, scalar_scale}
 use Rattle.amqp_c.specs.Containers.{array_tag, table_tag}
 
 -- the type tag, the bits and the scale determine x, as those of an entry do
-pub record Tells (tag bits scale : ℕ) (x : Scalar) : Type 0 where
+pub record IsScalarOf (tag bits scale : ℕ) (x : Scalar) : Type 0 where
   pub in_range : IsScalar x
   pub same_tag : tag ≡ id_of (scalar_type x)
   pub same_bits : bits ≡ scalar_bits x
@@ -32,15 +32,15 @@ abbrev pub IsUnsignedTag : ℕ → Type 0
 IsUnsignedTag tag = (tag ≡ 66) ⊎ (tag ≡ 117) ⊎ (tag ≡ 105)
 
 -- the bits and the scale determine x, which is of this type
-pub record TellsOf (type : AMQPType) (bits scale : ℕ) (x : Scalar) : Type 0 where
+pub record IsScalarOfType (type : AMQPType) (bits scale : ℕ) (x : Scalar) : Type 0 where
   pub in_range : IsScalar x
   pub same_type : scalar_type x ≡ type
   pub same_bits : bits ≡ scalar_bits x
   pub same_scale : scale ≡ scalar_scale x
 
 -- w is the canonical encoding of v, a value of fixed width that these determine
-abbrev pub IsTold : ℕ → ℕ → ℕ → List ℕ → Tree → Type 0
-IsTold tag bits scale w v = (x : Scalar) × Tells tag bits scale x × (v ≡ scalar x) × (w ≡ text v)
+abbrev pub IsScalarEncoding : ℕ → ℕ → ℕ → List ℕ → Tree → Type 0
+IsScalarEncoding tag bits scale w v = (x : Scalar) × IsScalarOf tag bits scale x × (v ≡ scalar x) × (w ≡ text v)
 
 -- the bits of a boolean: every number but 0 is true
 abbrev pub truth_bits : ℤ → ℕ
@@ -52,17 +52,17 @@ abbrev pub IsStringTag : ℕ → Type 0
 IsStringTag tag = (tag ≡ 83) ⊎ (tag ≡ 120)
 
 -- v is the long string or the byte array of these bytes, by its type tag
-abbrev pub IsString : ℕ → List ℕ → Tree → Type 0
-IsString tag b v = ((tag ≡ 83) × (v ≡ long b)) ⊎ ((tag ≡ 120) × (v ≡ octets b))
+abbrev pub IsStringValue : ℕ → List ℕ → Tree → Type 0
+IsStringValue tag b v = ((tag ≡ 83) × (v ≡ long b)) ⊎ ((tag ≡ 120) × (v ≡ octets b))
 
 -- w is the canonical encoding of v, a long string or a byte array of these bytes, whose length fits
 -- its field
 abbrev pub IsOfBytes : ℕ → List ℕ → List ℕ → Tree → Type 0
-IsOfBytes tag b w v = IsString tag b v × (w ≡ text v) × (length b < 2 ^ 32)
+IsOfBytes tag b w v = IsStringValue tag b v × (w ≡ text v) × (length b < 2 ^ 32)
 
 -- w is at the start of s, and is read within the limits as v
-abbrev pub IsFront : Limits → List ℕ → List ℕ → Tree → Type 0
-IsFront l s w v = (rest : List ℕ) × Within l s (found v rest) × (s ≡ w ++ rest)
+abbrev pub IsEncodingAtStart : Limits → List ℕ → List ℕ → Tree → Type 0
+IsEncodingAtStart l s w v = (rest : List ℕ) × Within l s (found v rest) × (s ≡ w ++ rest)
 
 -- v is the array or the table whose body these bytes are
 abbrev pub IsOfBody : ℕ → List ℕ → Tree → Type 0

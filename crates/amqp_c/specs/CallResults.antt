@@ -6,7 +6,7 @@ use Rattle.amqp_value_core.specs.Values.{Tree, table, Entries}
 use Rattle.amqp_value_core.specs.Outcomes.{Reading, found, more, unknown, malformed, Outcome}
 use Rattle.amqp_value_core.specs.Nesting.{OutcomeWithin}
 use Rattle.amq_protocol_types.specs.declared.parsing.limits.Limits.{Limits}
-use Rattle.amq_protocol_types.specs.parsing.ParseResults.{Refuses}
+use Rattle.amq_protocol_types.specs.parsing.ParseResults.{IsRefusal}
 use Rattle.amq_protocol_types.specs.parsing.Headers.{extent}
 use Rattle.amq_protocol_types.specs.parsing.Limits.{Within}
 use Rattle.amq_protocol_types.specs.parsing.Untagged.{UntaggedWithin}
@@ -22,14 +22,14 @@ use Rattle.amqp_c.specs.Entries.{IsEntry}
 
 -- it is what an error that is right of reading s is reported as
 abbrev pub IsRefusalOf : List ℕ → Fault → Type 0
-IsRefusalOf s f = (e : Refusal) × (f ≡ fault_of e) × Refuses (Outcome s) ⊥ e
+IsRefusalOf s f = (e : Refusal) × (f ≡ fault_of e) × IsRefusal (Outcome s) ⊥ e
 
 -- a fault is right, if `Is` states what reading the bytes results in
-abbrev pub Faults : (Reading → Type 0) → Fault → Type 0
-Faults Is (More n) = Is (more n)
-Faults Is UnknownTag = Is unknown
-Faults Is Malformed = Is malformed
-Faults Is _ = ⊥
+abbrev pub IsReadingFault : (Reading → Type 0) → Fault → Type 0
+IsReadingFault Is (More n) = Is (more n)
+IsReadingFault Is UnknownTag = Is unknown
+IsReadingFault Is Malformed = Is malformed
+IsReadingFault Is _ = ⊥
 
 -- a fault of the type tag and the length is right: more bytes are needed, or the tag is unknown
 abbrev pub HeaderFaults : (Reading → Type 0) → Fault → Type 0
@@ -40,7 +40,7 @@ HeaderFaults Is _ = ⊥
 -- and within limits
 abbrev pub FaultsWithin : Limits → List ℕ → Fault → Type 0
 FaultsWithin l s TooLarge = l.frame < extent s
-FaultsWithin l s f = (extent s ≤ l.frame) × Faults (OutcomeWithin l.depth s) f
+FaultsWithin l s f = (extent s ≤ l.frame) × IsReadingFault (OutcomeWithin l.depth s) f
 
 -- a value is read within limits from the start of s, and e is its entry
 pub record IsValueTaken (l : Limits) (s : List ℕ) (e : Entry) : Type 0 where
@@ -71,10 +71,10 @@ GivesFirst s v rest (Ok e) = IsEntry s e v × (e.value.offset ≡ 0) × (e.value
 GivesFirst s v rest (Err f) = ⊥
 
 -- the number that denotes a result: 0 if something is returned, 1 if there is nothing
-abbrev pub answer_if_any : {T : Type 0} → Result (Option T) Fault → ℤ
-answer_if_any (Ok (Some x)) = pos 0
-answer_if_any (Ok None) = pos 1
-answer_if_any (Err f) = code_of f
+abbrev pub return_code_if_any : {T : Type 0} → Result (Option T) Fault → ℤ
+return_code_if_any (Ok (Some x)) = pos 0
+return_code_if_any (Ok None) = pos 1
+return_code_if_any (Err f) = code_of f
 
 -- a number of bytes that were read or are needed, else 0
 abbrev pub count_by : {T : Type 0} → (T → ℕ) → Result T Fault → ℕ

@@ -1,8 +1,7 @@
 -- What each call from C returns and leaves at its pointers.
 use Rattle.std.specs.Prelude.{ℕ, ◌≡◌, ℤ, List, length, Option, Result, Err, IfOk, IfErr, MatchResult}
 use Rattle.amqp_value_core.specs.declared.types.amqp_type.AMQPType.TheVariants.{FieldTable}
-use Rattle.amqp_value_core.specs.Values.{Tree, Trees, Entries}
-use Rattle.amqp_value_core.specs.Grammar.{ArrayBody, TableBody}
+use Rattle.amqp_value_core.specs.Values.{Tree}
 use Rattle.amqp_value_core.specs.Outcomes.{Outcome, found}
 use Rattle.amq_protocol_types.specs.parsing.Untagged.{tagged}
 use Rattle.amqp_c.specs.declared.container.Container.{Container}
@@ -14,21 +13,20 @@ use Rattle.amqp_c.specs.Measures.{IsMeasured}
 use Rattle.amqp_c_common.specs.declared.fault.Fault.{Fault}
 use Rattle.amqp_c_common.specs.declared.fault.Fault.TheVariants.{Invalid, BadTag}
 use Rattle.amqp_c_common.specs.Reading.{limits}
-use Rattle.amqp_c_common.specs.Spans.{part, SpanLies}
-use Rattle.amqp_c.specs.Entries.{IsAtFront, Lies}
-use Rattle.amqp_c.specs.Steps.{array_tag, table_tag, contents, IsOfContainer, StepsIn, IsCut, RefusedBy, GivesValue, GivesPair, LooksUp}
+use Rattle.amqp_c.specs.Entries.{IsEntryAtStart, EntryIsIn}
+use Rattle.amqp_c.specs.Steps.{IsEntered, RefusesToEnter, StepsIn, RefusesStep, GivesNextValue, GivesNextPair, LooksUp}
 use Rattle.amqp_c.specs.FirstPairs.{LooksUpFirst}
 use Rattle.amqp_c.specs.declared.path.EqualKeys.{EqualKeys}
 use Rattle.amqp_c.specs.declared.path.Step.{Step}
 use Rattle.amqp_c.specs.Paths.{number_of, IsInside, LooksUpOn}
-use Rattle.amqp_c_common.specs.ReturnCodes.{answer_of, count_of}
-use Rattle.amqp_c.specs.CallResults.{IsValueTaken, IsTableTaken, HeaderFaults, FaultsWithin, GivesFirst, answer_if_any, count_by, ok_or_old, found_or_old, entry_or_old, cursor_or_old}
+use Rattle.amqp_c_common.specs.ReturnCodes.{return_code_of, count_of}
+use Rattle.amqp_c.specs.CallResults.{IsValueTaken, IsTableTaken, HeaderFaults, FaultsWithin, GivesFirst, return_code_if_any, count_by, ok_or_old, found_or_old, entry_or_old, cursor_or_old}
 
 -- reading s within limits: the result is that of what is read, of which `Is` states what is returned and
 -- `size` how many bytes were read, or of a fault that is right, after which it is as it was
-pub record ReadsAs {T : Type 0} (Is : T → Type 0) (size : T → ℕ) (frame depth : ℕ) (s : List ℕ) (old : T) (answer : ℤ) (new : T) (count : ℕ) : Type 0 where
+pub record ReadsAs {T : Type 0} (Is : T → Type 0) (size : T → ℕ) (frame depth : ℕ) (s : List ℕ) (old : T) (code : ℤ) (new : T) (count : ℕ) : Type 0 where
   pub done : Result T Fault
-  pub answered : answer ≡ answer_of done
+  pub returned : code ≡ return_code_of done
   pub given : new ≡ ok_or_old old done
   pub counted : count ≡ count_by size done
   pub right : MatchResult done Is (FaultsWithin (limits frame depth) s)
@@ -49,60 +47,60 @@ abbrev pub MeasuresTable : ℕ → ℕ → List ℕ → Measure → ℤ → Meas
 MeasuresTable frame depth s = ReadsAs (IsMeasured (limits frame depth) s (tagged FieldTable s)) (λ m. m.length) frame depth (tagged FieldTable s)
 
 -- the value at the start of s: its entry is given, or the fault is right and the entry as it was
-pub record Firsts (s : List ℕ) (old : Entry) (answer : ℤ) (new : Entry) : Type 0 where
+pub record GivesFirstEntry (s : List ℕ) (old : Entry) (code : ℤ) (new : Entry) : Type 0 where
   pub done : Result Entry Fault
-  pub answered : answer ≡ answer_of done
+  pub returned : code ≡ return_code_of done
   pub entry : new ≡ ok_or_old old done
-  pub told : (v : Tree) (rest : List ℕ) → Outcome s (found v rest) → GivesFirst s v rest done
-  pub front : IfOk done (IsAtFront s)
-  pub lies : IfOk done (Lies (length s))
+  pub reported : (v : Tree) (rest : List ℕ) → Outcome s (found v rest) → GivesFirst s v rest done
+  pub prefix : IfOk done (IsEntryAtStart s)
+  pub inside : IfOk done (EntryIsIn (length s))
   pub refused : IfErr done (HeaderFaults (Outcome s))
 
 -- how large a buffer has to be for an entry, or a fault that is right
-pub record Needs (into : Container) (k tag n : ℕ) (answer : ℤ) (count : ℕ) : Type 0 where
+pub record GivesNeeded (into : Container) (k tag n : ℕ) (code : ℤ) (count : ℕ) : Type 0 where
   pub done : Result ℕ Fault
-  pub answered : answer ≡ answer_of done
+  pub returned : code ≡ return_code_of done
   pub counted : count ≡ count_of done
   pub right : MatchResult done (IsNeeded into k tag n) (RefusesNeeded into k tag n)
 
 -- a container is entered exactly when the entry is of one, and its contents are in s
-pub record Enters (s : List ℕ) (e : Entry) (old : Cursor) (answer : ℤ) (new : Cursor) : Type 0 where
+pub record EntersContainer (s : List ℕ) (e : Entry) (old : Cursor) (code : ℤ) (new : Cursor) : Type 0 where
   pub done : Result Cursor Fault
-  pub answered : answer ≡ answer_of done
+  pub returned : code ≡ return_code_of done
   pub cursor : new ≡ ok_or_old old done
-  pub entered : IfOk done (λ c. (c ≡ contents e) × IsOfContainer (length s) c)
-  pub refused : IfErr done (RefusedBy (IsOfContainer (length s) (contents e)) ⊥)
+  pub entered : IfOk done (IsEntered s e)
+  pub refused : IfErr done (RefusesToEnter s e)
 
 -- a step: the first of what is left is returned, if it is values or pairs, and whatever it is, what
 -- goes out is inside s; what is left is malformed only if no entry is at its start
-pub record Steps (s : List ℕ) (c : Cursor) (old : Entry) (answer : ℤ) (new : Cursor) (e : Entry) : Type 0 where
+pub record StepsToNext (s : List ℕ) (c : Cursor) (old : Entry) (code : ℤ) (new : Cursor) (e : Entry) : Type 0 where
   pub done : Result (Option (Entry × Cursor)) Fault
-  pub answered : answer ≡ answer_if_any done
+  pub returned : code ≡ return_code_if_any done
   pub cursor : new ≡ cursor_or_old c done
   pub entry : e ≡ entry_or_old old done
-  pub values : (vs : Trees) → SpanLies (length s) c.left → c.tag ≡ array_tag → ArrayBody (part s c.left) vs → GivesValue s vs done
-  pub pairs : (ps : Entries) → SpanLies (length s) c.left → c.tag ≡ table_tag → TableBody (part s c.left) ps → GivesPair s ps done
-  pub lies : IfOk done (StepsIn s c)
-  pub refused : IfErr done (RefusedBy (IsOfContainer (length s) c) (IsOfContainer (length s) c × IsCut s c))
+  pub values : GivesNextValue s c done
+  pub pairs : GivesNextPair s c done
+  pub inside : IfOk done (StepsIn s c)
+  pub refused : IfErr done (RefusesStep s c)
 
 -- a look-up: what is found is given
-pub record Finds (s : List ℕ) (c : Cursor) (key : List ℕ) (old : Entry) (answer : ℤ) (new : Entry) : Type 0 where
+pub record FindsLast (s : List ℕ) (c : Cursor) (key : List ℕ) (old : Entry) (code : ℤ) (new : Entry) : Type 0 where
   pub done : Result (Option Entry) Fault
-  pub answered : answer ≡ answer_if_any done
+  pub returned : code ≡ return_code_if_any done
   pub entry : new ≡ found_or_old old done
   pub looked_up : LooksUp s c key done
 
 -- and of equal keys the first
-pub record FindsFirst (s : List ℕ) (c : Cursor) (key : List ℕ) (old : Entry) (answer : ℤ) (new : Entry) : Type 0 where
+pub record FindsFirst (s : List ℕ) (c : Cursor) (key : List ℕ) (old : Entry) (code : ℤ) (new : Entry) : Type 0 where
   pub done : Result (Option Entry) Fault
-  pub answered : answer ≡ answer_if_any done
+  pub returned : code ≡ return_code_if_any done
   pub entry : new ≡ found_or_old old done
   pub looked_up : LooksUpFirst s c key done
 
 -- a look-up by a path, with a number that denotes which of equal keys counts
-pub record FindsPath (s : List ℕ) (from : Entry) (steps : List Step) (number : ℕ) (old : Entry) (answer : ℤ) (new : Entry) : Type 0 where
+pub record FindsPath (s : List ℕ) (from : Entry) (steps : List Step) (number : ℕ) (old : Entry) (code : ℤ) (new : Entry) : Type 0 where
   pub done : Result (Option Entry) Fault
-  pub answered : answer ≡ answer_if_any done
+  pub returned : code ≡ return_code_if_any done
   pub entry : new ≡ found_or_old old done
   pub looked_up : (equal : EqualKeys) → number_of equal ≡ number → LooksUpOn s from steps equal done
   pub other : ((equal : EqualKeys) → number_of equal ≡ number → ⊥) → IsInside (length s) from → done ≡ Err BadTag

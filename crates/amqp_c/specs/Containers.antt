@@ -2,7 +2,7 @@
 use Rattle.std.specs.Prelude.{ℕ, ◌≡◌, ◌+◌, ◌-◌, List, [], ◌++◌, ◌==◌, if◌then◌else◌, length, ◌⊎◌}
 use Rattle.amqp_value_core.specs.Strings.{IsShort}
 use Rattle.amqp_value_core.specs.Grammar.{short_field}
-use Rattle.amqp_c_common.specs.Spans.{SpanLies}
+use Rattle.amqp_c_common.specs.Spans.{SpanIsIn}
 use Rattle.amqp_c.specs.declared.container.Container.{Container}
 
 -- the type tags of an array and of a table, `A` and `F`
@@ -17,7 +17,7 @@ IsContainerTag tag = (tag ≡ array_tag) ⊎ (tag ≡ table_tag)
 
 -- the container is inside n bytes, and is of an array or a table
 abbrev pub IsContainerIn : ℕ → Container → Type 0
-IsContainerIn n c = SpanLies n c.written × IsContainerTag c.tag
+IsContainerIn n c = SpanIsIn n c.written × IsContainerTag c.tag
 
 -- the end of what is written of a container
 abbrev pub end_of : Container → ℕ
@@ -29,7 +29,7 @@ IsKeyOf c k = ((c.tag ≡ array_tag) × (k ≡ [])) ⊎ ((c.tag ≡ table_tag) �
 
 -- in a buffer of n bytes an entry with this key can be put after what is written
 abbrev pub IsPlace : ℕ → Container → List ℕ → Type 0
-IsPlace n c k = SpanLies n c.written × IsKeyOf c k
+IsPlace n c k = SpanIsIn n c.written × IsKeyOf c k
 
 -- what is before the value of an entry: in a table the key, after its length in one byte
 abbrev pub named : ℕ → List ℕ → List ℕ

@@ -8,7 +8,7 @@ use Rattle.amqp_c.specs.declared.cursor.Cursor.{Cursor}
 use Rattle.amqp_c.specs.declared.entry.Entry.{Entry}
 use Rattle.amqp_c_common.specs.declared.fault.Fault.{Fault}
 use Rattle.amqp_c_common.specs.Spans.{part}
-use Rattle.amqp_c.specs.Steps.{IsHeaded, ArePairs, IsOfTable, RefusedBy, GivesFound, GivesLast, IsFoundIn}
+use Rattle.amqp_c.specs.Steps.{IsHeaded, ArePairEncodings, IsOfTable, RefusedBy, GivesFound, GivesLast, IsFoundIn}
 
 -- the bytes begin with pairs of other keys, by their lengths and type tags, and then there is a pair
 -- with the key, whose value has these bytes, or no byte: what follows that pair doesn't matter
@@ -29,7 +29,7 @@ first_of k (p ∷ ps) = if same_bytes k p.0 then Some p.1 else first_of k ps
 -- no pairs of which one has the key
 pub record LooksUpFirst (s : List ℕ) (c : Cursor) (key : List ℕ) (done : Result (Option Entry) Fault) : Type 0 where
   pub found : (ps : Entries) → IsOfTable (length s) c → TableBody (part s c.left) ps → GivesFound s (value_at key ps) done
-  pub pairs : (ps : List (List ℕ × List ℕ)) → IsOfTable (length s) c → ArePairs (part s c.left) ps → GivesLast s (first_of key ps) done
+  pub pairs : (ps : List (List ℕ × List ℕ)) → IsOfTable (length s) c → ArePairEncodings (part s c.left) ps → GivesLast s (first_of key ps) done
   pub first : (w : Option (List ℕ)) → IsOfTable (length s) c → HasFirst key (part s c.left) w → GivesLast s w done
   pub entry : IfOk done (λ o. IfSome o (IsFoundIn s c key))
   pub valid : IfOk done (λ _. IsOfTable (length s) c × (w : Option (List ℕ)) × HasFirst key (part s c.left) w)

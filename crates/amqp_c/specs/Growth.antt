@@ -3,11 +3,12 @@ use Rattle.std.specs.Prelude.{ℕ, ◌≡◌, ◌+◌, ◌-◌, ◌<◌, ◌≤�
 use Rattle.std.specs.Int.{w32, to_be_bytes}
 use Rattle.amqp_value_core.specs.Values.{Tree, Trees, no_trees, tree, Entries, no_entries, entry}
 use Rattle.amqp_value_core.specs.Grammar.{ArrayBody, TableBody}
-use Rattle.amqp_c_common.specs.Spans.{part, SpanLies}
+use Rattle.amqp_c_common.specs.Spans.{part, SpanIsIn}
 use Rattle.amqp_c.specs.declared.container.Container.{Container}
 use Rattle.amqp_c.specs.Containers.{array_tag, table_tag, IsContainerTag, IsPlace, end_of, entry_of, end_with, empty_at, up_to}
 use Rattle.amqp_c.specs.BuiltEntries.{unfilled, IsOfBody}
-use Rattle.amqp_c.specs.Rooms.{with_bytes, StandsAt}
+use Rattle.amqp_c.specs.Items.{Item, IsItemEncoding}
+use Rattle.amqp_c.specs.Buffers.{with_bytes, StandsAt}
 
 -- the values, with v after them
 abbrev pub and_value : Trees → Tree → Trees
@@ -23,44 +24,44 @@ and_pair (entry j u ps) k v = entry j u (and_pair ps k v)
 -- was
 pub record IsAppended (old : List ℕ) (into : Container) (k w new : List ℕ) : Type 0 where
   pub place : IsPlace (length old) into k
-  pub room : end_with into k w ≤ length old
+  pub buffer : end_with into k w ≤ length old
   pub written : new ≡ with_bytes (end_of into) (entry_of into k w) old
 
 -- if values or pairs were written of a container, they are written now with v after them
-pub record Grows (old : List ℕ) (into : Container) (k : List ℕ) (v : Tree) (new : List ℕ) (grown : Container) : Type 0 where
+pub record GrowsContainer (old : List ℕ) (into : Container) (k : List ℕ) (v : Tree) (new : List ℕ) (grown : Container) : Type 0 where
   pub values : (vs : Trees) → into.tag ≡ array_tag → ArrayBody (part old into.written) vs → ArrayBody (part new grown.written) (and_value vs v)
   pub pairs : (ps : Entries) → into.tag ≡ table_tag → TableBody (part old into.written) ps → TableBody (part new grown.written) (and_pair ps k v)
 
--- an entry is written, with an encoding of a value that `Gives` holds of; the container grows by it
-pub record IsPut (Gives : List ℕ → Tree → Type 0) (old : List ℕ) (into : Container) (k new : List ℕ) (grown : Container) : Type 0 where
+-- an entry is written, with an encoding of the item; the container grows by its value
+pub record IsEntryPut (item : Item) (old : List ℕ) (into : Container) (k new : List ℕ) (grown : Container) : Type 0 where
   pub encoding : List ℕ
   pub meaning : Tree
-  pub gives : Gives encoding meaning
+  pub encodes : IsItemEncoding item encoding meaning
   pub appended : IsAppended old into k encoding new
   pub reaches : grown ≡ up_to (end_with into k encoding) into
-  pub grows : Grows old into k meaning new grown
+  pub grows : GrowsContainer old into k meaning new grown
 
--- an entry is begun whose value is a container, and its body is empty
-pub record IsBegun (tag : ℕ) (old : List ℕ) (into : Container) (k new : List ℕ) (body : Container) : Type 0 where
+-- an entry is opened whose value is a container, and its body is empty
+pub record IsOpened (tag : ℕ) (old : List ℕ) (into : Container) (k new : List ℕ) (body : Container) : Type 0 where
   pub container : IsContainerTag tag
   pub appended : IsAppended old into k (unfilled tag) new
   pub empty : body ≡ empty_at (end_with into k (unfilled tag)) tag
 
--- the body is one of an entry that was begun with this key after what `into` has: the key and the
+-- the body is one of an entry that was opened with this key after what `into` has: the key and the
 -- body's type tag are there, and the body begins four bytes after them
-pub record IsOpen (room : List ℕ) (into body : Container) (k : List ℕ) : Type 0 where
-  pub place : IsPlace (length room) into k
+pub record IsOpen (buffer : List ℕ) (into body : Container) (k : List ℕ) : Type 0 where
+  pub place : IsPlace (length buffer) into k
   pub container : IsContainerTag body.tag
-  pub lies : SpanLies (length room) body.written
-  pub named : StandsAt (end_of into) (entry_of into k (body.tag ∷ [])) room
-  pub behind : body.written.offset ≡ end_with into k (body.tag ∷ []) + 4
+  pub inside : SpanIsIn (length buffer) body.written
+  pub named : StandsAt (end_of into) (entry_of into k (body.tag ∷ [])) buffer
+  pub after : body.written.offset ≡ end_with into k (body.tag ∷ []) + 4
 
--- the entry is ended: the length of its body is filled in before it, `into` reaches to its end, and
+-- the entry is closed: the length of its body is filled in before it, `into` reaches to its end, and
 -- grows by the array or the table that the body is of
-pub record IsEnded (old : List ℕ) (into body : Container) (new : List ℕ) (grown : Container) : Type 0 where
+pub record IsClosed (old : List ℕ) (into body : Container) (new : List ℕ) (grown : Container) : Type 0 where
   pub key : List ℕ
   pub opened : IsOpen old into body key
   pub fits : body.written.length < 2 ^ 32
   pub filled : new ≡ with_bytes (body.written.offset - 4) (to_be_bytes w32 body.written.length) old
   pub reaches : grown ≡ up_to (end_of body) into
-  pub grows : (v : Tree) → IsOfBody body.tag (part old body.written) v → Grows old into key v new grown
+  pub grows : (v : Tree) → IsOfBody body.tag (part old body.written) v → GrowsContainer old into key v new grown

@@ -10,8 +10,9 @@ pub mod Measures
 pub mod Problems
 pub mod Calls
 pub mod Containers
-pub mod Rooms
+pub mod Buffers
 pub mod BuiltEntries
+pub mod Items
 pub mod Growth
 pub mod Faults
 pub mod Getters

@@ -9,7 +9,7 @@ use Rattle.amqp_in_place.specs.Measures.{written, OfEncoding}
 use Rattle.amqp_in_place.specs.declared.measure.Measure as in_place
 use Rattle.amqp_c.specs.declared.measure.Measure.{Measure}
 
--- the same numbers in C's struct
+-- these numbers in C's struct
 abbrev pub same_measure : in_place.Measure → Measure
 same_measure m = record { length = m.bytes; values = m.values; levels = m.levels }
 

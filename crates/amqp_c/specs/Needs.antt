@@ -36,16 +36,16 @@ RefusesLen tag n TooLarge = ((type : AMQPType) × IsTagOf tag type × (has_conte
 RefusesLen tag n _ = ⊥
 
 -- the container is one of a buffer that there can be
-abbrev pub IsContainer : Container → Type 0
-IsContainer into = IsContainerIn (2 ^ 63 - 1) into
+abbrev pub IsKnownContainer : Container → Type 0
+IsKnownContainer into = IsContainerIn (2 ^ 63 - 1) into
 
 -- a buffer has to have `capacity` bytes at least for an entry to be put after what is written
 abbrev pub IsNeeded : Container → ℕ → ℕ → ℕ → ℕ → Type 0
 IsNeeded into k tag n capacity =
-    IsContainer into × IsKeyLength into.tag k × ((size : ℕ) × IsEncodingLen tag n size × (capacity ≡ end_of into + (name_len into.tag k + size)))
+    IsKnownContainer into × IsKeyLength into.tag k × ((size : ℕ) × IsEncodingLen tag n size × (capacity ≡ end_of into + (name_len into.tag k + size)))
 
 -- a fault of that is right, the first of these that applies
 abbrev pub RefusesNeeded : Container → ℕ → ℕ → ℕ → Fault → Type 0
-RefusesNeeded into k tag n Invalid = IsContainer into → ⊥
-RefusesNeeded into k tag n BadKey = IsContainer into × (IsKeyLength into.tag k → ⊥)
-RefusesNeeded into k tag n f = IsContainer into × IsKeyLength into.tag k × RefusesLen tag n f
+RefusesNeeded into k tag n Invalid = IsKnownContainer into → ⊥
+RefusesNeeded into k tag n BadKey = IsKnownContainer into × (IsKeyLength into.tag k → ⊥)
+RefusesNeeded into k tag n f = IsKnownContainer into × IsKeyLength into.tag k × RefusesLen tag n f

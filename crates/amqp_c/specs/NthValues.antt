@@ -6,13 +6,13 @@ use Rattle.amq_protocol_types.specs.parsing.Headers.{extent}
 use Rattle.amqp_c.specs.declared.cursor.Cursor.{Cursor}
 use Rattle.amqp_c.specs.declared.entry.Entry.{Entry}
 use Rattle.amqp_c_common.specs.declared.fault.Fault.{Fault}
-use Rattle.amqp_c_common.specs.Spans.{part, last, SpanLies}
-use Rattle.amqp_c.specs.Entries.{IsTagged, IsTrueTo, Lies}
+use Rattle.amqp_c_common.specs.Spans.{part, last, SpanIsIn}
+use Rattle.amqp_c.specs.Entries.{IsTagged, IsTrueTo, EntryIsIn}
 use Rattle.amqp_c.specs.Steps.{array_tag, IsHeaded, StandsAlone, EndsIn, RefusedBy, GivesFound, GivesLast}
 
 -- the cursor is inside n bytes, and is of an array
 abbrev pub IsOfArray : ℕ → Cursor → Type 0
-IsOfArray n c = SpanLies n c.left × (c.tag ≡ array_tag)
+IsOfArray n c = SpanIsIn n c.left × (c.tag ≡ array_tag)
 
 -- the bytes begin with n values, by their type tags and lengths, and then there is one with these
 -- bytes; or there are no more than n values
@@ -31,9 +31,9 @@ nth (suc n) (tree v vs) = nth n vs
 -- the value if one is encoded there, and is in what the cursor c has left
 pub record IsNthIn (s : List ℕ) (c : Cursor) (e : Entry) : Type 0 where
   pub typed : IsTagged (part s e.value) e
-  pub told : IsTrueTo s e
+  pub reported : IsTrueTo s e
   pub stands : (n : ℕ) × (n ≤ c.left.length) × StandsAlone s (last c.left n) e × EndsIn (last c.left n) e
-  pub lies : Lies (length s) e
+  pub inside : EntryIsIn (length s) e
 
 -- a look-up by an index, in what an array has left: the value at the index is found, whatever is in
 -- it and after it. What is left is malformed exactly if it is no values, and doesn't begin with those

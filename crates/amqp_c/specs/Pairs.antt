@@ -8,29 +8,29 @@ use Rattle.amqp_value_core.specs.Texts.{pairs}
 use Rattle.amqp_c_common.specs.declared.fault.Fault.{Fault}
 use Rattle.amqp_c_common.specs.declared.fault.Fault.TheVariants.{TooLarge, BadKey}
 use Rattle.amqp_c.specs.declared.pair.Pair.{Pair}
-use Rattle.amqp_c.specs.BuiltEntries.{Tells, IsStringTag, IsString}
+use Rattle.amqp_c.specs.BuiltEntries.{IsScalarOf, IsStringTag, IsStringValue}
 use Rattle.amqp_c.specs.Faults.{RefusesNumber}
 use Rattle.amqp_c.specs.Needs.{encoding_len}
-use Rattle.amqp_c.specs.Rooms.{with_bytes}
+use Rattle.amqp_c.specs.Buffers.{with_bytes}
 
 -- v is the value of a pair, by its type tag: the long string or the byte array of its bytes, whose
 -- length fits its field, or the value of fixed width that its bits and its scale determine
-abbrev pub IsValueOf : Pair → Tree → Type 0
-IsValueOf p v = (IsString p.tag p.bytes.now v × (length p.bytes.now < 2 ^ 32)) ⊎ ((x : Scalar) × Tells p.tag p.bits p.scale x × (v ≡ scalar x))
+abbrev pub IsPairValue : Pair → Tree → Type 0
+IsPairValue p v = (IsStringValue p.tag p.bytes.now v × (length p.bytes.now < 2 ^ 32)) ⊎ ((x : Scalar) × IsScalarOf p.tag p.bits p.scale x × (v ≡ scalar x))
 
 -- the pair can be written: its key is one, and it has a value
 abbrev pub IsGiven : Pair → Type 0
-IsGiven p = IsShort p.key.now × ((v : Tree) × IsValueOf p v)
+IsGiven p = IsShort p.key.now × ((v : Tree) × IsPairValue p v)
 
 -- the entries are those of the pairs, in their order
-abbrev pub AreOf : List Pair → Entries → Type 0
-AreOf [] no_entries = Unit {0}
-AreOf (p ∷ ps) (entry k v es) = (k ≡ p.key.now) × IsShort k × IsValueOf p v × AreOf ps es
-AreOf _ _ = ⊥
+abbrev pub ArePairsOf : List Pair → Entries → Type 0
+ArePairsOf [] no_entries = Unit {0}
+ArePairsOf (p ∷ ps) (entry k v es) = (k ≡ p.key.now) × IsShort k × IsPairValue p v × ArePairsOf ps es
+ArePairsOf _ _ = ⊥
 
 -- the pairs are written from `at` on, and the buffer is else as it was
 abbrev pub AreWritten : List Pair → ℕ → List ℕ → List ℕ → Type 0
-AreWritten ps at old new = (es : Entries) × AreOf ps es × (new ≡ with_bytes at (pairs es) old)
+AreWritten ps at old new = (es : Entries) × ArePairsOf ps es × (new ≡ with_bytes at (pairs es) old)
 
 -- how many bytes a pair's value has, by its type tag and its bytes
 abbrev pub typed_len : Option AMQPType → ℕ → ℕ
@@ -66,6 +66,6 @@ pub record IsFirstFault (ps : List Pair) (f : Fault) : Type 0 where
   pub pair : Pair
   pub after : List Pair
   pub split : ps ≡ before ++ (pair ∷ after)
-  pub given : (es : Entries) × AreOf before es
+  pub given : (es : Entries) × ArePairsOf before es
   pub fits : body_len before < 2 ^ 32
   pub fault : RefusesPair pair f ⊎ (IsGiven pair × (f ≡ TooLarge) × (2 ^ 32 ≤ body_len before + pair_len pair))

@@ -13,5 +13,5 @@ abbrev pub IsFixed : List ℕ → Fixed → Type 0
 IsFixed s x = (v : Tree) × (rest : List ℕ) × Outcome s (found v rest) × (x.length + length rest ≡ length s) × (x.bits ≡ bits_in v) × (x.scale ≡ scale_in v)
 
 -- a value of the type is read from s, and has these bits and this scale
-abbrev pub IsNumber : AMQPType → List ℕ → Number → List ℕ → Type 0
-IsNumber type s x rest = (v : Scalar) × RawOutcome type s (found (scalar v) rest) × (x.bits ≡ scalar_bits v) × (x.scale ≡ scalar_scale v)
+abbrev pub IsNumberPayload : AMQPType → List ℕ → Number → List ℕ → Type 0
+IsNumberPayload type s x rest = (v : Scalar) × RawOutcome type s (found (scalar v) rest) × (x.bits ≡ scalar_bits v) × (x.scale ≡ scalar_scale v)

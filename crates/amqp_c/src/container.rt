@@ -39,14 +39,15 @@ impl Container {
         }
     }
 
-    /// The end of the next entry, if in a buffer of that many bytes one with this key can be put.
+    /// Where the next entry begins, at the end of what is written, if in a buffer of that many bytes
+    /// one with this key can be put.
     #[inline(always)]
-    pub fn place(self, room_length: usize, key: &[u8]) -> Result<usize, Fault>
+    pub fn place(self, buffer_length: usize, key: &[u8]) -> Result<usize, Fault>
         ensures { MatchResult result
-            (λ at. IsPlace room_length self key.now × (at ≡ end_of self))
-            (RefusesPlace room_length self key.now) }
+            (λ at. IsPlace buffer_length self key.now × (at ≡ end_of self))
+            (RefusesPlace buffer_length self key.now) }
     {
-        let Some(at) = self.written.end_in(room_length) else {
+        let Some(at) = self.written.end_in(buffer_length) else {
             return Err(Fault::Invalid);
         };
         if !is_container_tag(self.tag) {

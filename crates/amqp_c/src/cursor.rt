@@ -5,9 +5,9 @@ ghost use Rattle.amqp_value_core.specs.Values.{Tree, Trees, Entries};
 ghost use Rattle.amqp_value_core.specs.Grammar.{short_field, ArrayBody, TableBody};
 ghost use Rattle.amqp_value_core.specs.Outcomes.{Outcome, found};
 ghost use Rattle.amq_protocol_types.specs.parsing.Headers.{extent};
-ghost use Rattle.amqp_c_common.specs.Spans.{part, SpanLies};
-ghost use Rattle.amqp_c.specs.Entries.{IsTagged, IsTrueTo, Lies};
-ghost use Rattle.amqp_c.specs.Steps.{array_tag, table_tag, contents, IsOfContainer, IsOfTable, IsHeaded, HasNoPair, StepsIn, IsCut, RefusedBy, IsFrontIn, IsValueIn, IsPairIn, EndsIn, GivesValue, GivesPair, HasNoKey, StandsAlone, StandsKeyed, LooksUp};
+ghost use Rattle.amqp_c_common.specs.Spans.{part, SpanIsIn};
+ghost use Rattle.amqp_c.specs.Entries.{IsTagged, IsTrueTo, EntryIsIn};
+ghost use Rattle.amqp_c.specs.Steps.{contents, IsOfContainer, IsOfTable, IsEntered, RefusesToEnter, IsHeaded, HasNoPair, StepsIn, RefusesStep, GivesNextValue, GivesNextPair, IsFirstEntryIn, IsValueIn, IsPairIn, EndsIn, HasNoKey, StandsAlone, StandsKeyed, LooksUp};
 
 use crate::entry::{Entry, first};
 use amq_protocol_types::parsing::header::value_len;
@@ -37,8 +37,8 @@ impl Entry {
 
     /// A cursor before the first entry of the container.
     pub fn enter(self, bytes: &[u8]) -> Result<Cursor, Fault>
-        ensures entered { IfOk result (λ c. (c ≡ contents self) × IsOfContainer (length bytes.now) c) }
-        ensures refused { IfErr result (RefusedBy (IsOfContainer (length bytes.now) (contents self)) ⊥) }
+        ensures entered { IfOk result (IsEntered bytes.now self) }
+        ensures refused { IfErr result (RefusesToEnter bytes.now self) }
     {
         let cursor = self.contents();
         match cursor.body(bytes) {
@@ -63,7 +63,8 @@ impl Cursor {
     fn body(self, bytes: &[u8]) -> Option<&[u8]>
         ensures { MatchOption result
             (IsOfContainer (length bytes.now) self → ⊥)
-            (λ body. IsOfContainer (length bytes.now) self × (body.now ≡ part bytes.now self.left)) }
+            (λ body. IsOfContainer (length bytes.now) self
+            × (body.now ≡ part bytes.now self.left)) }
     {
         if self.tag != b'A' && self.tag != b'F' {
             return None;
@@ -75,13 +76,10 @@ impl Cursor {
     /// length after it only, so it takes constant time.
     #[inline(always)]
     pub fn next(self, bytes: &[u8]) -> Result<Option<(Entry, Cursor)>, Fault>
-        ensures values { (vs : Trees) → SpanLies (length bytes.now) self.left → self.tag ≡ array_tag
-            → ArrayBody (part bytes.now self.left) vs → GivesValue bytes.now vs result }
-        ensures pairs { (ps : Entries) → SpanLies (length bytes.now) self.left → self.tag ≡ table_tag
-            → TableBody (part bytes.now self.left) ps → GivesPair bytes.now ps result }
+        ensures values { GivesNextValue bytes.now self result }
+        ensures pairs { GivesNextPair bytes.now self result }
         ensures steps { IfOk result (StepsIn bytes.now self) }
-        ensures refused { IfErr result (RefusedBy (IsOfContainer (length bytes.now) self)
-            (IsOfContainer (length bytes.now) self × IsCut bytes.now self)) }
+        ensures refused { IfErr result (RefusesStep bytes.now self) }
     {
         let Some(body) = self.body(bytes) else {
             return Err(Fault::Invalid);
@@ -98,7 +96,7 @@ impl Cursor {
             return Err(Fault::Malformed);
         };
         let rest = Cursor {
-            left: self.left.behind(entry.value),
+            left: self.left.rest_after(entry.value),
             tag: self.tag,
         };
         Ok(Some((entry, rest)))
@@ -108,7 +106,8 @@ impl Cursor {
     pub fn table_body(self, bytes: &[u8]) -> Option<&[u8]>
         ensures { MatchOption result
             (IsOfTable (length bytes.now) self → ⊥)
-            (λ body. IsOfTable (length bytes.now) self × (body.now ≡ part bytes.now self.left)) }
+            (λ body. IsOfTable (length bytes.now) self
+            × (body.now ≡ part bytes.now self.left)) }
     {
         if self.tag != b'F' {
             return None;
@@ -133,10 +132,10 @@ impl Cursor {
             if key == name {
                 at = Some(left.len());
             }
-            let Some(behind) = behind_value(value) else {
+            let Some(later) = after_value(value) else {
                 return Err(Fault::Malformed);
             };
-            left = behind;
+            left = later;
         }
         let Some(count) = at else {
             return Ok(None);
@@ -165,7 +164,7 @@ pub fn split_key(pairs: &[u8]) -> Option<(&[u8], &[u8])>
 
 /// What is after the value at the start, by its header only.
 #[inline(always)]
-pub fn behind_value(value: &[u8]) -> Option<&[u8]>
+pub fn after_value(value: &[u8]) -> Option<&[u8]>
     ensures { MatchOption result
         (IsHeaded value.now → ⊥)
         (λ rest. (rest.now ≡ drop (extent value.now) value.now) × IsHeaded value.now) }
@@ -174,34 +173,36 @@ pub fn behind_value(value: &[u8]) -> Option<&[u8]>
     if taken == 0 || value.len() < taken {
         return None;
     }
-    let (_, behind) = value.split_at(taken);
-    Some(behind)
+    let (_, later) = value.split_at(taken);
+    Some(later)
 }
 
 /// The entry of the value at the start of the span.
 #[inline(always)]
 pub fn first_value(bytes: &[u8], left: Span) -> Option<Entry>
-    requires left { SpanLies (length bytes.now) left }
-    ensures value { (vs : Trees) → 0 < left.length → ArrayBody (part bytes.now left) vs → IsValueIn bytes.now left vs result }
+    requires left { SpanIsIn (length bytes.now) left }
+    ensures value { (vs : Trees) → 0 < left.length → ArrayBody (part bytes.now left) vs
+        → IsValueIn bytes.now left vs result }
     ensures stands { IfSome result (StandsAlone bytes.now left) }
     ensures cut { IfNone result (IsHeaded (part bytes.now left) → ⊥) }
     ensures typed { IfSome result (λ e. IsTagged (part bytes.now e.value) e) }
     ensures faithful { IfSome result (IsTrueTo bytes.now) }
-    ensures lies { IfSome result (λ e. Lies (length bytes.now) e × EndsIn left e) }
+    ensures inside { IfSome result (λ e. EntryIsIn (length bytes.now) e × EndsIn left e) }
 {
-    front_of(bytes, left, Span::NONE)
+    first_of(bytes, left, Span::NONE)
 }
 
 /// The entry of the pair at the start of the span.
 #[inline(always)]
 pub fn first_pair(bytes: &[u8], left: Span) -> Option<Entry>
-    requires left { SpanLies (length bytes.now) left }
-    ensures pair { (ps : Entries) → 0 < left.length → TableBody (part bytes.now left) ps → IsPairIn bytes.now left ps result }
+    requires left { SpanIsIn (length bytes.now) left }
+    ensures pair { (ps : Entries) → 0 < left.length → TableBody (part bytes.now left) ps
+        → IsPairIn bytes.now left ps result }
     ensures stands { IfSome result (StandsKeyed bytes.now left) }
     ensures cut { IfNone result (HasNoPair (part bytes.now left)) }
     ensures typed { IfSome result (λ e. IsTagged (part bytes.now e.value) e) }
     ensures faithful { IfSome result (IsTrueTo bytes.now) }
-    ensures lies { IfSome result (λ e. Lies (length bytes.now) e × EndsIn left e) }
+    ensures inside { IfSome result (λ e. EntryIsIn (length bytes.now) e × EndsIn left e) }
 {
     let length = usize::from(*part(bytes, left).first()?);
     if left.length - 1 < length {
@@ -211,13 +212,13 @@ pub fn first_pair(bytes: &[u8], left: Span) -> Option<Entry>
         offset: left.offset + 1,
         length,
     };
-    front_of(bytes, left.behind(key), key)
+    first_of(bytes, left.rest_after(key), key)
 }
 
 /// The bytes of a span that is inside `bytes`.
 #[inline(always)]
 fn part(bytes: &[u8], at: Span) -> &[u8]
-    requires { SpanLies (length bytes.now) at }
+    requires { SpanIsIn (length bytes.now) at }
     ensures { result.now ≡ part bytes.now at }
 {
     &bytes[at.offset..at.offset + at.length]
@@ -225,17 +226,18 @@ fn part(bytes: &[u8], at: Span) -> &[u8]
 
 /// The entry of the value at the start of the span, with its key.
 #[inline(always)]
-fn front_of(bytes: &[u8], left: Span, key: Span) -> Option<Entry>
-    requires left { SpanLies (length bytes.now) left }
-    requires key { SpanLies (length bytes.now) key }
-    ensures told { (v : Tree) (rest : List ℕ) → Outcome (part bytes.now left) (found v rest)
-        → IsFrontIn bytes.now left key v rest result }
+fn first_of(bytes: &[u8], left: Span, key: Span) -> Option<Entry>
+    requires left { SpanIsIn (length bytes.now) left }
+    requires key { SpanIsIn (length bytes.now) key }
+    ensures reported { (v : Tree) (rest : List ℕ) → Outcome (part bytes.now left) (found v rest)
+        → IsFirstEntryIn bytes.now left key v rest result }
     ensures key { IfSome result (λ e. e.key ≡ key) }
-    ensures value { IfSome result (λ e. (e.value.offset ≡ left.offset) × (e.value.length ≡ extent (part bytes.now left))) }
+    ensures value { IfSome result (λ e.
+        (e.value.offset ≡ left.offset) × (e.value.length ≡ extent (part bytes.now left))) }
     ensures cut { IfNone result (IsHeaded (part bytes.now left) → ⊥) }
     ensures typed { IfSome result (λ e. IsTagged (part bytes.now e.value) e) }
     ensures faithful { IfSome result (IsTrueTo bytes.now) }
-    ensures lies { IfSome result (λ e. Lies (length bytes.now) e × EndsIn left e) }
+    ensures inside { IfSome result (λ e. EntryIsIn (length bytes.now) e × EndsIn left e) }
 {
     let Ok(entry) = first(part(bytes, left)) else {
         return None;

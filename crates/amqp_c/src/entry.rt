@@ -6,11 +6,11 @@ ghost use Rattle.amqp_value_core.specs.Inputs.{slice_bytes};
 ghost use Rattle.amqp_value_core.specs.Names.{read_as};
 ghost use Rattle.amq_protocol_types.specs.parsing.PayloadResults.{IsType, OnlyLacks};
 ghost use Rattle.amqp_value_core.specs.Payloads.{RawOutcome};
-ghost use Rattle.amqp_c.specs.Scalars.{IsNumber};
+ghost use Rattle.amqp_c.specs.Scalars.{IsNumberPayload};
 ghost use Rattle.amqp_value_core.specs.Values.{Tree};
 ghost use Rattle.amqp_value_core.specs.Outcomes.{Outcome, found};
 ghost use Rattle.amqp_c.specs.Scalars.{IsFixed};
-ghost use Rattle.amqp_c.specs.Entries.{IsAtFront, Lies};
+ghost use Rattle.amqp_c.specs.Entries.{IsEntryAtStart, EntryIsIn};
 ghost use Rattle.amqp_c.specs.CallResults.{GivesFirst, HeaderFaults, IsRefusalOf};
 ghost use Rattle.amqp_c.specs.Heads.{has_content};
 
@@ -60,9 +60,10 @@ impl Entry {
 /// is in a container isn't looked at.
 #[inline(always)]
 pub fn first(bytes: &[u8]) -> Result<Entry, Fault>
-    ensures told { (v : Tree) (rest : List ℕ) → Outcome bytes.now (found v rest) → GivesFirst bytes.now v rest result }
-    ensures lies { IfOk result (λ e. Lies (length bytes.now) e) }
-    ensures front { IfOk result (IsAtFront bytes.now) }
+    ensures reported { (v : Tree) (rest : List ℕ) → Outcome bytes.now (found v rest)
+        → GivesFirst bytes.now v rest result }
+    ensures inside { IfOk result (λ e. EntryIsIn (length bytes.now) e) }
+    ensures prefix { IfOk result (IsEntryAtStart bytes.now) }
     ensures refused { IfErr result (HeaderFaults (Outcome bytes.now)) }
 {
     let (payload, amqp_type) = parse_type(SliceInput::new(bytes))?;
@@ -140,6 +141,7 @@ struct Number {
 
 /// Reads what is after the type tag of a value of fixed width.
 #[inline(always)]
+// The tactic names what a value without a payload is read as, and that the bits of a signed number denote it.
 #[tactic(auto, using(amq_protocol_types::proofs::ParsingLaws::void_found, crate::proofs::Numbers::signed))]
 fn read_number<'a>(
     amqp_type: AMQPType,
@@ -148,7 +150,7 @@ fn read_number<'a>(
     requires no_content { has_content amqp_type ≡ false }
     requires read_back { read_as amqp_type ≡ Some amqp_type }
     ensures { MatchResult result
-        (λ x. IsNumber amqp_type (slice_bytes payload.entry) x.1 (slice_bytes x.0))
+        (λ x. IsNumberPayload amqp_type (slice_bytes payload.entry) x.1 (slice_bytes x.0))
         (OnlyLacks (RawOutcome amqp_type (slice_bytes payload.entry)) ⊥) }
 {
     match amqp_type {

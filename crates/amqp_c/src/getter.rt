@@ -1,10 +1,9 @@
 //! What the value of fixed width of an entry is.
 
-ghost use Rattle.std.specs.Prelude.{◌≡◌, ◌<◌, ◌^◌, ℕ, ℤ, pos, MatchResult, FitsSigned};
-ghost use Rattle.std.specs.Int.{w64};
-ghost use Rattle.amqp_c_common.specs.ReturnCodes.{answer_of};
+ghost use Rattle.std.specs.Prelude.{◌≡◌, ◌<◌, ◌^◌, pos, MatchResult};
+ghost use Rattle.amqp_c_common.specs.ReturnCodes.{return_code_of};
 ghost use Rattle.amqp_c.specs.CallResults.{ok_or_old};
-ghost use Rattle.amqp_c.specs.Getters.{IsIntegerTag, IsInteger, RefusesGet};
+ghost use Rattle.amqp_c.specs.Getters.{IsInteger, IsBool, IsTimestamp, IsDecimal, RefusesGet, RefusesInt, RefusesUint};
 
 use crate::entry::Entry;
 use crate::integers::{is_signed_tag, is_unsigned_tag};
@@ -14,11 +13,11 @@ use amqp_c_common::Fault;
 const OK: i32 = 0;
 
 impl Entry {
+    // This tactic and the next name lemmas on integers by their sign, which no callee's clause states.
     /// Its integer, if that fits an `i64`.
     #[tactic(auto, using(crate::proofs::EntryIntegers::no_integer, crate::proofs::EntryIntegers::signed_is, crate::proofs::EntryIntegers::unsigned_is, crate::proofs::EntryIntegers::too_great))]
     pub fn as_int(&self) -> Result<i64, Fault>
-        ensures { MatchResult result (IsInteger self.now)
-            (RefusesGet (IsIntegerTag self.now.tag) ((z : ℤ) × IsInteger self.now z × FitsSigned w64 z)) }
+        ensures { MatchResult result (IsInteger self.now) (RefusesInt self.now) }
     {
         if is_signed_tag(self.tag) {
             return Ok(self.bits.cast_signed());
@@ -35,8 +34,7 @@ impl Entry {
     /// Its integer, if that isn't below 0.
     #[tactic(auto, using(crate::proofs::EntryIntegers::no_integer, crate::proofs::EntryIntegers::unsigned_is, crate::proofs::EntryIntegers::uint_is, crate::proofs::EntryIntegers::below_0))]
     pub fn as_uint(&self) -> Result<u64, Fault>
-        ensures { MatchResult result (λ n. IsInteger self.now (pos n))
-            (RefusesGet (IsIntegerTag self.now.tag) ((n : ℕ) × IsInteger self.now (pos n))) }
+        ensures { MatchResult result (λ n. IsInteger self.now (pos n)) (RefusesUint self.now) }
     {
         if is_unsigned_tag(self.tag) {
             return Ok(self.bits);
@@ -52,7 +50,7 @@ impl Entry {
 
     /// Its boolean, as 0 or 1.
     pub fn as_bool(&self) -> Result<i32, Fault>
-        ensures { MatchResult result (λ z. (self.now.tag ≡ 116) × (z ≡ pos self.now.bits) × (self.now.bits < 2))
+        ensures { MatchResult result (IsBool self.now)
             (RefusesGet (self.now.tag ≡ 116) (self.now.bits < 2)) }
     {
         if self.tag != b't' {
@@ -67,7 +65,7 @@ impl Entry {
 
     /// Its timestamp.
     pub fn as_timestamp(&self) -> Result<u64, Fault>
-        ensures { MatchResult result (λ n. (self.now.tag ≡ 84) × (n ≡ self.now.bits))
+        ensures { MatchResult result (IsTimestamp self.now)
             (RefusesGet (self.now.tag ≡ 84) (Unit {0})) }
     {
         if self.tag != b'T' {
@@ -78,7 +76,7 @@ impl Entry {
 
     /// Its decimal: the number without the point, and how many digits are after the point.
     pub fn as_decimal(&self) -> Result<(u32, u8), Fault>
-        ensures { MatchResult result (λ d. (self.now.tag ≡ 68) × (d.0 ≡ self.now.bits) × (d.1 ≡ self.now.scale))
+        ensures { MatchResult result (IsDecimal self.now)
             (RefusesGet (self.now.tag ≡ 68) (self.now.bits < 2 ^ 32)) }
     {
         if self.tag != b'D' {
@@ -93,7 +91,7 @@ impl Entry {
 
 /// Leaves the decimal that is given.
 pub fn store_decimal(done: Result<(u32, u8), Fault>, number: &mut u32, scale: &mut u8) -> i32
-    ensures answer { result ≡ answer_of done }
+    ensures returned { result ≡ return_code_of done }
     ensures decimal { (number.new, scale.new) ≡ ok_or_old (number.old, scale.old) done }
 {
     match done {

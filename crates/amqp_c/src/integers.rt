@@ -1,11 +1,10 @@
 //! Putting an integer, by its sign and its type tag.
 
-ghost use Rattle.std.specs.Prelude.{◌≡◌, IfErr, MatchResult, MatchBool};
-ghost use Rattle.std.specs.Int.{w64, cast_unsigned};
-ghost use Rattle.amqp_value_core.specs.Values.{Tree, Scalar};
-ghost use Rattle.amqp_c.specs.BuiltEntries.{Tells, IsTold, IsSignedTag, IsUnsignedTag, truth_bits};
-ghost use Rattle.amqp_c.specs.Faults.{Refuses, NoOther};
-ghost use Rattle.amqp_c.specs.Growth.{IsPut};
+ghost use Rattle.std.specs.Prelude.{◌≡◌, OnErr, MatchResult, MatchBool};
+ghost use Rattle.amqp_c.specs.BuiltEntries.{IsSignedTag, IsUnsignedTag, truth_bits};
+ghost use Rattle.amqp_c.specs.Items.{signed_number, unsigned_number};
+ghost use Rattle.amqp_c.specs.Faults.{IsPutFault};
+ghost use Rattle.amqp_c.specs.Growth.{IsEntryPut};
 
 use crate::container::Container;
 use crate::put::put_scalar_at;
@@ -13,48 +12,44 @@ use amqp_c_common::Fault;
 
 /// Puts a signed number.
 #[inline(always)]
-#[tactic(auto, using(crate::proofs::Putting::refused_place))]
 pub fn put_int(
-    room: &mut [u8],
+    buffer: &mut [u8],
     into: Container,
     key: &[u8],
     tag: u8,
     number: i64,
 ) -> Result<Container, Fault>
     ensures put { MatchResult result
-        (IsPut (λ w v. IsSignedTag tag × IsTold tag (cast_unsigned w64 number) 0 w v) room.old into key.now room.new)
-        (Refuses (IsSignedTag tag) ((x : Scalar) × Tells tag (cast_unsigned w64 number) 0 x)
-        (λ w. (v : Tree) × IsSignedTag tag × IsTold tag (cast_unsigned w64 number) 0 w v) NoOther room.old into key.now) }
-    ensures kept { IfErr result (λ _. room.new ≡ room.old) }
+        (IsEntryPut (signed_number tag number) buffer.old into key.now buffer.new)
+        (IsPutFault (signed_number tag number) buffer.old into key.now) }
+    ensures kept { OnErr result (buffer.new ≡ buffer.old) }
 {
-    let at = into.place(room.len(), key)?;
+    let at = into.place(buffer.len(), key)?;
     if !is_signed_tag(tag) {
         return Err(Fault::BadTag);
     }
-    put_scalar_at(room, into, at, key, tag, number.cast_unsigned(), 0)
+    put_scalar_at(buffer, into, at, key, tag, number.cast_unsigned(), 0)
 }
 
 /// Puts an unsigned number.
 #[inline(always)]
-#[tactic(auto, using(crate::proofs::Putting::refused_place))]
 pub fn put_uint(
-    room: &mut [u8],
+    buffer: &mut [u8],
     into: Container,
     key: &[u8],
     tag: u8,
     number: u64,
 ) -> Result<Container, Fault>
     ensures put { MatchResult result
-        (IsPut (λ w v. IsUnsignedTag tag × IsTold tag number 0 w v) room.old into key.now room.new)
-        (Refuses (IsUnsignedTag tag) ((x : Scalar) × Tells tag number 0 x)
-        (λ w. (v : Tree) × IsUnsignedTag tag × IsTold tag number 0 w v) NoOther room.old into key.now) }
-    ensures kept { IfErr result (λ _. room.new ≡ room.old) }
+        (IsEntryPut (unsigned_number tag number) buffer.old into key.now buffer.new)
+        (IsPutFault (unsigned_number tag number) buffer.old into key.now) }
+    ensures kept { OnErr result (buffer.new ≡ buffer.old) }
 {
-    let at = into.place(room.len(), key)?;
+    let at = into.place(buffer.len(), key)?;
     if !is_unsigned_tag(tag) {
         return Err(Fault::BadTag);
     }
-    put_scalar_at(room, into, at, key, tag, number, 0)
+    put_scalar_at(buffer, into, at, key, tag, number, 0)
 }
 
 /// Whether it is the type tag of signed numbers.
@@ -73,6 +68,7 @@ pub fn is_unsigned_tag(tag: u8) -> bool
     tag == b'B' || tag == b'u' || tag == b'i'
 }
 
+// The tactic names the two cases of a definition by sign, which a match on literals doesn't compute.
 /// The bits of a boolean.
 #[tactic(auto, using(crate::proofs::EntryIntegers::false_is, crate::proofs::EntryIntegers::true_is))]
 pub fn truth_bits(truth: i32) -> u64

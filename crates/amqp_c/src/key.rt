@@ -6,6 +6,7 @@ ghost use Rattle.std.specs.Str.{IsAscii, IsUtf8};
 
 use std::str;
 
+// The tactic names why ASCII is UTF-8.
 /// Whether the bytes are a short string, as each key of a table is.
 #[inline(always)]
 #[tactic(auto, using(amq_protocol_types::proofs::ParsingLaws::ascii_is_utf8))]

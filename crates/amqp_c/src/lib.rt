@@ -7,16 +7,14 @@
 //! error the buffer and the container are as they were. `include/amqp_values.h` declares the calls.
 #![tactic(auto)]
 
-ghost use Rattle.std.specs.Prelude.{◌≡◌, length};
-ghost use Rattle.amqp_in_place.specs.Problems.{problem_of, problem_in_table_of};
-ghost use Rattle.amqp_c_common.specs.Reading.{limits};
-ghost use Rattle.amqp_c.specs.Problems.{FindsBy, rules_of};
-ghost use Rattle.amqp_c.specs.BuildCalls.{PutsScalar, PutsBytes, PutsValue, Begins, Ends, PutsInt, PutsUint};
-ghost use Rattle.amqp_c.specs.BuiltEntries.{truth_bits};
+ghost use Rattle.std.specs.Prelude.{◌≡◌};
+ghost use Rattle.amqp_c.specs.Problems.{FindsInValue, FindsInTable};
+ghost use Rattle.amqp_c.specs.BuildCalls.{PutsScalar, PutsInt, PutsUint, PutsBool, PutsTimestamp, PutsDecimal, PutsVoid, PutsBytes, PutsValue, OpensContainer, ClosesContainer};
 ghost use Rattle.amqp_c.specs.WrittenTables.{WritesTable};
 ghost use Rattle.amqp_c.specs.Getters.{GetsInt, GetsUint, GetsBool, GetsTimestamp, GetsDecimal};
-ghost use Rattle.amqp_c.specs.Calls.{Needs, ReadsValue, ReadsTable, MeasuresValue, MeasuresTable, Firsts, Enters, Steps, Finds, FindsFirst, FindsPath};
+ghost use Rattle.amqp_c.specs.Calls.{GivesNeeded, ReadsValue, ReadsTable, MeasuresValue, MeasuresTable, GivesFirstEntry, EntersContainer, StepsToNext, FindsLast, FindsFirst, FindsPath};
 
+mod buffer;
 mod container;
 mod cursor;
 mod entry;
@@ -33,7 +31,6 @@ mod path;
 mod problem;
 mod put;
 mod read;
-mod room;
 mod store;
 mod table;
 
@@ -46,7 +43,7 @@ use entry::{Entry, first};
 use getter::store_decimal;
 use integers::{put_int, put_uint, truth_bits};
 use measure::{Measure, measured_table, measured_value};
-use nest::{begin, end};
+use nest::{close, open};
 use pair::Pair;
 use path::{EqualKeys, Step, find_path};
 use problem::{Problem, rules_of};
@@ -138,7 +135,7 @@ pub extern "C" fn amqpv_first_problem(
     depth: u32,
     problem: &mut Problem,
 ) -> i32
-    ensures { FindsBy (rules_of rules) (length bytes.now) (λ r. problem_of r (limits frame depth) bytes.now) problem.old result problem.new }
+    ensures { FindsInValue rules frame depth bytes.now problem.old result problem.new }
 {
     let Some(rules) = rules_of(rules) else {
         return Fault::BadTag.code();
@@ -159,7 +156,7 @@ pub extern "C" fn amqpv_first_problem_in_table(
     depth: u32,
     problem: &mut Problem,
 ) -> i32
-    ensures { FindsBy (rules_of rules) (length bytes.now) (λ r. problem_in_table_of r (limits frame depth) bytes.now) problem.old result problem.new }
+    ensures { FindsInTable rules frame depth bytes.now problem.old result problem.new }
 {
     let Some(rules) = rules_of(rules) else {
         return Fault::BadTag.code();
@@ -174,7 +171,7 @@ pub extern "C" fn amqpv_first_problem_in_table(
 /// time.
 #[unsafe(no_mangle)]
 pub extern "C" fn amqpv_first(bytes: &[u8], entry: &mut Entry) -> i32
-    ensures { Firsts bytes.now entry.old result entry.new }
+    ensures { GivesFirstEntry bytes.now entry.old result entry.new }
 {
     store(first(bytes), entry)
 }
@@ -182,7 +179,7 @@ pub extern "C" fn amqpv_first(bytes: &[u8], entry: &mut Entry) -> i32
 /// Returns a cursor before the first entry of an array or a table, in constant time.
 #[unsafe(no_mangle)]
 pub extern "C" fn amqpv_enter(bytes: &[u8], entry: &Entry, cursor: &mut Cursor) -> i32
-    ensures { Enters bytes.now entry.now cursor.old result cursor.new }
+    ensures { EntersContainer bytes.now entry.now cursor.old result cursor.new }
 {
     store(entry.enter(bytes), cursor)
 }
@@ -190,7 +187,7 @@ pub extern "C" fn amqpv_enter(bytes: &[u8], entry: &Entry, cursor: &mut Cursor) 
 /// Returns the next entry and sets the cursor after it, in constant time.
 #[unsafe(no_mangle)]
 pub extern "C" fn amqpv_next(bytes: &[u8], cursor: &mut Cursor, entry: &mut Entry) -> i32
-    ensures { Steps bytes.now cursor.old entry.old result cursor.new entry.new }
+    ensures { StepsToNext bytes.now cursor.old entry.old result cursor.new entry.new }
 {
     store_step(cursor.next(bytes), cursor, entry)
 }
@@ -199,7 +196,7 @@ pub extern "C" fn amqpv_next(bytes: &[u8], cursor: &mut Cursor, entry: &mut Entr
 /// last. It traverses all of them.
 #[unsafe(no_mangle)]
 pub extern "C" fn amqpv_find(bytes: &[u8], cursor: &Cursor, key: &[u8], entry: &mut Entry) -> i32
-    ensures { Finds bytes.now cursor.now key.now entry.old result entry.new }
+    ensures { FindsLast bytes.now cursor.now key.now entry.old result entry.new }
 {
     store_found(cursor.find(bytes, key), entry)
 }
@@ -240,58 +237,58 @@ pub extern "C" fn amqpv_find_path(
 /// scale, as an entry has them.
 #[unsafe(no_mangle)]
 pub extern "C" fn amqpv_put(
-    room: &mut [u8],
+    buffer: &mut [u8],
     into: &mut Container,
     key: &[u8],
     tag: u8,
     bits: u64,
     scale: u8,
 ) -> i32
-    ensures { PutsScalar tag bits scale room.old into.old key.now result room.new into.new }
+    ensures { PutsScalar tag bits scale buffer.old into.old key.now result buffer.new into.new }
 {
-    store(put_scalar(room, *into, key, tag, bits, scale), into)
+    store(put_scalar(buffer, *into, key, tag, bits, scale), into)
 }
 
 /// Puts an entry after what is written: a signed number, by its type tag.
 #[unsafe(no_mangle)]
 pub extern "C" fn amqpv_put_int(
-    room: &mut [u8],
+    buffer: &mut [u8],
     into: &mut Container,
     key: &[u8],
     tag: u8,
     number: i64,
 ) -> i32
-    ensures { PutsInt tag number room.old into.old key.now result room.new into.new }
+    ensures { PutsInt tag number buffer.old into.old key.now result buffer.new into.new }
 {
-    store(put_int(room, *into, key, tag, number), into)
+    store(put_int(buffer, *into, key, tag, number), into)
 }
 
 /// Puts an entry after what is written: an unsigned number, by its type tag.
 #[unsafe(no_mangle)]
 pub extern "C" fn amqpv_put_uint(
-    room: &mut [u8],
+    buffer: &mut [u8],
     into: &mut Container,
     key: &[u8],
     tag: u8,
     number: u64,
 ) -> i32
-    ensures { PutsUint tag number room.old into.old key.now result room.new into.new }
+    ensures { PutsUint tag number buffer.old into.old key.now result buffer.new into.new }
 {
-    store(put_uint(room, *into, key, tag, number), into)
+    store(put_uint(buffer, *into, key, tag, number), into)
 }
 
 /// Puts an entry after what is written: a boolean, of which every number but 0 is true.
 #[unsafe(no_mangle)]
 pub extern "C" fn amqpv_put_bool(
-    room: &mut [u8],
+    buffer: &mut [u8],
     into: &mut Container,
     key: &[u8],
     truth: i32,
 ) -> i32
-    ensures { PutsScalar 116 (truth_bits truth) 0 room.old into.old key.now result room.new into.new }
+    ensures { PutsBool truth buffer.old into.old key.now result buffer.new into.new }
 {
     store(
-        put_scalar(room, *into, key, b't', truth_bits(truth), 0),
+        put_scalar(buffer, *into, key, b't', truth_bits(truth), 0),
         into,
     )
 }
@@ -299,110 +296,110 @@ pub extern "C" fn amqpv_put_bool(
 /// Puts an entry after what is written: a timestamp.
 #[unsafe(no_mangle)]
 pub extern "C" fn amqpv_put_timestamp(
-    room: &mut [u8],
+    buffer: &mut [u8],
     into: &mut Container,
     key: &[u8],
     seconds: u64,
 ) -> i32
-    ensures { PutsScalar 84 seconds 0 room.old into.old key.now result room.new into.new }
+    ensures { PutsTimestamp seconds buffer.old into.old key.now result buffer.new into.new }
 {
-    store(put_scalar(room, *into, key, b'T', seconds, 0), into)
+    store(put_scalar(buffer, *into, key, b'T', seconds, 0), into)
 }
 
 /// Puts an entry after what is written: a decimal, by its number without the point, and how many of
 /// its digits are after the point.
 #[unsafe(no_mangle)]
 pub extern "C" fn amqpv_put_decimal(
-    room: &mut [u8],
+    buffer: &mut [u8],
     into: &mut Container,
     key: &[u8],
     number: u32,
     scale: u8,
 ) -> i32
-    ensures { PutsScalar 68 number scale room.old into.old key.now result room.new into.new }
+    ensures { PutsDecimal number scale buffer.old into.old key.now result buffer.new into.new }
 {
     store(
-        put_scalar(room, *into, key, b'D', u64::from(number), scale),
+        put_scalar(buffer, *into, key, b'D', u64::from(number), scale),
         into,
     )
 }
 
 /// Puts an entry after what is written, without a value.
 #[unsafe(no_mangle)]
-pub extern "C" fn amqpv_put_void(room: &mut [u8], into: &mut Container, key: &[u8]) -> i32
-    ensures { PutsScalar 86 0 0 room.old into.old key.now result room.new into.new }
+pub extern "C" fn amqpv_put_void(buffer: &mut [u8], into: &mut Container, key: &[u8]) -> i32
+    ensures { PutsVoid buffer.old into.old key.now result buffer.new into.new }
 {
-    store(put_scalar(room, *into, key, b'V', 0, 0), into)
+    store(put_scalar(buffer, *into, key, b'V', 0, 0), into)
 }
 
 /// Puts an entry after what is written: a long string.
 #[unsafe(no_mangle)]
 pub extern "C" fn amqpv_put_string(
-    room: &mut [u8],
+    buffer: &mut [u8],
     into: &mut Container,
     key: &[u8],
     text: &[u8],
 ) -> i32
-    ensures { PutsBytes 83 text.now room.old into.old key.now result room.new into.new }
+    ensures { PutsBytes 83 text.now buffer.old into.old key.now result buffer.new into.new }
 {
-    store(put_bytes(room, *into, key, b'S', text), into)
+    store(put_bytes(buffer, *into, key, b'S', text), into)
 }
 
 /// Puts an entry after what is written: a long string or a byte array.
 #[unsafe(no_mangle)]
 pub extern "C" fn amqpv_put_bytes(
-    room: &mut [u8],
+    buffer: &mut [u8],
     into: &mut Container,
     key: &[u8],
     tag: u8,
     bytes: &[u8],
 ) -> i32
-    ensures { PutsBytes tag bytes.now room.old into.old key.now result room.new into.new }
+    ensures { PutsBytes tag bytes.now buffer.old into.old key.now result buffer.new into.new }
 {
-    store(put_bytes(room, *into, key, tag, bytes), into)
+    store(put_bytes(buffer, *into, key, tag, bytes), into)
 }
 
 /// Puts an entry after what is written: the encoding at the start of other bytes, read within
 /// limits and copied unchanged. docs/PROMISES.md has what a level of nesting takes of the stack.
 #[unsafe(no_mangle)]
 pub extern "C" fn amqpv_put_value(
-    room: &mut [u8],
+    buffer: &mut [u8],
     into: &mut Container,
     key: &[u8],
     bytes: &[u8],
     frame: u32,
     depth: u32,
 ) -> i32
-    ensures { PutsValue frame depth bytes.now room.old into.old key.now result room.new into.new }
+    ensures { PutsValue frame depth bytes.now buffer.old into.old key.now result buffer.new into.new }
 {
     store(
-        put_value(room, *into, key, bytes, Limits { frame, depth }),
+        put_value(buffer, *into, key, bytes, Limits { frame, depth }),
         into,
     )
 }
 
 /// Begins an entry after what is written, whose value is an array or a table: `body` is then
-/// empty, and `into` as it was until the entry is ended.
+/// empty, and `into` as it was until the entry is closed.
 #[unsafe(no_mangle)]
 pub extern "C" fn amqpv_open(
-    room: &mut [u8],
+    buffer: &mut [u8],
     into: &Container,
     key: &[u8],
     tag: u8,
     body: &mut Container,
 ) -> i32
-    ensures { Begins tag room.old into.now key.now body.old result room.new body.new }
+    ensures { OpensContainer tag buffer.old into.now key.now body.old result buffer.new body.new }
 {
-    store(begin(room, *into, key, tag), body)
+    store(open(buffer, *into, key, tag), body)
 }
 
 /// Ends the entry that `amqpv_open` began: fills in the length of its body, and `into` reaches to
 /// its end.
 #[unsafe(no_mangle)]
-pub extern "C" fn amqpv_close(room: &mut [u8], into: &mut Container, body: &Container) -> i32
-    ensures { Ends room.old into.old body.now result room.new into.new }
+pub extern "C" fn amqpv_close(buffer: &mut [u8], into: &mut Container, body: &Container) -> i32
+    ensures { ClosesContainer buffer.old into.old body.now result buffer.new into.new }
 {
-    store(end(room, *into, *body), into)
+    store(close(buffer, *into, *body), into)
 }
 
 /// Writes the table of these pairs, in their order, without its type tag, to the start of the buffer.
@@ -411,10 +408,10 @@ pub extern "C" fn amqpv_close(room: &mut [u8], into: &mut Container, body: &Cont
 ///
 /// `count` becomes how many bytes were written, or which capacity is needed, otherwise 0.
 #[unsafe(no_mangle)]
-pub extern "C" fn amqpv_write_table(pairs: &[Pair<'_>], room: &mut [u8], count: &mut usize) -> i32
-    ensures { WritesTable pairs.now room.old result room.new count.new }
+pub extern "C" fn amqpv_write_table(pairs: &[Pair<'_>], buffer: &mut [u8], count: &mut usize) -> i32
+    ensures { WritesTable pairs.now buffer.old result buffer.new count.new }
 {
-    return_count(write_table(room, pairs), count)
+    return_count(write_table(buffer, pairs), count)
 }
 
 /// Returns how large a buffer has to be at least so that an entry can be put after what is written,
@@ -429,7 +426,7 @@ pub extern "C" fn amqpv_needed(
     content_length: usize,
     count: &mut usize,
 ) -> i32
-    ensures { Needs into.now key_length tag content_length result count.new }
+    ensures { GivesNeeded into.now key_length tag content_length result count.new }
 {
     return_count(into.needed(key_length, tag, content_length), count)
 }

@@ -5,7 +5,7 @@ ghost use Rattle.amqp_c_common.specs.Spans.{part};
 ghost use Rattle.amqp_c.specs.FirstPairs.{LooksUpFirst};
 ghost use Rattle.amqp_c.specs.NthValues.{IsOfArray, LooksUpNth};
 
-use crate::cursor::{Cursor, behind_value, first_pair, first_value, split_key};
+use crate::cursor::{Cursor, after_value, first_pair, first_value, split_key};
 use crate::entry::Entry;
 use amqp_c_common::Fault;
 
@@ -29,10 +29,10 @@ impl Cursor {
                     None => Err(Fault::Malformed),
                 };
             }
-            let Some(behind) = behind_value(value) else {
+            let Some(later) = after_value(value) else {
                 return Err(Fault::Malformed);
             };
-            left = behind;
+            left = later;
         }
         Ok(None)
     }
@@ -47,10 +47,10 @@ impl Cursor {
         let mut left = body;
         let mut before = index;
         'values: while !left.is_empty() && before > 0 {
-            let Some(behind) = behind_value(left) else {
+            let Some(later) = after_value(left) else {
                 return Err(Fault::Malformed);
             };
-            left = behind;
+            left = later;
             before -= 1;
         }
         if left.is_empty() {
@@ -66,7 +66,8 @@ impl Cursor {
     fn array_body(self, bytes: &[u8]) -> Option<&[u8]>
         ensures { MatchOption result
             (IsOfArray (length bytes.now) self → ⊥)
-            (λ body. IsOfArray (length bytes.now) self × (body.now ≡ part bytes.now self.left)) }
+            (λ body. IsOfArray (length bytes.now) self
+            × (body.now ≡ part bytes.now self.left)) }
     {
         if self.tag != b'A' {
             return None;

@@ -23,7 +23,7 @@ pub struct Measure {
 }
 
 impl Measure {
-    // The same in C's struct.
+    /// The measure in C's struct.
     fn of(measure: amqp_in_place::Measure) -> Measure
         ensures { result ≡ same_measure measure }
     {
@@ -37,7 +37,9 @@ impl Measure {
 
 /// Measures the value at the start, which is read within limits.
 pub fn measured_value(bytes: &[u8], limits: Limits) -> Result<Measure, Fault>
-    ensures { MatchResult result (IsMeasured limits bytes.now bytes.now) (FaultsWithin limits bytes.now) }
+    ensures { MatchResult result
+        (IsMeasured limits bytes.now bytes.now)
+        (FaultsWithin limits bytes.now) }
 {
     Ok(Measure::of(measure_value(bytes, limits)?))
 }

@@ -2,7 +2,7 @@
 
 ghost use Rattle.std.specs.Prelude.{◌≡◌, ◌≤◌, ◌+◌, MatchResult};
 ghost use Rattle.amqp_value_core.specs.Layouts.{width_of};
-ghost use Rattle.amqp_c.specs.Needs.{IsKeyLength, name_len, IsEncodingLen, RefusesLen, IsContainer, IsNeeded, RefusesNeeded};
+ghost use Rattle.amqp_c.specs.Needs.{IsKeyLength, name_len, IsEncodingLen, RefusesLen, IsKnownContainer, IsNeeded, RefusesNeeded};
 
 use crate::container::{Container, is_container_tag};
 use crate::entry::has_content;
@@ -33,9 +33,12 @@ impl Container {
 }
 
 /// How many bytes an encoding has, by its type tag, and how many bytes are after their length.
+// The tactic names why no type has another's type tag.
 #[tactic(auto, using(crate::proofs::Needs::no_type, crate::proofs::Needs::other_type))]
 fn encoding_len(tag: u8, content_length: usize) -> Result<usize, Fault>
-    ensures len { MatchResult result (IsEncodingLen tag content_length) (RefusesLen tag content_length) }
+    ensures len { MatchResult result
+        (IsEncodingLen tag content_length)
+        (RefusesLen tag content_length) }
     ensures few { MatchResult result (λ size. size ≤ 4294967300) (λ _. Unit {0}) }
 {
     let Some(amqp_type) = AMQPType::from_id(tag as char) else {

@@ -4,7 +4,7 @@ ghost use Rattle.std.specs.Prelude.{◌≡◌, ◌≤◌, ◌∷◌, length, tak
 ghost use Rattle.amqp_value_core.specs.declared.types.amqp_type.AMQPType.TheVariants as amqp;
 ghost use Rattle.amqp_value_core.specs.Values.{Scalar, scalar};
 ghost use Rattle.amqp_value_core.specs.Texts.{text};
-ghost use Rattle.amqp_c.specs.BuiltEntries.{Tells, TellsOf, IsScalarTag};
+ghost use Rattle.amqp_c.specs.BuiltEntries.{IsScalarOf, IsScalarOfType, IsScalarTag};
 ghost use Rattle.amqp_c.specs.Faults.{RefusesNumber};
 
 use crate::entry::has_content;
@@ -81,7 +81,7 @@ fn padded(bytes: &[u8]) -> [u8; 8]
 #[inline(always)]
 pub fn encoding_of(tag: u8, bits: u64, scale: u8) -> Result<Encoding, Fault>
     ensures { MatchResult result
-        (λ e. (x : Scalar) × Tells tag bits scale x × (e ≡ text (scalar x)))
+        (λ e. (x : Scalar) × IsScalarOf tag bits scale x × (e ≡ text (scalar x)))
         (RefusesNumber tag bits scale) }
 {
     match encoding_by_tag(tag, bits, scale) {
@@ -94,6 +94,7 @@ pub fn encoding_of(tag: u8, bits: u64, scale: u8) -> Result<Encoding, Fault>
 /// Whether it is the type tag that is written for a type of fixed width.
 #[cold]
 #[inline(never)]
+// The tactic names why the type tag isn't of fixed width: of no type, of one with content, of another.
 #[tactic(auto, using(crate::proofs::Tags::no_kind, crate::proofs::Tags::with_content, crate::proofs::Tags::other_id, crate::proofs::Tags::same_id))]
 fn is_scalar_tag(tag: u8) -> bool
     ensures { MatchBool result (IsScalarTag tag) (IsScalarTag tag → ⊥) }
@@ -111,12 +112,12 @@ fn is_scalar_tag(tag: u8) -> bool
     true
 }
 
-/// The same, if there is one.
+/// The encoding of the value of fixed width that these determine, if there is one.
 #[inline(always)]
 fn encoding_by_tag(tag: u8, bits: u64, scale: u8) -> Option<Encoding>
     ensures { MatchOption result
-        ((x : Scalar) → Tells tag bits scale x → ⊥)
-        (λ e. (x : Scalar) × Tells tag bits scale x × (e ≡ text (scalar x))) }
+        ((x : Scalar) → IsScalarOf tag bits scale x → ⊥)
+        (λ e. (x : Scalar) × IsScalarOf tag bits scale x × (e ≡ text (scalar x))) }
 {
     if scale != 0 {
         // of all types only a decimal has a scale
@@ -138,8 +139,8 @@ fn encoding_by_tag(tag: u8, bits: u64, scale: u8) -> Option<Encoding>
 #[inline(always)]
 fn encoding_by_type(amqp_type: AMQPType, bits: u64) -> Option<Encoding>
     ensures { MatchOption result
-        ((x : Scalar) → TellsOf amqp_type bits 0 x → ⊥)
-        (λ e. (x : Scalar) × TellsOf amqp_type bits 0 x × (e ≡ text (scalar x))) }
+        ((x : Scalar) → IsScalarOfType amqp_type bits 0 x → ⊥)
+        (λ e. (x : Scalar) × IsScalarOfType amqp_type bits 0 x × (e ≡ text (scalar x))) }
 {
     match amqp_type {
         AMQPType::DecimalValue => decimal(bits, 0),
@@ -189,8 +190,8 @@ fn encoding_by_type(amqp_type: AMQPType, bits: u64) -> Option<Encoding>
 #[inline(always)]
 fn decimal(bits: u64, scale: u8) -> Option<Encoding>
     ensures { MatchOption result
-        ((x : Scalar) → TellsOf amqp.DecimalValue bits scale x → ⊥)
-        (λ e. (x : Scalar) × TellsOf amqp.DecimalValue bits scale x × (e ≡ text (scalar x))) }
+        ((x : Scalar) → IsScalarOfType amqp.DecimalValue bits scale x → ⊥)
+        (λ e. (x : Scalar) × IsScalarOfType amqp.DecimalValue bits scale x × (e ≡ text (scalar x))) }
 {
     let n = u32::try_from(bits).ok()?;
     let [a, b, c, d] = n.to_be_bytes();
@@ -201,8 +202,8 @@ fn decimal(bits: u64, scale: u8) -> Option<Encoding>
 #[inline(always)]
 fn boolean(bits: u64) -> Option<Encoding>
     ensures { MatchOption result
-        ((x : Scalar) → TellsOf amqp.Boolean bits 0 x → ⊥)
-        (λ e. (x : Scalar) × TellsOf amqp.Boolean bits 0 x × (e ≡ text (scalar x))) }
+        ((x : Scalar) → IsScalarOfType amqp.Boolean bits 0 x → ⊥)
+        (λ e. (x : Scalar) × IsScalarOfType amqp.Boolean bits 0 x × (e ≡ text (scalar x))) }
 {
     match bits {
         0 => Some(Encoding::new(b't', &[0])),
@@ -215,8 +216,8 @@ fn boolean(bits: u64) -> Option<Encoding>
 #[inline(always)]
 fn void(bits: u64) -> Option<Encoding>
     ensures { MatchOption result
-        ((x : Scalar) → TellsOf amqp.Void bits 0 x → ⊥)
-        (λ e. (x : Scalar) × TellsOf amqp.Void bits 0 x × (e ≡ text (scalar x))) }
+        ((x : Scalar) → IsScalarOfType amqp.Void bits 0 x → ⊥)
+        (λ e. (x : Scalar) × IsScalarOfType amqp.Void bits 0 x × (e ≡ text (scalar x))) }
 {
     if bits != 0 {
         return None;

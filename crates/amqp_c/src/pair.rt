@@ -4,13 +4,13 @@ ghost use Rattle.std.specs.Prelude.{◌≡◌, ◌+◌, ◌≤◌, ◌++◌, len
 ghost use Rattle.amqp_value_core.specs.Values.{Tree};
 ghost use Rattle.amqp_value_core.specs.Grammar.{short_field};
 ghost use Rattle.amqp_value_core.specs.Texts.{text};
-ghost use Rattle.amqp_c.specs.Pairs.{IsValueOf, IsGiven, RefusesValue, RefusesPair, value_len, pair_len};
-ghost use Rattle.amqp_c.specs.Rooms.{with_bytes};
+ghost use Rattle.amqp_c.specs.Pairs.{IsPairValue, IsGiven, RefusesValue, RefusesPair, value_len, pair_len};
+ghost use Rattle.amqp_c.specs.Buffers.{with_bytes};
 
+use crate::buffer::{write, write_bytes, write_few, write_name};
 use crate::key::is_short_string;
 use crate::number::encoding_of;
 use crate::put::{head_of, is_string_tag};
-use crate::room::{write, write_bytes, write_few, write_name};
 use amqp_c_common::Fault;
 
 /// A pair of a table: its key, and its value by a type tag.
@@ -48,7 +48,7 @@ impl Pair<'_> {
     #[inline(always)]
     fn value_len(&self) -> Result<usize, Fault>
         ensures len { MatchResult result
-            (λ n. ((v : Tree) × IsValueOf self.now v) × (n ≡ value_len self.now))
+            (λ n. ((v : Tree) × IsPairValue self.now v) × (n ≡ value_len self.now))
             (RefusesValue self.now) }
         ensures few { IfOk result (λ n. n ≤ 4294967300) }
     {
@@ -63,48 +63,49 @@ impl Pair<'_> {
 
     /// Writes it from `at` on, and returns its end.
     #[inline(always)]
-    pub fn write(&self, room: &mut [u8], at: usize) -> usize
+    pub fn write(&self, buffer: &mut [u8], at: usize) -> usize
         requires given { IsGiven self.now }
-        requires fits { at + pair_len self.now ≤ length room.old }
-        ensures written { (v : Tree) × IsValueOf self.now v
-            × (room.new ≡ with_bytes at (short_field self.now.key.now ++ text v) room.old) }
+        requires fits { at + pair_len self.now ≤ length buffer.old }
+        ensures written { (v : Tree) × IsPairValue self.now v
+            × (buffer.new ≡ with_bytes at (short_field self.now.key.now ++ text v) buffer.old) }
         ensures end { result ≡ at + pair_len self.now }
     {
-        at + self.write_at_start(&mut room[at..])
+        at + self.write_at_start(&mut buffer[at..])
     }
 
     /// Writes it at the start, and returns how many bytes it has.
     #[inline(always)]
-    fn write_at_start(&self, room: &mut [u8]) -> usize
+    fn write_at_start(&self, buffer: &mut [u8]) -> usize
         requires given { IsGiven self.now }
-        requires fits { pair_len self.now ≤ length room.old }
-        ensures written { (v : Tree) × IsValueOf self.now v
-            × (room.new ≡ with_bytes 0 (short_field self.now.key.now ++ text v) room.old) }
+        requires fits { pair_len self.now ≤ length buffer.old }
+        ensures written { (v : Tree) × IsPairValue self.now v
+            × (buffer.new ≡ with_bytes 0 (short_field self.now.key.now ++ text v) buffer.old) }
         ensures len { result ≡ pair_len self.now }
     {
-        write_name(room, 0, b'F', self.key);
-        self.write_value(room, 1 + self.key.len())
+        write_name(buffer, 0, b'F', self.key);
+        self.write_value(buffer, 1 + self.key.len())
     }
 
     /// Writes its value from `at` on, and returns its end.
     #[inline(always)]
-    fn write_value(&self, room: &mut [u8], at: usize) -> usize
-        requires given { (v : Tree) × IsValueOf self.now v }
-        requires fits { at + value_len self.now ≤ length room.old }
-        ensures written { (v : Tree) × IsValueOf self.now v × (room.new ≡ with_bytes at (text v) room.old) }
+    fn write_value(&self, buffer: &mut [u8], at: usize) -> usize
+        requires given { (v : Tree) × IsPairValue self.now v }
+        requires fits { at + value_len self.now ≤ length buffer.old }
+        ensures written { (v : Tree) × IsPairValue self.now v
+            × (buffer.new ≡ with_bytes at (text v) buffer.old) }
         ensures end { result ≡ at + value_len self.now }
     {
         if is_string_tag(self.tag) {
-            write(room, at, &head_of(self.tag, self.bytes.len() as u32));
-            write_bytes(room, at + 5, self.bytes);
+            write(buffer, at, &head_of(self.tag, self.bytes.len() as u32));
+            write_bytes(buffer, at + 5, self.bytes);
             return at + 5 + self.bytes.len();
         }
         let Ok(encoding) = encoding_of(self.tag, self.bits, self.scale) else {
             unreachable!()
         };
         let (tag, payload, length) = encoding.parts();
-        write(room, at, &[tag]);
-        write_few(room, at + 1, &payload[..length]);
+        write(buffer, at, &[tag]);
+        write_few(buffer, at + 1, &payload[..length]);
         at + 1 + length
     }
 }

@@ -2,7 +2,7 @@
 
 ghost use Rattle.std.specs.Prelude.{◌≡◌, length, MatchBool, MatchOption, Err, List, ℕ};
 ghost use Rattle.amqp_c_common.specs.declared.fault.Fault.TheVariants.{Invalid, BadTag};
-ghost use Rattle.amqp_c.specs.Paths.{number_of, IsInside, Leads, LooksUpOn};
+ghost use Rattle.amqp_c.specs.Paths.{number_of, IsInside, StepLeads, LooksUpOn};
 
 use crate::entry::Entry;
 use amqp_c_common::Fault;
@@ -66,9 +66,10 @@ impl Entry {
     }
 
     /// The entry that a step leads to.
+    // The tactic names a lemma for each of four results, since a step is stated as a record of five facts.
     #[tactic(auto, using(crate::proofs::Paths::leads_bad_tag, crate::proofs::Paths::leads_none, crate::proofs::Paths::leads_nth, crate::proofs::Paths::leads_by))]
     fn step(&self, bytes: &[u8], step: &Step<'_>, equal: EqualKeys) -> Result<Option<Entry>, Fault>
-        ensures { Leads bytes.now equal step.now self.now result }
+        ensures { StepLeads bytes.now equal step.now self.now result }
     {
         if step.tag != b'A' && step.tag != b'F' {
             return Err(Fault::BadTag);

@@ -19,7 +19,7 @@ pub struct Problem {
 }
 
 impl Problem {
-    /// The same in C's struct.
+    /// The problem in C's struct.
     pub fn of(problem: amqp_in_place::Problem) -> Problem
         ensures { result ≡ numbered problem }
     {

@@ -20,7 +20,9 @@ pub fn read(bytes: &[u8], limits: Limits) -> Result<Entry, Fault>
 
 /// Reads a table without its type tag within limits, checks all of it, and returns its entry.
 pub fn read_table(bytes: &[u8], limits: Limits) -> Result<Entry, Fault>
-    ensures { MatchResult result (IsTableTaken limits bytes.now) (FaultsWithin limits (tagged AMQPType.FieldTable bytes.now)) }
+    ensures { MatchResult result
+        (IsTableTaken limits bytes.now)
+        (FaultsWithin limits (tagged AMQPType.FieldTable bytes.now)) }
 {
     let (_, rest) = read_table_in_place(bytes, limits)?;
     let length = bytes.len() - rest.len();

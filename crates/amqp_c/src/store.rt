@@ -1,9 +1,9 @@
 //! What a call returns and leaves at its pointers.
 
 ghost use Rattle.std.specs.Prelude.{◌≡◌};
-ghost use Rattle.amqp_c_common.specs.ReturnCodes.{answer_of};
-ghost use Rattle.amqp_c.specs.Problems.{answer_if_some, numbered_or_old};
-ghost use Rattle.amqp_c.specs.CallResults.{answer_if_any, count_by, ok_or_old, found_or_old, entry_or_old, cursor_or_old};
+ghost use Rattle.amqp_c_common.specs.ReturnCodes.{return_code_of};
+ghost use Rattle.amqp_c.specs.Problems.{return_code_if_some, numbered_or_old};
+ghost use Rattle.amqp_c.specs.CallResults.{return_code_if_any, count_by, ok_or_old, found_or_old, entry_or_old, cursor_or_old};
 
 use crate::cursor::Cursor;
 use crate::entry::Entry;
@@ -19,7 +19,7 @@ const NONE: i32 = 1;
 /// Leaves what is given.
 #[inline(always)]
 pub fn store<T: Copy>(done: Result<T, Fault>, place: &mut T) -> i32
-    ensures answer { result ≡ answer_of done }
+    ensures returned { result ≡ return_code_of done }
     ensures place { place.new ≡ ok_or_old place.old done }
 {
     match done {
@@ -33,7 +33,7 @@ pub fn store<T: Copy>(done: Result<T, Fault>, place: &mut T) -> i32
 
 /// Leaves the entry of what is read, and stores how many bytes were read or are needed, else 0.
 pub fn store_read(done: Result<Entry, Fault>, entry: &mut Entry, count: &mut usize) -> i32
-    ensures answer { result ≡ answer_of done }
+    ensures returned { result ≡ return_code_of done }
     ensures entry { entry.new ≡ ok_or_old entry.old done }
     ensures count { count.new ≡ count_by (λ e. e.value.length) done }
 {
@@ -49,7 +49,7 @@ pub fn store_read(done: Result<Entry, Fault>, entry: &mut Entry, count: &mut usi
 
 /// Leaves a measure, and stores how many bytes were read or are needed, else 0.
 pub fn store_measure(done: Result<Measure, Fault>, measure: &mut Measure, count: &mut usize) -> i32
-    ensures answer { result ≡ answer_of done }
+    ensures returned { result ≡ return_code_of done }
     ensures measure { measure.new ≡ ok_or_old measure.old done }
     ensures count { count.new ≡ count_by (λ m. m.length) done }
 {
@@ -65,7 +65,7 @@ pub fn store_measure(done: Result<Measure, Fault>, measure: &mut Measure, count:
 
 /// Leaves the problem that is found.
 pub fn store_problem(found: Option<amqp_in_place::Problem>, problem: &mut Problem) -> i32
-    ensures answer { result ≡ answer_if_some found }
+    ensures returned { result ≡ return_code_if_some found }
     ensures problem { problem.new ≡ numbered_or_old problem.old found }
 {
     match found {
@@ -79,7 +79,7 @@ pub fn store_problem(found: Option<amqp_in_place::Problem>, problem: &mut Proble
 
 /// Leaves the entry that is found.
 pub fn store_found(done: Result<Option<Entry>, Fault>, entry: &mut Entry) -> i32
-    ensures answer { result ≡ answer_if_any done }
+    ensures returned { result ≡ return_code_if_any done }
     ensures entry { entry.new ≡ found_or_old entry.old done }
 {
     match done {
@@ -99,7 +99,7 @@ pub fn store_step(
     cursor: &mut Cursor,
     entry: &mut Entry,
 ) -> i32
-    ensures answer { result ≡ answer_if_any done }
+    ensures returned { result ≡ return_code_if_any done }
     ensures cursor { cursor.new ≡ cursor_or_old cursor.old done }
     ensures entry { entry.new ≡ entry_or_old entry.old done }
 {

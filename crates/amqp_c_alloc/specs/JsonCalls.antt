@@ -8,31 +8,31 @@ use Rattle.amq_protocol_types.specs.declared.parsing.limits.Limits.{Limits}
 use Rattle.amqp_json.specs.declared.error.JsonError.TheVariants as json
 use Rattle.amqp_json.specs.declared.conversion_error.EncodeError.{EncodeError}
 use Rattle.amqp_json.specs.declared.conversion_error.EncodeError.TheVariants as encode
-use Rattle.amqp_json.specs.Converts.{IsJsonOf, IsMeant, IsReadAs}
+use Rattle.amqp_json.specs.Converts.{IsJsonOf, IsStoredMeaning, IsReadAs}
 use Rattle.amqp_c_common.specs.declared.fault.Fault.{Fault}
-use Rattle.amqp_c_common.specs.declared.fault.Fault.TheVariants.{OutOfMemory, NoRoom, NotJson, NoEncoding}
-use Rattle.amqp_c_common.specs.ReturnCodes.{answer_of, count_of}
+use Rattle.amqp_c_common.specs.declared.fault.Fault.TheVariants.{OutOfMemory, BufferTooSmall, NotJson, NoEncoding}
+use Rattle.amqp_c_common.specs.ReturnCodes.{return_code_of, count_of}
 use Rattle.amqp_c_common.specs.Reading.{limits, IsReadFault}
-use Rattle.amqp_c_common.specs.Rooms.{IsPut}
+use Rattle.amqp_c_common.specs.Buffers.{IsPutAtStart}
 use Rattle.amqp_c_alloc.specs.Nesting.{nests_within}
 
 -- ---- from an encoding to the JSON text
 
 -- the JSON text of the value that is read from s within the limits is put into the buffer
 abbrev pub IsJsonPut : Limits → List ℕ → List ℕ → List ℕ → ℕ → Type 0
-IsJsonPut l s old new n = (t : List ℕ) × (rest : List ℕ) × IsJsonOf l s t rest × IsPut t old new n
+IsJsonPut l s old new n = (t : List ℕ) × (rest : List ℕ) × IsJsonOf l s t rest × IsPutAtStart t old new n
 
 -- a fault is right, for s and a buffer of that many bytes: the JSON text of the value that is read
 -- has more bytes than the buffer, and as many as the fault reports; or what reading results in
 abbrev pub IsJsonFault : Limits → List ℕ → ℕ → Fault → Type 0
-IsJsonFault l s room (NoRoom n) = (t : List ℕ) × (rest : List ℕ) × IsJsonOf l s t rest × (n ≡ length t) × (room < n)
-IsJsonFault l s room f = IsReadFault l s f
+IsJsonFault l s buffer (BufferTooSmall n) = (t : List ℕ) × (rest : List ℕ) × IsJsonOf l s t rest × (n ≡ length t) × (buffer < n)
+IsJsonFault l s buffer f = IsReadFault l s f
 
 -- the JSON text of the value at the start of s is put into the buffer; or the fault is right, and
 -- the buffer as it was
-pub record WritesJson (frame depth : ℕ) (s old : List ℕ) (answer : ℤ) (new : List ℕ) (count : ℕ) : Type 0 where
+pub record WritesJson (frame depth : ℕ) (s old : List ℕ) (code : ℤ) (new : List ℕ) (count : ℕ) : Type 0 where
   pub done : Result ℕ Fault
-  pub answered : answer ≡ answer_of done
+  pub returned : code ≡ return_code_of done
   pub counted : count ≡ count_of done
   pub written : MatchResult done (IsJsonPut (limits frame depth) s old new) (IsJsonFault (limits frame depth) s (length old))
   pub kept : IfErr done (λ _. new ≡ old)
@@ -41,7 +41,7 @@ pub record WritesJson (frame depth : ℕ) (s old : List ℕ) (answer : ℤ) (new
 
 -- the text is UTF-8, and means the value
 abbrev pub IsTextOf : List ℕ → Tree → Type 0
-IsTextOf t v = IsUtf8 t × IsMeant t v
+IsTextOf t v = IsUtf8 t × IsStoredMeaning t v
 
 -- the text isn't UTF-8, or means no value
 abbrev pub MeansNothing : List ℕ → Type 0
@@ -54,18 +54,18 @@ HasNoWire v = (w : List ℕ) → Wire w v → ⊥
 -- the canonical encoding of the value that the text means is put into the buffer, and is read as
 -- that value
 abbrev pub IsEncodingPut : List ℕ → List ℕ → List ℕ → ℕ → Type 0
-IsEncodingPut t old new n = (v : Tree) × IsTextOf t v × IsReadAs (text v) v × IsPut (text v) old new n
+IsEncodingPut t old new n = (v : Tree) × IsTextOf t v × IsReadAs (text v) v × IsPutAtStart (text v) old new n
 
 -- a fault is right, for a text, how deep it may nest and a buffer of that many bytes: the text
 -- nests deeper, or means no value; or one that has no encoding; or one whose canonical encoding has
 -- more bytes than the buffer, and as many as the fault reports; memory runs out only if the text
 -- is UTF-8
 abbrev pub IsEncodingFault : ℕ → List ℕ → ℕ → Fault → Type 0
-IsEncodingFault most t room NotJson = (nests_within most t ≡ false) ⊎ MeansNothing t
-IsEncodingFault most t room NoEncoding = (v : Tree) × IsTextOf t v × HasNoWire v
-IsEncodingFault most t room (NoRoom n) = (v : Tree) × IsTextOf t v × IsReadAs (text v) v × (n ≡ length (text v)) × (room < n)
-IsEncodingFault most t room OutOfMemory = IsUtf8 t
-IsEncodingFault most t room _ = ⊥
+IsEncodingFault most t buffer NotJson = (nests_within most t ≡ false) ⊎ MeansNothing t
+IsEncodingFault most t buffer NoEncoding = (v : Tree) × IsTextOf t v × HasNoWire v
+IsEncodingFault most t buffer (BufferTooSmall n) = (v : Tree) × IsTextOf t v × IsReadAs (text v) v × (n ≡ length (text v)) × (buffer < n)
+IsEncodingFault most t buffer OutOfMemory = IsUtf8 t
+IsEncodingFault most t buffer _ = ⊥
 
 -- what is reported of a text for which there is no encoding
 abbrev pub text_fault : EncodeError → Fault
@@ -77,9 +77,9 @@ text_fault encode.TooLong = NoEncoding
 
 -- the canonical encoding of the value that a text means is put into the buffer; or the fault is
 -- right, and the buffer as it was; a text that nests too deep is rejected as no JSON
-pub record WritesEncoding (most : ℕ) (t old : List ℕ) (answer : ℤ) (new : List ℕ) (count : ℕ) : Type 0 where
+pub record WritesEncoding (most : ℕ) (t old : List ℕ) (code : ℤ) (new : List ℕ) (count : ℕ) : Type 0 where
   pub done : Result ℕ Fault
-  pub answered : answer ≡ answer_of done
+  pub returned : code ≡ return_code_of done
   pub counted : count ≡ count_of done
   pub written : MatchResult done (IsEncodingPut t old new) (IsEncodingFault most t (length old))
   pub deep : nests_within most t ≡ false → done ≡ Err NotJson

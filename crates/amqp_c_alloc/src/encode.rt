@@ -1,6 +1,6 @@
 //! From a JSON text to the canonical encoding.
 
-ghost use Rattle.std.specs.Prelude.{◌≡◌, false, length, Err, IfErr, MatchResult};
+ghost use Rattle.std.specs.Prelude.{◌≡◌, false, length, Err, OnErr, MatchResult};
 ghost use Rattle.amqp_c_common.specs.declared.fault.Fault.TheVariants.{NotJson};
 ghost use Rattle.amqp_c_alloc.specs.Nesting.{nests_within};
 ghost use Rattle.amqp_c_alloc.specs.JsonCalls.{text_fault, IsEncodingPut, IsEncodingFault};
@@ -11,20 +11,20 @@ use amqp_json::{EncodeError, JsonError, encoding_of_json};
 use std::alloc::Global;
 use std::str;
 
-/// Puts the canonical encoding of the value that a JSON text means at the start of `room`, and
+/// Puts the canonical encoding of the value that a JSON text means at the start of `buffer`, and
 /// returns how many bytes it has. A text with more than `nesting` arrays and objects open at once
 /// isn't read.
 pub fn put_encoding(
     alloc: Global,
     text: &[u8],
     nesting: u32,
-    room: &mut [u8],
+    buffer: &mut [u8],
 ) -> Result<usize, Fault>
     ensures written { MatchResult result
-        (IsEncodingPut text.now room.old room.new)
-        (IsEncodingFault nesting text.now (length room.old)) }
+        (IsEncodingPut text.now buffer.old buffer.new)
+        (IsEncodingFault nesting text.now (length buffer.old)) }
     ensures deep { nests_within nesting text.now ≡ false → result ≡ Err NotJson }
-    ensures kept { IfErr result (λ _. room.new ≡ room.old) }
+    ensures kept { OnErr result (buffer.new ≡ buffer.old) }
 {
     if !nests_within(text, nesting) {
         return Err(Fault::NotJson);
@@ -33,7 +33,7 @@ pub fn put_encoding(
         return Err(Fault::NotJson);
     };
     match encoding_of_json(alloc, json) {
-        Ok(bytes) => put(&bytes, room),
+        Ok(bytes) => put(&bytes, buffer),
         Err(error) => Err(fault_of(error)),
     }
 }

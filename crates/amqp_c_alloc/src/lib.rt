@@ -6,7 +6,7 @@
 //! the process. `include/amqp_values.h` declares them.
 #![tactic(auto)]
 
-ghost use Rattle.amqp_c_alloc.specs.CanonicalCalls.{Canonicalizes};
+ghost use Rattle.amqp_c_alloc.specs.CanonicalCalls.{WritesCanonical};
 ghost use Rattle.amqp_c_alloc.specs.JsonCalls.{WritesJson, WritesEncoding};
 
 mod canonical;
@@ -21,7 +21,7 @@ use decode::put_json;
 use encode::put_encoding;
 use std::alloc::Global;
 
-/// Writes the canonical encoding of the value at the start from the start of `room`. Of the stack
+/// Writes the canonical encoding of the value that `bytes` begin with to the start of `buffer`. Of the stack
 /// it takes what `canonical_len`, `parse_value_within` and `gen_value` do: docs/PROMISES.md has the
 /// runs of these.
 ///
@@ -33,18 +33,18 @@ pub extern "C" fn amqpv_canonical(
     bytes: &[u8],
     frame: u32,
     depth: u32,
-    room: &mut [u8],
+    buffer: &mut [u8],
     count: &mut usize,
 ) -> i32
-    ensures { Canonicalizes frame depth bytes.now room.old result room.new count.new }
+    ensures { WritesCanonical frame depth bytes.now buffer.old result buffer.new count.new }
 {
     return_count(
-        canonical(alloc, bytes, Limits { frame, depth }, room),
+        canonical(alloc, bytes, Limits { frame, depth }, buffer),
         count,
     )
 }
 
-/// Writes the JSON text of the value at the start to the start of `room`. Of the stack it takes
+/// Writes the JSON text of the value that `bytes` begin with to the start of `buffer`. Of the stack it takes
 /// what `json_of_encoding` does: docs/PROMISES.md has the runs of that.
 ///
 /// `count` becomes how many bytes were written, how many more are needed of the value, or how many
@@ -55,15 +55,18 @@ pub extern "C" fn amqpv_to_json(
     bytes: &[u8],
     frame: u32,
     depth: u32,
-    room: &mut [u8],
+    buffer: &mut [u8],
     count: &mut usize,
 ) -> i32
-    ensures { WritesJson frame depth bytes.now room.old result room.new count.new }
+    ensures { WritesJson frame depth bytes.now buffer.old result buffer.new count.new }
 {
-    return_count(put_json(alloc, bytes, Limits { frame, depth }, room), count)
+    return_count(
+        put_json(alloc, bytes, Limits { frame, depth }, buffer),
+        count,
+    )
 }
 
-/// Writes the canonical encoding of the value that a JSON text means to the start of `room`. A text
+/// Writes the canonical encoding of the value that a JSON text means to the start of `buffer`. A text
 /// with more than `nesting` arrays and objects open at once isn't read, nor is one with more than
 /// 127. Of the stack it takes what `encoding_of_json` does: docs/PROMISES.md has the runs of that.
 ///
@@ -73,10 +76,10 @@ pub extern "C" fn amqpv_from_json(
     alloc: Global,
     text: &[u8],
     nesting: u32,
-    room: &mut [u8],
+    buffer: &mut [u8],
     count: &mut usize,
 ) -> i32
-    ensures { WritesEncoding nesting text.now room.old result room.new count.new }
+    ensures { WritesEncoding nesting text.now buffer.old result buffer.new count.new }
 {
-    return_count(put_encoding(alloc, text, nesting, room), count)
+    return_count(put_encoding(alloc, text, nesting, buffer), count)
 }

@@ -1,7 +1,7 @@
 //! How deep a JSON text nests.
 
 ghost use Rattle.std.specs.Prelude.{◌≡◌, ◌≤◌, ◌<◌, MatchOption};
-ghost use Rattle.amqp_c_alloc.specs.Nesting.{nests_within, open_behind, place_behind};
+ghost use Rattle.amqp_c_alloc.specs.Nesting.{nests_within, opened_after, place_after};
 
 /// The place of a byte in a JSON text.
 #[derive(Clone, Copy)]
@@ -19,22 +19,22 @@ pub fn nests_within(text: &[u8], most: u32) -> bool
     let mut place = Place::Outside;
     let mut count = 0;
     for &byte in text {
-        match open_behind(place, byte, count, most) {
+        match opened_after(place, byte, count, most) {
             Some(now) => count = now,
             None => return false,
         }
-        place = place_behind(place, byte);
+        place = place_after(place, byte);
     }
     true
 }
 
 // How many are open after a byte, with that many open before it; `None` if these are more than
 // `most`.
-fn open_behind(place: Place, byte: u8, count: u32, most: u32) -> Option<u32>
+fn opened_after(place: Place, byte: u8, count: u32, most: u32) -> Option<u32>
     requires { count ≤ most }
     ensures { MatchOption result
-        (most < open_behind place byte count)
-        (λ now. (now ≡ open_behind place byte count) × (now ≤ most)) }
+        (most < opened_after place byte count)
+        (λ now. (now ≡ opened_after place byte count) × (now ≤ most)) }
 {
     match (place, byte) {
         (Place::Outside, b'[' | b'{') if count == most => None,
@@ -45,8 +45,8 @@ fn open_behind(place: Place, byte: u8, count: u32, most: u32) -> Option<u32>
 }
 
 // The place of the byte after another one.
-fn place_behind(place: Place, byte: u8) -> Place
-    ensures { result ≡ place_behind place byte }
+fn place_after(place: Place, byte: u8) -> Place
+    ensures { result ≡ place_after place byte }
 {
     match (place, byte) {
         (Place::Outside, b'"') => Place::InString,

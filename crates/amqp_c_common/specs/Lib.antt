@@ -1,5 +1,5 @@
 pub mod ReturnCodes
 pub mod Reading
-pub mod Rooms
+pub mod Buffers
 pub mod Scalars
 pub mod Spans

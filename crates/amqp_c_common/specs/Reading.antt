@@ -2,7 +2,7 @@
 use Rattle.std.specs.Prelude.{ℕ, ◌<◌, ◌≤◌, List}
 use Rattle.amqp_value_core.specs.Outcomes.{more, unknown, malformed}
 use Rattle.amq_protocol_types.specs.declared.parsing.limits.Limits.{Limits}
-use Rattle.amq_protocol_types.specs.parsing.Headers.{extent, IsWhole}
+use Rattle.amq_protocol_types.specs.parsing.Headers.{extent, IsWholeValue}
 use Rattle.amq_protocol_types.specs.parsing.Limits.{Within}
 use Rattle.amqp_c_common.specs.declared.fault.Fault.{Fault}
 use Rattle.amqp_c_common.specs.declared.fault.Fault.TheVariants.{More, UnknownTag, Malformed, TooLarge, OutOfMemory}
@@ -18,5 +18,5 @@ IsReadFault l s (More n) = Within l s (more n)
 IsReadFault l s UnknownTag = Within l s unknown
 IsReadFault l s Malformed = Within l s malformed
 IsReadFault l s TooLarge = l.frame < extent s
-IsReadFault l s OutOfMemory = (extent s ≤ l.frame) × IsWhole s
+IsReadFault l s OutOfMemory = (extent s ≤ l.frame) × IsWholeValue s
 IsReadFault l s _ = ⊥

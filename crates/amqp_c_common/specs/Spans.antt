@@ -7,16 +7,16 @@ abbrev pub part : List ℕ → Span → List ℕ
 part s p = take p.length (drop p.offset s)
 
 -- the span is inside n bytes
-abbrev pub SpanLies : ℕ → Span → Type 0
-SpanLies n p = p.offset + p.length ≤ n
+abbrev pub SpanIsIn : ℕ → Span → Type 0
+SpanIsIn n p = p.offset + p.length ≤ n
 
--- the same bytes, if n more are before them
+-- the span of p's bytes, if n more are before them
 abbrev pub moved : ℕ → Span → Span
 moved n p = record { offset = p.offset + n; length = p.length }
 
 -- the bytes of p after those of q
-abbrev pub behind : Span → Span → Span
-behind p q = record { offset = q.offset + q.length; length = p.offset + p.length - (q.offset + q.length) }
+abbrev pub rest_after : Span → Span → Span
+rest_after p q = record { offset = q.offset + q.length; length = p.offset + p.length - (q.offset + q.length) }
 
 -- the last n bytes of p
 abbrev pub last : Span → ℕ → Span

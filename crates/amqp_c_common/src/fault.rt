@@ -20,8 +20,8 @@ pub enum Fault {
     Invalid,
     /// An allocation failed.
     OutOfMemory,
-    /// What is to be written has that many bytes, more than the buffer.
-    NoRoom(usize),
+    /// What is to be written has that many bytes, more than the buffer has left.
+    BufferTooSmall(usize),
     /// What should be a JSON text is no JSON, or the JSON of no value.
     NotJson,
     /// The value has no encoding.
@@ -46,7 +46,7 @@ impl Fault {
             Fault::TooLarge => -4,
             Fault::Invalid => -5,
             Fault::OutOfMemory => -6,
-            Fault::NoRoom(_) => -7,
+            Fault::BufferTooSmall(_) => -7,
             Fault::NotJson => -8,
             Fault::NoEncoding => -9,
             Fault::BadKey => -10,

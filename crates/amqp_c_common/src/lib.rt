@@ -2,12 +2,12 @@
 //! buffer.
 #![tactic(auto)]
 
+mod buffer;
 mod fault;
 mod returns;
-mod room;
 mod span;
 
+pub use buffer::put;
 pub use fault::Fault;
 pub use returns::return_count;
-pub use room::put;
 pub use span::Span;

@@ -1,7 +1,7 @@
 //! The numbers that are returned.
 
 ghost use Rattle.std.specs.Prelude.{◌≡◌};
-ghost use Rattle.amqp_c_common.specs.ReturnCodes.{answer_of, count_of};
+ghost use Rattle.amqp_c_common.specs.ReturnCodes.{return_code_of, count_of};
 
 use crate::fault::Fault;
 
@@ -12,7 +12,7 @@ const OK: i32 = 0;
 /// number that denotes what was done.
 #[inline]
 pub fn return_count(done: Result<usize, Fault>, count: &mut usize) -> i32
-    ensures answer { result ≡ answer_of done }
+    ensures returned { result ≡ return_code_of done }
     ensures count { count.new ≡ count_of done }
 {
     match done {
@@ -22,7 +22,7 @@ pub fn return_count(done: Result<usize, Fault>, count: &mut usize) -> i32
         }
         Err(fault) => {
             *count = match fault {
-                Fault::More(needed) | Fault::NoRoom(needed) => needed,
+                Fault::More(needed) | Fault::BufferTooSmall(needed) => needed,
                 _ => 0,
             };
             fault.code()

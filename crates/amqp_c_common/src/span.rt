@@ -1,7 +1,7 @@
 //! Bytes by position.
 
 ghost use Rattle.std.specs.Prelude.{◌≡◌, ◌+◌, ◌<◌, ◌≤◌, ◌^◌, length, MatchOption};
-ghost use Rattle.amqp_c_common.specs.Spans.{part, SpanLies, moved, behind, last};
+ghost use Rattle.amqp_c_common.specs.Spans.{part, SpanIsIn, moved, rest_after, last};
 
 /// Bytes, by how many are before them and how many there are.
 #[repr(C)]
@@ -24,8 +24,8 @@ impl Span {
     #[inline]
     pub fn of(self, bytes: &[u8]) -> Option<&[u8]>
         ensures { MatchOption result
-            (SpanLies (length bytes.now) self → ⊥)
-            (λ found. SpanLies (length bytes.now) self × (found.now ≡ part bytes.now self)) }
+            (SpanIsIn (length bytes.now) self → ⊥)
+            (λ found. SpanIsIn (length bytes.now) self × (found.now ≡ part bytes.now self)) }
     {
         if self.offset > bytes.len() || self.length > bytes.len() - self.offset {
             return None;
@@ -37,8 +37,8 @@ impl Span {
     #[inline]
     pub fn end_in(self, count: usize) -> Option<usize>
         ensures { MatchOption result
-            (SpanLies count self → ⊥)
-            (λ end. SpanLies count self × (end ≡ self.offset + self.length)) }
+            (SpanIsIn count self → ⊥)
+            (λ end. SpanIsIn count self × (end ≡ self.offset + self.length)) }
     {
         if self.offset > count || self.length > count - self.offset {
             return None;
@@ -60,10 +60,10 @@ impl Span {
 
     /// What is after a part of the span, in the span.
     #[inline]
-    pub fn behind(self, part: Span) -> Span
+    pub fn rest_after(self, part: Span) -> Span
         requires part { part.offset + part.length ≤ self.offset + self.length }
         requires fits { self.offset + self.length < 2 ^ 64 }
-        ensures { result ≡ behind self part }
+        ensures { result ≡ rest_after self part }
     {
         let offset = part.offset + part.length;
         Span {

@@ -1,12 +1,12 @@
 use Rattle.std.proofs.Common.{Option, Result, length, drop}
 use Rattle.amqp_c.specs.declared.entry.Entry.{Entry}
 use Rattle.amqp_c_common.specs.declared.fault.Fault.{Fault}
-use Rattle.amqp_c.specs.Paths.{IsInside, Follows}
+use Rattle.amqp_c.specs.Paths.{IsInside, StepsLead}
 use Rattle.amqp_c.proofs.path.find_path.Given as goal
 
 -- what the steps that are left lead to from the entry, all lead to from the first
 abbrev pub invariant-loop-step : goal.invariant-loop-step
 invariant-loop-step l = record {
-  on : (done : Result (Option Entry) Fault) → Follows l.bytes l.equal (drop l.step-index l.steps) l.at done → Follows l.bytes l.equal l.steps l.from done;
+  on : (done : Result (Option Entry) Fault) → StepsLead l.bytes l.equal (drop l.step-index l.steps) l.at done → StepsLead l.bytes l.equal l.steps l.from done;
   inside : IsInside (length l.bytes) l.at;
 }

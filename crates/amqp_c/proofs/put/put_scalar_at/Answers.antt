@@ -1,8 +1,7 @@
 use Rattle.std.proofs.Common.{◌∷◌, take, ◌∙◌}
-use Rattle.amqp_value_core.specs.Values.{Scalar, scalar}
-use Rattle.amqp_c.specs.BuiltEntries.{Tells, IsScalarTag, IsTold}
-use Rattle.amqp_c.specs.Faults.{NoOther}
-use Rattle.amqp_c.proofs.Putting.{put_of, told}
+use Rattle.amqp_value_core.specs.Values.{scalar}
+use Rattle.amqp_c.specs.Items.{fixed_width}
+use Rattle.amqp_c.proofs.Putting.{put_of, reported}
 use Rattle.amqp_c.proofs.put.put_scalar_at.Goals as goal
 
 pub returns-clause-put : goal.returns-clause-put
@@ -12,6 +11,5 @@ returns-clause-put c =
     let scale = c.args.scale in
     let x = c.in_ok-encoding.ensures in
     let bytes = c.parts-tag.result.0 ∷ take c.parts-tag.result.2 c.parts-tag.result.1 in
-    let is = told tag bits scale bytes x.0 x.1 (c.parts-tag.ensures.parts ∙ x.2) in
-    put_of (IsScalarTag tag) ((y : Scalar) × Tells tag bits scale y) (IsTold tag bits scale) NoOther
-    c.args.room.now c.append.new.room c.args.key.now bytes c.args.into (scalar x.0) c.append.result c.requires.place is.0 is.1 c.append.ensures.appended
+    let is = reported tag bits scale bytes x.0 x.1 (c.parts-tag.ensures.parts ∙ x.2) in
+    put_of (fixed_width tag bits scale) c.args.buffer.now c.append.new.buffer c.args.key.now bytes c.args.into (scalar x.0) c.append.result c.requires.place is.0 is.1 c.append.ensures.appended

@@ -1,7 +1,6 @@
 use Rattle.std.proofs.Common.{◌-◌, length, take, refl}
-use Rattle.amqp_c.specs.BuiltEntries.{IsFront}
-use Rattle.amqp_c.specs.Faults.{IsReadFaultInPlace}
-use Rattle.amqp_c.proofs.Putting.{put_of, front}
+use Rattle.amqp_c.specs.Items.{first_encoding}
+use Rattle.amqp_c.proofs.Putting.{put_of, prefix}
 use Rattle.amqp_c.proofs.put.put_value.Goals as goal
 
 pub returns-clause-put : goal.returns-clause-put
@@ -11,6 +10,6 @@ returns-clause-put c =
     let rest = c.in_ok-rest.rest.now in
     let x = c.in_ok-rest.ensures.within in
     let w = take (length s - length rest) s in
-    let is = front l s rest w x.0 x.2 refl in
-    put_of (Unit {0}) (Unit {0}) (IsFront l s) (IsReadFaultInPlace l s) c.args.room.now c.append.new.room c.args.key.now w c.args.into x.0 c.append.result
+    let is = prefix l s rest w x.0 x.2 refl in
+    put_of (first_encoding l s) c.args.buffer.now c.append.new.buffer c.args.key.now w c.args.into x.0 c.append.result
     c.in_ok-at.ensures.0 is.0 is.1 c.append.ensures.appended

@@ -1,7 +1,7 @@
 use Rattle.std.proofs.Common.{List, ℕ, sym, subst}
 use Rattle.amqp_value_core.specs.Outcomes.{Outcome, found}
-use Rattle.amqp_value_core.proofs.GrammarLaws.{front_within, wire_found}
-use Rattle.amqp_c.proofs.Fronts.{value_taken}
+use Rattle.amqp_value_core.proofs.GrammarLaws.{prefix_within, wire_found}
+use Rattle.amqp_c.proofs.Prefixes.{value_taken}
 use Rattle.amqp_c.proofs.read.read.Goals as goal
 
 pub returns : goal.returns
@@ -9,6 +9,6 @@ returns c =
     let x = c.in_ok-read_in_place.ensures.within in
     let s = c.args.bytes.now in
     let rest = c.in_ok-read_in_place.field-0.1.now in
-    let f = front_within c.args.limits.depth s rest x.0 x.2.1 in
+    let f = prefix_within c.args.limits.depth s rest x.0 x.2.1 in
     value_taken c.args.limits s rest x.0 c.first.result x.2
-    (c.first.ensures.told x.0 rest (subst (λ (t : List ℕ). Outcome t (found x.0 rest)) (sym f.2) (wire_found f.0 rest x.0 f.1.0)))
+    (c.first.ensures.reported x.0 rest (subst (λ (t : List ℕ). Outcome t (found x.0 rest)) (sym f.2) (wire_found f.0 rest x.0 f.1.0)))

@@ -2,13 +2,13 @@ use Rattle.std.proofs.Common.{◌≡◌, ◌<◌, ◌≤◌, ℕ, List, length, 
 use Rattle.std.proofs.lemmas.Grind.{common_steps}
 use Rattle.amq_protocol_types.specs.parsing.Headers.{extent}
 use Rattle.amqp_c_common.specs.declared.span.Span.{Span}
-use Rattle.amqp_c_common.specs.Spans.{part, SpanLies}
+use Rattle.amqp_c_common.specs.Spans.{part, SpanIsIn}
 use Rattle.amqp_c.specs.Steps.{StandsKeyed, EndsIn, GivesLast}
 use Rattle.amqp_c.specs.FirstPairs.{HasFirst}
 use Rattle.amqp_c.proofs.Parts.{part_length, part_last}
 use Rattle.amqp_c.proofs.Stepping.{one_key}
-use Rattle.amqp_c.proofs.Finding.{value_stands, value_headed, left_behind, pair_behind}
-use Rattle.amqp_c.proofs.FirstFinding.{first_split, first_behind, first_before, first_here, first_is, first_none, none_first, first_keyed, differ, named_first, looked_up_first}
+use Rattle.amqp_c.proofs.Finding.{value_stands, value_headed, left_after, pair_after}
+use Rattle.amqp_c.proofs.FirstFinding.{first_split, first_after, first_before, first_here, first_is, first_none, none_first, first_keyed, differ, named_first, looked_up_first}
 use Rattle.amqp_c.proofs.cursor.Cursor.find_first.Goals as goal
 
 -- ---- no pair has the key
@@ -35,21 +35,21 @@ returns-in-Some-first_pair c =
     let p = c.last.result in
     let e = c.in-Some-first_pair.entry in
     let is = c.in-Some-first_pair.ensures in
-    let in_all : SpanLies (length s) c.args.self.left = c.in-Some.ensures.0.0 in
+    let in_all : SpanIsIn (length s) c.args.self.left = c.in-Some.ensures.0.0 in
     let few : length left ≤ c.args.self.left.length = omega (arith, i.fewer, part_length s c.args.self.left in_all) in
-    let in_s : SpanLies (length s) p = subst (SpanLies (length s)) (sym c.last.ensures) (omega (arith, few, in_all)) in
+    let in_s : SpanIsIn (length s) p = subst (SpanIsIn (length s)) (sym c.last.ensures) (omega (arith, few, in_all)) in
     let begins = named_first key left x.name.now value c.eq.result x.ensures.0 c.eq.ensures c.if-eq.true in
-    let there : part s p ≡ left = ap (part s) c.last.ensures ∙ (part_last s c.args.self.left (length left) in_all few ∙ sym i.behind) in
-    let whole = value_headed s p e key value in_s is.lies.0 is.stands is.lies.1 (there ∙ begins) in
+    let there : part s p ≡ left = ap (part s) c.last.ensures ∙ (part_last s c.args.self.left (length left) in_all few ∙ sym i.later) in
+    let whole = value_headed s p e key value in_s is.inside.0 is.stands is.inside.1 (there ∙ begins) in
     looked_up_first s c.args.self key _
     (λ w first. subst (λ (o : Option (List ℕ)). GivesLast s o (Ok (Some e))) (sym (first_is key left value w begins (i.to w first)))
-    (value_stands s p e key value in_s is.lies.0 is.stands is.lies.1 (there ∙ begins)))
+    (value_stands s p e key value in_s is.inside.0 is.stands is.inside.1 (there ∙ begins)))
     record {
       keyed = one_key (part s e.key) key (part s p) is.stands.2 (value, there ∙ begins);
       typed = is.typed;
-      told = is.faithful;
-      stands = (length left, few, subst (λ (q : Span). StandsKeyed s q e) c.last.ensures is.stands, subst (λ (q : Span). EndsIn q e) c.last.ensures is.lies.1);
-      lies = is.lies.0;
+      reported = is.faithful;
+      stands = (length left, few, subst (λ (q : Span). StandsKeyed s q e) c.last.ensures is.stands, subst (λ (q : Span). EndsIn q e) c.last.ensures is.inside.1);
+      inside = is.inside.0;
     } (c.in-Some.ensures.0, Some (take (extent value) value), i.from _ (first_here key left value begins whole)) tt
 
 -- whose value isn't all there
@@ -60,10 +60,10 @@ returns-in-None c =
     let left = c.pairs.left.now in
     let i = c.pairs.invariant in
     let x = c.in-Some-split_key in
-    let in_all : SpanLies (length s) c.args.self.left = c.in-Some.ensures.0.0 in
+    let in_all : SpanIsIn (length s) c.args.self.left = c.in-Some.ensures.0.0 in
     let few : length left ≤ c.args.self.left.length = omega (arith, i.fewer, part_length s c.args.self.left in_all) in
     let begins = named_first key left x.name.now x.value.now c.eq.result x.ensures.0 c.eq.ensures c.if-eq.true in
-    let there : part s c.last.result ≡ left = ap (part s) c.last.ensures ∙ (part_last s c.args.self.left (length left) in_all few ∙ sym i.behind) in
+    let there : part s c.last.result ≡ left = ap (part s) c.last.ensures ∙ (part_last s c.args.self.left (length left) in_all few ∙ sym i.later) in
     let bad : (w : Option (List ℕ)) → HasFirst key (part s c.args.self.left) w → ⊥ =
     λ w first. c.in-None.ensures.cut key x.value.now (there ∙ begins) (first_split key left key x.value.now w begins (i.to w first)).whole in
     looked_up_first s c.args.self key _ (λ w first. absurd (bad w first)) tt tt (c.in-Some.ensures.0, bad)
@@ -79,13 +79,13 @@ returns-in_default-split_key c =
     λ w first. first_keyed key left w c.in_default-split_key.ensures some (c.pairs.invariant.to w first) in
     looked_up_first c.args.bytes.now c.args.self key _ (λ w first. absurd (bad w first)) tt tt (c.in-Some.ensures.0, bad)
 
-pub returns-in_default-behind_value : goal.returns-in_default-behind_value
-returns-in_default-behind_value c =
+pub returns-in_default-after_value : goal.returns-in_default-after_value
+returns-in_default-after_value c =
     let key = c.args.key.now in
     let left = c.pairs.left.now in
     let x = c.in-Some-split_key in
     let bad : (w : Option (List ℕ)) → HasFirst key (part c.args.bytes.now c.args.self.left) w → ⊥ =
-    λ w first. c.in_default-behind_value.ensures (first_split key left x.name.now x.value.now w x.ensures.0 (c.pairs.invariant.to w first)).whole in
+    λ w first. c.in_default-after_value.ensures (first_split key left x.name.now x.value.now w x.ensures.0 (c.pairs.invariant.to w first)).whole in
     looked_up_first c.args.bytes.now c.args.self key _ (λ w first. absurd (bad w first)) tt tt (c.in-Some.ensures.0, bad)
 
 -- ---- one pair more
@@ -96,13 +96,13 @@ pairs-preserved c =
     let left = c.pairs.left.now in
     let i = c.pairs.invariant in
     let x = c.in-Some-split_key in
-    let rest = c.in-Some-behind_value.behind in
-    let is = c.in-Some-behind_value.ensures in
+    let rest = c.in-Some-after_value.later in
+    let is = c.in-Some-after_value.ensures in
     let other = differ key x.name.now (sym c.eq.ensures ∙ c.if-eq.false) in
-    let after = pair_behind left x.name.now x.value.now rest.now x.ensures.0 is.0 is.1.1 in
-    let next = left_behind (part c.args.bytes.now c.args.self.left) left rest.now i.behind i.fewer after in record {
-      behind = next.0;
+    let after = pair_after left x.name.now x.value.now rest.now x.ensures.0 is.0 is.1.1 in
+    let next = left_after (part c.args.bytes.now c.args.self.left) left rest.now i.later i.fewer after in record {
+      later = next.0;
       fewer = next.1;
-      to = λ w first. first_behind key left x.name.now x.value.now rest.now w x.ensures.0 other is.0 (i.to w first);
+      to = λ w first. first_after key left x.name.now x.value.now rest.now w x.ensures.0 other is.0 (i.to w first);
       from = λ w first. i.from w (first_before key left x.name.now x.value.now rest.now w x.ensures.0 other is.1 is.0 first);
     }

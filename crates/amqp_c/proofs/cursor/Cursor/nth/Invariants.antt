@@ -6,7 +6,7 @@ use Rattle.amqp_c.proofs.cursor.Cursor.nth.Given as goal
 -- the value at the index is the one that `before` others are before in what is left
 abbrev pub invariant-values : goal.invariant-values
 invariant-values l = record {
-  behind : l.left ≡ drop (length (part l.bytes l.self.left) - length l.left) (part l.bytes l.self.left);
+  later : l.left ≡ drop (length (part l.bytes l.self.left) - length l.left) (part l.bytes l.self.left);
   fewer : length l.left ≤ length (part l.bytes l.self.left);
   to : (w : Option (List ℕ)) → HasNth l.index (part l.bytes l.self.left) w → HasNth l.before l.left w;
   from : (w : Option (List ℕ)) → HasNth l.before l.left w → HasNth l.index (part l.bytes l.self.left) w;

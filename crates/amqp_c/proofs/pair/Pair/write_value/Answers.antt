@@ -7,11 +7,11 @@ returns-then-is_string_tag-clause-written c =
     let p = c.args.self.now in
     let is = c.if-is_string_tag.ensures in
     let fits = string_fits p is c.requires.given in
-    string_written p c.args.at c.head_of.result c.args.room.now c.write.new.room c.write_bytes.new.room is fits c.head_of.ensures c.write.ensures c.write_bytes.ensures c.requires.fits
+    string_written p c.args.at c.head_of.result c.args.buffer.now c.write.new.buffer c.write_bytes.new.buffer is fits c.head_of.ensures c.write.ensures c.write_bytes.ensures c.requires.fits
 
 pub returns-clause-written : goal.returns-clause-written
 returns-clause-written c =
     let x = c.in-Ok.ensures in
     let t = c.parts-tag.result in
-    number_written c.args.self.now x.0 c.args.at t.0 (take t.2 t.1) c.args.room.now c.write-2.new.room c.write_few.new.room x.1 (c.parts-tag.ensures.parts ∙ x.2)
+    number_written c.args.self.now x.0 c.args.at t.0 (take t.2 t.1) c.args.buffer.now c.write-2.new.buffer c.write_few.new.buffer x.1 (c.parts-tag.ensures.parts ∙ x.2)
     c.write-2.ensures c.write_few.ensures c.requires.fits

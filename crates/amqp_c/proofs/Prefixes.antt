@@ -10,46 +10,43 @@ use Rattle.amqp_value_core.specs.Names.{read_as}
 use Rattle.amqp_value_core.specs.Values.{Tree, scalar, short, long, octets, array, table, no_entries, insert_all, scalar_type, Scalar, type_of}
 use Rattle.amqp_value_core.specs.Layouts.{Layout, fixed}
 use Rattle.amqp_value_core.specs.Grammar.{long_field, Wire, wire, Raw, raw_fixed, raw_short, raw_long, raw_octets, raw_array, raw_table, ArrayBody}
-use Rattle.amqp_value_core.specs.Outcomes.{Reading, found, more, unknown, malformed, lack, lack_of, frame_lack, fields_lack, length_field, NeedsMoreOr, FrontBy, Outcome}
-use Rattle.amqp_value_core.specs.Payloads.{RawFront, RawOutcome}
-use Rattle.amqp_value_core.proofs.GrammarLaws.{found_front, one_outcome, one_raw_reading, raw_to_value, value_to_raw, array_body, table_body}
+use Rattle.amqp_value_core.specs.Outcomes.{Reading, found, more, unknown, malformed, lack, lack_of, frame_lack, fields_lack, length_field, NeedsMoreOr, PrefixBy, Outcome}
+use Rattle.amqp_value_core.specs.Payloads.{RawPrefix, RawOutcome}
+use Rattle.amqp_value_core.proofs.GrammarLaws.{found_prefix, length-wire, raw_prefix, one_outcome, one_raw_reading, raw_to_value, value_to_raw, array_body, table_body}
 use Rattle.amq_protocol_types.specs.declared.parsing.errors.Err.TheVariants.{Incomplete, Error, Failure}
 use Rattle.amq_protocol_types.specs.declared.parsing.errors.Needed.TheVariants.{Unknown, Size}
 use Rattle.amq_protocol_types.specs.declared.parsing.errors.ErrorKind.TheVariants as kind
 use Rattle.amq_protocol_types.specs.parsing.Refusals.{Refusal}
 use Rattle.amq_protocol_types.specs.parsing.PayloadResults.{IsType}
 use Rattle.amq_protocol_types.specs.parsing.Bodies.{IsLengthPrefixed, IsCutLengthPrefixed}
-use Rattle.amq_protocol_types.specs.parsing.ParseResults.{Refuses}
+use Rattle.amq_protocol_types.specs.parsing.ParseResults.{IsRefusal}
 use Rattle.amq_protocol_types.specs.parsing.Headers.{extent_of, extent_at, extent, wanted}
 use Rattle.amq_protocol_types.proofs.ParsingLaws.{wire_extent, wanted_more, wanted_within}
 use Rattle.amqp_in_place.specs.Bodies.{HasEntries}
 use Rattle.amqp_c.specs.declared.entry.Entry.{Entry}
 use Rattle.amqp_c_common.specs.declared.fault.Fault.{Fault}
-use Rattle.amqp_c_common.specs.declared.fault.Fault.TheVariants.{More, UnknownTag, Malformed, TooLarge, Invalid, OutOfMemory, NoRoom, NotJson, NoEncoding, BadKey, BadTag, OutOfRange}
+use Rattle.amqp_c_common.specs.declared.fault.Fault.TheVariants.{More, UnknownTag, Malformed, TooLarge, Invalid, OutOfMemory, BufferTooSmall, NotJson, NoEncoding, BadKey, BadTag, OutOfRange}
 use Rattle.amqp_c_common.specs.ReturnCodes.{fault_of}
 use Rattle.amqp_c.specs.CallResults.{HeaderFaults, GivesFirst, IsValueTaken, FaultsWithin}
 use Rattle.amq_protocol_types.specs.declared.parsing.limits.Limits.{Limits}
 use Rattle.amq_protocol_types.specs.parsing.Limits.{Within}
-use Rattle.amqp_c.specs.Entries.{HasNoNumber, Says, IsEntry, HoldsContent, IsTagged}
+use Rattle.amqp_c.specs.Entries.{HasNoNumber, DescribesValue, IsEntry, HoldsContent, IsTagged}
 use Rattle.amqp_c.specs.Heads.{has_content}
 use Rattle.amqp_c.specs.Steps.{IsHeaded}
 use Rattle.amqp_c_common.specs.Scalars.{bits_in, scale_in}
 use Rattle.amqp_c_common.specs.Spans.{part}
-use Rattle.amqp_c.proofs.Parts.{part_front, part_content}
-
-pub length-wire : (w : List ℕ) (v : Tree) → Wire w v → 0 < length w
-length-wire _ _ (wire c type b v k p) = omega arith
+use Rattle.amqp_c.proofs.Parts.{part_prefix, part_content}
 
 -- a value that is found has at least one byte
 pub found_shorter : (s rest : List ℕ) (v : Tree) → Outcome s (found v rest) → length rest < length s
 found_shorter s rest v x =
-    let f = found_front s rest v x in
+    let f = found_prefix s rest v x in
     omega (arith, ap length f.2, length-append f.0 rest, length-wire f.0 v f.1)
 
 -- its bytes are an encoding
 pub found_wire : (s rest : List ℕ) (v : Tree) (n : ℕ) → Outcome s (found v rest) → n + length rest ≡ length s → Wire (take n s) v
 found_wire s rest v n x e =
-    let f = found_front s rest v x in
+    let f = found_prefix s rest v x in
     let size : length f.0 ≡ n = omega (arith, ap length f.2, length-append f.0 rest) in
     subst (λ (w : List ℕ). Wire w v) (sym (ap (take n) f.2 ∙ take_at f.0 rest n size)) f.1
 
@@ -69,7 +66,7 @@ never_faulty s rest v Malformed x y = y
 never_faulty s rest v TooLarge x y = y
 never_faulty s rest v Invalid x y = y
 never_faulty s rest v OutOfMemory x y = y
-never_faulty s rest v (NoRoom n) x y = y
+never_faulty s rest v (BufferTooSmall n) x y = y
 never_faulty s rest v NotJson x y = y
 never_faulty s rest v NoEncoding x y = y
 never_faulty s rest v BadKey x y = y
@@ -81,11 +78,11 @@ some_lack : (s : List ℕ) (n : ℕ) → Outcome s (more n) → 0 < n
 some_lack [] n x = let e : n ≡ 1 = cc in omega (arith, e)
 some_lack (c ∷ b) n x = by (kind c) x
   where
-    at : (m : ℕ) → NeedsMoreOr m (FrontBy Wire (c ∷ b) (more n)) (more n) → 0 < n
+    at : (m : ℕ) → NeedsMoreOr m (PrefixBy Wire (c ∷ b) (more n)) (more n) → 0 < n
     at zero none = absurd none
     at (suc m) is = let e : n ≡ suc m = cc in omega (arith, e)
 
-    by : (k : Option AMQPType) → MatchOption k (more n ≡ unknown) (λ type. NeedsMoreOr (lack type b) (FrontBy Wire (c ∷ b) (more n)) (more n)) → 0 < n
+    by : (k : Option AMQPType) → MatchOption k (more n ≡ unknown) (λ type. NeedsMoreOr (lack type b) (PrefixBy Wire (c ∷ b) (more n)) (more n)) → 0 < n
     by None is = absurd cc
     by (Some type) y = at (lack type b) y
 
@@ -93,11 +90,11 @@ some_lack (c ∷ b) n x = by (kind c) x
 no_extent : (c : ℕ) (b : List ℕ) → Outcome (c ∷ b) unknown → extent (c ∷ b) ≡ 0
 no_extent c b x = by (kind c) x
   where
-    at : (m : ℕ) → NeedsMoreOr m (FrontBy Wire (c ∷ b) unknown) unknown → ⊥
+    at : (m : ℕ) → NeedsMoreOr m (PrefixBy Wire (c ∷ b) unknown) unknown → ⊥
     at zero none = none
     at (suc m) is = cc
 
-    by : (k : Option AMQPType) → MatchOption k (unknown ≡ unknown) (λ type. NeedsMoreOr (lack type b) (FrontBy Wire (c ∷ b) unknown) unknown) → extent_at k b ≡ 0
+    by : (k : Option AMQPType) → MatchOption k (unknown ≡ unknown) (λ type. NeedsMoreOr (lack type b) (PrefixBy Wire (c ∷ b) unknown) unknown) → extent_at k b ≡ 0
     by None is = refl
     by (Some type) y = absurd (at (lack type b) y)
 
@@ -113,7 +110,7 @@ cut_header (c ∷ b) Malformed x h = x
 cut_header (c ∷ b) TooLarge x h = x
 cut_header (c ∷ b) Invalid x h = x
 cut_header (c ∷ b) OutOfMemory x h = x
-cut_header (c ∷ b) (NoRoom n) x h = x
+cut_header (c ∷ b) (BufferTooSmall n) x h = x
 cut_header (c ∷ b) NotJson x h = x
 cut_header (c ∷ b) NoEncoding x h = x
 cut_header (c ∷ b) BadKey x h = x
@@ -134,11 +131,11 @@ cut : (s mid : List ℕ) (type : AMQPType) → IsType s type mid → has_content
 cut s mid type p h o x =
     subst (λ (t : List ℕ). Outcome t o) (sym p.1) (raw_to_value p.0 type mid o p.2 (by (lack type mid) (has_frame type mid h)))
   where
-    by : (k : ℕ) → k ≡ frame_lack w32 mid → NeedsMoreOr k (RawFront type mid o) o
+    by : (k : ℕ) → k ≡ frame_lack w32 mid → NeedsMoreOr k (RawPrefix type mid o) o
     by zero e = absurd (omega (arith, x.0))
     by (suc k) e = x.1 ∙ ap more (sym e)
 
-pub cut_fault : (s mid : List ℕ) (type : AMQPType) → IsType s type mid → has_content type ≡ true → (e : Refusal) → Refuses (IsCutLengthPrefixed mid) ⊥ e → HeaderFaults (Outcome s) (fault_of e)
+pub cut_fault : (s mid : List ℕ) (type : AMQPType) → IsType s type mid → has_content type ≡ true → (e : Refusal) → IsRefusal (IsCutLengthPrefixed mid) ⊥ e → HeaderFaults (Outcome s) (fault_of e)
 cut_fault s mid type p h (Incomplete Unknown) x = absurd x
 cut_fault s mid type p h (Incomplete (Size n)) x = cut s mid type p h (more n) x
 cut_fault s mid type p h (Error kind.MapOpt) x = let e = x.1 in absurd cc
@@ -173,26 +170,26 @@ ContentIs body (array vs) = ArrayBody body vs
 ContentIs body (table es) = HasEntries body es
 ContentIs body _ = ⊥
 
-content_front : (type : AMQPType) (mid body rest : List ℕ) → IsLengthPrefixed mid body rest → has_content type ≡ true → (v : Tree) (left : List ℕ) → RawFront type mid (found v left)
+content_at_start : (type : AMQPType) (mid body rest : List ℕ) → IsLengthPrefixed mid body rest → has_content type ≡ true → (v : Tree) (left : List ℕ) → RawPrefix type mid (found v left)
     → ContentIs body v × (type_of v ≡ type) × (left ≡ rest)
-content_front amqp.LongString mid body rest f h v left raw =
+content_at_start amqp.LongString mid body rest f h v left raw =
     let same = one_raw_reading amqp.LongString raw.0 (long_field body) left rest v (long body) raw.1 (raw_long body f.fits) (sym raw.2 ∙ f.framed) in
     (subst (ContentIs body) (sym same.1) refl, ap type_of same.1, same.2)
-content_front amqp.ByteArray mid body rest f h v left raw =
+content_at_start amqp.ByteArray mid body rest f h v left raw =
     let same = one_raw_reading amqp.ByteArray raw.0 (long_field body) left rest v (octets body) raw.1 (raw_octets body f.fits) (sym raw.2 ∙ f.framed) in
     (subst (ContentIs body) (sym same.1) refl, ap type_of same.1, same.2)
-content_front amqp.FieldArray mid body rest f h v left raw =
+content_at_start amqp.FieldArray mid body rest f h v left raw =
     let b = array_body body rest raw.0 left v f.fits raw.1 (sym f.framed ∙ raw.2) in
     let same = one_raw_reading amqp.FieldArray raw.0 (long_field body) left rest v (array b.0) raw.1 (raw_array body b.0 f.fits b.1) (sym raw.2 ∙ f.framed) in
     (subst (ContentIs body) (sym same.1) b.1, ap type_of same.1, same.2)
-content_front amqp.FieldTable mid body rest f h v left raw =
+content_at_start amqp.FieldTable mid body rest f h v left raw =
     let b = table_body body rest raw.0 left v f.fits raw.1 (sym f.framed ∙ raw.2) in
     let es = insert_all no_entries b.0 in
     let same = one_raw_reading amqp.FieldTable raw.0 (long_field body) left rest v (table es) raw.1 (raw_table body b.0 f.fits b.1) (sym raw.2 ∙ f.framed) in
     (subst (ContentIs body) (sym same.1) (b.0, b.1, refl), ap type_of same.1, same.2)
-content_front _ mid body rest f h v left raw = absurd cc
+content_at_start _ mid body rest f h v left raw = absurd cc
 
-says_content : (s : List ℕ) (e : Entry) (body : List ℕ) (v : Tree) → HasNoNumber e → part s e.content ≡ body → ContentIs body v → Says s e v
+says_content : (s : List ℕ) (e : Entry) (body : List ℕ) (v : Tree) → HasNoNumber e → part s e.content ≡ body → ContentIs body v → DescribesValue s e v
 says_content s e body (scalar y) none at x = absurd x
 says_content s e body (short b) none at x = x
 says_content s e body (long b) none at x = (at ∙ sym x, none)
@@ -201,23 +198,19 @@ says_content s e body (array vs) none at x = (subst (λ (t : List ℕ). ArrayBod
 says_content s e body (table es) none at x = (subst (λ (t : List ℕ). HasEntries t es) (sym at) x, none)
 
 -- what is found of a value is its payload, of the type that was read
-raw_front : (s mid : List ℕ) (type : AMQPType) → IsType s type mid → (v : Tree) (left : List ℕ) → Outcome s (found v left) → RawFront type mid (found v left)
-raw_front s mid type p v left x =
-    by (lack type mid) (value_to_raw p.0 type mid (found v left) p.2 (subst (λ (t : List ℕ). Outcome t (found v left)) p.1 x))
-  where
-    by : (n : ℕ) → NeedsMoreOr n (RawFront type mid (found v left)) (found v left) → RawFront type mid (found v left)
-    by zero f = f
-    by (suc n) f = absurd cc
+payload_at_start : (s mid : List ℕ) (type : AMQPType) → IsType s type mid → (v : Tree) (left : List ℕ) → Outcome s (found v left) → RawPrefix type mid (found v left)
+payload_at_start s mid type p v left x =
+    raw_prefix (Raw type) (lack type mid) mid left v (value_to_raw p.0 type mid (found v left) p.2 (subst (λ (t : List ℕ). Outcome t (found v left)) p.1 x))
 
 -- the entry of a value whose field was read
 pub content_entry : (s mid body rest : List ℕ) (type : AMQPType) → IsType s type mid → IsLengthPrefixed mid body rest → has_content type ≡ true
     → (e : Entry) → e.value.offset ≡ 0 → e.value.length + length rest ≡ length s → e.content.offset ≡ 5 → e.content.length ≡ length body → e.tag ≡ id_of type → HasNoNumber e
     → (v : Tree) (left : List ℕ) → Outcome s (found v left) → IsEntry s e v × (left ≡ rest)
 content_entry s mid body rest type p f h e at size from count tag none v left x =
-    let c = content_front type mid body rest f h v left (raw_front s mid type p v left x) in
+    let c = content_at_start type mid body rest f h v left (payload_at_start s mid type p v left x) in
     let w : Wire (take e.value.length s) v = found_wire s left v e.value.length x (omega (arith, ap length c.2)) in (
       record {
-        encoding = subst (λ (t : List ℕ). Wire t v) (sym (part_front s e.value at)) w;
+        encoding = subst (λ (t : List ℕ). Wire t v) (sym (part_prefix s e.value at)) w;
         tag = tag ∙ ap id_of (sym c.1);
         says = says_content s e body v none (part_content s mid body rest p.0 e.content p.1 f.framed from count) c.0;
       },
@@ -252,18 +245,18 @@ fixed_tag amqp.FieldTable f b is = absurd cc
 fixed_tag _ f b is = sym (ap (λ (o : Option Layout). id_in o b) is)
 
 -- a value of a type that has no bytes after a length is of fixed width
-pub record IsScalar (type : AMQPType) (v : Tree) : Type 0 where
+pub record IsScalarTree (type : AMQPType) (v : Tree) : Type 0 where
   pub it : Scalar
   pub is : v ≡ scalar it
   pub tag : id_of (type_of v) ≡ id_of type
 
-scalar_front : (type : AMQPType) (b : List ℕ) (v : Tree) → has_content type ≡ false → read_as type ≡ Some type → Raw type b v → IsScalar type v
-scalar_front _ _ _ h r (raw_fixed type f b is size) = record { it = f.denotes b; is = refl; tag = fixed_tag type f b is }
-scalar_front _ _ _ h r (raw_short k is) = absurd cc
-scalar_front _ _ _ h r (raw_long k fits) = absurd cc
-scalar_front _ _ _ h r (raw_octets k fits) = absurd cc
-scalar_front _ _ _ h r (raw_array body vs fits p) = absurd cc
-scalar_front _ _ _ h r (raw_table body ps fits p) = absurd cc
+scalar_at_start : (type : AMQPType) (b : List ℕ) (v : Tree) → has_content type ≡ false → read_as type ≡ Some type → Raw type b v → IsScalarTree type v
+scalar_at_start _ _ _ h r (raw_fixed type f b is size) = record { it = f.denotes b; is = refl; tag = fixed_tag type f b is }
+scalar_at_start _ _ _ h r (raw_short k is) = absurd cc
+scalar_at_start _ _ _ h r (raw_long k fits) = absurd cc
+scalar_at_start _ _ _ h r (raw_octets k fits) = absurd cc
+scalar_at_start _ _ _ h r (raw_array body vs fits p) = absurd cc
+scalar_at_start _ _ _ h r (raw_table body ps fits p) = absurd cc
 
 -- so its payload is never malformed
 fixed_layout : (type : AMQPType) → has_content type ≡ false → read_as type ≡ Some type → (f : Layout) × (fixed type ≡ Some f)
@@ -284,7 +277,7 @@ fields_there f b none = by (nat_lt (length b) f.first) refl none
 never_malformed : (mid : List ℕ) (type : AMQPType) → has_content type ≡ false → read_as type ≡ Some type → RawOutcome type mid malformed → ⊥
 never_malformed mid type h r x = by (lack type mid) refl x
   where
-    by : (k : ℕ) → lack type mid ≡ k → NeedsMoreOr k (RawFront type mid malformed) malformed → ⊥
+    by : (k : ℕ) → lack type mid ≡ k → NeedsMoreOr k (RawPrefix type mid malformed) malformed → ⊥
     by zero is f =
         let row = fixed_layout type h r in
         let there = fields_there row.0 mid (sym (ap (λ (o : Option Layout). lack_of o (length_field type) mid) row.1) ∙ is) in
@@ -292,7 +285,7 @@ never_malformed mid type h r x = by (lack type mid) refl x
         f b (drop row.0.width mid) (scalar (row.0.denotes b)) (raw_fixed type row.0 b row.1 (length-take-le row.0.width mid there)) (sym (take-append-drop row.0.width mid))
     by (suc k) is e = cc
 
-pub scalar_fault : (s mid : List ℕ) (type : AMQPType) → IsType s type mid → has_content type ≡ false → read_as type ≡ Some type → (e : Refusal) → Refuses (Outcome s) ⊥ e
+pub scalar_fault : (s mid : List ℕ) (type : AMQPType) → IsType s type mid → has_content type ≡ false → read_as type ≡ Some type → (e : Refusal) → IsRefusal (Outcome s) ⊥ e
     → HeaderFaults (Outcome s) (fault_of e)
 scalar_fault s mid type p h r (Incomplete Unknown) x = absurd x
 scalar_fault s mid type p h r (Incomplete (Size n)) x = x
@@ -307,12 +300,12 @@ scalar_fault s mid type p h r (Failure k) x = absurd x.1
 -- a value that is found has the extent that its header determines
 pub found_extent : (s rest : List ℕ) (v : Tree) → Outcome s (found v rest) → extent s + length rest ≡ length s
 found_extent s rest v x =
-    let f = found_front s rest v x in
+    let f = found_prefix s rest v x in
     omega (arith, ap extent f.2, wire_extent f.0 rest v f.1, ap length f.2, length-append f.0 rest)
 
-says_scalar : (s : List ℕ) (e : Entry) (x : Scalar) (v : Tree) → v ≡ scalar x → e.bits ≡ bits_in v → e.scale ≡ scale_in v → e.content.length ≡ 0 → Says s e v
+says_scalar : (s : List ℕ) (e : Entry) (x : Scalar) (v : Tree) → v ≡ scalar x → e.bits ≡ bits_in v → e.scale ≡ scale_in v → e.content.length ≡ 0 → DescribesValue s e v
 says_scalar s e x v is bits scale none =
-    subst (Says s e) (sym is) (bits ∙ ap bits_in is, scale ∙ ap scale_in is, none)
+    subst (DescribesValue s e) (sym is) (bits ∙ ap bits_in is, scale ∙ ap scale_in is, none)
 
 -- the entry of a value that was read
 pub scalar_entry : (s mid rest : List ℕ) (type : AMQPType) (u : Tree) → IsType s type mid → has_content type ≡ false → read_as type ≡ Some type → Outcome s (found u rest)
@@ -322,11 +315,11 @@ scalar_entry s mid rest type u p h r y e at size none tag bits scale v left x =
     let same = one_outcome s (found v left) (found u rest) x y in
     let one : u ≡ v = cc in
     let after : left ≡ rest = cc in
-    let raw = raw_front s mid type p v left x in
-    let is = scalar_front type raw.0 v h r raw.1 in
+    let raw = payload_at_start s mid type p v left x in
+    let is = scalar_at_start type raw.0 v h r raw.1 in
     let w : Wire (take e.value.length s) v = found_wire s left v e.value.length x (omega (arith, ap length after)) in (
       record {
-        encoding = subst (λ (t : List ℕ). Wire t v) (sym (part_front s e.value at)) w;
+        encoding = subst (λ (t : List ℕ). Wire t v) (sym (part_prefix s e.value at)) w;
         tag = tag ∙ sym is.tag;
         says = says_scalar s e is.it v is.is (bits ∙ ap bits_in one) (scale ∙ ap scale_in one) none;
       },
