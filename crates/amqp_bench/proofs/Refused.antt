@@ -23,4 +23,4 @@ none_came s is = subst (λ s. IsFaultWithin widest s Incomplete) (sym is) (1, (o
 
 -- a canonical encoding at the start has no more bytes than there are
 pub canonical_is_within : (l : Limits) (s : List ℕ) (n : ℕ) → IsCanonicalLen l s n → n ≤ length s
-canonical_is_within l s n (w, rest, v, front, count, canon, is) = omega (arith, count, ap length front, length-append w rest)
+canonical_is_within l s n (w, rest, v, prefix, count, canon, is) = omega (arith, count, ap length prefix, length-append w rest)

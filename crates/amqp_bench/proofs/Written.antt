@@ -3,9 +3,9 @@ use Rattle.std.proofs.Common.{◌≡◌, ◌<◌, ◌≤◌, ℕ, List, length, 
 use Rattle.amqp_value_core.specs.Values.{Tree}
 use Rattle.amqp_value_core.specs.Texts.{text}
 use Rattle.amqp_bench.specs.declared.fault.Fault.{Fault}
-use Rattle.amqp_bench.specs.Calls.{IsFault, IsTooSmall, IsRead, IsWritten, HasNoRoom}
+use Rattle.amqp_bench.specs.Calls.{IsFaultOf, IsTooSmall, IsTakenAs, IsWrittenLength, IsTextTooLong}
 
 -- what writing results in for the value is right for the bytes that it was read from
-pub written_often : (s : List ℕ) (taken : ℕ) (v : Tree) (times room : ℕ) (r : Result ℕ Fault) → IsRead s taken v → IfOk r (λ n. times ≡ 0 → n ≡ 0) → IfOk r (λ n. 0 < times → n ≡ length (text v)) → IfOk r (λ n. n ≤ room) → IfErr r (IsTooSmall room v) → MatchResult r (IsWritten times s room) (IsFault s (HasNoRoom s room))
-written_often s taken v times room (Ok n) (rest, is, _) none some fits small = (v, rest, is, none, some, fits)
-written_often s taken v times room (Err f) (rest, is, _) none some fits (e, less) = subst (IsFault s (HasNoRoom s room)) (sym e) (v, rest, is, less)
+pub written_often : (s : List ℕ) (taken : ℕ) (v : Tree) (times capacity : ℕ) (r : Result ℕ Fault) → IsTakenAs s taken v → IfOk r (λ n. times ≡ 0 → n ≡ 0) → IfOk r (λ n. 0 < times → n ≡ length (text v)) → IfOk r (λ n. n ≤ capacity) → IfErr r (IsTooSmall capacity v) → MatchResult r (IsWrittenLength times s capacity) (IsFaultOf s (IsTextTooLong s capacity))
+written_often s taken v times capacity (Ok n) (rest, is, _) none some fits small = (v, rest, is, none, some, fits)
+written_often s taken v times capacity (Err f) (rest, is, _) none some fits (e, less) = subst (IsFaultOf s (IsTextTooLong s capacity)) (sym e) (v, rest, is, less)

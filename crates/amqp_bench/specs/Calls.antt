@@ -21,33 +21,33 @@ code_of Unread = negsuc 4
 
 -- why no number of bytes is returned for s: more bytes are needed, s is rejected, an allocation
 -- failed if the value allocates, or the buffer is too small
-abbrev pub IsFault : List ℕ → Type 0 → Fault → Type 0
-IsFault s no_room Incomplete = (n : ℕ) × Outcome s (more n)
-IsFault s no_room Refused = Outcome s unknown ⊎ Outcome s malformed
-IsFault s no_room OutOfMemory = Heavy s
-IsFault s no_room TooSmall = no_room
-IsFault s no_room Unread = ⊥
+abbrev pub IsFaultOf : List ℕ → Type 0 → Fault → Type 0
+IsFaultOf s too_small Incomplete = (n : ℕ) × Outcome s (more n)
+IsFaultOf s too_small Refused = Outcome s unknown ⊎ Outcome s malformed
+IsFaultOf s too_small OutOfMemory = Heavy s
+IsFaultOf s too_small TooSmall = too_small
+IsFaultOf s too_small Unread = ⊥
 
 -- the number that denotes how many bytes, or a fault
-abbrev pub answer_of : Result ℕ Fault → ℤ
-answer_of (Ok n) = pos n
-answer_of (Err f) = code_of f
+abbrev pub return_value_of : Result ℕ Fault → ℤ
+return_value_of (Ok n) = pos n
+return_value_of (Err f) = code_of f
 
 -- a result: it denotes a number of bytes that is right, or a fault that is
-abbrev pub AnswersAs : (ℕ → Type 0) → (Fault → Type 0) → ℤ → Type 0
-AnswersAs IsRight IsReason z = (done : Result ℕ Fault) × (z ≡ answer_of done) × MatchResult done IsRight IsReason
+abbrev pub ReturnsNumberAs : (ℕ → Type 0) → (Fault → Type 0) → ℤ → Type 0
+ReturnsNumberAs IsRight IsReason z = (done : Result ℕ Fault) × (z ≡ return_value_of done) × MatchResult done IsRight IsReason
 
 -- a result for s
-abbrev pub Answers : List ℕ → (ℕ → Type 0) → Type 0 → ℤ → Type 0
-Answers s IsRight no_room z = AnswersAs IsRight (IsFault s no_room) z
+abbrev pub ReturnsNumber : List ℕ → (ℕ → Type 0) → Type 0 → ℤ → Type 0
+ReturnsNumber s IsRight too_small z = ReturnsNumberAs IsRight (IsFaultOf s too_small) z
 
 -- v is read from the first n bytes of s
-abbrev pub IsRead : List ℕ → ℕ → Tree → Type 0
-IsRead s n v = (rest : List ℕ) × Outcome s (found v rest) × (n + length rest ≡ length s)
+abbrev pub IsTakenAs : List ℕ → ℕ → Tree → Type 0
+IsTakenAs s n v = (rest : List ℕ) × Outcome s (found v rest) × (n + length rest ≡ length s)
 
 -- a value is read from the first n bytes of s
 abbrev pub IsTaken : List ℕ → ℕ → Type 0
-IsTaken s n = (v : Tree) × IsRead s n v
+IsTaken s n = (v : Tree) × IsTakenAs s n v
 
 -- whether v is a table with a value at the key
 abbrev pub is_keyed : List ℕ → Tree → Bool
@@ -56,17 +56,17 @@ is_keyed key _ = false
 
 -- a value is read from the first n bytes of s; or it is a table with a value at the key, and n is 0
 abbrev pub IsLookedUp : List ℕ → List ℕ → ℕ → Type 0
-IsLookedUp key s n = (v : Tree) × (taken : ℕ) × IsRead s taken v × (n ≡ if is_keyed key v then 0 else taken)
+IsLookedUp key s n = (v : Tree) × (taken : ℕ) × IsTakenAs s taken v × (n ≡ if is_keyed key v then 0 else taken)
 
 -- a value is read from s and written that many times to a buffer of that many bytes: n is 0 if zero
 -- times, and else the length of its canonical encoding, and no more than the buffer holds
-abbrev pub IsWritten : ℕ → List ℕ → ℕ → ℕ → Type 0
-IsWritten times s room n =
-    (v : Tree) × (rest : List ℕ) × Outcome s (found v rest) × (times ≡ 0 → n ≡ 0) × (0 < times → n ≡ length (text v)) × (n ≤ room)
+abbrev pub IsWrittenLength : ℕ → List ℕ → ℕ → ℕ → Type 0
+IsWrittenLength times s capacity n =
+    (v : Tree) × (rest : List ℕ) × Outcome s (found v rest) × (times ≡ 0 → n ≡ 0) × (0 < times → n ≡ length (text v)) × (n ≤ capacity)
 
 -- the canonical encoding of the value that is read from s has more than n bytes
-abbrev pub HasNoRoom : List ℕ → ℕ → Type 0
-HasNoRoom s n = (v : Tree) × (rest : List ℕ) × Outcome s (found v rest) × (n < length (text v))
+abbrev pub IsTextTooLong : List ℕ → ℕ → Type 0
+IsTextTooLong s n = (v : Tree) × (rest : List ℕ) × Outcome s (found v rest) × (n < length (text v))
 
 -- n bytes are too few for the canonical encoding of v, and the fault reports it
 abbrev pub IsTooSmall : ℕ → Tree → Fault → Type 0
@@ -91,7 +91,7 @@ IsFaultWithin l s Refused = (l.frame < extent s) ⊎ (Within l s unknown ⊎ Wit
 IsFaultWithin l s OutOfMemory = (extent s ≤ l.frame) × Heavy s
 IsFaultWithin l s _ = ⊥
 
--- the same from a reader: of an allocation or a read that fails nothing is stated
+-- why none is returned from a reader: of an allocation or a read that fails nothing is stated
 abbrev pub IsFaultInPieces : Limits → List ℕ → Fault → Type 0
 IsFaultInPieces l s OutOfMemory = Unit {0}
 IsFaultInPieces l s Unread = Unit {0}

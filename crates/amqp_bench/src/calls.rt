@@ -3,7 +3,7 @@
 ghost use Rattle.std.specs.Prelude.{◌≡◌, ◌<◌, ◌≤◌, length, MatchResult, IfOk, IfErr};
 ghost use Rattle.amqp_value_core.specs.Texts.{text, Fits};
 ghost use Rattle.amqp_value_core.specs.View.{view};
-ghost use Rattle.amqp_bench.specs.Calls.{IsFault, IsTooSmall, IsRead, IsTaken, IsLookedUp, IsWritten, HasNoRoom, is_keyed};
+ghost use Rattle.amqp_bench.specs.Calls.{IsFaultOf, IsTooSmall, IsTakenAs, IsTaken, IsLookedUp, IsWrittenLength, IsTextTooLong, is_keyed};
 ghost use Rattle.amqp_value_core.specs.Values.{Tree};
 ghost use Rattle.amqp_in_place.specs.Refs.{Denotes};
 
@@ -17,7 +17,7 @@ use std::alloc::Global;
 
 /// Reads a value to a separate tree, drops it, and returns how many bytes it took.
 pub fn decode(alloc: Global, bytes: &[u8]) -> Result<usize, Fault>
-    ensures taken { MatchResult result (IsTaken bytes.now) (IsFault bytes.now ⊥) }
+    ensures taken { MatchResult result (IsTaken bytes.now) (IsFaultOf bytes.now ⊥) }
     ensures small { IfOk result (λ n. n ≤ length bytes.now) }
 {
     let (taken, _) = read(alloc, bytes)?;
@@ -28,8 +28,8 @@ pub fn decode(alloc: Global, bytes: &[u8]) -> Result<usize, Fault>
 #[tactic(auto, using(crate::proofs::Written::written_often))]
 pub fn encode(alloc: Global, bytes: &[u8], out: &mut [u8], times: u64) -> Result<usize, Fault>
     ensures written { MatchResult result
-        (IsWritten times bytes.now (length out.old))
-        (IsFault bytes.now (HasNoRoom bytes.now (length out.old))) }
+        (IsWrittenLength times bytes.now (length out.old))
+        (IsFaultOf bytes.now (IsTextTooLong bytes.now (length out.old))) }
     ensures small { IfOk result (λ n. n ≤ length out.old) }
 {
     let (_, value) = read(alloc, bytes)?;
@@ -39,8 +39,8 @@ pub fn encode(alloc: Global, bytes: &[u8], out: &mut [u8], times: u64) -> Result
 /// Reads a value, and returns how many bytes it took.
 fn read(alloc: Global, bytes: &[u8]) -> Result<(usize, AMQPValue), Fault>
     ensures read { MatchResult result
-        (λ x. IsRead bytes.now x.0 (view x.1))
-        (IsFault bytes.now ⊥) }
+        (λ x. IsTakenAs bytes.now x.0 (view x.1))
+        (IsFaultOf bytes.now ⊥) }
     ensures small { IfOk result (λ x. x.0 ≤ length bytes.now) }
     ensures fits { IfOk result (λ x. Fits (view x.1)) }
 {
@@ -54,7 +54,7 @@ fn read(alloc: Global, bytes: &[u8]) -> Result<(usize, AMQPValue), Fault>
 
 /// Reads a value in place, and returns how many bytes it took.
 pub fn scan(bytes: &[u8]) -> Result<usize, Fault>
-    ensures taken { MatchResult result (IsTaken bytes.now) (IsFault bytes.now ⊥) }
+    ensures taken { MatchResult result (IsTaken bytes.now) (IsFaultOf bytes.now ⊥) }
     ensures small { IfOk result (λ n. n ≤ length bytes.now) }
 {
     let (taken, _) = read_in_place(bytes)?;
@@ -64,7 +64,7 @@ pub fn scan(bytes: &[u8]) -> Result<usize, Fault>
 /// Reads a value in place, and returns how many bytes it took, or 0 if it is a table
 /// with a value at the key.
 pub fn find(bytes: &[u8], key: &str) -> Result<usize, Fault>
-    ensures taken { MatchResult result (IsLookedUp key.now bytes.now) (IsFault bytes.now ⊥) }
+    ensures taken { MatchResult result (IsLookedUp key.now bytes.now) (IsFaultOf bytes.now ⊥) }
     ensures small { IfOk result (λ n. n ≤ length bytes.now) }
 {
     let (taken, value) = read_in_place(bytes)?;
@@ -87,8 +87,8 @@ fn has_key(value: ValueRef<'_>, key: &str) -> bool
 /// Reads a value in place, and returns how many bytes it took.
 fn read_in_place(bytes: &[u8]) -> Result<(usize, ValueRef<'_>), Fault>
     ensures read { MatchResult result
-        (λ x. (v : Tree) × Denotes x.1 v × IsRead bytes.now x.0 v)
-        (IsFault bytes.now ⊥) }
+        (λ x. (v : Tree) × Denotes x.1 v × IsTakenAs bytes.now x.0 v)
+        (IsFaultOf bytes.now ⊥) }
     ensures small { IfOk result (λ x. x.0 ≤ length bytes.now) }
 {
     match read_in_place_unlimited(bytes) {

@@ -1,7 +1,7 @@
 //! Why a call returns no number of bytes.
 
 ghost use Rattle.std.specs.Prelude.{◌≡◌, ◌<◌, ◌^◌, IfOk};
-ghost use Rattle.amqp_bench.specs.Calls.{code_of, answer_of};
+ghost use Rattle.amqp_bench.specs.Calls.{code_of, return_value_of};
 
 /// Why a call returns no number of bytes.
 #[derive(Clone, Copy)]
@@ -34,9 +34,9 @@ impl Fault {
 }
 
 /// The number that denotes how many bytes, or a fault.
-pub fn answer(done: Result<usize, Fault>) -> i64
+pub fn return_value(done: Result<usize, Fault>) -> i64
     requires { IfOk done (λ n. n < 2 ^ 63) }
-    ensures { result ≡ answer_of done }
+    ensures { result ≡ return_value_of done }
 {
     match done {
         Ok(n) => n as i64,

@@ -17,11 +17,14 @@ fn takes_no_value(rt: HostRuntime) {
 /// No contract states that the caller's buffer then holds the bytes of the value: this shows it.
 #[test]
 fn writes_to_the_buffer(rt: HostRuntime) {
-    let mut room = [9; 4];
-    assert_eq!(rt; amqp_bench_roundtrip(rt.alloc(), &[b't', 7], &mut room), 2);
-    assert_eq!(rt; room, [b't', 1, 9, 9]);
+    let mut buffer = [9; 4];
     assert_eq!(rt;
-        amqp_bench_roundtrip(rt.alloc(), &[b't', 7], &mut room[..1]),
+        amqp_bench_roundtrip(rt.alloc(), &[b't', 7], &mut buffer),
+        2
+    );
+    assert_eq!(rt; buffer, [b't', 1, 9, 9]);
+    assert_eq!(rt;
+        amqp_bench_roundtrip(rt.alloc(), &[b't', 7], &mut buffer[..1]),
         -4
     );
 }
@@ -29,17 +32,17 @@ fn writes_to_the_buffer(rt: HostRuntime) {
 /// No contract states that the caller's buffer is unchanged if nothing is written: this shows it.
 #[test]
 fn writes_often(rt: HostRuntime) {
-    let mut room = [9; 4];
+    let mut buffer = [9; 4];
     assert_eq!(rt;
-        amqp_bench_encode_n(rt.alloc(), &[b't', 7], &mut room, 0),
+        amqp_bench_encode_n(rt.alloc(), &[b't', 7], &mut buffer, 0),
         0
     );
-    assert_eq!(rt; room, [9, 9, 9, 9]);
+    assert_eq!(rt; buffer, [9, 9, 9, 9]);
     assert_eq!(rt;
-        amqp_bench_encode_n(rt.alloc(), &[b't', 7], &mut room, 3),
+        amqp_bench_encode_n(rt.alloc(), &[b't', 7], &mut buffer, 3),
         2
     );
-    assert_eq!(rt; room, [b't', 1, 9, 9]);
+    assert_eq!(rt; buffer, [b't', 1, 9, 9]);
 }
 
 #[test]

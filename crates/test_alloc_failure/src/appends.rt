@@ -15,7 +15,7 @@ pub enum Append {
     Push,
     /// True is inserted under this key into a table whose one node is full.
     Insert(&'static str),
-    /// The same by `place`.
+    /// True is placed under this key into a table whose one node is full.
     Place(&'static str),
     /// Keys with their numbers are inserted into a table.
     InsertKeys,

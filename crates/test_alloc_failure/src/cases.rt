@@ -109,6 +109,9 @@ const VOIDS: &[Piece] = &[Bytes(b"A\0\0\x0f\xa0"), Times(4000, b"V")];
 
 const VOIDS_JSON: &[Piece] = &[Bytes(b"["), Times(3999, b"null,"), Bytes(b"null]")];
 
+/// An array of 4000 Voids whose last ten are cut off.
+const CUT_VOIDS: &[Piece] = &[Bytes(b"A\0\0\x0f\xa0"), Times(3990, b"V")];
+
 /// A table with the key `a` twice: the number 7, then an array of the number 8.
 const TWICE: &[u8] = b"F\0\0\0\x0d\x01aB\x07\x01aA\0\0\0\x02B\x08";
 
@@ -388,7 +391,7 @@ fn in_place_values() -> &'static [Case] {
             b"F\0\0\0\x06\x01bV\x01aV",
         ]),
     ]
-    // the same 17 keys two levels deep; and two that differ
+    // those 17 keys two levels deep; and two that differ
     "warnings" ALLOC [
         Warned(&[
             b"F\0\0\0\x42\x01aA\0\0\0\x3bF\0\0\0\x36\x01qV\x01pV\x01oV\x01nV\x01mV\x01lV\
@@ -425,8 +428,11 @@ fn of_texts() -> &'static [Case] {
         OfText(TextCall::EncodingOfJson, ONE_NUMBER_JSON), OfText(TextCall::EncodingOfJson, VOIDS_JSON),
     ]
     "dissect" ALLOC [OfText(TextCall::Dissect, ONE_NUMBER), OfText(TextCall::Dissect, VOIDS)]
+    "dissect_partial" ALLOC [OfText(TextCall::DissectPartial, VOIDS), OfText(TextCall::DissectPartial, CUT_VOIDS)]
     "escape" ALLOC [OfText(TextCall::Escape, &[Bytes(b"a\0\"")]), OfText(TextCall::Escape, &[Times(70_000, b"a")])]
-    "texts_without_memory" NO_ALLOC [OfText(TextCall::Dissect, &[]), OfText(TextCall::Escape, &[])]
+    "texts_without_memory" NO_ALLOC [
+        OfText(TextCall::Dissect, &[]), OfText(TextCall::DissectPartial, &[]), OfText(TextCall::Escape, &[]),
+    ]
     };
     CASES
 }

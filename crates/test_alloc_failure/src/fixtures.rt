@@ -126,7 +126,7 @@ pub fn letters(alloc: Global, count: usize) -> Result<Vec<u8>, AllocError> {
     vec![in alloc; 97; count]
 }
 
-/// The same as a string.
+/// n letters a, as a string.
 pub fn text(alloc: Global, count: usize) -> io::Result<String> {
     String::from_utf8(letters(alloc, count)?).map_err(failed)
 }

@@ -194,7 +194,7 @@ impl Call for CountValues {
     }
 }
 
-/// The same of a table without its type tag.
+/// The number of values in a table without its type tag.
 #[derive(Drop)]
 struct CountUntaggedValues {
     table: &'static [u8],

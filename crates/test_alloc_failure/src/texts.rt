@@ -6,7 +6,7 @@ use crate::harness::{Call, Harness};
 use crate::values::AnyValue;
 use amq_protocol_types::AMQPValue;
 use amq_protocol_types::stream::Limits;
-use amqp_dissect::{dissect, escape};
+use amqp_dissect::{dissect, dissect_partial, escape};
 use amqp_json::{
     DecodeError, EncodeError, JsonError, ValueError, encoding_of_json, from_json, from_value,
     json_of_encoding, to_json, to_value,
@@ -31,6 +31,7 @@ pub enum TextCall {
     JsonOfEncoding,
     EncodingOfJson,
     Dissect,
+    DissectPartial,
     Escape,
 }
 
@@ -130,6 +131,21 @@ impl Call for Dissect {
 }
 
 #[derive(Drop)]
+struct DissectPartial {
+    bytes: Vec<u8>,
+}
+
+impl Call for DissectPartial {
+    type Error = AllocError;
+
+    // the number of parts
+    fn call(&mut self, alloc: Global) -> Result<AnyValue, AllocError> {
+        let partial = dissect_partial(alloc, self.bytes.as_slice(), WIDE)?;
+        Ok(AnyValue::Number(partial.parts.len() as i128))
+    }
+}
+
+#[derive(Drop)]
 struct Escape {
     bytes: Vec<u8>,
 }
@@ -169,6 +185,7 @@ pub fn run<R: Print + Eprint>(h: &Harness<R>, call: TextCall, pieces: &[Piece]) 
             h.run(&mut EncodingOfJson { text })
         }
         TextCall::Dissect => h.run(&mut Dissect { bytes }),
+        TextCall::DissectPartial => h.run(&mut DissectPartial { bytes }),
         TextCall::Escape => h.run(&mut Escape { bytes }),
     }
 }

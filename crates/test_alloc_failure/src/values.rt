@@ -50,7 +50,7 @@ pub fn bytes(alloc: Global, bytes: &[u8]) -> io::Result<String> {
     Ok(format!(in alloc; "{first}..{last} of {} bytes", bytes.len())?)
 }
 
-/// The same in brackets.
+/// Some bytes in hexadecimal, in brackets.
 fn in_brackets(alloc: Global, some: &[u8]) -> io::Result<String> {
     let text = bytes(alloc, some)?;
     Ok(format!(in alloc; "[{text}]")?)

@@ -132,8 +132,8 @@ fn put(
 
 #[test]
 fn writes_flags(rt: HostRuntime) -> Result<(), Fail> {
-    let mut room = [7; 5];
-    let mut x = WriteContext::from(SliceOutput::new(&mut room));
+    let mut buffer = [7; 5];
+    let mut x = WriteContext::from(SliceOutput::new(&mut buffer));
     for values in [FOUR, MIXED, &[true; 9]] {
         assert_eq!(rt; put(rt.alloc(), values, &mut x)?, Ok(()));
     }
@@ -147,8 +147,8 @@ fn writes_flags(rt: HostRuntime) -> Result<(), Fail> {
 
 // what is read of the bytes is written so, to a buffer of as many bytes as that takes
 fn is_written_as(rt: &impl Abort, alloc: Global, bytes: &[u8], names: &[&str], written: [u8; 2]) {
-    let mut room = [7; 2];
-    let mut x = WriteContext::from(SliceOutput::new(&mut room));
+    let mut buffer = [7; 2];
+    let mut x = WriteContext::from(SliceOutput::new(&mut buffer));
     match parse_flags(alloc, SliceInput::new(bytes), names) {
         Ok((_rest, flags)) => assert_eq!(rt; gen_flags(&flags, &mut x), Ok(())),
         Err(_e) => assert!(rt; false),

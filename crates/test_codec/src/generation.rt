@@ -52,19 +52,25 @@ fn has_put(rt: &impl Abort, x: WriteContext<SliceOutput<'_>>, bytes: &[u8]) {
 }
 
 // In a buffer of n bytes a generator returns this, and writes these bytes.
-fn room_holds(rt: &impl Abort, piece: Piece<'_>, room: usize, answer: GenResult, bytes: &[u8]) {
+fn capacity_is_enough(
+    rt: &impl Abort,
+    piece: Piece<'_>,
+    capacity: usize,
+    returned: GenResult,
+    bytes: &[u8],
+) {
     let mut slice = [7u8; 255];
-    assert!(rt; room <= 255);
-    let mut x = WriteContext::from(SliceOutput::new(&mut slice[..room]));
-    assert_eq!(rt; put(piece, &mut x), answer, "{bytes:?} in {room}");
+    assert!(rt; capacity <= 255);
+    let mut x = WriteContext::from(SliceOutput::new(&mut slice[..capacity]));
+    assert_eq!(rt; put(piece, &mut x), returned, "{bytes:?} in {capacity}");
     has_put(rt, x, bytes);
 }
 
 // They fill a buffer of as many bytes, and aren't written to one of a byte less.
 fn fills_its_buffer(rt: &impl Abort, piece: Piece<'_>, bytes: &[u8]) {
     let less = bytes.len().saturating_sub(1);
-    room_holds(rt, piece, bytes.len(), Ok(()), bytes);
-    room_holds(rt, piece, less, Err(GenError::BufferTooSmall), &[]);
+    capacity_is_enough(rt, piece, bytes.len(), Ok(()), bytes);
+    capacity_is_enough(rt, piece, less, Err(GenError::BufferTooSmall), &[]);
 }
 
 // So do those of a value, and those of its payload after its type tag.
@@ -90,9 +96,9 @@ fn strings_fill_their_buffer(rt: HostRuntime) {
 fn short_strings_have_at_most_255_bytes(rt: HostRuntime) -> Result<(), Fail> {
     let letters = [97u8; 256];
     let longest = std::str::from_utf8(&letters[1..])?;
-    room_holds(&rt, Short(longest), 255, Err(GenError::BufferTooSmall), &[]);
+    capacity_is_enough(&rt, Short(longest), 255, Err(GenError::BufferTooSmall), &[]);
     let too_long = std::str::from_utf8(&letters)?;
-    room_holds(&rt, Short(too_long), 2, Err(GenError::LengthTooLong), &[]);
+    capacity_is_enough(&rt, Short(too_long), 2, Err(GenError::LengthTooLong), &[]);
     Ok(())
 }
 

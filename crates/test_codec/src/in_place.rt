@@ -383,7 +383,7 @@ fn other_encodings_are_not_canonical(rt: HostRuntime) {
     assert!(rt; !is_canonical(b"L\0\0\0\0\0\0\0\x02", LIMITS));
     assert!(rt; !is_canonical(b"U\0\x02", LIMITS));
     assert!(rt; !is_canonical(b"t\x02", LIMITS));
-    // the same, nested
+    // each of these in a container
     assert!(rt; !is_canonical(b"A\0\0\0\x03Vt\x02", LIMITS));
     assert!(rt; !is_canonical(b"F\0\0\0\x05\x01aU\0\x02", LIMITS));
     assert!(rt; !is_canonical(b"A\0\0\0\x0bF\0\0\0\x06\x01bV\x01aV", LIMITS));

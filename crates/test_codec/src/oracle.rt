@@ -36,7 +36,7 @@ impl<T: Drop> From<AllocFailed<T>> for Trouble {
 }
 
 /// What is printed of a line.
-pub type Answer = Result<String, Trouble>;
+pub type Returned = Result<String, Trouble>;
 
 /// Prints what each line's call returns.
 pub fn run<P: Print, R: Read>(rt: &P, alloc: Global, input: &mut R) -> io::Result<()> {
@@ -48,7 +48,7 @@ pub fn run<P: Print, R: Read>(rt: &P, alloc: Global, input: &mut R) -> io::Resul
             return Ok(());
         }
         let request = line.as_str().trim_end();
-        match answer(alloc, request) {
+        match returned(alloc, request) {
             Ok(said) => println!(rt; "{said}")?,
             Err(Trouble::Unknown) => println!(rt; "no request")?,
             Err(Trouble::OutOfMemory) => return Err(io::Error::from(ErrorKind::OutOfMemory)),
@@ -58,7 +58,7 @@ pub fn run<P: Print, R: Read>(rt: &P, alloc: Global, input: &mut R) -> io::Resul
 }
 
 /// What a request's call returns.
-fn answer(alloc: Global, request: &str) -> Answer {
+fn returned(alloc: Global, request: &str) -> Returned {
     let words: Vec<&str> = request.split(' ').collect(alloc)?;
     match words.as_slice() {
         ["parse", call, bytes] => parse::parse(alloc, *call, hex_of(alloc, *bytes)?.as_slice()),
@@ -72,21 +72,25 @@ fn answer(alloc: Global, request: &str) -> Answer {
             parse::flags_from_bytes(alloc, *names, hex_of(alloc, *bytes)?.as_slice())
         }
         ["flags", flags, name] => look_up(alloc, &flags_of(alloc, *flags)?, *name),
-        ["gen_flags", room, flags] => {
-            generate::flags(alloc, number(*room)?, &flags_of(alloc, *flags)?)
+        ["gen_flags", capacity, flags] => {
+            generate::flags(alloc, number(*capacity)?, &flags_of(alloc, *flags)?)
         }
-        ["gen_type", room, name] => generate::amqp_type(alloc, number(*room)?, type_of(*name)?),
-        ["gen_id", room, id] => generate::id(alloc, number(*room)?, *id),
-        ["gen_with_len", room, bytes] => {
-            generate::with_len(alloc, number(*room)?, hex_of(alloc, *bytes)?.as_slice())
+        ["gen_type", capacity, name] => generate::amqp_type(
+            alloc,
+            number(*capacity)?,
+            type_of(*name)?,
+        ),
+        ["gen_id", capacity, id] => generate::id(alloc, number(*capacity)?, *id),
+        ["gen_with_len", capacity, bytes] => {
+            generate::with_len(alloc, number(*capacity)?, hex_of(alloc, *bytes)?.as_slice())
         }
-        ["gen", call, room, value] => {
-            generate::value(alloc, *call, number(*room)?, &value_of(alloc, *value)?)
+        ["gen", call, capacity, value] => {
+            generate::value(alloc, *call, number(*capacity)?, &value_of(alloc, *value)?)
         }
         ["append", before, value] => {
             generate::append(alloc, hex_of(alloc, *before)?, &value_of(alloc, *value)?)
         }
-        ["value", value] => getters::told(alloc, value_of(alloc, *value)?),
+        ["value", value] => getters::result_of(alloc, value_of(alloc, *value)?),
         ["equal", one, other] => {
             let is_equal = value_of(alloc, *one)? == value_of(alloc, *other)?;
             Ok(format!(in alloc; "{is_equal}")?)
@@ -107,7 +111,7 @@ fn answer(alloc: Global, request: &str) -> Answer {
 }
 
 /// The first flag of a name, and the bytes.
-fn look_up(alloc: Global, flags: &AMQPFlags, name: &str) -> Answer {
+fn look_up(alloc: Global, flags: &AMQPFlags, name: &str) -> Returned {
     let name = text_of(alloc, name)?;
     let bytes = digits(alloc, flags.get_bytes(alloc)?.as_slice())?;
     Ok(match flags.get_flag(name.as_str()) {
@@ -117,7 +121,7 @@ fn look_up(alloc: Global, flags: &AMQPFlags, name: &str) -> Answer {
 }
 
 /// Whether a table has a key.
-fn contains(alloc: Global, value: &AMQPValue, key: &str) -> Answer {
+fn contains(alloc: Global, value: &AMQPValue, key: &str) -> Returned {
     let Some(table) = value.as_field_table() else {
         return Err(Trouble::Unknown);
     };
@@ -126,7 +130,7 @@ fn contains(alloc: Global, value: &AMQPValue, key: &str) -> Answer {
 }
 
 /// The type of a character, by its number.
-fn from_id(alloc: Global, code: &str) -> Answer {
+fn from_id(alloc: Global, code: &str) -> Returned {
     let Ok(code) = code.parse::<u32>() else {
         return Err(Trouble::Unknown);
     };
@@ -140,7 +144,7 @@ fn from_id(alloc: Global, code: &str) -> Answer {
 }
 
 /// The value of a type that JSON is converted to.
-fn try_from(alloc: Global, amqp_type: AMQPType, json: &str) -> Answer {
+fn try_from(alloc: Global, amqp_type: AMQPType, json: &str) -> Returned {
     let text = text_of(alloc, json)?;
     let Ok(json) = serde_json::from_str(alloc, text.as_str()) else {
         return Err(Trouble::Unknown);
@@ -152,7 +156,7 @@ fn try_from(alloc: Global, amqp_type: AMQPType, json: &str) -> Answer {
 }
 
 /// A short string as it is printed, as it is held and as a string, or the printed error.
-fn try_new(alloc: Global, text: String) -> Answer {
+fn try_new(alloc: Global, text: String) -> Returned {
     match ShortString::try_new(text) {
         Ok(string) => {
             let shown = format!(in alloc; "{string}")?;
@@ -166,7 +170,7 @@ fn try_new(alloc: Global, text: String) -> Answer {
 }
 
 /// The length, whether it is empty, and how it is printed.
-fn long_string(alloc: Global, bytes: Vec<u8>) -> Answer {
+fn long_string(alloc: Global, bytes: Vec<u8>) -> Returned {
     let string = LongString::from(bytes);
     let shown = format!(in alloc; "{string}")?;
     let shown = digits(alloc, shown.as_str().as_bytes())?;
@@ -174,14 +178,14 @@ fn long_string(alloc: Global, bytes: Vec<u8>) -> Answer {
 }
 
 /// The length, whether it is empty, and the bytes.
-fn byte_array(alloc: Global, bytes: Vec<u8>) -> Answer {
+fn byte_array(alloc: Global, bytes: Vec<u8>) -> Returned {
     let array = ByteArray::from(bytes);
     let held = digits(alloc, array.as_slice())?;
     Ok(format!(in alloc; "{} {} {held}", array.len(), array.is_empty())?)
 }
 
 /// How two short strings compare.
-fn order(alloc: Global, one: &str, other: &str) -> Answer {
+fn order(alloc: Global, one: &str, other: &str) -> Returned {
     let one = ShortString::try_new(text_of(alloc, one)?);
     let other = ShortString::try_new(text_of(alloc, other)?);
     match (one, other) {

@@ -11,19 +11,19 @@ use amq_protocol_types::parsing::*;
 
 // whether a number was read, and n bytes are left
 fn reads<I: ParsableInput, T: Copy + PartialEq>(
-    answer: ParserResult<I, T>,
+    returned: ParserResult<I, T>,
     value: T,
     left: usize,
 ) -> bool {
-    match answer {
+    match returned {
         Ok((rest, read)) => read == value && rest.input_len() == left,
         Err(_e) => false,
     }
 }
 
 // whether n more bytes are needed
-fn needs<I: ParsableInput, T: Drop>(answer: ParserResult<I, T>, n: usize) -> bool {
-    match answer {
+fn needs<I: ParsableInput, T: Drop>(returned: ParserResult<I, T>, n: usize) -> bool {
+    match returned {
         Err(Err::Incomplete(Needed::Size(lack))) => lack == n,
         Err(_e) => false,
         Ok(_read) => false,
@@ -31,8 +31,8 @@ fn needs<I: ParsableInput, T: Drop>(answer: ParserResult<I, T>, n: usize) -> boo
 }
 
 // whether the input is rejected, and why
-fn refuses<I: ParsableInput, T: Drop>(answer: ParserResult<I, T>, kind: ErrorKind) -> bool {
-    match answer {
+fn refuses<I: ParsableInput, T: Drop>(returned: ParserResult<I, T>, kind: ErrorKind) -> bool {
+    match returned {
         Err(Err::Error(e)) => e.kind() == kind,
         Err(_e) => false,
         Ok(_read) => false,

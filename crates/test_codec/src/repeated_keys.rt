@@ -37,7 +37,7 @@ fn table(bytes: &[u8]) -> Option<TableRef<'_>> {
 }
 
 // whether the bytes are a table of which this is returned
-fn is_told(alloc: Global, bytes: &[u8], want: Option<&str>) -> Result<bool, Fail> {
+fn is_reported(alloc: Global, bytes: &[u8], want: Option<&str>) -> Result<bool, Fail> {
     let Some(table) = table(bytes) else {
         return Ok(false);
     };
@@ -70,7 +70,7 @@ fn many_pairs(alloc: Global, last: &str) -> Result<Vec<u8>, AllocError> {
 #[test]
 fn a_repeated_key_is_reported(rt: HostRuntime) -> Result<(), Fail> {
     for (bytes, key) in TABLES {
-        assert!(rt; is_told(rt.alloc(), bytes, key)?);
+        assert!(rt; is_reported(rt.alloc(), bytes, key)?);
     }
     Ok(())
 }
@@ -79,9 +79,9 @@ fn a_repeated_key_is_reported(rt: HostRuntime) -> Result<(), Fail> {
 fn the_last_of_many_keys_is_reported(rt: HostRuntime) -> Result<(), Fail> {
     for key in ["0", "1500", "2999"] {
         let bytes = many_pairs(rt.alloc(), key)?;
-        assert!(rt; is_told(rt.alloc(), &bytes, Some(key))?);
+        assert!(rt; is_reported(rt.alloc(), &bytes, Some(key))?);
     }
     let bytes = many_pairs(rt.alloc(), "3000")?;
-    assert!(rt; is_told(rt.alloc(), &bytes, None)?);
+    assert!(rt; is_reported(rt.alloc(), &bytes, None)?);
     Ok(())
 }

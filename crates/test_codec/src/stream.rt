@@ -90,7 +90,7 @@ impl Read for Script<'_> {
 
 /// What a call returns.
 #[derive(Clone, Copy)]
-enum Answer<'a> {
+enum Returned<'a> {
     /// The value of this encoding.
     Value(&'a [u8]),
     /// No value, since the reader ended.
@@ -110,21 +110,21 @@ fn is_wire_of(alloc: Global, bytes: &[u8], value: &AMQPValue) -> bool {
 }
 
 // whether a call returns so
-fn answers(
+fn all_returned(
     alloc: Global,
-    answer: Result<Option<AMQPValue>, StreamError>,
-    want: Answer<'_>,
+    returned: Result<Option<AMQPValue>, StreamError>,
+    want: Returned<'_>,
 ) -> bool {
-    match answer {
+    match returned {
         Ok(Some(value)) => match want {
-            Answer::Value(wire) => is_wire_of(alloc, wire, &value),
+            Returned::Value(wire) => is_wire_of(alloc, wire, &value),
             _ => false,
         },
-        Ok(None) => matches!(want, Answer::End),
-        Err(StreamError::Refused(e)) => matches!(want, Answer::Refused(kind) if kind == e.kind()),
-        Err(StreamError::Truncated) => matches!(want, Answer::Truncated),
-        Err(StreamError::Read(kind)) => matches!(want, Answer::Read(wanted) if wanted == kind),
-        Err(StreamError::Failed) => matches!(want, Answer::Failed),
+        Ok(None) => matches!(want, Returned::End),
+        Err(StreamError::Refused(e)) => matches!(want, Returned::Refused(kind) if kind == e.kind()),
+        Err(StreamError::Truncated) => matches!(want, Returned::Truncated),
+        Err(StreamError::Read(kind)) => matches!(want, Returned::Read(wanted) if wanted == kind),
+        Err(StreamError::Failed) => matches!(want, Returned::Failed),
         Err(StreamError::OutOfMemory) => false,
     }
 }
@@ -135,7 +135,7 @@ struct Row<'a> {
     says: &'a str,
     limits: Limits,
     events: &'a [Event<'a>],
-    answers: &'a [Answer<'a>],
+    all_returned: &'a [Returned<'a>],
     left: &'a [u8],
 }
 
@@ -146,9 +146,9 @@ fn holds_for(rt: &impl Abort, alloc: Global, row: Row<'_>, most: usize) {
     let mut owner = ValueReader::new(alloc, Script::new(row.events, most), row.limits);
     let mut reader = Script::new(row.events, most);
     let mut values = Values::new(alloc, row.limits);
-    for (at, want) in row.answers.iter().enumerate() {
-        let is_owners = answers(alloc, owner.next(), *want);
-        let is_callers = answers(alloc, values.next_from(&mut reader), *want);
+    for (at, want) in row.all_returned.iter().enumerate() {
+        let is_owners = all_returned(alloc, owner.next(), *want);
+        let is_callers = all_returned(alloc, values.next_from(&mut reader), *want);
         assert!(rt;
             is_owners && is_callers,
             "{}: answer {at}, {most} bytes at a time",

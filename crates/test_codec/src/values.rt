@@ -39,7 +39,7 @@ fn pushed(alloc: Global) -> Result<FieldArray, AllocError> {
     Ok(outer)
 }
 
-// the same, of vectors
+// that array, made of vectors
 fn collected(alloc: Global) -> Result<FieldArray, AllocError> {
     let inner = FieldArray::from(vec![in alloc; AMQPValue::Boolean(true)]?);
     let values = vec![in alloc; AMQPValue::FieldArray(inner), AMQPValue::ShortShortInt(-1)]?;
@@ -71,8 +71,8 @@ fn length_of(text: String) -> Result<usize, usize> {
 
 #[test]
 fn short_strings_have_at_most_255_bytes(rt: HostRuntime) -> Result<(), Fail> {
-    for (n, answer) in [(255, Ok(255)), (256, Err(256))] {
-        assert_eq!(rt; length_of(letters(rt.alloc(), n)?), answer);
+    for (n, returned) in [(255, Ok(255)), (256, Err(256))] {
+        assert_eq!(rt; length_of(letters(rt.alloc(), n)?), returned);
     }
     assert_eq!(rt; key(rt.alloc(), "café")?.as_str(), "café");
     Ok(())
@@ -97,7 +97,7 @@ fn inserted(alloc: Global) -> Result<FieldTable, Fail> {
     Ok(table)
 }
 
-// the same, of one value at each key
+// that table, of one value at each key
 fn placed(alloc: Global) -> Result<FieldTable, Fail> {
     let mut table = FieldTable::new_in(alloc);
     put(alloc, &mut table, "B", AMQPValue::Boolean(true))?;
@@ -267,7 +267,7 @@ fn large_array(alloc: Global) -> Result<FieldArray, Fail> {
     Ok(array)
 }
 
-// the same numbers at their digits
+// those numbers, each at its digits as a key
 fn large_table(alloc: Global) -> Result<FieldTable, Fail> {
     let mut table = FieldTable::new_in(alloc);
     for n in 0..2000u32 {

@@ -71,11 +71,11 @@ fn passes_faults_on(rt: &impl Abort, alloc: Global, part: Part<'_>, bytes: &[u8]
                 fails_after: at,
                 kind,
             }));
-            let (answer, written) = match kind {
+            let (returned, written) = match kind {
                 ErrorKind::Interrupted => (Ok(()), bytes),
                 _ => (Err(GenError::IoError(kind)), bytes.split_at(at).0),
             };
-            assert_eq!(rt; put(part, &mut x), answer);
+            assert_eq!(rt; put(part, &mut x), returned);
             let taken = x.into_inner().0.into_inner().taken;
             assert_eq!(rt; taken.as_slice(), written);
         }

@@ -8,7 +8,7 @@ use amq_protocol_types::generation::*;
 use std::test::Fail;
 
 // Puts one byte after two lengths.
-fn put_behind_two_lengths<W: BackToTheBuffer>(x: &mut WriteContext<W>) -> GenResult {
+fn put_after_two_lengths<W: BackToTheBuffer>(x: &mut WriteContext<W>) -> GenResult {
     gen_with_len(|y| gen_with_len(|z| z.put(&[7]), y), x)
 }
 
@@ -39,7 +39,7 @@ fn a_body_may_have_parts(rt: HostRuntime) -> Result<(), Fail> {
 #[test]
 fn lengths_nest(rt: HostRuntime) -> Result<(), Fail> {
     let mut x = WriteContext::from(Vec::new(rt.alloc()));
-    assert_eq!(rt; put_behind_two_lengths(&mut x), Ok(()));
+    assert_eq!(rt; put_after_two_lengths(&mut x), Ok(()));
     assert_eq!(rt;
         x.into_inner().0.as_slice(),
         [0, 0, 0, 5, 0, 0, 0, 1, 7].as_slice()
@@ -61,14 +61,14 @@ fn a_generator_is_a_body(rt: HostRuntime) -> Result<(), Fail> {
 #[test]
 fn a_rejected_body_is_taken_back(rt: HostRuntime) -> Result<(), Fail> {
     let mut x = WriteContext::from(Vec::from_slice(rt.alloc(), &[9])?);
-    let answer = gen_with_len(
+    let returned = gen_with_len(
         |y| {
             y.put(&[1])?;
             Err(GenError::LengthTooLong)
         },
         &mut x,
     );
-    assert_eq!(rt; answer, Err(GenError::LengthTooLong));
+    assert_eq!(rt; returned, Err(GenError::LengthTooLong));
     assert_eq!(rt; x.position(), 0);
     assert_eq!(rt; x.into_inner().0.as_slice(), [9].as_slice());
     Ok(())
@@ -79,14 +79,14 @@ fn a_length_without_capacity_calls_nothing(rt: HostRuntime) {
     let mut slice = [7u8; 3];
     let mut x = WriteContext::from(SliceOutput::new(&mut slice));
     let mut called = false;
-    let answer = gen_with_len(
+    let returned = gen_with_len(
         |y| {
             called = true;
             y.put(&[1])
         },
         &mut x,
     );
-    assert_eq!(rt; answer, Err(GenError::BufferTooSmall));
+    assert_eq!(rt; returned, Err(GenError::BufferTooSmall));
     assert_eq!(rt; x.position(), 0);
     assert!(rt; !called);
 }

@@ -1,7 +1,7 @@
 //! Generators.
 
 use super::words::digits;
-use super::{Answer, Trouble};
+use super::{Returned, Trouble};
 use amq_protocol_types::flags::AMQPFlags;
 use amq_protocol_types::generation::{
     GenResult, SliceOutput, WriteContext, gen_boolean, gen_byte_array, gen_decimal_value,
@@ -17,7 +17,7 @@ use std::str;
 type Context<'a> = WriteContext<SliceOutput<'a>>;
 
 /// What is in the buffer, by what a generator returned.
-fn told(alloc: Global, made: GenResult, context: Context<'_>) -> Answer {
+fn result_of(alloc: Global, made: GenResult, context: Context<'_>) -> Returned {
     let (output, position) = context.into_inner();
     match made {
         Ok(()) => {
@@ -29,46 +29,46 @@ fn told(alloc: Global, made: GenResult, context: Context<'_>) -> Answer {
 }
 
 /// What `gen_flags` writes.
-pub fn flags(alloc: Global, room: usize, flags: &AMQPFlags) -> Answer {
-    let mut buffer = vec![in alloc; 0; room]?;
+pub fn flags(alloc: Global, capacity: usize, flags: &AMQPFlags) -> Returned {
+    let mut buffer = vec![in alloc; 0; capacity]?;
     let mut x = WriteContext::from(SliceOutput::new(buffer.as_mut_slice()));
     let made = gen_flags(flags, &mut x);
-    told(alloc, made, x)
+    result_of(alloc, made, x)
 }
 
 /// What `gen_type` writes.
-pub fn amqp_type(alloc: Global, room: usize, amqp_type: AMQPType) -> Answer {
-    let mut buffer = vec![in alloc; 0; room]?;
+pub fn amqp_type(alloc: Global, capacity: usize, amqp_type: AMQPType) -> Returned {
+    let mut buffer = vec![in alloc; 0; capacity]?;
     let mut x = WriteContext::from(SliceOutput::new(buffer.as_mut_slice()));
     let made = gen_type(amqp_type, &mut x);
-    told(alloc, made, x)
+    result_of(alloc, made, x)
 }
 
 /// What `gen_id` writes.
-pub fn id(alloc: Global, room: usize, id: &str) -> Answer {
+pub fn id(alloc: Global, capacity: usize, id: &str) -> Returned {
     let Ok(id) = id.parse() else {
         return Err(Trouble::Unknown);
     };
-    let mut buffer = vec![in alloc; 0; room]?;
+    let mut buffer = vec![in alloc; 0; capacity]?;
     let mut x = WriteContext::from(SliceOutput::new(buffer.as_mut_slice()));
     let made = gen_id(id, &mut x);
-    told(alloc, made, x)
+    result_of(alloc, made, x)
 }
 
 /// What `gen_with_len` writes, of a closure that puts some bytes.
-pub fn with_len(alloc: Global, room: usize, bytes: &[u8]) -> Answer {
-    let mut buffer = vec![in alloc; 0; room]?;
+pub fn with_len(alloc: Global, capacity: usize, bytes: &[u8]) -> Returned {
+    let mut buffer = vec![in alloc; 0; capacity]?;
     let mut x = WriteContext::from(SliceOutput::new(buffer.as_mut_slice()));
     let made = gen_with_len(|x| x.put(bytes), &mut x);
-    told(alloc, made, x)
+    result_of(alloc, made, x)
 }
 
 /// What the generator of this name writes of a value, or of what it holds.
-pub fn value(alloc: Global, call: &str, room: usize, value: &AMQPValue) -> Answer {
-    let mut buffer = vec![in alloc; 0; room]?;
+pub fn value(alloc: Global, call: &str, capacity: usize, value: &AMQPValue) -> Returned {
+    let mut buffer = vec![in alloc; 0; capacity]?;
     let mut x = WriteContext::from(SliceOutput::new(buffer.as_mut_slice()));
     match generated(call, value, &mut x) {
-        Some(made) => told(alloc, made, x),
+        Some(made) => result_of(alloc, made, x),
         None => Err(Trouble::Unknown),
     }
 }
@@ -103,7 +103,7 @@ fn generated(call: &str, value: &AMQPValue, x: &mut Context<'_>) -> Option<GenRe
 }
 
 /// What `gen_value` appends to these bytes.
-pub fn append(alloc: Global, before: Vec<u8>, value: &AMQPValue) -> Answer {
+pub fn append(alloc: Global, before: Vec<u8>, value: &AMQPValue) -> Returned {
     let count = before.len();
     let mut x = WriteContext::from(before);
     if let Err(error) = gen_value(value, &mut x) {

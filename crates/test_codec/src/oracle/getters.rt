@@ -1,6 +1,6 @@
 //! Getters, and conversions from what a value holds.
 
-use super::Answer;
+use super::Returned;
 use super::values::{array_text, decimal_text, table_text, value_text};
 use super::words::digits;
 use amq_protocol_types::AMQPValue;
@@ -9,7 +9,7 @@ use std::fmt::Display;
 
 /// The type, and the getters that return something, each with what; then the value again, made of
 /// that by `From`.
-pub fn told(alloc: Global, value: AMQPValue) -> Answer {
+pub fn result_of(alloc: Global, value: AMQPValue) -> Returned {
     let mut text = String::new(alloc);
     let amqp_type = value.get_type();
     write!(text, "{amqp_type}")?;

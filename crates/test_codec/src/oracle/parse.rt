@@ -2,7 +2,7 @@
 
 use super::values::{array_text, decimal_text, table_text, value_text};
 use super::words::{digits, flags_text, names_of};
-use super::{Answer, Trouble};
+use super::{Returned, Trouble};
 use amq_protocol_types::AMQPType;
 use amq_protocol_types::flags::AMQPFlags;
 use amq_protocol_types::parsing::traits::ParsableInput;
@@ -19,7 +19,7 @@ use std::fmt::Display;
 
 /// What a parser of this name returns. In two slices, cut in the middle and after the first byte,
 /// it is the same, or both are shown.
-pub fn parse(alloc: Global, call: &str, bytes: &[u8]) -> Answer {
+pub fn parse(alloc: Global, call: &str, bytes: &[u8]) -> Returned {
     let whole = parse_from(alloc, call, SliceInput::new(bytes))?;
     for at in [bytes.len().min(1), bytes.len() / 2] {
         let (first, second) = bytes.split_at(at);
@@ -31,8 +31,8 @@ pub fn parse(alloc: Global, call: &str, bytes: &[u8]) -> Answer {
     Ok(whole)
 }
 
-/// The same of `parse_raw_value`.
-pub fn parse_raw(alloc: Global, amqp_type: AMQPType, bytes: &[u8]) -> Answer {
+/// What `parse_raw_value` returns, in one slice and in two, if that differs both.
+pub fn parse_raw(alloc: Global, amqp_type: AMQPType, bytes: &[u8]) -> Returned {
     let whole = raw_from(alloc, amqp_type, SliceInput::new(bytes))?;
     let (first, second) = bytes.split_at(bytes.len() / 2);
     let split = raw_from(alloc, amqp_type, SplitInput::new(first, second))?;
@@ -43,12 +43,12 @@ pub fn parse_raw(alloc: Global, amqp_type: AMQPType, bytes: &[u8]) -> Answer {
 }
 
 /// What is read of one slice and of two, if that differs.
-fn both(alloc: Global, whole: &str, split: &str) -> Answer {
+fn both(alloc: Global, whole: &str, split: &str) -> Returned {
     Ok(format!(in alloc; "{whole}, and in two slices {split}")?)
 }
 
 /// What a parser returns: a value, already as a word, and the bytes after it, or an error.
-fn told<I: ParsableInput>(alloc: Global, held: &str, rest: I) -> Answer {
+fn result_of<I: ParsableInput>(alloc: Global, held: &str, rest: I) -> Returned {
     let mut bytes = Vec::new(alloc);
     for at in 0..rest.input_len() {
         bytes.push(rest.byte_at(at))?;
@@ -57,7 +57,7 @@ fn told<I: ParsableInput>(alloc: Global, held: &str, rest: I) -> Answer {
     Ok(format!(in alloc; "ok {held} rest {rest}")?)
 }
 
-fn refused(alloc: Global, error: ParserError) -> Answer {
+fn refused(alloc: Global, error: ParserError) -> Returned {
     match error {
         Err::Incomplete(Needed::Size(count)) => Ok(format!(in alloc; "incomplete {count}")?),
         Err::Incomplete(Needed::Unknown) => Ok(format!(in alloc; "incomplete unknown")?),
@@ -66,22 +66,25 @@ fn refused(alloc: Global, error: ParserError) -> Answer {
     }
 }
 
-fn raw_from<I: ParsableInput>(alloc: Global, amqp_type: AMQPType, input: I) -> Answer {
+fn raw_from<I: ParsableInput>(alloc: Global, amqp_type: AMQPType, input: I) -> Returned {
     match parse_raw_value(alloc, amqp_type, input) {
-        Ok((rest, value)) => told(alloc, value_text(alloc, &value)?.as_str(), rest),
+        Ok((rest, value)) => result_of(alloc, value_text(alloc, &value)?.as_str(), rest),
         Err(error) => refused(alloc, error),
     }
 }
 
 /// What a parser returns whose value is printed as it is held.
-fn plain<I: ParsableInput, T: Display + Drop>(alloc: Global, parsed: ParserResult<I, T>) -> Answer {
+fn plain<I: ParsableInput, T: Display + Drop>(
+    alloc: Global,
+    parsed: ParserResult<I, T>,
+) -> Returned {
     match parsed {
-        Ok((rest, it)) => told(alloc, format!(in alloc; "{it}")?.as_str(), rest),
+        Ok((rest, it)) => result_of(alloc, format!(in alloc; "{it}")?.as_str(), rest),
         Err(error) => refused(alloc, error),
     }
 }
 
-fn parse_from<I: ParsableInput>(alloc: Global, call: &str, input: I) -> Answer {
+fn parse_from<I: ParsableInput>(alloc: Global, call: &str, input: I) -> Returned {
     match call {
         "parse_type" => plain(alloc, parse_type(input)),
         "parse_id" => plain(alloc, parse_id(input)),
@@ -99,7 +102,7 @@ fn parse_from<I: ParsableInput>(alloc: Global, call: &str, input: I) -> Answer {
     }
 }
 
-fn parse_other<I: ParsableInput>(alloc: Global, call: &str, input: I) -> Answer {
+fn parse_other<I: ParsableInput>(alloc: Global, call: &str, input: I) -> Returned {
     let (held, rest) = match call {
         "parse_value" => match parse_value(alloc, input) {
             Ok((rest, it)) => (value_text(alloc, &it)?, rest),
@@ -139,7 +142,7 @@ fn parse_other<I: ParsableInput>(alloc: Global, call: &str, input: I) -> Answer 
         },
         _ => return Err(Trouble::Unknown),
     };
-    told(alloc, held.as_str(), rest)
+    result_of(alloc, held.as_str(), rest)
 }
 
 /// The names as they are passed.
@@ -152,7 +155,7 @@ fn listed<'a>(alloc: Global, names: &'a [String]) -> Result<Vec<&'a str>, AllocE
 }
 
 /// What `parse_flags` returns, of one slice and of two.
-pub fn parse_named(alloc: Global, names: &str, bytes: &[u8]) -> Answer {
+pub fn parse_named(alloc: Global, names: &str, bytes: &[u8]) -> Returned {
     let names = names_of(alloc, names)?;
     let names = listed(alloc, names.as_slice())?;
     let whole = flags_from(alloc, SliceInput::new(bytes), names.as_slice())?;
@@ -164,18 +167,18 @@ pub fn parse_named(alloc: Global, names: &str, bytes: &[u8]) -> Answer {
     Ok(whole)
 }
 
-fn flags_from<I: ParsableInput>(alloc: Global, input: I, names: &[&str]) -> Answer {
+fn flags_from<I: ParsableInput>(alloc: Global, input: I, names: &[&str]) -> Returned {
     match parse_flags(alloc, input, names) {
         Ok((rest, flags)) => {
             let held = flags_text(alloc, &flags, names)?;
-            told(alloc, held.as_str(), rest)
+            result_of(alloc, held.as_str(), rest)
         }
         Err(error) => refused(alloc, error),
     }
 }
 
 /// What `AMQPFlags::from_bytes` returns, of one slice and of two.
-pub fn flags_from_bytes(alloc: Global, names: &str, bytes: &[u8]) -> Answer {
+pub fn flags_from_bytes(alloc: Global, names: &str, bytes: &[u8]) -> Returned {
     let names = names_of(alloc, names)?;
     let names = listed(alloc, names.as_slice())?;
     let whole = unpacked(alloc, SliceInput::new(bytes), names.as_slice())?;
@@ -187,7 +190,7 @@ pub fn flags_from_bytes(alloc: Global, names: &str, bytes: &[u8]) -> Answer {
     Ok(whole)
 }
 
-fn unpacked<I: ParsableInput>(alloc: Global, input: I, names: &[&str]) -> Answer {
+fn unpacked<I: ParsableInput>(alloc: Global, input: I, names: &[&str]) -> Returned {
     let flags = AMQPFlags::from_bytes(alloc, names, input)?;
     Ok(flags_text(alloc, &flags, names)?)
 }

@@ -74,6 +74,6 @@ fn strings_are_read(rt: HostRuntime) -> Result<(), Fail> {
 #[test]
 fn a_short_string_is_utf_8(rt: HostRuntime) {
     let input = SliceInput::new(&[1, 255]);
-    let answer = parse_raw_value(rt.alloc(), AMQPType::ShortString, input);
-    assert!(rt; refuses(answer, ErrorKind::MapRes));
+    let returned = parse_raw_value(rt.alloc(), AMQPType::ShortString, input);
+    assert!(rt; refuses(returned, ErrorKind::MapRes));
 }

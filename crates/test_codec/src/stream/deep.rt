@@ -17,12 +17,12 @@ fn arrays(alloc: Global) -> Result<Vec<u8>, AllocError> {
 }
 
 // A reader that yields the bytes returns this, and an input of them results in that.
-fn are_answered(
+fn are_returned(
     rt: &impl Abort,
     alloc: Global,
     bytes: &[u8],
     depth: u32,
-    answers: &[Answer<'_>],
+    all_returned: &[Returned<'_>],
     outcome: Outcome<'_>,
 ) {
     let limits = Limits { frame: 1000, depth };
@@ -30,12 +30,12 @@ fn are_answered(
         says: "arrays in one another",
         limits,
         events: &[Event::Gives(bytes)],
-        answers,
+        all_returned,
         left: &[],
     };
     holds(rt, alloc, row);
-    let answer = parse_value_within(alloc, SliceInput::new(bytes), limits);
-    assert!(rt; comes_to(alloc, answer, outcome), "at depth {depth}");
+    let returned = parse_value_within(alloc, SliceInput::new(bytes), limits);
+    assert!(rt; comes_to(alloc, returned, outcome), "at depth {depth}");
 }
 
 #[test]
@@ -46,20 +46,20 @@ fn arrays_nest_no_deeper_than_the_limit(rt: HostRuntime) -> Result<(), Fail> {
     assert!(rt; bytes.starts_with(&[65, 0, 0, 3, 227, 65, 0, 0, 3, 222]));
     assert!(rt; bytes.ends_with(&[65, 0, 0, 0, 5, 65, 0, 0, 0, 0]));
     let outcome = Outcome::Value(bytes, 0);
-    are_answered(
+    are_returned(
         &rt,
         rt.alloc(),
         bytes,
         200,
-        &[Answer::Value(bytes), Answer::End],
+        &[Returned::Value(bytes), Returned::End],
         outcome,
     );
-    are_answered(
+    are_returned(
         &rt,
         rt.alloc(),
         bytes,
         199,
-        &[Answer::Refused(ErrorKind::Eof), Answer::Failed],
+        &[Returned::Refused(ErrorKind::Eof), Returned::Failed],
         Outcome::Refused(ErrorKind::Eof),
     );
     Ok(())

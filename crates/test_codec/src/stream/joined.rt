@@ -19,17 +19,17 @@ const WIRES: &[&[u8]] = &[
 ];
 
 /// What is returned to them: the values that are written so.
-const ANSWERS: &[Answer<'static>] = &[
-    Answer::Value(TABLE),
-    Answer::Value(&[116, 1]),
-    Answer::Value(&[115, 0, 5]),
-    Answer::Value(&[108, 255, 255, 255, 255, 255, 255, 255, 255]),
-    Answer::Value(&[70, 0, 0, 0, 4, 1, 97, 116, 0]),
-    Answer::Value(&[65, 0, 0, 0, 8, 70, 0, 0, 0, 3, 1, 97, 86]),
-    Answer::Value(&[70, 0, 0, 0, 6, 1, 97, 86, 1, 98, 86]),
-    Answer::Value(&[65, 0, 0, 0, 0]),
-    Answer::Value(&[120, 0, 0, 0, 2, 255, 0]),
-    Answer::End,
+const ALL_RETURNED: &[Returned<'static>] = &[
+    Returned::Value(TABLE),
+    Returned::Value(&[116, 1]),
+    Returned::Value(&[115, 0, 5]),
+    Returned::Value(&[108, 255, 255, 255, 255, 255, 255, 255, 255]),
+    Returned::Value(&[70, 0, 0, 0, 4, 1, 97, 116, 0]),
+    Returned::Value(&[65, 0, 0, 0, 8, 70, 0, 0, 0, 3, 1, 97, 86]),
+    Returned::Value(&[70, 0, 0, 0, 6, 1, 97, 86, 1, 98, 86]),
+    Returned::Value(&[65, 0, 0, 0, 0]),
+    Returned::Value(&[120, 0, 0, 0, 2, 255, 0]),
+    Returned::End,
 ];
 
 /// All encodings in one.
@@ -42,19 +42,19 @@ pub(super) fn joined(alloc: Global) -> Result<Vec<u8>, AllocError> {
 }
 
 // Within a limit `frame` of n bytes this is returned of them, and this is left.
-fn are_answered(
+fn are_returned(
     rt: &impl Abort,
     alloc: Global,
     wires: &[u8],
     frame: u32,
-    answers: &[Answer<'_>],
+    all_returned: &[Returned<'_>],
     left: &[u8],
 ) {
     let row = Row {
         says: "joined wires",
         limits: Limits { frame, depth: 2 },
         events: &[Event::Gives(wires)],
-        answers,
+        all_returned,
         left,
     };
     holds(rt, alloc, row);
@@ -65,9 +65,9 @@ fn are_read_one_by_one(rt: HostRuntime) -> Result<(), Fail> {
     let bytes = joined(rt.alloc())?;
     let wires = bytes.as_slice();
     assert_eq!(rt; wires.len(), 265);
-    are_answered(&rt, rt.alloc(), wires, 199, ANSWERS, &[]);
-    let refused = [Answer::Refused(ErrorKind::TooLarge), Answer::Failed];
-    are_answered(&rt, rt.alloc(), wires, 198, &refused, &wires[5..]);
+    are_returned(&rt, rt.alloc(), wires, 199, ALL_RETURNED, &[]);
+    let refused = [Returned::Refused(ErrorKind::TooLarge), Returned::Failed];
+    are_returned(&rt, rt.alloc(), wires, 198, &refused, &wires[5..]);
     Ok(())
 }
 
@@ -82,9 +82,9 @@ fn are_read_as_by_themselves(rt: HostRuntime) -> Result<(), Fail> {
     };
     let mut values = Values::new(rt.alloc(), limits);
     for wire in WIRES {
-        let answer = values.next_from(&mut reader);
+        let returned = values.next_from(&mut reader);
         assert!(rt;
-            answers(rt.alloc(), answer, Answer::Value(wire)),
+            all_returned(rt.alloc(), returned, Returned::Value(wire)),
             "at {wire:?}"
         );
     }

@@ -12,8 +12,8 @@ fn long_wire(alloc: Global) -> Result<Vec<u8>, AllocError> {
 }
 
 // whether a value is a string of n bytes 7
-fn is_text_of_sevens(answer: Result<Option<AMQPValue>, StreamError>, length: usize) -> bool {
-    match answer {
+fn is_text_of_sevens(returned: Result<Option<AMQPValue>, StreamError>, length: usize) -> bool {
+    match returned {
         Ok(Some(AMQPValue::LongString(text))) => {
             text.len() == length && text.as_bytes().iter().all(|byte| *byte == 7)
         }

@@ -77,10 +77,10 @@ const CASES: &[(u32, u32, &[u8], Outcome<'static>)] = &[
 // whether an input results in that
 pub(super) fn comes_to<I: ParsableInput>(
     alloc: Global,
-    answer: ParserResult<I, AMQPValue>,
+    returned: ParserResult<I, AMQPValue>,
     want: Outcome<'_>,
 ) -> bool {
-    match answer {
+    match returned {
         Ok((rest, value)) => match want {
             Value(wire, left) => rest.input_len() == left && is_wire_of(alloc, wire, &value),
             _ => false,
@@ -92,23 +92,23 @@ pub(super) fn comes_to<I: ParsableInput>(
 }
 
 // One slice results in that, and so do two, wherever the bytes are cut.
-fn answers_over_each_cut(
+fn outcomes_over_each_cut(
     rt: &impl Abort,
     alloc: Global,
     bytes: &[u8],
     limits: Limits,
     want: Outcome<'_>,
 ) {
-    let answer = parse_value_within(alloc, SliceInput::new(bytes), limits);
+    let returned = parse_value_within(alloc, SliceInput::new(bytes), limits);
     assert!(rt;
-        comes_to(alloc, answer, want),
+        comes_to(alloc, returned, want),
         "{bytes:?} within {limits:?}"
     );
     for at in 0..bytes.len() + 1 {
         let (first, second) = bytes.split_at(at);
-        let answer = parse_value_within(alloc, SplitInput::new(first, second), limits);
+        let returned = parse_value_within(alloc, SplitInput::new(first, second), limits);
         assert!(rt;
-            comes_to(alloc, answer, want),
+            comes_to(alloc, returned, want),
             "{bytes:?} within {limits:?}, cut after {at}"
         );
     }
@@ -121,7 +121,7 @@ fn inputs_have_results_within_limits(rt: HostRuntime) {
             frame: *frame,
             depth: *depth,
         };
-        answers_over_each_cut(&rt, rt.alloc(), bytes, limits, *outcome);
+        outcomes_over_each_cut(&rt, rt.alloc(), bytes, limits, *outcome);
     }
 }
 

@@ -28,7 +28,7 @@ fn patient_next(
 ) -> Result<Option<AMQPValue>, StreamError> {
     match values.next_from(reader) {
         Err(StreamError::OutOfMemory) => values.next_from(reader),
-        answer => answer,
+        returned => returned,
     }
 }
 

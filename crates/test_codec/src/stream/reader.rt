@@ -1,8 +1,8 @@
 //! What a reader does, and what is returned to it.
 
 use super::*;
-use Answer::{End, Failed, Refused, Truncated, Value};
 use Event::{Ends, Fails, Gives};
+use Returned::{End, Failed, Refused, Truncated, Value};
 use std::io::ErrorKind::{BrokenPipe, Interrupted, TimedOut};
 use test_support::KINDS;
 
@@ -20,7 +20,7 @@ const ROWS: &[Row<'static>] = &[
         says: "values come one after another",
         limits: Limits { frame: 9, depth: 2 },
         events: &[Gives(&[86, 83, 0, 0, 0, 4, 116, 101, 115, 116, 83, 0, 0, 0, 5])],
-        answers: &[
+        all_returned: &[
             Value(&[86]),
             Value(TEST),
             Refused(ErrorKind::TooLarge),
@@ -38,10 +38,10 @@ const ROWS: &[Row<'static>] = &[
             Fails(TimedOut),
             Gives(&[0, 0, 4, 116, 101, 115, 116]),
         ],
-        answers: &[
-            Answer::Read(BrokenPipe),
-            Answer::Read(Interrupted),
-            Answer::Read(TimedOut),
+        all_returned: &[
+            Returned::Read(BrokenPipe),
+            Returned::Read(Interrupted),
+            Returned::Read(TimedOut),
             Value(TEST),
             End,
         ],
@@ -51,56 +51,56 @@ const ROWS: &[Row<'static>] = &[
         says: "an end inside a value is for good",
         limits: Limits { frame: 9, depth: 2 },
         events: &[Gives(&[84, 1, 2]), Ends, Gives(&[3, 4, 5, 6, 7, 8, 86])],
-        answers: &[Truncated, Failed, Failed],
+        all_returned: &[Truncated, Failed, Failed],
         left: &[3, 4, 5, 6, 7, 8, 86],
     },
     Row {
         says: "a fault and then an end",
         limits: Limits { frame: 9, depth: 2 },
         events: &[Gives(&[65, 0]), Fails(TimedOut), Ends],
-        answers: &[Answer::Read(TimedOut), Truncated, Failed],
+        all_returned: &[Returned::Read(TimedOut), Truncated, Failed],
         left: &[],
     },
     Row {
         says: "a bad body is for good",
         limits: Limits { frame: 9, depth: 2 },
         events: &[Gives(&[65, 0, 0, 0, 1, 122, 86, 86])],
-        answers: &[Refused(ErrorKind::Eof), Failed, Failed],
+        all_returned: &[Refused(ErrorKind::Eof), Failed, Failed],
         left: &[86, 86],
     },
     Row {
         says: "an unknown id is for good",
         limits: Limits { frame: 1, depth: 0 },
         events: &[Gives(&[86, 122, 86])],
-        answers: &[Value(&[86]), Refused(ErrorKind::MapOpt), Failed],
+        all_returned: &[Value(&[86]), Refused(ErrorKind::MapOpt), Failed],
         left: &[86],
     },
     Row {
         says: "a frame may be as long as the limit",
         limits: Limits { frame: 5, depth: 2 },
         events: &[Gives(&[65, 0, 0, 0, 0])],
-        answers: &[Value(&[65, 0, 0, 0, 0]), End],
+        all_returned: &[Value(&[65, 0, 0, 0, 0]), End],
         left: &[],
     },
     Row {
         says: "a frame that is longer stays where it is",
         limits: Limits { frame: 4, depth: 2 },
         events: &[Gives(&[65, 0, 0, 0, 0])],
-        answers: &[Refused(ErrorKind::TooLarge), Failed],
+        all_returned: &[Refused(ErrorKind::TooLarge), Failed],
         left: &[0, 0, 0, 0],
     },
     Row {
         says: "what is behind a value stays",
         limits: Limits { frame: 9, depth: 2 },
         events: &[Gives(&[83, 0, 0, 0, 4, 116, 101, 115, 116, 86, 65, 0])],
-        answers: &[Value(TEST)],
+        all_returned: &[Value(TEST)],
         left: &[86, 65, 0],
     },
     Row {
         says: "an end between values is none",
         limits: Limits { frame: 9, depth: 2 },
         events: &[Ends, Gives(&[86])],
-        answers: &[End, Value(&[86]), End],
+        all_returned: &[End, Value(&[86]), End],
         left: &[],
     },
     Row {
@@ -110,7 +110,7 @@ const ROWS: &[Row<'static>] = &[
             depth: 2,
         },
         events: &[Gives(&[65, 0, 0, 0, 5, 65, 0, 0, 0, 0, 86])],
-        answers: &[Value(NESTED), Value(&[86]), End],
+        all_returned: &[Value(NESTED), Value(&[86]), End],
         left: &[],
     },
     Row {
@@ -120,14 +120,14 @@ const ROWS: &[Row<'static>] = &[
             depth: 1,
         },
         events: &[Gives(&[65, 0, 0, 0, 5, 65, 0, 0, 0, 0, 86])],
-        answers: &[Refused(ErrorKind::Eof), Failed],
+        all_returned: &[Refused(ErrorKind::Eof), Failed],
         left: &[86],
     },
     Row {
         says: "a long frame is refused as soon as its length is there",
         limits: Limits { frame: 9, depth: 0 },
         events: &[Gives(NESTED)],
-        answers: &[Refused(ErrorKind::TooLarge), Failed],
+        all_returned: &[Refused(ErrorKind::TooLarge), Failed],
         left: &[65, 0, 0, 0, 0],
     },
     Row {
@@ -137,7 +137,7 @@ const ROWS: &[Row<'static>] = &[
             depth: 2,
         },
         events: &[Gives(DEEP_FIRST)],
-        answers: &[Refused(ErrorKind::Eof)],
+        all_returned: &[Refused(ErrorKind::Eof)],
         left: &[],
     },
     Row {
@@ -147,7 +147,7 @@ const ROWS: &[Row<'static>] = &[
             depth: 3,
         },
         events: &[Gives(DEEP_FIRST)],
-        answers: &[Value(&[70, 0, 0, 0, 3, 1, 97, 86])],
+        all_returned: &[Value(&[70, 0, 0, 0, 3, 1, 97, 86])],
         left: &[],
     },
     Row {
@@ -157,7 +157,7 @@ const ROWS: &[Row<'static>] = &[
             depth: 0,
         },
         events: &[Gives(&[83, 255, 255, 255, 250])],
-        answers: &[Truncated, Failed],
+        all_returned: &[Truncated, Failed],
         left: &[],
     },
     Row {
@@ -167,7 +167,7 @@ const ROWS: &[Row<'static>] = &[
             depth: 0,
         },
         events: &[Gives(&[83, 255, 255, 255, 251, 7])],
-        answers: &[Refused(ErrorKind::TooLarge), Failed],
+        all_returned: &[Refused(ErrorKind::TooLarge), Failed],
         left: &[7],
     },
     Row {
@@ -177,7 +177,7 @@ const ROWS: &[Row<'static>] = &[
             depth: 0,
         },
         events: &[Gives(&[83, 255, 255, 255, 255, 7])],
-        answers: &[Refused(ErrorKind::TooLarge), Failed],
+        all_returned: &[Refused(ErrorKind::TooLarge), Failed],
         left: &[7],
     },
 ];
@@ -207,12 +207,12 @@ fn it_goes_on_after_a_fault(rt: HostRuntime) {
                 Fails(kind),
                 Gives(&[86]),
             ],
-            answers: &[
-                Answer::Read(kind),
-                Answer::Read(kind),
-                Answer::Read(kind),
+            all_returned: &[
+                Returned::Read(kind),
+                Returned::Read(kind),
+                Returned::Read(kind),
                 Value(TEST),
-                Answer::Read(kind),
+                Returned::Read(kind),
                 Value(&[86]),
                 End,
                 End,
@@ -259,8 +259,8 @@ fn asks_nothing_once_it_has_failed(rt: HostRuntime) {
     };
     let mut values = Values::new(rt.alloc(), Limits { frame: 9, depth: 2 });
     for want in [Refused(ErrorKind::MapOpt), Failed] {
-        let answer = values.next_from(&mut reader);
-        assert!(rt; answers(rt.alloc(), answer, want));
+        let returned = values.next_from(&mut reader);
+        assert!(rt; all_returned(rt.alloc(), returned, want));
         assert_eq!(rt; reader.calls, 1);
     }
     assert_eq!(rt; reader.bytes, [86].as_slice());

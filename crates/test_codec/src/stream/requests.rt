@@ -104,11 +104,11 @@ fn asks_modestly_for(
     let mut reader = Noting::new(alloc, bytes, most);
     let mut values = Values::new(alloc, limits);
     for _ in 0..count {
-        let answer = values.next_from(&mut reader);
-        assert!(rt; matches!(answer, Ok(Some(_))), "{bytes:?}");
+        let returned = values.next_from(&mut reader);
+        assert!(rt; matches!(returned, Ok(Some(_))), "{bytes:?}");
     }
-    let answer = values.next_from(&mut reader);
-    assert!(rt; !matches!(answer, Ok(Some(_))), "{bytes:?}");
+    let returned = values.next_from(&mut reader);
+    assert!(rt; !matches!(returned, Ok(Some(_))), "{bytes:?}");
     let requests = reader.requests.as_slice();
     assert!(rt; !requests.is_empty() && are_modest(requests), "{bytes:?}");
 }
@@ -183,8 +183,8 @@ fn are_small_whatever_a_length_claims(rt: HostRuntime) {
     };
     let mut reader = Noting::new(rt.alloc(), &bytes, 4096);
     let mut values = Values::new(rt.alloc(), limits);
-    let answer = values.next_from(&mut reader);
-    assert!(rt; answers(rt.alloc(), answer, Answer::Truncated));
+    let returned = values.next_from(&mut reader);
+    assert!(rt; all_returned(rt.alloc(), returned, Returned::Truncated));
     let requests = reader.requests.as_slice();
     assert!(rt; !requests.is_empty() && are_modest(requests));
     assert!(rt; are_at_most(requests, 65536));

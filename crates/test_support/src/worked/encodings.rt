@@ -498,7 +498,7 @@ pub fn memory()
     ensures unknown { ¬ Heavy (hex "'_' 01 'x'") }
 {}
 
-/// The same of payloads, a short string's too.
+/// Only a complete payload of at least one byte after its length allocates, a short string's too.
 pub fn memory_of_payloads()
     ensures short_string { RawHeavy AMQPType.ShortString (hex "01 ff") }
     ensures empty { ¬ RawHeavy AMQPType.ShortString (hex "00 07") }

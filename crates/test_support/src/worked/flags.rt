@@ -13,7 +13,6 @@ pub fn packed_flags()
 {}
 
 /// Names are paired with bits as long as both last: a, b, c and so on with the lowest bits first.
-#[tactic(auto, unfolding(amq_protocol_types::specs::flags::Flags::low_bits))]
 pub fn unpacked_flags()
     ensures ten { unpack
         (codes "a" ∷ codes "b" ∷ codes "c" ∷ codes "d" ∷ codes "e" ∷ codes "f" ∷ codes "g" ∷ codes "h" ∷ codes "i" ∷ codes "j" ∷ [])

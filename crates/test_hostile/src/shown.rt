@@ -33,8 +33,8 @@ fn are_read_as(alloc: Global, bytes: &[u8], value: &AMQPValue) -> bool {
 
 /// A value that was read from n bytes is written to a buffer of n bytes, and read again.
 fn written(alloc: Global, value: &AMQPValue, taken: usize) -> io::Result<String> {
-    let mut room = vec![in alloc; 0; taken]?;
-    let mut x = WriteContext::from(SliceOutput::new(room.as_mut_slice()));
+    let mut buffer = vec![in alloc; 0; taken]?;
+    let mut x = WriteContext::from(SliceOutput::new(buffer.as_mut_slice()));
     if let Err(e) = gen_value(value, &mut x) {
         return Ok(format!(in alloc; "value, and not written: {e}")?);
     }
@@ -47,7 +47,7 @@ fn written(alloc: Global, value: &AMQPValue, taken: usize) -> io::Result<String>
 }
 
 /// What reading an input results in.
-fn answer<I: ParsableInput>(alloc: Global, input: I) -> io::Result<String> {
+fn outcome<I: ParsableInput>(alloc: Global, input: I) -> io::Result<String> {
     let count = input.input_len();
     match parse_value(alloc, input) {
         Ok((rest, value)) => {
@@ -65,9 +65,9 @@ fn answer<I: ParsableInput>(alloc: Global, input: I) -> io::Result<String> {
 /// Prints what reading some bytes results in. If it differs for the same bytes in two slices,
 /// cut in the middle, prints that too.
 pub fn tell<P: Print>(rt: &P, alloc: Global, name: &str, bytes: &[u8]) -> io::Result<()> {
-    let whole = answer(alloc, SliceInput::new(bytes))?;
+    let whole = outcome(alloc, SliceInput::new(bytes))?;
     let (first, second) = bytes.split_at(bytes.len() / 2);
-    let in_two = answer(alloc, SplitInput::new(first, second))?;
+    let in_two = outcome(alloc, SplitInput::new(first, second))?;
     println!(rt; "{name}: {whole}")?;
     if in_two.as_str() != whole.as_str() {
         println!(rt; "{name} in two slices: {in_two}")?;

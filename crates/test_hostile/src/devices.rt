@@ -82,13 +82,13 @@ fn fails<P: Print>(
         calls,
     };
     let mut x = WriteContext::from(IoOutput::new(device));
-    let answer = generate(name, made, &mut x);
-    let failed = answer.is_err();
+    let outcome = generate(name, made, &mut x);
+    let failed = outcome.is_err();
     let (output, position) = x.into_inner();
     let faults = output.faults();
     let taken = shown::bytes(alloc, output.into_inner().taken.as_slice())?;
     println!(rt;
-        "{name} after {calls}: {answer:?} position {position} faults {faults} taken {taken}"
+        "{name} after {calls}: {outcome:?} position {position} faults {faults} taken {taken}"
     )?;
     Ok(failed)
 }

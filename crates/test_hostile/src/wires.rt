@@ -77,7 +77,7 @@ pub fn built<P: Print>(rt: &P, alloc: Global) -> io::Result<()> {
 }
 
 /// Prints what each prefix of some bytes results in.
-pub fn fronts<P: Print>(rt: &P, alloc: Global, bytes: &[u8]) -> io::Result<()> {
+pub fn prefixes<P: Print>(rt: &P, alloc: Global, bytes: &[u8]) -> io::Result<()> {
     for n in 0..bytes.len() {
         let name = format!(in alloc; "the first {n} bytes")?;
         tell(rt, alloc, name.as_str(), &bytes[..n])?;

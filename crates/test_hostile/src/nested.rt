@@ -9,7 +9,7 @@ use amq_protocol_types::stream::{
     Limits, ValueReader, parse_field_array_within, parse_field_table_within, parse_value_within,
 };
 use amq_protocol_types::{AMQPValue, FieldArray, FieldTable, ShortString};
-use amqp_dissect::{End, dissect};
+use amqp_dissect::{End, dissect, dissect_partial};
 use amqp_in_place::rabbitmq::{first_problem, first_problem_in_table, warnings, warnings_in_table};
 use amqp_in_place::{
     TableRef, ValueRef, canonical_len, canonical_table_len, is_canonical, is_canonical_table,
@@ -44,7 +44,7 @@ pub fn run<P: Print, R: Read>(
         frame: FRAME,
         depth,
     };
-    let answer = match kind {
+    let outcome = match kind {
         "encoding" => of_encoding(alloc, name, bytes, limits),
         "payload" => of_payload(alloc, name, bytes, limits),
         "values" => of_values(alloc, name, bytes, limits),
@@ -53,19 +53,19 @@ pub fn run<P: Print, R: Read>(
         "text" => of_text(alloc, name, str::from_utf8(bytes).map_err(crate::unmade)?),
         _ => unknown(),
     }?;
-    println!(rt; "{answer}")
+    println!(rt; "{outcome}")
 }
 
 /// "done" if a call succeeded, otherwise its error.
-fn said<T: Drop, E: Debug + Drop>(alloc: Global, answer: Result<T, E>) -> io::Result<String> {
-    match answer {
-        Ok(_) => told(alloc, true),
+fn said<T: Drop, E: Debug + Drop>(alloc: Global, outcome: Result<T, E>) -> io::Result<String> {
+    match outcome {
+        Ok(_) => outcome_word(alloc, true),
         Err(e) => Ok(format!(in alloc; "{e:?}")?),
     }
 }
 
-/// The same of a call that returns no error.
-fn told(alloc: Global, is_done: bool) -> io::Result<String> {
+/// "done" if a call that returns no error succeeded, otherwise another word.
+fn outcome_word(alloc: Global, is_done: bool) -> io::Result<String> {
     Ok(String::from_str(alloc, if is_done { "done" } else { "refused" })?)
 }
 
@@ -87,12 +87,13 @@ fn of_encoding(alloc: Global, name: &str, bytes: &[u8], limits: Limits) -> io::R
         "to_owned" => owned(alloc, bytes, limits),
         "iter" => iterated(alloc, bytes, limits),
         "skip_value" => said(alloc, skip_value(bytes)),
-        "is_canonical" => told(alloc, is_canonical(bytes, limits)),
-        "canonical_len" => told(alloc, canonical_len(bytes, limits).is_some()),
+        "is_canonical" => outcome_word(alloc, is_canonical(bytes, limits)),
+        "canonical_len" => outcome_word(alloc, canonical_len(bytes, limits).is_some()),
         "measure_value" => said(alloc, measure_value(bytes, limits)),
-        "first_problem" => told(alloc, first_problem(bytes, limits).is_none()),
+        "first_problem" => outcome_word(alloc, first_problem(bytes, limits).is_none()),
         "warnings" => said(alloc, warnings(alloc, bytes, limits, 0)),
         "dissect" => dissected(alloc, bytes, limits),
+        "dissect_partial" => dissected_in_part(alloc, bytes, limits),
         "json_of_encoding" => said(alloc, json_of_encoding(alloc, bytes, limits)),
         _ => unknown(),
     }
@@ -105,10 +106,13 @@ fn of_payload(alloc: Global, name: &str, bytes: &[u8], limits: Limits) -> io::Re
         "parse_field_table" => said(alloc, parse_field_table(alloc, input)),
         "parse_field_table_within" => said(alloc, parse_field_table_within(alloc, input, limits)),
         "read_table_in_place" => said(alloc, read_table_in_place(bytes, limits)),
-        "is_canonical_table" => told(alloc, is_canonical_table(bytes, limits)),
-        "canonical_table_len" => told(alloc, canonical_table_len(bytes, limits).is_some()),
+        "is_canonical_table" => outcome_word(alloc, is_canonical_table(bytes, limits)),
+        "canonical_table_len" => outcome_word(alloc, canonical_table_len(bytes, limits).is_some()),
         "measure_table" => said(alloc, measure_table(bytes, limits)),
-        "first_problem_in_table" => told(alloc, first_problem_in_table(bytes, limits).is_none()),
+        "first_problem_in_table" => outcome_word(
+            alloc,
+            first_problem_in_table(bytes, limits).is_none(),
+        ),
         "warnings_in_table" => said(alloc, warnings_in_table(alloc, bytes, limits, 0)),
         _ => unknown(),
     }
@@ -126,9 +130,9 @@ fn of_values(alloc: Global, name: &str, bytes: &[u8], limits: Limits) -> io::Res
 /// Calls on a value in memory, which is dropped after them.
 fn of_tree(alloc: Global, name: &str, value: &AMQPValue) -> io::Result<String> {
     match name {
-        "drop" => told(alloc, true),
+        "drop" => outcome_word(alloc, true),
         "clone" => said(alloc, value.clone(alloc)),
-        "==" => told(alloc, *value == *value),
+        "==" => outcome_word(alloc, *value == *value),
         "gen_value" => {
             let mut x = WriteContext::from(Vec::new(alloc));
             said(alloc, gen_value(value, &mut x))
@@ -190,8 +194,17 @@ fn iterated(alloc: Global, bytes: &[u8], limits: Limits) -> io::Result<String> {
 /// The end of a dissection.
 fn dissected(alloc: Global, bytes: &[u8], limits: Limits) -> io::Result<String> {
     match dissect(alloc, bytes, limits)?.end {
-        End::Value => told(alloc, true),
+        End::Value => outcome_word(alloc, true),
         end => Ok(format!(in alloc; "{end:?}")?),
+    }
+}
+
+/// The end of the parts of an encoding without its last byte.
+fn dissected_in_part(alloc: Global, bytes: &[u8], limits: Limits) -> io::Result<String> {
+    let input = &bytes[..bytes.len().saturating_sub(1)];
+    match dissect_partial(alloc, input, limits)?.problem {
+        None => outcome_word(alloc, true),
+        Some(problem) => Ok(format!(in alloc; "{problem:?}")?),
     }
 }
 
@@ -220,7 +233,7 @@ fn table_of(alloc: Global, value: AMQPValue) -> io::Result<AMQPValue> {
     Ok(AMQPValue::FieldTable(table))
 }
 
-/// The same of JSON, with an opening bracket for each container.
+/// A JSON document of containers, one for each opening bracket.
 fn document(alloc: Global, brackets: &[u8]) -> io::Result<Value> {
     let mut value = Value::Null;
     for bracket in brackets {
@@ -245,10 +258,10 @@ fn walked(alloc: Global, value: ValueRef<'_>, depth: u32) -> io::Result<String> 
         inner = match inner {
             Some(ValueRef::FieldArray(array)) => array.iter().last(),
             Some(ValueRef::FieldTable(table)) => last_of(alloc, table)?,
-            _ => return told(alloc, false),
+            _ => return outcome_word(alloc, false),
         };
     }
-    told(alloc, inner.is_some())
+    outcome_word(alloc, inner.is_some())
 }
 
 /// The value at the key of the last pair.

@@ -22,7 +22,7 @@ use amq_protocol_types::stream::{
 use amq_protocol_types::{
     AMQPType, AMQPValue, ByteArray, FieldArray, FieldTable, LongString, ShortString,
 };
-use amqp_dissect::{dissect, escape};
+use amqp_dissect::{dissect, dissect_partial, escape};
 use amqp_in_place::rabbitmq::{warnings, warnings_in_table};
 use amqp_in_place::{ValueRef, read_in_place, read_table_in_place};
 use amqp_json::{
@@ -71,7 +71,7 @@ fn tell<P: Print, T: PartialEq + Drop, E: Debug + Drop>(
     }
 }
 
-/// The same of bytes.
+/// Prints whether a call returned these bytes.
 fn tell_bytes<P: Print, E: Debug + Drop>(
     rt: &P,
     name: &str,
@@ -173,6 +173,14 @@ fn generated<P: Print>(rt: &P, alloc: Global, bytes: &[u8], value: &AMQPValue) -
         "dissect {:?} {} parts",
         dissection.end,
         dissection.parts.len()
+    )?;
+    drop(dissection);
+    let input = &bytes[..bytes.len().saturating_sub(1)];
+    let partial = dissect_partial(alloc, input, WIDE)?;
+    println!(rt;
+        "dissect_partial {:?} {} parts",
+        partial.problem,
+        partial.parts.len()
     )
 }
 
@@ -297,7 +305,7 @@ fn inserted(alloc: Global, from: &FieldTable) -> Result<FieldTable, AllocError> 
     Ok(table)
 }
 
-/// The same by `place`.
+/// A table whose pairs are inserted one by one with `place`.
 fn placed(alloc: Global, from: &FieldTable) -> Result<FieldTable, AllocError> {
     let mut table = FieldTable::new_in(alloc);
     for (key, value) in from {
@@ -306,7 +314,7 @@ fn placed(alloc: Global, from: &FieldTable) -> Result<FieldTable, AllocError> {
     Ok(table)
 }
 
-/// The same by `from_pairs`.
+/// A table that `from_pairs` makes of all pairs.
 fn gathered(alloc: Global, from: &FieldTable) -> Result<FieldTable, AllocError> {
     let mut pairs: Vec<(ShortString, AMQPValue)> = Vec::new(alloc);
     for (key, value) in from {

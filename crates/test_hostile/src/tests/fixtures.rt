@@ -123,8 +123,8 @@ fn is_written(rt: &impl Abort, alloc: Global, value: &AMQPValue, wire: &[u8]) ->
     let mut context = WriteContext::from(Vec::new(alloc));
     gen_raw_value(value, &mut context)?;
     assert!(rt; context.into_inner().0.as_slice() == payload_of(wire));
-    let mut room = vec![in alloc; 0u8; wire.len()]?;
-    let mut context = WriteContext::from(SliceOutput::new(room.as_mut_slice()));
+    let mut buffer = vec![in alloc; 0u8; wire.len()]?;
+    let mut context = WriteContext::from(SliceOutput::new(buffer.as_mut_slice()));
     gen_value(value, &mut context)?;
     assert!(rt; context.into_inner().0.written() == wire);
     Ok(())

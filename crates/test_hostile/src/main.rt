@@ -1,17 +1,21 @@
-//! What hostile input, small buffers and failing devices result in, a line for each.
+//! What hostile input, small buffers, failing devices and large input result in, a line for each.
 //!
 //! Standard input has a line of hexadecimal, the encoding of a value. What is made of it here: each
 //! prefix of it, each of its bytes replaced, each buffer that is too small, and each call of a
 //! device that writes it failed.
 //!
 //! With three words, what a call is made on, its name, and how deep containers may nest, only
-//! that call is made, on what standard input has.
+//! that call is made, on what standard input has. With one, what is large on standard input, the
+//! calls are made that may run out of memory on it.
 #![tactic(auto)]
 
+mod capacities;
 mod devices;
+mod large;
 mod nested;
-mod rooms;
 mod shown;
+#[cfg(test)]
+mod tests;
 mod wires;
 
 use amq_protocol_types::AMQPValue;
@@ -28,7 +32,7 @@ fn main(rt: HostRuntime) -> ExitCode {
     }
 }
 
-/// Makes the call that the words name, or prints all of it.
+/// Makes the call, or the calls on what is large, that the words name, or prints all of it.
 fn run(rt: &HostRuntime) -> io::Result<()> {
     let mut words = env::args(rt)?.skip(1);
     let mut input = rt.stdin();
@@ -38,6 +42,7 @@ fn run(rt: &HostRuntime) -> io::Result<()> {
             let call = (kind.as_str(), name.as_str());
             nested::run(rt, rt.alloc(), call, depth, &mut input)
         }
+        (Some(kind), None, None) => large::run(rt, rt.alloc(), kind.as_str(), &mut input),
         _ => run_all(rt, rt.alloc(), &mut input),
     }
 }
@@ -46,10 +51,10 @@ fn run(rt: &HostRuntime) -> io::Result<()> {
 fn run_all<P: Print, R: Read>(rt: &P, alloc: Global, input: &mut R) -> io::Result<()> {
     let bytes = encoding(alloc, input)?;
     wires::built(rt, alloc)?;
-    wires::fronts(rt, alloc, bytes.as_slice())?;
+    wires::prefixes(rt, alloc, bytes.as_slice())?;
     wires::replaced(rt, alloc, bytes.as_slice())?;
     let (_, value) = parse_value(alloc, SliceInput::new(bytes.as_slice())).map_err(unmade)?;
-    rooms::run(rt, alloc, &value)?;
+    capacities::run(rt, alloc, &value)?;
     devices::run(rt, alloc)
 }
 
