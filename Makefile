@@ -1,27 +1,39 @@
-# Makes and installs the C library and amqp_show. It needs the Rattle kit; what is installed doesn't.
-PREFIX = /usr/local
-DESTDIR =
-FOLDER = out/dist
+# Makes, installs and packs the C library and amqp_show. `make` and `make check` need the Rattle kit and what .ci/setup
+# installs; what is installed or packed needs neither.
 TARGET = x86_64-unknown-linux-gnu
+FOLDER = out/dist
+AARCH64 = aarch64-unknown-linux-gnu
+OF_AARCH64 = out/aarch64
+INSTALL_SH = packaging/install.sh
 
-all: $(FOLDER)
+all: $(FOLDER)/checksums
 
-# the crates are proved first, in some 40 minutes
-$(FOLDER):
-	.ci/dist $@
+include packaging/install.mk
+
+# The crates are proved first, in some 40 minutes. A run that fails leaves no folder.
+SOURCES := $(shell .ci/dist --sources)
+
+$(FOLDER)/checksums: $(SOURCES)
+	.ci/dist --target $(TARGET) "$(FOLDER)"
+
+$(OF_AARCH64)/checksums: $(SOURCES)
+	.ci/dist --target $(AARCH64) "$(OF_AARCH64)"
 
 check:
 	tests/c/run
-
-install: all
-	mkdir -p "$(DESTDIR)$(PREFIX)"
-	cp -dR $(FOLDER)/. "$(DESTDIR)$(PREFIX)"
 
 # the archive at the place at which bindings/rust/amqp-values-sys links it
 rust: all
 	install -D -m 644 $(FOLDER)/lib/libamqp_values.a bindings/rust/amqp-values-sys/lib/$(TARGET)/libamqp_values.a
 
-dist: all
-	tar -C $(FOLDER) -czf out/amqp_values.tar.gz .
+# a release for both processors, and packages of Debian for x86-64
+dist: all $(OF_AARCH64)/checksums
+	.ci/pack "$(FOLDER)" "$(OF_AARCH64)"
 
-.PHONY: all check install rust dist
+deb: all
+	.ci/deb "$(FOLDER)"
+
+clean:
+	rm -rf out/dist out/aarch64 out/packed out/deb
+
+.PHONY: check rust dist deb clean

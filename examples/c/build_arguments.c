@@ -8,55 +8,55 @@
 #include <stdlib.h>
 #include <string.h>
 
-static uint8_t room[256];
-static size_t room_length = sizeof room;
+static uint8_t buffer[256];
+static size_t capacity = sizeof buffer;
 
 /* The first result that isn't AMQPV_OK; then nothing more is appended. */
-static amqpv_result answer;
+static amqpv_result result;
 
 static void put_int(amqpv_container *into, const char *key, uint8_t tag, int64_t number) {
-    if (answer == AMQPV_OK) {
-        answer = amqpv_put_int(room, room_length, into, key, strlen(key), tag, number);
+    if (result == AMQPV_OK) {
+        result = amqpv_put_int(buffer, capacity, into, key, strlen(key), tag, number);
     }
 }
 
 static void put_bool(amqpv_container *into, const char *key, int truth) {
-    if (answer == AMQPV_OK) {
-        answer = amqpv_put_bool(room, room_length, into, key, strlen(key), truth);
+    if (result == AMQPV_OK) {
+        result = amqpv_put_bool(buffer, capacity, into, key, strlen(key), truth);
     }
 }
 
 static void put_void(amqpv_container *into, const char *key) {
-    if (answer == AMQPV_OK) {
-        answer = amqpv_put_void(room, room_length, into, key, strlen(key));
+    if (result == AMQPV_OK) {
+        result = amqpv_put_void(buffer, capacity, into, key, strlen(key));
     }
 }
 
 static void put_text(amqpv_container *into, const char *key, const char *text) {
-    if (answer == AMQPV_OK) {
-        answer = amqpv_put_string(room, room_length, into, key, strlen(key), text, strlen(text));
+    if (result == AMQPV_OK) {
+        result = amqpv_put_string(buffer, capacity, into, key, strlen(key), text, strlen(text));
     }
 }
 
 static amqpv_container open_in(const amqpv_container *into, const char *key, uint8_t tag) {
     amqpv_container body = {{0, 0}, tag};
-    if (answer == AMQPV_OK) {
-        answer = amqpv_open(room, room_length, into, key, strlen(key), tag, &body);
+    if (result == AMQPV_OK) {
+        result = amqpv_open(buffer, capacity, into, key, strlen(key), tag, &body);
     }
     return body;
 }
 
 static void close_in(amqpv_container *into, const amqpv_container *body) {
-    if (answer == AMQPV_OK) {
-        answer = amqpv_close(room, room_length, into, body);
+    if (result == AMQPV_OK) {
+        result = amqpv_close(buffer, capacity, into, body);
     }
 }
 
 int main(int count, char **words) {
     if (count > 1) {
-        room_length = strtoul(words[1], NULL, 10);
+        capacity = strtoul(words[1], NULL, 10);
     }
-    if (room_length > sizeof room) {
+    if (capacity > sizeof buffer) {
         return 2;
     }
     amqpv_container top = {{0, 0}, AMQPV_ARRAY};
@@ -72,12 +72,12 @@ int main(int count, char **words) {
     put_void(&hosts, "");
     close_in(&arguments, &hosts);
     close_in(&top, &arguments);
-    if (answer != AMQPV_OK) {
-        printf("%s\n", amqpv_strerror(answer));
+    if (result != AMQPV_OK) {
+        printf("%s\n", amqpv_strerror(result));
         return 1;
     }
     for (size_t i = 0; i < top.written.length; i++) {
-        printf("%02x", room[i]);
+        printf("%02x", buffer[i]);
     }
     putchar('\n');
     return 0;

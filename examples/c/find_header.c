@@ -17,15 +17,15 @@ int main(int count, char **words) {
     size_t taken;
     amqpv_entry entry;
     amqpv_cursor cursor;
-    amqpv_result answer = amqpv_read(bytes, length, AMQPV_FRAME, AMQPV_DEPTH, &entry, &taken);
-    if (answer == AMQPV_OK) {
-        answer = amqpv_enter(bytes, length, &entry, &cursor);
+    amqpv_result result = amqpv_read(bytes, length, AMQPV_FRAME, AMQPV_DEPTH, &entry, &taken);
+    if (result == AMQPV_OK) {
+        result = amqpv_enter(bytes, length, &entry, &cursor);
     }
-    if (answer == AMQPV_OK) {
-        answer = amqpv_find(bytes, length, &cursor, words[1], strlen(words[1]), &entry);
+    if (result == AMQPV_OK) {
+        result = amqpv_find(bytes, length, &cursor, words[1], strlen(words[1]), &entry);
     }
-    if (answer != AMQPV_OK) {
-        printf("%s\n", amqpv_strerror(answer));
+    if (result != AMQPV_OK) {
+        printf("%s\n", amqpv_strerror(result));
         return 1;
     }
     show_value(bytes, &entry);

@@ -6,15 +6,15 @@
 #include <stdio.h>
 #include <stdlib.h>
 
-/* Reads at most `room` bytes from a file, and returns how many. Anything else ends the program. */
-static size_t read_hexadecimal(FILE *file, unsigned char *bytes, size_t room) {
+/* Reads at most `capacity` bytes from a file, and returns how many. Anything else ends the program. */
+static size_t read_hexadecimal(FILE *file, unsigned char *bytes, size_t capacity) {
     size_t digits = 0;
     int c;
     while ((c = getc(file)) != EOF) {
         if (c == '#') {
             while ((c = getc(file)) != EOF && c != '\n') {
             }
-        } else if (isxdigit(c) && digits / 2 < room) {
+        } else if (isxdigit(c) && digits / 2 < capacity) {
             unsigned digit = isdigit(c) ? (unsigned)(c - '0') : (unsigned)(tolower(c) - 'a' + 10);
             unsigned char *byte = bytes + digits++ / 2;
             *byte = (unsigned char)(digits % 2 ? digit << 4 : *byte | digit);

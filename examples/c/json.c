@@ -12,12 +12,12 @@
 static uint8_t input[AMQPV_FRAME];
 static size_t input_length;
 
-static amqpv_result print_json(uint8_t *room, size_t room_length, size_t *count) {
-    return amqpv_to_json(input, input_length, AMQPV_FRAME, AMQPV_JSON_DEPTH, (char *)room, room_length, count);
+static amqpv_result print_json(uint8_t *buffer, size_t capacity, size_t *count) {
+    return amqpv_to_json(input, input_length, AMQPV_FRAME, AMQPV_JSON_DEPTH, (char *)buffer, capacity, count);
 }
 
-static amqpv_result print_encoding(uint8_t *room, size_t room_length, size_t *count) {
-    return amqpv_from_json((const char *)input, input_length, AMQPV_JSON_NESTING, room, room_length, count);
+static amqpv_result print_encoding(uint8_t *buffer, size_t capacity, size_t *count) {
+    return amqpv_from_json((const char *)input, input_length, AMQPV_JSON_NESTING, buffer, capacity, count);
 }
 
 int main(int count, char **words) {
@@ -27,20 +27,20 @@ int main(int count, char **words) {
 
     uint8_t none;
     size_t needed;
-    uint8_t *room = &none;
-    amqpv_result answer = write(room, 0, &needed);
-    if (answer == AMQPV_NO_ROOM) {
-        room = (uint8_t *)malloc(needed);
-        answer = room == NULL ? AMQPV_NO_MEMORY : write(room, needed, &needed);
+    uint8_t *buffer = &none;
+    amqpv_result result = write(buffer, 0, &needed);
+    if (result == AMQPV_NO_ROOM) {
+        buffer = (uint8_t *)malloc(needed);
+        result = buffer == NULL ? AMQPV_NO_MEMORY : write(buffer, needed, &needed);
     }
-    if (answer != AMQPV_OK) {
-        printf("%s\n", amqpv_strerror(answer));
+    if (result != AMQPV_OK) {
+        printf("%s\n", amqpv_strerror(result));
         return 1;
     }
     for (size_t i = 0; i < needed; i++) {
-        printf(is_back ? "%02x" : "%c", room[i]);
+        printf(is_back ? "%02x" : "%c", buffer[i]);
     }
     putchar('\n');
-    free(room);
+    free(buffer);
     return 0;
 }

@@ -12,15 +12,15 @@ int main(void) {
     size_t length = read_hexadecimal(stdin, bytes, sizeof bytes);
     size_t count;
     amqpv_entry entry;
-    amqpv_result answer = amqpv_read(bytes, length, AMQPV_FRAME, AMQPV_DEPTH, &entry, &count);
-    if (answer == AMQPV_MORE) {
+    amqpv_result result = amqpv_read(bytes, length, AMQPV_FRAME, AMQPV_DEPTH, &entry, &count);
+    if (result == AMQPV_MORE) {
         printf("%zu more bytes are needed\n", count);
         return 1;
     }
-    if (answer != AMQPV_OK) {
+    if (result != AMQPV_OK) {
         amqpv_problem problem;
         amqpv_first_problem(bytes, length, AMQPV_RULES_READ, AMQPV_FRAME, AMQPV_DEPTH, &problem);
-        printf("%s, at %zu\n", amqpv_strerror(answer), problem.offset);
+        printf("%s, at %zu\n", amqpv_strerror(result), problem.offset);
         return 1;
     }
     printf("%zu bytes\n", count);
@@ -28,7 +28,7 @@ int main(void) {
     /* The cursors of the containers that are open, the innermost last, and a spare one. */
     amqpv_cursor open[AMQPV_DEPTH + 1];
     size_t depth = 0;
-    while (answer == AMQPV_OK) {
+    while (result == AMQPV_OK) {
         printf("%*s", (int)(2 * depth), "");
         if (depth > 0 && open[depth - 1].tag == AMQPV_TABLE) {
             show_text(bytes, entry.key);
@@ -39,10 +39,10 @@ int main(void) {
         if (amqpv_enter(bytes, length, &entry, &open[depth]) == AMQPV_OK) {
             depth++;
         }
-        answer = AMQPV_NONE;
-        while (depth > 0 && (answer = amqpv_next(bytes, length, &open[depth - 1], &entry)) == AMQPV_NONE) {
+        result = AMQPV_NONE;
+        while (depth > 0 && (result = amqpv_next(bytes, length, &open[depth - 1], &entry)) == AMQPV_NONE) {
             depth--;
         }
     }
-    return answer == AMQPV_NONE ? 0 : 1;
+    return result == AMQPV_NONE ? 0 : 1;
 }

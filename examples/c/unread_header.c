@@ -24,16 +24,16 @@ int main(int count, char **words) {
         printf("a problem at %zu\n", problem.offset);
         return 1;
     }
-    amqpv_result answer = amqpv_first(bytes, length, &headers);
-    if (answer == AMQPV_OK) {
+    amqpv_result result = amqpv_first(bytes, length, &headers);
+    if (result == AMQPV_OK) {
         printf("%zu bytes\n", headers.value.length);
-        answer = amqpv_enter(bytes, length, &headers, &cursor);
+        result = amqpv_enter(bytes, length, &headers, &cursor);
     }
-    if (answer == AMQPV_OK) {
-        answer = amqpv_find_first(bytes, length, &cursor, words[1], strlen(words[1]), &entry);
+    if (result == AMQPV_OK) {
+        result = amqpv_find_first(bytes, length, &cursor, words[1], strlen(words[1]), &entry);
     }
-    if (answer != AMQPV_OK) {
-        printf("%s\n", amqpv_strerror(answer));
+    if (result != AMQPV_OK) {
+        printf("%s\n", amqpv_strerror(result));
         return 1;
     }
     show_value(bytes, &entry);

@@ -380,7 +380,7 @@ static void try_types(void) {
                 put(&table, k, (uint8_t)tag, numbers[i], (uint8_t)scale);
                 try_getters((uint8_t)tag, numbers[i], (uint8_t)scale);
                 const amqpv_pair pairs[] = {
-                    AMQPV_STRING_PAIR("text", "hi", 2), {"k", 1, "bytes", 5, numbers[i], (uint8_t)tag, (uint8_t)scale}, AMQPV_INT_PAIR("", 't', 1),
+                    AMQPV_STRING_PAIR("text", "hi", 2), {"k", 1, "bytes", 5, numbers[i], (uint8_t)tag, (uint8_t)scale}, AMQPV_BOOL_PAIR("", 1),
                 };
                 new_buffer(64, tag % 2);
                 write_table(pairs, COUNT(pairs));
@@ -489,7 +489,7 @@ static void try_tables(void) {
     const amqpv_pair pairs[] = {
         AMQPV_INT_PAIR("x-max-length", AMQPV_LONG_INT, -2), AMQPV_STRING_PAIR("x-queue-type", "quorum", 6),
         {"", 0, none.at, 0, 314, AMQPV_DECIMAL, 2}, {"key", 3, none.at, 0, 0, AMQPV_VOID, 0},
-        {"key", 3, "seventeen letters", 17, 1, AMQPV_BYTE_ARRAY, 1}, AMQPV_INT_PAIR("", AMQPV_TIMESTAMP, 258),
+        {"key", 3, "seventeen letters", 17, 1, AMQPV_BYTE_ARRAY, 1}, AMQPV_TIMESTAMP_PAIR("", 258),
         {"\x80", 1, none.at, 0, 0, AMQPV_VOID, 0},
     };
     for (size_t length = 0; length <= 120; length++) {
@@ -585,7 +585,7 @@ static void try_large(void) {
               == (is_too_large ? AMQPV_TOO_LARGE : AMQPV_NO_ROOM));
         CHECK(old.written.length == 0 && memcmp(buffer, model, capacity) == 0);
         /* a string, and then a body, of that many bytes: each pair has nine more than its string */
-        amqpv_pair pairs[] = {AMQPV_STRING_PAIR("key", (char *)bytes, length), AMQPV_INT_PAIR("", 0, 0)};
+        amqpv_pair pairs[] = {AMQPV_STRING_PAIR("key", (char *)bytes, length), {"", 0, NULL, 0, 0, 0, 0}};
         size_t count = 77;
         CHECK(amqpv_write_table(pairs, 1, buffer, capacity, &count) == AMQPV_TOO_LARGE && count == 0);
         pairs[0].length -= 9;

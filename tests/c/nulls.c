@@ -30,7 +30,7 @@ typedef struct left {
 
 /* The pair of the empty key with a Void, and a table of it. */
 static const uint8_t table[] = {'F', 0, 0, 0, 2, 0, 'V'};
-/* The same, not in its canonical encoding: both keys are empty. */
+/* A table that isn't in its canonical encoding: both its keys are empty. */
 static const uint8_t twice[] = {'F', 0, 0, 0, 4, 0, 'V', 0, 'V'};
 static const amqpv_cursor pairs = {{5, 2}, AMQPV_TABLE};
 static const amqpv_entry top = {{0, 0}, {0, 7}, {5, 2}, 0, AMQPV_TABLE, 0};

@@ -1,0 +1,111 @@
+/*
+ * What a program that was compiled stands on, and so stays within 0.x: the sizes and offsets of structs, and the values of
+ * constants, on processors of 64 bits. A line isn't changed or removed once it is in a release. The symbols are in
+ * packaging/amqp_values.map. It is compiled, and not run.
+ */
+#include "amqp_values.h"
+
+#define STRUCT(name, size, align) _Static_assert(sizeof(name) == (size) && _Alignof(name) == (align), #name)
+#define FIELD(name, field, offset, size) \
+    _Static_assert(offsetof(name, field) == (offset) && sizeof(((name *)0)->field) == (size), #name "." #field)
+#define CONSTANT(name, value) _Static_assert((name) == (value), #name)
+
+_Static_assert(sizeof(amqpv_result) == 4 && (amqpv_result)-1 < 0, "amqpv_result");
+STRUCT(amqpv_span, 16, 8);
+FIELD(amqpv_span, offset, 0, 8);
+FIELD(amqpv_span, length, 8, 8);
+
+STRUCT(amqpv_entry, 64, 8);
+FIELD(amqpv_entry, key, 0, 16);
+FIELD(amqpv_entry, value, 16, 16);
+FIELD(amqpv_entry, content, 32, 16);
+FIELD(amqpv_entry, bits, 48, 8);
+FIELD(amqpv_entry, tag, 56, 1);
+FIELD(amqpv_entry, scale, 57, 1);
+
+STRUCT(amqpv_cursor, 24, 8);
+FIELD(amqpv_cursor, left, 0, 16);
+FIELD(amqpv_cursor, tag, 16, 1);
+
+STRUCT(amqpv_step, 32, 8);
+FIELD(amqpv_step, key, 0, 8);
+FIELD(amqpv_step, key_length, 8, 8);
+FIELD(amqpv_step, index, 16, 8);
+FIELD(amqpv_step, tag, 24, 1);
+
+STRUCT(amqpv_pair, 48, 8);
+FIELD(amqpv_pair, key, 0, 8);
+FIELD(amqpv_pair, key_length, 8, 8);
+FIELD(amqpv_pair, bytes, 16, 8);
+FIELD(amqpv_pair, length, 24, 8);
+FIELD(amqpv_pair, bits, 32, 8);
+FIELD(amqpv_pair, tag, 40, 1);
+FIELD(amqpv_pair, scale, 41, 1);
+
+STRUCT(amqpv_measure, 24, 8);
+FIELD(amqpv_measure, length, 0, 8);
+FIELD(amqpv_measure, values, 8, 8);
+FIELD(amqpv_measure, levels, 16, 8);
+
+STRUCT(amqpv_problem, 16, 8);
+FIELD(amqpv_problem, offset, 0, 8);
+FIELD(amqpv_problem, kind, 8, 1);
+FIELD(amqpv_problem, tag, 9, 1);
+
+STRUCT(amqpv_container, 24, 8);
+FIELD(amqpv_container, written, 0, 16);
+FIELD(amqpv_container, tag, 16, 1);
+
+CONSTANT(AMQPV_OK, 0);
+CONSTANT(AMQPV_NONE, 1);
+CONSTANT(AMQPV_MORE, -1);
+CONSTANT(AMQPV_UNKNOWN_TAG, -2);
+CONSTANT(AMQPV_MALFORMED, -3);
+CONSTANT(AMQPV_TOO_LARGE, -4);
+CONSTANT(AMQPV_INVALID, -5);
+CONSTANT(AMQPV_NO_MEMORY, -6);
+CONSTANT(AMQPV_NO_ROOM, -7);
+CONSTANT(AMQPV_NOT_JSON, -8);
+CONSTANT(AMQPV_NO_ENCODING, -9);
+CONSTANT(AMQPV_BAD_KEY, -10);
+CONSTANT(AMQPV_BAD_TAG, -11);
+CONSTANT(AMQPV_OUT_OF_RANGE, -12);
+
+CONSTANT(AMQPV_FRAME, 1048576);
+CONSTANT(AMQPV_DEPTH, 64);
+CONSTANT(AMQPV_JSON_DEPTH, 32);
+
+CONSTANT(AMQPV_JSON_NESTING, 127);
+
+CONSTANT(AMQPV_BOOLEAN, 't');
+CONSTANT(AMQPV_SHORT_SHORT_INT, 'b');
+CONSTANT(AMQPV_SHORT_SHORT_UINT, 'B');
+CONSTANT(AMQPV_SHORT_INT, 's');
+CONSTANT(AMQPV_SHORT_UINT, 'u');
+CONSTANT(AMQPV_LONG_INT, 'I');
+CONSTANT(AMQPV_LONG_UINT, 'i');
+CONSTANT(AMQPV_LONG_LONG_INT, 'l');
+CONSTANT(AMQPV_FLOAT, 'f');
+CONSTANT(AMQPV_DOUBLE, 'd');
+CONSTANT(AMQPV_DECIMAL, 'D');
+CONSTANT(AMQPV_LONG_STRING, 'S');
+CONSTANT(AMQPV_BYTE_ARRAY, 'x');
+CONSTANT(AMQPV_ARRAY, 'A');
+CONSTANT(AMQPV_TABLE, 'F');
+CONSTANT(AMQPV_TIMESTAMP, 'T');
+CONSTANT(AMQPV_VOID, 'V');
+
+CONSTANT(AMQPV_LAST_KEY, 0);
+CONSTANT(AMQPV_FIRST_KEY, 1);
+
+CONSTANT(AMQPV_RULES_READ, 0);
+CONSTANT(AMQPV_RULES_ANY_KEYS, 1);
+CONSTANT(AMQPV_RULES_RABBITMQ, 2);
+
+CONSTANT(AMQPV_PROBLEM_UNKNOWN_TAG, 1);
+CONSTANT(AMQPV_PROBLEM_NOT_FINITE, 2);
+CONSTANT(AMQPV_PROBLEM_CUT, 3);
+CONSTANT(AMQPV_PROBLEM_KEY_CUT, 4);
+CONSTANT(AMQPV_PROBLEM_TOO_DEEP, 5);
+CONSTANT(AMQPV_PROBLEM_TOO_LARGE, 6);
+CONSTANT(AMQPV_PROBLEM_KEY_NOT_UTF8, 7);
