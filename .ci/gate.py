@@ -6,10 +6,15 @@ import re
 import shutil
 import subprocess
 import sys
+from collections.abc import Collection, Iterator, Sequence
+from pathlib import Path
+from pathlib import Path
+from typing import NamedTuple
 
 import least
 from crates import TOP, said_by
-from lib import TEST_CRATES, Steps, by_last_line, copy_repository, leave_out_tests
+from lib import TEST_CRATES, Judged, Step, Steps, by_last_line, copy_repository, leave_out_tests
+
 from tests.oracle.sides import is_at_hand
 from tests.rabbitmq.broker import BIN
 from tests.rabbitmq.clients import PYTHON
@@ -18,9 +23,25 @@ from tests.rabbitmq.clients import PYTHON
 KIT_LINE = "rattle-kit-13f"
 # What each step needs besides the kit; `python3`, `cc` and `c++` can't be left out.
 ALWAYS = ("git", "python3", "cc", "c++")
-NEEDS = {
-    "docs": (), "test": (), "style": (PYTHON, "mypy", "black"), "model": (PYTHON,), "show": (), "alloc-failures": (), "sizes": (), "wire": (), "python": (PYTHON,), "c": ("nm", "pkg-config", "clang", "qemu-x86_64", "aarch64-linux-gnu-gcc"),
-    "counts": ("valgrind",), "rust": (), "crate": (), "broker": (f"{BIN}/rabbitmq-server", "epmd", "amqp-publish", PYTHON), "mutants": (),
+NEEDS: dict[str, tuple[str, ...]] = {
+    "docs": (),
+    "test": (),
+    "style": (PYTHON, "mypy", "black"),
+    "model": (PYTHON,),
+    "show": (),
+    "alloc-failures": (),
+    "sizes": (),
+    "wire": (),
+    "python": (PYTHON,),
+    "c": (
+        *("nm", "pkg-config", "clang", "qemu-x86_64", "aarch64-linux-gnu-gcc"),
+        *("cmake", "dpkg-gensymbols", "lintian", "man", "mandoc", "/usr/include/amqp.h"),
+    ),
+    "counts": ("valgrind",),
+    "rust": (),
+    "crate": (),
+    "broker": (f"{BIN}/rabbitmq-server", "epmd", "amqp-publish", "php", PYTHON),
+    "mutants": (),
 }
 # The step that proves, and those that need nothing that it leaves.
 PROOFS, NEED_NO_PROOFS = "rt ci", {"docs", "test", "style", "model"}
@@ -30,34 +51,84 @@ MODULES = {"style": PYTEST, "model": PYTEST, "python": PYTEST, "broker": (*PYTES
 TABLES = {"run": 500, "whole": 10000}
 KEYS = ".ci/mutant-keys"
 NO_CRATE = "neither AMQ_PROTOCOL_TYPES names the Rust crate's folder nor cargo has kept it"
-REJECTED = re.compile(r"(\d+) rejected now, (\d+) carried over from an earlier run, (\d+) where only a proof no longer fits, (\d+) not rejected")
+REJECTED = re.compile(
+    r"(\d+) rejected now, (\d+) carried over from an earlier run, (\d+) where only a proof no longer fits, (\d+) not rejected"
+)
+# The lines of `rt ci` and of .ci/mutants that are printed as they come.
+TELLS_PROOFS = r"(?<=^rt: )\w+(: its tests)? (proved|NOT PROVED|ran|is kept)\b|: NOT REFUSED|BAD EDIT"
+TELLS_MUTANTS = r"^\w+: tried$|NOT REJECTED|NOT TRIED|self test: FAILED|^changed.*"
 
 
-def missing(without):
-    """Yields what is missing, before anything is begun."""
+class Asked(NamedTuple):
+    """What the words of .ci/NAME ask for: the steps to be run, and what is said of the others at the end."""
+
+    name: str
+    steps: set[str]
+    notes: list[str]
+
+    def is_whole(self) -> bool:
+        """Whether nothing is carried over."""
+        return self.name == "whole"
+
+    def needs_proofs(self) -> bool:
+        """Whether the crates are proved, for the other steps too."""
+        return bool(self.steps - NEED_NO_PROOFS)
+
+
+def asked(name: str, words: Sequence[str]) -> Asked:
+    """Reads the words of .ci/NAME, whose comment is its help."""
+    text = re.findall(r"(?m)^# ?(.*)$", (TOP / ".ci" / name).read_text().partition("\n")[2])
+    reader = argparse.ArgumentParser(
+        prog=f".ci/{name}", description="\n".join(text), formatter_class=argparse.RawDescriptionHelpFormatter
+    )
+    # in .ci/whole rt ci runs the tests and the stored runs
+    names = [it for it in NEEDS if it != "test" or name != "whole"]
+    reader.add_argument("--without", action="append", default=[], choices=names, metavar="NAME")
+    reader.add_argument("--only", action="append", default=[], choices=[PROOFS, *names], metavar="NAME")
+    said = reader.parse_args(words)
+    steps = {*(said.only or [PROOFS, *names])} - {*said.without}
+    notes = [f"only: {it}" for it in said.only] + [f"left out: {it}" for it in said.without]
+    # (before a release it isn't left out unasked)
+    if name != "whole" and "crate" in steps and not is_at_hand():
+        steps.remove("crate")
+        notes.append(f"left out: crate, since {NO_CRATE}")
+    return Asked(name, steps, notes)
+
+
+def has_module(name: str) -> bool:
+    """Whether Debian's Python has a module."""
+    return subprocess.run([PYTHON, "-c", f"import {name}"], capture_output=True).returncode == 0
+
+
+def missing(steps: Collection[str], is_whole: bool) -> Iterator[str]:
+    """Yields what is missing for these steps, before anything is begun."""
     line = said_by("rt", "version")
     if not line.startswith(KIT_LINE):
         yield f"rt version prints {line or 'nothing'}, and not {KIT_LINE}"
-    needs = [*ALWAYS, *(it for step, words in NEEDS.items() if step not in without for it in words)]
-    lacks = [it for it in needs if not shutil.which(it)]
-    modules = sorted({it for step, names in MODULES.items() if step not in without for it in names})
+    programs = [*ALWAYS, *(it for step, words in NEEDS.items() if step in steps for it in words)]
+    programs += ["debootstrap"] * (is_whole and "c" in steps)
+    lacks = [it for it in programs if not (shutil.which(it) or it.endswith(".h") and Path(it).exists())]
     if PYTHON not in lacks:
-        lacks += [f"the module {it} of {PYTHON}" for it in modules if subprocess.run([PYTHON, "-c", f"import {it}"], capture_output=True).returncode]
+        modules = sorted({it for step, names in MODULES.items() if step in steps for it in names})
+        lacks += [f"the module {it} of {PYTHON}" for it in modules if not has_module(it)]
     yield from (f"{it} is missing (.ci/setup installs it)" for it in lacks)
-    if "crate" not in without and not is_at_hand():
+    if "crate" in steps and not is_at_hand():
         yield f"{NO_CRATE} (--without crate leaves its step out)"
 
 
-def by_proved(step):
-    """Judges `rt ci` by its last line; with the tests of test_sizes, which .ci/test counts and doesn't run, none may be missing."""
+def by_proved(step: Step) -> Judged:
+    """Judges `rt ci` by its last line, and whether it ran the tests of test_hostile, which .ci/test only counts."""
     passed, failed, last = by_last_line(step)
     ran = set(re.findall(r"(?m)^test (?:\w+::)*(\w+) \.\.\. ok$", step.out.read_text(errors="replace")))
-    sources = "".join(it.read_text() for it in TOP.glob("crates/test_sizes/src/**/*.rt"))
-    count, wants = len(ran & set(re.findall(r"#\[test\]\n(?:pub )?fn (\w+)", sources))), least.least("test", "test_sizes")
-    return (passed, failed, last) if count >= wants else (passed, failed + 1, f"{last}, and {count} tests of test_sizes, where {wants} are the least")
+    sources = "".join(it.read_text() for it in TOP.glob("crates/test_hostile/src/**/*.rt"))
+    count = len(ran & set(re.findall(r"#\[test\]\n(?:pub )?fn (\w+)", sources)))
+    wants = least.least("test", "test_hostile")
+    if count < wants:
+        return passed, failed + 1, f"{last}, and {count} tests of test_hostile, where {wants} are the least"
+    return passed, failed, last
 
 
-def by_rejected(step):
+def by_rejected(step: Step) -> Judged:
     """How many mutants were rejected, and how many weren't, or not by what they name, by the last line."""
     last = step.out.read_text(errors="replace").rstrip("\n").split("\n")[-1]
     if not (found := REJECTED.fullmatch(last)):
@@ -65,66 +136,74 @@ def by_rejected(step):
     return int(found[1]), int(found[4]), last
 
 
-def gate(name, words):
+def add_proofs(steps: Steps, asked: Asked, copy: Path) -> Step:
+    """Copies the repository, and adds the step that proves the copy."""
+    is_whole = asked.is_whole()
+    # only the step crate asks a crate of tests
+    copy_repository(copy, () if is_whole or "crate" in asked.steps else TEST_CRATES)
+    if not is_whole:
+        # .ci/test runs the tests; the mutants of must-fail/ are tried with the others, and carried over as they are
+        leave_out_tests(copy)
+    is_anew = is_whole and PROOFS in asked.steps
+    judge = by_proved if is_whole else by_last_line
+    return steps.add(PROOFS, ["rt", "ci", *["--anew"] * is_anew], cwd=copy, judge=judge, tells=TELLS_PROOFS)
+
+
+def commands(asked: Asked, copy: Path) -> dict[str, list[object]]:
+    """The command of each step but the one that proves; its script is in the repository, or in the copy that is proved."""
+    of_copy = copy / "tests"
+    # what is random is tried otherwise in each run
+    random = ["--random"] * asked.is_whole()
+    must_fail = ["--must-fail", TOP, "--record", TOP / KEYS]
+    return {
+        "docs": [TOP / ".ci/docs"],
+        # (the model has a step of its own)
+        "test": [TOP / ".ci/test", "--jobs", 2, *["--without", "model"] * ("model" in asked.steps)],
+        "style": [TOP / "tests/style/run"],
+        "model": [TOP / "tests/model/run", *random],
+        "show": [of_copy / "show/run"],
+        "alloc-failures": [of_copy / "memory/alloc-failures"],
+        "sizes": [of_copy / "memory/sizes"],
+        "wire": [of_copy / "wire/run"],
+        "c": [of_copy / "c/run", "--built", *["--root"] * asked.is_whole()],
+        "python": [of_copy / "python/run", "--built", *random],
+        "counts": [of_copy / "counts/run", "--built"],
+        "rust": [of_copy / "rust/run", "--built"],
+        "crate": [of_copy / "oracle/run"],
+        "broker": [of_copy / "rabbitmq/run", "--built", "--tables", TABLES[asked.name]],
+        "mutants": [copy / ".ci/mutants", "--built", *must_fail, *["--all"] * asked.is_whole()],
+    }
+
+
+def add_steps(steps: Steps, asked: Asked) -> None:
+    """Adds the steps that are asked for."""
+    copy = steps.folder / "copy"
+    proofs = [add_proofs(steps, asked, copy)] if asked.needs_proofs() else []
+    for name, command in commands(asked, copy).items():
+        if name not in asked.steps:
+            continue
+        if name in NEED_NO_PROOFS:
+            steps.add(name, command)
+        elif name == "mutants":
+            steps.add(name, command, cwd=copy, after=proofs, judge=by_rejected, tells=TELLS_MUTANTS)
+        else:
+            steps.add(name, command, cwd=copy, after=proofs)
+
+
+def gate(name: str, words: Sequence[str]) -> int:
     """Runs the steps of .ci/NAME, and returns the exit status."""
-    tries_all = name == "whole"
-    text = re.findall(r"(?m)^# ?(.*)$", (TOP / ".ci" / name).read_text().partition("\n")[2])
-    how = {"description": "\n".join(text), "formatter_class": argparse.RawDescriptionHelpFormatter}
-    reader = argparse.ArgumentParser(prog=f".ci/{name}", **how)
-    # in .ci/whole rt ci runs the tests and the stored runs
-    names = [it for it in NEEDS if it != "test" or not tries_all]
-    reader.add_argument("--without", action="append", default=[], choices=names, metavar="NAME")
-    reader.add_argument("--only", action="append", default=[], choices=[PROOFS, *names], metavar="NAME")
-    said = reader.parse_args(words)
-    only = said.only or [PROOFS, *names]
-    # (before a release it isn't left out unasked)
-    lacks_crate = not tries_all and "crate" in {*only} - {*said.without} and not is_at_hand()
-    without = [it for it in NEEDS if it not in only or it in said.without or it == "crate" and lacks_crate]
+    given = asked(name, words)
     if os.environ.get("CI"):
         # what it couldn't install is missing below
-        subprocess.run([TOP / ".ci/setup", *(["--without", "broker"] if "broker" in without else [])])
-    if lacks := [*missing(without)]:
+        subprocess.run([TOP / ".ci/setup", *([] if "broker" in given.steps else ["--without", "broker"])])
+    if lacks := [*missing(given.steps, given.is_whole())]:
         print("\n".join([*lacks, f"0 passed, {len(lacks)} failed"]))
         return 1
     with Steps(name) as steps:
-        copy = steps.folder / "copy"
-        scripts, tests, proved = copy / ".ci", copy / "tests", ()
-        if PROOFS in only or {*NEEDS} - {*without} - NEED_NO_PROOFS:
-            # only the step crate asks a crate of tests
-            copy_repository(copy, () if tries_all or "crate" not in without else TEST_CRATES)
-            if not tries_all:
-                # .ci/test runs the tests; the mutants of must-fail/ are tried with the others, and carried over as they are
-                leave_out_tests(copy)
-            is_anew = tries_all and PROOFS in only
-            proved = (steps.add(PROOFS, ["rt", "ci", *["--anew"] * is_anew], cwd=copy, **{"judge": by_proved} if tries_all else {}, tells=r"(?<=^rt: )\w+(: its tests)? (proved|NOT PROVED|ran|is kept)\b|: NOT REFUSED|BAD EDIT"),)
-        # what is random is tried otherwise in each run
-        random = ["--random"] * tries_all
-        words = {
-            "docs": ([TOP / ".ci/docs"], ()),
-            "test": ([TOP / ".ci/test", "--jobs", 2], ()),
-            "style": ([TOP / "tests/style/run"], ()),
-            "model": ([TOP / "tests/model/run", *random], ()),
-            "show": ([tests / "show/run"], proved),
-            "alloc-failures": ([tests / "memory/alloc-failures"], proved),
-            "sizes": ([tests / "memory/sizes"], proved),
-            "wire": ([tests / "wire/run"], proved),
-            "c": ([tests / "c/run", "--built"], proved),
-            "python": ([tests / "python/run", "--built", *random], proved),
-            "counts": ([tests / "counts/run", "--built"], proved),
-            "rust": ([tests / "rust/run", "--built"], proved),
-            "crate": ([tests / "oracle/run"], proved),
-            "broker": ([tests / "rabbitmq/run", "--built", "--tables", TABLES[name]], proved),
-            "mutants": ([scripts / "mutants", "--built", "--must-fail", TOP, "--record", TOP / KEYS, *["--all"] * tries_all], proved),
-        }
-        for step, (command, after) in words.items():
-            if step not in without:
-                tries_mutants = step == "mutants"
-                how = {"judge": by_rejected, "tells": r"^\w+: tried$|NOT REJECTED|NOT TRIED|self test: FAILED|^changed.*"} if tries_mutants else {}
-                steps.add(step, command, cwd=copy if command[0].is_relative_to(copy) else TOP, after=after, **how)
+        add_steps(steps, given)
         os.environ["COMMIT_NUMBER"] = said_by("git", "-C", str(TOP), "rev-list", "--count", "HEAD")
         steps.run()
-        steps.notes += [f"only: {it}" for it in said.only] + [f"left out: {it}" for it in said.without]
-        steps.notes += [f"left out: crate, since {NO_CRATE}"] * lacks_crate
+        steps.notes += given.notes
         steps.notes += [it.last_line for it in steps.steps if it.name == "mutants"]
         return steps.ended()
 

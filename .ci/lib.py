@@ -144,6 +144,18 @@ def shared_object(crates: Crates, folder: Path, is_built: bool) -> tuple[Path, s
     return path, (done.stderr or "cc failed")[-1000:] if done.returncode else ""
 
 
+def before_librabbitmq(crates: Crates, folder: Path, is_built: bool) -> tuple[Path, str]:
+    """Builds the shared object that comes before librabbitmq in a folder; its path, and what went wrong."""
+    path, name = folder / "libamqp_values_rabbitmq.so", CALLS_FOR_C[0]
+    done = build_archive(crates, name, is_built)
+    if not done.returncode:
+        words = ["cc", "-std=c11", "-shared", "-fPIC", "-O2", f"-I{TOP / 'include'}", "-o", path]
+        script = TOP / "packaging/amqp_values_rabbitmq.map"
+        words += [f"-Wl,--version-script={script}", TOP / "c/amqp_values_rabbitmq.c", archive(crates, name)]
+        done = subprocess.run([str(it) for it in words], capture_output=True, text=True)
+    return path, (done.stderr or done.stdout or "it failed")[-1000:] if done.returncode else ""
+
+
 def content(path: Path) -> bytes:
     return path.read_bytes() if path.exists() else b""
 

@@ -46,13 +46,13 @@ def checks_at_once(most: int | None) -> int:
 def test_crates(folder: Path) -> Crates:
     """The crates of the self test, in a folder.
 
-    rt ci takes no crate but those of crates.txt, so their files have another name in the repository. What is above the
-    first has its sources for its interface.
+    rt ci takes no crate but those of crates.txt, so their files are parts of one, each after a line with its name. What is
+    above the first has its sources for its interface.
     """
-    for it in SELF_TEST.rglob("*.in"):
-        copied = folder / it.relative_to(SELF_TEST).with_suffix("")
-        copied.parent.mkdir(parents=True, exist_ok=True)
-        shutil.copyfile(it, copied)
+    for name, text in re.findall(r"(?ms)^==> (\S+)\n(.*?)(?=^==> |\Z)", (SELF_TEST / "files").read_text()):
+        made = folder / name
+        made.parent.mkdir(parents=True, exist_ok=True)
+        made.write_text(text)
     crates = Crates(folder)
     shutil.copytree(crates.folder("tried") / "src", crates.library("tried") / "interface")
     return crates

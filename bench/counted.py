@@ -4,63 +4,94 @@ import re
 import shutil
 import subprocess
 import sys
+from collections.abc import Collection, Iterable, Iterator, Sequence
+
+from lanes import OUT, Lanes, Process, note
+from ten import Input
 
 # The inputs of which this is counted, by their labels.
 INPUTS = ("every type", "message headers", "server's properties", "1,000 small tables", "200 nested tables")
 # The lanes whose instructions are counted: the first of reading and the first of writing are what the others are ratios to.
-COLUMNS = {"crate.read": "the Rust crate reads", "library.read": "this library", "in-place.read": "in place", "c.read": "from C",
-    "librabbitmq.read": "librabbitmq", "crate.write": "the Rust crate writes", "library.write": "this library", "librabbitmq.write": "librabbitmq"}  # fmt: skip
+COLUMNS = {
+    "crate.read": "the Rust crate reads",
+    "library.read": "this library",
+    "in-place.read": "in place",
+    "c.read": "from C",
+    "librabbitmq.read": "librabbitmq",
+    "crate.write": "the Rust crate writes",
+    "library.write": "this library",
+    "librabbitmq.write": "librabbitmq",
+}
 HEAP = {"crate.read": "the Rust crate", "library.read": "this library", "librabbitmq.read": "librabbitmq"}
 FEW, MANY = 1, 11
+# Of each input the instructions of a call, by lane.
+Counts = list[tuple[Input, dict[str, float]]]
 
 
-def instructions(driver, inputs, lanes, out):
-    """The instructions of one call of each lane for each input: those of many calls less those of few, by callgrind."""
-    words = []
+def commands(inputs: Sequence[Input], lanes: Iterable[str]) -> Iterator[str]:
+    """Yields what the driver is asked: few and many calls of each lane, for each input."""
     for number, one in enumerate(inputs):
-        (out / f"input-{number}").write_bytes(one.given)
-        words.append(f"load input-{number}")
+        (OUT / f"input-{number}").write_bytes(one.given)
+        yield f"load input-{number}"
         for lane in lanes:
             # (the first call also finds functions of the C library)
-            words += [f"make {lane} made", f"time {lane} {FEW}", f"time {lane} {MANY}"]
-    for it in out.glob("dump*"):
+            yield from (f"make {lane} made", f"time {lane} {FEW}", f"time {lane} {MANY}")
+
+
+def totals() -> list[int]:
+    """The instructions of each run of calls, in their order."""
+    dumps = sorted(OUT.glob("dump.*"), key=lambda it: int(it.suffix[1:]))
+    texts = [text for it in dumps if "--dump-after" in (text := it.read_text())]
+    return [int(found[1]) for it in texts if (found := re.search(r"(?m)^totals: (\d+)", it))]
+
+
+def instructions(driver: str, inputs: Sequence[Input], lanes: Collection[str]) -> Counts:
+    """The instructions of one call of each lane for each input: those of many calls less those of few, by callgrind."""
+    for it in OUT.glob("dump*"):
         it.unlink()
-    how = ["--tool=callgrind", f"--callgrind-out-file={out}/dump", "--dump-before=bench_time", "--dump-after=bench_time"]
-    done = subprocess.run(["valgrind", *how, driver], input="\n".join([*words, ""]), cwd=out, capture_output=True, text=True, env={"PATH": "/usr/bin"})
-    dumps = sorted(out.glob("dump.*"), key=lambda it: int(it.suffix[1:]))
-    totals = [int(re.search(r"(?m)^totals: (\d+)", text)[1]) for it in dumps if "--dump-after" in (text := it.read_text())]
-    if done.returncode or len(totals) != 2 * len(inputs) * len(lanes):
-        sys.exit(f"bench: {len(totals)} counts of instructions: {done.stderr[-2000:]}")
-    each = iter((many - few) / (MANY - FEW) for few, many in zip(totals[::2], totals[1::2]))
+    how = [
+        "--tool=callgrind",
+        f"--callgrind-out-file={OUT}/dump",
+        "--dump-before=bench_time",
+        "--dump-after=bench_time",
+    ]
+    asked, env = "".join(f"{it}\n" for it in commands(inputs, lanes)), {"PATH": "/usr/bin"}
+    done = subprocess.run(["valgrind", *how, driver], input=asked, cwd=OUT, capture_output=True, text=True, env=env)
+    found = totals()
+    if done.returncode or len(found) != 2 * len(inputs) * len(lanes):
+        sys.exit(f"bench: {len(found)} counts of instructions: {done.stderr[-2000:]}")
+    each = iter((many - few) / (MANY - FEW) for few, many in zip(found[::2], found[1::2]))
     return [(one, {lane: next(each) for lane in lanes}) for one in inputs]
 
 
-def instruction_rows(found):
-    """A row for each input: what the Rust crate takes, and the others as ratios to it."""
-    for one, counts in found:
-        shown = lambda lane, base: f"{counts[lane]:,.0f}" if lane == base else f"{counts[lane] / counts[base]:.2f}"
-        yield [one.label, *(shown(lane, f"crate.{lane.partition('.')[2]}") for lane in counts)]
+def shown(counts: dict[str, float], lane: str) -> str:
+    """What the Rust crate takes, or another lane as a ratio to it."""
+    base = f"crate.{lane.partition('.')[2]}"
+    return f"{counts[lane]:,.0f}" if lane == base else f"{counts[lane] / counts[base]:.2f}"
 
 
-def heap_rows(inputs, process, columns, out):
-    """A row for each input: the requests of one reading by each side, then their most bytes at once."""
-    for one in inputs:
-        (out / "input").write_bytes(one.given)
-        process.ask("load", "input")
-        counts = [[int(it) for it in re.findall(r"\d+", process.ask("heap", lane))] for lane in columns]
-        yield [one.label, *(f"{count[which]:,}" for which in (0, 1) for count in counts)]
+def heap_row(one: Input, process: Process, lanes: Iterable[str]) -> list[str]:
+    """The requests of one reading of an input by each side, then their most bytes at once."""
+    (OUT / "input").write_bytes(one.given)
+    process.ask("load", "input")
+    counts = [[int(it) for it in re.findall(r"\d+", process.ask("heap", lane))] for lane in lanes]
+    return [one.label, *(f"{count[which]:,}" for which in (0, 1) for count in counts)]
 
 
-def tables(driver, inputs, lanes, out, preloaded, note):
+def tables(
+    driver: str, inputs: Iterable[Input], lanes: Lanes, preloaded: Process
+) -> Iterator[tuple[list[str], list[list[str]]]]:
     """Yields the heads and the rows of both tables."""
-    inputs = [it for it in inputs if it.label in INPUTS]
+    chosen = [it for it in inputs if it.label in INPUTS]
     if shutil.which("valgrind"):
         note("instructions")
         columns = {lane: text for lane, text in COLUMNS.items() if lane in lanes}
-        yield ["Instructions of a call", *columns.values()], [*instruction_rows(instructions(driver, inputs, columns, out))]
+        found = instructions(driver, chosen, columns)
+        rows = [[one.label, *(shown(counts, lane) for lane in counts)] for one, counts in found]
+        yield ["Instructions of a call", *columns.values()], rows
     else:
         note("instructions are left out: valgrind isn't installed")
     note("heap")
     columns = {lane: text for lane, text in HEAP.items() if lane in lanes}
     heads = [f"{which}, {text}" for which in ("requests", "bytes") for text in columns.values()]
-    yield ["Heap of a reading", *heads], [*heap_rows(inputs, preloaded, columns, out)]
+    yield ["Heap of a reading", *heads], [heap_row(it, preloaded, columns) for it in chosen]

@@ -6,6 +6,7 @@ Each is a table, its type tag included, since librabbitmq and Go read nothing el
 import random
 import struct
 from collections.abc import Callable, Iterator
+from typing import NamedTuple
 
 # A dict is a table, a list an array, bytes are an encoding already.
 Value = bytes | dict[str, "Value"] | list["Value"]
@@ -13,11 +14,13 @@ Value = bytes | dict[str, "Value"] | list["Value"]
 FORMS = {"t": "?", "b": "b", "B": "B", "s": "h", "u": "H", "I": "i", "i": "I", "l": "q", "T": "Q", "f": "f", "d": "d"}
 
 
-class Input:
-    """A value's encoding and its canonical form; `row` is for tables, `label` for the picture."""
+class Input(NamedTuple):
+    """Bytes that are read, and their canonical form if they are written too; `row` is for tables, `label` for the picture."""
 
-    def __init__(self, row: str, label: str, value: Value) -> None:
-        self.row, self.label, self.given, self.canonical = row, label, encoded(value, False), encoded(value, True)
+    row: str
+    label: str
+    given: bytes
+    canonical: bytes | None = None
 
 
 def number(tag: str, value: float) -> bytes:
@@ -42,17 +45,35 @@ def encoded(value: Value, ascending: bool) -> bytes:
 
 def every_type() -> dict[str, Value]:
     return {
-        "aaaa": number("b", 42), "bar": {}, "bbbb": number("B", 64), "blah": number("t", False), "cccc": number("s", 32),
-        "dddd": number("u", 132), "eeee": number("I", -53), "ffff": number("i", 66666), "foo": [number("t", True), b"V"],
-        "gggg": number("l", -9999), "hhhh": counted(b"x", bytes([42, 1, 2, 3])), "iiii": number("f", 42.42),
-        "jjjj": number("d", 42.42), "kkkk": number("T", 1234567890), "llll": b"V", "oof": [],
+        "aaaa": number("b", 42),
+        "bar": {},
+        "bbbb": number("B", 64),
+        "blah": number("t", False),
+        "cccc": number("s", 32),
+        "dddd": number("u", 132),
+        "eeee": number("I", -53),
+        "ffff": number("i", 66666),
+        "foo": [number("t", True), b"V"],
+        "gggg": number("l", -9999),
+        "hhhh": counted(b"x", bytes([42, 1, 2, 3])),
+        "iiii": number("f", 42.42),
+        "jjjj": number("d", 42.42),
+        "kkkk": number("T", 1234567890),
+        "llll": b"V",
+        "oof": [],
         "tabl": {"baz": text("blah42"), "foo": b"D" + struct.pack(">BI", 55, 999)},
-    }  # fmt: skip
+    }
 
 
 def death(count: int, reason: str, queue: str, exchange: str, key: str, time: int) -> dict[str, Value]:
-    return {"count": number("l", count), "reason": text(reason), "queue": text(queue), "time": number("T", time),
-            "exchange": text(exchange), "routing-keys": [text(key)]}  # fmt: skip
+    return {
+        "count": number("l", count),
+        "reason": text(reason),
+        "queue": text(queue),
+        "time": number("T", time),
+        "exchange": text(exchange),
+        "routing-keys": [text(key)],
+    }
 
 
 # The count of the first death in the message headers.
@@ -67,21 +88,32 @@ def message_headers() -> dict[str, Value]:
             death(2, "expired", "orders.retry.30s", "orders.retry", "orders.created", 1700000200),
             death(1, "maxlen", "orders.inbox", "", "orders.inbox", 1700000100),
         ],
-        "x-first-death-exchange": text(""), "x-first-death-queue": text("orders.inbox"), "x-first-death-reason": text("maxlen"),
-        "traceparent": text(f"00-{dice.getrandbits(128):032x}-{dice.getrandbits(64):016x}-01"), "retries": number("I", 6),
-        "sampled": number("t", True), "amount": b"D" + struct.pack(">BI", 2, 129950), "weight": number("d", 0.75), "sent-at": number("T", 1700000000),
-    }  # fmt: skip
+        "x-first-death-exchange": text(""),
+        "x-first-death-queue": text("orders.inbox"),
+        "x-first-death-reason": text("maxlen"),
+        "traceparent": text(f"00-{dice.getrandbits(128):032x}-{dice.getrandbits(64):016x}-01"),
+        "retries": number("I", 6),
+        "sampled": number("t", True),
+        "amount": b"D" + struct.pack(">BI", 2, 129950),
+        "weight": number("d", 0.75),
+        "sent-at": number("T", 1700000000),
+    }
 
 
 def server_properties() -> dict[str, Value]:
-    able = ("publisher_confirms exchange_exchange_bindings basic.nack consumer_cancel_notify connection.blocked consumer_priorities "
-            "authentication_failure_close per_consumer_qos direct_reply_to").split()  # fmt: skip
+    able = (
+        "publisher_confirms exchange_exchange_bindings basic.nack consumer_cancel_notify connection.blocked consumer_priorities "
+        "authentication_failure_close per_consumer_qos direct_reply_to"
+    ).split()
     return {
-        "capabilities": {it: number("t", True) for it in able}, "cluster_name": text("rabbit@node-1.example.com"),
+        "capabilities": {it: number("t", True) for it in able},
+        "cluster_name": text("rabbit@node-1.example.com"),
         "copyright": text("Copyright (c) 2007-2022 VMware, Inc. or its affiliates."),
         "information": text("Licensed under the MPL 2.0. Website: https://rabbitmq.com"),
-        "platform": text("Erlang/OTP 25.2.3"), "product": text("RabbitMQ"), "version": text("3.10.8"),
-    }  # fmt: skip
+        "platform": text("Erlang/OTP 25.2.3"),
+        "product": text("RabbitMQ"),
+        "version": text("3.10.8"),
+    }
 
 
 def queue_arguments() -> bytes:
@@ -89,8 +121,13 @@ def queue_arguments() -> bytes:
 
 
 def entries(count: int, at_random: bool = True) -> dict[str, Value]:
-    makes: tuple[Callable[[int], bytes], ...] = (lambda it: number("I", it), lambda it: text(f"value-{it}"), lambda it: number("t", it % 2),
-             lambda it: number("l", it * 1000003), lambda it: number("T", 1700000000 + it))  # fmt: skip
+    makes: tuple[Callable[[int], bytes], ...] = (
+        lambda it: number("I", it),
+        lambda it: text(f"value-{it}"),
+        lambda it: number("t", it % 2),
+        lambda it: number("l", it * 1000003),
+        lambda it: number("T", 1700000000 + it),
+    )
     pairs: list[tuple[str, Value]] = [(f"key-{it:06}", makes[it % 5](it)) for it in range(count)]
     if at_random:
         random.Random(count).shuffle(pairs)
@@ -106,34 +143,41 @@ def nested(levels: int) -> bytes:
 
 
 def small_tables(count: int) -> dict[str, Value]:
-    return {"v": [{"id": number("I", it), "name": text(f"item-{it}"), "open": number("t", it % 3 == 0)} for it in range(count)]}
+    return {
+        "v": [
+            {"id": number("I", it), "name": text(f"item-{it}"), "open": number("t", it % 3 == 0)} for it in range(count)
+        ]
+    }
+
+
+def of_value(row: str, label: str, value: Value) -> Input:
+    """An input that is a value's encoding."""
+    return Input(row, label, encoded(value, False), encoded(value, True))
 
 
 def ten() -> Iterator[Input]:
     dice = random.Random(1)
     numbers: list[Value] = [number("I", dice.randrange(-(2**31), 2**31)) for _ in range(100_000)]
-    yield Input("a table with every type, 199 bytes", "every type", every_type())
-    yield Input("message headers with three `x-death` entries, 656 bytes", "message headers", message_headers())
-    yield Input("a server's properties, 480 bytes", "server's properties", server_properties())
-    yield Input("an array of 1,000 small tables, 38 kB", "1,000 small tables", small_tables(1000))
-    yield Input("a table of 10,000 entries in random order, 190 kB", "10,000 entries, random", entries(10_000))
-    yield Input("the same entries in order", "10,000 entries in order", entries(10_000, False))
-    yield Input("an array of 100,000 LongInt, 500 kB", "100,000 LongInt", {"v": numbers})
-    yield Input("a string of 16 MiB", "16 MiB string", {"v": counted(b"S", dice.randbytes(16 << 20))})
-    yield Input("a byte array of 1 MiB", "1 MiB byte array", {"v": counted(b"x", dice.randbytes(1 << 20))})
-    yield Input("200 nested tables, 1.4 kB", "200 nested tables", nested(200))
+    yield of_value("a table with every type, 199 bytes", "every type", every_type())
+    yield of_value("message headers with three `x-death` entries, 656 bytes", "message headers", message_headers())
+    yield of_value("a server's properties, 480 bytes", "server's properties", server_properties())
+    yield of_value("an array of 1,000 small tables, 38 kB", "1,000 small tables", small_tables(1000))
+    yield of_value("a table of 10,000 entries in random order, 190 kB", "10,000 entries, random", entries(10_000))
+    yield of_value("the same entries in order", "10,000 entries in order", entries(10_000, False))
+    yield of_value("an array of 100,000 LongInt, 500 kB", "100,000 LongInt", {"v": numbers})
+    yield of_value("a string of 16 MiB", "16 MiB string", {"v": counted(b"S", dice.randbytes(16 << 20))})
+    yield of_value("a byte array of 1 MiB", "1 MiB byte array", {"v": counted(b"x", dice.randbytes(1 << 20))})
+    yield of_value("200 nested tables, 1.4 kB", "200 nested tables", nested(200))
 
 
-class Stream:
-    """Small values one after another, which are only read."""
-
-    def __init__(self, count: int) -> None:
-        self.row, self.label, self.given, self.canonical = f"a stream of {count:,} small tables, 7.5 MB", "a stream", stream(count), None
-
-
-def stream(count: int) -> bytes:
-    """The bytes of a stream: a client's properties, an `x-death` and a queue's arguments, by turns."""
-    client: Value = {"product": text("client"), "version": text("1.0"), "capabilities": {"basic.nack": number("t", True)}}
+def stream(count: int) -> Input:
+    """A stream of small values: a client's properties, an `x-death` and a queue's arguments, by turns."""
+    client: Value = {
+        "product": text("client"),
+        "version": text("1.0"),
+        "capabilities": {"basic.nack": number("t", True)},
+    }
     death_of_one = death(1, "expired", "orders.work", "orders", "orders.created", 1700000100)
     values: tuple[Value, ...] = (client, death_of_one, {"x-max-length": number("I", 1000)})
-    return b"".join(encoded(values[it % 3], False) for it in range(count))
+    given = b"".join(encoded(values[it % 3], False) for it in range(count))
+    return Input(f"a stream of {count:,} small tables, 7.5 MB", "a stream", given)

@@ -61,49 +61,115 @@ MOST_DEPTH = 4096
 
 # What is read, what can be written, and a path: keys into tables, and indexes from 0 into arrays.
 Value = Union[None, bool, int, float, Decimal, str, bytes, list["Value"], dict[str, "Value"]]
-Writable = Union[None, bool, int, float, Decimal, datetime, str, bytes, bytearray, memoryview, Sequence["Writable"], Mapping[str, "Writable"]]
+Writable = Union[
+    None,
+    bool,
+    int,
+    float,
+    Decimal,
+    datetime,
+    str,
+    bytes,
+    bytearray,
+    memoryview,
+    Sequence["Writable"],
+    Mapping[str, "Writable"],
+]
 Path = Sequence[Union[str, bytes, int]]
 Bytes = Union[bytes, bytearray, memoryview]
 
+
 class Error(ValueError):
     """Why nothing was read or written. `code` is the library's result, and `path` leads to what can't be written."""
+
     code = 0
     path: Path = ()
 
     def __str__(self) -> str:
         return f"{super().__str__()} (at {[*self.path]})" if self.path else super().__str__()
 
+
 class More(Error):
     """The bytes end before the value does."""
+
     # How many more the field needs that is being read, or 0 if that isn't known. With these it may need more again.
     missing = 0
 
-class UnknownTag(Error): """The first byte is no type tag."""
+
+class UnknownTag(Error):
+    """The first byte is no type tag."""
+
+
 class Malformed(Error):
     """The bytes are complete and no value, or one that nests deeper than `depth`."""
+
     # Why, and the offset, if `entry` or `loads` raised it.
     problem: Problem | None = None
 
-class TooLarge(Error): """The value has more than `frame` bytes, or what is written has 2^32 or more."""
-class Trailing(Error): """Bytes follow the value."""
-class Invalid(Error): """It is no array or table, or can't be written there."""
-class BadKey(Invalid): """A key isn't UTF-8, has more than 255 bytes, or is in the table already."""
-class BadText(Invalid): """A str has a lone surrogate, so it has no UTF-8."""
-class BadTag(Invalid): """It is of another type than is needed, or of none that can be written."""
-class OutOfRange(Invalid): """A number is out of its type's range."""
-class TooDeep(Error): """It nests deeper than Python's recursion limit allows, or is inside itself."""
-class NoMemory(Error, MemoryError): """Out of memory."""
-class NotJson(Error): """The text isn't UTF-8, nests too deep, is no JSON, or the JSON of no value."""
-class NoEncoding(Error): """The value has no encoding: it has a ShortString, or a length is too large for its field."""
+
+class TooLarge(Error):
+    """The value has more than `frame` bytes, or what is written has 2^32 or more."""
+
+
+class Trailing(Error):
+    """Bytes follow the value."""
+
+
+class Invalid(Error):
+    """It is no array or table, or can't be written there."""
+
+
+class BadKey(Invalid):
+    """A key isn't UTF-8, has more than 255 bytes, or is in the table already."""
+
+
+class BadText(Invalid):
+    """A str has a lone surrogate, so it has no UTF-8."""
+
+
+class BadTag(Invalid):
+    """It is of another type than is needed, or of none that can be written."""
+
+
+class OutOfRange(Invalid):
+    """A number is out of its type's range."""
+
+
+class TooDeep(Error):
+    """It nests deeper than Python's recursion limit allows, or is inside itself."""
+
+
+class NoMemory(Error, MemoryError):
+    """Out of memory."""
+
+
+class NotJson(Error):
+    """The text isn't UTF-8, nests too deep, is no JSON, or the JSON of no value."""
+
+
+class NoEncoding(Error):
+    """The value has no encoding: it has a ShortString, or a length is too large for its field."""
+
 
 # What Python raises at its limit, and what ctypes makes of that in a call.
 _RECURSION = (RecursionError, ctypes.ArgumentError)
 _OK, _NONE, _NO_ROOM = 0, 1, -7
 _ERRORS: dict[int, type[Error]] = {
-    -1: More, -2: UnknownTag, -3: Malformed, -4: TooLarge, -5: Invalid, -6: NoMemory, -8: NotJson, -9: NoEncoding, -10: BadKey, -11: BadTag, -12: OutOfRange,
+    -1: More,
+    -2: UnknownTag,
+    -3: Malformed,
+    -4: TooLarge,
+    -5: Invalid,
+    -6: NoMemory,
+    -8: NotJson,
+    -9: NoEncoding,
+    -10: BadKey,
+    -11: BadTag,
+    -12: OutOfRange,
 }
 for _code, _error in _ERRORS.items():
     _error.code = _code
+
 
 def _shown(number: object) -> str:
     """A number as a message has it, or how large it is."""
@@ -113,8 +179,10 @@ def _shown(number: object) -> str:
         return f"a Decimal of {len(Decimal.as_tuple(number).digits)} digits"
     return f"{number}" if isinstance(number, (int, float, Decimal)) else f"a {type(number).__name__}"
 
+
 class _Integer(int):
     """An integer of one type."""
+
     tag, least, most = "", 0, 0
 
     def __new__(cls, value: SupportsIndex = 0) -> Self:
@@ -128,16 +196,38 @@ class _Integer(int):
 
     __str__ = int.__repr__
 
-class ShortShortInt(_Integer): tag, least, most = "b", -(2**7), 2**7 - 1
-class ShortShortUInt(_Integer): tag, least, most = "B", 0, 2**8 - 1
-class ShortInt(_Integer): tag, least, most = "s", -(2**15), 2**15 - 1
-class ShortUInt(_Integer): tag, least, most = "u", 0, 2**16 - 1
-class LongInt(_Integer): tag, least, most = "I", -(2**31), 2**31 - 1
-class LongUInt(_Integer): tag, least, most = "i", 0, 2**32 - 1
-class _LongLongInt(_Integer): tag, least, most = "l", -(2**63), 2**63 - 1
+
+class ShortShortInt(_Integer):
+    tag, least, most = "b", -(2**7), 2**7 - 1
+
+
+class ShortShortUInt(_Integer):
+    tag, least, most = "B", 0, 2**8 - 1
+
+
+class ShortInt(_Integer):
+    tag, least, most = "s", -(2**15), 2**15 - 1
+
+
+class ShortUInt(_Integer):
+    tag, least, most = "u", 0, 2**16 - 1
+
+
+class LongInt(_Integer):
+    tag, least, most = "I", -(2**31), 2**31 - 1
+
+
+class LongUInt(_Integer):
+    tag, least, most = "i", 0, 2**32 - 1
+
+
+class _LongLongInt(_Integer):
+    tag, least, most = "l", -(2**63), 2**63 - 1
+
 
 class Timestamp(_Integer):
     """Seconds since 1970. A datetime with a time zone can be written too, rounded down."""
+
     tag, least, most = "T", 0, 2**64 - 1
 
     @classmethod
@@ -151,8 +241,10 @@ class Timestamp(_Integer):
         """The time in UTC. It raises OverflowError, ValueError or OSError from the year 10000 on."""
         return datetime.fromtimestamp(int(self), timezone.utc)
 
+
 class Float(float):
     """The nearest number of 32 bits. `bits` are these, so that a NaN is exact too."""
+
     _bits: int
 
     def __new__(cls, value: float | Decimal = 0.0) -> Self:
@@ -180,21 +272,27 @@ class Float(float):
 
     __str__ = float.__repr__
 
+
 def _bytes(data: Bytes) -> bytes:
     """Bytes as they are, whatever a subclass makes of them."""
     return data if type(data) is bytes else bytes(memoryview(data))
+
 
 class _Bytes(bytes):
     def __new__(cls, content: Bytes = b"") -> Self:
         return super().__new__(cls, _bytes(content))
 
+
 class LongString(_Bytes):
     """A string by its bytes."""
+
     def __repr__(self) -> str:
         return f"LongString({_bytes(self)!r})"
 
+
 class Encoded(_Bytes):
     """The encoding of a value with its type tag, to be checked, and written as it is."""
+
 
 _INTEGERS = {it.tag: it for it in (ShortShortInt, ShortShortUInt, ShortInt, ShortUInt, LongInt, LongUInt, Timestamp)}
 # How large a value is: its bytes, the values written in it and itself, and how deep containers nest.
@@ -205,33 +303,101 @@ Rules = IntEnum("Rules", "READ ANY_KEYS RABBITMQ", start=0)
 # The offset of a problem's value, or of its pair if the key is cut, its kind, and the type tag that RabbitMQ doesn't know, or 0.
 Problem = NamedTuple("Problem", [("offset", int), ("kind", ProblemKind), ("tag", int)])
 
+
 class _Span(ctypes.Structure):
     _fields_ = [("offset", c_size_t), ("length", c_size_t)]
 
     def of(self, data: bytes) -> bytes:
         return data[self.offset : self.offset + self.length]
 
-class _Entry(ctypes.Structure): _fields_ = [("key", _Span), ("value", _Span), ("content", _Span), ("bits", c_uint64), ("tag", c_uint8), ("scale", c_uint8)]
-class _Cursor(ctypes.Structure): _fields_ = [("left", _Span), ("tag", c_uint8)]
-class _Step(ctypes.Structure): _fields_ = [("key", c_char_p), ("key_length", c_size_t), ("index", c_size_t), ("tag", c_uint8)]
-class _Measure(ctypes.Structure): _fields_ = [("length", c_size_t), ("values", c_size_t), ("levels", c_size_t)]
-class _Problem(ctypes.Structure): _fields_ = [("offset", c_size_t), ("kind", c_uint8), ("tag", c_uint8)]
-class _Container(ctypes.Structure): _fields_ = [("written", _Span), ("tag", c_uint8)]
-class _Pair(ctypes.Structure): _fields_ = [("key", c_char_p), ("key_length", c_size_t), ("bytes", c_char_p), ("length", c_size_t), ("bits", c_uint64), ("tag", c_uint8), ("scale", c_uint8)]
+
+class _Entry(ctypes.Structure):
+    _fields_ = [
+        ("key", _Span),
+        ("value", _Span),
+        ("content", _Span),
+        ("bits", c_uint64),
+        ("tag", c_uint8),
+        ("scale", c_uint8),
+    ]
+
+
+class _Cursor(ctypes.Structure):
+    _fields_ = [("left", _Span), ("tag", c_uint8)]
+
+
+class _Step(ctypes.Structure):
+    _fields_ = [("key", c_char_p), ("key_length", c_size_t), ("index", c_size_t), ("tag", c_uint8)]
+
+
+class _Measure(ctypes.Structure):
+    _fields_ = [("length", c_size_t), ("values", c_size_t), ("levels", c_size_t)]
+
+
+class _Problem(ctypes.Structure):
+    _fields_ = [("offset", c_size_t), ("kind", c_uint8), ("tag", c_uint8)]
+
+
+class _Container(ctypes.Structure):
+    _fields_ = [("written", _Span), ("tag", c_uint8)]
+
+
+class _Pair(ctypes.Structure):
+    _fields_ = [
+        ("key", c_char_p),
+        ("key_length", c_size_t),
+        ("bytes", c_char_p),
+        ("length", c_size_t),
+        ("bits", c_uint64),
+        ("tag", c_uint8),
+        ("scale", c_uint8),
+    ]
+
 
 # Parameters by a letter, and those of each call.
 _KINDS: dict[str, list[Any]] = {
-    "b": [c_char_p, c_size_t], "l": [c_uint32, c_uint32], "4": [c_uint32], "n": [c_size_t], "t": [c_uint8], "8": [c_uint64],
-    "N": [POINTER(c_size_t)], "E": [POINTER(_Entry)], "C": [POINTER(_Cursor)], "S": [POINTER(_Step)], "M": [POINTER(_Measure)],
-    "P": [POINTER(_Problem)], "I": [POINTER(_Container)], "R": [POINTER(_Pair)],
+    "b": [c_char_p, c_size_t],
+    "l": [c_uint32, c_uint32],
+    "4": [c_uint32],
+    "n": [c_size_t],
+    "t": [c_uint8],
+    "8": [c_uint64],
+    "N": [POINTER(c_size_t)],
+    "E": [POINTER(_Entry)],
+    "C": [POINTER(_Cursor)],
+    "S": [POINTER(_Step)],
+    "M": [POINTER(_Measure)],
+    "P": [POINTER(_Problem)],
+    "I": [POINTER(_Container)],
+    "R": [POINTER(_Pair)],
 }
 _PARAMETERS = {
-    "read": "blEN", "read_table": "blEN", "measure_value": "blMN", "measure_table": "blMN", "first_problem": "b4lP", "first_problem_in_table": "b4lP",
-    "first": "bE", "enter": "bEC", "next": "bCE", "find": "bCbE", "find_first": "bCbE", "find_path": "bESn4E",
-    "put": "bIbt8t", "put_bytes": "bIbtb", "put_value": "bIbbl", "open": "bIbtI", "close": "bII", "needed": "IntnN", "write_table": "RnbN",
-    "canonical": "blbN", "to_json": "blbN", "from_json": "b4bN", "version": "",
+    "read": "blEN",
+    "read_table": "blEN",
+    "measure_value": "blMN",
+    "measure_table": "blMN",
+    "first_problem": "b4lP",
+    "first_problem_in_table": "b4lP",
+    "first": "bE",
+    "enter": "bEC",
+    "next": "bCE",
+    "find": "bCbE",
+    "find_first": "bCbE",
+    "find_path": "bESn4E",
+    "put": "bIbt8t",
+    "put_bytes": "bIbtb",
+    "put_value": "bIbbl",
+    "open": "bIbtI",
+    "close": "bII",
+    "needed": "IntnN",
+    "write_table": "RnbN",
+    "canonical": "blbN",
+    "to_json": "blbN",
+    "from_json": "b4bN",
+    "version": "",
 }
 _calls: dict[str, Any] = {}
+
 
 def load(path: str | None = None) -> None:
     """Loads the library, as the first call does: by a path, by AMQP_VALUES in the environment, or as the system finds it."""
@@ -247,15 +413,18 @@ def load(path: str | None = None) -> None:
         call.argtypes = [kind for it in _PARAMETERS[name] for kind in _KINDS[it]]
     _calls.update(calls)
 
+
 def version() -> int:
     """The library's version: 10000 * major + 100 * minor + patch."""
     return _result("version")
+
 
 def _result(name: str, *arguments: Any) -> int:
     if not _calls:
         load()
     code: int = _calls[name](*arguments)
     return code
+
 
 def _is_ok(code: int, count: int = 0) -> bool:
     """Whether something was done, and not nothing found; other results raise their error."""
@@ -266,27 +435,34 @@ def _is_ok(code: int, count: int = 0) -> bool:
         found.missing = count
     raise found
 
+
 def _limit(number: SupportsIndex, most: int = 2**32 - 1) -> int:
     if not 0 <= (limit := index(number)) <= most:
         raise ValueError(f"a limit isn't between 0 and {most}")
     return limit
+
 
 def _given(data: Bytes, frame: int = FRAME, depth: int = DEPTH) -> tuple[bytes, int, int, int]:
     """Bytes and limits as the library takes them."""
     content = _bytes(data)
     return content, len(content), _limit(frame), _limit(depth, MOST_DEPTH)
 
+
 def _utf8(text: str, error: type[Error], errors: str = "strict") -> bytes:
     try:
         return str.encode(text, errors=errors)
     except UnicodeEncodeError as why:
-        raise error(f"U+{ord(str.__getitem__(text, why.start)):04X} at {why.start} is a lone surrogate, which has no UTF-8") from None
+        raise error(
+            f"U+{ord(str.__getitem__(text, why.start)):04X} at {why.start} is a lone surrogate, which has no UTF-8"
+        ) from None
+
 
 def _key(key: str | bytes, errors: str = "strict") -> bytes:
     """The bytes of a key; with "surrogateescape" also of one that `Entry.key` is and that isn't UTF-8."""
     if not isinstance(key, (str, bytes)):
         raise TypeError(f"a key is a str, not {type(key).__name__}")
     return _utf8(key, BadKey, errors) if isinstance(key, str) else _bytes(key)
+
 
 def _step(it: str | bytes | int) -> _Step:
     """A step of a path as the library takes it."""
@@ -297,8 +473,10 @@ def _step(it: str | bytes | int) -> _Step:
         raise ValueError("a path is a sequence of keys and of indexes from 0")
     return _Step(b"", 0, number, ord("A"))
 
+
 class Entry:
     """A value in place, and in a table its key. Nothing is built but what is asked for."""
+
     def __init__(self, data: bytes, at: _Entry, is_in_table: bool = False):
         self._data, self._at, self._is_in_table = data, at, is_in_table
 
@@ -345,7 +523,13 @@ class Entry:
                 return content.decode()
             except UnicodeDecodeError:
                 return LongString(content)
-        forms: dict[str, Value] = {"V": None, "t": bits == 1, "l": signed, "d": struct.unpack("d", struct.pack("Q", bits))[0], "x": content}
+        forms: dict[str, Value] = {
+            "V": None,
+            "t": bits == 1,
+            "l": signed,
+            "d": struct.unpack("d", struct.pack("Q", bits))[0],
+            "x": content,
+        }
         return Float.of_bits(bits) if tag == "f" else forms[tag]
 
     def __iter__(self) -> Iterator[Entry]:
@@ -357,7 +541,8 @@ class Entry:
 
     def get(self, key: str | bytes, first: bool = True) -> Entry | None:
         """The entry of a table with a key: of equal keys the first, as for RabbitMQ, or the last."""
-        call, cursor, at, content = "find_first" if first else "find", self._cursor(), _Entry(), _key(key, "surrogateescape")
+        call = "find_first" if first else "find"
+        cursor, at, content = self._cursor(), _Entry(), _key(key, "surrogateescape")
         is_found = _is_ok(_result(call, self._data, len(self._data), byref(cursor), content, len(content), byref(at)))
         return Entry(self._data, at, True) if is_found else None
 
@@ -377,6 +562,7 @@ class Entry:
         _is_ok(_result("enter", self._data, len(self._data), byref(self._at), byref(cursor)))
         return cursor
 
+
 def entry(data: Bytes, *, table: bool = False, frame: int = FRAME, depth: int = DEPTH) -> Entry:
     """The value in place, all of it checked."""
     given, at, count = _given(data, frame, depth), _Entry(), c_size_t()
@@ -387,20 +573,24 @@ def entry(data: Bytes, *, table: bool = False, frame: int = FRAME, depth: int = 
         raise
     return Entry(given[0], at)
 
+
 def peek(data: Bytes) -> Entry:
     """The value in place by its type tag and length, unchecked: also a table with keys that aren't UTF-8."""
     content, at = _bytes(data), _Entry()
     _is_ok(_result("first", content, len(content), byref(at)))
     return Entry(content, at)
 
+
 def entries(data: Bytes, **how: Any) -> Iterator[Entry]:
     """The entries of an array or a table, of which all is checked before, as by `entry`."""
     return iter(entry(data, **how))
+
 
 def find(data: Bytes, path: Path, *, first: bool = True, default: Any = None, **how: Any) -> Any:
     """The value at a path, or `default`; all is checked, as by `entry`. Of equal keys the first counts, as for RabbitMQ, or the last, as for `loads`."""
     found = entry(data, **how).find(path, first)
     return default if found is None else found.value
+
 
 def loads(data: Bytes, *, table: bool = False, frame: int = FRAME, depth: int = DEPTH) -> Any:
     """The value that some bytes are; `Trailing` if others follow it."""
@@ -410,18 +600,26 @@ def loads(data: Bytes, *, table: bool = False, frame: int = FRAME, depth: int = 
         raise Trailing(f"the value has {found.length} bytes, and others follow")
     return found.value
 
+
 def loads_table(data: Bytes, *, frame: int = FRAME, depth: int = DEPTH) -> dict[str, Value]:
     """The table that some bytes are without its type tag."""
     found: dict[str, Value] = loads(data, table=True, frame=frame, depth=depth)
     return found
 
+
 def measure(data: Bytes, *, table: bool = False, frame: int = FRAME, depth: int = DEPTH) -> Measure:
     """How large a value is, all of it checked: to reject one before it is built."""
     found, count = _Measure(), c_size_t()
-    _is_ok(_result("measure_table" if table else "measure_value", *_given(data, frame, depth), byref(found), byref(count)), count.value)
+    _is_ok(
+        _result("measure_table" if table else "measure_value", *_given(data, frame, depth), byref(found), byref(count)),
+        count.value,
+    )
     return Measure(found.length, found.values, found.levels)
 
-def first_problem(data: Bytes, *, rules: Rules = Rules.RABBITMQ, table: bool = False, frame: int = FRAME, depth: int = DEPTH) -> Problem | None:
+
+def first_problem(
+    data: Bytes, *, rules: Rules = Rules.RABBITMQ, table: bool = False, frame: int = FRAME, depth: int = DEPTH
+) -> Problem | None:
     """The first thing in a value that the rules don't allow, or that is beyond the limits."""
     found, name = _Problem(), "first_problem_in_table" if table else "first_problem"
     content, length, *limits = _given(data, frame, depth)
@@ -430,8 +628,10 @@ def first_problem(data: Bytes, *, rules: Rules = Rules.RABBITMQ, table: bool = F
     is_found = _is_ok(_result(name, content, length, int(rules), *limits, byref(found)))
     return Problem(found.offset, ProblemKind(found.kind), found.tag) if is_found else None
 
-class _Room:
+
+class _Output:
     """A buffer that grows, and what is appended to containers in it."""
+
     def __init__(self) -> None:
         self.buffer = ctypes.create_string_buffer(1024)
 
@@ -473,12 +673,15 @@ class _Room:
         else:
             self.put("put", *head, *_fixed(value))
 
+
 _STRINGS = (str, bytes, bytearray, memoryview)
+
 
 def _string(value: Any) -> tuple[int, bytes, int]:
     """The type tag of a string or a byte array, its bytes, and how many they are."""
     content = _utf8(value, BadText) if isinstance(value, str) else _bytes(value)
     return ord("S" if isinstance(value, (str, LongString)) else "x"), content, len(content)
+
 
 def _pair(key: bytes, value: Any) -> _Pair:
     """A pair as `write_table` takes it."""
@@ -488,12 +691,16 @@ def _pair(key: bytes, value: Any) -> _Pair:
     tag, bits, scale = _fixed(value)
     return _Pair(key, len(key), None, 0, bits, tag, scale)
 
+
 def _fixed(value: Any) -> tuple[int, int, int]:
     """The type tag, bits and scale of a value of fixed width."""
     if value is None or isinstance(value, bool):
         return ord("V" if value is None else "t"), int(value or 0), 0
     if isinstance(value, (int, datetime)):
-        number = Timestamp.of(value) if isinstance(value, datetime) else value if isinstance(value, _Integer) else _LongLongInt(value)
+        if isinstance(value, datetime):
+            number: _Integer = Timestamp.of(value)
+        else:
+            number = value if isinstance(value, _Integer) else _LongLongInt(value)
         return ord(number.tag), index(number) % 2**64, 0
     if isinstance(value, float):
         # (what isn't one in spite of its `__class__` raises a TypeError)
@@ -504,28 +711,38 @@ def _fixed(value: Any) -> tuple[int, int, int]:
     if isinstance(value, Decimal):
         sign, digits, exponent = Decimal.as_tuple(value)
         # (the largest number has ten digits, and zero may have any exponent)
-        if isinstance(exponent, int) and not sign and exponent > -256 and (digits == (0,) or len(digits) + max(exponent, 0) <= 10):
+        if (
+            isinstance(exponent, int)
+            and not sign
+            and exponent > -256
+            and (digits == (0,) or len(digits) + max(exponent, 0) <= 10)
+        ):
             scaled = "".join(map(str, digits)) + "0" * max(exponent, 0) if any(digits) else "0"
             if int(scaled) < 2**32:
                 return ord("D"), int(scaled), max(-exponent, 0)
         raise OutOfRange(f"{_shown(value)} isn't a number from 0 to 4294967295 with up to 255 digits after the point")
     raise TypeError(f"no type for {type(value).__name__}")
 
+
 def dumps(value: Writable) -> bytes:
     """The encoding of a value, the keys of tables in their order."""
-    room, top = _Room(), _Container(_Span(0, 0), ord("A"))
+    output, top = _Output(), _Container(_Span(0, 0), ord("A"))
     try:
-        room.append(top, b"", value)
+        output.append(top, b"", value)
     except _RECURSION:
         raise TooDeep(TooDeep.__doc__) from None
-    return ctypes.string_at(room.buffer, top.written.length)
+    return ctypes.string_at(output.buffer, top.written.length)
+
 
 def dumps_table(table: Mapping[str, Writable]) -> bytes:
     """The encoding of a table without its type tag."""
     if not isinstance(table, Mapping):
         raise TypeError(f"a table is a mapping, not {type(table).__name__}")
     given = dict(table)
-    if not any(isinstance(it, (Encoded, Mapping)) or isinstance(it, Sequence) and not isinstance(it, _STRINGS) for it in given.values()):
+    if not any(
+        isinstance(it, (Encoded, Mapping)) or isinstance(it, Sequence) and not isinstance(it, _STRINGS)
+        for it in given.values()
+    ):
         with suppress(TypeError, ValueError):
             pairs = {(name := _key(key)): _pair(name, value) for key, value in given.items()}
             if len(pairs) == len(given):
@@ -533,20 +750,24 @@ def dumps_table(table: Mapping[str, Writable]) -> bytes:
     # it nests, or can't be written, and this finds the path
     return dumps(given)[1:]
 
+
 def canonical(data: Bytes, *, table: bool = False, frame: int = FRAME, depth: int = DEPTH) -> bytes:
     """The encoding that is the same for equal values, to compare, hash or sign them."""
     given = _given(b"F" + _bytes(data) if table else data, frame, depth)
     return _written("canonical", given[1], *given)[bool(table) :]
+
 
 def to_json(data: Bytes, *, table: bool = False, frame: int = FRAME, depth: int = DEPTH) -> str:
     """The JSON of a value, by docs/JSON.md."""
     given = _given(b"F" + _bytes(data) if table else data, frame, depth)
     return _written("to_json", 2 * given[1], *given).decode()
 
+
 def from_json(text: str | Bytes, *, nesting: int = JSON_NESTING) -> bytes:
     """The canonical encoding of the value that has this JSON."""
     content = _utf8(text, NotJson) if isinstance(text, str) else _bytes(text)
     return _written("from_json", 2 * len(content), content, len(content), _limit(nesting))
+
 
 def _written(name: str, capacity: int, *given: Any) -> bytes:
     count, buffer = c_size_t(capacity), ctypes.create_string_buffer(capacity)

@@ -7,15 +7,17 @@ import sys
 import amqp_values
 
 
-def show(entry, level=0):
+def show(entry: amqp_values.Entry, level: int = 0) -> None:
+    """Prints an entry, and those in it, each two spaces further in."""
     key = "" if entry.key is None else f"{entry.key!r}: "
     is_container = entry.tag in "AF"
     print("  " * level + key + (entry.tag if is_container else repr(entry.value)))
-    for it in entry if is_container else ():
-        show(it, level + 1)
+    if is_container:
+        for it in entry:
+            show(it, level + 1)
 
 
-def main():
+def main() -> int:
     amqp_values.load(*sys.argv[1:])
     data = bytes.fromhex(re.sub(r"#.*", "", sys.stdin.read()))
     try:

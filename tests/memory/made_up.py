@@ -10,11 +10,7 @@ Nor can a clause state with which error a reader or a writer of std failed: the 
 """
 
 import re
-import sys
 from collections.abc import Iterator
-from pathlib import Path
-
-sys.path.append(str(Path(__file__).resolve().parents[2] / ".ci"))
 
 from crates import TOP
 
@@ -40,10 +36,10 @@ BY_NUMBER = {
     "let mut bytes = Vec::with_capacity(alloc, chunk.len())?;": "bytes that are there",
     "bytes.reserve(input.input_len())?;": "the same",
     "self.bytes.try_reserve(buf.len())?;": "the same",
-    "let mut bytes = vec![in alloc; 0; room]?;": "the bytes that a value was read from",
+    "let mut bytes = vec![in alloc; 0; capacity]?;": "the bytes that a value was read from",
     "let text = BufReader::with_capacity(rt.alloc(), BLOCK, input)?;": "a constant",
     "let reader = BufReader::with_capacity(rt.alloc(), BLOCK, input)?;": "a constant",
-    "let room = make_room(&mut self.buffer, self.count, most)?;": "as much again as there is",
+    "let space = make_room(&mut self.buffer, self.count, most)?;": "as much again as there is",
     "buffer.reserve_exact(most.min(buffer.len()).max(BLOCK))?;": "the same",
     "buffer.resize(count + more, 0)?;": "capacity that there is",
 }

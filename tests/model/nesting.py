@@ -36,6 +36,17 @@ def encoding(form: str, depth: int, innermost: bytes = b"V") -> bytes:
     return nested(form, depth, innermost, KEY)
 
 
+def unordered(form: str, depth: int) -> bytes:
+    """An encoding that nests that deep, in each of its tables a second key below the first."""
+    tags, below = (form * depth)[:depth], b"\x01AV"
+    parts, length = [b"V" + below * tags.count("F")], 1
+    for tag in reversed(tags):
+        key, size = (KEY, len(KEY) + length + len(below)) if tag == "F" else (b"", length)
+        parts.append(struct.pack(">cI", tag.encode(), size) + key)
+        length = 5 + size
+    return b"".join(reversed(parts))
+
+
 def payload(form: str, depth: int, key: bytes = KEY) -> bytes:
     """What follows the type tag of a table that has a pair, and nests that deep."""
     inner = key + encoding(form, depth - 1)
@@ -88,7 +99,7 @@ OF_TABLES = ("amqpv_read_table", "amqpv_measure_table", "amqpv_first_problem_in_
 FOR_C = {
     **{it: Call([it], encoding, DEEPER) for it in OF_ENCODINGS},
     **{it: Call([it], payload, DEEPER) for it in OF_TABLES},
-    "amqpv_to_json": Call(["amqpv_to_json"], encoding, DEEP),
+    "amqpv_to_json": Call(["amqpv_to_json"], unordered, DEEP),
     "amqpv_canonical": Call(["amqpv_canonical"], not_canonical, DEEP),
     "amqpv_from_json": Call(["amqpv_from_json"], json_text, OF_JSON),
 }
@@ -99,13 +110,13 @@ MADE: dict[str, Callable[[str, int], bytes]] = {
 
 
 def calls() -> Iterator[tuple[str, Call]]:
-    """Yields the calls of test_malformed, by name: the arms of its functions of_encoding and so on."""
-    text = (TOP / "crates/test_malformed/src/nested.rt").read_text()
+    """Yields the calls of test_hostile, by name: the arms of its functions of_encoding and so on."""
+    text = (TOP / "crates/test_hostile/src/nested.rt").read_text()
     for kind, make in MADE.items():
         (body,) = re.findall(rf"(?ms)^fn of_{kind}\(.*?^}}", text)
         for name, arm in re.findall(r'(?m)^ {8}"(\S+)" => (.*(?:\n {9}.*)*)', body):
             depths = OF_JSON if kind == "text" else DEEPER if "limits" in arm else UNLIMITED
-            yield name, Call([kind, name], make, depths)
+            yield name, Call([kind, name], unordered if name == "json_of_encoding" else make, depths)
 
 
 CALLS = dict(calls())

@@ -193,7 +193,7 @@ class Dissection:
         self.tags: dict[Place, list[Part]] = {}
         try:
             if extent(data) > FRAME:
-                raise Failure(0, f"the {subject} has more bytes than --frame allows")
+                raise Failure(0, f"the {subject} has more bytes than --max-bytes allows")
             self.end = self.value(0, len(data), 0, DEPTH, True)
         except Failure as why:
             self.failure = self.failure or why
@@ -495,7 +495,7 @@ def checked(data: bytes, subject: str = "value", frame_max: int = FRAME_MAX) -> 
     data = b"F" * left_out + data
     try:
         if extent(data) > FRAME:
-            raise Failure(0, f"the {subject} has more bytes than --frame allows")
+            raise Failure(0, f"the {subject} has more bytes than --max-bytes allows")
         end = taken(data, 0, len(data), DEPTH)
         lines = [*warned(data, end, left_out, subject, frame_max)]
         lines += [f"= RabbitMQ 3.10.8 takes a {subject} of {end - left_out} bytes, {following(data, end)} follow"]

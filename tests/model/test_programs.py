@@ -1,4 +1,4 @@
-"""What crates/test_malformed and crates/amqp_wire have to print, by the reader and writer of printed.py.
+"""What crates/test_hostile and crates/amqp_wire have to print, by the reader and writer of printed.py.
 
 Compares that with the files `stdout` of both, which `rt ci` compares with what the programs print. By docs/JSON.md and
 docs/SHOW.md it also checks what the cases of tests/show with JSON, measures and RabbitMQ must print, which tests/show/run
@@ -111,7 +111,7 @@ def devices() -> Iterator[str]:
 
 
 def hostile(table: bytes) -> Iterator[str]:
-    """The lines of test_malformed."""
+    """The lines of test_hostile."""
     for name, data in [*built(), *damaged(table)]:
         yield f"{name}: {answer(data)}"
     yield from rooms(write(read(table)[0]))
@@ -145,7 +145,7 @@ def tag_of(words: Sequence[str]) -> bytes:
 
 def is_judged(case: Case) -> bool:
     """Whether a case is within the limits of the model, and ends well enough to print something."""
-    is_limited = {"--frame", "--depth", "--raw"} & {*case.words}
+    is_limited = {"--max-bytes", "--frame", "--depth", "--raw"} & {*case.words}
     return not is_limited and case.output in (Output.PIPE, Output.TERMINAL) and case.wants.status != 2
 
 
@@ -173,13 +173,13 @@ def stored_lines(crate: str) -> list[str]:
     return str(content(CRATES / crate / "stdout").decode()).splitlines()
 
 
-def test_malformed_input(record_property: Recorder, is_writing: bool) -> None:
-    """What crates/test_malformed has to print, which --write writes anew."""
-    lines = [*hostile(bytes.fromhex((CRATES / "test_malformed/stdin").read_text()))]
+def test_hostile_input(record_property: Recorder, is_writing: bool) -> None:
+    """What crates/test_hostile has to print, which --write writes anew."""
+    lines = [*hostile(bytes.fromhex((CRATES / "test_hostile/stdin").read_text()))]
     if is_writing:
-        (CRATES / "test_malformed/stdout").write_text("\n".join(lines) + "\n")
-    record_property("test_malformed_lines", len(lines))
-    assert stored_lines("test_malformed") == lines
+        (CRATES / "test_hostile/stdout").write_text("\n".join(lines) + "\n")
+    record_property("test_hostile_lines", len(lines))
+    assert stored_lines("test_hostile") == lines
 
 
 def test_lines_of_hexadecimal(record_property: Recorder) -> None:

@@ -164,7 +164,7 @@ fn names_of(word: &str) -> Result<Vec<String>, Unknown> {
     word.strip_prefix('.').ok_or(Unknown)?.split('.').map(|it| if it.is_empty() { Ok(String::new()) } else { text(it) }).collect()
 }
 
-/// The same with `+` after a flag that is set, and `!` after one that isn't.
+/// Flags: `-` for none, else names in hexadecimal, each after a `.`, with `+` if it is set, and `!` if it isn't.
 fn flags_of(word: &str) -> Result<AMQPFlags, Unknown> {
     let mut flags = AMQPFlags::default();
     if word == "-" {

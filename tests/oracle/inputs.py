@@ -1,15 +1,11 @@
 """Requests for both sides, a line each: README.md has their form. What is random comes from a generator that is passed."""
 
 import json
-import sys
 from collections.abc import Iterator
-from pathlib import Path
 from random import Random
 from typing import Any
 
-sys.path.append(str(Path(__file__).resolve().parents[2]))
-
-from tests.model.printed import SIGNED, TYPES, Value, write  # noqa: E402
+from tests.model.printed import SIGNED, TYPES, Value, write
 
 # By the name of a type its type tag; LongLongUInt and ShortString have none.
 TAGS = {name: tag for tag, (name, _) in TYPES.items() if tag not in "UL"}

@@ -10,11 +10,9 @@ import tempfile
 from collections.abc import Iterable, Iterator, Sequence
 from pathlib import Path
 
-HERE = Path(__file__).resolve().parent
-sys.path[:0] = [str(HERE), str(HERE.parents[1] / ".ci")]
+from crates import TOP
 
-from crates import TOP  # noqa: E402
-
+HERE = TOP / "tests/oracle"
 # Debian's Rust packages.
 DEBIAN = Path("/usr/share/cargo/registry")
 ANSWERS, DEPARTURES = HERE / "answers.gz", HERE / "departures"

@@ -7,7 +7,7 @@
 mod clock;
 
 use amqp_values::{Limits, ValueRef, check, read};
-use amqp_values_sys::{AMQPV_OK, amqpv_cursor, amqpv_entry, amqpv_next, amqpv_span};
+use amqp_values_sys::{AMQPV_NONE, AMQPV_OK, amqpv_cursor, amqpv_entry, amqpv_next, amqpv_result, amqpv_span};
 use clock::least;
 use original::parsing::parse_value;
 use std::hint::black_box;
@@ -44,10 +44,27 @@ fn bits(tag: u8, payload: &[u8]) -> u64 {
     }
 }
 
-/// What `amqpv_next` does, in Rust: whether there is an entry.
-#[inline(never)]
+/// What `amqpv_next` does, in Rust: whether there is an entry. It is called as that is, so that both cost a call.
 fn next(bytes: &[u8], cursor: &mut amqpv_cursor, entry: &mut amqpv_entry) -> bool {
-    next_of(bytes, cursor).map(|it| *entry = it).is_some()
+    next_called(bytes.as_ptr(), bytes.len(), cursor, entry) == AMQPV_OK
+}
+
+#[inline(never)]
+extern "C" fn next_called(
+    bytes: *const u8,
+    length: usize,
+    cursor: &mut amqpv_cursor,
+    entry: &mut amqpv_entry,
+) -> amqpv_result {
+    // SAFETY: `next` passes what a slice has
+    let bytes = unsafe { std::slice::from_raw_parts(bytes, length) };
+    match next_of(bytes, cursor) {
+        Some(found) => {
+            *entry = found;
+            AMQPV_OK
+        }
+        None => AMQPV_NONE,
+    }
 }
 
 #[inline(always)]

@@ -55,6 +55,28 @@ encode_out_of_range
   2> amqp_show: "-": $.FieldTable.Void[1]: a ShortInt is an integer from -32768 to 32767
   [1]
 
+encode_first_of_several
+  $ echo '{"b":1.5,"a":[[null,{"LongInt":2147483648}],2.5]}' | amqp_show --encode
+  2> amqp_show: "-": $.a[0][1]: a LongInt is an integer from -2147483648 to 2147483647
+  [1]
+
+encode_digits_in_upper_case
+  $ echo '{"":{"ByteArray":"0A"}}' | amqp_show --encode
+  2> amqp_show: "-": $[""]: a ByteArray is hexadecimal digits in lower case, two for each byte
+  [1]
+
+encode_table_needlessly_named
+  $ echo '{"FieldTable":{"a":1.5}}' | amqp_show --encode
+  2> amqp_show: "-": $: a FieldTable is plain, unless the name of a type is its only key
+  [1]
+
+encode_long_key_in_named
+  $ amqp_show --encode <<'END'
+  > {"FieldTable":{"Void":[[],{"FieldTable":{"Double":{"kkkkkkkkkkkkkkkkkkkkkkkkkkkkkkkkkkkkkkkkkkkkkkkkkkkkkkkkkkkkkkkkkkkkkkkkkkkkkkkkkkkkkkkkkkkkkkkkkkkkkkkkkkkkkkkkkkkkkkkkkkkkkkkkkkkkkkkkkkkkkkkkkkkkkkkkkkkkkkkkkkkkkkkkkkkkkkkkkkkkkkkkkkkkkkkkkkkkkkkkkkkkkkkkkkkkkkkkkkkkkkkkkkkkkkkkkkkkkkkkkkkkkkkkkkkkkkkk":1}}}]}}
+  > END
+  2> amqp_show: "-": $.FieldTable.Void[1].FieldTable.Double: a key has 256 bytes, and 255 are the most
+  [1]
+
 encode_raw
   $ echo '"hi"' | amqp_show --encode --raw
   S\x00\x00\x00\x02hi (esc) (no-eol)

@@ -1,4 +1,4 @@
-# The most bytes and levels, `--frame` and `--depth`, and what follows a value.
+# The most bytes and levels, `--max-bytes` and `--depth`, and what follows a value.
 
 depth_0
   $ echo 4100000000 | xxd -r -p | amqp_show --depth 0
@@ -170,29 +170,35 @@ depth_default
   > END
   [[[[[[[[[[[[[[[[[[[[[[[[[[[[[[[[[[[[[[[[[[[[[[[[[[[[[[[[[[[[[[[[]]]]]]]]]]]]]]]]]]]]]]]]]]]]]]]]]]]]]]]]]]]]]]]]]]]]]]]]]]]]]]]]
 
-frame_1
-  $ echo 7401 | xxd -r -p | amqp_show --frame 1
-  ! offset 0: the value has more bytes than --frame allows
+max_bytes_1
+  $ echo 7401 | xxd -r -p | amqp_show --max-bytes 1
+  ! offset 0: the value has more bytes than --max-bytes allows
   = refused, TooLarge
   [1]
 
-frame_1_void
-  $ echo 56 | xxd -r -p | amqp_show --frame 1
+max_bytes_by_its_other_name
+  $ echo 7401 | xxd -r -p | amqp_show --frame 1
+  ! offset 0: the value has more bytes than --max-bytes allows
+  = refused, TooLarge
+  [1]
+
+max_bytes_1_void
+  $ echo 56 | xxd -r -p | amqp_show --max-bytes 1
   Void
   = a value of 1 bytes, 0 follow
 
-frame_above_default
+max_bytes_above_default
   $ echo 53000ffffc | xxd -r -p | amqp_show
-  ! offset 0: the value has more bytes than --frame allows
+  ! offset 0: the value has more bytes than --max-bytes allows
   = refused, TooLarge
   [1]
 
-frame_above_default_json
+max_bytes_above_default_json
   $ echo 53000ffffc | xxd -r -p | amqp_show --json
-  2> amqp_show: "-": offset 0: the value has more bytes than --frame allows; refused, TooLarge
+  2> amqp_show: "-": offset 0: the value has more bytes than --max-bytes allows; refused, TooLarge
   [1]
 
-frame_default
+max_bytes_default
   $ echo 53000ffffb | xxd -r -p | amqp_show
   LongString (cut)
   ! offset 1: the payload of a LongString is expected; more bytes needed: 1048571
@@ -200,16 +206,16 @@ frame_default
   [1]
 
 follow_at_limit
-  $ echo 7401 | xxd -r -p | amqp_show --frame 2
+  $ echo 7401 | xxd -r -p | amqp_show --max-bytes 2
   Boolean true
   = a value of 2 bytes, 0 follow
 
 follow_past_limit
-  $ echo 7401 56 56 56 | xxd -r -p | amqp_show --frame 2
+  $ echo 7401 56 56 56 | xxd -r -p | amqp_show --max-bytes 2
   Boolean true
   = a value of 2 bytes, at least 1 follow
 
 follow_past_limit_json
-  $ echo 7401 56 zz | amqp_show --json --hex --frame 2
+  $ echo 7401 56 zz | amqp_show --json --hex --max-bytes 2
   true
   2> amqp_show: "-": at least 1 bytes follow the value

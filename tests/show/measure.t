@@ -1,7 +1,7 @@
 # Lengths, values and levels, by `--measure`.
 
 measure_at_limits
-  $ echo 4100000005 4100000000 | xxd -r -p | amqp_show --measure --frame 10 --depth 2
+  $ echo 4100000005 4100000000 | xxd -r -p | amqp_show --measure --max-bytes 10 --depth 2
   bytes 10, values 2, levels 2
 
 measure_cut
@@ -45,12 +45,12 @@ measure_stream
   bytes 7, values 3, levels 1
 
 measure_stream_keep_going
-  $ echo 56 4100000001 5a 5300000006 616161616161 7401 4400 00000001 5300000002 61 | xxd -r -p | amqp_show --measure --stream --keep-going --frame 10
+  $ echo 56 4100000001 5a 5300000006 616161616161 7401 4400 00000001 5300000002 61 | xxd -r -p | amqp_show --measure --stream --keep-going --max-bytes 10
   bytes 1, values 1, levels 0
   bytes 2, values 1, levels 0
   bytes 6, values 1, levels 0
   2> amqp_show: "-": no value at 1: offset 5: a type tag is expected; 5a is none; refused, Eof
-  2> amqp_show: "-": no value at 7: offset 0: the value has more bytes than --frame allows; refused, TooLarge
+  2> amqp_show: "-": no value at 7: offset 0: the value has more bytes than --max-bytes allows; refused, TooLarge
   2> amqp_show: "-": no value at 26: offset 1: the payload of a LongString is expected; more bytes needed: 1; truncated; more bytes needed: 1
   [1]
 
@@ -81,13 +81,13 @@ measure_table_malformed
   [1]
 
 measure_too_deep
-  $ echo 4100000005 4100000000 | xxd -r -p | amqp_show --measure --frame 10 --depth 1
+  $ echo 4100000005 4100000000 | xxd -r -p | amqp_show --measure --max-bytes 10 --depth 1
   2> amqp_show: "-": offset 5: containers nest deeper than --depth allows; refused, Eof
   [1]
 
 measure_too_large
-  $ echo 4100000005 4100000000 | xxd -r -p | amqp_show --measure --frame 9 --depth 2
-  2> amqp_show: "-": offset 0: the value has more bytes than --frame allows; refused, TooLarge
+  $ echo 4100000005 4100000000 | xxd -r -p | amqp_show --measure --max-bytes 9 --depth 2
+  2> amqp_show: "-": offset 0: the value has more bytes than --max-bytes allows; refused, TooLarge
   [1]
 
 measure

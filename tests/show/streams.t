@@ -27,7 +27,7 @@ stream_json
   true
 
 stream_keep_going
-  $ echo 7401 4100000005 7401490000 5300000004 6f6e6521 4600000003 01ff56 5300000010 000102030405060708090a0b0c0d0e0f 56 7a 7401 | xxd -r -p | amqp_show --stream --keep-going --frame 16
+  $ echo 7401 4100000005 7401490000 5300000004 6f6e6521 4600000003 01ff56 5300000010 000102030405060708090a0b0c0d0e0f 56 7a 7401 | xxd -r -p | amqp_show --stream --keep-going --max-bytes 16
   Boolean true
   = a value of 2 bytes at 0
   FieldArray
@@ -41,7 +41,7 @@ stream_keep_going
     ?
   ! offset 6: a key is expected; the bytes aren't UTF-8
   = no value at 21: refused, Eof
-  ! offset 0: the value has more bytes than --frame allows
+  ! offset 0: the value has more bytes than --max-bytes allows
   = no value at 29: refused, TooLarge
   Void
   = a value of 1 bytes at 50
@@ -50,16 +50,16 @@ stream_keep_going
   [1]
 
 stream_keep_going_json
-  $ echo 7401 5300000002 6869 56 5300000009 61 | xxd -r -p | amqp_show --stream --keep-going --json --frame 3
+  $ echo 7401 5300000002 6869 56 5300000009 61 | xxd -r -p | amqp_show --stream --keep-going --json --max-bytes 3
   true
   null
-  2> amqp_show: "-": no value at 2: offset 0: the value has more bytes than --frame allows; refused, TooLarge
-  2> amqp_show: "-": no value at 10: offset 0: the value has more bytes than --frame allows; refused, TooLarge
+  2> amqp_show: "-": no value at 2: offset 0: the value has more bytes than --max-bytes allows; refused, TooLarge
+  2> amqp_show: "-": no value at 10: offset 0: the value has more bytes than --max-bytes allows; refused, TooLarge
   [1]
 
 stream_keep_going_no_hex
-  $ printf '5300000005 6869 zz' | amqp_show --stream --keep-going --hex --frame 8
-  ! offset 0: the value has more bytes than --frame allows
+  $ printf '5300000005 6869 zz' | amqp_show --stream --keep-going --hex --max-bytes 8
+  ! offset 0: the value has more bytes than --max-bytes allows
   = no value at 0: refused, TooLarge
   2> amqp_show: "-": line 1, column 17: no hexadecimal
   [2]
@@ -88,9 +88,9 @@ stream_too_deep
   [1]
 
 stream_too_large
-  $ echo 7401 5300000010 00 | xxd -r -p | amqp_show --stream --json --frame 20
+  $ echo 7401 5300000010 00 | xxd -r -p | amqp_show --stream --json --max-bytes 20
   true
-  2> amqp_show: "-": offset 0: the value has more bytes than --frame allows; refused, TooLarge
+  2> amqp_show: "-": offset 0: the value has more bytes than --max-bytes allows; refused, TooLarge
   [1]
 
 stream_truncated

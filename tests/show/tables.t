@@ -1,7 +1,7 @@
 # Tables without their type tag, with `--table` and without it.
 
 table_at_limit
-  $ echo 00000007 0161 7401 0162 56 5656 | xxd -r -p | amqp_show --table --frame 12
+  $ echo 00000007 0161 7401 0162 56 5656 | xxd -r -p | amqp_show --table --max-bytes 12
   FieldTable
     "a": Boolean true
     "b": Void
@@ -98,8 +98,8 @@ table_too_deep
   [1]
 
 table_too_large
-  $ echo 00000007 0161 7401 0162 56 | xxd -r -p | amqp_show --table --frame 11
-  ! offset 0: the table has more bytes than --frame allows
+  $ echo 00000007 0161 7401 0162 56 | xxd -r -p | amqp_show --table --max-bytes 11
+  ! offset 0: the table has more bytes than --max-bytes allows
   = refused, TooLarge
   [1]
 
@@ -154,13 +154,13 @@ no_type_tag_too_deep
   [1]
 
 no_type_tag_too_large
-  $ echo 00000007 0161 7401 0162 56 | xxd -r -p | amqp_show --frame 11
+  $ echo 00000007 0161 7401 0162 56 | xxd -r -p | amqp_show --max-bytes 11
   ! offset 0: a type tag is expected; 00 is none
   = refused, MapOpt
   [1]
 
 no_type_tag
-  $ echo 00000007 0161 7401 0162 56 | xxd -r -p | amqp_show --frame 12
+  $ echo 00000007 0161 7401 0162 56 | xxd -r -p | amqp_show --max-bytes 12
   ! offset 0: a type tag is expected; 00 is none
   ! the input is a table without its type tag; --table reads it
   = refused, MapOpt

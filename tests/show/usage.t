@@ -22,7 +22,7 @@ help
         --keep-going     With --stream: pass over a refused value if its length is known
         --encode         The input is JSON: write the encoding of its value, in hexadecimal
         --raw            With --encode: write bytes as they are
-        --frame <N>      Refuse a value of more than N bytes [default: 1048576]
+        --max-bytes <N>  Refuse a value of more than N bytes [default: 1048576] [alias: --frame]
         --depth <N>      Refuse containers that nest more than N deep, at most 1000 [default: 64]
         --frame-max <N>  With --check: warn of a value that takes a frame of more than N bytes [default: 131072]
     -h, --help           Print help
@@ -91,4 +91,9 @@ frame_max_without_check
   2> Usage: amqp_show --check <PEER> --frame-max <N> [FILE]...
   2>
   2> For more information, try '--help'.
+  [2]
+
+stream_without_bytes
+  $ amqp_show --stream --max-bytes 0
+  2> amqp_show: --stream with --max-bytes 0 reads no value
   [2]

@@ -1,36 +1,81 @@
-"""The types and the format of what is written in Python, of the files and scripts that pyproject.toml names."""
+"""The types and the format of all Python that git tracks: modules, and scripts by their first line."""
 
+import re
 import subprocess
-import tomllib
+from collections.abc import Callable
 from pathlib import Path
 
 import pytest
 from crates import TOP
 
-TOOLS = tomllib.loads((TOP / "pyproject.toml").read_text())["tool"]
-FILES, SCRIPTS = TOOLS["mypy"]["files"], TOOLS["style"]["scripts"]
+# How a script begins.
+SCRIPT = re.compile(rb"#!/usr/bin/(?:env )?python3\b")
+# What each tool has to refuse, in a file that is made.
+WRONG = "def one() -> int:\n    return  '1'\n"
 
 
-def said_by(*words: str | Path) -> str:
-    """What a command prints if it fails."""
-    done = subprocess.run(words, cwd=TOP, capture_output=True, text=True)
-    return f"{done.stdout}{done.stderr}"[-3000:] or f"status {done.returncode}" if done.returncode else ""
+def tracked() -> list[str]:
+    """The names of the tracked files, without links to others."""
+    names = subprocess.run(["git", "ls-files"], cwd=TOP, capture_output=True, text=True, check=True).stdout.splitlines()
+    return [it for it in names if (TOP / it).is_file() and not (TOP / it).is_symlink()]
+
+
+MODULES = [it for it in tracked() if it.endswith(".py")]
+SCRIPTS = [it for it in tracked() if it not in MODULES and SCRIPT.match((TOP / it).read_bytes())]
+
+
+def lines(*words: str | Path) -> list[str]:
+    """The lines that a command prints."""
+    done = subprocess.run(words, cwd=TOP, stdout=subprocess.PIPE, stderr=subprocess.STDOUT, text=True)
+    return done.stdout.splitlines()
 
 
 @pytest.fixture(scope="session")
-def cache(tmp_path_factory: pytest.TempPathFactory) -> Path:
-    """What mypy keeps of a run for the next."""
-    return tmp_path_factory.mktemp("mypy")
+def wrong(tmp_path_factory: pytest.TempPathFactory) -> Path:
+    """A file of another type and another format."""
+    path = tmp_path_factory.mktemp("made") / "wrong.py"
+    path.write_text(WRONG)
+    return path
 
 
-def test_types_of_files(cache: Path) -> None:
-    assert said_by("mypy", "--cache-dir", cache, *FILES) == ""
+@pytest.fixture(scope="session")
+def by_mypy(tmp_path_factory: pytest.TempPathFactory, wrong: Path) -> list[str]:
+    """What mypy has to say, in one run, since each begins with Python's own types.
+
+    For it, scripts are modules of a folder of links, each by another name, since many are called `run`.
+    """
+    folder = tmp_path_factory.mktemp("scripts")
+    links = {it: folder / f"{re.sub(r'[^a-z]', '_', it)}.py" for it in SCRIPTS}
+    for script, link in links.items():
+        link.symlink_to(TOP / script)
+    text = "\n".join(
+        lines("mypy", "--show-absolute-path", "--cache-dir", folder / "cache", *MODULES, *links.values(), wrong)
+    )
+    for script, link in links.items():
+        text = text.replace(str(link), script)
+    return text.splitlines()
 
 
-@pytest.mark.parametrize("script", SCRIPTS)
-def test_types_of_script(script: str, cache: Path) -> None:
-    assert said_by("mypy", "--cache-dir", cache, script) == ""
+@pytest.fixture(scope="session")
+def by_black(wrong: Path) -> list[str]:
+    """What black would write otherwise, or can't read."""
+    return lines("black", "--config", "pyproject.toml", "--check", *MODULES, *SCRIPTS, wrong)
 
 
-def test_format() -> None:
-    assert said_by("black", "--check", "--quiet", "--diff", *FILES, *SCRIPTS) == ""
+def test_types(by_mypy: list[str], wrong: Path, record_property: Callable[[str, object], None]) -> None:
+    assert [it for it in by_mypy[:-1] if not it.startswith(f"{wrong}:")] == []
+    record_property("files", len(MODULES + SCRIPTS))
+
+
+def test_wrong_type_is_found(by_mypy: list[str], wrong: Path) -> None:
+    # (the last line says how many files were checked)
+    assert [it for it in by_mypy if it.startswith(f"{wrong}:2: error: Incompatible return value type")]
+    assert by_mypy[-1] == f"Found 1 error in 1 file (checked {len(MODULES + SCRIPTS) + 1} source files)"
+
+
+def test_format(by_black: list[str], wrong: Path) -> None:
+    assert [it for it in by_black if it.startswith(("would reformat", "error:")) and str(wrong) not in it] == []
+
+
+def test_wrong_format_is_found(by_black: list[str], wrong: Path) -> None:
+    assert f"would reformat {wrong}" in by_black

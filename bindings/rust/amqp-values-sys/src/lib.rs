@@ -7,8 +7,8 @@
 //!
 //! ```text
 //! AMQP 0-9-1 field tables for C11 and C++: reading values in place, building them in a caller's
-//! buffer, their canonical encoding, and JSON. docs/C.md has examples and how to link,
-//! docs/GRAMMAR.md the bytes, and docs/JSON.md the JSON of each type.
+//! buffer, their canonical encoding, and JSON. C.md has examples and how to link,
+//! GRAMMAR.md the bytes, and JSON.md the JSON of each type: pages of docs, which are installed below share/doc.
 //!
 //! Functions return an amqpv_result. With any but AMQPV_OK the structs and the buffer stay unchanged; a
 //! `count` is always set. No function keeps state, prints or ends the process, and calls in several threads
@@ -27,12 +27,11 @@
 //!   nor the key, nor a step, a pair or what these point to, nor another struct or count of the call. During
 //!   the call no other thread writes any of these, nor reads what the function writes.
 //! - The stack suffices: 24 KiB, and for each level of nesting that the limits of the call allow, on x86-64
-//!         56 bytes in amqpv_read, amqpv_read_table and amqpv_put_value
+//!         56 bytes in amqpv_read, amqpv_read_table, amqpv_measure_value, amqpv_measure_table and amqpv_put_value
 //!        160       in amqpv_first_problem and amqpv_first_problem_in_table
-//!        272       in amqpv_measure_value and amqpv_measure_table
 //!        368       in amqpv_canonical
 //!        928       in amqpv_from_json
-//!       1056       in amqpv_to_json
+//!        688       in amqpv_to_json
 //!   The others don't recurse.
 //! - Three functions that allocate have one more, stated before them.
 //!
@@ -234,7 +233,7 @@ pub struct amqpv_measure {
 
 /// What amqpv_read reads.
 pub const AMQPV_RULES_READ: u32 = 0;
-/// The same, with any bytes as keys.
+/// What amqpv_read reads, and any bytes as keys.
 pub const AMQPV_RULES_ANY_KEYS: u32 = 1;
 /// What RabbitMQ 3.10.8 takes; for anything else it closes the connection: any bytes as keys, but no tag `U`, and no
 /// Float or Double that isn't finite.
@@ -490,7 +489,8 @@ extern "C" {
     ///
     /// `count` becomes how many bytes were written (AMQPV_OK), how many more the field that is being read needs
     /// (AMQPV_MORE), or which capacity is needed (AMQPV_NO_ROOM), else 0. Also returns AMQPV_UNKNOWN_TAG,
-    /// AMQPV_MALFORMED, AMQPV_TOO_LARGE or AMQPV_NO_MEMORY. It allocates a tree and a JSON value.
+    /// AMQPV_MALFORMED, AMQPV_TOO_LARGE or AMQPV_NO_MEMORY. It allocates the text, and for a table whose keys don't
+    /// ascend a map of them.
     pub fn amqpv_to_json(
         bytes: *const u8,
         length: usize,

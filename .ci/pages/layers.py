@@ -99,7 +99,7 @@ def faults_of(crate: str, rules: Mapping[str, Sequence[str]]) -> Iterator[str]:
         own = file.relative_to(folder).with_suffix("").as_posix()
         part = part_of(crate, of_function(own))
         if not part and own not in ROOTS:
-            yield f"{file.relative_to(TOP)}: it is in no part of .ci/layers.py"
+            yield f"{file.relative_to(TOP)}: it is in no part of .ci/pages/layers.py"
         for place in places_cited(crate, own, file.read_text()) if part else ():
             cited = part_of(crate, defined_at(folder, place))
             if cited not in (part, *rules[part]):

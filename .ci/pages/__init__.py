@@ -1,0 +1,1 @@
+"""What .ci/docs checks, by subject: each module has functions that yield what is wrong."""

@@ -1,0 +1,170 @@
+"""The sides that bench/run times, each built and started as a process that takes the commands of bench/driver.rs."""
+
+import argparse
+import json
+import os
+import re
+import shutil
+import subprocess
+import sys
+import time
+from collections.abc import Mapping, Sequence
+from pathlib import Path
+
+from crates import TOP, Crates, kit
+from lib import archive, build_archive
+
+BEGIN = time.monotonic()
+HERE, OUT = TOP / "bench", TOP / "out/bench"
+RUST_CRATE, VERSION = "amq-protocol-types", "10.6.3"
+GO_CLIENT = Path("/usr/share/gocode/src/github.com/rabbitmq/amqp091-go")
+RABBIT_COMMON = Path("/usr/lib/rabbitmq/lib").glob("rabbitmq_server-*/plugins/rabbit_common-*/ebin")
+CARGO = """\
+[package]
+name = "driver"
+edition = "2024"
+[[bin]]
+name = "driver"
+path = "driver.rs"
+[dependencies]
+{name} = {{ {place}version = "={version}" }}
+cookie-factory = "0.3"
+serde_json = "1"
+[profile.release]
+codegen-units = 1
+[workspace]"""
+
+
+def note(line: str) -> None:
+    """Reports on standard error how far it is."""
+    print(f"bench {time.monotonic() - BEGIN:4.0f} s: {line}", file=sys.stderr, flush=True)
+
+
+def run(words: Sequence[str | Path], cwd: Path | None = None, env: Mapping[str, str] | None = None) -> None:
+    """Runs a command, which has to end well."""
+    done = subprocess.run(words, capture_output=True, text=True, cwd=cwd, env=env)
+    if done.returncode:
+        sys.exit(f"bench: {words[0]} failed: {(done.stderr or done.stdout)[-3000:]}")
+
+
+class Process:
+    """A process with some sides, which takes the commands of driver.rs."""
+
+    def __init__(self, words: Sequence[str | Path], **more: str) -> None:
+        """Starts it, with these words more in its environment."""
+        self.words = [str(it) for it in words]
+        pipe = subprocess.PIPE
+        self.process = subprocess.Popen(self.words, stdin=pipe, stdout=pipe, text=True, cwd=OUT, env=os.environ | more)
+        self.lanes = self.line().split() or sys.exit(f"bench: {self.words[0]} doesn't start")
+
+    def line(self) -> str:
+        """Its next line, or nothing if it has ended."""
+        assert self.process.stdout
+        return self.process.stdout.readline().strip()
+
+    def ask(self, *words: object) -> str:
+        """What it answers to a command."""
+        print(*words, file=self.process.stdin, flush=True)
+        return self.line() or sys.exit(f"bench: {self.words[0]} ended at {words}")
+
+
+# By the name of a side and of an operation, the process that has both.
+Lanes = dict[str, Process]
+
+
+def built_library(is_built: bool) -> Path:
+    """Builds crates/amqp_bench, and returns its archive."""
+    crates = Crates()
+    note(f"crates/amqp_bench: {'what is built' if is_built else 'proof and build, 40 minutes if nothing is kept'}")
+    done = build_archive(crates, "amqp_bench", is_built)
+    if done.returncode:
+        sys.exit(f"bench: amqp_bench isn't built: {(done.stderr or done.stdout)[-3000:]}")
+    return archive(crates, "amqp_bench")
+
+
+def objects(given: argparse.Namespace) -> tuple[list[str], list[Path | str]]:
+    """Builds what the driver is linked with: rustc's flags by which it knows of it, and the words for the linker."""
+    library, installed = built_library(given.built), given.installed.resolve() / "lib/libamqp_values.a"
+    flags: list[str] = []
+    found: list[Path | str] = [library, kit() / "c/liblibc_c.a"]
+    if installed.exists():
+        flags, found = ["--cfg", "installed"], [library, installed]
+    else:
+        note(f"the calls for C and JSON are left out: there is no {installed} (make)")
+    if not Path("/usr/include/amqp.h").exists():
+        note("librabbitmq is left out: librabbitmq-dev isn't installed")
+        return flags, found
+    run(["cc", "-O2", "-c", HERE / "rabbitmq.c", "-o", OUT / "rabbitmq.o"])
+    if flags:
+        run(["cc", "-O2", "-I", installed.parents[1] / "include", "-c", HERE / "tasks.c", "-o", OUT / "tasks.o"])
+        found.insert(0, OUT / "tasks.o")
+    return [*flags, "--cfg", "rabbitmq"], [*found, OUT / "rabbitmq.o", "-lrabbitmq"]
+
+
+def build_driver(given: argparse.Namespace) -> Path:
+    """Builds the sides that are one process, and returns the program."""
+    flags, linked = objects(given)
+    # (copied, it is newer than what cargo has built, which doesn't know the objects)
+    shutil.copy(HERE / "driver.rs", OUT)
+    place = f"path = {json.dumps(str(given.crate.resolve()))}, " if given.crate else ""
+    (OUT / "Cargo.toml").write_text(CARGO.format(name=RUST_CRATE, place=place, version=VERSION))
+    words = ["cargo", "rustc", "--release", "--quiet"]
+    if given.packages:
+        folder = f"source.given.directory={json.dumps(str(given.packages.resolve()))}"
+        words += ["--offline", "--config", 'source.crates-io.replace-with="given"', "--config", folder]
+    note("cargo: the Rust crate and the driver")
+    run([*words, "--", *(f"-Clink-arg={it}" for it in linked), *flags], cwd=OUT)
+    return OUT / "target/release/driver"
+
+
+def build_go() -> Path | None:
+    """Builds the Go client's files and the side in Go as one program, and returns it, or nothing."""
+    if not shutil.which("go") or not GO_CLIENT.exists():
+        note("Go is left out: golang-go or golang-github-rabbitmq-amqp091-go-dev isn't installed")
+        return None
+    shutil.rmtree(OUT / "go", ignore_errors=True)
+    (OUT / "go").mkdir()
+    for path in (HERE / "side.go", *(it for it in GO_CLIENT.glob("*.go") if not it.name.endswith("_test.go"))):
+        (OUT / "go" / path.name).write_text(re.sub(r"(?m)^package amqp091$", "package main", path.read_text()))
+    (OUT / "go/go.mod").write_text("module side\n\ngo 1.16\n")
+    note("go: the client and its side")
+    run(
+        ["go", "build", "-o", "../side", "."],
+        cwd=OUT / "go",
+        env=os.environ | {"GOPROXY": "off", "GOFLAGS": "-mod=mod"},
+    )
+    return OUT / "side"
+
+
+def sides(given: argparse.Namespace) -> Lanes:
+    """Builds and starts all sides, and returns by each lane its process; the first is the driver's."""
+    OUT.mkdir(parents=True, exist_ok=True)
+    processes = [Process([build_driver(given)])]
+    if client := build_go():
+        processes.append(Process([client], GOMAXPROCS="1"))
+    modules = next(RABBIT_COMMON, None)
+    if shutil.which("erlc") and modules:
+        run(["erlc", HERE / "side.erl"], cwd=OUT)
+        processes.append(Process(["erl", "+S", "1", "-noshell", "-pa", modules, "-pa", OUT, "-s", "side", "main"]))
+    else:
+        note("Erlang is left out: erlang-base or rabbitmq-server isn't installed")
+    return {lane: it for it in processes for lane in it.lanes}
+
+
+def preloaded(driver: Process) -> Process:
+    """The driver again, with its requests for memory counted."""
+    run(["cc", "-O2", "-shared", "-fPIC", HERE / "heap.c", "-o", OUT / "heap.so"])
+    return Process(driver.words, LD_PRELOAD=str(OUT / "heap.so"))
+
+
+def load(data: bytes, lanes: Lanes) -> None:
+    """Gives the processes an input."""
+    (OUT / "input").write_bytes(data)
+    for process in {*lanes.values()}:
+        process.ask("load", "input")
+
+
+def made(lane: str, lanes: Lanes) -> tuple[int, bytes]:
+    """How many bytes a lane reads or writes of the input, and what it writes."""
+    count = int(lanes[lane].ask("make", lane, "made"))
+    return count, (OUT / "made").read_bytes() if count >= 0 else b""

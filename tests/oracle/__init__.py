@@ -1,0 +1,1 @@
+"""The Rust crate and this library, asked the same."""

@@ -1,0 +1,1 @@
+"""The Rust crates over the calls for C, and the drop-in."""
