@@ -300,12 +300,18 @@ def outcome(dissection: Dissection) -> str:
 
 
 def hints(data: bytes, subject: str) -> list[str]:
-    """That bytes which aren't a value, by the first of them, are a table without its type tag."""
-    if subject == "table" or data and chr(data[0]) in TYPES:
-        return []
-    table = Dissection(data, "table")
-    is_table = not table.failure and table.end == len(table.data)
-    return ["the input is a table without its type tag; --table reads it"] if is_table else []
+    """That bytes which aren't what they should be are a table without its type tag, or with it."""
+    if subject == "table":
+        is_other = data[:1] == b"F" and is_all(data, "value")
+        return ["the input is a table with its type tag; without --table it is read"] if is_other else []
+    is_other = not (data and chr(data[0]) in TYPES) and is_all(data, "table")
+    return ["the input is a table without its type tag; --table reads it"] if is_other else []
+
+
+def is_all(data: bytes, subject: str) -> bool:
+    """Whether bytes are that to their end."""
+    found = Dissection(data, subject)
+    return not found.failure and found.end == len(found.data)
 
 
 # Strings

@@ -165,3 +165,22 @@ no_type_tag
   ! the input is a table without its type tag; --table reads it
   = refused, MapOpt
   [1]
+
+type_tag_with_table
+  $ echo 46 00000007 0161 7401 0162 56 | xxd -r -p | amqp_show --table
+  ! offset 0: the table has more bytes than --max-bytes allows
+  ! the input is a table with its type tag; without --table it is read
+  = refused, TooLarge
+  [1]
+
+type_tag_with_table_follow
+  $ echo 46 00000007 0161 7401 0162 56 00 | xxd -r -p | amqp_show --table
+  ! offset 0: the table has more bytes than --max-bytes allows
+  = refused, TooLarge
+  [1]
+
+type_tag_with_table_json
+  $ echo 46 00000007 0161 7401 0162 56 | xxd -r -p | amqp_show --table --json
+  2> amqp_show: "-": offset 0: the table has more bytes than --max-bytes allows; refused, TooLarge
+  2> amqp_show: "-": the input is a table with its type tag; without --table it is read
+  [1]

@@ -47,11 +47,12 @@ pub stopped : {T E : Type 0} (Q : E → Type 0) (r : Result T E) (a b : Screen) 
 stopped Q (Ok v) a b x h p = absurd h
 stopped Q (Err e) a b x h p = p
 
--- a character that prints
-pushes_some : {T E : Type 0} (r : Result T E) (a b : Screen) (x : List ℕ) → 1 ≤ length x → PushesWhole r a b x → PushesText r a b x
+-- a string that isn't empty
+pub pushes_some : {T E : Type 0} (r : Result T E) (a b : Screen) (x : List ℕ) → 1 ≤ length x → PushesWhole r a b x → PushesText r a b x
 pushes_some r a b [] h p = absurd (omega arith)
 pushes_some r a b (d ∷ x) h p = pushes_whole r a b d x p
 
+-- a character that prints
 pub pushes_printed : {T E : Type 0} (r : Result T E) (a b : Screen) (f : Form) (c : ℕ) → prints c ≡ true → PushesWhole r a b (encode_utf8 c) → PushesText r a b (shown_in f c)
 pushes_printed r a b f c e p =
     let is : shown_in f c ≡ encode_utf8 c = ap (λ b. cond b (encode_utf8 c) (escape_in f c)) e in

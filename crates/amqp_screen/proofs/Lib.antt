@@ -1,3 +1,4 @@
 mod Screens
 mod Adding
 mod Writing
+mod Printing

@@ -12,6 +12,11 @@ turns_text c = c == 0x61C || (is_in_range 0x200E 0x200F c || (is_in_range 0x202A
 abbrev pub prints : ℕ → Bool
 prints c = not (is_control c || turns_text c)
 
+-- each character prints
+abbrev pub all_print : List ℕ → Bool
+all_print [] = true
+all_print (c ∷ s) = prints c && all_print s
+
 -- whether s begins with the other characters
 abbrev pub begins_with : List ℕ → List ℕ → Bool
 begins_with [] s = true

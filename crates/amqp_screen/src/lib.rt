@@ -8,6 +8,6 @@ mod push;
 mod screen;
 mod status;
 
-pub use print::{PrintError, is_terminal, print_raw, raw_to};
+pub use print::{PrintError, is_error_terminal, is_terminal, print_raw, raw_to};
 pub use screen::{Colour, Screen};
 pub use status::{Status, exit_status, worse};

@@ -10,6 +10,9 @@ use std::io;
 use std::io::{ErrorKind, IsTerminal, Write};
 use thiserror::Error;
 
+// What moves a terminal to the beginning of its line, and erases the line.
+const LINE_AGAIN: &[u8] = b"\r\x1b[K";
+
 /// Why a string or bytes aren't printed, or not all of them.
 #[derive(Debug, Drop, Error)]
 pub enum PrintError {
@@ -54,6 +57,17 @@ impl Screen {
         self.print_to(&mut rt.stderr())
     }
 
+    /// Writes the string to the standard error, as `print_to` does, in the place of the line that a
+    /// terminal has there.
+    pub fn print_over(&mut self, rt: &HostRuntime) -> Result<(), PrintError>
+        ensures emptied { OnOk result (shown self.new ≡ []) }
+        ensures kept { OnErr result (self.new ≡ self.old) }
+        ensures which { IfErr result IsWriteError }
+    {
+        write_out(LINE_AGAIN, &mut rt.stderr())?;
+        self.print_to(&mut rt.stderr())
+    }
+
     /// Writes the string, and empties the screen if all of it is written.
     pub fn print_to<W: Write>(&mut self, writer: &mut W) -> Result<(), PrintError>
         ensures written { WritesText result (W.contents writer.old) (W.contents writer.new)
@@ -71,6 +85,11 @@ impl Screen {
 /// Whether the standard output is a terminal.
 pub fn is_terminal(rt: &HostRuntime) -> bool {
     rt.stdout().is_terminal()
+}
+
+/// Whether the standard error is a terminal.
+pub fn is_error_terminal(rt: &HostRuntime) -> bool {
+    rt.stderr().is_terminal()
 }
 
 /// Writes bytes as they are to the standard output, unless it is a terminal.

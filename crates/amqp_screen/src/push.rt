@@ -6,7 +6,7 @@ ghost use Rattle.amqp_screen.specs.Screens.{prints, IsShowable};
 ghost use Rattle.amqp_screen.specs.Escapes.{in_text, in_lines, in_json, words_in, shown_in, escape, json_escape, two_digits, four_digits, coloured, colour_begin, colour_end, if_colours, indent};
 ghost use Rattle.amqp_screen.specs.Pushes.{shown, PushesText, PushesWhole};
 
-use crate::character::{does_print, hex_digit};
+use crate::character::{all_print, does_print, hex_digit};
 use crate::screen::{Colour, Screen};
 use std::alloc::{AllocError, Global};
 
@@ -93,6 +93,10 @@ impl Screen {
     fn push_words(&mut self, words: &str, form: Form) -> Result<(), AllocError>
         ensures added { PushesText result self.old self.new (words_in form words.now) }
     {
+        // (usually all of them print)
+        if !words.is_empty() && all_print(words) {
+            return self.append(words);
+        }
         for c in words.chars() {
             self.push_character(c, form)?;
         }

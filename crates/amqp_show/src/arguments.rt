@@ -120,6 +120,8 @@ pub struct Settings {
     pub form: Form,
     /// The output is a terminal that is to have colours.
     pub colours: bool,
+    /// No line says how far a stream has been read.
+    pub quiet: bool,
     /// A value is rejected if it has more bytes, or nests deeper.
     pub limits: Limits,
 }
@@ -134,6 +136,7 @@ impl Settings {
             hex: matches.get_flag("hex"),
             form: form_of(matches),
             colours,
+            quiet: matches.get_flag("quiet"),
             limits: Limits {
                 frame: matches.get_one::<u32>("max-bytes").unwrap_or(MAX_BYTES),
                 depth: matches.get_one::<u32>("depth").unwrap_or(DEPTH),
@@ -253,6 +256,12 @@ pub fn command<'a>(alloc: Global) -> Result<Command<'a>, AllocError> {
             alloc,
             "keep-going",
             "With --stream: pass over a refused value if its length is known",
+        )
+        .requires_arg("stream")?)?
+        .arg(flag(
+            alloc,
+            "quiet",
+            "With --stream: no progress on a terminal that the output doesn't go to",
         )
         .requires_arg("stream")?)?
         .arg(

@@ -5,7 +5,7 @@ use crate::fault::Result;
 use crate::input::Tagged;
 use crate::messages::complain;
 use crate::texts::{count_text, failure_text, outcome_text};
-use crate::untagged::{LACKS_TYPE_TAG, lacks_type_tag};
+use crate::untagged::hint;
 use amqp_dissect::{Dissection, dissect};
 use amqp_screen::Status;
 use std::alloc::{AllocError, Global};
@@ -13,8 +13,8 @@ use std::alloc::{AllocError, Global};
 /// Reports why an input isn't a value within the limits.
 pub fn refuse(rt: &HostRuntime, file: &str, input: &Tagged, settings: Settings) -> Result<Status> {
     print_failure(rt, file, input.encoding(settings.subject), settings)?;
-    if lacks_type_tag(input, settings) {
-        complain(rt, file, LACKS_TYPE_TAG)?;
+    if let Some(hint) = hint(input, settings) {
+        complain(rt, file, hint)?;
     }
     Ok(Status::Refused)
 }

@@ -52,6 +52,17 @@ impl Input {
         }
         Ok(Input::File(File::open(rt, file)?))
     }
+
+    /// How many bytes it has, if that is known.
+    pub fn size(&self) -> Option<u64> {
+        match self {
+            Input::File(file) => {
+                let metadata = file.metadata().ok()?;
+                metadata.is_file().then_some(metadata.len())
+            }
+            Input::Stdin(_) => None,
+        }
+    }
 }
 
 impl Read for Input {

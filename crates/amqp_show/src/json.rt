@@ -36,17 +36,34 @@ pub fn show_input(
 /// Prints a JSON text on a line, if it nests no deeper than its readers take, or the limits go
 /// beyond that.
 pub fn print_json(rt: &HostRuntime, file: &str, json: &str, limits: Limits) -> Result<Status> {
-    if limits.depth <= DEEPEST {
-        if let Some(why) = too_deep(rt.alloc(), json)? {
-            complain(rt, file, why.as_str())?;
-            return Ok(Status::Refused);
-        }
+    if let Some(why) = why_not_printed(rt.alloc(), json, limits)? {
+        complain(rt, file, why.as_str())?;
+        return Ok(Status::Refused);
     }
+    print_line(rt, json)?;
+    Ok(Status::Read)
+}
+
+/// Why a JSON text isn't printed, if it nests deeper than its readers take and the limits don't go
+/// beyond that.
+pub fn why_not_printed(
+    alloc: Global,
+    json: &str,
+    limits: Limits,
+) -> Result<Option<String>, AllocError> {
+    if limits.depth > DEEPEST {
+        return Ok(None);
+    }
+    too_deep(alloc, json)
+}
+
+/// Prints a JSON text on a line.
+pub fn print_line(rt: &HostRuntime, json: &str) -> Result<()> {
     let mut screen = Screen::new(rt.alloc(), false);
     screen.push_json(json)?;
     screen.end_line()?;
     screen.print(rt)?;
-    Ok(Status::Read)
+    Ok(())
 }
 
 /// Reports how deep a JSON text nests, if that is deeper than its readers take.

@@ -17,6 +17,7 @@ mod measure;
 mod messages;
 mod notes;
 mod payload;
+mod progress;
 mod reasons;
 mod recorder;
 mod repeats;
@@ -26,6 +27,7 @@ mod stream;
 mod texts;
 mod tree;
 mod untagged;
+mod whole;
 
 use amqp_screen::{Screen, Status, exit_status, is_terminal, worse};
 use arguments::{Settings, Task};

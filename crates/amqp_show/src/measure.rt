@@ -4,14 +4,8 @@ use crate::arguments::Settings;
 use crate::failures::{complain_of_rest, refuse};
 use crate::fault::Result;
 use crate::input::Tagged;
-use crate::recorder::Recorder;
-use amq_protocol_types::parsing::header::value_len;
-use amq_protocol_types::parsing::{Err, SliceInput};
-use amq_protocol_types::stream::{Limits, StreamError};
 use amqp_in_place::{Measure, measure_value};
 use amqp_screen::{Screen, Status};
-use std::io;
-use std::io::Read;
 
 /// Prints the measures of the value at the beginning of a file's bytes, and reports what is amiss:
 /// that there is no value, or that bytes follow it.
@@ -46,37 +40,4 @@ pub fn print_measure(rt: &HostRuntime, measure: Measure) -> Result<()> {
     screen.push_line(line.as_str())?;
     screen.print(rt)?;
     Ok(())
-}
-
-/// Reads the next value of a stream, which the recorder retains, and measures it: no tree is made.
-/// Returns `None` if the stream has ended.
-pub fn next_measure<R: Read>(
-    recorder: &mut Recorder<R>,
-    limits: Limits,
-) -> Result<Option<Measure>, StreamError> {
-    match read_value(recorder, limits) {
-        Ok(true) => {}
-        Ok(false) => return Ok(None),
-        Err(error) => return Err(StreamError::Read(error.kind())),
-    }
-    match measure_value(recorder.as_slice(), limits) {
-        Ok(measure) => Ok(Some(measure)),
-        Err(Err::Incomplete(_)) => Err(StreamError::Truncated),
-        Err(Err::Error(error) | Err::Failure(error)) => Err(StreamError::Refused(error)),
-    }
-}
-
-// Reads a value to its end, unless it is too large. Returns whether anything was there.
-fn read_value<R: Read>(recorder: &mut Recorder<R>, limits: Limits) -> io::Result<bool> {
-    if !recorder.read_up_to(1)? {
-        return Ok(false);
-    }
-    // The first byte determines the length, or that it is in four more.
-    for _ in 0..2 {
-        let len = value_len(SliceInput::new(recorder.as_slice()));
-        if len <= limits.frame as usize {
-            recorder.read_up_to(len)?;
-        }
-    }
-    Ok(true)
 }

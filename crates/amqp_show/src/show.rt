@@ -12,7 +12,7 @@ use crate::messages::unreadable;
 use crate::repeats::push_repeats;
 use crate::texts::{failure_text, outcome_text};
 use crate::tree::push_tree;
-use crate::untagged::{LACKS_TYPE_TAG, lacks_type_tag};
+use crate::untagged::hint;
 use amqp_dissect::{End, Part, dissect_partial};
 use amqp_screen::{Colour, Screen, Status};
 use std::alloc::{AllocError, Global};
@@ -38,8 +38,10 @@ fn show_input(rt: &HostRuntime, file: &str, input: &Tagged, settings: Settings) 
     push_name(&mut screen, file)?;
     let encoding = input.encoding(settings.subject);
     let status = push_value(alloc, &mut screen, encoding, settings)?;
-    if lacks_type_tag(input, settings) {
-        push_failure(alloc, &mut screen, LACKS_TYPE_TAG)?;
+    if status == Status::Refused {
+        if let Some(hint) = hint(input, settings) {
+            push_failure(alloc, &mut screen, hint)?;
+        }
     }
     let outcome = outcome_text(alloc, encoding, settings)?;
     screen.push_text("= ")?;

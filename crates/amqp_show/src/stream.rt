@@ -5,19 +5,21 @@ use crate::failures::{print_failure, why_refused};
 use crate::fault::{Fault, Result};
 use crate::hexadecimal::Hexadecimal;
 use crate::input::{BLOCK, Input, Unread};
-use crate::json::print_json;
-use crate::measure::{next_measure, print_measure};
+use crate::json::{print_line, why_not_printed};
+use crate::measure::print_measure;
 use crate::messages::{complain, unreadable};
+use crate::progress::Progress;
 use crate::recorder::Recorder;
 use crate::show::{push_name, push_value};
 use crate::texts::outcome_text;
+use crate::whole::{next_json, next_measure};
 use amq_protocol_types::AMQPValue;
 use amq_protocol_types::parsing::SliceInput;
 use amq_protocol_types::parsing::header::value_len;
 use amq_protocol_types::stream::{StreamError, Values};
 use amqp_in_place::Measure;
-use amqp_json::to_json;
 use amqp_screen::{Screen, Status, worse};
+use std::alloc::Global;
 use std::io;
 use std::io::{BufReader, ErrorKind, Read};
 
@@ -30,6 +32,9 @@ pub fn show_stream(rt: &HostRuntime, file: &str, settings: Settings) -> Result<S
         Ok(input) => input,
         Err(error) => return unreadable(rt, file, &Unread::after(error)?),
     };
+    // (of hexadecimal the bytes that it denotes are counted)
+    let size = if settings.hex { None } else { input.size() };
+    let progress = Progress::new(rt, size, settings);
     let reader = BufReader::with_capacity(rt.alloc(), BLOCK, input)?;
     if let Form::Text { .. } = settings.form {
         let mut screen = Screen::new(rt.alloc(), settings.colours);
@@ -41,7 +46,7 @@ pub fn show_stream(rt: &HostRuntime, file: &str, settings: Settings) -> Result<S
     } else {
         Source::Bytes(reader)
     };
-    show_values(rt, file, source, settings)
+    show_values(rt, file, source, progress, settings)
 }
 
 // What the values are read from.
@@ -76,21 +81,31 @@ impl<R: Read> Read for Source<R> {
 #[derive(Drop)]
 enum Item {
     Value(AMQPValue),
+    Json(String),
     Measure(Measure),
 }
 
-// Reads the next value, or measures it if that is the form that is set.
+// Reads the next value: its JSON, or its measures, if that is the form that is set.
 fn next_item<R: Read>(
+    alloc: Global,
     values: &mut Values,
     recorder: &mut Recorder<R>,
     settings: Settings,
 ) -> Result<Option<Item>, StreamError> {
-    if let Form::Measure = settings.form {
-        let measure = next_measure(recorder, settings.limits)?;
-        return Ok(measure.map(Item::Measure));
+    match settings.form {
+        Form::Json => {
+            let json = next_json(alloc, recorder, settings.limits)?;
+            Ok(json.map(Item::Json))
+        }
+        Form::Measure => {
+            let measure = next_measure(recorder, settings.limits)?;
+            Ok(measure.map(Item::Measure))
+        }
+        Form::Text { .. } | Form::Check { .. } => {
+            let value = values.next_from(recorder)?;
+            Ok(value.map(Item::Value))
+        }
     }
-    let value = values.next_from(recorder)?;
-    Ok(value.map(Item::Value))
 }
 
 // Shows the values that a reader yields. No more of them is retained than the one being read.
@@ -98,6 +113,7 @@ fn show_values<R: Read + Drop>(
     rt: &HostRuntime,
     file: &str,
     source: Source<R>,
+    mut progress: Progress,
     settings: Settings,
 ) -> Result<Status> {
     if settings.limits.frame == 0 {
@@ -108,18 +124,28 @@ fn show_values<R: Read + Drop>(
     let mut offset: u64 = 0;
     let mut status = Status::Read;
     for _ in 0..u64::MAX {
-        match next_item(&mut values, &mut recorder, settings) {
+        let error = match next_item(rt.alloc(), &mut values, &mut recorder, settings) {
             Ok(Some(item)) => {
-                let shown = show_item(rt, file, &item, recorder.as_slice(), offset, settings)?;
+                let bytes = recorder.as_slice();
+                let shown = show_item(rt, file, &item, bytes, offset, &mut progress, settings)?;
                 status = worse(status, shown);
-                offset = offset.saturating_add(recorder.as_slice().len() as u64);
+                offset = offset.saturating_add(bytes.len() as u64);
                 recorder.forget();
+                progress.reach(rt, offset)?;
+                continue;
             }
-            Ok(None) => return Ok(status),
-            Err(StreamError::Read(ErrorKind::Interrupted)) => {}
-            Err(StreamError::Read(kind)) => return unread(rt, file, recorder.reader(), kind),
-            Err(StreamError::OutOfMemory) => return Err(Fault::OutOfMemory),
-            Err(StreamError::Refused(_)) if keeps_going(settings) => {
+            Ok(None) => {
+                progress.erase(rt)?;
+                return Ok(status);
+            }
+            Err(StreamError::Read(ErrorKind::Interrupted)) => continue,
+            Err(error) => error,
+        };
+        progress.erase(rt)?;
+        match error {
+            StreamError::Read(kind) => return unread(rt, file, recorder.reader(), kind),
+            StreamError::OutOfMemory => return Err(Fault::OutOfMemory),
+            StreamError::Refused(_) if keeps_going(settings) => {
                 show_failure(rt, file, recorder.as_slice(), offset, settings)?;
                 status = Status::Refused;
                 match pass_over(&mut recorder) {
@@ -129,7 +155,7 @@ fn show_values<R: Read + Drop>(
                 }
                 values = Values::new(rt.alloc(), settings.limits);
             }
-            Err(StreamError::Refused(_) | StreamError::Truncated | StreamError::Failed) => {
+            StreamError::Refused(_) | StreamError::Truncated | StreamError::Failed => {
                 show_failure(rt, file, recorder.as_slice(), offset, settings)?;
                 return Ok(Status::Refused);
             }
@@ -167,6 +193,7 @@ fn show_item(
     item: &Item,
     bytes: &[u8],
     offset: u64,
+    progress: &mut Progress,
     settings: Settings,
 ) -> Result<Status> {
     let alloc = rt.alloc();
@@ -175,8 +202,14 @@ fn show_item(
             print_measure(rt, *measure)?;
             return Ok(Status::Read);
         }
-        Item::Value(value) if matches!(settings.form, Form::Json) => {
-            return print_json(rt, file, to_json(alloc, value)?.as_str(), settings.limits);
+        Item::Json(json) => {
+            if let Some(why) = why_not_printed(alloc, json.as_str(), settings.limits)? {
+                progress.erase(rt)?;
+                complain(rt, file, why.as_str())?;
+                return Ok(Status::Refused);
+            }
+            print_line(rt, json.as_str())?;
+            return Ok(Status::Read);
         }
         Item::Value(_) => {}
     }

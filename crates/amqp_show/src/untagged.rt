@@ -1,28 +1,37 @@
-//! Inputs that are a table without its type tag.
+//! Tables that come without their type tag where a value is expected, or with it where they shouldn't.
 
 use crate::arguments::{Settings, Subject};
 use crate::input::Tagged;
 use amq_protocol_types::AMQPType;
 use amqp_in_place::read_in_place;
 
-/// What is reported of an input that is no value only since its type tag is left out.
-pub const LACKS_TYPE_TAG: &str = "the input is a table without its type tag; --table reads it";
+const LACKS_TYPE_TAG: &str = "the input is a table without its type tag; --table reads it";
+const HAS_TYPE_TAG: &str = "the input is a table with its type tag; without --table it is read";
 
-/// Whether the input is no value by its first byte, but a table without its type tag, within the
-/// limits, that ends at the input's end.
-pub fn lacks_type_tag(input: &Tagged, settings: Settings) -> bool {
-    if settings.subject == Subject::Table || begins_with_type_tag(input) {
-        return false;
-    }
-    match read_in_place(input.encoding(Subject::Table), settings.limits) {
-        Ok((_, rest)) => rest.is_empty(),
-        Err(_) => false,
+/// What is reported of a refused input, if all of it is a table within the limits, but for that it
+/// has no type tag and no value begins so, or has one and is said to have none.
+pub fn hint(input: &Tagged, settings: Settings) -> Option<&'static str> {
+    match settings.subject {
+        Subject::Value if first_type(input).is_none() => {
+            is_all(input, Subject::Table, settings).then_some(LACKS_TYPE_TAG)
+        }
+        Subject::Table if first_type(input) == Some(AMQPType::FieldTable) => {
+            is_all(input, Subject::Value, settings).then_some(HAS_TYPE_TAG)
+        }
+        Subject::Value | Subject::Table => None,
     }
 }
 
-fn begins_with_type_tag(input: &Tagged) -> bool {
-    match input.encoding(Subject::Value).first() {
-        Some(byte) => AMQPType::from_id(char::from(*byte)).is_some(),
-        None => false,
+// The type whose tag is the input's first byte.
+fn first_type(input: &Tagged) -> Option<AMQPType> {
+    let byte = *input.encoding(Subject::Value).first()?;
+    AMQPType::from_id(char::from(byte))
+}
+
+// Whether the input is that, to its end.
+fn is_all(input: &Tagged, subject: Subject, settings: Settings) -> bool {
+    match read_in_place(input.encoding(subject), settings.limits) {
+        Ok((_, rest)) => rest.is_empty(),
+        Err(_) => false,
     }
 }
