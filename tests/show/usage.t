@@ -20,6 +20,7 @@ help
         --check <PEER>   Show the first thing for which a peer closes the connection, or warnings [possible values: rabbitmq]
         --stream         The input is values one after another: show each as it comes
         --keep-going     With --stream: pass over a refused value if its length is known
+        --quiet          With --stream: no progress on a terminal that the output doesn't go to
         --encode         The input is JSON: write the encoding of its value, in hexadecimal
         --raw            With --encode: write bytes as they are
         --max-bytes <N>  Refuse a value of more than N bytes [default: 1048576] [alias: --frame]

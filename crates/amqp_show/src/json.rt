@@ -68,6 +68,10 @@ pub fn print_line(rt: &HostRuntime, json: &str) -> Result<()> {
 
 /// Reports how deep a JSON text nests, if that is deeper than its readers take.
 pub fn too_deep(alloc: Global, json: &str) -> Result<Option<String>, AllocError> {
+    // (each level begins and ends)
+    if json.len() / 2 <= DEEPEST as usize {
+        return Ok(None);
+    }
     let depth = nesting(json);
     if depth <= DEEPEST {
         return Ok(None);

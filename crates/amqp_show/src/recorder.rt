@@ -1,8 +1,9 @@
 //! A reader that retains what it yielded.
 
+use crate::input::BLOCK;
 use std::alloc::Global;
 use std::io;
-use std::io::Read;
+use std::io::{ErrorKind, Read};
 
 /// A reader, and the bytes that it yielded since the last call to forget them.
 #[derive(Drop)]
@@ -33,8 +34,33 @@ impl<R: Read> Recorder<R> {
     /// Reads on until there are that many bytes. Returns whether there are: the reader may end
     /// before.
     pub fn read_up_to(&mut self, count: usize) -> io::Result<bool> {
-        let missing = count.saturating_sub(self.bytes.len());
-        passes(self, missing as u64)
+        for _ in 0..u64::MAX {
+            let there = self.bytes.len();
+            if there >= count {
+                return Ok(true);
+            }
+            match self.read_more((count - there).min(BLOCK)) {
+                Ok(0) => return Ok(false),
+                Ok(_) => {}
+                Err(error) if error.kind() == ErrorKind::Interrupted => {}
+                Err(error) => return Err(error),
+            }
+        }
+        Ok(false)
+    }
+
+    // Reads at most that many bytes more. Capacity comes first: nothing that the reader yields is
+    // lost when memory runs out.
+    fn read_more(&mut self, most: usize) -> io::Result<usize> {
+        let there = self.bytes.len();
+        self.bytes.resize(there.saturating_add(most), 0)?;
+        let read = self.reader.read(&mut self.bytes[there..]);
+        let more = match &read {
+            Ok(n) => *n,
+            Err(_) => 0,
+        };
+        self.bytes.truncate(there.saturating_add(more));
+        read
     }
 
     /// Forgets what it yielded, and reads what is left of a value of that many bytes, of which it
