@@ -1,5 +1,5 @@
 -- When each fault is right.
-use Rattle.std.specs.Prelude.{ℕ, ◌≡◌, ◌<◌, ◌≤◌, ◌+◌, ◌^◌, List, length, ◌⊎◌}
+use Rattle.std.specs.Prelude.{ℕ, ◌≡◌, ◌<◌, ◌≤◌, ◌^◌, List, length, ◌⊎◌}
 use Rattle.std.specs.Int.{w64, cast_unsigned}
 use Rattle.amqp_value_core.specs.Values.{Scalar, Tree}
 use Rattle.amq_protocol_types.specs.declared.parsing.limits.Limits.{Limits}
