@@ -339,7 +339,7 @@ class _Problem(ctypes.Structure):
 
 
 class _Container(ctypes.Structure):
-    _fields_ = [("written", _Span), ("tag", c_uint8)]
+    _fields_ = [("written", _Span), ("tag", c_uint8), ("inner", c_uint8), ("needed", c_size_t)]
 
 
 class _Pair(ctypes.Structure):
@@ -389,7 +389,6 @@ _PARAMETERS = {
     "put_value": "bIbbl",
     "open": "bIbtI",
     "close": "bII",
-    "needed": "IntnN",
     "write_table": "RnbN",
     "canonical": "blbN",
     "to_json": "blbN",
@@ -635,17 +634,15 @@ class _Output:
     def __init__(self) -> None:
         self.buffer = ctypes.create_string_buffer(1024)
 
-    def put(self, name: str, *arguments: Any, needs: Sequence[Any] = ()) -> None:
-        """Puts an entry. The buffer doubles until the entry fits, or becomes as large as `needed` returns for `needs`."""
-        while (code := _result(name, self.buffer, len(self.buffer), *arguments)) == _NO_ROOM:
-            count = c_size_t()
-            _is_ok(_result("needed", *needs, byref(count)) if needs else _OK)
-            self.buffer, filled = ctypes.create_string_buffer(max(2 * len(self.buffer), count.value)), self.buffer
+    def put(self, name: str, into: _Container, *arguments: Any) -> None:
+        """Puts an entry. If it doesn't fit, the buffer becomes twice as large, or as large as the entry needs."""
+        while (code := _result(name, self.buffer, len(self.buffer), byref(into), *arguments)) == _NO_ROOM:
+            self.buffer, filled = ctypes.create_string_buffer(max(2 * len(self.buffer), into.needed)), self.buffer
             ctypes.memmove(self.buffer, filled, len(filled))
         _is_ok(code)
 
     def append(self, into: _Container, key: bytes, value: Any) -> None:
-        head, body, before = (byref(into), key, len(key)), _Container(), into.written.length
+        head, body, before = (into, key, len(key)), _Container(), into.written.length
         if isinstance(value, Encoded):
             content = _bytes(value)
             self.put("put_value", *head, content, len(content), 2**32 - 1, DEPTH)
@@ -653,7 +650,7 @@ class _Output:
                 raise Trailing(Trailing.__doc__)
         elif isinstance(value, _STRINGS):
             tag, content, length = _string(value)
-            self.put("put_bytes", *head, tag, content, length, needs=(byref(into), len(key), tag, length))
+            self.put("put_bytes", *head, tag, content, length)
         elif isinstance(value, (Mapping, Sequence)):
             is_table = isinstance(value, Mapping)
             keys: set[bytes] = set()
@@ -669,7 +666,7 @@ class _Output:
                 except Error as error:
                     error.path = (name, *error.path)
                     raise
-            self.put("close", byref(into), byref(body))
+            self.put("close", into, byref(body))
         else:
             self.put("put", *head, *_fixed(value))
 

@@ -2,13 +2,13 @@
  * Tries the functions of include/amqp_values.h that build containers, next to a writer in plain C.
  *
  * After each call the buffer and the structs are those that the writer here leaves, byte for byte, and
- * so is what is returned; what isn't AMQPV_OK leaves all unchanged.
+ * so is what is returned; what isn't AMQPV_OK leaves all unchanged, but for the capacity that is needed.
  *
  * An entry's number is returned by its tag, and what it is returned in stays unchanged on an error.
  *
  * It tries every type tag with numbers about its type's range, keys of every kind, each of some values
- * in buffers of every size, containers and bodies that were corrupted, and random entries that are
- * built, read back by amqpv_read and amqpv_next, and made canonical. Tables are written at once, too: of all
+ * in buffers of every size, containers and bodies that were corrupted, three levels that are built in a wrong
+ * order, and random entries that are built, read back by amqpv_read and amqpv_next, and made canonical. Tables are written at once, too: of all
  * type tags and keys, in buffers of every size, of a million pairs, and of 2^32 bytes.
  */
 #include "check.h"
@@ -53,7 +53,7 @@ static int takes_key(uint8_t tag, slice key) {
 
 /* Whether an entry with this key can be put into the container, and if not, what must be returned. */
 static int32_t model_place(const amqpv_container *into, slice key) {
-    if (!is_inside(into->written, capacity) || !is_container(into->tag)) {
+    if (!is_inside(into->written, capacity) || !is_container(into->tag) || into->inner != 0) {
         return AMQPV_INVALID;
     }
     return takes_key(into->tag, key) ? AMQPV_OK : AMQPV_BAD_KEY;
@@ -76,6 +76,7 @@ static int32_t model_append(amqpv_container *into, slice key, slice bytes, int32
     size_t needed, content = is_one_of(tag, "SxAF") ? bytes.length - 5 : 0;
     CHECK(amqpv_needed(into, key.length, tag, content, &needed) == AMQPV_OK && needed == end + named + bytes.length);
     if (capacity - end < named + bytes.length) {
+        into->needed = needed;
         return AMQPV_NO_ROOM;
     }
     if (named) {
@@ -128,7 +129,10 @@ static size_t model_scalar(uint8_t *bytes, uint8_t tag, uint64_t bits, uint8_t s
 
 /* ---- the library next to it */
 
-static const amqpv_container whole = {{0, 0}, AMQPV_ARRAY};
+#define SPARE 0x5a5a5a5a5a5a5a5au
+
+/* What is in `needed` before a call counts for nothing, and is left. */
+static const amqpv_container whole = {{0, 0}, AMQPV_ARRAY, 0, SPARE};
 
 /* A container between bytes that no call may write. */
 typedef struct held {
@@ -137,14 +141,18 @@ typedef struct held {
     uint64_t after;
 } held;
 
-#define SPARE 0x5a5a5a5a5a5a5a5au
+/* A container is as it has to be, and nothing next to it was written. */
+static void check_held(const held *all, amqpv_container wanted) {
+    CHECK(all->it.written.offset == wanted.written.offset && all->it.written.length == wanted.written.length);
+    CHECK(all->it.tag == wanted.tag && all->it.inner == wanted.inner && all->it.needed == wanted.needed);
+    CHECK(all->before == SPARE && all->after == SPARE);
+}
 
 /* After a call the result, the container, the buffer and its surroundings are as they have to be. */
 static int32_t check(const held *all, amqpv_container wanted, int32_t result, int32_t right) {
     calls++;
     CHECK(result == right);
-    CHECK(all->it.written.offset == wanted.written.offset && all->it.written.length == wanted.written.length);
-    CHECK(all->it.tag == wanted.tag && all->before == SPARE && all->after == SPARE);
+    check_held(all, wanted);
     CHECK(memcmp(buffer, model, capacity) == 0);
     for (size_t i = 1; i <= 16; i++) {
         CHECK(buffer - i < page || buffer[-(ptrdiff_t)i] == 0xa5);
@@ -251,21 +259,28 @@ static int32_t put_value(amqpv_container *into, slice key, slice value) {
     return check(&all, *into, result, right);
 }
 
-static int32_t open_in(const amqpv_container *into, slice key, uint8_t tag, amqpv_container *body) {
+static int32_t open_in(amqpv_container *into, slice key, uint8_t tag, amqpv_container *body) {
     const uint8_t bytes[] = {tag, 0, 0, 0, 0};
     amqpv_container grown = *into;
-    held all = {SPARE, *body, SPARE};
+    held all = {SPARE, *body, SPARE}, outer = {SPARE, *into, SPARE};
     int32_t right = model_append(&grown, key, (slice){bytes, sizeof bytes}, is_container(tag) ? AMQPV_OK : AMQPV_BAD_TAG);
+    into->needed = grown.needed;
     if (right == AMQPV_OK) {
-        *body = (amqpv_container){{grown.written.offset + grown.written.length, 0}, tag};
+        *body = (amqpv_container){{grown.written.offset + grown.written.length, 0}, tag, 0, 0};
+        into->inner = 1;
     }
-    return check(&all, *body, amqpv_open(buffer, capacity, into, key.at, key.length, tag, &all.it), right);
+    int32_t result = amqpv_open(buffer, capacity, &outer.it, key.at, key.length, tag, &all.it);
+    check_held(&outer, *into);
+    return check(&all, *body, result, right);
 }
 
-/* Whether the body begins after a key, its type tag and four bytes, at the end of `into`. */
+/* Whether the body, in which none is open, begins after a key, its type tag and four bytes, at the end of `into`. */
 static int is_open(const amqpv_container *into, const amqpv_container *body) {
     size_t at = into->written.offset + into->written.length, key_length = 0;
     if (!is_inside(into->written, capacity) || !is_inside(body->written, capacity) || !is_container(body->tag)) {
+        return 0;
+    }
+    if (into->inner != 1 || body->inner != 0) {
         return 0;
     }
     if (into->tag == AMQPV_TABLE && at < capacity) {
@@ -281,6 +296,7 @@ static int32_t close_in(amqpv_container *into, const amqpv_container *body) {
     if (right == AMQPV_OK) {
         big_endian(model + body->written.offset - 4, 4, body->written.length);
         into->written.length = body->written.offset + body->written.length - into->written.offset;
+        into->inner = 0;
     }
     return check(&all, *into, amqpv_close(buffer, capacity, &all.it, body), right);
 }
@@ -297,8 +313,10 @@ static int32_t write_table(const amqpv_pair *pairs, size_t pair_count) {
         int is_string = it->tag == AMQPV_LONG_STRING || it->tag == AMQPV_BYTE_ARRAY;
         if (!takes_key(AMQPV_TABLE, (slice){(const uint8_t *)it->key, it->key_length})) {
             right = AMQPV_BAD_KEY;
-        } else if (!is_string && length == 0) {
-            right = is_scalar_tag(it->tag) ? AMQPV_OUT_OF_RANGE : AMQPV_BAD_TAG;
+        } else if (is_string ? it->bits != 0 || it->scale != 0 : length == 0) {
+            right = is_string || is_scalar_tag(it->tag) ? AMQPV_OUT_OF_RANGE : AMQPV_BAD_TAG;
+        } else if (!is_string && it->length != 0) {
+            right = AMQPV_INVALID;
         } else {
             wanted[at] = (uint8_t)it->key_length;
             memcpy(wanted + at + 1, it->key, it->key_length);
@@ -326,7 +344,7 @@ static int32_t write_table(const amqpv_pair *pairs, size_t pair_count) {
 
 static const slice none = SLICE(""), k = SLICE("k");
 
-static const amqpv_container table_of_none = {{0, 0}, AMQPV_TABLE};
+static const amqpv_container table_of_none = {{0, 0}, AMQPV_TABLE, 0, SPARE}, third = {{3, 0}, AMQPV_TABLE, 0, SPARE};
 
 static const uint64_t numbers[] = {
     0, 1, 2, 127, 128, 255, 256, 32767, 32768, 65535, 65536, 2147483647, 2147483648u, 4294967295u, 4294967296u,
@@ -374,18 +392,20 @@ static void try_types(void) {
     for (int tag = 0; tag < 256; tag++) {
         for (size_t i = 0; i < COUNT(numbers); i++) {
             for (int scale = 0; scale < 256; scale += scale < 2 ? 1 : 253) {
-                amqpv_container array = whole, table = {{3, 0}, AMQPV_TABLE};
+                amqpv_container array = whole, table = third;
                 new_buffer(16, tag % 2);
                 put(&array, none, (uint8_t)tag, numbers[i], (uint8_t)scale);
                 put(&table, k, (uint8_t)tag, numbers[i], (uint8_t)scale);
                 try_getters((uint8_t)tag, numbers[i], (uint8_t)scale);
-                const amqpv_pair pairs[] = {
-                    AMQPV_STRING_PAIR("text", "hi", 2), {"k", 1, "bytes", 5, numbers[i], (uint8_t)tag, (uint8_t)scale}, AMQPV_BOOL_PAIR("", 1),
-                };
-                new_buffer(64, tag % 2);
-                write_table(pairs, COUNT(pairs));
+                for (size_t length = 0; length <= 5; length += length ? 4 : 1) {
+                    const amqpv_pair pairs[] = {
+                        AMQPV_STRING_PAIR("text", "hi", 2), {"k", 1, "bytes", length, numbers[i], (uint8_t)tag, (uint8_t)scale}, AMQPV_BOOL_PAIR("", 1),
+                    };
+                    new_buffer(64, tag % 2);
+                    write_table(pairs, COUNT(pairs));
+                }
             }
-            amqpv_container array = whole, table = {{3, 0}, AMQPV_TABLE};
+            amqpv_container array = whole, table = third;
             new_buffer(40, tag % 2);
             put_int(&array, none, (uint8_t)tag, (int64_t)numbers[i]);
             put_uint(&array, none, (uint8_t)tag, numbers[i]);
@@ -393,10 +413,10 @@ static void try_types(void) {
             put_uint(&table, k, (uint8_t)tag, numbers[i]);
         }
         for (size_t length = 0; length <= 16; length++) {
-            amqpv_container body = whole;
+            amqpv_container array = whole, table = table_of_none, body = whole;
             new_buffer(length, tag % 2);
-            open_in(&whole, none, (uint8_t)tag, &body);
-            open_in(&table_of_none, k, (uint8_t)tag, &body);
+            open_in(&array, none, (uint8_t)tag, &body);
+            open_in(&table, k, (uint8_t)tag, &body);
         }
     }
 }
@@ -477,9 +497,9 @@ static void try_capacities(void) {
     for (size_t length = 0; length <= 40; length++) {
         for (size_t before = 0; before <= length; before += 3) {
             new_buffer(length, (int)(before % 2));
-            try_entries((amqpv_container){{0, before}, AMQPV_ARRAY}, none);
+            try_entries((amqpv_container){{0, before}, AMQPV_ARRAY, 0, SPARE}, none);
             new_buffer(length, (int)(before % 2));
-            try_entries((amqpv_container){{0, before}, AMQPV_TABLE}, (slice)SLICE("key"));
+            try_entries((amqpv_container){{0, before}, AMQPV_TABLE, 0, SPARE}, (slice)SLICE("key"));
         }
     }
 }
@@ -489,7 +509,7 @@ static void try_tables(void) {
     const amqpv_pair pairs[] = {
         AMQPV_INT_PAIR("x-max-length", AMQPV_LONG_INT, -2), AMQPV_STRING_PAIR("x-queue-type", "quorum", 6),
         {"", 0, none.at, 0, 314, AMQPV_DECIMAL, 2}, {"key", 3, none.at, 0, 0, AMQPV_VOID, 0},
-        {"key", 3, "seventeen letters", 17, 1, AMQPV_BYTE_ARRAY, 1}, AMQPV_TIMESTAMP_PAIR("", 258),
+        {"key", 3, "seventeen letters", 17, 0, AMQPV_BYTE_ARRAY, 0}, AMQPV_TIMESTAMP_PAIR("", 258),
         {"\x80", 1, none.at, 0, 0, AMQPV_VOID, 0},
     };
     for (size_t length = 0; length <= 120; length++) {
@@ -530,12 +550,12 @@ static void try_many(void) {
 /* Containers that were corrupted: all kinds of numbers, and of type tags. */
 static void try_corrupt(size_t length) {
     size_t small = length + 2, count = small + 4;
-    for (size_t n = 0; n < count * count * sizeof tags * 2; n++) {
-        size_t i = n / 2 / sizeof tags / count, j = n / 2 / sizeof tags % count;
-        uint8_t tag = tags[n / 2 % sizeof tags];
+    for (size_t n = 0; n < count * count * sizeof tags * 4; n++) {
+        size_t i = n / 4 / sizeof tags / count, j = n / 4 / sizeof tags % count;
+        uint8_t tag = tags[n / 4 % sizeof tags];
         slice key = {k.at, n % 2};
         new_buffer(length, (int)(i % 2));
-        amqpv_container corrupt = {{number(i, small), number(j, small)}, tag}, into = corrupt, body = corrupt;
+        amqpv_container corrupt = {{number(i, small), number(j, small)}, tag, n / 2 % 2, n}, into = corrupt, body = corrupt;
         put(&into, key, AMQPV_SHORT_INT, 5, 0);
         into = corrupt;
         put_int(&into, key, tag, 5);
@@ -545,7 +565,8 @@ static void try_corrupt(size_t length) {
         put_bytes(&into, key, AMQPV_BYTE_ARRAY, (slice)SLICE("ab"));
         into = corrupt;
         put_value(&into, key, (slice)SLICE("t\7V"));
-        open_in(&corrupt, key, tag, &body);
+        into = corrupt;
+        open_in(&into, key, tag, &body);
     }
 }
 
@@ -554,8 +575,8 @@ static void try_corrupt_bodies(slice bytes) {
     size_t small = bytes.length + 2, count = small + 4;
     new_buffer(bytes.length, 0);
     for (size_t n = 0; n < count * count * count * count; n++) {
-        amqpv_container into = {{number(n % count, small), number(n / count % count, small)}, 0};
-        amqpv_container body = {{number(n / count / count % count, small), number(n / count / count / count, small)}, 0};
+        amqpv_container into = {{number(n % count, small), number(n / count % count, small)}, 0, 1, n};
+        amqpv_container body = {{number(n / count / count % count, small), number(n / count / count / count, small)}, 0, 0, n};
         for (size_t t = 0; t < 9; t++) {
             amqpv_container grown = into;
             grown.tag = tags[t % 3];
@@ -583,6 +604,7 @@ static void try_large(void) {
         new_buffer(64, 0);
         CHECK(amqpv_put_bytes(buffer, capacity, &old, none.at, 0, AMQPV_BYTE_ARRAY, bytes, length)
               == (is_too_large ? AMQPV_TOO_LARGE : AMQPV_NO_ROOM));
+        CHECK(old.needed == (is_too_large ? SPARE : length + 5));
         CHECK(old.written.length == 0 && memcmp(buffer, model, capacity) == 0);
         /* a string, and then a body, of that many bytes: each pair has nine more than its string */
         amqpv_pair pairs[] = {AMQPV_STRING_PAIR("key", (char *)bytes, length), {"", 0, NULL, 0, 0, 0, 0}};
@@ -598,6 +620,65 @@ static void try_large(void) {
         calls += 7;
     }
     munmap(bytes, large);
+}
+
+/* Every call of a container in which one is open, and its end without that one being ended. */
+static void try_refused(amqpv_container *outer, slice key) {
+    amqpv_container body = whole;
+    CHECK(put(outer, key, AMQPV_VOID, 0, 0) == AMQPV_INVALID);
+    CHECK(put_int(outer, key, AMQPV_LONG_INT, 1) == AMQPV_INVALID);
+    CHECK(put_uint(outer, key, AMQPV_LONG_UINT, 1) == AMQPV_INVALID);
+    CHECK(put_bytes(outer, key, AMQPV_LONG_STRING, k) == AMQPV_INVALID);
+    CHECK(put_value(outer, key, (slice)SLICE("V")) == AMQPV_INVALID);
+    CHECK(open_in(outer, key, AMQPV_TABLE, &body) == AMQPV_INVALID);
+    put_others(outer, key);
+    size_t needed = 77;
+    CHECK(amqpv_needed(outer, key.length, AMQPV_VOID, 0, &needed) == AMQPV_INVALID && needed == 0);
+}
+
+/* Three levels, each open in the one before: out of order nothing is put, opened or closed, and nothing is lost. */
+static void try_orders(void) {
+    static const slice wanted = SLICE("F\0\0\0\x14\1kA\0\0\0\6VF\0\0\0\0\1kV\1kt\1");
+    amqpv_container top = whole, table = whole, array = whole, inner = whole, saved;
+    new_buffer(64, 0);
+    CHECK(close_in(&top, &table) == AMQPV_INVALID);
+    CHECK(open_in(&top, none, AMQPV_TABLE, &table) == AMQPV_OK);
+    CHECK(open_in(&table, k, AMQPV_ARRAY, &array) == AMQPV_OK);
+    CHECK(put(&array, none, AMQPV_VOID, 0, 0) == AMQPV_OK);
+    saved = array;
+    /* one is begun and given up, and another is begun there */
+    CHECK(open_in(&array, none, AMQPV_ARRAY, &inner) == AMQPV_OK);
+    CHECK(put(&inner, none, AMQPV_VOID, 0, 0) == AMQPV_OK);
+    array = saved;
+    CHECK(open_in(&array, none, AMQPV_TABLE, &inner) == AMQPV_OK);
+    amqpv_container *levels[] = {&top, &table, &array, &inner};
+    try_refused(&top, none), try_refused(&table, k), try_refused(&array, none);
+    for (size_t i = 0; i < COUNT(levels); i++) {
+        for (size_t j = 0; j < COUNT(levels); j++) {
+            CHECK((i == 2 && j == 3) || close_in(levels[i], levels[j]) == AMQPV_INVALID);
+        }
+    }
+    CHECK(close_in(&array, &inner) == AMQPV_OK && close_in(&array, &inner) == AMQPV_INVALID);
+    try_refused(&top, none), try_refused(&table, k);
+    CHECK(close_in(&top, &table) == AMQPV_INVALID && close_in(&top, &array) == AMQPV_INVALID);
+    CHECK(close_in(&table, &array) == AMQPV_OK && close_in(&table, &array) == AMQPV_INVALID);
+    try_refused(&top, none);
+    CHECK(put(&table, k, AMQPV_VOID, 0, 0) == AMQPV_OK && put(&table, k, AMQPV_BOOLEAN, 1, 0) == AMQPV_OK);
+    CHECK(close_in(&top, &table) == AMQPV_OK && close_in(&top, &table) == AMQPV_INVALID);
+    CHECK(top.written.length == wanted.length && memcmp(buffer, wanted.at, wanted.length) == 0);
+}
+
+/* Numbers other than 0 and 1 in `inner`, of a container and of a body next to it. */
+static void try_corrupt_inner(void) {
+    for (unsigned n = 0; n < 256 * 256; n++) {
+        amqpv_container outer = whole, body = whole, into;
+        new_buffer(16, 0);
+        CHECK(open_in(&outer, none, AMQPV_TABLE, &body) == AMQPV_OK);
+        outer.inner = (uint8_t)n, body.inner = (uint8_t)(n / 256);
+        into = body;
+        CHECK(put(&into, k, AMQPV_VOID, 0, 0) == (body.inner ? AMQPV_INVALID : AMQPV_OK));
+        CHECK(close_in(&outer, &body) == (n == 1 ? AMQPV_OK : AMQPV_INVALID));
+    }
 }
 
 /* Appends random entries to a container, and to containers in it. */
@@ -620,7 +701,12 @@ static void fill(amqpv_container *into, int depth) {
             amqpv_container body = whole;
             uint8_t type = random_number() % 2 ? AMQPV_TABLE : AMQPV_ARRAY;
             if (open_in(into, key, type, &body) == AMQPV_OK) {
+                amqpv_container other = body;
                 fill(&body, depth - 1);
+                if (random_number() % 2) {
+                    CHECK(put(into, key, AMQPV_VOID, 0, 0) == AMQPV_INVALID);
+                    CHECK(open_in(into, key, type, &other) == AMQPV_INVALID);
+                }
                 CHECK(close_in(into, &body) == AMQPV_OK);
             }
         }
@@ -656,27 +742,35 @@ static void try_needed(void) {
         size_t content_length;
         int32_t result;
         size_t count;
-    } values[] = {
-        {{{0, 0}, 'A'}, 0, 'V', 0, AMQPV_OK, 1},
-        {{{5, 3}, 'F'}, 3, 'S', 10, AMQPV_OK, 27},
-        {{{0, 0}, 'F'}, 255, 'l', 0, AMQPV_OK, 265},
-        {{{0, 0}, 'A'}, 0, 'D', SIZE_MAX, AMQPV_OK, 6},
-        {{{0, 0}, 'A'}, 0, 'x', UINT32_MAX, AMQPV_OK, UINT32_MAX + (size_t)5},
-        {{{0, PTRDIFF_MAX}, 'A'}, 0, 'V', 0, AMQPV_OK, PTRDIFF_MAX + (size_t)1},
-        {{{1, PTRDIFF_MAX}, 'A'}, 0, 'V', 0, AMQPV_INVALID, 0},
-        {{{SIZE_MAX, 1}, 'A'}, 0, 'V', 0, AMQPV_INVALID, 0},
-        {{{0, 0}, 'S'}, 256, 0, SIZE_MAX, AMQPV_INVALID, 0},
-        {{{0, 0}, 'F'}, 256, 0, SIZE_MAX, AMQPV_BAD_KEY, 0},
-        {{{0, 0}, 'A'}, 1, 'V', 0, AMQPV_BAD_KEY, 0},
-        {{{0, 0}, 'A'}, 0, 'U', 0, AMQPV_BAD_TAG, 0},
-        {{{0, 0}, 'A'}, 0, 'L', 0, AMQPV_BAD_TAG, 0},
-        {{{0, 0}, 'F'}, 0, '_', SIZE_MAX, AMQPV_BAD_TAG, 0},
-        {{{0, 0}, 'F'}, 0, 'F', UINT32_MAX + (size_t)1, AMQPV_TOO_LARGE, 0},
+    } asked[] = {
+        {{{0, 0}, 'A', 0, 0}, 0, 'V', 0, AMQPV_OK, 1},
+        {{{5, 3}, 'F', 0, 77}, 3, 'S', 10, AMQPV_OK, 27},
+        {{{0, 0}, 'F', 0, 0}, 255, 'l', 0, AMQPV_OK, 265},
+        {{{0, 0}, 'A', 0, 0}, 0, 'D', 0, AMQPV_OK, 6},
+        {{{0, 0}, 'A', 0, 0}, 0, 'x', UINT32_MAX, AMQPV_OK, UINT32_MAX + (size_t)5},
+        {{{0, 0}, 'A', 0, 0}, 0, 'A', 7, AMQPV_OK, 12},
+        {{{0, PTRDIFF_MAX - 1}, 'A', 0, 0}, 0, 'V', 0, AMQPV_OK, PTRDIFF_MAX},
+        {{{1, PTRDIFF_MAX - 6}, 'F', 0, 0}, 0, 'V', 0, AMQPV_OK, PTRDIFF_MAX - (size_t)3},
+        {{{0, PTRDIFF_MAX}, 'A', 0, 0}, 0, 'V', 0, AMQPV_TOO_LARGE, 0},
+        {{{0, PTRDIFF_MAX - 264}, 'F', 0, 0}, 255, 'l', 0, AMQPV_TOO_LARGE, 0},
+        {{{1, PTRDIFF_MAX}, 'A', 0, 0}, 0, 'V', 0, AMQPV_INVALID, 0},
+        {{{SIZE_MAX, 1}, 'A', 0, 0}, 0, 'V', 0, AMQPV_INVALID, 0},
+        {{{0, 0}, 'S', 0, 0}, 256, 0, SIZE_MAX, AMQPV_INVALID, 0},
+        {{{0, 0}, 'F', 1, 0}, 256, 0, SIZE_MAX, AMQPV_INVALID, 0},
+        {{{0, 0}, 'F', 255, 0}, 0, 'V', 0, AMQPV_INVALID, 0},
+        {{{0, 0}, 'F', 0, 0}, 256, 0, SIZE_MAX, AMQPV_BAD_KEY, 0},
+        {{{0, 0}, 'A', 0, 0}, 1, 'V', 0, AMQPV_BAD_KEY, 0},
+        {{{0, 0}, 'A', 0, 0}, 0, 'U', 1, AMQPV_BAD_TAG, 0},
+        {{{0, 0}, 'A', 0, 0}, 0, 'L', 0, AMQPV_BAD_TAG, 0},
+        {{{0, 0}, 'F', 0, 0}, 0, '_', SIZE_MAX, AMQPV_BAD_TAG, 0},
+        {{{0, 0}, 'A', 0, 0}, 0, 'D', SIZE_MAX, AMQPV_INVALID, 0},
+        {{{0, PTRDIFF_MAX}, 'A', 0, 0}, 0, 'V', 1, AMQPV_INVALID, 0},
+        {{{0, 0}, 'F', 0, 0}, 0, 'F', UINT32_MAX + (size_t)1, AMQPV_TOO_LARGE, 0},
     };
-    for (size_t i = 0; i < COUNT(values); i++) {
+    for (size_t i = 0; i < COUNT(asked); i++) {
         size_t count = 77;
-        int32_t result = amqpv_needed(&values[i].into, values[i].key_length, values[i].tag, values[i].content_length, &count);
-        CHECK(result == values[i].result && count == values[i].count);
+        int32_t result = amqpv_needed(&asked[i].into, asked[i].key_length, asked[i].tag, asked[i].content_length, &count);
+        CHECK(result == asked[i].result && count == asked[i].count);
         calls++;
     }
 }
@@ -727,6 +821,8 @@ int main(void) {
     for (size_t i = 0; i < COUNT(opened); i++) {
         try_corrupt_bodies(opened[i]);
     }
+    try_corrupt_inner();
+    try_orders();
     try_large();
     for (int i = 0; i < 100000; i++) {
         try_random();

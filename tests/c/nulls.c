@@ -44,6 +44,10 @@ static int is_same_span(amqpv_span a, amqpv_span b) {
     return a.offset == b.offset && a.length == b.length;
 }
 
+static int is_same_container(const amqpv_container *a, const amqpv_container *b) {
+    return is_same_span(a->written, b->written) && a->tag == b->tag && a->inner == b->inner && a->needed == b->needed;
+}
+
 static void check_same(const left *a, const left *b) {
     const amqpv_entry *x = &a->entry, *y = &b->entry;
     CHECK(a->result == b->result && a->count == b->count);
@@ -53,8 +57,7 @@ static void check_same(const left *a, const left *b) {
     CHECK(a->measure.length == b->measure.length && a->measure.values == b->measure.values);
     CHECK(a->measure.levels == b->measure.levels);
     CHECK(a->problem.offset == b->problem.offset && a->problem.kind == b->problem.kind && a->problem.tag == b->problem.tag);
-    CHECK(is_same_span(a->into.written, b->into.written) && a->into.tag == b->into.tag);
-    CHECK(is_same_span(a->body.written, b->body.written) && a->body.tag == b->body.tag);
+    CHECK(is_same_container(&a->into, &b->into) && is_same_container(&a->body, &b->body));
     CHECK(memcmp(a->buffer, b->buffer, CAPACITY) == 0);
 }
 
@@ -65,6 +68,7 @@ static left fresh(amqpv_cursor cursor, uint8_t into) {
     all.cursor = cursor;
     all.into.written.offset = all.into.written.length = 0;
     all.into.tag = into;
+    all.into.inner = 0;
     return all;
 }
 
@@ -149,7 +153,7 @@ static void try_building(void) {
     TRY(AMQPV_OK, pairs, 'A', amqpv_write_table(&pair, 1, all->buffer, CAPACITY, &all->count));
     TRY(AMQPV_NO_ROOM, pairs, 'A', amqpv_write_table(&pair, 1, buffer, 0, &all->count));
     TRY(AMQPV_NO_ROOM, pairs, 'A', amqpv_write_table(is_null ? NULL : &pair, 0, buffer, 0, &all->count));
-    amqpv_container body = {{5, 0}, AMQPV_TABLE};
+    amqpv_container body = {{5, 0}, AMQPV_TABLE, 0, 0};
     TRY(AMQPV_INVALID, pairs, 'A', amqpv_close(buffer, 0, &all->into, &body));
     body.written.offset = 0;
     TRY(AMQPV_INVALID, pairs, 'A', amqpv_close(buffer, 0, &all->into, &body));

@@ -52,9 +52,11 @@ FIELD(amqpv_problem, offset, 0, 8);
 FIELD(amqpv_problem, kind, 8, 1);
 FIELD(amqpv_problem, tag, 9, 1);
 
-STRUCT(amqpv_container, 24, 8);
+STRUCT(amqpv_container, 32, 8);
 FIELD(amqpv_container, written, 0, 16);
 FIELD(amqpv_container, tag, 16, 1);
+FIELD(amqpv_container, inner, 17, 1);
+FIELD(amqpv_container, needed, 24, 8);
 
 CONSTANT(AMQPV_OK, 0);
 CONSTANT(AMQPV_NONE, 1);

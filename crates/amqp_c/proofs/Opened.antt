@@ -4,7 +4,7 @@ use Rattle.std.specs.Bool.{MatchBool}
 use Rattle.std.proofs.lemmas.List.{take_at, length-take-le}
 use Rattle.amqp_c_common.specs.Spans.{SpanIsIn}
 use Rattle.amqp_c.specs.declared.container.Container.{Container}
-use Rattle.amqp_c.specs.Containers.{IsContainerTag, IsKeyOf, named, end_of, entry_of}
+use Rattle.amqp_c.specs.Containers.{IsContainerTag, HasNoneOpen, HasOneOpen, IsKeyOf, named, end_of, entry_of}
 use Rattle.amqp_c.specs.Growth.{IsOpen}
 
 -- lists that are the same with one element after each are the same
@@ -14,17 +14,19 @@ same_before a b x y e =
     sym (take_at a (x ∷ []) (length a) refl) ∙ (ap (take (length a)) e ∙ take_at b (y ∷ []) (length a) (sym count))
 
 -- between what `into` has and the four bytes before the body are a name and the body's type tag
-pub is_open : (buffer name : List ℕ) (into body : Container) (at tag : ℕ) (yes : Bool) → at ≡ end_of into → SpanIsIn (length buffer) into.written → SpanIsIn (length buffer) body.written
+pub is_open : (buffer name : List ℕ) (into body : Container) (at tag : ℕ) (yes : Bool) → HasOneOpen into → HasNoneOpen body → at ≡ end_of into → SpanIsIn (length buffer) into.written → SpanIsIn (length buffer) body.written
     → IsContainerTag body.tag → at + 4 ≤ body.written.offset → take (body.written.offset - 4 - at) (drop at buffer) ≡ name ++ tag ∷ [] → tag ≡ body.tag
     → MatchBool yes ((k : List ℕ) × IsKeyOf into k × (name ≡ named into.tag k)) ((k : List ℕ) → IsKeyOf into k → name ≡ named into.tag k → ⊥)
     → MatchBool yes ((k : List ℕ) × IsOpen buffer into body k) ((k : List ℕ) → IsOpen buffer into body k → ⊥)
-is_open buffer name into body at tag true here inside in_buffer container before between same (k, key, is) =
+is_open buffer name into body at tag true one nothing here inside in_buffer container before between same (k, key, is) =
     let n = body.written.offset - 4 - at in
     let head = entry_of into k (body.tag ∷ []) in
     let whole : take n (drop at buffer) ≡ head = between ∙ ap₂ (λ (p : List ℕ) (t : ℕ). p ++ t ∷ []) is same in
     let count : length head ≡ n = sym (ap length whole) ∙ length-take-le n (drop at buffer) (omega (arith, inside, in_buffer, here, length-drop at buffer)) in (
       k,
       record {
+        one = one;
+        none = nothing;
         place = (inside, key);
         container = container;
         inside = in_buffer;
@@ -32,7 +34,7 @@ is_open buffer name into body at tag true here inside in_buffer container before
         after = omega (arith, count, here, before);
       },
     )
-is_open buffer name into body at tag false here inside in_buffer container before between same none = λ k o.
+is_open buffer name into body at tag false one nothing here inside in_buffer container before between same none = λ k o.
     let head = entry_of into k (body.tag ∷ []) in
     let count : body.written.offset - 4 - at ≡ length head = omega (arith, o.after, here) in
     none k o.place.1 (same_before name (named into.tag k) tag body.tag

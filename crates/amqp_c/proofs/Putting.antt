@@ -1,7 +1,7 @@
 -- Entries that are put.
 use Rattle.std.proofs.Common.{◌≡◌, ◌-◌, ◌<◌, ◌^◌, ℕ, ℤ, List, ◌∷◌, ◌++◌, length, take, Result, Ok, Err, MatchResult, refl, sym, ap, ap₂, ◌∙◌, subst, arith, length-append, inl, inr}
 use Rattle.std.specs.Int.{w32, w64, to_be_bytes, cast_unsigned}
-use Rattle.std.proofs.lemmas.List.{take_at}
+use Rattle.std.proofs.lemmas.List.{take_at, length-take-le}
 use Rattle.amqp_value_core.specs.declared.types.amqp_type.AMQPType.TheVariants as amqp
 use Rattle.amqp_value_core.specs.Grammar.{Wire}
 use Rattle.amqp_value_core.specs.Outcomes.{found}
@@ -9,7 +9,9 @@ use Rattle.amqp_value_core.specs.Texts.{text}
 use Rattle.amqp_value_core.specs.Values.{Tree, Scalar, number, scalar, long, octets}
 use Rattle.amqp_value_core.proofs.GrammarLaws.{text_is_wire, prefix_within}
 use Rattle.amq_protocol_types.specs.declared.parsing.limits.Limits.{Limits}
+use Rattle.amq_protocol_types.specs.parsing.Headers.{extent}
 use Rattle.amq_protocol_types.specs.parsing.Limits.{Within}
+use Rattle.amq_protocol_types.proofs.ParsingLaws.{wire_extent}
 use Rattle.amqp_c_common.specs.declared.fault.Fault.{Fault}
 use Rattle.amqp_c_common.specs.declared.fault.Fault.TheVariants.{More, UnknownTag, Malformed, TooLarge, Invalid, OutOfMemory, BufferTooSmall, NotJson, NoEncoding, BadKey, BadTag, OutOfRange}
 use Rattle.amqp_c.specs.declared.container.Container.{Container}
@@ -118,3 +120,9 @@ prefix l s rest w v x is =
     let count : length s - length rest ≡ length f.0 = omega (arith, ap length f.2, length-append f.0 rest) in
     let same : f.0 ≡ w = sym (is ∙ (ap₂ (λ (n : ℕ) (t : List ℕ). take n t) count f.2 ∙ take_at f.0 rest (length f.0) refl)) in
     ((rest, x, f.2 ∙ ap (λ (t : List ℕ). t ++ rest) same), subst (λ (t : List ℕ). Wire t v) same f.1.0)
+
+-- and it is no longer than the limit
+pub within_frame : (l : Limits) (s rest : List ℕ) (v : Tree) → l.frame < 2 ^ 32 → Within l s (found v rest) → length (take (length s - length rest) s) < 2 ^ 32
+within_frame l s rest v few x =
+    let f = prefix_within l.depth s rest v x.1 in
+    omega (arith, few, x.0, ap extent f.2, wire_extent f.0 rest v f.1.0, ap length f.2, length-append f.0 rest, length-take-le (length s - length rest) s (omega arith))

@@ -18,7 +18,7 @@ use Rattle.amqp_c.specs.Growth.{and_pair}
 use Rattle.amqp_c.specs.BuiltEntries.{IsScalarOf, IsStringValue, IsStringTag}
 use Rattle.amqp_c_common.specs.declared.fault.Fault.{Fault}
 use Rattle.amqp_c_common.specs.declared.fault.Fault.TheVariants.{TooLarge}
-use Rattle.amqp_c.specs.Pairs.{IsPairValue, IsGiven, ArePairsOf, AreWritten, typed_len, value_len, pair_len, body_len, RefusesPair, IsFirstFault}
+use Rattle.amqp_c.specs.Pairs.{HasNoNumber, IsPairValue, IsGiven, ArePairsOf, AreWritten, typed_len, value_len, pair_len, body_len, RefusesPair, IsFirstFault}
 use Rattle.amqp_c.specs.Buffers.{with_bytes}
 use Rattle.amqp_c.specs.WrittenTables.{IsTableWritten}
 use Rattle.amqp_c.proofs.Putting.{strings}
@@ -50,9 +50,9 @@ one_given (p ∷ ps) (entry k v es) (suc i) d are few = one_given ps es i d are.
 
 -- an encoding of a pair's value is one
 value_is_wire : (p : Pair) (v : Tree) → IsPairValue p v → Wire (text v) v
-value_is_wire p v (inl (inl is, fits)) = subst (λ (u : Tree). Wire (text u) u) (sym is.1) (text_is_wire (long p.bytes.now) tt fits refl)
-value_is_wire p v (inl (inr is, fits)) = subst (λ (u : Tree). Wire (text u) u) (sym is.1) (text_is_wire (octets p.bytes.now) tt fits refl)
-value_is_wire p v (inr (x, tells, is)) = subst (λ (u : Tree). Wire (text u) u) (sym is) (text_is_wire (scalar x) tells.in_range tt refl)
+value_is_wire p v (inl (inl is, fits, none)) = subst (λ (u : Tree). Wire (text u) u) (sym is.1) (text_is_wire (long p.bytes.now) tt fits refl)
+value_is_wire p v (inl (inr is, fits, none)) = subst (λ (u : Tree). Wire (text u) u) (sym is.1) (text_is_wire (octets p.bytes.now) tt fits refl)
+value_is_wire p v (inr (x, tells, is, none)) = subst (λ (u : Tree). Wire (text u) u) (sym is) (text_is_wire (scalar x) tells.in_range tt refl)
 
 -- the bytes of the entries are read as these
 are_read : (ps : List Pair) (es : Entries) → ArePairsOf ps es → TableBody (pairs es) es
@@ -86,7 +86,7 @@ string_counts p v (inr is) = rw (is.0, is.1) (omega (arith, length-append (to_be
 
 value_counts : (p : Pair) (v : Tree) → IsPairValue p v → length (text v) ≡ value_len p
 value_counts p v (inl is) = string_counts p v is.0
-value_counts p v (inr (x, tells, is)) =
+value_counts p v (inr (x, tells, is, none)) =
     ap (λ (u : Tree). length (text u)) is
     ∙ (size_of_scalar x ∙ (sym (typed_scalar x (length p.bytes.now) tells.in_range) ∙ ap (λ (t : ℕ). typed_len (kind t) (length p.bytes.now)) (sym tells.same_tag)))
 
@@ -100,15 +100,20 @@ pairs_count (p ∷ ps) no_entries are = absurd are
 pairs_count (p ∷ ps) (entry k v es) are =
     omega (arith, value_counts p v are.2, pairs_count ps es are.3, ap length are.0, length-append (short_field k) (text v ++ pairs es), length-append (text v) (pairs es), sum_by-cons pair_len p ps)
 
--- a string or a byte array that fits, and a number, have a value
-pub string_given : (p : Pair) → IsStringTag p.tag → length p.bytes.now < 2 ^ 32
-    → ((v : Tree) × IsPairValue p v) × (5 + length p.bytes.now ≡ value_len p)
-string_given p (inl is) fits = ((long p.bytes.now, inl (inl (is, refl), fits)), rw is refl)
-string_given p (inr is) fits = ((octets p.bytes.now, inl (inr (is, refl), fits)), rw is refl)
+-- no bytes
+pub no_bytes : (b : List ℕ) → length b ≡ 0 → b ≡ []
+no_bytes [] none = refl
+no_bytes (x ∷ b) none = absurd (omega (arith, none))
 
-pub number_given : (p : Pair) (x : Scalar) → IsScalarOf p.tag p.bits p.scale x
+-- a string or a byte array that fits, and a number, have a value
+pub string_given : (p : Pair) → IsStringTag p.tag → length p.bytes.now < 2 ^ 32 → HasNoNumber p
+    → ((v : Tree) × IsPairValue p v) × (5 + length p.bytes.now ≡ value_len p)
+string_given p (inl is) fits none = ((long p.bytes.now, inl (inl (is, refl), fits, none)), rw is refl)
+string_given p (inr is) fits none = ((octets p.bytes.now, inl (inr (is, refl), fits, none)), rw is refl)
+
+pub number_given : (p : Pair) (x : Scalar) → IsScalarOf p.tag p.bits p.scale x → p.bytes.now ≡ []
     → ((v : Tree) × IsPairValue p v) × (length (text (scalar x)) ≡ value_len p)
-number_given p x tells = ((scalar x, inr (x, tells, refl)), value_counts p (scalar x) (inr (x, tells, refl)))
+number_given p x tells none = ((scalar x, inr (x, tells, refl, none)), value_counts p (scalar x) (inr (x, tells, refl, none)))
 
 -- a fault that comes after the first i pairs
 pub first_fault : (ps : List Pair) (i n : ℕ) (d : Pair) (f : Fault) → i < length ps → ((es : Entries) × ArePairsOf (take i ps) es)
@@ -141,36 +146,42 @@ pub more_given : (ps : List Pair) (i : ℕ) (d : Pair) → i < length ps → ((e
 more_given ps i d few (es, are) (short, (v, is)) =
     (and_pair es (get_or ps i d).key.now v, subst (λ (t : List Pair). ArePairsOf t (and_pair es (get_or ps i d).key.now v)) (sym (take_more ps i d few)) (and_more (take i ps) es (get_or ps i d) v are short is))
 
-pub string_fits : (p : Pair) → IsStringTag p.tag → ((v : Tree) × IsPairValue p v) → length p.bytes.now < 2 ^ 32
-string_fits p is (v, inl (s, fits)) = fits
-string_fits p (inl is) (v, inr (x, tells, e)) = absurd (with_content p.tag amqp.LongString (ap kind is) refl (x, tells.in_range, tells.same_tag))
-string_fits p (inr is) (v, inr (x, tells, e)) = absurd (with_content p.tag amqp.ByteArray (ap kind is) refl (x, tells.in_range, tells.same_tag))
+pub string_fits : (p : Pair) → IsStringTag p.tag → ((v : Tree) × IsPairValue p v) → (length p.bytes.now < 2 ^ 32) × HasNoNumber p
+string_fits p is (v, inl (s, fits, none)) = (fits, none)
+string_fits p (inl is) (v, inr (x, tells, e, none)) = absurd (with_content p.tag amqp.LongString (ap kind is) refl (x, tells.in_range, tells.same_tag))
+string_fits p (inr is) (v, inr (x, tells, e, none)) = absurd (with_content p.tag amqp.ByteArray (ap kind is) refl (x, tells.in_range, tells.same_tag))
+
+-- of another type tag no bytes are given
+pub number_alone : (p : Pair) → (IsStringTag p.tag → ⊥) → ((v : Tree) × IsPairValue p v) → p.bytes.now ≡ []
+number_alone p other (v, inl (inl s, fits, none)) = absurd (other (inl s.0))
+number_alone p other (v, inl (inr s, fits, none)) = absurd (other (inr s.0))
+number_alone p other (v, inr (x, tells, e, none)) = none
 
 -- the value is written once its two parts are: of a string what is before its bytes, and of a number its
 -- type tag
-pub string_written : (p : Pair) (at : ℕ) (head old first new : List ℕ) → IsStringTag p.tag → length p.bytes.now < 2 ^ 32
+pub string_written : (p : Pair) (at : ℕ) (head old first new : List ℕ) → IsStringTag p.tag → (length p.bytes.now < 2 ^ 32) × HasNoNumber p
     → head ≡ p.tag ∷ to_be_bytes w32 (length p.bytes.now) → first ≡ with_bytes at head old → new ≡ with_bytes (at + 5) p.bytes.now first
     → at + value_len p ≤ length old → (v : Tree) × IsPairValue p v × (new ≡ with_bytes at (text v) old)
 string_written p at head old first new is fits counts e₁ e₂ buffer =
     let b = p.bytes.now in
-    let s = strings p.tag b head (head ++ b) is fits counts refl in (
+    let s = strings p.tag b head (head ++ b) is fits.0 counts refl in (
       s.0,
-      inl (s.1.0, fits),
+      inl (s.1.0, fits.0, fits.1),
       e₂
           ∙ (ap (with_bytes (at + 5) b) e₁
-          ∙ (with_bytes-join at (at + 5) head b old (omega (arith, ap length counts)) (omega (arith, buffer, (string_given p is fits).1))
+          ∙ (with_bytes-join at (at + 5) head b old (omega (arith, ap length counts)) (omega (arith, buffer, (string_given p is fits.0 fits.1).1))
           ∙ ap (λ (t : List ℕ). with_bytes at t old) s.1.1)),
     )
 
-pub number_written : (p : Pair) (x : Scalar) (at tag : ℕ) (b old first new : List ℕ) → IsScalarOf p.tag p.bits p.scale x → tag ∷ b ≡ text (scalar x)
+pub number_written : (p : Pair) (x : Scalar) (at tag : ℕ) (b old first new : List ℕ) → IsScalarOf p.tag p.bits p.scale x → p.bytes.now ≡ [] → tag ∷ b ≡ text (scalar x)
     → first ≡ with_bytes at (tag ∷ []) old → new ≡ with_bytes (at + 1) b first → at + value_len p ≤ length old
     → (v : Tree) × IsPairValue p v × (new ≡ with_bytes at (text v) old)
-number_written p x at tag b old first new tells same e₁ e₂ buffer = (
+number_written p x at tag b old first new tells none same e₁ e₂ buffer = (
   scalar x,
-  inr (x, tells, refl),
+  inr (x, tells, refl, none),
   e₂
       ∙ (ap (with_bytes (at + 1) b) e₁
-      ∙ (with_bytes-join at (at + 1) (tag ∷ []) b old (omega arith) (omega (arith, buffer, (number_given p x tells).1, ap length same))
+      ∙ (with_bytes-join at (at + 1) (tag ∷ []) b old (omega arith) (omega (arith, buffer, (number_given p x tells none).1, ap length same))
       ∙ ap (λ (t : List ℕ). with_bytes at t old) same)),
 )
 

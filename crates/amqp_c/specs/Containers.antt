@@ -15,9 +15,16 @@ table_tag = 70
 abbrev pub IsContainerTag : ℕ → Type 0
 IsContainerTag tag = (tag ≡ array_tag) ⊎ (tag ≡ table_tag)
 
--- the container is inside n bytes, and is of an array or a table
+-- no entry is open in the container, and one is; it has another number only if that was written from outside
+abbrev pub HasNoneOpen : Container → Type 0
+HasNoneOpen c = c.inner ≡ 0
+
+abbrev pub HasOneOpen : Container → Type 0
+HasOneOpen c = c.inner ≡ 1
+
+-- the container is inside n bytes, is of an array or a table, and nothing is open in it
 abbrev pub IsContainerIn : ℕ → Container → Type 0
-IsContainerIn n c = SpanIsIn n c.written × IsContainerTag c.tag
+IsContainerIn n c = SpanIsIn n c.written × IsContainerTag c.tag × HasNoneOpen c
 
 -- the end of what is written of a container
 abbrev pub end_of : Container → ℕ
@@ -29,7 +36,7 @@ IsKeyOf c k = ((c.tag ≡ array_tag) × (k ≡ [])) ⊎ ((c.tag ≡ table_tag) �
 
 -- in a buffer of n bytes an entry with this key can be put after what is written
 abbrev pub IsPlace : ℕ → Container → List ℕ → Type 0
-IsPlace n c k = SpanIsIn n c.written × IsKeyOf c k
+IsPlace n c k = SpanIsIn n c.written × IsKeyOf c k × HasNoneOpen c
 
 -- what is before the value of an entry: in a table the key, after its length in one byte
 abbrev pub named : ℕ → List ℕ → List ℕ
@@ -45,8 +52,8 @@ end_with c k w = end_of c + length (entry_of c k w)
 
 -- a container of which nothing is written yet
 abbrev pub empty_at : ℕ → ℕ → Container
-empty_at at tag = record { written = record { offset = at; length = 0 }; tag = tag }
+empty_at at tag = record { written = record { offset = at; length = 0 }; tag = tag; inner = 0; needed = 0 }
 
--- the container, if what is written ends there
+-- the container, if what is written ends there, and nothing is open in it
 abbrev pub up_to : ℕ → Container → Container
-up_to at c = record { written = record { offset = c.written.offset; length = at - c.written.offset }; tag = c.tag }
+up_to at c = record { written = record { offset = c.written.offset; length = at - c.written.offset }; tag = c.tag; inner = 0; needed = c.needed }

@@ -1,5 +1,5 @@
 -- When each fault is right.
-use Rattle.std.specs.Prelude.{ℕ, ◌≡◌, ◌<◌, ◌≤◌, ◌+◌, ◌^◌, List, length, ◌⊎◌}
+use Rattle.std.specs.Prelude.{ℕ, ◌≡◌, ◌<◌, ◌≤◌, ◌^◌, List, length, ◌⊎◌}
 use Rattle.std.specs.Int.{w64, cast_unsigned}
 use Rattle.amqp_value_core.specs.Values.{Scalar, Tree}
 use Rattle.amq_protocol_types.specs.declared.parsing.limits.Limits.{Limits}
@@ -7,20 +7,21 @@ use Rattle.amqp_c_common.specs.declared.fault.Fault.{Fault}
 use Rattle.amqp_c_common.specs.declared.fault.Fault.TheVariants.{TooLarge, Invalid, OutOfMemory, BufferTooSmall, BadKey, BadTag, OutOfRange}
 use Rattle.amqp_c_common.specs.Reading.{IsReadFault}
 use Rattle.amqp_c.specs.declared.container.Container.{Container}
-use Rattle.amqp_c.specs.Containers.{IsContainerIn, IsContainerTag, IsKeyOf, IsPlace, end_of, entry_of}
+use Rattle.amqp_c.specs.Containers.{IsContainerIn, IsContainerTag, IsKeyOf, IsPlace, end_with}
 use Rattle.amqp_c.specs.BuiltEntries.{IsScalarOf, IsScalarTag, IsSignedTag, IsUnsignedTag, IsStringTag, unfilled}
 use Rattle.amqp_c.specs.Growth.{IsOpen}
 use Rattle.amqp_c.specs.Items.{Item, fixed_width, signed_number, unsigned_number, byte_string, first_encoding, IsItemEncoding}
 
--- a fault of the place is right: no container is there, or it can't have an entry with this key
+-- a fault of the place is right: no container is there in which nothing is open, or it can't have an entry with
+-- this key
 abbrev pub RefusesPlace : ℕ → Container → List ℕ → Fault → Type 0
 RefusesPlace n into k Invalid = IsContainerIn n into → ⊥
 RefusesPlace n into k BadKey = IsContainerIn n into × (IsKeyOf into k → ⊥)
 RefusesPlace n into k _ = ⊥
 
--- the buffer is too small for the entry of this encoding, and the fault has how many bytes the entry has
+-- the buffer is too small for the entry of this encoding, and the fault has the capacity with which it isn't
 abbrev pub LacksCapacityFor : List ℕ → Container → List ℕ → List ℕ → Fault → Type 0
-LacksCapacityFor buffer into k w f = (f ≡ BufferTooSmall (length (entry_of into k w))) × (length buffer < end_of into + length (entry_of into k w))
+LacksCapacityFor buffer into k w f = (f ≡ BufferTooSmall (end_with into k w)) × (length buffer < end_with into k w)
 
 -- a fault of a number is right: no value of fixed width has the type tag, or none with it has these
 -- bits and this scale
@@ -74,8 +75,7 @@ RefusesToOpen tag buffer into k f =
     ⊎ (IsPlace (length buffer) into k
     × (((f ≡ BadTag) × (IsContainerTag tag → ⊥)) ⊎ (IsContainerTag tag × LacksCapacityFor buffer into k (unfilled tag) f)))
 
--- a fault of closing an entry is right: the body isn't of one that was opened there, or has too many
--- bytes
+-- a fault of closing an entry is right: the body isn't of one that is open there, or has too many bytes
 abbrev pub RefusesToClose : List ℕ → Container → Container → Fault → Type 0
 RefusesToClose buffer into body Invalid = (k : List ℕ) → IsOpen buffer into body k → ⊥
 RefusesToClose buffer into body TooLarge = ((k : List ℕ) × IsOpen buffer into body k) × (2 ^ 32 ≤ body.written.length)

@@ -5,7 +5,7 @@ use Rattle.amqp_value_core.specs.Values.{Tree, Trees, no_trees, tree, Entries, n
 use Rattle.amqp_value_core.specs.Grammar.{ArrayBody, TableBody}
 use Rattle.amqp_c_common.specs.Spans.{part, SpanIsIn}
 use Rattle.amqp_c.specs.declared.container.Container.{Container}
-use Rattle.amqp_c.specs.Containers.{array_tag, table_tag, IsContainerTag, IsPlace, end_of, entry_of, end_with, empty_at, up_to}
+use Rattle.amqp_c.specs.Containers.{array_tag, table_tag, IsContainerTag, HasNoneOpen, HasOneOpen, IsKeyOf, IsPlace, end_of, entry_of, end_with, empty_at, up_to}
 use Rattle.amqp_c.specs.BuiltEntries.{unfilled, IsOfBody}
 use Rattle.amqp_c.specs.Items.{Item, IsItemEncoding}
 use Rattle.amqp_c.specs.Buffers.{with_bytes, StandsAt}
@@ -47,17 +47,19 @@ pub record IsOpened (tag : ℕ) (old : List ℕ) (into : Container) (k new : Lis
   pub appended : IsAppended old into k (unfilled tag) new
   pub empty : body ≡ empty_at (end_with into k (unfilled tag)) tag
 
--- the body is one of an entry that was opened with this key after what `into` has: the key and the
--- body's type tag are there, and the body begins four bytes after them
+-- the body is one of an entry that is open with this key after what `into` has, and nothing is open in
+-- the body: the key and the body's type tag are there, and the body begins four bytes after them
 pub record IsOpen (buffer : List ℕ) (into body : Container) (k : List ℕ) : Type 0 where
-  pub place : IsPlace (length buffer) into k
+  pub one : HasOneOpen into
+  pub none : HasNoneOpen body
+  pub place : SpanIsIn (length buffer) into.written × IsKeyOf into k
   pub container : IsContainerTag body.tag
   pub inside : SpanIsIn (length buffer) body.written
   pub named : StandsAt (end_of into) (entry_of into k (body.tag ∷ [])) buffer
   pub after : body.written.offset ≡ end_with into k (body.tag ∷ []) + 4
 
--- the entry is closed: the length of its body is filled in before it, `into` reaches to its end, and
--- grows by the array or the table that the body is of
+-- the entry is closed: the length of its body is filled in before it, `into` reaches to its end, has
+-- nothing open, and grows by the array or the table that the body is of
 pub record IsClosed (old : List ℕ) (into body : Container) (new : List ℕ) (grown : Container) : Type 0 where
   pub key : List ℕ
   pub opened : IsOpen old into body key

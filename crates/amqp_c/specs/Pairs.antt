@@ -6,17 +6,24 @@ use Rattle.amqp_value_core.specs.Strings.{IsShort}
 use Rattle.amqp_value_core.specs.Values.{Scalar, Tree, scalar, Entries, no_entries, entry}
 use Rattle.amqp_value_core.specs.Texts.{pairs}
 use Rattle.amqp_c_common.specs.declared.fault.Fault.{Fault}
-use Rattle.amqp_c_common.specs.declared.fault.Fault.TheVariants.{TooLarge, BadKey}
+use Rattle.amqp_c_common.specs.declared.fault.Fault.TheVariants.{TooLarge, Invalid, BadKey, OutOfRange}
 use Rattle.amqp_c.specs.declared.pair.Pair.{Pair}
 use Rattle.amqp_c.specs.BuiltEntries.{IsScalarOf, IsStringTag, IsStringValue}
 use Rattle.amqp_c.specs.Faults.{RefusesNumber}
 use Rattle.amqp_c.specs.Needs.{encoding_len}
 use Rattle.amqp_c.specs.Buffers.{with_bytes}
 
+-- the pair has no bits and no scale
+abbrev pub HasNoNumber : Pair → Type 0
+HasNoNumber p = (p.bits ≡ 0) × (p.scale ≡ 0)
+
 -- v is the value of a pair, by its type tag: the long string or the byte array of its bytes, whose
--- length fits its field, or the value of fixed width that its bits and its scale determine
+-- length fits its field, or the value of fixed width that its bits and its scale determine; and the pair
+-- has nothing that is of the other
 abbrev pub IsPairValue : Pair → Tree → Type 0
-IsPairValue p v = (IsStringValue p.tag p.bytes.now v × (length p.bytes.now < 2 ^ 32)) ⊎ ((x : Scalar) × IsScalarOf p.tag p.bits p.scale x × (v ≡ scalar x))
+IsPairValue p v =
+    (IsStringValue p.tag p.bytes.now v × (length p.bytes.now < 2 ^ 32) × HasNoNumber p)
+    ⊎ ((x : Scalar) × IsScalarOf p.tag p.bits p.scale x × (v ≡ scalar x) × (p.bytes.now ≡ []))
 
 -- the pair can be written: its key is one, and it has a value
 abbrev pub IsGiven : Pair → Type 0
@@ -48,12 +55,20 @@ pair_len p = 1 + length p.key.now + value_len p
 abbrev pub body_len : List Pair → ℕ
 body_len ps = sum_by pair_len ps
 
--- a fault of a pair's value is right: a string or a byte array has too many bytes, or the fault is that
--- of a number, of every other type tag
+-- a fault of a string or a byte array is right: it has bits or a scale, otherwise too many bytes
+abbrev pub RefusesString : Pair → Fault → Type 0
+RefusesString p OutOfRange = HasNoNumber p → ⊥
+RefusesString p TooLarge = HasNoNumber p × (2 ^ 32 ≤ length p.bytes.now)
+RefusesString p _ = ⊥
+
+-- and of a value of fixed width: that of its number, otherwise it has bytes
+abbrev pub RefusesScalar : Pair → Fault → Type 0
+RefusesScalar p Invalid = ((x : Scalar) × IsScalarOf p.tag p.bits p.scale x) × (p.bytes.now ≡ [] → ⊥)
+RefusesScalar p f = RefusesNumber p.tag p.bits p.scale f
+
+-- a fault of a pair's value is right, by its type tag
 abbrev pub RefusesValue : Pair → Fault → Type 0
-RefusesValue p f =
-    (IsStringTag p.tag × (f ≡ TooLarge) × (2 ^ 32 ≤ length p.bytes.now))
-    ⊎ ((IsStringTag p.tag → ⊥) × RefusesNumber p.tag p.bits p.scale f)
+RefusesValue p f = (IsStringTag p.tag × RefusesString p f) ⊎ ((IsStringTag p.tag → ⊥) × RefusesScalar p f)
 
 -- a fault of a pair is right: of its key, otherwise of its value
 abbrev pub RefusesPair : Pair → Fault → Type 0

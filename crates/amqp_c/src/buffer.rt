@@ -32,6 +32,7 @@ pub fn append(
     requires place { IsPlace (length buffer.old) into key.now }
     requires at { at ≡ end_of into }
     requires few { length head.now ≤ 9 }
+    requires limited { length content.now < 2 ^ 32 }
     ensures appended { MatchResult result
         (λ grown. IsAppended buffer.old into key.now (head.now ++ content.now) buffer.new
         × (grown ≡ up_to (end_with into key.now (head.now ++ content.now)) into))
@@ -41,7 +42,7 @@ pub fn append(
     let name_length = if into.tag == b'F' { 1 + key.len() } else { 0 };
     let count = name_length + head.len() + content.len();
     if buffer.len() - at < count {
-        return Err(Fault::BufferTooSmall(count));
+        return Err(Fault::BufferTooSmall(at + count));
     }
     write_name(buffer, at, into.tag, key);
     write(buffer, at + name_length, head);

@@ -1,7 +1,7 @@
 //! Containers that are put together in a buffer.
 
 ghost use Rattle.std.specs.Prelude.{◌≡◌, ◌≤◌, ◌<◌, ◌^◌, ℕ, List, length, MatchBool, MatchResult};
-ghost use Rattle.amqp_c.specs.Containers.{IsContainerTag, IsKeyOf, IsPlace, named, end_of, up_to, empty_at};
+ghost use Rattle.amqp_c.specs.Containers.{IsContainerTag, IsKeyOf, HasNoneOpen, IsPlace, named, end_of, up_to, empty_at};
 ghost use Rattle.amqp_c.specs.Faults.{RefusesPlace};
 
 use crate::key::is_short_string;
@@ -15,6 +15,10 @@ pub struct Container {
     pub written: Span,
     /// The type tag: `A` of an array, `F` of a table.
     pub tag: u8,
+    /// 1 while an entry that was opened in it isn't closed, otherwise 0.
+    pub inner: u8,
+    /// After a buffer was too small for an entry: the capacity that it should have had.
+    pub needed: usize,
 }
 
 /// Whether it is the type tag of an array or a table.
@@ -36,6 +40,8 @@ impl Container {
                 length: 0,
             },
             tag,
+            inner: 0,
+            needed: 0,
         }
     }
 
@@ -50,6 +56,9 @@ impl Container {
         let Some(at) = self.written.end_in(buffer_length) else {
             return Err(Fault::Invalid);
         };
+        if self.inner != 0 {
+            return Err(Fault::Invalid);
+        }
         if !is_container_tag(self.tag) {
             return Err(Fault::Invalid);
         }
@@ -72,6 +81,7 @@ impl Container {
     }
 
     /// Whether these bytes can be before the value of an entry.
+    #[inline(always)]
     pub fn has_name(self, name: &[u8]) -> bool
         ensures { MatchBool result
             ((k : List ℕ) × IsKeyOf self k × (name.now ≡ named self.tag k))
@@ -86,10 +96,11 @@ impl Container {
         usize::from(*length) == key.len() && self.has_key(key)
     }
 
-    /// The container, if what is written ends there.
+    /// The container, if what is written ends there, and nothing is open in it.
     #[inline(always)]
     pub fn up_to(self, at: usize) -> Container
-        requires { self.written.offset ≤ at }
+        requires begins { self.written.offset ≤ at }
+        requires none { HasNoneOpen self }
         ensures { result ≡ up_to at self }
     {
         Container {
@@ -97,7 +108,7 @@ impl Container {
                 offset: self.written.offset,
                 length: at - self.written.offset,
             },
-            tag: self.tag,
+            ..self
         }
     }
 }

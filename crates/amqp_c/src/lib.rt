@@ -49,7 +49,10 @@ use path::{EqualKeys, Step, find_path};
 use problem::{Problem, rules_of};
 use put::{put_bytes, put_scalar, put_value};
 use read::{read, read_table};
-use store::{store, store_found, store_measure, store_problem, store_read, store_step};
+use store::{
+    store, store_closed, store_found, store_grown, store_measure, store_opened, store_problem,
+    store_read, store_step,
+};
 use table::write_table;
 
 /// Reads the value at the start within limits, checks all of it, and returns its entry.
@@ -246,7 +249,7 @@ pub extern "C" fn amqpv_put(
 ) -> i32
     ensures { PutsScalar tag bits scale buffer.old into.old key.now result buffer.new into.new }
 {
-    store(put_scalar(buffer, *into, key, tag, bits, scale), into)
+    store_grown(put_scalar(buffer, *into, key, tag, bits, scale), into)
 }
 
 /// Puts an entry after what is written: a signed number, by its type tag.
@@ -260,7 +263,7 @@ pub extern "C" fn amqpv_put_int(
 ) -> i32
     ensures { PutsInt tag number buffer.old into.old key.now result buffer.new into.new }
 {
-    store(put_int(buffer, *into, key, tag, number), into)
+    store_grown(put_int(buffer, *into, key, tag, number), into)
 }
 
 /// Puts an entry after what is written: an unsigned number, by its type tag.
@@ -274,7 +277,7 @@ pub extern "C" fn amqpv_put_uint(
 ) -> i32
     ensures { PutsUint tag number buffer.old into.old key.now result buffer.new into.new }
 {
-    store(put_uint(buffer, *into, key, tag, number), into)
+    store_grown(put_uint(buffer, *into, key, tag, number), into)
 }
 
 /// Puts an entry after what is written: a boolean, of which every number but 0 is true.
@@ -287,7 +290,7 @@ pub extern "C" fn amqpv_put_bool(
 ) -> i32
     ensures { PutsBool truth buffer.old into.old key.now result buffer.new into.new }
 {
-    store(
+    store_grown(
         put_scalar(buffer, *into, key, b't', truth_bits(truth), 0),
         into,
     )
@@ -303,7 +306,7 @@ pub extern "C" fn amqpv_put_timestamp(
 ) -> i32
     ensures { PutsTimestamp seconds buffer.old into.old key.now result buffer.new into.new }
 {
-    store(put_scalar(buffer, *into, key, b'T', seconds, 0), into)
+    store_grown(put_scalar(buffer, *into, key, b'T', seconds, 0), into)
 }
 
 /// Puts an entry after what is written: a decimal, by its number without the point, and how many of
@@ -318,7 +321,7 @@ pub extern "C" fn amqpv_put_decimal(
 ) -> i32
     ensures { PutsDecimal number scale buffer.old into.old key.now result buffer.new into.new }
 {
-    store(
+    store_grown(
         put_scalar(buffer, *into, key, b'D', u64::from(number), scale),
         into,
     )
@@ -329,7 +332,7 @@ pub extern "C" fn amqpv_put_decimal(
 pub extern "C" fn amqpv_put_void(buffer: &mut [u8], into: &mut Container, key: &[u8]) -> i32
     ensures { PutsVoid buffer.old into.old key.now result buffer.new into.new }
 {
-    store(put_scalar(buffer, *into, key, b'V', 0, 0), into)
+    store_grown(put_scalar(buffer, *into, key, b'V', 0, 0), into)
 }
 
 /// Puts an entry after what is written: a long string.
@@ -342,7 +345,7 @@ pub extern "C" fn amqpv_put_string(
 ) -> i32
     ensures { PutsBytes 83 text.now buffer.old into.old key.now result buffer.new into.new }
 {
-    store(put_bytes(buffer, *into, key, b'S', text), into)
+    store_grown(put_bytes(buffer, *into, key, b'S', text), into)
 }
 
 /// Puts an entry after what is written: a long string or a byte array.
@@ -356,7 +359,7 @@ pub extern "C" fn amqpv_put_bytes(
 ) -> i32
     ensures { PutsBytes tag bytes.now buffer.old into.old key.now result buffer.new into.new }
 {
-    store(put_bytes(buffer, *into, key, tag, bytes), into)
+    store_grown(put_bytes(buffer, *into, key, tag, bytes), into)
 }
 
 /// Puts an entry after what is written: the encoding at the start of other bytes, read within
@@ -372,34 +375,34 @@ pub extern "C" fn amqpv_put_value(
 ) -> i32
     ensures { PutsValue frame depth bytes.now buffer.old into.old key.now result buffer.new into.new }
 {
-    store(
+    store_grown(
         put_value(buffer, *into, key, bytes, Limits { frame, depth }),
         into,
     )
 }
 
 /// Begins an entry after what is written, whose value is an array or a table: `body` is then
-/// empty, and `into` as it was until the entry is closed.
+/// empty, and nothing is put, opened or closed in `into` until the entry is closed.
 #[unsafe(no_mangle)]
 pub extern "C" fn amqpv_open(
     buffer: &mut [u8],
-    into: &Container,
+    into: &mut Container,
     key: &[u8],
     tag: u8,
     body: &mut Container,
 ) -> i32
-    ensures { OpensContainer tag buffer.old into.now key.now body.old result buffer.new body.new }
+    ensures { OpensContainer tag buffer.old into.old key.now body.old result buffer.new into.new body.new }
 {
-    store(open(buffer, *into, key, tag), body)
+    store_opened(open(buffer, *into, key, tag), into, body)
 }
 
-/// Ends the entry that `amqpv_open` began: fills in the length of its body, and `into` reaches to
-/// its end.
+/// Ends the entry that `amqpv_open` began, if nothing is open in its body: fills in the length of the
+/// body, and `into` reaches to its end, and has nothing open.
 #[unsafe(no_mangle)]
 pub extern "C" fn amqpv_close(buffer: &mut [u8], into: &mut Container, body: &Container) -> i32
     ensures { ClosesContainer buffer.old into.old body.now result buffer.new into.new }
 {
-    store(close(buffer, *into, *body), into)
+    store_closed(close(buffer, *into, *body), into)
 }
 
 /// Writes the table of these pairs, in their order, without its type tag, to the start of the buffer.

@@ -12,6 +12,7 @@ use amqp_value_core::types::AMQPType;
 impl Container {
     /// How large a buffer has to be at least so that an entry can be put after what is written, by
     /// the length of its key, its type tag, and how many bytes its value has after their length.
+    #[inline(always)]
     pub fn needed(self, key_length: usize, tag: u8, content_length: usize) -> Result<usize, Fault>
         ensures { MatchResult result
             (IsNeeded self key_length tag content_length)
@@ -20,6 +21,9 @@ impl Container {
         let Some(end) = self.written.end_in(usize::MAX / 2) else {
             return Err(Fault::Invalid);
         };
+        if self.inner != 0 {
+            return Err(Fault::Invalid);
+        }
         if !is_container_tag(self.tag) {
             return Err(Fault::Invalid);
         }
@@ -28,11 +32,16 @@ impl Container {
             b'F' if key_length <= 255 => 1 + key_length,
             _ => return Err(Fault::BadKey),
         };
-        Ok(end + (name + encoding_len(tag, content_length)?))
+        let needed = end + (name + encoding_len(tag, content_length)?);
+        if needed > usize::MAX / 2 {
+            return Err(Fault::TooLarge);
+        }
+        Ok(needed)
     }
 }
 
-/// How many bytes an encoding has, by its type tag, and how many bytes are after their length.
+/// How many bytes an encoding has, by its type tag, and how many bytes are after their length: none if it
+/// has no length.
 // The tactic names why no type has another's type tag.
 #[tactic(auto, using(crate::proofs::Needs::no_type, crate::proofs::Needs::other_type))]
 fn encoding_len(tag: u8, content_length: usize) -> Result<usize, Fault>
@@ -48,6 +57,9 @@ fn encoding_len(tag: u8, content_length: usize) -> Result<usize, Fault>
         return Err(Fault::BadTag);
     }
     if !has_content(amqp_type) {
+        if content_length != 0 {
+            return Err(Fault::Invalid);
+        }
         return Ok(1 + width_of(amqp_type));
     }
     let Ok(length) = u32::try_from(content_length) else {

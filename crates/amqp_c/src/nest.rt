@@ -40,10 +40,12 @@ pub fn close(buffer: &mut [u8], into: Container, body: Container) -> Result<Cont
         return Err(Fault::TooLarge);
     };
     write(buffer, body.written.offset - 4, &length.to_be_bytes());
-    Ok(into.up_to(body.written.offset + body.written.length))
+    let outer = Container { inner: 0, ..into };
+    Ok(outer.up_to(body.written.offset + body.written.length))
 }
 
-/// Whether the body is one of an entry that was opened after what `into` has.
+/// Whether the body is one of an entry that was opened after what `into` has, and nothing is open in
+/// the body.
 #[inline(always)]
 fn is_open(buffer: &[u8], into: Container, body: Container) -> bool
     ensures { MatchBool result
@@ -56,6 +58,9 @@ fn is_open(buffer: &[u8], into: Container, body: Container) -> bool
     let Some(_) = body.written.end_in(buffer.len()) else {
         return false;
     };
+    if into.inner != 1 || body.inner != 0 {
+        return false;
+    }
     if !is_container_tag(body.tag) || body.written.offset < at + 4 {
         return false;
     }

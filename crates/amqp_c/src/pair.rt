@@ -19,13 +19,13 @@ use amqp_c_common::Fault;
 pub struct Pair<'a> {
     /// The key.
     pub key: &'a [u8],
-    /// Of a long string or a byte array: its bytes.
+    /// Of a long string or a byte array: its bytes; otherwise none.
     pub bytes: &'a [u8],
-    /// Of a value of fixed width: its bits, as in an entry.
+    /// Of a value of fixed width: its bits, as in an entry; otherwise 0.
     pub bits: u64,
     /// The type tag.
     pub tag: u8,
-    /// Of a value of fixed width: its scale, as in an entry.
+    /// Of a value of fixed width: its scale, as in an entry; otherwise 0.
     pub scale: u8,
 }
 
@@ -53,12 +53,19 @@ impl Pair<'_> {
         ensures few { IfOk result (λ n. n ≤ 4294967300) }
     {
         if is_string_tag(self.tag) {
+            if self.bits != 0 || self.scale != 0 {
+                return Err(Fault::OutOfRange);
+            }
             let Ok(length) = u32::try_from(self.bytes.len()) else {
                 return Err(Fault::TooLarge);
             };
             return Ok(5 + length as usize);
         }
-        Ok(encoding_of(self.tag, self.bits, self.scale)?.len())
+        let encoding = encoding_of(self.tag, self.bits, self.scale)?;
+        if !self.bytes.is_empty() {
+            return Err(Fault::Invalid);
+        }
+        Ok(encoding.len())
     }
 
     /// Writes it from `at` on, and returns its end.

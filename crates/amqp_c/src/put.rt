@@ -101,6 +101,7 @@ pub fn is_string_tag(tag: u8) -> bool
 }
 
 /// Puts the encoding at the start of other bytes, which is read within limits, unchanged.
+#[inline(always)]
 pub fn put_value(
     buffer: &mut [u8],
     into: Container,

@@ -1,10 +1,12 @@
 //! What a call returns and leaves at its pointers.
 
 ghost use Rattle.std.specs.Prelude.{◌≡◌};
-ghost use Rattle.amqp_c_common.specs.ReturnCodes.{return_code_of};
+ghost use Rattle.amqp_c_common.specs.ReturnCodes.{return_code_of, code_of};
 ghost use Rattle.amqp_c.specs.Problems.{return_code_if_some, numbered_or_old};
+ghost use Rattle.amqp_c.specs.BuildCalls.{needing, grown_or_needing, opened_or_needing, closed_or_old};
 ghost use Rattle.amqp_c.specs.CallResults.{return_code_if_any, count_by, ok_or_old, found_or_old, entry_or_old, cursor_or_old};
 
+use crate::container::Container;
 use crate::cursor::Cursor;
 use crate::entry::Entry;
 use crate::measure::Measure;
@@ -29,6 +31,71 @@ pub fn store<T: Copy>(done: Result<T, Fault>, place: &mut T) -> i32
         }
         Err(fault) => fault.code(),
     }
+}
+
+/// Leaves what is written of a container that has grown, or the capacity that the buffer should have.
+#[inline(always)]
+pub fn store_grown(done: Result<Container, Fault>, into: &mut Container) -> i32
+    ensures returned { result ≡ return_code_of done }
+    ensures container { into.new ≡ grown_or_needing into.old done }
+{
+    match done {
+        Ok(grown) => {
+            into.written = grown.written;
+            OK
+        }
+        Err(fault) => refused(fault, into),
+    }
+}
+
+/// Leaves the body that is opened, and in its container that one is open, or the capacity that the
+/// buffer should have.
+#[inline(always)]
+pub fn store_opened(
+    done: Result<Container, Fault>,
+    into: &mut Container,
+    body: &mut Container,
+) -> i32
+    ensures returned { result ≡ return_code_of done }
+    ensures outer { into.new ≡ opened_or_needing into.old done }
+    ensures body { body.new ≡ ok_or_old body.old done }
+{
+    match done {
+        Ok(opened) => {
+            *body = opened;
+            into.inner = 1;
+            OK
+        }
+        Err(fault) => refused(fault, into),
+    }
+}
+
+/// Leaves what is written of a container in which one is closed, and that none is open in it.
+#[inline(always)]
+pub fn store_closed(done: Result<Container, Fault>, into: &mut Container) -> i32
+    ensures returned { result ≡ return_code_of done }
+    ensures container { into.new ≡ closed_or_old into.old done }
+{
+    match done {
+        Ok(grown) => {
+            into.written = grown.written;
+            into.inner = 0;
+            OK
+        }
+        Err(fault) => fault.code(),
+    }
+}
+
+/// Leaves the capacity that a buffer should have that is too small.
+#[inline(always)]
+fn refused(fault: Fault, into: &mut Container) -> i32
+    ensures returned { result ≡ code_of fault }
+    ensures container { into.new ≡ needing fault into.old }
+{
+    if let Fault::BufferTooSmall(capacity) = fault {
+        into.needed = capacity;
+    }
+    fault.code()
 }
 
 /// Leaves the entry of what is read, and stores how many bytes were read or are needed, else 0.

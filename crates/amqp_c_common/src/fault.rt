@@ -20,7 +20,7 @@ pub enum Fault {
     Invalid,
     /// An allocation failed.
     OutOfMemory,
-    /// What is to be written has that many bytes, more than the buffer has left.
+    /// The buffer has too few bytes: that many are needed.
     BufferTooSmall(usize),
     /// What should be a JSON text is no JSON, or the JSON of no value.
     NotJson,

@@ -10,9 +10,10 @@
 //! buffer, their canonical encoding, and JSON. C.md has examples and how to link,
 //! GRAMMAR.md the bytes, and JSON.md the JSON of each type: pages of docs, which are installed below share/doc.
 //!
-//! Functions return an amqpv_result. With any but AMQPV_OK the structs and the buffer stay unchanged; a
-//! `count` is always set. No function keeps state, prints or ends the process, and calls in several threads
-//! don't affect each other. Only amqpv_canonical, amqpv_to_json and amqpv_from_json allocate.
+//! Functions return an amqpv_result. With any but AMQPV_OK the structs and the buffer stay unchanged, except
+//! for `needed` of a container; a `count` is always set. No function keeps state, prints or ends the process,
+//! and calls in several threads don't affect each other. Only amqpv_canonical, amqpv_to_json and
+//! amqpv_from_json allocate.
 //!
 //! Preconditions:
 //! - No pointer is NULL, except to bytes, a text, a key, steps, pairs or a buffer of length 0 (tested, not
@@ -74,10 +75,11 @@ pub const AMQPV_UNKNOWN_TAG: amqpv_result = -2;
 /// The bytes are complete and no value, or one that nests deeper than `depth`; or an entry is truncated or has no type
 /// tag.
 pub const AMQPV_MALFORMED: amqpv_result = -3;
-/// The value has more than `frame` bytes; or what is put, or the body that is closed, has 2^32 bytes or more.
+/// The value has more than `frame` bytes; or what is put, or the body that is closed, has 2^32 bytes or more; or no
+/// buffer can be that large.
 pub const AMQPV_TOO_LARGE: amqpv_result = -4;
-/// A struct isn't inside the bytes or the buffer, or is of no container (to find a key: of no table); or no such body
-/// can be closed there.
+/// A struct isn't inside the bytes or the buffer, or is of no container (to find a key: of no table); or a container is
+/// open in it, or no such body can be closed there; or a length that has to be 0 isn't.
 pub const AMQPV_INVALID: amqpv_result = -5;
 /// Out of memory (only functions that allocate).
 pub const AMQPV_NO_MEMORY: amqpv_result = -6;
@@ -206,11 +208,11 @@ pub struct amqpv_pair {
     pub bytes: *const c_void,
     /// Of a string or a byte array: how many bytes it has; else 0.
     pub length: usize,
-    /// Of a value of fixed width: as in an amqpv_entry.
+    /// Of a value of fixed width: as in an amqpv_entry; else 0.
     pub bits: u64,
     /// AMQPV_LONG_STRING, AMQPV_BYTE_ARRAY, or the type tag of a value of fixed width.
     pub tag: u8,
-    /// Of a value of fixed width: as in an amqpv_entry.
+    /// Of a value of fixed width: as in an amqpv_entry; else 0.
     pub scale: u8,
 }
 
@@ -274,6 +276,10 @@ pub struct amqpv_container {
     pub written: amqpv_span,
     /// AMQPV_ARRAY or AMQPV_TABLE.
     pub tag: u8,
+    /// 1 from amqpv_open in it until amqpv_close of that body, else 0.
+    pub inner: u8,
+    /// After AMQPV_NO_ROOM: the capacity with which the call would succeed; not read.
+    pub needed: usize,
 }
 
 extern "C" {
@@ -528,8 +534,9 @@ extern "C" {
     /// `count` becomes how many bytes were written (AMQPV_OK), or which capacity is needed (AMQPV_NO_ROOM), else 0. An
     /// error of the first pair that can't be written comes before AMQPV_NO_ROOM: AMQPV_BAD_KEY if its key isn't UTF-8
     /// or has more than 255 bytes; then AMQPV_BAD_TAG, also for an alternate tag or a container; AMQPV_OUT_OF_RANGE if
-    /// no value of the type has these bits and this scale; or AMQPV_TOO_LARGE if its string or byte array, or all pairs
-    /// up to it, have 2^32 bytes or more.
+    /// no value of the type has these bits and this scale, as a string or a byte array has none but 0; AMQPV_INVALID if
+    /// a value of fixed width has a `length`; or AMQPV_TOO_LARGE if its string or byte array, or all pairs up to it,
+    /// have 2^32 bytes or more.
     pub fn amqpv_write_table(
         pairs: *const amqpv_pair,
         pair_count: usize,
@@ -541,25 +548,31 @@ extern "C" {
     /// The functions below build an array or a table in a buffer, entry by entry. A body is the entries of an array or
     /// a table, without its type tag and length. At first the buffer is the body of an array:
     ///
-    /// `amqpv_container top = {{0, 0}, AMQPV_ARRAY};`
+    /// `amqpv_container top = {{0, 0}, AMQPV_ARRAY, 0, 0};`
     ///
     /// Each function appends an entry to `into`, of which `written` then ends after it, and leaves the rest of the
     /// buffer unchanged. In a table `key` is the entry's key, UTF-8 of at most 255 bytes; in an array `key_length` is
     /// 0. A table may get equal keys: readers take the last, and amqpv_canonical keeps only that. Each takes constant
     /// time, except for what it copies and reads.
     ///
-    /// The first error in this order is returned: AMQPV_INVALID if `into` isn't inside the buffer or has another tag,
-    /// AMQPV_BAD_KEY if it can't have the key, AMQPV_BAD_TAG if the function doesn't take the type tag,
-    /// AMQPV_OUT_OF_RANGE, AMQPV_TOO_LARGE or another error of what is put, and AMQPV_NO_ROOM if the entry doesn't fit:
-    /// amqpv_needed counts the capacity that it needs. The bytes up to the end of `into` can then be copied to a larger
-    /// buffer.
+    /// While a body is open in `into`, nothing else may be put or opened there, which would overwrite it: `inner` is
+    /// then 1. To give up the body, go back to a copy of `into` from before amqpv_open. A copy from after it isn't told
+    /// of amqpv_close.
+    ///
+    /// The first error in this order is returned: AMQPV_INVALID if `into` isn't inside the buffer, has another tag, or
+    /// has a body open in it, AMQPV_BAD_KEY if it can't have the key, AMQPV_BAD_TAG if the function doesn't take the
+    /// type tag, AMQPV_OUT_OF_RANGE, AMQPV_TOO_LARGE or another error of what is put, and AMQPV_NO_ROOM if the entry
+    /// doesn't fit: `needed` of `into` then becomes the capacity with which the same call would succeed, and it stays
+    /// unchanged otherwise. The bytes up to the end of `into` can be copied to a larger buffer.
     ///
     /// Counts the least capacity of a buffer with which an entry can be put into `into`: by the length of its key, its
     /// type tag, and how many bytes a string or a byte array has, or the `content` of what amqpv_put_value puts. For
     /// amqpv_open and for a value of fixed width `content_length` is 0.
     ///
-    /// `count` becomes the capacity, or 0. Returns AMQPV_OK, AMQPV_INVALID, AMQPV_BAD_KEY, AMQPV_BAD_TAG (also for an
-    /// alternate tag) or AMQPV_TOO_LARGE.
+    /// `count` becomes the capacity, or 0. Returns AMQPV_OK or the first of these errors: AMQPV_INVALID if `into` ends
+    /// after PTRDIFF_MAX bytes, has another tag, or has a body open in it; AMQPV_BAD_KEY; AMQPV_BAD_TAG, also for an
+    /// alternate tag; AMQPV_INVALID if a value of fixed width has a `content_length`; or AMQPV_TOO_LARGE, of a
+    /// `content_length` from 2^32 on, or if the capacity exceeds PTRDIFF_MAX.
     pub fn amqpv_needed(
         into: *const amqpv_container,
         key_length: usize,
@@ -694,28 +707,27 @@ extern "C" {
     ) -> amqpv_result;
 
     /// Begins an entry whose value is an array or a table: writes the key, the tag (AMQPV_ARRAY or AMQPV_TABLE) and
-    /// four bytes of 0. `body` is then that container, empty, to which entries are appended. `into` stays unchanged
-    /// until amqpv_close: nothing may be put into it meanwhile, which would overwrite the body. A body that is
-    /// abandoned needs no call.
+    /// four bytes of 0. `body` is then that container, empty, to which entries are appended. Only `inner` of `into`
+    /// changes, to 1, with which every function but amqpv_close of that body returns AMQPV_INVALID for it.
     ///
     /// Returns AMQPV_OK, AMQPV_INVALID, AMQPV_BAD_KEY, AMQPV_BAD_TAG or AMQPV_NO_ROOM.
     pub fn amqpv_open(
         buffer: *mut u8,
         capacity: usize,
-        into: *const amqpv_container,
+        into: *mut amqpv_container,
         key: *const u8,
         key_length: usize,
         tag: u8,
         body: *mut amqpv_container,
     ) -> amqpv_result;
 
-    /// Ends the entry that amqpv_open began in `into`: writes the length of `body` to the four bytes before it, and the
-    /// end of `into` is then that of the body.
+    /// Ends the entry that amqpv_open began in `into`: writes the length of `body` to the four bytes before it, the end
+    /// of `into` is then that of the body, and `inner` of `into` 0.
     ///
-    /// Returns AMQPV_OK, AMQPV_TOO_LARGE if the body has 2^32 bytes or more, or AMQPV_INVALID if `body` isn't inside
-    /// the buffer, or if a key that is allowed there, the body's tag and four bytes aren't between the end of `into`
-    /// and the body. It checks only that, and not the contents of the body: that the body was begun in `into`, and that
-    /// nothing was put there since, is up to the caller.
+    /// Returns AMQPV_OK, AMQPV_TOO_LARGE if the body has 2^32 bytes or more, or AMQPV_INVALID if no body is open in
+    /// `into`, or one is open in `body`, if `body` isn't inside the buffer, or if a key that is allowed there, the
+    /// body's tag and four bytes aren't between the end of `into` and the body. It doesn't check the contents of the
+    /// body, nor whether a body that begins there was opened there.
     pub fn amqpv_close(
         buffer: *mut u8,
         capacity: usize,
@@ -734,7 +746,7 @@ const _: () = {
     assert!(size_of::<amqpv_pair>() == 48 && align_of::<amqpv_pair>() == 8);
     assert!(size_of::<amqpv_measure>() == 24 && align_of::<amqpv_measure>() == 8);
     assert!(size_of::<amqpv_problem>() == 16 && align_of::<amqpv_problem>() == 8);
-    assert!(size_of::<amqpv_container>() == 24 && align_of::<amqpv_container>() == 8);
+    assert!(size_of::<amqpv_container>() == 32 && align_of::<amqpv_container>() == 8);
 };
 
 #[cfg(all(test, target_pointer_width = "64"))]
@@ -787,6 +799,8 @@ mod tests {
         assert_eq!(place!(amqpv_problem, tag), (9, 1));
         assert_eq!(place!(amqpv_container, written), (0, 16));
         assert_eq!(place!(amqpv_container, tag), (16, 1));
+        assert_eq!(place!(amqpv_container, inner), (17, 1));
+        assert_eq!(place!(amqpv_container, needed), (24, 8));
     }
 
     #[test]

@@ -27,7 +27,7 @@ impl<'b> TableBuilder<'b> {
             return Err(WriteError::BufferTooSmall { needed: LENGTH });
         }
         let written = amqpv_span { offset: LENGTH, length: 0 };
-        Ok(Self(Body { buffer, into: amqpv_container { written, tag: AMQPV_TABLE } }))
+        Ok(Self(Body { buffer, into: amqpv_container { written, tag: AMQPV_TABLE, ..amqpv_container::default() } }))
     }
 
     /// Appends a pair. A key may come again: RabbitMQ takes the first pair, other readers the last.
@@ -124,13 +124,15 @@ impl Body<'_> {
 
     /// Appends an array or a table with the body of one that was read.
     fn put_body(&mut self, key: &str, tag: u8, bytes: &[u8]) -> Result<(), WriteError> {
+        let outer = self.into;
         let mut body = self.open(key, tag, bytes.len())?;
-        match self.buffer[body.written.offset..].get_mut(..bytes.len()) {
-            Some(free) => free.copy_from_slice(bytes),
-            None => return Err(self.too_small(key, tag, bytes.len())),
-        }
+        let Some(free) = self.buffer[body.written.offset..].get_mut(..bytes.len()) else {
+            self.into = outer;
+            return Err(self.too_small(key, tag, bytes.len()));
+        };
+        free.copy_from_slice(bytes);
         body.written.length = bytes.len();
-        self.close(&body)
+        self.close_filled(outer, &body, Ok(()))
     }
 
     fn put_table(
@@ -138,11 +140,12 @@ impl Body<'_> {
         key: &str,
         fill: impl FnOnce(&mut TableBuilder<'_>) -> Result<(), WriteError>,
     ) -> Result<(), WriteError> {
+        let outer = self.into;
         let into = self.open(key, AMQPV_TABLE, 0)?;
         let mut table = TableBuilder(Body { buffer: self.buffer, into });
-        fill(&mut table)?;
+        let filled = fill(&mut table);
         let body = table.0.into;
-        self.close(&body)
+        self.close_filled(outer, &body, filled)
     }
 
     fn put_array(
@@ -150,10 +153,11 @@ impl Body<'_> {
         key: &str,
         fill: impl FnOnce(&mut ArrayBuilder<'_>) -> Result<(), WriteError>,
     ) -> Result<(), WriteError> {
+        let outer = self.into;
         let into = self.open(key, AMQPV_ARRAY, 0)?;
         let mut array = ArrayBuilder(Body { buffer: self.buffer, into });
-        fill(&mut array)?;
+        let filled = fill(&mut array);
         let body = array.0.into;
-        self.close(&body)
+        self.close_filled(outer, &body, filled)
     }
 }

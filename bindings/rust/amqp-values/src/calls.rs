@@ -178,17 +178,31 @@ impl Body<'_> {
     /// Begins an array or a table, of which so many bytes are to be written.
     pub(crate) fn open(&mut self, key: &str, tag: u8, length: usize) -> Result<amqpv_container, WriteError> {
         let (buffer, capacity, mut body) = (self.buffer.as_mut_ptr(), self.buffer.len(), amqpv_container::default());
-        // SAFETY: the buffer can be written, `key` can be read, and `body` is borrowed alone
-        let result = unsafe { amqpv_open(buffer, capacity, &self.into, key.as_ptr(), key.len(), tag, &mut body) };
+        // SAFETY: the buffer can be written, `key` can be read, and `into` and `body` are borrowed alone
+        let result = unsafe { amqpv_open(buffer, capacity, &mut self.into, key.as_ptr(), key.len(), tag, &mut body) };
         self.put_if(result, key, tag, length)?;
         Ok(body)
     }
 
     /// Ends an array or a table that was begun.
-    pub(crate) fn close(&mut self, body: &amqpv_container) -> Result<(), WriteError> {
+    fn close(&mut self, body: &amqpv_container) -> Result<(), WriteError> {
         // SAFETY: the buffer can be written, and `into` is borrowed alone
         let result = unsafe { amqpv_close(self.buffer.as_mut_ptr(), self.buffer.len(), &mut self.into, body) };
         self.put_if(result, "", body.tag, 0)
+    }
+
+    /// Ends an array or a table that was begun after `outer`, if it is filled; after an error nothing of it is there.
+    pub(crate) fn close_filled(
+        &mut self,
+        outer: amqpv_container,
+        body: &amqpv_container,
+        filled: Result<(), WriteError>,
+    ) -> Result<(), WriteError> {
+        let closed = filled.and_then(|()| self.close(body));
+        if closed.is_err() {
+            self.into = outer;
+        }
+        closed
     }
 
     /// What became of an entry, by what putting it returned.

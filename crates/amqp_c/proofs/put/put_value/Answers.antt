@@ -1,7 +1,12 @@
-use Rattle.std.proofs.Common.{◌-◌, length, take, refl}
+use Rattle.std.proofs.Common.{◌-◌, length, take, refl, arith}
 use Rattle.amqp_c.specs.Items.{first_encoding}
-use Rattle.amqp_c.proofs.Putting.{put_of, prefix}
+use Rattle.amqp_c.proofs.Putting.{put_of, prefix, within_frame}
 use Rattle.amqp_c.proofs.put.put_value.Goals as goal
+
+pub append-requires-clause-limited : goal.append-requires-clause-limited
+append-requires-clause-limited c =
+    let x = c.in_ok-rest.ensures.within in
+    within_frame c.args.limits c.args.bytes.now c.in_ok-rest.rest.now x.0 (omega arith) x.2
 
 pub returns-clause-put : goal.returns-clause-put
 returns-clause-put c =

@@ -1,5 +1,5 @@
 use Rattle.std.proofs.Common.{take, ◌∙◌}
-use Rattle.amqp_c.proofs.Tables.{string_fits, string_written, number_written}
+use Rattle.amqp_c.proofs.Tables.{string_fits, number_alone, string_written, number_written}
 use Rattle.amqp_c.proofs.pair.Pair.write_value.Goals as goal
 
 pub returns-then-is_string_tag-clause-written : goal.returns-then-is_string_tag-clause-written
@@ -13,5 +13,6 @@ pub returns-clause-written : goal.returns-clause-written
 returns-clause-written c =
     let x = c.in-Ok.ensures in
     let t = c.parts-tag.result in
-    number_written c.args.self.now x.0 c.args.at t.0 (take t.2 t.1) c.args.buffer.now c.write-2.new.buffer c.write_few.new.buffer x.1 (c.parts-tag.ensures.parts ∙ x.2)
+    let none = number_alone c.args.self.now c.if-is_string_tag.ensures c.requires.given in
+    number_written c.args.self.now x.0 c.args.at t.0 (take t.2 t.1) c.args.buffer.now c.write-2.new.buffer c.write_few.new.buffer x.1 none (c.parts-tag.ensures.parts ∙ x.2)
     c.write-2.ensures c.write_few.ensures c.requires.fits
