@@ -95,10 +95,19 @@ STOPPING = ("warnings", "warnings_in_table")
 REJECTED = re.compile(r"kind: Eof|TooDeep|invalid JSON at|refused|AMQPV_MALFORMED|AMQPV_NOT_JSON")
 # The calls of nested.c, the third on what has it read, write and compare.
 OF_ENCODINGS = (
-    "amqpv_read", "amqpv_read_by", "amqpv_measure_value", "amqpv_first_problem", "amqpv_is_canonical", "amqpv_put_value",
+    "amqpv_read",
+    "amqpv_read_by",
+    "amqpv_measure_value",
+    "amqpv_first_problem",
+    "amqpv_is_canonical",
+    "amqpv_put_value",
 )
 OF_TABLES = (
-    "amqpv_read_table", "amqpv_read_table_by", "amqpv_read_pairs", "amqpv_measure_table", "amqpv_first_problem_in_table",
+    "amqpv_read_table",
+    "amqpv_read_table_by",
+    "amqpv_read_pairs",
+    "amqpv_measure_table",
+    "amqpv_first_problem_in_table",
     "amqpv_is_canonical_table",
 )
 FOR_C = {
