@@ -11,8 +11,9 @@
 //! GRAMMAR.md the bytes, and JSON.md the JSON of each type: pages of docs, which are installed below share/doc.
 //!
 //! Functions return an amqpv_result. With any but AMQPV_OK the structs and the buffer stay unchanged, except for
-//! a `problem` that amqpv_read_by or amqpv_read_table_by returns; a `count` and a `taken` are always set. No function keeps state, prints or ends the process, and calls in several threads
-//! don't affect each other. Only amqpv_canonical, amqpv_to_json and amqpv_from_json allocate.
+//! a `problem` that amqpv_read_by or amqpv_read_table_by returns; a `count` and a `taken` are always set. No
+//! function keeps state, prints or ends the process, and calls in several threads don't affect each other. Only
+//! amqpv_canonical, amqpv_to_json and amqpv_from_json allocate.
 //!
 //! Preconditions:
 //! - No pointer is NULL, except to bytes, a text, a key, steps, pairs, entries or a buffer of length 0 (tested, not
@@ -22,7 +23,8 @@
 //!   initialised.
 //! - `length` bytes can be read at `bytes` or `text`, and `key_length` at `key`, also those of a step or a
 //!   pair; `step_count` steps at `steps`, and `pair_count` pairs at `pairs`. `capacity` bytes can be written
-//!   at `buffer`, and by the building functions also read, and `capacity` entries can be written at `entries`. None of these exceeds PTRDIFF_MAX bytes.
+//!   at `buffer`, and by the building functions also read, and `capacity` entries can be written at
+//!   `entries`. None of these exceeds PTRDIFF_MAX bytes.
 //! - What a function writes (a struct, entries, a count, the buffer) overlaps neither the bytes, nor the text,
 //!   nor the key, nor a step, a pair or what these point to, nor another struct or count of the call. During
 //!   the call no other thread writes any of these, nor reads what the function writes.
@@ -41,9 +43,10 @@
 //! them. A corrupted one results in wrong entries or numbers, in a write elsewhere in the buffer, or in
 //! AMQPV_NONE, AMQPV_MALFORMED, AMQPV_TOO_LARGE, AMQPV_INVALID, AMQPV_NO_ROOM, AMQPV_BAD_KEY, AMQPV_BAD_TAG or
 //! AMQPV_OUT_OF_RANGE. Of an entry amqpv_enter looks at the `content` and the tag, amqpv_find_path at all three
-//! spans and the tag, and the functions that return its number at the tag, `bits` and `scale`. No memory of the caller is accessed but what is passed. Every span that
-//! is returned is inside `bytes`, or that of a container inside `buffer`. Offsets count from these, so
-//! structs can be copied, stored, and used after the bytes were moved.
+//! spans and the tag, and the functions that return its number at the tag, `bits` and `scale`.
+//! No memory of the caller is accessed but what is passed. Every span that is returned is inside `bytes`, or that
+//! of a container inside `buffer`. Offsets count from these, so structs can be copied, stored, and used after the
+//! bytes were moved.
 //! ```
 #![no_std]
 #![allow(non_camel_case_types)]
