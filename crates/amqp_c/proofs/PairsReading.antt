@@ -1,5 +1,5 @@
 -- Reading all pairs of a table at once.
-use Rattle.std.proofs.Common.{◌≡◌, ◌+◌, ◌-◌, ◌<◌, ◌≤◌, ℕ, zero, suc, List, [], ◌∷◌, ◌++◌, length, take, drop, set, Option, Some, None, Result, Ok, Err, refl, sym, ap, ap₂, ◌∙◌, subst, arith}
+use Rattle.std.proofs.Common.{◌≡◌, ◌+◌, ◌<◌, ◌≤◌, ℕ, suc, List, [], ◌∷◌, ◌++◌, length, take, drop, set, Option, Some, None, Result, Ok, Err, refl, sym, ap, ap₂, ◌∙◌, subst, arith}
 use Rattle.std.proofs.lemmas.List.{append-nil, append_assoc, drop-drop, drop-set-lt}
 use Rattle.amqp_value_core.specs.Values.{Tree, Entries, no_entries, entry}
 use Rattle.amqp_value_core.specs.Grammar.{TableBody, no_pairs, pair}
@@ -7,8 +7,8 @@ use Rattle.amqp_c.specs.declared.cursor.Cursor.{Cursor}
 use Rattle.amqp_c.specs.declared.entry.Entry.{Entry}
 use Rattle.amqp_c_common.specs.declared.fault.Fault.{Fault}
 use Rattle.amqp_c_common.specs.declared.span.Span.{Span}
-use Rattle.amqp_c_common.specs.Spans.{part, rest_after, SpanIsIn}
-use Rattle.amqp_c.specs.Steps.{IsOfTable, IsCursorStep, GivesPair, GivesNextPair, table_tag}
+use Rattle.amqp_c_common.specs.Spans.{part, rest_after}
+use Rattle.amqp_c.specs.Steps.{IsOfTable, IsCursorStep, GivesPair, GivesNextPair}
 use Rattle.amqp_c.specs.PairsRead.{pair_count, IsPairEntry, AreEntriesOf, CountsPairs, AreEntriesWritten}
 use Rattle.amqp_c.proofs.Parts.{part_length}
 

@@ -1,7 +1,6 @@
 -- Whether the bytes of a value are canonical.
-use Rattle.std.proofs.Common.{◌≡◌, ◌+◌, ◌-◌, ◌≤◌, ℕ, true, false, List, ◌++◌, length, drop, refl, sym, ap, ◌∙◌, subst, arith, length-append, length-drop}
+use Rattle.std.proofs.Common.{◌≡◌, ◌+◌, ◌-◌, ℕ, true, false, List, ◌++◌, length, drop, refl, sym, ap, ◌∙◌, subst, arith, length-append}
 use Rattle.std.proofs.lemmas.List.{drop_at, drop-drop}
-use Rattle.amqp_value_core.specs.declared.types.amqp_type.AMQPType.TheVariants as amqp
 use Rattle.amqp_value_core.specs.Inputs.{IsBytes}
 use Rattle.amqp_value_core.specs.Values.{Tree}
 use Rattle.amqp_value_core.specs.Outcomes.{found}
@@ -10,7 +9,6 @@ use Rattle.amqp_value_core.proofs.Bytes.{bytes_before}
 use Rattle.amqp_value_core.proofs.GrammarLaws.{canon_is_text, prefix_within, read_is_value, text_is_canon, what_is_read}
 use Rattle.amq_protocol_types.specs.declared.parsing.limits.Limits.{Limits}
 use Rattle.amq_protocol_types.specs.parsing.Limits.{Within}
-use Rattle.amq_protocol_types.specs.parsing.Untagged.{tagged}
 use Rattle.amqp_in_place.specs.Canonicals.{IsCanonicalLen}
 use Rattle.amqp_in_place.specs.InPlaceResults.{IsLeft}
 use Rattle.amqp_c.specs.Spellings.{IsSpelled}

@@ -1,4 +1,4 @@
-use Rattle.std.proofs.Common.{◌+◌, ◌≤◌, ℕ, length}
+use Rattle.std.proofs.Common.{◌+◌, ◌≤◌, length}
 use Rattle.amqp_c.specs.Steps.{IsOfTable}
 use Rattle.amqp_c.proofs.PairsReading.{CountsRest}
 use Rattle.amqp_c.proofs.read_pairs.count_pairs.Given as goal

@@ -1,4 +1,4 @@
-use Rattle.std.proofs.Common.{◌≡◌, ℕ, length, drop}
+use Rattle.std.proofs.Common.{◌≡◌, length, drop}
 use Rattle.amqp_c.specs.Steps.{IsOfTable}
 use Rattle.amqp_c.proofs.PairsReading.{WritesRest}
 use Rattle.amqp_c.proofs.read_pairs.write_entries.Given as goal
