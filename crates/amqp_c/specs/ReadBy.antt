@@ -1,5 +1,5 @@
 -- Reading by the rules that a number denotes, with the first problem.
-use Rattle.std.specs.Prelude.{ℕ, zero, ◌≡◌, ◌+◌, ◌≤◌, ℤ, List, length, Option, Some, None, Result, Ok, Err, MatchResult}
+use Rattle.std.specs.Prelude.{ℕ, zero, ◌≡◌, ◌+◌, ◌≤◌, ℤ, List, length, Option, Some, None, IfSome, Result, Ok, Err, MatchResult}
 use Rattle.amqp_value_core.specs.declared.types.amqp_type.AMQPType.TheVariants.{FieldTable}
 use Rattle.amqp_value_core.specs.Values.{Tree}
 use Rattle.amqp_value_core.specs.Outcomes.{Outcome, found}
@@ -53,20 +53,22 @@ pub record IsFirstTable (s : List ℕ) (e : Entry) : Type 0 where
   pub size : 1 + e.value.length ≡ extent (tagged FieldTable s)
   pub inside : e.value.length ≤ length s
 
--- s is read by the rules within the limits, in which `first` is the first problem: what is read is as `Is`
--- states. By the rules of reading it is what is read without rules, of which `Taken` states what is returned
-pub record ReadsBy (rules : Rules) (Is Taken : Entry → Type 0) (l : Limits) (s : List ℕ) (first : Option in_place.Problem) (old : Entry) (was : Problem) (code : ℤ) (new : Entry) (count : ℕ) (stored : Problem) : Type 0 where
+-- s is read by the rules within the limits, in which `first` is the first problem, at most n bytes further on:
+-- what is read is as `Is` states. By the rules of reading it is what is read without rules, of which `Taken`
+-- states what is returned
+pub record ReadsBy (rules : Rules) (Is Taken : Entry → Type 0) (l : Limits) (s : List ℕ) (n : ℕ) (first : Option in_place.Problem) (old : Entry) (was : Problem) (code : ℤ) (new : Entry) (count : ℕ) (stored : Problem) : Type 0 where
   pub done : Result Entry Fault
   pub returned : code ≡ return_code_of done
   pub given : new ≡ ok_or_old old done
   pub counted : count ≡ count_by (λ e. e.value.length) done
   pub problem : stored ≡ numbered_or_old was first
+  pub inside : IfSome first (λ p. p.offset ≤ n)
   pub right : IsReadOr Is s first done
   pub same : rules ≡ Reading → MatchResult done Taken (FaultsWithin l s)
 
 -- by the rules that a number denotes the value at the start of s; if it denotes none, what was there stays
 abbrev pub ReadsValueByRules : Option Rules → Limits → List ℕ → Entry → Problem → ℤ → Entry → ℕ → Problem → Type 0
-ReadsValueByRules (Some rules) l s old was code new count stored = ReadsBy rules (IsFirst s) (IsValueTaken l s) l s (problem_of rules l s) old was code new count stored
+ReadsValueByRules (Some rules) l s old was code new count stored = ReadsBy rules (IsFirst s) (IsValueTaken l s) l s (length s) (problem_of rules l s) old was code new count stored
 ReadsValueByRules None l s old was code new count stored = (code ≡ code_of BadTag) × (new ≡ old) × (count ≡ 0) × (stored ≡ was)
 
 abbrev pub ReadsValueBy : ℕ → ℕ → ℕ → List ℕ → Entry → Problem → ℤ → Entry → ℕ → Problem → Type 0
@@ -75,7 +77,7 @@ ReadsValueBy number frame depth = ReadsValueByRules (rules_of number) (limits fr
 -- and the table without its type tag
 abbrev pub ReadsTableByRules : Option Rules → Limits → List ℕ → Entry → Problem → ℤ → Entry → ℕ → Problem → Type 0
 ReadsTableByRules (Some rules) l s old was code new count stored =
-    ReadsBy rules (IsFirstTable s) (IsTableTaken l s) l (tagged FieldTable s) (problem_in_table_of rules l s) old was code new count stored
+    ReadsBy rules (IsFirstTable s) (IsTableTaken l s) l (tagged FieldTable s) (length s) (problem_in_table_of rules l s) old was code new count stored
 ReadsTableByRules None l s old was code new count stored = (code ≡ code_of BadTag) × (new ≡ old) × (count ≡ 0) × (stored ≡ was)
 
 abbrev pub ReadsTableBy : ℕ → ℕ → ℕ → List ℕ → Entry → Problem → ℤ → Entry → ℕ → Problem → Type 0

@@ -1,6 +1,6 @@
 //! Reading by some rules, with the first problem if there is one.
 
-ghost use Rattle.std.specs.Prelude.{◌≡◌, MatchResult};
+ghost use Rattle.std.specs.Prelude.{◌≡◌, ◌≤◌, length, IfSome, MatchResult};
 ghost use Rattle.amq_protocol_types.specs.parsing.Untagged.{tagged};
 ghost use Rattle.amqp_in_place.specs.Problems.{problem_of, problem_in_table_of};
 ghost use Rattle.amqp_in_place.specs.declared.problems.Rules.TheVariants.{Reading};
@@ -28,6 +28,7 @@ pub struct ReadBy {
 /// Reads the value at the start within limits by the rules.
 pub fn read_by(bytes: &[u8], rules: Rules, limits: Limits) -> ReadBy
     ensures problem { result.problem ≡ problem_of rules limits bytes.now }
+    ensures inside { IfSome result.problem (λ p. p.offset ≤ length bytes.now) }
     ensures right { IsReadOr (IsFirst bytes.now) bytes.now result.problem result.done }
     ensures same { rules ≡ Reading → MatchResult result.done
         (IsValueTaken limits bytes.now)
@@ -48,6 +49,7 @@ pub fn read_by(bytes: &[u8], rules: Rules, limits: Limits) -> ReadBy
 /// Reads the table without its type tag at the start within limits by the rules.
 pub fn read_table_by(bytes: &[u8], rules: Rules, limits: Limits) -> ReadBy
     ensures problem { result.problem ≡ problem_in_table_of rules limits bytes.now }
+    ensures inside { IfSome result.problem (λ p. p.offset ≤ length bytes.now) }
     ensures right { IsReadOr
         (IsFirstTable bytes.now)
         (tagged AMQPType.FieldTable bytes.now)
