@@ -40,7 +40,10 @@ pub fn read_by(bytes: &[u8], rules: Rules, limits: Limits) -> ReadBy
             problem: None,
         },
         Some(problem) => ReadBy {
-            done: Err(fault_of(problem, header_of(SliceInput::new(bytes), limits.frame))),
+            done: Err(fault_of(
+                problem,
+                header_of(SplitInput::new(b"", bytes), limits.frame),
+            )),
             problem: Some(problem),
         },
     }

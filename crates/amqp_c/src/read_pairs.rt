@@ -4,7 +4,7 @@ ghost use Rattle.std.specs.Prelude.{◌≡◌, length, Ok, OnErr, MatchResult};
 ghost use Rattle.amqp_c.specs.Steps.{GivesNextPair, StepsIn};
 ghost use Rattle.amqp_c.specs.PairsRead.{ArePairsRead, RefusesPairs, HoldsPairs, CountsPairs, HasPlacesFor, AreEntriesWritten};
 
-use crate::cursor::Cursor;
+use crate::cursor::{Cursor, first_pair};
 use crate::entry::Entry;
 use crate::read::read_table;
 use amq_protocol_types::parsing::Limits;
@@ -76,8 +76,13 @@ fn next_pair(bytes: &[u8], left: Cursor) -> Option<(Entry, Cursor)>
     ensures pair { GivesNextPair bytes.now left (Ok result) }
     ensures step { StepsIn bytes.now left result }
 {
-    match left.next(bytes) {
-        Ok(next) => next,
-        Err(_) => None,
+    if left.left.length == 0 {
+        return None;
     }
+    let entry = first_pair(bytes, left.left)?;
+    let rest = Cursor {
+        left: left.left.rest_after(entry.value),
+        tag: left.tag,
+    };
+    Some((entry, rest))
 }

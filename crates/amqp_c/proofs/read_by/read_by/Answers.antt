@@ -1,4 +1,4 @@
-use Rattle.std.proofs.Common.{List, ℕ, refl, sym, ◌∙◌, subst}
+use Rattle.std.proofs.Common.{◌++◌, List, ℕ, refl, sym, ap₂, ◌∙◌, subst}
 use Rattle.amq_protocol_types.specs.parsing.Limits.{IsHeader}
 use Rattle.amqp_c.proofs.ReadingBy.{headed, first_read, value_read, fault_right, fault_within}
 use Rattle.amqp_c.proofs.read_by.read_by.Goals as goal
@@ -15,7 +15,8 @@ returns-in-None-clause-same c = λ is.
 
 pub returns-in-Some-clause-right : goal.returns-in-Some-clause-right
 returns-in-Some-clause-right c =
-    let header = subst (λ (t : List ℕ). IsHeader c.args.limits.frame t c.header_of.result) c.new.ensures c.header_of.ensures.header in
+    let bytes = ap₂ (λ (t u : List ℕ). t ++ u) c.new.ensures.first c.new.ensures.second in
+    let header = subst (λ (t : List ℕ). IsHeader c.args.limits.frame t c.header_of.result) bytes c.header_of.ensures.header in
     fault_right c.args.rules c.args.limits c.args.bytes.now c.in-Some.problem c.header_of.result c.fault_of.result (sym c.first_problem.ensures.first ∙ c.in-Some.is) header c.fault_of.ensures
 
 pub returns-in-Some-clause-same : goal.returns-in-Some-clause-same
