@@ -20,15 +20,13 @@ int main(int count, char **words) {
     printf("read: %s\n", amqpv_strerror(amqpv_read(bytes, length, AMQPV_FRAME, AMQPV_DEPTH, &headers, &taken)));
     amqpv_cursor cursor;
     amqpv_problem problem;
-    if (amqpv_first_problem(bytes, length, AMQPV_RULES_ANY_KEYS, AMQPV_FRAME, AMQPV_DEPTH, &problem) != AMQPV_NONE) {
+    amqpv_result result = amqpv_read_by(bytes, length, AMQPV_RULES_ANY_KEYS, AMQPV_FRAME, AMQPV_DEPTH, &headers, &taken, &problem);
+    if (result != AMQPV_OK) {
         printf("a problem at %zu\n", problem.offset);
         return 1;
     }
-    amqpv_result result = amqpv_first(bytes, length, &headers);
-    if (result == AMQPV_OK) {
-        printf("%zu bytes\n", headers.value.length);
-        result = amqpv_enter(bytes, length, &headers, &cursor);
-    }
+    printf("%zu bytes\n", taken);
+    result = amqpv_enter(bytes, length, &headers, &cursor);
     if (result == AMQPV_OK) {
         result = amqpv_find_first(bytes, length, &cursor, words[1], strlen(words[1]), &entry);
     }

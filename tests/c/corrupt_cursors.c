@@ -3,7 +3,8 @@
  * end and with their start at a page's. Of each result it checks what the header states: what is returned
  * is inside the bytes, content is all after a length, a step goes on, a look-up finds what steps find, what isn't AMQPV_OK leaves the
  * entry and the cursor unchanged, and nothing but the structs is written. A table without its type tag is
- * read, measured and searched for problems as after its type tag.
+ * read, measured and searched for problems as after its type tag. Reading by rules returns what finding the
+ * first problem and reading return, pairs at once are those of steps, and what is canonical is what is written.
  *
  * It tries every cursor of small numbers over small inputs, each prefix of them and each change of one
  * byte to one of some, and then random cursors over random bytes.
@@ -212,6 +213,92 @@ static void read_table(const untagged *it) {
     CHECK(measures[0].levels <= measures[0].values && measures[0].values <= counts[0]);
 }
 
+/* Reads the pairs of the table at once: what is returned is what amqpv_read_table and steps return, if there are places for all. */
+static void read_pairs(const untagged *it) {
+    enum { PLACES = 4 };
+    amqpv_entry table, entries[PLACES], old[PLACES], entry;
+    amqpv_cursor cursor;
+    size_t count, taken, places, needed = 0, size;
+    memset(entries, 0x5a, sizeof entries);
+    memcpy(old, entries, sizeof old);
+    int32_t result = amqpv_read_table(it->bytes, it->length, 64, 3, &table, &size);
+    if (result == AMQPV_OK) {
+        CHECK(amqpv_enter(it->bytes, it->length, &table, &cursor) == AMQPV_OK);
+        while (amqpv_next(it->bytes, it->length, &cursor, &entry) == AMQPV_OK) {
+            if (needed < PLACES) {
+                old[needed] = entry;
+            }
+            needed++;
+        }
+    }
+    for (places = 0; places <= PLACES; places++) {
+        memset(entries, 0x5a, sizeof entries);
+        int32_t code = amqpv_read_pairs(it->bytes, it->length, 64, 3, entries, places, &count, &taken);
+        calls++;
+        CHECK(code == (result == AMQPV_OK && needed > places ? AMQPV_NO_ROOM : result));
+        CHECK(count == (result == AMQPV_OK ? needed : 0) && taken == (code == AMQPV_NO_ROOM ? 0 : size));
+        for (size_t n = 0; n < PLACES; n++) {
+            if (code == AMQPV_OK && n < needed) {
+                CHECK(is_same_entry(entries + n, old + n));
+            } else {
+                for (size_t k = 0; k < sizeof *entries; k++) {
+                    CHECK(((const uint8_t *)(entries + n))[k] == 0x5a);
+                }
+            }
+        }
+    }
+}
+
+/* Reads by rules: what is returned is what amqpv_first_problem finds, by its code, and what amqpv_read or amqpv_first return. */
+static void read_by(const uint8_t *bytes, size_t length, uint32_t rules, int untagged) {
+    amqpv_problem problem, wanted;
+    amqpv_entry entry, old, read;
+    size_t count = 77, size = 77;
+    memset(&entry, 0x5a, sizeof entry);
+    memset(&problem, 0x5a, sizeof problem);
+    wanted = problem;
+    old = read = entry;
+    int32_t found = (untagged ? amqpv_first_problem_in_table : amqpv_first_problem)(bytes, length, rules, 64, 3, &wanted);
+    int32_t result = (untagged ? amqpv_read_table_by : amqpv_read_by)(bytes, length, rules, 64, 3, &entry, &count, &problem);
+    int32_t plain = (untagged ? amqpv_read_table : amqpv_read)(bytes, length, 64, 3, &read, &size);
+    calls += 3;
+    CHECK(problem.offset == wanted.offset && problem.kind == wanted.kind && problem.tag == wanted.tag);
+    CHECK(result == (found == AMQPV_NONE                                            ? AMQPV_OK
+                     : wanted.offset == 0 && wanted.kind == AMQPV_PROBLEM_CUT         ? AMQPV_MORE
+                     : wanted.offset == 0 && wanted.kind == AMQPV_PROBLEM_UNKNOWN_TAG ? AMQPV_UNKNOWN_TAG
+                     : wanted.offset == 0 && wanted.kind == AMQPV_PROBLEM_TOO_LARGE   ? AMQPV_TOO_LARGE
+                                                                                      : AMQPV_MALFORMED));
+    CHECK(rules != AMQPV_RULES_READ || result == plain);
+    CHECK(result == plain ? count == size : count <= length);
+    if (result != AMQPV_OK) {
+        CHECK(memcmp(&entry, &old, sizeof entry) == 0 && (result == AMQPV_MORE) == (count > 0));
+        return;
+    }
+    if (plain == AMQPV_OK) {
+        CHECK(is_same_entry(&entry, &read));
+    } else if (!untagged) {
+        CHECK(amqpv_first(bytes, length, &read) == AMQPV_OK && is_same_entry(&entry, &read) && count == read.value.length);
+    }
+}
+
+/* A value is canonical exactly if amqpv_canonical writes the same bytes; of a table without its type tag, after the tag. */
+static void tell_canonical(const untagged *it) {
+    uint8_t written[64];
+    size_t counts[4] = {77, 77, 77, 77};
+    amqpv_entry entry;
+    int32_t read = amqpv_read(it->tagged, it->length + 1, 64, 3, &entry, counts);
+    int32_t result = amqpv_is_canonical(it->tagged, it->length + 1, 64, 3, counts + 1);
+    CHECK(amqpv_is_canonical_table(it->bytes, it->length, 64, 3, counts + 2) == result);
+    CHECK(amqpv_canonical(it->tagged, it->length + 1, 64, 3, written, sizeof written, counts + 3) == read);
+    calls += 4;
+    CHECK(counts[1] == counts[0] && counts[2] == counts[0] - (read == AMQPV_OK));
+    if (read != AMQPV_OK) {
+        CHECK(result == read);
+        return;
+    }
+    CHECK(result == (counts[3] == counts[0] && memcmp(written, it->tagged, counts[0]) == 0 ? AMQPV_OK : AMQPV_NONE));
+}
+
 /* Finds the first problem: that of the value after its type tag, and before it one byte less; none exactly if it is read. */
 static void find_problem(const untagged *it, uint32_t rules) {
     amqpv_problem tagged, problem, old;
@@ -276,8 +363,12 @@ static void try_untagged(slice bytes) {
         untagged it = {.bytes = bytes.at + 1, .tagged = {AMQPV_TABLE}, .length = bytes.length - 1};
         memcpy(it.tagged + 1, it.bytes, it.length);
         read_table(&it);
+        read_pairs(&it);
+        tell_canonical(&it);
         for (uint32_t rules = AMQPV_RULES_READ; rules <= AMQPV_RULES_RABBITMQ; rules++) {
             find_problem(&it, rules);
+            read_by(bytes.at, bytes.length, rules, 0);
+            read_by(it.bytes, it.length, rules, 1);
         }
     }
 }

@@ -2,7 +2,8 @@
  * Tries look-ups at sizes that a user has, over bytes against the end of their pages: a table of a
  * million pairs with one key, an array of a million values, and a path through 100,000 nested arrays,
  * which a call that recursed for each step wouldn't survive. Then tables without their type tag and what
- * RabbitMQ closes the connection for, a case of each result, and a table that is malformed further on.
+ * RabbitMQ closes the connection for, reading by rules, pairs at once, what is canonical, a case of each
+ * result, and a table that is malformed further on.
  */
 #include "check.h"
 
@@ -243,6 +244,184 @@ static void try_problems(void) {
     }
 }
 
+/* Values that are read by rules: the code, the count, and of an error the problem. */
+static void try_reading_by_rules(void) {
+    static const struct {
+        slice bytes;
+        uint32_t rules, depth;
+        int32_t result;
+        size_t count;
+        amqpv_problem problem;
+    } values[] = {
+        {SLICE("I\0\0\0\7z"), AMQPV_RULES_READ, 0, AMQPV_OK, 5, {0, 0, 0}},
+        {SLICE("I\0"), AMQPV_RULES_READ, 0, AMQPV_MORE, 3, {0, AMQPV_PROBLEM_CUT, 0}},
+        {SLICE("I\0"), AMQPV_RULES_RABBITMQ, 0, AMQPV_MORE, 3, {0, AMQPV_PROBLEM_CUT, 0}},
+        {SLICE(""), AMQPV_RULES_ANY_KEYS, 0, AMQPV_MORE, 1, {0, AMQPV_PROBLEM_CUT, 0}},
+        {SLICE("F\0\0"), AMQPV_RULES_ANY_KEYS, 9, AMQPV_MORE, 2, {0, AMQPV_PROBLEM_CUT, 0}},
+        {SLICE("F\0\0\0\3\1\377"), AMQPV_RULES_RABBITMQ, 9, AMQPV_MORE, 1, {0, AMQPV_PROBLEM_CUT, 0}},
+        {SLICE("z"), AMQPV_RULES_READ, 0, AMQPV_UNKNOWN_TAG, 0, {0, AMQPV_PROBLEM_UNKNOWN_TAG, 'z'}},
+        {SLICE("U"), AMQPV_RULES_READ, 0, AMQPV_MORE, 2, {0, AMQPV_PROBLEM_CUT, 0}},
+        {SLICE("U"), AMQPV_RULES_RABBITMQ, 0, AMQPV_UNKNOWN_TAG, 0, {0, AMQPV_PROBLEM_UNKNOWN_TAG, 'U'}},
+        {SLICE("U\0\1"), AMQPV_RULES_ANY_KEYS, 0, AMQPV_OK, 3, {0, 0, 0}},
+        {SLICE("f\377\200\0\0"), AMQPV_RULES_ANY_KEYS, 0, AMQPV_OK, 5, {0, 0, 0}},
+        {SLICE("f\377\200\0\0"), AMQPV_RULES_RABBITMQ, 0, AMQPV_MALFORMED, 0, {0, AMQPV_PROBLEM_NOT_FINITE, 0}},
+        {SLICE("x\0\0\0\74"), AMQPV_RULES_RABBITMQ, 0, AMQPV_TOO_LARGE, 0, {0, AMQPV_PROBLEM_TOO_LARGE, 0}},
+        {SLICE("x\0\0\0\73"), AMQPV_RULES_RABBITMQ, 0, AMQPV_MORE, 59, {0, AMQPV_PROBLEM_CUT, 0}},
+        {SLICE("F\0\0\0\0"), AMQPV_RULES_ANY_KEYS, 0, AMQPV_MALFORMED, 0, {0, AMQPV_PROBLEM_TOO_DEEP, 0}},
+        {SLICE("F\0\0\0\3\1\377V"), AMQPV_RULES_READ, 1, AMQPV_MALFORMED, 0, {5, AMQPV_PROBLEM_KEY_NOT_UTF8, 0}},
+        {SLICE("F\0\0\0\3\1\377V"), AMQPV_RULES_ANY_KEYS, 1, AMQPV_OK, 8, {0, 0, 0}},
+        {SLICE("F\0\0\0\3\1\377V"), AMQPV_RULES_RABBITMQ, 1, AMQPV_OK, 8, {0, 0, 0}},
+        {SLICE("F\0\0\0\2\377V"), AMQPV_RULES_RABBITMQ, 1, AMQPV_MALFORMED, 0, {5, AMQPV_PROBLEM_KEY_CUT, 0}},
+        {SLICE("A\0\0\0\2Vz"), AMQPV_RULES_READ, 1, AMQPV_MALFORMED, 0, {6, AMQPV_PROBLEM_UNKNOWN_TAG, 'z'}},
+        {SLICE("z"), 3, 0, AMQPV_BAD_TAG, 0, {0, 0, 0}},
+        {SLICE("I\0\0\0\7"), UINT32_MAX, 0, AMQPV_BAD_TAG, 0, {0, 0, 0}},
+    };
+    for (size_t i = 0; i < 2 * COUNT(values); i++) {
+        slice given = values[i / 2].bytes;
+        size_t untagged = i % 2, wanted = values[i / 2].count;
+        int32_t code = values[i / 2].result;
+        int has_problem = code != AMQPV_OK && code != AMQPV_BAD_TAG;
+        if (untagged && (given.length == 0 || given.at[0] != 'F')) {
+            continue;
+        }
+        const uint8_t *bytes = placed((slice){given.at + untagged, given.length - untagged});
+        amqpv_problem problem = {7, 8, 9}, it = has_problem ? values[i / 2].problem : problem;
+        amqpv_entry entry = {.tag = 'x', .bits = 7};
+        size_t count = 77;
+        int32_t result = (untagged ? amqpv_read_table_by : amqpv_read_by)(bytes, given.length - untagged, values[i / 2].rules, 64,
+                                                                          values[i / 2].depth, &entry, &count, &problem);
+        calls++;
+        CHECK(result == code && count == wanted - (untagged && code == AMQPV_OK));
+        CHECK(problem.offset == it.offset - (untagged && has_problem && it.offset > 0) && problem.kind == it.kind && problem.tag == it.tag);
+        if (code != AMQPV_OK) {
+            CHECK(entry.tag == 'x' && entry.bits == 7 && entry.value.length == 0);
+            continue;
+        }
+        CHECK(entry.key.length == 0 && entry.value.offset == 0 && entry.value.length == count);
+        CHECK(entry.tag == (given.at[0] == 'U' ? 's' : given.at[0]) && entry.scale == 0);
+        CHECK(given.at[0] == 'F' ? entry.content.offset == 5 - untagged && entry.content.length == count - 5 + untagged
+                                 : entry.content.length == 0);
+        CHECK(entry.bits == (given.at[0] == 'I' ? 7 : given.at[0] == 'U' ? 1 : given.at[0] == 'f' ? 0xff800000 : 0));
+    }
+}
+
+/* A table's pairs at once, into more, as many and fewer places than they are. */
+static void try_pairs(void) {
+    static const slice table = SLICE("\0\0\0\30\1aI\0\0\0\7\0A\0\0\0\2VV\1aS\0\0\0\2hi");
+    /* of each pair the key, the encoding of its value, and the content, and at which offset these are */
+    static const struct {
+        slice key, value, content;
+        size_t offset;
+    } pairs[] = {
+        {SLICE("a"), SLICE("I\0\0\0\7"), SLICE(""), 6},
+        {SLICE(""), SLICE("A\0\0\0\2VV"), SLICE("VV"), 12},
+        {SLICE("a"), SLICE("S\0\0\0\2hi"), SLICE("hi"), 21},
+    };
+    for (size_t capacity = 0; capacity < 6; capacity++) {
+        amqpv_entry entries[5], old[5];
+        size_t count = 77, taken = 77;
+        memset(entries, 0x5a, sizeof entries);
+        memcpy(old, entries, sizeof old);
+        const uint8_t *given = placed(table);
+        int32_t result = amqpv_read_pairs(given, table.length, 64, 2, entries, capacity, &count, &taken);
+        calls++;
+        CHECK(result == (capacity < 3 ? AMQPV_NO_ROOM : AMQPV_OK));
+        CHECK(count == 3 && taken == (capacity < 3 ? 0 : table.length));
+        size_t written = capacity < 3 ? 0 : 3;
+        CHECK(memcmp(entries + written, old + written, (5 - written) * sizeof *old) == 0);
+        for (size_t n = 0; n < written; n++) {
+            const amqpv_entry *it = entries + n;
+            CHECK(it->value.offset == pairs[n].offset && it->value.length == pairs[n].value.length);
+            CHECK(memcmp(given + it->value.offset, pairs[n].value.at, it->value.length) == 0);
+            CHECK(it->key.length == pairs[n].key.length && it->key.offset == it->value.offset - it->key.length);
+            CHECK(memcmp(given + it->key.offset, pairs[n].key.at, it->key.length) == 0);
+            CHECK(it->content.length == pairs[n].content.length);
+            CHECK(memcmp(given + it->content.offset, pairs[n].content.at, it->content.length) == 0);
+            CHECK(it->tag == pairs[n].value.at[0] && it->bits == (n == 0 ? 7 : 0) && it->scale == 0);
+        }
+    }
+}
+
+/* What reading a table's pairs returns and counts, with two places. */
+static void try_few_pairs(void) {
+    static const struct {
+        slice bytes;
+        uint32_t frame, depth;
+        int32_t result;
+        size_t count, taken;
+    } tables[] = {
+        {SLICE("\0\0\0\0z"), 5, 1, AMQPV_OK, 0, 4},
+        {SLICE("\0\0\0\0"), 4, 1, AMQPV_TOO_LARGE, 0, 0},
+        {SLICE("\0\0\0\0"), 5, 0, AMQPV_MALFORMED, 0, 0},
+        {SLICE(""), 64, 1, AMQPV_MORE, 0, 4},
+        {SLICE("\0\0\0\3\1a"), 64, 1, AMQPV_MORE, 0, 1},
+        {SLICE("\0\0\0\3\1aV"), 64, 1, AMQPV_OK, 1, 7},
+        {SLICE("\0\0\0\6\1aV\1aV"), 64, 1, AMQPV_OK, 2, 10},
+        {SLICE("\0\0\0\11\1aV\1aV\1aV"), 64, 1, AMQPV_NO_ROOM, 3, 0},
+        {SLICE("\0\0\0\11\1aV\1aV\1az"), 64, 1, AMQPV_MALFORMED, 0, 0},
+        {SLICE("\0\0\0\3\1\377V"), 64, 1, AMQPV_MALFORMED, 0, 0},
+        {SLICE("\0\0\0\7\1aF\0\0\0\0"), 64, 1, AMQPV_MALFORMED, 0, 0},
+        {SLICE("\0\0\0\7\1aF\0\0\0\0"), 64, 2, AMQPV_OK, 1, 11},
+    };
+    for (size_t i = 0; i < COUNT(tables); i++) {
+        amqpv_entry entries[2], old[2];
+        size_t count = 77, taken = 77;
+        memset(entries, 0x5a, sizeof entries);
+        memcpy(old, entries, sizeof old);
+        int32_t result = amqpv_read_pairs(placed(tables[i].bytes), tables[i].bytes.length, tables[i].frame, tables[i].depth, entries, 2, &count, &taken);
+        calls++;
+        CHECK(result == tables[i].result && count == tables[i].count && taken == tables[i].taken);
+        CHECK(result == AMQPV_OK || memcmp(entries, old, sizeof old) == 0);
+    }
+}
+
+/* Whether values are in their canonical encodings, and tables also without their type tag. */
+static void try_canonical(void) {
+    static const struct {
+        slice bytes;
+        uint32_t frame, depth;
+        int32_t result;
+        size_t count;
+    } values[] = {
+        {SLICE("Vz"), 64, 0, AMQPV_OK, 1},
+        {SLICE("t\1"), 64, 0, AMQPV_OK, 2},
+        {SLICE("t\7"), 64, 0, AMQPV_NONE, 2},
+        {SLICE("s\0\1"), 64, 0, AMQPV_OK, 3},
+        {SLICE("U\0\1z"), 64, 0, AMQPV_NONE, 3},
+        {SLICE("L\0\0\0\0\0\0\0\7"), 64, 0, AMQPV_NONE, 9},
+        {SLICE("s\0"), 64, 0, AMQPV_MORE, 1},
+        {SLICE("U"), 64, 0, AMQPV_MORE, 2},
+        {SLICE("z"), 64, 0, AMQPV_UNKNOWN_TAG, 0},
+        {SLICE("x\0\0\0\74"), 64, 0, AMQPV_TOO_LARGE, 0},
+        {SLICE("F\0\0\0\0"), 5, 1, AMQPV_OK, 5},
+        {SLICE("F\0\0\0\0"), 4, 1, AMQPV_TOO_LARGE, 0},
+        {SLICE("F\0\0\0\0"), 5, 0, AMQPV_MALFORMED, 0},
+        {SLICE("F\0\0\0\6\1aV\1bVz"), 64, 1, AMQPV_OK, 11},
+        {SLICE("F\0\0\0\6\1bV\1aV"), 64, 1, AMQPV_NONE, 11},
+        {SLICE("F\0\0\0\6\1aV\1aV"), 64, 1, AMQPV_NONE, 11},
+        {SLICE("F\0\0\0\7\2aaV\1bV"), 64, 1, AMQPV_OK, 12},
+        {SLICE("F\0\0\0\7\1bV\2aaV"), 64, 1, AMQPV_NONE, 12},
+        {SLICE("F\0\0\0\11\1aA\0\0\0\2t\7"), 64, 2, AMQPV_NONE, 14},
+        {SLICE("F\0\0\0\11\1aA\0\0\0\2t\0"), 64, 2, AMQPV_OK, 14},
+        {SLICE("F\0\0\0\11\1aA\0\0\0\2t\0"), 64, 1, AMQPV_MALFORMED, 0},
+        {SLICE("F\0\0\0\3\1\377V"), 64, 1, AMQPV_MALFORMED, 0},
+        {SLICE("F\0\0\0\3\1aVF"), 64, 1, AMQPV_OK, 8},
+        {SLICE("F\0\0\0\3\1a"), 64, 1, AMQPV_MORE, 1},
+    };
+    for (size_t i = 0; i < 2 * COUNT(values); i++) {
+        slice given = values[i / 2].bytes;
+        size_t untagged = i % 2, count = 77;
+        int32_t code = values[i / 2].result;
+        if (untagged && given.at[0] != 'F') {
+            continue;
+        }
+        const uint8_t *bytes = placed((slice){given.at + untagged, given.length - untagged});
+        int32_t result = (untagged ? amqpv_is_canonical_table : amqpv_is_canonical)(bytes, given.length - untagged, values[i / 2].frame, values[i / 2].depth, &count);
+        calls++;
+        CHECK(result == code && count == values[i / 2].count - (untagged && (code == AMQPV_OK || code == AMQPV_NONE)));
+    }
+}
+
 /* a: {b: 7, then a byte that is no pair}, and what follows; without the type tag the same a byte before. */
 static void try_malformed(void) {
     static const slice headers = SLICE("F\0\0\0\26\1aF\0\0\0\10\1bI\0\0\0\7z\1cA\0\0\0\0");
@@ -278,6 +457,10 @@ int main(void) {
     try_tables();
     try_measures();
     try_problems();
+    try_reading_by_rules();
+    try_pairs();
+    try_few_pairs();
+    try_canonical();
     try_malformed();
     try_content_header();
     printf("%" PRIu64 " calls\n", calls);

@@ -29,7 +29,7 @@ static void *make_call(void *unused) {
     amqpv_container top = {{0, 0}, AMQPV_ARRAY, 0, 0};
     amqpv_entry entry;
     amqpv_measure measure;
-    size_t count;
+    size_t count, taken;
     if (is_called("amqpv_read")) {
         result = amqpv_read(given, length, UINT32_MAX, depth, &entry, &count);
     } else if (is_called("amqpv_read_table")) {
@@ -42,6 +42,16 @@ static void *make_call(void *unused) {
         result = found(amqpv_first_problem(given, length, AMQPV_RULES_READ, UINT32_MAX, depth, &problem));
     } else if (is_called("amqpv_first_problem_in_table")) {
         result = found(amqpv_first_problem_in_table(given, length, AMQPV_RULES_READ, UINT32_MAX, depth, &problem));
+    } else if (is_called("amqpv_read_by")) {
+        result = amqpv_read_by(given, length, AMQPV_RULES_RABBITMQ, UINT32_MAX, depth, &entry, &count, &problem);
+    } else if (is_called("amqpv_read_table_by")) {
+        result = amqpv_read_table_by(given, length, AMQPV_RULES_RABBITMQ, UINT32_MAX, depth, &entry, &count, &problem);
+    } else if (is_called("amqpv_read_pairs")) {
+        result = amqpv_read_pairs(given, length, UINT32_MAX, depth, &entry, 1, &count, &taken);
+    } else if (is_called("amqpv_is_canonical")) {
+        result = amqpv_is_canonical(given, length, UINT32_MAX, depth, &count);
+    } else if (is_called("amqpv_is_canonical_table")) {
+        result = amqpv_is_canonical_table(given, length, UINT32_MAX, depth, &count);
     } else if (is_called("amqpv_put_value")) {
         result = amqpv_put_value(buffer, sizeof buffer, &top, given, 0, given, length, UINT32_MAX, depth);
     } else if (is_called("amqpv_canonical")) {

@@ -1,5 +1,5 @@
 /*
- * Tries NULL with a length of 0: each call of include/amqp_values.h gets it for bytes, JSON, a key, steps, pairs and a buffer, and
+ * Tries NULL with a length of 0: each call of include/amqp_values.h gets it for bytes, JSON, a key, steps, pairs, entries and a buffer, and
  * must return and leave what it does with a pointer to no bytes. Prints how many calls it made. That NULL is allowed
  * isn't proved: the proofs are of pointers to something.
  */
@@ -35,6 +35,8 @@ static const uint8_t twice[] = {'F', 0, 0, 0, 4, 0, 'V', 0, 'V'};
 static const amqpv_cursor pairs = {{5, 2}, AMQPV_TABLE};
 static const amqpv_entry top = {{0, 0}, {0, 7}, {5, 2}, 0, AMQPV_TABLE, 0};
 static const amqpv_entry no_pairs = {{0, 0}, {0, 0}, {0, 0}, 0, AMQPV_TABLE, 0};
+/* A table of no pair, without its type tag. */
+static const uint8_t no_pair[] = {0, 0, 0, 0};
 static const uint8_t values[] = {'A', 0, 0, 0, 1, 'V'};
 static const amqpv_entry array = {{0, 0}, {0, 6}, {5, 1}, 0, AMQPV_ARRAY, 0};
 
@@ -105,6 +107,13 @@ static void try_reading(void) {
     TRY(AMQPV_MORE, pairs, 'A', amqpv_measure_table(bytes, 0, FRAME, DEPTH, &all->measure, &all->count));
     TRY(AMQPV_OK, pairs, 'A', amqpv_first_problem(bytes, 0, AMQPV_RULES_READ, FRAME, DEPTH, &all->problem));
     TRY(AMQPV_OK, pairs, 'A', amqpv_first_problem_in_table(bytes, 0, AMQPV_RULES_READ, FRAME, DEPTH, &all->problem));
+    TRY(AMQPV_MORE, pairs, 'A', amqpv_read_by(bytes, 0, AMQPV_RULES_READ, FRAME, DEPTH, &all->entry, &all->count, &all->problem));
+    TRY(AMQPV_MORE, pairs, 'A', amqpv_read_table_by(bytes, 0, AMQPV_RULES_RABBITMQ, FRAME, DEPTH, &all->entry, &all->count, &all->problem));
+    TRY(AMQPV_MORE, pairs, 'A', amqpv_read_pairs(bytes, 0, FRAME, DEPTH, &all->entry, 1, &all->count, &(size_t){0}));
+    TRY(AMQPV_NO_ROOM, pairs, 'A', amqpv_read_pairs(table + 1, 6, FRAME, DEPTH, is_null ? NULL : &all->entry, 0, &all->count, &(size_t){0}));
+    TRY(AMQPV_OK, pairs, 'A', amqpv_read_pairs(no_pair, 4, FRAME, DEPTH, is_null ? NULL : &all->entry, 0, &all->count, &(size_t){0}));
+    TRY(AMQPV_MORE, pairs, 'A', amqpv_is_canonical(bytes, 0, FRAME, DEPTH, &all->count));
+    TRY(AMQPV_MORE, pairs, 'A', amqpv_is_canonical_table(bytes, 0, FRAME, DEPTH, &all->count));
     TRY(AMQPV_MORE, pairs, 'A', amqpv_first(bytes, 0, &all->entry));
     TRY(AMQPV_OK, pairs, 'A', amqpv_enter(bytes, 0, &no_pairs, &all->cursor));
     TRY(AMQPV_INVALID, pairs, 'A', amqpv_enter(bytes, 0, &top, &all->cursor));

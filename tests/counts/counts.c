@@ -34,7 +34,7 @@ enum { FAILED, WELL, SKIPPED };
 static uint8_t *bytes, *buffer;
 static char *json, *text;
 static size_t length, text_length, entry_count, last_index;
-static amqpv_entry value, entries[MOST_ENTRIES];
+static amqpv_entry value, entries[MOST_ENTRIES], places[MOST_ENTRIES];
 static amqpv_pair pairs[MOST_ENTRIES];
 static amqpv_cursor start;
 static amqpv_span first_key, last_key;
@@ -127,6 +127,46 @@ static int measures_table(void) {
 static int finds_no_problem_in_table(void) {
     amqpv_problem problem;
     return amqpv_first_problem_in_table(bytes + 1, length - 1, AMQPV_RULES_READ, UINT32_MAX, DEPTH, &problem) == AMQPV_NONE;
+}
+
+static int reads_by_rabbitmqs_rules(void) {
+    size_t count;
+    amqpv_entry entry;
+    amqpv_problem problem;
+    return amqpv_read_by(bytes, length, AMQPV_RULES_RABBITMQ, UINT32_MAX, DEPTH, &entry, &count, &problem) == AMQPV_OK;
+}
+
+static int reads_by_its_rules(void) {
+    size_t count;
+    amqpv_entry entry;
+    amqpv_problem problem;
+    return amqpv_read_by(bytes, length, AMQPV_RULES_READ, UINT32_MAX, DEPTH, &entry, &count, &problem) == AMQPV_OK;
+}
+
+static int reads_table_by_any_keys(void) {
+    size_t count;
+    amqpv_entry entry;
+    amqpv_problem problem;
+    return amqpv_read_table_by(bytes + 1, length - 1, AMQPV_RULES_ANY_KEYS, UINT32_MAX, DEPTH, &entry, &count, &problem) == AMQPV_OK;
+}
+
+static int reads_pairs(void) {
+    size_t count, taken;
+    amqpv_result result = amqpv_read_pairs(bytes + 1, length - 1, UINT32_MAX, DEPTH, places, MOST_ENTRIES, &count, &taken);
+    return result == AMQPV_OK && count == entry_count && taken + 1 == length;
+}
+
+/* Of bytes that aren't it makes two passes. */
+static int tells_canonical(void) {
+    size_t count;
+    amqpv_result result = amqpv_is_canonical(bytes, length, UINT32_MAX, DEPTH, &count);
+    return (result == AMQPV_OK || result == AMQPV_NONE) && count == length;
+}
+
+static int tells_canonical_table(void) {
+    size_t count;
+    amqpv_result result = amqpv_is_canonical_table(bytes + 1, length - 1, UINT32_MAX, DEPTH, &count);
+    return (result == AMQPV_OK || result == AMQPV_NONE) && count + 1 == length;
 }
 
 static int enters(void) {
@@ -385,6 +425,12 @@ static const struct {
     {"amqpv_first_problem", finds_no_problem},
     {"amqpv_first_problem for RabbitMQ", finds_no_problem_for_rabbitmq},
     {"amqpv_first_problem_in_table", finds_no_problem_in_table},
+    {"amqpv_read_by", reads_by_its_rules},
+    {"amqpv_read_by for RabbitMQ", reads_by_rabbitmqs_rules},
+    {"amqpv_read_table_by with any keys", reads_table_by_any_keys},
+    {"amqpv_read_pairs", reads_pairs},
+    {"amqpv_is_canonical", tells_canonical},
+    {"amqpv_is_canonical_table", tells_canonical_table},
     {"amqpv_first and amqpv_enter", enters},
     {"amqpv_next over all", iterates},
     {"amqpv_find of the first key", finds_the_first_key},

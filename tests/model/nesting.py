@@ -94,8 +94,22 @@ STOPPING = ("warnings", "warnings_in_table")
 # What a call returns that rejects the nesting.
 REJECTED = re.compile(r"kind: Eof|TooDeep|invalid JSON at|refused|AMQPV_MALFORMED|AMQPV_NOT_JSON")
 # The calls of nested.c, the third on what has it read, write and compare.
-OF_ENCODINGS = ("amqpv_read", "amqpv_measure_value", "amqpv_first_problem", "amqpv_put_value")
-OF_TABLES = ("amqpv_read_table", "amqpv_measure_table", "amqpv_first_problem_in_table")
+OF_ENCODINGS = (
+    "amqpv_read",
+    "amqpv_read_by",
+    "amqpv_measure_value",
+    "amqpv_first_problem",
+    "amqpv_is_canonical",
+    "amqpv_put_value",
+)
+OF_TABLES = (
+    "amqpv_read_table",
+    "amqpv_read_table_by",
+    "amqpv_read_pairs",
+    "amqpv_measure_table",
+    "amqpv_first_problem_in_table",
+    "amqpv_is_canonical_table",
+)
 FOR_C = {
     **{it: Call([it], encoding, DEEPER) for it in OF_ENCODINGS},
     **{it: Call([it], payload, DEEPER) for it in OF_TABLES},

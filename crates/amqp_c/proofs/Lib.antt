@@ -15,4 +15,7 @@ mod Putting
 mod Buffers
 mod Keys
 mod Tables
+mod ReadingBy
+mod Spelling
+mod PairsReading
 pub mod Needs

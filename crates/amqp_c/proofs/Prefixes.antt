@@ -163,14 +163,14 @@ frame_extent s mid body rest type p f h =
     by _ h = absurd cc
 
 -- the bytes after the length are what v is
-abbrev ContentIs : List ℕ → Tree → Type 0
+abbrev pub ContentIs : List ℕ → Tree → Type 0
 ContentIs body (long b) = b ≡ body
 ContentIs body (octets b) = b ≡ body
 ContentIs body (array vs) = ArrayBody body vs
 ContentIs body (table es) = HasEntries body es
 ContentIs body _ = ⊥
 
-content_at_start : (type : AMQPType) (mid body rest : List ℕ) → IsLengthPrefixed mid body rest → has_content type ≡ true → (v : Tree) (left : List ℕ) → RawPrefix type mid (found v left)
+pub content_at_start : (type : AMQPType) (mid body rest : List ℕ) → IsLengthPrefixed mid body rest → has_content type ≡ true → (v : Tree) (left : List ℕ) → RawPrefix type mid (found v left)
     → ContentIs body v × (type_of v ≡ type) × (left ≡ rest)
 content_at_start amqp.LongString mid body rest f h v left raw =
     let same = one_raw_reading amqp.LongString raw.0 (long_field body) left rest v (long body) raw.1 (raw_long body f.fits) (sym raw.2 ∙ f.framed) in
@@ -198,7 +198,7 @@ says_content s e body (array vs) none at x = (subst (λ (t : List ℕ). ArrayBod
 says_content s e body (table es) none at x = (subst (λ (t : List ℕ). HasEntries t es) (sym at) x, none)
 
 -- what is found of a value is its payload, of the type that was read
-payload_at_start : (s mid : List ℕ) (type : AMQPType) → IsType s type mid → (v : Tree) (left : List ℕ) → Outcome s (found v left) → RawPrefix type mid (found v left)
+pub payload_at_start : (s mid : List ℕ) (type : AMQPType) → IsType s type mid → (v : Tree) (left : List ℕ) → Outcome s (found v left) → RawPrefix type mid (found v left)
 payload_at_start s mid type p v left x =
     raw_prefix (Raw type) (lack type mid) mid left v (value_to_raw p.0 type mid (found v left) p.2 (subst (λ (t : List ℕ). Outcome t (found v left)) p.1 x))
 

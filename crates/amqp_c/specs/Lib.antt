@@ -9,6 +9,9 @@ pub mod CallResults
 pub mod Measures
 pub mod Problems
 pub mod Calls
+pub mod ReadBy
+pub mod PairsRead
+pub mod Spellings
 pub mod Containers
 pub mod Buffers
 pub mod BuiltEntries

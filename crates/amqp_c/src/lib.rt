@@ -12,9 +12,13 @@ ghost use Rattle.amqp_c.specs.Problems.{FindsInValue, FindsInTable};
 ghost use Rattle.amqp_c.specs.BuildCalls.{PutsScalar, PutsInt, PutsUint, PutsBool, PutsTimestamp, PutsDecimal, PutsVoid, PutsBytes, PutsValue, OpensContainer, ClosesContainer};
 ghost use Rattle.amqp_c.specs.WrittenTables.{WritesTable};
 ghost use Rattle.amqp_c.specs.Getters.{GetsInt, GetsUint, GetsBool, GetsTimestamp, GetsDecimal};
+ghost use Rattle.amqp_c.specs.ReadBy.{ReadsValueBy, ReadsTableBy};
+ghost use Rattle.amqp_c.specs.PairsRead.{ReadsPairs};
+ghost use Rattle.amqp_c.specs.Spellings.{TellsCanonical, TellsCanonicalTable};
 ghost use Rattle.amqp_c.specs.Calls.{GivesNeeded, ReadsValue, ReadsTable, MeasuresValue, MeasuresTable, GivesFirstEntry, EntersContainer, StepsToNext, FindsLast, FindsFirst, FindsPath};
 
 mod buffer;
+mod canonical;
 mod container;
 mod cursor;
 mod entry;
@@ -31,12 +35,15 @@ mod path;
 mod problem;
 mod put;
 mod read;
+mod read_by;
+mod read_pairs;
 mod store;
 mod table;
 
 use amq_protocol_types::parsing::Limits;
 use amqp_c_common::{Fault, return_count};
 use amqp_in_place::{first_problem, first_problem_in_table};
+use canonical::{read_spelling, read_table_spelling};
 use container::Container;
 use cursor::Cursor;
 use entry::{Entry, first};
@@ -49,9 +56,11 @@ use path::{EqualKeys, Step, find_path};
 use problem::{Problem, rules_of};
 use put::{put_bytes, put_scalar, put_value};
 use read::{read, read_table};
+use read_by::{read_by, read_table_by};
+use read_pairs::read_pairs;
 use store::{
-    store, store_closed, store_found, store_grown, store_measure, store_opened, store_problem,
-    store_read, store_step,
+    store, store_closed, store_found, store_grown, store_measure, store_opened, store_pairs,
+    store_problem, store_read, store_read_by, store_spelling, store_step,
 };
 use table::write_table;
 
@@ -87,6 +96,98 @@ pub extern "C" fn amqpv_read_table(
     ensures { ReadsTable frame depth bytes.now entry.old result entry.new count.new }
 {
     store_read(read_table(bytes, Limits { frame, depth }), entry, count)
+}
+
+/// Reads the value at the start within limits as `amqpv_read` does, by the rules that a number denotes:
+/// those of `amqpv_read` (0), the same with any bytes as keys (1), or RabbitMQ's (2). If it isn't read, the
+/// first problem is returned, by the same rules. docs/PROMISES.md has what a level of nesting takes of the
+/// stack.
+#[unsafe(no_mangle)]
+pub extern "C" fn amqpv_read_by(
+    bytes: &[u8],
+    rules: u32,
+    frame: u32,
+    depth: u32,
+    entry: &mut Entry,
+    count: &mut usize,
+    problem: &mut Problem,
+) -> i32
+    ensures { ReadsValueBy rules frame depth bytes.now
+        entry.old problem.old result entry.new count.new problem.new }
+{
+    let Some(rules) = rules_of(rules) else {
+        return return_count(Err(Fault::BadTag), count);
+    };
+    let read = read_by(bytes, rules, Limits { frame, depth });
+    store_read_by(read, entry, count, problem)
+}
+
+/// Reads the table without its type tag at the start by the rules that a number denotes, as
+/// `amqpv_read_by` does the value after its type tag. The offset of a problem counts from its length on.
+#[unsafe(no_mangle)]
+pub extern "C" fn amqpv_read_table_by(
+    bytes: &[u8],
+    rules: u32,
+    frame: u32,
+    depth: u32,
+    entry: &mut Entry,
+    count: &mut usize,
+    problem: &mut Problem,
+) -> i32
+    ensures { ReadsTableBy rules frame depth bytes.now
+        entry.old problem.old result entry.new count.new problem.new }
+{
+    let Some(rules) = rules_of(rules) else {
+        return return_count(Err(Fault::BadTag), count);
+    };
+    let read = read_table_by(bytes, rules, Limits { frame, depth });
+    store_read_by(read, entry, count, problem)
+}
+
+/// Reads the table without its type tag at the start within limits, checks all of it, and returns the
+/// entries of its pairs.
+///
+/// `count` becomes how many there are, or how many places they need, otherwise 0; `taken` how many bytes
+/// the table takes, or how many more the field that is being read needs, otherwise 0.
+#[unsafe(no_mangle)]
+pub extern "C" fn amqpv_read_pairs(
+    bytes: &[u8],
+    frame: u32,
+    depth: u32,
+    pairs: &mut [Entry],
+    count: &mut usize,
+    taken: &mut usize,
+) -> i32
+    ensures { ReadsPairs frame depth bytes.now pairs.old result pairs.new count.new taken.new }
+{
+    store_pairs(
+        read_pairs(bytes, Limits { frame, depth }, pairs),
+        count,
+        taken,
+    )
+}
+
+/// Returns whether the value at the start, which is read within limits as by `amqpv_read`, is its canonical
+/// encoding, with that call's count. docs/PROMISES.md has what a level of nesting takes of the stack.
+#[unsafe(no_mangle)]
+pub extern "C" fn amqpv_is_canonical(bytes: &[u8], frame: u32, depth: u32, count: &mut usize) -> i32
+    ensures { TellsCanonical frame depth bytes.now result count.new }
+{
+    store_spelling(read_spelling(bytes, Limits { frame, depth }), count)
+}
+
+/// Returns whether the table without its type tag at the start, which is read within limits as by
+/// `amqpv_read_table`, is its canonical encoding, with that call's count.
+#[unsafe(no_mangle)]
+pub extern "C" fn amqpv_is_canonical_table(
+    bytes: &[u8],
+    frame: u32,
+    depth: u32,
+    count: &mut usize,
+) -> i32
+    ensures { TellsCanonicalTable frame depth bytes.now result count.new }
+{
+    store_spelling(read_table_spelling(bytes, Limits { frame, depth }), count)
 }
 
 /// Measures the value at the start, which is read within limits as by `amqpv_read`. docs/PROMISES.md

@@ -5,17 +5,22 @@ ghost use Rattle.amqp_c_common.specs.ReturnCodes.{return_code_of, code_of};
 ghost use Rattle.amqp_c.specs.Problems.{return_code_if_some, numbered_or_old};
 ghost use Rattle.amqp_c.specs.BuildCalls.{needing, grown_or_needing, opened_or_needing, closed_or_old};
 ghost use Rattle.amqp_c.specs.CallResults.{return_code_if_any, count_by, ok_or_old, found_or_old, entry_or_old, cursor_or_old};
+ghost use Rattle.amqp_c.specs.Spellings.{spelling_code};
+ghost use Rattle.amqp_c.specs.PairsRead.{places_of, taken_of};
 
+use crate::canonical::Spelling;
 use crate::container::Container;
 use crate::cursor::Cursor;
 use crate::entry::Entry;
 use crate::measure::Measure;
 use crate::problem::Problem;
+use crate::read_by::ReadBy;
+use crate::read_pairs::PairsRead;
 use amqp_c_common::{Fault, return_count};
 
 /// Something is given.
 const OK: i32 = 0;
-/// No entry is left, or no entry has the key.
+/// No entry is left, no entry has the key, or the bytes aren't canonical.
 const NONE: i32 = 1;
 
 /// Leaves what is given.
@@ -142,6 +147,54 @@ pub fn store_problem(found: Option<amqp_in_place::Problem>, problem: &mut Proble
         }
         None => NONE,
     }
+}
+
+/// Leaves the first problem, if there is one; or the entry of what is read, and how many bytes that has, or
+/// how many are needed.
+pub fn store_read_by(
+    read: ReadBy,
+    entry: &mut Entry,
+    count: &mut usize,
+    problem: &mut Problem,
+) -> i32
+    ensures returned { result ≡ return_code_of read.done }
+    ensures entry { entry.new ≡ ok_or_old entry.old read.done }
+    ensures count { count.new ≡ count_by (λ e. e.value.length) read.done }
+    ensures problem { problem.new ≡ numbered_or_old problem.old read.problem }
+{
+    let _found = store_problem(read.problem, problem);
+    store_read(read.done, entry, count)
+}
+
+/// Stores how many bytes were read or are needed, else 0, and returns whether they are canonical.
+pub fn store_spelling(done: Result<Spelling, Fault>, count: &mut usize) -> i32
+    ensures returned { result ≡ spelling_code done }
+    ensures count { count.new ≡ count_by (λ x. x.length) done }
+{
+    match done {
+        Ok(read) => {
+            *count = read.length;
+            if read.is_canonical { OK } else { NONE }
+        }
+        Err(fault) => return_count(Err(fault), count),
+    }
+}
+
+/// Stores how many places were filled or are needed, and how many bytes were read or are needed, else 0.
+pub fn store_pairs(done: Result<PairsRead, Fault>, count: &mut usize, taken: &mut usize) -> i32
+    ensures returned { result ≡ return_code_of done }
+    ensures count { count.new ≡ places_of done }
+    ensures taken { taken.new ≡ taken_of done }
+{
+    let (places, bytes, code) = match done {
+        Ok(read) => (read.count, read.taken, OK),
+        Err(Fault::BufferTooSmall(needed)) => (needed, 0, Fault::BufferTooSmall(needed).code()),
+        Err(Fault::More(needed)) => (0, needed, Fault::More(needed).code()),
+        Err(fault) => (0, 0, fault.code()),
+    };
+    *count = places;
+    *taken = bytes;
+    code
 }
 
 /// Leaves the entry that is found.
