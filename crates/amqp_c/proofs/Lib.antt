@@ -16,3 +16,4 @@ mod Buffers
 mod Keys
 mod Tables
 pub mod Needs
+mod JsonFaults

@@ -10,9 +10,9 @@
 //! buffer, their canonical encoding, and JSON. C.md has examples and how to link,
 //! GRAMMAR.md the bytes, and JSON.md the JSON of each type: pages of docs, which are installed below share/doc.
 //!
-//! Functions return an amqpv_result. With any but AMQPV_OK the structs and the buffer stay unchanged; a
-//! `count` is always set. No function keeps state, prints or ends the process, and calls in several threads
-//! don't affect each other. Only amqpv_canonical, amqpv_to_json and amqpv_from_json allocate.
+//! Functions return an amqpv_result. With any but AMQPV_OK the structs and the buffer stay unchanged, but for
+//! the buffer of amqpv_write_json; a `count` is always set. No function keeps state, prints or ends the
+//! process, and calls in several threads don't affect each other. Only amqpv_canonical, amqpv_to_json and amqpv_from_json allocate.
 //!
 //! Preconditions:
 //! - No pointer is NULL, except to bytes, a text, a key, steps, pairs or a buffer of length 0 (tested, not
@@ -30,6 +30,7 @@
 //!         56 bytes in amqpv_read, amqpv_read_table, amqpv_measure_value, amqpv_measure_table and amqpv_put_value
 //!        160       in amqpv_first_problem and amqpv_first_problem_in_table
 //!        368       in amqpv_canonical
+//!        560       in amqpv_write_json
 //!        928       in amqpv_from_json
 //!        688       in amqpv_to_json
 //!   The others don't recurse.
@@ -79,7 +80,7 @@ pub const AMQPV_TOO_LARGE: amqpv_result = -4;
 /// A struct isn't inside the bytes or the buffer, or is of no container (to find a key: of no table); or no such body
 /// can be closed there.
 pub const AMQPV_INVALID: amqpv_result = -5;
-/// Out of memory (only functions that allocate).
+/// Out of memory (functions that allocate), or it would be needed (amqpv_write_json).
 pub const AMQPV_NO_MEMORY: amqpv_result = -6;
 /// The buffer is too small (only functions that write to one).
 pub const AMQPV_NO_ROOM: amqpv_result = -7;
@@ -457,6 +458,19 @@ extern "C" {
 
     /// See [`amqpv_as_int`].
     pub fn amqpv_as_decimal(entry: *const amqpv_entry, number: *mut u32, scale: *mut u8) -> amqpv_result;
+
+    /// Writes the JSON text of the value at the start of the bytes as amqpv_to_json does, without allocating. `count`
+    /// and the other results are the same, but that it returns AMQPV_NO_MEMORY if the keys of a table don't ascend by
+    /// their bytes, each once: amqpv_canonical sorts them. After an error the buffer may hold some of the text.
+    pub fn amqpv_write_json(
+        bytes: *const u8,
+        length: usize,
+        frame: u32,
+        depth: u32,
+        buffer: *mut u8,
+        capacity: usize,
+        count: *mut usize,
+    ) -> amqpv_result;
 
     /// The next three functions allocate by malloc, realloc and free, and free all of it before they return. Their
     /// precondition: malloc, realloc and free are of one allocator that aligns as C requires, and the three functions
