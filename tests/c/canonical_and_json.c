@@ -1,10 +1,11 @@
 /*
- * Tries amqpv_canonical, amqpv_to_json and amqpv_from_json of include/amqp_values.h: the values below in each buffer
+ * Tries amqpv_canonical, amqpv_to_json, amqpv_write_json and amqpv_from_json of include/amqp_values.h: the values below in each buffer
  * up to one byte more than they need, with the first allocation failing, then the second, until a call
  * makes fewer; each prefix of them, and each change of one byte to one of some; limits that are just kept
  * to and just not; texts that nest as deep as `nesting` allows and one deeper, up to 127 and 128;
  * and a table of 100,010 bytes, there and back, with every seventeenth allocation failing. What is
- * written is what is expected, what is not is left unchanged, and canonical bytes allocate nothing.
+ * written is what is expected, what is not is left unchanged, and canonical bytes allocate nothing. amqpv_write_json
+ * writes what amqpv_to_json does, if the keys of each table ascend, and never allocates.
  */
 #include "check.h"
 
@@ -66,7 +67,8 @@ static const slice not_encoded[] = {
     SLICE("{\"ShortString\":\"\"}"), SLICE("[null,{\"ShortString\":\"a\"}]"), SLICE("{\"k\":{\"ShortString\":\"a\"}}"),
 };
 
-static const way canonical = {CANONICAL, FRAME, DEPTH, 0}, there = {TO_JSON, FRAME, DEPTH, 0}, back = {FROM_JSON, 0, 0, AMQPV_JSON_NESTING};
+static const way canonical = {CANONICAL, FRAME, DEPTH, 0}, there = {TO_JSON, FRAME, DEPTH, 0},
+                 in_order = {WRITE_JSON, FRAME, DEPTH, 0}, back = {FROM_JSON, 0, 0, AMQPV_JSON_NESTING};
 
 /* A text is rejected, or denotes a value: its encoding is canonical, and the JSON of that yields it again. */
 static void try_text(slice given) {
@@ -79,6 +81,45 @@ static void try_text(slice given) {
         CHECK(write_to(there, encoding, MANY, &again) == AMQPV_OK);
         CHECK(write_to(back, taken(text, MANY, again), MANY, &again) == AMQPV_OK);
         CHECK(again == count && is_in_buffer(MANY, encoding));
+    }
+}
+
+/* Whether the keys of each table in a container ascend by their bytes. */
+static int ascends(slice bytes, const amqpv_entry *entry) {
+    amqpv_cursor cursor;
+    amqpv_entry next, previous = {0};
+    if (!is_container(entry->tag)) {
+        return 1;
+    }
+    CHECK(amqpv_enter(bytes.at, bytes.length, entry, &cursor) == AMQPV_OK);
+    for (int is_first = 1; amqpv_next(bytes.at, bytes.length, &cursor, &next) == AMQPV_OK; is_first = 0, previous = next) {
+        if (entry->tag == AMQPV_TABLE && !is_first) {
+            size_t shorter = previous.key.length < next.key.length ? previous.key.length : next.key.length;
+            int order = memcmp(bytes.at + previous.key.offset, bytes.at + next.key.offset, shorter);
+            if (order > 0 || (order == 0 && previous.key.length >= next.key.length)) {
+                return 0;
+            }
+        }
+        if (!ascends(bytes, &next)) {
+            return 0;
+        }
+    }
+    return 1;
+}
+
+/* The JSON of bytes is written without memory as it is with it, unless the keys of a table don't ascend. */
+static void try_in_order(slice given) {
+    uint8_t text[MANY];
+    size_t taken_up, wanted, count;
+    amqpv_entry entry;
+    int32_t read = amqpv_read(given.at, given.length, FRAME, DEPTH, &entry, &taken_up);
+    int32_t with_memory = write_to(there, given, MANY, &wanted);
+    slice json = taken(text, MANY, with_memory == AMQPV_OK ? wanted : 0);
+    int32_t without = write_to(in_order, given, MANY, &count);
+    if (read == AMQPV_OK && !ascends(given, &entry)) {
+        CHECK(without == AMQPV_NO_MEMORY && count == 0);
+    } else {
+        CHECK(without == with_memory && count == wanted && is_in_buffer(MANY, json));
     }
 }
 
@@ -110,6 +151,9 @@ static void try_limits(void) {
     CHECK(write_to((way){TO_JSON, 10, 2, 0}, nested, MANY, &count) == AMQPV_OK && count == 4);
     CHECK(write_to((way){TO_JSON, 9, 2, 0}, nested, MANY, &count) == AMQPV_TOO_LARGE);
     CHECK(write_to((way){TO_JSON, 10, 1, 0}, nested, MANY, &count) == AMQPV_MALFORMED);
+    CHECK(write_to((way){WRITE_JSON, 10, 2, 0}, nested, MANY, &count) == AMQPV_OK && count == 4);
+    CHECK(write_to((way){WRITE_JSON, 9, 2, 0}, nested, MANY, &count) == AMQPV_TOO_LARGE);
+    CHECK(write_to((way){WRITE_JSON, 10, 1, 0}, nested, MANY, &count) == AMQPV_MALFORMED);
 }
 
 /* A text is read if it may nest as deep as it does, and otherwise rejected. */
@@ -152,6 +196,12 @@ static void try_large(void) {
     CHECK(write_to(by, table, size - 1, &count) == AMQPV_NO_ROOM && count == size);
     CHECK(write_to(by, table, size, &count) == AMQPV_OK && count == size);
     slice text = taken(written, size, size);
+    way without = {WRITE_JSON, LARGE, 1, 0};
+    const slice sorted = {canonical, LARGE};
+    CHECK(write_to(without, table, size, &count) == AMQPV_NO_MEMORY && count == 0);
+    CHECK(write_to(without, sorted, 0, &count) == AMQPV_NO_ROOM && count == size);
+    CHECK(write_to(without, sorted, size - 1, &count) == AMQPV_NO_ROOM && count == size);
+    CHECK(write_to(without, sorted, size, &count) == AMQPV_OK && count == size && is_in_buffer(size, text));
     CHECK(write_to(back, text, LARGE - 1, &count) == AMQPV_NO_ROOM && count == LARGE);
     CHECK(write_to(back, text, LARGE, &count) == AMQPV_OK && count == LARGE);
     CHECK(is_in_buffer(LARGE, (slice){canonical, LARGE}));
@@ -165,8 +215,10 @@ int main(void) {
     for (size_t i = 0; i < COUNT(inputs); i++) {
         try_buffers(canonical, inputs[i].given, inputs[i].canonical);
         try_buffers(there, inputs[i].given, inputs[i].json);
+        try_buffers(in_order, inputs[i].canonical, inputs[i].json);
         try_buffers(back, inputs[i].json, inputs[i].canonical);
         try_changes(try_bytes, inputs[i].given, other_bytes);
+        try_changes(try_in_order, inputs[i].given, other_bytes);
         try_changes(try_text, inputs[i].json, other_characters);
     }
     for (size_t i = 0; i < COUNT(not_json); i++) {

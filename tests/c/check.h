@@ -124,7 +124,7 @@ static inline void new_pages(size_t count) {
 
 /* A call with these limits. */
 typedef struct way {
-    enum { CANONICAL, TO_JSON, FROM_JSON } call;
+    enum { CANONICAL, TO_JSON, WRITE_JSON, FROM_JSON } call;
     uint32_t frame, depth, nesting;
 } way;
 
@@ -138,17 +138,19 @@ static inline int32_t write_to(way by, slice given, size_t buffer_length, size_t
     uint64_t before = requests;
     int32_t result = by.call == CANONICAL ? amqpv_canonical(bytes, length, by.frame, by.depth, buffer, buffer_length, count)
                      : by.call == TO_JSON ? amqpv_to_json(bytes, length, by.frame, by.depth, buffer, buffer_length, count)
+                     : by.call == WRITE_JSON ? amqpv_write_json(bytes, length, by.frame, by.depth, buffer, buffer_length, count)
                                           : amqpv_from_json(bytes, length, by.nesting, buffer, buffer_length, count);
     calls++;
     CHECK(memcmp(bytes, given.at, length) == 0);
     size_t written = result == AMQPV_OK ? *count : 0;
     CHECK(written <= buffer_length && (result != AMQPV_OK || written > 0));
+    size_t touched = by.call == WRITE_JSON && result != AMQPV_OK ? buffer_length : written;
     for (uint8_t *it = buffer_start; it < buffer_end; it++) {
-        CHECK(*it == FILLED || (it >= buffer && it < buffer + written));
+        CHECK(*it == FILLED || (it >= buffer && it < buffer + touched));
     }
     CHECK((result == AMQPV_OK || result == AMQPV_MORE || result == AMQPV_NO_ROOM) == (*count > 0));
     CHECK(result != AMQPV_NO_ROOM || *count > buffer_length);
-    CHECK(result != AMQPV_NO_MEMORY || requests > before);
+    CHECK(by.call == WRITE_JSON ? requests == before : result != AMQPV_NO_MEMORY || requests > before);
     CHECK(result != AMQPV_INVALID && (by.call == FROM_JSON || result > AMQPV_NOT_JSON));
     CHECK(by.call != FROM_JSON || result == AMQPV_OK || result <= AMQPV_NO_MEMORY);
     CHECK(blocks == 0);

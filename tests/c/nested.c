@@ -58,6 +58,8 @@ static void *make_call(void *unused) {
         result = amqpv_canonical(given, length, UINT32_MAX, depth, buffer, sizeof buffer, &count);
     } else if (is_called("amqpv_to_json")) {
         result = amqpv_to_json(given, length, UINT32_MAX, depth, buffer, sizeof buffer, &count);
+    } else if (is_called("amqpv_write_json")) {
+        result = amqpv_write_json(given, length, UINT32_MAX, depth, buffer, sizeof buffer, &count);
     } else if (is_called("amqpv_from_json")) {
         result = amqpv_from_json(given, length, depth, buffer, sizeof buffer, &count);
     }

@@ -168,6 +168,11 @@ static void try_building(void) {
     TRY(AMQPV_INVALID, pairs, 'A', amqpv_close(buffer, 0, &all->into, &body));
 }
 
+static void try_writing_json(void) {
+    TRY(AMQPV_MORE, pairs, 'A', amqpv_write_json(bytes, 0, FRAME, DEPTH, (char *)all->buffer, CAPACITY, &all->count));
+    TRY(AMQPV_NO_ROOM, pairs, 'A', amqpv_write_json(BYTES_OF(table), FRAME, DEPTH, (char *)buffer, 0, &all->count));
+}
+
 static void try_allocating(void) {
     TRY(AMQPV_MORE, pairs, 'A', amqpv_canonical(bytes, 0, FRAME, DEPTH, all->buffer, CAPACITY, &all->count));
     TRY(AMQPV_MORE, pairs, 'A', amqpv_canonical(bytes, 0, FRAME, DEPTH, buffer, 0, &all->count));
@@ -184,6 +189,7 @@ int main(void) {
     try_reading();
     try_looking_up();
     try_building();
+    try_writing_json();
     try_allocating();
     printf("%u calls\n", calls);
     return 0;

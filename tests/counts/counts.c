@@ -359,6 +359,13 @@ static int writes_json(void) {
     return amqpv_to_json(bytes, length, UINT32_MAX, DEPTH, json, 4 * MOST, &count) == AMQPV_OK;
 }
 
+/* Writes a value whose tables have ascending keys. */
+static int writes_json_in_order(void) {
+    size_t count;
+    amqpv_result result = amqpv_write_json(bytes, length, UINT32_MAX, DEPTH, json, 4 * MOST, &count);
+    return result == AMQPV_NO_MEMORY ? SKIPPED : result == AMQPV_OK;
+}
+
 static int reads_json(void) {
     size_t count;
     return !has_json ? SKIPPED : amqpv_from_json(text, text_length, AMQPV_JSON_NESTING, buffer, MOST, &count) == AMQPV_OK;
@@ -446,6 +453,7 @@ static const struct {
     {"amqpv_write_table", writes_table},
     {"amqpv_canonical", canonicalizes},
     {"amqpv_to_json", writes_json},
+    {"amqpv_write_json", writes_json_in_order},
     {"amqpv_from_json", reads_json},
     {"parse_value", decodes},
     {"parse_value and gen_value", decodes_and_encodes},

@@ -20,6 +20,8 @@ LEFT_OUT = "test_"
 LISTED = {
     # the kit's error has no variants: a call returns whether it is of memory
     ("amqp_json/src/text.rt", "Err(e) if e.is_memory() => return Err(JsonError::OutOfMemory),"),
+    # the call never asks for memory, and a clause states when it would need some
+    ("amqp_c/src/json.rt", "Err(WriteError::NeedsMemory) => Err(Fault::OutOfMemory),"),
 }
 # The lines that ask for memory by a number, and what bounds that.
 BY_NUMBER = {

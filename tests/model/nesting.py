@@ -114,6 +114,7 @@ FOR_C = {
     **{it: Call([it], encoding, DEEPER) for it in OF_ENCODINGS},
     **{it: Call([it], payload, DEEPER) for it in OF_TABLES},
     "amqpv_to_json": Call(["amqpv_to_json"], unordered, DEEP),
+    "amqpv_write_json": Call(["amqpv_write_json"], encoding, DEEP),
     "amqpv_canonical": Call(["amqpv_canonical"], not_canonical, DEEP),
     "amqpv_from_json": Call(["amqpv_from_json"], json_text, OF_JSON),
 }

@@ -19,3 +19,4 @@ mod ReadingBy
 mod Spelling
 mod PairsReading
 pub mod Needs
+mod JsonFaults

@@ -23,3 +23,4 @@ pub mod BuildCalls
 pub mod Pairs
 pub mod WrittenTables
 pub mod Needs
+pub mod JsonTexts

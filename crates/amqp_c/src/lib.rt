@@ -1,16 +1,18 @@
 //! Calls for C that don't allocate: reading in place, and putting arrays and tables together in a
-//! buffer, entry by entry.
+//! buffer, entry by entry, and JSON of tables whose keys ascend.
 //!
 //! No call allocates, keeps state, prints or ends the process. What comes in is checked each time:
 //! whatever a cursor, an entry or a container holds, no byte outside of the bytes is read and none
 //! outside of the buffer is touched, and each offset that is returned is inside the bytes. After an
-//! error the buffer and the container are as they were. `include/amqp_values.h` declares the calls.
+//! error the buffer and the container are as they were, but for the buffer of a JSON text.
+//! `include/amqp_values.h` declares the calls.
 #![tactic(auto)]
 
 ghost use Rattle.std.specs.Prelude.{◌≡◌};
 ghost use Rattle.amqp_c.specs.Problems.{FindsInValue, FindsInTable};
 ghost use Rattle.amqp_c.specs.BuildCalls.{PutsScalar, PutsInt, PutsUint, PutsBool, PutsTimestamp, PutsDecimal, PutsVoid, PutsBytes, PutsValue, OpensContainer, ClosesContainer};
 ghost use Rattle.amqp_c.specs.WrittenTables.{WritesTable};
+ghost use Rattle.amqp_c.specs.JsonTexts.{WritesJson};
 ghost use Rattle.amqp_c.specs.Getters.{GetsInt, GetsUint, GetsBool, GetsTimestamp, GetsDecimal};
 ghost use Rattle.amqp_c.specs.ReadBy.{ReadsValueBy, ReadsTableBy};
 ghost use Rattle.amqp_c.specs.PairsRead.{ReadsPairs};
@@ -24,6 +26,7 @@ mod cursor;
 mod entry;
 mod getter;
 mod integers;
+mod json;
 mod key;
 mod lookup;
 mod measure;
@@ -49,6 +52,7 @@ use cursor::Cursor;
 use entry::{Entry, first};
 use getter::store_decimal;
 use integers::{put_int, put_uint, truth_bits};
+use json::put_json;
 use measure::{Measure, measured_table, measured_value};
 use nest::{close, open};
 use pair::Pair;
@@ -574,6 +578,25 @@ pub extern "C" fn amqpv_as_decimal(entry: &Entry, number: &mut u32, scale: &mut 
     ensures { GetsDecimal entry.now (number.old, scale.old) result (number.new, scale.new) }
 {
     store_decimal(entry.as_decimal(), number, scale)
+}
+
+/// Writes the JSON text of the value that `bytes` begin with to the start of `buffer`. If the keys of a
+/// table don't ascend, it is out of memory. After an error the buffer may have some of the text.
+/// docs/PROMISES.md has what a level of nesting takes of the stack.
+///
+/// `count` becomes how many bytes were written, how many more are needed of the value, or how many
+/// the buffer has to have, otherwise 0.
+#[unsafe(no_mangle)]
+pub extern "C" fn amqpv_write_json(
+    bytes: &[u8],
+    frame: u32,
+    depth: u32,
+    buffer: &mut [u8],
+    count: &mut usize,
+) -> i32
+    ensures { WritesJson frame depth bytes.now buffer.old result buffer.new count.new }
+{
+    return_count(put_json(bytes, Limits { frame, depth }, buffer), count)
 }
 
 /// The version of the library: 10000 times its major number, 100 times its minor number, and its

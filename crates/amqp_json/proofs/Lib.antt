@@ -15,3 +15,6 @@ mod OwnedSteps
 mod Copies
 mod ReadBack
 mod Decoded
+mod Putting
+mod Filling
+mod Ascents

@@ -13,3 +13,6 @@ pub mod Converts
 -- for private clauses: what is written of a value, and a table's pairs by their keys
 pub mod Adds
 pub mod Sorted
+pub mod Puts
+pub mod Buffers
+pub mod Ascending

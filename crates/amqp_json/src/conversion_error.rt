@@ -30,6 +30,18 @@ pub enum DecodeError {
     OutOfMemory,
 }
 
+/// Why no JSON text was written to a buffer.
+#[derive(Debug, Drop)]
+pub enum WriteError {
+    /// The bytes don't begin with a value within the limits: the error of `parse_value_within`.
+    Refused(ParserError),
+    /// The text has that many bytes, more than the buffer.
+    BufferTooSmall(usize),
+    /// It isn't written without memory: the keys of a table don't ascend, or the text has 2^64 - 1
+    /// bytes or more.
+    NeedsMemory,
+}
+
 impl From<JsonError> for EncodeError {
     ghost use Rattle.std.specs.Prelude.{◌≡◌};
     ghost use Rattle.amqp_json.specs.declared.conversion_error.EncodeError.TheVariants.{Json};

@@ -1,6 +1,6 @@
 //! The keys of a table.
 
-ghost use Rattle.std.specs.Prelude.{◌≡◌, true, is_some};
+ghost use Rattle.std.specs.Prelude.{◌≡◌, true, false, is_some};
 ghost use Rattle.amqp_value_core.specs.Values.{Entries};
 ghost use Rattle.amqp_value_core.specs.Grammar.{TableBody};
 ghost use Rattle.amqp_value_core.specs.Maps.{IsRising};
@@ -12,7 +12,9 @@ use amqp_in_place::TableRef;
 
 /// Whether the keys ascend by their bytes.
 pub(crate) fn keys_rise(table: TableRef<'_>) -> bool
-    ensures { result ≡ true → (ps : Entries) → TableBody (table_body table.entry) ps → IsRising ps }
+    ensures rise { result ≡ true → (ps : Entries) → TableBody (table_body table.entry) ps → IsRising ps }
+    ensures fall { result ≡ false → (ps : Entries) → TableBody (table_body table.entry) ps
+        → IsRising ps → ⊥ }
 {
     let mut pairs = table.iter();
     let Some((first, _)) = pairs.next() else {

@@ -3,6 +3,7 @@
 //! to JSON text, and back.
 #![tactic(auto)]
 
+mod buffer;
 mod conversion_error;
 mod decode;
 mod encode;
@@ -18,7 +19,8 @@ mod text;
 mod tokens;
 mod writing;
 
-pub use conversion_error::{DecodeError, EncodeError};
+pub use buffer::write_json;
+pub use conversion_error::{DecodeError, EncodeError, WriteError};
 pub use decode::json_of_encoding;
 pub use encode::encoding_of_json;
 pub use error::{JsonError, ValueError};

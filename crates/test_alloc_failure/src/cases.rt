@@ -104,6 +104,9 @@ const ONE_NUMBER: &[Piece] = &[Bytes(b"F\0\0\0\x0b\x01al\0\0\0\0\0\0\0\x01")];
 
 const ONE_NUMBER_JSON: &[Piece] = &[Bytes(b"{\"a\":1}")];
 
+/// A table whose keys fall.
+const FALLING: &[Piece] = &[Bytes(b"F\0\0\0\x06\x01bV\x01aV")];
+
 /// An array of 4000 Voids, and its JSON.
 const VOIDS: &[Piece] = &[Bytes(b"A\0\0\x0f\xa0"), Times(4000, b"V")];
 
@@ -423,7 +426,10 @@ fn of_texts() -> &'static [Case] {
     "from_json" MEMORY [OfText(TextCall::FromJson, ONE_NUMBER_JSON), OfText(TextCall::FromJson, VOIDS_JSON)]
     "to_value" ALLOC [OfText(TextCall::ToValue, ONE_NUMBER), OfText(TextCall::ToValue, VOIDS)]
     "from_value" MEMORY [OfText(TextCall::FromValue, ONE_NUMBER_JSON), OfText(TextCall::FromValue, VOIDS_JSON)]
-    "json_of_encoding" MEMORY [OfText(TextCall::JsonOfEncoding, ONE_NUMBER), OfText(TextCall::JsonOfEncoding, VOIDS)]
+    "json_of_encoding" MEMORY [
+        OfText(TextCall::JsonOfEncoding, ONE_NUMBER), OfText(TextCall::JsonOfEncoding, VOIDS),
+        OfText(TextCall::JsonOfEncoding, FALLING),
+    ]
     "encoding_of_json" ENCODE [
         OfText(TextCall::EncodingOfJson, ONE_NUMBER_JSON), OfText(TextCall::EncodingOfJson, VOIDS_JSON),
     ]
@@ -432,6 +438,7 @@ fn of_texts() -> &'static [Case] {
     "escape" ALLOC [OfText(TextCall::Escape, &[Bytes(b"a\0\"")]), OfText(TextCall::Escape, &[Times(70_000, b"a")])]
     "texts_without_memory" NO_ALLOC [
         OfText(TextCall::Dissect, &[]), OfText(TextCall::DissectPartial, &[]), OfText(TextCall::Escape, &[]),
+        OfText(TextCall::WriteJson, VOIDS),
     ]
     };
     CASES

@@ -8,8 +8,8 @@ use amq_protocol_types::AMQPValue;
 use amq_protocol_types::stream::Limits;
 use amqp_dissect::{dissect, dissect_partial, escape};
 use amqp_json::{
-    DecodeError, EncodeError, JsonError, ValueError, encoding_of_json, from_json, from_value,
-    json_of_encoding, to_json, to_value,
+    DecodeError, EncodeError, JsonError, ValueError, WriteError, encoding_of_json, from_json,
+    from_value, json_of_encoding, to_json, to_value, write_json,
 };
 use serde_json::Value;
 use std::alloc::{AllocError, Global};
@@ -29,6 +29,7 @@ pub enum TextCall {
     ToValue,
     FromValue,
     JsonOfEncoding,
+    WriteJson,
     EncodingOfJson,
     Dissect,
     DissectPartial,
@@ -98,6 +99,22 @@ impl Call for JsonOfEncoding {
     fn call(&mut self, alloc: Global) -> Result<AnyValue, DecodeError> {
         let (text, _) = json_of_encoding(alloc, self.bytes.as_slice(), WIDE)?;
         Ok(AnyValue::Bytes(text.into_bytes()))
+    }
+}
+
+#[derive(Drop)]
+struct WriteJson {
+    bytes: Vec<u8>,
+    buffer: Vec<u8>,
+}
+
+impl Call for WriteJson {
+    type Error = WriteError;
+
+    // the length of the text
+    fn call(&mut self, _alloc: Global) -> Result<AnyValue, WriteError> {
+        let (count, _) = write_json(self.bytes.as_slice(), WIDE, self.buffer.as_mut_slice())?;
+        Ok(AnyValue::Number(count as i128))
     }
 }
 
@@ -180,6 +197,10 @@ pub fn run<R: Print + Eprint>(h: &Harness<R>, call: TextCall, pieces: &[Piece]) 
             h.run(&mut FromValue { json })
         }
         TextCall::JsonOfEncoding => h.run(&mut JsonOfEncoding { bytes }),
+        TextCall::WriteJson => {
+            let buffer = fixtures::encoding(h.alloc, &[Piece::Times(20_001, b"\0")])?;
+            h.run(&mut WriteJson { bytes, buffer })
+        }
         TextCall::EncodingOfJson => {
             let text = String::from_utf8(bytes).map_err(fixtures::failed)?;
             h.run(&mut EncodingOfJson { text })

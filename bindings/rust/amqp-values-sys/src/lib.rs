@@ -11,9 +11,10 @@
 //! GRAMMAR.md the bytes, and JSON.md the JSON of each type: pages of docs, which are installed below share/doc.
 //!
 //! Functions return an amqpv_result. With any but AMQPV_OK the structs and the buffer stay unchanged, except
-//! for `needed` of a container, and a `problem` that amqpv_read_by or amqpv_read_table_by returns; a `count`
-//! and a `taken` are always set. No function keeps state, prints or ends the process, and calls in several
-//! threads don't affect each other. Only amqpv_canonical, amqpv_to_json and amqpv_from_json allocate.
+//! for `needed` of a container, the buffer of amqpv_write_json, and a `problem` that amqpv_read_by or
+//! amqpv_read_table_by returns; a `count` and a `taken` are always set. No function keeps state, prints or
+//! ends the process, and calls in several threads don't affect each other. Only amqpv_canonical,
+//! amqpv_to_json and amqpv_from_json allocate.
 //!
 //! Preconditions:
 //! - No pointer is NULL, except to bytes, a text, a key, steps, pairs, entries or a buffer of length 0 (tested, not
@@ -34,6 +35,7 @@
 //!        160       in amqpv_first_problem and amqpv_first_problem_in_table
 //!        160       in amqpv_read_by, amqpv_read_table_by, amqpv_is_canonical and amqpv_is_canonical_table
 //!        368       in amqpv_canonical
+//!        560       in amqpv_write_json
 //!        928       in amqpv_from_json
 //!        688       in amqpv_to_json
 //!   The others don't recurse.
@@ -89,7 +91,7 @@ pub const AMQPV_TOO_LARGE: amqpv_result = -4;
 /// key: of no table); or a container is open in it, or no such body can be closed there; or a length that has to be 0
 /// isn't.
 pub const AMQPV_INVALID: amqpv_result = -5;
-/// Out of memory (only functions that allocate).
+/// Out of memory (functions that allocate), or it would be needed (amqpv_write_json).
 pub const AMQPV_NO_MEMORY: amqpv_result = -6;
 /// The buffer is too small (only functions that write to one), or there are fewer places than pairs (amqpv_read_pairs).
 pub const AMQPV_NO_ROOM: amqpv_result = -7;
@@ -551,6 +553,19 @@ extern "C" {
 
     /// See [`amqpv_as_int`].
     pub fn amqpv_as_decimal(entry: *const amqpv_entry, number: *mut u32, scale: *mut u8) -> amqpv_result;
+
+    /// Writes the JSON text of the value at the start of the bytes as amqpv_to_json does, without allocating. `count`
+    /// and the other results are the same, but that it returns AMQPV_NO_MEMORY if the keys of a table don't ascend by
+    /// their bytes, each once: amqpv_canonical sorts them. After an error the buffer may hold some of the text.
+    pub fn amqpv_write_json(
+        bytes: *const u8,
+        length: usize,
+        frame: u32,
+        depth: u32,
+        buffer: *mut u8,
+        capacity: usize,
+        count: *mut usize,
+    ) -> amqpv_result;
 
     /// The next three functions allocate by malloc, realloc and free, and free all of it before they return. Their
     /// precondition: malloc, realloc and free are of one allocator that aligns as C requires, and the three functions

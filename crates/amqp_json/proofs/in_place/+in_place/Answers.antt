@@ -34,7 +34,7 @@ write_table-returns-then-looks_named-clause-ok t c =
     let opened : c.begin_object.new.self.tokens ≡ c.begin_named.new.out.tokens ++ begin_object ∷ [] = search rules in
     on_ok_weaker c.end_object.result (λ e es has.
     named_table _ c.begin_named.new.out.tokens c.begin_object.new.self.tokens c.write_pairs.new.out.tokens c.end_object.new.self.tokens has.0 es
-    (sym (c.looks_named.ensures has.0 has.1) ∙ c.if-looks_named.true) (c.keys_rise.ensures rise has.0 has.1) has.2 c.in_ok-begin_named.ensures.ok opened (c.in_ok-write_pairs.ensures.ok has.0 has.1) e) c.end_object.ensures.ok
+    (sym (c.looks_named.ensures has.0 has.1) ∙ c.if-looks_named.true) (c.keys_rise.ensures.rise rise has.0 has.1) has.2 c.in_ok-begin_named.ensures.ok opened (c.in_ok-write_pairs.ensures.ok has.0 has.1) e) c.end_object.ensures.ok
 
 pub write_table-returns-clause-ok : goal.write_table-returns-clause-ok
 write_table-returns-clause-ok t c =
@@ -42,7 +42,7 @@ write_table-returns-clause-ok t c =
     let opened : c.begin_object-2.new.self.tokens ≡ c.args.out.now.tokens ++ begin_object ∷ [] = search rules in
     on_ok_weaker c.write_pairs-2.result (λ e es has.
     plain_table _ c.begin_object-2.new.self.tokens c.write_pairs-2.new.out.tokens has.0 es
-    (sym (c.looks_named.ensures has.0 has.1) ∙ c.if-looks_named.false) (c.keys_rise.ensures rise has.0 has.1) has.2 opened (e has.0 has.1)) c.write_pairs-2.ensures.ok
+    (sym (c.looks_named.ensures has.0 has.1) ∙ c.if-looks_named.false) (c.keys_rise.ensures.rise rise has.0 has.1) has.2 opened (e has.0 has.1)) c.write_pairs-2.ensures.ok
 
 pub write_map-loop-key-preserved : goal.write_map-loop-key-preserved
 write_map-loop-key-preserved t c =

@@ -1,0 +1,30 @@
+-- What the call that writes a JSON text returns, and leaves in the buffer.
+use Rattle.std.specs.Prelude.{ℕ, ◌≡◌, ◌<◌, ℤ, List, length, Result, MatchResult}
+use Rattle.amq_protocol_types.specs.declared.parsing.limits.Limits.{Limits}
+use Rattle.amqp_json.specs.Buffers.{IsOrderedJsonOf, NeedsMemory}
+use Rattle.amqp_c_common.specs.declared.fault.Fault.{Fault}
+use Rattle.amqp_c_common.specs.declared.fault.Fault.TheVariants.{BufferTooSmall, OutOfMemory}
+use Rattle.amqp_c_common.specs.ReturnCodes.{return_code_of, count_of}
+use Rattle.amqp_c_common.specs.Reading.{limits}
+use Rattle.amqp_c_common.specs.Buffers.{IsPutAtStart}
+use Rattle.amqp_c.specs.CallResults.{FaultsWithin}
+
+-- the JSON text of the value that is read from s within the limits is put into the buffer, and in its
+-- tables the keys ascend
+abbrev pub IsJsonPut : Limits → List ℕ → List ℕ → List ℕ → ℕ → Type 0
+IsJsonPut l s old new n = (t : List ℕ) × (rest : List ℕ) × IsOrderedJsonOf l s t rest × IsPutAtStart t old new n
+
+-- a fault is right, for s and a buffer of that many bytes: that text has more bytes than the buffer,
+-- and as many as the fault reports; or a value is read, and memory is needed for its text; or what
+-- reading results in
+abbrev pub IsJsonFault : Limits → List ℕ → ℕ → Fault → Type 0
+IsJsonFault l s buffer (BufferTooSmall n) = (t : List ℕ) × (rest : List ℕ) × IsOrderedJsonOf l s t rest × (n ≡ length t) × (buffer < n)
+IsJsonFault l s buffer OutOfMemory = NeedsMemory l s
+IsJsonFault l s buffer f = FaultsWithin l s f
+
+-- the JSON text of the value at the start of s is put into the buffer; or the fault is right
+pub record WritesJson (frame depth : ℕ) (s old : List ℕ) (code : ℤ) (new : List ℕ) (count : ℕ) : Type 0 where
+  pub done : Result ℕ Fault
+  pub returned : code ≡ return_code_of done
+  pub counted : count ≡ count_of done
+  pub written : MatchResult done (IsJsonPut (limits frame depth) s old new) (IsJsonFault (limits frame depth) s (length old))

@@ -1,0 +1,24 @@
+//! From an encoding to its JSON text, without memory.
+
+ghost use Rattle.std.specs.Prelude.{length, MatchResult};
+ghost use Rattle.amqp_c.specs.JsonTexts.{IsJsonPut, IsJsonFault};
+
+use amq_protocol_types::parsing::Limits;
+use amqp_c_common::Fault;
+use amqp_json::{WriteError, write_json};
+
+/// Puts the JSON text of the value that `bytes` begin with at the start of `buffer`, and returns how
+/// many bytes it has. After a fault the buffer may have some of it.
+#[tactic(auto, using(crate::proofs::JsonFaults::refused_so))]
+pub fn put_json(bytes: &[u8], limits: Limits, buffer: &mut [u8]) -> Result<usize, Fault>
+    ensures written { MatchResult result
+        (IsJsonPut limits bytes.now buffer.old buffer.new)
+        (IsJsonFault limits bytes.now (length buffer.old)) }
+{
+    match write_json(bytes, limits, buffer) {
+        Ok((count, _)) => Ok(count),
+        Err(WriteError::Refused(refusal)) => Err(Fault::from(refusal)),
+        Err(WriteError::BufferTooSmall(count)) => Err(Fault::BufferTooSmall(count)),
+        Err(WriteError::NeedsMemory) => Err(Fault::OutOfMemory),
+    }
+}

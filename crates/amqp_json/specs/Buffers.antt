@@ -1,0 +1,33 @@
+-- From an encoding to a JSON text in a buffer.
+use Rattle.std.specs.Prelude.{ℕ, ◌≡◌, ◌+◌, ◌^◌, ◌<◌, ◌≤◌, ◌⊎◌, List, ◌++◌, length, drop}
+use Rattle.amq_protocol_types.specs.declared.parsing.limits.Limits.{Limits}
+use Rattle.amq_protocol_types.specs.parsing.Limits.{RefusesWithin}
+use Rattle.amqp_in_place.specs.InPlaceResults.{NeedsNoMemory}
+use Rattle.amqp_json.specs.Ascending.{InOrder, OutOfOrder}
+use Rattle.amqp_json.specs.Converts.{IsJsonOf}
+use Rattle.amqp_json.specs.declared.conversion_error.WriteError.{WriteError}
+use Rattle.amqp_json.specs.declared.conversion_error.WriteError.TheVariants as write
+
+-- t is the JSON text of the value at the start of s, as reading within the limits has it, with `rest`
+-- after it, and in its tables the keys ascend
+abbrev pub IsOrderedJsonOf : Limits → List ℕ → List ℕ → List ℕ → Type 0
+IsOrderedJsonOf l s t rest = IsJsonOf l s t rest × InOrder s rest
+
+-- that text is the first n bytes of the buffer, and after them it is as it was
+abbrev pub IsJsonWritten : Limits → List ℕ → List ℕ → List ℕ → ℕ → List ℕ → Type 0
+IsJsonWritten l s old new n rest =
+    (t : List ℕ) × IsOrderedJsonOf l s t rest × (n ≡ length t) × (n ≤ length old) × (new ≡ t ++ drop n old)
+
+-- a value is read from the start of s, and it isn't written without memory: in one of its tables the
+-- keys don't ascend, or its text has more bytes than a count can tell
+abbrev pub NeedsMemory : Limits → List ℕ → Type 0
+NeedsMemory l s =
+    (t : List ℕ) × (rest : List ℕ) × IsJsonOf l s t rest × (OutOfOrder s rest ⊎ (2 ^ 64 ≤ 1 + length t))
+
+-- an error reports why no text of the value at the start of s is in a buffer of that many bytes: it
+-- isn't read, which needs no memory; or the text has more bytes than the buffer, and as many as the error reports; or memory
+-- is needed
+abbrev pub IsNotWritten : Limits → List ℕ → ℕ → WriteError → Type 0
+IsNotWritten l s buffer (write.Refused e) = RefusesWithin l s e × NeedsNoMemory e
+IsNotWritten l s buffer (write.BufferTooSmall n) = (t : List ℕ) × (rest : List ℕ) × IsOrderedJsonOf l s t rest × (n ≡ length t) × (buffer < n)
+IsNotWritten l s buffer write.NeedsMemory = NeedsMemory l s

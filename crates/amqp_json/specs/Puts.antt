@@ -1,0 +1,36 @@
+-- For private clauses: text that is put at the start of a buffer, and may be longer than that.
+use Rattle.std.specs.Prelude.{ℕ, ◌≡◌, ◌≤◌, ◌-◌, ◌^◌, min, List, ◌++◌, length, drop}
+use Rattle.json.specs.Token.{Token}
+use Rattle.json.specs.Tree.{json_tokens}
+use Rattle.serde_json.specs.Data.{Data}
+use Rattle.serde_json.specs.Written.{outline}
+use Rattle.json.specs.Print.{print, ends_value}
+use Rattle.amqp_json.specs.declared.buffer.place.Place.{Place}
+
+-- how many bytes a text has, by a count that ends at the largest one
+abbrev pub counted : List ℕ → ℕ
+counted t = min (length t) (2 ^ 64 - 1)
+
+-- the buffer, which was `start`, begins with a text of that count if the text fits it, and is as it
+-- was after the text
+pub record Begins (start room : List ℕ) (at : ℕ) (t : List ℕ) : Type 0 where
+  pub count : at ≡ counted t
+  pub same : length room ≡ length start
+  pub text : length t ≤ length start → room ≡ t ++ drop (length t) start
+
+-- bytes are put after the text
+abbrev pub Puts : List ℕ → ℕ → List ℕ → ℕ → List ℕ → Type 0
+Puts old at new end bytes = (start t : List ℕ) → Begins start old at t → Begins start new end (t ++ bytes)
+
+-- the buffer begins with the text of these tokens
+pub record IsPrinted (start room : List ℕ) (place : Place) (ts : List Token) : Type 0 where
+  pub text : Begins start room place.count (print ts)
+  pub after : place.after_value ≡ ends_value ts
+
+-- tokens are put after those that were there
+abbrev pub PutsTokens : List ℕ → Place → List ℕ → Place → List Token → Type 0
+PutsTokens old place new end us = (start : List ℕ) (ts : List Token) → IsPrinted start old place ts → IsPrinted start new end (ts ++ us)
+
+-- the tokens of a JSON value are put after those that were there
+abbrev pub PutsJson : List ℕ → Place → List ℕ → Place → Data → Type 0
+PutsJson old place new end d = PutsTokens old place new end (json_tokens (outline d))

@@ -1,0 +1,122 @@
+//! Bytes after others in a buffer: each call returns how many there are then, which may be more
+//! than there is room for. Those that don't fit are counted, and not written.
+
+ghost use Rattle.std.specs.Prelude.{◌≡◌, ◌+◌, ◌-◌, ◌<◌, ◌≤◌, ◌∷◌, [], ◌++◌, length, take, drop};
+ghost use Rattle.std.specs.List.{prefix_len, slice_index};
+ghost use Rattle.std.specs.Char.{digit_char};
+ghost use Rattle.hex.specs.Hex.{encode_lower, lower_digits};
+ghost use Rattle.json.specs.Print.{escape_letter, escape_byte, escape};
+ghost use Rattle.json.specs.Run.{is_plain};
+ghost use Rattle.amqp_json.specs.Puts.{Puts};
+
+#[inline(always)]
+pub(crate) fn put(room: &mut [u8], at: usize, bytes: &[u8]) -> usize
+    ensures { Puts room.old at room.new result bytes.now }
+{
+    if at <= room.len() && bytes.len() <= room.len() - at {
+        room[at..at + bytes.len()].copy_from_slice(bytes);
+    }
+    at.saturating_add(bytes.len())
+}
+
+/// The bytes in hexadecimal digits.
+pub(crate) fn put_hexadecimal(room: &mut [u8], at: usize, bytes: &[u8]) -> usize
+    ensures { Puts room.old at room.new result (encode_lower bytes.now) }
+{
+    let mut at = at;
+    for &byte in bytes {
+        at = put(room, at, &[hexadecimal(byte / 16), hexadecimal(byte % 16)]);
+    }
+    at
+}
+
+const DIGITS: &[u8; 16] = b"0123456789abcdef";
+
+fn hexadecimal(n: u8) -> u8
+    requires { n < 16 }
+    ensures { result ≡ slice_index lower_digits n }
+{
+    DIGITS[n as usize]
+}
+
+/// A text in quotes, of which `close` is the last one with what follows.
+#[inline(always)]
+#[tactic(auto, using(crate::proofs::Putting::puts_more))]
+pub(crate) fn put_quoted(room: &mut [u8], at: usize, text: &[u8], close: &[u8]) -> usize
+    ensures { Puts room.old at room.new result (34 ∷ (escape text.now ++ close.now)) }
+{
+    let at = put(room, at, b"\"");
+    put_escaped(room, at, text, close)
+}
+
+#[inline(always)]
+fn put_escaped(room: &mut [u8], at: usize, text: &[u8], close: &[u8]) -> usize
+    ensures { Puts room.old at room.new result (escape text.now ++ close.now) }
+{
+    let mut at = at;
+    let mut from = 0;
+    loop {
+        let stop = plain_end(text, from);
+        at = put(room, at, &text[from..stop]);
+        if stop == text.len() {
+            return put(room, at, close);
+        }
+        let (escape, count) = escape_of(text[stop]);
+        at = put(room, at, &escape[..count]);
+        from = stop + 1;
+    }
+}
+
+/// The end of bytes that need no escape, from `from` on.
+#[inline(always)]
+fn plain_end(text: &[u8], from: usize) -> usize
+    requires { from ≤ length text.now }
+    ensures value { result ≡ from + prefix_len is_plain (drop from text.now) }
+    ensures bound { result ≤ length text.now }
+{
+    let mut i = from;
+    while i < text.len() && text[i] != b'"' && text[i] != b'\\' && text[i] >= 0x20 {
+        i += 1;
+    }
+    i
+}
+
+#[tactic(auto, unfolding(json::specs::Print::escape_byte))]
+fn escape_of(byte: u8) -> ([u8; 6], usize)
+    ensures value { take result.1 result.0 ≡ escape_byte byte }
+    ensures bound { result.1 ≤ 6 }
+{
+    let letter = letter(byte);
+    if letter > 0 {
+        return ([b'\\', letter, 0, 0, 0, 0], 2);
+    }
+    if byte < 0x20 {
+        return (
+            [b'\\', b'u', b'0', b'0', digit(byte / 16), digit(byte % 16)],
+            6,
+        );
+    }
+    ([byte, 0, 0, 0, 0, 0], 1)
+}
+
+// The letter of the short escape, or 0.
+fn letter(byte: u8) -> u8
+    ensures { result ≡ escape_letter byte }
+{
+    match byte {
+        b'"' | b'\\' => byte,
+        8 => b'b',
+        12 => b'f',
+        b'\n' => b'n',
+        b'\r' => b'r',
+        b'\t' => b't',
+        _ => 0,
+    }
+}
+
+fn digit(n: u8) -> u8
+    requires { n < 16 }
+    ensures { result ≡ digit_char n }
+{
+    if n < 10 { b'0' + n } else { b'a' - 10 + n }
+}
