@@ -1,0 +1,178 @@
+from collections.abc import Mapping
+from datetime import datetime
+from decimal import Decimal
+from typing import Any, Literal, SupportsIndex, Union, overload
+
+from typing_extensions import Self, TypeAlias
+
+__version__: str
+# The largest `depth`, and the default ones.
+MOST_DEPTH: int
+DEPTH: int
+FRAME: int
+
+Data: TypeAlias = Union[bytes, bytearray, memoryview]
+# What becomes of keys and text that aren't UTF-8.
+NotUtf8: TypeAlias = Literal["strict", "bytes", "surrogateescape"]
+# Which of equal keys counts.
+EqualKeys: TypeAlias = Literal["last", "first"]
+Table: TypeAlias = Union[Mapping[str, Any], Mapping[bytes, Any], Mapping[Union[str, bytes], Any]]
+Kind: TypeAlias = Literal[
+    "cut",
+    "key cut",
+    "unknown tag",
+    "too deep",
+    "too large",
+    "key not UTF-8",
+    "text not UTF-8",
+    "trailing bytes",
+    "not finite",
+    "lone surrogate",
+    "out of range",
+    "naive datetime",
+    "key too long",
+    "equal keys",
+    "changed",
+    "raised",
+    "bad option",
+]
+
+class Error(ValueError):
+    kind: Kind
+    offset: int
+    expected: str
+    missing: int
+    path: tuple[Any, ...]
+    def __init__(self, kind: Kind, offset: int = 0, expected: str = "", missing: int = 0) -> None: ...
+
+class _Integer(int):
+    tag: str
+    least: int
+    most: int
+    def __new__(cls, value: SupportsIndex = 0) -> Self: ...
+
+class ShortShortInt(_Integer): ...
+class ShortShortUInt(_Integer): ...
+class ShortInt(_Integer): ...
+class ShortUInt(_Integer): ...
+class LongInt(_Integer): ...
+class LongUInt(_Integer): ...
+
+class Timestamp(_Integer):
+    @classmethod
+    def of(cls, time: datetime) -> Self: ...
+    def as_datetime(self) -> datetime: ...
+
+class Float(float):
+    def __new__(cls, value: Union[float, Decimal] = 0.0) -> Self: ...
+    @classmethod
+    def of_bits(cls, bits: SupportsIndex) -> Self: ...
+    @property
+    def bits(self) -> int: ...
+
+class LongString(bytes):
+    def __new__(cls, content: Data = b"") -> Self: ...
+
+class Encoded(bytes):
+    def __new__(cls, content: Data = b"") -> Self: ...
+
+def loads(
+    data: Data,
+    *,
+    keys: NotUtf8 = "strict",
+    text: NotUtf8 = "strict",
+    plain: bool = False,
+    equal_keys: EqualKeys = "last",
+    signed_decimals: bool = False,
+    finite: bool = False,
+    depth: int = 64,
+    frame: int = 131072,
+) -> Any: ...
+@overload
+def loads_table(
+    data: Data,
+    *,
+    keys: Literal["strict", "surrogateescape"] = "strict",
+    text: NotUtf8 = "strict",
+    plain: bool = False,
+    equal_keys: EqualKeys = "last",
+    signed_decimals: bool = False,
+    finite: bool = False,
+    depth: int = 64,
+    frame: int = 131072,
+) -> dict[str, Any]: ...
+@overload
+def loads_table(
+    data: Data,
+    *,
+    keys: NotUtf8,
+    text: NotUtf8 = "strict",
+    plain: bool = False,
+    equal_keys: EqualKeys = "last",
+    signed_decimals: bool = False,
+    finite: bool = False,
+    depth: int = 64,
+    frame: int = 131072,
+) -> dict[Union[str, bytes], Any]: ...
+@overload
+def decode_table(
+    data: Data,
+    offset: int = 0,
+    *,
+    keys: Literal["strict", "surrogateescape"] = "strict",
+    text: NotUtf8 = "strict",
+    plain: bool = False,
+    equal_keys: EqualKeys = "last",
+    signed_decimals: bool = False,
+    finite: bool = False,
+    depth: int = 64,
+    frame: int = 131072,
+) -> tuple[dict[str, Any], int]: ...
+@overload
+def decode_table(
+    data: Data,
+    offset: int = 0,
+    *,
+    keys: NotUtf8,
+    text: NotUtf8 = "strict",
+    plain: bool = False,
+    equal_keys: EqualKeys = "last",
+    signed_decimals: bool = False,
+    finite: bool = False,
+    depth: int = 64,
+    frame: int = 131072,
+) -> tuple[dict[Union[str, bytes], Any], int]: ...
+def find(
+    data: Data,
+    *path: Union[str, bytes, int],
+    table: bool = False,
+    default: Any = None,
+    keys: NotUtf8 = "strict",
+    text: NotUtf8 = "strict",
+    plain: bool = False,
+    equal_keys: EqualKeys = "last",
+    signed_decimals: bool = False,
+    finite: bool = False,
+    depth: int = 64,
+    frame: int = 131072,
+) -> Any: ...
+def dumps(
+    value: Any,
+    *,
+    keys: NotUtf8 = "strict",
+    text: NotUtf8 = "strict",
+    naive_datetimes: bool = False,
+    signed_decimals: bool = False,
+    finite: bool = False,
+    depth: int = 64,
+) -> bytes: ...
+def dumps_table(
+    mapping: Table,
+    *,
+    keys: NotUtf8 = "strict",
+    text: NotUtf8 = "strict",
+    naive_datetimes: bool = False,
+    signed_decimals: bool = False,
+    finite: bool = False,
+    depth: int = 64,
+) -> bytes: ...
