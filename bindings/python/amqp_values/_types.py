@@ -162,7 +162,7 @@ class Float(float):
             raise TypeError(f"a Float is made of a number, not {type(value).__name__}")
         try:
             # (as it is, whatever a subclass makes of it; a signaling NaN of Decimal is no float)
-            kind = next(it for it in (int, float, Decimal) if isinstance(value, it))
+            kind: Any = next(it for it in (int, float, Decimal) if isinstance(value, it))
             (narrow,) = struct.unpack(">f", struct.pack(">f", kind.__float__(value)))
         except (OverflowError, ValueError):
             raise Error("out of range", 0, f"a number of 32 bits, not {_shown(value)}") from None
