@@ -254,7 +254,7 @@ def test_threads() -> None:
 # dict of one key takes 184 bytes, and these are 6.
 DENSE: dict[str, tuple[bytes, int]] = {
     "Floats": (b"f\0\0\0\1", 30), "Voids": (b"V", 30), "booleans": (b"t\1", 30), "ShortShortInts": (b"b\1", 30),
-    "LongInts": (b"I\0\0\1\1", 30), "Timestamps": (b"T" + b"\1" * 8, 30), "decimals": (b"D\2\0\0\0\1", 30), "doubles": (b"d" + b"\1" * 8, 30),
+    "LongInts": (b"I\0\0\1\1", 30), "Timestamps": (b"T\0\0\0\1" + b"\1" * 4, 30), "decimals": (b"D\2\0\0\0\1", 30), "doubles": (b"d" + b"\1" * 8, 30),
     "strings": (b"S\0\0\0\0", 30), "letters": (b"S\0\0\0\2\xc3\xb6", 30), "bytes": (b"x\0\0\0\1a", 30), "arrays": (b"A\0\0\0\0", 30),
     "tables": (b"F\0\0\0\0", 30), "arrays of a Void": (b"A\0\0\0\1V", 30), "LongStrings": (b"S\0\0\0\1\xff", 30),
     "tables of a Void": (field(b"F", b"\1aV"), 30), "tables of an empty key": (field(b"F", b"\0V"), 30),
@@ -390,4 +390,4 @@ def test_no_memory(name: str) -> None:
     package = str(Path(own.__file__).parents[1])
     done = subprocess.run([sys.executable, "-c", NO_MEMORY, name, package], capture_output=True, text=True)
     assert not done.returncode, done.stderr[-1500:]
-    assert int(done.stdout) >= 3
+    assert int(done.stdout) >= 1

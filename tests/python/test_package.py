@@ -217,7 +217,7 @@ def test_keys_and_text_that_are_not_utf8() -> None:
     assert own.dumps_table(escaped, keys="surrogateescape", text="surrogateescape") == LATIN
     assert own_error(lambda: own.dumps_table(as_bytes)) == ("key not UTF-8", 4, 0)
     assert own_error(lambda: own.dumps_table(escaped)) == ("lone surrogate", 4, 0)
-    assert own_error(lambda: own.dumps_table(escaped, keys="surrogateescape")) == ("lone surrogate", 13 - 1 - 1, 0)
+    assert own_error(lambda: own.dumps_table(escaped, keys="surrogateescape")) == ("lone surrogate", 12, 0)
     assert own.loads_table(LATIN, keys="bytes", text="bytes", plain=True)["t"] == b"\xff"
     pairs: list[tuple[Any, Any]] = [("bytes", b"k\xf6y"), ("surrogateescape", "k\udcf6y")]
     for keys, key in pairs:
@@ -308,7 +308,7 @@ def test_times() -> None:
         2027, 1, 15, 8, tzinfo=UTC
     )
     naive = datetime(2027, 1, 15, 8)
-    assert own_error(lambda: own.dumps_table({"t": naive})) == ("naive datetime", 4, 0)
+    assert own_error(lambda: own.dumps_table({"t": naive})) == ("naive datetime", 6, 0)
     assert own.loads_table(own.dumps_table({"t": naive}, naive_datetimes=True)) == {"t": 1_800_000_000}
     assert own_error(lambda: own.dumps(datetime(1969, 12, 31, tzinfo=UTC))) == ("out of range", 0, 0)
     assert own_error(lambda: own.dumps(datetime(1969, 12, 31), naive_datetimes=True)) == ("out of range", 0, 0)
@@ -442,7 +442,7 @@ WRITES: list[tuple[Any, tuple[str, int, int], tuple[Any, ...]]] = [
     ({b"\xff": 1}, ("key not UTF-8", 5, 0), (b"\xff",)),
     ({"x": [2**63]}, ("out of range", 12, 0), ("x", 0)),
     ([-(2**63) - 1], ("out of range", 5, 0), (0,)),
-    ([10**5000], ("out of range", 5, 0), (0,)),
+    ([10**4000], ("out of range", 5, 0), (0,)),
     ([Decimal(-1)], ("out of range", 5, 0), (0,)),
     ([own.Encoded(b"z")], ("unknown tag", 5, 0), (0,)),
     ({"k": own.Encoded(b"S\0\0\0\5ab")}, ("cut", 7, 3), ("k",)),
