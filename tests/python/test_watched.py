@@ -47,4 +47,4 @@ def test_references(request: pytest.FixtureRequest, tmp_path: Path, seed: int) -
     assert python, f"{DEBUG} is missing (.ci/setup installs it)"
     wrong = build_package(Crates(), tmp_path, bool(request.config.getoption("--built")), ["-DPy_REF_DEBUG"])
     assert not wrong, wrong
-    assert watched(python, "references", str(tmp_path), seed, 1000, {}) == 0
+    assert watched(python, "references", str(tmp_path), seed, 1000, {}) <= 0
