@@ -1,8 +1,10 @@
 """Builds the package before the tests are read, which import it: once, also if several processes run them."""
 
 import os
+import shutil
 import sys
 import tempfile
+from functools import partial
 from pathlib import Path
 from typing import Any
 
@@ -23,6 +25,7 @@ def pytest_configure(config: pytest.Config) -> None:
         if wrong:
             raise pytest.UsageError(wrong)
         os.environ[BUILT] = folder
+        config.add_cleanup(partial(shutil.rmtree, folder))
     sys.path.insert(0, os.environ[BUILT])
 
 
