@@ -168,9 +168,10 @@ def try_wheel(wheel: Path, python: Path) -> tuple[str, str]:
     with tempfile.TemporaryDirectory(prefix="wheel-") as folder:
         own = Path(folder) / "env/bin/python"
         how = ["--no-index", "--no-deps", "--no-cache-dir", "--disable-pip-version-check", "-q"]
+        # (of that Python's own pip, which needs no second one)
         steps: list[Words] = [
-            [python, "-m", "venv", Path(folder) / "env"],
-            [own, "-m", "pip", "install", *how, wheel],
+            [python, "-m", "venv", "--without-pip", Path(folder) / "env"],
+            [python, "-m", "pip", "--python", own, "install", *how, wheel],
             [own, "-I", "-c", TRIED],
         ]
         for words in steps:

@@ -32,7 +32,7 @@ pytestmark = pytest.mark.usefixtures("library")
 
 # The kinds of problems in include/amqp_values.h, as the package calls them.
 KINDS = {1: "unknown tag", 3: "cut", 4: "key cut", 5: "too deep", 7: "key not UTF-8"}
-INPUTS = 20_000
+INPUTS = 12_000
 
 
 def own_error(call: Callable[[], Any]) -> tuple[str, int, int] | None:
