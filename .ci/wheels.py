@@ -42,7 +42,9 @@ for bytes_ in (b"", b"z", b"S\\0\\0\\0\\1", b"S\\0\\0\\0\\1\\xff", b"A" * 99):
         av.loads(bytes_)
     except av.Error:
         tried += 1
-assert (pathlib.Path(av.__file__).parent / "py.typed").exists()
+here = pathlib.Path(av.__file__).parent
+assert (here / "py.typed").exists()
+assert "Copyright" in next(here.parent.glob("amqp_values-*/LICENSE")).read_text()
 print("%d.%d.%d: %d tried" % (*sys.version_info[:3], tried))
 """
 Words = Sequence[str | Path]
@@ -91,6 +93,7 @@ def make_wheel(library: Path, to: Path, target: str = X86_64) -> tuple[Path, str
             PACKAGE, copy, ignore=shutil.ignore_patterns("build", "*.egg-info", "*.so", "lib", "__pycache__")
         )
         shutil.copytree(INCLUDE, Path(folder) / "include")
+        shutil.copy(TOP / "LICENSE", copy)
         for it in copy.rglob("*"):
             os.utime(it, (released_at().timestamp(),) * 2)
         env = {
