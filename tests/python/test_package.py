@@ -107,7 +107,7 @@ def test_inputs_by_both_judges(seed: int, record_property: Callable[[str, object
         tried += 1
         read_ones += judge_error(data, is_table) is None
     assert read_ones > tried / 3
-    record_property("inputs", tried)
+    record_property("package-inputs", tried)
 
 
 @pytest.mark.parametrize("value, digits", ROWS, ids=map(named, (it for it, _ in ROWS)))

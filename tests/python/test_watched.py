@@ -38,7 +38,7 @@ def test_sanitizers(
     assert not wrong, wrong
     env = {"LD_PRELOAD": runtime("libasan.so"), "ASAN_OPTIONS": "detect_leaks=0", "PYTHONMALLOC": "malloc"}
     assert watched(PYTHON, "mutated", str(tmp_path), seed, count, env) == count
-    record_property("sanitized", count)
+    record_property("package-sanitized", count)
 
 
 def test_references(request: pytest.FixtureRequest, tmp_path: Path, seed: int) -> None:
