@@ -493,7 +493,7 @@ def test_the_error_is_copied_with_what_it_has() -> None:
     assert issubclass(own.Error, ValueError)
 
 
-KIND = re.compile(r"(?ms)^Kind: TypeAlias = Literal\[\n(.*?)^\]")
+KIND = re.compile(r"(?ms)^_Kind: TypeAlias = Literal\[\n(.*?)^\]")
 
 
 def test_every_kind_is_raised_and_typed() -> None:

@@ -42,7 +42,6 @@ static int limit_of(const State *state, const char *name, PyObject *value, unsig
     int overflows;
     PyObject *number = PyNumber_Index(value);
     if (number == NULL) {
-        raise_foreign(state, 0);
         return 0;
     }
     long long found = PyLong_AsLongLongAndOverflow(number, &overflows);
@@ -91,7 +90,6 @@ static int take_option(const State *state, size_t option, PyObject *value, Optio
     } else {
         int truth = PyObject_IsTrue(value);
         if (truth < 0) {
-            raise_foreign(state, 0);
             return 0;
         }
         found = (uint32_t)truth;
@@ -129,7 +127,7 @@ static int take(const State *state, const char *name, Py_ssize_t most, int of, P
 }
 
 /* The bytes of an object, which is returned or copied: of a copy nothing changes while it is read. */
-static PyObject *content_of(const State *state, PyObject *data, const uint8_t **bytes, size_t *length) {
+static PyObject *content_of(PyObject *data, const uint8_t **bytes, size_t *length) {
     char *content;
     Py_ssize_t count;
     PyObject *kept = NULL;
@@ -138,10 +136,6 @@ static PyObject *content_of(const State *state, PyObject *data, const uint8_t **
         kept = data;
     } else if (PyByteArray_Check(data) || PyMemoryView_Check(data)) {
         kept = PyBytes_FromObject(data);
-        if (kept == NULL) {
-            /* (a memoryview that was released) */
-            raise_foreign(state, 0);
-        }
     } else {
         raise_type("data is bytes, a bytearray or a memoryview", data);
     }
@@ -155,7 +149,8 @@ static PyObject *content_of(const State *state, PyObject *data, const uint8_t **
     return kept;
 }
 
-/* Makes an exception that isn't documented, as a RecursionError, an Error. */
+/* Makes an exception that isn't documented an Error: a RecursionError, what a method of an option raised, or a ValueError since
+   a memoryview was released. */
 static PyObject *documented(const State *state, PyObject *made) {
     if (made == NULL) {
         raise_foreign(state, 0);
@@ -183,7 +178,7 @@ static PyObject *loads_by(PyObject *module, PyObject *const *arguments, Py_ssize
     PyObject *content = NULL, *made = NULL;
     amqpv_entry entry;
     if (take(state, is_table ? "loads_table" : "loads", 1, READING, arguments, count, names, &how)) {
-        content = content_of(state, arguments[0], &reader.bytes, &reader.length);
+        content = content_of(arguments[0], &reader.bytes, &reader.length);
     }
     if (content != NULL && read_whole(&reader, &entry)) {
         made = build(&reader, &entry);
@@ -209,7 +204,7 @@ static PyObject *decode_table(PyObject *module, PyObject *const *arguments, Py_s
     unsigned long long before = 0;
     size_t length = 0;
     if (take(state, "decode_table", 2, READING | DECODE, arguments, count, names, &how)) {
-        content = content_of(state, arguments[0], &reader.bytes, &reader.length);
+        content = content_of(arguments[0], &reader.bytes, &reader.length);
     }
     if (content != NULL && (how.offset == NULL || limit_of(state, "offset", how.offset, reader.length, &before))) {
         reader.base = (size_t)before;
@@ -282,7 +277,7 @@ static PyObject *find(PyObject *module, PyObject *const *arguments, Py_ssize_t c
     PyObject *content = NULL, *made = NULL;
     amqpv_entry entry;
     if (take(state, "find", PY_SSIZE_T_MAX, READING | FIND, arguments, count, names, &how)) {
-        content = content_of(state, arguments[0], &reader.bytes, &reader.length);
+        content = content_of(arguments[0], &reader.bytes, &reader.length);
     }
     if (content != NULL && read_whole(&reader, &entry)) {
         made = found_at(&reader, &entry, arguments + 1, count - 1);
