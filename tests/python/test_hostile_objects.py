@@ -173,7 +173,7 @@ def test_the_largest_depth_in_a_thread_of_512_kib() -> None:
                 return "done"
             except own.Error as why:
                 assert len(str(why)) > 9
-        for bad in (nested("A", levels, b"z"), nested("F", levels, b"S\0\0\0\1\xff"), nested("F", levels + 1, b"")):
+        for bad in (nested("A", levels, b"z"), nested("F", levels, b"S\0\0\0\1\xff"), nested("F", levels + 1, b"V")):
             for keys in hows:
                 try:
                     own.loads(bad, depth=levels, keys=keys)
