@@ -57,7 +57,7 @@ static int limit_of(const State *state, const char *name, PyObject *value, unsig
 /* One of some words, by its place. */
 static int word_of(const State *state, const char *name, PyObject *value, const char *const *words, uint32_t *at) {
     if (!PyUnicode_Check(value)) {
-        raise_type("an option is a str", value);
+        raise_type(state, "an option is a str", value);
         return 0;
     }
     for (*at = 0; words[*at] != NULL; ++*at) {
@@ -127,7 +127,7 @@ static int take(const State *state, const char *name, Py_ssize_t most, int of, P
 }
 
 /* The bytes of an object, which is returned or copied: of a copy nothing changes while it is read. */
-static PyObject *content_of(PyObject *data, const uint8_t **bytes, size_t *length) {
+static PyObject *content_of(const State *state, PyObject *data, const uint8_t **bytes, size_t *length) {
     char *content;
     Py_ssize_t count;
     PyObject *kept = NULL;
@@ -137,7 +137,7 @@ static PyObject *content_of(PyObject *data, const uint8_t **bytes, size_t *lengt
     } else if (PyByteArray_Check(data) || PyMemoryView_Check(data)) {
         kept = PyBytes_FromObject(data);
     } else {
-        raise_type("data is bytes, a bytearray or a memoryview", data);
+        raise_type(state, "data is bytes, a bytearray or a memoryview", data);
     }
     if (kept != NULL && PyBytes_AsStringAndSize(kept, &content, &count) < 0) {
         Py_CLEAR(kept);
@@ -178,7 +178,7 @@ static PyObject *loads_by(PyObject *module, PyObject *const *arguments, Py_ssize
     PyObject *content = NULL, *made = NULL;
     amqpv_entry entry;
     if (take(state, is_table ? "loads_table" : "loads", 1, READING, arguments, count, names, &how)) {
-        content = content_of(arguments[0], &reader.bytes, &reader.length);
+        content = content_of(state, arguments[0], &reader.bytes, &reader.length);
     }
     if (content != NULL && read_whole(&reader, &entry)) {
         made = build(&reader, &entry);
@@ -204,7 +204,7 @@ static PyObject *decode_table(PyObject *module, PyObject *const *arguments, Py_s
     unsigned long long before = 0;
     size_t length = 0;
     if (take(state, "decode_table", 2, READING | DECODE, arguments, count, names, &how)) {
-        content = content_of(arguments[0], &reader.bytes, &reader.length);
+        content = content_of(state, arguments[0], &reader.bytes, &reader.length);
     }
     if (content != NULL && (how.offset == NULL || limit_of(state, "offset", how.offset, reader.length, &before))) {
         reader.base = (size_t)before;
@@ -231,7 +231,7 @@ static int step_of(const State *state, const Options *how, PyObject *it, amqpv_s
     }
     step->tag = AMQPV_ARRAY;
     if (!PyLong_Check(it)) {
-        raise_type("a step of a path is a str, bytes or an int", it);
+        raise_type(state, "a step of a path is a str, bytes or an int", it);
         return 0;
     }
     if (!limit_of(state, "an index", it, PY_SSIZE_T_MAX, &index)) {
@@ -277,7 +277,7 @@ static PyObject *find(PyObject *module, PyObject *const *arguments, Py_ssize_t c
     PyObject *content = NULL, *made = NULL;
     amqpv_entry entry;
     if (take(state, "find", PY_SSIZE_T_MAX, READING | FIND, arguments, count, names, &how)) {
-        content = content_of(arguments[0], &reader.bytes, &reader.length);
+        content = content_of(state, arguments[0], &reader.bytes, &reader.length);
     }
     if (content != NULL && read_whole(&reader, &entry)) {
         made = found_at(&reader, &entry, arguments + 1, count - 1);
@@ -371,7 +371,12 @@ static int begin(PyObject *module) {
         || (state->from_timestamp = PyObject_GetAttrString(state->datetime, "fromtimestamp")) == NULL
         || (state->utc_offset = PyObject_GetAttrString(state->datetime, "utcoffset")) == NULL
         || (state->mapping = imported("collections.abc", "Mapping")) == NULL
-        || (state->sequence = imported("collections.abc", "Sequence")) == NULL) {
+        || (state->sequence = imported("collections.abc", "Sequence")) == NULL
+        || (state->items = PyUnicode_InternFromString("items")) == NULL
+        || (state->days = PyUnicode_InternFromString("days")) == NULL
+        || (state->seconds = PyUnicode_InternFromString("seconds")) == NULL
+        || (state->path = PyUnicode_InternFromString("path")) == NULL
+        || (state->name = PyUnicode_InternFromString("__name__")) == NULL) {
         return -1;
     }
     PyObject *zone = imported("datetime", "timezone");
