@@ -1,0 +1,77 @@
+"""AMQP 0-9-1 field tables, exact in both directions: the headers and arguments of RabbitMQ's messages, queues and exchanges.
+
+    >>> data = dumps_table({"x-max-length": 10000, "x-queue-type": "quorum", "x-max-priority": ShortShortUInt(5)})
+    >>> loads_table(data)
+    {'x-max-length': 10000, 'x-queue-type': 'quorum', 'x-max-priority': ShortShortUInt(5)}
+    >>> find(data, "x-queue-type", table=True)
+    'quorum'
+
+Each type is one of Python, or a class that is a number or bytes there:
+
+    t  Boolean         bool                        f  Float         Float, a float
+    b  ShortShortInt   ShortShortInt, an int       d  Double        float
+    B  ShortShortUInt  ShortShortUInt, an int      D  DecimalValue  decimal.Decimal
+    s  ShortInt        ShortInt, an int            S  LongString    str, or LongString, bytes, if it isn't UTF-8
+    u  ShortUInt       ShortUInt, an int           x  ByteArray     bytes
+    I  LongInt         LongInt, an int             A  FieldArray    list
+    i  LongUInt        LongUInt, an int            F  FieldTable    dict, its keys str, or bytes that aren't UTF-8
+    l  LongLongInt     int                         T  Timestamp     Timestamp, an int, in seconds since 1970
+                                                   V  Void          None
+
+So `dumps(loads(data))` is `data`, but for what can be written in two ways: the alternate tags U and L become s and l, a true
+that isn't 1 becomes 1, and of equal keys in a table one is kept. What isn't read or can't be written raises `Error`; besides
+it only TypeError, for an object of no type that a hint allows, and MemoryError come.
+
+Reading takes these options, by name:
+
+    keys, text       what becomes of a key, or a string, that isn't UTF-8: "strict", an `Error`; "bytes", bytes (a string is
+                     LongString); "surrogateescape", a str with surrogates, as in the names of files
+    plain            True for the plain types of Python: int, float, bytes, and for a Timestamp a datetime in UTC
+    equal_keys       which of equal keys counts: "last", or "first", as for RabbitMQ
+    signed_decimals  True for decimals that pika or py-amqp wrote, of 32 bits with a sign
+    finite           True to refuse infinities and NaNs, for which RabbitMQ closes the connection
+    depth, frame     how deep containers nest at most, up to MOST_DEPTH, and how many bytes a value has at most, the type tag
+                     of a table counted
+
+and writing these:
+
+    keys, text       "bytes" for keys that are any bytes; "surrogateescape" for str with such surrogates
+    naive_datetimes  True to write a datetime without a time zone, as of UTC
+    signed_decimals  True to write decimals of 32 bits with a sign, as pika and py-amqp do
+    finite           True to refuse infinities and NaNs
+    depth            how deep containers nest at most
+"""
+
+from ._native import DEPTH, FRAME, MOST_DEPTH, __version__, decode_table, dumps, dumps_table, find, loads, loads_table
+from ._types import Encoded, Error, Float, LongInt, LongString, LongUInt
+from ._types import ShortInt, ShortShortInt, ShortShortUInt, ShortUInt, Timestamp
+
+for _it in (Encoded, Error, Float, LongInt, LongString, LongUInt):
+    _it.__module__ = __name__
+for _it in (ShortInt, ShortShortInt, ShortShortUInt, ShortUInt, Timestamp):
+    _it.__module__ = __name__
+del _it
+
+__all__ = [
+    "DEPTH",
+    "Encoded",
+    "Error",
+    "FRAME",
+    "Float",
+    "LongInt",
+    "LongString",
+    "LongUInt",
+    "MOST_DEPTH",
+    "ShortInt",
+    "ShortShortInt",
+    "ShortShortUInt",
+    "ShortUInt",
+    "Timestamp",
+    "__version__",
+    "decode_table",
+    "dumps",
+    "dumps_table",
+    "find",
+    "loads",
+    "loads_table",
+]
