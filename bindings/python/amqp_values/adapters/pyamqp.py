@@ -1,0 +1,80 @@
+"""The codec of py-amqp, and so of kombu and Celery, in place of its own: `install()` and `uninstall()`."""
+
+from collections.abc import Callable
+from decimal import Decimal
+from struct import pack
+from typing import Any, Literal
+
+import amqp.abstract_channel
+import amqp.sasl
+from amqp import serialization
+from amqp.exceptions import FrameSyntaxError
+
+from amqp_values import DEPTH, Encoded, Error, LongString
+from amqp_values.adapters.shared import FRAME, Client, Codec, Options, Places, tested
+
+VERSIONS = ("5.1.1",)
+places = Places()
+
+
+class PyAmqp(Client):
+    keys = "surrogateescape"
+
+    def got(self, value: Any) -> Any:
+        if isinstance(value, Decimal):
+            # (without zeros at the end of the digits after the point)
+            sign, digits, exponent = value.as_tuple()
+            return Decimal((sign, digits, 0)) / 10 ** -int(exponent)
+        return super().got(value)
+
+    def sent(self, value: Any) -> Any:
+        if isinstance(value, int) and not -(2**31) < value < 2**31 and abs(value) <= 2**63 - (value > 0):
+            # (by the tag l py-amqp and pika read a number without sign)
+            return Encoded(pack(">cq", b"L", value))
+        return LongString(value) if isinstance(value, bytes) else super().sent(value)
+
+    def unread(self, problem: Error) -> Exception:
+        error: Exception = FrameSyntaxError(str(problem))
+        return error
+
+    def unwritten(self, problem: Exception, table: Any) -> Exception:
+        error: Exception = FrameSyntaxError(str(problem))
+        return error
+
+
+def install(
+    *,
+    depth: int = DEPTH,
+    frame: int = FRAME,
+    equal_keys: Literal["first", "last"] = "last",
+    exact: bool = True,
+    raises: bool = False,
+) -> None:
+    """Puts this codec in place of py-amqp's, with these options."""
+    tested(amqp, *VERSIONS)
+    uninstall()
+    codec = Codec(PyAmqp(), Options(depth, frame, equal_keys, exact, raises))
+    read_others = serialization.loads
+
+    def loads(format: str | bytes, buf: Any, offset: int) -> tuple[list[Any], int]:
+        # (after a table come no bits of the octet before it)
+        values: list[Any] = []
+        for number, others in enumerate((format if isinstance(format, str) else format.decode()).split("F")):
+            if number:
+                table, offset = codec.read(buf, offset)
+                values.append(table)
+            if others:
+                found, offset = read_others(others, buf, offset)
+                values += found
+        return values, offset
+
+    def write_table(table: Any, write: Callable[[bytes], object], _: Any) -> None:
+        write(codec.write(table))
+
+    places.put_everywhere(serialization, "loads", loads)
+    places.put_everywhere(serialization, "_write_table", write_table)
+
+
+def uninstall() -> None:
+    """Puts py-amqp's own codec back."""
+    places.restore()
