@@ -2,11 +2,12 @@
 
 import random
 
-import amqp_values as av
 import pytest
 from crates import Crates
 from hypothesis import settings
 from lib import shared_object
+
+from tests.python import ctypes_values as av
 
 # Of a property, the examples that are tried: the same in each run, or others in each.
 settings.register_profile("fixed", derandomize=True, deadline=None, database=None)

@@ -1,1 +1,1 @@
-"""The Python module examples/python/amqp_values.py, over a shared object of the calls for C."""
+"""The Python package of bindings/python, and ctypes_values.py, its judge, over a shared object of the calls for C."""

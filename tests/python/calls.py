@@ -16,10 +16,10 @@ from enum import IntEnum
 from fractions import Fraction
 from typing import Any, TypeVar
 
-import amqp_values as av
 from crates import TOP
 
 from tests.model.printed import TYPES, Value, extent, json_of, json_text, lack, read, write
+from tests.python import ctypes_values as av
 from tests.python.odd import ERRORS, OTHERS, Content, Failing, Indexed, Number, Own, Text, Wanted
 from tests.python.odd import buffer_of, container, decimal_of, deep, float_of, integer, key_of, leaf
 from tests.python.odd import no_buffer, of_time, piece, scanned, time_of

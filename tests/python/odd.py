@@ -18,10 +18,9 @@ from enum import Enum, IntEnum
 from fractions import Fraction
 from typing import Any
 
-import amqp_values as av
-
 from tests.model.printed import TYPES, captured, damaged, field, is_utf8, nested, value_of
 from tests.model.tables import odd_table, random_table, raw, width_of
+from tests.python import ctypes_values as av
 from tests.python.values import UTC
 
 Random = random.Random

@@ -1,7 +1,7 @@
-"""Tries odd arguments on each function and class of examples/python/amqp_values.py.
+"""Tries odd arguments on each function and class of ctypes_values.py.
 
 Each gets arguments 100,000 times and in a separate process: what it takes, of every type and at every edge, and mistakes of
-every kind. A call returns, or raises what docs/C.md lists:
+every kind. A call returns, or raises what its head lists:
 
 - With no mistake in its arguments it returns exactly if the scanner of odd.py and the reader of the model find a value, and
   returns what they make of it. Otherwise it raises an `Error`: of what can't be written, the class that is predicted.
@@ -24,9 +24,9 @@ from pathlib import Path
 from random import Random
 from typing import Any
 
-import amqp_values as av
 import pytest
 
+from tests.python import ctypes_values as av
 from tests.python.calls import TRIED, Arguments
 from tests.python.odd import ERRORS
 

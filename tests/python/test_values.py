@@ -1,4 +1,4 @@
-"""The values of examples/python/amqp_values.py, by the reader and writer of the model."""
+"""The values of ctypes_values.py, by the reader and writer of the model."""
 
 import doctest
 import json
@@ -10,7 +10,6 @@ from random import Random
 from typing import Any
 from unittest.mock import Mock
 
-import amqp_values as av
 import pytest
 from crates import TOP
 from hypothesis import given
@@ -20,6 +19,7 @@ from tests.model.printed import FRAME, Dissection, Value, captured, extent, fiel
 from tests.model.printed import outcome, read, table_of, untagged, value_of, write
 from tests.model.tables import EVERY_TYPE, first_problem, odd_table, random_table, raw, types_in
 from tests.model.test_properties import VALUES
+from tests.python import ctypes_values as av
 from tests.python.odd import CYCLE
 from tests.python.values import UTC, error_of, form, python_of
 

@@ -6,10 +6,9 @@ from datetime import timezone
 from decimal import Decimal
 from typing import Any
 
-import amqp_values as av
-
 from tests.model.printed import Value
 from tests.model.tables import integer_of, number
+from tests.python import ctypes_values as av
 
 CLASSES: dict[str, type[int]] = {
     "t": bool, "b": av.ShortShortInt, "B": av.ShortShortUInt, "s": av.ShortInt, "u": av.ShortUInt, "I": av.LongInt,

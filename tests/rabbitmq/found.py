@@ -4,10 +4,9 @@ import time
 from collections.abc import Callable
 from typing import Any
 
-import amqp_values as av
-
 from tests.model.printed import Value
 from tests.model.tables import number, table, text
+from tests.python import ctypes_values as av
 from tests.python.values import form, python_of
 from tests.rabbitmq.broker import Broker
 from tests.rabbitmq.wire import Closed, Connection, Message

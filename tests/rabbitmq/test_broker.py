@@ -1,7 +1,7 @@
 """Holds the calls for C against a running RabbitMQ and its clients.
 
 RabbitMQ of Debian 12 runs in a fresh folder, on free ports of 127.0.0.1. The calls for C are called by
-examples/python/amqp_values.py, in one shared object of both libraries. .ci/setup installs the broker and the clients.
+tests/python/ctypes_values.py, in one shared object of both libraries. .ci/setup installs the broker and the clients.
 
 - Random tables come back equal, by the calls and by the reader of the model: untouched, and read and written by the broker's
   own codec, which a header BCC and dead-lettering have it do. --tables sets their number.
@@ -21,7 +21,6 @@ from concurrent.futures import ThreadPoolExecutor
 from random import Random
 from typing import Any, NamedTuple
 
-import amqp_values as av
 import pytest
 from crates import TOP
 
@@ -29,6 +28,7 @@ from tests.model.printed import FRAME, Unread, Value, field, json_of, json_text,
 from tests.model.tables import EVERY_TYPE, INFINITY, INTEGERS, NAN, NO_TAG, PLAIN, ROWS, Problem
 from tests.model.tables import container_of, decimal, erlang, first_problem, float_of, is_read, matches
 from tests.model.tables import number, odd_table, random_table, row_of, table, text, types_in
+from tests.python import ctypes_values as av
 from tests.python.values import error_of, form
 from tests.rabbitmq import clients
 from tests.rabbitmq.broker import TRACED, Broker

@@ -18,9 +18,10 @@ enum { INTEGERS = 7 };
 /* What the module has imported: of each interpreter its own. */
 typedef struct {
     PyObject *error, *integer, *integers[INTEGERS], *of_float, *long_string, *encoded;
-    PyObject *decimal, *as_tuple, *datetime, *from_timestamp, *subtract, *utc_offset, *utc, *epoch, *naive_epoch;
+    PyObject *decimal, *as_tuple, *datetime, *from_timestamp, *utc_offset, *utc, *epoch, *naive_epoch;
     PyObject *mapping, *sequence;
-    newfunc new_integer, new_float;
+    newfunc new_error, new_integer, new_float;
+    binaryfunc subtract;
 } State;
 
 /* What becomes of keys and text that aren't UTF-8. */

@@ -1,0 +1,43 @@
+"""Builds the extension over libamqp_values.a: that of the folder AMQP_VALUES_LIB_DIR, or of lib/TARGET here.
+
+AMQP_VALUES_TARGET is what it is for, x86_64-unknown-linux-gnu or aarch64-unknown-linux-gnu, else the processor at hand; CC is
+then its compiler. The wheel is for glibc 2.17 and later, which `make wheel` checks.
+"""
+
+import os
+import platform
+import re
+import sys
+from pathlib import Path
+
+from setuptools import Extension, setup
+
+HERE = Path(__file__).resolve().parent
+INCLUDE = HERE.parents[1] / "include"
+TARGET = os.environ.get("AMQP_VALUES_TARGET") or f"{platform.machine()}-unknown-linux-gnu"
+PROCESSOR = TARGET.partition("-")[0]
+ARCHIVE = Path(os.environ.get("AMQP_VALUES_LIB_DIR") or HERE / "lib" / TARGET) / "libamqp_values.a"
+SOURCES = ("errors", "module", "read", "write")
+# (on no other path are the calls for C in the module's own symbols)
+LINKING = ["-Wl,--exclude-libs,ALL", "-Wl,--gc-sections", "-Wl,-z,relro,-z,now"]
+
+if not ARCHIVE.is_file():
+    sys.exit(f"{ARCHIVE} isn't there: `make wheel` makes it, or AMQP_VALUES_LIB_DIR names its folder")
+found = re.search(r'(?m)^#define AMQPV_VERSION "(.*)"$', (INCLUDE / "amqp_values.h").read_text())
+
+setup(
+    version=found[1] if found else sys.exit("the header has no version"),
+    ext_modules=[
+        Extension(
+            "amqp_values._native",
+            [f"src/{it}.c" for it in SOURCES],
+            depends=["src/values.h", str(INCLUDE / "amqp_values.h"), str(ARCHIVE)],
+            include_dirs=[str(INCLUDE), *filter(None, [os.environ.get("AMQP_VALUES_PYTHON_INCLUDE")])],
+            extra_objects=[str(ARCHIVE)],
+            extra_compile_args=["-std=c11", "-O2", "-fvisibility=hidden", "-Wall", "-Wextra", "-Wpedantic", "-Wconversion"],
+            extra_link_args=[] if os.environ.get("AMQP_VALUES_SANITIZED") else LINKING,
+            py_limited_api=True,
+        )
+    ],
+    options={"bdist_wheel": {"py_limited_api": "cp310", "plat_name": f"manylinux_2_17_{PROCESSOR}"}},
+)

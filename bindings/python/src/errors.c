@@ -1,0 +1,126 @@
+/* The exceptions: Error, in words, and TypeError. */
+#include "values.h"
+
+void raise_error(const State *state, const char *kind, size_t offset, size_t missing, const char *format, ...) {
+    va_list words;
+    va_start(words, format);
+    PyObject *expected = PyUnicode_FromFormatV(format, words);
+    va_end(words);
+    if (expected == NULL) {
+        return;
+    }
+    /* (without a call of Python's, for which the stack may be too deep) */
+    static const char *const NAMES[] = {"kind", "offset", "expected", "missing"};
+    PyObject *parts = Py_BuildValue("(snNn)", kind, (Py_ssize_t)offset, expected, (Py_ssize_t)missing);
+    PyObject *error = parts != NULL ? state->new_error((PyTypeObject *)state->error, parts, NULL) : NULL;
+    int is_made = error != NULL;
+    for (Py_ssize_t at = 0; is_made && at < 4; at++) {
+        is_made = PyObject_SetAttrString(error, NAMES[at], PyTuple_GetItem(parts, at)) == 0;
+    }
+    if (is_made) {
+        PyErr_SetObject(state->error, error);
+    }
+    Py_XDECREF(error);
+    Py_XDECREF(parts);
+}
+
+void raise_foreign(const State *state, size_t offset) {
+    if (!PyErr_ExceptionMatches(PyExc_Exception) || PyErr_ExceptionMatches(PyExc_TypeError)
+        || PyErr_ExceptionMatches(PyExc_MemoryError) || PyErr_ExceptionMatches(state->error)) {
+        return;
+    }
+    PyObject *type, *raised, *trace;
+    PyErr_Fetch(&type, &raised, &trace);
+    PyErr_NormalizeException(&type, &raised, &trace);
+    if (trace != NULL) {
+        PyException_SetTraceback(raised, trace);
+    }
+    raise_error(state, "raised", offset, 0, "an object whose own methods raise nothing");
+    PyObject *error_type, *error, *error_trace;
+    PyErr_Fetch(&error_type, &error, &error_trace);
+    PyErr_NormalizeException(&error_type, &error, &error_trace);
+    if (error != NULL && PyObject_IsInstance(error, state->error) == 1) {
+        /* (both take the reference) */
+        Py_INCREF(raised);
+        PyException_SetContext(error, raised);
+        PyException_SetCause(error, raised);
+        raised = NULL;
+    }
+    PyErr_Restore(error_type, error, error_trace);
+    Py_XDECREF(type);
+    Py_XDECREF(raised);
+    Py_XDECREF(trace);
+}
+
+void add_step(const State *state, PyObject *step) {
+    PyObject *type, *error, *trace;
+    if (!PyErr_ExceptionMatches(state->error)) {
+        return;
+    }
+    PyErr_Fetch(&type, &error, &trace);
+    PyErr_NormalizeException(&type, &error, &trace);
+    /* (plain, since a subclass of str may have methods of its own) */
+    PyObject *plain = PyUnicode_Check(step) ? PyUnicode_FromObject(step) : PyBytes_Check(step) ? PyBytes_FromObject(step) : NULL;
+    if (plain == NULL && !PyUnicode_Check(step) && !PyBytes_Check(step)) {
+        Py_INCREF(step);
+        plain = step;
+    }
+    PyObject *path = PyObject_GetAttrString(error, "path");
+    PyObject *longer = plain != NULL && path != NULL ? Py_BuildValue("(O)", plain) : NULL;
+    PyObject *whole = longer != NULL ? PySequence_Concat(longer, path) : NULL;
+    if (whole == NULL || PyObject_SetAttrString(error, "path", whole) < 0) {
+        /* out of memory, so that the path ends here */
+        PyErr_Clear();
+    }
+    Py_XDECREF(whole);
+    Py_XDECREF(longer);
+    Py_XDECREF(path);
+    Py_XDECREF(plain);
+    PyErr_Restore(type, error, trace);
+}
+
+void raise_type(const char *what, PyObject *object) {
+    PyObject *name = PyObject_GetAttrString((PyObject *)Py_TYPE(object), "__name__");
+    if (name != NULL && PyUnicode_Check(name)) {
+        PyErr_Format(PyExc_TypeError, "%s, not %U", what, name);
+    } else {
+        PyErr_SetString(PyExc_TypeError, what);
+    }
+    Py_XDECREF(name);
+}
+
+void raise_problem(const State *state, const uint8_t *bytes, size_t length, const Options *how, int is_table, size_t base,
+                   amqpv_result result, size_t count) {
+    amqpv_problem problem = {0};
+    uint32_t rules = how->keys == STRICT ? AMQPV_RULES_READ : AMQPV_RULES_ANY_KEYS;
+    if (result == AMQPV_MORE) {
+        raise_error(state, "cut", base, count, "%zu more byte%s", count, count == 1 ? "" : "s");
+        return;
+    }
+    result = is_table ? amqpv_first_problem_in_table(bytes, length, rules, how->frame, how->depth, &problem)
+                      : amqpv_first_problem(bytes, length, rules, how->frame, how->depth, &problem);
+    size_t offset = base + problem.offset;
+    switch (result == AMQPV_OK ? problem.kind : 0) {
+    case AMQPV_PROBLEM_UNKNOWN_TAG:
+        raise_error(state, "unknown tag", offset, 0, "one of the type tags tbBsUuIilLfdDSxAFTV, not byte %d", problem.tag);
+        break;
+    case AMQPV_PROBLEM_CUT:
+        raise_error(state, "cut", offset, 0, "a whole value inside its container");
+        break;
+    case AMQPV_PROBLEM_KEY_CUT:
+        raise_error(state, "key cut", offset, 0, "a whole key inside its table");
+        break;
+    case AMQPV_PROBLEM_TOO_DEEP:
+        raise_error(state, "too deep", offset, 0, "containers nested at most %u deep", (unsigned)how->depth);
+        break;
+    case AMQPV_PROBLEM_TOO_LARGE:
+        raise_error(state, "too large", offset, 0, "at most %u bytes, the type tag counted", (unsigned)how->frame);
+        break;
+    case AMQPV_PROBLEM_KEY_NOT_UTF8:
+        raise_error(state, "key not UTF-8", offset, 0, "bytes in UTF-8");
+        break;
+    default:
+        /* (bytes that changed meanwhile: they don't) */
+        raise_error(state, "cut", base, 0, "a whole value");
+    }
+}

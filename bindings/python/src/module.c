@@ -1,0 +1,440 @@
+/* The module: its functions, their arguments and options, and what it imports. */
+#include "values.h"
+
+#include <string.h>
+
+/* The options by their names, as bits. */
+enum {
+    KEYS = 1, TEXT = 2, PLAIN = 4, EQUAL_KEYS = 8, SIGNED = 16, FINITE = 32, DEPTH = 64, FRAME = 128, NAIVE = 256, TABLE = 512,
+    DEFAULT = 1024, OFFSET = 2048
+};
+enum { READING = KEYS | TEXT | PLAIN | EQUAL_KEYS | SIGNED | FINITE | DEPTH | FRAME, WRITING = KEYS | TEXT | SIGNED | FINITE | DEPTH | NAIVE };
+static const struct {
+    const char *name;
+    int option;
+} OPTIONS[] = {{"keys", KEYS}, {"text", TEXT}, {"plain", PLAIN}, {"equal_keys", EQUAL_KEYS}, {"signed_decimals", SIGNED},
+               {"finite", FINITE}, {"depth", DEPTH}, {"frame", FRAME}, {"naive_datetimes", NAIVE}, {"table", TABLE},
+               {"default", DEFAULT}, {"offset", OFFSET}};
+/* The defaults of these, of which frame-max is RabbitMQ's. */
+enum { DEFAULT_DEPTH = 64, DEFAULT_FRAME = 131072 };
+
+static State *state_of(PyObject *module) {
+    return PyModule_GetState(module);
+}
+
+/* An integer between 0 and another, whose option has a name. */
+static int limit_of(const State *state, const char *name, PyObject *value, unsigned long long most, unsigned long long *limit) {
+    int overflows;
+    PyObject *number = PyNumber_Index(value);
+    if (number == NULL) {
+        raise_foreign(state, 0);
+        return 0;
+    }
+    long long found = PyLong_AsLongLongAndOverflow(number, &overflows);
+    Py_DECREF(number);
+    if (overflows || found < 0 || (unsigned long long)found > most) {
+        raise_error(state, "bad option", 0, 0, "for %s a number from 0 to %llu", name, most);
+        return 0;
+    }
+    *limit = (unsigned long long)found;
+    return 1;
+}
+
+static int truth_of(const State *state, PyObject *value, int *truth) {
+    *truth = PyObject_IsTrue(value);
+    if (*truth < 0) {
+        raise_foreign(state, 0);
+    }
+    return *truth >= 0;
+}
+
+/* One of some words, by its place. */
+static int word_of(const State *state, const char *name, PyObject *value, const char *const words[], int *at) {
+    if (!PyUnicode_Check(value)) {
+        raise_type("an option is a str", value);
+        return 0;
+    }
+    for (*at = 0; words[*at] != NULL; ++*at) {
+        if (PyUnicode_CompareWithASCIIString(value, words[*at]) == 0) {
+            return 1;
+        }
+    }
+    raise_error(state, "bad option", 0, 0, "for %s one of the words that are documented, as \"%s\"", name, words[0]);
+    return 0;
+}
+
+static int take_option(const State *state, const char *name, int option, PyObject *value, Options *how, PyObject **offset) {
+    static const char *const NOT_UTF8[] = {"strict", "bytes", "surrogateescape", NULL}, *const EQUAL[] = {"last", "first", NULL};
+    int found = 0, is_taken = 1;
+    unsigned long long limit = 0;
+    switch (option) {
+    case KEYS:
+        is_taken = word_of(state, name, value, NOT_UTF8, &found);
+        how->keys = (NotUtf8)found;
+        break;
+    case TEXT:
+        is_taken = word_of(state, name, value, NOT_UTF8, &found);
+        how->text = (NotUtf8)found;
+        break;
+    case EQUAL_KEYS:
+        is_taken = word_of(state, name, value, EQUAL, &found);
+        how->equal_keys = found == 0 ? AMQPV_LAST_KEY : AMQPV_FIRST_KEY;
+        break;
+    case DEPTH:
+        is_taken = limit_of(state, name, value, MOST_DEPTH, &limit);
+        how->depth = (uint32_t)limit;
+        break;
+    case FRAME:
+        is_taken = limit_of(state, name, value, UINT32_MAX, &limit);
+        how->frame = (uint32_t)limit;
+        break;
+    case PLAIN: return truth_of(state, value, &how->is_plain);
+    case SIGNED: return truth_of(state, value, &how->has_signed_decimals);
+    case FINITE: return truth_of(state, value, &how->is_finite);
+    case NAIVE: return truth_of(state, value, &how->has_naive_datetimes);
+    case TABLE: return truth_of(state, value, &how->is_table);
+    case DEFAULT: how->otherwise = value; break;
+    default: *offset = value; break;
+    }
+    return is_taken;
+}
+
+/* Takes the arguments of a function of one or, if it isn't the first that `least` is, up to `most` arguments, and its options. */
+static int take(const State *state, const char *name, Py_ssize_t least, Py_ssize_t most, int options, PyObject *const *arguments,
+                Py_ssize_t count, PyObject *names, Options *how, PyObject **offset) {
+    Py_ssize_t named = names != NULL ? PyTuple_Size(names) : 0;
+    how->depth = DEFAULT_DEPTH;
+    how->frame = DEFAULT_FRAME;
+    if (count < least || count > most) {
+        PyErr_Format(PyExc_TypeError, "%s() takes %zd positional argument%s, not %zd", name, count < least ? least : most,
+                     (count < least ? least : most) == 1 ? "" : "s", count);
+        return 0;
+    }
+    for (Py_ssize_t it = 0; it < named; it++) {
+        PyObject *given = PyTuple_GetItem(names, it);
+        size_t at = 0, all = sizeof OPTIONS / sizeof *OPTIONS;
+        while (at < all && (!(OPTIONS[at].option & options) || PyUnicode_CompareWithASCIIString(given, OPTIONS[at].name) != 0)) {
+            at++;
+        }
+        if (at == all) {
+            PyErr_Format(PyExc_TypeError, "%s() got an unexpected keyword argument '%U'", name, given);
+            return 0;
+        }
+        if (OPTIONS[at].option == OFFSET && *offset != NULL) {
+            PyErr_Format(PyExc_TypeError, "%s() got two values for offset", name);
+            return 0;
+        }
+        if (!take_option(state, OPTIONS[at].name, OPTIONS[at].option, arguments[count + it], how, offset)) {
+            return 0;
+        }
+    }
+    return 1;
+}
+
+/* The bytes of an object, which is returned or copied: of a copy nothing changes while it is read. */
+static PyObject *content_of(const State *state, PyObject *data, const uint8_t **bytes, size_t *length) {
+    char *content;
+    Py_ssize_t count;
+    PyObject *kept = NULL;
+    if (PyBytes_Check(data)) {
+        Py_INCREF(data);
+        kept = data;
+    } else if (PyByteArray_Check(data) || PyMemoryView_Check(data)) {
+        kept = PyBytes_FromObject(data);
+        if (kept == NULL) {
+            /* (a memoryview that was released) */
+            raise_foreign(state, 0);
+        }
+    } else {
+        raise_type("data is bytes, a bytearray or a memoryview", data);
+    }
+    if (kept != NULL && PyBytes_AsStringAndSize(kept, &content, &count) < 0) {
+        Py_CLEAR(kept);
+    }
+    if (kept != NULL) {
+        *bytes = (const uint8_t *)content;
+        *length = (size_t)count;
+    }
+    return kept;
+}
+
+/* Makes an exception that isn't documented, as a RecursionError, an Error. */
+static PyObject *documented(const State *state, PyObject *made) {
+    if (made == NULL) {
+        raise_foreign(state, 0);
+    }
+    return made;
+}
+
+/* The value that all of the bytes are. */
+static int read_whole(const Reader *reader, amqpv_entry *entry) {
+    size_t count = 0;
+    if (!read_entry(reader, entry, &count)) {
+        return 0;
+    }
+    if (count != reader->length) {
+        raise_error(reader->state, "trailing bytes", count, 0, "the end of the bytes");
+        return 0;
+    }
+    return 1;
+}
+
+static PyObject *loads_by(PyObject *module, PyObject *const *arguments, Py_ssize_t count, PyObject *names, int is_table) {
+    const State *state = state_of(module);
+    Options how = {.is_table = is_table};
+    Reader reader = {.state = state, .how = &how};
+    PyObject *content = NULL, *made = NULL;
+    amqpv_entry entry;
+    if (take(state, is_table ? "loads_table" : "loads", 1, 1, READING, arguments, count, names, &how, NULL)) {
+        content = content_of(state, arguments[0], &reader.bytes, &reader.length);
+    }
+    if (content != NULL && read_whole(&reader, &entry)) {
+        made = build(&reader, &entry);
+    }
+    Py_XDECREF(content);
+    return documented(state, made);
+}
+
+static PyObject *loads(PyObject *module, PyObject *const *arguments, Py_ssize_t count, PyObject *names) {
+    return loads_by(module, arguments, count, names, 0);
+}
+
+static PyObject *loads_table(PyObject *module, PyObject *const *arguments, Py_ssize_t count, PyObject *names) {
+    return loads_by(module, arguments, count, names, 1);
+}
+
+static PyObject *decode_table(PyObject *module, PyObject *const *arguments, Py_ssize_t count, PyObject *names) {
+    const State *state = state_of(module);
+    Options how = {.is_table = 1};
+    Reader reader = {.state = state, .how = &how};
+    PyObject *content = NULL, *made = NULL, *offset = count > 1 ? arguments[1] : NULL;
+    amqpv_entry entry;
+    unsigned long long before = 0;
+    size_t length = 0;
+    if (take(state, "decode_table", 1, 2, READING | OFFSET, arguments, count, names, &how, &offset)) {
+        content = content_of(state, arguments[0], &reader.bytes, &reader.length);
+    }
+    if (content != NULL && (offset == NULL || limit_of(state, "offset", offset, reader.length, &before))) {
+        reader.base = (size_t)before;
+        reader.bytes += reader.base;
+        reader.length -= reader.base;
+        if (read_entry(&reader, &entry, &length)) {
+            made = build(&reader, &entry);
+        }
+    }
+    Py_XDECREF(content);
+    return documented(state, made != NULL ? Py_BuildValue("(Nn)", made, (Py_ssize_t)(reader.base + length)) : NULL);
+}
+
+/* A step of a path; `kept` keeps its key. */
+static int step_of(const State *state, const Options *how, PyObject *it, amqpv_step *step, PyObject **kept) {
+    unsigned long long index = 0;
+    int is_utf8;
+    memset(step, 0, sizeof *step);
+    step->key = "";
+    if (PyUnicode_Check(it) || PyBytes_Check(it)) {
+        step->tag = AMQPV_TABLE;
+        *kept = key_bytes(state, how->keys, it, 0, &step->key, &step->key_length, &is_utf8);
+        return *kept != NULL;
+    }
+    step->tag = AMQPV_ARRAY;
+    if (!PyLong_Check(it)) {
+        raise_type("a step of a path is a str, bytes or an int", it);
+        return 0;
+    }
+    if (!limit_of(state, "an index", it, PY_SSIZE_T_MAX, &index)) {
+        return 0;
+    }
+    step->index = (size_t)index;
+    return 1;
+}
+
+/* The value at a path, which is followed step by step, since a step needs no memory then. */
+static PyObject *found_at(const Reader *reader, amqpv_entry *entry, PyObject *const *path, Py_ssize_t count) {
+    for (Py_ssize_t it = 0; it < count; it++) {
+        amqpv_entry next;
+        amqpv_step step;
+        PyObject *kept = NULL;
+        if (!step_of(reader->state, reader->how, path[it], &step, &kept)) {
+            return NULL;
+        }
+        amqpv_result result = amqpv_find_path(reader->bytes, reader->length, entry, &step, 1, reader->how->equal_keys, &next);
+        Py_XDECREF(kept);
+        if (result != AMQPV_OK) {
+            /* (the other steps are looked at too) */
+            for (it++; it < count; it++) {
+                kept = NULL;
+                if (!step_of(reader->state, reader->how, path[it], &step, &kept)) {
+                    return NULL;
+                }
+                Py_XDECREF(kept);
+            }
+            PyObject *otherwise = reader->how->otherwise != NULL ? reader->how->otherwise : Py_None;
+            Py_INCREF(otherwise);
+            return otherwise;
+        }
+        *entry = next;
+    }
+    return build(reader, entry);
+}
+
+static PyObject *find(PyObject *module, PyObject *const *arguments, Py_ssize_t count, PyObject *names) {
+    const State *state = state_of(module);
+    Options how = {.otherwise = NULL};
+    Reader reader = {.state = state, .how = &how};
+    PyObject *content = NULL, *made = NULL;
+    amqpv_entry entry;
+    if (take(state, "find", 1, PY_SSIZE_T_MAX, READING | TABLE | DEFAULT, arguments, count, names, &how, NULL)) {
+        content = content_of(state, arguments[0], &reader.bytes, &reader.length);
+    }
+    if (content != NULL && read_whole(&reader, &entry)) {
+        made = found_at(&reader, &entry, arguments + 1, count - 1);
+    }
+    Py_XDECREF(content);
+    return documented(state, made);
+}
+
+static PyObject *dumps_by(PyObject *module, PyObject *const *arguments, Py_ssize_t count, PyObject *names, int is_table) {
+    const State *state = state_of(module);
+    Options how = {.is_table = is_table};
+    PyObject *made = NULL;
+    if (take(state, is_table ? "dumps_table" : "dumps", 1, 1, WRITING, arguments, count, names, &how, NULL)) {
+        made = written(state, &how, arguments[0]);
+    }
+    return documented(state, made);
+}
+
+static PyObject *dumps(PyObject *module, PyObject *const *arguments, Py_ssize_t count, PyObject *names) {
+    return dumps_by(module, arguments, count, names, 0);
+}
+
+static PyObject *dumps_table(PyObject *module, PyObject *const *arguments, Py_ssize_t count, PyObject *names) {
+    return dumps_by(module, arguments, count, names, 1);
+}
+
+#define READ_OPTIONS "keys='strict', text='strict', plain=False, equal_keys='last', signed_decimals=False, finite=False, depth=64, frame=131072"
+#define WRITE_OPTIONS "keys='strict', text='strict', naive_datetimes=False, signed_decimals=False, finite=False, depth=64"
+#define CALL(name, how, doc) {#name, (PyCFunction)(void (*)(void))name, METH_FASTCALL | METH_KEYWORDS, #name how "\n--\n\n" doc}
+
+static PyMethodDef FUNCTIONS[] = {
+    CALL(loads, "($module, data, /, *, " READ_OPTIONS ")",
+         "The value that all of the bytes are, with its type tag.\n\n"
+         ">>> loads(b'A\\0\\0\\0\\x0bI\\0\\0\\0\\5t\\1S\\0\\0\\0\\0')\n"
+         "[LongInt(5), True, '']\n"),
+    CALL(loads_table, "($module, data, /, *, " READ_OPTIONS ")",
+         "The table that all of the bytes are, without its type tag: its length, then its pairs.\n\n"
+         ">>> loads_table(b'\\0\\0\\0\\4\\1at\\1')\n"
+         "{'a': True}\n"
+         ">>> loads_table(b'\\0\\0\\0\\4\\1\\xfft\\1', keys='bytes')\n"
+         "{b'\\xff': True}\n"),
+    CALL(decode_table, "($module, data, /, offset=0, *, " READ_OPTIONS ")",
+         "The table without its type tag that begins at an offset, and the offset of its end. Offsets of an Error count from the\n"
+         "start of the data.\n\n"
+         ">>> decode_table(b'..\\0\\0\\0\\4\\1at\\1..', 2)\n"
+         "({'a': True}, 10)\n"),
+    CALL(find, "($module, data, /, *path, table=False, default=None, " READ_OPTIONS ")",
+         "The value at a path, keys into tables and indexes from 0 into arrays, or the default if there is none. Nothing else is\n"
+         "built, but all of the data is checked as loads, or with table=True loads_table, checks it; of equal keys it takes the\n"
+         "same as these.\n\n"
+         ">>> data = dumps_table({'x-death': [{'queue': 'orders', 'count': 3}]})\n"
+         ">>> find(data, 'x-death', 0, 'queue', table=True)\n"
+         "'orders'\n"
+         ">>> find(data, 'x-death', 1, 'queue', table=True, default='nowhere')\n"
+         "'nowhere'\n"),
+    CALL(dumps, "($module, value, /, *, " WRITE_OPTIONS ")",
+         "The bytes of a value, with its type tag; the keys of tables are in their order.\n\n"
+         ">>> dumps([None, ShortInt(-2)])\n"
+         "b'A\\x00\\x00\\x00\\x04Vs\\xff\\xfe'\n"),
+    CALL(dumps_table, "($module, mapping, /, *, " WRITE_OPTIONS ")",
+         "The bytes of a table without its type tag, as methods and content headers have it: its length, then its pairs.\n\n"
+         ">>> dumps_table({'a': True})\n"
+         "b'\\x00\\x00\\x00\\x04\\x01at\\x01'\n"),
+    {NULL, NULL, 0, NULL}};
+
+/* Imports an attribute of a module, or one of that. */
+static PyObject *imported(const char *name, const char *attribute) {
+    PyObject *module = PyImport_ImportModule(name);
+    PyObject *found = module != NULL ? PyObject_GetAttrString(module, attribute) : NULL;
+    Py_XDECREF(module);
+    return found;
+}
+
+static int begin(PyObject *module) {
+    static const char *const CLASSES[INTEGERS] = {"ShortShortInt", "ShortShortUInt", "ShortInt", "ShortUInt", "LongInt", "LongUInt", "Timestamp"};
+    static const char types[] = "amqp_values._types";
+    State *state = state_of(module);
+    for (int at = 0; at < INTEGERS; at++) {
+        if ((state->integers[at] = imported(types, CLASSES[at])) == NULL) {
+            return -1;
+        }
+    }
+    if ((state->error = imported(types, "Error")) == NULL || (state->integer = imported(types, "_Integer")) == NULL
+        || (state->of_float = imported(types, "Float")) == NULL || (state->long_string = imported(types, "LongString")) == NULL
+        || (state->encoded = imported(types, "Encoded")) == NULL || (state->decimal = imported("decimal", "Decimal")) == NULL
+        || (state->as_tuple = PyObject_GetAttrString(state->decimal, "as_tuple")) == NULL
+        || (state->datetime = imported("datetime", "datetime")) == NULL
+        || (state->from_timestamp = PyObject_GetAttrString(state->datetime, "fromtimestamp")) == NULL
+        || (state->utc_offset = PyObject_GetAttrString(state->datetime, "utcoffset")) == NULL
+        || (state->mapping = imported("collections.abc", "Mapping")) == NULL
+        || (state->sequence = imported("collections.abc", "Sequence")) == NULL) {
+        return -1;
+    }
+    PyObject *zone = imported("datetime", "timezone");
+    state->utc = zone != NULL ? PyObject_GetAttrString(zone, "utc") : NULL;
+    Py_XDECREF(zone);
+    if (state->utc == NULL || (state->epoch = PyObject_CallFunction(state->from_timestamp, "iO", 0, state->utc)) == NULL
+        || (state->naive_epoch = PyObject_CallFunction(state->datetime, "iii", 1970, 1, 1)) == NULL) {
+        return -1;
+    }
+    state->new_error = (newfunc)(uintptr_t)PyType_GetSlot((PyTypeObject *)PyExc_ValueError, Py_tp_new);
+    state->new_integer = (newfunc)(uintptr_t)PyType_GetSlot(&PyLong_Type, Py_tp_new);
+    state->new_float = (newfunc)(uintptr_t)PyType_GetSlot(&PyFloat_Type, Py_tp_new);
+    state->subtract = (binaryfunc)(uintptr_t)PyType_GetSlot((PyTypeObject *)state->datetime, Py_nb_subtract);
+    if (state->new_error == NULL || state->new_integer == NULL || state->new_float == NULL || state->subtract == NULL) {
+        PyErr_SetString(PyExc_ImportError, "amqp_values needs the types of CPython");
+        return -1;
+    }
+    return PyModule_AddIntConstant(module, "MOST_DEPTH", MOST_DEPTH) < 0 || PyModule_AddIntConstant(module, "DEPTH", DEFAULT_DEPTH) < 0
+                   || PyModule_AddIntConstant(module, "FRAME", DEFAULT_FRAME) < 0
+                   || PyModule_AddStringConstant(module, "__version__", AMQPV_VERSION) < 0
+               ? -1
+               : 0;
+}
+
+/* The objects of a state, one after another. */
+static PyObject **objects_of(State *state, size_t *count) {
+    *count = offsetof(State, new_error) / sizeof(PyObject *);
+    return &state->error;
+}
+
+static int visit_state(PyObject *module, visitproc visit, void *arg) {
+    State *state = state_of(module);
+    size_t count = 0;
+    PyObject **objects = state != NULL ? objects_of(state, &count) : NULL;
+    for (size_t at = 0; at < count; at++) {
+        Py_VISIT(objects[at]);
+    }
+    return 0;
+}
+
+static int clear_state(PyObject *module) {
+    State *state = state_of(module);
+    size_t count = 0;
+    PyObject **objects = state != NULL ? objects_of(state, &count) : NULL;
+    for (size_t at = 0; at < count; at++) {
+        Py_CLEAR(objects[at]);
+    }
+    return 0;
+}
+
+static void free_state(void *module) {
+    clear_state(module);
+}
+
+static PyModuleDef_Slot SLOTS[] = {{Py_mod_exec, (void *)(uintptr_t)begin}, {0, NULL}};
+static PyModuleDef MODULE = {.m_base = PyModuleDef_HEAD_INIT, .m_name = "amqp_values._native", .m_size = sizeof(State),
+                             .m_methods = FUNCTIONS, .m_slots = SLOTS, .m_traverse = visit_state, .m_clear = clear_state, .m_free = free_state};
+
+PyMODINIT_FUNC PyInit__native(void) {
+    return PyModuleDef_Init(&MODULE);
+}

@@ -1,0 +1,191 @@
+/* Objects for values that are read. */
+#include "values.h"
+
+#include <stdio.h>
+#include <string.h>
+
+/* The last second of the year 9999. */
+#define LAST_SECOND 253402300799ULL
+
+int read_entry(const Reader *reader, amqpv_entry *entry, size_t *count) {
+    const Options *how = reader->how;
+    const uint8_t *bytes = reader->bytes;
+    size_t length = reader->length;
+    amqpv_result result = how->is_table ? amqpv_read_table(bytes, length, how->frame, how->depth, entry, count)
+                                        : amqpv_read(bytes, length, how->frame, how->depth, entry, count);
+    if (result == AMQPV_OK) {
+        return 1;
+    }
+    if (result == AMQPV_MALFORMED && how->keys != STRICT) {
+        /* by its own length, since amqpv_read checks keys too */
+        amqpv_problem problem;
+        if (!how->is_table && amqpv_first_problem(bytes, length, AMQPV_RULES_ANY_KEYS, how->frame, how->depth, &problem) == AMQPV_NONE
+            && amqpv_first(bytes, length, entry) == AMQPV_OK) {
+            *count = entry->value.length;
+            return 1;
+        }
+        if (how->is_table && length >= 4
+            && amqpv_first_problem_in_table(bytes, length, AMQPV_RULES_ANY_KEYS, how->frame, how->depth, &problem) == AMQPV_NONE) {
+            size_t body = (size_t)bytes[0] << 24 | (size_t)bytes[1] << 16 | (size_t)bytes[2] << 8 | bytes[3];
+            memset(entry, 0, sizeof *entry);
+            entry->content.offset = 4;
+            entry->content.length = body;
+            entry->value.length = *count = 4 + body;
+            entry->tag = AMQPV_TABLE;
+            return 1;
+        }
+    }
+    raise_problem(reader->state, bytes, length, how, how->is_table, reader->base, result, *count);
+    return 0;
+}
+
+/* Text, or what the option says of bytes that aren't UTF-8. */
+static PyObject *build_text(const Reader *reader, amqpv_span span, NotUtf8 how, PyObject *of_bytes,
+                            const char *what, size_t offset) {
+    const char *text = (const char *)reader->bytes + span.offset;
+    Py_ssize_t length = (Py_ssize_t)span.length;
+    PyObject *made = PyUnicode_DecodeUTF8(text, length, how == ESCAPED ? "surrogateescape" : "strict");
+    if (made != NULL || !PyErr_ExceptionMatches(PyExc_UnicodeDecodeError)) {
+        return made;
+    }
+    PyErr_Clear();
+    if (how == STRICT) {
+        raise_error(reader->state, what, reader->base + offset, 0, "bytes in UTF-8");
+        return NULL;
+    }
+    return of_bytes == NULL ? PyBytes_FromStringAndSize(text, length) : PyObject_CallFunction(of_bytes, "y#", text, length);
+}
+
+/* An object of a class by the function that its type has for that, which leaves out the checks of the class. */
+static PyObject *of_class(newfunc made_by, PyObject *class, PyObject *number) {
+    PyObject *made = NULL, *arguments = number != NULL ? PyTuple_Pack(1, number) : NULL;
+    if (arguments != NULL) {
+        made = made_by((PyTypeObject *)class, arguments, NULL);
+        Py_DECREF(arguments);
+    }
+    Py_XDECREF(number);
+    return made;
+}
+
+static PyObject *build_decimal(const Reader *reader, const amqpv_entry *entry) {
+    char text[40];
+    long long number = reader->how->has_signed_decimals ? (int32_t)(uint32_t)entry->bits : (long long)entry->bits;
+    snprintf(text, sizeof text, "%lldE-%u", number, entry->scale);
+    return PyObject_CallFunction(reader->state->decimal, "s", text);
+}
+
+static PyObject *build_timestamp(const Reader *reader, const amqpv_entry *entry) {
+    const State *state = reader->state;
+    if (!reader->how->is_plain) {
+        return of_class(state->new_integer, state->integers[INTEGERS - 1], PyLong_FromUnsignedLongLong(entry->bits));
+    }
+    if (entry->bits > LAST_SECOND) {
+        raise_error(state, "out of range", reader->base + entry->value.offset, 0, "a time before the year 10000");
+        return NULL;
+    }
+    return PyObject_CallFunction(state->from_timestamp, "KO", (unsigned long long)entry->bits, state->utc);
+}
+
+/* A Float, of which a NaN has its bits too, or a float. */
+static PyObject *build_float(const Reader *reader, const amqpv_entry *entry) {
+    double wide;
+    if (entry->tag == AMQPV_FLOAT && (entry->bits & 0x7f800000) == 0x7f800000 && (entry->bits & 0x7fffff) != 0) {
+        /* (what converts a NaN may change its bits) */
+        uint64_t bits = (entry->bits >> 31) << 63 | (uint64_t)0x7ff << 52 | (entry->bits & 0x7fffff) << 29;
+        memcpy(&wide, &bits, sizeof wide);
+    } else if (amqpv_as_double(entry, &wide) != AMQPV_OK) {
+        wide = 0;
+    }
+    if (reader->how->is_finite && !(wide - wide == 0)) {
+        raise_error(reader->state, "not finite", reader->base + entry->value.offset, 0, "a finite number");
+        return NULL;
+    }
+    PyObject *made = PyFloat_FromDouble(wide);
+    return entry->tag == AMQPV_DOUBLE || reader->how->is_plain ? made : of_class(reader->state->new_float, reader->state->of_float, made);
+}
+
+/* A container to whose end the entries were read, as they are of bytes that were checked. */
+static PyObject *whole(const Reader *reader, PyObject *container, amqpv_result result) {
+    if (container != NULL && result != AMQPV_NONE) {
+        Py_CLEAR(container);
+        raise_problem(reader->state, reader->bytes, reader->length, reader->how, reader->how->is_table, reader->base, result, 0);
+    }
+    return container;
+}
+
+static PyObject *build_array(const Reader *reader, const amqpv_entry *entry) {
+    amqpv_cursor cursor;
+    amqpv_entry it;
+    PyObject *list = PyList_New(0);
+    amqpv_result result = list == NULL ? AMQPV_NONE : amqpv_enter(reader->bytes, reader->length, entry, &cursor);
+    while (result == AMQPV_OK && (result = amqpv_next(reader->bytes, reader->length, &cursor, &it)) == AMQPV_OK) {
+        PyObject *value = build(reader, &it);
+        int is_put = value != NULL && PyList_Append(list, value) == 0;
+        Py_XDECREF(value);
+        if (!is_put) {
+            Py_CLEAR(list);
+            result = AMQPV_NONE;
+        }
+    }
+    return whole(reader, list, result);
+}
+
+static int build_pair(const Reader *reader, const amqpv_entry *entry, PyObject *table) {
+    const Options *how = reader->how;
+    /* (the length of the key, and the key, are before the value) */
+    size_t offset = entry->value.offset - entry->key.length - 1;
+    PyObject *key = build_text(reader, entry->key, how->keys, NULL, "key not UTF-8", offset);
+    PyObject *value = key != NULL ? build(reader, entry) : NULL;
+    int is_put = value != NULL;
+    if (is_put && how->equal_keys == AMQPV_FIRST_KEY) {
+        int has_it = PyDict_Contains(table, key);
+        is_put = has_it == 1 || (has_it == 0 && PyDict_SetItem(table, key, value) == 0);
+    } else if (is_put) {
+        is_put = PyDict_SetItem(table, key, value) == 0;
+    }
+    Py_XDECREF(value);
+    Py_XDECREF(key);
+    return is_put;
+}
+
+static PyObject *build_table(const Reader *reader, const amqpv_entry *entry) {
+    amqpv_cursor cursor;
+    amqpv_entry it;
+    PyObject *table = PyDict_New();
+    amqpv_result result = table == NULL ? AMQPV_NONE : amqpv_enter(reader->bytes, reader->length, entry, &cursor);
+    while (result == AMQPV_OK && (result = amqpv_next(reader->bytes, reader->length, &cursor, &it)) == AMQPV_OK) {
+        if (!build_pair(reader, &it, table)) {
+            Py_CLEAR(table);
+            result = AMQPV_NONE;
+        }
+    }
+    return whole(reader, table, result);
+}
+
+PyObject *build(const Reader *reader, const amqpv_entry *entry) {
+    const State *state = reader->state;
+    PyObject *number;
+    switch (entry->tag) {
+    case AMQPV_BOOLEAN: return PyBool_FromLong(entry->bits != 0);
+    case AMQPV_LONG_LONG_INT: return PyLong_FromLongLong((int64_t)entry->bits);
+    case AMQPV_FLOAT:
+    case AMQPV_DOUBLE: return build_float(reader, entry);
+    case AMQPV_DECIMAL: return build_decimal(reader, entry);
+    case AMQPV_LONG_STRING:
+        return build_text(reader, entry->content, reader->how->text, reader->how->is_plain ? NULL : state->long_string, "text not UTF-8",
+                          entry->value.offset);
+    case AMQPV_BYTE_ARRAY:
+        return PyBytes_FromStringAndSize((const char *)reader->bytes + entry->content.offset, (Py_ssize_t)entry->content.length);
+    case AMQPV_ARRAY: return build_array(reader, entry);
+    case AMQPV_TABLE: return build_table(reader, entry);
+    case AMQPV_TIMESTAMP: return build_timestamp(reader, entry);
+    case AMQPV_VOID: Py_RETURN_NONE;
+    default: break;
+    }
+    number = PyLong_FromLongLong((int64_t)entry->bits);
+    const char *at = memchr(INTEGER_TAGS, entry->tag, INTEGERS);
+    if (at == NULL || reader->how->is_plain) {
+        return number;
+    }
+    return of_class(state->new_integer, state->integers[at - INTEGER_TAGS], number);
+}
