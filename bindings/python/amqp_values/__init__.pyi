@@ -78,6 +78,7 @@ class Encoded(bytes):
 
 def loads(
     data: Data,
+    /,
     *,
     keys: NotUtf8 = "strict",
     text: NotUtf8 = "strict",
@@ -91,6 +92,7 @@ def loads(
 @overload
 def loads_table(
     data: Data,
+    /,
     *,
     keys: Literal["strict", "surrogateescape"] = "strict",
     text: NotUtf8 = "strict",
@@ -104,6 +106,7 @@ def loads_table(
 @overload
 def loads_table(
     data: Data,
+    /,
     *,
     keys: NotUtf8,
     text: NotUtf8 = "strict",
@@ -117,6 +120,7 @@ def loads_table(
 @overload
 def decode_table(
     data: Data,
+    /,
     offset: int = 0,
     *,
     keys: Literal["strict", "surrogateescape"] = "strict",
@@ -131,6 +135,7 @@ def decode_table(
 @overload
 def decode_table(
     data: Data,
+    /,
     offset: int = 0,
     *,
     keys: NotUtf8,
@@ -144,6 +149,7 @@ def decode_table(
 ) -> tuple[dict[Union[str, bytes], Any], int]: ...
 def find(
     data: Data,
+    /,
     *path: Union[str, bytes, int],
     table: bool = False,
     default: Any = None,
@@ -158,6 +164,7 @@ def find(
 ) -> Any: ...
 def dumps(
     value: Any,
+    /,
     *,
     keys: NotUtf8 = "strict",
     text: NotUtf8 = "strict",
@@ -168,6 +175,7 @@ def dumps(
 ) -> bytes: ...
 def dumps_table(
     mapping: Table,
+    /,
     *,
     keys: NotUtf8 = "strict",
     text: NotUtf8 = "strict",
