@@ -462,7 +462,8 @@ def installed(session: Session, _: Any) -> Any:
     """What is wrong with installing, restoring, versions and options."""
     found: list[str] = []
     adapter = import_module(f"amqp_values.adapters.{ADAPTER[session.client]}")
-    import_module(session.client.replace("pyamqp", "kombu"))
+    for name in {"pika": ["pika"], "pyamqp": ["kombu"], "aiormq": ["aiormq", "aio_pika"]}[session.client]:
+        import_module(name)
     read_one, wrote = reader(session.client), dict(objects())
 
     def check(what: str, is_right: bool) -> None:
@@ -478,9 +479,7 @@ def installed(session: Session, _: Any) -> Any:
     twice = b"\0\0\0\x0e\1aI\0\0\0\1\1aI\0\0\0\2"
     adapter.install()
     check("something is in place", bool(changed()))
-    check(
-        "refused by default", not read_one(deep_one)[0] and False or repr(read_one(deep_one)[0]).startswith("Refused(")
-    )
+    check("refused by default", repr(read_one(deep_one)[0]).startswith("Refused("))
     check("the last of equal keys", read_one(twice)[0] == {"a": 2})
     adapter.install(depth=71, equal_keys="first", exact=False)
     check("a depth", repr(read_one(deep_one)[0]).startswith("{'k': {'k': "))

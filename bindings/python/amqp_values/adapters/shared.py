@@ -8,10 +8,12 @@ from enum import Enum
 from types import ModuleType
 from typing import Any, Literal, NamedTuple
 
-from amqp_values import DEPTH, Error, LongInt, decode_table, dumps_table
+from amqp_values import DEPTH, Error, LongInt, Timestamp, decode_table, dumps_table
 
 # The largest length of a table: what the client has read is there already.
 FRAME = 2**32 - 1
+# The last second that a datetime has.
+LAST_SECOND = 253402300799
 
 
 class UntestedVersion(RuntimeError):
@@ -110,6 +112,24 @@ def is_member(value: Any) -> bool:
     return isinstance(value, Enum) and isinstance(value, int)
 
 
+def plain(value: Any) -> Any:
+    """A value by the plain types of Python; a Timestamp that is no datetime stays one."""
+    if isinstance(value, Timestamp):
+        return value.as_datetime() if value <= LAST_SECOND else value
+    if isinstance(value, int) and not isinstance(value, bool):
+        return int(value)
+    return float(value) if isinstance(value, float) else bytes(value) if isinstance(value, bytes) else value
+
+
+def settle(container: Any, got: Callable[[Any], Any]) -> None:
+    """Puts what the client has for them in place of the values in a container."""
+    for key, value in container.items() if type(container) is dict else enumerate(container):
+        if type(value) in (dict, list):
+            settle(value, got)
+        else:
+            container[key] = got(value)
+
+
 class Codec:
     """Reads and writes the tables of a client."""
 
@@ -121,7 +141,7 @@ class Codec:
             "signed_decimals": True,
             "depth": options.depth,
         }
-        self.reading: dict[str, Any] = both | {"plain": True, "frame": options.frame, "equal_keys": options.equal_keys}
+        self.reading: dict[str, Any] = both | {"frame": options.frame, "equal_keys": options.equal_keys}
         self.writing: dict[str, Any] = both | {"naive_datetimes": True}
 
     def read(self, data: Any, offset: int) -> tuple[dict[Any, Any], int]:
@@ -137,20 +157,20 @@ class Codec:
         return (Headers.of(table, bytes(data[offset:end])) if self.options.exact else table), end
 
     def decoded(self, data: Any, offset: int) -> tuple[dict[Any, Any], int]:
-        table, end = decode_table(data, offset, **self.reading)
+        got = self.client.got
         try:
-            self.settle(table)
+            table, end = decode_table(data, offset, plain=True, **self.reading)
+        except Error as problem:
+            if problem.kind != "out of range":
+                raise
+            # (a Timestamp is no datetime from the year 10000 on)
+            table, end = decode_table(data, offset, **self.reading)
+            got = lambda value: self.client.got(plain(value))
+        try:
+            settle(table, got)
         except RecursionError:
             raise Error("too deep", offset, "fewer levels, at Python's own limit for calls") from None
         return table, end
-
-    def settle(self, container: Any) -> None:
-        """Makes the values of a container those that the client has for them."""
-        for key, value in container.items() if type(container) is dict else enumerate(container):
-            if type(value) in (dict, list):
-                self.settle(value)
-            else:
-                container[key] = self.client.got(value)
 
     def write(self, table: Any) -> bytes:
         """The encoding of a table: for one that came and wasn't changed the bytes that it came as."""
