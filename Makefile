@@ -33,7 +33,12 @@ dist: all $(OF_AARCH64)/checksums
 deb: all
 	.ci/deb "$(FOLDER)"
 
-clean:
-	rm -rf out/dist out/aarch64 out/packed out/deb
+# the package for Python as a wheel for each processor, by Debian's Python and nothing else; that for x86-64 is installed in
+# fresh environments of each version that is there
+wheel: all $(OF_AARCH64)/checksums
+	python3 .ci/wheels.py out/wheel "$(FOLDER)" "$(OF_AARCH64)"
 
-.PHONY: check rust dist deb clean
+clean:
+	rm -rf out/dist out/aarch64 out/packed out/deb out/wheel
+
+.PHONY: check rust dist deb wheel clean

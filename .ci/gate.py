@@ -32,7 +32,7 @@ NEEDS: dict[str, tuple[str, ...]] = {
     "alloc-failures": (),
     "sizes": (),
     "wire": (),
-    "python": (PYTHON,),
+    "python": (PYTHON, "python3-dbg", "/usr/include/python3.11/Python.h"),
     "c": (
         *("nm", "pkg-config", "clang", "qemu-x86_64", "aarch64-linux-gnu-gcc"),
         *("cmake", "dpkg-gensymbols", "lintian", "man", "mandoc", "/usr/include/amqp.h"),
@@ -47,7 +47,12 @@ NEEDS: dict[str, tuple[str, ...]] = {
 PROOFS, NEED_NO_PROOFS = "rt ci", {"docs", "test", "style", "model"}
 # The modules of Debian's Python that each step needs, and how many tables are sent in .ci/run and .ci/whole.
 PYTEST = ("pytest", "xdist", "hypothesis")
-MODULES = {"style": PYTEST, "model": PYTEST, "python": PYTEST, "broker": (*PYTEST, "pika", "amqp")}
+MODULES = {
+    "style": PYTEST,
+    "model": PYTEST,
+    "python": (*PYTEST, "pip", "setuptools", "wheel", "ensurepip"),
+    "broker": (*PYTEST, "pika", "amqp"),
+}
 TABLES = {"run": 500, "whole": 10000}
 KEYS = ".ci/mutant-keys"
 NO_CRATE = "neither AMQ_PROTOCOL_TYPES names the Rust crate's folder nor cargo has kept it"

@@ -25,7 +25,7 @@ GLIBC = (2, 17)
 FIRST = (3, 10)
 # What is tried of a wheel that is installed.
 TRIED = """
-import doctest, pathlib, sys
+import decimal, doctest, pathlib, sys
 import amqp_values as av
 assert "site-packages" in av.__file__, av.__file__
 tried = 0
@@ -35,7 +35,7 @@ for it in (av, *(getattr(av, name) for name in av.__all__)):
         assert not results.failed
         tried += results.attempted
 assert tried >= 12, tried
-for value in ({}, {"a": [None, True, -1, 1.5, "x", b"y", av.Decimal("1.5")] if hasattr(av, "Decimal") else []}, [[[]]] * 3):
+for value in ({}, {"a": [None, True, -1, 1.5, "x", b"y", decimal.Decimal("1.5")]}, [[[]]] * 3):
     assert av.loads(av.dumps(value)) == value
 for bytes_ in (b"", b"z", b"S\\0\\0\\0\\1", b"S\\0\\0\\0\\1\\xff", b"A" * 99):
     try:
@@ -87,7 +87,9 @@ def make_wheel(library: Path, to: Path, target: str = X86_64) -> tuple[Path, str
     with tempfile.TemporaryDirectory(prefix="wheel-") as folder:
         # (setuptools writes next to what it builds, and the header is found by its place)
         copy = Path(folder) / "bindings/python"
-        shutil.copytree(PACKAGE, copy, ignore=shutil.ignore_patterns("build", "*.egg-info", "*.so", "lib", "__pycache__"))
+        shutil.copytree(
+            PACKAGE, copy, ignore=shutil.ignore_patterns("build", "*.egg-info", "*.so", "lib", "__pycache__")
+        )
         shutil.copytree(INCLUDE, Path(folder) / "include")
         for it in copy.rglob("*"):
             os.utime(it, (released_at().timestamp(),) * 2)
@@ -151,7 +153,9 @@ def pythons() -> list[Path]:
     for it in found:
         if not os.access(it, os.X_OK):
             continue
-        said = ran([it, "-c", "import sys; print(sys.implementation.name, *sys.version_info[:2], sys.executable)"])[0].split()
+        said = ran([it, "-c", "import sys; print(sys.implementation.name, *sys.version_info[:2], sys.executable)"])[
+            0
+        ].split()
         # (a name of pyenv may be of no version that is chosen)
         if said[:1] == ["cpython"] and (int(said[1]), int(said[2])) >= FIRST:
             kept.setdefault(".".join(said[1:3]), Path(said[3]))
@@ -164,11 +168,12 @@ def try_wheel(wheel: Path, python: Path) -> tuple[str, str]:
     with tempfile.TemporaryDirectory(prefix="wheel-") as folder:
         own = Path(folder) / "env/bin/python"
         how = ["--no-index", "--no-deps", "--no-cache-dir", "--disable-pip-version-check", "-q"]
-        for words in (
+        steps: list[Words] = [
             [python, "-m", "venv", Path(folder) / "env"],
             [own, "-m", "pip", "install", *how, wheel],
             [own, "-I", "-c", TRIED],
-        ):
+        ]
+        for words in steps:
             said, wrong = ran(words, env=clean, cwd=folder)
             if wrong:
                 return "", wrong

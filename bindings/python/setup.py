@@ -34,7 +34,15 @@ setup(
             depends=["src/values.h", str(INCLUDE / "amqp_values.h"), str(ARCHIVE)],
             include_dirs=[str(INCLUDE), *filter(None, [os.environ.get("AMQP_VALUES_PYTHON_INCLUDE")])],
             extra_objects=[str(ARCHIVE)],
-            extra_compile_args=["-std=c11", "-O2", "-fvisibility=hidden", "-Wall", "-Wextra", "-Wpedantic", "-Wconversion"],
+            extra_compile_args=[
+                "-std=c11",
+                "-O2",
+                "-fvisibility=hidden",
+                "-Wall",
+                "-Wextra",
+                "-Wpedantic",
+                "-Wconversion",
+            ],
             extra_link_args=[] if os.environ.get("AMQP_VALUES_SANITIZED") else LINKING,
             py_limited_api=True,
         )

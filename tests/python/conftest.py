@@ -4,6 +4,7 @@ import os
 import sys
 import tempfile
 from pathlib import Path
+from typing import Any
 
 import pytest
 from crates import Crates
@@ -22,3 +23,11 @@ def pytest_configure(config: pytest.Config) -> None:
             raise pytest.UsageError(wrong)
         os.environ[BUILT] = folder
     sys.path.insert(0, os.environ[BUILT])
+
+
+def pytest_terminal_summary(terminalreporter: Any) -> None:
+    """Prints what tests have recorded in words, as the versions of Python for which the wheel was installed."""
+    for report in terminalreporter.stats.get("passed", []):
+        for name, value in getattr(report, "user_properties", []):
+            if isinstance(value, str):
+                terminalreporter.write_line(f"{name}: {value}")

@@ -47,8 +47,10 @@ def shape(value: Any) -> Any:
         return "dict", [(shape(key), shape(it)) for key, it in value.items()]
     if kind is list:
         return "list", [shape(it) for it in value]
-    if isinstance(value, float):
-        return kind.__name__, value.bits if kind.__name__ == "Float" else struct.pack(">d", value)
+    if isinstance(value, (own.Float, av.Float)):
+        return "Float", value.bits
+    if kind is float:
+        return "float", struct.pack(">d", value)
     if kind is Decimal:
         return "Decimal", value.as_tuple()
     return kind.__name__, value

@@ -21,6 +21,8 @@ def tracked() -> list[str]:
 
 
 MODULES = [it for it in tracked() if it.endswith(".py")]
+# (whose types are in a stub, if there is one)
+TYPED = [f"{it}i" if (TOP / f"{it}i").exists() else it for it in MODULES]
 SCRIPTS = [it for it in tracked() if it not in MODULES and SCRIPT.match((TOP / it).read_bytes())]
 
 
@@ -49,7 +51,7 @@ def by_mypy(tmp_path_factory: pytest.TempPathFactory, wrong: Path) -> list[str]:
     for script, link in links.items():
         link.symlink_to(TOP / script)
     text = "\n".join(
-        lines("mypy", "--show-absolute-path", "--cache-dir", folder / "cache", *MODULES, *links.values(), wrong)
+        lines("mypy", "--show-absolute-path", "--cache-dir", folder / "cache", *TYPED, *links.values(), wrong)
     )
     for script, link in links.items():
         text = text.replace(str(link), script)

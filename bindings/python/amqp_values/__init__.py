@@ -67,6 +67,7 @@ __all__ = [
     "ShortShortUInt",
     "ShortUInt",
     "Timestamp",
+    "__version__",
     "decode_table",
     "dumps",
     "dumps_table",

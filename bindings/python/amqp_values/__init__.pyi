@@ -37,6 +37,30 @@ Kind: TypeAlias = Literal[
     "bad option",
 ]
 
+__all__ = [
+    "DEPTH",
+    "Encoded",
+    "Error",
+    "FRAME",
+    "Float",
+    "LongInt",
+    "LongString",
+    "LongUInt",
+    "MOST_DEPTH",
+    "ShortInt",
+    "ShortShortInt",
+    "ShortShortUInt",
+    "ShortUInt",
+    "Timestamp",
+    "__version__",
+    "decode_table",
+    "dumps",
+    "dumps_table",
+    "find",
+    "loads",
+    "loads_table",
+]
+
 class Error(ValueError):
     kind: Kind
     offset: int
@@ -108,7 +132,7 @@ def loads_table(
     data: Data,
     /,
     *,
-    keys: NotUtf8,
+    keys: Literal["bytes"],
     text: NotUtf8 = "strict",
     plain: bool = False,
     equal_keys: EqualKeys = "last",
@@ -138,7 +162,7 @@ def decode_table(
     /,
     offset: int = 0,
     *,
-    keys: NotUtf8,
+    keys: Literal["bytes"],
     text: NotUtf8 = "strict",
     plain: bool = False,
     equal_keys: EqualKeys = "last",

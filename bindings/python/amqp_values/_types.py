@@ -37,13 +37,13 @@ class Error(ValueError):
         return f"{self.kind} at {self.offset}: expected {self.expected}{place}"
 
 
-def _shown(number: object) -> str:
-    """A number as a message has it, or how large it is."""
-    if isinstance(number, int) and int.bit_length(number) > 128:
-        return f"an integer of {int.bit_length(number)} bits"
-    if isinstance(number, int):
-        return int.__repr__(number)
-    return float.__repr__(number) if isinstance(number, float) else f"this {type(number).__name__}"
+def _shown(number: Any) -> str:
+    """A number as a message has it, or what it is."""
+    kind = type(number)
+    if issubclass(kind, int):
+        bits = int.bit_length(number)
+        return int.__repr__(number) if bits <= 128 else f"an integer of {bits} bits"
+    return float.__repr__(number) if issubclass(kind, float) else f"this {kind.__name__}"
 
 
 def _index(value: Any) -> int:
@@ -133,12 +133,11 @@ class Timestamp(_Integer):
     @classmethod
     def of(cls, time: datetime) -> Any:
         """The seconds of a datetime with a time zone, rounded down."""
-        if not isinstance(time, datetime):
+        from ._native import dumps
+
+        if not issubclass(type(time), datetime):
             raise TypeError(f"a time is a datetime, not {type(time).__name__}")
-        if time.utcoffset() is None:
-            raise Error("naive datetime", 0, "a datetime with a time zone")
-        since = time - datetime.fromtimestamp(0, timezone.utc)
-        return cls(since.days * 86400 + since.seconds)
+        return cls(int.from_bytes(dumps(time)[1:], "big"))
 
     def as_datetime(self) -> datetime:
         """The time in UTC; an `Error` from the year 10000 on."""
@@ -158,12 +157,15 @@ class Float(float):
     __slots__ = ()
 
     def __new__(cls, value: Any = 0.0) -> Any:
-        if not isinstance(value, (int, float, Decimal)):
+        if not issubclass(type(value), (int, float, Decimal)):
             raise TypeError(f"a Float is made of a number, not {type(value).__name__}")
         try:
             # (as it is, whatever a subclass makes of it; a signaling NaN of Decimal is no float)
-            kind = next(it for it in (int, float, Decimal) if isinstance(value, it))
-            (narrow,) = struct.unpack(">f", struct.pack(">f", kind.__float__(value)))
+            kind: Any = next(it for it in (int, float, Decimal) if issubclass(type(value), it))
+            wide = kind.__float__(value)
+            if wide - wide != 0 and kind is Decimal and Decimal.is_finite(value):
+                raise OverflowError
+            (narrow,) = struct.unpack(">f", struct.pack(">f", wide))
         except (OverflowError, ValueError):
             raise Error("out of range", 0, f"a number of 32 bits, not {_shown(value)}") from None
         return float.__new__(cls, narrow)

@@ -319,7 +319,7 @@ static PyObject *dumps_table(PyObject *module, PyObject *const *arguments, Py_ss
 static PyMethodDef FUNCTIONS[] = {
     CALL(loads, "($module, data, /, *, " READ_OPTIONS ")",
          "The value that all of the bytes are, with its type tag.\n\n"
-         ">>> loads(b'A\\0\\0\\0\\x0bI\\0\\0\\0\\5t\\1S\\0\\0\\0\\0')\n"
+         ">>> loads(b'A\\0\\0\\0\\x0cI\\0\\0\\0\\5t\\1S\\0\\0\\0\\0')\n"
          "[LongInt(5), True, '']\n"),
     CALL(loads_table, "($module, data, /, *, " READ_OPTIONS ")",
          "The table that all of the bytes are, without its type tag: its length, then its pairs.\n\n"

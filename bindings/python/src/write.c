@@ -12,12 +12,12 @@ typedef struct {
     uint8_t small[512];
 } Writer;
 
-/* A key and the container that an entry is put into. Another key of this length is put if it isn't known to be UTF-8, and its bytes
-   then written over that. */
+/* A key, the container that an entry is put into, and how many bytes the key has there. Another key of this length is put if it
+   isn't known to be UTF-8, and its bytes then written over that. */
 typedef struct {
     amqpv_container *into;
     const char *key, *bytes;
-    size_t length;
+    size_t length, head;
     uint32_t levels;
 } Place;
 
@@ -32,7 +32,7 @@ static size_t end_of(const amqpv_container *into) {
 
 /* How many bytes are before what is written next. */
 static size_t offset_in(const Writer *writer, const Place *place) {
-    size_t end = end_of(place->into);
+    size_t end = end_of(place->into) + place->head;
     return writer->how->is_table && end > 0 ? end - 1 : end;
 }
 
@@ -338,17 +338,17 @@ static int put_encoded(Writer *writer, const Place *place, const char *bytes, si
     Options how = *writer->how;
     how.frame = UINT32_MAX;
     how.depth = place->levels;
-    size_t before = end_of(place->into), head = place->into->tag == AMQPV_TABLE ? place->length + 1 : 0, count = 0;
+    size_t before = end_of(place->into), count = 0;
     amqpv_entry entry;
     const uint8_t *data = (const uint8_t *)bytes;
     how.keys = STRICT;
     amqpv_result result = amqpv_read(data, length, how.frame, how.depth, &entry, &count);
     if (result != AMQPV_OK) {
-        raise_problem(writer->state, data, length, &how, 0, offset_in(writer, place) + head, result, count);
+        raise_problem(writer->state, data, length, &how, 0, offset_in(writer, place), result, count);
         return 0;
     }
     if (count != length) {
-        raise_error(writer->state, "trailing bytes", offset_in(writer, place) + head + count, 0, "the end of an encoded value");
+        raise_error(writer->state, "trailing bytes", offset_in(writer, place) + count, 0, "the end of an encoded value");
         return 0;
     }
     if (!reserve(writer, place, length)) {
@@ -433,6 +433,7 @@ static int put_pair(Writer *writer, const Place *body, PyObject *key, PyObject *
             place.bytes = place.key;
             place.key = ANY_KEY;
         }
+        place.head = place.length + 1;
         is_done = is_new && put_value(writer, &place, value);
     }
     if (!is_done && PyErr_Occurred()) {
@@ -560,7 +561,7 @@ static int put_container(Writer *writer, const Place *place, PyObject *value, in
     amqpv_result result = amqpv_open(writer->buffer, writer->capacity, place->into, place->key, place->length,
                                      is_table ? AMQPV_TABLE : AMQPV_ARRAY, &body);
     if (result == AMQPV_OK) {
-        Place inside = {&body, "", NULL, 0, place->levels - 1};
+        Place inside = {&body, "", NULL, 0, 0, place->levels - 1};
         if (!put_contents(writer, &inside, value, is_table)) {
             return 0;
         }
@@ -635,7 +636,7 @@ static int put_value(Writer *writer, const Place *place, PyObject *value) {
 PyObject *written(const State *state, const Options *how, PyObject *value) {
     Writer writer;
     amqpv_container top = {0};
-    Place place = {&top, "", NULL, 0, how->depth};
+    Place place = {&top, "", NULL, 0, 0, how->depth};
     PyObject *made = NULL;
     top.tag = AMQPV_ARRAY;
     writer.state = state;

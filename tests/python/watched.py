@@ -1,0 +1,97 @@
+"""Mutated tables and hostile objects, for an interpreter that watches: python3 -m tests.python.watched WHAT PACKAGE SEED COUNT
+
+WHAT is `mutated`, which reads COUNT tables that are damaged, and writes what is read and a tenth as many hostile objects; or
+`references`, which does some of both again and again, and prints how many references more there are after a round, by
+sys.gettotalrefcount of Python's debug build. PACKAGE is the folder that the package is in. No exception comes but those that
+are documented.
+"""
+
+import gc
+import sys
+from collections.abc import Callable
+from random import Random
+from typing import Any
+
+if __name__ == "__main__":
+    sys.path.insert(0, sys.argv[2])
+
+import amqp_values as own  # noqa: E402
+
+from tests.model.printed import damaged, value_of  # noqa: E402
+from tests.model.tables import odd_table, random_table, raw  # noqa: E402
+from tests.python.hostile import DOCUMENTED, made  # noqa: E402
+
+OPTIONS: list[dict[str, Any]] = [
+    {},
+    {"text": "bytes"},
+    {"plain": True, "text": "surrogateescape", "keys": "surrogateescape"},
+    {"keys": "bytes", "text": "bytes", "equal_keys": "first", "signed_decimals": True},
+    {"finite": True, "text": "bytes", "depth": 3, "frame": 200},
+]
+
+
+def table_of_bytes(make: Random) -> bytes:
+    """A table with its type tag that may be damaged, more than once."""
+    kind = make.randrange(3)
+    data = raw(random_table(make)) if kind == 0 else odd_table(make) if kind == 1 else value_of(make, 3)
+    while data and make.random() < 0.6:
+        data = damaged(make, data)
+    return data
+
+
+def quietly(call: Callable[[], Any]) -> Any:
+    """What a call returns, or None after an exception that is documented."""
+    try:
+        return call()
+    except DOCUMENTED:
+        return None
+
+
+def read_and_write(data: bytes, options: dict[str, Any]) -> int:
+    """Reads bytes in each way, and writes what was read; how much was."""
+    found = quietly(lambda: own.loads(data, **options))
+    quietly(lambda: own.loads_table(data[1:], **options))
+    quietly(lambda: own.decode_table(b"..." + data + b"...", 4, **options))
+    quietly(lambda: own.find(data, *(next(iter(found), "") if isinstance(found, dict) else ""), **options))
+    if found is None:
+        return 0
+    ways = {name: it for name, it in options.items() if name in ("keys", "text", "signed_decimals")}
+    return len(own.dumps(found, **ways))
+
+
+def write(value: Any, how: dict[str, Any]) -> None:
+    quietly(lambda: own.dumps(value, **how))
+    quietly(lambda: own.dumps_table(value, **how))
+
+
+def mutated(seed: int, count: int) -> int:
+    make, read = Random(seed), 0
+    for at in range(count):
+        read += read_and_write(table_of_bytes(make), OPTIONS[at % len(OPTIONS)]) > 0
+        if at % 10 == 0:
+            write(made(make), {"keys": make.choice(["strict", "bytes", "surrogateescape"]), "naive_datetimes": True})
+    assert read > count / 5, read
+    return count
+
+
+def references(seed: int, count: int) -> int:
+    """How many references a round has left, at least of five."""
+    make = Random(seed)
+    tables, values = [table_of_bytes(make) for _ in range(count)], [made(Random(seed + it)) for it in range(count // 4)]
+    total: Callable[[], int] = getattr(sys, "gettotalrefcount")
+    left: list[int] = []
+    for _ in range(7):
+        gc.collect()
+        before = total()
+        for at, data in enumerate(tables):
+            read_and_write(data, OPTIONS[at % len(OPTIONS)])
+        for it in values:
+            write(it, {})
+        gc.collect()
+        left.append(abs(total() - before))
+    return min(left[2:])
+
+
+if __name__ == "__main__":
+    called = {"mutated": mutated, "references": references}[sys.argv[1]]
+    print(called(int(sys.argv[3]), int(sys.argv[4])))
