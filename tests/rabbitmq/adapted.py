@@ -19,6 +19,7 @@ from typing import Any
 
 from tests.model.printed import damaged
 from tests.model.tables import first_problem, odd_table, random_table, raw
+from tests.rabbitmq.seen import parsed, seen
 
 # What is waited for at most, in seconds.
 PATIENCE = 20.0
@@ -387,7 +388,12 @@ def reader(client: str) -> Callable[[bytes], tuple[Any, int]]:
     """How a client reads a table: what it is, and where it ends."""
     if client == "pika":
         data = import_module("pika.data")
-        return lambda it: data.decode_table(it, 0)
+
+        def by_pika(it: bytes) -> tuple[Any, int]:
+            found, end = data.decode_table(it, 0)
+            return found, end
+
+        return by_pika
     if client == "pyamqp":
         serialization = import_module("amqp.serialization")
 
@@ -397,34 +403,47 @@ def reader(client: str) -> Callable[[bytes], tuple[Any, int]]:
 
         return by_pyamqp
     decode = import_module("pamqp.decode")
-    return lambda it: decode.by_type(it, "table")[::-1]
+
+    def by_pamqp(it: bytes) -> tuple[Any, int]:
+        end, found = decode.by_type(it, "table")
+        return found, end
+
+    return by_pamqp
 
 
 def mutated(session: Session, given: Any) -> Any:
     """Reads mutated tables, and counts what comes, by the model."""
-    from amqp_values.adapters import Refused
-
     make, counts, read_one = Random(given["seed"]), Counter[str](), reader(session.client)
-    signal.signal(signal.SIGALRM, too_long)
+    signal.signal(signal.SIGVTALRM, too_long)
     for _ in range(given["count"]):
         data = mutation(make)
         try:
-            signal.setitimer(signal.ITIMER_REAL, 0.5)
+            signal.setitimer(signal.ITIMER_VIRTUAL, 0.1)
             found, end = read_one(data)
-            signal.setitimer(signal.ITIMER_REAL, 0)
-            is_right = is_table(data) and end == 4 + int.from_bytes(data[:4], "big")
-            what = "refused" if isinstance(found, Refused) else "read" if is_right else "a value of no table"
-            what = "refused a table" if what == "refused" and is_table(data) else what
+            signal.setitimer(signal.ITIMER_VIRTUAL, 0)
+            what = judged(session.client, data, found, end)
         except Exception as error:
             what = name_of(error)
         finally:
-            signal.setitimer(signal.ITIMER_REAL, 0)
+            signal.setitimer(signal.ITIMER_VIRTUAL, 0)
         counts[what] += 1
     return counts
 
 
+def judged(client: str, data: bytes, found: Any, end: int) -> str:
+    """What it is that came for some bytes, by the model."""
+    from amqp_values.adapters import Refused
+
+    if len(data) < 4 or first_problem(b"F" + data, "any keys"):
+        return "refused" if isinstance(found, Refused) else "a value of no table"
+    wanted, stop = parsed(b"F" + data)
+    if repr(found) == repr(seen(client, wanted)) and end == stop - 1:
+        return "read"
+    return "refused a table" if isinstance(found, Refused) else "read wrongly"
+
+
 class TooLong(Exception):
-    """A table wasn't read in half a second."""
+    """A table wasn't read in a tenth of a second."""
 
 
 def too_long(*_: object) -> None:
@@ -442,11 +461,6 @@ def mutation(make: Random) -> bytes:
     return data if make.random() < 0.95 else make.randbytes(make.randrange(40))
 
 
-def is_table(data: bytes) -> bool:
-    """Whether a table begins the bytes, by the model: keys are any bytes."""
-    return len(data) >= 4 and first_problem(b"F" + data, "any keys") is None
-
-
 def objects() -> Iterator[tuple[tuple[str, str], Any]]:
     """Each object in a module of the clients, in a class and in a dictionary there."""
     for module_name, module in [*sys.modules.items()]:
@@ -454,7 +468,7 @@ def objects() -> Iterator[tuple[tuple[str, str], Any]]:
             continue
         for name, it in [*vars(module).items()]:
             yield (module_name, name), it
-            names = it if isinstance(it, dict) else vars(it) if isinstance(it, type) else {}
+            names: dict[Any, Any] = it if isinstance(it, dict) else dict(vars(it)) if isinstance(it, type) else {}
             yield from (((f"{module_name}.{name}", repr(key)), inner) for key, inner in [*names.items()])
 
 
@@ -491,7 +505,7 @@ def installed(session: Session, _: Any) -> Any:
     check(f"restored: {changed()}", not changed())
     check("equal again", read_one(twice)[0] == {"a": 2} and type(read_one(twice)[0]) is dict)
     for name in {"pika": ["pika"], "pyamqp": ["amqp"], "aiormq": ["pamqp", "aiormq", "aio_pika"]}[session.client]:
-        module = import_module(name)
+        module: Any = import_module(name)
         version, module.__version__ = module.__version__, "99.1"
         try:
             adapter.install()
