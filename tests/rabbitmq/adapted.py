@@ -6,6 +6,7 @@ hexadecimal. Debian's modules are those of Debian's own Python, so it runs this.
 
 import asyncio
 import json
+import pickle
 import signal
 import sys
 import traceback
@@ -411,6 +412,24 @@ def reader(client: str) -> Callable[[bytes], tuple[Any, int]]:
     return by_pamqp
 
 
+def writer(client: str) -> Callable[[Any], bytes]:
+    """How a client writes a table."""
+    if client == "pika":
+        data = import_module("pika.data")
+
+        def by_pika(table: Any) -> bytes:
+            pieces: list[bytes] = []
+            assert data.encode_table(pieces, table) == len(b"".join(pieces))
+            return b"".join(pieces)
+
+        return by_pika
+    if client == "pyamqp":
+        serialization = import_module("amqp.serialization")
+        return lambda table: bytes(serialization.dumps("F", [table]))
+    encode = import_module("pamqp.encode")
+    return lambda table: bytes(encode.by_type(table, "table"))
+
+
 def mutated(session: Session, given: Any) -> Any:
     """Reads mutated tables, and counts what comes, by the model."""
     make, counts, read_one = Random(given["seed"]), Counter[str](), reader(session.client)
@@ -478,14 +497,17 @@ def installed(session: Session, _: Any) -> Any:
     adapter = import_module(f"amqp_values.adapters.{ADAPTER[session.client]}")
     for name in {"pika": ["pika"], "pyamqp": ["kombu"], "aiormq": ["aiormq", "aio_pika"]}[session.client]:
         import_module(name)
-    read_one, wrote = reader(session.client), dict(objects())
+    read_one, write_one, before = reader(session.client), writer(session.client), dict(objects())
 
     def check(what: str, is_right: bool) -> None:
         found.extend([] if is_right else [what])
 
     def changed() -> list[tuple[str, str]]:
         now = dict(objects())
-        return [it for it in {**wrote, **now} if wrote.get(it) is not now.get(it)]
+        return [it for it in {**before, **now} if before.get(it) is not now.get(it)]
+
+    def below(calls: int) -> Any:
+        return below(calls - 1) if calls else read_one(deep_one)[0]
 
     deep_one = b"\0\0\0\0"
     for _ in range(70):
@@ -495,9 +517,27 @@ def installed(session: Session, _: Any) -> Any:
     check("something is in place", bool(changed()))
     check("refused by default", repr(read_one(deep_one)[0]).startswith("Refused("))
     check("the last of equal keys", read_one(twice)[0] == {"a": 2})
+    # what came is relayed as long as it isn't changed
+    refused, came = read_one(deep_one)[0], read_one(twice)[0]
+    check("relayed", [write_one(it) for it in (refused, came, came.copy())] == [deep_one, twice, twice])
+    refused["a"] = came["a"] = 3
+    changed_one = write_one({"a": 3})
+    check("changed", [write_one(it) for it in (refused, came, came.copy())] == [changed_one] * 3)
+    check("a copy", write_one(dict(read_one(twice)[0])) == write_one({"a": 2}))
+    check(
+        "pickled",
+        type(pickle.loads(pickle.dumps(came))) is dict and pickle.loads(pickle.dumps(refused)).raw == deep_one,
+    )
     adapter.install(depth=71, equal_keys="first", exact=False)
     check("a depth", repr(read_one(deep_one)[0]).startswith("{'k': {'k': "))
     check("the first of equal keys", read_one(twice)[0] == {"a": 1} and type(read_one(twice)[0]) is dict)
+    adapter.install(depth=512)
+    check("Python's own limit", repr(below(sys.getrecursionlimit() - 60)).startswith("Refused("))
+    try:
+        adapter.install(depth=513)
+        found.append("a depth of 513 is taken")
+    except ValueError:
+        pass
     adapter.install(frame=10)
     check("a frame", repr(read_one(twice)[0]).startswith("Refused("))
     adapter.uninstall()

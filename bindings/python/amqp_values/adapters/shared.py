@@ -143,6 +143,8 @@ class Codec:
         }
         self.reading: dict[str, Any] = both | {"frame": options.frame, "equal_keys": options.equal_keys}
         self.writing: dict[str, Any] = both | {"naive_datetimes": True}
+        # (so that an option that is none raises here, and isn't taken for what is wrong with a message)
+        decode_table(b"\0\0\0\0", **self.reading)
 
     def read(self, data: Any, offset: int) -> tuple[dict[Any, Any], int]:
         """The table at an offset, or what is delivered instead, and where it ends."""
@@ -153,6 +155,8 @@ class Codec:
             # (what is after a table that is cut can't be found)
             if self.options.raises or not offset + 4 <= end <= len(data):
                 raise self.client.unread(problem) from problem
+            # (what it was raised for would keep all that was at hand there)
+            problem.__traceback__ = problem.__context__ = None
             return Refused(problem, bytes(data[offset:end])), end
         return (Headers.of(table, bytes(data[offset:end])) if self.options.exact else table), end
 
@@ -175,8 +179,8 @@ class Codec:
     def write(self, table: Any) -> bytes:
         """The encoding of a table: for one that came and wasn't changed the bytes that it came as."""
         try:
-            if isinstance(table, Headers):
-                with suppress(Error):
+            if isinstance(table, Headers) and hasattr(table, "raw"):
+                with suppress(Error, TypeError):
                     if self.is_as_it_came(table):
                         return table.raw
             return self.encoded(table, finite=True)
