@@ -382,7 +382,7 @@ def arguments(session: Session, given: Any) -> Any:
         given["queue"], given["exchange"], {"x-match": "all", "n": -5, "s": "grüß", "b": True, "d": Decimal("1.5")}
     )
     client.publish(given["exchange"], "", {"n": 7, "s": "漢", "t": WHEN, "f": True, "l": [1, "x"]})
-    return repr(client.server_properties)
+    return [repr(client.server_properties), type(client.server_properties).__name__]
 
 
 def reader(client: str) -> Callable[[bytes], tuple[Any, int]]:
