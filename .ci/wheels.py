@@ -30,7 +30,7 @@ import amqp_values as av
 assert "site-packages" in av.__file__, av.__file__
 tried = 0
 for it in (av, *(getattr(av, name) for name in av.__all__)):
-    for test in doctest.DocTestFinder(recurse=False).find(it, globs=vars(av).copy()):
+    for test in doctest.DocTestFinder(recurse=False).find(it, "it", globs=vars(av).copy()):
         results = doctest.DocTestRunner().run(test)
         assert not results.failed
         tried += results.attempted

@@ -17,11 +17,12 @@ FILE = re.compile(r"[\w.*+-]*/[\w./*+-]*")
 ITALIC = re.compile(r"(?<!\*)\*([A-Z]\w*)\*(?!\*)")
 # Where the project's own names are, and where pages other than PROMISES have names from too.
 SOURCES = ("crates/*/src/**/*.*t", "crates/*/specs/**/*.*t", "crates/*/proofs/**/*.*t", "include/*.h")
-EXAMPLES = ("examples/**/*.[ch]", "examples/**/*.py", "bindings/**/*.rs", "packaging/*", "c/*.c")
+OF_PYTHON = ("bindings/python/src/*.[ch]", "bindings/python/**/*.py", "bindings/python/**/*.pyi")
+EXAMPLES = ("examples/**/*.[ch]", "bindings/**/*.rs", "packaging/*", "c/*.c", *OF_PYTHON)
 # What pages name that isn't the project's: programs, names of the Rust crate, of other languages and of earlier versions.
 NOT_OURS = set(
     """git nm ryu inf memmove memset HANDLES Compare CompareResult Default SerializeFn readTable writeTable
-    amqp_ IsBounded length_of_text""".split()
+    amqp_ IsBounded length_of_text ctypes""".split()
 )
 
 

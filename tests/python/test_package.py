@@ -559,6 +559,15 @@ def test_examples_of_the_docstrings() -> None:
         assert tried[name] > 0, name
 
 
+def test_examples_of_the_page() -> None:
+    """The examples of the page run in their order."""
+    page = TOP / "docs/PYTHON.md"
+    blocks = re.findall(r"(?ms)^```python\n(.*?)^```", page.read_text())
+    test = doctest.DocTestParser().get_doctest("".join(blocks), {}, page.name, None, 0)
+    failed, tried = doctest.DocTestRunner().run(test)
+    assert tried >= 17 and not failed
+
+
 def test_signatures_are_those_of_the_types() -> None:
     text = (TOP / "bindings/python/amqp_values/__init__.pyi").read_text()
     for name in ("loads", "loads_table", "decode_table", "find", "dumps", "dumps_table"):

@@ -394,9 +394,3 @@ def test_the_version_is_that_of_the_header() -> None:
 def test_examples_of_the_module() -> None:
     failed, tried = doctest.testmod(av)
     assert tried and not failed
-
-
-def test_examples_of_the_page() -> None:
-    (block,) = re.findall(r"(?ms)^```python\n(.*?)^```", (TOP / "docs/C.md").read_text())
-    failed, tried = doctest.DocTestRunner().run(doctest.DocTestParser().get_doctest(block, {}, "docs/C.md", None, 0))
-    assert tried and not failed

@@ -41,8 +41,10 @@ def test_sanitizers(
     record_property("sanitized", count)
 
 
-def test_references(seed: int) -> None:
+def test_references(request: pytest.FixtureRequest, tmp_path: Path, seed: int) -> None:
     """No reference is lost or left by a round of calls that end well and of others that raise."""
     python = shutil.which(DEBUG)
     assert python, f"{DEBUG} is missing (.ci/setup installs it)"
-    assert watched(python, "references", os.environ["AMQP_VALUES_PACKAGE"], seed, 400, {}) <= 2
+    wrong = build_package(Crates(), tmp_path, bool(request.config.getoption("--built")), ["-DPy_REF_DEBUG"])
+    assert not wrong, wrong
+    assert watched(python, "references", str(tmp_path), seed, 1000, {}) <= 0

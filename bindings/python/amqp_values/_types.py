@@ -24,6 +24,7 @@ class Error(ValueError):
     `kind` is a few words that don't change, `offset` how many of the bytes are before the value with the problem, or, of
     what can't be written, how many would be before it. `expected` tells what it should have been. `missing` counts the
     bytes that the field needs which is cut where the bytes end; it is 0 for all else. `path` leads to what can't be written.
+    What an object's own method raised is the `__cause__`.
     """
 
     path: tuple[Any, ...] = ()
