@@ -14,7 +14,7 @@ from tests.rabbitmq.broker import Broker
 from tests.rabbitmq.wire import Connection
 
 # The minutes that all of it takes at most.
-MINUTES = 10
+MINUTES = 15
 NOTES: list[str] = []
 
 
