@@ -22,6 +22,10 @@ INTEGERS = (av.ShortShortInt, av.ShortInt, av.ShortUInt, av.LongInt, av.LongUInt
 places = Places()
 
 
+class Undecoded(bytearray):
+    """A string that isn't UTF-8, as aio-pika has it."""
+
+
 class Pamqp(Client):
     keys = text = "surrogateescape"
 
@@ -39,8 +43,8 @@ class Pamqp(Client):
             return int.__new__(kind, value) if kind else value
         if isinstance(value, struct_time):
             return av.Timestamp(timegm(value))
-        # (a string that isn't UTF-8, as it came)
-        return av.LongString(value) if type(value) is bytes else value
+        # (a string that isn't UTF-8 comes as bytes)
+        return av.LongString(value) if type(value) in (bytes, Undecoded) else value
 
     def items(self, table: Any) -> Any:
         return sorted(table.items())
@@ -107,12 +111,18 @@ def check_before_sending() -> None:
 
 
 def keep_class_of_headers() -> None:
-    """Has aio-pika keep headers that came as they are, in `headers_raw` of a message."""
+    """Has aio-pika keep headers that came, in `headers_raw` of a message, where it makes a `float` a text of JSON."""
     message = import_module("aio_pika.message")
     format_others = message.format_headers
 
     def format_headers(headers: Any) -> Any:
-        return headers if isinstance(headers, Headers) else format_others(headers)
+        if not isinstance(headers, Headers):
+            return format_others(headers)
+        found = headers.copy()
+        for key, value in found.items():
+            # (bytes it decodes when they are asked for)
+            found[key] = Undecoded(value) if type(value) is bytes else value
+        return found
 
     places.put_everywhere(message, "format_headers", format_headers)
 
