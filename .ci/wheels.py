@@ -177,6 +177,53 @@ def try_wheel(wheel: Path, python: Path) -> tuple[str, str]:
     return said.strip(), ""
 
 
+# What Debian's Python for aarch64 needs to run, and the line that its packages come by.
+OF_AARCH64 = (
+    "python3.11-minimal libpython3.11-minimal libpython3.11-stdlib libc6 zlib1g libexpat1 libffi8 libgcc-s1 libuuid1"
+)
+SOURCE = "deb [signed-by=/usr/share/keyrings/debian-archive-keyring.gpg] http://deb.debian.org/debian bookworm main\n"
+
+
+def put_python_of_aarch64(root: Path) -> str:
+    """Unpacks Debian's Python for aarch64 into a folder, by apt-get, which keeps nothing elsewhere; what went wrong."""
+    state = root / "apt"
+    for it in ("lists/partial", "archives/partial", "debs"):
+        (state / it).mkdir(parents=True)
+    (state / "sources.list").write_text(SOURCE)
+    (state / "status").touch()
+    places = {
+        "APT::Architecture": "arm64",
+        "APT::Architectures": "arm64",
+        "APT::Sandbox::User": "root",
+        "Dir::Cache": state,
+        "Dir::Etc::sourcelist": state / "sources.list",
+        "Dir::Etc::sourceparts": "-",
+        "Dir::State::lists": state / "lists",
+        "Dir::State::status": state / "status",
+    }
+    how = [word for name, it in places.items() for word in ("-o", f"{name}={it}")]
+    for words in (["update"], ["download", *OF_AARCH64.split()]):
+        wrong = ran(["apt-get", "-qq", *how, *words], cwd=state / "debs")[1]
+        if wrong:
+            return wrong
+    wrongs = (ran(["dpkg", "-x", it, root])[1] for it in (state / "debs").glob("*.deb"))
+    return "".join(wrongs)
+
+
+def try_wheel_of_aarch64(wheel: Path) -> tuple[str, str]:
+    """Tries a wheel, which is unpacked where pip would, by Debian's Python of that processor, which qemu runs."""
+    with tempfile.TemporaryDirectory(prefix="wheel-") as folder:
+        root = Path(folder)
+        wrong = put_python_of_aarch64(root)
+        if wrong:
+            return "", wrong
+        shutil.unpack_archive(wheel, root / "site-packages", "zip")
+        clean = {"PYTHONHOME": str(root / "usr"), "PYTHONPATH": str(root / "site-packages"), "PATH": os.environ["PATH"]}
+        said, wrong = ran(["qemu-aarch64", "-L", root, root / "usr/bin/python3.11", "-c", TRIED], env=clean)
+        machine, _ = ran(["readelf", "-h", root / "usr/bin/python3.11"])
+        return f"{said.strip()} on {'aarch64' if 'AArch64' in machine else 'another'}", wrong
+
+
 def main() -> int:
     """Makes, checks and installs the wheels of folders that .ci/dist has made."""
     targets = dict(zip(PROCESSORS, sys.argv[2:]))

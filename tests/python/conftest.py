@@ -1,8 +1,10 @@
 """Builds the package before the tests are read, which import it: once, also if several processes run them."""
 
 import os
+import shutil
 import sys
 import tempfile
+from functools import partial
 from pathlib import Path
 from typing import Any
 
@@ -15,6 +17,7 @@ BUILT = "AMQP_VALUES_PACKAGE"
 
 
 def pytest_configure(config: pytest.Config) -> None:
+    config.addinivalue_line("markers", "whole: tried with --random only, as before a release")
     if BUILT not in os.environ:
         # (it isn't in the last folders that pytest keeps, since those of processes that run side by side begin anew)
         folder = tempfile.mkdtemp(prefix="amqp-values-")
@@ -22,7 +25,13 @@ def pytest_configure(config: pytest.Config) -> None:
         if wrong:
             raise pytest.UsageError(wrong)
         os.environ[BUILT] = folder
+        config.add_cleanup(partial(shutil.rmtree, folder))
     sys.path.insert(0, os.environ[BUILT])
+
+
+def pytest_collection_modifyitems(config: pytest.Config, items: list[pytest.Item]) -> None:
+    if not config.getoption("--random"):
+        items[:] = [it for it in items if not it.get_closest_marker("whole")]
 
 
 def pytest_terminal_summary(terminalreporter: Any) -> None:

@@ -214,7 +214,7 @@ def test_near_the_limit_of_recursion() -> None:
 
     limit = sys.getrecursionlimit()
     seen = set()
-    for levels in range(limit - 200, limit):
+    for levels in range(limit - 200, limit, 3):
         try:
             below(levels)
         except RecursionError as why:

@@ -229,6 +229,17 @@ def test_keys_and_text_that_are_not_utf8() -> None:
         assert own_error(lambda: own.loads_table(cut, keys=keys)) == ("cut", 0, 1)
 
 
+def test_surrogates_that_are_read_of_no_bytes() -> None:
+    """Those that stand for bytes that are UTF-8, since two str would be one key; and those that stand for no bytes."""
+    for text in ("\udcc3\udca4", "ä\udcc3\udca4\udcff", "\ud800", "\udcff\udfff"):
+        for value in ({text: 1}, {"k": text}):
+            how: Any = {"keys": "surrogateescape", "text": "surrogateescape"}
+            assert (own_error(lambda: own.dumps_table(value, **how)) or "")[0] == "lone surrogate"
+        assert (own_error(lambda: own.find(field(b"F", b""), text, keys="surrogateescape")) or "")[
+            0
+        ] == "lone surrogate"
+
+
 @given(st.binary(max_size=255), st.binary(max_size=300))
 def test_any_bytes_as_key_and_text_come_back(key: bytes, text: bytes) -> None:
     data = field(b"", bytes([len(key)]) + key + field(b"S", text))

@@ -11,7 +11,7 @@ from crates import TOP, Crates
 from wheels import PYTHON, build_package
 
 # How many damaged tables are read: in the gate, and before a release.
-SAMPLE, WHOLE = 6_000, 100_000
+SAMPLE, WHOLE = 5_000, 100_000
 FLAGS = ("-O1", "-fsanitize=address,undefined", "-fno-sanitize-recover=undefined", "-fno-omit-frame-pointer")
 DEBUG = "python3-dbg"
 
@@ -47,4 +47,4 @@ def test_references(request: pytest.FixtureRequest, tmp_path: Path, seed: int) -
     assert python, f"{DEBUG} is missing (.ci/setup installs it)"
     wrong = build_package(Crates(), tmp_path, bool(request.config.getoption("--built")), ["-DPy_REF_DEBUG"])
     assert not wrong, wrong
-    assert watched(python, "references", str(tmp_path), seed, 1000, {}) <= 0
+    assert watched(python, "references", str(tmp_path), seed, 700, {}) <= 0

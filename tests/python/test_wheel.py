@@ -5,25 +5,36 @@ from pathlib import Path
 
 import pytest
 from crates import Crates
-from wheels import PYTHON, make_wheel, put_library, pythons, try_wheel, wrong_symbols
+from lib import AARCH64, X86_64
+from wheels import PROCESSORS, PYTHON, make_wheel, put_library, pythons, try_wheel, try_wheel_of_aarch64, wrong_symbols
+
+Record = Callable[[str, object], None]
 
 
-@pytest.fixture(scope="module")
-def wheel(tmp_path_factory: pytest.TempPathFactory, request: pytest.FixtureRequest) -> Path:
-    folder = tmp_path_factory.mktemp("wheel")
-    assert not put_library(Crates(), folder, bool(request.config.getoption("--built")))
-    made, wrong = make_wheel(folder, folder / "made")
+def wheel_for(target: str, folder: Path, request: pytest.FixtureRequest) -> Path:
+    """A wheel that is made in a folder, and whose symbols are right."""
+    assert not put_library(Crates(), folder, bool(request.config.getoption("--built")), target)
+    wheel, wrong = make_wheel(folder, folder / "made", target)
     assert not wrong, wrong
-    return made
+    assert wheel.name.endswith(f"-cp310-abi3-manylinux_2_17_{PROCESSORS[target]}.whl")
+    assert not [*wrong_symbols(wheel, target)]
+    return wheel
 
 
-def test_wheel(wheel: Path, record_property: Callable[[str, object], None]) -> None:
-    """(one test, so that one process makes the wheel)"""
-    assert wheel.name.endswith("-cp310-abi3-manylinux_2_17_x86_64.whl")
-    assert not [*wrong_symbols(wheel)]
+def test_wheel(request: pytest.FixtureRequest, tmp_path: Path, record_property: Record) -> None:
+    """For each Python that is found, Debian's always."""
+    wheel = wheel_for(X86_64, tmp_path, request)
     found = pythons()
     assert found[0].resolve() == Path(PYTHON).resolve()
     for python in found:
         said, wrong = try_wheel(wheel, python)
         assert not wrong, f"{python}: {wrong}"
         record_property(f"the wheel is installed for {python}", said)
+
+
+@pytest.mark.whole
+def test_wheel_for_aarch64(request: pytest.FixtureRequest, tmp_path: Path, record_property: Record) -> None:
+    """By Debian's Python for that processor, under qemu."""
+    said, wrong = try_wheel_of_aarch64(wheel_for(AARCH64, tmp_path, request))
+    assert not wrong, wrong
+    record_property("the wheel for aarch64 is tried by Debian's Python there", said)

@@ -104,21 +104,15 @@ void raise_problem(const State *state, const uint8_t *bytes, size_t length, cons
     case AMQPV_PROBLEM_UNKNOWN_TAG:
         raise_error(state, "unknown tag", offset, 0, "one of the type tags tbBsUuIilLfdDSxAFTV, not byte %d", problem.tag);
         break;
-    case AMQPV_PROBLEM_CUT:
-        raise_error(state, "cut", offset, 0, "a whole value inside its container");
-        break;
-    case AMQPV_PROBLEM_KEY_CUT:
-        raise_error(state, "key cut", offset, 0, "a whole key inside its table");
-        break;
+    case AMQPV_PROBLEM_CUT: raise_error(state, "cut", offset, 0, "a whole value inside its container"); break;
+    case AMQPV_PROBLEM_KEY_CUT: raise_error(state, "key cut", offset, 0, "a whole key inside its table"); break;
     case AMQPV_PROBLEM_TOO_DEEP:
         raise_error(state, "too deep", offset, 0, "containers nested at most %u deep", (unsigned)how->depth);
         break;
     case AMQPV_PROBLEM_TOO_LARGE:
         raise_error(state, "too large", offset, 0, "at most %u bytes, the type tag counted", (unsigned)how->frame);
         break;
-    case AMQPV_PROBLEM_KEY_NOT_UTF8:
-        raise_error(state, "key not UTF-8", offset, 0, "bytes in UTF-8");
-        break;
+    case AMQPV_PROBLEM_KEY_NOT_UTF8: raise_error(state, "key not UTF-8", offset, 0, "bytes in UTF-8"); break;
     default:
         /* (bytes that changed meanwhile: they don't) */
         raise_error(state, "cut", base, 0, "a whole value");

@@ -5,15 +5,28 @@
 
 /* The options by their names, as bits. */
 enum {
-    KEYS = 1, TEXT = 2, PLAIN = 4, EQUAL_KEYS = 8, SIGNED = 16, FINITE = 32, DEPTH = 64, FRAME = 128, NAIVE = 256, TABLE = 512,
-    DEFAULT = 1024, OFFSET = 2048
+    KEYS = 1,
+    TEXT = 2,
+    PLAIN = 4,
+    EQUAL_KEYS = 8,
+    SIGNED = 16,
+    FINITE = 32,
+    DEPTH = 64,
+    FRAME = 128,
+    NAIVE = 256,
+    TABLE = 512,
+    DEFAULT = 1024,
+    OFFSET = 2048
 };
-enum { READING = KEYS | TEXT | PLAIN | EQUAL_KEYS | SIGNED | FINITE | DEPTH | FRAME, WRITING = KEYS | TEXT | SIGNED | FINITE | DEPTH | NAIVE };
+enum {
+    READING = KEYS | TEXT | PLAIN | EQUAL_KEYS | SIGNED | FINITE | DEPTH | FRAME,
+    WRITING = KEYS | TEXT | SIGNED | FINITE | DEPTH | NAIVE
+};
 static const struct {
     const char *name;
     int option;
-} OPTIONS[] = {{"keys", KEYS}, {"text", TEXT}, {"plain", PLAIN}, {"equal_keys", EQUAL_KEYS}, {"signed_decimals", SIGNED},
-               {"finite", FINITE}, {"depth", DEPTH}, {"frame", FRAME}, {"naive_datetimes", NAIVE}, {"table", TABLE},
+} OPTIONS[] = {{"keys", KEYS},       {"text", TEXT},    {"plain", PLAIN}, {"equal_keys", EQUAL_KEYS}, {"signed_decimals", SIGNED},
+               {"finite", FINITE},   {"depth", DEPTH},  {"frame", FRAME}, {"naive_datetimes", NAIVE}, {"table", TABLE},
                {"default", DEFAULT}, {"offset", OFFSET}};
 /* The defaults of these, of which frame-max is RabbitMQ's. */
 enum { DEFAULT_DEPTH = 64, DEFAULT_FRAME = 131072 };
@@ -312,9 +325,11 @@ static PyObject *dumps_table(PyObject *module, PyObject *const *arguments, Py_ss
     return dumps_by(module, arguments, count, names, 1);
 }
 
-#define READ_OPTIONS "keys='strict', text='strict', plain=False, equal_keys='last', signed_decimals=False, finite=False, depth=64, frame=131072"
-#define WRITE_OPTIONS "keys='strict', text='strict', naive_datetimes=False, signed_decimals=False, finite=False, depth=64"
-#define CALL(name, how, doc) {#name, (PyCFunction)(void (*)(void))name, METH_FASTCALL | METH_KEYWORDS, #name how "\n--\n\n" doc}
+#define READ_OPTIONS "keys='strict', text='strict', plain=False, equal_keys='last', " OPTIONS_OF_BOTH ", frame=131072"
+#define WRITE_OPTIONS "keys='strict', text='strict', naive_datetimes=False, " OPTIONS_OF_BOTH
+#define OPTIONS_OF_BOTH "signed_decimals=False, finite=False, depth=64"
+#define CALL(name, how, doc)                                                                                                     \
+    { #name, (PyCFunction)(void (*)(void))name, METH_FASTCALL | METH_KEYWORDS, #name how "\n--\n\n" doc }
 
 static PyMethodDef FUNCTIONS[] = {
     CALL(loads, "($module, data, /, *, " READ_OPTIONS ")",
@@ -328,14 +343,14 @@ static PyMethodDef FUNCTIONS[] = {
          ">>> loads_table(b'\\0\\0\\0\\4\\1\\xfft\\1', keys='bytes')\n"
          "{b'\\xff': True}\n"),
     CALL(decode_table, "($module, data, /, offset=0, *, " READ_OPTIONS ")",
-         "The table without its type tag that begins at an offset, and the offset of its end. Offsets of an Error count from the\n"
-         "start of the data.\n\n"
+         "The table without its type tag that begins at an offset, and the offset of its end. Offsets of an Error count\n"
+         "from the start of the data.\n\n"
          ">>> decode_table(b'..\\0\\0\\0\\4\\1at\\1..', 2)\n"
          "({'a': True}, 10)\n"),
     CALL(find, "($module, data, /, *path, table=False, default=None, " READ_OPTIONS ")",
-         "The value at a path, keys into tables and indexes from 0 into arrays, or the default if there is none. Nothing else is\n"
-         "built, but all of the data is checked as loads, or with table=True loads_table, checks it; of equal keys it takes the\n"
-         "same as these.\n\n"
+         "The value at a path, keys into tables and indexes from 0 into arrays, or the default if there is none. Nothing\n"
+         "else is built, but all of the data is checked as loads, or with table=True loads_table, checks it; of equal keys\n"
+         "it takes the same as these.\n\n"
          ">>> data = dumps_table({'x-death': [{'queue': 'orders', 'count': 3}]})\n"
          ">>> find(data, 'x-death', 0, 'queue', table=True)\n"
          "'orders'\n"
@@ -360,7 +375,8 @@ static PyObject *imported(const char *name, const char *attribute) {
 }
 
 static int begin(PyObject *module) {
-    static const char *const CLASSES[INTEGERS] = {"ShortShortInt", "ShortShortUInt", "ShortInt", "ShortUInt", "LongInt", "LongUInt", "Timestamp"};
+    static const char *const CLASSES[INTEGERS] = {"ShortShortInt", "ShortShortUInt", "ShortInt", "ShortUInt",
+                                                  "LongInt",       "LongUInt",       "Timestamp"};
     static const char types[] = "amqp_values._types";
     State *state = state_of(module);
     for (int at = 0; at < INTEGERS; at++) {
@@ -394,7 +410,8 @@ static int begin(PyObject *module) {
         PyErr_SetString(PyExc_ImportError, "amqp_values needs the types of CPython");
         return -1;
     }
-    return PyModule_AddIntConstant(module, "MOST_DEPTH", MOST_DEPTH) < 0 || PyModule_AddIntConstant(module, "DEPTH", DEFAULT_DEPTH) < 0
+    return PyModule_AddIntConstant(module, "MOST_DEPTH", MOST_DEPTH) < 0
+                   || PyModule_AddIntConstant(module, "DEPTH", DEFAULT_DEPTH) < 0
                    || PyModule_AddIntConstant(module, "FRAME", DEFAULT_FRAME) < 0
                    || PyModule_AddStringConstant(module, "__version__", AMQPV_VERSION) < 0
                ? -1
@@ -432,8 +449,14 @@ static void free_state(void *module) {
 }
 
 static PyModuleDef_Slot SLOTS[] = {{Py_mod_exec, (void *)(uintptr_t)begin}, {0, NULL}};
-static PyModuleDef MODULE = {.m_base = PyModuleDef_HEAD_INIT, .m_name = "amqp_values._native", .m_size = sizeof(State),
-                             .m_methods = FUNCTIONS, .m_slots = SLOTS, .m_traverse = visit_state, .m_clear = clear_state, .m_free = free_state};
+static PyModuleDef MODULE = {.m_base = PyModuleDef_HEAD_INIT,
+                             .m_name = "amqp_values._native",
+                             .m_size = sizeof(State),
+                             .m_methods = FUNCTIONS,
+                             .m_slots = SLOTS,
+                             .m_traverse = visit_state,
+                             .m_clear = clear_state,
+                             .m_free = free_state};
 
 PyMODINIT_FUNC PyInit__native(void) {
     return PyModuleDef_Init(&MODULE);

@@ -7,6 +7,15 @@
 /* The last second of the year 9999. */
 #define LAST_SECOND 253402300799ULL
 
+/* Whether nothing is wrong with the bytes but that keys aren't UTF-8. */
+static int is_well_but_for_keys(const Reader *reader) {
+    const Options *how = reader->how;
+    amqpv_problem problem;
+    return (how->is_table ? amqpv_first_problem_in_table : amqpv_first_problem)(
+               reader->bytes, reader->length, AMQPV_RULES_ANY_KEYS, how->frame, how->depth, &problem)
+           == AMQPV_NONE;
+}
+
 int read_entry(const Reader *reader, amqpv_entry *entry, size_t *count) {
     const Options *how = reader->how;
     const uint8_t *bytes = reader->bytes;
@@ -16,22 +25,20 @@ int read_entry(const Reader *reader, amqpv_entry *entry, size_t *count) {
     if (result == AMQPV_OK) {
         return 1;
     }
-    if (result == AMQPV_MALFORMED && how->keys != STRICT) {
+    if (result == AMQPV_MALFORMED && how->keys != STRICT && is_well_but_for_keys(reader)) {
         /* by its own length, since amqpv_read checks keys too */
-        amqpv_problem problem;
-        if (!how->is_table && amqpv_first_problem(bytes, length, AMQPV_RULES_ANY_KEYS, how->frame, how->depth, &problem) == AMQPV_NONE
-            && amqpv_first(bytes, length, entry) == AMQPV_OK) {
-            *count = entry->value.length;
-            return 1;
-        }
-        if (how->is_table && length >= 4
-            && amqpv_first_problem_in_table(bytes, length, AMQPV_RULES_ANY_KEYS, how->frame, how->depth, &problem) == AMQPV_NONE) {
-            size_t body = (size_t)bytes[0] << 24 | (size_t)bytes[1] << 16 | (size_t)bytes[2] << 8 | bytes[3];
+        if (!how->is_table) {
+            result = amqpv_first(bytes, length, entry);
+        } else {
             memset(entry, 0, sizeof *entry);
-            entry->content.offset = 4;
-            entry->content.length = body;
-            entry->value.length = *count = 4 + body;
             entry->tag = AMQPV_TABLE;
+            entry->content.offset = 4;
+            entry->content.length = (size_t)bytes[0] << 24 | (size_t)bytes[1] << 16 | (size_t)bytes[2] << 8 | bytes[3];
+            entry->value.length = 4 + entry->content.length;
+            result = AMQPV_OK;
+        }
+        *count = entry->value.length;
+        if (result == AMQPV_OK) {
             return 1;
         }
     }
@@ -40,8 +47,8 @@ int read_entry(const Reader *reader, amqpv_entry *entry, size_t *count) {
 }
 
 /* Text, or what the option says of bytes that aren't UTF-8. */
-static PyObject *build_text(const Reader *reader, amqpv_span span, NotUtf8 how, PyObject *of_bytes,
-                            const char *what, size_t offset) {
+static PyObject *build_text(const Reader *reader, amqpv_span span, NotUtf8 how, PyObject *of_bytes, const char *what,
+                            size_t offset) {
     const char *text = (const char *)reader->bytes + span.offset;
     Py_ssize_t length = (Py_ssize_t)span.length;
     PyObject *made = PyUnicode_DecodeUTF8(text, length, how == ESCAPED ? "surrogateescape" : "strict");
@@ -101,7 +108,8 @@ static PyObject *build_float(const Reader *reader, const amqpv_entry *entry) {
         return NULL;
     }
     PyObject *made = PyFloat_FromDouble(wide);
-    return entry->tag == AMQPV_DOUBLE || reader->how->is_plain ? made : of_class(reader->state->new_float, reader->state->of_float, made);
+    int is_own = entry->tag == AMQPV_FLOAT && !reader->how->is_plain;
+    return is_own ? of_class(reader->state->new_float, reader->state->of_float, made) : made;
 }
 
 /* A container to whose end the entries were read, as they are of bytes that were checked. */
@@ -132,9 +140,7 @@ static PyObject *build_array(const Reader *reader, const amqpv_entry *entry) {
 
 static int build_pair(const Reader *reader, const amqpv_entry *entry, PyObject *table) {
     const Options *how = reader->how;
-    /* (the length of the key, and the key, are before the value) */
-    size_t offset = entry->value.offset - entry->key.length - 1;
-    PyObject *key = build_text(reader, entry->key, how->keys, NULL, "key not UTF-8", offset);
+    PyObject *key = build_text(reader, entry->key, how->keys, NULL, "key not UTF-8", entry->value.offset);
     PyObject *value = key != NULL ? build(reader, entry) : NULL;
     int is_put = value != NULL;
     if (is_put && how->equal_keys == AMQPV_FIRST_KEY) {
@@ -172,8 +178,8 @@ PyObject *build(const Reader *reader, const amqpv_entry *entry) {
     case AMQPV_DOUBLE: return build_float(reader, entry);
     case AMQPV_DECIMAL: return build_decimal(reader, entry);
     case AMQPV_LONG_STRING:
-        return build_text(reader, entry->content, reader->how->text, reader->how->is_plain ? NULL : state->long_string, "text not UTF-8",
-                          entry->value.offset);
+        return build_text(reader, entry->content, reader->how->text, reader->how->is_plain ? NULL : state->long_string,
+                          "text not UTF-8", entry->value.offset);
     case AMQPV_BYTE_ARRAY:
         return PyBytes_FromStringAndSize((const char *)reader->bytes + entry->content.offset, (Py_ssize_t)entry->content.length);
     case AMQPV_ARRAY: return build_array(reader, entry);

@@ -26,6 +26,8 @@ static const char ANY_KEY[] = ".................................................
                               "................................................................"
                               "...............................................................";
 
+static const char LESS_THAN_4_GIB[] = "less than 4 GiB";
+
 static size_t end_of(const amqpv_container *into) {
     return into->written.offset + into->written.length;
 }
@@ -40,7 +42,7 @@ static size_t offset_in(const Writer *writer, const Place *place) {
 static int reserve(Writer *writer, const Place *place, size_t content) {
     size_t end = end_of(place->into), most = PY_SSIZE_T_MAX, head = place->length + 16;
     if (content > most - head - end || content > UINT32_MAX) {
-        raise_error(writer->state, "too large", offset_in(writer, place), 0, "less than 4 GiB");
+        raise_error(writer->state, "too large", offset_in(writer, place), 0, LESS_THAN_4_GIB);
         return 0;
     }
     size_t needed = end + head + content;
@@ -62,11 +64,14 @@ static int reserve(Writer *writer, const Place *place, size_t content) {
     return 1;
 }
 
+/* What a call takes of a writer and a place. */
+#define INTO writer->buffer, writer->capacity, place->into, place->key, place->length
+
 /* Whether an entry was put; after that its key is the one that was meant. */
-static int is_put(const Writer *writer, const Place *place, size_t before, amqpv_result result) {
+static int is_put(const Writer *writer, const Place *place, size_t before, amqpv_result result, const char *expected) {
     if (result != AMQPV_OK) {
         const char *kind = result == AMQPV_OUT_OF_RANGE ? "out of range" : "too large";
-        raise_error(writer->state, kind, offset_in(writer, place), 0, "a value that its type has, in less than 4 GiB");
+        raise_error(writer->state, kind, offset_in(writer, place), 0, expected);
         return 0;
     }
     if (place->bytes != NULL) {
@@ -75,22 +80,15 @@ static int is_put(const Writer *writer, const Place *place, size_t before, amqpv
     return 1;
 }
 
-static int put(Writer *writer, const Place *place, uint8_t tag, uint64_t bits, uint8_t scale) {
+static int put(Writer *writer, const Place *place, uint8_t tag, uint64_t bits, uint8_t scale, const char *expected) {
     size_t before = end_of(place->into);
-    if (!reserve(writer, place, 0)) {
-        return 0;
-    }
-    amqpv_result result = amqpv_put(writer->buffer, writer->capacity, place->into, place->key, place->length, tag, bits, scale);
-    return is_put(writer, place, before, result);
+    return reserve(writer, place, 0) && is_put(writer, place, before, amqpv_put(INTO, tag, bits, scale), expected);
 }
 
 static int put_bytes(Writer *writer, const Place *place, uint8_t tag, const char *bytes, Py_ssize_t length) {
-    size_t before = end_of(place->into);
-    if (!reserve(writer, place, (size_t)length)) {
-        return 0;
-    }
-    amqpv_result result = amqpv_put_bytes(writer->buffer, writer->capacity, place->into, place->key, place->length, tag, bytes, (size_t)length);
-    return is_put(writer, place, before, result);
+    size_t before = end_of(place->into), count = (size_t)length;
+    return reserve(writer, place, count)
+           && is_put(writer, place, before, amqpv_put_bytes(INTO, tag, bytes, count), LESS_THAN_4_GIB);
 }
 
 /* Text */
@@ -146,7 +144,8 @@ static int put_text(Writer *writer, const Place *place, PyObject *text) {
     return is_done;
 }
 
-PyObject *key_bytes(const State *state, NotUtf8 how, PyObject *key, size_t offset, const char **bytes, size_t *length, int *is_utf8) {
+PyObject *key_bytes(const State *state, NotUtf8 how, PyObject *key, size_t offset, const char **bytes, size_t *length,
+                    int *is_utf8) {
     PyObject *kept = NULL;
     Py_ssize_t count = 0;
     char *content;
@@ -198,37 +197,20 @@ static int out_of_range(const Writer *writer, const Place *place, const char *ex
 
 /* An integer by the place of its tag in INTEGER_TAGS, or one without class. */
 static int put_integer(Writer *writer, const Place *place, PyObject *value, int at) {
-    static const char *const RANGES[INTEGERS + 1] = {
-        "a number from -128 to 127", "a number from 0 to 255", "a number from -32768 to 32767", "a number from 0 to 65535",
-        "a number from -2147483648 to 2147483647", "a number from 0 to 4294967295", "a number from 0 to 18446744073709551615",
-        "a number from -9223372036854775808 to 9223372036854775807"};
-    uint8_t tag = at < INTEGERS ? (uint8_t)INTEGER_TAGS[at] : AMQPV_LONG_LONG_INT;
-    size_t before = end_of(place->into);
-    amqpv_result result;
-    if (!reserve(writer, place, 0)) {
-        return 0;
+    static const char *const RANGES[INTEGERS + 1] = {"a number from -128 to 127",
+                                                     "a number from 0 to 255",
+                                                     "a number from -32768 to 32767",
+                                                     "a number from 0 to 65535",
+                                                     "a number from -2147483648 to 2147483647",
+                                                     "a number from 0 to 4294967295",
+                                                     "a number from 0 to 18446744073709551615",
+                                                     "a number from -9223372036854775808 to 9223372036854775807"};
+    int overflows = 0, is_time = at == INTEGERS - 1;
+    uint64_t bits = is_time ? PyLong_AsUnsignedLongLong(value) : (uint64_t)PyLong_AsLongLongAndOverflow(value, &overflows);
+    if (overflows || (bits == UINT64_MAX && PyErr_Occurred())) {
+        return out_of_range(writer, place, RANGES[at]);
     }
-    if (tag == AMQPV_TIMESTAMP) {
-        unsigned long long number = PyLong_AsUnsignedLongLong(value);
-        if (number == (unsigned long long)-1 && PyErr_Occurred()) {
-            return out_of_range(writer, place, RANGES[at]);
-        }
-        result = amqpv_put_timestamp(writer->buffer, writer->capacity, place->into, place->key, place->length, number);
-    } else {
-        int overflows;
-        long long number = PyLong_AsLongLongAndOverflow(value, &overflows);
-        if (overflows) {
-            return out_of_range(writer, place, RANGES[at]);
-        }
-        if (strchr("Bui", tag) == NULL) {
-            result = amqpv_put_int(writer->buffer, writer->capacity, place->into, place->key, place->length, tag, number);
-        } else if (number < 0) {
-            return out_of_range(writer, place, RANGES[at]);
-        } else {
-            result = amqpv_put_uint(writer->buffer, writer->capacity, place->into, place->key, place->length, tag, (uint64_t)number);
-        }
-    }
-    return result == AMQPV_OUT_OF_RANGE ? out_of_range(writer, place, RANGES[at]) : is_put(writer, place, before, result);
+    return put(writer, place, at < INTEGERS ? (uint8_t)INTEGER_TAGS[at] : AMQPV_LONG_LONG_INT, bits, 0, RANGES[at]);
 }
 
 static int put_any_integer(Writer *writer, const Place *place, PyObject *value) {
@@ -249,18 +231,18 @@ static int put_float(Writer *writer, const Place *place, PyObject *value) {
         return 0;
     }
     if (!PyType_IsSubtype(Py_TYPE(value), (PyTypeObject *)writer->state->of_float)) {
-        return put(writer, place, AMQPV_DOUBLE, amqpv_double_bits(wide), 0);
+        return put(writer, place, AMQPV_DOUBLE, amqpv_double_bits(wide), 0, "");
     }
     if (is_nan) {
         /* its bits, which a conversion may change; a NaN of 64 bits may have none of them */
         uint64_t bits = amqpv_double_bits(wide), payload = bits >> 29 & 0x7fffff;
-        return put(writer, place, AMQPV_FLOAT, bits >> 63 << 31 | 0x7f800000 | (payload ? payload : 0x400000), 0);
+        return put(writer, place, AMQPV_FLOAT, bits >> 63 << 31 | 0x7f800000 | (payload ? payload : 0x400000), 0, "");
     }
     /* (from the middle between the largest number of 32 bits and 2^128 on a conversion would be undefined, or infinite) */
     if (is_finite && (wide >= 0x1.ffffffp+127 || wide <= -0x1.ffffffp+127)) {
         return out_of_range(writer, place, "a number of 32 bits");
     }
-    return put(writer, place, AMQPV_FLOAT, amqpv_float_bits((float)wide), 0);
+    return put(writer, place, AMQPV_FLOAT, amqpv_float_bits((float)wide), 0, "");
 }
 
 /* A number of some digits and an exponent, by which it is multiplied with a power of ten; -1 from `most` + 1 on. */
@@ -287,11 +269,15 @@ static int put_decimal(Writer *writer, const Place *place, PyObject *value) {
     const char *expected = has_sign ? "a number from -2147483648 to 2147483647, with up to 255 digits of it after the point"
                                     : "a number from 0 to 4294967295, with up to 255 digits of it after the point";
     PyObject *parts = PyObject_CallFunctionObjArgs(writer->state->as_tuple, value, NULL);
-    if (parts == NULL || !PyTuple_Check(parts) || PyTuple_Size(parts) != 3 || !PyTuple_Check(PyTuple_GetItem(parts, 1))
+    if (parts == NULL) {
+        raise_foreign(writer->state, offset_in(writer, place));
+        return 0;
+    }
+    if (!PyTuple_Check(parts) || PyTuple_Size(parts) != 3 || !PyTuple_Check(PyTuple_GetItem(parts, 1))
         || !PyLong_Check(PyTuple_GetItem(parts, 2))) {
         /* (an infinity or a NaN, whose exponent is a letter) */
-        Py_XDECREF(parts);
-        return parts == NULL ? (raise_foreign(writer->state, offset_in(writer, place)), 0) : out_of_range(writer, place, expected);
+        Py_DECREF(parts);
+        return out_of_range(writer, place, expected);
     }
     int is_negative = PyObject_IsTrue(PyTuple_GetItem(parts, 0));
     long long exponent = PyLong_AsLongLongAndOverflow(PyTuple_GetItem(parts, 2), &overflows);
@@ -301,7 +287,8 @@ static int put_decimal(Writer *writer, const Place *place, PyObject *value) {
     if (PyErr_Occurred() || overflows || number < 0 || exponent < -255 || (is_negative && !has_sign)) {
         return out_of_range(writer, place, expected);
     }
-    return put(writer, place, AMQPV_DECIMAL, (uint32_t)(is_negative ? -number : number), (uint8_t)(exponent < 0 ? -exponent : 0));
+    return put(writer, place, AMQPV_DECIMAL, (uint32_t)(is_negative ? -number : number), (uint8_t)(exponent < 0 ? -exponent : 0),
+               expected);
 }
 
 static int put_datetime(Writer *writer, const Place *place, PyObject *value) {
@@ -329,7 +316,9 @@ static int put_datetime(Writer *writer, const Place *place, PyObject *value) {
         raise_foreign(state, offset_in(writer, place));
         return 0;
     }
-    return number < 0 ? out_of_range(writer, place, "a time from 1970 on") : put(writer, place, AMQPV_TIMESTAMP, (uint64_t)number, 0);
+    static const char expected[] = "a time from 1970 on";
+    return number < 0 ? out_of_range(writer, place, expected)
+                      : put(writer, place, AMQPV_TIMESTAMP, (uint64_t)number, 0, expected);
 }
 
 /* Bytes */
@@ -354,30 +343,27 @@ static int put_encoded(Writer *writer, const Place *place, const char *bytes, si
     if (!reserve(writer, place, length)) {
         return 0;
     }
-    result = amqpv_put_value(writer->buffer, writer->capacity, place->into, place->key, place->length, data, length, how.frame, how.depth);
-    return is_put(writer, place, before, result);
+    return is_put(writer, place, before, amqpv_put_value(INTO, data, length, how.frame, how.depth), LESS_THAN_4_GIB);
 }
 
 static int put_any_bytes(Writer *writer, const Place *place, PyObject *value) {
+    const State *state = writer->state;
     char *bytes;
     Py_ssize_t length;
-    int is_done = 0;
-    PyObject *copy = NULL, *encoded = writer->state->encoded, *string = writer->state->long_string;
-    if (!PyBytes_Check(value)) {
-        copy = PyBytes_FromObject(value);
-        if (copy == NULL) {
-            raise_foreign(writer->state, offset_in(writer, place));
-            return 0;
-        }
+    PyObject *kept = PyBytes_Check(value) ? value : PyBytes_FromObject(value);
+    int is_done = kept != NULL && PyBytes_AsStringAndSize(kept, &bytes, &length) == 0;
+    if (!is_done) {
+        /* (a memoryview that was released) */
+        raise_foreign(state, offset_in(writer, place));
+    } else if (PyType_IsSubtype(Py_TYPE(value), (PyTypeObject *)state->encoded)) {
+        is_done = put_encoded(writer, place, bytes, (size_t)length);
+    } else {
+        int is_text = PyType_IsSubtype(Py_TYPE(value), (PyTypeObject *)state->long_string);
+        is_done = put_bytes(writer, place, is_text ? AMQPV_LONG_STRING : AMQPV_BYTE_ARRAY, bytes, length);
     }
-    if (PyBytes_AsStringAndSize(copy != NULL ? copy : value, &bytes, &length) == 0) {
-        is_done = PyType_IsSubtype(Py_TYPE(value), (PyTypeObject *)encoded)
-                      ? put_encoded(writer, place, bytes, (size_t)length)
-                      : put_bytes(writer, place,
-                                  PyType_IsSubtype(Py_TYPE(value), (PyTypeObject *)string) ? AMQPV_LONG_STRING : AMQPV_BYTE_ARRAY, bytes,
-                                  length);
+    if (kept != value) {
+        Py_XDECREF(kept);
     }
-    Py_XDECREF(copy);
     return is_done;
 }
 
@@ -415,7 +401,8 @@ static int put_pair(Writer *writer, const Place *body, PyObject *key, PyObject *
     int is_utf8, is_done = 0;
     Py_INCREF(key);
     Py_INCREF(value);
-    PyObject *kept = key_bytes(writer->state, writer->how->keys, key, offset_in(writer, body), &place.key, &place.length, &is_utf8);
+    PyObject *kept =
+        key_bytes(writer->state, writer->how->keys, key, offset_in(writer, body), &place.key, &place.length, &is_utf8);
     if (kept != NULL && place.length > 255) {
         raise_error(writer->state, "key too long", offset_in(writer, body), 0, "at most 255 bytes");
     } else if (kept != NULL) {
@@ -558,8 +545,7 @@ static int put_container(Writer *writer, const Place *place, PyObject *value, in
     if (!reserve(writer, place, 0)) {
         return 0;
     }
-    amqpv_result result = amqpv_open(writer->buffer, writer->capacity, place->into, place->key, place->length,
-                                     is_table ? AMQPV_TABLE : AMQPV_ARRAY, &body);
+    amqpv_result result = amqpv_open(INTO, is_table ? AMQPV_TABLE : AMQPV_ARRAY, &body);
     if (result == AMQPV_OK) {
         Place inside = {&body, "", NULL, 0, 0, place->levels - 1};
         if (!put_contents(writer, &inside, value, is_table)) {
@@ -567,7 +553,7 @@ static int put_container(Writer *writer, const Place *place, PyObject *value, in
         }
         result = amqpv_close(writer->buffer, writer->capacity, place->into, &body);
     }
-    return is_put(writer, place, before, result);
+    return is_put(writer, place, before, result, LESS_THAN_4_GIB);
 }
 
 /* Whether an object is of a class of abc; 0 with an exception too. */
@@ -604,7 +590,8 @@ static int put_other(Writer *writer, const Place *place, PyObject *value) {
     if (PyDict_Check(value) || is_abstract(writer, place, value, state->mapping)) {
         return put_container(writer, place, value, 1);
     }
-    if (!PyErr_Occurred() && (PyList_Check(value) || PyTuple_Check(value) || is_abstract(writer, place, value, state->sequence))) {
+    if (!PyErr_Occurred()
+        && (PyList_Check(value) || PyTuple_Check(value) || is_abstract(writer, place, value, state->sequence))) {
         return put_container(writer, place, value, 0);
     }
     if (!PyErr_Occurred()) {
@@ -625,10 +612,10 @@ static int put_value(Writer *writer, const Place *place, PyObject *value) {
         return put_container(writer, place, value, type == &PyDict_Type);
     }
     if (value == Py_None) {
-        return put(writer, place, AMQPV_VOID, 0, 0);
+        return put(writer, place, AMQPV_VOID, 0, 0, "");
     }
     if (value == Py_True || value == Py_False) {
-        return put(writer, place, AMQPV_BOOLEAN, value == Py_True, 0);
+        return put(writer, place, AMQPV_BOOLEAN, value == Py_True, 0, "");
     }
     return put_other(writer, place, value);
 }
