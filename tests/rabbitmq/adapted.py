@@ -232,7 +232,17 @@ class Aiormq:
 
     def publish(self, exchange: str, key: str, headers: Any) -> None:
         properties = self.aiormq.spec.Basic.Properties(headers=headers)
-        self.wait(self.channel.basic_publish(b"", exchange=exchange, routing_key=key, properties=properties))
+        sending = self.channel.basic_publish(b"", exchange=exchange, routing_key=key, properties=properties)
+        self.wait(sending if self.patience < PATIENCE else self.sent(sending))
+
+    async def sent(self, sending: Coroutine[Any, Any, Any]) -> None:
+        """Sends, or fails at once where it would wait for ever, since the task that writes has ended."""
+        task = asyncio.ensure_future(sending)
+        await asyncio.wait({task, self.connection._writer_task}, return_when=asyncio.FIRST_COMPLETED)
+        if not task.done():
+            task.cancel()
+            raise TimeoutError
+        task.result()
 
     def get(self, queue: str) -> Any:
         return self.wait(self.channel.basic_get(queue, no_ack=True)).header.properties.headers
