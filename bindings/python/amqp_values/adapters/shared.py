@@ -12,6 +12,8 @@ from amqp_values import DEPTH, Error, LongInt, Timestamp, decode_table, dumps_ta
 
 # The largest length of a table: what the client has read is there already.
 FRAME = 2**32 - 1
+# The types of which all clients have what the package has.
+ALIKE = frozenset({bool, int, float, type(None)})
 # The last second that a datetime has.
 LAST_SECOND = 253402300799
 
@@ -126,7 +128,7 @@ def settle(container: Any, got: Callable[[Any], Any]) -> None:
     for key, value in container.items() if type(container) is dict else enumerate(container):
         if type(value) in (dict, list):
             settle(value, got)
-        else:
+        elif type(value) not in ALIKE and not (type(value) is str and value.isascii()):
             container[key] = got(value)
 
 
@@ -183,24 +185,24 @@ class Codec:
                 with suppress(Error, TypeError):
                     if self.is_as_it_came(table):
                         return table.raw
-            return self.encoded(table, finite=True)
+            return dumps_table(self.prepared(table), finite=True, **self.writing)
         except (Error, TypeError, RecursionError) as problem:
             raise self.client.unwritten(problem, table) from problem
 
-    def encoded(self, table: Any, finite: bool = False) -> bytes:
-        return dumps_table(self.prepared(table), finite=finite, **self.writing)
-
     def prepared(self, value: Any) -> Any:
         """What the package is given for a value."""
+        if type(value) is str or value is None:
+            return value
         if isinstance(value, dict):
             return {key: self.prepared(it) for key, it in self.client.items(value)}
         return [self.prepared(it) for it in value] if isinstance(value, (list, tuple)) else self.client.sent(value)
 
     def is_as_it_came(self, table: Headers) -> bool:
-        """Whether it has the same encoding as what its bytes are read as."""
+        """Whether the package writes it as what its bytes are read as."""
         if isinstance(table, Refused):
             return not len(table)
-        return self.encoded(table) == self.encoded(self.decoded(table.raw, 0)[0])
+        came = self.decoded(table.raw, 0)[0]
+        return dumps_table(table, **self.writing) == dumps_table(came, **self.writing)
 
 
 class Places:
