@@ -50,7 +50,7 @@ PYTEST = ("pytest", "xdist", "hypothesis")
 MODULES = {
     "style": PYTEST,
     "model": PYTEST,
-    "python": (*PYTEST, "pip", "setuptools", "wheel", "ensurepip"),
+    "python": (*PYTEST, "pip", "setuptools", "wheel"),
     "broker": (*PYTEST, "pika", "amqp", "kombu", "celery", "pamqp", "aiormq", "aio_pika"),
 }
 TABLES = {"run": 500, "whole": 10000}

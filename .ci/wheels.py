@@ -42,7 +42,10 @@ for bytes_ in (b"", b"z", b"S\\0\\0\\0\\1", b"S\\0\\0\\0\\1\\xff", b"A" * 99):
         av.loads(bytes_)
     except av.Error:
         tried += 1
-assert (pathlib.Path(av.__file__).parent / "py.typed").exists()
+here = pathlib.Path(av.__file__).parent
+assert (here / "py.typed").exists()
+import amqp_values.adapters
+assert "Copyright" in next(here.parent.glob("amqp_values-*/LICENSE")).read_text()
 print("%d.%d.%d: %d tried" % (*sys.version_info[:3], tried))
 """
 Words = Sequence[str | Path]
@@ -88,6 +91,7 @@ def make_wheel(library: Path, to: Path, target: str = X86_64) -> tuple[Path, str
             PACKAGE, copy, ignore=shutil.ignore_patterns("build", "*.egg-info", "*.so", "lib", "__pycache__")
         )
         shutil.copytree(INCLUDE, Path(folder) / "include")
+        shutil.copy(TOP / "LICENSE", copy)
         for it in copy.rglob("*"):
             os.utime(it, (released_at().timestamp(),) * 2)
         env = {
@@ -165,9 +169,10 @@ def try_wheel(wheel: Path, python: Path) -> tuple[str, str]:
     with tempfile.TemporaryDirectory(prefix="wheel-") as folder:
         own = Path(folder) / "env/bin/python"
         how = ["--no-index", "--no-deps", "--no-cache-dir", "--disable-pip-version-check", "-q"]
+        # (of that Python's own pip, which needs no second one)
         steps: list[Words] = [
-            [python, "-m", "venv", Path(folder) / "env"],
-            [own, "-m", "pip", "install", *how, wheel],
+            [python, "-m", "venv", "--without-pip", Path(folder) / "env"],
+            [python, "-m", "pip", "--python", own, "install", *how, wheel],
             [own, "-I", "-c", TRIED],
         ]
         for words in steps:

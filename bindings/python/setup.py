@@ -19,7 +19,7 @@ PROCESSOR = TARGET.partition("-")[0]
 ARCHIVE = Path(os.environ.get("AMQP_VALUES_LIB_DIR") or HERE / "lib" / TARGET) / "libamqp_values.a"
 SOURCES = ("errors", "module", "read", "write")
 # (on no other path are the calls for C in the module's own symbols)
-LINKING = ["-Wl,--exclude-libs,ALL", "-Wl,--gc-sections", "-Wl,-z,relro,-z,now"]
+LINKING = ["-Wl,-s", "-Wl,--exclude-libs,ALL", "-Wl,--gc-sections", "-Wl,-z,relro,-z,now"]
 
 if not ARCHIVE.is_file():
     sys.exit(f"{ARCHIVE} isn't there: `make wheel` makes it, or AMQP_VALUES_LIB_DIR names its folder")

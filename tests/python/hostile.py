@@ -144,6 +144,18 @@ class Liar:
         )
 
 
+class Leaving:
+    """Something that empties the list that it is in, when it is asked what it is."""
+
+    def __init__(self, inside: list[Any]) -> None:
+        self.inside = inside
+
+    def __getattribute__(self, name: str) -> Any:
+        if name == "__class__":
+            object.__getattribute__(self, "inside").clear()
+        return object.__getattribute__(self, name)
+
+
 def object_of(make: Random, depth: int = 2) -> Any:
     """An object to be written, which may be hostile, and contain others."""
     choice = make.randrange(9 if depth else 6)
@@ -157,7 +169,10 @@ def object_of(make: Random, depth: int = 2) -> Any:
     if choice == 5:
         return make.choice([1, "a", None, True, b"", 1.5, own.LongInt(1)])
     if choice == 6:
-        return [object_of(make, depth - 1) for _ in range(make.randrange(3))]
+        found = [object_of(make, depth - 1) for _ in range(make.randrange(3))]
+        if make.random() < 0.1:
+            found.append(Leaving(found))
+        return found
     return (
         {make.choice(["a", "b", b"c", "\ud800", object_of(make, 0)]): object_of(make, depth - 1)}
         if choice == 7

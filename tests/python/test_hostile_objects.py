@@ -39,7 +39,7 @@ def test_hostile_objects(seed: int, record_property: Callable[[str, object], Non
             load: Any = own.loads if call is own.dumps else own.loads_table
             load(data, keys=keys, text="bytes", frame=2**32 - 1)
     assert written > count / 5
-    record_property("hostile", count)
+    record_property("package-hostile", count)
 
 
 def test_hostile_arguments(seed: int) -> None:

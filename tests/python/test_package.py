@@ -32,7 +32,7 @@ pytestmark = pytest.mark.usefixtures("library")
 
 # The kinds of problems in include/amqp_values.h, as the package calls them.
 KINDS = {1: "unknown tag", 3: "cut", 4: "key cut", 5: "too deep", 7: "key not UTF-8"}
-INPUTS = 20_000
+INPUTS = 12_000
 
 
 def own_error(call: Callable[[], Any]) -> tuple[str, int, int] | None:
@@ -107,7 +107,7 @@ def test_inputs_by_both_judges(seed: int, record_property: Callable[[str, object
         tried += 1
         read_ones += judge_error(data, is_table) is None
     assert read_ones > tried / 3
-    record_property("inputs", tried)
+    record_property("package-inputs", tried)
 
 
 @pytest.mark.parametrize("value, digits", ROWS, ids=map(named, (it for it, _ in ROWS)))
@@ -171,6 +171,16 @@ def test_mappings_and_sequences(value: Any, wanted: Any) -> None:
     assert own.dumps({"k": value}) == own.dumps({"k": wanted})
 
 
+def test_a_table_of_several_types_is_typed() -> None:
+    """mypy --strict takes these, as it does in the step style."""
+    h = {"a": 1, "b": "x"}
+    found: dict[str, Any] = own.loads_table(own.dumps_table(h))
+    by_bytes: dict[str | bytes, Any] = own.loads_table(own.dumps_table({b"a": 1}), keys="bytes")
+    mixed: dict[str | bytes, int] = {"a": 1, b"b": 2}
+    table, end = own.decode_table(own.dumps_table(mixed))
+    assert found == h and by_bytes == {"a": 1} and table == {"a": 1, "b": 2} and end == 26
+
+
 def test_large_values() -> None:
     table: dict[str, Any] = {f"{it}": it for it in range(100_000)} | {
         "text": "x" * FRAME,
@@ -232,7 +242,8 @@ def test_keys_and_text_that_are_not_utf8() -> None:
 def test_surrogates_that_are_read_of_no_bytes() -> None:
     """Those that stand for bytes that are UTF-8, since two str would be one key; and those that stand for no bytes."""
     for text in ("\udcc3\udca4", "ä\udcc3\udca4\udcff", "\ud800", "\udcff\udfff"):
-        for value in ({text: 1}, {"k": text}):
+        values: list[Any] = [{text: 1}, {"k": text}]
+        for value in values:
             how: Any = {"keys": "surrogateescape", "text": "surrogateescape"}
             assert (own_error(lambda: own.dumps_table(value, **how)) or "")[0] == "lone surrogate"
         assert (own_error(lambda: own.find(field(b"F", b""), text, keys="surrogateescape")) or "")[
@@ -518,7 +529,8 @@ def test_classes() -> None:
         assert own.dumps(own.Float.of_bits(bits)) == b"f" + bits.to_bytes(4, "big")
     assert own.dumps(float.__new__(own.Float, 1e-300)).hex() == "6600000000"
     assert own_error(lambda: own.dumps(float.__new__(own.Float, 1e300))) == ("out of range", 0, 0)
-    largest = float.fromhex("0x1.fffffefffffffp+127")
+    middle, largest = float.fromhex("0x1.ffffffp+127"), float.fromhex("0x1.fffffefffffffp+127")
+    assert own_error(lambda: own.dumps(float.__new__(own.Float, middle))) == ("out of range", 0, 0)
     assert own.dumps(float.__new__(own.Float, largest)).hex() == "667f7fffff"
     assert repr(own.LongString(b"a")) == "LongString(b'a')" and own.dumps(own.LongString(b"a")) == own.dumps("a")
     for value in (own.Float(1), own.LongString(b""), own.Encoded(b"")):

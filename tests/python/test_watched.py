@@ -11,7 +11,7 @@ from crates import TOP, Crates
 from wheels import PYTHON, build_package
 
 # How many damaged tables are read: in the gate, and before a release.
-SAMPLE, WHOLE = 5_000, 100_000
+SAMPLE, WHOLE = 4_000, 100_000
 FLAGS = ("-O1", "-fsanitize=address,undefined", "-fno-sanitize-recover=undefined", "-fno-omit-frame-pointer")
 DEBUG = "python3-dbg"
 
@@ -38,7 +38,7 @@ def test_sanitizers(
     assert not wrong, wrong
     env = {"LD_PRELOAD": runtime("libasan.so"), "ASAN_OPTIONS": "detect_leaks=0", "PYTHONMALLOC": "malloc"}
     assert watched(PYTHON, "mutated", str(tmp_path), seed, count, env) == count
-    record_property("sanitized", count)
+    record_property("package-sanitized", count)
 
 
 def test_references(request: pytest.FixtureRequest, tmp_path: Path, seed: int) -> None:

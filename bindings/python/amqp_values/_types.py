@@ -134,7 +134,7 @@ class Timestamp(_Integer):
     @classmethod
     def of(cls, time: datetime) -> Any:
         """The seconds of a datetime with a time zone, rounded down."""
-        from ._native import dumps
+        from . import dumps
 
         if not issubclass(type(time), datetime):
             raise TypeError(f"a time is a datetime, not {type(time).__name__}")

@@ -89,16 +89,16 @@ void raise_type(const char *what, PyObject *object) {
     Py_XDECREF(name);
 }
 
-void raise_problem(const State *state, const uint8_t *bytes, size_t length, const Options *how, int is_table, size_t base,
-                   amqpv_result result, size_t count) {
+void raise_problem(const State *state, const uint8_t *bytes, size_t length, const Options *how, size_t base, amqpv_result result,
+                   size_t count) {
     amqpv_problem problem = {0};
     uint32_t rules = how->keys == STRICT ? AMQPV_RULES_READ : AMQPV_RULES_ANY_KEYS;
     if (result == AMQPV_MORE) {
         raise_error(state, "cut", base, count, "%zu more byte%s", count, count == 1 ? "" : "s");
         return;
     }
-    result = is_table ? amqpv_first_problem_in_table(bytes, length, rules, how->frame, how->depth, &problem)
-                      : amqpv_first_problem(bytes, length, rules, how->frame, how->depth, &problem);
+    result = how->is_table ? amqpv_first_problem_in_table(bytes, length, rules, how->frame, how->depth, &problem)
+                           : amqpv_first_problem(bytes, length, rules, how->frame, how->depth, &problem);
     size_t offset = base + problem.offset;
     switch (result == AMQPV_OK ? problem.kind : 0) {
     case AMQPV_PROBLEM_UNKNOWN_TAG:

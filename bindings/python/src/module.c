@@ -3,31 +3,33 @@
 
 #include <string.h>
 
-/* The options by their names, as bits. */
-enum {
-    KEYS = 1,
-    TEXT = 2,
-    PLAIN = 4,
-    EQUAL_KEYS = 8,
-    SIGNED = 16,
-    FINITE = 32,
-    DEPTH = 64,
-    FRAME = 128,
-    NAIVE = 256,
-    TABLE = 512,
-    DEFAULT = 1024,
-    OFFSET = 2048
-};
-enum {
-    READING = KEYS | TEXT | PLAIN | EQUAL_KEYS | SIGNED | FINITE | DEPTH | FRAME,
-    WRITING = KEYS | TEXT | SIGNED | FINITE | DEPTH | NAIVE
-};
+/* The options as bits, and those of reading and of writing. */
+enum { FOR_BOTH = 1, READ = 2, WRITE = 4, FIND = 8, DECODE = 16, READING = FOR_BOTH | READ, WRITING = FOR_BOTH | WRITE };
+static const char *const NOT_UTF8[] = {"strict", "bytes", "surrogateescape", NULL};
+static const char *const EQUAL_KEYS[] = {"last", "first", NULL};
+/* Each option: which functions have it, where it is in Options, and what it may be: one of some words, a number up to another,
+   an object, or true or false. */
 static const struct {
     const char *name;
-    int option;
-} OPTIONS[] = {{"keys", KEYS},       {"text", TEXT},    {"plain", PLAIN}, {"equal_keys", EQUAL_KEYS}, {"signed_decimals", SIGNED},
-               {"finite", FINITE},   {"depth", DEPTH},  {"frame", FRAME}, {"naive_datetimes", NAIVE}, {"table", TABLE},
-               {"default", DEFAULT}, {"offset", OFFSET}};
+    int of;
+    size_t at;
+    const char *const *words;
+    unsigned long long most;
+    int is_object;
+} OPTIONS[] = {
+    {"keys", FOR_BOTH, offsetof(Options, keys), NOT_UTF8, 0, 0},
+    {"text", FOR_BOTH, offsetof(Options, text), NOT_UTF8, 0, 0},
+    {"plain", READ, offsetof(Options, is_plain), NULL, 0, 0},
+    {"equal_keys", READ, offsetof(Options, equal_keys), EQUAL_KEYS, 0, 0},
+    {"signed_decimals", FOR_BOTH, offsetof(Options, has_signed_decimals), NULL, 0, 0},
+    {"finite", FOR_BOTH, offsetof(Options, is_finite), NULL, 0, 0},
+    {"depth", FOR_BOTH, offsetof(Options, depth), NULL, MOST_DEPTH, 0},
+    {"frame", READ, offsetof(Options, frame), NULL, UINT32_MAX, 0},
+    {"naive_datetimes", WRITE, offsetof(Options, has_naive_datetimes), NULL, 0, 0},
+    {"table", FIND, offsetof(Options, is_table), NULL, 0, 0},
+    {"default", FIND, offsetof(Options, otherwise), NULL, 0, 1},
+    {"offset", DECODE, offsetof(Options, offset), NULL, 0, 1},
+};
 /* The defaults of these, of which frame-max is RabbitMQ's. */
 enum { DEFAULT_DEPTH = 64, DEFAULT_FRAME = 131072 };
 
@@ -53,16 +55,8 @@ static int limit_of(const State *state, const char *name, PyObject *value, unsig
     return 1;
 }
 
-static int truth_of(const State *state, PyObject *value, int *truth) {
-    *truth = PyObject_IsTrue(value);
-    if (*truth < 0) {
-        raise_foreign(state, 0);
-    }
-    return *truth >= 0;
-}
-
 /* One of some words, by its place. */
-static int word_of(const State *state, const char *name, PyObject *value, const char *const words[], int *at) {
+static int word_of(const State *state, const char *name, PyObject *value, const char *const *words, uint32_t *at) {
     if (!PyUnicode_Check(value)) {
         raise_type("an option is a str", value);
         return 0;
@@ -76,68 +70,58 @@ static int word_of(const State *state, const char *name, PyObject *value, const 
     return 0;
 }
 
-static int take_option(const State *state, const char *name, int option, PyObject *value, Options *how, PyObject **offset) {
-    static const char *const NOT_UTF8[] = {"strict", "bytes", "surrogateescape", NULL}, *const EQUAL[] = {"last", "first", NULL};
-    int found = 0, is_taken = 1;
+/* Takes an option by its place in OPTIONS. */
+static int take_option(const State *state, size_t option, PyObject *value, Options *how) {
+    const char *name = OPTIONS[option].name;
     unsigned long long limit = 0;
-    switch (option) {
-    case KEYS:
-        is_taken = word_of(state, name, value, NOT_UTF8, &found);
-        how->keys = (NotUtf8)found;
-        break;
-    case TEXT:
-        is_taken = word_of(state, name, value, NOT_UTF8, &found);
-        how->text = (NotUtf8)found;
-        break;
-    case EQUAL_KEYS:
-        is_taken = word_of(state, name, value, EQUAL, &found);
-        how->equal_keys = found == 0 ? AMQPV_LAST_KEY : AMQPV_FIRST_KEY;
-        break;
-    case DEPTH:
-        is_taken = limit_of(state, name, value, MOST_DEPTH, &limit);
-        how->depth = (uint32_t)limit;
-        break;
-    case FRAME:
-        is_taken = limit_of(state, name, value, UINT32_MAX, &limit);
-        how->frame = (uint32_t)limit;
-        break;
-    case PLAIN: return truth_of(state, value, &how->is_plain);
-    case SIGNED: return truth_of(state, value, &how->has_signed_decimals);
-    case FINITE: return truth_of(state, value, &how->is_finite);
-    case NAIVE: return truth_of(state, value, &how->has_naive_datetimes);
-    case TABLE: return truth_of(state, value, &how->is_table);
-    case DEFAULT: how->otherwise = value; break;
-    default: *offset = value; break;
+    uint32_t found = 0;
+    if (OPTIONS[option].is_object) {
+        memcpy((char *)how + OPTIONS[option].at, &value, sizeof value);
+        return 1;
     }
-    return is_taken;
+    if (OPTIONS[option].words != NULL) {
+        if (!word_of(state, name, value, OPTIONS[option].words, &found)) {
+            return 0;
+        }
+    } else if (OPTIONS[option].most != 0) {
+        if (!limit_of(state, name, value, OPTIONS[option].most, &limit)) {
+            return 0;
+        }
+        found = (uint32_t)limit;
+    } else {
+        int truth = PyObject_IsTrue(value);
+        if (truth < 0) {
+            raise_foreign(state, 0);
+            return 0;
+        }
+        found = (uint32_t)truth;
+    }
+    memcpy((char *)how + OPTIONS[option].at, &found, sizeof found);
+    return 1;
 }
 
-/* Takes the arguments of a function of one or, if it isn't the first that `least` is, up to `most` arguments, and its options. */
-static int take(const State *state, const char *name, Py_ssize_t least, Py_ssize_t most, int options, PyObject *const *arguments,
-                Py_ssize_t count, PyObject *names, Options *how, PyObject **offset) {
+/* Takes the arguments of a function: how many there are, and its options. */
+static int take(const State *state, const char *name, Py_ssize_t most, int of, PyObject *const *arguments, Py_ssize_t count,
+                PyObject *names, Options *how) {
     Py_ssize_t named = names != NULL ? PyTuple_Size(names) : 0;
     how->depth = DEFAULT_DEPTH;
     how->frame = DEFAULT_FRAME;
-    if (count < least || count > most) {
-        PyErr_Format(PyExc_TypeError, "%s() takes %zd positional argument%s, not %zd", name, count < least ? least : most,
-                     (count < least ? least : most) == 1 ? "" : "s", count);
+    if (count < 1 || count > most) {
+        PyErr_Format(PyExc_TypeError, "%s() takes from 1 to %zd positional arguments, not %zd", name, most, count);
         return 0;
     }
+    how->offset = count > 1 && (of & DECODE) != 0 ? arguments[1] : NULL;
     for (Py_ssize_t it = 0; it < named; it++) {
         PyObject *given = PyTuple_GetItem(names, it);
         size_t at = 0, all = sizeof OPTIONS / sizeof *OPTIONS;
-        while (at < all && (!(OPTIONS[at].option & options) || PyUnicode_CompareWithASCIIString(given, OPTIONS[at].name) != 0)) {
+        while (at < all && ((OPTIONS[at].of & of) == 0 || PyUnicode_CompareWithASCIIString(given, OPTIONS[at].name) != 0)) {
             at++;
         }
-        if (at == all) {
+        if (at == all || (OPTIONS[at].of == DECODE && how->offset != NULL)) {
             PyErr_Format(PyExc_TypeError, "%s() got an unexpected keyword argument '%U'", name, given);
             return 0;
         }
-        if (OPTIONS[at].option == OFFSET && *offset != NULL) {
-            PyErr_Format(PyExc_TypeError, "%s() got two values for offset", name);
-            return 0;
-        }
-        if (!take_option(state, OPTIONS[at].name, OPTIONS[at].option, arguments[count + it], how, offset)) {
+        if (!take_option(state, at, arguments[count + it], how)) {
             return 0;
         }
     }
@@ -194,11 +178,11 @@ static int read_whole(const Reader *reader, amqpv_entry *entry) {
 
 static PyObject *loads_by(PyObject *module, PyObject *const *arguments, Py_ssize_t count, PyObject *names, int is_table) {
     const State *state = state_of(module);
-    Options how = {.is_table = is_table};
+    Options how = {.is_table = (uint32_t)is_table};
     Reader reader = {.state = state, .how = &how};
     PyObject *content = NULL, *made = NULL;
     amqpv_entry entry;
-    if (take(state, is_table ? "loads_table" : "loads", 1, 1, READING, arguments, count, names, &how, NULL)) {
+    if (take(state, is_table ? "loads_table" : "loads", 1, READING, arguments, count, names, &how)) {
         content = content_of(state, arguments[0], &reader.bytes, &reader.length);
     }
     if (content != NULL && read_whole(&reader, &entry)) {
@@ -220,14 +204,14 @@ static PyObject *decode_table(PyObject *module, PyObject *const *arguments, Py_s
     const State *state = state_of(module);
     Options how = {.is_table = 1};
     Reader reader = {.state = state, .how = &how};
-    PyObject *content = NULL, *made = NULL, *offset = count > 1 ? arguments[1] : NULL;
+    PyObject *content = NULL, *made = NULL;
     amqpv_entry entry;
     unsigned long long before = 0;
     size_t length = 0;
-    if (take(state, "decode_table", 1, 2, READING | OFFSET, arguments, count, names, &how, &offset)) {
+    if (take(state, "decode_table", 2, READING | DECODE, arguments, count, names, &how)) {
         content = content_of(state, arguments[0], &reader.bytes, &reader.length);
     }
-    if (content != NULL && (offset == NULL || limit_of(state, "offset", offset, reader.length, &before))) {
+    if (content != NULL && (how.offset == NULL || limit_of(state, "offset", how.offset, reader.length, &before))) {
         reader.base = (size_t)before;
         reader.bytes += reader.base;
         reader.length -= reader.base;
@@ -297,7 +281,7 @@ static PyObject *find(PyObject *module, PyObject *const *arguments, Py_ssize_t c
     Reader reader = {.state = state, .how = &how};
     PyObject *content = NULL, *made = NULL;
     amqpv_entry entry;
-    if (take(state, "find", 1, PY_SSIZE_T_MAX, READING | TABLE | DEFAULT, arguments, count, names, &how, NULL)) {
+    if (take(state, "find", PY_SSIZE_T_MAX, READING | FIND, arguments, count, names, &how)) {
         content = content_of(state, arguments[0], &reader.bytes, &reader.length);
     }
     if (content != NULL && read_whole(&reader, &entry)) {
@@ -309,9 +293,9 @@ static PyObject *find(PyObject *module, PyObject *const *arguments, Py_ssize_t c
 
 static PyObject *dumps_by(PyObject *module, PyObject *const *arguments, Py_ssize_t count, PyObject *names, int is_table) {
     const State *state = state_of(module);
-    Options how = {.is_table = is_table};
+    Options how = {.is_table = (uint32_t)is_table};
     PyObject *made = NULL;
-    if (take(state, is_table ? "dumps_table" : "dumps", 1, 1, WRITING, arguments, count, names, &how, NULL)) {
+    if (take(state, is_table ? "dumps_table" : "dumps", 1, WRITING, arguments, count, names, &how)) {
         made = written(state, &how, arguments[0]);
     }
     return documented(state, made);

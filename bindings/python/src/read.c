@@ -42,12 +42,12 @@ int read_entry(const Reader *reader, amqpv_entry *entry, size_t *count) {
             return 1;
         }
     }
-    raise_problem(reader->state, bytes, length, how, how->is_table, reader->base, result, *count);
+    raise_problem(reader->state, bytes, length, how, reader->base, result, *count);
     return 0;
 }
 
 /* Text, or what the option says of bytes that aren't UTF-8. */
-static PyObject *build_text(const Reader *reader, amqpv_span span, NotUtf8 how, PyObject *of_bytes, const char *what,
+static PyObject *build_text(const Reader *reader, amqpv_span span, uint32_t how, PyObject *of_bytes, const char *what,
                             size_t offset) {
     const char *text = (const char *)reader->bytes + span.offset;
     Py_ssize_t length = (Py_ssize_t)span.length;
@@ -116,7 +116,7 @@ static PyObject *build_float(const Reader *reader, const amqpv_entry *entry) {
 static PyObject *whole(const Reader *reader, PyObject *container, amqpv_result result) {
     if (container != NULL && result != AMQPV_NONE) {
         Py_CLEAR(container);
-        raise_problem(reader->state, reader->bytes, reader->length, reader->how, reader->how->is_table, reader->base, result, 0);
+        raise_problem(reader->state, reader->bytes, reader->length, reader->how, reader->base, result, 0);
     }
     return container;
 }

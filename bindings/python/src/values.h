@@ -25,14 +25,13 @@ typedef struct {
 } State;
 
 /* What becomes of keys and text that aren't UTF-8. */
-typedef enum { STRICT, AS_BYTES, ESCAPED } NotUtf8;
+enum { STRICT = 0, AS_BYTES = 1, ESCAPED = 2 };
 
-/* The options of a call; `otherwise` is borrowed. */
+/* The options of a call, as OPTIONS of module.c has them. The objects are borrowed, and may be NULL. */
 typedef struct {
-    NotUtf8 keys, text;
-    int is_plain, is_table, is_finite, has_naive_datetimes, has_signed_decimals;
-    uint32_t equal_keys, depth, frame;
-    PyObject *otherwise;
+    uint32_t keys, text, equal_keys, depth, frame;
+    uint32_t is_plain, is_table, is_finite, has_naive_datetimes, has_signed_decimals;
+    PyObject *otherwise, *offset;
 } Options;
 
 /* Raises an Error: its kind, offset and missing bytes, and in the words of PyUnicode_FromFormat what was expected. */
@@ -49,8 +48,8 @@ void add_step(const State *state, PyObject *step);
 void raise_type(const char *what, PyObject *object);
 
 /* Raises what is wrong with bytes that aren't read, by the result of a call and what that counted. */
-void raise_problem(const State *state, const uint8_t *bytes, size_t length, const Options *how, int is_table, size_t base,
-                   amqpv_result result, size_t count);
+void raise_problem(const State *state, const uint8_t *bytes, size_t length, const Options *how, size_t base, amqpv_result result,
+                   size_t count);
 
 /* Bytes that are read, how many are before them, and by which options. */
 typedef struct {
@@ -70,7 +69,7 @@ PyObject *build(const Reader *reader, const amqpv_entry *entry);
 PyObject *written(const State *state, const Options *how, PyObject *value);
 
 /* The bytes of a key that a str or bytes is, as an object to be kept, or NULL; whether they are known to be UTF-8. */
-PyObject *key_bytes(const State *state, NotUtf8 how, PyObject *key, size_t offset, const char **bytes, size_t *length,
+PyObject *key_bytes(const State *state, uint32_t how, PyObject *key, size_t offset, const char **bytes, size_t *length,
                     int *is_utf8);
 
 #endif

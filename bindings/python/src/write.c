@@ -111,7 +111,7 @@ static PyObject *escaped_bytes(PyObject *text) {
 }
 
 /* The UTF-8 of a str, inside of it; or the bytes that `kept` then is; or NULL, and an Error. */
-static const char *text_of(const State *state, NotUtf8 how, PyObject *text, size_t offset, Py_ssize_t *length, PyObject **kept) {
+static const char *text_of(const State *state, uint32_t how, PyObject *text, size_t offset, Py_ssize_t *length, PyObject **kept) {
     char *content = NULL;
     const char *found = PyUnicode_AsUTF8AndSize(text, length);
     *kept = NULL;
@@ -144,7 +144,7 @@ static int put_text(Writer *writer, const Place *place, PyObject *text) {
     return is_done;
 }
 
-PyObject *key_bytes(const State *state, NotUtf8 how, PyObject *key, size_t offset, const char **bytes, size_t *length,
+PyObject *key_bytes(const State *state, uint32_t how, PyObject *key, size_t offset, const char **bytes, size_t *length,
                     int *is_utf8) {
     PyObject *kept = NULL;
     Py_ssize_t count = 0;
@@ -265,7 +265,7 @@ static long long number_of(PyObject *digits, long long exponent, long long most)
 }
 
 static int put_decimal(Writer *writer, const Place *place, PyObject *value) {
-    int has_sign = writer->how->has_signed_decimals, overflows = 0;
+    int has_sign = writer->how->has_signed_decimals != 0, overflows = 0;
     const char *expected = has_sign ? "a number from -2147483648 to 2147483647, with up to 255 digits of it after the point"
                                     : "a number from 0 to 4294967295, with up to 255 digits of it after the point";
     PyObject *parts = PyObject_CallFunctionObjArgs(writer->state->as_tuple, value, NULL);
@@ -327,13 +327,14 @@ static int put_encoded(Writer *writer, const Place *place, const char *bytes, si
     Options how = *writer->how;
     how.frame = UINT32_MAX;
     how.depth = place->levels;
+    how.is_table = 0;
     size_t before = end_of(place->into), count = 0;
     amqpv_entry entry;
     const uint8_t *data = (const uint8_t *)bytes;
     how.keys = STRICT;
     amqpv_result result = amqpv_read(data, length, how.frame, how.depth, &entry, &count);
     if (result != AMQPV_OK) {
-        raise_problem(writer->state, data, length, &how, 0, offset_in(writer, place), result, count);
+        raise_problem(writer->state, data, length, &how, offset_in(writer, place), result, count);
         return 0;
     }
     if (count != length) {
