@@ -4,6 +4,7 @@ aiormq waits for ever if what it is to send has no encoding. With this adapter i
 """
 
 from calendar import timegm
+from datetime import datetime
 from importlib import import_module
 from importlib.util import find_spec
 from time import struct_time
@@ -86,10 +87,43 @@ def install(
     places.put(pamqp.decode.TABLE_MAPPING, b"F", decode_table)
     places.put_everywhere(pamqp.encode, "field_table", encode_table)
     places.put(pamqp.encode.METHODS, "table", encode_table)
+    take_any_properties()
     if "aiormq" in modules:
         check_before_sending()
     if "aio_pika" in modules:
         keep_class_of_headers()
+
+
+def take_any_properties() -> None:
+    """Has pamqp take what the broker delivers next to headers: strings that aren't UTF-8, and times after the year 9999."""
+    read_string, write_string = pamqp.decode.short_str, pamqp.encode.short_string
+    read_time: Any = pamqp.decode.METHODS["timestamp"]
+
+    def short_str(value: bytes) -> tuple[int, str]:
+        try:
+            return read_string(value)
+        except UnicodeDecodeError:
+            end = 1 + value[0]
+            return end, value[1:end].decode(errors="surrogateescape")
+
+    def short_string(value: str) -> bytes:
+        try:
+            return write_string(value)
+        except UnicodeEncodeError:
+            content = value.encode(errors="surrogateescape")
+            return bytes([len(content)]) + content
+
+    def timestamp(value: bytes) -> Any:
+        try:
+            return read_time(value)
+        except (ValueError, OverflowError, OSError):
+            return 8, datetime.max.replace(microsecond=0)
+
+    places.put_everywhere(pamqp.decode, "short_str", short_str)
+    places.put(pamqp.decode.METHODS, "shortstr", short_str)
+    places.put(pamqp.decode.METHODS, "timestamp", timestamp)
+    places.put_everywhere(pamqp.encode, "short_string", short_string)
+    places.put(pamqp.encode.METHODS, "shortstr", short_string)
 
 
 def check_before_sending() -> None:

@@ -1,5 +1,6 @@
 """The codec of py-amqp, and so of kombu and Celery, in place of its own: `install()` and `uninstall()`."""
 
+import re
 from collections.abc import Callable
 from decimal import Decimal
 from struct import pack
@@ -9,6 +10,7 @@ import amqp.abstract_channel
 import amqp.sasl
 from amqp import serialization
 from amqp.exceptions import FrameSyntaxError
+from amqp.utils import bytes_to_str
 
 from amqp_values import DEPTH, Encoded, Error, LongString
 from amqp_values.adapters.shared import FRAME, Client, Codec, Options, Places, tested
@@ -42,6 +44,14 @@ class PyAmqp(Client):
         return error
 
 
+def text_of(content: Any) -> Any:
+    """A short string, which the broker delivers also if it isn't UTF-8."""
+    try:
+        return bytes_to_str(content)
+    except UnicodeDecodeError:
+        return content.decode(errors="surrogateescape")
+
+
 def install(
     *,
     depth: int = DEPTH,
@@ -57,14 +67,18 @@ def install(
     read_others = serialization.loads
 
     def loads(format: str | bytes, buf: Any, offset: int) -> tuple[list[Any], int]:
-        # (after a table come no bits of the octet before it)
+        # (after a table or a string come no bits of the octet before it)
         values: list[Any] = []
-        for number, others in enumerate((format if isinstance(format, str) else format.decode()).split("F")):
-            if number:
+        for form in re.findall("[Fs]|[^Fs]+", format if isinstance(format, str) else format.decode()):
+            if form == "F":
                 table, offset = codec.read(buf, offset)
                 values.append(table)
-            if others:
-                found, offset = read_others(others, buf, offset)
+            elif form == "s":
+                end = offset + 1 + buf[offset]
+                values.append(text_of(buf[offset + 1 : end]))
+                offset = end
+            else:
+                found, offset = read_others(form, buf, offset)
                 values += found
         return values, offset
 
@@ -72,6 +86,7 @@ def install(
         write(codec.write(table))
 
     places.put_everywhere(serialization, "loads", loads)
+    places.put(vars(serialization), "pstr_t", text_of)
     places.put_everywhere(serialization, "_write_table", write_table)
 
 
