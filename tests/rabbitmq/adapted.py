@@ -542,6 +542,9 @@ def installed(session: Session, _: Any) -> Any:
     check("something is in place", bool(changed()))
     check("refused by default", repr(read_one(deep_one)[0]).startswith("Refused("))
     check("the last of equal keys", read_one(twice)[0] == {"a": 2})
+    if session.client == "aiormq":
+        by_type = import_module("pamqp.encode").by_type
+        check("a short string", by_type("\udcffü", "shortstr") == b"\3\xff" + "ü".encode())
     # what came is relayed as long as it isn't changed
     refused, came = read_one(deep_one)[0], read_one(twice)[0]
     check("relayed", [write_one(it) for it in (refused, came, came.copy())] == [deep_one, twice, twice])
