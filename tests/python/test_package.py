@@ -380,7 +380,9 @@ def test_depth() -> None:
             assert own.dumps(own.loads(data, depth=levels), depth=levels) == data
     assert own.DEPTH == 64 and own_error(lambda: own.dumps(nest(65))) == ("too deep", 5 * 64, 0)
     assert own.loads(own.dumps(nest(64))) == nest(64)
-    assert own_error(lambda: own.loads(nested("A", 65, b""))) == ("too deep", 5 * 64, 0)
+    for keys in HOW:
+        assert own_error(lambda: own.loads(nested("A", 65, b""), keys=keys)) == ("too deep", 5 * 64, 0)
+        assert own_error(lambda: own.loads_table(nested("F", 65, b"V")[1:], keys=keys)) == ("too deep", 7 * 64 - 1, 0)
     for call in (own.loads, own.dumps, own.loads_table, own.dumps_table):
         for depth in (-1, own.MOST_DEPTH + 1, 2**100):
             assert own_error(lambda: call(b"", depth=depth)) == ("bad option", 0, 0)  # type: ignore[operator]
@@ -493,7 +495,7 @@ def test_the_error_is_copied_with_what_it_has() -> None:
     assert issubclass(own.Error, ValueError)
 
 
-KIND = re.compile(r"(?ms)^Kind: TypeAlias = Literal\[\n(.*?)^\]")
+KIND = re.compile(r"(?ms)^_Kind: TypeAlias = Literal\[\n(.*?)^\]")
 
 
 def test_every_kind_is_raised_and_typed() -> None:

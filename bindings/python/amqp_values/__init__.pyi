@@ -11,13 +11,13 @@ MOST_DEPTH: int
 DEPTH: int
 FRAME: int
 
-Data: TypeAlias = Union[bytes, bytearray, memoryview]
+_Data: TypeAlias = Union[bytes, bytearray, memoryview]
 # What becomes of keys and text that aren't UTF-8.
-NotUtf8: TypeAlias = Literal["strict", "bytes", "surrogateescape"]
+_NotUtf8: TypeAlias = Literal["strict", "bytes", "surrogateescape"]
 # Which of equal keys counts.
-EqualKeys: TypeAlias = Literal["last", "first"]
-Table: TypeAlias = Union[Mapping[str, Any], Mapping[bytes, Any], Mapping[Union[str, bytes], Any]]
-Kind: TypeAlias = Literal[
+_EqualKeys: TypeAlias = Literal["last", "first"]
+_Table: TypeAlias = Union[Mapping[str, Any], Mapping[bytes, Any], Mapping[Union[str, bytes], Any]]
+_Kind: TypeAlias = Literal[
     "cut",
     "key cut",
     "unknown tag",
@@ -62,12 +62,12 @@ __all__ = [
 ]
 
 class Error(ValueError):
-    kind: Kind
+    kind: _Kind
     offset: int
     expected: str
     missing: int
     path: tuple[Any, ...]
-    def __init__(self, kind: Kind, offset: int = 0, expected: str = "", missing: int = 0) -> None: ...
+    def __init__(self, kind: _Kind, offset: int = 0, expected: str = "", missing: int = 0) -> None: ...
 
 class _Integer(int):
     tag: str
@@ -95,19 +95,19 @@ class Float(float):
     def bits(self) -> int: ...
 
 class LongString(bytes):
-    def __new__(cls, content: Data = b"") -> Self: ...
+    def __new__(cls, content: _Data = b"") -> Self: ...
 
 class Encoded(bytes):
-    def __new__(cls, content: Data = b"") -> Self: ...
+    def __new__(cls, content: _Data = b"") -> Self: ...
 
 def loads(
-    data: Data,
+    data: _Data,
     /,
     *,
-    keys: NotUtf8 = "strict",
-    text: NotUtf8 = "strict",
+    keys: _NotUtf8 = "strict",
+    text: _NotUtf8 = "strict",
     plain: bool = False,
-    equal_keys: EqualKeys = "last",
+    equal_keys: _EqualKeys = "last",
     signed_decimals: bool = False,
     finite: bool = False,
     depth: int = 64,
@@ -115,13 +115,13 @@ def loads(
 ) -> Any: ...
 @overload
 def loads_table(
-    data: Data,
+    data: _Data,
     /,
     *,
     keys: Literal["strict", "surrogateescape"] = "strict",
-    text: NotUtf8 = "strict",
+    text: _NotUtf8 = "strict",
     plain: bool = False,
-    equal_keys: EqualKeys = "last",
+    equal_keys: _EqualKeys = "last",
     signed_decimals: bool = False,
     finite: bool = False,
     depth: int = 64,
@@ -129,13 +129,13 @@ def loads_table(
 ) -> dict[str, Any]: ...
 @overload
 def loads_table(
-    data: Data,
+    data: _Data,
     /,
     *,
     keys: Literal["bytes"],
-    text: NotUtf8 = "strict",
+    text: _NotUtf8 = "strict",
     plain: bool = False,
-    equal_keys: EqualKeys = "last",
+    equal_keys: _EqualKeys = "last",
     signed_decimals: bool = False,
     finite: bool = False,
     depth: int = 64,
@@ -143,14 +143,14 @@ def loads_table(
 ) -> dict[Union[str, bytes], Any]: ...
 @overload
 def decode_table(
-    data: Data,
+    data: _Data,
     /,
     offset: int = 0,
     *,
     keys: Literal["strict", "surrogateescape"] = "strict",
-    text: NotUtf8 = "strict",
+    text: _NotUtf8 = "strict",
     plain: bool = False,
-    equal_keys: EqualKeys = "last",
+    equal_keys: _EqualKeys = "last",
     signed_decimals: bool = False,
     finite: bool = False,
     depth: int = 64,
@@ -158,29 +158,29 @@ def decode_table(
 ) -> tuple[dict[str, Any], int]: ...
 @overload
 def decode_table(
-    data: Data,
+    data: _Data,
     /,
     offset: int = 0,
     *,
     keys: Literal["bytes"],
-    text: NotUtf8 = "strict",
+    text: _NotUtf8 = "strict",
     plain: bool = False,
-    equal_keys: EqualKeys = "last",
+    equal_keys: _EqualKeys = "last",
     signed_decimals: bool = False,
     finite: bool = False,
     depth: int = 64,
     frame: int = 131072,
 ) -> tuple[dict[Union[str, bytes], Any], int]: ...
 def find(
-    data: Data,
+    data: _Data,
     /,
     *path: Union[str, bytes, int],
     table: bool = False,
     default: Any = None,
-    keys: NotUtf8 = "strict",
-    text: NotUtf8 = "strict",
+    keys: _NotUtf8 = "strict",
+    text: _NotUtf8 = "strict",
     plain: bool = False,
-    equal_keys: EqualKeys = "last",
+    equal_keys: _EqualKeys = "last",
     signed_decimals: bool = False,
     finite: bool = False,
     depth: int = 64,
@@ -190,19 +190,19 @@ def dumps(
     value: Any,
     /,
     *,
-    keys: NotUtf8 = "strict",
-    text: NotUtf8 = "strict",
+    keys: _NotUtf8 = "strict",
+    text: _NotUtf8 = "strict",
     naive_datetimes: bool = False,
     signed_decimals: bool = False,
     finite: bool = False,
     depth: int = 64,
 ) -> bytes: ...
 def dumps_table(
-    mapping: Table,
+    mapping: _Table,
     /,
     *,
-    keys: NotUtf8 = "strict",
-    text: NotUtf8 = "strict",
+    keys: _NotUtf8 = "strict",
+    text: _NotUtf8 = "strict",
     naive_datetimes: bool = False,
     signed_decimals: bool = False,
     finite: bool = False,

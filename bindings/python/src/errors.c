@@ -65,10 +65,10 @@ void add_step(const State *state, PyObject *step) {
         Py_INCREF(step);
         plain = step;
     }
-    PyObject *path = PyObject_GetAttrString(error, "path");
+    PyObject *path = PyObject_GetAttr(error, state->path);
     PyObject *longer = plain != NULL && path != NULL ? Py_BuildValue("(O)", plain) : NULL;
     PyObject *whole = longer != NULL ? PySequence_Concat(longer, path) : NULL;
-    if (whole == NULL || PyObject_SetAttrString(error, "path", whole) < 0) {
+    if (whole == NULL || PyObject_SetAttr(error, state->path, whole) < 0) {
         /* out of memory, so that the path ends here */
         PyErr_Clear();
     }
@@ -79,8 +79,8 @@ void add_step(const State *state, PyObject *step) {
     PyErr_Restore(type, error, trace);
 }
 
-void raise_type(const char *what, PyObject *object) {
-    PyObject *name = PyObject_GetAttrString((PyObject *)Py_TYPE(object), "__name__");
+void raise_type(const State *state, const char *what, PyObject *object) {
+    PyObject *name = PyObject_GetAttr((PyObject *)Py_TYPE(object), state->name);
     if (name != NULL && PyUnicode_Check(name)) {
         PyErr_Format(PyExc_TypeError, "%s, not %U", what, name);
     } else {

@@ -42,7 +42,6 @@ static int limit_of(const State *state, const char *name, PyObject *value, unsig
     int overflows;
     PyObject *number = PyNumber_Index(value);
     if (number == NULL) {
-        raise_foreign(state, 0);
         return 0;
     }
     long long found = PyLong_AsLongLongAndOverflow(number, &overflows);
@@ -58,7 +57,7 @@ static int limit_of(const State *state, const char *name, PyObject *value, unsig
 /* One of some words, by its place. */
 static int word_of(const State *state, const char *name, PyObject *value, const char *const *words, uint32_t *at) {
     if (!PyUnicode_Check(value)) {
-        raise_type("an option is a str", value);
+        raise_type(state, "an option is a str", value);
         return 0;
     }
     for (*at = 0; words[*at] != NULL; ++*at) {
@@ -91,7 +90,6 @@ static int take_option(const State *state, size_t option, PyObject *value, Optio
     } else {
         int truth = PyObject_IsTrue(value);
         if (truth < 0) {
-            raise_foreign(state, 0);
             return 0;
         }
         found = (uint32_t)truth;
@@ -138,12 +136,8 @@ static PyObject *content_of(const State *state, PyObject *data, const uint8_t **
         kept = data;
     } else if (PyByteArray_Check(data) || PyMemoryView_Check(data)) {
         kept = PyBytes_FromObject(data);
-        if (kept == NULL) {
-            /* (a memoryview that was released) */
-            raise_foreign(state, 0);
-        }
     } else {
-        raise_type("data is bytes, a bytearray or a memoryview", data);
+        raise_type(state, "data is bytes, a bytearray or a memoryview", data);
     }
     if (kept != NULL && PyBytes_AsStringAndSize(kept, &content, &count) < 0) {
         Py_CLEAR(kept);
@@ -155,7 +149,8 @@ static PyObject *content_of(const State *state, PyObject *data, const uint8_t **
     return kept;
 }
 
-/* Makes an exception that isn't documented, as a RecursionError, an Error. */
+/* Makes an exception that isn't documented an Error: a RecursionError, what a method of an option raised, or a ValueError since
+   a memoryview was released. */
 static PyObject *documented(const State *state, PyObject *made) {
     if (made == NULL) {
         raise_foreign(state, 0);
@@ -236,7 +231,7 @@ static int step_of(const State *state, const Options *how, PyObject *it, amqpv_s
     }
     step->tag = AMQPV_ARRAY;
     if (!PyLong_Check(it)) {
-        raise_type("a step of a path is a str, bytes or an int", it);
+        raise_type(state, "a step of a path is a str, bytes or an int", it);
         return 0;
     }
     if (!limit_of(state, "an index", it, PY_SSIZE_T_MAX, &index)) {
@@ -376,7 +371,12 @@ static int begin(PyObject *module) {
         || (state->from_timestamp = PyObject_GetAttrString(state->datetime, "fromtimestamp")) == NULL
         || (state->utc_offset = PyObject_GetAttrString(state->datetime, "utcoffset")) == NULL
         || (state->mapping = imported("collections.abc", "Mapping")) == NULL
-        || (state->sequence = imported("collections.abc", "Sequence")) == NULL) {
+        || (state->sequence = imported("collections.abc", "Sequence")) == NULL
+        || (state->items = PyUnicode_InternFromString("items")) == NULL
+        || (state->days = PyUnicode_InternFromString("days")) == NULL
+        || (state->seconds = PyUnicode_InternFromString("seconds")) == NULL
+        || (state->path = PyUnicode_InternFromString("path")) == NULL
+        || (state->name = PyUnicode_InternFromString("__name__")) == NULL) {
         return -1;
     }
     PyObject *zone = imported("datetime", "timezone");

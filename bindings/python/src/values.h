@@ -20,6 +20,8 @@ typedef struct {
     PyObject *error, *integer, *integers[INTEGERS], *of_float, *long_string, *encoded;
     PyObject *decimal, *as_tuple, *datetime, *from_timestamp, *utc_offset, *utc, *epoch, *naive_epoch;
     PyObject *mapping, *sequence;
+    /* names of attributes, of which each is one object */
+    PyObject *items, *days, *seconds, *path, *name;
     newfunc new_error, new_integer, new_float;
     binaryfunc subtract;
 } State;
@@ -45,7 +47,7 @@ void raise_foreign(const State *state, size_t offset);
 void add_step(const State *state, PyObject *step);
 
 /* Raises the TypeError that `what` isn't an object of this type. */
-void raise_type(const char *what, PyObject *object);
+void raise_type(const State *state, const char *what, PyObject *object);
 
 /* Raises what is wrong with bytes that aren't read, by the result of a call and what that counted. */
 void raise_problem(const State *state, const uint8_t *bytes, size_t length, const Options *how, size_t base, amqpv_result result,

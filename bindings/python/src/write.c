@@ -176,7 +176,7 @@ PyObject *key_bytes(const State *state, uint32_t how, PyObject *key, size_t offs
             }
         }
     } else {
-        raise_type("a key is a str or bytes", key);
+        raise_type(state, "a key is a str or bytes", key);
         return NULL;
     }
     if (kept == NULL) {
@@ -305,8 +305,8 @@ static int put_datetime(Writer *writer, const Place *place, PyObject *value) {
         }
         delta = offset == NULL ? NULL : state->subtract(value, is_naive ? state->naive_epoch : state->epoch);
     }
-    PyObject *days = delta != NULL ? PyObject_GetAttrString(delta, "days") : NULL;
-    PyObject *seconds = days != NULL ? PyObject_GetAttrString(delta, "seconds") : NULL;
+    PyObject *days = delta != NULL ? PyObject_GetAttr(delta, state->days) : NULL;
+    PyObject *seconds = days != NULL ? PyObject_GetAttr(delta, state->seconds) : NULL;
     long long number = seconds != NULL ? PyLong_AsLongLong(days) * 86400 + PyLong_AsLongLong(seconds) : 0;
     int is_known = seconds != NULL && !PyErr_Occurred();
     Py_XDECREF(delta);
@@ -460,7 +460,7 @@ static int put_dict(Writer *writer, const Place *body, PyObject *dict, PyObject 
 }
 
 static int put_mapping(Writer *writer, const Place *body, PyObject *mapping, PyObject *keys) {
-    PyObject *items = PyObject_CallMethod(mapping, "items", NULL), *pair;
+    PyObject *items = PyObject_CallMethodObjArgs(mapping, writer->state->items, NULL), *pair;
     PyObject *each = items != NULL ? PyObject_GetIter(items) : NULL;
     int is_done = each != NULL;
     Py_XDECREF(items);
@@ -469,7 +469,7 @@ static int put_mapping(Writer *writer, const Place *body, PyObject *mapping, PyO
         if (is_done) {
             is_done = put_pair(writer, body, PyTuple_GetItem(pair, 0), PyTuple_GetItem(pair, 1), keys);
         } else {
-            raise_type("an item of a mapping is a tuple of a key and a value", pair);
+            raise_type(writer->state, "an item of a mapping is a tuple of a key and a value", pair);
         }
         Py_DECREF(pair);
     }
@@ -596,7 +596,7 @@ static int put_other(Writer *writer, const Place *place, PyObject *value) {
         return put_container(writer, place, value, 0);
     }
     if (!PyErr_Occurred()) {
-        raise_type("a value is of a type that AMQP has", value);
+        raise_type(state, "a value is of a type that AMQP has", value);
     }
     return 0;
 }
@@ -633,7 +633,7 @@ PyObject *written(const State *state, const Options *how, PyObject *value) {
     writer.capacity = sizeof writer.small;
     int is_table = how->is_table && (PyDict_Check(value) || is_abstract(&writer, &place, value, state->mapping));
     if (how->is_table && !is_table && !PyErr_Occurred()) {
-        raise_type("a table is a mapping", value);
+        raise_type(state, "a table is a mapping", value);
     }
     if (!PyErr_Occurred() && (is_table ? put_container(&writer, &place, value, 1) : put_value(&writer, &place, value))) {
         made = PyBytes_FromStringAndSize((const char *)writer.buffer + is_table, (Py_ssize_t)end_of(&top) - is_table);
