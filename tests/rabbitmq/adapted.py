@@ -378,6 +378,11 @@ def wrong(session: Session, given: Any) -> Any:
             client.publish("", given["to"], WRONG[name])
         except Exception as error:
             found[name] = name_of(error)
+    if "key" in given:
+        try:
+            client.publish("", given["key"], {"right": 0})
+        except Exception as error:
+            found["key"] = name_of(error)
     session.tried(lambda it: it.publish("", given["to"], {"right": 1}))
     return found
 

@@ -132,6 +132,8 @@ def check_before_sending() -> None:
     publish, call = channel.basic_publish, channel.rpc
 
     def basic_publish(self: Any, body: bytes, **how: Any) -> Any:
+        for name in ("exchange", "routing_key"):
+            pamqp.encode.short_string(how.get(name, ""))
         if how.get("properties"):
             how["properties"].marshal()
         return publish(self, body, **how)
