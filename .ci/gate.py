@@ -51,7 +51,7 @@ MODULES = {
     "style": PYTEST,
     "model": PYTEST,
     "python": (*PYTEST, "pip", "setuptools", "wheel"),
-    "broker": (*PYTEST, "pika", "amqp"),
+    "broker": (*PYTEST, "pika", "amqp", "kombu", "celery", "pamqp", "aiormq", "aio_pika"),
 }
 TABLES = {"run": 500, "whole": 10000}
 KEYS = ".ci/mutant-keys"

@@ -44,6 +44,7 @@ for bytes_ in (b"", b"z", b"S\\0\\0\\0\\1", b"S\\0\\0\\0\\1\\xff", b"A" * 99):
         tried += 1
 here = pathlib.Path(av.__file__).parent
 assert (here / "py.typed").exists()
+import amqp_values.adapters
 assert "Copyright" in next(here.parent.glob("amqp_values-*/LICENSE")).read_text()
 print("%d.%d.%d: %d tried" % (*sys.version_info[:3], tried))
 """
@@ -63,10 +64,7 @@ def build_package(crates: Crates, folder: Path, is_built: bool, options: Words =
     if done.returncode:
         return f"lib{CALLS_FOR_C[0]}.a: {(done.stderr or done.stdout)[-1000:]}"
     made = folder / "amqp_values"
-    made.mkdir(parents=True)
-    for it in (PACKAGE / "amqp_values").iterdir():
-        if it.is_file() and it.suffix != ".so":
-            shutil.copy(it, made)
+    shutil.copytree(PACKAGE / "amqp_values", made, ignore=shutil.ignore_patterns("*.so", "__pycache__"))
     python = ran([PYTHON, "-c", "import sysconfig; print(sysconfig.get_path('include'))"])[0].strip()
     flags = ["-std=c11", "-O2", "-g", "-fPIC", "-fvisibility=hidden", *WARNINGS, f"-I{INCLUDE}", f"-I{python}"]
     sources = sorted((PACKAGE / "src").glob("*.c"))

@@ -1,17 +1,20 @@
 """The broker, which all tests share, and what is noted by them for the end."""
 
+import os
 import signal
 from collections.abc import Iterator
 from pathlib import Path
 from random import Random
 
 import pytest
+from crates import Crates
+from wheels import build_package
 
 from tests.rabbitmq.broker import Broker
 from tests.rabbitmq.wire import Connection
 
 # The minutes that all of it takes at most.
-MINUTES = 10
+MINUTES = 15
 NOTES: list[str] = []
 
 
@@ -38,6 +41,17 @@ def broker(library: str, tmp_path_factory: pytest.TempPathFactory) -> Iterator[B
     with Broker(Path(tmp_path_factory.mktemp("broker"))) as found:
         yield found
     signal.alarm(0)
+
+
+@pytest.fixture(scope="session")
+def package(request: pytest.FixtureRequest, tmp_path_factory: pytest.TempPathFactory) -> str:
+    """The folder that has the Python package amqp_values."""
+    if "AMQP_VALUES_PACKAGE" in os.environ:
+        return os.environ["AMQP_VALUES_PACKAGE"]
+    folder = Path(tmp_path_factory.mktemp("package"))
+    wrong = build_package(Crates(), folder, bool(request.config.getoption("--built")))
+    assert not wrong, wrong
+    return str(folder)
 
 
 @pytest.fixture

@@ -1,0 +1,8 @@
+"""Adapters, which put this package in place of a client's own codec of tables: `pika`, `pyamqp` and `pamqp`.
+
+Each has `install()`, to be called before a connection is opened, and `uninstall()`. What isn't read comes as `Refused`.
+"""
+
+from amqp_values.adapters.shared import Headers, Refused, UntestedVersion
+
+__all__ = ["Headers", "Refused", "UntestedVersion"]
