@@ -38,6 +38,7 @@ NEEDS: dict[str, tuple[str, ...]] = {
         *("cmake", "dpkg-gensymbols", "lintian", "man", "mandoc", "/usr/include/amqp.h"),
     ),
     "counts": ("valgrind",),
+    "web": (PYTHON, "wasm-opt", "chromium", "chromedriver", "firefox-esr"),
     "rust": (),
     "crate": (),
     "broker": (f"{BIN}/rabbitmq-server", "epmd", "amqp-publish", "php", PYTHON),
@@ -47,7 +48,13 @@ NEEDS: dict[str, tuple[str, ...]] = {
 PROOFS, NEED_NO_PROOFS = "rt ci", {"docs", "test", "style", "model"}
 # The modules of Debian's Python that each step needs, and how many tables are sent in .ci/run and .ci/whole.
 PYTEST = ("pytest", "xdist", "hypothesis")
-MODULES = {"style": PYTEST, "model": PYTEST, "python": PYTEST, "broker": (*PYTEST, "pika", "amqp")}
+MODULES = {
+    "style": PYTEST,
+    "model": PYTEST,
+    "python": PYTEST,
+    "web": (*PYTEST, "selenium"),
+    "broker": (*PYTEST, "pika", "amqp"),
+}
 TABLES = {"run": 500, "whole": 10000}
 KEYS = ".ci/mutant-keys"
 NO_CRATE = "neither AMQ_PROTOCOL_TYPES names the Rust crate's folder nor cargo has kept it"
@@ -168,6 +175,7 @@ def commands(asked: Asked, copy: Path) -> dict[str, list[object]]:
         "c": [of_copy / "c/run", "--built", *["--root"] * asked.is_whole()],
         "python": [of_copy / "python/run", "--built", *random],
         "counts": [of_copy / "counts/run", "--built"],
+        "web": [of_copy / "web/run", "--built", *random],
         "rust": [of_copy / "rust/run", "--built"],
         "crate": [of_copy / "oracle/run"],
         "broker": [of_copy / "rabbitmq/run", "--built", "--tables", TABLES[asked.name]],

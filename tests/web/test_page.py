@@ -1,0 +1,148 @@
+"""What the page reads, next to the stored cases of amqp_show and to the model."""
+
+import re
+from collections.abc import Callable, Iterable, Iterator, Sequence
+from itertools import islice
+from random import Random
+from typing import Any
+
+import pytest
+
+from tests.model import printed
+from tests.model.printed import Dissection, captured, checked, inputs, nested, untagged
+from tests.model.tables import odd_table, random_table, raw
+from tests.web.browser import Browser
+from tests.web.stored import Stored, faults, stored
+
+BITS = pytest.mark.parametrize("bits", (64, 32))
+Recorder = Callable[[str, object], None]
+HINT = "! the input is a table without its type tag; --table reads it"
+COUNT = 2000
+# How many bytes are given to the page at once.
+BATCH = 2**21
+
+
+def rabbitmq(data: bytes, how: dict[str, Any]) -> str:
+    """What the page says of RabbitMQ, by the model."""
+    text = checked(data, "table" if how.get("isTable") else "value")[0]
+    *lines, last = [it for it in text.splitlines() if it[0] != "*"]
+    if "closes" in last:
+        return f"{last[2:]}: {lines[0][2:]}"
+    return "RabbitMQ 3.10.8 takes it" if "takes" in last else "not checked for RabbitMQ beyond the limits"
+
+
+def wanted(data: bytes, how: dict[str, Any]) -> dict[str, Any]:
+    """What the page has to read of some bytes, by the model."""
+    found = Dissection(data, "table" if how.get("isTable") else "value")
+    said = printed.outcome(found)
+    # (the page has all bytes)
+    follow = said.partition(" bytes, at least ")
+    if follow[1]:
+        said = f"{follow[0]} bytes, {len(found.data) - found.end} follow"
+    return {
+        "tree": printed.tree(found.parts, False),
+        "repeats": [*printed.repeated(found)],
+        "failure": f"! {found.failed()}" if found.failure else "",
+        "outcome": f"= {said}",
+        "rabbitmq": "" if said.startswith("truncated") else rabbitmq(data, how),
+    }
+
+
+def batches(given: Iterable[bytes]) -> Iterator[list[bytes]]:
+    batch: list[bytes] = []
+    for it in given:
+        batch.append(it)
+        if sum(map(len, batch)) > BATCH or len(batch) == 500:
+            yield batch
+            batch = []
+    yield batch
+
+
+def judge(browser: Browser, bits: int, given: Iterable[bytes], **how: Any) -> int:
+    """Compares what the page reads of inputs with the model, and returns how many they were."""
+    count = 0
+    for batch in batches(given):
+        for data, has in zip(batch, browser.read(batch, bits, **how), strict=True):
+            assert has == wanted(data, how), data[:300].hex()
+            count += 1
+    return count
+
+
+@BITS
+def test_inputs_of_every_kind(browser: Browser, bits: int, record_property: Recorder) -> None:
+    """Those of tests/show, also tables without their type tag."""
+    small = lambda given: [it for it in given if len(it) < 2**20]
+    count = judge(browser, bits, small(inputs())) + judge(browser, bits, small(untagged()), isTable=True)
+    record_property(f"inputs_{bits}", count)
+
+
+@BITS
+def test_random_tables(browser: Browser, bits: int, seed: int, record_property: Recorder) -> None:
+    make = Random(seed)
+    tables = [raw(random_table(make)) if at % 2 else odd_table(make) for at in range(COUNT)]
+    record_property(f"tables_{bits}", judge(browser, bits, tables))
+
+
+@BITS
+def test_prefixes(browser: Browser, bits: int, record_property: Recorder) -> None:
+    """Every prefix of three tables that were captured, with their type tag and without it."""
+    names = dict(captured_by_name())
+    count = 0
+    for name in ("x-death after 2", "server-properties", "federation"):
+        prefixes = [names[name][:size] for size in range(len(names[name]))]
+        count += judge(browser, bits, prefixes) + judge(browser, bits, [it[1:] for it in prefixes[1:]], isTable=True)
+    record_property(f"prefixes_{bits}", count)
+
+
+def captured_by_name() -> Iterator[tuple[str, bytes]]:
+    for line in printed.CAPTURED.read_text().splitlines():
+        name, _, digits = line.rpartition(": ")
+        if digits and not line.startswith("#"):
+            yield name, bytes.fromhex(digits)
+
+
+def of_check(lines: Sequence[str]) -> str:
+    """What the page says of RabbitMQ where amqp_show prints these lines."""
+    *before, last = [it for it in lines if it[0] != "*"]
+    if "closes" in last:
+        return f"{last[2:]}: {before[0][2:]}"
+    return "RabbitMQ 3.10.8 takes it" if "takes" in last else "not checked for RabbitMQ beyond the limits"
+
+
+def outcome_of(line: str, data: bytes) -> str:
+    """The outcome as the page has it, which knows of all bytes that follow."""
+    found = re.fullmatch(r"(= a \w+ of (\d+) bytes, )at least \d+ follow", line)
+    return f"{found[1]}{len(data) - int(found[2])} follow" if found else line
+
+
+def bytes_of(browser: Browser, it: Stored) -> bytes:
+    """The bytes of a stored case's input, by the page if they are hexadecimal."""
+    if it.text is None:
+        return it.data
+    script = "const {bytes} = amqp.readHexadecimal(arguments[0]); return amqp.hexadecimal(bytes)"
+    return bytes.fromhex(browser.run(script, it.text))
+
+
+@BITS
+def test_stored_cases(browser: Browser, bits: int, record_property: Recorder) -> None:
+    """Of each case of tests/show that shows a value the same tree, repeated keys, failure and outcome."""
+    found = [*stored()]
+    for it in found:
+        data = bytes_of(browser, it)
+        (has,) = browser.read([data], bits, **it.how)
+        if it.is_check:
+            assert has["rabbitmq"] == of_check(it.wants) or has["failure"] and data == b"" or has["rabbitmq"] == "", it.name
+            continue
+        lines = [*(has["tree"] if it.has_tree else []), *has["repeats"], *[has["failure"]] * bool(has["failure"]), has["outcome"]]
+        wants = [line for line in it.wants[:-1] if line != HINT] + [outcome_of(it.wants[-1], data)]
+        assert lines == wants, it.name
+    record_property(f"stored_{bits}", len(found))
+
+
+def test_hexadecimal(browser: Browser, record_property: Recorder) -> None:
+    """Of each case of tests/show that reads hexadecimal the same bytes, or the same words at the same place."""
+    found = [*faults()]
+    for name, text, fault in found:
+        has = browser.run("const {bytes, fault} = amqp.readHexadecimal(arguments[0]); return fault ?? ''", text)
+        assert has == fault, name
+    record_property("hexadecimal", len(found))

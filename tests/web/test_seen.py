@@ -1,0 +1,195 @@
+"""What is seen of the page, and how it is used."""
+
+from pathlib import Path
+from typing import Any
+
+import pytest
+from selenium.webdriver.common.action_chains import ActionChains
+from selenium.webdriver.common.keys import Keys
+
+from tests.model.printed import field, nested
+from tests.web.browser import Browser, opened
+from tests.web.stored import stored
+
+TWISTS = str.maketrans("", "", "▸▾")
+# A table with a number, an array with a string in it, and a number after that: where each pair and each part begins.
+TABLE = "46 00000017 01 61 49 00000005 01 62 41 00000006 53 00000001 78 01 63 56"
+
+
+@pytest.fixture(autouse=True)
+def anew(browser: Browser) -> None:
+    browser.load()
+
+
+def drawn(browser: Browser) -> list[str]:
+    """The lines of the tree that are drawn."""
+    return [it.translate(TWISTS) for it in browser.lines("tree")]
+
+
+def marked(browser: Browser) -> tuple[list[str], str]:
+    """The rows that are marked, and the digits of the bytes that are."""
+    script = """
+        const texts = (query) => [...document.querySelectorAll(query)].map((it) => it.textContent);
+        return [texts("#tree .line.on"), texts("#bytes [data-at].on").join("")];
+    """
+    rows, digits = browser.run(script)
+    return [it.strip().translate(TWISTS) for it in rows], digits
+
+
+def point(browser: Browser, query: str) -> None:
+    """Moves the pointer to an element."""
+    found = browser.driver.find_element("css selector", query)
+    ActionChains(browser.driver).move_to_element(found).perform()
+
+
+def press(browser: Browser, box: str, *keys: str) -> None:
+    """Presses keys in a box."""
+    browser.run("document.getElementById(arguments[0]).focus()", box)
+    ActionChains(browser.driver).send_keys(*keys).perform()
+
+
+def test_stored_cases_are_drawn(browser: Browser) -> None:
+    """Of each case of tests/show that prints a tree the page draws its lines, and says what is wrong."""
+    for it in stored():
+        if it.is_check or not it.has_tree or len(it.data) > 10000:
+            continue
+        browser.choose("form", "table" if it.how["isTable"] else "value")
+        browser.choose("depth", it.how.get("depth", 64))
+        browser.choose("frame", it.how.get("frame", 2**20))
+        browser.type(it.text if it.text is not None else it.data.hex())
+        wants = [line for line in it.wants if line[0] not in "!*="]
+        assert drawn(browser) == wants, it.name
+        failures = [line[2:] for line in it.wants if line.startswith("! offset")]
+        assert browser.text("failure") == "".join(failures), it.name
+
+
+def test_pointing_at_a_row_marks_its_bytes(browser: Browser) -> None:
+    browser.type(TABLE)
+    point(browser, "#row-2")
+    assert marked(browser) == (['"b": FieldArray'], "016241000000065300000001" + "78")
+    assert "$.b: " in browser.text("about") and "type tag at 14, length at 15 to 18" in browser.text("about")
+
+
+def test_pointing_at_a_byte_marks_its_row(browser: Browser) -> None:
+    browser.type(TABLE)
+    point(browser, '#bytes [data-at="9"]')
+    assert marked(browser) == (['"a": LongInt 5'], "01614900000005")
+
+
+def test_keys_move_in_the_tree_and_in_the_bytes(browser: Browser) -> None:
+    browser.type(TABLE)
+    press(browser, "tree", Keys.ARROW_DOWN, Keys.ARROW_DOWN)
+    assert marked(browser)[0] == ['"a": LongInt 5']
+    press(browser, "tree", Keys.END, Keys.ARROW_UP, Keys.ARROW_LEFT)
+    assert marked(browser)[0] == ['"b": FieldArray']
+    press(browser, "tree", Keys.ARROW_LEFT)
+    assert drawn(browser) == ["FieldTable", '  "a": LongInt 5', '  "b": FieldArray', '  "c": Void']
+    press(browser, "tree", Keys.ARROW_RIGHT, Keys.ARROW_RIGHT)
+    assert marked(browser) == (['LongString "x"'], "530000000178")
+    press(browser, "bytes", Keys.END, Keys.ARROW_LEFT)
+    assert marked(browser) == (['"c": Void'], "016356")
+
+
+def test_roles_of_a_tree(browser: Browser) -> None:
+    browser.type(TABLE)
+    script = """
+        return [...document.querySelectorAll("#tree [role=treeitem]")].map((it) =>
+            ["level", "posinset", "setsize", "expanded"].map((name) => it.getAttribute(`aria-${name}`)));
+    """
+    assert browser.run(script) == [
+        ["1", "1", "1", "true"], ["2", "1", "3", None], ["2", "2", "3", "true"], ["3", "1", "1", None], ["2", "3", "3", None],
+    ]  # fmt: skip
+    press(browser, "tree", Keys.HOME)
+    active = "return document.getElementById(document.activeElement.getAttribute('aria-activedescendant')).textContent"
+    assert browser.run(active).endswith("FieldTable")
+
+
+def test_what_is_wrong_is_marked(browser: Browser) -> None:
+    browser.type("46 00000003 01 61 7a")
+    script = "const it = document.querySelector('#bytes .wrong'); return [it.dataset.at, it.textContent]"
+    assert browser.run(script) == ["7", "7a"]
+    assert browser.text("failure") == "offset 7: a type tag is expected; 7a is none"
+
+
+def test_hexadecimal_that_is_none(browser: Browser) -> None:
+    browser.type("74 0g")
+    assert browser.text("failure") == "line 1, column 5: no hexadecimal" and drawn(browser) == []
+
+
+def test_a_table_without_its_type_tag(browser: Browser) -> None:
+    """Is read as one, unless it is to be a value."""
+    browser.type("00000007 0161 7401 0162 56")
+    assert drawn(browser) == ["FieldTable", '  "a": Boolean true', '  "b": Void']
+    browser.choose("form", "value")
+    assert "the input is a table without its type tag; --table reads it" in browser.text("notes")
+
+
+def test_a_link_has_the_bytes(browser: Browser) -> None:
+    browser.type(TABLE)
+    before = drawn(browser)
+    browser.run("document.getElementById('link').click()")
+    link = browser.run("return location.hash")
+    assert link == f"#{TABLE.replace(' ', '')}"
+    browser.load(link)
+    assert drawn(browser) == before
+
+
+def test_examples(browser: Browser) -> None:
+    """There are six, of which each shows something; one is cut, and one is refused."""
+    values = browser.run("return [...document.querySelectorAll('#examples option')].map((it) => it.value)")[1:]
+    outcomes = []
+    for value in values:
+        browser.choose("examples", value)
+        assert len(drawn(browser)) > 2
+        outcomes.append(browser.text("outcome").partition(" ")[0])
+    assert sorted(outcomes) == ["a", "a", "a", "a", "refused,", "truncated;"]
+
+
+def test_many_rows_are_drawn_as_they_are_scrolled_to(browser: Browser) -> None:
+    """Of a million Voids the last one is drawn at the end, and never more rows than are in sight."""
+    script = "amqp.put(Uint8Array.from([0x41, 0, 0xf, 0xff, 0xfb, ...new Uint8Array(0xffffb - 0).fill(0x56)].slice(0, 1 << 20)))"
+    browser.run("const it = new Uint8Array(1 << 20).fill(0x56); it.set([0x41, 0, 0xf, 0xff, 0xfb]); amqp.put(it)")
+    assert browser.text("outcome") == "a value of 1048576 bytes, 0 follow"
+    press(browser, "tree", Keys.END)
+    script = "return [...document.querySelectorAll('#tree .line')].map((it) => it.id)"
+    rows = browser.run(script)
+    assert rows[-1] == f"row-{2**20 - 5}" and len(rows) < 200
+
+
+def test_nothing_leaves_the_page(browser: Browser) -> None:
+    """A load and a use of it ask for nothing but the page itself, and the policy refuses what would."""
+    browser.requests()
+    browser.load(f"#{TABLE.replace(' ', '')}")
+    press(browser, "tree", Keys.ARROW_DOWN)
+    browser.run("for (const id of ['link', 'digits', 'tree-text']) document.getElementById(id).click()")
+    others = [it for it in browser.requests() if not it.startswith((browser.page.as_uri(), "about:blank"))]
+    assert others == []
+    asked = """
+        const done = arguments[0], seen = [];
+        document.addEventListener("securitypolicyviolation", (it) => seen.push(it.effectiveDirective));
+        new Image().src = "http://127.0.0.1:9/a"; fetch("http://127.0.0.1:9/b").catch(() => 0);
+        new Function; setTimeout(() => done(seen.sort()), 300);
+    """
+    browser.driver.set_script_timeout(10)
+    assert browser.driver.execute_async_script(asked) == ["connect-src", "img-src"]
+
+
+def test_a_module_without_stack_is_made_anew(browser: Browser) -> None:
+    """Reading 200,000 levels ends it; the page then reads as before."""
+    deep = "const n = 200000, it = new Uint8Array(5 * n), view = new DataView(it.buffer);"
+    deep += "for (let at = 0; at < n; at++) { it[5 * at] = 0x41; view.setUint32(5 * at + 1, 5 * (n - at - 1)); }"
+    ends = f"{deep} try {{ amqp.read(amqp.modules[64], it, {{depth: n + 1}}); return 'read' }} catch (e) {{ return e.name }}"
+    assert browser.run(ends) in ("RuntimeError", "RangeError")
+    browser.run(f"{deep} amqp.put(it, '', n + 1)")
+    assert "made anew" in browser.text("failure")
+    browser.type(TABLE)
+    assert len(drawn(browser)) == 5
+
+
+def test_depth(browser: Browser) -> None:
+    """At most 1,000 levels are read, whatever is asked for."""
+    browser.choose("depth", 5000)
+    browser.type(nested("A", 1000, b"").hex())
+    assert browser.text("outcome").startswith("a value of")
+    browser.type(nested("A", 1001, b"").hex())
+    assert "nest deeper" in browser.text("failure")
