@@ -12,6 +12,8 @@ const HEIGHT = 22, TALLEST = 8e6, MOST_SHOWN = 300, MOST_TYPED = 65536, MOST_LIN
 const MOST_LEVELS = 1000;
 // What is left out where the module doesn't have it.
 const CALLS = ["write_json", "is_canonical"];
+const MODULES = { 64: "Read by the module with 64-bit addresses, which is the proved code as Rattle compiles it.",
+    32: "Read by the module with 32-bit addresses, which binaryen makes of the other; that step isn't proved." };
 const $ = (id) => document.getElementById(id);
 // What is shown: bytes and what was read of them, the rows that are closed and those that are seen, what is marked.
 const now = { bytes: new Uint8Array(), reading: null, closed: new Set(), seen: null, row: -1, byte: -1, width: 16 };
@@ -36,10 +38,11 @@ class Lines {
     }
 
     show(count = this.count) {
-        const { clientHeight: seen, scrollTop: top } = this.box, all = count * HEIGHT;
+        const all = count * HEIGHT;
         this.count = count;
-        this.faster = all > TALLEST ? (all - seen) / (TALLEST - seen) : 1;
         this.sheet.style.height = `${Math.min(all, TALLEST)}px`;
+        const { clientHeight: seen, scrollTop: top } = this.box;
+        this.faster = all > TALLEST ? (all - seen) / (TALLEST - seen) : 1;
         const from = top * this.faster, first = Math.floor(from / HEIGHT);
         const end = Math.min(count, first + Math.ceil(seen / HEIGHT) + 1);
         this.lines.style.top = `${top - (from - first * HEIGHT)}px`;
@@ -197,6 +200,7 @@ function tell(fault) {
         return made;
     };
     const again = repeats(reading), said = rabbitmqText(reading), lacks = CALLS.filter((it) => !module.has(it));
+    $("module").textContent = MODULES[module.bits] + lacks.map((it) => ` It has no amqpv_${it}.`).join("");
     const isTold = reading.code === OK && module.has("is_canonical");
     const canonical = isTold && `${module.isCanonical(reading.frame, reading.depth) ? "" : "not "}canonical`;
     const notes = [
@@ -205,8 +209,7 @@ function tell(fault) {
         rabbitmq ? jump(said, Math.max(0, rabbitmq.offset - shift)) : said,
         ...again.slice(0, 20).map(([row, line]) => jump(line, reading.rows.start[row] - shift)),
         again.length > 20 ? `${again.length - 20} more keys come again` : "",
-        canonical,
-        ...lacks.map((it) => `left out: this module has no amqpv_${it}`)];
+        canonical];
     $("outcome").textContent = fault ? "" : outcome(reading);
     $("failure").hidden = !fault && !why;
     $("failure").replaceChildren(fault ?? (why ? jump(`offset ${at}: ${why}`, at) : ""));

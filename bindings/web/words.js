@@ -11,7 +11,8 @@ const utf8 = new TextDecoder("utf-8", { fatal: true, ignoreBOM: true });
 const ENDS = "this library takes the last, RabbitMQ the first";
 
 export const nameOf = (tag) => NAMES[String.fromCharCode(tag)];
-export const hexadecimal = (bytes) => Array.from(bytes, (it) => it.toString(16).padStart(2, "0")).join("");
+const DIGITS = Array.from({ length: 256 }, (_, it) => it.toString(16).padStart(2, "0"));
+export const hexadecimal = (bytes) => Array.from(bytes, (it) => DIGITS[it]).join("");
 const latin1 = (bytes) => Array.from(bytes, (it) => String.fromCharCode(it)).join("");
 
 function escaped(character) {
@@ -159,18 +160,33 @@ export function rabbitmqText({ code, rabbitmq, shift }) {
 
 // Of each key that comes again in its table the last value's row and a line, ordered by table, then by key.
 export function repeats(reading, most = 200) {
-    const { rows, shift } = reading, tables = new Map();
+    const { rows, data, shift } = reading, slots = new Uint8Array(1 << 20), tables = new Map();
+    const isKeyed = (row) => rows.flags[row] & KEY && rows.tag[row];
+    const slotOf = (row) => {
+        let hash = rows.parent[row];
+        for (let at = rows.start[row] + 1; at < rows.value[row]; at++) {
+            hash = Math.imul(hash ^ data[at], 0x01000193);
+        }
+        return (hash ^ (hash >>> 12)) & 0xfffff;
+    };
     for (let row = 1; row < rows.count; row++) {
-        if (rows.flags[row] & KEY && rows.tag[row]) {
-            const table = rows.parent[row], key = latin1(keyBytes(reading, row));
-            tables.has(table) || tables.set(table, new Map());
-            const found = tables.get(table).get(key);
-            found ? found.push(row) : tables.get(table).set(key, [row]);
+        if (isKeyed(row)) {
+            const slot = slotOf(row);
+            slots[slot] = slots[slot] ? 2 : 1;
         }
     }
-    const ordered = (map) => [...map].sort(([a], [b]) => (a < b ? -1 : 1)), text = (row) =>
-        `${valueText(reading, row, most)} at ${rows.value[row] - shift}`;
-    const all = ordered(tables).flatMap(([, keys]) => ordered(keys)).filter(([, them]) => them.length > 1);
+    // only keys that share a slot are compared
+    for (let row = 1; row < rows.count; row++) {
+        if (isKeyed(row) && slots[slotOf(row)] > 1) {
+            const table = rows.parent[row], key = String.fromCharCode(...keyBytes(reading, row));
+            const keys = tables.get(table) ?? new Map(), found = keys.get(key) ?? [];
+            found.push(row);
+            tables.set(table, keys.set(key, found));
+        }
+    }
+    const text = (row) => `${valueText(reading, row, most)} at ${rows.value[row] - shift}`;
+    const ordered = (map) => [...map].filter(([, it]) => it.size || it.length > 1).sort(([a], [b]) => (a < b ? -1 : 1));
+    const all = ordered(tables).flatMap(([, keys]) => ordered(keys));
     return all.map(([, them]) => [them.at(-1), `the key ${keyText(reading, them[0])} comes ${them.length} times: `
         + `first ${text(them[0])}, last ${text(them.at(-1))}; ${ENDS}`]);
 }

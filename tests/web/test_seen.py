@@ -1,7 +1,12 @@
 """What is seen of the page, and how it is used."""
 
+import os
+import struct
+import subprocess
+import zlib
+from collections import Counter
+from collections.abc import Callable, Iterator
 from pathlib import Path
-from typing import Any
 
 import pytest
 from selenium.webdriver.common.action_chains import ActionChains
@@ -11,6 +16,7 @@ from tests.model.printed import field, nested
 from tests.web.browser import Browser, opened
 from tests.web.stored import stored
 
+Recorder = Callable[[str, object], None]
 TWISTS = str.maketrans("", "", "▸▾")
 # A table with a number, an array with a string in it, and a number after that: where each pair and each part begins.
 TABLE = "46 00000017 01 61 49 00000005 01 62 41 00000006 53 00000001 78 01 63 56"
@@ -193,3 +199,76 @@ def test_depth(browser: Browser) -> None:
     assert browser.text("outcome").startswith("a value of")
     browser.type(nested("A", 1001, b"").hex())
     assert "nest deeper" in browser.text("failure")
+
+
+# Reads a mebibyte of pairs with ascending keys, with others, and of Voids, some times, and returns the fewest milliseconds of each.
+TIMES = """
+    const size = 1 << 20, voids = new Uint8Array(size).fill(0x56), module = amqp.modules[arguments[0]];
+    voids.set([0x41, 0, 0xf, 0xff, 0xfb]);
+    const pairs = (fill) => {
+        const bytes = new Uint8Array(size), view = new DataView(bytes.buffer);
+        let at = 5;
+        for (let it = 0; at + 16 <= size; it++, at += 16) {
+            bytes.set([10, ...new TextEncoder().encode(`${it}`.padStart(10, fill)), 0x49, 0, 0, 0, 7], at);
+        }
+        bytes[0] = 0x46;
+        view.setUint32(1, at - 5);
+        return bytes.subarray(0, at);
+    };
+    const least = (bytes, count) => Math.min(...Array.from({length: count}, () => {
+        const begun = performance.now(), reading = amqp.read(module, bytes);
+        amqp.repeats(reading);
+        amqp.rabbitmqText(reading);
+        return performance.now() - begun;
+    }));
+    return [least(pairs("0"), 20), least(pairs("k"), 20), least(voids, 5)];
+"""
+
+
+@pytest.mark.parametrize("bits", (64, 32))
+def test_times(browser: Browser, bits: int, record_property: Recorder) -> None:
+    """Without drawing, 1 MiB of pairs takes at most 50 ms, and of Voids 500."""
+    ascending, others, voids = browser.run(TIMES, bits)
+    print(f"\n{bits} bits: pairs {ascending:.1f} and {others:.1f} ms, Voids {voids:.0f} ms")
+    assert max(ascending, others) <= 50 and voids <= 500
+
+
+def pixels(path: Path) -> Iterator[bytes]:
+    """The colours of a PNG of 8 bits a channel, pixel by pixel."""
+    data, at, packed, width, step = path.read_bytes(), 8, b"", 0, 0
+    while at < len(data):
+        length, kind = struct.unpack(">I4s", data[at : at + 8])
+        part = data[at + 8 : at + 8 + length]
+        if kind == b"IHDR":
+            width, step = int.from_bytes(part[:4], "big"), {2: 3, 6: 4}[part[9]]
+        packed += part if kind == b"IDAT" else b""
+        at += length + 12
+    raw, stride = zlib.decompress(packed), width * step
+    above = bytes(stride)
+    for line in range(0, len(raw), stride + 1):
+        kind, row = raw[line], bytearray(raw[line + 1 : line + 1 + stride])
+        for it in range(stride):
+            left, up, corner = (row[it - step], above[it], above[it - step]) if it >= step else (0, above[it], 0)
+            row[it] = (row[it] + predicted(kind, left, up, corner)) % 256
+        above = bytes(row)
+        yield from (bytes(row[it : it + 3]) for it in range(0, stride, step))
+
+
+def predicted(kind: int, left: int, up: int, corner: int) -> int:
+    """What a filter of PNG predicts of a byte."""
+    if kind < 4:
+        return (0, left, up, (left + up) // 2)[kind]
+    ways = {left: abs(up - corner), up: abs(left - corner), corner: abs(left + up - 2 * corner)}
+    return min((left, up, corner), key=lambda it: ways[it])
+
+
+def test_firefox_shows_it(page: Path, tmp_path: Path) -> None:
+    """Its picture has what is drawn of tags, and of what is wrong, in the colours of these."""
+    picture, profile = tmp_path / "page.png", tmp_path / "profile"
+    profile.mkdir()
+    words = ["firefox-esr", "--headless", "--no-remote", "--profile", profile, "--window-size=1000,640", "--screenshot", picture]
+    environment = {**os.environ, "HOME": str(tmp_path), "MOZ_CRASHREPORTER_DISABLE": "1"}
+    address = f"{page.as_uri()}#4600000003016149"
+    subprocess.run([*words, address], env=environment, capture_output=True, timeout=120, check=True)
+    counts = Counter(pixels(picture))
+    assert counts[bytes.fromhex("8250df")] > 50 and counts[bytes.fromhex("b3141f")] > 200, counts.most_common(9)
