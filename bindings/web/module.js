@@ -19,14 +19,12 @@ export class Module {
         this.pages = 0;
     }
 
-    grow(pages) {
-        return Number(this.calls.memory.grow(this.bits === 64 ? BigInt(pages) : pages)) * PAGE;
-    }
-
-    // Whether the module has a call: two are left out of the page where they aren't there.
-    has(name) {
-        return `amqpv_${name}` in this.calls;
-    }
+    grow(pages) { return Number(this.calls.memory.grow(this.bits === 64 ? BigInt(pages) : pages)) * PAGE; }
+    // Two calls are left out of the page where a module doesn't have them.
+    has(name) { return `amqpv_${name}` in this.calls; }
+    // What calls take: the address of a struct; the address and the length of the bytes between two offsets.
+    struct(at) { return BigInt(this.base + at); }
+    span(from, to) { return [BigInt(this.begin + from), BigInt(to - from)]; }
 
     // Has room for this many bytes.
     reserve(count) {
@@ -42,18 +40,8 @@ export class Module {
         this.reserve(data.length);
         Object.assign(this, { begin: this.base + PAGE, end: data.length });
         this.bytes.set(data, this.begin);
-        this.whole = this.span(0, this.end);
-        this.entry = this.struct(ENTRY);
+        Object.assign(this, { whole: this.span(0, this.end), entry: this.struct(ENTRY) });
         this.cursors = Array.from({ length: 1002 }, (_, level) => this.struct(CURSORS + CURSOR * level));
-    }
-
-    // What calls take: the address of a struct; the address and the length of the bytes between two offsets.
-    struct(at) {
-        return BigInt(this.base + at);
-    }
-
-    span(from, to) {
-        return [BigInt(this.begin + from), BigInt(to - from)];
     }
 
     // Has a cursor or a container be about these bytes of a container.
@@ -70,19 +58,15 @@ export class Module {
 
     // The first problem in what is before an end, or null.
     problem(to, rules, frame, depth) {
-        const at = (this.base + PROBLEM) / 4;
         const code = this.calls.amqpv_first_problem(...this.span(0, to), rules, frame, depth, this.struct(PROBLEM));
-        const [offset, , kinds] = this.words.subarray(at, at + 3);
+        const [offset, , kinds] = this.words.subarray((this.base + PROBLEM) / 4);
         return code === OK ? { offset, kind: kinds & 255, tag: (kinds >> 8) & 255 } : null;
     }
 
-    // The value between two offsets, by its type tag and its length: its code; and its type tag, bits and scale.
-    first(from, to) {
-        return this.calls.amqpv_first(...this.span(from, to), this.entry);
-    }
-
+    // The code of the value between two offsets, by its type tag and its length; then its type tag, bits and scale.
+    first(from, to) { return this.calls.amqpv_first(...this.span(from, to), this.entry); }
     read() {
-        const at = this.base / 4 + 12, [low, high, tags] = this.words.subarray(at, at + 3);
+        const [low, high, tags] = this.words.subarray((this.base + ENTRY) / 4 + 12);
         return { low, high, tag: tags & 255, scale: (tags >> 8) & 255 };
     }
 
@@ -95,18 +79,10 @@ export class Module {
         return this.read();
     }
 
-    // Enters the container that was read; or reads on up to an end; and reads the next entry of a level.
-    enter(level) {
-        this.calls.amqpv_enter(...this.whole, this.entry, this.cursors[level]);
-    }
-
-    begins(level) {
-        return this.words[(this.base + CURSORS + CURSOR * level) / 4];
-    }
-
-    next(level) {
-        return this.calls.amqpv_next(this.whole[0], this.whole[1], this.cursors[level], this.entry);
-    }
+    // Enters the container that was read; where the next entry of a level begins; and reads that.
+    enter(level) { this.calls.amqpv_enter(...this.whole, this.entry, this.cursors[level]); }
+    begins(level) { return this.words[(this.base + CURSORS + CURSOR * level) / 4]; }
+    next(level) { return this.calls.amqpv_next(this.whole[0], this.whole[1], this.cursors[level], this.entry); }
 
     // Where the whole entries end of a container whose end hasn't come.
     wholeUntil(offset, tag) {
@@ -127,10 +103,9 @@ export class Module {
 
     // The JSON of the value, or null.
     json(frame, depth) {
-        const to = this.begin + this.end, count = this.struct(COUNT);
-        const length = () => this.words[(this.base + COUNT) / 4];
+        const to = this.begin + this.end, length = () => this.words[(this.base + COUNT) / 4];
         const write = (room) => this.calls.amqpv_write_json?.(
-            ...this.whole, frame, depth, BigInt(to), BigInt(room), count);
+            ...this.whole, frame, depth, BigInt(to), BigInt(room), this.struct(COUNT));
         if (write(0) !== NO_ROOM) {
             return null;
         }

@@ -2,8 +2,8 @@
 import { Module, OK, UNKNOWN_TAG } from "./module.js";
 import { KEY, isCounted, read } from "./reading.js";
 import { readHexadecimal } from "./hexadecimal.js";
-import { failure, hexadecimal, indentation, jsonText, keyText, outcome, rabbitmqText, repeats, rowParts,
-    treeLines } from "./words.js";
+import { failure, hexadecimal, indentation, jsonText, keyText, outcome, rabbitmqText, repeats, rowParts, treeLines,
+} from "./words.js";
 
 // The height of a line, and of the tallest element, in pixels; how many bytes of a string a row shows, how many are
 // typed, and how many a link has.
@@ -230,6 +230,8 @@ function type() {
 
 function put(bytes, name = "a link") {
     $("text").value = bytes.length > MOST_TYPED ? "" : hexadecimal(bytes).replace(/.{64}(?=.)/g, "$&\n");
+    $("text").setSelectionRange(0, 0);
+    $("text").scrollTop = 0;
     $("text").placeholder = bytes.length > MOST_TYPED ? `${name}: ${bytes.length} bytes` : "";
     now.bytes = bytes;
     show();
@@ -336,5 +338,5 @@ function start() {
 
 start();
 // For the console, and for tests.
-globalThis.amqp = { failure, hexadecimal, modules, now, outcome, put, rabbitmqText, read, readHexadecimal, repeats,
-    treeLines };
+globalThis.amqp = { failure, hexadecimal, jsonText, modules, now, outcome, put, rabbitmqText, read, readHexadecimal,
+    repeats, treeLines };

@@ -1,17 +1,18 @@
 """Chromium with the page in it, as a person has it, by Debian's driver."""
 
 import json
-from collections.abc import Iterator, Sequence
+from collections.abc import Callable, Iterator, Sequence
 from contextlib import contextmanager
 from pathlib import Path
 from typing import Any
 
 from selenium import webdriver
 from selenium.webdriver.chrome.service import Service
+from selenium.webdriver.support.ui import WebDriverWait
 
 DRIVER, CHROMIUM = "/usr/bin/chromedriver", "/usr/bin/chromium"
 # Reads inputs in the page, as it does itself: of each the lines of the tree, those of repeated keys, the failure, the outcome,
-# and what RabbitMQ does.
+# what RabbitMQ does and, of a value, if the module has these calls, whether it is canonical, and its JSON.
 READ = """
 const [inputs, how, bits] = arguments, {amqp} = globalThis;
 return inputs.map((digits) => {
@@ -23,6 +24,8 @@ return inputs.map((digits) => {
         failure: failed ? `! offset ${failed[0]}: ${failed[1]}` : "",
         outcome: `= ${amqp.outcome(reading)}`,
         rabbitmq: amqp.rabbitmqText(reading),
+        canonical: failed || !reading.module.has("is_canonical") ? null : reading.module.isCanonical(reading.frame, reading.depth),
+        json: failed || !reading.module.has("write_json") ? null : amqp.jsonText(reading) ?? "",
     };
 });
 """
@@ -45,6 +48,10 @@ class Browser:
         """What the page reads of inputs."""
         return list(self.run(READ, [it.hex() for it in inputs], how, bits))
 
+    def has(self, call: str, bits: int = 64) -> bool:
+        """Whether a module has a call."""
+        return bool(self.run("return amqp.modules[arguments[0]].has(arguments[1])", bits, call))
+
     def type(self, text: str) -> None:
         """Types a text in place of what is there."""
         script = "const it = document.getElementById('text'); it.value = arguments[0]; it.dispatchEvent(new Event('input'));"
@@ -62,6 +69,10 @@ class Browser:
         """The lines that are drawn in a box."""
         script = "return [...document.querySelectorAll(`#${arguments[0]} .line`)].map((it) => it.textContent)"
         return list(self.run(script, name))
+
+    def wait(self, is_so: Callable[[], bool]) -> None:
+        """Waits until something is so."""
+        WebDriverWait(self.driver, 20).until(lambda _: is_so())
 
     def requests(self) -> list[str]:
         """What was asked of a network, a file or anything else since this was asked last."""

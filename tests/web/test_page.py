@@ -31,7 +31,13 @@ def rabbitmq(data: bytes, how: dict[str, Any]) -> str:
     return "RabbitMQ 3.10.8 takes it" if "takes" in last else "not checked for RabbitMQ beyond the limits"
 
 
-def wanted(data: bytes, how: dict[str, Any]) -> dict[str, Any]:
+def json_of(found: Dissection) -> str:
+    """The JSON of a value, unless the keys of a table in it don't ascend, each once."""
+    is_sorted = not any("the key comes" in it.note for it in found.parts)
+    return printed.json_text(printed.read(found.data)[0]) if is_sorted else ""
+
+
+def wanted(data: bytes, how: dict[str, Any], has_canonical: bool, has_json: bool) -> dict[str, Any]:
     """What the page has to read of some bytes, by the model."""
     found = Dissection(data, "table" if how.get("isTable") else "value")
     said = printed.outcome(found)
@@ -45,6 +51,8 @@ def wanted(data: bytes, how: dict[str, Any]) -> dict[str, Any]:
         "failure": f"! {found.failed()}" if found.failure else "",
         "outcome": f"= {said}",
         "rabbitmq": "" if said.startswith("truncated") else rabbitmq(data, how),
+        "canonical": None if found.failure or not has_canonical else not any(it.note for it in found.parts),
+        "json": None if found.failure or not has_json else json_of(found),
     }
 
 
@@ -61,9 +69,10 @@ def batches(given: Iterable[bytes]) -> Iterator[list[bytes]]:
 def judge(browser: Browser, bits: int, given: Iterable[bytes], **how: Any) -> int:
     """Compares what the page reads of inputs with the model, and returns how many they were."""
     count = 0
+    calls = [browser.has(it, bits) for it in ("is_canonical", "write_json")]
     for batch in batches(given):
         for data, has in zip(batch, browser.read(batch, bits, **how), strict=True):
-            assert has == wanted(data, how), data[:300].hex()
+            assert has == wanted(data, how, *calls), data[:300].hex()
             count += 1
     return count
 

@@ -9,10 +9,11 @@ from collections.abc import Callable, Iterator
 from pathlib import Path
 
 import pytest
+from crates import TOP
 from selenium.webdriver.common.action_chains import ActionChains
 from selenium.webdriver.common.keys import Keys
 
-from tests.model.printed import field, nested
+from tests.model.printed import nested
 from tests.web.browser import Browser, opened
 from tests.web.stored import stored
 
@@ -153,7 +154,6 @@ def test_examples(browser: Browser) -> None:
 
 def test_many_rows_are_drawn_as_they_are_scrolled_to(browser: Browser) -> None:
     """Of a million Voids the last one is drawn at the end, and never more rows than are in sight."""
-    script = "amqp.put(Uint8Array.from([0x41, 0, 0xf, 0xff, 0xfb, ...new Uint8Array(0xffffb - 0).fill(0x56)].slice(0, 1 << 20)))"
     browser.run("const it = new Uint8Array(1 << 20).fill(0x56); it.set([0x41, 0, 0xf, 0xff, 0xfb]); amqp.put(it)")
     assert browser.text("outcome") == "a value of 1048576 bytes, 0 follow"
     press(browser, "tree", Keys.END)
@@ -181,15 +181,65 @@ def test_nothing_leaves_the_page(browser: Browser) -> None:
 
 
 def test_a_module_without_stack_is_made_anew(browser: Browser) -> None:
-    """Reading 200,000 levels ends it; the page then reads as before."""
+    """Reading 200,000 levels ends it. The page then makes it anew, and reads as before."""
     deep = "const n = 200000, it = new Uint8Array(5 * n), view = new DataView(it.buffer);"
     deep += "for (let at = 0; at < n; at++) { it[5 * at] = 0x41; view.setUint32(5 * at + 1, 5 * (n - at - 1)); }"
-    ends = f"{deep} try {{ amqp.read(amqp.modules[64], it, {{depth: n + 1}}); return 'read' }} catch (e) {{ return e.name }}"
-    assert browser.run(ends) in ("RuntimeError", "RangeError")
-    browser.run(f"{deep} amqp.put(it, '', n + 1)")
+    # (as the page reads, but without its bound of 1,000 levels)
+    script = f"""
+        {deep}
+        const module = amqp.modules[64], calls = {{...module.calls}}, {{amqpv_read}} = calls;
+        calls.amqpv_read = (at, length, frame, depth, ...more) => amqpv_read(at, length, frame, n + 1, ...more);
+        module.calls = calls;
+        amqp.put(it);
+    """
+    browser.run(script)
     assert "made anew" in browser.text("failure")
     browser.type(TABLE)
-    assert len(drawn(browser)) == 5
+    assert len(drawn(browser)) == 5 and browser.text("failure") == ""
+
+
+def test_each_module_says_what_it_is(browser: Browser) -> None:
+    """Both read the same; of the second the page says that a step isn't proved, and of each which calls it doesn't have."""
+    browser.type(TABLE)
+    before = drawn(browser)
+    assert "64-bit" in browser.text("module") and "isn't proved" not in browser.text("module")
+    browser.choose("bits", 32)
+    assert "32-bit" in browser.text("module") and "isn't proved" in browser.text("module")
+    assert drawn(browser) == before
+    for call in ("write_json", "is_canonical"):
+        assert (f"It has no amqpv_{call}." in browser.text("module")) != browser.has(call, 32)
+
+
+def test_a_dropped_file(browser: Browser) -> None:
+    """Is read as bytes, or if it is hexadecimal as that."""
+    script = """
+        const data = new DataTransfer(), given = arguments[0], it = given.bytes ? Uint8Array.from(given.bytes) : given.text;
+        data.items.add(new File([it], "a.bin"));
+        dispatchEvent(new DragEvent("drop", {dataTransfer: data, cancelable: true}));
+    """
+    for given in ({"bytes": [*bytes.fromhex(TABLE)]}, {"text": f"# a table\n{TABLE}"}):
+        browser.load()
+        browser.run(script, given)
+        browser.wait(lambda: len(drawn(browser)) == 5)
+        assert browser.run("return document.getElementById('text').value") == TABLE.replace(" ", "")
+
+
+def test_copies(browser: Browser) -> None:
+    """The buttons copy the bytes as hexadecimal, the tree as amqp_show prints it, and a link."""
+    browser.run("globalThis.said = []; navigator.clipboard.writeText = async (it) => { said.push(it) }")
+    browser.type("00000003016156")
+    browser.choose("form", "table")
+    for button in ("digits", "tree-text", "link"):
+        browser.run("document.getElementById(arguments[0]).click()", button)
+    digits, tree, link = browser.run("return said")
+    assert (digits, tree) == ("00000003016156", 'FieldTable\n  "a": Void') and link.endswith("#table:00000003016156")
+
+
+def test_modules_are_plain() -> None:
+    """Each has at most 400 lines of at most 120 columns."""
+    for path in (TOP / "bindings/web").glob("*.js"):
+        lines = path.read_text().splitlines()
+        assert len(lines) <= 400 and max(map(len, lines)) <= 120, path.name
 
 
 def test_depth(browser: Browser) -> None:
