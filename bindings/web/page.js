@@ -1,6 +1,6 @@
 // What is seen: the tree and the bytes, what is said of them, and what they are taken from.
 import { Module, OK, UNKNOWN_TAG } from "./module.js";
-import { KEY, isCounted, read } from "./reading.js";
+import { KEY, isContainer, isCounted, read } from "./reading.js";
 import { readHexadecimal } from "./hexadecimal.js";
 import { failure, hexadecimal, indentation, jsonText, keyText, outcome, rabbitmqText, repeats, rowParts, treeLines,
 } from "./words.js";
@@ -79,11 +79,12 @@ function drawRow(line) {
     return item;
 }
 
-// Which part of its row a byte is.
+// Which part of its row a byte is. (In a container those of no other row are what is malformed, or comes after that.)
 function partOf({ rows }, row, at) {
-    const value = rows.value[row];
-    return row < 0 ? "after" : at < value ? (at === rows.start[row] ? "length" : "key") : at === value ? "tag"
-        : at < value + 5 && isCounted(rows.tag[row]) ? "length" : "payload";
+    const value = rows.value[row], tag = rows.tag[row];
+    return row < 0 || isContainer(tag) && at >= value + 5 ? "after" : at < value
+        ? (at === rows.start[row] ? "length" : "key")
+        : at === value ? "tag" : isCounted(tag) && at < value + 5 ? "length" : "payload";
 }
 
 function drawBytes(line) {
@@ -109,12 +110,11 @@ function about() {
         const key = rows.flags[it] & KEY ? keyText(reading, it) : `${rows.index[it]}`;
         steps.unshift(/^"[a-z_]\w*"$/i.test(key) ? `.${key.slice(1, -1)}` : `[${key}]`);
     }
-    for (let from = Math.max(rows.start[row], shift), to = from; row >= 0 && from < rows.end[row]; from = to) {
-        const part = partOf(reading, row, from), isKey = from < rows.value[row];
-        // the end of the row, since a container's payload has parts of its own, or where another part begins
-        for (to++; to < rows.end[row] && part === partOf(reading, row, to) && part !== "payload"; to++);
-        to = part === "payload" ? rows.end[row] : to;
-        const name = part === "length" && isKey ? "key's length" : part === "tag" ? "type tag" : part;
+    const names = { length: "length", tag: "type tag", key: "key", payload: "payload", after: "payload" };
+    for (let from = Math.max(rows.start[row], shift), to; row >= 0 && from < rows.end[row]; from = to) {
+        const part = partOf(reading, row, from), isWhole = part === "payload" || part === "after";
+        for (to = from + 1; to < rows.end[row] && (isWhole || part === partOf(reading, row, to)); to++);
+        const name = part === "length" && from < rows.value[row] ? "key's length" : names[part];
         parts.push(`${name} at ${from - shift}${to > from + 1 ? ` to ${to - shift - 1}` : ""}`);
     }
     const value = row < 0 ? "" : rowParts(reading, row, 1000).slice(3).join("");
@@ -338,5 +338,5 @@ function start() {
 
 start();
 // For the console, and for tests.
-globalThis.amqp = { failure, hexadecimal, jsonText, modules, now, outcome, put, rabbitmqText, read, readHexadecimal,
-    repeats, treeLines };
+globalThis.amqp = { failure, hexadecimal, jsonText, modules, now, outcome, partOf, put, rabbitmqText, read,
+    readHexadecimal, repeats, treeLines };

@@ -4,8 +4,9 @@ import { ARRAY, CUT, KEY_CUT, MALFORMED, MORE, MOST, NOT_UTF8, OK, RABBITMQ, REA
 
 // Of a row: it has a key; it is cut; its key is; its key isn't UTF-8, or none of it has come; no payload is shown.
 export const KEY = 1, IS_CUT = 2, KEY_IS_CUT = 4, NO_KEY = 8, BARE = 16;
-const LONG_UINT = 105, SHORT_SHORT_UINT = 66, isContainer = (tag) => tag === ARRAY || tag === TABLE;
-// Whether a length is between the type tag and the payload.
+const LONG_UINT = 105, SHORT_SHORT_UINT = 66;
+// Whether entries are the payload, and whether a length is before it.
+export const isContainer = (tag) => tag === ARRAY || tag === TABLE;
 export const isCounted = (tag) => isContainer(tag) || tag === 83 || tag === 120;
 
 // Rows by columns. A row is a value with its key, if it has one, or a key without a value, whose type tag is 0.

@@ -11,8 +11,8 @@ from selenium.webdriver.chrome.service import Service
 from selenium.webdriver.support.ui import WebDriverWait
 
 DRIVER, CHROMIUM = "/usr/bin/chromedriver", "/usr/bin/chromium"
-# Reads inputs in the page, as it does itself: of each the lines of the tree, those of repeated keys, the failure, the outcome,
-# what RabbitMQ does and, of a value, if the module has these calls, whether it is canonical, and its JSON.
+# Reads inputs in the page, as it does itself: of each the lines of the tree, the first letter of the part that each byte is of,
+# unless there are many, the lines of repeated keys, the failure, the outcome, what RabbitMQ does and, of a value, if the module has these calls, whether it is canonical, and its JSON.
 READ = """
 const [inputs, how, bits] = arguments, {amqp} = globalThis;
 return inputs.map((digits) => {
@@ -20,6 +20,8 @@ return inputs.map((digits) => {
     const reading = amqp.read(amqp.modules[bits], bytes, how), failed = amqp.failure(reading);
     return {
         tree: amqp.treeLines(reading),
+        parts: bytes.length > 5000 ? "" : Array.from(reading.data, (_, at) =>
+            amqp.partOf(reading, reading.rows.at(at), at)[0]).join("").slice(reading.shift),
         repeats: amqp.repeats(reading, Infinity).map(([, line]) => `* ${line}`),
         failure: failed ? `! offset ${failed[0]}: ${failed[1]}` : "",
         outcome: `= ${amqp.outcome(reading)}`,

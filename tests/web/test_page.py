@@ -1,15 +1,15 @@
 """What the page reads, next to the stored cases of amqp_show and to the model."""
 
 import re
+import struct
 from collections.abc import Callable, Iterable, Iterator, Sequence
-from itertools import islice
 from random import Random
 from typing import Any
 
 import pytest
 
 from tests.model import printed
-from tests.model.printed import Dissection, captured, checked, inputs, nested, untagged
+from tests.model.printed import Dissection, checked, field, inputs, untagged
 from tests.model.tables import odd_table, random_table, raw
 from tests.web.browser import Browser
 from tests.web.stored import Stored, faults, stored
@@ -37,6 +37,14 @@ def json_of(found: Dissection) -> str:
     return printed.json_text(printed.read(found.data)[0]) if is_sorted else ""
 
 
+def parts_of(found: Dissection) -> str:
+    """The first letter of the part that each byte is of, or of `after`, which is of none."""
+    letters = ["a"] * len(found.data)
+    for it in found.parts:
+        letters[it.offset : it.offset + len(it.bytes)] = it.kind[-6 if it.kind == "key length" else 0] * len(it.bytes)
+    return "".join(letters)[found.left_out :]
+
+
 def wanted(data: bytes, how: dict[str, Any], has_canonical: bool, has_json: bool) -> dict[str, Any]:
     """What the page has to read of some bytes, by the model."""
     found = Dissection(data, "table" if how.get("isTable") else "value")
@@ -47,6 +55,7 @@ def wanted(data: bytes, how: dict[str, Any], has_canonical: bool, has_json: bool
         said = f"{follow[0]} bytes, {len(found.data) - found.end} follow"
     return {
         "tree": printed.tree(found.parts, False),
+        "parts": "" if len(data) > 5000 else parts_of(found),
         "repeats": [*printed.repeated(found)],
         "failure": f"! {found.failed()}" if found.failure else "",
         "outcome": f"= {said}",
@@ -83,6 +92,28 @@ def test_inputs_of_every_kind(browser: Browser, bits: int, record_property: Reco
     small = lambda given: [it for it in given if len(it) < 2**20]
     count = judge(browser, bits, small(inputs())) + judge(browser, bits, small(untagged()), isTable=True)
     record_property(f"inputs_{bits}", count)
+
+
+def odd_inputs() -> Iterator[bytes]:
+    """Lengths that no count has, strings with every character that is escaped and those next to them, and Floats."""
+    for length in range(2**32 - 8, 2**32):
+        for tag in b"SxAF":
+            value = bytes([tag]) + length.to_bytes(4, "big")
+            yield from (value, field(b"A", value), field(b"F", b"\1k" + value), field(b"F", b"\1k" + value)[:-1])
+    characters = "".join(map(chr, [*range(0x700), *range(0x1FF0, 0x2100), 0xFEFF, 0x1F407])).encode()
+    yield from (field(b"S", characters), field(b"S", characters + b"\xff"), field(b"x", bytes(range(256))))
+    for at in range(0, len(characters), 250):
+        key = characters[at : at + 250].decode(errors="ignore").encode()
+        yield field(b"F", bytes([len(key)]) + key + b"V" + b"\1\xe4V")
+    make = Random(7)
+    floats = (struct.pack(">I", make.getrandbits(32)) for _ in range(5000))
+    whole = (struct.pack(">f", float(make.randrange(2**28))) for _ in range(2000))
+    yield field(b"A", b"".join(b"f" + it for it in [*floats, *whole]))
+
+
+@BITS
+def test_odd_inputs(browser: Browser, bits: int, record_property: Recorder) -> None:
+    record_property(f"odd_inputs_{bits}", judge(browser, bits, odd_inputs()))
 
 
 @BITS
