@@ -56,7 +56,9 @@ class Browser:
 
     def type(self, text: str) -> None:
         """Types a text in place of what is there."""
-        script = "const it = document.getElementById('text'); it.value = arguments[0]; it.dispatchEvent(new Event('input'));"
+        script = (
+            "const it = document.getElementById('text'); it.value = arguments[0]; it.dispatchEvent(new Event('input'));"
+        )
         self.run(script, text)
 
     def choose(self, name: str, value: object) -> None:
@@ -65,7 +67,9 @@ class Browser:
 
     def text(self, name: str) -> str:
         """What an element says that is seen."""
-        return str(self.run("const it = document.getElementById(arguments[0]); return it.hidden ? '' : it.innerText", name))
+        return str(
+            self.run("const it = document.getElementById(arguments[0]); return it.hidden ? '' : it.innerText", name)
+        )
 
     def lines(self, name: str) -> list[str]:
         """The lines that are drawn in a box."""

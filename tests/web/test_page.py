@@ -86,11 +86,15 @@ def judge(browser: Browser, bits: int, given: Iterable[bytes], **how: Any) -> in
     return count
 
 
+def short(given: Iterable[bytes]) -> Iterator[bytes]:
+    """Those of less than 1 MiB."""
+    return (it for it in given if len(it) < 2**20)
+
+
 @BITS
 def test_inputs_of_every_kind(browser: Browser, bits: int, record_property: Recorder) -> None:
     """Those of tests/show, also tables without their type tag."""
-    small = lambda given: [it for it in given if len(it) < 2**20]
-    count = judge(browser, bits, small(inputs())) + judge(browser, bits, small(untagged()), isTable=True)
+    count = judge(browser, bits, short(inputs())) + judge(browser, bits, short(untagged()), isTable=True)
     record_property(f"inputs_{bits}", count)
 
 
@@ -171,9 +175,16 @@ def test_stored_cases(browser: Browser, bits: int, record_property: Recorder) ->
         data = bytes_of(browser, it)
         (has,) = browser.read([data], bits, **it.how)
         if it.is_check:
-            assert has["rabbitmq"] == of_check(it.wants) or has["failure"] and data == b"" or has["rabbitmq"] == "", it.name
+            assert (
+                has["rabbitmq"] == of_check(it.wants) or has["failure"] and data == b"" or has["rabbitmq"] == ""
+            ), it.name
             continue
-        lines = [*(has["tree"] if it.has_tree else []), *has["repeats"], *[has["failure"]] * bool(has["failure"]), has["outcome"]]
+        lines = [
+            *(has["tree"] if it.has_tree else []),
+            *has["repeats"],
+            *[has["failure"]] * bool(has["failure"]),
+            has["outcome"],
+        ]
         wants = [line for line in it.wants[:-1] if line != HINT] + [outcome_of(it.wants[-1], data)]
         assert lines == wants, it.name
     record_property(f"stored_{bits}", len(found))

@@ -316,9 +316,9 @@ def test_firefox_shows_it(page: Path, tmp_path: Path) -> None:
     """Its picture has what is drawn of tags, and of what is wrong, in the colours of these."""
     picture, profile = tmp_path / "page.png", tmp_path / "profile"
     profile.mkdir()
-    words = ["firefox-esr", "--headless", "--no-remote", "--profile", profile, "--window-size=1000,640", "--screenshot", picture]
+    words = ["firefox-esr", "--headless", "--no-remote", "--profile", str(profile), "--window-size=1000,640"]
+    words += ["--screenshot", str(picture), f"{page.as_uri()}#4600000003016149"]
     environment = {**os.environ, "HOME": str(tmp_path), "MOZ_CRASHREPORTER_DISABLE": "1"}
-    address = f"{page.as_uri()}#4600000003016149"
-    subprocess.run([*words, address], env=environment, capture_output=True, timeout=120, check=True)
+    subprocess.run(words, env=environment, capture_output=True, timeout=120, check=True)
     counts = Counter(pixels(picture))
     assert counts[bytes.fromhex("8250df")] > 50 and counts[bytes.fromhex("b3141f")] > 200, counts.most_common(9)
