@@ -13,16 +13,23 @@ COLOURS, NOTE = re.compile(r"\x1b\[\d*m"), re.compile(r" \(not canonical: [^)]*\
 PART = re.compile(r" *\d+  [0-9a-f]{2}")
 FAULT = re.compile(r'amqp_show: ".*?": (line \d+, column \d+: .*|the hexadecimal ends inside a byte)')
 WITH_WORD = ("--depth", "--max-bytes", "--frame", "--frame-max", "--check")
+# A failure as a message, and the last line of a value of a stream.
+MESSAGE = re.compile(
+    r'amqp_show: "(.*?)": (?:no value at (\d+): )?(offset \d+: .*); (refused, \w+|truncated; more bytes needed: \d+)'
+)
+IN_STREAM = re.compile(r"= (?:(a value of \d+ bytes) at (\d+)|no value at (\d+): (.*))")
 # What the page doesn't do, and cases in which amqp_show does nothing with its input.
-OTHERS = {"--encode", "--stream", "--raw", "--help", "--version", "--json", "--measure", "/dev/zero", "other", "1001"}
+OTHERS = {"--encode", "--raw", "--help", "--version", "/dev/zero", "other", "1001"}
 
 
 class Stored(NamedTuple):
-    """An input of a case: its text, if it is hexadecimal, or its bytes; settings; and what is said of it, line by line."""
+    """An input of a case: its text, if it is hexadecimal, or its bytes, of which some are skipped; settings; and what is said
+    of it, line by line, the last one only as far as it goes."""
 
     name: str
     text: str | None
     data: bytes
+    skipped: int
     how: dict[str, Any]
     wants: list[str]
     has_tree: bool
@@ -66,17 +73,38 @@ def faults() -> Iterator[tuple[str, str, str]]:
             yield name, case.given.decode(), fault[1] if fault else ""
 
 
+def blocks_of(lines: list[str]) -> Iterator[tuple[int, list[str]]]:
+    """What is said of each value of a file: at which offset that begins, and the lines."""
+    block: list[str] = []
+    for line in lines:
+        block.append(line)
+        if line[:2] == "= ":
+            found = IN_STREAM.fullmatch(line)
+            if found:
+                block[-1] = f"= {found[1] or found[4]}"
+            yield int(found[2] or found[3]) if found else 0, block
+            block = []
+
+
+def said_of(case: Case) -> Iterator[tuple[str, int, list[str]]]:
+    """What is said of each value of a case: its file, its offset, and the lines."""
+    for file, lines in printed_of(case).items():
+        for at, block in blocks_of([] if {"--json", "--measure"} & {*case.words} else lines):
+            yield file, at, block
+    for file, at, why, outcome in MESSAGE.findall(case.wants.error.decode()):
+        if at or "--stream" not in case.words:
+            yield file, int(at or 0), [f"! {why}", f"= {outcome}"]
+
+
 def stored() -> Iterator[Stored]:
-    """The inputs of the cases that show one value of each."""
+    """The values of the cases that show some, or say why there is none."""
     for name, case in cases(TOP / "tests/show").items():
-        words, printed = case.words, printed_of(case)
-        if OTHERS & {*words} or FAULT.search(case.wants.error.decode()):
+        words = case.words
+        # (the page shows no name of a file)
+        if OTHERS & {*words} or FAULT.search(case.wants.error.decode()) or "\x1b" in "".join(words):
             continue
-        for file in files_of(words):
-            if not printed.get(file):
-                continue
+        for file, at, wants in said_of(case):
             given = case.given if file == "-" else (DATA / file).read_bytes()
             text = given.decode() if "--hex" in words else None
-            has_tree = "--tree" in words or "--bytes" not in words
-            how = settings(words)
-            yield Stored(f"{name} {file}", text, given, how, printed[file], has_tree, "--check" in words)
+            has_tree = not {"--bytes", "--json", "--measure"} & {*words} or "--tree" in words
+            yield Stored(f"{name} {file} {at}", text, given, at, settings(words), wants, has_tree, "--check" in words)

@@ -155,16 +155,16 @@ def of_check(lines: Sequence[str]) -> str:
 
 def outcome_of(line: str, data: bytes) -> str:
     """The outcome as the page has it, which knows of all bytes that follow."""
-    found = re.fullmatch(r"(= a \w+ of (\d+) bytes, )at least \d+ follow", line)
-    return f"{found[1]}{len(data) - int(found[2])} follow" if found else line
+    found = re.fullmatch(r"(= a \w+ of (\d+) bytes)(?:, .*)?", line)
+    return f"{found[1]}, {len(data) - int(found[2])} follow" if found else line
 
 
 def bytes_of(browser: Browser, it: Stored) -> bytes:
     """The bytes of a stored case's input, by the page if they are hexadecimal."""
     if it.text is None:
-        return it.data
+        return it.data[it.skipped :]
     script = "const {bytes} = amqp.readHexadecimal(arguments[0]); return amqp.hexadecimal(bytes)"
-    return bytes.fromhex(browser.run(script, it.text))
+    return bytes.fromhex(browser.run(script, it.text))[it.skipped :]
 
 
 @BITS
