@@ -91,7 +91,7 @@ function drawBytes(line) {
     const { reading, reading: { rows, shift }, width, bytes } = now, at = line * width;
     const some = bytes.subarray(at, at + width), made = element("div", "line", ""), [wrong] = failure(reading) ?? [];
     const isOn = (offset) => rows.start[now.row] <= offset && offset < rows.end[now.row];
-    made.append(element("span", "offset", `${at}`.padStart(7) + "  "));
+    made.append(element("span", "offset", `${`${at}`.padStart(`${bytes.length}`.length)}  `));
     some.forEach((byte, it) => {
         const offset = at + it + shift, part = partOf(reading, rows.at(offset), offset);
         const marks = [isOn(offset) && "on", wrong === at + it && "wrong", now.byte === at + it && "here"];
@@ -99,7 +99,8 @@ function drawBytes(line) {
         made.append(element("span", kind, hexadecimal([byte]), { "data-at": at + it }), it % 8 === 7 ? "  " : " ");
     });
     const text = Array.from(some, (it) => (it > 31 && it < 127 ? String.fromCharCode(it) : "·")).join("");
-    made.append("   ".repeat(width - some.length), element("span", "offset", text));
+    const [has, all] = [some.length, width].map((count) => 3 * count + Math.floor(count / 8));
+    made.append(" ".repeat(all - has), element("span", "offset", text));
     return made;
 }
 

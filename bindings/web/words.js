@@ -160,25 +160,22 @@ export function rabbitmqText({ code, rabbitmq, shift }) {
 
 // Of each key that comes again in its table the last value's row and a line, ordered by table, then by key.
 export function repeats(reading, most = 200) {
-    const { rows, data, shift } = reading, slots = new Uint8Array(1 << 20), tables = new Map();
-    const isKeyed = (row) => rows.flags[row] & KEY && rows.tag[row];
-    const slotOf = (row) => {
-        let hash = rows.parent[row];
-        for (let at = rows.start[row] + 1; at < rows.value[row]; at++) {
-            hash = Math.imul(hash ^ data[at], 0x01000193);
-        }
-        return (hash ^ (hash >>> 12)) & 0xfffff;
-    };
-    for (let row = 1; row < rows.count; row++) {
-        if (isKeyed(row)) {
-            const slot = slotOf(row);
-            slots[slot] = slots[slot] ? 2 : 1;
+    const { data, shift, rows, rows: { count, flags, parent, start, tag, value } } = reading, tables = new Map();
+    // how many keys a slot has of a million, if none, one or more; only keys that share one are compared
+    const slots = new Uint8Array(1 << 20), slotOf = new Int32Array(count).fill(-1);
+    for (let row = 1; row < count; row++) {
+        if (flags[row] & KEY && tag[row]) {
+            let hash = parent[row];
+            for (let at = start[row] + 1; at < value[row]; at++) {
+                hash = Math.imul(hash ^ data[at], 0x01000193);
+            }
+            slotOf[row] = (hash ^ (hash >>> 12)) & 0xfffff;
+            slots[slotOf[row]] = slots[slotOf[row]] ? 2 : 1;
         }
     }
-    // only keys that share a slot are compared
-    for (let row = 1; row < rows.count; row++) {
-        if (isKeyed(row) && slots[slotOf(row)] > 1) {
-            const table = rows.parent[row], key = String.fromCharCode(...keyBytes(reading, row));
+    for (let row = 1; row < count; row++) {
+        if (slotOf[row] >= 0 && slots[slotOf[row]] > 1) {
+            const table = parent[row], key = String.fromCharCode(...keyBytes(reading, row));
             const keys = tables.get(table) ?? new Map(), found = keys.get(key) ?? [];
             found.push(row);
             tables.set(table, keys.set(key, found));

@@ -80,6 +80,11 @@ class Browser:
         """Waits until something is so."""
         WebDriverWait(self.driver, 20).until(lambda _: is_so())
 
+    def thread_time(self) -> float:
+        """How many seconds the page's thread has had of a processor."""
+        metrics = self.driver.execute_cdp_cmd("Performance.getMetrics", {})["metrics"]
+        return float(next(it["value"] for it in metrics if it["name"] == "ThreadTime"))
+
     def requests(self) -> list[str]:
         """What was asked of a network, a file or anything else since this was asked last."""
         entries = [json.loads(it["message"])["message"] for it in self.driver.get_log("performance")]
@@ -99,6 +104,7 @@ def opened(page: Path, width: int = 1200, height: int = 2400, is_dark: bool = Fa
     driver = webdriver.Chrome(service=Service(DRIVER), options=options)
     try:
         browser = Browser(driver, page)
+        driver.execute_cdp_cmd("Performance.enable", {"timeDomain": "threadTicks"})
         browser.load()
         yield browser
     finally:

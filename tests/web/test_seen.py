@@ -251,36 +251,47 @@ def test_depth(browser: Browser) -> None:
     assert "nest deeper" in browser.text("failure")
 
 
-# Reads a mebibyte of pairs with ascending keys, with others, and of Voids, some times, and returns the fewest milliseconds of each.
-TIMES = """
-    const size = 1 << 20, voids = new Uint8Array(size).fill(0x56), module = amqp.modules[arguments[0]];
-    voids.set([0x41, 0, 0xf, 0xff, 0xfb]);
-    const pairs = (fill) => {
-        const bytes = new Uint8Array(size), view = new DataView(bytes.buffer);
-        let at = 5;
-        for (let it = 0; at + 16 <= size; it++, at += 16) {
-            bytes.set([10, ...new TextEncoder().encode(`${it}`.padStart(10, fill)), 0x49, 0, 0, 0, 7], at);
-        }
-        bytes[0] = 0x46;
-        view.setUint32(1, at - 5);
-        return bytes.subarray(0, at);
-    };
-    const least = (bytes, count) => Math.min(...Array.from({length: count}, () => {
-        const begun = performance.now(), reading = amqp.read(module, bytes);
+# Reads a mebibyte of pairs with keys that ascend, of others, or of Voids, as many times as are asked for, and draws nothing.
+READS = """
+    const [bits, kind, count] = arguments, bytes = new Uint8Array(1 << 20).fill(0x56), view = new DataView(bytes.buffer);
+    let at = 5;
+    for (let it = 0; kind && at + 16 <= bytes.length; it++, at += 16) {
+        bytes.set([10, ...new TextEncoder().encode(`${it}`.padStart(10, kind)), 0x49, 0, 0, 0, 7], at);
+    }
+    const end = kind ? at : bytes.length;
+    bytes[0] = kind ? 0x46 : 0x41;
+    view.setUint32(1, end - 5);
+    for (let it = 0; it < count; it++) {
+        const reading = amqp.read(amqp.modules[bits], bytes.subarray(0, end));
         amqp.repeats(reading);
         amqp.rabbitmqText(reading);
-        return performance.now() - begun;
-    }));
-    return [least(pairs("0"), 20), least(pairs("k"), 20), least(voids, 5)];
+    }
 """
 
 
+def milliseconds(browser: Browser, bits: int, kind: str, most: float) -> float:
+    """What a reading takes of its thread's time. While that is more than the most it may be, the browser may still compile."""
+
+    def taken(readings: int) -> float:
+        begun = browser.thread_time()
+        browser.run(READS, bits, kind, readings)
+        return browser.thread_time() - begun
+
+    none, least = taken(0), float("inf")
+    for _ in range(20):
+        least = min(least, (taken(5) - none) * 1000 / 5)
+        if least <= most:
+            break
+    return least
+
+
 @pytest.mark.parametrize("bits", (64, 32))
-def test_times(browser: Browser, bits: int, record_property: Recorder) -> None:
+def test_times(browser: Browser, bits: int) -> None:
     """Without drawing, 1 MiB of pairs takes at most 50 ms, and of Voids 500."""
-    ascending, others, voids = browser.run(TIMES, bits)
-    print(f"\n{bits} bits: pairs {ascending:.1f} and {others:.1f} ms, Voids {voids:.0f} ms")
-    assert max(ascending, others) <= 50 and voids <= 500
+    for kind, most in (("0", 50), ("k", 50), ("", 500)):
+        least = milliseconds(browser, bits, kind, most)
+        print(f"\n{bits} bits: {least:.1f} ms of 1 MiB of {f'pairs filled by {kind}' if kind else 'Voids'}")
+        assert least <= most
 
 
 def pixels(path: Path) -> Iterator[bytes]:
