@@ -277,7 +277,7 @@ def milliseconds(browser: Browser, bits: int, kind: str, most: float) -> float:
         browser.run(READS, bits, kind, readings)
         return browser.thread_time() - begun
 
-    none, least = taken(0), float("inf")
+    none, least = min(taken(0) for _ in range(5)), float("inf")
     for _ in range(20):
         least = min(least, (taken(5) - none) * 1000 / 5)
         if least <= most:
