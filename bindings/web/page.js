@@ -1,5 +1,5 @@
 // What is seen: the tree and the bytes, what is said of them, and what they are taken from.
-import { Module, OK, UNKNOWN_TAG } from "./module.js";
+import { MOST, Module, OK, UNKNOWN_TAG } from "./module.js";
 import { KEY, isContainer, isCounted, read } from "./reading.js";
 import { readHexadecimal } from "./hexadecimal.js";
 import { failure, hexadecimal, indentation, jsonText, keyText, outcome, rabbitmqText, repeats, rowParts, treeLines,
@@ -158,8 +158,8 @@ function toggle(row) {
 // Reads the bytes, and shows what was read. What is no value, as a whole, may be a table without its type tag.
 function show() {
     const module = modules[$("bits").value], form = $("form").value, begun = performance.now();
-    const [frame, depth] = ["frame", "depth"].map((id) => Number($(id).value)), isTable = form === "table";
-    const how = { frame, depth: Math.min(MOST_LEVELS, depth), isTable };
+    const limit = (id, most) => Math.max(0, Math.min(most, Math.trunc(Number($(id).value))));
+    const how = { frame: limit("frame", MOST), depth: limit("depth", MOST_LEVELS), isTable: form === "table" };
     try {
         now.reading = read(module, now.bytes, how);
         now.isTable = false;
@@ -304,7 +304,10 @@ function start() {
     const on = (id, kind, act) => (id ? $(id) : window).addEventListener(kind, act);
     on("text", "input", type);
     ["form", "depth", "frame", "bits"].forEach((id) => on(id, "change", show));
-    on("examples", "change", ({ target }) => target.value && put(readHexadecimal(target.value).bytes));
+    on("examples", "change", ({ target }) => {
+        $("form").value = "any";
+        put(readHexadecimal(target.value).bytes);
+    });
     on("link", "click", copyLink);
     on("digits", "click", () => copy("hexadecimal", hexadecimal(now.bytes)));
     on("json", "click", () => copy("JSON", now.json));

@@ -14,6 +14,7 @@ from selenium.webdriver.common.action_chains import ActionChains
 from selenium.webdriver.common.keys import Keys
 
 from tests.model.printed import nested
+from tests.model.tables import EVERY_TYPE, raw
 from tests.web.browser import Browser, opened
 from tests.web.stored import stored
 
@@ -242,13 +243,43 @@ def test_modules_are_plain() -> None:
         assert len(lines) <= 400 and max(map(len, lines)) <= 120, path.name
 
 
-def test_depth(browser: Browser) -> None:
-    """At most 1,000 levels are read, whatever is asked for."""
+def test_limits(browser: Browser) -> None:
+    """At most 1,000 levels are read, whatever is asked for, and no number is below 0."""
     browser.choose("depth", 5000)
     browser.type(nested("A", 1000, b"").hex())
     assert browser.text("outcome").startswith("a value of")
     browser.type(nested("A", 1001, b"").hex())
     assert "nest deeper" in browser.text("failure")
+    browser.choose("depth", -1)
+    browser.type("4100000000")
+    assert browser.text("failure") == "offset 0: containers nest deeper than --depth allows"
+    browser.choose("frame", -1)
+    assert browser.text("failure") == "offset 0: the value has more bytes than --max-bytes allows"
+
+
+@pytest.mark.parametrize("width", (360, 1600))
+def test_widths(browser: Browser, width: int) -> None:
+    """Only the panes scroll sideways, not the page."""
+    size = {"width": width, "height": 900, "deviceScaleFactor": 1, "mobile": False}
+    browser.driver.execute_cdp_cmd("Emulation.setDeviceMetricsOverride", size)
+    try:
+        browser.load(f"#{raw(EVERY_TYPE).hex()}")
+        assert len(drawn(browser)) > 5
+        assert browser.run("return document.documentElement.scrollWidth") <= width
+    finally:
+        browser.driver.execute_cdp_cmd("Emulation.clearDeviceMetricsOverride", {})
+
+
+def test_a_browser_without_64_bit_addresses(page: Path, tmp_path: Path) -> None:
+    """It reads by the second module. (Here the first one is no module.)"""
+    text = page.read_text()
+    begin = text.index('id="wasm64">') + len('id="wasm64">')
+    other = tmp_path / "other.html"
+    other.write_text(f"{text[:begin]}AAAA{text[text.index('<', begin) :]}")
+    with opened(other) as browser:
+        browser.type(TABLE)
+        assert len(drawn(browser)) == 5 and "32-bit" in browser.text("module")
+        assert browser.run("return document.querySelector('#bits [value=\"64\"]').disabled")
 
 
 # Reads a mebibyte of pairs with keys that ascend, of others, or of Voids, as many times as are asked for, and draws nothing.
