@@ -55,7 +55,8 @@ class Lines {
     reveal(line) {
         const { clientHeight: seen, scrollTop: top } = this.box, at = line * HEIGHT, from = top * this.faster;
         if (at < from || at + HEIGHT > from + seen) {
-            this.box.scrollTop = Math.ceil((at < from ? at : at + HEIGHT - seen) / this.faster);
+            const above = Math.ceil((at + HEIGHT - seen) / this.faster);
+            this.box.scrollTop = at < from ? Math.floor(at / this.faster) : above;
         }
         this.show();
     }
@@ -299,6 +300,10 @@ function start() {
         } catch {
             option.disabled = true;
         }
+    }
+    if (!modules[64] && !modules[32]) {
+        $("outcome").textContent = "This browser has no WebAssembly, by which the page reads.";
+        return;
     }
     $("bits").value = modules[64] ? 64 : 32;
     const on = (id, kind, act) => (id ? $(id) : window).addEventListener(kind, act);
