@@ -108,3 +108,16 @@ def stored() -> Iterator[Stored]:
             text = given.decode() if "--hex" in words else None
             has_tree = not {"--bytes", "--json", "--measure"} & {*words} or "--tree" in words
             yield Stored(f"{name} {file} {at}", text, given, at, settings(words), wants, has_tree, "--check" in words)
+
+
+def stored_json() -> Iterator[tuple[str, str | None, bytes, dict[str, Any], str]]:
+    """The values whose JSON cases print: a name, the text if it is hexadecimal, the bytes, settings, and the JSON."""
+    for name, case in cases(TOP / "tests/show").items():
+        words, lines = case.words, case.wants.out.decode().splitlines()
+        if "--json" not in words or OTHERS & {*words} or {"--stream", "--max-bytes"} & {*words} or case.output.value:
+            continue
+        failed = {file for file, _, _, _ in MESSAGE.findall(case.wants.error.decode())}
+        files = [it for it in files_of(words) if it not in failed and (it == "-" or (DATA / it).is_file())]
+        for file, line in zip(files, lines):
+            given = case.given if file == "-" else (DATA / file).read_bytes()
+            yield f"{name} {file}", given.decode() if "--hex" in words else None, given, settings(words), line

@@ -12,7 +12,7 @@ from tests.model import printed
 from tests.model.printed import Dissection, checked, field, inputs, untagged
 from tests.model.tables import odd_table, random_table, raw
 from tests.web.browser import Browser
-from tests.web.stored import Stored, faults, stored
+from tests.web.stored import faults, stored, stored_json
 
 BITS = pytest.mark.parametrize("bits", (64, 32))
 Recorder = Callable[[str, object], None]
@@ -159,12 +159,12 @@ def outcome_of(line: str, data: bytes) -> str:
     return f"{found[1]}, {len(data) - int(found[2])} follow" if found else line
 
 
-def bytes_of(browser: Browser, it: Stored) -> bytes:
+def bytes_of(browser: Browser, text: str | None, data: bytes) -> bytes:
     """The bytes of a stored case's input, by the page if they are hexadecimal."""
-    if it.text is None:
-        return it.data[it.skipped :]
+    if text is None:
+        return data
     script = "const {bytes} = amqp.readHexadecimal(arguments[0]); return amqp.hexadecimal(bytes)"
-    return bytes.fromhex(browser.run(script, it.text))[it.skipped :]
+    return bytes.fromhex(browser.run(script, text))
 
 
 @BITS
@@ -172,7 +172,7 @@ def test_stored_cases(browser: Browser, bits: int, record_property: Recorder) ->
     """Of each case of tests/show that shows a value the same tree, repeated keys, failure and outcome."""
     found = [*stored()]
     for it in found:
-        data = bytes_of(browser, it)
+        data = bytes_of(browser, it.text, it.data)[it.skipped :]
         (has,) = browser.read([data], bits, **it.how)
         if it.is_check:
             assert (
@@ -188,6 +188,19 @@ def test_stored_cases(browser: Browser, bits: int, record_property: Recorder) ->
         wants = [line for line in it.wants[:-1] if line != HINT] + [outcome_of(it.wants[-1], data)]
         assert lines == wants, it.name
     record_property(f"stored_{bits}", len(found))
+
+
+@BITS
+def test_stored_json(browser: Browser, bits: int, record_property: Recorder) -> None:
+    """Of each case of tests/show that prints JSON the same, unless keys don't ascend; if there is a call that writes it."""
+    found = [*stored_json()]
+    for name, text, given, how, line in found:
+        data = bytes_of(browser, text, given)
+        (has,) = browser.read([data], bits, **how)
+        found_of = Dissection(data, "table" if how["isTable"] else "value")
+        wants = (line if json_of(found_of) else "") if browser.has("write_json", bits) else None
+        assert has["json"] == wants, name
+    record_property(f"json_{bits}", len(found))
 
 
 def test_hexadecimal(browser: Browser, record_property: Recorder) -> None:
