@@ -26,6 +26,10 @@ check:
 rust: all
 	install -D -m 644 $(FOLDER)/lib/libamqp_values.a bindings/rust/amqp-values-sys/lib/$(TARGET)/libamqp_values.a
 
+# the page that shows a field table, out/web/amqp.html
+web:
+	.ci/web
+
 # a release for both processors, and packages of Debian for x86-64
 dist: all $(OF_AARCH64)/checksums
 	.ci/pack "$(FOLDER)" "$(OF_AARCH64)"
@@ -39,6 +43,6 @@ wheel: all $(OF_AARCH64)/checksums
 	python3 .ci/wheels.py out/wheel "$(FOLDER)" "$(OF_AARCH64)"
 
 clean:
-	rm -rf out/dist out/aarch64 out/packed out/deb out/wheel
+	rm -rf out/dist out/aarch64 out/packed out/deb out/wheel out/web
 
-.PHONY: check rust dist deb wheel clean
+.PHONY: check rust web dist deb wheel clean

@@ -38,6 +38,7 @@ NEEDS: dict[str, tuple[str, ...]] = {
         *("cmake", "dpkg-gensymbols", "lintian", "man", "mandoc", "/usr/include/amqp.h"),
     ),
     "counts": ("valgrind",),
+    "web": (PYTHON, "wasm-opt", "chromium", "chromedriver", "firefox-esr"),
     "rust": (),
     "crate": (),
     "broker": (f"{BIN}/rabbitmq-server", "epmd", "amqp-publish", "php", PYTHON),
@@ -51,6 +52,7 @@ MODULES = {
     "style": PYTEST,
     "model": PYTEST,
     "python": (*PYTEST, "pip", "setuptools", "wheel"),
+    "web": (*PYTEST, "selenium"),
     "broker": (*PYTEST, "pika", "amqp", "kombu", "celery", "pamqp", "aiormq", "aio_pika"),
 }
 TABLES = {"run": 500, "whole": 10000}
@@ -173,6 +175,7 @@ def commands(asked: Asked, copy: Path) -> dict[str, list[object]]:
         "c": [of_copy / "c/run", "--built", *["--root"] * asked.is_whole()],
         "python": [of_copy / "python/run", "--built", *random],
         "counts": [of_copy / "counts/run", "--built"],
+        "web": [of_copy / "web/run", "--built", *random],
         "rust": [of_copy / "rust/run", "--built"],
         "crate": [of_copy / "oracle/run"],
         "broker": [of_copy / "rabbitmq/run", "--built", "--tables", TABLES[asked.name]],

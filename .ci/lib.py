@@ -28,8 +28,8 @@ TEST_CRATES = ("test_codec",)
 # The crates of the calls for C: those that don't allocate, and those that do.
 CALLS_FOR_C = ("amqp_c", "amqp_c_alloc")
 # What these are compiled for: a target, and the processor, of each target the one whose code every other runs.
-X86_64, AARCH64 = "x86_64-unknown-linux-gnu", "aarch64-unknown-linux-gnu"
-TARGETS = {X86_64: "x86-64", AARCH64: "generic"}
+X86_64, AARCH64, WASM64 = "x86_64-unknown-linux-gnu", "aarch64-unknown-linux-gnu", "wasm64-unknown-unknown"
+TARGETS = {X86_64: "x86-64", AARCH64: "generic", WASM64: "lime1"}
 # What compiles and links C for each, and makes archives.
 COMPILERS = {X86_64: ("cc", "ar"), AARCH64: ("aarch64-linux-gnu-gcc", "aarch64-linux-gnu-ar")}
 # What those that allocate ask for, over malloc, realloc and free.

@@ -1,0 +1,34 @@
+"""The page, and a browser with it."""
+
+import subprocess
+import sys
+from collections.abc import Iterator
+from pathlib import Path
+
+import pytest
+from crates import TOP
+
+from tests.web.browser import Browser, opened
+
+
+def pytest_addoption(parser: pytest.Parser) -> None:
+    parser.addoption("--page", type=Path, metavar="PATH", help="the page, which is made otherwise")
+
+
+@pytest.fixture(scope="session")
+def page(request: pytest.FixtureRequest, tmp_path_factory: pytest.TempPathFactory) -> Path:
+    """The page's path."""
+    path: Path | None = request.config.getoption("--page")
+    if path is None:
+        path = tmp_path_factory.mktemp("page") / "amqp.html"
+        words = ["--built"] * bool(request.config.getoption("--built"))
+        done = subprocess.run([TOP / ".ci/web", *words, path], capture_output=True, text=True)
+        assert done.returncode == 0, done.stderr + done.stdout
+    return path.resolve()
+
+
+@pytest.fixture(scope="session")
+def browser(page: Path) -> Iterator[Browser]:
+    """A browser with the page."""
+    with opened(page) as it:
+        yield it

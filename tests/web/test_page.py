@@ -1,0 +1,212 @@
+"""What the page reads, next to the stored cases of amqp_show and to the model."""
+
+import re
+import struct
+from collections.abc import Callable, Iterable, Iterator, Sequence
+from random import Random
+from typing import Any
+
+import pytest
+
+from tests.model import printed
+from tests.model.printed import Dissection, checked, field, inputs, untagged
+from tests.model.tables import odd_table, random_table, raw
+from tests.web.browser import Browser
+from tests.web.stored import faults, stored, stored_json
+
+BITS = pytest.mark.parametrize("bits", (64, 32))
+Recorder = Callable[[str, object], None]
+HINT = "! the input is a table without its type tag; --table reads it"
+COUNT = 2000
+# How many bytes are given to the page at once.
+BATCH = 2**21
+
+
+def rabbitmq(data: bytes, how: dict[str, Any]) -> str:
+    """What the page says of RabbitMQ, by the model."""
+    text = checked(data, "table" if how.get("isTable") else "value")[0]
+    *lines, last = [it for it in text.splitlines() if it[0] != "*"]
+    if "closes" in last:
+        return f"{last[2:]}: {lines[0][2:]}"
+    return "RabbitMQ 3.10.8 takes it" if "takes" in last else "not checked for RabbitMQ beyond the limits"
+
+
+def json_of(found: Dissection) -> str:
+    """The JSON of a value, unless the keys of a table in it don't ascend, each once."""
+    is_sorted = not any("the key comes" in it.note for it in found.parts)
+    return printed.json_text(printed.read(found.data)[0]) if is_sorted else ""
+
+
+def parts_of(found: Dissection) -> str:
+    """The first letter of the part that each byte is of, or of `after`, which is of none."""
+    letters = ["a"] * len(found.data)
+    for it in found.parts:
+        letters[it.offset : it.offset + len(it.bytes)] = it.kind[-6 if it.kind == "key length" else 0] * len(it.bytes)
+    return "".join(letters)[found.left_out :]
+
+
+def wanted(data: bytes, how: dict[str, Any], has_canonical: bool, has_json: bool) -> dict[str, Any]:
+    """What the page has to read of some bytes, by the model."""
+    found = Dissection(data, "table" if how.get("isTable") else "value")
+    said = printed.outcome(found)
+    # (the page has all bytes)
+    follow = said.partition(" bytes, at least ")
+    if follow[1]:
+        said = f"{follow[0]} bytes, {len(found.data) - found.end} follow"
+    return {
+        "tree": printed.tree(found.parts, False),
+        "parts": "" if len(data) > 5000 else parts_of(found),
+        "repeats": [*printed.repeated(found)],
+        "failure": f"! {found.failed()}" if found.failure else "",
+        "outcome": f"= {said}",
+        "rabbitmq": "" if said.startswith("truncated") else rabbitmq(data, how),
+        "canonical": None if found.failure or not has_canonical else not any(it.note for it in found.parts),
+        "json": None if found.failure or not has_json else json_of(found),
+    }
+
+
+def batches(given: Iterable[bytes]) -> Iterator[list[bytes]]:
+    batch: list[bytes] = []
+    for it in given:
+        batch.append(it)
+        if sum(map(len, batch)) > BATCH or len(batch) == 500:
+            yield batch
+            batch = []
+    yield batch
+
+
+def judge(browser: Browser, bits: int, given: Iterable[bytes], **how: Any) -> int:
+    """Compares what the page reads of inputs with the model, and returns how many they were."""
+    count = 0
+    calls = [browser.has(it, bits) for it in ("is_canonical", "write_json")]
+    for batch in batches(given):
+        for data, has in zip(batch, browser.read(batch, bits, **how), strict=True):
+            assert has == wanted(data, how, *calls), data[:300].hex()
+            count += 1
+    return count
+
+
+def short(given: Iterable[bytes]) -> Iterator[bytes]:
+    """Those of less than 1 MiB."""
+    return (it for it in given if len(it) < 2**20)
+
+
+@BITS
+def test_inputs_of_every_kind(browser: Browser, bits: int, record_property: Recorder) -> None:
+    """Those of tests/show, also tables without their type tag."""
+    count = judge(browser, bits, short(inputs())) + judge(browser, bits, short(untagged()), isTable=True)
+    record_property(f"inputs_{bits}", count)
+
+
+def odd_inputs() -> Iterator[bytes]:
+    """Lengths that no count has, strings with every character that is escaped and those next to them, and Floats."""
+    for length in range(2**32 - 8, 2**32):
+        for tag in b"SxAF":
+            value = bytes([tag]) + length.to_bytes(4, "big")
+            yield from (value, field(b"A", value), field(b"F", b"\1k" + value), field(b"F", b"\1k" + value)[:-1])
+    characters = "".join(map(chr, [*range(0x700), *range(0x1FF0, 0x2100), 0xFEFF, 0x1F407])).encode()
+    yield from (field(b"S", characters), field(b"S", characters + b"\xff"), field(b"x", bytes(range(256))))
+    for at in range(0, len(characters), 250):
+        key = characters[at : at + 250].decode(errors="ignore").encode()
+        yield field(b"F", bytes([len(key)]) + key + b"V" + b"\1\xe4V")
+    make = Random(7)
+    floats = (struct.pack(">I", make.getrandbits(32)) for _ in range(5000))
+    whole = (struct.pack(">f", float(make.randrange(2**28))) for _ in range(2000))
+    yield field(b"A", b"".join(b"f" + it for it in [*floats, *whole]))
+
+
+@BITS
+def test_odd_inputs(browser: Browser, bits: int, record_property: Recorder) -> None:
+    record_property(f"odd_inputs_{bits}", judge(browser, bits, odd_inputs()))
+
+
+@BITS
+def test_random_tables(browser: Browser, bits: int, seed: int, record_property: Recorder) -> None:
+    make = Random(seed)
+    tables = [raw(random_table(make)) if at % 2 else odd_table(make) for at in range(COUNT)]
+    record_property(f"tables_{bits}", judge(browser, bits, tables))
+
+
+@BITS
+def test_prefixes(browser: Browser, bits: int, record_property: Recorder) -> None:
+    """Every prefix of three tables that were captured, with their type tag and without it."""
+    names = dict(captured_by_name())
+    count = 0
+    for name in ("x-death after 2", "server-properties", "federation"):
+        prefixes = [names[name][:size] for size in range(len(names[name]))]
+        count += judge(browser, bits, prefixes) + judge(browser, bits, [it[1:] for it in prefixes[1:]], isTable=True)
+    record_property(f"prefixes_{bits}", count)
+
+
+def captured_by_name() -> Iterator[tuple[str, bytes]]:
+    for line in printed.CAPTURED.read_text().splitlines():
+        name, _, digits = line.rpartition(": ")
+        if digits and not line.startswith("#"):
+            yield name, bytes.fromhex(digits)
+
+
+def of_check(lines: Sequence[str]) -> str:
+    """What the page says of RabbitMQ where amqp_show prints these lines."""
+    *before, last = [it for it in lines if it[0] != "*"]
+    if "closes" in last:
+        return f"{last[2:]}: {before[0][2:]}"
+    return "RabbitMQ 3.10.8 takes it" if "takes" in last else "not checked for RabbitMQ beyond the limits"
+
+
+def outcome_of(line: str, data: bytes) -> str:
+    """The outcome as the page has it, which knows of all bytes that follow."""
+    found = re.fullmatch(r"(= a \w+ of (\d+) bytes)(?:, .*)?", line)
+    return f"{found[1]}, {len(data) - int(found[2])} follow" if found else line
+
+
+def bytes_of(browser: Browser, text: str | None, data: bytes) -> bytes:
+    """The bytes of a stored case's input, by the page if they are hexadecimal."""
+    if text is None:
+        return data
+    script = "const {bytes} = amqp.readHexadecimal(arguments[0]); return amqp.hexadecimal(bytes)"
+    return bytes.fromhex(browser.run(script, text))
+
+
+@BITS
+def test_stored_cases(browser: Browser, bits: int, record_property: Recorder) -> None:
+    """Of each case of tests/show that shows a value the same tree, repeated keys, failure and outcome."""
+    found = [*stored()]
+    for it in found:
+        data = bytes_of(browser, it.text, it.data)[it.skipped :]
+        (has,) = browser.read([data], bits, **it.how)
+        if it.is_check:
+            assert (
+                has["rabbitmq"] == of_check(it.wants) or has["failure"] and data == b"" or has["rabbitmq"] == ""
+            ), it.name
+            continue
+        lines = [
+            *(has["tree"] if it.has_tree else []),
+            *has["repeats"],
+            *[has["failure"]] * bool(has["failure"]),
+            has["outcome"],
+        ]
+        wants = [line for line in it.wants[:-1] if line != HINT] + [outcome_of(it.wants[-1], data)]
+        assert lines == wants, it.name
+    record_property(f"stored_{bits}", len(found))
+
+
+@BITS
+def test_stored_json(browser: Browser, bits: int, record_property: Recorder) -> None:
+    """Of each case of tests/show that prints JSON the same, unless keys don't ascend; if there is a call that writes it."""
+    found = [*stored_json()]
+    for name, text, given, how, line in found:
+        data = bytes_of(browser, text, given)
+        (has,) = browser.read([data], bits, **how)
+        found_of = Dissection(data, "table" if how["isTable"] else "value")
+        wants = (line if json_of(found_of) else "") if browser.has("write_json", bits) else None
+        assert has["json"] == wants, name
+    record_property(f"json_{bits}", len(found))
+
+
+def test_hexadecimal(browser: Browser, record_property: Recorder) -> None:
+    """Of each case of tests/show that reads hexadecimal the same bytes, or the same words at the same place."""
+    found = [*faults()]
+    for name, text, fault in found:
+        has = browser.run("const {bytes, fault} = amqp.readHexadecimal(arguments[0]); return fault ?? ''", text)
+        assert has == fault, name
+    record_property("hexadecimal", len(found))

@@ -1,0 +1,366 @@
+"""What is seen of the page, and how it is used."""
+
+import os
+import struct
+import subprocess
+import zlib
+from collections import Counter
+from collections.abc import Callable, Iterator
+from pathlib import Path
+
+import pytest
+from crates import TOP
+from selenium.webdriver.common.action_chains import ActionChains
+from selenium.webdriver.common.keys import Keys
+
+from tests.model.printed import nested
+from tests.model.tables import EVERY_TYPE, raw
+from tests.web.browser import Browser, opened
+from tests.web.stored import stored
+
+Recorder = Callable[[str, object], None]
+TWISTS = str.maketrans("", "", "▸▾")
+# A table with a number, an array with a string in it, and a number after that: where each pair and each part begins.
+TABLE = "46 00000017 01 61 49 00000005 01 62 41 00000006 53 00000001 78 01 63 56"
+
+
+@pytest.fixture(autouse=True)
+def anew(browser: Browser) -> None:
+    browser.load()
+
+
+def drawn(browser: Browser) -> list[str]:
+    """The lines of the tree that are drawn."""
+    return [it.translate(TWISTS) for it in browser.lines("tree")]
+
+
+def marked(browser: Browser) -> tuple[list[str], str]:
+    """The rows that are marked, and the digits of the bytes that are."""
+    script = """
+        const texts = (query) => [...document.querySelectorAll(query)].map((it) => it.textContent);
+        return [texts("#tree .line.on"), texts("#bytes [data-at].on").join("")];
+    """
+    rows, digits = browser.run(script)
+    return [it.strip().translate(TWISTS) for it in rows], digits
+
+
+def point(browser: Browser, query: str) -> None:
+    """Moves the pointer to an element."""
+    found = browser.driver.find_element("css selector", query)
+    ActionChains(browser.driver).move_to_element(found).perform()
+
+
+def press(browser: Browser, box: str, *keys: str) -> None:
+    """Presses keys in a box."""
+    browser.run("document.getElementById(arguments[0]).focus()", box)
+    ActionChains(browser.driver).send_keys(*keys).perform()
+
+
+def test_stored_cases_are_drawn(browser: Browser) -> None:
+    """Of each case of tests/show that prints a tree the page draws its lines, and says what is wrong."""
+    for it in stored():
+        if it.is_check or not it.has_tree or it.skipped or len(it.data) > 10000:
+            continue
+        browser.choose("form", "table" if it.how["isTable"] else "value")
+        browser.choose("depth", it.how.get("depth", 64))
+        browser.choose("frame", it.how.get("frame", 2**20))
+        browser.type(it.text if it.text is not None else it.data.hex())
+        wants = [line for line in it.wants if line[0] not in "!*="]
+        assert drawn(browser) == wants, it.name
+        failures = [line[2:] for line in it.wants if line.startswith("! offset")]
+        assert browser.text("failure") == "".join(failures), it.name
+
+
+def test_pointing_at_a_row_marks_its_bytes(browser: Browser) -> None:
+    browser.type(TABLE)
+    point(browser, "#row-2")
+    assert marked(browser) == (['"b": FieldArray'], "016241000000065300000001" + "78")
+    assert "$.b: " in browser.text("about") and "type tag at 14, length at 15 to 18" in browser.text("about")
+
+
+def test_pointing_at_a_byte_marks_its_row(browser: Browser) -> None:
+    browser.type(TABLE)
+    point(browser, '#bytes [data-at="9"]')
+    assert marked(browser) == (['"a": LongInt 5'], "01614900000005")
+
+
+def test_keys_move_in_the_tree_and_in_the_bytes(browser: Browser) -> None:
+    browser.type(TABLE)
+    press(browser, "tree", Keys.ARROW_DOWN, Keys.ARROW_DOWN)
+    assert marked(browser)[0] == ['"a": LongInt 5']
+    press(browser, "tree", Keys.END, Keys.ARROW_UP, Keys.ARROW_LEFT)
+    assert marked(browser)[0] == ['"b": FieldArray']
+    press(browser, "tree", Keys.ARROW_LEFT)
+    assert drawn(browser) == ["FieldTable", '  "a": LongInt 5', '  "b": FieldArray', '  "c": Void']
+    press(browser, "tree", Keys.ARROW_RIGHT, Keys.ARROW_RIGHT)
+    assert marked(browser) == (['LongString "x"'], "530000000178")
+    press(browser, "bytes", Keys.END, Keys.ARROW_LEFT)
+    assert marked(browser) == (['"c": Void'], "016356")
+
+
+def test_roles_of_a_tree(browser: Browser) -> None:
+    browser.type(TABLE)
+    script = """
+        return [...document.querySelectorAll("#tree [role=treeitem]")].map((it) =>
+            ["level", "posinset", "setsize", "expanded"].map((name) => it.getAttribute(`aria-${name}`)));
+    """
+    assert browser.run(script) == [
+        ["1", "1", "1", "true"], ["2", "1", "3", None], ["2", "2", "3", "true"], ["3", "1", "1", None], ["2", "3", "3", None],
+    ]  # fmt: skip
+    press(browser, "tree", Keys.HOME)
+    active = "return document.getElementById(document.activeElement.getAttribute('aria-activedescendant')).textContent"
+    assert browser.run(active).endswith("FieldTable")
+
+
+def test_what_is_wrong_is_marked(browser: Browser) -> None:
+    browser.type("46 00000003 01 61 7a")
+    script = "const it = document.querySelector('#bytes .wrong'); return [it.dataset.at, it.textContent]"
+    assert browser.run(script) == ["7", "7a"]
+    assert browser.text("failure") == "offset 7: a type tag is expected; 7a is none"
+
+
+def test_hexadecimal_that_is_none(browser: Browser) -> None:
+    browser.type("74 0g")
+    assert browser.text("failure") == "line 1, column 5: no hexadecimal" and drawn(browser) == []
+
+
+def test_a_table_without_its_type_tag(browser: Browser) -> None:
+    """Is read as one, unless it is to be a value."""
+    browser.type("00000007 0161 7401 0162 56")
+    assert drawn(browser) == ["FieldTable", '  "a": Boolean true', '  "b": Void']
+    browser.choose("form", "value")
+    assert "the input is a table without its type tag; --table reads it" in browser.text("notes")
+
+
+def test_a_link_has_the_bytes(browser: Browser) -> None:
+    browser.type(TABLE)
+    before = drawn(browser)
+    browser.run("document.getElementById('link').click()")
+    link = browser.run("return location.hash")
+    assert link == f"#{TABLE.replace(' ', '')}"
+    browser.load(link)
+    assert drawn(browser) == before
+
+
+def test_examples(browser: Browser) -> None:
+    """There are six, of which each shows something; one is cut, and one is refused."""
+    values = browser.run("return [...document.querySelectorAll('#examples option')].map((it) => it.value)")[1:]
+    outcomes = []
+    for value in values:
+        browser.choose("examples", value)
+        assert len(drawn(browser)) > 2
+        outcomes.append(browser.text("outcome").partition(" ")[0])
+    assert sorted(outcomes) == ["a", "a", "a", "a", "refused,", "truncated;"]
+
+
+def test_many_rows_are_drawn_as_they_are_scrolled_to(browser: Browser) -> None:
+    """Of a million Voids the last one is drawn at the end, and never more rows than are in sight."""
+    browser.run("const it = new Uint8Array(1 << 20).fill(0x56); it.set([0x41, 0, 0xf, 0xff, 0xfb]); amqp.put(it)")
+    assert browser.text("outcome") == "a value of 1048576 bytes, 0 follow"
+    press(browser, "tree", Keys.END)
+    script = "return [...document.querySelectorAll('#tree .line')].map((it) => it.id)"
+    rows = browser.run(script)
+    assert rows[-1] == f"row-{2**20 - 5}" and len(rows) < 200
+
+
+def test_nothing_leaves_the_page(browser: Browser) -> None:
+    """A load and a use of it ask for nothing but the page itself, and the policy refuses what would."""
+    browser.requests()
+    browser.load(f"#{TABLE.replace(' ', '')}")
+    press(browser, "tree", Keys.ARROW_DOWN)
+    browser.run("for (const id of ['link', 'digits', 'tree-text']) document.getElementById(id).click()")
+    others = [it for it in browser.requests() if not it.startswith((browser.page.as_uri(), "about:blank"))]
+    assert others == []
+    asked = """
+        const done = arguments[0], seen = [];
+        document.addEventListener("securitypolicyviolation", (it) => seen.push(it.effectiveDirective));
+        new Image().src = "http://127.0.0.1:9/a"; fetch("http://127.0.0.1:9/b").catch(() => 0);
+        new Function; setTimeout(() => done(seen.sort()), 300);
+    """
+    browser.driver.set_script_timeout(10)
+    assert browser.driver.execute_async_script(asked) == ["connect-src", "img-src"]
+
+
+def test_a_module_without_stack_is_made_anew(browser: Browser) -> None:
+    """Reading 200,000 levels ends it. The page then makes it anew, and reads as before."""
+    deep = "const n = 200000, it = new Uint8Array(5 * n), view = new DataView(it.buffer);"
+    deep += "for (let at = 0; at < n; at++) { it[5 * at] = 0x41; view.setUint32(5 * at + 1, 5 * (n - at - 1)); }"
+    # (as the page reads, but without its bound of 1,000 levels)
+    script = f"""
+        {deep}
+        const module = amqp.modules[64], calls = {{...module.calls}}, {{amqpv_read}} = calls;
+        calls.amqpv_read = (at, length, frame, depth, ...more) => amqpv_read(at, length, frame, n + 1, ...more);
+        module.calls = calls;
+        amqp.put(it);
+    """
+    browser.run(script)
+    assert "made anew" in browser.text("failure")
+    browser.type(TABLE)
+    assert len(drawn(browser)) == 5 and browser.text("failure") == ""
+
+
+def test_each_module_says_what_it_is(browser: Browser) -> None:
+    """Both read the same; of the second the page says that a step isn't proved, and of each which calls it doesn't have."""
+    browser.type(TABLE)
+    before = drawn(browser)
+    assert "64-bit" in browser.text("module") and "isn't proved" not in browser.text("module")
+    browser.choose("bits", 32)
+    assert "32-bit" in browser.text("module") and "isn't proved" in browser.text("module")
+    assert drawn(browser) == before
+    for call in ("write_json", "is_canonical"):
+        assert (f"It has no amqpv_{call}." in browser.text("module")) != browser.has(call, 32)
+
+
+def test_a_dropped_file(browser: Browser) -> None:
+    """Is read as bytes, or if it is hexadecimal as that."""
+    script = """
+        const data = new DataTransfer(), given = arguments[0], it = given.bytes ? Uint8Array.from(given.bytes) : given.text;
+        data.items.add(new File([it], "a.bin"));
+        dispatchEvent(new DragEvent("drop", {dataTransfer: data, cancelable: true}));
+    """
+    for given in ({"bytes": [*bytes.fromhex(TABLE)]}, {"text": f"# a table\n{TABLE}"}):
+        browser.load()
+        browser.run(script, given)
+        browser.wait(lambda: len(drawn(browser)) == 5)
+        assert browser.run("return document.getElementById('text').value") == TABLE.replace(" ", "")
+
+
+def test_copies(browser: Browser) -> None:
+    """The buttons copy the bytes as hexadecimal, the tree as amqp_show prints it, and a link."""
+    browser.run("globalThis.said = []; navigator.clipboard.writeText = async (it) => { said.push(it) }")
+    browser.type("00000003016156")
+    browser.choose("form", "table")
+    for button in ("digits", "tree-text", "link"):
+        browser.run("document.getElementById(arguments[0]).click()", button)
+    digits, tree, link = browser.run("return said")
+    assert (digits, tree) == ("00000003016156", 'FieldTable\n  "a": Void') and link.endswith("#table:00000003016156")
+
+
+def test_modules_are_plain() -> None:
+    """Each has at most 400 lines of at most 120 columns."""
+    for path in (TOP / "bindings/web").glob("*.js"):
+        lines = path.read_text().splitlines()
+        assert len(lines) <= 400 and max(map(len, lines)) <= 120, path.name
+
+
+def test_limits(browser: Browser) -> None:
+    """At most 1,000 levels are read, whatever is asked for, and no number is below 0."""
+    browser.choose("depth", 5000)
+    browser.type(nested("A", 1000, b"").hex())
+    assert browser.text("outcome").startswith("a value of")
+    browser.type(nested("A", 1001, b"").hex())
+    assert "nest deeper" in browser.text("failure")
+    browser.choose("depth", -1)
+    browser.type("4100000000")
+    assert browser.text("failure") == "offset 0: containers nest deeper than --depth allows"
+    browser.choose("frame", -1)
+    assert browser.text("failure") == "offset 0: the value has more bytes than --max-bytes allows"
+
+
+@pytest.mark.parametrize("width", (360, 1600))
+def test_widths(browser: Browser, width: int) -> None:
+    """Only the panes scroll sideways, not the page."""
+    size = {"width": width, "height": 900, "deviceScaleFactor": 1, "mobile": False}
+    browser.driver.execute_cdp_cmd("Emulation.setDeviceMetricsOverride", size)
+    try:
+        browser.load(f"#{raw(EVERY_TYPE).hex()}")
+        assert len(drawn(browser)) > 5
+        assert browser.run("return document.documentElement.scrollWidth") <= width
+    finally:
+        browser.driver.execute_cdp_cmd("Emulation.clearDeviceMetricsOverride", {})
+
+
+def test_a_browser_without_64_bit_addresses(page: Path, tmp_path: Path) -> None:
+    """It reads by the second module. (Here the first one is no module.)"""
+    text = page.read_text()
+    begin = text.index('id="wasm64">') + len('id="wasm64">')
+    other = tmp_path / "other.html"
+    other.write_text(f"{text[:begin]}AAAA{text[text.index('<', begin) :]}")
+    with opened(other) as browser:
+        browser.type(TABLE)
+        assert len(drawn(browser)) == 5 and "32-bit" in browser.text("module")
+        assert browser.run("return document.querySelector('#bits [value=\"64\"]').disabled")
+
+
+# Reads a mebibyte of pairs with keys that ascend, of others, or of Voids, as many times as are asked for, and draws nothing.
+READS = """
+    const [bits, kind, count] = arguments, bytes = new Uint8Array(1 << 20).fill(0x56), view = new DataView(bytes.buffer);
+    let at = 5;
+    for (let it = 0; kind && at + 16 <= bytes.length; it++, at += 16) {
+        bytes.set([10, ...new TextEncoder().encode(`${it}`.padStart(10, kind)), 0x49, 0, 0, 0, 7], at);
+    }
+    const end = kind ? at : bytes.length;
+    bytes[0] = kind ? 0x46 : 0x41;
+    view.setUint32(1, end - 5);
+    for (let it = 0; it < count; it++) {
+        const reading = amqp.read(amqp.modules[bits], bytes.subarray(0, end));
+        amqp.repeats(reading);
+        amqp.rabbitmqText(reading);
+    }
+"""
+
+
+def milliseconds(browser: Browser, bits: int, kind: str, most: float) -> float:
+    """What a reading takes of its thread's time. While that is more than the most it may be, the browser may still compile."""
+
+    def taken(readings: int) -> float:
+        begun = browser.thread_time()
+        browser.run(READS, bits, kind, readings)
+        return browser.thread_time() - begun
+
+    none, least = min(taken(0) for _ in range(5)), float("inf")
+    for _ in range(20):
+        least = min(least, (taken(5) - none) * 1000 / 5)
+        if least <= most:
+            break
+    return least
+
+
+@pytest.mark.parametrize("bits", (64, 32))
+def test_times(browser: Browser, bits: int) -> None:
+    """Without drawing, 1 MiB of pairs takes at most 50 ms, and of Voids 500."""
+    for kind, most in (("0", 50), ("k", 50), ("", 500)):
+        least = milliseconds(browser, bits, kind, most)
+        print(f"\n{bits} bits: {least:.1f} ms of 1 MiB of {f'pairs filled by {kind}' if kind else 'Voids'}")
+        assert least <= most
+
+
+def pixels(path: Path) -> Iterator[bytes]:
+    """The colours of a PNG of 8 bits a channel, pixel by pixel."""
+    data, at, packed, width, step = path.read_bytes(), 8, b"", 0, 0
+    while at < len(data):
+        length, kind = struct.unpack(">I4s", data[at : at + 8])
+        part = data[at + 8 : at + 8 + length]
+        if kind == b"IHDR":
+            width, step = int.from_bytes(part[:4], "big"), {2: 3, 6: 4}[part[9]]
+        packed += part if kind == b"IDAT" else b""
+        at += length + 12
+    raw, stride = zlib.decompress(packed), width * step
+    above = bytes(stride)
+    for line in range(0, len(raw), stride + 1):
+        kind, row = raw[line], bytearray(raw[line + 1 : line + 1 + stride])
+        for it in range(stride):
+            left, up, corner = (row[it - step], above[it], above[it - step]) if it >= step else (0, above[it], 0)
+            row[it] = (row[it] + predicted(kind, left, up, corner)) % 256
+        above = bytes(row)
+        yield from (bytes(row[it : it + 3]) for it in range(0, stride, step))
+
+
+def predicted(kind: int, left: int, up: int, corner: int) -> int:
+    """What a filter of PNG predicts of a byte."""
+    if kind < 4:
+        return (0, left, up, (left + up) // 2)[kind]
+    ways = {left: abs(up - corner), up: abs(left - corner), corner: abs(left + up - 2 * corner)}
+    return min((left, up, corner), key=lambda it: ways[it])
+
+
+def test_firefox_shows_it(page: Path, tmp_path: Path) -> None:
+    """Its picture has what is drawn of tags, and of what is wrong, in the colours of these."""
+    picture, profile = tmp_path / "page.png", tmp_path / "profile"
+    profile.mkdir()
+    words = ["firefox-esr", "--headless", "--no-remote", "--profile", str(profile), "--window-size=1000,640"]
+    words += ["--screenshot", str(picture), f"{page.as_uri()}#4600000003016149"]
+    environment = {**os.environ, "HOME": str(tmp_path), "MOZ_CRASHREPORTER_DISABLE": "1"}
+    subprocess.run(words, env=environment, capture_output=True, timeout=120, check=True)
+    counts = Counter(pixels(picture))
+    assert counts[bytes.fromhex("8250df")] > 50 and counts[bytes.fromhex("b3141f")] > 200, counts.most_common(9)
