@@ -11,8 +11,8 @@ use Rattle.json.proofs.Printed.Tokens.{print_from_push, ends_push}
 use Rattle.amqp_json.specs.declared.buffer.place.Place.{Place}
 use Rattle.amqp_json.specs.Puts.{Begins, Puts, IsPrinted, PutsTokens}
 
-pub puts_none : (room : List ℕ) (at : ℕ) → Puts room at room at []
-puts_none room at = λ start t h. subst (λ (u : List ℕ). Begins start room at u) (sym (append-nil t)) h
+pub puts_none : (buffer : List ℕ) (at : ℕ) → Puts buffer at buffer at []
+puts_none buffer at = λ start t h. subst (λ (u : List ℕ). Begins start buffer at u) (sym (append-nil t)) h
 
 pub puts_more : (a b c : List ℕ) (i j k : ℕ) (xs ys : List ℕ) → Puts a i b j xs → Puts b j c k ys → Puts a i c k (xs ++ ys)
 puts_more a b c i j k xs ys p q = λ start t h. subst (λ (u : List ℕ). Begins start c k u) (append_assoc t xs ys) (q start (t ++ xs) (p start t h))

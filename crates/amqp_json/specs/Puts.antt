@@ -13,18 +13,18 @@ counted t = min (length t) (2 ^ 64 - 1)
 
 -- the buffer, which was `start`, begins with a text of that count if the text fits it, and is as it
 -- was after the text
-pub record Begins (start room : List ℕ) (at : ℕ) (t : List ℕ) : Type 0 where
+pub record Begins (start buffer : List ℕ) (at : ℕ) (t : List ℕ) : Type 0 where
   pub count : at ≡ counted t
-  pub same : length room ≡ length start
-  pub text : length t ≤ length start → room ≡ t ++ drop (length t) start
+  pub same : length buffer ≡ length start
+  pub text : length t ≤ length start → buffer ≡ t ++ drop (length t) start
 
 -- bytes are put after the text
 abbrev pub Puts : List ℕ → ℕ → List ℕ → ℕ → List ℕ → Type 0
 Puts old at new end bytes = (start t : List ℕ) → Begins start old at t → Begins start new end (t ++ bytes)
 
 -- the buffer begins with the text of these tokens
-pub record IsPrinted (start room : List ℕ) (place : Place) (ts : List Token) : Type 0 where
-  pub text : Begins start room place.count (print ts)
+pub record IsPrinted (start buffer : List ℕ) (place : Place) (ts : List Token) : Type 0 where
+  pub text : Begins start buffer place.count (print ts)
   pub after : place.after_value ≡ ends_value ts
 
 -- tokens are put after those that were there

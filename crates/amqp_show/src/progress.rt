@@ -8,6 +8,7 @@ use std::time::Instant;
 
 // The line comes after that many milliseconds, and then again after that many.
 const FIRST: u128 = 1_000;
+
 const AGAIN: u128 = 500;
 // The clock is read once in that many bytes.
 const STRIDE: u64 = 4_096;
@@ -97,7 +98,11 @@ fn line(
         return format!(in alloc; "{read} MB, {rate} MB/s");
     };
     let whole = megabytes(alloc, size)?;
-    let left = per(size.saturating_sub(offset), milliseconds, u128::from(offset)) / 1_000;
+    let left = per(
+        size.saturating_sub(offset),
+        milliseconds,
+        u128::from(offset),
+    ) / 1_000;
     format!(in alloc; "{read} of {whole} MB, {rate} MB/s, {left} s left")
 }
 

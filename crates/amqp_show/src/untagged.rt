@@ -6,6 +6,7 @@ use amq_protocol_types::AMQPType;
 use amqp_in_place::read_in_place;
 
 const LACKS_TYPE_TAG: &str = "the input is a table without its type tag; --table reads it";
+
 const HAS_TYPE_TAG: &str = "the input is a table with its type tag; without --table it is read";
 
 /// What is reported of a refused input, if all of it is a table within the limits, but for that it

@@ -18,86 +18,86 @@ use json::Token;
 
 /// The type's name, and what is under it begins.
 #[inline(always)]
-pub(crate) fn begin(room: &mut [u8], place: Place, amqp_type: AMQPType) -> Place
-    ensures { PutsTokens room.old place room.new result
+pub(crate) fn begin(buffer: &mut [u8], place: Place, amqp_type: AMQPType) -> Place
+    ensures { PutsTokens buffer.old place buffer.new result
         (begin_object ∷ key (name_of amqp_type) ∷ []) }
 {
-    let place = put_token(room, place, Token::BeginObject);
-    put_token(room, place, Token::Key(name_of(amqp_type)))
+    let place = put_token(buffer, place, Token::BeginObject);
+    put_token(buffer, place, Token::Key(name_of(amqp_type)))
 }
 
 #[inline(always)]
-fn put_named(room: &mut [u8], place: Place, amqp_type: AMQPType, token: Token<'_>) -> Place
-    ensures { PutsTokens room.old place room.new result
+fn put_named(buffer: &mut [u8], place: Place, amqp_type: AMQPType, token: Token<'_>) -> Place
+    ensures { PutsTokens buffer.old place buffer.new result
         (begin_object ∷ key (name_of amqp_type) ∷ token_of token.entry ∷ end_object ∷ []) }
 {
-    let place = begin(room, place, amqp_type);
-    let place = put_token(room, place, token);
-    put_token(room, place, Token::EndObject)
+    let place = begin(buffer, place, amqp_type);
+    let place = put_token(buffer, place, token);
+    put_token(buffer, place, Token::EndObject)
 }
 
-pub(crate) fn natural(room: &mut [u8], place: Place, amqp_type: AMQPType, n: u64) -> Place
-    ensures { PutsTokens room.old place room.new result
+pub(crate) fn natural(buffer: &mut [u8], place: Place, amqp_type: AMQPType, n: u64) -> Place
+    ensures { PutsTokens buffer.old place buffer.new result
         (begin_object ∷ key (name_of amqp_type) ∷ number (decimal n) ∷ end_object ∷ []) }
 {
-    let mut buffer = Buffer::new();
-    put_named(room, place, amqp_type, Token::Number(buffer.format(n)))
+    let mut text = Buffer::new();
+    put_named(buffer, place, amqp_type, Token::Number(text.format(n)))
 }
 
-pub(crate) fn integer(room: &mut [u8], place: Place, amqp_type: AMQPType, n: i64) -> Place
-    ensures { PutsTokens room.old place room.new result
+pub(crate) fn integer(buffer: &mut [u8], place: Place, amqp_type: AMQPType, n: i64) -> Place
+    ensures { PutsTokens buffer.old place buffer.new result
         (begin_object ∷ key (name_of amqp_type) ∷ number (signed_decimal n) ∷ end_object ∷ []) }
 {
-    let mut buffer = Buffer::new();
-    put_named(room, place, amqp_type, Token::Number(buffer.format(n)))
+    let mut text = Buffer::new();
+    put_named(buffer, place, amqp_type, Token::Number(text.format(n)))
 }
 
 /// An integer without its type's name.
-pub(crate) fn plain_integer(room: &mut [u8], place: Place, n: i64) -> Place
-    ensures { PutsTokens room.old place room.new result (number (signed_decimal n) ∷ []) }
+pub(crate) fn plain_integer(buffer: &mut [u8], place: Place, n: i64) -> Place
+    ensures { PutsTokens buffer.old place buffer.new result (number (signed_decimal n) ∷ []) }
 {
-    let mut buffer = Buffer::new();
-    put_token(room, place, Token::Number(buffer.format(n)))
+    let mut text = Buffer::new();
+    put_token(buffer, place, Token::Number(text.format(n)))
 }
 
-pub(crate) fn digits(room: &mut [u8], place: Place, amqp_type: AMQPType, bytes: &[u8]) -> Place
-    ensures { PutsTokens room.old place room.new result
+pub(crate) fn digits(buffer: &mut [u8], place: Place, amqp_type: AMQPType, bytes: &[u8]) -> Place
+    ensures { PutsTokens buffer.old place buffer.new result
         (begin_object ∷ key (name_of amqp_type) ∷ string (encode_lower bytes.now) ∷ end_object ∷ []) }
 {
-    let place = begin(room, place, amqp_type);
-    let place = put_digits(room, place, bytes);
-    put_token(room, place, Token::EndObject)
+    let place = begin(buffer, place, amqp_type);
+    let place = put_digits(buffer, place, bytes);
+    put_token(buffer, place, Token::EndObject)
 }
 
 /// A key, and its number.
-fn field(room: &mut [u8], place: Place, name: &str, n: u64) -> Place
-    ensures { PutsTokens room.old place room.new result
+fn field(buffer: &mut [u8], place: Place, name: &str, n: u64) -> Place
+    ensures { PutsTokens buffer.old place buffer.new result
         (key name.now ∷ number (decimal n) ∷ []) }
 {
-    let place = put_token(room, place, Token::Key(name));
-    let mut buffer = Buffer::new();
-    put_token(room, place, Token::Number(buffer.format(n)))
+    let place = put_token(buffer, place, Token::Key(name));
+    let mut text = Buffer::new();
+    put_token(buffer, place, Token::Number(text.format(n)))
 }
 
-pub(crate) fn decimal(room: &mut [u8], place: Place, scale: u8, value: u32) -> Place
-    ensures { PutsJson room.old place room.new result
+pub(crate) fn decimal(buffer: &mut [u8], place: Place, scale: u8, value: u32) -> Place
+    ensures { PutsJson buffer.old place buffer.new result
         (under AMQPType.DecimalValue (decimal_json scale value)) }
 {
-    let place = begin(room, place, AMQPType::DecimalValue);
-    let place = put_token(room, place, Token::BeginObject);
-    let place = field(room, place, "scale", scale as u64);
-    let place = field(room, place, "value", value as u64);
-    let place = put_token(room, place, Token::EndObject);
-    put_token(room, place, Token::EndObject)
+    let place = begin(buffer, place, AMQPType::DecimalValue);
+    let place = put_token(buffer, place, Token::BeginObject);
+    let place = field(buffer, place, "scale", scale as u64);
+    let place = field(buffer, place, "value", value as u64);
+    let place = put_token(buffer, place, Token::EndObject);
+    put_token(buffer, place, Token::EndObject)
 }
 
 /// A long string, as a string if it is UTF-8.
 #[tactic(auto, using(crate::proofs::Bytes::text_is_plain, crate::proofs::Bytes::bytes_are_named))]
-pub(crate) fn long_string(room: &mut [u8], place: Place, bytes: &[u8]) -> Place
-    ensures { PutsJson room.old place room.new result (long_json bytes.now) }
+pub(crate) fn long_string(buffer: &mut [u8], place: Place, bytes: &[u8]) -> Place
+    ensures { PutsJson buffer.old place buffer.new result (long_json bytes.now) }
 {
     match std::str::from_utf8(bytes) {
-        Ok(text) => put_token(room, place, Token::String(text)),
-        Err(_) => digits(room, place, AMQPType::LongString, bytes),
+        Ok(text) => put_token(buffer, place, Token::String(text)),
+        Err(_) => digits(buffer, place, AMQPType::LongString, bytes),
     }
 }

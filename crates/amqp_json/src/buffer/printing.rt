@@ -13,56 +13,56 @@ use json::Token;
 
 /// A token, with a comma before it after a value.
 #[inline(always)]
-pub(crate) fn put_token(room: &mut [u8], place: Place, token: Token<'_>) -> Place
-    ensures { PutsTokens room.old place room.new result (token_of token.entry ∷ []) }
+pub(crate) fn put_token(buffer: &mut [u8], place: Place, token: Token<'_>) -> Place
+    ensures { PutsTokens buffer.old place buffer.new result (token_of token.entry ∷ []) }
 {
-    let at = put_separator(room, place, begins(token));
+    let at = put_separator(buffer, place, begins(token));
     Place {
-        count: put_text(room, at, token),
+        count: put_text(buffer, at, token),
         after_value: ends(token),
     }
 }
 
 /// The string of the bytes in hexadecimal digits.
-pub(crate) fn put_digits(room: &mut [u8], place: Place, bytes: &[u8]) -> Place
-    ensures { PutsTokens room.old place room.new result (string (encode_lower bytes.now) ∷ []) }
+pub(crate) fn put_digits(buffer: &mut [u8], place: Place, bytes: &[u8]) -> Place
+    ensures { PutsTokens buffer.old place buffer.new result (string (encode_lower bytes.now) ∷ []) }
 {
-    let at = put_separator(room, place, true);
-    let at = put(room, at, b"\"");
-    let at = put_hexadecimal(room, at, bytes);
+    let at = put_separator(buffer, place, true);
+    let at = put(buffer, at, b"\"");
+    let at = put_hexadecimal(buffer, at, bytes);
     Place {
-        count: put(room, at, b"\""),
+        count: put(buffer, at, b"\""),
         after_value: true,
     }
 }
 
 #[inline(always)]
-fn put_separator(room: &mut [u8], place: Place, is_first: bool) -> usize
-    ensures { Puts room.old place.count room.new result
+fn put_separator(buffer: &mut [u8], place: Place, is_first: bool) -> usize
+    ensures { Puts buffer.old place.count buffer.new result
         (cond (place.after_value && is_first) (44 ∷ []) []) }
 {
     if place.after_value && is_first {
-        put(room, place.count, b",")
+        put(buffer, place.count, b",")
     } else {
         place.count
     }
 }
 
 #[inline(always)]
-fn put_text(room: &mut [u8], at: usize, token: Token<'_>) -> usize
-    ensures { Puts room.old at room.new result (token_text (token_of token.entry)) }
+fn put_text(buffer: &mut [u8], at: usize, token: Token<'_>) -> usize
+    ensures { Puts buffer.old at buffer.new result (token_text (token_of token.entry)) }
 {
     match token {
-        Token::BeginObject => put(room, at, b"{"),
-        Token::EndObject => put(room, at, b"}"),
-        Token::BeginArray => put(room, at, b"["),
-        Token::EndArray => put(room, at, b"]"),
-        Token::Key(name) => put_quoted(room, at, name.as_bytes(), b"\":"),
-        Token::String(text) => put_quoted(room, at, text.as_bytes(), b"\""),
-        Token::Number(text) => put(room, at, text.as_bytes()),
-        Token::Bool(true) => put(room, at, b"true"),
-        Token::Bool(false) => put(room, at, b"false"),
-        Token::Null => put(room, at, b"null"),
+        Token::BeginObject => put(buffer, at, b"{"),
+        Token::EndObject => put(buffer, at, b"}"),
+        Token::BeginArray => put(buffer, at, b"["),
+        Token::EndArray => put(buffer, at, b"]"),
+        Token::Key(name) => put_quoted(buffer, at, name.as_bytes(), b"\":"),
+        Token::String(text) => put_quoted(buffer, at, text.as_bytes(), b"\""),
+        Token::Number(text) => put(buffer, at, text.as_bytes()),
+        Token::Bool(true) => put(buffer, at, b"true"),
+        Token::Bool(false) => put(buffer, at, b"false"),
+        Token::Null => put(buffer, at, b"null"),
         Token::Bad => at,
     }
 }

@@ -1,5 +1,5 @@
 //! Bytes after others in a buffer: each call returns how many there are then, which may be more
-//! than there is room for. Those that don't fit are counted, and not written.
+//! than there is buffer for. Those that don't fit are counted, and not written.
 
 ghost use Rattle.std.specs.Prelude.{◌≡◌, ◌+◌, ◌-◌, ◌<◌, ◌≤◌, ◌∷◌, [], ◌++◌, length, take, drop};
 ghost use Rattle.std.specs.List.{prefix_len, slice_index};
@@ -10,22 +10,26 @@ ghost use Rattle.json.specs.Run.{is_plain};
 ghost use Rattle.amqp_json.specs.Puts.{Puts};
 
 #[inline(always)]
-pub(crate) fn put(room: &mut [u8], at: usize, bytes: &[u8]) -> usize
-    ensures { Puts room.old at room.new result bytes.now }
+pub(crate) fn put(buffer: &mut [u8], at: usize, bytes: &[u8]) -> usize
+    ensures { Puts buffer.old at buffer.new result bytes.now }
 {
-    if at <= room.len() && bytes.len() <= room.len() - at {
-        room[at..at + bytes.len()].copy_from_slice(bytes);
+    if at <= buffer.len() && bytes.len() <= buffer.len() - at {
+        buffer[at..at + bytes.len()].copy_from_slice(bytes);
     }
     at.saturating_add(bytes.len())
 }
 
 /// The bytes in hexadecimal digits.
-pub(crate) fn put_hexadecimal(room: &mut [u8], at: usize, bytes: &[u8]) -> usize
-    ensures { Puts room.old at room.new result (encode_lower bytes.now) }
+pub(crate) fn put_hexadecimal(buffer: &mut [u8], at: usize, bytes: &[u8]) -> usize
+    ensures { Puts buffer.old at buffer.new result (encode_lower bytes.now) }
 {
     let mut at = at;
     for &byte in bytes {
-        at = put(room, at, &[hexadecimal(byte / 16), hexadecimal(byte % 16)]);
+        at = put(
+            buffer,
+            at,
+            &[hexadecimal(byte / 16), hexadecimal(byte % 16)],
+        );
     }
     at
 }
@@ -42,27 +46,27 @@ fn hexadecimal(n: u8) -> u8
 /// A text in quotes, of which `close` is the last one with what follows.
 #[inline(always)]
 #[tactic(auto, using(crate::proofs::Putting::puts_more))]
-pub(crate) fn put_quoted(room: &mut [u8], at: usize, text: &[u8], close: &[u8]) -> usize
-    ensures { Puts room.old at room.new result (34 ∷ (escape text.now ++ close.now)) }
+pub(crate) fn put_quoted(buffer: &mut [u8], at: usize, text: &[u8], close: &[u8]) -> usize
+    ensures { Puts buffer.old at buffer.new result (34 ∷ (escape text.now ++ close.now)) }
 {
-    let at = put(room, at, b"\"");
-    put_escaped(room, at, text, close)
+    let at = put(buffer, at, b"\"");
+    put_escaped(buffer, at, text, close)
 }
 
 #[inline(always)]
-fn put_escaped(room: &mut [u8], at: usize, text: &[u8], close: &[u8]) -> usize
-    ensures { Puts room.old at room.new result (escape text.now ++ close.now) }
+fn put_escaped(buffer: &mut [u8], at: usize, text: &[u8], close: &[u8]) -> usize
+    ensures { Puts buffer.old at buffer.new result (escape text.now ++ close.now) }
 {
     let mut at = at;
     let mut from = 0;
     loop {
         let stop = plain_end(text, from);
-        at = put(room, at, &text[from..stop]);
+        at = put(buffer, at, &text[from..stop]);
         if stop == text.len() {
-            return put(room, at, close);
+            return put(buffer, at, close);
         }
         let (escape, count) = escape_of(text[stop]);
-        at = put(room, at, &escape[..count]);
+        at = put(buffer, at, &escape[..count]);
         from = stop + 1;
     }
 }

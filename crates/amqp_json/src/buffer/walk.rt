@@ -23,68 +23,73 @@ use json::Token;
 /// ascend.
 #[cycle(walk)]
 #[inline(always)]
-pub(crate) fn put_value(room: &mut [u8], place: Place, value: ValueRef<'_>) -> Option<Place>
+pub(crate) fn put_value(buffer: &mut [u8], place: Place, value: ValueRef<'_>) -> Option<Place>
     ensures json { IfSome result (λ end. (v : Tree) → Denotes value.entry v
-        → PutsJson room.old place room.new end (json v)) }
+        → PutsJson buffer.old place buffer.new end (json v)) }
     ensures order { (s rest : List ℕ) (v : Tree) → IsViewIn s value.entry rest → Denotes value.entry v
         → IfInOrder result s rest }
 {
     match value {
-        ValueRef::Boolean(b) => Some(put_token(room, place, Token::Bool(b))),
-        ValueRef::ShortShortInt(n) => Some(integer(room, place, AMQPType::ShortShortInt, n as i64)),
+        ValueRef::Boolean(b) => Some(put_token(buffer, place, Token::Bool(b))),
+        ValueRef::ShortShortInt(n) => Some(integer(
+            buffer,
+            place,
+            AMQPType::ShortShortInt,
+            n as i64,
+        )),
         ValueRef::ShortShortUInt(n) => Some(natural(
-            room,
+            buffer,
             place,
             AMQPType::ShortShortUInt,
             n as u64,
         )),
-        ValueRef::ShortInt(n) => Some(integer(room, place, AMQPType::ShortInt, n as i64)),
-        ValueRef::ShortUInt(n) => Some(natural(room, place, AMQPType::ShortUInt, n as u64)),
-        ValueRef::LongInt(n) => Some(integer(room, place, AMQPType::LongInt, n as i64)),
-        ValueRef::LongUInt(n) => Some(natural(room, place, AMQPType::LongUInt, n as u64)),
-        ValueRef::LongLongInt(n) => Some(plain_integer(room, place, n)),
+        ValueRef::ShortInt(n) => Some(integer(buffer, place, AMQPType::ShortInt, n as i64)),
+        ValueRef::ShortUInt(n) => Some(natural(buffer, place, AMQPType::ShortUInt, n as u64)),
+        ValueRef::LongInt(n) => Some(integer(buffer, place, AMQPType::LongInt, n as i64)),
+        ValueRef::LongUInt(n) => Some(natural(buffer, place, AMQPType::LongUInt, n as u64)),
+        ValueRef::LongLongInt(n) => Some(plain_integer(buffer, place, n)),
         ValueRef::Float(f) => Some(digits(
-            room,
+            buffer,
             place,
             AMQPType::Float,
             &f.to_bits().to_be_bytes(),
         )),
         ValueRef::Double(f) => Some(digits(
-            room,
+            buffer,
             place,
             AMQPType::Double,
             &f.to_bits().to_be_bytes(),
         )),
-        ValueRef::DecimalValue(d) => Some(decimal(room, place, d.scale, d.value)),
-        ValueRef::LongString(bytes) => Some(long_string(room, place, bytes)),
-        ValueRef::FieldArray(array) => put_array(room, place, array),
-        ValueRef::Timestamp(n) => Some(natural(room, place, AMQPType::Timestamp, n)),
-        ValueRef::FieldTable(table) => put_table(room, place, table),
-        ValueRef::ByteArray(bytes) => Some(digits(room, place, AMQPType::ByteArray, bytes)),
-        ValueRef::Void => Some(put_token(room, place, Token::Null)),
+        ValueRef::DecimalValue(d) => Some(decimal(buffer, place, d.scale, d.value)),
+        ValueRef::LongString(bytes) => Some(long_string(buffer, place, bytes)),
+        ValueRef::FieldArray(array) => put_array(buffer, place, array),
+        ValueRef::Timestamp(n) => Some(natural(buffer, place, AMQPType::Timestamp, n)),
+        ValueRef::FieldTable(table) => put_table(buffer, place, table),
+        ValueRef::ByteArray(bytes) => Some(digits(buffer, place, AMQPType::ByteArray, bytes)),
+        ValueRef::Void => Some(put_token(buffer, place, Token::Null)),
     }
 }
 
 #[cycle(walk)]
 #[inline(never)]
-fn put_array(room: &mut [u8], place: Place, array: ArrayRef<'_>) -> Option<Place>
+fn put_array(buffer: &mut [u8], place: Place, array: ArrayRef<'_>) -> Option<Place>
     ensures json { IfSome result (λ end. (vs : Trees) → ArrayBody (array_body array.entry) vs
-        → PutsJson room.old place room.new end (json (array_tree vs))) }
+        → PutsJson buffer.old place buffer.new end (json (array_tree vs))) }
     ensures order { (vs : Trees) → ArrayBody (array_body array.entry) vs
         → IfValuesAscend result (array_body array.entry) }
 {
-    let mut end = put_token(room, place, Token::BeginArray);
+    let mut end = put_token(buffer, place, Token::BeginArray);
     for item in array.iter() {
-        end = put_value(room, end, item)?;
+        end = put_value(buffer, end, item)?;
     }
-    Some(put_token(room, end, Token::EndArray))
+    Some(put_token(buffer, end, Token::EndArray))
 }
 
 #[cycle(walk)]
 #[inline(never)]
-fn put_table(room: &mut [u8], place: Place, table: TableRef<'_>) -> Option<Place>
+fn put_table(buffer: &mut [u8], place: Place, table: TableRef<'_>) -> Option<Place>
     ensures json { IfSome result (λ end. (es : Entries) → HasEntries (table_body table.entry) es
-        → PutsJson room.old place room.new end (json (table_tree es))) }
+        → PutsJson buffer.old place buffer.new end (json (table_tree es))) }
     ensures order { (ps : Entries) → TableBody (table_body table.entry) ps
         → IfTableAscends result (table_body table.entry) }
 {
@@ -92,26 +97,26 @@ fn put_table(room: &mut [u8], place: Place, table: TableRef<'_>) -> Option<Place
         return None;
     }
     if looks_named(table) {
-        let inner = begin(room, place, AMQPType::FieldTable);
-        let end = put_pairs(room, inner, table)?;
-        return Some(put_token(room, end, Token::EndObject));
+        let inner = begin(buffer, place, AMQPType::FieldTable);
+        let end = put_pairs(buffer, inner, table)?;
+        return Some(put_token(buffer, end, Token::EndObject));
     }
-    put_pairs(room, place, table)
+    put_pairs(buffer, place, table)
 }
 
 // As an object, in the order in which they are written.
 #[cycle(walk)]
 #[inline(always)]
-fn put_pairs(room: &mut [u8], place: Place, table: TableRef<'_>) -> Option<Place>
+fn put_pairs(buffer: &mut [u8], place: Place, table: TableRef<'_>) -> Option<Place>
     ensures json { IfSome result (λ end. (ps : Entries) → TableBody (table_body table.entry) ps
-        → PutsJson room.old place room.new end (object (members_json ps))) }
+        → PutsJson buffer.old place buffer.new end (object (members_json ps))) }
     ensures order { (ps : Entries) → TableBody (table_body table.entry) ps
         → IfPairsAscend result (table_body table.entry) }
 {
-    let mut end = put_token(room, place, Token::BeginObject);
+    let mut end = put_token(buffer, place, Token::BeginObject);
     for (key, value) in table.iter() {
-        let keyed = put_token(room, end, Token::Key(key));
-        end = put_value(room, keyed, value)?;
+        let keyed = put_token(buffer, end, Token::Key(key));
+        end = put_value(buffer, keyed, value)?;
     }
-    Some(put_token(room, end, Token::EndObject))
+    Some(put_token(buffer, end, Token::EndObject))
 }

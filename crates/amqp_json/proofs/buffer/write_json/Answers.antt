@@ -11,7 +11,7 @@ returns-then-end-buffer-clause-written c =
     let (v, denotes, within) = c.in-Ok.ensures.within in
     let s = c.args.bytes.now in
     let t = compact_text (json v) in
-    let text = text_begins c.args.buffer.now c.put_value.new.room c.in-Some.end v (c.in-Some.ensures.json v denotes) in
+    let text = text_begins c.args.buffer.now c.put_value.new.buffer c.in-Some.end v (c.in-Some.ensures.json v denotes) in
     let size : c.in-Some.end.count ≡ length t = omega (arith, text.count) in
     let is = decoded c.args.limits s c.in-Ok.rest.now t v (bytes_all s c.type_inv.bytes) within refl in
     (t, c.in-Ok.rest.now, (is, c.in-Some.ensures.order s c.in-Ok.rest.now v c.in-Ok.ensures.inside denotes), size, omega (arith, text.same))
@@ -22,7 +22,7 @@ returns-else-end-buffer-clause-written c =
     let s = c.args.bytes.now in
     let old = c.args.buffer.now in
     let t = compact_text (json v) in
-    let text = text_begins old c.put_value.new.room c.in-Some.end v (c.in-Some.ensures.json v denotes) in
+    let text = text_begins old c.put_value.new.buffer c.in-Some.end v (c.in-Some.ensures.json v denotes) in
     let size : c.in-Some.end.count ≡ length t = omega (arith, text.count) in (
       t,
       (decoded c.args.limits s c.in-Ok.rest.now t v (bytes_all s c.type_inv.bytes) within refl, c.in-Some.ensures.order s c.in-Ok.rest.now v c.in-Ok.ensures.inside denotes),
@@ -36,7 +36,7 @@ returns-then-end-clause-written c =
     let (v, denotes, within) = c.in-Ok.ensures.within in
     let s = c.args.bytes.now in
     let t = compact_text (json v) in
-    let text = text_begins c.args.buffer.now c.put_value.new.room c.in-Some.end v (c.in-Some.ensures.json v denotes) in
+    let text = text_begins c.args.buffer.now c.put_value.new.buffer c.in-Some.end v (c.in-Some.ensures.json v denotes) in
     (t, c.in-Ok.rest.now, decoded c.args.limits s c.in-Ok.rest.now t v (bytes_all s c.type_inv.bytes) within refl, inr (omega (arith, text.count)))
 
 pub returns-in-None-clause-written : goal.returns-in-None-clause-written

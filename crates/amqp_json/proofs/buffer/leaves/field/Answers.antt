@@ -8,4 +8,4 @@ pub returns : goal.returns
 returns c =
     let end = c.put_token in
     tokens_more _ _ _ _ _ _ (key c.args.name.now ∷ []) _ c.put_token-place.ensures
-    (subst (λ (s : List ℕ). PutsTokens c.put_token-place.new.room c.put_token-place.result end.new.room end.result (number s ∷ [])) c.format.ensures.text end.ensures)
+    (subst (λ (s : List ℕ). PutsTokens c.put_token-place.new.buffer c.put_token-place.result end.new.buffer end.result (number s ∷ [])) c.format.ensures.text end.ensures)

@@ -3,7 +3,7 @@ use Rattle.amqp_json.proofs.Putting.{puts_none, puts_more, puts_as, digits_none,
 use Rattle.amqp_json.proofs.buffer.put.put_hexadecimal.Goals as goal
 
 pub loop-byte-init : goal.loop-byte-init
-loop-byte-init c = puts_as _ _ _ _ _ _ (sym digits_none) (puts_none c.args.room.now c.args.at)
+loop-byte-init c = puts_as _ _ _ _ _ _ (sym digits_none) (puts_none c.args.buffer.now c.args.at)
 
 pub loop-byte-preserved : goal.loop-byte-preserved
 loop-byte-preserved c =

@@ -4,4 +4,4 @@ use Rattle.amqp_json.specs.Puts.{Puts}
 use Rattle.amqp_json.proofs.buffer.put.put_hexadecimal.Given as goal
 
 abbrev pub invariant-loop-byte : goal.invariant-loop-byte
-invariant-loop-byte l = Puts l.fn.room l.fn.at l.room l.at (encode_lower (take l.byte-index l.bytes))
+invariant-loop-byte l = Puts l.fn.buffer l.fn.at l.buffer l.at (encode_lower (take l.byte-index l.bytes))

@@ -32,7 +32,7 @@ invariant-put_array-loop-item l =
     (length (values_left l.item-iterator) ≤ length (array_body l.fn.array))
     × ((all : Trees) → ArrayBody (array_body l.fn.array) all → (rest : Trees) × ArrayBody (values_left l.item-iterator) rest × ValuesGoOn (array_body l.fn.array) (values_left l.item-iterator))
     × ((all : Trees) → ArrayBody (array_body l.fn.array) all →
-    (done : List Token) × (rest : Trees) × ArrayBody (values_left l.item-iterator) rest × PutsTokens l.fn.room l.fn.place l.room l.end done
+    (done : List Token) × (rest : Trees) × ArrayBody (values_left l.item-iterator) rest × PutsTokens l.fn.buffer l.fn.place l.buffer l.end done
     × (done ++ items_tokens (items_outline (items_json rest)) ≡ json_tokens (outline (json (array all)))))
 
 -- with the tokens of the pairs that are left, the object's are there
@@ -41,5 +41,5 @@ invariant-put_pairs-loop-key l =
     (length (pairs_left l.key-iterator) ≤ length (table_body l.fn.table))
     × ((all : Entries) → TableBody (table_body l.fn.table) all → (rest : Entries) × TableBody (pairs_left l.key-iterator) rest × PairsGoOn (table_body l.fn.table) (pairs_left l.key-iterator))
     × ((all : Entries) → TableBody (table_body l.fn.table) all →
-    (done : List Token) × (rest : Entries) × TableBody (pairs_left l.key-iterator) rest × PutsTokens l.fn.room l.fn.place l.room l.end done
+    (done : List Token) × (rest : Entries) × TableBody (pairs_left l.key-iterator) rest × PutsTokens l.fn.buffer l.fn.place l.buffer l.end done
     × (done ++ members_tokens (members_outline (members_json rest)) ≡ json_tokens (outline (object (members_json all)))))
