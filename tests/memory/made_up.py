@@ -39,6 +39,7 @@ BY_NUMBER = {
     "bytes.reserve(input.input_len())?;": "the same",
     "self.bytes.try_reserve(buf.len())?;": "the same",
     "let mut bytes = vec![in alloc; 0; capacity]?;": "the bytes that a value was read from",
+    "self.bytes.resize(there.saturating_add(most), 0)?;": "what is missing of a value, at most a block",
     "let text = BufReader::with_capacity(rt.alloc(), BLOCK, input)?;": "a constant",
     "let reader = BufReader::with_capacity(rt.alloc(), BLOCK, input)?;": "a constant",
     "let space = make_room(&mut self.buffer, self.count, most)?;": "as much again as there is",
