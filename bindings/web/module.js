@@ -3,7 +3,7 @@ export const OK = 0, MORE = -1, UNKNOWN_TAG = -2, MALFORMED = -3, TOO_LARGE = -4
 export const UNKNOWN = 1, NOT_FINITE = 2, CUT = 3, KEY_CUT = 4, TOO_DEEP = 5, LARGE = 6, NOT_UTF8 = 7;
 export const READ = 0, RABBITMQ = 2, ARRAY = 65, TABLE = 70, MOST = 0xffffffff;
 // Where in 64 KiB an entry is, a count, a problem, two containers, ten bytes, and a cursor for each level.
-const PAGE = 65536, ENTRY = 0, COUNT = 64, PROBLEM = 72, INTO = 96, BODY = 120, TEN = 144, CURSORS = 160, CURSOR = 24;
+const PAGE = 65536, ENTRY = 0, COUNT = 64, PROBLEM = 72, INTO = 96, BODY = 128, TEN = 160, CURSORS = 176, CURSOR = 24;
 
 export class Module {
     // Of a compiled module, whose addresses have 64 bits, or 32. Its calls take 64 bits in either case.
@@ -44,9 +44,10 @@ export class Module {
         this.cursors = Array.from({ length: 1002 }, (_, level) => this.struct(CURSORS + CURSOR * level));
     }
 
-    // Has a cursor or a container be about these bytes of a container.
-    set(struct, from, to, tag) {
-        this.words.set([from, 0, to - from, 0, tag], (this.base + struct) / 4);
+    // Has a cursor be about these bytes of a container; a container have them, and another be open in it or not.
+    cursor(struct, from, to, tag) { this.words.set([from, 0, to - from, 0, tag], (this.base + struct) / 4); }
+    container(struct, from, to, tag, inner) {
+        this.words.set([from, 0, to - from, 0, tag + 256 * inner, 0, 0, 0], (this.base + struct) / 4);
         return this.struct(struct);
     }
 
@@ -86,14 +87,15 @@ export class Module {
 
     // Where the whole entries end of a container whose end hasn't come.
     wholeUntil(offset, tag) {
-        this.set(CURSORS, offset + 5, this.end, tag);
+        this.cursor(CURSORS, offset + 5, this.end, tag);
         while (this.next(0) === OK);
         return this.begins(0);
     }
 
     // Has a container end at an offset: writes its length.
     close(offset, tag, to) {
-        this.calls.amqpv_close(...this.whole, this.set(INTO, 0, offset, ARRAY), this.set(BODY, offset + 5, to, tag));
+        const [into, body] = [this.container(INTO, 0, offset, ARRAY, 1), this.container(BODY, offset + 5, to, tag, 0)];
+        this.calls.amqpv_close(...this.whole, into, body);
     }
 
     // Whether the value is canonical, if the module can tell.
@@ -104,8 +106,8 @@ export class Module {
     // The JSON of the value, or null.
     json(frame, depth) {
         const to = this.begin + this.end, length = () => this.words[(this.base + COUNT) / 4];
-        const write = (room) => this.calls.amqpv_write_json?.(
-            ...this.whole, frame, depth, BigInt(to), BigInt(room), this.struct(COUNT));
+        const write = (capacity) => this.calls.amqpv_write_json?.(
+            ...this.whole, frame, depth, BigInt(to), BigInt(capacity), this.struct(COUNT));
         if (write(0) !== NO_ROOM) {
             return null;
         }
@@ -115,7 +117,7 @@ export class Module {
 
     // Whether bytes may be a key, which is UTF-8. (They are put where no room is for them.)
     isKey(from, to) {
-        const [at, into] = [this.struct(TEN), this.set(INTO, 0, 0, TABLE)];
+        const [at, into] = [this.struct(TEN), this.container(INTO, 0, 0, TABLE, 0)];
         return this.calls.amqpv_put_void(at, 0n, into, ...this.span(from, to)) !== BAD_KEY;
     }
 }

@@ -1,5 +1,5 @@
 // What is seen: the tree and the bytes, what is said of them, and what they are taken from.
-import { MOST, Module, OK, UNKNOWN_TAG } from "./module.js";
+import { MOST, Module, OK, TABLE, UNKNOWN_TAG } from "./module.js";
 import { KEY, isContainer, isCounted, read } from "./reading.js";
 import { readHexadecimal } from "./hexadecimal.js";
 import { failure, hexadecimal, indentation, jsonText, keyText, outcome, rabbitmqText, repeats, rowParts, treeLines,
@@ -15,6 +15,9 @@ const CALLS = ["write_json", "is_canonical"];
 const MODULES = { 64: "Read by the module with 64-bit addresses, which is the proved code as Rattle compiles it.",
     32: "Read by the module with 32-bit addresses, which binaryen makes of the other; that step isn't proved." };
 const $ = (id) => document.getElementById(id);
+// What is said of bytes that are the other, by whether they are taken for a table without its type tag.
+const OTHER = ["the input is a table without its type tag; --table reads it",
+    "the input is a table with its type tag; without --table it is read"];
 // What is shown: bytes and what was read of them, the rows that are closed and those that are seen, what is marked.
 const now = { bytes: new Uint8Array(), reading: null, closed: new Set(), seen: null, row: -1, byte: -1, width: 16 };
 const modules = {};
@@ -156,18 +159,20 @@ function toggle(row) {
     fold();
 }
 
-// Reads the bytes, and shows what was read. What is no value, as a whole, may be a table without its type tag.
+// Reads the bytes, and shows what was read. What is no value, as a whole, may be a table without its type tag, and
+// what is no table one with it.
 function show() {
     const module = modules[$("bits").value], form = $("form").value, begun = performance.now();
     const limit = (id, most) => Math.max(0, Math.min(most, Math.trunc(Number($(id).value))));
     const how = { frame: limit("frame", MOST), depth: limit("depth", MOST_LEVELS), isTable: form === "table" };
     try {
         now.reading = read(module, now.bytes, how);
-        now.isTable = false;
-        if (now.reading.code === UNKNOWN_TAG) {
-            const table = read(module, now.bytes, { ...how, isTable: true });
-            now.isTable = table.code === OK && table.count === table.data.length;
-            now.reading = now.isTable && form === "any" ? table : read(module, now.bytes, how);
+        now.isOther = false;
+        if (now.reading.code === UNKNOWN_TAG || now.reading.code !== OK && how.isTable) {
+            const other = read(module, now.bytes, { ...how, isTable: !how.isTable });
+            const { code, count, data, rows } = other;
+            now.isOther = code === OK && count === data.length && rows.tag[0] === TABLE;
+            now.reading = now.isOther && form === "any" ? other : read(module, now.bytes, how);
         }
         now.took = performance.now() - begun;
         tell();
@@ -207,7 +212,7 @@ function tell(fault) {
     const canonical = isTold && `${module.isCanonical(reading.frame, reading.depth) ? "" : "not "}canonical`;
     const notes = [
         shift && $("form").value === "any" ? "read as a table without its type tag" : "",
-        now.isTable && !shift ? "the input is a table without its type tag; --table reads it" : "",
+        now.isOther && $("form").value !== "any" ? OTHER[shift] : "",
         rabbitmq ? jump(said, Math.max(0, rabbitmq.offset - shift)) : said,
         ...again.slice(0, 20).map(([row, line]) => jump(line, reading.rows.start[row] - shift)),
         again.length > 20 ? `${again.length - 20} more keys come again` : "",
