@@ -126,9 +126,12 @@ impl Body<'_> {
     fn put_body(&mut self, key: &str, tag: u8, bytes: &[u8]) -> Result<(), WriteError> {
         let outer = self.into;
         let mut body = self.open(key, tag, bytes.len())?;
-        let Some(free) = self.buffer[body.written.offset..].get_mut(..bytes.len()) else {
-            self.into = outer;
-            return Err(self.too_small(key, tag, bytes.len()));
+        let free = match self.buffer[body.written.offset..].get_mut(..bytes.len()) {
+            Some(free) => free,
+            None => {
+                self.into = outer;
+                return Err(self.too_small(key, tag, bytes.len()));
+            }
         };
         free.copy_from_slice(bytes);
         body.written.length = bytes.len();
