@@ -102,9 +102,16 @@ fn deep_tables_in_two_slices_and_with_their_tag_are_refused_too() {
 
 #[test]
 fn a_process_may_choose_errors() {
+    let many = counted(&[1, b'k', b'V'].repeat(10));
     under(Limits { refused: Refused::Error, ..LIMITS }, || {
         let error = text_of(parse_field_table(&nested(b'F', 3_000)[..]));
         assert_eq!(error, "Parser error: Nom(TooLarge)");
+    });
+    under(Limits { refused: Refused::Error, bytes: many.len() as u32, ..LIMITS }, || {
+        assert_eq!(text_of(parse_field_table(&many[..])), "Parser error: Nom(TooLarge)");
+    });
+    under(Limits { refused: Refused::Error, values: 10, ..LIMITS }, || {
+        assert_eq!(text_of(parse_field_table(&many[..])), "Parser error: Nom(TooLarge)");
     });
 }
 
