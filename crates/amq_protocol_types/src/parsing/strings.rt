@@ -1,21 +1,21 @@
 //! Parsers of strings and byte arrays: a length, then as many bytes.
 
-ghost use Rattle.std.specs.Prelude.{◌≡◌, ◌<◌, true, length, MatchOption, MatchResult, IfOk, OnErr, if◌then◌else◌};
+ghost use Rattle.std.specs.Prelude.{◌≡◌, ◌<◌, length, MatchOption, MatchResult, IfOk, IfErr};
 ghost use Rattle.std.specs.Str.{IsUtf8};
 ghost use Rattle.amqp_value_core.specs.Values.{short, long, octets};
 ghost use Rattle.amqp_value_core.specs.Contents.{long_bytes, octets_of};
 ghost use Rattle.amqp_value_core.specs.Payloads.{RawOutcome};
 ghost use Rattle.amqp_value_core.specs.Outcomes.{RawHeavy, found};
-ghost use Rattle.amq_protocol_types.specs.parsing.ParseResults.{IsRefusal};
+ghost use Rattle.amq_protocol_types.specs.parsing.ParseResults.{RefusesAs, IsRefusal};
 ghost use Rattle.amq_protocol_types.specs.parsing.PayloadResults.{OnlyLacks, RawRefuses};
 ghost use Rattle.amq_protocol_types.specs.parsing.Bodies.{IsLengthPrefixed, IsCutLengthPrefixed};
 
 use super::bytes::{copy_by_chunks, copy_of};
-use super::errors::{ErrorKind, ParserResult, lacks, out_of_memory, refused};
+use super::errors::{ErrorKind, ParserError, ParserResult, lacks, out_of_memory, refused};
 use super::scalars::{parse_long_uint, parse_short_short_uint};
 use super::traits::ParsableInput;
 use amqp_value_core::types::{AMQPType, ByteArray, LongString, ShortString, TryCopyError};
-use std::alloc::{AllocError, Global};
+use std::alloc::Global;
 
 /// Parses a short string: its length in one byte, then its bytes, which must be UTF-8.
 ///
@@ -35,37 +35,30 @@ pub fn parse_short_string<I: ParsableInput>(alloc: Global, i: I) -> ParserResult
     let body = i.take(len);
     let chunk = body.chunk();
     // bytes that aren't contiguous are joined first
-    let in_pieces = chunk.len() < len;
-    let joined = joined(alloc, body, in_pieces)?;
-    let Some(text) = text_of(whole(in_pieces, joined.as_slice(), chunk)) else {
+    let text = if chunk.len() < len {
+        short_string(alloc, copy_by_chunks(alloc, body)?.as_slice())?
+    } else {
+        short_string(alloc, chunk)?
+    };
+    Ok((i.take_from(len), text))
+}
+
+// The short string that bytes are, if they are UTF-8. It allocates only if there are any.
+#[inline(always)]
+fn short_string(alloc: Global, bytes: &[u8]) -> Result<ShortString, ParserError>
+    requires { length bytes.now < 256 }
+    ensures ok { IfOk result (λ text. (text ≡ bytes.now) × IsUtf8 bytes.now) }
+    ensures err { IfErr result (RefusesAs (λ kind. (kind ≡ ErrorKind.MapRes) × (IsUtf8 bytes.now → ⊥))
+        (λ _. ⊥) (0 < length bytes.now)) }
+{
+    let Some(text) = text_of(bytes) else {
         return Err(refused(ErrorKind::MapRes));
     };
     match ShortString::try_copy(alloc, text) {
-        Ok(text) => Ok((i.take_from(len), text)),
+        Ok(text) => Ok(text),
         Err(TryCopyError::OutOfMemory) => Err(out_of_memory()),
         Err(TryCopyError::TooLong(_)) => unreachable!(),
     }
-}
-
-// A copy of an input's bytes if they aren't contiguous, and no byte if they are.
-#[inline(always)]
-fn joined<I: ParsableInput>(alloc: Global, input: I, in_pieces: bool) -> Result<Vec<u8>, AllocError>
-    ensures ok { IfOk result (λ bytes. in_pieces ≡ true → bytes.items ≡ I.bytes input) }
-    ensures err { OnErr result (0 < length (I.bytes input)) }
-{
-    if in_pieces {
-        copy_by_chunks(alloc, input)
-    } else {
-        Ok(Vec::new(alloc))
-    }
-}
-
-// The bytes that were joined, if they aren't contiguous, otherwise the chunk that has all of them.
-#[inline(always)]
-fn whole<'a>(in_pieces: bool, joined: &'a [u8], chunk: &'a [u8]) -> &'a [u8]
-    ensures { result.now ≡ if in_pieces then joined.now else chunk.now }
-{
-    if in_pieces { joined } else { chunk }
 }
 
 // The string that bytes are, if they are UTF-8. Most keys are ASCII, which takes less to check.

@@ -1,6 +1,5 @@
 -- Prefixes that are as long as all, and strings of them.
-use Rattle.std.proofs.Common.{◌≡◌, ℕ, Bool, true, false, if◌then◌else◌, nat_lt, refl, ◌≤◌, List, ◌++◌, length, take, ap, sym, ◌∙◌, arith}
-use Rattle.std.proofs.lemmas.Bool.{ltb-false}
+use Rattle.std.proofs.Common.{◌≡◌, ℕ, ◌≤◌, List, ◌++◌, length, take, ap, sym, ◌∙◌, arith}
 use Rattle.std.proofs.lemmas.List.{append-nil, nil_from_length, length-append, length-take}
 use Rattle.std.specs.Str.{IsUtf8, IsAscii}
 use Rattle.std.proofs.lemmas.Str.{IsUtf8-from_ascii}
@@ -17,12 +16,7 @@ whole_prefix a s (rest, e) same =
     sym (append-nil a) ∙ ap (λ l. a ++ l) (sym none) ∙ sym e
 
 -- a prefix with at least n bytes is all of the first n, if n are there
-whole_taken : (a body left : List ℕ) (n : ℕ) → IsPrefix a body → body ≡ take n left → n ≤ length left → n ≤ length a → a ≡ take n left
+pub whole_taken : (a body left : List ℕ) (n : ℕ) → IsPrefix a body → body ≡ take n left → n ≤ length left → n ≤ length a → a ≡ take n left
 whole_taken a body left n (rest, e) is there enough =
     let size = length-take n left in
     whole_prefix a body (rest, e) (omega (arith, length-append a rest, ap length e, ap length is, size)) ∙ is
-
--- what was joined if a prefix is shorter than n, and else the prefix, is the first n bytes
-pub whole_or_joined : (a joined body left whole : List ℕ) (n : ℕ) (short : Bool) → IsPrefix a body → body ≡ take n left → n ≤ length left → short ≡ nat_lt (length a) n → (short ≡ true → joined ≡ body) → whole ≡ (if short then joined else a) → whole ≡ take n left
-whole_or_joined a joined body left whole n true prefix is there test made e = e ∙ made refl ∙ is
-whole_or_joined a joined body left whole n false prefix is there test made e = e ∙ whole_taken a body left n prefix is there (ltb-false (length a) n (sym test))

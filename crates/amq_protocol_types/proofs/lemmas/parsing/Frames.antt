@@ -14,10 +14,13 @@ use Rattle.amqp_value_core.specs.Nesting.{RawWithin, BodyWithin, RawOutcomeWithi
 use Rattle.amqp_value_core.specs.Outcomes.{Reading, found, more, unknown, malformed, length_field, counted, frame_lack, lack_of, lack, PrefixBy, RawHeavy}
 use Rattle.amqp_value_core.specs.Payloads.{RawOutcome}
 use Rattle.amqp_value_core.proofs.GrammarLaws.{array_body_within, table_body_within, raw_found_within, raw_whole_within, short_bytes, counted-long_field, lack_of-long_field, raw_found, raw_whole}
+use Rattle.amq_protocol_types.specs.declared.parsing.errors.Err.TheVariants.{Incomplete, Error, Failure}
+use Rattle.amq_protocol_types.specs.declared.parsing.errors.Needed.TheVariants.{Unknown, Size}
+use Rattle.amq_protocol_types.specs.declared.parsing.errors.ErrorKind.TheVariants.{MapRes}
 use Rattle.amq_protocol_types.specs.parsing.Refusals.{Refusal}
-use Rattle.amq_protocol_types.specs.parsing.ParseResults.{IsRefusal}
+use Rattle.amq_protocol_types.specs.parsing.ParseResults.{RefusesAs, IsRefusal}
 use Rattle.amq_protocol_types.specs.parsing.Bodies.{IsLengthPrefixed, IsNoBody, IsTable, IsNoTable}
-use Rattle.amq_protocol_types.specs.parsing.PayloadResults.{IsNumberRead}
+use Rattle.amq_protocol_types.specs.parsing.PayloadResults.{IsNumberRead, RawRefuses}
 use Rattle.amq_protocol_types.proofs.lemmas.parsing.Refused.{IsRefusal-weaker}
 
 -- ---- a length in four bytes
@@ -117,13 +120,15 @@ module _ (s left : List ℕ) (n : ℕ) (few : n < 256) (e : IsNumberRead w8 s n 
       let low : n % 256 ≡ length (take n left) = omega arith in
       e ∙ ap₂ (λ (k : ℕ) (t : List ℕ). k ∷ t) low (sym (take-append-drop n left))
 
+  small_counted : counted w8 s ≡ n
+  small_counted = ap (counted w8) e ∙ omega arith
+
   -- the length-prefixed field is complete
   small_whole : lack amqp.ShortString s ≡ 0
   small_whole =
       let size : length s ≡ 1 + length left = ap length e ∙ omega arith in
       let known : frame_lack w8 s ≡ 1 + counted w8 s - length s = rw (le-ltb (length s) 1 (omega arith)) refl in
-      let count : counted w8 s ≡ n = ap (counted w8) e ∙ omega arith in
-      omega arith
+      omega (arith, small_counted)
 
   -- a short string is read if they are UTF-8
   pub short_found : IsUtf8 (take n left) → RawOutcome amqp.ShortString s (found (short (take n left)) (drop n left))
@@ -136,3 +141,14 @@ module _ (s left : List ℕ) (n : ℕ) (few : n < 256) (e : IsNumberRead w8 s n 
   short_refused none =
       raw_whole amqp.ShortString s malformed small_whole
       (λ b rest v p d. none (short_bytes (take n left) (drop n left) b rest v p (sym split_small ∙ d)).utf8)
+
+  -- memory runs out only if there are any
+  short_heavy : (t : List ℕ) → t ≡ take n left → 0 < length t → RawHeavy amqp.ShortString s
+  short_heavy t is some = (refl, small_whole, omega (arith, ap length is, length-take-le n left there, small_counted))
+
+  -- so an error of making the string of them is right
+  pub short_error : (t : List ℕ) (e : Refusal) → t ≡ take n left → RefusesAs (λ kind. (kind ≡ MapRes) × (IsUtf8 t → ⊥)) (λ _. ⊥) (0 < length t) e → RawRefuses amqp.ShortString s e
+  short_error t (Incomplete Unknown) is x = x
+  short_error t (Incomplete (Size k)) is x = absurd x
+  short_error t (Error kind) is x = (x.0, short_refused (λ utf8. x.1 (subst IsUtf8 (sym is) utf8)))
+  short_error t (Failure kind) is x = (x.0, short_heavy t is x.1)
