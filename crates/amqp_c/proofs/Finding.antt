@@ -242,13 +242,13 @@ found_by s (Some w) (Some v) _ g m t = absurd g
 
 pub found_of : (s all key : List ℕ) (r : Result (Option Entry) Fault) → ((ps : List (List ℕ × List ℕ)) → ArePairEncodings all ps → GivesLast s (last_of key ps) r) → IfOk r (λ o. IfSome o (IsTrueTo s))
     → (es : Entries) → HasEntries all es → GivesFound s (value_at key es) r
-found_of s all key r gives reported es (ps, p, is) =
+found_of s all key r gives faithful es (ps, p, is) =
     let (qs, are, same) = laid key all ps p in
-    subst (λ (o : Option Tree). GivesFound s o r) (sym (ap (value_at key) is ∙ last_stays key ps)) (found_by s (last_of key qs) (last_at key ps) r (gives qs are) same reported)
+    subst (λ (o : Option Tree). GivesFound s o r) (sym (ap (value_at key) is ∙ last_stays key ps)) (found_by s (last_of key qs) (last_at key ps) r (gives qs are) same faithful)
 
 -- what is found is true to the values
 pub found_true : (s : List ℕ) (c : Cursor) (key : List ℕ) (r : Result (Option Entry) Fault) → IfOk r (λ o. IfSome o (IsFoundIn s c key)) → IfOk r (λ o. IfSome o (IsTrueTo s))
-found_true s c key (Ok (Some e)) h = h.reported
+found_true s c key (Ok (Some e)) h = h.faithful
 found_true s c key (Ok None) h = tt
 found_true s c key (Err f) h = tt
 

@@ -81,7 +81,7 @@ nth_laid (suc n) _ _ (value w rest v vs q all) =
     (u, later n (w ++ rest) u x.whole (subst (λ (t : List ℕ). HasNth n t u) (sym x.after) at), of)
 
 nth_true : (s : List ℕ) (c : Cursor) (r : Result (Option Entry) Fault) → IfOk r (λ o. IfSome o (IsNthIn s c)) → IfOk r (λ o. IfSome o (IsTrueTo s))
-nth_true s c (Ok (Some e)) h = h.reported
+nth_true s c (Ok (Some e)) h = h.faithful
 nth_true s c (Ok None) h = tt
 nth_true s c (Err f) h = tt
 

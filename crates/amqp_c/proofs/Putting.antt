@@ -98,9 +98,9 @@ put_of item old new k w into v (Ok grown) place encodes p (is, reaches) = record
 put_of item old new k w into v (Err f) place encodes p lacks = inr (place, inr (w, (v, encodes), lacks))
 
 -- a value of fixed width
-pub reported : (tag bits scale : ℕ) (w : List ℕ) (x : Scalar) → IsScalarOf tag bits scale x → w ≡ text (scalar x)
+pub scalar_encoding : (tag bits scale : ℕ) (w : List ℕ) (x : Scalar) → IsScalarOf tag bits scale x → w ≡ text (scalar x)
     → IsScalarEncoding tag bits scale w (scalar x) × Wire w (scalar x)
-reported tag bits scale w x tells same =
+scalar_encoding tag bits scale w x tells same =
     ((x, tells, refl, same), subst (λ (t : List ℕ). Wire t (scalar x)) (sym same) (text_is_wire (scalar x) tells.in_range tt refl))
 
 -- a long string or a byte array, after its length

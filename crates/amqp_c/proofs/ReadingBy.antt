@@ -86,15 +86,15 @@ table_headed rules l s none = headed rules l (tagged amqp.FieldTable s) (no_unta
 -- so the entry of the value is given
 pub first_read : (s : List ℕ) (done : Result Entry Fault) → IsHeaded s → IfOk done (IsEntryAtStart s) → IfOk done (EntryIsIn (length s))
     → ((v : Tree) (rest : List ℕ) → Outcome s (found v rest) → GivesFirst s v rest done) → IfErr done (HeaderFaults (Outcome s)) → IsReadOr (IsFirst s) s None done
-first_read s (Ok e) whole prefix inside reported refused = record { prefix = prefix; inside = inside; reported = reported }
-first_read s (Err f) whole prefix inside reported refused = absurd (cut_header s f refused whole)
+first_read s (Ok e) whole at_start inside faithful refused = record { at_start = at_start; inside = inside; faithful = faithful }
+first_read s (Err f) whole at_start inside faithful refused = absurd (cut_header s f refused whole)
 
 -- by the rules of reading that of the value that is read
 pub value_read : (l : Limits) (s : List ℕ) (done : Result Entry Fault) → FindsValue l s → ((v : Tree) (rest : List ℕ) → Outcome s (found v rest) → GivesFirst s v rest done)
     → MatchResult done (IsValueTaken l s) (FaultsWithin l s)
-value_read l s done (v, rest, x) reported =
+value_read l s done (v, rest, x) faithful =
     let f = prefix_within l.depth s rest v x.1 in
-    value_taken l s rest v done x (reported v rest (subst (λ (t : List ℕ). Outcome t (found v rest)) (sym f.2) (wire_found f.0 rest v f.1.0)))
+    value_taken l s rest v done x (faithful v rest (subst (λ (t : List ℕ). Outcome t (found v rest)) (sym f.2) (wire_found f.0 rest v f.1.0)))
 
 -- a table has the extent that its length counts
 prefixed_first : (s : List ℕ) (e : Entry) → IsPrefixedTable s e → IsFirstTable s e

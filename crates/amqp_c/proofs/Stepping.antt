@@ -59,22 +59,22 @@ tagged_at_start (c ∷ b) zero p key e some x = absurd (omega arith)
 tagged_at_start (c ∷ b) (suc n) p key e some x = (x.0, x.1, x.2, content_placed (has_content x.0) p key e x.3)
 
 pub tagged_placed : (s : List ℕ) (p key : Span) (e : Entry) → SpanIsIn (length s) p → EntryIsIn (length (part s p)) e → IsEntryAtStart (part s p) e → IsTagged (part s (moved p.offset e.value)) (placed p key e)
-tagged_placed s p key e in_s inside prefix =
+tagged_placed s p key e in_s inside at_start =
     let same : take e.value.length (part s p) ≡ part s (moved p.offset e.value) =
-    sym (part_prefix (part s p) e.value prefix.1) ∙ part_within s p e.value (omega (arith, inside.value, part_length s p in_s)) in
-    subst (λ (t : List ℕ). IsTagged t (placed p key e)) same (tagged_at_start (part s p) e.value.length p key e inside.some prefix.3)
+    sym (part_prefix (part s p) e.value at_start.1) ∙ part_within s p e.value (omega (arith, inside.value, part_length s p in_s)) in
+    subst (λ (t : List ℕ). IsTagged t (placed p key e)) same (tagged_at_start (part s p) e.value.length p key e inside.some at_start.3)
 
 -- and the entry is that of whatever value is encoded there
-pub reported_placed : (s : List ℕ) (p key : Span) (e : Entry) → SpanIsIn (length s) p → EntryIsIn (length (part s p)) e → e.value.offset ≡ 0
+pub faithful_placed : (s : List ℕ) (p key : Span) (e : Entry) → SpanIsIn (length s) p → EntryIsIn (length (part s p)) e → e.value.offset ≡ 0
     → ((v : Tree) (rest : List ℕ) → Outcome (part s p) (found v rest) → GivesFirst (part s p) v rest (Ok e)) → IsTrueTo s (placed p key e)
-reported_placed s p key e in_s inside from reported = λ v w.
+faithful_placed s p key e in_s inside from faithful = λ v w.
     let n = e.value.length in
     let rest = drop n (part s p) in
     let here : part s (moved p.offset e.value) ≡ take n (part s p) =
     sym (sym (part_prefix (part s p) e.value from) ∙ part_within s p e.value (omega (arith, inside.value, part_length s p in_s))) in
     let same : part s (moved p.offset e.value) ++ rest ≡ part s p = ap (λ (t : List ℕ). t ++ rest) here ∙ take-append-drop n (part s p) in
     let x : Outcome (part s p) (found v rest) = subst (λ (t : List ℕ). Outcome t (found v rest)) same (wire_found (part s (moved p.offset e.value)) rest v w) in
-    (first_given s p key e in_s inside v rest x (reported v rest x)).0
+    (first_given s p key e in_s inside v rest x (faithful v rest x)).0
 
 -- the first of some values
 pub value_given : (s : List ℕ) (p key : Span) (r : Option Entry) → SpanIsIn (length s) p → 0 < p.length → key.length ≡ 0

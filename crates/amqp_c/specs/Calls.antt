@@ -51,8 +51,8 @@ pub record GivesFirstEntry (s : List ℕ) (old : Entry) (code : ℤ) (new : Entr
   pub done : Result Entry Fault
   pub returned : code ≡ return_code_of done
   pub entry : new ≡ ok_or_old old done
-  pub reported : (v : Tree) (rest : List ℕ) → Outcome s (found v rest) → GivesFirst s v rest done
-  pub prefix : IfOk done (IsEntryAtStart s)
+  pub faithful : (v : Tree) (rest : List ℕ) → Outcome s (found v rest) → GivesFirst s v rest done
+  pub at_start : IfOk done (IsEntryAtStart s)
   pub inside : IfOk done (EntryIsIn (length s))
   pub refused : IfErr done (HeaderFaults (Outcome s))
 

@@ -31,7 +31,7 @@ nth (suc n) (tree v vs) = nth n vs
 -- the value if one is encoded there, and is in what the cursor c has left
 pub record IsNthIn (s : List ℕ) (c : Cursor) (e : Entry) : Type 0 where
   pub typed : IsTagged (part s e.value) e
-  pub reported : IsTrueTo s e
+  pub faithful : IsTrueTo s e
   pub stands : (n : ℕ) × (n ≤ c.left.length) × StandsAlone s (last c.left n) e × EndsIn (last c.left n) e
   pub inside : EntryIsIn (length s) e
 

@@ -43,9 +43,9 @@ IsReadOr Is s _ _ = ⊥
 
 -- e is what amqpv_first returns: the entry of the value at the start of s, by its type tag and its length
 pub record IsFirst (s : List ℕ) (e : Entry) : Type 0 where
-  pub prefix : IsEntryAtStart s e
+  pub at_start : IsEntryAtStart s e
   pub inside : EntryIsIn (length s) e
-  pub reported : (v : Tree) (rest : List ℕ) → Outcome s (found v rest) → GivesFirst s v rest (Ok e)
+  pub faithful : (v : Tree) (rest : List ℕ) → Outcome s (found v rest) → GivesFirst s v rest (Ok e)
 
 -- e is the entry of a table without its type tag, which has all the bytes that its length counts
 pub record IsFirstTable (s : List ℕ) (e : Entry) : Type 0 where

@@ -87,7 +87,7 @@ pub record IsCursorStep (s : List ℕ) (c : Cursor) (e : Entry) (next : Cursor) 
   pub value : c.tag ≡ array_tag → StandsAlone s c.left e
   pub pair : c.tag ≡ table_tag → StandsKeyed s c.left e
   pub typed : IsTagged (part s e.value) e
-  pub reported : IsTrueTo s e
+  pub faithful : IsTrueTo s e
   pub in_bytes : SpanIsIn (length s) next.left
   pub same : next.tag ≡ c.tag
   pub begins : next.left.offset ≡ e.value.offset + e.value.length
@@ -158,7 +158,7 @@ GivesLast s _ _ = ⊥
 pub record IsFoundIn (s : List ℕ) (c : Cursor) (key : List ℕ) (e : Entry) : Type 0 where
   pub keyed : part s e.key ≡ key
   pub typed : IsTagged (part s e.value) e
-  pub reported : IsTrueTo s e
+  pub faithful : IsTrueTo s e
   pub stands : StandsIn s c.left e
   pub inside : EntryIsIn (length s) e
 

@@ -60,10 +60,10 @@ impl Entry {
 /// is in a container isn't looked at.
 #[inline(always)]
 pub fn first(bytes: &[u8]) -> Result<Entry, Fault>
-    ensures reported { (v : Tree) (rest : List ℕ) → Outcome bytes.now (found v rest)
+    ensures faithful { (v : Tree) (rest : List ℕ) → Outcome bytes.now (found v rest)
         → GivesFirst bytes.now v rest result }
     ensures inside { IfOk result (λ e. EntryIsIn (length bytes.now) e) }
-    ensures prefix { IfOk result (IsEntryAtStart bytes.now) }
+    ensures at_start { IfOk result (IsEntryAtStart bytes.now) }
     ensures refused { IfErr result (HeaderFaults (Outcome bytes.now)) }
 {
     let (payload, amqp_type) = parse_type(SliceInput::new(bytes))?;

@@ -10,7 +10,7 @@ use Rattle.amq_protocol_types.specs.declared.parsing.errors.ErrorKind.TheVariant
 use Rattle.amq_protocol_types.specs.parsing.ParseResults.{RefusesAs}
 use Rattle.amq_protocol_types.specs.parsing.Refusals.{Refusal}
 
--- an error reports the input, and no memory
+-- the error isn't a `Failure`: no allocation failed
 abbrev pub NeedsNoMemory : Refusal → Type 0
 NeedsNoMemory (Failure kind) = ⊥
 NeedsNoMemory _ = Unit {0}
@@ -25,10 +25,10 @@ HeadRefuses Is e = RefusesAs (λ kind. (kind ≡ MapOpt) × Is unknown) Is ⊥ e
 abbrev pub IsReadInPlaceWithin : ℕ → List ℕ → ValueRef → List ℕ → Type 0
 IsReadInPlaceWithin d s view rest = (v : Tree) × Denotes view v × OutcomeWithin d s (found v rest)
 
--- the rest is what is left of s after the bytes before it
+-- s ends in `rest`, after some bytes w
 abbrev pub IsLeft : List ℕ → List ℕ → Type 0
 IsLeft s rest = (w : List ℕ) × (s ≡ w ++ rest)
 
--- n bytes are before what is left after the value at the beginning, if there is one
+-- if a value is read from the start of s, it has n bytes
 abbrev pub IsWidthOfFound : List ℕ → ℕ → Type 0
 IsWidthOfFound s n = (v : Tree) (rest : List ℕ) → Outcome s (found v rest) → length s ≡ n + length rest

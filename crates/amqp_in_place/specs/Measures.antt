@@ -29,7 +29,7 @@ abbrev mutual
   pairs_written _ _ no_pairs = 0
   pairs_written _ _ (pair k w rest v ps key first others) = written w v first + pairs_written rest ps others
 
--- P is so of the encoding at the start of s, in whichever way it is one
+-- P holds of the encoding at the start of s, and of each derivation of it
 abbrev pub OfEncoding : List ℕ → ((w : List ℕ) (v : Tree) → Wire w v → Type 0) → Type 0
 OfEncoding s P = (w rest : List ℕ) (v : Tree) (p : Wire w v) → s ≡ w ++ rest → P w v p
 
@@ -53,7 +53,8 @@ pub record HoldsValues (s : List ℕ) (n l : ℕ) : Type 0 where
   pub values : n ≡ body_written s trees are
   pub levels : l ≡ body_nesting s trees are
 
--- and so of pairs
+-- the bytes are pairs one after another: n values are written in their values, and containers nest l
+-- levels deep in these
 pub record HoldsPairs (s : List ℕ) (n l : ℕ) : Type 0 where
   pub pairs : Entries
   pub are : TableBody s pairs

@@ -78,7 +78,7 @@ pub fn measure_table(bytes: &[u8], limits: Limits) -> Result<Measure, ParserErro
     Ok(held.in_bytes(bytes.len() - rest.len()))
 }
 
-// How many values there are, and how many levels containers nest in them.
+// How many values a part of an encoding holds, and how many levels containers nest in it.
 #[derive(Clone, Copy)]
 struct Held {
     values: usize,
@@ -86,7 +86,8 @@ struct Held {
 }
 
 impl Held {
-    // These and others.
+    // What two parts of a body hold together: as many values as both, and as many levels as the
+    // deeper one.
     fn and(self, others: Held) -> Held
         requires { self.values + others.values < 2 ^ 64 }
         ensures values { result.values ≡ self.values + others.values }
@@ -98,7 +99,7 @@ impl Held {
         }
     }
 
-    // These and a container around them.
+    // What a container holds whose body holds these.
     fn with_container(self) -> Held
         requires { (self.values < 2 ^ 32) × (self.levels < 2 ^ 32) }
         ensures values { result.values ≡ 1 + self.values }
@@ -110,7 +111,7 @@ impl Held {
         }
     }
 
-    // The measure of a value in which they are, with the length of its encoding.
+    // The measure of a value that holds these, and whose encoding has that many bytes.
     fn in_bytes(self, bytes: usize) -> Measure
         ensures bytes { result.bytes ≡ bytes }
         ensures values { result.values ≡ self.values }
@@ -124,7 +125,7 @@ impl Held {
     }
 }
 
-// What a value holds, itself included.
+// What a value holds: itself, and if it is a container, what its body holds.
 #[cycle(measurer)]
 fn held_by_value<'a>(value: ValueRef<'a>) -> Held
     requires { IsValueView value }
@@ -141,7 +142,7 @@ fn held_by_value<'a>(value: ValueRef<'a>) -> Held
     }
 }
 
-// What the values in a body hold.
+// What an array's body holds.
 #[cycle(measurer)]
 fn held_by_values<'a>(body: SliceInput<'a>) -> Held
     requires { HasValues (slice_bytes body) × (length (slice_bytes body) < 2 ^ 32) }
@@ -159,7 +160,7 @@ fn held_by_values<'a>(body: SliceInput<'a>) -> Held
     held
 }
 
-// What the values of the pairs in a body hold.
+// What a table's body holds: of each pair its value.
 #[cycle(measurer)]
 fn held_by_pairs<'a>(body: SliceInput<'a>) -> Held
     requires { HasPairs (slice_bytes body) × (length (slice_bytes body) < 2 ^ 32) }

@@ -285,9 +285,9 @@ is_under _ d t h = absurd (cc h)
 abbrev IsAmbiguous : Data → Type 0
 IsAmbiguous d = (t : Tree) → ambiguous_table d ≡ Some t → json t ≡ under amqp.FieldTable d
 
-is_named : (type : AMQPType) (d : Data) (t : Tree) → IsAmbiguous d → value_named type d (ambiguous_table d) ≡ Some t → json t ≡ under type d
-is_named amqp.FieldTable d t inner h = inner t h
-is_named type d t inner h = is_under type d t h
+is_under_name : (type : AMQPType) (d : Data) (t : Tree) → IsAmbiguous d → value_named type d (ambiguous_table d) ≡ Some t → json t ≡ under type d
+is_under_name amqp.FieldTable d t inner h = inner t h
+is_under_name type d t inner h = is_under type d t h
 
 -- a table that no type's name is taken for, and one that is
 plain_table : (ms : Members) (es : Option Entries) (t : Tree) → sole_type ms ≡ None → ((fs : Entries) → es ≡ Some fs → members_json fs ≡ ms) → option_map table es ≡ Some t → json t ≡ object ms
@@ -305,7 +305,7 @@ in_object : (ms : Members) (o : Option AMQPType) (t : Tree) → sole_type ms ≡
     → ((k : List ℕ) (d : Data) (rest : Members) → ms ≡ member k d rest → IsAmbiguous d) → value_in o ms (entries_of ms) (first_ambiguous ms) ≡ Some t → json t ≡ object ms
 in_object ms None t o later inner h = plain_table ms (entries_of ms) t o later h
 in_object (member k d no_members) (Some type) t o later inner h =
-    is_named type d t (inner k d no_members refl) h ∙ ap (λ j. object (member j d no_members)) (sym (is_name k type o))
+    is_under_name type d t (inner k d no_members refl) h ∙ ap (λ j. object (member j d no_members)) (sym (is_name k type o))
 in_object _ (Some type) t o later inner h = absurd (cc h)
 
 mutual

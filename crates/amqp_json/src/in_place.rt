@@ -12,9 +12,9 @@ ghost use Rattle.amqp_json.specs.Json.{json, members_json};
 ghost use Rattle.amqp_json.specs.Adds.{Adds};
 ghost use Rattle.amqp_json.specs.Sorted.{AreAt};
 
-use crate::keys::{keys_rise, looks_named};
+use crate::keys::{keys_rise, needs_type_name};
 use crate::owned::write_owned;
-use crate::sorted::{is_named, map_of};
+use crate::sorted::{map_needs_type_name, map_of};
 use crate::tokens::{begin_named, decimal, digits, integer, long_string, natural};
 use amqp_in_place::{ArrayRef, TableRef, ValueRef};
 use amqp_value_core::types::AMQPType;
@@ -94,7 +94,7 @@ fn write_table(
     if !keys_rise(table) {
         return write_unordered(alloc, out, table, depth);
     }
-    if looks_named(table) {
+    if needs_type_name(table) {
         begin_named(out)?;
         out.begin_object()?;
         write_pairs(alloc, out, table, depth)?;
@@ -117,7 +117,7 @@ fn write_unordered(
     ensures before { out.new.before ≡ out.old.before }
 {
     let map = map_of(alloc, table)?;
-    if is_named(&map) {
+    if map_needs_type_name(&map) {
         begin_named(out)?;
         out.begin_object()?;
         write_map(alloc, out, &map, depth)?;

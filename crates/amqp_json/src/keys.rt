@@ -32,7 +32,7 @@ pub(crate) fn keys_rise(table: TableRef<'_>) -> bool
 }
 
 /// Whether the JSON of the pairs would be taken for a value of another type.
-pub(crate) fn looks_named(table: TableRef<'_>) -> bool
+pub(crate) fn needs_type_name(table: TableRef<'_>) -> bool
     ensures { (ps : Entries) → TableBody (table_body table.entry) ps
         → result ≡ is_some (sole_type (members_json ps)) }
 {

@@ -11,7 +11,7 @@ ghost use Rattle.amqp_json.specs.Adds.{Adds};
 ghost use Rattle.amqp_json.specs.Json.{json, items_json, members_json, table_json};
 
 use crate::tokens::{begin_named, decimal, digits, integer, long_string, natural, short_string};
-use crate::writing::looks_named;
+use crate::writing::needs_type_name;
 use amqp_value_core::types::{AMQPType, ShortString};
 use amqp_value_core::value::AMQPValue;
 use json::Writer;
@@ -72,7 +72,7 @@ fn write_table(
     ensures before { out.new.before ≡ out.old.before }
     ensures entries { OnOk result (AreEntries (entries map.now.entries)) }
 {
-    if looks_named(map) {
+    if needs_type_name(map) {
         begin_named(out)?;
         out.begin_object()?;
         write_members(alloc, out, map)?;

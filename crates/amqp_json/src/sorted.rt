@@ -28,7 +28,7 @@ pub(crate) fn map_of<'a>(
 }
 
 /// Whether the JSON of the entries would be taken for a value of another type.
-pub(crate) fn is_named(map: &BTreeMap<&str, ValueRef<'_>>) -> bool
+pub(crate) fn map_needs_type_name(map: &BTreeMap<&str, ValueRef<'_>>) -> bool
     ensures { (es : Entries) → AreAt map.now.entries es
         → result ≡ is_some (sole_type (members_json es)) }
 {

@@ -65,7 +65,7 @@ fn decimal(alloc: Global, scale: u8, value: u32) -> Result<Value, AllocError>
 }
 
 // whether the entries' JSON would be taken for a value of another type
-pub(crate) fn looks_named(map: &BTreeMap<ShortString, AMQPValue>) -> bool
+pub(crate) fn needs_type_name(map: &BTreeMap<ShortString, AMQPValue>) -> bool
     ensures { result ≡ is_some (sole_type (members_json (entries map.now.entries))) }
 {
     let mut keys = map.iter();
@@ -155,7 +155,7 @@ fn written_table(alloc: Global, map: &BTreeMap<ShortString, AMQPValue>) -> Resul
     ensures stored { OnOk result (EntriesStored (entries map.now.entries)) }
 {
     let object = Value::Object(written_members(alloc, map)?);
-    if looks_named(map) {
+    if needs_type_name(map) {
         return under_type(alloc, AMQPType::FieldTable, object);
     }
     Ok(object)

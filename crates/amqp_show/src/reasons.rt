@@ -188,7 +188,8 @@ enum Denoted {
 
 fn denoted_by(members: &Map<String, Value>) -> Denoted {
     match only_member(members) {
-        Some(("FieldTable", Value::Object(entries))) if is_named(entries) => Denoted::NamedTable,
+        Some(("FieldTable", Value::Object(entries))) if needs_type_name(entries) =>
+            Denoted::NamedTable,
         Some((name, _)) => match wanted_under(name) {
             Some(wanted) => Denoted::Leaf(wanted),
             None => Denoted::Table,
@@ -205,8 +206,8 @@ fn only_member(members: &Map<String, Value>) -> Option<(&str, &Value)> {
     }
 }
 
-// Whether the name of a type is the only key.
-fn is_named(members: &Map<String, Value>) -> bool {
+// Whether the entries would be taken for a value of another type: its name is the only key.
+fn needs_type_name(members: &Map<String, Value>) -> bool {
     match only_member(members) {
         Some((name, _)) => wanted_under(name).is_some(),
         None => false,

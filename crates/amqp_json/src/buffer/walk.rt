@@ -14,7 +14,7 @@ ghost use Rattle.amqp_json.specs.Puts.{PutsJson};
 use super::leaves::{begin, decimal, digits, integer, long_string, natural, plain_integer};
 use super::place::Place;
 use super::printing::put_token;
-use crate::keys::{keys_rise, looks_named};
+use crate::keys::{keys_rise, needs_type_name};
 use amqp_in_place::{ArrayRef, TableRef, ValueRef};
 use amqp_value_core::types::AMQPType;
 use json::Token;
@@ -96,7 +96,7 @@ fn put_table(buffer: &mut [u8], place: Place, table: TableRef<'_>) -> Option<Pla
     if !keys_rise(table) {
         return None;
     }
-    if looks_named(table) {
+    if needs_type_name(table) {
         let inner = begin(buffer, place, AMQPType::FieldTable);
         let end = put_pairs(buffer, inner, table)?;
         return Some(put_token(buffer, end, Token::EndObject));

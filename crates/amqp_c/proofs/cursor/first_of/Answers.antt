@@ -2,11 +2,11 @@ use Rattle.std.proofs.Common.{List, ℕ, length, Ok, subst, sym}
 use Rattle.amqp_value_core.specs.Outcomes.{Outcome, found}
 use Rattle.amqp_c.specs.CallResults.{GivesFirst}
 use Rattle.amqp_c.specs.Entries.{IsEntryAtStart, EntryIsIn}
-use Rattle.amqp_c.proofs.Stepping.{first_given, tagged_placed, reported_placed}
+use Rattle.amqp_c.proofs.Stepping.{first_given, tagged_placed, faithful_placed}
 use Rattle.amqp_c.proofs.cursor.first_of.Goals as goal
 
-pub returns-clause-reported : goal.returns-clause-reported
-returns-clause-reported c = λ v rest x.
+pub returns-clause-faithful : goal.returns-clause-faithful
+returns-clause-faithful c = λ v rest x.
     let s = c.args.bytes.now in
     let is = c.part.ensures in
     let e = c.in-Ok.entry in
@@ -14,7 +14,7 @@ returns-clause-reported c = λ v rest x.
     (first_given s c.args.left c.args.key e c.requires.left
     (subst (λ (t : List ℕ). EntryIsIn (length t) e) is c.in-Ok.ensures.inside) v rest x
     (subst (λ (t : List ℕ). GivesFirst t v rest (Ok e)) is
-    (c.in-Ok.ensures.reported v rest (subst (λ (t : List ℕ). Outcome t (found v rest)) (sym is) x))))
+    (c.in-Ok.ensures.faithful v rest (subst (λ (t : List ℕ). Outcome t (found v rest)) (sym is) x))))
 
 pub returns-clause-typed : goal.returns-clause-typed
 returns-clause-typed c =
@@ -22,15 +22,15 @@ returns-clause-typed c =
     let is = c.part.ensures in
     let e = c.in-Ok.entry in
     rw (c.moved.ensures, c.moved-2.ensures)
-    (tagged_placed s c.args.left c.args.key e c.requires.left (subst (λ (t : List ℕ). EntryIsIn (length t) e) is c.in-Ok.ensures.inside) (subst (λ (t : List ℕ). IsEntryAtStart t e) is c.in-Ok.ensures.prefix))
+    (tagged_placed s c.args.left c.args.key e c.requires.left (subst (λ (t : List ℕ). EntryIsIn (length t) e) is c.in-Ok.ensures.inside) (subst (λ (t : List ℕ). IsEntryAtStart t e) is c.in-Ok.ensures.at_start))
 
 pub returns-clause-faithful : goal.returns-clause-faithful
 returns-clause-faithful c =
     let s = c.args.bytes.now in
     let is = c.part.ensures in
     let e = c.in-Ok.entry in
-    let prefix = subst (λ (t : List ℕ). IsEntryAtStart t e) is c.in-Ok.ensures.prefix in
+    let at_start = subst (λ (t : List ℕ). IsEntryAtStart t e) is c.in-Ok.ensures.at_start in
     rw (c.moved.ensures, c.moved-2.ensures)
-    (reported_placed s c.args.left c.args.key e c.requires.left (subst (λ (t : List ℕ). EntryIsIn (length t) e) is c.in-Ok.ensures.inside) prefix.1
+    (faithful_placed s c.args.left c.args.key e c.requires.left (subst (λ (t : List ℕ). EntryIsIn (length t) e) is c.in-Ok.ensures.inside) at_start.1
     (λ v rest x. subst (λ (t : List ℕ). GivesFirst t v rest (Ok e)) is
-    (c.in-Ok.ensures.reported v rest (subst (λ (t : List ℕ). Outcome t (found v rest)) (sym is) x))))
+    (c.in-Ok.ensures.faithful v rest (subst (λ (t : List ℕ). Outcome t (found v rest)) (sym is) x))))

@@ -17,15 +17,15 @@ returns-in_err-rest-clause-refused c =
     let r = err_from_is_err_and c.from_residual-in_err-rest.result c.from_residual-in_err-rest.ensures.1 in
     rw (r.1, r.2) (cut_fault s mid c.in_ok-payload.amqp_type p (sym c.has_content.ensures ∙ c.if-has_content.true) c.in_err-rest.field-0.0 c.in_err-rest.ensures)
 
-pub returns-in_err-rest-clause-reported : goal.returns-in_err-rest-clause-reported
-returns-in_err-rest-clause-reported c = λ v rest x.
+pub returns-in_err-rest-clause-faithful : goal.returns-in_err-rest-clause-faithful
+returns-in_err-rest-clause-faithful c = λ v rest x.
     let s = c.args.bytes.now in
     let mid = slice_bytes c.in_ok-payload.payload in
     let p = subst (λ (t : List ℕ). IsType t c.in_ok-payload.amqp_type mid) c.new.ensures c.in_ok-payload.ensures.id in
     absurd (never_faulty s rest v (fault_of c.in_err-rest.field-0.0) x (cut_fault s mid c.in_ok-payload.amqp_type p (sym c.has_content.ensures ∙ c.if-has_content.true) c.in_err-rest.field-0.0 c.in_err-rest.ensures))
 
-pub returns-then-has_content-clause-reported : goal.returns-then-has_content-clause-reported
-returns-then-has_content-clause-reported c = λ v left x.
+pub returns-then-has_content-clause-faithful : goal.returns-then-has_content-clause-faithful
+returns-then-has_content-clause-faithful c = λ v left x.
     let s = c.args.bytes.now in
     let mid = slice_bytes c.in_ok-payload.payload in
     let body = slice_bytes c.in_ok-rest.body in
@@ -45,8 +45,8 @@ returns-then-has_content-clause-reported c = λ v left x.
     let is = content_entry s mid body rest c.in_ok-payload.amqp_type p f (sym c.has_content.ensures ∙ c.if-has_content.true) e refl whole refl c.input_len-then-has_content.ensures.count c.tag_of-tag.ensures (refl, refl) v left x in
     (is.0, refl, omega (arith, ap length is.1, whole))
 
-pub returns-then-has_content-clause-prefix : goal.returns-then-has_content-clause-prefix
-returns-then-has_content-clause-prefix c =
+pub returns-then-has_content-clause-at_start : goal.returns-then-has_content-clause-at_start
+returns-then-has_content-clause-at_start c =
     let s = c.args.bytes.now in
     let mid = slice_bytes c.in_ok-payload.payload in
     let p = subst (λ (t : List ℕ). IsType t c.in_ok-payload.amqp_type mid) c.new.ensures c.in_ok-payload.ensures.id in
@@ -58,8 +58,8 @@ returns-then-has_content-clause-prefix c =
     let size : length s - c.input_len.result ≡ 5 + c.input_len-then-has_content.result = omega (arith, whole, c.input_len.ensures.count, c.input_len-then-has_content.ensures.count) in
     (refl, refl, omega (arith, c.input_len.ensures.count), is_tagged s mid c.in_ok-payload.amqp_type p _ c.tag_of-tag.ensures true has (refl, size, (refl, refl)))
 
-pub returns-in_err-fixed-clause-reported : goal.returns-in_err-fixed-clause-reported
-returns-in_err-fixed-clause-reported c = λ v rest x.
+pub returns-in_err-fixed-clause-faithful : goal.returns-in_err-fixed-clause-faithful
+returns-in_err-fixed-clause-faithful c = λ v rest x.
     let s = c.args.bytes.now in
     let mid = slice_bytes c.in_ok-payload.payload in
     let p = subst (λ (t : List ℕ). IsType t c.in_ok-payload.amqp_type mid) c.new.ensures c.in_ok-payload.ensures.id in
@@ -75,8 +75,8 @@ returns-in_err-fixed-clause-refused c =
     let r = err_from_is_err_and c.from_residual-in_err-fixed.result c.from_residual-in_err-fixed.ensures.1 in
     rw (r.1, r.2, e.1) (scalar_fault s mid c.in_ok-payload.amqp_type p (sym c.has_content.ensures ∙ c.if-has_content.false) c.in_ok-payload.ensures.read_back e.0 e.2)
 
-pub returns-clause-prefix : goal.returns-clause-prefix
-returns-clause-prefix c =
+pub returns-clause-at_start : goal.returns-clause-at_start
+returns-clause-at_start c =
     let s = c.args.bytes.now in
     let mid = slice_bytes c.in_ok-payload.payload in
     let p = subst (λ (t : List ℕ). IsType t c.in_ok-payload.amqp_type mid) c.new.ensures c.in_ok-payload.ensures.id in
@@ -91,8 +91,8 @@ returns-clause-inside c =
     let less = found_shorter c.args.bytes.now x.1 x.0 x.2 in
     record { key = omega arith; value = omega (arith, less, x.3); content = omega arith; some = omega (arith, less, x.3) }
 
-pub returns-clause-reported : goal.returns-clause-reported
-returns-clause-reported c = λ v left y.
+pub returns-clause-faithful : goal.returns-clause-faithful
+returns-clause-faithful c = λ v left y.
     let s = c.args.bytes.now in
     let mid = slice_bytes c.in_ok-payload.payload in
     let p = subst (λ (t : List ℕ). IsType t c.in_ok-payload.amqp_type mid) c.new.ensures c.in_ok-payload.ensures.id in

@@ -7,11 +7,11 @@ pub returns-in-None-clause-right : goal.returns-in-None-clause-right
 returns-in-None-clause-right c =
     let s = c.args.bytes.now in
     let is = c.first.ensures in
-    first_read s c.first.result (headed c.args.rules c.args.limits s (sym c.first_problem.ensures.first ∙ c.in-None.is)) is.prefix is.inside is.reported is.refused
+    first_read s c.first.result (headed c.args.rules c.args.limits s (sym c.first_problem.ensures.first ∙ c.in-None.is)) is.at_start is.inside is.faithful is.refused
 
 pub returns-in-None-clause-same : goal.returns-in-None-clause-same
 returns-in-None-clause-same c = λ is.
-    value_read c.args.limits c.args.bytes.now c.first.result ((c.in-None.ensures.read is).0 refl) c.first.ensures.reported
+    value_read c.args.limits c.args.bytes.now c.first.result ((c.in-None.ensures.read is).0 refl) c.first.ensures.faithful
 
 pub returns-in-Some-clause-right : goal.returns-in-Some-clause-right
 returns-in-Some-clause-right c =

@@ -28,13 +28,13 @@ write_pairs-loop-key-preserved t c =
           member_added l.out.tokens c.key.new.self.tokens c.write_value.new.out.tokens _ at.0 (c.in-Some.key, c.in-Some.value) (pairs_left c.next.new.self) (c.in-Some.ensures.steps.0 at.0 at.1) named c.in_ok-write_value.ensures.ok at.2,
     )
 
-pub write_table-returns-then-looks_named-clause-ok : goal.write_table-returns-then-looks_named-clause-ok
-write_table-returns-then-looks_named-clause-ok t c =
+pub write_table-returns-then-needs_type_name-clause-ok : goal.write_table-returns-then-needs_type_name-clause-ok
+write_table-returns-then-needs_type_name-clause-ok t c =
     let rise : c.keys_rise.result ≡ true = grind arith in
     let opened : c.begin_object.new.self.tokens ≡ c.begin_named.new.out.tokens ++ begin_object ∷ [] = search rules in
     on_ok_weaker c.end_object.result (λ e es has.
     named_table _ c.begin_named.new.out.tokens c.begin_object.new.self.tokens c.write_pairs.new.out.tokens c.end_object.new.self.tokens has.0 es
-    (sym (c.looks_named.ensures has.0 has.1) ∙ c.if-looks_named.true) (c.keys_rise.ensures.rise rise has.0 has.1) has.2 c.in_ok-begin_named.ensures.ok opened (c.in_ok-write_pairs.ensures.ok has.0 has.1) e) c.end_object.ensures.ok
+    (sym (c.needs_type_name.ensures has.0 has.1) ∙ c.if-needs_type_name.true) (c.keys_rise.ensures.rise rise has.0 has.1) has.2 c.in_ok-begin_named.ensures.ok opened (c.in_ok-write_pairs.ensures.ok has.0 has.1) e) c.end_object.ensures.ok
 
 pub write_table-returns-clause-ok : goal.write_table-returns-clause-ok
 write_table-returns-clause-ok t c =
@@ -42,7 +42,7 @@ write_table-returns-clause-ok t c =
     let opened : c.begin_object-2.new.self.tokens ≡ c.args.out.now.tokens ++ begin_object ∷ [] = search rules in
     on_ok_weaker c.write_pairs-2.result (λ e es has.
     plain_table _ c.begin_object-2.new.self.tokens c.write_pairs-2.new.out.tokens has.0 es
-    (sym (c.looks_named.ensures has.0 has.1) ∙ c.if-looks_named.false) (c.keys_rise.ensures.rise rise has.0 has.1) has.2 opened (e has.0 has.1)) c.write_pairs-2.ensures.ok
+    (sym (c.needs_type_name.ensures has.0 has.1) ∙ c.if-needs_type_name.false) (c.keys_rise.ensures.rise rise has.0 has.1) has.2 opened (e has.0 has.1)) c.write_pairs-2.ensures.ok
 
 pub write_map-loop-key-preserved : goal.write_map-loop-key-preserved
 write_map-loop-key-preserved t c =
@@ -56,13 +56,13 @@ write_map-loop-key-preserved t c =
           map_added l.out.tokens c.key.new.self.tokens c.write_value.new.out.tokens _ at.0 l.key-iterator e c.next.new.self c.in-Some.ensures.steps at.1 named c.in_ok-write_value.ensures.ok at.2,
     )
 
-pub write_unordered-returns-then-is_named-clause-ok : goal.write_unordered-returns-then-is_named-clause-ok
-write_unordered-returns-then-is_named-clause-ok t c =
+pub write_unordered-returns-then-map_needs_type_name-clause-ok : goal.write_unordered-returns-then-map_needs_type_name-clause-ok
+write_unordered-returns-then-map_needs_type_name-clause-ok t c =
     let opened : c.begin_object.new.self.tokens ≡ c.begin_named.new.out.tokens ++ begin_object ∷ [] = search rules in
     on_ok_weaker c.end_object.result (λ e es has.
     let are = subst (λ (fs : Entries). AreAt c.in_ok-map.map.entries fs) (sym has.2) (c.in_ok-map.ensures has.0 has.1) in
     named_entries _ c.begin_named.new.out.tokens c.begin_object.new.self.tokens c.write_map.new.out.tokens c.end_object.new.self.tokens es
-    (sym (c.is_named.ensures es are) ∙ c.if-is_named.true) c.in_ok-begin_named.ensures.ok opened (c.in_ok-write_map.ensures.ok es are) e) c.end_object.ensures.ok
+    (sym (c.map_needs_type_name.ensures es are) ∙ c.if-map_needs_type_name.true) c.in_ok-begin_named.ensures.ok opened (c.in_ok-write_map.ensures.ok es are) e) c.end_object.ensures.ok
 
 pub write_unordered-returns-clause-ok : goal.write_unordered-returns-clause-ok
 write_unordered-returns-clause-ok t c =
@@ -70,4 +70,4 @@ write_unordered-returns-clause-ok t c =
     on_ok_weaker c.write_map-2.result (λ e es has.
     let are = subst (λ (fs : Entries). AreAt c.in_ok-map.map.entries fs) (sym has.2) (c.in_ok-map.ensures has.0 has.1) in
     plain_entries _ c.begin_object-2.new.self.tokens c.write_map-2.new.out.tokens es
-    (sym (c.is_named.ensures es are) ∙ c.if-is_named.false) opened (e es are)) c.write_map-2.ensures.ok
+    (sym (c.map_needs_type_name.ensures es are) ∙ c.if-map_needs_type_name.false) opened (e es are)) c.write_map-2.ensures.ok

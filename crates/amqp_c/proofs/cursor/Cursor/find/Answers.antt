@@ -52,7 +52,7 @@ returns-in-Some-first_pair c =
     record {
       keyed = one_key (part s e.key) key (part s p) is.stands.2 (there.0, there.1);
       typed = is.typed;
-      reported = is.faithful;
+      faithful = is.faithful;
       stands = (c.in-Some-at.count, few, subst (λ (q : Span). StandsKeyed s q e) c.last.ensures is.stands, subst (λ (q : Span). EndsIn q e) c.last.ensures is.inside.1);
       inside = is.inside.0;
     } (c.in-Some.ensures.0, ps, are) tt

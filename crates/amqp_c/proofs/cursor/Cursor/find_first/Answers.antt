@@ -47,7 +47,7 @@ returns-in-Some-first_pair c =
     record {
       keyed = one_key (part s e.key) key (part s p) is.stands.2 (value, there ∙ begins);
       typed = is.typed;
-      reported = is.faithful;
+      faithful = is.faithful;
       stands = (length left, few, subst (λ (q : Span). StandsKeyed s q e) c.last.ensures is.stands, subst (λ (q : Span). EndsIn q e) c.last.ensures is.inside.1);
       inside = is.inside.0;
     } (c.in-Some.ensures.0, Some (take (extent value) value), i.from _ (first_here key left value begins whole)) tt

@@ -42,7 +42,7 @@ returns-in-Some-first_value c =
     (subst (λ (t : List ℕ). part s e.value ≡ take (extent t) t) there (alone_stands s p e in_s is.stands is.inside.1)))
     record {
       typed = is.typed;
-      reported = is.faithful;
+      faithful = is.faithful;
       stands = (length left, few, subst (λ (q : Span). StandsAlone s q e) c.last.ensures is.stands, subst (λ (q : Span). EndsIn q e) c.last.ensures is.inside.1);
       inside = is.inside.0;
     } (c.in-Some.ensures.0, Some (take (extent left) left), i.from _ (nth_here c.values.before left none whole)) tt

@@ -119,21 +119,21 @@ put_table-returns-in_err-end-clause-order t c = λ ps body.
     subst (λ (r : Option Place). IfTableAscends r (table_body c.args.table)) (sym none)
     (table_order {T = Place} None (table_body c.args.table) (c.keys_rise.ensures.rise rise) (c.in_err-end.ensures.order ps body))
 
-pub put_table-returns-then-looks_named-clause-json : goal.put_table-returns-then-looks_named-clause-json
-put_table-returns-then-looks_named-clause-json t c = λ es has.
+pub put_table-returns-then-needs_type_name-clause-json : goal.put_table-returns-then-needs_type_name-clause-json
+put_table-returns-then-needs_type_name-clause-json t c = λ es has.
     let rise : c.keys_rise.result ≡ true = grind arith in
     named_put _ _ _ _ _ _ _ _ has.0 es
-    (sym (c.looks_named.ensures has.0 has.1) ∙ c.if-looks_named.true) (c.keys_rise.ensures.rise rise has.0 has.1) has.2 c.begin-inner.ensures (c.in_ok-end.ensures.json has.0 has.1) c.put_token.ensures
+    (sym (c.needs_type_name.ensures has.0 has.1) ∙ c.if-needs_type_name.true) (c.keys_rise.ensures.rise rise has.0 has.1) has.2 c.begin-inner.ensures (c.in_ok-end.ensures.json has.0 has.1) c.put_token.ensures
 
-pub put_table-returns-then-looks_named-clause-order : goal.put_table-returns-then-looks_named-clause-order
-put_table-returns-then-looks_named-clause-order t c = λ ps body.
+pub put_table-returns-then-needs_type_name-clause-order : goal.put_table-returns-then-needs_type_name-clause-order
+put_table-returns-then-needs_type_name-clause-order t c = λ ps body.
     let rise : c.keys_rise.result ≡ true = grind arith in
     table_order (Some c.in_ok-end.end) (table_body c.args.table) (c.keys_rise.ensures.rise rise) (c.in_ok-end.ensures.order ps body)
 
 pub put_table-returns-clause-json : goal.put_table-returns-clause-json
 put_table-returns-clause-json t c =
     let rise : c.keys_rise.result ≡ true = grind arith in
-    plain_puts _ _ _ (table_body c.args.table) c.put_pairs-2.result (λ ps body. sym (c.looks_named.ensures ps body) ∙ c.if-looks_named.false) (λ ps body. c.keys_rise.ensures.rise rise ps body) c.put_pairs-2.ensures.json
+    plain_puts _ _ _ (table_body c.args.table) c.put_pairs-2.result (λ ps body. sym (c.needs_type_name.ensures ps body) ∙ c.if-needs_type_name.false) (λ ps body. c.keys_rise.ensures.rise rise ps body) c.put_pairs-2.ensures.json
 
 pub put_table-returns-clause-order : goal.put_table-returns-clause-order
 put_table-returns-clause-order t c = λ ps body.
