@@ -34,7 +34,7 @@ PLACES = {
     "amq_protocol_types": {
         "flags": "src/flags specs/flags proofs/FlagBits",
         "parsing": "src/parsing specs/parsing proofs/lemmas/parsing proofs/ParsingLaws",
-        "generation": "src/generation specs/generation proofs/lemmas/generation proofs/Lengths",
+        "generation": "src/generation specs/generation proofs/lemmas/generation proofs/Lengths proofs/Taken",
         "stream": "src/stream specs/stream proofs/lemmas/stream proofs/StreamLaws",
         "errors": "src/errors",
     },

@@ -3,3 +3,4 @@ mod FlagBits
 pub mod ParsingLaws
 pub mod StreamLaws
 pub mod Lengths
+pub mod Taken

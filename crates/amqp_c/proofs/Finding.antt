@@ -1,5 +1,5 @@
 -- Looking a key up, pair by pair.
-use Rattle.std.proofs.Common.{◌≡◌, ◌+◌, ◌-◌, ◌<◌, ◌≤◌, ℕ, suc, IfOk, IfSome, Bool, true, false, cond, List, [], ◌∷◌, ◌++◌, length, take, drop, get_or, Option, Some, None, Result, Ok, Err, refl, sym, ap, ◌∙◌, subst, arith, length-append, length-drop}
+use Rattle.std.proofs.Common.{◌≡◌, ◌+◌, ◌-◌, ◌<◌, ◌≤◌, ℕ, suc, IfOk, IfSome, Bool, true, false, cond, List, [], ◌∷◌, ◌++◌, length, take, drop, Option, Some, None, Result, Ok, Err, refl, sym, ap, ◌∙◌, subst, arith, length-append, length-drop}
 use Rattle.std.proofs.lemmas.List.{take_at, drop_at, drop-drop, take-take, nil_from_length}
 use Rattle.std.specs.Option.{option_or}
 use Rattle.std.specs.Result.{IfErr}
@@ -7,7 +7,7 @@ use Rattle.std.specs.Cmp.Lexicographic.{bytes_decides}
 use Rattle.amqp_value_core.specs.Values.{Tree, Entries}
 use Rattle.amqp_value_core.specs.Maps.{same_bytes, last_at, value_at}
 use Rattle.amqp_value_core.specs.Grammar.{short_field, Wire, TableBody, no_pairs, pair}
-use Rattle.amqp_value_core.proofs.GrammarLaws.{last_stays, length-wire}
+use Rattle.amqp_value_core.proofs.GrammarLaws.{last_stays, length-wire, one_key as key_and_rest}
 use Rattle.amq_protocol_types.specs.parsing.Headers.{extent}
 use Rattle.amq_protocol_types.proofs.ParsingLaws.{wire_extent}
 use Rattle.amqp_in_place.specs.Bodies.{HasEntries}
@@ -39,18 +39,10 @@ pub record PairSplit (value name : List ℕ) (ps : List (List ℕ × List ℕ)) 
   pub whole : IsHeaded value
   pub left : ArePairEncodings (drop (extent value) value) others
 
--- bytes determine a key and what is after it
-pub one_pair : (k name v value : List ℕ) → short_field k ++ v ≡ short_field name ++ value → (k ≡ name) × (v ≡ value)
-one_pair k name v value e =
-    let size : length k ≡ length name = ap (λ (t : List ℕ). get_or t 0 0) e in (
-      sym (take_at k v (length name) size) ∙ (ap (λ (t : List ℕ). take (length name) (drop 1 t)) e ∙ take_at name value (length name) refl),
-      sym (drop_at k v (length name) size) ∙ (ap (drop (suc (length name))) e ∙ drop_at name value (length name) refl),
-    )
-
 pub pairs_split : (left name value : List ℕ) (ps : List (List ℕ × List ℕ)) → left ≡ short_field name ++ value → ArePairEncodings left ps → PairSplit value name ps
 pairs_split _ name value _ e none_left = absurd cc
 pairs_split _ name value _ e (one_left k v ps whole all) =
-    let (key, same) = one_pair k name v value e in
+    let (key, same) = key_and_rest k name v value e in
     subst (λ (j : List ℕ). PairSplit value j ((k, take (extent v) v) ∷ ps)) key
     (subst (λ (t : List ℕ). PairSplit t k ((k, take (extent v) v) ∷ ps)) same record { others = ps; are = refl; whole = whole; left = all })
 

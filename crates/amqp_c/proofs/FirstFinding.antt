@@ -6,6 +6,7 @@ use Rattle.std.specs.Cmp.Lexicographic.{bytes_decides}
 use Rattle.amqp_value_core.specs.Values.{Entries}
 use Rattle.amqp_value_core.specs.Maps.{same_bytes, value_at}
 use Rattle.amqp_value_core.specs.Grammar.{short_field, TableBody, no_pairs, pair}
+use Rattle.amqp_value_core.proofs.GrammarLaws.{one_key as key_and_rest}
 use Rattle.amq_protocol_types.specs.parsing.Headers.{extent}
 use Rattle.amqp_c.specs.declared.cursor.Cursor.{Cursor}
 use Rattle.amqp_c.specs.declared.entry.Entry.{Entry}
@@ -13,7 +14,7 @@ use Rattle.amqp_c_common.specs.declared.fault.Fault.{Fault}
 use Rattle.amqp_c_common.specs.Spans.{part}
 use Rattle.amqp_c.specs.Steps.{IsHeaded, ArePairEncodings, no_pairs as none_left, pair as one_left, HasNoKey, IsOfTable, RefusedBy, GivesLast, IsFoundIn}
 use Rattle.amqp_c.specs.FirstPairs.{HasFirst, none_left as no_first, here, later, first_of, LooksUpFirst}
-use Rattle.amqp_c.proofs.Finding.{one_pair, IsFoundValue, headed, found_by, found_true}
+use Rattle.amqp_c.proofs.Finding.{IsFoundValue, headed, found_by, found_true}
 
 -- ---- the pair at the start
 
@@ -26,10 +27,10 @@ pub record FirstPairSplit (key name value : List ℕ) (w : Option (List ℕ)) : 
 pub first_split : (key left name value : List ℕ) (w : Option (List ℕ)) → left ≡ short_field name ++ value → HasFirst key left w → FirstPairSplit key name value w
 first_split key _ name value _ e no_first = absurd cc
 first_split key _ name value _ e (here v whole) =
-    let (same, is) = one_pair key name v value e in
+    let (same, is) = key_and_rest key name v value e in
     subst (λ (t : List ℕ). FirstPairSplit key name t (Some (take (extent v) v))) is record { whole = whole; either = inl (sym same, refl) }
 first_split key _ name value w e (later k v _ other whole rest) =
-    let (same, is) = one_pair k name v value e in
+    let (same, is) = key_and_rest k name v value e in
     subst (λ (t : List ℕ). FirstPairSplit key name t w) is
     (subst (λ (n : List ℕ). FirstPairSplit key n v w) same record { whole = whole; either = inr (other, rest) })
 

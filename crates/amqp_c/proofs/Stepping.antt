@@ -4,7 +4,7 @@ use Rattle.std.proofs.lemmas.List.{take_at, drop_at, take-append-drop, length-ta
 use Rattle.amqp_value_core.specs.Values.{Tree, scalar, short, long, octets, array, table, Trees, Entries}
 use Rattle.amqp_value_core.specs.Grammar.{short_field, Wire, ArrayBody, no_values, value, TableBody, no_pairs, pair}
 use Rattle.amqp_value_core.specs.Outcomes.{found, Outcome}
-use Rattle.amqp_value_core.proofs.GrammarLaws.{found_prefix, wire_found}
+use Rattle.amqp_value_core.proofs.GrammarLaws.{found_prefix, one_key as key_and_rest, wire_found}
 use Rattle.amq_protocol_types.specs.parsing.Headers.{extent}
 use Rattle.amqp_in_place.specs.Bodies.{HasEntries}
 use Rattle.amqp_c.specs.declared.entry.Entry.{Entry}
@@ -97,10 +97,7 @@ begins_with s named n e few =
 
 -- and is the only one there
 pub one_key : (j k s : List ℕ) → BeginsWithKey j s → BeginsWithKey k s → j ≡ k
-one_key j k s a b =
-    let e : length j ∷ (j ++ a.0) ≡ length k ∷ (k ++ b.0) = sym a.1 ∙ b.1 in
-    let size : length j ≡ length k = ap (λ (t : List ℕ). get_or t 0 0) e in
-    sym (take_at j a.0 (length j) refl) ∙ (ap (take (length j)) (ap (drop 1) e) ∙ take_at k b.0 (length j) (sym size))
+one_key j k s a b = (key_and_rest j k a.0 b.0 (sym a.1 ∙ b.1)).0
 
 pub key_stands : (s named : List ℕ) (p key : Span) (n : ℕ) → SpanIsIn (length s) p → part s p ≡ n ∷ named → n ≤ length named → key ≡ record { offset = p.offset + 1; length = n } → BeginsWithKey (part s key) (part s p)
 key_stands s named p key n in_s e few is =

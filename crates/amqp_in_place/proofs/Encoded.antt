@@ -1,6 +1,6 @@
 -- What is read in place is a view of exactly its encoding.
-use Rattle.std.proofs.Common.{◌≡◌, ◌<◌, ℕ, List, [], ◌∷◌, ◌++◌, length, take, drop, get_or, Some, None, refl, sym, ap, ◌∙◌, subst, arith, append-nil}
-use Rattle.std.proofs.lemmas.List.{take_at, drop_at, append_cancel_right}
+use Rattle.std.proofs.Common.{◌≡◌, ◌<◌, ℕ, List, [], ◌∷◌, ◌++◌, length, take, drop, Some, None, refl, sym, ◌∙◌, subst, arith, append-nil}
+use Rattle.std.proofs.lemmas.List.{append_cancel_right}
 use Rattle.std.specs.Borrow.{Bor}
 use Rattle.amqp_value_core.specs.declared.types.amqp_type.AMQPType.{AMQPType}
 use Rattle.amqp_value_core.specs.declared.types.amqp_type.AMQPType.TheVariants as amqp
@@ -9,7 +9,6 @@ use Rattle.amqp_value_core.specs.declared.input.SliceInput.{SliceInput}
 use Rattle.amqp_value_core.specs.Values.{Tree, Trees, Entries}
 use Rattle.amqp_value_core.specs.Grammar.{long_field, Wire, wire, ArrayBody, no_values, value, TableBody, no_pairs, pair}
 use Rattle.amq_protocol_types.specs.parsing.Headers.{extent}
-use Rattle.amq_protocol_types.proofs.ParsingLaws.{wire_extent}
 use Rattle.amqp_in_place.specs.declared.head.Head.{Head}
 use Rattle.amqp_in_place.specs.declared.refs.ValueRef.{ValueRef}
 use Rattle.amqp_in_place.specs.declared.refs.ValueRef.TheVariants as at
@@ -18,7 +17,7 @@ use Rattle.amqp_in_place.specs.Heads.{IsHead, RefersTo}
 use Rattle.amqp_in_place.specs.Places.{IsFramed, IsViewIn}
 use Rattle.amqp_in_place.specs.Encoded.{values_encoded, pairs_encoded, EncodedValues, EncodedPairs, EncodedAt, IsViewOf}
 use Rattle.amqp_in_place.specs.Walks.{NextViewIs, NextEncodedKeyIs}
-use Rattle.amqp_in_place.proofs.HeadLemmas.{only}
+use Rattle.amqp_in_place.proofs.HeadLemmas.{only, pair_parts}
 use Rattle.amqp_in_place.proofs.Places.{inside}
 
 -- what is before the rest is the value's encoding, all of it
@@ -76,15 +75,11 @@ key_encoded s named n x es e key after rest (ps, p, same) = subst (λ (qs : Entr
     by : (s : List ℕ) (ps : Entries) (p : TableBody s ps) → s ≡ n ∷ named → NextEncodedKeyIs (pairs_encoded s ps p) (Some x)
     by _ _ no_pairs e = absurd cc
     by _ _ (pair k w left v ps is first others) e =
-        let size : length k ≡ n = ap (λ (t : List ℕ). get_or t 0 0) e in
-        let here : named ≡ k ++ (w ++ left) = sym (ap (drop 1) e) in
-        let value : drop n named ≡ w ++ left = ap (drop n) here ∙ drop_at k (w ++ left) n size in
-        let end : x.2.now ≡ left =
-        rest ∙ (ap (λ (t : List ℕ). drop (extent t) t) value ∙ drop_at w left (extent (w ++ left)) (sym (wire_extent w left v first))) in
+        let at = pair_parts named k w left n x v first e key after rest in
         let us = pairs_encoded left ps others in (
-          key ∙ (ap (take n) here ∙ take_at k (w ++ left) n size),
-          (w, v, first, after ∙ (value ∙ ap (λ (t : List ℕ). w ++ t) (sym end)), refl),
-          subst (λ (t : List ℕ). EncodedPairs t us) (sym end) (ps, others, refl),
+          at.0,
+          (w, v, first, at.1, refl),
+          subst (λ (t : List ℕ). EncodedPairs t us) (sym at.2) (ps, others, refl),
         )
 
 pub no_key_encoded : (s : List ℕ) (es : Entries) → length s ≡ 0 → EncodedPairs s es → NextEncodedKeyIs es None

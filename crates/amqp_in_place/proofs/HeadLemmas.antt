@@ -1,8 +1,10 @@
 -- What is after a type tag, one level deep.
-use Rattle.std.proofs.Common.{◌≡◌, ◌<◌, ◌-◌, ◌+◌, ℕ, zero, suc, List, [], ◌∷◌, ◌++◌, length, MatchResult, Result, Ok, Err, refl, sym, ap, ◌∙◌, subst, arith, length-append}
+use Rattle.std.proofs.Common.{◌≡◌, ◌<◌, ◌-◌, ◌+◌, ℕ, zero, suc, List, [], ◌∷◌, ◌++◌, length, take, drop, get_or, MatchResult, Result, Ok, Err, refl, sym, ap, ◌∙◌, subst, arith, length-append}
 use Rattle.std.specs.Int.{w8}
 use Rattle.std.specs.Str.{IsUtf8}
 use Rattle.std.proofs.lemmas.Bool.{le-ltb}
+use Rattle.std.proofs.lemmas.List.{take_at, drop_at}
+use Rattle.std.specs.Borrow.{Bor}
 use Rattle.amqp_value_core.specs.Strings.{IsShort}
 use Rattle.amqp_value_core.specs.declared.types.amqp_type.AMQPType.{AMQPType}
 use Rattle.amqp_value_core.specs.declared.types.amqp_type.AMQPType.TheVariants as amqp
@@ -21,7 +23,8 @@ use Rattle.amq_protocol_types.specs.parsing.Refusals.{Refusal}
 use Rattle.amq_protocol_types.specs.parsing.PayloadResults.{IsType, IsNoType, OnlyLacks}
 use Rattle.amq_protocol_types.specs.parsing.Bodies.{IsLengthPrefixed, IsTable, IsNoBody, IsNoTable}
 use Rattle.amq_protocol_types.specs.parsing.ParseResults.{IsRefusal}
-use Rattle.amq_protocol_types.proofs.ParsingLaws.{IsRefusal-weaker, long_found, octets_found, void_found, unsigned_outcome, IsPlainPayload, plain_found, array_found, array_refused, array_too_deep, table_found, table_refused, table_too_deep}
+use Rattle.amq_protocol_types.specs.parsing.Headers.{extent}
+use Rattle.amq_protocol_types.proofs.ParsingLaws.{IsRefusal-weaker, wire_extent, long_found, octets_found, void_found, unsigned_outcome, IsPlainPayload, plain_found, array_found, array_refused, array_too_deep, table_found, table_refused, table_too_deep}
 use Rattle.amqp_in_place.specs.declared.head.Head.{Head}
 use Rattle.amqp_in_place.specs.declared.head.Head.TheVariants as head
 use Rattle.amqp_in_place.specs.declared.refs.ValueRef.{ValueRef}
@@ -201,3 +204,18 @@ module _ (s body rest : List ℕ) (f : IsKeyFrame s body rest) where
   key_found utf8 =
       let is : IsShort body = record { few = f.few; utf8 = utf8 } in
       rw f.framed (raw_found amqp.ShortString (short_field body) rest (short body) (raw_short body is))
+
+-- the parts of the first pair, whose key counts n bytes: the key, the bytes from its value on, and
+-- those after it
+pub pair_parts : (named k w left : List ℕ) (n : ℕ) (x : Bor (List ℕ) × Bor (List ℕ) × Bor (List ℕ)) (v : Tree) → Wire w v → short_field k ++ (w ++ left) ≡ n ∷ named
+    → x.0.now ≡ take n named → x.1.now ≡ drop n named → x.2.now ≡ drop (extent (drop n named)) (drop n named) → (x.0.now ≡ k) × (x.1.now ≡ w ++ x.2.now) × (x.2.now ≡ left)
+pair_parts named k w left n x v is e key after rest =
+    let size : length k ≡ n = ap (λ (t : List ℕ). get_or t 0 0) e in
+    let here : named ≡ k ++ (w ++ left) = sym (ap (drop 1) e) in
+    let value : drop n named ≡ w ++ left = ap (drop n) here ∙ drop_at k (w ++ left) n size in
+    let end : x.2.now ≡ left =
+    rest ∙ (ap (λ (t : List ℕ). drop (extent t) t) value ∙ drop_at w left (extent (w ++ left)) (sym (wire_extent w left v is))) in (
+      key ∙ (ap (take n) here ∙ take_at k (w ++ left) n size),
+      after ∙ (value ∙ ap (λ (t : List ℕ). w ++ t) (sym end)),
+      end,
+    )

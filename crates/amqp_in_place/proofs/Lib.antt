@@ -4,7 +4,7 @@ mod Stepping
 mod Written
 mod Lookups
 mod Owning
-mod OneValue
+pub mod OneValue
 mod Skipping
 mod Places
 mod Encoded

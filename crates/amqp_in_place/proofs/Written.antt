@@ -1,6 +1,5 @@
 -- What is read in place, as it is written.
 use Rattle.std.proofs.Common.{◌≡◌, ◌<◌, ℕ, List, ◌∷◌, ◌++◌, length, take, drop, get_or, Some, None, refl, sym, ap, ◌∙◌, subst, arith}
-use Rattle.std.proofs.lemmas.List.{take_at, drop_at}
 use Rattle.std.specs.Borrow.{Bor}
 use Rattle.amqp_value_core.specs.declared.types.amqp_type.AMQPType.{AMQPType}
 use Rattle.amqp_value_core.specs.declared.types.amqp_type.AMQPType.TheVariants as amqp
@@ -14,7 +13,6 @@ use Rattle.amqp_value_core.proofs.GrammarLaws.{one_large}
 use Rattle.amq_protocol_types.specs.parsing.Bodies.{IsLengthPrefixed}
 use Rattle.amq_protocol_types.specs.parsing.Headers.{extent}
 use Rattle.amq_protocol_types.specs.parsing.PayloadResults.{IsType}
-use Rattle.amq_protocol_types.proofs.ParsingLaws.{wire_extent}
 use Rattle.amqp_in_place.specs.declared.head.Head.{Head}
 use Rattle.amqp_in_place.specs.declared.head.Head.TheVariants as head
 use Rattle.amqp_in_place.specs.declared.refs.ArrayRef.{ArrayRef}
@@ -25,7 +23,7 @@ use Rattle.amqp_in_place.specs.Refs.{array_body, table_body, Denotes}
 use Rattle.amqp_in_place.specs.Heads.{IsPlainRef, IsPlainType, IsHead, RefersTo}
 use Rattle.amqp_in_place.specs.Walks.{NextWrittenIs, NextWrittenKeyIs}
 use Rattle.amqp_in_place.specs.Written.{written, raw_written, values_written, pairs_written, WrittenValues, WrittenPairs, IsWrittenAs, WrittenAt}
-use Rattle.amqp_in_place.proofs.HeadLemmas.{only}
+use Rattle.amqp_in_place.proofs.HeadLemmas.{only, pair_parts}
 
 -- a payload that isn't a container's is written as what it means
 leaf_written : (type : AMQPType) (b : List ℕ) (v : Tree) (p : Raw type b v) → IsPlainType type → raw_written type b v p ≡ v
@@ -125,15 +123,11 @@ key_written s named n x ps e key after rest (es, p, same) = subst (λ (qs : Entr
     by : (s : List ℕ) (es : Entries) (p : TableBody s es) → s ≡ n ∷ named → NextWrittenKeyIs (pairs_written s es p) (Some x)
     by _ _ no_pairs e = absurd cc
     by _ _ (pair k w left v es is first others) e =
-        let size : length k ≡ n = ap (λ (t : List ℕ). get_or t 0 0) e in
-        let here : named ≡ k ++ (w ++ left) = sym (ap (drop 1) e) in
-        let value : drop n named ≡ w ++ left = ap (drop n) here ∙ drop_at k (w ++ left) n size in
-        let end : x.2.now ≡ left =
-        rest ∙ (ap (λ (t : List ℕ). drop (extent t) t) value ∙ drop_at w left (extent (w ++ left)) (sym (wire_extent w left v first))) in
+        let at = pair_parts named k w left n x v first e key after rest in
         let ts = pairs_written left es others in (
-          key ∙ (ap (take n) here ∙ take_at k (w ++ left) n size),
-          (w, v, first, after ∙ (value ∙ ap (λ (t : List ℕ). w ++ t) (sym end)), refl),
-          subst (λ (t : List ℕ). WrittenPairs t ts) (sym end) (es, others, refl),
+          at.0,
+          (w, v, first, at.1, refl),
+          subst (λ (t : List ℕ). WrittenPairs t ts) (sym at.2) (es, others, refl),
         )
 
 pub no_key_written : (s : List ℕ) (ps : Entries) → length s ≡ 0 → WrittenPairs s ps → NextWrittenKeyIs ps None

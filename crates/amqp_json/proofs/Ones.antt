@@ -9,12 +9,8 @@ use Rattle.amqp_json.specs.InMemory.{IsStored}
 use Rattle.amqp_json.specs.Reading.{value_of}
 use Rattle.amqp_json.specs.Refusals.{IsOnly, IsOfNone}
 use Rattle.amqp_json.proofs.Back.{read_back}
-use Rattle.amqp_json.proofs.Only.{only_json}
 
 -- what is read is the only value whose JSON it is
-pub its_json : (d : Data) (v : Tree) → value_of d ≡ Some v → json v ≡ d
-its_json d v h = only_json d v h
-
 pub the_one : (d : Data) (v : Tree) → value_of d ≡ Some v → IsOnly v d
 the_one d v h u stored e =
     let same : Some u ≡ Some v = sym (read_back u stored) ∙ ap value_of e ∙ h in

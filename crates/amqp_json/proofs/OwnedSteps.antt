@@ -1,5 +1,5 @@
 -- One more value or entry of a container in memory is written.
-use Rattle.std.proofs.Common.{◌≡◌, ℕ, ◌<◌, ◌+◌, List, [], ◌∷◌, ◌++◌, length, take, drop, get_or, sym, ap, ◌∙◌, subst, append_assoc, append-nil}
+use Rattle.std.proofs.Common.{◌≡◌, ℕ, ◌<◌, ◌+◌, List, [], ◌∷◌, ◌++◌, length, drop, get_or, sym, ap, ◌∙◌, subst, append_assoc, append-nil}
 use Rattle.std.proofs.lemmas.List.{drop_more}
 use Rattle.std.specs.Cmp.Lexicographic.{slice_cmp}
 use Rattle.std.specs.List.Sorted.{IsStrictlySortedBy}
@@ -10,23 +10,14 @@ use Rattle.json.specs.Tree.{json_tokens, items_tokens, members_tokens}
 use Rattle.serde_json.specs.Written.{outline, items_outline, members_outline}
 use Rattle.amqp_value_core.specs.declared.value.AMQPValue.{AMQPValue}
 use Rattle.amqp_value_core.specs.Containers.{trees, entries}
-use Rattle.amqp_value_core.specs.InMemory.{IsValue, AreValues, AreEntries}
+use Rattle.amqp_value_core.specs.InMemory.{IsValue, AreEntries}
 use Rattle.amqp_value_core.specs.Strings.{IsShort}
 use Rattle.amqp_value_core.specs.View.{view}
 use Rattle.amqp_json.specs.Adds.{Adds}
 use Rattle.amqp_json.specs.Json.{json, items_json, members_json}
-use Rattle.amqp_json.proofs.Walks.{JsonPair, taken_more}
+use Rattle.amqp_json.proofs.Walks.{JsonPair}
 
 -- ---- an array
-
-values_more : (done : List AMQPValue) (v : AMQPValue) → AreValues (trees done) → IsValue (view v) → AreValues (trees (done ++ v ∷ []))
-values_more [] v all is = (is, tt)
-values_more (first ∷ done) v all is = (all.0, values_more done v all.1 is)
-
-pub values_next : (vs : List AMQPValue) (k : ℕ) (v : AMQPValue) → k < length vs → v ≡ get_or vs k v → AreValues (trees (take k vs)) → IsValue (view v) → AreValues (trees (take (k + 1) vs))
-values_next vs k v h e p q =
-    let P : List AMQPValue → Type 0 = λ us. AreValues (trees us) in
-    subst P (taken_more vs k v h e) (values_more (take k vs) v p q)
 
 pub item_next : (vs : List AMQPValue) (k : ℕ) (v : AMQPValue) (now new target : List Token) → k < length vs → v ≡ get_or vs k v → Adds (json (view v)) now new
     → now ++ items_tokens (items_outline (items_json (trees (drop k vs)))) ≡ target → new ++ items_tokens (items_outline (items_json (trees (drop (k + 1) vs)))) ≡ target

@@ -1,7 +1,8 @@
 -- Iterating over JSON's items and members: what was read so far, and one more.
 use Rattle.std.proofs.Common.{◌≡◌, ℕ, zero, suc, ◌+◌, ◌<◌, ◌≤◌, List, [], ◌∷◌, ◌++◌, length, take, get_or, nat_le, Bool, true, false, Option, Some, None, string_bytes, string_cmp, nat_cmp, Less, Greater, refl, sym, ap, ◌∙◌, arith}
 use Rattle.std.proofs.lemmas.Cmp.{nat_list_cmp_total}
-use Rattle.amqp_json.proofs.Walks.{taken_more, of_a_later_key}
+use Rattle.amq_protocol_types.proofs.Taken.{taken_more}
+use Rattle.amqp_json.proofs.Walks.{of_a_later_key}
 use Rattle.std.specs.Option.{option_map, option_and_then}
 use Rattle.std.specs.Cmp.Lexicographic.{slice_cmp}
 use Rattle.std.specs.List.Sorted.{IsStrictlySortedBy}

@@ -1,6 +1,5 @@
 -- Iterating over values and entries: what was taken so far, and one more.
 use Rattle.std.proofs.Common.{◌≡◌, ℕ, ◌<◌, List, [], ◌∷◌, ◌++◌, ◌+◌, length, take, get_or, Less, Greater, refl, sym, ap, ◌∙◌, subst, rules}
-use Rattle.std.proofs.lemmas.List.{take_more}
 use Rattle.std.proofs.lemmas.Cmp.{nat_list_cmp_total}
 use Rattle.std.specs.Cmp.Lexicographic.{slice_cmp}
 use Rattle.std.specs.List.{AllByRecursion}
@@ -19,6 +18,7 @@ use Rattle.amqp_value_core.specs.Values.{Tree, table, Entries, no_entries, entry
 use Rattle.amqp_value_core.specs.Strings.{IsShort}
 use Rattle.amqp_value_core.specs.View.{view}
 use Rattle.amqp_value_core.specs.Containers.{trees, entries, table_entries, table_view}
+use Rattle.amq_protocol_types.proofs.Taken.{taken_more}
 use Rattle.amqp_json.specs.Json.{json, items_json, members_json}
 use Rattle.amqp_json.specs.InMemory.{IsStored, AreStoredTrees, EntriesStored}
 
@@ -74,9 +74,6 @@ json_snoc : (vs : List AMQPValue) (v : AMQPValue) → items_json (trees (vs ++ v
 unfolding snoc
 json_snoc [] v = refl
 json_snoc (u ∷ vs) v = ap (item (json (view u))) (json_snoc vs v)
-
-pub taken_more : {A : Type 0} (vs : List A) (k : ℕ) (v : A) → k < length vs → v ≡ get_or vs k v → take k vs ++ v ∷ [] ≡ take (k + 1) vs
-taken_more vs k v h e = ap (λ u. take k vs ++ u ∷ []) e ∙ sym (take_more vs k v h)
 
 -- one more value is written
 pub items_next : (vs : List AMQPValue) (k : ℕ) (v : AMQPValue) (rs ps : List Value) (r : Value) → k < length vs → v ≡ get_or vs k v → ps ≡ rs ++ r ∷ []

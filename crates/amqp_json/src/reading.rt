@@ -30,7 +30,7 @@ use std::alloc::Global;
 /// `{"LongLongInt": 5}`, since a `LongLongInt` is plain, and not a `LongString` of digits that
 /// denote UTF-8. Null, true, false and a number never run out of memory. It uses stack for each
 /// level of nesting; docs/PROMISES.md has measurements.
-#[tactic(auto, using(crate::proofs::Ones::its_json, crate::proofs::Ones::only_read, crate::proofs::Ones::of_none))]
+#[tactic(auto, using(crate::proofs::Only::only_json, crate::proofs::Ones::only_read, crate::proofs::Ones::of_none))]
 pub fn from_value(alloc: Global, value: &Value) -> Result<AMQPValue, ValueError>
     ensures json { IfOk result (λ v. json (view v) ≡ document value.now) }
     ensures stored { IfOk result (λ v. IsStored (view v)) }

@@ -107,9 +107,9 @@ are_entries no_entries each rises = tt
 are_entries (entry k v es) each rises = (each.0.0, each.0.1, rises.0, are_entries es each.1 rises.1)
 
 mutual
-  -- the value of an encoding is one, if that is bytes
-  wire_value : (w : List ℕ) (v : Tree) → IsBytes w → Wire w v → IsValue v
-  wire_value _ _ bytes (wire c type b v k p) = raw_value type b v bytes.1 p
+  -- what is read is a value, if its encoding is bytes
+  pub read_is_value : (w : List ℕ) (v : Tree) → IsBytes w → Wire w v → IsValue v
+  read_is_value _ _ bytes (wire c type b v k p) = raw_value type b v bytes.1 p
 
   pub raw_value : (type : AMQPType) (b : List ℕ) (v : Tree) → IsBytes b → Raw type b v → IsValue v
   raw_value _ _ _ bytes (raw_fixed type f b row len) = subst IsRanged row (rows_ranged type) b bytes
@@ -124,13 +124,13 @@ mutual
   body_values : (body : List ℕ) (vs : Trees) → IsBytes body → ArrayBody body vs → AreValues vs
   body_values _ _ bytes no_values = tt
   body_values _ _ bytes (value w more v vs p all) =
-      (wire_value w v (bytes_before w more bytes) p, body_values more vs (bytes_after w more bytes) all)
+      (read_is_value w v (bytes_before w more bytes) p, body_values more vs (bytes_after w more bytes) all)
 
   pairs_values : (body : List ℕ) (ps : Entries) → IsBytes body → TableBody body ps → Each (λ k v. IsShort k × IsValue v) ps
   pairs_values _ _ bytes no_pairs = tt
   pairs_values _ _ bytes (pair k w more v ps is p all) =
       let after = bytes_after (short_field k) (w ++ more) bytes in
-      ((is, wire_value w v (bytes_before w more after) p), pairs_values more ps (bytes_after w more after) all)
+      ((is, read_is_value w v (bytes_before w more after) p), pairs_values more ps (bytes_after w more after) all)
 
 -- ---- the laws
 
@@ -145,15 +145,11 @@ what_raw_reads type b v other p =
     let is = raw_written type b v other p in
     (is.fits, is.reads)
 
--- and it is a value, if its encoding is bytes
-pub read_is_value : (w : List ℕ) (v : Tree) → IsBytes w → Wire w v → IsValue v
-read_is_value w v bytes p = wire_value w v bytes p
-
--- its canonical encoding is an encoding of it, and no longer
+-- the canonical encoding of what is read is an encoding of it, and no longer
 pub shortest : (w : List ℕ) (v : Tree) → IsBytes w → Wire w v → Wire (text v) v × (length (text v) ≤ length w)
 shortest w v bytes p =
     let is = wire_written w v p in
-    (text_is_wire v (wire_value w v bytes p) is.fits is.reads, (bounds w v p).0)
+    (text_is_wire v (read_is_value w v bytes p) is.fits is.reads, (bounds w v p).0)
 
 -- and is that of no other
 pub same_text_same_value : (w u : List ℕ) (v z : Tree) → Wire w v → Wire u z → IsBytes w → IsBytes u → text v ≡ text z → v ≡ z

@@ -7,10 +7,10 @@ use Rattle.amqp_value_core.specs.declared.value.AMQPValue.{AMQPValue}
 use Rattle.amqp_value_core.specs.Values.{Tree}
 use Rattle.amqp_value_core.specs.View.{view}
 use Rattle.amqp_value_core.specs.Nesting.{WireWithin}
-use Rattle.amqp_value_core.specs.Grammar.{Wire, wire}
 use Rattle.amqp_value_core.specs.Inputs.{IsBytes}
 use Rattle.amqp_value_core.specs.Outcomes.{Reading, found, more, unknown, malformed}
-use Rattle.amqp_value_core.proofs.GrammarLaws.{one_reading, prefix_within, wire_found_within}
+use Rattle.amqp_value_core.proofs.Bytes.{bytes_after}
+use Rattle.amqp_value_core.proofs.GrammarLaws.{length-wire, one_reading, prefix_within, wire_found_within}
 use Rattle.amq_protocol_types.specs.declared.parsing.errors.ErrorKind.{ErrorKind}
 use Rattle.amq_protocol_types.specs.declared.parsing.errors.ErrorKind.TheVariants.{MapOpt, MapRes, Eof, OutOfMemory, TooLarge}
 use Rattle.amq_protocol_types.specs.declared.stream.error.StreamError.{StreamError}
@@ -25,11 +25,6 @@ use Rattle.amqp_wire.specs.Refusals.{kind_name}
 use Rattle.amqp_wire.specs.Streams.{value_line, last_line, stream_step, stream_text, BeginsWith, BeginsNone, AreStreamValues, value_lines, HasLines, LeavesAfterValues, IsLine}
 use Rattle.amqp_wire.proofs.Prefixes.{IsOutputUpTo, written_more, written_part}
 use Rattle.amqp_wire.proofs.Outcomes.{read_is, read_holds, too_large}
-
--- the bytes after a prefix are bytes
-bytes_after : (s t : List ℕ) → IsBytes (s ++ t) → IsBytes t
-bytes_after [] t bytes = bytes
-bytes_after (c ∷ s) t bytes = bytes_after s t bytes.1
 
 -- ---- what is at the start
 
@@ -114,17 +109,13 @@ are_lines l (suc n) s bytes (v ∷ vs) left ((w, rest, is, p, few, others), none
       λ lt. first ∙ ap (λ (t : List ℕ). value_line v ++ t) (next.1 (omega (arith, lt))) ∙ sym (append_assoc (value_line v) (value_lines vs) (last_line left (read_within l left))),
     )
 
--- an encoding has a byte
-some_byte : (w : List ℕ) (v : Tree) → Wire w v → 0 < length w
-some_byte _ _ (wire c type b v k p) = omega arith
-
 -- a stream has values, if only zero
 has_values : (l : Limits) (n : ℕ) (s : List ℕ) → IsBytes s → length s < n → (vs : List Tree) × (left : List ℕ) × AreStreamValues l s vs left
 has_values l zero s bytes lt = absurd (omega (arith, lt))
 has_values l (suc n) s bytes lt = elim (value_or_none (read_within l s)) [
   | inl (v, rest, e) ↦
       let (w, r, is, p, few, same) = found_begins l s rest v (read_holds l s (found v rest) bytes e) in
-      let (vs, left, both) = has_values l n r (bytes_after w r (subst IsBytes is bytes)) (omega (arith, lt, ap length is, length-append w r, some_byte w v p.0)) in
+      let (vs, left, both) = has_values l n r (bytes_after w r (subst IsBytes is bytes)) (omega (arith, lt, ap length is, length-append w r, length-wire w v p.0)) in
       (v ∷ vs, left, ((w, r, is, p, few, both.0), both.1))
   | inr none ↦ ([], s, (refl, none_begins l s bytes none))
 ]

@@ -1,7 +1,6 @@
 -- Lemmas on the values of an array, one after another.
 use Rattle.std.proofs.Common.{◌≡◌, ℕ, zero, suc, ◌+◌, ◌<◌, ◌≤◌, List, [], ◌∷◌, ◌++◌, length, get_or, take, replicate, sym, ap, ◌∙◌, subst, arith, append_assoc, append-nil, length-append}
 use Rattle.amqp_value_core.specs.declared.value.AMQPValue.{AMQPValue}
-use Rattle.std.proofs.lemmas.List.{take_more}
 use Rattle.amqp_value_core.specs.declared.types.amqp_type.AMQPType.{AMQPType}
 use Rattle.amqp_value_core.specs.Values.{Tree, scalar, short, long, octets, array, table, type_of}
 use Rattle.amqp_value_core.specs.Texts.{payload, text, body, Fits}
@@ -9,7 +8,7 @@ use Rattle.amqp_value_core.specs.Members.{AllFit}
 use Rattle.amqp_value_core.specs.Ids.{id_of}
 use Rattle.amqp_value_core.specs.View.{view}
 use Rattle.amqp_value_core.specs.Containers.{trees}
-use Rattle.amqp_value_core.specs.InMemory.{IsValue, AreValues}
+use Rattle.amq_protocol_types.proofs.Taken.{taken_more}
 
 -- a type tag and the payload are the canonical encoding
 pub text_of : (v : Tree) (type : AMQPType) → type ≡ type_of v → text v ≡ id_of type ∷ [] ++ payload v
@@ -34,15 +33,6 @@ fit_more : (vs : List AMQPValue) (v : AMQPValue) → AllFit (trees vs) → Fits 
 fit_more [] v p q = (q, tt)
 fit_more (u ∷ vs) v p q = (p.0, fit_more vs v p.1 q)
 
--- if one more is a value, all are
-values_more : (vs : List AMQPValue) (v : AMQPValue) → AreValues (trees vs) → IsValue (view v) → AreValues (trees (vs ++ v ∷ []))
-values_more [] v p q = (q, tt)
-values_more (u ∷ vs) v p q = (p.0, values_more vs v p.1 q)
-
--- the first values and the next one
-taken_more : (vs : List AMQPValue) (k : ℕ) (v : AMQPValue) → k < length vs → v ≡ get_or vs k v → take k vs ++ v ∷ [] ≡ take (k + 1) vs
-taken_more vs k v h e = ap (λ u. take k vs ++ u ∷ []) e ∙ sym (take_more vs k v h)
-
 -- their canonical encodings, after four reserved bytes
 pub body_next : (vs : List AMQPValue) (k : ℕ) (v : AMQPValue) → k < length vs → v ≡ get_or vs k v → replicate 4 0 ++ body (trees (take (k + 1) vs)) ≡ replicate 4 0 ++ body (trees (take k vs)) ++ text (view v)
 body_next vs k v h e = ap (λ l. replicate 4 0 ++ l) (ap (λ us. body (trees us)) (sym (taken_more vs k v h e)) ∙ body_more (take k vs) v)
@@ -51,11 +41,6 @@ pub fit_next : (vs : List AMQPValue) (k : ℕ) (v : AMQPValue) → k < length vs
 fit_next vs k v h e p q =
     let P : List AMQPValue → Type 0 = λ us. AllFit (trees us) in
     subst P (taken_more vs k v h e) (fit_more (take k vs) v p q)
-
-pub values_next : (vs : List AMQPValue) (k : ℕ) (v : AMQPValue) → k < length vs → v ≡ get_or vs k v → AreValues (trees (take k vs)) → IsValue (view v) → AreValues (trees (take (k + 1) vs))
-values_next vs k v h e p q =
-    let P : List AMQPValue → Type 0 = λ us. AreValues (trees us) in
-    subst P (taken_more vs k v h e) (values_more (take k vs) v p q)
 
 -- if all fit, each does
 fits_at : (vs : List AMQPValue) (k : ℕ) (d : AMQPValue) → k < length vs → AllFit (trees vs) → Fits (view (get_or vs k d))

@@ -3,9 +3,10 @@ use Rattle.std.proofs.lemmas.Result.{on_ok_weaker}
 use Rattle.json.specs.Token.{key}
 use Rattle.amqp_value_core.specs.InMemory.{IsValue}
 use Rattle.amqp_value_core.specs.Values.{Tree}
+use Rattle.amq_protocol_types.proofs.Taken.{values_next}
 use Rattle.amqp_json.specs.Adds.{Adds}
 use Rattle.amqp_json.specs.Json.{json}
-use Rattle.amqp_json.proofs.OwnedSteps.{item_next, values_next, member_next, one_more_done, all_done}
+use Rattle.amqp_json.proofs.OwnedSteps.{item_next, member_next, one_more_done, all_done}
 use Rattle.amqp_json.proofs.Walks.{JsonPair, table_is}
 use Rattle.amqp_json.proofs.owned.+owned.Goals as goal
 
