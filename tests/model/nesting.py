@@ -89,8 +89,6 @@ class Call(NamedTuple):
 
 
 DEEP, DEEPER, OF_JSON, UNLIMITED = (LIMIT, 1000), (LIMIT, 10_000), (LIMIT, 127), (LIMIT, 1000, 10_000)
-# The calls that reject nothing: they look no deeper than the limit.
-STOPPING = ("warnings", "warnings_in_table")
 # What a call returns that rejects the nesting.
 REJECTED = re.compile(r"kind: Eof|TooDeep|invalid JSON at|refused|AMQPV_MALFORMED|AMQPV_NOT_JSON")
 # The calls of nested.c, the third on what has it read, write and compare.
@@ -174,7 +172,7 @@ def judged(program: Path | str, made: Mapping[str, Call]) -> Iterator[tuple[str,
                 yield f"{name}, {depth} {said}", "" if got == "done" else got
             if not figure or call.depths != UNLIMITED:
                 got = answer(program, call, LIMIT, long_input(call.make, form), SMALL)
-                is_well = REJECTED.search(got) if figure and name not in STOPPING else got == "done"
+                is_well = REJECTED.search(got) if figure else got == "done"
                 yield f"{name}, {LONG} bytes of {said}", "" if is_well else got or "nothing"
         if figure:
             deep, stack = call.depths[-1], besides + call.depths[-1] * figure // 2

@@ -1,6 +1,6 @@
 -- Looking for the first key with a fault.
 use Rattle.std.proofs.Common.{◌≡◌, ◌<◌, ◌≤◌, ◌+◌, ◌-◌, ℕ, zero, suc, Option, Some, None, List, [], ◌∷◌, length, take, drop, Bool, true, false, not, refl, sym, ap, ◌∙◌, subst, arith}
-use Rattle.std.specs.Prelude.{Result, Ok, Err, MatchResult, is_err, max, option_map, nat_le, ◌||◌}
+use Rattle.std.specs.Prelude.{Result, Ok, Err, MatchResult, is_err, max, option_map, nat_le, ◌||◌, ◌==◌}
 use Rattle.std.specs.Borrow.{Bor}
 use Rattle.std.specs.List.{list_any}
 use Rattle.std.specs.Ordering.{nat_cmp, is_eq}
@@ -13,8 +13,8 @@ use Rattle.std.specs.Str.{IsUtf8, is_utf8}
 use Rattle.std.proofs.lemmas.Str.{IsUtf8-from_is_utf8, is_utf8-from_IsUtf8}
 use Rattle.amqp_value_core.specs.Maps.{same_bytes}
 use Rattle.amq_protocol_types.specs.parsing.Headers.{extent}
-use Rattle.amqp_in_place.specs.declared.rabbitmq.warning.KeyFault.{KeyFault}
-use Rattle.amqp_in_place.specs.declared.rabbitmq.warning.KeyFault.TheVariants.{Repeated, NotUtf8}
+use Rattle.amqp_in_place.specs.declared.rabbitmq.warning.Fault.{Fault}
+use Rattle.amqp_in_place.specs.declared.rabbitmq.warning.Fault.TheVariants.{Repeated, NotUtf8, Empty, TooDeep}
 use Rattle.amqp_in_place.specs.Problems.{pair_len}
 use Rattle.amqp_in_place.specs.RabbitmqSeen.{HasKeys, IsKeyFaultReport, key_of, after_key}
 use Rattle.amqp_in_place.specs.RabbitmqWarnings.{WarningPlace, is_faulty, fault_in_values, fault_in_pairs}
@@ -46,9 +46,11 @@ pub tells_repeated : (t u : BTreeSet (Bor (List ℕ))) (x : Bor (List ℕ)) (add
 tells_repeated t u x added is updates keys all =
     (ap not is ∙ (not_not (contains by_bytes t x) ∙ all x.now), λ e. has_more t u x keys all updates)
 
-pub has_none : (fault : KeyFault) (t : BTreeSet (Bor (List ℕ))) → IsEmpty t → HasKeys fault t []
+pub has_none : (fault : Fault) (t : BTreeSet (Bor (List ℕ))) → IsEmpty t → HasKeys fault t []
 has_none Repeated t none = λ k. ap (list_any (λ (j : Bor (List ℕ)). is_eq (slice_cmp nat_cmp k j.now))) none
 has_none NotUtf8 t none = tt
+has_none Empty t none = tt
+has_none TooDeep t none = tt
 
 pub tells_utf8 : {E : Type 0} (t : BTreeSet (Bor (List ℕ))) (k : List ℕ) (r : Result (Unit {0}) E) (b : Bool) → MatchResult r (λ x. IsUtf8 k) (λ x. IsUtf8 k → ⊥) → b ≡ is_err r → IsKeyFaultReport NotUtf8 t t k b
 tells_utf8 {E} t k r b is e keys all = (e ∙ by r is, λ f. tt)
@@ -60,6 +62,12 @@ tells_utf8 {E} t k r b is e keys all = (e ∙ by r is, λ f. tt)
     by : (q : Result (Unit {0}) E) → MatchResult q (λ x. IsUtf8 k) (λ x. IsUtf8 k → ⊥) → is_err q ≡ not (is_utf8 k)
     by (Ok x) good = ap not (sym (is_utf8-from_IsUtf8 k good))
     by (Err x) bad = other bad (is_utf8 k) refl
+
+pub tells_empty : (t : BTreeSet (Bor (List ℕ))) (k : List ℕ) (b : Bool) → b ≡ (length k == 0) → IsKeyFaultReport Empty t t k b
+tells_empty t k b is keys all = (is, λ e. tt)
+
+pub tells_none : (t : BTreeSet (Bor (List ℕ))) (k : List ℕ) → IsKeyFaultReport TooDeep t t k false
+tells_none t k keys all = (refl, λ e. tt)
 
 -- ---- how far the first is
 
@@ -121,7 +129,7 @@ module _ (value : WarningPlace) where
   pub ValuesPassed-end : (s : List ℕ) (n : ℕ) → ValuesPassed s n → length s ≤ n → fault_in_values value 0 s ≡ None
   ValuesPassed-end s n at all = at ∙ ap (λ t. option_map (λ k. n + k) (fault_in_values value 0 t)) (drop_all n s all)
 
-module _ (fault : KeyFault) (value : WarningPlace) where
+module _ (fault : Fault) (value : WarningPlace) where
   over_pairs : (earlier : List (List ℕ)) (n : ℕ) (s : List ℕ) → fault_in_pairs fault value earlier n s ≡ option_map (λ k. n + k) (fault_in_pairs fault value earlier 0 (drop n s))
   over_pairs earlier zero s = sym (none_more (fault_in_pairs fault value earlier 0 s))
   over_pairs earlier (suc n) [] = refl

@@ -13,7 +13,7 @@ mod warning;
 pub use crate::problems::{Problem, ProblemKind};
 use crate::problems::{self, Rules};
 use amq_protocol_types::parsing::Limits;
-pub use warning::{Warned, warnings, warnings_in_table};
+pub use warning::{CLIENT_LEVELS, Warned, warnings, warnings_in_table};
 
 /// The first problem that RabbitMQ has with the value at the start of the bytes:
 /// `amqp_in_place::first_problem` by its rules.

@@ -6,7 +6,7 @@ use crate::stream::LIMITS;
 use crate::values::AnyValue;
 use amq_protocol_types::parsing::ParserError;
 use amqp_in_place::rabbitmq::{
-    Problem, first_problem, first_problem_in_table, warnings, warnings_in_table,
+    CLIENT_LEVELS, Problem, first_problem, first_problem_in_table, warnings, warnings_in_table,
 };
 use amqp_in_place::{
     EqualKeys, PathStep, TableRef, ValueRef, canonical_table_len, measure_table, measure_value,
@@ -115,9 +115,9 @@ impl Call for Warnings {
     type Error = AllocError;
 
     fn call(&mut self, alloc: Global) -> Result<AnyValue, AllocError> {
-        let tagged = warnings(alloc, self.bytes, LIMITS, 0)?.repeated_key;
+        let tagged = warnings(alloc, self.bytes, LIMITS, 0, CLIENT_LEVELS)?.repeated_key;
         let table = self.bytes.get(1..).unwrap_or(&[]);
-        let untagged = warnings_in_table(alloc, table, LIMITS, 0)?.repeated_key;
+        let untagged = warnings_in_table(alloc, table, LIMITS, 0, CLIENT_LEVELS)?.repeated_key;
         Ok(match (tagged, untagged) {
             (Some(far), Some(near)) => AnyValue::Number(far as i128 - near as i128),
             _ => AnyValue::NoValue,

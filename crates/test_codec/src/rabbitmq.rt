@@ -3,7 +3,7 @@
 use amq_protocol_types::stream::Limits;
 use amqp_in_place::rabbitmq::ProblemKind::{Cut, KeyCut, NotFinite, TooDeep, TooLarge, UnknownTag};
 use amqp_in_place::rabbitmq::{
-    Problem, ProblemKind, Warned, first_problem, first_problem_in_table, warnings,
+    CLIENT_LEVELS, Problem, ProblemKind, Warned, first_problem, first_problem_in_table, warnings,
     warnings_in_table,
 };
 use std::alloc::{AllocError, Global};
@@ -171,8 +171,36 @@ const KEYS: [(&[u8], Option<usize>, Option<usize>); 11] = [
     (b"F\0\0\xff\xff\x01aV\x01aV", Some(8), None),
 ];
 
+/// Values, and the offset of the first pair in them whose key is empty.
+const EMPTY_KEYS: [(&[u8], Option<usize>); 6] = [
+    (b"F\0\0\0\x03\x01aV", None),
+    (b"F\0\0\0\x05\x01aV\0V", Some(8)),
+    (b"F\0\0\0\x04\0V\0V", Some(5)),
+    // two levels deeper, before one of the outermost table
+    (b"F\0\0\0\x10\x01aA\0\0\0\x07F\0\0\0\x02\0V\0V", Some(17)),
+    // no keys, but bytes like them
+    (b"S\0\0\0\x02\0V", None),
+    // as far as there are bytes
+    (b"F\0\0\xff\xff\x01aV\0", Some(8)),
+];
+
+/// A table of an array, of Void and an array.
+const CONTAINERS: &[u8] = b"F\0\0\0\x0d\x01aA\0\0\0\x06VA\0\0\0\0";
+
+/// Depths, numbers of levels, and the offset of the first of these containers that is too deep.
+const LEVELS: [(u32, u32, Option<usize>); 8] = [
+    (64, 0, Some(0)),
+    (64, 1, Some(7)),
+    (64, 2, Some(13)),
+    (64, 3, None),
+    (64, u32::MAX, None),
+    (2, 3, Some(13)),
+    (1, u32::MAX, Some(7)),
+    (0, 2, Some(0)),
+];
+
 fn warned(alloc: Global, bytes: &[u8], depth: u32) -> Result<Warned, AllocError> {
-    warnings(alloc, bytes, limits(131_072, depth), 131_072)
+    warnings(alloc, bytes, limits(131_072, depth), 131_072, CLIENT_LEVELS)
 }
 
 // a table whose encoding has this many bytes without its type tag, with it
@@ -216,9 +244,38 @@ fn keys_are_looked_at(rt: HostRuntime) -> Result<(), AllocError> {
     assert_eq!(rt; warned(rt.alloc(), nested, 2)?.repeated_key, Some(13));
     assert_eq!(rt; warned(rt.alloc(), nested, 1)?.repeated_key, None);
     let table = b"\0\0\0\x06\x01\xffV\x01\xffV";
-    let seen = warnings_in_table(rt.alloc(), table, LIMITS, 0)?;
+    let seen = warnings_in_table(rt.alloc(), table, LIMITS, 0, CLIENT_LEVELS)?;
     assert_eq!(rt; seen.repeated_key, Some(7));
     assert_eq!(rt; seen.key_not_utf8, Some(4));
+    Ok(())
+}
+
+#[test]
+fn empty_keys_are_found(rt: HostRuntime) -> Result<(), AllocError> {
+    for (bytes, empty) in EMPTY_KEYS {
+        assert_eq!(rt; warned(rt.alloc(), bytes, 64)?.empty_key, empty);
+    }
+    let table = b"\0\0\0\x04\0V\0V";
+    let seen = warnings_in_table(rt.alloc(), table, LIMITS, 0, CLIENT_LEVELS)?;
+    assert_eq!(rt; seen.empty_key, Some(4));
+    Ok(())
+}
+
+#[test]
+fn containers_nest_too_deep(rt: HostRuntime) -> Result<(), AllocError> {
+    for (depth, levels, offset) in LEVELS {
+        let limits = limits(131_072, depth);
+        let seen = warnings(rt.alloc(), CONTAINERS, limits, 0, levels)?;
+        assert_eq!(rt; seen.too_deep, offset);
+        let seen = warnings_in_table(rt.alloc(), &CONTAINERS[1..], limits, 0, levels)?;
+        assert_eq!(rt; seen.too_deep, offset.map(|at| at.saturating_sub(1)));
+    }
+    // of two the first, and none in a string, nor in a value that is none
+    let two = b"A\0\0\0\x0aA\0\0\0\0A\0\0\0\0";
+    assert_eq!(rt; warnings(rt.alloc(), two, LIMITS, 0, 1)?.too_deep, Some(5));
+    let string = b"S\0\0\0\x05A\0\0\0\0";
+    assert_eq!(rt; warnings(rt.alloc(), string, LIMITS, 0, 0)?.too_deep, None);
+    assert_eq!(rt; warnings(rt.alloc(), b"", LIMITS, 0, 0)?.too_deep, None);
     Ok(())
 }
 
@@ -228,9 +285,10 @@ fn a_frame_has_eight_bytes_more(rt: HostRuntime) -> Result<(), AllocError> {
         let bytes = table_of(rt.alloc(), len)?;
         assert_eq!(rt; bytes.len(), 1 + len as usize);
         assert_eq!(rt; warned(rt.alloc(), &bytes, 1)?.exceeds_frame, exceeds);
-        let seen = warnings_in_table(rt.alloc(), &bytes[1..], LIMITS, 131_072)?;
+        let seen = warnings_in_table(rt.alloc(), &bytes[1..], LIMITS, 131_072, CLIENT_LEVELS)?;
         assert_eq!(rt; seen.exceeds_frame, exceeds);
-        assert!(rt; !warnings_in_table(rt.alloc(), &bytes[1..], LIMITS, 0)?.exceeds_frame);
+        let seen = warnings_in_table(rt.alloc(), &bytes[1..], LIMITS, 0, CLIENT_LEVELS)?;
+        assert!(rt; !seen.exceeds_frame);
     }
     Ok(())
 }

@@ -23,7 +23,7 @@ use amq_protocol_types::{
     AMQPType, AMQPValue, ByteArray, FieldArray, FieldTable, LongString, ShortString,
 };
 use amqp_dissect::{dissect, dissect_partial, escape};
-use amqp_in_place::rabbitmq::{warnings, warnings_in_table};
+use amqp_in_place::rabbitmq::{CLIENT_LEVELS, warnings, warnings_in_table};
 use amqp_in_place::{ValueRef, read_in_place, read_table_in_place};
 use amqp_json::{
     DecodeError, encoding_of_json, from_json, from_value, json_of_encoding, to_json, to_value,
@@ -256,7 +256,10 @@ fn of_array<P: Print>(rt: &P, alloc: Global, bytes: &[u8], a: &FieldArray) -> io
     tell(rt, "FieldArray::clone", a.clone(alloc), a)?;
     tell(rt, "FieldArray::push", pushed(alloc, a), a)?;
     tell(rt, "ArrayRef::to_owned", owned_array(alloc, bytes), a)?;
-    println!(rt; "warnings {:?}", warnings(alloc, bytes, WIDE, 0))?;
+    println!(rt;
+        "warnings {:?}",
+        warnings(alloc, bytes, WIDE, 0, CLIENT_LEVELS)
+    )?;
     let mut x = WriteContext::from(Vec::new(alloc));
     let done = gen_field_array(a, &mut x);
     tell_bytes(rt, "gen_field_array", written(done, x), payload)
@@ -365,10 +368,13 @@ fn json_of(alloc: Global, bytes: &[u8]) -> Result<String, DecodeError> {
 
 /// Calls on a table with a key that comes again.
 fn of_repeated<P: Print>(rt: &P, alloc: Global, bytes: &[u8]) -> io::Result<()> {
-    println!(rt; "warnings {:?}", warnings(alloc, bytes, WIDE, 0))?;
+    println!(rt;
+        "warnings {:?}",
+        warnings(alloc, bytes, WIDE, 0, CLIENT_LEVELS)
+    )?;
     println!(rt;
         "warnings_in_table {:?}",
-        warnings_in_table(alloc, payload_of(bytes), WIDE, 0)
+        warnings_in_table(alloc, payload_of(bytes), WIDE, 0, CLIENT_LEVELS)
     )?;
     match read_in_place(bytes, WIDE) {
         Ok((ValueRef::FieldTable(table), _)) => {

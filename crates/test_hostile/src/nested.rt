@@ -91,7 +91,10 @@ fn of_encoding(alloc: Global, name: &str, bytes: &[u8], limits: Limits) -> io::R
         "canonical_len" => outcome_word(alloc, canonical_len(bytes, limits).is_some()),
         "measure_value" => said(alloc, measure_value(bytes, limits)),
         "first_problem" => outcome_word(alloc, first_problem(bytes, limits).is_none()),
-        "warnings" => said(alloc, warnings(alloc, bytes, limits, 0)),
+        "warnings" => {
+            let warned = warnings(alloc, bytes, limits, 0, u32::MAX)?;
+            outcome_word(alloc, warned.too_deep.is_none())
+        }
         "dissect" => dissected(alloc, bytes, limits),
         "dissect_partial" => dissected_in_part(alloc, bytes, limits),
         "json_of_encoding" => said(alloc, json_of_encoding(alloc, bytes, limits)),
@@ -113,7 +116,10 @@ fn of_payload(alloc: Global, name: &str, bytes: &[u8], limits: Limits) -> io::Re
             alloc,
             first_problem_in_table(bytes, limits).is_none(),
         ),
-        "warnings_in_table" => said(alloc, warnings_in_table(alloc, bytes, limits, 0)),
+        "warnings_in_table" => {
+            let warned = warnings_in_table(alloc, bytes, limits, 0, u32::MAX)?;
+            outcome_word(alloc, warned.too_deep.is_none())
+        }
         _ => unknown(),
     }
 }

@@ -4,7 +4,7 @@ ghost use Rattle.std.specs.Prelude.{◌≡◌, ◌<◌, ◌+◌, ◌-◌, ◌^�
 ghost use Rattle.amqp_value_core.specs.Ids.{id_of};
 ghost use Rattle.amq_protocol_types.specs.parsing.Headers.{extent};
 ghost use Rattle.amqp_in_place.specs.RabbitmqSeen.{IsKeyFaultReport, key_of, after_key};
-ghost use Rattle.amqp_in_place.specs.RabbitmqWarnings.{fault_inside, value_fault, values_fault, pairs_fault, table_fault, warnings_of, warnings_in_table_of};
+ghost use Rattle.amqp_in_place.specs.RabbitmqWarnings.{is_too_deep, fault_inside, value_fault, values_fault, pairs_fault, table_fault, warnings_of, warnings_in_table_of, AreInside};
 
 use crate::read::check_utf8;
 use amq_protocol_types::parsing::Limits;
@@ -14,7 +14,11 @@ use amqp_value_core::types::AMQPType;
 use std::alloc::{AllocError, Global};
 use std::collections::BTreeSet;
 
-/// What is doubtful in a value that RabbitMQ takes. Offsets are the number of bytes before a pair.
+/// How many levels each client reads that was tried: docs/DIFFERENCES.md has which breaks on how many.
+pub const CLIENT_LEVELS: u32 = 256;
+
+/// What is doubtful in a value that RabbitMQ takes. Offsets are the number of bytes before a pair,
+/// or before a container.
 #[derive(Clone, Copy, Debug, PartialEq, Eq)]
 pub struct Warned {
     /// The first pair whose key an earlier pair of the same table has. RabbitMQ takes the first of
@@ -22,56 +26,73 @@ pub struct Warned {
     pub repeated_key: Option<usize>,
     /// The first pair whose key isn't UTF-8.
     pub key_not_utf8: Option<usize>,
+    /// The first pair whose key is empty. RabbitMQ relays it, and some clients break on it.
+    pub empty_key: Option<usize>,
+    /// The first container that nests deeper than a number of levels. RabbitMQ relays it, and most
+    /// clients break on some number of levels, which depends on their stack.
+    pub too_deep: Option<usize>,
     /// Whether the value's bytes without its type tag, and the 8 bytes of a frame (its type,
     /// channel, size and end), are more than the frame-max.
     pub exceeds_frame: bool,
 }
 
-// What may be wrong with a key.
+// What is looked for: what may be wrong with a key, or a container that nests too deep.
 #[derive(Clone, Copy)]
-enum KeyFault {
+enum Fault {
     Repeated,
     NotUtf8,
+    Empty,
+    TooDeep,
 }
 
 /// What is doubtful in the value at the start of the bytes, if `first_problem` finds no problem in
-/// it. Of the limits only `depth` counts; a `frame_max` of 0 means that there is none.
+/// it. Of the limits only `depth` counts: it looks no deeper. A `frame_max` of 0 means that there is
+/// none. A container is too deep that nests deeper than `levels`, as `CLIENT_LEVELS`, or than `depth`.
 ///
-/// Keys of a table, and of those around it, are retained in sets until one is repeated, in at most
-/// some 40 bytes each: n log n comparisons for n pairs, whoever picks the keys.
+/// Only what finds repeated keys allocates. Keys of a table, and of those around it, are retained in
+/// sets until one is repeated, in at most some 40 bytes each: n log n comparisons for n pairs, whoever
+/// picks the keys. What finds the others goes over the headers and keys once each.
 pub fn warnings(
     alloc: Global,
     bytes: &[u8],
     limits: Limits,
     frame_max: u32,
+    levels: u32,
 ) -> Result<Warned, AllocError>
-    ensures warned { IfOk result (λ warned. warned ≡ warnings_of limits frame_max bytes.now) }
+    ensures warned { IfOk result (λ warned. warned ≡ warnings_of limits frame_max levels bytes.now) }
+    ensures inside { IfOk result (AreInside (length bytes.now)) }
     ensures err { OnErr result (5 < length bytes.now) }
 {
     Ok(Warned {
-        repeated_key: in_value(alloc, KeyFault::Repeated, bytes, limits.depth)?,
-        key_not_utf8: in_value(alloc, KeyFault::NotUtf8, bytes, limits.depth)?,
+        repeated_key: in_value(alloc, Fault::Repeated, bytes, limits.depth)?,
+        key_not_utf8: in_value(alloc, Fault::NotUtf8, bytes, limits.depth)?,
+        empty_key: in_value(alloc, Fault::Empty, bytes, limits.depth)?,
+        too_deep: in_value(alloc, Fault::TooDeep, bytes, levels.min(limits.depth))?,
         exceeds_frame: exceeds(value_len(SliceInput::new(bytes)), frame_max),
     })
 }
 
 /// What is doubtful in a table without its type tag, which begins with its length, as in methods
 /// and content headers: what `warnings` returns for the table with its type tag, but for the
-/// offsets, which count from the length on.
+/// offsets, which count from the length on, and are 0 for the table itself.
 pub fn warnings_in_table(
     alloc: Global,
     table: &[u8],
     limits: Limits,
     frame_max: u32,
+    levels: u32,
 ) -> Result<Warned, AllocError>
     ensures warned { IfOk result (λ warned.
-        warned ≡ warnings_in_table_of limits frame_max table.now) }
+        warned ≡ warnings_in_table_of limits frame_max levels table.now) }
+    ensures inside { IfOk result (AreInside (suc (length table.now))) }
     ensures err { OnErr result (4 < length table.now) }
 {
     let len = value_len(SplitInput::new(b"F", table));
     Ok(Warned {
-        repeated_key: in_table(alloc, KeyFault::Repeated, table, len, limits.depth)?,
-        key_not_utf8: in_table(alloc, KeyFault::NotUtf8, table, len, limits.depth)?,
+        repeated_key: in_table(alloc, Fault::Repeated, table, len, limits.depth)?,
+        key_not_utf8: in_table(alloc, Fault::NotUtf8, table, len, limits.depth)?,
+        empty_key: in_table(alloc, Fault::Empty, table, len, limits.depth)?,
+        too_deep: in_table(alloc, Fault::TooDeep, table, len, levels.min(limits.depth))?,
         exceeds_frame: exceeds(len, frame_max),
     })
 }
@@ -87,7 +108,7 @@ fn exceeds(len: usize, frame_max: u32) -> bool
 // The first pair with the fault in a table without its type tag.
 fn in_table(
     alloc: Global,
-    fault: KeyFault,
+    fault: Fault,
     table: &[u8],
     len: usize,
     depth: u32,
@@ -95,6 +116,7 @@ fn in_table(
     requires { len ≡ extent (id_of AMQPType.FieldTable ∷ table.now) }
     ensures err { OnErr result (4 < length table.now) }
     ensures first { IfOk result (λ x. x ≡ table_fault fault depth table.now) }
+    ensures inside { IfOk result (λ x. IfSome x (λ n. n < suc (length table.now))) }
 {
     let payload = &table[..table.len().min(len.saturating_sub(1))];
     let place = inside(alloc, fault, Some(AMQPType::FieldTable), payload, depth)?;
@@ -105,7 +127,7 @@ fn in_table(
 #[cycle(faults)]
 fn in_value(
     alloc: Global,
-    fault: KeyFault,
+    fault: Fault,
     bytes: &[u8],
     depth: u32,
 ) -> Result<Option<usize>, AllocError>
@@ -131,7 +153,7 @@ fn in_value(
 #[cycle(faults)]
 fn inside(
     alloc: Global,
-    fault: KeyFault,
+    fault: Fault,
     amqp_type: Option<AMQPType>,
     payload: &[u8],
     depth: u32,
@@ -141,7 +163,11 @@ fn inside(
     ensures err { OnErr result (4 < length payload.now) }
 {
     if depth == 0 {
-        return Ok(None);
+        return Ok(if is_too_deep(fault, amqp_type) {
+            Some(0)
+        } else {
+            None
+        });
     }
     let (_, body) = payload.split_at(payload.len().min(4));
     let place = match amqp_type {
@@ -156,7 +182,7 @@ fn inside(
 #[cycle(faults)]
 fn in_values(
     alloc: Global,
-    fault: KeyFault,
+    fault: Fault,
     body: &[u8],
     depth: u32,
 ) -> Result<Option<usize>, AllocError>
@@ -179,7 +205,7 @@ fn in_values(
 #[cycle(faults)]
 fn in_pairs(
     alloc: Global,
-    fault: KeyFault,
+    fault: Fault,
     body: &[u8],
     depth: u32,
 ) -> Result<Option<usize>, AllocError>
@@ -218,14 +244,26 @@ fn split_key(bytes: &[u8]) -> (&[u8], &[u8])
 
 // Whether a key has the fault, after pairs with the keys in `seen`, and puts it there.
 fn is_faulty<'a>(
-    fault: KeyFault,
+    fault: Fault,
     seen: &mut BTreeSet<&'a [u8]>,
     key: &'a [u8],
 ) -> Result<bool, AllocError>
     ensures { IfOk result (λ faulty. IsKeyFaultReport fault seen.old seen.new key.now faulty) }
 {
     match fault {
-        KeyFault::Repeated => Ok(!seen.insert(key)?),
-        KeyFault::NotUtf8 => Ok(check_utf8(key).is_err()),
+        Fault::Repeated => Ok(!seen.insert(key)?),
+        Fault::NotUtf8 => Ok(check_utf8(key).is_err()),
+        Fault::Empty => Ok(key.is_empty()),
+        Fault::TooDeep => Ok(false),
+    }
+}
+
+// Whether a value of the type is too deep, where no level is left.
+fn is_too_deep(fault: Fault, amqp_type: Option<AMQPType>) -> bool
+    ensures { result ≡ is_too_deep fault amqp_type }
+{
+    match (fault, amqp_type) {
+        (Fault::TooDeep, Some(AMQPType::FieldArray | AMQPType::FieldTable)) => true,
+        _ => false,
     }
 }
