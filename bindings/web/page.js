@@ -212,7 +212,7 @@ function type() {
 // Takes other bytes, which are typed if they aren't many.
 function put(bytes, name = "a link") {
     const isMuch = bytes.length > MOST_TYPED;
-    $("text").value = isMuch ? "" : hexadecimal(bytes).replace(/.{64}(?=.)/g, "$&\n");
+    $("text").value = isMuch ? "" : hexadecimal(bytes);
     $("text").setSelectionRange(0, 0);
     $("text").scrollTop = 0;
     $("text").placeholder = isMuch ? `${name}: ${bytes.length} bytes` : "";

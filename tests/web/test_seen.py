@@ -284,49 +284,6 @@ def test_a_browser_without_64_bit_addresses(page: Path, tmp_path: Path) -> None:
         assert browser.run("return document.querySelector('#bits [value=\"64\"]').disabled")
 
 
-# Reads a mebibyte of pairs with keys that ascend, of others, or of Voids, as many times as are asked for, and draws nothing.
-READS = """
-    const [bits, kind, count] = arguments, bytes = new Uint8Array(1 << 20).fill(0x56), view = new DataView(bytes.buffer);
-    let at = 5;
-    for (let it = 0; kind && at + 16 <= bytes.length; it++, at += 16) {
-        bytes.set([10, ...new TextEncoder().encode(`${it}`.padStart(10, kind)), 0x49, 0, 0, 0, 7], at);
-    }
-    const end = kind ? at : bytes.length;
-    bytes[0] = kind ? 0x46 : 0x41;
-    view.setUint32(1, end - 5);
-    for (let it = 0; it < count; it++) {
-        const reading = amqp.read(amqp.modules[bits], bytes.subarray(0, end));
-        amqp.repeats(reading);
-        amqp.rabbitmqText(reading);
-    }
-"""
-
-
-def milliseconds(browser: Browser, bits: int, kind: str, most: float) -> float:
-    """What a reading takes of its thread's time. While that is more than the most it may be, the browser may still compile."""
-
-    def taken(readings: int) -> float:
-        begun = browser.thread_time()
-        browser.run(READS, bits, kind, readings)
-        return browser.thread_time() - begun
-
-    none, least = min(taken(0) for _ in range(5)), float("inf")
-    for _ in range(20):
-        least = min(least, (taken(5) - none) * 1000 / 5)
-        if least <= most:
-            break
-    return least
-
-
-@pytest.mark.parametrize("bits", (64, 32))
-def test_times(browser: Browser, bits: int) -> None:
-    """Without drawing, 1 MiB of pairs takes at most 50 ms, and of Voids 500."""
-    for kind, most in (("0", 50), ("k", 50), ("", 500)):
-        least = milliseconds(browser, bits, kind, most)
-        print(f"\n{bits} bits: {least:.1f} ms of 1 MiB of {f'pairs filled by {kind}' if kind else 'Voids'}")
-        assert least <= most
-
-
 def pixels(path: Path) -> Iterator[bytes]:
     """The colours of a PNG of 8 bits a channel, pixel by pixel."""
     data, at, packed, width, step = path.read_bytes(), 8, b"", 0, 0
