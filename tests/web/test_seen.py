@@ -120,8 +120,90 @@ def test_what_is_wrong_is_marked(browser: Browser) -> None:
 
 
 def test_hexadecimal_that_is_none(browser: Browser) -> None:
+    """Nothing stays of what was read before."""
+    browser.type(TABLE)
+    point(browser, "#byte-9")
     browser.type("74 0g")
     assert browser.text("failure") == "line 1, column 5: no hexadecimal" and drawn(browser) == []
+    assert [browser.text(it) for it in ("outcome", "notes", "about")] == ["", "", ""] and browser.lines("bytes") == []
+    browser.wait(lambda: not browser.driver.find_element("id", "json-text").is_displayed())
+
+
+def test_other_bytes_have_no_marks(browser: Browser) -> None:
+    browser.type(TABLE)
+    point(browser, "#byte-9")
+    browser.type(TABLE.replace("61", "62"))
+    assert marked(browser) == ([], "") and browser.text("about") == ""
+
+
+def json_is(browser: Browser, text: str) -> bool:
+    return str(browser.run("return document.getElementById('json-text').textContent")) == text
+
+
+def test_json(browser: Browser) -> None:
+    """It is that of what is shown, or none if keys don't ascend."""
+    browser.type("4600000007 0161 7401 0162 56")
+    browser.wait(lambda: json_is(browser, '{"a":true,"b":null}'))
+    browser.type("4600000006 0162 56 0161 56")
+    browser.wait(lambda: json_is(browser, "none: keys don't ascend"))
+    browser.type("4600000003 0161 56")
+    browser.wait(lambda: json_is(browser, '{"a":null}'))
+    browser.type("4600000003 0161")
+    browser.wait(lambda: not browser.driver.find_element("id", "copy-JSON").is_displayed())
+
+
+def test_notes(browser: Browser) -> None:
+    """What RabbitMQ does, keys that come again, whether the value is canonical: those about a byte lead to it."""
+    browser.type("46 00000007 01 61 66 7fc00000")
+    closes = "RabbitMQ 3.10.8 closes the connection: offset 7: the number is an infinity or a NaN"
+    assert browser.text("notes").splitlines() == [closes, "canonical"]
+    browser.driver.find_element("css selector", "#notes button").click()
+    assert marked(browser) == (['"a": Float NaN (bits 7fc00000)'], "0161667fc00000")
+    assert browser.run("return document.querySelector('.here').id") == "byte-7"
+    browser.type("46 0000000a 01 61 74 01 01 62 56 01 61 56")
+    again = 'the key "a" comes 2 times: first Boolean true at 7, last Void at 14; this library takes the last, RabbitMQ the first'
+    assert browser.text("notes").splitlines() == ["RabbitMQ 3.10.8 takes it", again, "not canonical"]
+    browser.driver.find_element("css selector", "#notes button").click()
+    assert marked(browser) == (['"a": Void'], "016156")
+    browser.type("46 0000000a 01 61")
+    assert browser.text("notes") == "" and browser.text("outcome") == "truncated; more bytes needed: 8"
+
+
+def test_the_failure_leads_to_its_byte(browser: Browser) -> None:
+    browser.type("46 00000006 01 61 56 01 62 7a")
+    browser.driver.find_element("css selector", "#failure button").click()
+    assert browser.run("return document.querySelector('.here').id") == "byte-10"
+
+
+def test_a_click_closes_and_opens(browser: Browser) -> None:
+    browser.type(TABLE)
+    twist = browser.driver.find_elements("css selector", "#tree .twist")[2]
+    ActionChains(browser.driver).move_to_element(twist).click().perform()
+    assert drawn(browser) == ["FieldTable", '  "a": LongInt 5', '  "b": FieldArray', '  "c": Void']
+    twist = browser.driver.find_elements("css selector", "#tree .twist")[2]
+    ActionChains(browser.driver).move_to_element(twist).click().perform()
+    assert len(drawn(browser)) == 5
+
+
+@pytest.mark.parametrize("words", (["xxd"], ["xxd", "-g1"], ["hexdump", "-C"]))
+def test_dumps(browser: Browser, words: list[str]) -> None:
+    """What these programs print is read; with a digit that is wrong it isn't."""
+    data = bytes.fromhex(TABLE)
+    lines = [data[it : it + 16] for it in range(0, len(data), 16)]
+    width = 2 if words == ["xxd"] else 1
+    text = ""
+    for at, line in enumerate(lines):
+        groups = [line[it : it + width].hex() for it in range(0, len(line), width)]
+        shown = "".join(chr(it) if 31 < it < 127 else "." for it in line)
+        if words[0] == "xxd":
+            text += f"{16 * at:08x}: {' '.join(groups).ljust(47 if width == 1 else 39)}  {shown}\n"
+        else:
+            left, right = " ".join(groups[:8]), " ".join(groups[8:])
+            text += f"{16 * at:08x}  {left.ljust(23)}  {right.ljust(23)}  |{shown}|\n"
+    browser.type(text + (f"{len(data):08x}\n" if words[0] == "hexdump" else ""))
+    assert len(drawn(browser)) == 5 and browser.text("failure") == ""
+    browser.type(text.replace("00000010", "00000011"))
+    assert "the offset isn't the number of bytes before it" in browser.text("failure")
 
 
 def test_a_table_without_its_type_tag(browser: Browser) -> None:
@@ -208,6 +290,7 @@ def test_each_module_says_what_it_is(browser: Browser) -> None:
     before = drawn(browser)
     assert "64-bit" in browser.text("module") and "isn't proved" not in browser.text("module")
     browser.choose("bits", 32)
+    assert browser.run("return amqp.now.reading.module === amqp.modules[32] && amqp.modules[32].bits === 32")
     assert "32-bit" in browser.text("module") and "isn't proved" in browser.text("module")
     assert drawn(browser) == before
 
