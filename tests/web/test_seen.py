@@ -130,8 +130,10 @@ def test_hexadecimal_that_is_none(browser: Browser) -> None:
 
 
 def test_other_bytes_have_no_marks(browser: Browser) -> None:
+    point(browser, "h1")
     browser.type(TABLE)
-    point(browser, "#byte-9")
+    press(browser, "bytes", Keys.END)
+    assert marked(browser)[1] == "016356"
     browser.type(TABLE.replace("61", "62"))
     assert marked(browser) == ([], "") and browser.text("about") == ""
 
