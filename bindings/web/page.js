@@ -201,9 +201,11 @@ function tell(note) {
     $("notes").replaceChildren(...notes.filter(Boolean).map((it) => element("li", {}, it)));
 }
 
-// Takes what is typed.
+// Takes what is typed, which neither the example has that was chosen, nor the link that was followed or copied.
 function type() {
     const { bytes, fault } = readHexadecimal($("text").value);
+    $("examples").value = "";
+    location.hash && history.replaceState(null, "", "#");
     now.bytes = bytes ?? new Uint8Array();
     show();
     fault && complain(fault);

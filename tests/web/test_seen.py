@@ -227,6 +227,10 @@ def test_a_link_has_the_bytes(browser: Browser) -> None:
     assert link == f"#{TABLE.replace(' ', '')}"
     browser.load(link)
     assert drawn(browser) == before
+    browser.run("location.hash = '#value:56'")
+    browser.wait(lambda: drawn(browser) == ["Void"])
+    browser.type("74 01")
+    assert browser.run("return location.hash") == "" and drawn(browser) == ["Boolean true"]
 
 
 def test_examples(browser: Browser) -> None:
@@ -238,6 +242,8 @@ def test_examples(browser: Browser) -> None:
         assert len(drawn(browser)) > 2
         outcomes.append(browser.text("outcome").partition(" ")[0])
     assert sorted(outcomes) == ["a", "a", "a", "a", "refused,", "truncated;"]
+    browser.type(TABLE)
+    assert browser.run("return document.getElementById('examples').value") == ""
 
 
 def test_many_rows_are_drawn_as_they_are_scrolled_to(browser: Browser) -> None:
@@ -304,11 +310,17 @@ def test_a_dropped_file(browser: Browser) -> None:
         data.items.add(new File([it], "a.bin"));
         dispatchEvent(new DragEvent("drop", {dataTransfer: data, cancelable: true}));
     """
-    for given in ({"bytes": [*bytes.fromhex(TABLE)]}, {"text": f"# a table\n{TABLE}"}):
+    dump = "00000000: 4600 0000 1701 6149 0000 0005 0162 4100  F.....aI.....bA.\n"
+    dump += "00000010: 0000 0653 0000 0001 7801 6356            ...S....x.cV\n"
+    for given in ({"bytes": [*bytes.fromhex(TABLE)]}, {"text": f"# a table\n{TABLE}"}, {"text": dump}):
         browser.load()
         browser.run(script, given)
         browser.wait(lambda: len(drawn(browser)) == 5)
         assert browser.run("return document.getElementById('text').value") == TABLE.replace(" ", "")
+    browser.load()
+    browser.run(script, {"bytes": [0x41, 0, 1, 0xFF, 0xFB] + [0x56] * 0x1FFFB})
+    browser.wait(lambda: browser.text("outcome") == "a value of 131072 bytes, 0 follow")
+    assert browser.run("return document.getElementById('text').placeholder") == "a.bin: 131072 bytes"
 
 
 def test_copies(browser: Browser) -> None:
