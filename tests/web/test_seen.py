@@ -172,7 +172,7 @@ def test_notes(browser: Browser) -> None:
 
 
 def test_the_failure_leads_to_its_byte(browser: Browser) -> None:
-    browser.type("46 00000006 01 61 56 01 62 7a")
+    browser.type("46 00000009 01 61 56 01 62 7a 01 63 56")
     browser.driver.find_element("css selector", "#failure button").click()
     assert browser.run("return document.querySelector('.here').id") == "byte-10"
 
@@ -283,11 +283,11 @@ def test_a_module_without_stack_is_made_anew(browser: Browser) -> None:
         {deep}
         const module = amqp.modules[64], calls = {{...module.calls}}, {{amqpv_read}} = calls;
         calls.amqpv_read = (at, length, frame, depth, ...more) => amqpv_read(at, length, frame, n + 1, ...more);
-        module.calls = calls;
+        module.calls = globalThis.ended = calls;
         amqp.put(it);
     """
     browser.run(script)
-    assert "made anew" in browser.text("failure")
+    assert "made anew" in browser.text("failure") and browser.run("return amqp.modules[64].calls !== ended")
     browser.type(TABLE)
     assert len(drawn(browser)) == 5 and browser.text("failure") == ""
 
