@@ -75,7 +75,10 @@ def test_pointing_at_a_row_marks_its_bytes(browser: Browser) -> None:
     browser.type(TABLE)
     point(browser, "#row-3")
     assert marked(browser) == (['"b": FieldArray'], "016241000000065300000001" + "78")
-    assert "$.b: " in browser.text("about") and "type tag at 14, length at 15 to 18" in browser.text("about")
+    about = "$.b: FieldArray — key's length at 12, key at 13, type tag at 14, length at 15 to 18, entries at 19 to 24"
+    assert browser.text("about") == about
+    point(browser, "#row-4")
+    assert browser.text("about") == '$.b[0]: LongString "x" — type tag at 19, length at 20 to 23, payload at 24'
 
 
 def test_pointing_at_a_byte_marks_its_row(browser: Browser) -> None:
