@@ -340,9 +340,9 @@ def test_copies(browser: Browser) -> None:
 
 
 def test_modules_are_plain() -> None:
-    """All together have at most 800 lines, of at most 120 columns."""
+    """All together have at most 790 lines, of at most 120 columns."""
     lines = [it for path in (TOP / "bindings/web").glob("*.js") for it in path.read_text().splitlines()]
-    assert len(lines) <= 800 and max(map(len, lines)) <= 120
+    assert len(lines) <= 790 and max(map(len, lines)) <= 120
 
 
 def test_limits(browser: Browser) -> None:
