@@ -1,139 +1,110 @@
 // What is seen: the tree and the bytes, what is said of them, and what they are taken from.
-import { MOST, Module, OK, TABLE, UNKNOWN_TAG } from "./module.js";
-import { KEY, isContainer, isCounted, read } from "./reading.js";
+import { AMQPV } from "./header.js";
 import { readHexadecimal } from "./hexadecimal.js";
+import { Module } from "./module.js";
+import { read } from "./reading.js";
 import { failure, hexadecimal, indentation, jsonText, keyText, outcome, rabbitmqText, repeats, rowParts, treeLines,
 } from "./words.js";
 
 // The height of a line, and of the tallest element, in pixels; how many bytes of a string a row shows, how many are
-// typed, and how many a link has.
-const HEIGHT = 22, TALLEST = 8e6, MOST_SHOWN = 300, MOST_TYPED = 65536, MOST_LINKED = 500000;
-// For more levels a call's stack might not suffice.
-const MOST_LEVELS = 1000;
-// What is left out where the module doesn't have it.
-const CALLS = ["write_json", "is_canonical"];
-const MODULES = { 64: "Read by the module with 64-bit addresses, which is the proved code as Rattle compiles it.",
-    32: "Read by the module with 32-bit addresses, which binaryen makes of the other; that step isn't proved." };
-const $ = (id) => document.getElementById(id);
+// typed, and how many a link has. For more levels a call's stack might not suffice.
+const HEIGHT = 22, TALLEST = 8e6, MOST_SHOWN = 300, MOST_TYPED = 65536, MOST_LINKED = 500000, MOST_LEVELS = 1000;
 // What is said of bytes that are the other, by whether they are taken for a table without its type tag.
 const OTHER = ["the input is a table without its type tag; --table reads it",
     "the input is a table with its type tag; without --table it is read"];
+const modules = {}, $ = (id) => document.getElementById(id);
 // What is shown: bytes and what was read of them, the rows that are closed and those that are seen, what is marked.
-const now = { bytes: new Uint8Array(), reading: null, closed: new Set(), seen: null, row: -1, byte: -1, width: 16 };
-const modules = {};
+const now = { bytes: new Uint8Array(), reading: null, closed: new Set(), seen: [], row: 0, byte: -1, width: 16 };
 
-function element(name, kind, text, attributes = {}) {
-    const made = document.createElement(name);
-    made.className = kind;
-    made.textContent = text;
-    Object.entries(attributes).forEach(([attribute, value]) => made.setAttribute(attribute, value));
+function element(name, properties, ...parts) {
+    const made = Object.assign(document.createElement(name), properties);
+    made.append(...parts);
     return made;
 }
 
-// Lines of equal height, of which only those in sight are drawn. More than the tallest element can have go by faster.
+const span = (className, ...parts) => element("span", { className }, ...parts);
+
+// Lines of equal height, of which only those in sight are drawn. If they are too many for an element, it is less tall.
 class Lines {
     constructor(box, draw) {
-        Object.assign(this, { box, draw, count: 0, sheet: element("div", "sheet", "", { role: "presentation" }) });
-        this.lines = this.sheet.appendChild(element("div", "lines", "", { role: "presentation" }));
-        box.append(this.sheet);
+        Object.assign(this, { box, draw, sheet: box.firstElementChild, count: 0 });
         box.addEventListener("scroll", () => this.show());
         new ResizeObserver(() => this.show()).observe(box);
     }
 
     show(count = this.count) {
-        const all = count * HEIGHT;
+        const { box, sheet, draw } = this, shown = Math.min(count, Math.ceil(box.clientHeight / HEIGHT));
         this.count = count;
-        this.sheet.style.height = `${Math.min(all, TALLEST)}px`;
-        const { clientHeight: seen, scrollTop: top } = this.box;
-        this.faster = all > TALLEST ? (all - seen) / (TALLEST - seen) : 1;
-        const from = top * this.faster, first = Math.floor(from / HEIGHT);
-        const end = Math.min(count, first + Math.ceil(seen / HEIGHT) + 1);
-        this.lines.style.top = `${top - (from - first * HEIGHT)}px`;
-        const length = Math.max(0, end - first);
-        this.lines.replaceChildren(...Array.from({ length }, (_, it) => this.draw(first + it)));
-        this.sheet.style.minWidth = "";
-        this.sheet.style.minWidth = `${this.lines.offsetWidth}px`;
+        sheet.style.height = `${Math.min(count * HEIGHT, TALLEST)}px`;
+        this.step = (box.scrollHeight - box.clientHeight) / (count - shown);
+        this.first = Math.round(box.scrollTop / this.step) || 0;
+        sheet.firstElementChild.replaceChildren(...Array.from({ length: shown }, (_, it) => draw(this.first + it)));
     }
 
     reveal(line) {
-        const { clientHeight: seen, scrollTop: top } = this.box, at = line * HEIGHT, from = top * this.faster;
-        if (at < from || at + HEIGHT > from + seen) {
-            const above = Math.ceil((at + HEIGHT - seen) / this.faster);
-            this.box.scrollTop = at < from ? Math.floor(at / this.faster) : above;
+        const last = line - Math.floor(this.box.clientHeight / HEIGHT) + 1;
+        if (line < this.first || last > this.first) {
+            this.box.scrollTop = this.step * (line < this.first ? line : last);
         }
         this.show();
     }
 }
 
 const tree = new Lines($("tree"), drawRow), digits = new Lines($("bytes"), drawBytes);
-const rowOf = (line) => (now.seen ? now.seen[line] : line);
-const lineOf = (row) => (now.seen ? now.seen.findLastIndex((it) => it <= row) : row);
-const isOpenable = (row) => now.reading.rows.size[row] > 0;
 
 function drawRow(line) {
-    const { reading, reading: { rows } } = now, row = rowOf(line), level = rows.level[row], isOn = row === now.row;
-    const item = element("div", isOn ? "line on" : "line", indentation(level), { role: "treeitem", id: `row-${row}`,
-        "aria-level": level + 1, "aria-selected": isOn, "aria-posinset": rows.index[row] + 1,
-        "aria-setsize": row ? rows.size[rows.parent[row]] : 1 });
-    isOpenable(row) && item.setAttribute("aria-expanded", !now.closed.has(row));
+    const { reading, reading: { rows }, closed, seen } = now, row = seen[line], isOn = row === now.row;
+    const { level } = rows;
     const [key, keyCut, colon, value, cut] = rowParts(reading, row, MOST_SHOWN), [type, ...text] = value.split(" ");
-    const twist = isOpenable(row) ? (now.closed.has(row) ? "▸" : "▾") : "";
-    item.append(element("span", "twist", twist), element("span", "key", key), element("span", "cut", keyCut), colon,
-        element("span", "type", type), text.length ? ` ${text.join(" ")}` : "", element("span", "cut", cut));
-    return item;
+    const properties = { className: isOn ? "line on" : "line", id: `row-${row}`, role: "treeitem", ariaSelected: isOn,
+        ariaLevel: level[row], ariaPosInSet: rows.index[row] + 1, ariaSetSize: rows.size[rows.parent[row]],
+        ariaExpanded: rows.size[row] ? !closed.has(row) : null };
+    return element("div", properties, indentation(level[row]), span("twist"), span("key", key), span("cut", keyCut),
+        colon, span("type", type), text.length ? ` ${text.join(" ")}` : "", span("cut", cut));
 }
 
-// Which part of its row a byte is. (In a container those of no other row are what is malformed, or comes after that.)
-function partOf({ rows }, row, at) {
-    const value = rows.value[row], tag = rows.tag[row];
-    return row < 0 || isContainer(tag) && at >= value + 5 ? "after" : at < value
-        ? (at === rows.start[row] ? "length" : "key")
-        : at === value ? "tag" : isCounted(tag) && at < value + 5 ? "length" : "payload";
+// Which part a byte is, by the last word. (In a container those of no other row are malformed, or come after that.)
+function partOf({ rows }, at) {
+    const row = rows.at(at), [name] = row ? rows.parts(row).find(([, from, to]) => from <= at && at < to) : ["entries"];
+    return name === "entries" ? "after" : name.split(" ").at(-1);
 }
 
 function drawBytes(line) {
-    const { reading, reading: { rows, shift }, width, bytes } = now, at = line * width;
-    const some = bytes.subarray(at, at + width), made = element("div", "line", ""), [wrong] = failure(reading) ?? [];
-    const isOn = (offset) => rows.start[now.row] <= offset && offset < rows.end[now.row];
-    made.append(element("span", "offset", `${`${at}`.padStart(`${bytes.length}`.length)}  `));
-    some.forEach((byte, it) => {
-        const offset = at + it + shift, part = partOf(reading, rows.at(offset), offset);
-        const marks = [isOn(offset) && "on", wrong === at + it && "wrong", now.byte === at + it && "here"];
-        const kind = [part, ...marks].filter((mark) => mark).join(" ");
-        made.append(element("span", kind, hexadecimal([byte]), { "data-at": at + it }), it % 8 === 7 ? "  " : " ");
+    const { reading, reading: { rows, shift }, width, bytes, row } = now, begin = line * width;
+    const some = [...bytes.subarray(begin, begin + width)], [wrong] = failure(reading) ?? [];
+    const drawn = some.map((byte, it) => {
+        const at = begin + it, isOn = row && rows.start[row] <= at + shift && at + shift < rows.end[row];
+        const marks = [isOn && "on", wrong === at && "wrong", now.byte === at && "here"];
+        const className = [partOf(reading, at + shift), ...marks].filter(Boolean).join(" ");
+        return element("span", { className, id: `byte-${at}` }, hexadecimal([byte]));
     });
-    const text = Array.from(some, (it) => (it > 31 && it < 127 ? String.fromCharCode(it) : "·")).join("");
-    const [has, all] = [some.length, width].map((count) => 3 * count + Math.floor(count / 8));
-    made.append(" ".repeat(all - has), element("span", "offset", text));
-    return made;
+    return element("div", { className: "line" }, span("offset", `${begin}`.padStart(`${bytes.length}`.length)),
+        span("digits", ...drawn), span("text", String.fromCharCode(...some).replace(/[^ -~]/g, "·")));
 }
 
 // The way to the row that is marked, by keys and indices, what it is, and where its parts are.
 function about() {
-    const { reading, reading: { rows, shift }, row } = now, steps = [], parts = [];
-    for (let it = row; it > 0; it = rows.parent[it]) {
-        const key = rows.flags[it] & KEY ? keyText(reading, it) : `${rows.index[it]}`;
+    const { reading, reading: { rows, shift }, row } = now, steps = [];
+    for (let it = row; rows.parent[it]; it = rows.parent[it]) {
+        const key = rows.isPair(it) ? keyText(reading, it) : rows.index[it];
         steps.unshift(/^"[a-z_]\w*"$/i.test(key) ? `.${key.slice(1, -1)}` : `[${key}]`);
     }
-    const names = { length: "length", tag: "type tag", key: "key", payload: "payload", after: "payload" };
-    for (let from = Math.max(rows.start[row], shift), to; row >= 0 && from < rows.end[row]; from = to) {
-        const part = partOf(reading, row, from), isWhole = part === "payload" || part === "after";
-        for (to = from + 1; to < rows.end[row] && (isWhole || part === partOf(reading, row, to)); to++);
-        const name = part === "length" && from < rows.value[row] ? "key's length" : names[part];
-        parts.push(`${name} at ${from - shift}${to > from + 1 ? ` to ${to - shift - 1}` : ""}`);
-    }
-    const value = row < 0 ? "" : rowParts(reading, row, 1000).slice(3).join("");
-    return row < 0 ? "" : `$${steps.join("")}: ${value} — ${parts.join(", ")}`;
+    const parts = rows.parts(row).filter(([, , to]) => to > shift);
+    const places = parts.map(([name, from, to]) => [name, Math.max(0, from - shift), to - shift - 1]);
+    const where = places.map(([name, at, last]) => `${name} at ${at}${last > at ? ` to ${last}` : ""}`).join(", ");
+    return row ? `$${steps.join("")}: ${rowParts(reading, row, 1000).slice(3).join("")} — ${where}` : "";
 }
+
+const lineOf = (row) => (row ? now.seen.findLastIndex((it) => it <= row) : -1);
 
 // Marks a row and one of its bytes, and brings both in sight, unless they were pointed at there.
 function mark(row, byte, pointed) {
     if (row !== now.row || byte !== now.byte) {
         Object.assign(now, { row, byte });
-        for (const [lines, line] of [[tree, row < 0 ? -1 : lineOf(row)], [digits, Math.floor(byte / now.width)]]) {
+        for (const [lines, line] of [[tree, lineOf(row)], [digits, Math.floor(byte / now.width)]]) {
             lines === pointed || line < 0 ? lines.show() : lines.reveal(line);
         }
-        $("tree").setAttribute("aria-activedescendant", row < 0 ? "" : `row-${row}`);
+        $("tree").setAttribute("aria-activedescendant", row ? `row-${row}` : "");
         $("about").textContent = about();
     }
 }
@@ -141,17 +112,18 @@ function mark(row, byte, pointed) {
 const markRow = (row, pointed) => mark(row, Math.max(0, now.reading.rows.start[row] - now.reading.shift), pointed);
 const markByte = (byte, pointed) => mark(now.reading.rows.at(byte + now.reading.shift), byte, pointed);
 
-// Decides which rows are seen: not those in containers that are closed.
+// Decides which rows are seen: none in a container that is closed.
 function fold() {
-    const { rows: { level, count } } = now.reading, seen = [];
-    for (let row = 0, above = Infinity; now.closed.size && row < count; row++) {
-        if (level[row] <= above) {
-            seen.push(row);
-            above = now.closed.has(row) ? level[row] : Infinity;
+    const { start, end, count } = now.reading.rows, seen = new Uint32Array(count);
+    let lines = 0;
+    for (let row = 1, from = 0; row < count; row++) {
+        if (start[row] >= from) {
+            seen[lines++] = row;
+            from = now.closed.has(row) ? end[row] : from;
         }
     }
-    now.seen = now.closed.size ? Uint32Array.from(seen) : null;
-    tree.show(now.seen ? seen.length : count);
+    now.seen = seen.subarray(0, lines);
+    tree.show(lines);
 }
 
 function toggle(row) {
@@ -162,26 +134,23 @@ function toggle(row) {
 // Reads the bytes, and shows what was read. What is no value, as a whole, may be a table without its type tag, and
 // what is no table one with it.
 function show() {
-    const module = modules[$("bits").value], form = $("form").value, begun = performance.now();
+    const module = modules[$("bits").value], form = $("form").value, isTable = form === "table";
     const limit = (id, most) => Math.max(0, Math.min(most, Math.trunc(Number($(id).value))));
-    const how = { frame: limit("frame", MOST), depth: limit("depth", MOST_LEVELS), isTable: form === "table" };
+    const how = { frame: limit("frame", 0xffffffff), depth: limit("depth", MOST_LEVELS) };
+    Object.assign(now, { closed: new Set(), row: 0, byte: -1, width: innerWidth > 800 ? 16 : 8 });
     try {
-        now.reading = read(module, now.bytes, how);
-        now.isOther = false;
-        if (now.reading.code === UNKNOWN_TAG || now.reading.code !== OK && how.isTable) {
-            const other = read(module, now.bytes, { ...how, isTable: !how.isTable });
-            const { code, count, data, rows } = other;
-            now.isOther = code === OK && count === data.length && rows.tag[0] === TABLE;
-            now.reading = now.isOther && form === "any" ? other : read(module, now.bytes, how);
-        }
-        now.took = performance.now() - begun;
-        tell();
+        const first = read(module, now.bytes, { ...how, isTable });
+        const mayBeOther = first.code === AMQPV.UNKNOWN_TAG || first.code !== AMQPV.OK && isTable;
+        const other = mayBeOther && read(module, now.bytes, { ...how, isTable: !isTable });
+        const isOther = mayBeOther && other.count === other.data.length && other.rows.tag[1] === AMQPV.TABLE
+            && other.code === AMQPV.OK;
+        now.reading = isOther && form === "any" ? other : first;
+        tell(isOther && form !== "any" ? OTHER[Number(isTable)] : "");
     } catch (error) {
         module.renew();
         now.reading = read(module, new Uint8Array());
-        tell(`the module ended, and was made anew: ${error.message}`);
+        complain(`the module ended, and was made anew: ${error.message}`);
     }
-    Object.assign(now, { closed: new Set(), row: -1, byte: -1, width: innerWidth > 800 ? 16 : 8 });
     $("about").textContent = "";
     fold();
     digits.show(Math.ceil(now.bytes.length / now.width));
@@ -190,118 +159,147 @@ function show() {
 
 // Shows the JSON of what was read, unless something else was since.
 function showJson(reading) {
-    if (reading === now.reading && reading.module.has("write_json")) {
+    if (reading === now.reading) {
         now.json = jsonText(reading) ?? "";
-        const isAll = now.json.length <= MOST_TYPED, none = reading.code === OK ? "none: keys don't ascend" : "";
-        $("json-text").textContent = now.json ? now.json.slice(0, MOST_TYPED) + (isAll ? "" : " ..") : none;
-        $("json-part").hidden = $("json").hidden = reading.code !== OK;
+        const more = now.json.length > MOST_TYPED ? " .." : "";
+        $("json-text").textContent = now.json.slice(0, MOST_TYPED) + more || "none: keys don't ascend";
+        $("json-part").hidden = $("copy-JSON").hidden = reading.code !== AMQPV.OK;
     }
 }
 
-// Says what came of reading, or why nothing did.
-function tell(fault) {
-    const { reading, reading: { shift, rabbitmq, module } } = now, [at, why] = failure(reading) ?? [];
-    const jump = (text, to) => {
-        const made = element("button", "", text, { type: "button" });
-        made.addEventListener("click", () => (markByte(Math.min(to, now.bytes.length - 1)), $("bytes").focus()));
-        return made;
-    };
-    const again = repeats(reading), said = rabbitmqText(reading), lacks = CALLS.filter((it) => !module.has(it));
-    $("module").textContent = MODULES[module.bits] + lacks.map((it) => ` It has no amqpv_${it}.`).join("");
-    const isTold = reading.code === OK && module.has("is_canonical");
-    const canonical = isTold && `${module.isCanonical(reading.frame, reading.depth) ? "" : "not "}canonical`;
+// A button that leads to a byte.
+function jump(text, to) {
+    const made = element("button", { type: "button" }, text);
+    made.addEventListener("click", () => {
+        markByte(Math.min(to, now.bytes.length - 1));
+        $("bytes").focus();
+    });
+    return made;
+}
+
+// Says why nothing was read.
+function complain(why) {
+    $("outcome").textContent = "";
+    $("failure").replaceChildren(why);
+    $("notes").replaceChildren();
+}
+
+// Says what came of reading.
+function tell(note) {
+    const { reading, reading: { rows, shift, rabbitmq, isCanonical } } = now, again = repeats(reading);
+    const [at, why] = failure(reading) ?? [], said = rabbitmqText(reading);
     const notes = [
         shift && $("form").value === "any" ? "read as a table without its type tag" : "",
-        now.isOther && $("form").value !== "any" ? OTHER[shift] : "",
+        note,
         rabbitmq ? jump(said, Math.max(0, rabbitmq.offset - shift)) : said,
-        ...again.slice(0, 20).map(([row, line]) => jump(line, reading.rows.start[row] - shift)),
+        ...again.slice(0, 20).map(([row, line]) => jump(line, rows.start[row] - shift)),
         again.length > 20 ? `${again.length - 20} more keys come again` : "",
-        canonical];
-    $("outcome").textContent = fault ? "" : outcome(reading);
-    $("failure").hidden = !fault && !why;
-    $("failure").replaceChildren(fault ?? (why ? jump(`offset ${at}: ${why}`, at) : ""));
-    $("notes").replaceChildren(...notes.filter((it) => it && !fault).map((it) => {
-        const item = element("li", "", "");
-        item.append(it);
-        return item;
-    }));
+        why ? "" : isCanonical ? "canonical" : "not canonical"];
+    $("module").textContent = $("bits").selectedOptions[0].title;
+    $("outcome").textContent = outcome(reading);
+    $("failure").replaceChildren(...(why ? [jump(`offset ${at}: ${why}`, at)] : []));
+    $("notes").replaceChildren(...notes.filter(Boolean).map((it) => element("li", {}, it)));
 }
 
-// Takes what is typed; takes other bytes, which are typed if they aren't many; and a file, of bytes or of hexadecimal.
+// Takes what is typed, which neither the example has that was chosen, nor the link that was followed or copied.
 function type() {
     const { bytes, fault } = readHexadecimal($("text").value);
+    $("examples").value = "";
+    location.hash && history.replaceState(null, "", "#");
     now.bytes = bytes ?? new Uint8Array();
     show();
-    fault && tell(fault);
+    fault && complain(fault);
 }
 
+// Takes other bytes, which are typed if they aren't many.
 function put(bytes, name = "a link") {
-    $("text").value = bytes.length > MOST_TYPED ? "" : hexadecimal(bytes).replace(/.{64}(?=.)/g, "$&\n");
+    const isMuch = bytes.length > MOST_TYPED;
+    $("text").value = isMuch ? "" : hexadecimal(bytes);
     $("text").setSelectionRange(0, 0);
     $("text").scrollTop = 0;
-    $("text").placeholder = bytes.length > MOST_TYPED ? `${name}: ${bytes.length} bytes` : "";
+    $("text").placeholder = isMuch ? `${name}: ${bytes.length} bytes` : "";
     now.bytes = bytes;
     show();
 }
 
-async function drop(file) {
-    const bytes = new Uint8Array(await file.arrayBuffer());
-    const text = readHexadecimal(new TextDecoder("latin1").decode(bytes));
-    put(text.bytes?.length ? text.bytes : bytes, file.name);
+// Takes a file, of bytes or of hexadecimal.
+async function drop(event) {
+    event.preventDefault();
+    const [file] = event.dataTransfer.files;
+    if (file) {
+        const bytes = new Uint8Array(await file.arrayBuffer());
+        const text = readHexadecimal(new TextDecoder("latin1").decode(bytes));
+        put(text.bytes?.length ? text.bytes : bytes, file.name);
+    }
 }
 
 // A link has the bytes after `#`, and how they are read.
 function follow() {
-    const [, form, text] = /^#(?:(value|table):)?((?:[0-9a-f]{2})+)$/i.exec(location.hash) ?? [];
-    if (text) {
-        $("form").value = form ?? "any";
-        put(readHexadecimal(text).bytes);
+    const [, form = "any", digits] = /^#(?:(value|table):)?((?:[\da-f]{2})+)$/i.exec(location.hash) ?? [];
+    if (digits) {
+        $("form").value = form;
+        put(readHexadecimal(digits).bytes);
     }
 }
 
-function copyLink() {
+function link() {
     const form = $("form").value;
-    if (now.bytes.length > MOST_LINKED) {
+    history.replaceState(null, "", `#${form === "any" ? "" : `${form}:`}${hexadecimal(now.bytes)}`);
+    return location.href;
+}
+
+// What buttons copy, by their ids.
+const COPIES = { link, hexadecimal: () => hexadecimal(now.bytes), tree: () => treeLines(now.reading).join("\n"),
+    JSON: () => now.json };
+
+async function copy(what) {
+    if (what === "link" && now.bytes.length > MOST_LINKED) {
         $("copied").textContent = "too many bytes for a link";
     } else {
-        history.replaceState(null, "", `#${form === "any" ? "" : `${form}:`}${hexadecimal(now.bytes)}`);
-        copy("link", location.href);
+        const isDone = await navigator.clipboard?.writeText(COPIES[what]()).then(() => true, () => false);
+        $("copied").textContent = isDone ? `${what} copied` : `the browser doesn't let this page copy a ${what}`;
     }
 }
 
-async function copy(what, text) {
-    const isDone = await navigator.clipboard?.writeText(text).then(() => true, () => false);
-    $("copied").textContent = isDone ? `${what} copied` : `the browser doesn't let this page copy a ${what}`;
-}
-
-// Keys, as the role of a tree has them.
-function moveInTree(key, page) {
-    const { row, reading: { rows } } = now, last = tree.count - 1, line = row < 0 ? -1 : lineOf(row);
-    const to = { ArrowDown: line + 1, ArrowUp: line - 1, PageDown: line + page, PageUp: line - page, Home: 0,
-        End: last }[key];
-    if (to !== undefined) {
-        markRow(rowOf(Math.max(0, Math.min(last, to))));
-    } else if (row >= 0 && isOpenable(row) && now.closed.has(row) === (key === "ArrowRight")) {
+// Moves by a key, as the role of a tree has it, and likewise from byte to byte.
+function move(event) {
+    const { row, byte, seen, closed, reading: { rows } } = now, { key, currentTarget: box } = event;
+    const isTree = box === tree.box, side = { ArrowLeft: -1, ArrowRight: 1 }[key];
+    const [at, step, last] = isTree ? [lineOf(row), 1, seen.length - 1] : [byte, now.width, now.bytes.length - 1];
+    const page = step * Math.floor(box.clientHeight / HEIGHT);
+    const to = { ArrowDown: at + step, ArrowUp: at - step, PageDown: at + page, PageUp: at - page, Home: 0, End: last,
+        ArrowLeft: at - 1, ArrowRight: at + 1 }[key];
+    if (to === undefined || last < 0 || event.ctrlKey || event.altKey || event.metaKey) {
+        return;
+    }
+    event.preventDefault();
+    if (!isTree) {
+        markByte(Math.max(0, Math.min(last, to)));
+    } else if (!side) {
+        markRow(seen[Math.max(0, Math.min(last, to))]);
+    } else if (row && rows.size[row] && closed.has(row) === side > 0) {
         toggle(row);
-    } else if (row > 0 && key === "ArrowLeft") {
-        markRow(rows.parent[row]);
-    } else if (row >= 0 && key === "ArrowRight" && isOpenable(row)) {
-        markRow(row + 1);
+    } else if (row && (side < 0 ? rows.parent[row] : rows.size[row])) {
+        markRow(side < 0 ? rows.parent[row] : row + 1);
     }
 }
 
-function moveInBytes(key, page) {
-    const { byte, width } = now, last = now.bytes.length - 1, to = { ArrowRight: byte + 1, ArrowLeft: byte - 1,
-        ArrowDown: byte + width, ArrowUp: byte - width, PageDown: byte + page * width, PageUp: byte - page * width,
-        Home: 0, End: last };
-    markByte(Math.max(0, Math.min(last, to[key])));
+// Marks what is pointed at, or closes or opens it.
+function point({ type: kind, target }) {
+    const item = target.closest("[id^=row-], [id^=byte-]"), [name, at] = item?.id.split("-") ?? [];
+    if (name === "byte") {
+        markByte(Number(at), digits);
+    } else if (item) {
+        const isTwist = kind === "click" && target.className === "twist";
+        (isTwist ? toggle : markRow)(Number(at), tree);
+    }
 }
 
 function start() {
-    for (const [bits, option] of [...$("bits").options].map((it) => [Number(it.value), it])) {
+    for (const option of $("bits").options) {
         try {
-            const code = Uint8Array.from(atob($(`wasm${bits}`).textContent), (it) => it.charCodeAt(0));
-            modules[bits] = new Module(new WebAssembly.Module(code), bits);
+            const code = Uint8Array.from(atob($(`wasm${option.value}`).textContent), (it) => it.charCodeAt(0));
+            modules[option.value] = new Module(new WebAssembly.Module(code), Number(option.value));
         } catch {
             option.disabled = true;
         }
@@ -311,40 +309,19 @@ function start() {
         return;
     }
     $("bits").value = modules[64] ? 64 : 32;
-    const on = (id, kind, act) => (id ? $(id) : window).addEventListener(kind, act);
-    on("text", "input", type);
-    ["form", "depth", "frame", "bits"].forEach((id) => on(id, "change", show));
-    on("examples", "change", ({ target }) => {
+    $("text").addEventListener("input", type);
+    ["form", "depth", "frame", "bits"].forEach((id) => $(id).addEventListener("change", show));
+    $("examples").addEventListener("change", ({ target }) => {
         $("form").value = "any";
         put(readHexadecimal(target.value).bytes);
     });
-    on("link", "click", copyLink);
-    on("digits", "click", () => copy("hexadecimal", hexadecimal(now.bytes)));
-    on("json", "click", () => copy("JSON", now.json));
-    on("tree-text", "click", () => copy("tree", treeLines(now.reading).join("\n")));
-    on("", "hashchange", follow);
-    on("", "dragover", (event) => event.preventDefault());
-    on("", "drop", (event) => {
-        event.preventDefault();
-        [...event.dataTransfer.files].slice(0, 1).forEach(drop);
-    });
-    for (const [id, move, lines] of [["tree", moveInTree, tree], ["bytes", moveInBytes, digits]]) {
-        on(id, "keydown", (event) => {
-            const isAlone = !(event.ctrlKey || event.altKey || event.metaKey);
-            if (/^(Arrow|Page(Up|Down)|Home|End)/.test(event.key) && isAlone && lines.count) {
-                event.preventDefault();
-                move(event.key, Math.floor($(id).clientHeight / HEIGHT));
-            }
-        });
-        const point = ({ type: kind, target }) => {
-            const item = target.closest("[role=treeitem]"), digit = target.closest("[data-at]");
-            if (item) {
-                const isTwist = kind === "click" && target.className === "twist";
-                (isTwist ? toggle : markRow)(Number(item.id.slice(4)), tree);
-            }
-            digit && markByte(Number(digit.dataset.at), digits);
-        };
-        ["pointerover", "click"].forEach((kind) => on(id, kind, point));
+    Object.keys(COPIES).forEach((what) => $(`copy-${what}`).addEventListener("click", () => copy(what)));
+    addEventListener("hashchange", follow);
+    addEventListener("dragover", (event) => event.preventDefault());
+    addEventListener("drop", drop);
+    for (const { box } of [tree, digits]) {
+        box.addEventListener("keydown", move);
+        ["pointerover", "click"].forEach((kind) => box.addEventListener(kind, point));
     }
     show();
     follow();

@@ -1,34 +1,25 @@
 // What is read, in the words of amqp_show.
-import { CUT, KEY_CUT, LARGE, MORE, NOT_FINITE, NOT_UTF8, OK, TOO_DEEP, TOO_LARGE, UNKNOWN,
-    UNKNOWN_TAG } from "./module.js";
-import { BARE, IS_CUT, KEY, KEY_IS_CUT, NO_KEY } from "./reading.js";
+import { AMQPV, NAMES } from "./header.js";
+import { BARE, CUT, KEY_CUT, NO_KEY, isContainer } from "./reading.js";
 
-const NAMES = { t: "Boolean", b: "ShortShortInt", B: "ShortShortUInt", s: "ShortInt", u: "ShortUInt", I: "LongInt",
-    i: "LongUInt", l: "LongLongInt", f: "Float", d: "Double", D: "DecimalValue", S: "LongString", x: "ByteArray",
-    A: "FieldArray", F: "FieldTable", T: "Timestamp", V: "Void" };
 const UNPRINTABLE = /["\\\u0000-\u001f\u007f-\u009f\u061c\u200e\u200f\u202a-\u202e\u2066-\u2069]/g;
-const utf8 = new TextDecoder("utf-8", { fatal: true, ignoreBOM: true });
-const ENDS = "this library takes the last, RabbitMQ the first";
-
-export const nameOf = (tag) => NAMES[String.fromCharCode(tag)];
 const DIGITS = Array.from({ length: 256 }, (_, it) => it.toString(16).padStart(2, "0"));
 export const hexadecimal = (bytes) => Array.from(bytes, (it) => DIGITS[it]).join("");
-const latin1 = (bytes) => Array.from(bytes, (it) => String.fromCharCode(it)).join("");
 
 function escaped(character) {
-    const code = character.charCodeAt(0), digits = code.toString(16);
-    return /["\\]/.test(character) ? `\\${character}` : code < 128 ? `\\x${digits.padStart(2, "0")}`
-        : `\\u{${digits.padStart(4, "0")}}`;
+    const code = character.charCodeAt(0);
+    return /["\\]/.test(character) ? `\\${character}` : code < 128 ? `\\x${DIGITS[code]}`
+        : `\\u{${code.toString(16).padStart(4, "0")}}`;
 }
 
 // A string in quotation marks; if it isn't UTF-8, only with characters of ASCII.
 export function quoted(bytes) {
     try {
-        return `"${utf8.decode(bytes).replace(UNPRINTABLE, escaped)}"`;
+        const text = new TextDecoder("utf-8", { fatal: true, ignoreBOM: true }).decode(bytes);
+        return `"${text.replace(UNPRINTABLE, escaped)}"`;
     } catch {
-        const digits = (it) => `\\x${it.charCodeAt(0).toString(16)}`;
-        const ascii = latin1(bytes).replace(UNPRINTABLE, (it) => (it < "\x80" ? escaped(it) : it));
-        return `"${ascii.replace(/[^\0-~]/g, digits)}"`;
+        const ascii = (it) => String.fromCharCode(it).replace(UNPRINTABLE, escaped);
+        return `"${Array.from(bytes, (it) => (it < 128 ? ascii(it) : `\\x${DIGITS[it]}`)).join("")}"`;
     }
 }
 
@@ -43,9 +34,8 @@ function shortest(bits) {
     const far = (it) => (it > number ? it - number : number - it);
     for (let unit = 10n ** BigInt(`${number}`.length - 1); ; unit /= 10n) {
         const below = (number / unit) * unit, both = [below, below + unit];
-        const fits = both.filter((it) => (isOdd ? low < it && it < high : low <= it && it <= high));
-        const [one, other = one] = fits;
-        if (fits.length) {
+        const [one, other = one] = both.filter((it) => (isOdd ? low < it && it < high : low <= it && it <= high));
+        if (one !== undefined) {
             const isOther = far(one) > far(other) || far(one) === far(other) && (one / unit) % 2n;
             const digits = `${isOther ? other : one}`;
             return [digits, digits.length - 152];
@@ -68,122 +58,122 @@ function floatText(number, bits, most, zeros) {
             : `${digits[0]}${digits[1] ? "." : ""}${digits.slice(1)}e${before - 1}`);
 }
 
-// A number of fixed width, as it was read.
+// A value of fixed width, by the type tag, bits and scale that were read.
 function numberText({ tag, low, high, scale }) {
-    const name = nameOf(tag), view = new DataView(Uint32Array.of(low, high).buffer), bits = view.getBigUint64(0, true);
-    if (name === "Float") {
-        return `${floatText(view.getFloat32(0, true), low, 13, 5)} (bits ${low.toString(16).padStart(8, "0")})`;
-    } else if (name === "Double") {
-        return `${floatText(view.getFloat64(0, true), null, 16, 4)} (bits ${bits.toString(16).padStart(16, "0")})`;
-    } else if (name === "Timestamp") {
-        const date = () => new Date(Number(bits) * 1000).toISOString().replace(".000", "");
-        return bits > 253402207200n ? `${bits}` : `${bits} (${date()})`;
-    } else if (name === "DecimalValue") {
-        const digits = `${bits}`.padStart(scale + 1, "0"), point = digits.length - scale;
-        return scale ? `${digits.slice(0, point)}.${digits.slice(point)}` : digits;
+    const view = new DataView(Uint32Array.of(low, high).buffer), bits = view.getBigUint64(0, true);
+    const digits = (count) => bits.toString(16).padStart(count, "0"), decimal = `${bits}`.padStart(scale + 1, "0");
+    switch (tag) {
+        case AMQPV.BOOLEAN: return `${low === 1}`;
+        case AMQPV.FLOAT: return `${floatText(view.getFloat32(0, true), low, 13, 5)} (bits ${digits(8)})`;
+        case AMQPV.DOUBLE: return `${floatText(view.getFloat64(0, true), null, 16, 4)} (bits ${digits(16)})`;
+        case AMQPV.TIMESTAMP: return bits > 253402207200n ? `${bits}`
+            : `${bits} (${new Date(Number(bits) * 1000).toISOString().replace(".000", "")})`;
+        case AMQPV.DECIMAL: return scale ? `${decimal.slice(0, -scale)}.${decimal.slice(-scale)}` : decimal;
+        default: return `${/UInt$/.test(NAMES[tag]) ? bits : BigInt.asIntN(64, bits)}`;
     }
-    return name === "Boolean" ? `${low === 1}` : /UInt$/.test(name) ? `${bits}` : `${BigInt.asIntN(64, bits)}`;
 }
 
 // The type of a row's value and the text of its payload, of which at most so many bytes are shown.
 export function valueText({ module, data, rows }, row, most = Infinity) {
-    const name = nameOf(rows.tag[row]), from = rows.value[row], end = rows.end[row];
+    const tag = rows.tag[row], flags = rows.flags[row], from = rows.value[row], end = rows.end[row], name = NAMES[tag];
     const content = data.subarray(from + 5, end), shown = content.subarray(0, Math.min(most, content.length));
-    if (rows.flags[row] & BARE || /^Field|Void/.test(name)) {
+    if (flags & BARE || isContainer(tag) || tag === AMQPV.VOID || flags & CUT && content.length === 0) {
         return name;
-    } else if (name !== "LongString" && name !== "ByteArray") {
-        module.first(from, end);
-        return `${name} ${numberText(module.read())}`;
-    } else if (content.length === 0 && rows.flags[row] & IS_CUT) {
-        return name;
+    } else if (tag !== AMQPV.LONG_STRING && tag !== AMQPV.BYTE_ARRAY) {
+        return `${name} ${numberText(module.number(data.subarray(from, end)))}`;
     }
-    const text = name === "ByteArray" ? hexadecimal(shown) : quoted(shown);
+    const text = tag === AMQPV.LONG_STRING ? quoted(shown) : hexadecimal(shown);
     return `${name} ${text}${shown.length < content.length ? " .." : ""}`;
 }
 
 // The JSON of what was read, as amqp_show has it, or null.
-export function jsonText({ module, code, frame, depth }) {
-    const text = code === OK ? module.json(frame, depth) : null;
+export function jsonText({ module, data, code, frame, depth }) {
+    module.load(data);
     const digits = (it) => `\\u${it.charCodeAt(0).toString(16).padStart(4, "0")}`;
+    const text = code === AMQPV.OK ? module.json(frame, depth) : null;
     return text?.replace(UNPRINTABLE, (it) => (/["\\]/.test(it) ? it : digits(it)));
 }
 
 export const keyBytes = ({ data, rows }, row) => data.subarray(rows.start[row] + 1, rows.value[row]);
 export const keyText = (reading, row) => (reading.rows.flags[row] & NO_KEY ? "?" : quoted(keyBytes(reading, row)));
-export const indentation = (level) => (level <= 32 ? "  ".repeat(level) : `${"  ".repeat(32)}[${level}] `);
+export const indentation = (level) => (level <= 33 ? "  ".repeat(level - 1) : `${"  ".repeat(32)}[${level - 1}] `);
 
 // A row as the tree has it, in parts: the key, that it is cut, the value, and that this is.
 export function rowParts(reading, row, most) {
-    const { tag, flags } = reading.rows, has = (flag, text) => (flags[row] & flag ? text : "");
-    const value = tag[row] ? valueText(reading, row, most) : "";
-    const key = [has(KEY, keyText(reading, row)), has(KEY_IS_CUT, " (cut)"), tag[row] ? has(KEY, ": ") : ""];
-    return [...key, value, has(IS_CUT, " (cut)")];
+    const { rows } = reading, flags = rows.flags[row];
+    const key = rows.isPair(row) ? keyText(reading, row) : "";
+    const value = rows.tag[row] ? valueText(reading, row, most) : "";
+    return [key, flags & KEY_CUT ? " (cut)" : "", key && value ? ": " : "", value, flags & CUT ? " (cut)" : ""];
 }
 
-export const treeLines = (reading) => Array.from({ length: reading.rows.count }, (_, row) =>
-    indentation(reading.rows.level[row]) + rowParts(reading, row).join(""));
+export const treeLines = (reading) => Array.from({ length: reading.rows.count - 1 }, (_, it) =>
+    indentation(reading.rows.level[it + 1]) + rowParts(reading, it + 1).join(""));
 
 // The offset and the words of what is wrong, or null.
 export function failure({ failed, shift }) {
     if (!failed) {
         return null;
     }
-    const { kind, offset, tag, needs } = failed, at = kind === CUT && tag || kind === NOT_UTF8 ? offset + 1 : offset;
-    const payload = `the payload of a ${nameOf(tag)} is expected; more bytes needed: ${needs}`;
-    return [Math.max(0, at - shift), { [UNKNOWN]: `a type tag is expected; ${hexadecimal([tag])} is none`,
-        [CUT]: tag ? payload : "a type tag is expected; nothing is left",
-        [KEY_CUT]: `a key is expected; more bytes needed: ${needs}`,
-        [TOO_DEEP]: "containers nest deeper than --depth allows",
-        [LARGE]: `the ${shift ? "table" : "value"} has more bytes than --max-bytes allows`,
-        [NOT_UTF8]: "a key is expected; the bytes aren't UTF-8" }[kind]];
+    const { kind, offset, tag, needs } = failed;
+    const [after, why] = {
+        [AMQPV.PROBLEM_UNKNOWN_TAG]: [0, `a type tag is expected; ${DIGITS[tag]} is none`],
+        [AMQPV.PROBLEM_CUT]: tag ? [1, `the payload of a ${NAMES[tag]} is expected; more bytes needed: ${needs}`]
+            : [0, "a type tag is expected; nothing is left"],
+        [AMQPV.PROBLEM_KEY_CUT]: [0, `a key is expected; more bytes needed: ${needs}`],
+        [AMQPV.PROBLEM_TOO_DEEP]: [0, "containers nest deeper than --depth allows"],
+        [AMQPV.PROBLEM_TOO_LARGE]: [0, `the ${shift ? "table" : "value"} has more bytes than --max-bytes allows`],
+        [AMQPV.PROBLEM_KEY_NOT_UTF8]: [1, "a key is expected; the bytes aren't UTF-8"],
+    }[kind];
+    return [Math.max(0, offset + after - shift), why];
 }
 
 // What reading resulted in.
 export function outcome({ code, count, shift, data }) {
-    return code === OK ? `a ${shift ? "table" : "value"} of ${count - shift} bytes, ${data.length - count} follow`
-        : code === MORE ? `truncated; more bytes needed: ${count}`
-            : `refused, ${code === UNKNOWN_TAG ? "MapOpt" : code === TOO_LARGE ? "TooLarge" : "Eof"}`;
+    return code === AMQPV.OK ? `a ${shift ? "table" : "value"} of ${count - shift} bytes, ${data.length - count} follow`
+        : code === AMQPV.MORE ? `truncated; more bytes needed: ${count}`
+            : `refused, ${{ [AMQPV.UNKNOWN_TAG]: "MapOpt", [AMQPV.TOO_LARGE]: "TooLarge" }[code] ?? "Eof"}`;
 }
 
 // Whether RabbitMQ closes the connection, and why; nothing of cut bytes.
 export function rabbitmqText({ code, rabbitmq, shift }) {
     if (!rabbitmq) {
-        return code === MORE ? "" : "RabbitMQ 3.10.8 takes it";
+        return code === AMQPV.MORE ? "" : "RabbitMQ 3.10.8 takes it";
     }
-    const few = "is expected; too few bytes are left";
-    const why = { [UNKNOWN]: `a type tag is expected; RabbitMQ knows no ${hexadecimal([rabbitmq.tag])}`,
-        [CUT]: `a value ${few}`, [KEY_CUT]: `a key ${few}`,
-        [NOT_FINITE]: "the number is an infinity or a NaN" }[rabbitmq.kind];
+    const why = {
+        [AMQPV.PROBLEM_UNKNOWN_TAG]: `a type tag is expected; RabbitMQ knows no ${DIGITS[rabbitmq.tag]}`,
+        [AMQPV.PROBLEM_CUT]: "a value is expected; too few bytes are left",
+        [AMQPV.PROBLEM_KEY_CUT]: "a key is expected; too few bytes are left",
+        [AMQPV.PROBLEM_NOT_FINITE]: "the number is an infinity or a NaN",
+    }[rabbitmq.kind];
     return why ? `RabbitMQ 3.10.8 closes the connection: offset ${Math.max(0, rabbitmq.offset - shift)}: ${why}`
         : "not checked for RabbitMQ beyond the limits";
 }
 
 // Of each key that comes again in its table the last value's row and a line, ordered by table, then by key.
 export function repeats(reading, most = 200) {
-    const { data, shift, rows, rows: { count, flags, parent, start, tag, value } } = reading, tables = new Map();
-    // how many keys a slot has of a million, if none, one or more; only keys that share one are compared
-    const slots = new Uint8Array(1 << 20), slotOf = new Int32Array(count).fill(-1);
-    for (let row = 1; row < count; row++) {
-        if (flags[row] & KEY && tag[row]) {
-            let hash = parent[row];
-            for (let at = start[row] + 1; at < value[row]; at++) {
-                hash = Math.imul(hash ^ data[at], 0x01000193);
-            }
-            slotOf[row] = (hash ^ (hash >>> 12)) & 0xfffff;
-            slots[slotOf[row]] = slots[slotOf[row]] ? 2 : 1;
-        }
+    const { data, shift, rows, rows: { start, value, parent } } = reading, pairs = [];
+    for (let row = 1; row < rows.count && !reading.isCanonical; row++) {
+        rows.tag[row] && rows.isPair(row) && pairs.push(row);
     }
-    for (let row = 1; row < count; row++) {
-        if (slotOf[row] >= 0 && slots[slotOf[row]] > 1) {
-            const table = parent[row], key = String.fromCharCode(...keyBytes(reading, row));
-            const keys = tables.get(table) ?? new Map(), found = keys.get(key) ?? [];
-            found.push(row);
-            tables.set(table, keys.set(key, found));
+    // the slot of each key, of a million, and whether one key has it, or more: only these are compared
+    const slotOf = pairs.map((row) => {
+        let hash = parent[row];
+        for (let at = start[row] + 1; at < value[row]; at++) {
+            hash = Math.imul(hash ^ data[at], 0x01000193);
         }
+        return (hash ^ (hash >>> 12)) & 0xfffff;
+    });
+    const slots = new Uint8Array(1 << 20);
+    slotOf.forEach((slot) => (slots[slot] = slots[slot] ? 2 : 1));
+    const tables = new Map();
+    for (const row of pairs.filter((_, it) => slots[slotOf[it]] > 1)) {
+        const key = `${parent[row]}`.padStart(10, "0") + String.fromCharCode(...keyBytes(reading, row));
+        const them = tables.get(key) ?? [];
+        them.push(row);
+        tables.set(key, them);
     }
-    const text = (row) => `${valueText(reading, row, most)} at ${rows.value[row] - shift}`;
-    const ordered = (map) => [...map].filter(([, it]) => it.size || it.length > 1).sort(([a], [b]) => (a < b ? -1 : 1));
-    const all = ordered(tables).flatMap(([, keys]) => ordered(keys));
-    return all.map(([, them]) => [them.at(-1), `the key ${keyText(reading, them[0])} comes ${them.length} times: `
-        + `first ${text(them[0])}, last ${text(them.at(-1))}; ${ENDS}`]);
+    const said = (row) => `${valueText(reading, row, most)} at ${value[row] - shift}`;
+    const again = [...tables].filter(([, them]) => them.length > 1).sort(([one], [two]) => (one < two ? -1 : 1));
+    return again.map(([, them]) => [them.at(-1), `the key ${keyText(reading, them[0])} comes ${them.length} times: `
+        + `first ${said(them[0])}, last ${said(them.at(-1))}; this library takes the last, RabbitMQ the first`]);
 }

@@ -12,7 +12,8 @@ from selenium.webdriver.support.ui import WebDriverWait
 
 DRIVER, CHROMIUM = "/usr/bin/chromedriver", "/usr/bin/chromium"
 # Reads inputs in the page, as it does itself: of each the lines of the tree, the first letter of the part that each byte is of,
-# unless there are many, the lines of repeated keys, the failure, the outcome, what RabbitMQ does and, of a value, if the module has these calls, whether it is canonical, and its JSON.
+# unless there are many, the lines of repeated keys, the failure, the outcome, what RabbitMQ does and, of a value, whether it is
+# canonical, and its JSON.
 READ = """
 const [inputs, how, bits] = arguments, {amqp} = globalThis;
 return inputs.map((digits) => {
@@ -21,13 +22,13 @@ return inputs.map((digits) => {
     return {
         tree: amqp.treeLines(reading),
         parts: bytes.length > 5000 ? "" : Array.from(reading.data, (_, at) =>
-            amqp.partOf(reading, reading.rows.at(at), at)[0]).join("").slice(reading.shift),
+            amqp.partOf(reading, at)[0]).join("").slice(reading.shift),
         repeats: amqp.repeats(reading, Infinity).map(([, line]) => `* ${line}`),
         failure: failed ? `! offset ${failed[0]}: ${failed[1]}` : "",
         outcome: `= ${amqp.outcome(reading)}`,
         rabbitmq: amqp.rabbitmqText(reading),
-        canonical: failed || !reading.module.has("is_canonical") ? null : reading.module.isCanonical(reading.frame, reading.depth),
-        json: failed || !reading.module.has("write_json") ? null : amqp.jsonText(reading) ?? "",
+        canonical: failed ? null : reading.isCanonical,
+        json: failed ? null : amqp.jsonText(reading) ?? "",
     };
 });
 """
@@ -49,10 +50,6 @@ class Browser:
     def read(self, inputs: Sequence[bytes], bits: int, **how: object) -> list[dict[str, Any]]:
         """What the page reads of inputs."""
         return list(self.run(READ, [it.hex() for it in inputs], how, bits))
-
-    def has(self, call: str, bits: int = 64) -> bool:
-        """Whether a module has a call."""
-        return bool(self.run("return amqp.modules[arguments[0]].has(arguments[1])", bits, call))
 
     def type(self, text: str) -> None:
         """Types a text in place of what is there."""

@@ -48,7 +48,7 @@ def parts_of(found: Dissection) -> str:
     return "".join(letters)[found.left_out :]
 
 
-def wanted(data: bytes, how: dict[str, Any], has_canonical: bool, has_json: bool) -> dict[str, Any]:
+def wanted(data: bytes, how: dict[str, Any]) -> dict[str, Any]:
     """What the page has to read of some bytes, by the model."""
     found = Dissection(data, "table" if how.get("isTable") else "value")
     said = printed.outcome(found)
@@ -63,8 +63,8 @@ def wanted(data: bytes, how: dict[str, Any], has_canonical: bool, has_json: bool
         "failure": f"! {found.failed()}" if found.failure else "",
         "outcome": f"= {said}",
         "rabbitmq": "" if said.startswith("truncated") else rabbitmq(data, how),
-        "canonical": None if found.failure or not has_canonical else not any(it.note for it in found.parts),
-        "json": None if found.failure or not has_json else json_of(found),
+        "canonical": None if found.failure else not any(it.note for it in found.parts),
+        "json": None if found.failure else json_of(found),
     }
 
 
@@ -81,10 +81,9 @@ def batches(given: Iterable[bytes]) -> Iterator[list[bytes]]:
 def judge(browser: Browser, bits: int, given: Iterable[bytes], **how: Any) -> int:
     """Compares what the page reads of inputs with the model, and returns how many they were."""
     count = 0
-    calls = [browser.has(it, bits) for it in ("is_canonical", "write_json")]
     for batch in batches(given):
         for data, has in zip(batch, browser.read(batch, bits, **how), strict=True):
-            assert has == wanted(data, how, *calls), data[:300].hex()
+            assert has == wanted(data, how), data[:300].hex()
             count += 1
     return count
 
@@ -195,14 +194,13 @@ def test_stored_cases(browser: Browser, bits: int, record_property: Recorder) ->
 
 @BITS
 def test_stored_json(browser: Browser, bits: int, record_property: Recorder) -> None:
-    """Of each case of tests/show that prints JSON the same, unless keys don't ascend; if there is a call that writes it."""
+    """Of each case of tests/show that prints JSON the same, unless keys don't ascend."""
     found = [*stored_json()]
     for name, text, given, how, line in found:
         data = bytes_of(browser, text, given)
         (has,) = browser.read([data], bits, **how)
         found_of = Dissection(data, "table" if how["isTable"] else "value")
-        wants = (line if json_of(found_of) else "") if browser.has("write_json", bits) else None
-        assert has["json"] == wants, name
+        assert has["json"] == (line if json_of(found_of) else ""), name
     record_property(f"json_{bits}", len(found))
 
 
