@@ -2,8 +2,8 @@
  * Tries amqpv_first_warnings and amqpv_first_warnings_in_table of include/amqp_values.h: what is expected of the values below, with the
  * first allocation failing, then the second, until a call makes fewer; and of each prefix of them, each change of one
  * byte to one of some, and random values what a model by the header's words finds, if RabbitMQ takes them. Otherwise
- * each offset is in the bytes, and what is there is what it stands for. Of a table without its type tag everything
- * is one byte less far. What isn't OK leaves the struct as it was.
+ * each offset is in the bytes, and that of what is too deep is a container's. Of a table without its type tag
+ * everything is one byte less far. What isn't OK leaves the struct as it was.
  */
 #include "check.h"
 
@@ -139,8 +139,8 @@ static void try_as(slice given, asked by) {
         CHECK(result == (is_any ? AMQPV_OK : AMQPV_NONE) && is_same(&found, is_any ? &all.found : &old));
     } else if (result == AMQPV_OK) {
         CHECK(is_at(found.repeated_key, given) && is_at(found.key_not_utf8, given) && found.exceeds_frame <= 1);
-        CHECK(found.empty_key == NO || (is_at(found.empty_key, given) && given.at[found.empty_key] == 0));
-        CHECK(found.too_deep == NO || (is_at(found.too_deep, given) && is_container(given.at[found.too_deep])));
+        CHECK(is_at(found.empty_key, given) && is_at(found.too_deep, given));
+        CHECK(found.too_deep == NO || is_container(given.at[found.too_deep]));
     }
 }
 
