@@ -295,7 +295,7 @@ pub struct amqpv_warnings {
     pub exceeds_frame: u8,
 }
 
-/// How deep containers may nest for each client that was tried: one broke on 258 levels. DIFFERENCES.md has a table.
+/// How deep containers may nest for each client that was tried, of which the first broke on 258 levels.
 pub const AMQPV_CLIENT_LEVELS: u32 = 256;
 
 /// An array or a table that is being built in a buffer.
