@@ -15,6 +15,7 @@ static const char *name;
 static uint32_t depth;
 static int32_t result = AMQPV_INVALID;
 static amqpv_problem problem;
+static amqpv_warnings warnings;
 
 static int is_called(const char *other) {
     return strcmp(name, other) == 0;
@@ -23,6 +24,11 @@ static int is_called(const char *other) {
 /* What a search for a problem results in: none is the value that is searched for. */
 static int32_t found(int32_t code) {
     return code == AMQPV_NONE ? AMQPV_OK : problem.kind == AMQPV_PROBLEM_TOO_DEEP ? AMQPV_MALFORMED : AMQPV_INVALID;
+}
+
+/* What a search for warnings results in: none is the value that is searched for. */
+static int32_t warned(int32_t code) {
+    return code == AMQPV_NONE ? AMQPV_OK : code == AMQPV_OK && warnings.too_deep < length ? AMQPV_MALFORMED : AMQPV_INVALID;
 }
 
 static void *make_call(void *unused) {
@@ -60,6 +66,10 @@ static void *make_call(void *unused) {
         result = amqpv_to_json(given, length, UINT32_MAX, depth, buffer, sizeof buffer, &count);
     } else if (is_called("amqpv_write_json")) {
         result = amqpv_write_json(given, length, UINT32_MAX, depth, buffer, sizeof buffer, &count);
+    } else if (is_called("amqpv_first_warnings")) {
+        result = warned(amqpv_first_warnings(given, length, depth, 0, UINT32_MAX, &warnings));
+    } else if (is_called("amqpv_first_warnings_in_table")) {
+        result = warned(amqpv_first_warnings_in_table(given, length, depth, 0, UINT32_MAX, &warnings));
     } else if (is_called("amqpv_from_json")) {
         result = amqpv_from_json(given, length, depth, buffer, sizeof buffer, &count);
     }

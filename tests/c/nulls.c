@@ -23,6 +23,7 @@ typedef struct left {
     amqpv_cursor cursor;
     amqpv_measure measure;
     amqpv_problem problem;
+    amqpv_warnings warnings;
     amqpv_container into, body;
     size_t count;
     uint8_t buffer[CAPACITY];
@@ -50,6 +51,11 @@ static int is_same_container(const amqpv_container *a, const amqpv_container *b)
     return is_same_span(a->written, b->written) && a->tag == b->tag && a->inner == b->inner && a->needed == b->needed;
 }
 
+static int is_same_warnings(const amqpv_warnings *a, const amqpv_warnings *b) {
+    return a->repeated_key == b->repeated_key && a->key_not_utf8 == b->key_not_utf8 && a->empty_key == b->empty_key &&
+           a->too_deep == b->too_deep && a->exceeds_frame == b->exceeds_frame;
+}
+
 static void check_same(const left *a, const left *b) {
     const amqpv_entry *x = &a->entry, *y = &b->entry;
     CHECK(a->result == b->result && a->count == b->count);
@@ -59,6 +65,7 @@ static void check_same(const left *a, const left *b) {
     CHECK(a->measure.length == b->measure.length && a->measure.values == b->measure.values);
     CHECK(a->measure.levels == b->measure.levels);
     CHECK(a->problem.offset == b->problem.offset && a->problem.kind == b->problem.kind && a->problem.tag == b->problem.tag);
+    CHECK(is_same_warnings(&a->warnings, &b->warnings));
     CHECK(is_same_container(&a->into, &b->into) && is_same_container(&a->body, &b->body));
     CHECK(memcmp(a->buffer, b->buffer, CAPACITY) == 0);
 }
@@ -180,6 +187,8 @@ static void try_allocating(void) {
     TRY(AMQPV_NO_ROOM, pairs, 'A', amqpv_canonical(BYTES_OF(twice), FRAME, DEPTH, buffer, 0, &all->count));
     TRY(AMQPV_MORE, pairs, 'A', amqpv_to_json(bytes, 0, FRAME, DEPTH, (char *)all->buffer, CAPACITY, &all->count));
     TRY(AMQPV_NO_ROOM, pairs, 'A', amqpv_to_json(BYTES_OF(table), FRAME, DEPTH, (char *)buffer, 0, &all->count));
+    TRY(AMQPV_NONE, pairs, 'A', amqpv_first_warnings(bytes, 0, DEPTH, 0, 0, &all->warnings));
+    TRY(AMQPV_OK, pairs, 'A', amqpv_first_warnings_in_table(bytes, 0, DEPTH, 0, 0, &all->warnings));
     TRY(AMQPV_NOT_JSON, pairs, 'A', amqpv_from_json(text, 0, DEPTH, all->buffer, CAPACITY, &all->count));
     TRY(AMQPV_NOT_JSON, pairs, 'A', amqpv_from_json(text, 0, DEPTH, buffer, 0, &all->count));
     TRY(AMQPV_NO_ROOM, pairs, 'A', amqpv_from_json(AMQPV_LITERAL("{\"\":null}"), DEPTH, buffer, 0, &all->count));

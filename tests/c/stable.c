@@ -51,6 +51,12 @@ STRUCT(amqpv_problem, 16, 8);
 FIELD(amqpv_problem, offset, 0, 8);
 FIELD(amqpv_problem, kind, 8, 1);
 FIELD(amqpv_problem, tag, 9, 1);
+STRUCT(amqpv_warnings, 40, 8);
+FIELD(amqpv_warnings, repeated_key, 0, 8);
+FIELD(amqpv_warnings, key_not_utf8, 8, 8);
+FIELD(amqpv_warnings, empty_key, 16, 8);
+FIELD(amqpv_warnings, too_deep, 24, 8);
+FIELD(amqpv_warnings, exceeds_frame, 32, 1);
 
 STRUCT(amqpv_container, 32, 8);
 FIELD(amqpv_container, written, 0, 16);
@@ -111,3 +117,4 @@ CONSTANT(AMQPV_PROBLEM_KEY_CUT, 4);
 CONSTANT(AMQPV_PROBLEM_TOO_DEEP, 5);
 CONSTANT(AMQPV_PROBLEM_TOO_LARGE, 6);
 CONSTANT(AMQPV_PROBLEM_KEY_NOT_UTF8, 7);
+CONSTANT(AMQPV_CLIENT_LEVELS, 256);

@@ -349,6 +349,16 @@ static int writes_table(void) {
     return result == AMQPV_OK && count + 1 == length && (RUNNING_ON_VALGRIND || memcmp(buffer, bytes + 1, count) == 0);
 }
 
+static int warns(void) {
+    amqpv_warnings warnings;
+    return amqpv_first_warnings(bytes, length, DEPTH, 0, AMQPV_CLIENT_LEVELS, &warnings) >= AMQPV_OK;
+}
+
+static int warns_of_table(void) {
+    amqpv_warnings warnings;
+    return amqpv_first_warnings_in_table(bytes + 1, length - 1, DEPTH, 0, AMQPV_CLIENT_LEVELS, &warnings) >= AMQPV_OK;
+}
+
 static int canonicalizes(void) {
     size_t count;
     return amqpv_canonical(bytes, length, UINT32_MAX, DEPTH, buffer, MOST, &count) == AMQPV_OK;
@@ -452,6 +462,8 @@ static const struct {
     {"amqpv_put_int and others of all values", rebuilds},
     {"amqpv_write_table", writes_table},
     {"amqpv_canonical", canonicalizes},
+    {"amqpv_first_warnings", warns},
+    {"amqpv_first_warnings_in_table", warns_of_table},
     {"amqpv_to_json", writes_json},
     {"amqpv_write_json", writes_json_in_order},
     {"amqpv_from_json", reads_json},

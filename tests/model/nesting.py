@@ -99,6 +99,7 @@ OF_ENCODINGS = (
     "amqpv_first_problem",
     "amqpv_is_canonical",
     "amqpv_put_value",
+    "amqpv_first_warnings",
 )
 OF_TABLES = (
     "amqpv_read_table",
@@ -107,6 +108,7 @@ OF_TABLES = (
     "amqpv_measure_table",
     "amqpv_first_problem_in_table",
     "amqpv_is_canonical_table",
+    "amqpv_first_warnings_in_table",
 )
 FOR_C = {
     **{it: Call([it], encoding, DEEPER) for it in OF_ENCODINGS},

@@ -19,6 +19,8 @@ from crates import TOP
 # Tables as brokers and clients sent them, with their type tag: a name, and hexadecimal.
 CAPTURED = TOP / "examples/captured/tables.txt"
 FRAME, DEPTH = 2**20, 64
+# How deep containers nest that no client breaks on.
+CLIENT_LEVELS = 256
 # RabbitMQ's usual frame-max.
 FRAME_MAX = 2**17
 # Each type tag's type, and the width of its payload, or None if a length counts it.
@@ -495,15 +497,17 @@ def streamed(values: Iterable[bytes]) -> dict[str, Printed]:
     return {"tree and parts": (trees, "", 1), "JSON": (texts, said, 1), "measures": (lines_of_measures, said, 1)}
 
 
-def checked(data: bytes, subject: str = "value", frame_max: int = FRAME_MAX) -> Printed:
-    """Of `amqp_show --check rabbitmq`, with `--table` or without it, and with `--frame-max`."""
+def checked(
+    data: bytes, subject: str = "value", frame_max: int = FRAME_MAX, levels: int = CLIENT_LEVELS, depth: int = DEPTH
+) -> Printed:
+    """Of `amqp_show --check rabbitmq`, with `--table` or without it, and with `--frame-max`, `--levels` and `--depth`."""
     left_out = int(subject == "table")
     data = b"F" * left_out + data
     try:
         if extent(data) > FRAME:
             raise Failure(0, f"the {subject} has more bytes than --max-bytes allows")
-        end = taken(data, 0, len(data), DEPTH)
-        lines = [*warned(data, end, left_out, subject, frame_max)]
+        end = taken(data, 0, len(data), depth)
+        lines = [*warned(data, end, left_out, subject, frame_max, levels)]
         lines += [f"= RabbitMQ 3.10.8 takes a {subject} of {end - left_out} bytes, {following(data, end)} follow"]
         return "".join(f"{it}\n" for it in lines), "", 0
     except Failure as failure:
@@ -554,6 +558,18 @@ def pairs(data: bytes, at: int) -> Iterator[tuple[int, int, bytes]]:
         at += extent(data[at : at + 5])
 
 
+def containers(data: bytes, at: int, outer: int = 0) -> Iterator[tuple[int, int]]:
+    """Yields each container in a value that RabbitMQ takes: its offset, and in how many containers it is."""
+    tag, stop = chr(data[at]), at + extent(data[at : at + 5])
+    if tag in "AF":
+        yield at, outer
+        at += 5
+        while at < stop:
+            at += 1 + data[at] if tag == "F" else 0
+            yield from containers(data, at, outer + 1)
+            at += extent(data[at : at + 5])
+
+
 def is_utf8(key: bytes) -> bool:
     try:
         key.decode("utf-8")
@@ -562,17 +578,38 @@ def is_utf8(key: bytes) -> bool:
     return True
 
 
-def warned(data: bytes, end: int, left_out: int, subject: str, frame_max: int) -> Iterator[str]:
-    """A line for what is doubtful in a value that RabbitMQ takes: the first key of each kind, and its size."""
+def doubtful(data: bytes, levels: int) -> dict[str, list[int]]:
+    """Where what is doubtful in a value that RabbitMQ takes is: pairs by their keys, and containers that are too deep."""
     found = [*pairs(data, 0)]
     first = {(table, key): at for table, at, key in reversed(found)}
-    again = [(at, key) for table, at, key in found if first[table, key] < at]
-    others = [(at, key) for _, at, key in found if not is_utf8(key)]
-    ends = "comes again; this library takes the last, RabbitMQ the first", "isn't UTF-8; this library refuses it"
-    for places, why in zip((again, others), ends):
-        yield from (f"* offset {at - left_out}: the key {quoted(key)} {why}" for at, key in places[:1])
-    # A frame has what is after the type tag, and 8 bytes more.
-    if 0 < frame_max < end - 1 + 8:
+    return {
+        "repeated_key": [at for table, at, key in found if first[table, key] < at],
+        "key_not_utf8": [at for _, at, key in found if not is_utf8(key)],
+        "empty_key": [at for _, at, key in found if not key],
+        "too_deep": [at for at, outer in containers(data, 0) if levels <= outer],
+    }
+
+
+def exceeds(end: int, frame_max: int) -> bool:
+    """Whether a value's frame, with what is after the type tag and 8 bytes more, is beyond the frame-max."""
+    return 0 < frame_max < end - 1 + 8
+
+
+WARNINGS = {
+    "repeated_key": "the key {} comes again; this library takes the last, RabbitMQ the first",
+    "key_not_utf8": "the key {} isn't UTF-8; this library refuses it",
+    "empty_key": "the key {} is empty; some clients break on it",
+    "too_deep": "containers nest deeper than --levels allows; most clients break on some depth",
+}
+
+
+def warned(data: bytes, end: int, left_out: int, subject: str, frame_max: int, levels: int) -> Iterator[str]:
+    """A line for the first of each that is doubtful in a value that RabbitMQ takes, and for its size."""
+    for kind, places in doubtful(data, levels).items():
+        for at in places[:1]:
+            key = quoted(data[at + 1 : at + 1 + data[at]])
+            yield f"* offset {max(0, at - left_out)}: {WARNINGS[kind].format(key)}"
+    if exceeds(end, frame_max):
         yield f"* the {subject} takes a frame of more bytes than --frame-max allows"
 
 

@@ -14,7 +14,7 @@ from typing import Any
 from crates import TOP
 from lib import content
 
-from tests.model.printed import FRAME_MAX, Dissection, Unread, checked, field, json_of, json_text
+from tests.model.printed import CLIENT_LEVELS, FRAME_MAX, Dissection, Unread, checked, field, json_of, json_text
 from tests.model.printed import measures, nested, read, write
 from tests.transcripts import Case, Output, cases
 
@@ -160,7 +160,8 @@ def judged_cases() -> Iterator[tuple[str, bool]]:
             yield name, wants == "".join(f"{line}\n" for line in lines_of(case))
         elif "--check" in words:
             frame_max = int(words[words.index("--frame-max") + 1]) if "--frame-max" in words else FRAME_MAX
-            text, _, said = checked(case.given, "table" if "--table" in words else "value", frame_max)
+            levels = int(words[words.index("--levels") + 1]) if "--levels" in words else CLIENT_LEVELS
+            text, _, said = checked(case.given, "table" if "--table" in words else "value", frame_max, levels)
             yield name, (COLOURS.sub("", wants), status) == (text, said)
         elif "--encode" in words and not status:
             data = tag_of(words) + bytes.fromhex(wants)

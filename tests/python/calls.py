@@ -19,11 +19,12 @@ from typing import Any, TypeVar
 from crates import TOP
 
 from tests.model.printed import TYPES, Value, extent, json_of, json_text, lack, read, write
+from tests.model.tables import first_problem as problem_in
 from tests.python import ctypes_values as av
 from tests.python.odd import ERRORS, OTHERS, Content, Failing, Indexed, Number, Own, Text, Wanted
 from tests.python.odd import buffer_of, container, decimal_of, deep, float_of, integer, key_of, leaf
 from tests.python.odd import no_buffer, of_time, piece, scanned, time_of
-from tests.python.values import form
+from tests.python.values import form, warnings_of
 
 T = TypeVar("T")
 # What is called, and the check of what that results in.
@@ -227,6 +228,28 @@ def reading_problem(given: Arguments) -> Try:
         return (found is None) == Reading(content, how, frame, depth).is_read
 
     return lambda: av.first_problem(data, **how), is_right
+
+
+def warned(given: Arguments) -> Try:
+    how, frame_max, depth = given.limits()
+    how |= {"frame_max": how.pop("frame")} if "frame" in how else {}
+    most = frame_max if "frame_max" in how else av.FRAME_MAX
+    levels: int | None = av.CLIENT_LEVELS
+    if given.make.random() < 0.4:
+        how["levels"], levels = given.limit(2**32 - 1, [0, 1, 2, 3, 2**32 - 1])
+    data, content = given.data(how)
+
+    def is_right(found: Any) -> object:
+        if content is None or most is None or depth is None or levels is None:
+            return True
+        left_out = int(bool(how.get("table")))
+        whole = b"F" * left_out + content
+        # the model recurses, and Python's stack has an end
+        if depth > 64 or problem_in(whole, "RabbitMQ", depth):
+            return found is None or type(found) is av.Warnings
+        return found == warnings_of(whole, most, levels, left_out)
+
+    return lambda: av.first_warnings(data, **how), is_right
 
 
 def peeking(ask: Callable[[Arguments, av.Entry], tuple[Any, ...]], check: Callable[..., object]) -> Odd:
@@ -621,6 +644,7 @@ TRIED: dict[str, Odd] = {
     "loads_table": reading(av.loads_table, lambda found, wanted: wanted.is_value(found), exact=True, table=True),
     "measure": reading(av.measure, lambda found, wanted: (found.length, found.levels) == (wanted.end, wanted.levels)),
     "first_problem": reading_problem,
+    "first_warnings": warned,
     "canonical": reading(av.canonical, of_canonical),
     "to_json": reading(av.to_json, of_json),
     "from_json": odd_json,

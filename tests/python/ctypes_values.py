@@ -56,6 +56,8 @@ if TYPE_CHECKING:
 
 # Limits for untrusted bytes (RabbitMQ sends more than its usual frame-max, 131072), and of the library for JSON.
 FRAME, DEPTH, JSON_NESTING = 1048576, 64, 127
+# RabbitMQ's usual frame-max, and how deep containers nest for each client that was tried.
+FRAME_MAX, CLIENT_LEVELS = 131072, 256
 # The largest `depth`. The stack of a thread usually has 8 MiB, and what overflows it ends the process.
 MOST_DEPTH = 4096
 
@@ -154,6 +156,8 @@ class NoEncoding(Error):
 # What Python raises at its limit, and what ctypes makes of that in a call.
 _RECURSION = (RecursionError, ctypes.ArgumentError)
 _OK, _NONE, _NO_ROOM = 0, 1, -7
+# The offset of what isn't found.
+_NOWHERE = 2 ** (8 * ctypes.sizeof(c_size_t)) - 1
 _ERRORS: dict[int, type[Error]] = {
     -1: More,
     -2: UnknownTag,
@@ -303,6 +307,18 @@ Rules = IntEnum("Rules", "READ ANY_KEYS RABBITMQ", start=0)
 # The offset of a problem's value, or of its pair if the key is cut, its kind, and the type tag that RabbitMQ doesn't know, or 0.
 Problem = NamedTuple("Problem", [("offset", int), ("kind", ProblemKind), ("tag", int)])
 
+# Where the first of each is that is doubtful, or None; and whether the value's frame has more bytes than the frame-max.
+Warnings = NamedTuple(
+    "Warnings",
+    [
+        ("repeated_key", int | None),
+        ("key_not_utf8", int | None),
+        ("empty_key", int | None),
+        ("too_deep", int | None),
+        ("exceeds_frame", bool),
+    ],
+)
+
 
 class _Span(ctypes.Structure):
     _fields_ = [("offset", c_size_t), ("length", c_size_t)]
@@ -338,6 +354,16 @@ class _Problem(ctypes.Structure):
     _fields_ = [("offset", c_size_t), ("kind", c_uint8), ("tag", c_uint8)]
 
 
+class _Warnings(ctypes.Structure):
+    _fields_ = [
+        ("repeated_key", c_size_t),
+        ("key_not_utf8", c_size_t),
+        ("empty_key", c_size_t),
+        ("too_deep", c_size_t),
+        ("exceeds_frame", c_uint8),
+    ]
+
+
 class _Container(ctypes.Structure):
     _fields_ = [("written", _Span), ("tag", c_uint8), ("inner", c_uint8), ("needed", c_size_t)]
 
@@ -368,6 +394,7 @@ _KINDS: dict[str, list[Any]] = {
     "S": [POINTER(_Step)],
     "M": [POINTER(_Measure)],
     "P": [POINTER(_Problem)],
+    "W": [POINTER(_Warnings)],
     "I": [POINTER(_Container)],
     "R": [POINTER(_Pair)],
 }
@@ -378,6 +405,8 @@ _PARAMETERS = {
     "measure_table": "blMN",
     "first_problem": "b4lP",
     "first_problem_in_table": "b4lP",
+    "first_warnings": "b444W",
+    "first_warnings_in_table": "b444W",
     "first": "bE",
     "enter": "bEC",
     "next": "bCE",
@@ -626,6 +655,26 @@ def first_problem(
         raise ValueError("the rules are those of `Rules`")
     is_found = _is_ok(_result(name, content, length, int(rules), *limits, byref(found)))
     return Problem(found.offset, ProblemKind(found.kind), found.tag) if is_found else None
+
+
+def first_warnings(
+    data: Bytes,
+    *,
+    table: bool = False,
+    depth: int = DEPTH,
+    frame_max: int = FRAME_MAX,
+    levels: int = CLIENT_LEVELS,
+) -> Warnings | None:
+    """What is doubtful in a value that RabbitMQ takes: where the first of each is, if anything is."""
+    found, name = _Warnings(), "first_warnings_in_table" if table else "first_warnings"
+    content, length, most, deepest = _given(data, frame_max, depth)
+    if not _is_ok(_result(name, content, length, deepest, most, _limit(levels), byref(found))):
+        return None
+    first, second, third, fourth = (
+        None if it == _NOWHERE else int(it)
+        for it in (found.repeated_key, found.key_not_utf8, found.empty_key, found.too_deep)
+    )
+    return Warnings(first, second, third, fourth, bool(found.exceeds_frame))
 
 
 class _Output:

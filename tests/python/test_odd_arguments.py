@@ -32,7 +32,7 @@ from tests.python.odd import ERRORS
 
 CALLS = 100_000
 # What can't go wrong, or is the result of a call: errors, the types of results, and entries, whose methods are tried.
-NOT_TRIED = {"Error", "Entry", "Measure", "Problem", *(it.__name__ for it in ERRORS)}
+NOT_TRIED = {"Error", "Entry", "Measure", "Problem", "Warnings", *(it.__name__ for it in ERRORS)}
 # Classes of which no methods are tried.
 PLAIN = (Enum, tuple)
 

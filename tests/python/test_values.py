@@ -21,7 +21,7 @@ from tests.model.tables import EVERY_TYPE, first_problem, odd_table, random_tabl
 from tests.model.test_properties import VALUES
 from tests.python import ctypes_values as av
 from tests.python.odd import CYCLE
-from tests.python.values import UTC, error_of, form, python_of
+from tests.python.values import UTC, error_of, form, python_of, warnings_of
 
 pytestmark = pytest.mark.usefixtures("library")
 
@@ -252,6 +252,23 @@ def test_problems(name: str, seed: int) -> None:
         of_table = wanted and (max(0, wanted[0] - 1), *wanted[1:])
         assert av.first_problem(data[1:], rules=rules, depth=2, table=True) == of_table, data.hex()
     assert kinds == {None, 1, 3, 4, 5} | own
+
+
+def test_warnings(seed: int) -> None:
+    """What is doubtful is what the model finds, also in a table without its type tag, with each number of levels."""
+    seen = set()
+    for data in odd_tables(seed):
+        if first_problem(data, "RabbitMQ", 4):
+            continue
+        for levels in range(5):
+            found = av.first_warnings(data, depth=4, frame_max=64, levels=levels)
+            assert found == warnings_of(data, 64, levels), data.hex()
+            bare = av.first_warnings(data[1:], depth=4, frame_max=64, levels=levels, table=True)
+            assert bare == warnings_of(data, 64, levels, left_out=1), data.hex()
+            seen |= (
+                {name for name, it in found._asdict().items() if it is not None and it is not False} if found else {""}
+            )
+    assert seen == {*av.Warnings._fields, ""}
 
 
 def problem_of(data: bytes) -> av.Problem | None:

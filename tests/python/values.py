@@ -6,7 +6,7 @@ from datetime import timezone
 from decimal import Decimal
 from typing import Any
 
-from tests.model.printed import Value
+from tests.model.printed import Value, doubtful, exceeds, extent
 from tests.model.tables import integer_of, number
 from tests.python import ctypes_values as av
 
@@ -75,3 +75,16 @@ def error_of(call: Callable[[], Any]) -> type[Exception] | None:
     except Exception as why:
         return type(why)
     return None
+
+
+def warnings_of(data: bytes, frame_max: int, levels: int, left_out: int = 0) -> av.Warnings | None:
+    """What is doubtful in a value that RabbitMQ takes, by the model; and of a table without its type tag, if one byte is left out."""
+    first = {kind: max(0, places[0] - left_out) if places else None for kind, places in doubtful(data, levels).items()}
+    found = av.Warnings(
+        first["repeated_key"],
+        first["key_not_utf8"],
+        first["empty_key"],
+        first["too_deep"],
+        exceeds(extent(data[:5]), frame_max),
+    )
+    return None if found == (None, None, None, None, False) else found

@@ -26,6 +26,7 @@ help
         --max-bytes <N>  Refuse a value of more than N bytes [default: 1048576] [alias: --frame]
         --depth <N>      Refuse containers that nest more than N deep, at most 1000 [default: 64]
         --frame-max <N>  With --check: warn of a value that takes a frame of more than N bytes [default: 131072]
+        --levels <N>     With --check: warn of containers that nest more than N deep [default: 256]
     -h, --help           Print help
     -V, --version        Print version
 
@@ -90,6 +91,16 @@ frame_max_without_check
   2>   --check <PEER>
   2>
   2> Usage: amqp_show --check <PEER> --frame-max <N> [FILE]...
+  2>
+  2> For more information, try '--help'.
+  [2]
+
+levels_without_check
+  $ amqp_show --levels 3
+  2> error: the following required arguments were not provided:
+  2>   --check <PEER>
+  2>
+  2> Usage: amqp_show --check <PEER> --levels <N> [FILE]...
   2>
   2> For more information, try '--help'.
   [2]

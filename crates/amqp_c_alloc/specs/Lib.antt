@@ -1,3 +1,4 @@
 pub mod CanonicalCalls
 pub mod Nesting
 pub mod JsonCalls
+pub mod WarningCalls

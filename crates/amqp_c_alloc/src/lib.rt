@@ -1,5 +1,5 @@
-//! Calls for C that allocate: the canonical encoding of a value, and between encodings and JSON
-//! texts.
+//! Calls for C that allocate: the canonical encoding of a value, between encodings and JSON texts,
+//! and what is doubtful in a value that RabbitMQ takes.
 //!
 //! They allocate by C's `malloc`, `realloc` and `free` (the canonical encoding only if the bytes
 //! aren't canonical already), and free all of it. They keep no state, print nothing and never end
@@ -8,11 +8,13 @@
 
 ghost use Rattle.amqp_c_alloc.specs.CanonicalCalls.{WritesCanonical};
 ghost use Rattle.amqp_c_alloc.specs.JsonCalls.{WritesJson, WritesEncoding};
+ghost use Rattle.amqp_c_alloc.specs.WarningCalls.{WarnsOfValue, WarnsOfTable};
 
 mod canonical;
 mod decode;
 mod encode;
 mod nesting;
+mod warnings;
 
 use amq_protocol_types::parsing::Limits;
 use amqp_c_common::return_count;
@@ -20,6 +22,7 @@ use canonical::canonical;
 use decode::put_json;
 use encode::put_encoding;
 use std::alloc::Global;
+use warnings::{Warnings, store_warnings, warned_of_table, warned_of_value};
 
 /// Writes the canonical encoding of the value that `bytes` begin with to the start of `buffer`. Of the stack
 /// it takes what `canonical_len`, `parse_value_within` and `gen_value` do: docs/PROMISES.md has the
@@ -82,4 +85,42 @@ pub extern "C" fn amqpv_from_json(
     ensures { WritesEncoding nesting text.now buffer.old result buffer.new count.new }
 {
     return_count(put_encoding(alloc, text, nesting, buffer), count)
+}
+
+/// Finds what is doubtful in the value at the start, if RabbitMQ takes it. A container that nests deeper
+/// than `levels`, or than `depth`, is too deep; a `frame_max` of 0 means that there is none. Of the stack it
+/// takes what `warnings` does: docs/PROMISES.md has the runs of that.
+#[unsafe(no_mangle)]
+pub extern "C" fn amqpv_first_warnings(
+    alloc: Global,
+    bytes: &[u8],
+    depth: u32,
+    frame_max: u32,
+    levels: u32,
+    first: &mut Warnings,
+) -> i32
+    ensures { WarnsOfValue depth frame_max levels bytes.now first.old result first.new }
+{
+    store_warnings(
+        warned_of_value(alloc, bytes, depth, frame_max, levels),
+        first,
+    )
+}
+
+/// Finds that in the table without its type tag at the start. Offsets count from its length on.
+#[unsafe(no_mangle)]
+pub extern "C" fn amqpv_first_warnings_in_table(
+    alloc: Global,
+    bytes: &[u8],
+    depth: u32,
+    frame_max: u32,
+    levels: u32,
+    first: &mut Warnings,
+) -> i32
+    ensures { WarnsOfTable depth frame_max levels bytes.now first.old result first.new }
+{
+    store_warnings(
+        warned_of_table(alloc, bytes, depth, frame_max, levels),
+        first,
+    )
 }

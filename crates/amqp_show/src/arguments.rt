@@ -1,6 +1,7 @@
 //! What the command line asks for.
 
 use amq_protocol_types::stream::Limits;
+use amqp_in_place::rabbitmq::CLIENT_LEVELS;
 use clap::{Arg, ArgAction, ArgMatches, Command, value_parser};
 use std::alloc::{AllocError, Global};
 
@@ -104,6 +105,8 @@ pub enum Form {
     Check {
         /// A frame that has more bytes is warned of, unless this is 0.
         frame_max: u32,
+        /// A container that nests deeper is warned of.
+        levels: u32,
     },
 }
 
@@ -173,7 +176,8 @@ fn form_of(matches: &ArgMatches<'_>) -> Form {
     }
     if matches.get_str("check").is_some() {
         let frame_max = matches.get_one::<u32>("frame-max").unwrap_or(FRAME_MAX);
-        return Form::Check { frame_max };
+        let levels = matches.get_one::<u32>("levels").unwrap_or(CLIENT_LEVELS);
+        return Form::Check { frame_max, levels };
     }
     let bytes = matches.get_flag("bytes");
     let tree = matches.get_flag("tree") || !bytes;
@@ -299,6 +303,13 @@ pub fn command<'a>(alloc: Global) -> Result<Command<'a>, AllocError> {
             "frame-max",
             "131072",
             "With --check: warn of a value that takes a frame of more than N bytes",
+        )
+        .requires_arg("check")?)?
+        .arg(number(
+            alloc,
+            "levels",
+            "256",
+            "With --check: warn of containers that nest more than N deep",
         )
         .requires_arg("check")?)?
         .arg(

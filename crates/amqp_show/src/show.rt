@@ -24,7 +24,9 @@ pub fn show_file(rt: &HostRuntime, file: &str, settings: Settings) -> Result<Sta
         Err(why) => return unreadable(rt, file, &why),
     };
     match settings.form {
-        Form::Check { frame_max } => check_input(rt, file, &input, frame_max, settings),
+        Form::Check { frame_max, levels } => {
+            check_input(rt, file, &input, frame_max, levels, settings)
+        }
         Form::Measure => measure_input(rt, file, &input, settings),
         Form::Json => json::show_input(rt, file, &input, settings),
         Form::Text { .. } => show_input(rt, file, &input, settings),

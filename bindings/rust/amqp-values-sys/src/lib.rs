@@ -14,7 +14,7 @@
 //! for `needed` of a container, the buffer of amqpv_write_json, and a `problem` that amqpv_read_by or
 //! amqpv_read_table_by returns; a `count` and a `taken` are always set. No function keeps state, prints or
 //! ends the process, and calls in several threads don't affect each other. Only amqpv_canonical,
-//! amqpv_to_json and amqpv_from_json allocate.
+//! amqpv_to_json, amqpv_from_json, amqpv_first_warnings and amqpv_first_warnings_in_table allocate.
 //!
 //! Preconditions:
 //! - No pointer is NULL, except to bytes, a text, a key, steps, pairs, entries or a buffer of length 0 (tested, not
@@ -38,8 +38,9 @@
 //!        560       in amqpv_write_json
 //!        928       in amqpv_from_json
 //!        688       in amqpv_to_json
+//!        512       in amqpv_first_warnings and amqpv_first_warnings_in_table
 //!   The others don't recurse.
-//! - Three functions that allocate have one more, stated before them.
+//! - The five functions that allocate have one more, stated before them.
 //!
 //! There are no others: a cursor, an entry or a container may hold any numbers, since each call checks
 //! them. A corrupted one results in wrong entries or numbers, in a write elsewhere in the buffer, or in
@@ -277,6 +278,25 @@ pub struct amqpv_problem {
     /// The byte that is no type tag, or none that RabbitMQ knows; else 0.
     pub tag: u8,
 }
+
+/// What is doubtful in a value that RabbitMQ takes: how many bytes are before the first of each, SIZE_MAX if none is.
+#[repr(C)]
+#[derive(Clone, Copy, Debug, Default, PartialEq, Eq)]
+pub struct amqpv_warnings {
+    /// A pair whose key an earlier pair of the same table has.
+    pub repeated_key: usize,
+    /// A pair whose key isn't UTF-8.
+    pub key_not_utf8: usize,
+    /// A pair whose key is empty: some clients break on it.
+    pub empty_key: usize,
+    /// A container that nests too deep: most clients break on some depth.
+    pub too_deep: usize,
+    /// 1 if the value's frame has more bytes than the frame-max, else 0.
+    pub exceeds_frame: u8,
+}
+
+/// How deep containers may nest for each client that was tried, of which the first broke on 258 levels.
+pub const AMQPV_CLIENT_LEVELS: u32 = 256;
 
 /// An array or a table that is being built in a buffer.
 #[repr(C)]
@@ -567,8 +587,8 @@ extern "C" {
         count: *mut usize,
     ) -> amqpv_result;
 
-    /// The next three functions allocate by malloc, realloc and free, and free all of it before they return. Their
-    /// precondition: malloc, realloc and free are of one allocator that aligns as C requires, and the three functions
+    /// The next five functions allocate by malloc, realloc and free, and free all of it before they return. Their
+    /// precondition: malloc, realloc and free are of one allocator that aligns as C requires, and the five functions
     /// aren't called from a signal handler.
     ///
     /// They never return AMQPV_INVALID. The buffer after the bytes that are written stays unchanged.
@@ -628,6 +648,38 @@ extern "C" {
         buffer: *mut u8,
         capacity: usize,
         count: *mut usize,
+    ) -> amqpv_result;
+
+    /// Find what is doubtful in the value at the start of the bytes, or in the table without its type tag, if RabbitMQ
+    /// takes it (amqpv_first_problem with AMQPV_RULES_RABBITMQ finds no problem): what those who receive it may not
+    /// read, or not in the same way. Of equal keys RabbitMQ takes the first, amqpv_canonical and amqpv_to_json the
+    /// last.
+    ///
+    /// A container is too deep that nests deeper than `levels`, as AMQPV_CLIENT_LEVELS, or than `depth`: nothing in
+    /// what is deeper than `depth` is looked at. A frame has the bytes of the value after its type tag, and 8 more:
+    /// they are compared with `frame_max`, RabbitMQ's usual one being 131072, unless that is 0. Offsets in a table
+    /// without its type tag count from its length on, and are 0 for the table itself. In what is malformed an entry has
+    /// the bytes that its length counts, or those that are left.
+    ///
+    /// Return AMQPV_OK if anything is doubtful, AMQPV_NONE if nothing is, or AMQPV_NO_MEMORY. They retain the keys of a
+    /// table, and of those around it, until one is repeated, and compare them n log n times; the rest is linear.
+    pub fn amqpv_first_warnings(
+        bytes: *const u8,
+        length: usize,
+        depth: u32,
+        frame_max: u32,
+        levels: u32,
+        warnings: *mut amqpv_warnings,
+    ) -> amqpv_result;
+
+    /// See [`amqpv_first_warnings`].
+    pub fn amqpv_first_warnings_in_table(
+        bytes: *const u8,
+        length: usize,
+        depth: u32,
+        frame_max: u32,
+        levels: u32,
+        warnings: *mut amqpv_warnings,
     ) -> amqpv_result;
 
     /// Writes the table of some pairs to the start of the buffer, in their order and without its type tag, as methods
@@ -850,6 +902,7 @@ const _: () = {
     assert!(size_of::<amqpv_pair>() == 48 && align_of::<amqpv_pair>() == 8);
     assert!(size_of::<amqpv_measure>() == 24 && align_of::<amqpv_measure>() == 8);
     assert!(size_of::<amqpv_problem>() == 16 && align_of::<amqpv_problem>() == 8);
+    assert!(size_of::<amqpv_warnings>() == 40 && align_of::<amqpv_warnings>() == 8);
     assert!(size_of::<amqpv_container>() == 32 && align_of::<amqpv_container>() == 8);
 };
 
@@ -901,6 +954,11 @@ mod tests {
         assert_eq!(place!(amqpv_problem, offset), (0, 8));
         assert_eq!(place!(amqpv_problem, kind), (8, 1));
         assert_eq!(place!(amqpv_problem, tag), (9, 1));
+        assert_eq!(place!(amqpv_warnings, repeated_key), (0, 8));
+        assert_eq!(place!(amqpv_warnings, key_not_utf8), (8, 8));
+        assert_eq!(place!(amqpv_warnings, empty_key), (16, 8));
+        assert_eq!(place!(amqpv_warnings, too_deep), (24, 8));
+        assert_eq!(place!(amqpv_warnings, exceeds_frame), (32, 1));
         assert_eq!(place!(amqpv_container, written), (0, 16));
         assert_eq!(place!(amqpv_container, tag), (16, 1));
         assert_eq!(place!(amqpv_container, inner), (17, 1));
