@@ -24,7 +24,7 @@ place() {
 put() {
     case $1 in
     *.pc)
-        printf 'prefix=%s\nlibdir=%s\nincludedir=%s\n' "$PREFIX" "$LIBDIR" "$INCLUDEDIR"
+        printf 'prefix=%s\nlibdir=%s\nincludedir=%s\ndocdir=%s\n' "$PREFIX" "$LIBDIR" "$INCLUDEDIR" "$DOCDIR"
         sed '/^[a-z]*=/d' "$1"
         ;;
     *-config.cmake)

@@ -1,13 +1,11 @@
 /*
- * Makes a call of include/amqp_values.h that recurses, on what standard input has: nested NAME DEPTH. It is made
- * in a thread whose stack has as many bytes as this program's may have (RLIMIT_STACK), in pages after one
- * that can't be accessed. DEPTH is the limit on depth. Prints `done`, or which code was returned instead.
- * tests/model/nesting.py has the inputs and the stacks.
+ * Makes a call of include/amqp_values.h that recurses, on what standard input has: nested NAME DEPTH STACK. It is made
+ * in a thread that has this many bytes of stack, in pages after one that can't be accessed. DEPTH is the limit on depth.
+ * Prints `done`, or which code was returned instead. tests/model/nesting.py has the inputs and the stacks.
  */
 #include "check.h"
 
 #include <pthread.h>
-#include <sys/resource.h>
 
 static uint8_t given[16 << 20], buffer[1 << 20];
 static size_t length;
@@ -77,17 +75,20 @@ static void *make_call(void *unused) {
 }
 
 int main(int words, char **word) {
-    struct rlimit stack;
     pthread_attr_t how;
     pthread_t thread;
-    CHECK(words == 3 && getrlimit(RLIMIT_STACK, &stack) == 0);
+    CHECK(words == 4);
     name = word[1];
     depth = (uint32_t)atol(word[2]);
     length = fread(given, 1, sizeof given, stdin);
-    size_t pages = stack.rlim_cur / (size_t)sysconf(_SC_PAGESIZE);
     CHECK(length < sizeof given && pthread_attr_init(&how) == 0);
-    uint8_t *lowest = pages_between(pages);
-    CHECK(pthread_attr_setstack(&how, lowest, pages * page_size) == 0);
+    size_t pages = (size_t)atol(word[3]) / (size_t)sysconf(_SC_PAGESIZE);
+    /* a thread can't have less than this, of which the lowest can't be accessed either */
+    size_t least = (size_t)sysconf(_SC_THREAD_STACK_MIN) / (size_t)sysconf(_SC_PAGESIZE);
+    size_t unused = pages < least ? least - pages : 0;
+    uint8_t *lowest = pages_between(unused + pages);
+    CHECK(unused == 0 || mprotect(lowest, unused * page_size, PROT_NONE) == 0);
+    CHECK(pthread_attr_setstack(&how, lowest, (unused + pages) * page_size) == 0);
     CHECK(pthread_create(&thread, &how, make_call, NULL) == 0 && pthread_join(thread, NULL) == 0);
     puts(result == AMQPV_OK ? "done" : result == AMQPV_MALFORMED ? "AMQPV_MALFORMED" : result == AMQPV_NOT_JSON ? "AMQPV_NOT_JSON" : "another code");
     return 0;

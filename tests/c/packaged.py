@@ -100,6 +100,8 @@ def check_install(made: Path, folder: Path) -> None:
     path = {**os.environ, "PKG_CONFIG_PATH": str(root / "usr/lib/there/pkgconfig")}
     flags = run(["pkg-config", "--cflags", "--libs", NAME], env=path).stdout.split()
     CHECKS.tell("pkg-config has these", differs(flags, ["-I/inc", "-L/usr/lib/there", "-lamqp_values"]))
+    said = run(["pkg-config", "--variable=docdir", NAME], env=path).stdout.strip()
+    CHECKS.tell("pkg-config has the folder of the pages", differs(said, "/doc"))
     changed = folder / "changed"
     shutil.copytree(made, changed, symlinks=True)
     (changed / "include/amqp_values.h").write_text("")
@@ -270,9 +272,11 @@ def check_in_root(packages: Path, root: Path) -> None:
     for it in names:
         shutil.copy(packages / it, root / "tmp")
     CHECKS.tell("the packages are installed", wrong(inside("dpkg", "-i", *(f"/tmp/{it}" for it in names))))
-    compiled = "cc -o /tmp/print_value /usr/share/doc/libamqp-values-dev/examples/c/print_value.c"
-    done = inside("sh", "-c", f"{compiled} $(pkg-config --cflags --libs {NAME}) && /tmp/print_value", input="56")
-    CHECKS.tell("a program compiles and runs there", wrong(done) or differs(done.stdout, "1 bytes\nVoid\n"))
+    # as one who isn't root, and has only the page
+    page = (root / "usr/share/doc/libamqp-values-dev/C.md").read_text()
+    commands, wanted = commands_of(page.partition("**Link.**")[2])
+    done = inside("su", "nobody", "-s", "/bin/sh", "-c", f"set -e; mkdir /tmp/own; cd /tmp/own\n{commands}")
+    CHECKS.tell("the page's programs compile and run there", wrong(done) or differs(done.stdout, wanted))
     done = inside("amqp_show", "--hex", input="49 00000007")
     CHECKS.tell("the tool runs there", wrong(done) or differs(done.stdout.splitlines()[:1], ["LongInt 7"]))
     CHECKS.tell("the packages are removed", wrong(inside("dpkg", "--purge", *(it.partition("_")[0] for it in names))))
@@ -311,8 +315,9 @@ NOT_RUN = ("sudo ", "LD_PRELOAD", "cc -o consumer", "musl-gcc ")
 
 
 def check_commands(made: Path, folder: Path) -> None:
-    """Does what the installed page says about linking, at its place, and sees what it shows."""
-    home = folder / "home"
+    """Does what the installed page says about linking, in a folder of one's own, and sees what it shows."""
+    home, own = folder / "home", folder / "own"
+    own.mkdir()
     doc = home / f"amqp/share/doc/{NAME}"
     install = make("install", f"FOLDER={made}", f"PREFIX={home}/amqp")
     page = (doc / "C.md").read_text().partition("## Install and link")[2]
@@ -326,7 +331,7 @@ def check_commands(made: Path, folder: Path) -> None:
             tried += ["unset LD_LIBRARY_PATH"] * ("-rpath" in line) + [line[2:]] * is_shown
         elif is_shown:
             wanted += f"{line}\n" if line else ""
-    done = run(["sh", "-ec", "\n".join(tried)], cwd=doc, env=env)
+    done = run(["sh", "-ec", "\n".join(tried)], cwd=own, env=env)
     CHECKS.tell("the page's commands", wrong(install) or wrong(done) or differs(done.stdout, wanted))
 
 

@@ -3,13 +3,13 @@
  * without it a line for each has the requests for memory, their bytes, the most bytes at once, the stack, and how many bytes the
  * C library copies or fills.
  *
- * An input is a value's encoding, and for looking up the keys are those of its first and its last entry. Linked with
- * -Wl,--wrap of each function of which a __wrap_ is here.
+ * An input is a value's encoding, and for looking up the keys are those of its first and its last entry.
  */
 #define _GNU_SOURCE
 #include "amqp_values.h"
+#include "inputs.h"
+#include "wrapped.h"
 
-#include <dirent.h>
 #include <inttypes.h>
 #include <pthread.h>
 #include <stdio.h>
@@ -39,54 +39,6 @@ static amqpv_pair pairs[MOST_ENTRIES];
 static amqpv_cursor start;
 static amqpv_span first_key, last_key;
 static int has_json, has_index, is_flat;
-static uint64_t requests, requested, held, most, moved;
-
-void *__real_realloc(void *block, size_t size);
-void __real_free(void *block);
-void *__real_memcpy(void *to, const void *from, size_t size);
-void *__real_memmove(void *to, const void *from, size_t size);
-void *__real_memset(void *to, int byte, size_t size);
-
-/* Before each block is its size. */
-enum { BEFORE = 16 };
-
-static size_t size_of(const void *block) {
-    return block == NULL ? 0 : *(const size_t *)((const char *)block - BEFORE);
-}
-
-void *__wrap_realloc(void *block, size_t size) {
-    requests++;
-    requested += size;
-    held += size - size_of(block);
-    most = held > most ? held : most;
-    char *larger = __real_realloc(block == NULL ? NULL : (char *)block - BEFORE, size + BEFORE);
-    *(size_t *)(void *)larger = size;
-    return larger + BEFORE;
-}
-
-void *__wrap_malloc(size_t size) {
-    return __wrap_realloc(NULL, size);
-}
-
-void __wrap_free(void *block) {
-    held -= size_of(block);
-    __real_free(block == NULL ? NULL : (char *)block - BEFORE);
-}
-
-void *__wrap_memcpy(void *to, const void *from, size_t size) {
-    moved += size;
-    return __real_memcpy(to, from, size);
-}
-
-void *__wrap_memmove(void *to, const void *from, size_t size) {
-    moved += size;
-    return __real_memmove(to, from, size);
-}
-
-void *__wrap_memset(void *to, int byte, size_t size) {
-    moved += size;
-    return __real_memset(to, byte, size);
-}
 
 /* ---- the calls: of the C library they themselves use nothing, since its instructions are counted too */
 
@@ -544,7 +496,7 @@ static void try_input(const char *name) {
     has_json = amqpv_to_json(bytes, length, UINT32_MAX, AMQPV_JSON_NESTING - 2, text, 4 * MOST, &text_length) == AMQPV_OK;
     for (size_t i = 0; i < sizeof calls / sizeof *calls; i++) {
         int (*call)(void) = calls[i].call;
-        requests = requested = most = held = moved = 0;
+        count_anew();
         snprintf(label, sizeof label, "%s | %s", calls[i].name, name);
         CALLGRIND_ZERO_STATS;
         int done = call();
@@ -563,19 +515,6 @@ static void try_input(const char *name) {
 }
 
 int main(int words, char **word) {
-    struct dirent **found;
-    char path[1024];
-    int count = words == 2 ? scandir(word[1], &found, NULL, alphasort) : -1;
     bytes = malloc(MOST), buffer = malloc(MOST), json = malloc(4 * (size_t)MOST), text = malloc(4 * (size_t)MOST);
-    for (int i = 0; i < count; i++) {
-        if (found[i]->d_name[0] == '.') {
-            continue;
-        }
-        snprintf(path, sizeof path, "%s/%s", word[1], found[i]->d_name);
-        FILE *file = fopen(path, "rb");
-        length = fread(bytes, 1, MOST, file);
-        fclose(file);
-        try_input(found[i]->d_name);
-    }
-    return count > 0 ? 0 : 1;
+    return words == 2 && try_all(word[1], bytes, MOST, &length, try_input) ? 0 : 1;
 }

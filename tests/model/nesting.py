@@ -2,13 +2,16 @@
 
 `recommended` runs the calls for C with the limits that the header recommends, on the stack that it names.
 
-`python3 -m tests.model.nesting PROGRAM NAME..` prints what a level takes of each call, and the call besides.
+`python3 -m tests.model.nesting PROGRAM NAME..` prints what a level takes of each call, and the call besides. PROGRAM is
+test_hostile, or nested.c as it was compiled, also with the words by which qemu runs it.
 """
 
 import functools
 import re
 import resource
+import shlex
 import struct
+import subprocess
 import sys
 from bisect import bisect
 from collections.abc import Callable, Iterator, Mapping
@@ -80,6 +83,18 @@ def brackets(form: str, depth: int) -> bytes:
     return type_tags(form, depth).translate(bytes.maketrans(b"AF", b"[{"))
 
 
+class Threaded(NamedTuple):
+    """nested.c, as it was compiled, which makes a call in a thread with the stack that a word says; and what runs it."""
+
+    path: Path
+    by: tuple[str, ...] = ()
+    # which column of the page's table is about it: that of x86-64, or that of aarch64
+    column: int = 0
+
+
+Program = Path | Threaded
+
+
 class Call(NamedTuple):
     """The words that have a program make it, what it is made on, and how deep; JSON has a limit by itself."""
 
@@ -137,20 +152,30 @@ def calls() -> Iterator[tuple[str, Call]]:
 CALLS = dict(calls())
 
 
-def table() -> tuple[dict[str, int], int]:
-    """What a level takes of each call by the page, and what a call takes besides."""
+def table(column: int = 0) -> tuple[dict[str, int], int]:
+    """What a level takes of each call by the page, on x86-64 or of those for C on aarch64, and what a call takes besides."""
     section = PAGE.read_text().partition(HEADING)[2].partition("\n## ")[0]
-    rows = re.findall(r"(?m)^\| (.*) \| ([\d,]+) \|$", section)
-    figures = {name: int(figure.replace(",", "")) for cell, figure in rows for name in re.findall(r"`([^`]+)`", cell)}
+    rows = re.findall(r"(?m)^\| (.*) \| ([\d,]+) \| ([\d,]*) ?\|$", section)
+    figures = {
+        name: int(of[column].replace(",", ""))
+        for cell, *of in rows
+        for name in re.findall(r"`([^`]+)`", cell)
+        if column == 0 or name in FOR_C
+    }
     besides, wrong = re.search(r"(\d+) KiB besides", section), set(figures) - set(CALLS) - set(FOR_C)
     if not besides or wrong:
         sys.exit(f"{PAGE.name}, {HEADING[3:]}: it names {wrong}, which nothing makes, or lacks what calls take besides")
     return figures, int(besides[1]) << 10
 
 
-def answer(program: Path | str, call: Call, depth: int, given: bytes, stack: int) -> str:
+def answer(program: Program, call: Call, depth: int, given: bytes, stack: int) -> str:
     """What a call returns on a stack of n bytes, or how the program ended."""
-    done = within(resource.RLIMIT_STACK, stack, [program, *call.words, str(depth)], given)
+    words = [*call.words, str(depth)]
+    if isinstance(program, Threaded):
+        words = [*program.by, str(program.path), *words, str(stack)]
+        done = subprocess.run(words, input=given, capture_output=True, timeout=60)
+    else:
+        done = within(resource.RLIMIT_STACK, stack, [program, *words], given)
     return f"status {done.returncode}" if done.returncode else str(done.stdout.decode().strip())
 
 
@@ -160,12 +185,12 @@ def long_input(make: Callable[[str, int], bytes], form: str) -> bytes:
     return make(form, int(LONG / a_level) + 1)
 
 
-def judged(program: Path | str, made: Mapping[str, Call]) -> Iterator[tuple[str, str]]:
+def judged(program: Program, made: Mapping[str, Call]) -> Iterator[tuple[str, str]]:
     """Yields the name of each check of these calls, and what was returned instead of what should be.
 
     A call that isn't in the page's table doesn't recurse: it is done on what no limit lets through, on the small stack.
     """
-    figures, besides = table()
+    figures, besides = table(column_of(program))
     for name, call in made.items():
         figure = figures.get(name, 0)
         for said, form in FORMS.items():
@@ -182,23 +207,27 @@ def judged(program: Path | str, made: Mapping[str, Call]) -> Iterator[tuple[str,
             yield f"{name}, half of the stack", "it is enough" if "status -11" not in halves else ""
 
 
-def in_header() -> tuple[dict[str, int], int, dict[str, int]]:
+def column_of(program: Program) -> int:
+    return program.column if isinstance(program, Threaded) else 0
+
+
+def in_header(column: int) -> tuple[dict[str, int], int, dict[str, int]]:
     """The header's limits, and what a call takes of the stack by it, besides and for each level."""
     text = HEADER.read_text()
     limits = {name: int(number) for name, number in re.findall(r"(AMQPV_\w*DEPTH) = (\d+)", text)}
-    rows = re.findall(r"(?m)^ \*\s+(\d+)(?: bytes)?\s+in (amqpv_.*)$", text)
-    figures = {name: int(figure) for figure, names in rows for name in re.findall(r"amqpv_\w+", names)}
+    rows = re.findall(r"(?m)^ \*\s+(\d+)\s+(\d+)(?: bytes)?\s+in (amqpv_.*)$", text)
+    figures = {name: int(of[column]) for *of, names in rows for name in re.findall(r"amqpv_\w+", names)}
     (besides,) = re.findall(r"The stack suffices: (\d+) KiB", text)
     return limits, int(besides) << 10, figures
 
 
-def recommended(program: Path | str) -> Iterator[tuple[str, str]]:
+def recommended(program: Threaded) -> Iterator[tuple[str, str]]:
     """Yields the name of each check of the calls for C with the header's limits, and what was returned instead.
 
     Each is done on the stack that the header names, at most 64 KiB, and what nests deeper is rejected on 64 KiB.
     """
-    limits, besides, figures = in_header()
-    of_page = {name: figure for name, figure in table()[0].items() if name in FOR_C}
+    limits, besides, figures = in_header(program.column)
+    of_page = {name: figure for name, figure in table(program.column)[0].items() if name in FOR_C}
     yield "the header's figures", "" if figures == of_page else f"those of {PAGE.name} are {of_page}"
     for name, call in FOR_C.items():
         limit = limits["AMQPV_JSON_DEPTH" if "json" in name else "AMQPV_DEPTH"]
@@ -213,7 +242,7 @@ def recommended(program: Path | str) -> Iterator[tuple[str, str]]:
             yield f"{name}, {LONG} bytes of {said} on {THREAD} bytes of stack", wrong
 
 
-def least(program: Path | str, call: Call, depth: int) -> int:
+def least(program: Program, call: Call, depth: int) -> int:
     """The least stack, of those that the kernel tells apart, on which a call is done, whatever the form."""
 
     def is_done(pages: int) -> bool:
@@ -226,10 +255,12 @@ def least(program: Path | str, call: Call, depth: int) -> int:
 
 def main() -> None:
     program, *names = sys.argv[1:]
+    *by, path = shlex.split(program)
     for name in names:
         call = {**CALLS, **FOR_C}[name]
         deepest = call.depths[-1]
-        few, many = least(program, call, deepest // 2), least(program, call, deepest)
+        made: Program = Threaded(Path(path), (*by,)) if name in FOR_C else Path(path)
+        few, many = least(made, call, deepest // 2), least(made, call, deepest)
         a_level = (many - few) / (deepest - deepest // 2)
         print(f"{name}: {a_level:.0f} bytes a level, {many - a_level * deepest:.0f} besides", flush=True)
 

@@ -1,0 +1,1 @@
+"""What calls take: instructions, memory, stack."""

@@ -1,0 +1,186 @@
+"""The most memory that each call which allocates holds at once: what the header states, and inputs of which much is made.
+
+The header has it for each byte, value and level that amqpv_measure_value counts, or for each byte of a text. No input may take
+more, and each number of it is nearly needed by some input.
+"""
+
+import re
+from collections.abc import Iterator
+from random import Random
+from typing import NamedTuple
+
+from crates import TOP
+from lib import CALLS_FOR_C
+
+from tests.model.printed import field, nested
+
+HEADER = TOP / "include/amqp_values.h"
+# How many bytes most inputs have: n, 2 n and 4 n, and sizes in between, since a buffer that has just grown is the largest.
+# Tables of 16 KiB or more are built in another way.
+SIZES = [int(1000 * 2 ** (step / 8)) for step in range(17)] + [30_000]
+MOST_NESTED = 4000
+# With this part of any number of the header, some input takes more.
+NEAR = 0.9
+# What isn't canonical, so that what it is in isn't copied.
+ODD = b"t\7"
+
+
+class Most(NamedTuple):
+    """The most memory of a call: by the bytes alone; and by the bytes, the values and the levels."""
+
+    alone: int
+    byte: int
+    value: int
+    level: int
+
+    def of(self, length: int, values: int, levels: int) -> int:
+        by_all = self.byte * length + self.value * values + self.level * levels
+        return min(self.alone * length, by_all or self.alone * length)
+
+
+ROW = re.compile(
+    r"^ \*\s+(\d+) for each byte(?:, or\s+(\d+) for each byte and (\d+) for each (value|level))?\s+in (amqpv_\w+)", re.M
+)
+
+
+def stated() -> dict[str, Most]:
+    """What the header states of each call."""
+    figures = {}
+    for alone, byte, other, kind, name in ROW.findall(HEADER.read_text()):
+        more = {kind: int(other)} if kind else {}
+        figures[name] = Most(int(alone), int(byte or 0), 0, 0)._replace(**more)
+    return figures
+
+
+def allocating() -> set[str]:
+    """The calls that allocate."""
+    text = (TOP / "crates" / CALLS_FOR_C[1] / "src/lib.rt").read_text()
+    return {*re.findall(r'extern "C" fn (\w+)', text)}
+
+
+# Inputs
+
+# What an array has, again and again.
+ITEMS: dict[str, bytes] = {
+    "Voids": b"V", "booleans": b"t\1", "ShortShortInts": b"b\x80", "ShortShortUInts": b"B\xff",
+    "ShortInts": b"s\x80\0", "ShortUInts": b"u\xff\xff", "LongInts": b"I\x80\0\0\0", "LongUInts": b"i\xff\xff\xff\xff",
+    "LongLongInts": b"l\x80" + bytes(7), "Floats": b"f" + b"\xff" * 4, "Doubles": b"d" + b"\xff" * 8,
+    "decimals": b"D" + b"\xff" * 5, "Timestamps": b"T" + b"\xff" * 8, "empty strings": field(b"S", b""),
+    "zeros": field(b"S", b"\0"), "strings of zeros": field(b"S", bytes(99)), "bytes that aren't UTF-8": field(b"S", b"\xff"),
+    "byte arrays": field(b"x", b"\xff"), "long byte arrays": field(b"x", b"\xff" * 99), "arrays": field(b"A", b""),
+    "arrays of a Void": field(b"A", b"V"), "arrays of five": field(b"A", b"V" * 5), "tables": field(b"F", b""),
+    "tables of an empty key": field(b"F", b"\0V"), "tables of a type's name": field(b"F", b"\4VoidV"),
+    "tables of a key of zeros": field(b"F", b"\x63" + bytes(99) + b"V"), "tables of equal keys": field(b"F", b"\0V" * 2),
+    "tables of keys that fall": field(b"F", b"\1aV\0V"),
+    "tables of sixteen": field(b"F", b"".join(b"\1%cV" % (96 - n) for n in range(16))),
+    "tables of sixteen in order": field(b"F", b"".join(b"\1%cV" % (48 + n) for n in range(16))),
+    "60 arrays in each other": nested("A", 60, b"V"), "60 tables of empty keys": nested("F", 60, b"V", b"\0"),
+}  # fmt: skip
+
+# The members of a text's array, again and again.
+TEXTS: dict[str, str] = {
+    "null": "null", "zeros": "0", "true": "true", "numbers": "-9223372036854775808", "empty strings": '""',
+    "letters": '"a"', "escapes": '"\\u0000"', "long strings of escapes": '"' + "\\u00ff" * 99 + '"', "quotes": '"' + '\\"' * 99 + '"',
+    "Voids": "null", "ShortShortInts": '{"ShortShortInt":0}', "Floats": '{"Float":"00000000"}', "LongStrings": '{"LongString":"ff"}',
+    "byte arrays": '{"ByteArray":"ff"}', "decimals": '{"DecimalValue":{"scale":0,"value":0}}', "objects": "{}",
+    "objects of an empty key": '{"":0}', "objects of a letter": '{"a":0}', "objects of equal keys": '{"":0,"":0}',
+    "objects of keys that fall": '{"a":0,"":0}', "objects of a type's name": '{"FieldTable":{"Void":0}}',
+    "objects of sixteen": "{" + ",".join(f'"{chr(112 - n)}":0' for n in range(16)) + "}",
+    "arrays": "[]", "arrays of a zero": "[0]", "arrays of five": "[0,0,0,0,0]",
+    "arrays in arrays": "[" * 126 + "]" * 126, "objects in objects": '{"":' * 126 + "0" + "}" * 126,
+    "objects in objects, of a letter": '{"a":' * 126 + "0" + "}" * 126, "spaces": " " * 99 + "0",
+}  # fmt: skip
+
+
+def keys(n: int) -> list[bytes]:
+    """Different keys of few bytes, in order."""
+    return sorted(b"%x" % it for it in range(n))
+
+
+def tables(n: int) -> Iterator[tuple[str, list[bytes]]]:
+    """Keys of tables of some n bytes."""
+    found = keys(n // 5)
+    yield "in order", found
+    yield "in reverse", found[::-1]
+    yield "at random", Random(n).sample(found, len(found))
+    yield "equal", [b""] * (n // 2)
+    yield "of each twice", [it for it in found for _ in range(2)]
+
+
+def unordered(levels: int) -> bytes:
+    """Tables in tables, each with an empty key after another one."""
+    value = b"V"
+    for _ in range(levels):
+        value = field(b"F", b"\0V\0" + value)
+    return value
+
+
+def encodings(n: int) -> Iterator[tuple[str, bytes]]:
+    for name, item in ITEMS.items():
+        yield name, ODD + item * (n // len(item))
+    for name, of_table in tables(n):
+        yield f"keys {name}", ODD + field(b"F", b"".join(bytes([len(it)]) + it + b"V" for it in of_table))
+    of_nested = min(n, MOST_NESTED)
+    yield "tables in tables", ODD + nested("F", of_nested // 6, b"V", b"\0")
+    yield "arrays in arrays", ODD + nested("A", of_nested // 5, b"V")
+    yield "tables in tables, unordered", ODD + unordered(of_nested // 8)
+    for name, content in (("zeros", bytes(n)), ("quotes", b'"' * n), ("no UTF-8", b"\xff" * n), ("letters", b"a" * n)):
+        yield f"a string of {name}", ODD + field(b"S", content)
+        # (which the encoding has just room for)
+        yield f"a string of {name} before a Void", ODD + field(b"S", content) + b"V"
+    yield "a byte array", ODD + field(b"x", b"\xff" * n)
+
+
+def texts(n: int) -> Iterator[tuple[str, str]]:
+    for name, text in TEXTS.items():
+        yield name, "[" + ",".join([text] * max(1, n // (len(text) + 1))) + "]"
+    for name, of_table in tables(n):
+        yield f"keys {name}", "{" + ",".join(f'"{it.decode()}":0' for it in of_table) + "}"
+    for name, content in (("escapes", "\\u0000"), ("quotes", '\\"'), ("letters", "a")):
+        yield f"a string of {name}", f'"{content * (n // len(content))}"'
+    yield "a byte array", '{"ByteArray":"' + "ff" * (n // 2) + '"}'
+
+
+def inputs() -> Iterator[tuple[str, bytes]]:
+    """The name and the bytes of each input."""
+    for n in SIZES:
+        for name, content in encodings(n):
+            yield f"{name}, {n} bytes", field(b"A", content)
+        for name, text in texts(n):
+            yield f"JSON, {name}, {n} bytes", text.encode()
+
+
+# What is told of it
+
+
+class Held(NamedTuple):
+    """A call, the shape of its input, how many bytes, values and levels that has, and the most bytes that were held."""
+
+    call: str
+    shape: str
+    counts: list[int]
+    most: int
+
+
+def held(line: str) -> Held:
+    """A line that at_once.c prints."""
+    call, name, numbers = line.split(" | ")
+    *counts, most = map(int, numbers.split())
+    return Held(call, re.sub(r", \d+ bytes$", "", name), counts, most)
+
+
+def judged(lines: list[str]) -> Iterator[tuple[str, str]]:
+    """Yields the name of each check of what at_once.c prints, and what is wrong."""
+    figures = stated()
+    yield "the header's memory", "" if figures.keys() == allocating() else f"it is of {sorted(figures)}"
+    found = [it for it in map(held, lines) if it.call in figures]
+    over: dict[tuple[str, str], str] = {(it.call, it.shape): "" for it in found}
+    for it in found:
+        if it.most > (limit := figures[it.call].of(*it.counts)):
+            over[it.call, it.shape] = f"{it.most:,} bytes of memory for {it.counts[0]:,}, over {limit:,}"
+    yield from ((f"memory of {call} | {shape}", wrong) for (call, shape), wrong in over.items())
+    for call, figure in figures.items():
+        for part in (it for it in Most._fields if getattr(figure, it)):
+            less = figure._replace(**{part: int(getattr(figure, part) * NEAR)})
+            is_near = any(it.call == call and it.most > less.of(*it.counts) for it in found)
+            yield f"memory of {call} by its {part}", "" if is_near else f"{NEAR} of it is enough"
