@@ -378,7 +378,7 @@ static int begin(PyObject *module) {
         || (state->datetime = imported("datetime", "datetime")) == NULL
         || (state->utc_offset = PyObject_GetAttrString(state->datetime, "utcoffset")) == NULL
         || (state->timedelta = imported("datetime", "timedelta")) == NULL
-        || (state->codec = codec_type(module)) == NULL
+        || (state->of_empty_key = imported(types, "_OF_EMPTY_KEY")) == NULL || (state->codec = codec_type(module)) == NULL
         || (state->mapping = imported("collections.abc", "Mapping")) == NULL
         || (state->sequence = imported("collections.abc", "Sequence")) == NULL
         || (state->items = PyUnicode_InternFromString("items")) == NULL
@@ -389,7 +389,8 @@ static int begin(PyObject *module) {
         || (state->raw = PyUnicode_InternFromString("raw")) == NULL
         || (state->refused = PyUnicode_InternFromString("refused")) == NULL
         || (state->relayed = PyUnicode_InternFromString("relayed")) == NULL
-        || (state->unsent = PyUnicode_InternFromString("unsent")) == NULL) {
+        || (state->unsent = PyUnicode_InternFromString("unsent")) == NULL
+        || (state->no_text = PyUnicode_InternFromString("")) == NULL) {
         return -1;
     }
     PyObject *zone = imported("datetime", "timezone"), *utc = zone != NULL ? PyObject_GetAttrString(zone, "utc") : NULL;

@@ -174,8 +174,28 @@ static int build_pair(const Reader *reader, const amqpv_entry *entry, PyObject *
     return is_put;
 }
 
+/* Whether the only key of a table is empty, and its entry. */
+static int is_of_empty_key(const Reader *reader, const amqpv_entry *entry, amqpv_entry *it) {
+    amqpv_cursor cursor;
+    return entry->content.length > 1 && reader->bytes[entry->content.offset] == 0
+           && amqpv_enter(reader->bytes, reader->length, entry, &cursor) == AMQPV_OK
+           && amqpv_next(reader->bytes, reader->length, &cursor, it) == AMQPV_OK && cursor.left.length == 0;
+}
+
+/* A table whose only key is empty: in itself it has a level in six bytes, of which a dict with keys of its own has 184. */
+static PyObject *build_of_empty_key(const Reader *reader, const amqpv_entry *it) {
+    PyObject *value = build(reader, it);
+    PyObject *table = value != NULL ? PyDict_Copy(reader->state->of_empty_key) : NULL;
+    if (table != NULL && PyDict_SetItem(table, reader->state->no_text, value) < 0) {
+        Py_CLEAR(table);
+    }
+    Py_XDECREF(value);
+    return table;
+}
+
 static PyObject *build_table(const Reader *reader, const amqpv_entry *entry) {
-    return filled(reader, entry, PyDict_New());
+    amqpv_entry it;
+    return is_of_empty_key(reader, entry, &it) ? build_of_empty_key(reader, &it) : filled(reader, entry, PyDict_New());
 }
 
 PyObject *filled(const Reader *reader, const amqpv_entry *entry, PyObject *table) {

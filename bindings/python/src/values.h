@@ -20,10 +20,12 @@ typedef struct {
     PyObject *error, *integer, *integers[INTEGERS], *of_float, *long_string, *encoded;
     PyObject *decimal, *as_tuple, *datetime, *utc_offset, *epoch, *naive_epoch, *timedelta;
     PyObject *mapping, *sequence;
+    /* a dict whose only key is empty: CPython has the keys of its copies once */
+    PyObject *of_empty_key;
     /* the type that adapters read and write by */
     PyObject *codec;
     /* names of attributes, of which each is one object */
-    PyObject *items, *days, *seconds, *path, *name, *raw, *refused, *relayed, *unsent;
+    PyObject *items, *days, *seconds, *path, *name, *raw, *refused, *relayed, *unsent, *no_text;
     newfunc new_error, new_integer, new_float, new_timedelta;
     binaryfunc add, subtract;
 } State;
