@@ -4,7 +4,9 @@ import re
 import sys
 from collections.abc import Sequence
 
-# What is between these lines of the page is written anew, as all its tables are.
+# The first heads of tables that no run makes.
+OTHERS = ("1 MiB",)
+# What is between these lines of the page is written anew, as all other tables are.
 BEGIN, END = "<!-- run: bench/run -->\n", "<!-- end of run -->\n"
 TABLE = re.compile(r"(?m)(?:^\|.*\n)+")
 
@@ -37,6 +39,7 @@ class Page:
         """The page with what was found; a table that wasn't measured loses its rows."""
         if missing := self.tables.keys() - {head_of(it) for it in TABLE.findall(old)}:
             sys.exit(f"bench: docs/SPEED.md has no table for: {', '.join(missing)}")
-        text = TABLE.sub(lambda it: self.tables.get(head_of(it[0]), "".join(it[0].splitlines(True)[:2])), old)
+        left = lambda it: it if head_of(it) in OTHERS else "".join(it.splitlines(True)[:2])
+        text = TABLE.sub(lambda it: self.tables.get(head_of(it[0]), left(it[0])), old)
         before, _, rest = text.partition(BEGIN)
         return before + BEGIN + "\n" + "\n".join(self.lines) + "\n\n" + END + rest.partition(END)[2]
