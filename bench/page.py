@@ -16,6 +16,11 @@ def head_of(table: str) -> str:
     return table.partition("|")[2].partition("|")[0].strip()
 
 
+def left_of(table: str) -> str:
+    """What is left of a table that wasn't measured: its heads, if a run makes it."""
+    return table if head_of(table) in OTHERS else "".join(table.splitlines(True)[:2])
+
+
 class Page:
     """What a run has found: tables by their first head, and lines about the run."""
 
@@ -39,7 +44,6 @@ class Page:
         """The page with what was found; a table that wasn't measured loses its rows."""
         if missing := self.tables.keys() - {head_of(it) for it in TABLE.findall(old)}:
             sys.exit(f"bench: docs/SPEED.md has no table for: {', '.join(missing)}")
-        left = lambda it: it if head_of(it) in OTHERS else "".join(it.splitlines(True)[:2])
-        text = TABLE.sub(lambda it: self.tables.get(head_of(it[0]), left(it[0])), old)
+        text = TABLE.sub(lambda it: self.tables.get(head_of(it[0]), left_of(it[0])), old)
         before, _, rest = text.partition(BEGIN)
         return before + BEGIN + "\n" + "\n".join(self.lines) + "\n\n" + END + rest.partition(END)[2]
