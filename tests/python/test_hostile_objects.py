@@ -18,6 +18,7 @@ import pytest
 
 from tests.model.printed import damaged, field, nested, value_of
 from tests.model.tables import EVERY_TYPE, odd_table, random_table, raw
+from tests.python.codecs import CODECS
 from tests.python.hostile import DOCUMENTED, made
 from tests.python.values import UTC, error_of
 
@@ -326,8 +327,12 @@ def test_nothing_is_held(seed: int) -> None:
                 error_of(lambda: own.loads(data, **options))
                 error_of(lambda: own.decode_table(data, 1, **options))
                 error_of(lambda: own.find(data, "a", 0, **options))
+            for one in CODECS:
+                error_of(lambda: one.write(one.read(data, 1)[0]))
         for it in values:
             error_of(lambda: own.dumps(it, keys="surrogateescape"))
+            for one in CODECS:
+                error_of(lambda: one.write({"k": it}))
 
     # (hostile objects make new ones at times, and types are kept in caches)
     assert min(held(run, 3) for _ in range(3)) < 20
@@ -357,11 +362,25 @@ calls = {
     "escaped": lambda: av.dumps_table({"\\udcff": "\\udcff"}, keys="surrogateescape", text="surrogateescape"),
     "bytes": lambda: av.dumps_table({b"\\xff": 1}, keys="bytes"),
 }
+if sys.argv[1] not in calls:
+    from amqp_values.adapters.shared import FRAME, Client, Codec
+    class Other(Client):
+        how = {"integers": "py-amqp", "ascending": True, "bytes_are_text": True, "bytearrays": True, "short_decimals": True}
+    codec = Codec(Other(), 64, FRAME, "last", True, False)
+    native = av._native.Codec
+    calls |= {
+        "codec": lambda: type(native(codec, dict, None, others=len, depth=3)),
+        "codec read": lambda: codec.read(data, 1),
+        "codec write": lambda: codec.write(value),
+        "codec relay": lambda: codec.write(came),
+    }
+    came = codec.read(data, 1)[0]
 call = calls[sys.argv[1]]
 wanted = call()
-failed, at = 0, 0
+failed, at = 0, -1
 while True:
     at += 1
+    # (the first is number 0)
     _testcapi.set_nomemory(at, at + 1)
     try:
         found = call()
@@ -382,8 +401,12 @@ print(failed)
 
 
 @pytest.mark.parametrize(
-    "name", ["loads", "plain", "table", "decode", "bytearray", "find", "dumps", "dumps_table", "escaped", "bytes"]
-)
+    "name",
+    [
+        "loads", "plain", "table", "decode", "bytearray", "find", "dumps", "dumps_table", "escaped", "bytes",
+        "codec", "codec read", "codec write", "codec relay",
+    ],
+)  # fmt: skip
 def test_no_memory(name: str) -> None:
     """Whichever allocation fails, a MemoryError comes, and the next call has what it had before."""
     package = str(Path(own.__file__).parents[1])
