@@ -44,7 +44,10 @@ for bytes_ in (b"", b"z", b"S\\0\\0\\0\\1", b"S\\0\\0\\0\\1\\xff", b"A" * 99):
         tried += 1
 here = pathlib.Path(av.__file__).parent
 assert (here / "py.typed").exists()
-import amqp_values.adapters
+from amqp_values.adapters.shared import FRAME, Client, Codec
+codec = Codec(Client(), 64, FRAME, "last", True, False)
+table, end = codec.read(codec.write({"a": [1, 2.5, decimal.Decimal("1.5")], "b": {"": None}}), 0)
+assert table == {"a": [1, 2.5, decimal.Decimal("1.5")], "b": {"": None}} and codec.write(table) == table.raw and end == 44, end
 assert "Copyright" in next(here.parent.glob("amqp_values-*/LICENSE")).read_text()
 print("%d.%d.%d: %d tried" % (*sys.version_info[:3], tried))
 """

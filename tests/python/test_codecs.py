@@ -137,14 +137,14 @@ TABLES = st.dictionaries(
 def test_what_is_written(name: str) -> None:
     """What a client means by a table."""
     write = codec(name).write
+    for it in INTEGERS:
+        assert b"F" + write({"n": it}) == raw(meant(name, {"n": it})), it
 
     @given(TABLES)
     def each(table: dict[str, Any]) -> None:
         assert b"F" + write(table) == raw(meant(name, table))
 
     each()
-    for it in INTEGERS:
-        assert b"F" + write({"n": it}) == raw(meant(name, {"n": it})), it
 
 
 # Values of classes, and what each client sends for them.
