@@ -80,7 +80,7 @@ static PyObject *build_decimal(const Reader *reader, const amqpv_entry *entry) {
     unsigned scale = entry->scale;
     if (reader->how->has_short_decimals) {
         /* (without zeros at the end of the digits after the point) */
-        for (; scale > 0 && number % 10 == 0; scale = number != 0 ? scale - 1 : 0) {
+        for (; scale > 0 && number % 10 == 0; scale--) {
             number /= 10;
         }
     }
