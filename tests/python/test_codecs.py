@@ -82,7 +82,7 @@ def test_what_is_read(name: str, seed: int, record_property: Callable[[str, obje
         by_plain, stop = plain.read(bytearray(whole), len(before))
         assert type(by_plain) is dict and repr(by_plain) == wanted and stop == end
     assert min(counts.values()) > 200, counts
-    record_property(f"codec-reads-{name}", sum(counts.values()))
+    record_property(f"package-codec-{name}", sum(counts.values()))
 
 
 @pytest.mark.parametrize("name", NAMES)
