@@ -68,7 +68,7 @@ static PyObject *read_table(PyObject *self, PyObject *const *arguments, Py_ssize
         made = codec->made != NULL ? build_kept(codec, &reader, &entry, content) : build(&reader, &entry);
     }
     if (made != NULL) {
-        made = Py_BuildValue("(Nn)", made, (Py_ssize_t)(reader.base + length));
+        made = with_end(made, reader.base + length);
     } else if (documented(state, NULL) == NULL && PyErr_ExceptionMatches(state->error)) {
         made = by_owner(codec, state->refused, content, arguments[1]);
     }

@@ -223,7 +223,7 @@ static PyObject *decode_table(PyObject *module, PyObject *const *arguments, Py_s
         }
     }
     Py_XDECREF(content);
-    return documented(state, made != NULL ? Py_BuildValue("(Nn)", made, (Py_ssize_t)(reader.base + length)) : NULL);
+    return documented(state, made != NULL ? with_end(made, reader.base + length) : NULL);
 }
 
 /* A step of a path; `kept` keeps its key. */

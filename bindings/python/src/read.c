@@ -16,6 +16,14 @@ static int is_well_but_for_keys(const Reader *reader) {
            == AMQPV_NONE;
 }
 
+PyObject *with_end(PyObject *made, size_t end) {
+    PyObject *number = PyLong_FromSize_t(end);
+    PyObject *both = number != NULL ? PyTuple_Pack(2, made, number) : NULL;
+    Py_XDECREF(number);
+    Py_DECREF(made);
+    return both;
+}
+
 int read_entry(const Reader *reader, amqpv_entry *entry, size_t *count) {
     const Options *how = reader->how;
     const uint8_t *bytes = reader->bytes;

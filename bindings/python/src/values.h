@@ -100,6 +100,9 @@ PyObject *build(const Reader *reader, const amqpv_entry *entry);
 /* A dict, a new reference or NULL, with the pairs of a table that was read: the same reference, or NULL. */
 PyObject *filled(const Reader *reader, const amqpv_entry *entry, PyObject *table);
 
+/* A tuple of an object, whose reference it takes, and of how many bytes are before the end of what it was read of. */
+PyObject *with_end(PyObject *made, size_t end);
+
 /* The bytes of a value, or of a table without its type tag. */
 PyObject *written(const State *state, const Options *how, PyObject *value);
 
