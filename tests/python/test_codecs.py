@@ -212,6 +212,10 @@ def test_what_came_is_written_as_it_came(name: str, seed: int) -> None:
         assert error in CLIENTS[name][2] if error else one.write(found) != data[:end]
         changed += error is None
     assert relayed > 300 and changed > 200
+    changed_raw, _ = one.read(b"\0\0\0\3\1aV", 0)
+    for it in (b"", b"\0\0\0\3\1az", b"\0\0\0\0"):
+        changed_raw.raw = it  # type: ignore[attr-defined]
+        assert one.write(changed_raw) == b"\0\0\0\3\1aV"
     again = pickle.loads(pickle.dumps(one.read(b"\0\0\0\3\1az", 0)[0]))
     assert isinstance(again, Refused) and one.write(again) == b"\0\0\0\3\1az"
 

@@ -67,6 +67,13 @@ class Refused(Headers):
         return Refused, (self.problem, self.raw)
 
 
+class Raising:
+    """What a native codec asks about errors if the package's own are to come."""
+
+    def refused(self, problem: Error, data: bytes, offset: int) -> NoReturn:
+        raise problem
+
+
 class Codec:
     """Reads and writes the tables of a client, by the two methods of a native one."""
 
@@ -80,7 +87,7 @@ class Codec:
         native = _native.Codec(self, Headers, Headers if exact else None, **how)
         self.read: Callable[[Any, int], tuple[dict[Any, Any], int]] = native.read
         self.write: Callable[[Any], bytes] = native.write
-        self.plainly = _native.Codec(self, Headers, None, **how).read
+        self.plainly = _native.Codec(Raising(), Headers, None, **how).read
 
     def refused(self, problem: Error, data: bytes, offset: int) -> tuple[dict[Any, Any], int]:
         """What is delivered instead of a table that isn't read, and where that ends."""
