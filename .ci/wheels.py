@@ -44,7 +44,10 @@ for bytes_ in (b"", b"z", b"S\\0\\0\\0\\1", b"S\\0\\0\\0\\1\\xff", b"A" * 99):
         tried += 1
 here = pathlib.Path(av.__file__).parent
 assert (here / "py.typed").exists()
-import amqp_values.adapters
+from amqp_values.adapters.shared import FRAME, Client, Codec
+codec = Codec(Client(), 64, FRAME, "last", True, False)
+table, end = codec.read(codec.write({"a": [1, 2.5, decimal.Decimal("1.5")], "b": {"": None}}), 0)
+assert table == {"a": [1, 2.5, decimal.Decimal("1.5")], "b": {"": None}} and codec.write(table) == table.raw and end == 44, end
 assert "Copyright" in next(here.parent.glob("amqp_values-*/LICENSE")).read_text()
 print("%d.%d.%d: %d tried" % (*sys.version_info[:3], tried))
 """
@@ -63,12 +66,16 @@ def build_package(crates: Crates, folder: Path, is_built: bool, options: Words =
     done = build_archive(crates, CALLS_FOR_C[0], is_built)
     if done.returncode:
         return f"lib{CALLS_FOR_C[0]}.a: {(done.stderr or done.stdout)[-1000:]}"
+    return compile_package(archive(crates, CALLS_FOR_C[0]), folder, options)
+
+
+def compile_package(library: Path, folder: Path, options: Words = ()) -> str:
+    """Puts the package over an archive of the calls for C into a folder, for Debian's Python; what went wrong."""
     made = folder / "amqp_values"
     shutil.copytree(PACKAGE / "amqp_values", made, ignore=shutil.ignore_patterns("*.so", "__pycache__"))
     python = ran([PYTHON, "-c", "import sysconfig; print(sysconfig.get_path('include'))"])[0].strip()
     flags = ["-std=c11", "-O2", "-g", "-fPIC", "-fvisibility=hidden", *WARNINGS, f"-I{INCLUDE}", f"-I{python}"]
     sources = sorted((PACKAGE / "src").glob("*.c"))
-    library = archive(crates, CALLS_FOR_C[0])
     return ran(["cc", "-shared", *flags, *options, "-o", made / "_native.abi3.so", *sources, library])[1]
 
 

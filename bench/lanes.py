@@ -13,6 +13,7 @@ from pathlib import Path
 
 from crates import TOP, Crates, kit
 from lib import archive, build_archive
+from wheels import PYTHON, compile_package
 
 BEGIN = time.monotonic()
 HERE, OUT = TOP / "bench", TOP / "out/bench"
@@ -149,6 +150,19 @@ def sides(given: argparse.Namespace) -> Lanes:
     else:
         note("Erlang is left out: erlang-base or rabbitmq-server isn't installed")
     return {lane: it for it in processes for lane in it.lanes}
+
+
+def python_sides(given: argparse.Namespace) -> Lanes:
+    """Builds the package for Python over the calls for C, and starts it and the clients of Python as one process."""
+    library = given.installed.resolve() / "lib/libamqp_values.a"
+    if not library.exists():
+        note(f"Python is left out: there is no {library} (make)")
+        return {}
+    shutil.rmtree(OUT / "python", ignore_errors=True)
+    if wrong := compile_package(library, OUT / "python"):
+        sys.exit(f"bench: the package for Python isn't built: {wrong}")
+    process = Process([PYTHON, "-B", HERE / "side.py"], PYTHONPATH=f"{OUT / 'python'}:{TOP}:{TOP / '.ci'}")
+    return {lane: process for lane in process.lanes}
 
 
 def preloaded(driver: Process) -> Process:

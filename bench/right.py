@@ -70,6 +70,16 @@ def right_tasks(headers: Input, lanes: Lanes) -> Lanes:
     return chosen
 
 
+def right_python(one: Input, lanes: Lanes) -> list[str]:
+    """The lanes of Python, of which each has read or written the table of an input, as bench/side.py judges."""
+    load(one.given, lanes)
+    for lane in lanes:
+        count, data = made(lane, lanes)
+        if count != len(one.given) if lane.endswith(".read") else count < 0:
+            sys.exit(f"bench: {lane} isn't right: {count} bytes of {one.row} {data.hex()}")
+    return [*lanes]
+
+
 def results_of(one: Input, step: int, lanes: Lanes) -> dict[str, bytes]:
     """The results of the driver's sides on the prefixes and changes of an input, by side."""
     load(one.given, lanes)

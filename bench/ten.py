@@ -120,6 +120,43 @@ def queue_arguments() -> bytes:
     return encoded({"x-max-length": number("I", 10_000), "x-queue-type": text("quorum")}, False)
 
 
+def two_deaths() -> dict[str, Value]:
+    """The headers of a message that was rejected and expired."""
+    deaths: list[Value] = [
+        death(2, "rejected", "orders.work", "orders", "orders.created", 1700000300),
+        death(1, "expired", "orders.retry.30s", "orders.retry", "orders.created", 1700000200),
+    ]
+    first = {
+        "x-first-death-exchange": "orders",
+        "x-first-death-queue": "orders.work",
+        "x-first-death-reason": "rejected",
+    }
+    return {"x-death": deaths, **{key: text(it) for key, it in first.items()}}
+
+
+def celery_headers() -> dict[str, Value]:
+    """The headers of a task, as Celery 5.2 sends them by py-amqp."""
+    name = text("6b1ad0e1-0a4f-4f0f-9f0f-2f1de1d5b6a7")
+    return {
+        "lang": text("py"),
+        "task": text("shop.tasks.send_invoice"),
+        "id": name,
+        "shadow": b"V",
+        "eta": b"V",
+        "expires": b"V",
+        "group": b"V",
+        "group_index": b"V",
+        "retries": number("I", 0),
+        "timelimit": [b"V", b"V"],
+        "root_id": name,
+        "parent_id": b"V",
+        "argsrepr": text("(1042, 'de')"),
+        "kwargsrepr": text("{}"),
+        "origin": text("gen4217@shop-7d9f"),
+        "ignore_result": number("t", False),
+    }
+
+
 def entries(count: int, at_random: bool = True) -> dict[str, Value]:
     makes: tuple[Callable[[int], bytes], ...] = (
         lambda it: number("I", it),
@@ -168,6 +205,14 @@ def ten() -> Iterator[Input]:
     yield of_value("a string of 16 MiB", "16 MiB string", {"v": counted(b"S", dice.randbytes(16 << 20))})
     yield of_value("a byte array of 1 MiB", "1 MiB byte array", {"v": counted(b"x", dice.randbytes(1 << 20))})
     yield of_value("200 nested tables, 1.4 kB", "200 nested tables", nested(200))
+
+
+def of_python() -> Iterator[Input]:
+    """The inputs that clients of Python are timed with, of which each has all."""
+    yield Input("a queue's arguments, 47 bytes", "arguments", queue_arguments())
+    yield of_value("headers with two `x-death` entries, 398 bytes", "two deaths", two_deaths())
+    yield of_value("a Celery task's headers, 315 bytes", "a task", celery_headers())
+    yield of_value("a server's properties, 480 bytes", "server's properties", server_properties())
 
 
 def stream(count: int) -> Input:

@@ -17,7 +17,7 @@ INCLUDE = HERE.parents[1] / "include"
 TARGET = os.environ.get("AMQP_VALUES_TARGET") or f"{platform.machine()}-unknown-linux-gnu"
 PROCESSOR = TARGET.partition("-")[0]
 ARCHIVE = Path(os.environ.get("AMQP_VALUES_LIB_DIR") or HERE / "lib" / TARGET) / "libamqp_values.a"
-SOURCES = ("errors", "module", "read", "write")
+SOURCES = ("codec", "errors", "module", "read", "write")
 # (on no other path are the calls for C in the module's own symbols)
 LINKING = ["-Wl,-s", "-Wl,--exclude-libs,ALL", "-Wl,--gc-sections", "-Wl,-z,relro,-z,now"]
 

@@ -18,6 +18,7 @@ import pytest
 
 from tests.model.printed import damaged, field, nested, value_of
 from tests.model.tables import EVERY_TYPE, odd_table, random_table, raw
+from tests.python.codecs import CODECS
 from tests.python.hostile import DOCUMENTED, made
 from tests.python.values import UTC, error_of
 
@@ -250,23 +251,22 @@ def test_threads() -> None:
     assert not wrong
 
 
-# Bytes of which as much is made as can be, again and again; a table with an empty key in itself is apart, since Python's own
-# dict of one key takes 184 bytes, and these are 6.
-DENSE: dict[str, tuple[bytes, int]] = {
-    "Floats": (b"f\0\0\0\1", 30), "Voids": (b"V", 30), "booleans": (b"t\1", 30), "ShortShortInts": (b"b\1", 30),
-    "LongInts": (b"I\0\0\1\1", 30), "Timestamps": (b"T\0\0\0\1" + b"\1" * 4, 30), "decimals": (b"D\2\0\0\0\1", 30), "doubles": (b"d" + b"\1" * 8, 30),
-    "strings": (b"S\0\0\0\0", 30), "letters": (b"S\0\0\0\2\xc3\xb6", 30), "bytes": (b"x\0\0\0\1a", 30), "arrays": (b"A\0\0\0\0", 30),
-    "tables": (b"F\0\0\0\0", 30), "arrays of a Void": (b"A\0\0\0\1V", 30), "LongStrings": (b"S\0\0\0\1\xff", 30),
-    "tables of a Void": (field(b"F", b"\1aV"), 30), "tables of an empty key": (field(b"F", b"\0V"), 30),
-    "nested arrays": (nested("A", 60, b""), 30), "nested tables": (nested("F", 60, b"V"), 30),
-    "nested tables of empty keys": (nested("F", 60, b"V", b"\0"), 33),
+# Bytes of which as much is made as can be, again and again.
+DENSE = {
+    "Floats": b"f\0\0\0\1", "Voids": b"V", "booleans": b"t\1", "ShortShortInts": b"b\1", "LongInts": b"I\0\0\1\1",
+    "Timestamps": b"T\0\0\0\1" + b"\1" * 4, "decimals": b"D\2\0\0\0\1", "doubles": b"d" + b"\1" * 8,
+    "strings": b"S\0\0\0\0", "letters": b"S\0\0\0\2\xc3\xb6", "bytes": b"x\0\0\0\1a", "LongStrings": b"S\0\0\0\1\xff",
+    "arrays": b"A\0\0\0\0", "tables": b"F\0\0\0\0", "arrays of a Void": b"A\0\0\0\1V", "nested arrays": nested("A", 60, b""),
+    "tables of a Void": field(b"F", b"\1aV"), "nested tables": nested("F", 60, b"V"),
+    "tables of an empty key": field(b"F", b"\0V"), "nested tables of empty keys": nested("F", 60, b"V", b"\0"),
+    "tables of an empty key and another": field(b"F", b"\0V\1aV"), "tables of equal keys": field(b"F", b"\0V\0V"),
 }  # fmt: skip
 
 
 @pytest.mark.parametrize("name", DENSE)
 def test_memory(name: str) -> None:
-    """A value that is read takes at most 30 times its bytes."""
-    value, most = DENSE[name]
+    """A value that is read takes at most 30 times its bytes, of plain types too."""
+    value = DENSE[name]
     data = field(b"A", value * (100_000 // len(value)))
     given: list[dict[str, Any]] = [{}, {"plain": True}]
     for options in given:
@@ -276,8 +276,7 @@ def test_memory(name: str) -> None:
         _, peak = tracemalloc.get_traced_memory()
         tracemalloc.stop()
         assert len(found) == 100_000 // len(value)
-        if not options:
-            assert peak <= most * len(data), f"{peak / len(data):.1f} times"
+        assert peak <= 30 * len(data), f"{peak / len(data):.1f} times"
 
 
 def test_memory_of_mutated_tables(seed: int) -> None:
@@ -328,8 +327,12 @@ def test_nothing_is_held(seed: int) -> None:
                 error_of(lambda: own.loads(data, **options))
                 error_of(lambda: own.decode_table(data, 1, **options))
                 error_of(lambda: own.find(data, "a", 0, **options))
+            for one in CODECS:
+                error_of(lambda: one.write(one.read(data, 1)[0]))
         for it in values:
             error_of(lambda: own.dumps(it, keys="surrogateescape"))
+            for one in CODECS:
+                error_of(lambda: one.write({"k": it}))
 
     # (hostile objects make new ones at times, and types are kept in caches)
     assert min(held(run, 3) for _ in range(3)) < 20
@@ -359,11 +362,25 @@ calls = {
     "escaped": lambda: av.dumps_table({"\\udcff": "\\udcff"}, keys="surrogateescape", text="surrogateescape"),
     "bytes": lambda: av.dumps_table({b"\\xff": 1}, keys="bytes"),
 }
+if sys.argv[1] not in calls:
+    from amqp_values.adapters.shared import FRAME, Client, Codec
+    class Other(Client):
+        how = {"integers": "py-amqp", "ascending": True, "bytes_are_text": True, "bytearrays": True, "short_decimals": True}
+    codec = Codec(Other(), 64, FRAME, "last", True, False)
+    native = av._native.Codec
+    calls |= {
+        "codec": lambda: type(native(codec, dict, None, others=len, depth=3)),
+        "codec read": lambda: codec.read(data, 1),
+        "codec write": lambda: codec.write(value),
+        "codec relay": lambda: codec.write(came),
+    }
+    came = codec.read(data, 1)[0]
 call = calls[sys.argv[1]]
 wanted = call()
-failed, at = 0, 0
+failed, at = 0, -1
 while True:
     at += 1
+    # (the first is number 0)
     _testcapi.set_nomemory(at, at + 1)
     try:
         found = call()
@@ -384,8 +401,12 @@ print(failed)
 
 
 @pytest.mark.parametrize(
-    "name", ["loads", "plain", "table", "decode", "bytearray", "find", "dumps", "dumps_table", "escaped", "bytes"]
-)
+    "name",
+    [
+        "loads", "plain", "table", "decode", "bytearray", "find", "dumps", "dumps_table", "escaped", "bytes",
+        "codec", "codec read", "codec write", "codec relay",
+    ],
+)  # fmt: skip
 def test_no_memory(name: str) -> None:
     """Whichever allocation fails, a MemoryError comes, and the next call has what it had before."""
     package = str(Path(own.__file__).parents[1])

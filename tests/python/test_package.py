@@ -181,6 +181,18 @@ def test_a_table_of_several_types_is_typed() -> None:
     assert found == h and by_bytes == {"a": 1} and table == {"a": 1, "b": 2} and end == 26
 
 
+def test_tables_of_one_empty_key() -> None:
+    """They have their keys in common, and nothing else."""
+    value: list[Any] = [{"": 1}, {"": 2}, {"": {"": {}}}, {"": None, "a": 3}, {"": [{"": "x"}, {"": "y"}]}]
+    data = own.dumps(value)
+    found = own.loads(data)
+    assert found == value
+    found[0]["a"], found[0][""] = 5, 6
+    del found[2][""]
+    assert found == [{"": 6, "a": 5}, {"": 2}, {}, *value[3:]]
+    assert own.loads(data) == value == own.loads(data, equal_keys="first")
+
+
 def test_large_values() -> None:
     table: dict[str, Any] = {f"{it}": it for it in range(100_000)} | {
         "text": "x" * FRAME,

@@ -2,8 +2,8 @@
 
 WHAT is `mutated`, which reads COUNT tables that are damaged, and writes what is read and a tenth as many hostile objects; or
 `references`, which does some of both again and again, and prints how many references more there are after a round, by
-sys.gettotalrefcount of Python's debug build. PACKAGE is the folder that the package is in. No exception comes but those that
-are documented.
+sys.gettotalrefcount of Python's debug build. PACKAGE is the folder that the package is in. The codecs of adapters do the same.
+No exception comes but those that are documented.
 """
 
 import gc
@@ -22,6 +22,7 @@ import amqp_values as own  # noqa: E402
 
 from tests.model.printed import damaged, value_of  # noqa: E402
 from tests.model.tables import odd_table, random_table, raw  # noqa: E402
+from tests.python.codecs import CODECS, EXCEPTIONS  # noqa: E402
 from tests.python.hostile import DOCUMENTED, made  # noqa: E402
 
 OPTIONS: list[dict[str, Any]] = [
@@ -42,11 +43,11 @@ def table_of_bytes(make: Random) -> bytes:
     return data
 
 
-def quietly(call: Callable[[], Any]) -> Any:
+def quietly(call: Callable[[], Any], documented: tuple[type[Exception], ...] = DOCUMENTED) -> Any:
     """What a call returns, or None after an exception that is documented."""
     try:
         return call()
-    except DOCUMENTED:
+    except documented:
         return None
 
 
@@ -56,6 +57,9 @@ def read_and_write(data: bytes, options: dict[str, Any]) -> int:
     quietly(lambda: own.loads_table(data[1:], **options))
     quietly(lambda: own.decode_table(b"..." + data + b"...", 4, **options))
     quietly(lambda: own.find(data, *(next(iter(found), "") if isinstance(found, dict) else ""), **options))
+    for it in CODECS:
+        table, _ = quietly(lambda: it.read(data, 1), EXCEPTIONS) or ({}, 0)
+        quietly(lambda: it.write(table), EXCEPTIONS)
     if found is None:
         return 0
     ways = {name: it for name, it in options.items() if name in ("keys", "text", "signed_decimals")}
@@ -65,6 +69,8 @@ def read_and_write(data: bytes, options: dict[str, Any]) -> int:
 def write(value: Any, how: dict[str, Any]) -> None:
     quietly(lambda: own.dumps(value, **how))
     quietly(lambda: own.dumps_table(value, **how))
+    for it in CODECS:
+        quietly(lambda: it.write({"k": value}), EXCEPTIONS)
 
 
 def mutated(seed: int, count: int) -> int:

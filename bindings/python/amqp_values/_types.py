@@ -231,3 +231,19 @@ class Encoded(_Bytes):
     """
 
     __slots__ = ()
+
+
+class _Template:
+    """An object without attributes, whose dict has the keys of its class."""
+
+
+def _of_empty_key() -> dict[str, Any]:
+    """A dict whose only key is empty, and whose copies have their keys in common: CPython has those of objects once."""
+    # (it leaves room for more keys at first, and less with each object)
+    for _ in range(64):
+        template = _Template()
+        setattr(template, "", None)
+    return vars(template)
+
+
+_OF_EMPTY_KEY = _of_empty_key()

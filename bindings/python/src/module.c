@@ -3,10 +3,9 @@
 
 #include <string.h>
 
-/* The options as bits, and those of reading and of writing. */
-enum { FOR_BOTH = 1, READ = 2, WRITE = 4, FIND = 8, DECODE = 16, READING = FOR_BOTH | READ, WRITING = FOR_BOTH | WRITE };
 static const char *const NOT_UTF8[] = {"strict", "bytes", "surrogateescape", NULL};
 static const char *const EQUAL_KEYS[] = {"last", "first", NULL};
+static const char *const INTEGERS_OF[] = {"l", "pika", "py-amqp", "smallest", NULL};
 /* Each option: which functions have it, where it is in Options, and what it may be: one of some words, a number up to another,
    an object, or true or false. */
 static const struct {
@@ -26,6 +25,12 @@ static const struct {
     {"depth", FOR_BOTH, offsetof(Options, depth), NULL, MOST_DEPTH, 0},
     {"frame", READ, offsetof(Options, frame), NULL, UINT32_MAX, 0},
     {"naive_datetimes", WRITE, offsetof(Options, has_naive_datetimes), NULL, 0, 0},
+    {"integers", CLIENT, offsetof(Options, integers), INTEGERS_OF, 0, 0},
+    {"ascending", CLIENT, offsetof(Options, is_ascending), NULL, 0, 0},
+    {"bytes_are_text", CLIENT, offsetof(Options, has_text_of_bytes), NULL, 0, 0},
+    {"bytearrays", CLIENT, offsetof(Options, has_bytearrays), NULL, 0, 0},
+    {"short_decimals", CLIENT, offsetof(Options, has_short_decimals), NULL, 0, 0},
+    {"others", CLIENT, offsetof(Options, others), NULL, 0, 1},
     {"table", FIND, offsetof(Options, is_table), NULL, 0, 0},
     {"default", FIND, offsetof(Options, otherwise), NULL, 0, 1},
     {"offset", DECODE, offsetof(Options, offset), NULL, 0, 1},
@@ -37,8 +42,7 @@ static State *state_of(PyObject *module) {
     return PyModule_GetState(module);
 }
 
-/* An integer between 0 and another, whose option has a name. */
-static int limit_of(const State *state, const char *name, PyObject *value, unsigned long long most, unsigned long long *limit) {
+int limit_of(const State *state, const char *name, PyObject *value, unsigned long long most, unsigned long long *limit) {
     int overflows;
     PyObject *number = PyNumber_Index(value);
     if (number == NULL) {
@@ -98,36 +102,42 @@ static int take_option(const State *state, size_t option, PyObject *value, Optio
     return 1;
 }
 
+int take_named(const State *state, const char *function, int of, PyObject *name, PyObject *value, Options *how) {
+    size_t at = 0, all = sizeof OPTIONS / sizeof *OPTIONS;
+    while (at < all && ((OPTIONS[at].of & of) == 0 || PyUnicode_CompareWithASCIIString(name, OPTIONS[at].name) != 0)) {
+        at++;
+    }
+    if (at == all || (OPTIONS[at].of == DECODE && how->offset != NULL)) {
+        PyErr_Format(PyExc_TypeError, "%s() got an unexpected keyword argument '%U'", function, name);
+        return 0;
+    }
+    return take_option(state, at, value, how);
+}
+
+void take_defaults(Options *how) {
+    how->depth = DEFAULT_DEPTH;
+    how->frame = DEFAULT_FRAME;
+}
+
 /* Takes the arguments of a function: how many there are, and its options. */
 static int take(const State *state, const char *name, Py_ssize_t most, int of, PyObject *const *arguments, Py_ssize_t count,
                 PyObject *names, Options *how) {
     Py_ssize_t named = names != NULL ? PyTuple_Size(names) : 0;
-    how->depth = DEFAULT_DEPTH;
-    how->frame = DEFAULT_FRAME;
+    take_defaults(how);
     if (count < 1 || count > most) {
         PyErr_Format(PyExc_TypeError, "%s() takes from 1 to %zd positional arguments, not %zd", name, most, count);
         return 0;
     }
     how->offset = count > 1 && (of & DECODE) != 0 ? arguments[1] : NULL;
     for (Py_ssize_t it = 0; it < named; it++) {
-        PyObject *given = PyTuple_GetItem(names, it);
-        size_t at = 0, all = sizeof OPTIONS / sizeof *OPTIONS;
-        while (at < all && ((OPTIONS[at].of & of) == 0 || PyUnicode_CompareWithASCIIString(given, OPTIONS[at].name) != 0)) {
-            at++;
-        }
-        if (at == all || (OPTIONS[at].of == DECODE && how->offset != NULL)) {
-            PyErr_Format(PyExc_TypeError, "%s() got an unexpected keyword argument '%U'", name, given);
-            return 0;
-        }
-        if (!take_option(state, at, arguments[count + it], how)) {
+        if (!take_named(state, name, of, PyTuple_GetItem(names, it), arguments[count + it], how)) {
             return 0;
         }
     }
     return 1;
 }
 
-/* The bytes of an object, which is returned or copied: of a copy nothing changes while it is read. */
-static PyObject *content_of(const State *state, PyObject *data, const uint8_t **bytes, size_t *length) {
+PyObject *content_of(const State *state, PyObject *data, const uint8_t **bytes, size_t *length) {
     char *content;
     Py_ssize_t count;
     PyObject *kept = NULL;
@@ -149,9 +159,7 @@ static PyObject *content_of(const State *state, PyObject *data, const uint8_t **
     return kept;
 }
 
-/* Makes an exception that isn't documented an Error: a RecursionError, what a method of an option raised, or a ValueError since
-   a memoryview was released. */
-static PyObject *documented(const State *state, PyObject *made) {
+PyObject *documented(const State *state, PyObject *made) {
     if (made == NULL) {
         raise_foreign(state, 0);
     }
@@ -215,7 +223,7 @@ static PyObject *decode_table(PyObject *module, PyObject *const *arguments, Py_s
         }
     }
     Py_XDECREF(content);
-    return documented(state, made != NULL ? Py_BuildValue("(Nn)", made, (Py_ssize_t)(reader.base + length)) : NULL);
+    return documented(state, made != NULL ? with_end(made, reader.base + length) : NULL);
 }
 
 /* A step of a path; `kept` keeps its key. */
@@ -368,33 +376,43 @@ static int begin(PyObject *module) {
         || (state->encoded = imported(types, "Encoded")) == NULL || (state->decimal = imported("decimal", "Decimal")) == NULL
         || (state->as_tuple = PyObject_GetAttrString(state->decimal, "as_tuple")) == NULL
         || (state->datetime = imported("datetime", "datetime")) == NULL
-        || (state->from_timestamp = PyObject_GetAttrString(state->datetime, "fromtimestamp")) == NULL
         || (state->utc_offset = PyObject_GetAttrString(state->datetime, "utcoffset")) == NULL
+        || (state->timedelta = imported("datetime", "timedelta")) == NULL
+        || (state->of_empty_key = imported(types, "_OF_EMPTY_KEY")) == NULL || (state->codec = codec_type(module)) == NULL
         || (state->mapping = imported("collections.abc", "Mapping")) == NULL
         || (state->sequence = imported("collections.abc", "Sequence")) == NULL
         || (state->items = PyUnicode_InternFromString("items")) == NULL
         || (state->days = PyUnicode_InternFromString("days")) == NULL
         || (state->seconds = PyUnicode_InternFromString("seconds")) == NULL
         || (state->path = PyUnicode_InternFromString("path")) == NULL
-        || (state->name = PyUnicode_InternFromString("__name__")) == NULL) {
+        || (state->name = PyUnicode_InternFromString("__name__")) == NULL
+        || (state->raw = PyUnicode_InternFromString("raw")) == NULL
+        || (state->refused = PyUnicode_InternFromString("refused")) == NULL
+        || (state->relayed = PyUnicode_InternFromString("relayed")) == NULL
+        || (state->unsent = PyUnicode_InternFromString("unsent")) == NULL
+        || (state->no_text = PyUnicode_InternFromString("")) == NULL) {
         return -1;
     }
-    PyObject *zone = imported("datetime", "timezone");
-    state->utc = zone != NULL ? PyObject_GetAttrString(zone, "utc") : NULL;
+    PyObject *zone = imported("datetime", "timezone"), *utc = zone != NULL ? PyObject_GetAttrString(zone, "utc") : NULL;
     Py_XDECREF(zone);
-    if (state->utc == NULL || (state->epoch = PyObject_CallFunction(state->from_timestamp, "iO", 0, state->utc)) == NULL
-        || (state->naive_epoch = PyObject_CallFunction(state->datetime, "iii", 1970, 1, 1)) == NULL) {
+    state->epoch = utc != NULL ? PyObject_CallMethod(state->datetime, "fromtimestamp", "iO", 0, utc) : NULL;
+    Py_XDECREF(utc);
+    if (state->epoch == NULL || (state->naive_epoch = PyObject_CallFunction(state->datetime, "iii", 1970, 1, 1)) == NULL) {
         return -1;
     }
     state->new_error = (newfunc)(uintptr_t)PyType_GetSlot((PyTypeObject *)PyExc_ValueError, Py_tp_new);
     state->new_integer = (newfunc)(uintptr_t)PyType_GetSlot(&PyLong_Type, Py_tp_new);
     state->new_float = (newfunc)(uintptr_t)PyType_GetSlot(&PyFloat_Type, Py_tp_new);
+    state->new_timedelta = (newfunc)(uintptr_t)PyType_GetSlot((PyTypeObject *)state->timedelta, Py_tp_new);
+    state->add = (binaryfunc)(uintptr_t)PyType_GetSlot((PyTypeObject *)state->datetime, Py_nb_add);
     state->subtract = (binaryfunc)(uintptr_t)PyType_GetSlot((PyTypeObject *)state->datetime, Py_nb_subtract);
-    if (state->new_error == NULL || state->new_integer == NULL || state->new_float == NULL || state->subtract == NULL) {
+    if (state->new_error == NULL || state->new_integer == NULL || state->new_float == NULL || state->new_timedelta == NULL
+        || state->add == NULL || state->subtract == NULL) {
         PyErr_SetString(PyExc_ImportError, "amqp_values needs the types of CPython");
         return -1;
     }
-    return PyModule_AddIntConstant(module, "MOST_DEPTH", MOST_DEPTH) < 0
+    return PyModule_AddObjectRef(module, "Codec", state->codec) < 0
+                   || PyModule_AddIntConstant(module, "MOST_DEPTH", MOST_DEPTH) < 0
                    || PyModule_AddIntConstant(module, "DEPTH", DEFAULT_DEPTH) < 0
                    || PyModule_AddIntConstant(module, "FRAME", DEFAULT_FRAME) < 0
                    || PyModule_AddStringConstant(module, "__version__", AMQPV_VERSION) < 0

@@ -16,6 +16,14 @@ static int is_well_but_for_keys(const Reader *reader) {
            == AMQPV_NONE;
 }
 
+PyObject *with_end(PyObject *made, size_t end) {
+    PyObject *number = PyLong_FromSize_t(end);
+    PyObject *both = number != NULL ? PyTuple_Pack(2, made, number) : NULL;
+    Py_XDECREF(number);
+    Py_DECREF(made);
+    return both;
+}
+
 int read_entry(const Reader *reader, amqpv_entry *entry, size_t *count) {
     const Options *how = reader->how;
     const uint8_t *bytes = reader->bytes;
@@ -77,20 +85,40 @@ static PyObject *of_class(newfunc made_by, PyObject *class, PyObject *number) {
 static PyObject *build_decimal(const Reader *reader, const amqpv_entry *entry) {
     char text[40];
     long long number = reader->how->has_signed_decimals ? (int32_t)(uint32_t)entry->bits : (long long)entry->bits;
-    snprintf(text, sizeof text, "%lldE-%u", number, entry->scale);
+    unsigned scale = entry->scale;
+    if (reader->how->has_short_decimals) {
+        /* (without zeros at the end of the digits after the point) */
+        for (; scale > 0 && number % 10 == 0; scale--) {
+            number /= 10;
+        }
+    }
+    snprintf(text, sizeof text, "%lldE-%u", number, scale);
     return PyObject_CallFunction(reader->state->decimal, "s", text);
 }
 
+/* A datetime, which is in UTC, or of a client naive; a client has a Timestamp where there is none. */
 static PyObject *build_timestamp(const Reader *reader, const amqpv_entry *entry) {
     const State *state = reader->state;
-    if (!reader->how->is_plain) {
+    int is_late = entry->bits > LAST_SECOND;
+    if (!reader->how->is_plain || (is_late && reader->how->is_of_client)) {
         return of_class(state->new_integer, state->integers[INTEGERS - 1], PyLong_FromUnsignedLongLong(entry->bits));
     }
-    if (entry->bits > LAST_SECOND) {
+    if (is_late) {
         raise_error(state, "out of range", reader->base + entry->value.offset, 0, "a time before the year 10000");
         return NULL;
     }
-    return PyObject_CallFunction(state->from_timestamp, "KO", (unsigned long long)entry->bits, state->utc);
+    PyObject *parts = Py_BuildValue("(ii)", (int)(entry->bits / 86400), (int)(entry->bits % 86400));
+    PyObject *since = parts != NULL ? state->new_timedelta((PyTypeObject *)state->timedelta, parts, NULL) : NULL;
+    PyObject *time = since != NULL ? state->add(reader->how->is_of_client ? state->naive_epoch : state->epoch, since) : NULL;
+    Py_XDECREF(parts);
+    Py_XDECREF(since);
+    return time;
+}
+
+static PyObject *build_bytes(const Reader *reader, const amqpv_entry *entry) {
+    const char *bytes = (const char *)reader->bytes + entry->content.offset;
+    Py_ssize_t length = (Py_ssize_t)entry->content.length;
+    return reader->how->has_bytearrays ? PyByteArray_FromStringAndSize(bytes, length) : PyBytes_FromStringAndSize(bytes, length);
 }
 
 /* A Float, of which a NaN has its bits too, or a float. */
@@ -154,10 +182,33 @@ static int build_pair(const Reader *reader, const amqpv_entry *entry, PyObject *
     return is_put;
 }
 
+/* Whether the only key of a table is empty, and its entry. */
+static int is_of_empty_key(const Reader *reader, const amqpv_entry *entry, amqpv_entry *it) {
+    amqpv_cursor cursor;
+    return entry->content.length > 1 && reader->bytes[entry->content.offset] == 0
+           && amqpv_enter(reader->bytes, reader->length, entry, &cursor) == AMQPV_OK
+           && amqpv_next(reader->bytes, reader->length, &cursor, it) == AMQPV_OK && cursor.left.length == 0;
+}
+
+/* A table whose only key is empty: in itself it has a level in six bytes, of which a dict with keys of its own has 184. */
+static PyObject *build_of_empty_key(const Reader *reader, const amqpv_entry *it) {
+    PyObject *value = build(reader, it);
+    PyObject *table = value != NULL ? PyDict_Copy(reader->state->of_empty_key) : NULL;
+    if (table != NULL && PyDict_SetItem(table, reader->state->no_text, value) < 0) {
+        Py_CLEAR(table);
+    }
+    Py_XDECREF(value);
+    return table;
+}
+
 static PyObject *build_table(const Reader *reader, const amqpv_entry *entry) {
+    amqpv_entry it;
+    return is_of_empty_key(reader, entry, &it) ? build_of_empty_key(reader, &it) : filled(reader, entry, PyDict_New());
+}
+
+PyObject *filled(const Reader *reader, const amqpv_entry *entry, PyObject *table) {
     amqpv_cursor cursor;
     amqpv_entry it;
-    PyObject *table = PyDict_New();
     amqpv_result result = table == NULL ? AMQPV_NONE : amqpv_enter(reader->bytes, reader->length, entry, &cursor);
     while (result == AMQPV_OK && (result = amqpv_next(reader->bytes, reader->length, &cursor, &it)) == AMQPV_OK) {
         if (!build_pair(reader, &it, table)) {
@@ -180,8 +231,7 @@ PyObject *build(const Reader *reader, const amqpv_entry *entry) {
     case AMQPV_LONG_STRING:
         return build_text(reader, entry->content, reader->how->text, reader->how->is_plain ? NULL : state->long_string,
                           "text not UTF-8", entry->value.offset);
-    case AMQPV_BYTE_ARRAY:
-        return PyBytes_FromStringAndSize((const char *)reader->bytes + entry->content.offset, (Py_ssize_t)entry->content.length);
+    case AMQPV_BYTE_ARRAY: return build_bytes(reader, entry);
     case AMQPV_ARRAY: return build_array(reader, entry);
     case AMQPV_TABLE: return build_table(reader, entry);
     case AMQPV_TIMESTAMP: return build_timestamp(reader, entry);

@@ -18,23 +18,53 @@ enum { INTEGERS = 7 };
 /* What the module has imported: of each interpreter its own. */
 typedef struct {
     PyObject *error, *integer, *integers[INTEGERS], *of_float, *long_string, *encoded;
-    PyObject *decimal, *as_tuple, *datetime, *from_timestamp, *utc_offset, *utc, *epoch, *naive_epoch;
+    PyObject *decimal, *as_tuple, *datetime, *utc_offset, *epoch, *naive_epoch, *timedelta;
     PyObject *mapping, *sequence;
+    /* a dict whose only key is empty: CPython has the keys of its copies once */
+    PyObject *of_empty_key;
+    /* the type that adapters read and write by */
+    PyObject *codec;
     /* names of attributes, of which each is one object */
-    PyObject *items, *days, *seconds, *path, *name;
-    newfunc new_error, new_integer, new_float;
-    binaryfunc subtract;
+    PyObject *items, *days, *seconds, *path, *name, *raw, *refused, *relayed, *unsent, *no_text;
+    newfunc new_error, new_integer, new_float, new_timedelta;
+    binaryfunc add, subtract;
 } State;
 
 /* What becomes of keys and text that aren't UTF-8. */
 enum { STRICT = 0, AS_BYTES = 1, ESCAPED = 2 };
 
+/* The type that an int has which is of no class: l; or as a client has it, I where that has the number, else l or L; or the
+   smallest of bsuIil that has it. */
+enum { ALWAYS_L = 0, AS_PIKA = 1, AS_PY_AMQP = 2, SMALLEST = 3 };
+
 /* The options of a call, as OPTIONS of module.c has them. The objects are borrowed, and may be NULL. */
 typedef struct {
     uint32_t keys, text, equal_keys, depth, frame;
     uint32_t is_plain, is_table, is_finite, has_naive_datetimes, has_signed_decimals;
-    PyObject *otherwise, *offset;
+    /* how a client has it: as a Client of the adapters says */
+    uint32_t is_of_client, integers, is_ascending, has_text_of_bytes, has_bytearrays, has_short_decimals;
+    PyObject *otherwise, *offset, *others;
 } Options;
+
+/* The options as bits, and those of reading, of writing, and of a client. */
+enum { FOR_BOTH = 1, READ = 2, WRITE = 4, FIND = 8, DECODE = 16, CLIENT = 32 };
+enum { READING = FOR_BOTH | READ, WRITING = FOR_BOTH | WRITE, ALL_OF_CLIENT = READING | WRITE | CLIENT };
+
+/* The options that a call has if none is given. */
+void take_defaults(Options *how);
+
+/* Takes an option of a function by its name, if it is one of these. */
+int take_named(const State *state, const char *function, int of, PyObject *name, PyObject *value, Options *how);
+
+/* An integer from 0 to another, whose option has a name. */
+int limit_of(const State *state, const char *name, PyObject *value, unsigned long long most, unsigned long long *limit);
+
+/* The bytes of an object, which is returned or copied: of a copy nothing changes while it is read. */
+PyObject *content_of(const State *state, PyObject *data, const uint8_t **bytes, size_t *length);
+
+/* Makes an exception that isn't documented an Error: a RecursionError, what a method of an option raised, or a ValueError since
+   a memoryview was released. */
+PyObject *documented(const State *state, PyObject *made);
 
 /* Raises an Error: its kind, offset and missing bytes, and in the words of PyUnicode_FromFormat what was expected. */
 void raise_error(const State *state, const char *kind, size_t offset, size_t missing, const char *format, ...);
@@ -67,8 +97,17 @@ int read_entry(const Reader *reader, amqpv_entry *entry, size_t *count);
 /* The object for a value that was read. */
 PyObject *build(const Reader *reader, const amqpv_entry *entry);
 
+/* A dict, a new reference or NULL, with the pairs of a table that was read: the same reference, or NULL. */
+PyObject *filled(const Reader *reader, const amqpv_entry *entry, PyObject *table);
+
+/* A tuple of an object, whose reference it takes, and of how many bytes are before the end of what it was read of. */
+PyObject *with_end(PyObject *made, size_t end);
+
 /* The bytes of a value, or of a table without its type tag. */
 PyObject *written(const State *state, const Options *how, PyObject *value);
+
+/* The type that adapters read and write by. */
+PyObject *codec_type(PyObject *module);
 
 /* The bytes of a key that a str or bytes is, as an object to be kept, or NULL; whether they are known to be UTF-8. */
 PyObject *key_bytes(const State *state, uint32_t how, PyObject *key, size_t offset, const char **bytes, size_t *length,

@@ -195,6 +195,29 @@ static int out_of_range(const Writer *writer, const Place *place, const char *ex
     return 0;
 }
 
+static int put_encoded(Writer *writer, const Place *place, const char *bytes, size_t length);
+
+/* The type tag of an integer without class. */
+static uint8_t tag_of(uint32_t integers, int64_t number) {
+    int is_long = number >= INT32_MIN && number <= INT32_MAX;
+    if (integers == AS_PIKA) {
+        return is_long ? AMQPV_LONG_INT : AMQPV_LONG_LONG_INT;
+    }
+    if (integers == AS_PY_AMQP) {
+        /* (by the tag l py-amqp and pika read a number without sign) */
+        return is_long && number > INT32_MIN ? AMQPV_LONG_INT : 'L';
+    }
+    if (integers != SMALLEST) {
+        return AMQPV_LONG_LONG_INT;
+    }
+    return number >= INT8_MIN && number <= INT8_MAX     ? AMQPV_SHORT_SHORT_INT
+           : number >= INT16_MIN && number <= INT16_MAX ? AMQPV_SHORT_INT
+           : number >= 0 && number <= UINT16_MAX        ? AMQPV_SHORT_UINT
+           : is_long                                    ? AMQPV_LONG_INT
+           : number >= 0 && number <= UINT32_MAX        ? AMQPV_LONG_UINT
+                                                        : AMQPV_LONG_LONG_INT;
+}
+
 /* An integer by the place of its tag in INTEGER_TAGS, or one without class. */
 static int put_integer(Writer *writer, const Place *place, PyObject *value, int at) {
     static const char *const RANGES[INTEGERS + 1] = {"a number from -128 to 127",
@@ -210,7 +233,15 @@ static int put_integer(Writer *writer, const Place *place, PyObject *value, int 
     if (overflows || (bits == UINT64_MAX && PyErr_Occurred())) {
         return out_of_range(writer, place, RANGES[at]);
     }
-    return put(writer, place, at < INTEGERS ? (uint8_t)INTEGER_TAGS[at] : AMQPV_LONG_LONG_INT, bits, 0, RANGES[at]);
+    uint8_t tag = at < INTEGERS ? (uint8_t)INTEGER_TAGS[at] : tag_of(writer->how->integers, (int64_t)bits);
+    if (tag == 'L') {
+        char encoding[9] = {'L'};
+        for (int it = 0; it < 8; it++) {
+            encoding[8 - it] = (char)(uint8_t)(bits >> 8 * it);
+        }
+        return put_encoded(writer, place, encoding, sizeof encoding);
+    }
+    return put(writer, place, tag, bits, 0, RANGES[at]);
 }
 
 static int put_any_integer(Writer *writer, const Place *place, PyObject *value) {
@@ -293,7 +324,8 @@ static int put_decimal(Writer *writer, const Place *place, PyObject *value) {
 
 static int put_datetime(Writer *writer, const Place *place, PyObject *value) {
     const State *state = writer->state;
-    PyObject *delta = state->subtract(value, state->epoch);
+    /* (first as what it is likely to be) */
+    PyObject *delta = state->subtract(value, writer->how->has_naive_datetimes ? state->naive_epoch : state->epoch);
     if (delta == NULL && PyErr_ExceptionMatches(PyExc_TypeError)) {
         PyErr_Clear();
         PyObject *offset = PyObject_CallFunctionObjArgs(state->utc_offset, value, NULL);
@@ -359,7 +391,8 @@ static int put_any_bytes(Writer *writer, const Place *place, PyObject *value) {
     } else if (PyType_IsSubtype(Py_TYPE(value), (PyTypeObject *)state->encoded)) {
         is_done = put_encoded(writer, place, bytes, (size_t)length);
     } else {
-        int is_text = PyType_IsSubtype(Py_TYPE(value), (PyTypeObject *)state->long_string);
+        int is_text = PyType_IsSubtype(Py_TYPE(value), (PyTypeObject *)state->long_string)
+                      || (writer->how->has_text_of_bytes && PyBytes_Check(value));
         is_done = put_bytes(writer, place, is_text ? AMQPV_LONG_STRING : AMQPV_BYTE_ARRAY, bytes, length);
     }
     if (kept != value) {
@@ -459,18 +492,22 @@ static int put_dict(Writer *writer, const Place *body, PyObject *dict, PyObject 
     return 1;
 }
 
+/* Puts an item that a mapping has returned, if it is a pair. */
+static int put_item_of_mapping(Writer *writer, const Place *body, PyObject *pair, PyObject *keys) {
+    if (PyTuple_Check(pair) && PyTuple_Size(pair) == 2) {
+        return put_pair(writer, body, PyTuple_GetItem(pair, 0), PyTuple_GetItem(pair, 1), keys);
+    }
+    raise_type(writer->state, "an item of a mapping is a tuple of a key and a value", pair);
+    return 0;
+}
+
 static int put_mapping(Writer *writer, const Place *body, PyObject *mapping, PyObject *keys) {
     PyObject *items = PyObject_CallMethodObjArgs(mapping, writer->state->items, NULL), *pair;
     PyObject *each = items != NULL ? PyObject_GetIter(items) : NULL;
     int is_done = each != NULL;
     Py_XDECREF(items);
     while (is_done && (pair = PyIter_Next(each)) != NULL) {
-        is_done = PyTuple_Check(pair) && PyTuple_Size(pair) == 2;
-        if (is_done) {
-            is_done = put_pair(writer, body, PyTuple_GetItem(pair, 0), PyTuple_GetItem(pair, 1), keys);
-        } else {
-            raise_type(writer->state, "an item of a mapping is a tuple of a key and a value", pair);
-        }
+        is_done = put_item_of_mapping(writer, body, pair, keys);
         Py_DECREF(pair);
     }
     Py_XDECREF(each);
@@ -479,6 +516,20 @@ static int put_mapping(Writer *writer, const Place *body, PyObject *mapping, PyO
         return 0;
     }
     return 1;
+}
+
+/* Puts the pairs of a mapping by their keys, which may be of one type only. */
+static int put_ascending(Writer *writer, const Place *body, PyObject *mapping, PyObject *keys) {
+    PyObject *pairs = PyMapping_Items(mapping);
+    int is_done = pairs != NULL && PyList_Sort(pairs) == 0;
+    if (!is_done) {
+        raise_foreign(writer->state, offset_in(writer, body));
+    }
+    for (Py_ssize_t at = 0; is_done && at < PyList_Size(pairs); at++) {
+        is_done = put_item_of_mapping(writer, body, PyList_GetItem(pairs, at), keys);
+    }
+    Py_XDECREF(pairs);
+    return is_done;
 }
 
 static int put_list(Writer *writer, const Place *body, PyObject *list) {
@@ -525,12 +576,12 @@ static int put_contents(Writer *writer, const Place *body, PyObject *value, int 
                : PyTuple_Check(value) ? put_tuple(writer, body, value)
                                       : put_sequence(writer, body, value);
     }
-    int is_dict = PyDict_CheckExact(value);
-    if (is_dict && has_plain_keys(value)) {
-        return put_dict(writer, body, value, NULL);
-    }
-    PyObject *keys = PySet_New(NULL);
-    int is_done = keys != NULL && (is_dict ? put_dict : put_mapping)(writer, body, value, keys);
+    int is_dict = PyDict_CheckExact(value), is_plain = is_dict && has_plain_keys(value);
+    PyObject *keys = is_plain ? NULL : PySet_New(NULL);
+    int is_done = (is_plain || keys != NULL)
+                  && (writer->how->is_ascending ? put_ascending
+                      : is_dict                 ? put_dict
+                                                : put_mapping)(writer, body, value, keys);
     Py_XDECREF(keys);
     return is_done;
 }
@@ -603,6 +654,7 @@ static int put_other(Writer *writer, const Place *place, PyObject *value) {
 
 static int put_value(Writer *writer, const Place *place, PyObject *value) {
     PyTypeObject *type = Py_TYPE(value);
+    PyObject *others = writer->how->others;
     if (type == &PyUnicode_Type) {
         return put_text(writer, place, value);
     }
@@ -618,7 +670,20 @@ static int put_value(Writer *writer, const Place *place, PyObject *value) {
     if (value == Py_True || value == Py_False) {
         return put(writer, place, AMQPV_BOOLEAN, value == Py_True, 0, "");
     }
-    return put_other(writer, place, value);
+    if (type == &PyFloat_Type) {
+        return put_float(writer, place, value);
+    }
+    if (others == NULL || type == &PyBytes_Type || type == (PyTypeObject *)writer->state->datetime) {
+        return put_other(writer, place, value);
+    }
+    PyObject *sent = PyObject_CallFunctionObjArgs(others, value, NULL);
+    if (sent == NULL) {
+        raise_foreign(writer->state, offset_in(writer, place));
+        return 0;
+    }
+    int is_done = put_other(writer, place, sent);
+    Py_DECREF(sent);
+    return is_done;
 }
 
 PyObject *written(const State *state, const Options *how, PyObject *value) {

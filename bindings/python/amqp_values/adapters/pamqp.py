@@ -8,19 +8,13 @@ from datetime import datetime
 from importlib import import_module
 from importlib.util import find_spec
 from time import struct_time
-from typing import Any, Literal
+from typing import Any
 
-import pamqp
 import pamqp.decode
 import pamqp.encode
 
-import amqp_values as av
-from amqp_values.adapters.shared import FRAME, Client, Codec, Headers, Options, Places, is_member, tested
-
-VERSIONS, OF_AIORMQ, OF_AIO_PIKA = ("3.2.1",), ("6.4.2",), ("8.2.5",)
-# The types of integers, the smallest first.
-INTEGERS = (av.ShortShortInt, av.ShortInt, av.ShortUInt, av.LongInt, av.LongUInt)
-places = Places()
+from amqp_values import Error, LongString, Timestamp
+from amqp_values.adapters.shared import Client, Codec, Headers, Places
 
 
 class Undecoded(bytearray):
@@ -28,73 +22,45 @@ class Undecoded(bytearray):
 
 
 class Pamqp(Client):
-    keys = text = "surrogateescape"
-
-    def got(self, value: Any) -> Any:
-        if type(value) is bytes:
-            return bytearray(value)
-        if type(value) is str and not value.isascii():
-            content = value.encode(errors="surrogateescape")
-            return value if content.decode(errors="replace") == value else content
-        return super().got(value)
+    versions = {"pamqp": ("3.2.1",), "aiormq": ("6.4.2",), "aio_pika": ("8.2.5",)}
+    keys = "surrogateescape"
+    how = {"integers": "smallest", "ascending": True, "bytes_are_text": True, "bytearrays": True}
 
     def sent(self, value: Any) -> Any:
-        if type(value) is int or is_member(value):
-            kind = next((it for it in INTEGERS if it.least <= value <= it.most), None)
-            return int.__new__(kind, value) if kind else value
         if isinstance(value, struct_time):
-            return av.Timestamp(timegm(value))
-        # (a string that isn't UTF-8 comes as bytes)
-        return av.LongString(value) if type(value) in (bytes, Undecoded) else value
+            return Timestamp(timegm(value))
+        return LongString(value) if type(value) is Undecoded else value
 
-    def items(self, table: Any) -> Any:
-        return sorted(table.items())
-
-    def unread(self, problem: av.Error) -> Exception:
+    def unread(self, problem: Error) -> Exception:
         return ValueError(str(problem))
 
     def unwritten(self, problem: Exception, table: Any) -> Exception:
         return TypeError(str(problem))
 
+    def put(self, codec: Codec) -> None:
+        read, write = codec.read, codec.write
 
-def install(
-    *,
-    depth: int = av.DEPTH,
-    frame: int = FRAME,
-    equal_keys: Literal["first", "last"] = "last",
-    exact: bool = True,
-    raises: bool = False,
-) -> None:
-    """Puts this codec in place of pamqp's, with these options."""
-    versions = {"pamqp": VERSIONS, "aiormq": OF_AIORMQ, "aio_pika": OF_AIO_PIKA}
-    modules = {it: import_module(it) for it in versions if find_spec(it)}
-    for name, module in modules.items():
-        tested(module, *versions[name])
-    uninstall()
-    codec = Codec(Pamqp(), Options(depth, frame, equal_keys, exact, raises))
+        def decode_table(value: bytes) -> tuple[int, dict[Any, Any]]:
+            table, end = read(value, 0)
+            return end, table
 
-    def decode_table(value: bytes) -> tuple[int, dict[Any, Any]]:
-        table, end = codec.read(value, 0)
-        return end, table
+        def encode_table(value: Any) -> bytes:
+            if value and not isinstance(value, dict):
+                raise TypeError(f"dict required, received {type(value)}")
+            return write(value or {})
 
-    def encode_table(value: Any) -> bytes:
-        if value and not isinstance(value, dict):
-            raise TypeError(f"dict required, received {type(value)}")
-        return codec.write(value or {})
-
-    places.put_everywhere(pamqp.decode, "field_table", decode_table)
-    places.put(pamqp.decode.METHODS, "table", decode_table)
-    places.put(pamqp.decode.TABLE_MAPPING, b"F", decode_table)
-    places.put_everywhere(pamqp.encode, "field_table", encode_table)
-    places.put(pamqp.encode.METHODS, "table", encode_table)
-    take_any_properties()
-    if "aiormq" in modules:
-        check_before_sending()
-    if "aio_pika" in modules:
-        keep_class_of_headers()
+        self.places.put_everywhere(pamqp.decode, "field_table", decode_table)
+        self.places.put(pamqp.decode.METHODS, "table", decode_table)
+        self.places.put(pamqp.decode.TABLE_MAPPING, b"F", decode_table)
+        self.places.put_everywhere(pamqp.encode, "field_table", encode_table)
+        self.places.put(pamqp.encode.METHODS, "table", encode_table)
+        take_any_properties(self.places)
+        for name, change in {"aiormq": check_before_sending, "aio_pika": keep_class_of_headers}.items():
+            if find_spec(name):
+                change(self.places)
 
 
-def take_any_properties() -> None:
+def take_any_properties(places: Places) -> None:
     """Has pamqp take what the broker delivers next to headers: strings that aren't UTF-8, and times after the year 9999."""
     read_string, write_string = pamqp.decode.short_str, pamqp.encode.short_string
     read_time: Any = pamqp.decode.METHODS["timestamp"]
@@ -126,7 +92,7 @@ def take_any_properties() -> None:
     places.put(pamqp.encode.METHODS, "shortstr", short_string)
 
 
-def check_before_sending() -> None:
+def check_before_sending(places: Places) -> None:
     """Has aiormq encode what it is to send before it gives that to the task that writes."""
     channel = import_module("aiormq.channel").Channel
     publish, call = channel.basic_publish, channel.rpc
@@ -146,7 +112,7 @@ def check_before_sending() -> None:
     places.put(channel, "rpc", rpc)
 
 
-def keep_class_of_headers() -> None:
+def keep_class_of_headers(places: Places) -> None:
     """Has aio-pika keep headers that came, in `headers_raw` of a message, where it makes a `float` a text of JSON."""
     message = import_module("aio_pika.message")
     format_others = message.format_headers
@@ -163,6 +129,5 @@ def keep_class_of_headers() -> None:
     places.put_everywhere(message, "format_headers", format_headers)
 
 
-def uninstall() -> None:
-    """Puts pamqp's own codec, and what is around it, back."""
-    places.restore()
+client = Pamqp()
+install, uninstall = client.install, client.uninstall

@@ -1,21 +1,25 @@
 """The codec of pika, in place of its own: `install()` and `uninstall()`."""
 
 from decimal import Decimal
-from typing import Any, Literal
+from typing import Any
 
 import pika.data
 from pika import exceptions
+from pika.compat import long
 
-from amqp_values import DEPTH, Error
-from amqp_values.adapters.shared import FRAME, Client, Codec, Options, Places, tested
-
-VERSIONS = ("1.2.0",)
-places = Places()
+from amqp_values import Encoded, Error, dumps
+from amqp_values.adapters.shared import Client, Codec
 
 
 class Pika(Client):
+    versions = {"pika": ("1.2.0",)}
+    how = {"integers": "pika"}
+
     def sent(self, value: Any) -> Any:
-        return value.normalize() if isinstance(value, Decimal) and value.is_finite() else super().sent(value)
+        if isinstance(value, Decimal) and value.is_finite():
+            return value.normalize()
+        # (pika's own class, by which it sends l)
+        return Encoded(dumps(int(value))) if isinstance(value, long) else value
 
     def unread(self, problem: Error) -> Exception:
         error: Exception = exceptions.InvalidFieldTypeException(str(problem))
@@ -30,29 +34,17 @@ class Pika(Client):
         )
         return error
 
+    def put(self, codec: Codec) -> None:
+        write = codec.write
 
-def install(
-    *,
-    depth: int = DEPTH,
-    frame: int = FRAME,
-    equal_keys: Literal["first", "last"] = "last",
-    exact: bool = True,
-    raises: bool = False,
-) -> None:
-    """Puts this codec in place of pika's, with these options."""
-    tested(pika, *VERSIONS)
-    uninstall()
-    codec = Codec(Pika(), Options(depth, frame, equal_keys, exact, raises))
+        def encode_table(pieces: list[bytes], table: Any) -> int:
+            encoding = write(table or {})
+            pieces.append(encoding)
+            return len(encoding)
 
-    def encode_table(pieces: list[bytes], table: Any) -> int:
-        encoding = codec.write(table or {})
-        pieces.append(encoding)
-        return len(encoding)
-
-    places.put_everywhere(pika.data, "decode_table", codec.read)
-    places.put_everywhere(pika.data, "encode_table", encode_table)
+        self.places.put_everywhere(pika.data, "decode_table", codec.read)
+        self.places.put_everywhere(pika.data, "encode_table", encode_table)
 
 
-def uninstall() -> None:
-    """Puts pika's own codec back."""
-    places.restore()
+client = Pika()
+install, uninstall = client.install, client.uninstall

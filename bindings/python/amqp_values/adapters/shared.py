@@ -3,19 +3,16 @@
 import sys
 from collections.abc import Callable, Mapping
 from contextlib import suppress
-from datetime import datetime
-from enum import Enum
+from importlib import import_module
+from importlib.util import find_spec
 from types import ModuleType
-from typing import Any, Literal, NamedTuple
+from typing import Any, Literal, NoReturn
 
-from amqp_values import DEPTH, Error, LongInt, Timestamp, decode_table, dumps_table
+from amqp_values import DEPTH, Error, _native, dumps_table
 
 # The largest length of a table: what the client has read is there already.
 FRAME = 2**32 - 1
-# The types of which all clients have what the package has.
-ALIKE = frozenset({bool, int, float, type(None)})
-# The last second that a datetime has.
-LAST_SECOND = 253402300799
+EqualKeys = Literal["first", "last"]
 
 
 class UntestedVersion(RuntimeError):
@@ -70,35 +67,68 @@ class Refused(Headers):
         return Refused, (self.problem, self.raw)
 
 
-class Options(NamedTuple):
-    """What `install` was asked for."""
+class Raising:
+    """What a native codec asks about errors if the package's own are to come."""
 
-    depth: int = DEPTH
-    frame: int = FRAME
-    equal_keys: Literal["first", "last"] = "last"
-    exact: bool = True
-    raises: bool = False
+    def refused(self, problem: Error, data: bytes, offset: int) -> NoReturn:
+        raise problem
+
+
+class Codec:
+    """Reads and writes the tables of a client, by the two methods of a native one."""
+
+    def __init__(
+        self, client: "Client", depth: int, frame: int, equal_keys: EqualKeys, exact: bool, raises: bool
+    ) -> None:
+        self.client, self.raises = client, raises
+        self.both: dict[str, Any] = {"signed_decimals": True, "depth": depth, "keys": client.keys, "text": "bytes"}
+        how: dict[str, Any] = {**self.both, **client.how, "frame": frame, "equal_keys": equal_keys}
+        how |= {"finite": True, "naive_datetimes": True, "others": client.sent}
+        native = _native.Codec(self, Headers, Headers if exact else None, **how)
+        self.read: Callable[[Any, int], tuple[dict[Any, Any], int]] = native.read
+        self.write: Callable[[Any], bytes] = native.write
+        self.plainly = _native.Codec(Raising(), Headers, None, **how).read
+
+    def refused(self, problem: Error, data: bytes, offset: int) -> tuple[dict[Any, Any], int]:
+        """What is delivered instead of a table that isn't read, and where that ends."""
+        end = offset + 4 + int.from_bytes(data[offset : offset + 4], "big")
+        # (what is after a table that is cut can't be found)
+        if self.raises or not offset + 4 <= end <= len(data):
+            raise self.client.unread(problem) from problem
+        return Refused(problem, data[offset:end]), end
+
+    def relayed(self, table: Headers) -> bytes | None:
+        """Of a table that came, and is written as what its bytes are read as, these bytes."""
+        if not hasattr(table, "raw") or (isinstance(table, Refused) and len(table)):
+            return None
+        with suppress(Error, TypeError):
+            if isinstance(table, Refused) or self.written(table) == self.written(self.plainly(table.raw, 0)[0]):
+                return table.raw
+        return None
+
+    def written(self, table: dict[Any, Any]) -> bytes:
+        return dumps_table(table, naive_datetimes=True, **self.both)
+
+    def unsent(self, problem: Exception, table: Any) -> NoReturn:
+        """Raises the client's exception for a table that has no encoding."""
+        raise self.client.unwritten(problem, table) from problem
 
 
 class Client:
-    """How a client's tables differ from the package's, as pika has it."""
+    """A client: how its tables differ from the package's, and where the codec is put."""
 
+    # The modules and the versions that the adapter was tested with; but for the first they needn't be there.
+    versions: dict[str, tuple[str, ...]]
     keys: Literal["bytes", "surrogateescape"] = "bytes"
-    text: Literal["bytes", "surrogateescape"] = "bytes"
+    # Options of a native codec, which has them for adapters only.
+    how: dict[str, Any] = {}
 
-    def got(self, value: Any) -> Any:
-        """What the client has for a value that no other is in."""
-        return value.replace(tzinfo=None) if type(value) is datetime else value
+    def __init__(self) -> None:
+        self.places = Places()
 
     def sent(self, value: Any) -> Any:
-        """What the package is given for a value that no other is in."""
-        if (type(value) is int or is_member(value)) and -(2**31) <= value < 2**31:
-            return int.__new__(LongInt, value)
+        """What is sent for a value of none of the usual types."""
         return value
-
-    def items(self, table: Any) -> Any:
-        """The entries of a table in the order in which they are sent."""
-        return table.items()
 
     def unread(self, problem: Error) -> Exception:
         """The client's exception while it reads."""
@@ -108,101 +138,28 @@ class Client:
         """The client's exception for a table that has no encoding."""
         raise NotImplementedError
 
+    def put(self, codec: Codec) -> None:
+        """Puts a codec into its places."""
+        raise NotImplementedError
 
-def is_member(value: Any) -> bool:
-    """Whether it is an integer of an Enum, and not of a class that says how it is sent."""
-    return isinstance(value, Enum) and isinstance(value, int)
+    def install(
+        self,
+        *,
+        depth: int = DEPTH,
+        frame: int = FRAME,
+        equal_keys: EqualKeys = "last",
+        exact: bool = True,
+        raises: bool = False,
+    ) -> None:
+        """Puts this codec in place of the client's, with these options."""
+        for name in filter(find_spec, self.versions):
+            tested(import_module(name), *self.versions[name])
+        self.uninstall()
+        self.put(Codec(self, depth, frame, equal_keys, exact, raises))
 
-
-def plain(value: Any) -> Any:
-    """A value by the plain types of Python; a Timestamp that is no datetime stays one."""
-    if isinstance(value, Timestamp):
-        return value.as_datetime() if value <= LAST_SECOND else value
-    if isinstance(value, int) and not isinstance(value, bool):
-        return int(value)
-    return float(value) if isinstance(value, float) else bytes(value) if isinstance(value, bytes) else value
-
-
-def settle(container: Any, got: Callable[[Any], Any]) -> None:
-    """Puts what the client has for them in place of the values in a container."""
-    for key, value in container.items() if type(container) is dict else enumerate(container):
-        if type(value) in (dict, list):
-            settle(value, got)
-        elif type(value) not in ALIKE and not (type(value) is str and value.isascii()):
-            container[key] = got(value)
-
-
-class Codec:
-    """Reads and writes the tables of a client."""
-
-    def __init__(self, client: Client, options: Options) -> None:
-        self.client, self.options = client, options
-        both: dict[str, Any] = {
-            "keys": client.keys,
-            "text": client.text,
-            "signed_decimals": True,
-            "depth": options.depth,
-        }
-        self.reading: dict[str, Any] = both | {"frame": options.frame, "equal_keys": options.equal_keys}
-        self.writing: dict[str, Any] = both | {"naive_datetimes": True}
-        # (so that an option that is none raises here, and isn't taken for what is wrong with a message)
-        decode_table(b"\0\0\0\0", **self.reading)
-
-    def read(self, data: Any, offset: int) -> tuple[dict[Any, Any], int]:
-        """The table at an offset, or what is delivered instead, and where it ends."""
-        try:
-            table, end = self.decoded(data, offset)
-        except Error as problem:
-            end = offset + 4 + int.from_bytes(data[offset : offset + 4], "big")
-            # (what is after a table that is cut can't be found)
-            if self.options.raises or not offset + 4 <= end <= len(data):
-                raise self.client.unread(problem) from problem
-            # (what it was raised for would keep all that was at hand there)
-            problem.__traceback__ = problem.__context__ = None
-            return Refused(problem, bytes(data[offset:end])), end
-        return (Headers.of(table, bytes(data[offset:end])) if self.options.exact else table), end
-
-    def decoded(self, data: Any, offset: int) -> tuple[dict[Any, Any], int]:
-        got = self.client.got
-        try:
-            table, end = decode_table(data, offset, plain=True, **self.reading)
-        except Error as problem:
-            if problem.kind != "out of range":
-                raise
-            # (a Timestamp is no datetime from the year 10000 on)
-            table, end = decode_table(data, offset, **self.reading)
-            got = lambda value: self.client.got(plain(value))
-        try:
-            settle(table, got)
-        except RecursionError:
-            raise Error("too deep", offset, "fewer levels, at Python's own limit for calls") from None
-        return table, end
-
-    def write(self, table: Any) -> bytes:
-        """The encoding of a table: for one that came and wasn't changed the bytes that it came as."""
-        try:
-            if isinstance(table, Headers) and hasattr(table, "raw"):
-                with suppress(Error, TypeError):
-                    if self.is_as_it_came(table):
-                        return table.raw
-            return dumps_table(self.prepared(table), finite=True, **self.writing)
-        except (Error, TypeError, RecursionError) as problem:
-            raise self.client.unwritten(problem, table) from problem
-
-    def prepared(self, value: Any) -> Any:
-        """What the package is given for a value."""
-        if type(value) is str or value is None:
-            return value
-        if isinstance(value, dict):
-            return {key: self.prepared(it) for key, it in self.client.items(value)}
-        return [self.prepared(it) for it in value] if isinstance(value, (list, tuple)) else self.client.sent(value)
-
-    def is_as_it_came(self, table: Headers) -> bool:
-        """Whether the package writes it as what its bytes are read as."""
-        if isinstance(table, Refused):
-            return not len(table)
-        came = self.decoded(table.raw, 0)[0]
-        return dumps_table(table, **self.writing) == dumps_table(came, **self.writing)
+    def uninstall(self) -> None:
+        """Puts the client's own codec, and what is around it, back."""
+        self.places.restore()
 
 
 class Places:
