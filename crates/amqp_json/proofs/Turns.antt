@@ -1,11 +1,11 @@
--- The grammar's loops, a turn at a time, under the conversion to data: after serde_json's `Reading`, which is private there.
-use Rattle.std.proofs.Common.{◌≡◌, ℕ, zero, suc, ◌-◌, ◌<◌, ◌≤◌, List, [], ◌∷◌, ◌++◌, length, Option, Some, None, Result, Ok, Err, IfOk, option_map, option_and_then, refl, sym, ap, ◌∙◌, arith}
+-- The grammar's loops, a turn at a time, under the conversion to data.
+use Rattle.std.proofs.Common.{◌≡◌, ℕ, zero, suc, ◌-◌, ◌<◌, ◌≤◌, List, [], ◌∷◌, ◌++◌, length, Option, Some, None, Result, Ok, Err, IfOk, option_map, option_and_then, refl, sym, ap, ◌∙◌, arith, Bor}
 use Rattle.json.specs.Token.{Token}
 use Rattle.json.specs.Json as json
 use Rattle.json.specs.Json.{Parse, parse_map, after_end_array, read_key, items, members, if_last}
-use Rattle.json.proofs.Grammar.{items_end, items_more, members_end, members_more}
-use Rattle.serde_json.specs.Data.{Data, array, object, Items, no_items, item, Members, no_members, member, put}
-use Rattle.serde_json.specs.Read.{of_json, of_items, of_members, converted}
+use Rattle.json.proofs.Grammar.{value_is, read_key-shorter, items_end, items_more, members_end, members_more}
+use Rattle.serde_json.specs.Data.{Num, Data, number, array, object, Items, no_items, item, Members, no_members, member, put}
+use Rattle.serde_json.specs.Read.{of_json, of_items, of_members, converted, number_of}
 use Rattle.amqp_value_core.specs.View.{view}
 use Rattle.amqp_value_core.specs.Containers.{trees}
 use Rattle.amqp_value_core.specs.declared.value.AMQPValue.{AMQPValue}
@@ -13,7 +13,13 @@ use Rattle.std.specs.Ordering.{nat_cmp, match_ordering}
 use Rattle.std.specs.Cmp.Lexicographic.{slice_cmp}
 use Rattle.std.proofs.Common.{Ordering, Less, Equal, Greater}
 use Rattle.amqp_value_core.specs.Values.{Tree, Entries, no_entries, entry, insert}
-use Rattle.amqp_json.specs.Json.{items_json, members_json}
+use Rattle.amqp_value_core.specs.declared.types.amqp_type.AMQPType.{AMQPType}
+use Rattle.amqp_value_core.specs.declared.types.amqp_type.AMQPType.TheVariants as types
+use Rattle.amqp_json.specs.Json.{items_json, members_json, under}
+use Rattle.amqp_json.specs.Names.{type_named}
+use Rattle.amqp_json.specs.Reading.{value_under}
+use Rattle.amqp_json.specs.Tokens.{IsObject}
+use Rattle.amqp_json.proofs.Only.{is_name, is_under}
 use Rattle.amqp_json.specs.Json as amqp
 
 abbrev pick : {A : Type 0} → A → Option A → A
@@ -107,12 +113,38 @@ pub one_member : (p : Parse json.Json) (k : List ℕ) (ts s r u : List Token) (d
 one_member p k ts s r u d first value last less =
     member_read p no_members (length ts) k ts s r d (omega (arith, less)) first value ∙ members_over p (put k d no_members) (length ts - 1) r u (omega (arith, less)) last
 
+-- what is under the name of a type, its only key
+pub under_object : (p : Parse json.Json) (k : List ℕ) (type : AMQPType) (ts us vs end : List Token) (d : Data) → type_named k ≡ Some type → read_key ts ≡ Some (Some k, us) → converted of_json (p us) ≡ Some (d, vs)
+    → read_key vs ≡ Some (None, end) → length vs < length us → IsObject (under type d) p ts end
+under_object p k type ts us vs end d named first inner closed shorter =
+    let less = read_key-shorter ts (Some k) us first in (
+      member k d no_members,
+      ap (λ j. object (member j d no_members)) (sym (is_name k type named)),
+      one_member p k ts us vs end d first inner closed (omega (arith, less, shorter)),
+    )
+
+-- no key follows
+pub closed : (o : Option (Bor (List ℕ))) (vs end : List Token) → read_key vs ≡ Some (option_map (λ b. b.now) o, end) → o ≡ None → read_key vs ≡ Some (None, end)
+closed o vs end h none = h ∙ ap (λ (x : Option (Bor (List ℕ))). Some (option_map (λ b. b.now) x, end)) none
+
+-- ---- a time
+
+pub mapped : {A B : Type 0} (f : A → B) (o : Option A) (b : B) → option_map f o ≡ Some b → (a : A) × (o ≡ Some a) × (f a ≡ b)
+mapped f None b h = absurd (cc h)
+mapped f (Some a) b h = let e : f a ≡ b = cc in (a, refl, e)
+
+pub time_is : (x : Option Num) (n : Num) (v : Tree) → x ≡ Some n → value_under types.Timestamp (number n) ≡ Some v → option_map (under types.Timestamp) (option_map number x) ≡ Some (amqp.json v)
+time_is x n v e h = ap (λ o. option_map (under types.Timestamp) (option_map number o)) e ∙ ap Some (sym (is_under types.Timestamp (number n) v h))
+
+pub number_read : (depth : ℕ) (s : List ℕ) (r : List Token) (d : Data) → option_map number (number_of s) ≡ Some d → converted of_json (json.value depth (Token.number s ∷ r)) ≡ Some (d, r)
+number_read depth s r d h = ap (converted of_json) (value_is depth _) ∙ ap (λ o. option_map (λ (x : Data). (x, r)) o) h
+
 -- ---- members
 
 -- an entry that is put in its place is a member that is put in its place
 placed : (k j : List ℕ) (v u : Tree) (es : Entries) (o : Ordering) → members_json (insert k v es) ≡ put k (amqp.json v) (members_json es)
     → members_json (match_ordering o (entry k v (entry j u es)) (entry j v es) (entry j u (insert k v es)))
-        ≡ match_ordering o (member k (amqp.json v) (member j (amqp.json u) (members_json es))) (member j (amqp.json v) (members_json es)) (member j (amqp.json u) (put k (amqp.json v) (members_json es)))
+    ≡ match_ordering o (member k (amqp.json v) (member j (amqp.json u) (members_json es))) (member j (amqp.json v) (members_json es)) (member j (amqp.json u) (put k (amqp.json v) (members_json es)))
 placed k j v u es Less later = refl
 placed k j v u es Equal later = refl
 placed k j v u es Greater later = ap (member j (amqp.json u)) later

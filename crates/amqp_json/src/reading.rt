@@ -144,7 +144,7 @@ fn narrow(alloc: Global, amqp_type: AMQPType, value: &Value) -> Result<AMQPValue
 
 // a time
 #[tactic(auto, using(crate::proofs::Numbers::never_natural_as_negative))]
-fn timestamp(value: &Value) -> Option<AMQPValue>
+pub(crate) fn timestamp(value: &Value) -> Option<AMQPValue>
     ensures read { option_map view result ≡ value_under amqp.Timestamp (document value.now) }
     ensures stored { IfSome result (λ v. IsStored (view v)) }
 {
@@ -183,7 +183,11 @@ fn long_bytes(alloc: Global, value: &Value) -> Result<AMQPValue, ValueError>
 }
 
 // what is under the name of a type, if that isn't a table
-pub(crate) fn under_type(alloc: Global, amqp_type: AMQPType, value: &Value) -> Result<AMQPValue, ValueError>
+pub(crate) fn under_type(
+    alloc: Global,
+    amqp_type: AMQPType,
+    value: &Value,
+) -> Result<AMQPValue, ValueError>
     ensures ok { IfOk result (λ v. value_under amqp_type (document value.now) ≡ Some (view v)) }
     ensures stored { IfOk result (λ v. IsStored (view v)) }
     ensures err { IfErr result (λ e. e ≡ ValueError.NotAValue
