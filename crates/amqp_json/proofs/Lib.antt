@@ -18,3 +18,4 @@ mod Decoded
 mod Putting
 mod Filling
 mod Ascents
+mod Turns

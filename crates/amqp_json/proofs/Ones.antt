@@ -8,7 +8,7 @@ use Rattle.amqp_json.specs.Json.{json}
 use Rattle.amqp_json.specs.InMemory.{IsStored}
 use Rattle.amqp_json.specs.Reading.{value_of}
 use Rattle.amqp_json.specs.Refusals.{IsOnly, IsOfNone}
-use Rattle.amqp_json.proofs.Back.{read_back}
+use Rattle.amqp_json.proofs.Back.{read_back, one_value}
 
 -- what is read is the only value whose JSON it is
 pub the_one : (d : Data) (v : Tree) → value_of d ≡ Some v → IsOnly v d
@@ -26,8 +26,8 @@ of_none d h u stored e =
     let none : Some u ≡ None = sym (read_back u stored) ∙ ap value_of e ∙ h in
     absurd (cc none)
 
--- one text is read as one JSON value
-pub only_in : (read : Option Data) (d : Data) (v : Tree) → read ≡ Some d → IsOnly v d → (u : Tree) → IsStored u → read ≡ Some (json u) → u ≡ v
-only_in read d v is only u stored e =
-    let same : json u ≡ d = cc in
-    only u stored same
+-- no other value has the JSON of the text
+pub only_text : (read : Option Data) (v u : Tree) → IsStored v → read ≡ Some (json v) → IsStored u → read ≡ Some (json u) → u ≡ v
+only_text read v u held is stored e =
+    let same : json u ≡ json v = cc in
+    one_value u v stored held same

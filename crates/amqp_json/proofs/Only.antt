@@ -59,7 +59,7 @@ found_name k (t ∷ ts) type h = by (bytes_eq k (name_of t)) refl (found_name k 
     by true e later f = (bytes_eq-Decides k (name_of t)).0 e ∙ ap name_of (inside t type f)
     by false e later f = later f
 
-is_name : (k : List ℕ) (type : AMQPType) → type_named k ≡ Some type → k ≡ name_of type
+pub is_name : (k : List ℕ) (type : AMQPType) → type_named k ≡ Some type → k ≡ name_of type
 is_name k type h = found_name k types type h
 
 -- ---- integers
@@ -87,7 +87,7 @@ text_is (string t) s h = ap string (sym (inside t s h))
 text_is _ s h = absurd (cc h)
 
 -- a number with no type's name
-long_long_is : (x : Num) (t : Tree) → long_long x ≡ Some t → json t ≡ number x
+pub long_long_is : (x : Num) (t : Tree) → long_long x ≡ Some t → json t ≡ number x
 long_long_is (unsigned n) t h =
     let c = if_some (nat_lt n (2 ^ 63)) (Some (scalar (values.number amqp.LongLongInt n))) t h in
     let low : n < 2 ^ 63 = let e = c.0 in grind (arith) in
@@ -263,7 +263,7 @@ is_decimal (object (member a x (member b y no_members))) t h =
     ∙ ap (λ u. under amqp.DecimalValue (object (member a x (member u y no_members)))) (sym j)
 is_decimal _ t h = absurd (cc h)
 
-is_under : (type : AMQPType) (d : Data) (t : Tree) → value_under type d ≡ Some t → json t ≡ under type d
+pub is_under : (type : AMQPType) (d : Data) (t : Tree) → value_under type d ≡ Some t → json t ≡ under type d
 is_under amqp.ShortShortInt d t h = signed_under amqp.ShortShortInt w8 d t refl (λ n. refl) h
 is_under amqp.ShortShortUInt d t h = unsigned_under amqp.ShortShortUInt (unsigned_below (2 ^ 8)) d t (below_is (2 ^ 8) d) refl (λ n. refl) h
 is_under amqp.ShortInt d t h = signed_under amqp.ShortInt w16 d t refl (λ n. refl) h

@@ -6,8 +6,9 @@ pub mod Json
 pub mod InMemory
 -- what reading rejects
 pub mod Refusals
--- for private clauses: reading as a function
+-- for private clauses: reading as a function, and by a text's tokens
 pub mod Reading
+pub mod Tokens
 -- what converting returns
 pub mod Converts
 -- for private clauses: what is written of a value, and a table's pairs by their keys

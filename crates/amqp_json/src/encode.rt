@@ -15,7 +15,7 @@ use amqp_value_core::value::AMQPValue;
 use std::alloc::Global;
 
 /// Converts a JSON text to the canonical encoding of its value, which it reads as `from_json` does.
-/// The value, and a `serde_json::Value` of it, are allocated meanwhile.
+/// The value is allocated meanwhile.
 pub fn encoding_of_json(alloc: Global, json: &str) -> Result<Vec<u8>, EncodeError>
     ensures encoding { IfOk result (λ bytes. IsEncodingOf json.now bytes.items) }
     ensures only { IfOk result (λ bytes. (v : Tree) → IsStored v → JsonTextMeans json.now v

@@ -6,12 +6,14 @@
 mod buffer;
 mod conversion_error;
 mod decode;
+mod direct;
 mod encode;
 mod error;
 mod in_place;
 mod keys;
 pub mod laws;
 mod names;
+mod numerals;
 mod owned;
 mod reading;
 mod sorted;

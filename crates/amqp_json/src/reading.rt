@@ -102,7 +102,7 @@ fn decimal(value: &Value) -> Option<DecimalValue>
 }
 
 // a number with no type's name
-fn long_long_int(n: &Number) -> Option<AMQPValue>
+pub(crate) fn long_long_int(n: &Number) -> Option<AMQPValue>
     ensures read { option_map view result ≡ long_long (number_view n.now) }
     ensures stored { IfSome result (λ v. IsStored (view v)) }
 {
@@ -144,7 +144,7 @@ fn narrow(alloc: Global, amqp_type: AMQPType, value: &Value) -> Result<AMQPValue
 
 // a time
 #[tactic(auto, using(crate::proofs::Numbers::never_natural_as_negative))]
-fn timestamp(value: &Value) -> Option<AMQPValue>
+pub(crate) fn timestamp(value: &Value) -> Option<AMQPValue>
     ensures read { option_map view result ≡ value_under amqp.Timestamp (document value.now) }
     ensures stored { IfSome result (λ v. IsStored (view v)) }
 {
@@ -183,7 +183,11 @@ fn long_bytes(alloc: Global, value: &Value) -> Result<AMQPValue, ValueError>
 }
 
 // what is under the name of a type, if that isn't a table
-fn under_type(alloc: Global, amqp_type: AMQPType, value: &Value) -> Result<AMQPValue, ValueError>
+pub(crate) fn under_type(
+    alloc: Global,
+    amqp_type: AMQPType,
+    value: &Value,
+) -> Result<AMQPValue, ValueError>
     ensures ok { IfOk result (λ v. value_under amqp_type (document value.now) ≡ Some (view v)) }
     ensures stored { IfOk result (λ v. IsStored (view v)) }
     ensures err { IfErr result (λ e. e ≡ ValueError.NotAValue
@@ -217,7 +221,7 @@ fn under_type(alloc: Global, amqp_type: AMQPType, value: &Value) -> Result<AMQPV
 
 // a long string that is UTF-8
 #[tactic(auto, using(crate::proofs::Bytes::text_is_read))]
-fn long_text(alloc: Global, text: &str) -> Result<AMQPValue, ValueError>
+pub(crate) fn long_text(alloc: Global, text: &str) -> Result<AMQPValue, ValueError>
     ensures ok { IfOk result (λ v. value_of (string text.now) ≡ Some (view v)) }
     ensures stored { IfOk result (λ v. IsStored (view v)) }
     ensures err { IfErr result (λ e. e ≡ ValueError.OutOfMemory) }
@@ -321,7 +325,7 @@ fn read_members(alloc: Global, members: &Map<String, Value>) -> Result<FieldTabl
 }
 
 // a key
-fn short(alloc: Global, text: &str) -> Result<ShortString, ValueError>
+pub(crate) fn short(alloc: Global, text: &str) -> Result<ShortString, ValueError>
     ensures ok { IfOk result (λ s. s ≡ text.now) }
     ensures short { IfOk result IsShort }
     ensures fits { IfOk result (λ s. length text.now ≤ 255) }

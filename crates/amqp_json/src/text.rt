@@ -10,6 +10,7 @@ ghost use Rattle.amqp_json.specs.Json.{json};
 ghost use Rattle.amqp_json.specs.InMemory.{IsStored};
 ghost use Rattle.amqp_json.specs.Refusals.{IsJsonError};
 
+use crate::direct::value_of_text;
 use crate::error::{JsonError, ValueError};
 use crate::owned::owned_text;
 use crate::reading::from_value;
@@ -31,15 +32,29 @@ pub fn to_json(alloc: Global, value: &AMQPValue) -> Result<String, AllocError>
 }
 
 /// Converts a JSON text to the value whose JSON it is. If an object has a key twice, the last one's
-/// value is retained. A `serde_json::Value` of the complete text is allocated meanwhile. It returns
-/// `Syntax` if the text isn't JSON or nests more than 127 deep, and `NotAValue` if it isn't the
-/// JSON of any value.
-#[tactic(auto, using(crate::proofs::Ones::only_in))]
+/// value is retained. The value is made from the text's tokens. A `serde_json::Value` of the text is
+/// allocated only if that fails, as for a text that is rejected. It returns `Syntax` if the text
+/// isn't JSON or nests more than 127 deep, and `NotAValue` if it isn't the JSON of any value.
+#[tactic(auto, using(crate::proofs::Ones::only_text))]
 pub fn from_json(alloc: Global, text: &str) -> Result<AMQPValue, JsonError>
     ensures json { IfOk result (λ v. read text.now ≡ Some (json (view v))) }
     ensures stored { IfOk result (λ v. IsStored (view v)) }
     ensures only { IfOk result (λ v. (u : Tree) → IsStored u → read text.now ≡ Some (json u)
         → u ≡ view v) }
+    ensures refused { IfErr result (λ e. IsJsonError e (read text.now)) }
+{
+    match value_of_text(alloc, text) {
+        Ok(value) => Ok(value),
+        Err(ValueError::OutOfMemory) => Err(JsonError::OutOfMemory),
+        Err(ValueError::NotAValue) => from_tree(alloc, text),
+    }
+}
+
+// The same by a `serde_json::Value` of the complete text.
+#[tactic(auto, using(crate::proofs::Only::only_json))]
+fn from_tree(alloc: Global, text: &str) -> Result<AMQPValue, JsonError>
+    ensures json { IfOk result (λ v. read text.now ≡ Some (json (view v))) }
+    ensures stored { IfOk result (λ v. IsStored (view v)) }
     ensures refused { IfErr result (λ e. IsJsonError e (read text.now)) }
 {
     let json = match Value::from_str(alloc, text) {
