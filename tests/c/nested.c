@@ -26,7 +26,7 @@ static int32_t found(int32_t code) {
 }
 
 static void *make_call(void *unused) {
-    amqpv_container top = {{0, 0}, AMQPV_ARRAY, 0, 0};
+    amqpv_container top = {{0, 0}, AMQPV_ARRAY, 0, 0, 0};
     amqpv_entry entry;
     amqpv_measure measure;
     size_t count, taken;
