@@ -33,8 +33,8 @@
 //!         56 bytes in amqpv_read, amqpv_read_table, amqpv_measure_value, amqpv_measure_table and amqpv_put_value
 //!         56       in amqpv_read_pairs
 //!        160       in amqpv_first_problem and amqpv_first_problem_in_table
-//!        160       in amqpv_read_by, amqpv_read_table_by, amqpv_is_canonical and amqpv_is_canonical_table, and in
-//!                  amqpv_put_value if keys may be any bytes
+//!        160       in amqpv_read_by, amqpv_read_table_by, amqpv_is_canonical and amqpv_is_canonical_table
+//!        160       in amqpv_put_value of any keys
 //!        368       in amqpv_canonical
 //!        560       in amqpv_write_json
 //!        928       in amqpv_from_json
