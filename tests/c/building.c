@@ -480,7 +480,7 @@ static void try_keys(void) {
 
 static const slice values[] = {
     SLICE("t\1"), SLICE("S\0\0\0\2hi"), SLICE("A\0\0\0\3Vt\7"), SLICE("F\0\0\0\3\1kV"), SLICE("F\0\0\0\1"), SLICE("z"),
-    SLICE("A\0\0\0\1z"), SLICE("F\0\0\0\3\1\x80V"), SLICE("A\0\0\0\x8F\0\0\0\3\1\x80V"), SLICE("F\0\0\0\3\4\x80V"),
+    SLICE("A\0\0\0\1z"), SLICE("F\0\0\0\3\1\x80V"), SLICE("A\0\0\0\x08""F\0\0\0\3\1\x80V"), SLICE("F\0\0\0\3\4\x80V"),
 };
 
 /* Entries of every kind, after what is in the buffer already. */
@@ -903,7 +903,7 @@ static void try_any_keys(void) {
 int main(void) {
     static const slice opened[] = {
         SLICE("A\0\0\0\0AVtV\0"), SLICE("\1kF\0\0\0\0\1aV"), SLICE("\0A\0\0\0\0A\0\0\0"), SLICE("\1\x80""A\0\0\0\0VV\0"),
-        SLICE("F\0\0\0\0FFFF\0"), SLICE("\2k\xffF\0\0\0\0"),
+        SLICE("F\0\0\0\0FFFF\0"), SLICE("\2k\xff""F\0\0\0\0"),
     };
     page = pages_between(1);
     try_types();
