@@ -4,7 +4,7 @@ ghost use Rattle.std.specs.Prelude.{◌≡◌, ◌≤◌, ◌<◌, ◌^◌, ℕ,
 ghost use Rattle.amqp_c.specs.Containers.{IsContainerTag, IsKeyOf, HasNoneOpen, IsPlace, named, end_of, up_to, empty_at};
 ghost use Rattle.amqp_c.specs.Faults.{RefusesPlace};
 
-use crate::key::is_short_string;
+use crate::key::is_key;
 use amqp_c_common::{Fault, Span};
 
 /// An array or a table that is being put together.
@@ -80,7 +80,7 @@ impl Container {
     {
         match self.tag {
             b'A' => key.is_empty(),
-            b'F' => is_short_string(key) || (self.any_keys != 0 && key.len() <= 255),
+            b'F' => is_key(key, self.any_keys),
             _ => false,
         }
     }
