@@ -39,7 +39,7 @@ static void put_text(amqpv_container *into, const char *key, const char *text) {
 }
 
 static amqpv_container open_in(amqpv_container *into, const char *key, uint8_t tag) {
-    amqpv_container body = {{0, 0}, tag, 0, 0};
+    amqpv_container body = {{0, 0}, tag, 0, 0, 0};
     if (result == AMQPV_OK) {
         result = amqpv_open(buffer, capacity, into, key, strlen(key), tag, &body);
     }
@@ -59,7 +59,7 @@ int main(int count, char **words) {
     if (capacity > sizeof buffer) {
         return 2;
     }
-    amqpv_container top = {{0, 0}, AMQPV_ARRAY, 0, 0};
+    amqpv_container top = {{0, 0}, AMQPV_ARRAY, 0, 0, 0};
     amqpv_container arguments = open_in(&top, "", AMQPV_TABLE);
     put_int(&arguments, "x-max-length", AMQPV_LONG_INT, 10000);
     put_text(&arguments, "x-queue-type", "quorum");

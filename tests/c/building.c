@@ -6,9 +6,10 @@
  *
  * An entry's number is returned by its tag, and what it is returned in stays unchanged on an error.
  *
- * It tries every type tag with numbers about its type's range, keys of every kind, each of some values
- * in buffers of every size, containers and bodies that were corrupted, three levels that are built in a wrong
- * order, and random entries that are built, read back by amqpv_read and amqpv_next, and made canonical. Tables are written at once, too: of all
+ * It tries every type tag with numbers about its type's range, keys of every kind, in containers of strict keys and of any,
+ * each of some values in buffers of every size, containers and bodies that were corrupted, three levels that are built in a wrong
+ * order, and random entries that are built, read back by amqpv_read and amqpv_next, and made canonical. Values with any bytes as
+ * keys are passed on, byte for byte. Tables are written at once, too: of all
  * type tags and keys, in buffers of every size, of a million pairs, and of 2^32 bytes.
  */
 #include "check.h"
@@ -47,8 +48,9 @@ static int is_utf8(slice text) {
     return 1;
 }
 
-static int takes_key(uint8_t tag, slice key) {
-    return tag == AMQPV_ARRAY ? key.length == 0 : tag == AMQPV_TABLE && key.length <= 255 && is_utf8(key);
+/* Whether an entry may have the key, in a container with this type tag, and if keys may be any bytes or not. */
+static int takes_key(uint8_t tag, int any_keys, slice key) {
+    return tag == AMQPV_ARRAY ? key.length == 0 : tag == AMQPV_TABLE && key.length <= 255 && (any_keys || is_utf8(key));
 }
 
 /* Whether an entry with this key can be put into the container, and if not, what must be returned. */
@@ -56,7 +58,7 @@ static int32_t model_place(const amqpv_container *into, slice key) {
     if (!is_inside(into->written, capacity) || !is_container(into->tag) || into->inner != 0) {
         return AMQPV_INVALID;
     }
-    return takes_key(into->tag, key) ? AMQPV_OK : AMQPV_BAD_KEY;
+    return takes_key(into->tag, into->any_keys, key) ? AMQPV_OK : AMQPV_BAD_KEY;
 }
 
 /* Whether the type tag is one of these. */
@@ -132,7 +134,7 @@ static size_t model_scalar(uint8_t *bytes, uint8_t tag, uint64_t bits, uint8_t s
 #define SPARE 0x5a5a5a5a5a5a5a5au
 
 /* What is in `needed` before a call counts for nothing, and is left. */
-static const amqpv_container whole = {{0, 0}, AMQPV_ARRAY, 0, SPARE};
+static const amqpv_container whole = {{0, 0}, AMQPV_ARRAY, 0, 0, SPARE};
 
 /* A container between bytes that no call may write. */
 typedef struct held {
@@ -145,6 +147,7 @@ typedef struct held {
 static void check_held(const held *all, amqpv_container wanted) {
     CHECK(all->it.written.offset == wanted.written.offset && all->it.written.length == wanted.written.length);
     CHECK(all->it.tag == wanted.tag && all->it.inner == wanted.inner && all->it.needed == wanted.needed);
+    CHECK(all->it.any_keys == wanted.any_keys);
     CHECK(all->before == SPARE && all->after == SPARE);
 }
 
@@ -252,8 +255,10 @@ static int32_t put_bytes(amqpv_container *into, slice key, uint8_t tag, slice co
 static int32_t put_value(amqpv_container *into, slice key, slice value) {
     size_t count;
     amqpv_entry entry;
+    amqpv_problem problem;
     held all = {SPARE, *into, SPARE};
-    int32_t read = amqpv_read(value.at, value.length, FRAME, DEPTH, &entry, &count);
+    int32_t read = into->any_keys ? amqpv_read_by(value.at, value.length, AMQPV_RULES_ANY_KEYS, FRAME, DEPTH, &entry, &count, &problem)
+                                  : amqpv_read(value.at, value.length, FRAME, DEPTH, &entry, &count);
     int32_t right = model_append(into, key, (slice){value.at, count}, read);
     int32_t result = amqpv_put_value(buffer, capacity, &all.it, key.at, key.length, value.at, value.length, FRAME, DEPTH);
     return check(&all, *into, result, right);
@@ -266,7 +271,7 @@ static int32_t open_in(amqpv_container *into, slice key, uint8_t tag, amqpv_cont
     int32_t right = model_append(&grown, key, (slice){bytes, sizeof bytes}, is_container(tag) ? AMQPV_OK : AMQPV_BAD_TAG);
     into->needed = grown.needed;
     if (right == AMQPV_OK) {
-        *body = (amqpv_container){{grown.written.offset + grown.written.length, 0}, tag, 0, 0};
+        *body = (amqpv_container){{grown.written.offset + grown.written.length, 0}, tag, 0, into->any_keys, 0};
         into->inner = 1;
     }
     int32_t result = amqpv_open(buffer, capacity, &outer.it, key.at, key.length, tag, &all.it);
@@ -286,7 +291,7 @@ static int is_open(const amqpv_container *into, const amqpv_container *body) {
     if (into->tag == AMQPV_TABLE && at < capacity) {
         key_length = model[at++];
     }
-    return capacity - at >= key_length + 5 && takes_key(into->tag, (slice){model + at, key_length})
+    return capacity - at >= key_length + 5 && takes_key(into->tag, into->any_keys, (slice){model + at, key_length})
            && model[at + key_length] == body->tag && body->written.offset == at + key_length + 5;
 }
 
@@ -311,7 +316,7 @@ static int32_t write_table(const amqpv_pair *pairs, size_t pair_count) {
         uint8_t bytes[16];
         size_t length = model_scalar(bytes, it->tag, it->bits, it->scale);
         int is_string = it->tag == AMQPV_LONG_STRING || it->tag == AMQPV_BYTE_ARRAY;
-        if (!takes_key(AMQPV_TABLE, (slice){(const uint8_t *)it->key, it->key_length})) {
+        if (!takes_key(AMQPV_TABLE, 0, (slice){(const uint8_t *)it->key, it->key_length})) {
             right = AMQPV_BAD_KEY;
         } else if (is_string ? it->bits != 0 || it->scale != 0 : length == 0) {
             right = is_string || is_scalar_tag(it->tag) ? AMQPV_OUT_OF_RANGE : AMQPV_BAD_TAG;
@@ -344,7 +349,10 @@ static int32_t write_table(const amqpv_pair *pairs, size_t pair_count) {
 
 static const slice none = SLICE(""), k = SLICE("k");
 
-static const amqpv_container table_of_none = {{0, 0}, AMQPV_TABLE, 0, SPARE}, third = {{3, 0}, AMQPV_TABLE, 0, SPARE};
+static const amqpv_container table_of_none = {{0, 0}, AMQPV_TABLE, 0, 0, SPARE}, third = {{3, 0}, AMQPV_TABLE, 0, 0, SPARE};
+
+/* A table whose keys may be any bytes. */
+static const amqpv_container any_table = {{0, 0}, AMQPV_TABLE, 0, 1, SPARE};
 
 static const uint64_t numbers[] = {
     0, 1, 2, 127, 128, 255, 256, 32767, 32768, 65535, 65536, 2147483647, 2147483648u, 4294967295u, 4294967296u,
@@ -431,29 +439,40 @@ static void try_keys(void) {
     uint8_t key[300];
     for (size_t length = 0; length <= 2; length++) {
         for (unsigned n = 0; n < 1u << 8 * length; n++) {
-            amqpv_container table = table_of_none;
+            amqpv_container table = table_of_none, any = any_table;
             big_endian(key, length, n);
             new_buffer(8, n % 2);
             put(&table, (slice){key, length}, AMQPV_VOID, 0, 0);
+            new_buffer(8, n % 2);
+            any.any_keys = (uint8_t)(1 + n % 255);
+            CHECK(put(&any, (slice){key, length}, AMQPV_VOID, 0, 0) == AMQPV_OK);
             new_buffer(9, n % 2);
             write_table(&(amqpv_pair){(const char *)key, length, none.at, 0, 0, AMQPV_VOID, 0}, 1);
         }
     }
-    for (size_t i = 0; i < COUNT(others); i++) {
-        amqpv_container table = table_of_none, body = whole;
+    for (size_t i = 0; i < 2 * COUNT(others); i++) {
+        slice other = others[i / 2];
+        amqpv_container table = i % 2 ? any_table : table_of_none, body = whole;
         new_buffer(16, 0);
-        put(&table, others[i], AMQPV_VOID, 0, 0);
-        put_bytes(&table, others[i], AMQPV_LONG_STRING, none);
-        open_in(&table, others[i], AMQPV_ARRAY, &body);
-        write_table(&(amqpv_pair){(const char *)others[i].at, others[i].length, none.at, 0, 0, AMQPV_LONG_STRING, 0}, 1);
+        put(&table, other, AMQPV_VOID, 0, 0);
+        put_bytes(&table, other, AMQPV_LONG_STRING, none);
+        open_in(&table, other, AMQPV_ARRAY, &body);
+        write_table(&(amqpv_pair){(const char *)other.at, other.length, none.at, 0, 0, AMQPV_LONG_STRING, 0}, 1);
     }
     memset(key, 'k', sizeof key);
     for (size_t length = 0; length <= sizeof key; length += length < 253 ? 11 : 1) {
-        amqpv_container array = whole, table = table_of_none;
+        amqpv_container array = whole, table = table_of_none, any_array = whole, any = any_table;
         new_buffer(400, 0);
         put(&array, (slice){key, length}, AMQPV_BOOLEAN, 1, 0);
         new_buffer(400, 0);
         put(&table, (slice){key, length}, AMQPV_BOOLEAN, 1, 0);
+        new_buffer(400, 0);
+        any_array.any_keys = 1;
+        CHECK(put(&any_array, (slice){key, length}, AMQPV_BOOLEAN, 1, 0) == (length ? AMQPV_BAD_KEY : AMQPV_OK));
+        new_buffer(400, 0);
+        key[length / 2] = 0xff;
+        CHECK(put(&any, (slice){key, length}, AMQPV_BOOLEAN, 1, 0) == (length > 255 ? AMQPV_BAD_KEY : AMQPV_OK));
+        key[length / 2] = 'k';
         new_buffer(600, 0);
         write_table((amqpv_pair[]){{(char *)key, 255, none.at, 0, 1, AMQPV_BOOLEAN, 0}, {(char *)key, length, key, length, 0, AMQPV_BYTE_ARRAY, 0}}, 2);
     }
@@ -461,7 +480,7 @@ static void try_keys(void) {
 
 static const slice values[] = {
     SLICE("t\1"), SLICE("S\0\0\0\2hi"), SLICE("A\0\0\0\3Vt\7"), SLICE("F\0\0\0\3\1kV"), SLICE("F\0\0\0\1"), SLICE("z"),
-    SLICE("A\0\0\0\1z"),
+    SLICE("A\0\0\0\1z"), SLICE("F\0\0\0\3\1\x80V"), SLICE("A\0\0\0\x08""F\0\0\0\3\1\x80V"), SLICE("F\0\0\0\3\4\x80V"),
 };
 
 /* Entries of every kind, after what is in the buffer already. */
@@ -488,6 +507,8 @@ static void try_entries(amqpv_container start, slice key) {
     into = start;
     if (open_in(&into, key, AMQPV_TABLE, &body) == AMQPV_OK) {
         put(&body, (slice)SLICE("x"), AMQPV_LONG_INT, 7, 0);
+        put(&body, (slice)SLICE("\xff"), AMQPV_VOID, 0, 0);
+        put_value(&body, (slice)SLICE("y"), (slice)SLICE("F\0\0\0\3\1\x80V"));
         CHECK(close_in(&into, &body) == AMQPV_OK);
     }
 }
@@ -497,9 +518,13 @@ static void try_capacities(void) {
     for (size_t length = 0; length <= 40; length++) {
         for (size_t before = 0; before <= length; before += 3) {
             new_buffer(length, (int)(before % 2));
-            try_entries((amqpv_container){{0, before}, AMQPV_ARRAY, 0, SPARE}, none);
+            try_entries((amqpv_container){{0, before}, AMQPV_ARRAY, 0, 0, SPARE}, none);
             new_buffer(length, (int)(before % 2));
-            try_entries((amqpv_container){{0, before}, AMQPV_TABLE, 0, SPARE}, (slice)SLICE("key"));
+            try_entries((amqpv_container){{0, before}, AMQPV_TABLE, 0, 0, SPARE}, (slice)SLICE("key"));
+            for (unsigned any_keys = 0; any_keys < 2; any_keys++) {
+                new_buffer(length, (int)(before % 2));
+                try_entries((amqpv_container){{0, before}, AMQPV_TABLE, 0, (uint8_t)any_keys, SPARE}, (slice)SLICE("k\xffy"));
+            }
         }
     }
 }
@@ -551,11 +576,12 @@ static void try_many(void) {
 static void try_corrupt(size_t length) {
     size_t small = length + 2, count = small + 4;
     for (size_t n = 0; n < count * count * sizeof tags * 4; n++) {
+        static const slice keys[] = {SLICE(""), SLICE("k"), SLICE(""), SLICE("\xc3")};
         size_t i = n / 4 / sizeof tags / count, j = n / 4 / sizeof tags % count;
         uint8_t tag = tags[n / 4 % sizeof tags];
-        slice key = {k.at, n % 2};
+        slice key = keys[n % 4];
         new_buffer(length, (int)(i % 2));
-        amqpv_container corrupt = {{number(i, small), number(j, small)}, tag, n / 2 % 2, n}, into = corrupt, body = corrupt;
+        amqpv_container corrupt = {{number(i, small), number(j, small)}, tag, n / 2 % 2 && n % 3 == 0, (uint8_t)(n / 5 % 3), n}, into = corrupt, body = corrupt;
         put(&into, key, AMQPV_SHORT_INT, 5, 0);
         into = corrupt;
         put_int(&into, key, tag, 5);
@@ -575,11 +601,12 @@ static void try_corrupt_bodies(slice bytes) {
     size_t small = bytes.length + 2, count = small + 4;
     new_buffer(bytes.length, 0);
     for (size_t n = 0; n < count * count * count * count; n++) {
-        amqpv_container into = {{number(n % count, small), number(n / count % count, small)}, 0, 1, n};
-        amqpv_container body = {{number(n / count / count % count, small), number(n / count / count / count, small)}, 0, 0, n};
+        amqpv_container into = {{number(n % count, small), number(n / count % count, small)}, 0, 1, 0, n};
+        amqpv_container body = {{number(n / count / count % count, small), number(n / count / count / count, small)}, 0, 0, 0, n};
         for (size_t t = 0; t < 9; t++) {
             amqpv_container grown = into;
             grown.tag = tags[t % 3];
+            grown.any_keys = (uint8_t)(n % 2);
             body.tag = tags[t / 3];
             memcpy(buffer, bytes.at, bytes.length);
             memcpy(model, bytes.at, bytes.length);
@@ -685,9 +712,9 @@ static void try_corrupt_inner(void) {
 static void fill(amqpv_container *into, int depth) {
     static const uint8_t every[] = "tbBsuIilfdDTV";
     for (uint64_t entries = random_number() % 6; entries > 0; entries--) {
-        uint8_t letters[4] = {'a', 'b', 'c', 'd'};
+        uint8_t letters[4] = {'a', 'b', 'c', into->any_keys ? (uint8_t)random_number() : 'd'};
         slice key = {letters, into->tag == AMQPV_TABLE ? random_number() % 4 : 0};
-        letters[0] = (uint8_t)('a' + random_number() % 5);
+        letters[0] = (uint8_t)((into->any_keys && random_number() % 2 ? 0x7e : 'a') + random_number() % 5);
         uint64_t kind = random_number() % 8;
         uint64_t bits = numbers[random_number() % COUNT(numbers)];
         if (kind < 3) {
@@ -743,29 +770,29 @@ static void try_needed(void) {
         int32_t result;
         size_t count;
     } asked[] = {
-        {{{0, 0}, 'A', 0, 0}, 0, 'V', 0, AMQPV_OK, 1},
-        {{{5, 3}, 'F', 0, 77}, 3, 'S', 10, AMQPV_OK, 27},
-        {{{0, 0}, 'F', 0, 0}, 255, 'l', 0, AMQPV_OK, 265},
-        {{{0, 0}, 'A', 0, 0}, 0, 'D', 0, AMQPV_OK, 6},
-        {{{0, 0}, 'A', 0, 0}, 0, 'x', UINT32_MAX, AMQPV_OK, UINT32_MAX + (size_t)5},
-        {{{0, 0}, 'A', 0, 0}, 0, 'A', 7, AMQPV_OK, 12},
-        {{{0, PTRDIFF_MAX - 1}, 'A', 0, 0}, 0, 'V', 0, AMQPV_OK, PTRDIFF_MAX},
-        {{{1, PTRDIFF_MAX - 6}, 'F', 0, 0}, 0, 'V', 0, AMQPV_OK, PTRDIFF_MAX - (size_t)3},
-        {{{0, PTRDIFF_MAX}, 'A', 0, 0}, 0, 'V', 0, AMQPV_TOO_LARGE, 0},
-        {{{0, PTRDIFF_MAX - 264}, 'F', 0, 0}, 255, 'l', 0, AMQPV_TOO_LARGE, 0},
-        {{{1, PTRDIFF_MAX}, 'A', 0, 0}, 0, 'V', 0, AMQPV_INVALID, 0},
-        {{{SIZE_MAX, 1}, 'A', 0, 0}, 0, 'V', 0, AMQPV_INVALID, 0},
-        {{{0, 0}, 'S', 0, 0}, 256, 0, SIZE_MAX, AMQPV_INVALID, 0},
-        {{{0, 0}, 'F', 1, 0}, 256, 0, SIZE_MAX, AMQPV_INVALID, 0},
-        {{{0, 0}, 'F', 255, 0}, 0, 'V', 0, AMQPV_INVALID, 0},
-        {{{0, 0}, 'F', 0, 0}, 256, 0, SIZE_MAX, AMQPV_BAD_KEY, 0},
-        {{{0, 0}, 'A', 0, 0}, 1, 'V', 0, AMQPV_BAD_KEY, 0},
-        {{{0, 0}, 'A', 0, 0}, 0, 'U', 1, AMQPV_BAD_TAG, 0},
-        {{{0, 0}, 'A', 0, 0}, 0, 'L', 0, AMQPV_BAD_TAG, 0},
-        {{{0, 0}, 'F', 0, 0}, 0, '_', SIZE_MAX, AMQPV_BAD_TAG, 0},
-        {{{0, 0}, 'A', 0, 0}, 0, 'D', SIZE_MAX, AMQPV_INVALID, 0},
-        {{{0, PTRDIFF_MAX}, 'A', 0, 0}, 0, 'V', 1, AMQPV_INVALID, 0},
-        {{{0, 0}, 'F', 0, 0}, 0, 'F', UINT32_MAX + (size_t)1, AMQPV_TOO_LARGE, 0},
+        {{{0, 0}, 'A', 0, 0, 0}, 0, 'V', 0, AMQPV_OK, 1},
+        {{{5, 3}, 'F', 0, 0, 77}, 3, 'S', 10, AMQPV_OK, 27},
+        {{{0, 0}, 'F', 0, 0, 0}, 255, 'l', 0, AMQPV_OK, 265},
+        {{{0, 0}, 'A', 0, 0, 0}, 0, 'D', 0, AMQPV_OK, 6},
+        {{{0, 0}, 'A', 0, 0, 0}, 0, 'x', UINT32_MAX, AMQPV_OK, UINT32_MAX + (size_t)5},
+        {{{0, 0}, 'A', 0, 0, 0}, 0, 'A', 7, AMQPV_OK, 12},
+        {{{0, PTRDIFF_MAX - 1}, 'A', 0, 0, 0}, 0, 'V', 0, AMQPV_OK, PTRDIFF_MAX},
+        {{{1, PTRDIFF_MAX - 6}, 'F', 0, 0, 0}, 0, 'V', 0, AMQPV_OK, PTRDIFF_MAX - (size_t)3},
+        {{{0, PTRDIFF_MAX}, 'A', 0, 0, 0}, 0, 'V', 0, AMQPV_TOO_LARGE, 0},
+        {{{0, PTRDIFF_MAX - 264}, 'F', 0, 0, 0}, 255, 'l', 0, AMQPV_TOO_LARGE, 0},
+        {{{1, PTRDIFF_MAX}, 'A', 0, 0, 0}, 0, 'V', 0, AMQPV_INVALID, 0},
+        {{{SIZE_MAX, 1}, 'A', 0, 0, 0}, 0, 'V', 0, AMQPV_INVALID, 0},
+        {{{0, 0}, 'S', 0, 0, 0}, 256, 0, SIZE_MAX, AMQPV_INVALID, 0},
+        {{{0, 0}, 'F', 1, 0, 0}, 256, 0, SIZE_MAX, AMQPV_INVALID, 0},
+        {{{0, 0}, 'F', 255, 0, 0}, 0, 'V', 0, AMQPV_INVALID, 0},
+        {{{0, 0}, 'F', 0, 0, 0}, 256, 0, SIZE_MAX, AMQPV_BAD_KEY, 0},
+        {{{0, 0}, 'A', 0, 0, 0}, 1, 'V', 0, AMQPV_BAD_KEY, 0},
+        {{{0, 0}, 'A', 0, 0, 0}, 0, 'U', 1, AMQPV_BAD_TAG, 0},
+        {{{0, 0}, 'A', 0, 0, 0}, 0, 'L', 0, AMQPV_BAD_TAG, 0},
+        {{{0, 0}, 'F', 0, 0, 0}, 0, '_', SIZE_MAX, AMQPV_BAD_TAG, 0},
+        {{{0, 0}, 'A', 0, 0, 0}, 0, 'D', SIZE_MAX, AMQPV_INVALID, 0},
+        {{{0, PTRDIFF_MAX}, 'A', 0, 0, 0}, 0, 'V', 1, AMQPV_INVALID, 0},
+        {{{0, 0}, 'F', 0, 0, 0}, 0, 'F', UINT32_MAX + (size_t)1, AMQPV_TOO_LARGE, 0},
     };
     for (size_t i = 0; i < COUNT(asked); i++) {
         size_t count = 77;
@@ -803,10 +830,80 @@ static void try_random(void) {
     CHECK(others == count && memcmp(again, canonical, count) == 0);
 }
 
+/* Builds what a cursor iterates over again, byte for byte: containers entry by entry, or each value at once. */
+static void pass_on(const uint8_t *bytes, size_t length, amqpv_cursor cursor, amqpv_container *into, int at_once) {
+    amqpv_entry entry;
+    while (amqpv_next(bytes, length, &cursor, &entry) == AMQPV_OK) {
+        slice key = {bytes + entry.key.offset, entry.key.length}, value = {bytes + entry.value.offset, entry.value.length};
+        amqpv_cursor inner;
+        amqpv_container body = whole;
+        if (!at_once && amqpv_enter(bytes, length, &entry, &inner) == AMQPV_OK) {
+            CHECK(open_in(into, key, entry.tag, &body) == AMQPV_OK && body.any_keys == into->any_keys);
+            pass_on(bytes, length, inner, &body, 0);
+            CHECK(close_in(into, &body) == AMQPV_OK);
+        } else {
+            CHECK(put_value(into, key, value) == AMQPV_OK);
+        }
+    }
+}
+
+/* A value whose keys may be any bytes is passed on as it is; without `any_keys` exactly if amqpv_read reads it. */
+static void try_passing_on(slice value) {
+    amqpv_entry entry;
+    amqpv_problem problem;
+    amqpv_cursor cursor;
+    size_t count;
+    CHECK(amqpv_read_by(value.at, value.length, AMQPV_RULES_ANY_KEYS, FRAME, DEPTH, &entry, &count, &problem) == AMQPV_OK);
+    CHECK(count == value.length && amqpv_enter(value.at, value.length, &entry, &cursor) == AMQPV_OK);
+    for (int at_once = 0; at_once < 2; at_once++) {
+        amqpv_container top = whole, body = whole;
+        top.any_keys = 1;
+        new_buffer(value.length, at_once);
+        CHECK(open_in(&top, none, entry.tag, &body) == AMQPV_OK);
+        pass_on(value.at, value.length, cursor, &body, at_once);
+        CHECK(close_in(&top, &body) == AMQPV_OK && top.written.length == value.length);
+        CHECK(memcmp(buffer, value.at, value.length) == 0);
+    }
+    amqpv_container any = whole, strict = whole;
+    any.any_keys = 1;
+    new_buffer(value.length, 0);
+    CHECK(put_value(&any, none, value) == AMQPV_OK && memcmp(buffer, value.at, value.length) == 0);
+    new_buffer(value.length, 0);
+    CHECK(put_value(&strict, none, value) == amqpv_read(value.at, value.length, FRAME, DEPTH, &entry, &count));
+}
+
+/* Tables as RabbitMQ delivers them, whose keys peers wrote in Latin-1 or in Shift JIS, and values in another encoding. */
+static void try_any_keys(void) {
+    static const slice delivered[] = {
+        SLICE("F\000\000\000\000"),
+        SLICE("F\000\000\000\030\004caf\351S\000\000\000\005cr\350me\004caf\351V\000t\007"),
+        SLICE("F\000\000\000\310\007x-deathA\000\000\000nF\000\000\000i\005countl\000\000\000\000\000\000\000"
+              "\001\006reasonS\000\000\000\010rejected\005queueS\000\000\000\004caf\351\004timeT\000\000\000"
+              "\000eS\361\000\010exchangeS\000\000\000\000\014routing-keysA\000\000\000\011S\000\000\000\004ca"
+              "f\351\023x-first-death-queueS\000\000\000\004caf\351\006\203e\203X\203gF\000\000\000\021\002"
+              "\377\376U\000\007\001kL\000\000\000\000\000\000\000\001\003\355\240\200A\000\000\000\012F\000"
+              "\000\000\003\001\303Vt\002"),
+    };
+    static uint8_t built[MOST];
+    for (size_t i = 0; i < COUNT(delivered); i++) {
+        try_passing_on(delivered[i]);
+    }
+    for (size_t i = 0; i < 20000; i++) {
+        amqpv_container top = whole, body = whole;
+        top.any_keys = (uint8_t)(1 + i % 255);
+        new_buffer(MOST, 0);
+        CHECK(open_in(&top, none, i % 2 ? AMQPV_TABLE : AMQPV_ARRAY, &body) == AMQPV_OK);
+        fill(&body, 2);
+        CHECK(close_in(&top, &body) == AMQPV_OK);
+        memcpy(built, buffer, top.written.length);
+        try_passing_on((slice){built, top.written.length});
+    }
+}
+
 int main(void) {
     static const slice opened[] = {
         SLICE("A\0\0\0\0AVtV\0"), SLICE("\1kF\0\0\0\0\1aV"), SLICE("\0A\0\0\0\0A\0\0\0"), SLICE("\1\x80""A\0\0\0\0VV\0"),
-        SLICE("F\0\0\0\0FFFF\0"),
+        SLICE("F\0\0\0\0FFFF\0"), SLICE("\2k\xff""F\0\0\0\0"),
     };
     page = pages_between(1);
     try_types();
@@ -824,6 +921,7 @@ int main(void) {
     try_corrupt_inner();
     try_orders();
     try_large();
+    try_any_keys();
     for (int i = 0; i < 100000; i++) {
         try_random();
     }

@@ -73,7 +73,7 @@ static amqpv_result put(uint8_t *buffer, size_t capacity, amqpv_container *into,
 const char *write_and_find(const uint8_t *bytes, size_t length, const int32_t *numbers, amqpv_entry *entry);
 const char *write_and_find(const uint8_t *bytes, size_t length, const int32_t *numbers, amqpv_entry *entry) {
     uint8_t buffer[64];
-    amqpv_container top = {{0, 0}, AMQPV_ARRAY, 0, 0};
+    amqpv_container top = {{0, 0}, AMQPV_ARRAY, 0, 0, 0};
     amqpv_problem problem;
     amqpv_result result = write(buffer, sizeof buffer, numbers, "quorum", &length);
     if (result == AMQPV_OK) {

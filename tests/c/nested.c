@@ -30,7 +30,7 @@ static int32_t warned(int32_t code) {
 }
 
 static void *make_call(void *unused) {
-    amqpv_container top = {{0, 0}, AMQPV_ARRAY, 0, 0};
+    amqpv_container top = {{0, 0}, AMQPV_ARRAY, 0, 0, 0};
     amqpv_entry entry;
     amqpv_measure measure;
     size_t count, taken;
@@ -56,7 +56,8 @@ static void *make_call(void *unused) {
         result = amqpv_is_canonical(given, length, UINT32_MAX, depth, &count);
     } else if (is_called("amqpv_is_canonical_table")) {
         result = amqpv_is_canonical_table(given, length, UINT32_MAX, depth, &count);
-    } else if (is_called("amqpv_put_value")) {
+    } else if (is_called("amqpv_put_value") || is_called("amqpv_put_value of any keys")) {
+        top.any_keys = !is_called("amqpv_put_value");
         result = amqpv_put_value(buffer, sizeof buffer, &top, given, 0, given, length, UINT32_MAX, depth);
     } else if (is_called("amqpv_canonical")) {
         result = amqpv_canonical(given, length, UINT32_MAX, depth, buffer, sizeof buffer, &count);

@@ -48,7 +48,7 @@ static int is_same_span(amqpv_span a, amqpv_span b) {
 }
 
 static int is_same_container(const amqpv_container *a, const amqpv_container *b) {
-    return is_same_span(a->written, b->written) && a->tag == b->tag && a->inner == b->inner && a->needed == b->needed;
+    return is_same_span(a->written, b->written) && a->tag == b->tag && a->inner == b->inner && a->any_keys == b->any_keys && a->needed == b->needed;
 }
 
 static int is_same_warnings(const amqpv_warnings *a, const amqpv_warnings *b) {
@@ -169,7 +169,7 @@ static void try_building(void) {
     TRY(AMQPV_OK, pairs, 'A', amqpv_write_table(&pair, 1, all->buffer, CAPACITY, &all->count));
     TRY(AMQPV_NO_ROOM, pairs, 'A', amqpv_write_table(&pair, 1, buffer, 0, &all->count));
     TRY(AMQPV_NO_ROOM, pairs, 'A', amqpv_write_table(is_null ? NULL : &pair, 0, buffer, 0, &all->count));
-    amqpv_container body = {{5, 0}, AMQPV_TABLE, 0, 0};
+    amqpv_container body = {{5, 0}, AMQPV_TABLE, 0, 0, 0};
     TRY(AMQPV_INVALID, pairs, 'A', amqpv_close(buffer, 0, &all->into, &body));
     body.written.offset = 0;
     TRY(AMQPV_INVALID, pairs, 'A', amqpv_close(buffer, 0, &all->into, &body));

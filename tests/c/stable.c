@@ -62,6 +62,7 @@ STRUCT(amqpv_container, 32, 8);
 FIELD(amqpv_container, written, 0, 16);
 FIELD(amqpv_container, tag, 16, 1);
 FIELD(amqpv_container, inner, 17, 1);
+FIELD(amqpv_container, any_keys, 18, 1);
 FIELD(amqpv_container, needed, 24, 8);
 
 CONSTANT(AMQPV_OK, 0);

@@ -32,7 +32,7 @@ typedef struct made {
 } made;
 
 static void build_shared(void) {
-    amqpv_container top = {{0, 0}, AMQPV_ARRAY, 0, 0}, table, deaths, death;
+    amqpv_container top = {{0, 0}, AMQPV_ARRAY, 0, 0, 0}, table, deaths, death;
     char key[16];
     CHECK(amqpv_open(shared, CAPACITY, &top, "", 0, AMQPV_TABLE, &table) == AMQPV_OK);
     for (int i = KEYS; i > 0; i--) {
@@ -51,7 +51,7 @@ static void make_calls(made *all) {
     size_t count;
     amqpv_entry table, entry;
     amqpv_cursor cursor;
-    amqpv_container top = {{0, 0}, AMQPV_ARRAY, 0, 0}, into;
+    amqpv_container top = {{0, 0}, AMQPV_ARRAY, 0, 0, 0}, into;
     CHECK(amqpv_read(shared, length, CAPACITY, 8, &table, &all->sizes[0]) == AMQPV_OK);
     CHECK(amqpv_measure_value(shared, length, CAPACITY, 8, &all->measure, &count) == AMQPV_OK);
     CHECK(amqpv_first_problem(shared, length, AMQPV_RULES_READ, CAPACITY, 1, &all->problem) == AMQPV_OK);

@@ -205,7 +205,7 @@ static int gets(void) {
 }
 
 static int asks_for_capacity(void) {
-    amqpv_container into = {{0, 0}, AMQPV_TABLE, 0, 0};
+    amqpv_container into = {{0, 0}, AMQPV_TABLE, 0, 0, 0};
     for (size_t i = 0; i < entry_count; i++) {
         size_t count;
         if (amqpv_needed(&into, entries[i].key.length, entries[i].tag, entries[i].content.length, &count) != AMQPV_OK) {
@@ -250,7 +250,7 @@ static int rebuilds(void) {
     static amqpv_container into[DEPTH];
     int at = 1;
     from[1] = start;
-    into[0] = (amqpv_container){{0, 0}, AMQPV_ARRAY, 0, 0};
+    into[0] = (amqpv_container){{0, 0}, AMQPV_ARRAY, 0, 0, 0};
     amqpv_result result = amqpv_open(buffer, MOST, &into[0], "", 0, AMQPV_TABLE, &into[1]);
     while (result == AMQPV_OK && at > 0) {
         amqpv_entry entry;
@@ -271,7 +271,7 @@ static int rebuilds(void) {
 
 /* Puts each entry again into a table. */
 static int builds(void) {
-    amqpv_container top = {{0, 0}, AMQPV_ARRAY, 0, 0}, body;
+    amqpv_container top = {{0, 0}, AMQPV_ARRAY, 0, 0, 0}, body;
     amqpv_cursor cursor = start;
     amqpv_entry entry;
     if (amqpv_open(buffer, MOST, &top, "", 0, AMQPV_TABLE, &body) != AMQPV_OK) {

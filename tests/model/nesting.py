@@ -66,6 +66,11 @@ def not_canonical(form: str, depth: int) -> bytes:
     return encoding(form, depth, b"t\x07")
 
 
+def any_keys(form: str, depth: int) -> bytes:
+    """An encoding that nests that deep, whose innermost table has a key that isn't UTF-8."""
+    return encoding(form, depth - 1, b"F\0\0\0\3\1\x80V")
+
+
 def json_text(form: str, depth: int) -> bytes:
     tags = (form * depth)[:depth]
     opened = "".join("[" if it == "A" else '{"a":' for it in tags)
@@ -128,6 +133,7 @@ OF_TABLES = (
 FOR_C = {
     **{it: Call([it], encoding, DEEPER) for it in OF_ENCODINGS},
     **{it: Call([it], payload, DEEPER) for it in OF_TABLES},
+    "amqpv_put_value of any keys": Call(["amqpv_put_value of any keys"], any_keys, DEEPER),
     "amqpv_to_json": Call(["amqpv_to_json"], unordered, DEEP),
     "amqpv_write_json": Call(["amqpv_write_json"], encoding, DEEP),
     "amqpv_canonical": Call(["amqpv_canonical"], not_canonical, DEEP),
@@ -216,7 +222,7 @@ def in_header(column: int) -> tuple[dict[str, int], int, dict[str, int]]:
     text = HEADER.read_text()
     limits = {name: int(number) for name, number in re.findall(r"(AMQPV_\w*DEPTH) = (\d+)", text)}
     rows = re.findall(r"(?m)^ \*\s+(\d+)\s+(\d+)(?: bytes)?\s+in (amqpv_.*)$", text)
-    figures = {name: int(of[column]) for *of, names in rows for name in re.findall(r"amqpv_\w+", names)}
+    figures = {name: int(of[column]) for *of, names in rows for name in re.findall(r"amqpv_\w+(?: of any keys)?", names)}
     (besides,) = re.findall(r"The stack suffices: (\d+) KiB", text)
     return limits, int(besides) << 10, figures
 

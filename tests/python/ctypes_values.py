@@ -365,7 +365,7 @@ class _Warnings(ctypes.Structure):
 
 
 class _Container(ctypes.Structure):
-    _fields_ = [("written", _Span), ("tag", c_uint8), ("inner", c_uint8), ("needed", c_size_t)]
+    _fields_ = [("written", _Span), ("tag", c_uint8), ("inner", c_uint8), ("any_keys", c_uint8), ("needed", c_size_t)]
 
 
 class _Pair(ctypes.Structure):

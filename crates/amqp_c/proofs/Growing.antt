@@ -1,5 +1,5 @@
 -- Containers that grow by an entry.
-use Rattle.std.proofs.Common.{◌≡◌, ◌+◌, ◌-◌, ◌<◌, ◌≤◌, ◌^◌, inl, inr, ℕ, List, [], ◌∷◌, ◌++◌, length, take, drop, refl, sym, ap, ap₂, ◌∙◌, subst, arith, append_assoc, append-nil, length-append, take-append-drop, length-drop}
+use Rattle.std.proofs.Common.{◌≡◌, ◌+◌, ◌-◌, ◌<◌, ◌≤◌, ◌^◌, ℕ, List, [], ◌∷◌, ◌++◌, length, take, drop, refl, sym, ap, ap₂, ◌∙◌, subst, arith, append_assoc, append-nil, length-append, take-append-drop, length-drop}
 use Rattle.std.specs.Int.{w32, to_be_bytes}
 use Rattle.std.proofs.lemmas.List.{take_at, drop_at, drop-drop, drop-take, drop-append-le, length-take-le}
 use Rattle.amqp_value_core.specs.declared.types.amqp_type.AMQPType.TheVariants as amqp
@@ -8,11 +8,13 @@ use Rattle.amqp_value_core.specs.Grammar.{short_field, long_field, Wire, wire, r
 use Rattle.amqp_value_core.specs.Values.{Tree, scalar, short, long, octets, array, table, Trees, no_trees, tree, Entries, no_entries, entry, insert_all}
 use Rattle.amqp_c_common.specs.Spans.{part, SpanIsIn}
 use Rattle.amqp_c.specs.declared.container.Container.{Container}
-use Rattle.amqp_c.specs.Containers.{IsKeyOf, named, end_of, entry_of, up_to}
+use Rattle.amqp_c.specs.Containers.{array_tag, table_tag, named, end_of, entry_of, up_to}
 use Rattle.amqp_c.specs.BuiltEntries.{IsOfBody}
 use Rattle.amqp_c.specs.Growth.{and_value, and_pair, GrowsContainer, IsOpen, IsClosed}
 use Rattle.amqp_c.specs.Buffers.{with_bytes, StandsAt}
+use Rattle.amqp_c.specs.ByRules.{AreValuesBy, ArePairsBy}
 use Rattle.amqp_c.proofs.Buffers.{with_bytes-join}
+use Rattle.amqp_c.proofs.ByRules.{values_join, one_value, pairs_join, one_pair, closed_by}
 
 -- values, and an encoding after them
 body_and : (b w : List ℕ) (vs : Trees) (v : Tree) → ArrayBody b vs → Wire w v → ArrayBody (b ++ w) (and_value vs v)
@@ -30,23 +32,22 @@ pairs_and _ k w _ v (pair j u rest t ps brief q others) is p =
     (sym (append_assoc (short_field j) (u ++ rest) x ∙ ap (λ (y : List ℕ). short_field j ++ y) (append_assoc u rest x)))
     (pair j u (rest ++ x) t (and_pair ps k v) brief q (pairs_and rest k w ps v others is p))
 
--- a key of a table is a short string
-short_key : (into : Container) (k : List ℕ) → into.tag ≡ 70 → IsKeyOf into k → IsShort k
-short_key into k is (inl x) = absurd (omega (arith, x.0))
-short_key into k is (inr x) = x.1
-
 -- a container that has an entry's bytes more grows by its value
-pub grows_by : (old new k w : List ℕ) (into grown : Container) (v : Tree) → IsKeyOf into k → Wire w v
-    → part new grown.written ≡ part old into.written ++ entry_of into k w → GrowsContainer old into k v new grown
-grows_by old new k w into grown v key p more = record {
-  values = λ vs is all.
-      let bare : entry_of into k w ≡ w = rw is refl in
-      subst (λ (t : List ℕ). ArrayBody t (and_value vs v)) (sym (more ∙ ap (λ (t : List ℕ). part old into.written ++ t) bare)) (body_and (part old into.written) w vs v all p);
-  pairs = λ ps is all.
-      let whole : entry_of into k w ≡ short_field k ++ w = rw is refl in
-      subst (λ (t : List ℕ). TableBody t (and_pair ps k v)) (sym (more ∙ ap (λ (t : List ℕ). part old into.written ++ t) whole))
-      (pairs_and (part old into.written) k w ps v all (short_key into k is key) p);
-}
+pub grows_by : (old new k w : List ℕ) (into grown : Container) → part new grown.written ≡ part old into.written ++ entry_of into k w → GrowsContainer old into k w new grown
+grows_by old new k w into grown more =
+    let b = part old into.written in
+    let bare : into.tag ≡ array_tag → b ++ w ≡ part new grown.written = λ is.
+    let same : entry_of into k w ≡ w = rw is refl in
+    sym (more ∙ ap (λ (t : List ℕ). b ++ t) same) in
+    let whole : into.tag ≡ table_tag → b ++ (short_field k ++ w) ≡ part new grown.written = λ is.
+    let same : entry_of into k w ≡ short_field k ++ w = rw is refl in
+    sym (more ∙ ap (λ (t : List ℕ). b ++ t) same) in record {
+      values = λ vs v is p all. subst (λ (t : List ℕ). ArrayBody t (and_value vs v)) (bare is) (body_and b w vs v all p);
+      pairs = λ ps v is brief p all. subst (λ (t : List ℕ). TableBody t (and_pair ps k v)) (whole is) (pairs_and b k w ps v all brief p);
+      values_by = λ rules depth is p all. subst (AreValuesBy rules depth) (bare is) (values_join rules depth b w all (one_value rules depth w p));
+      pairs_by = λ rules depth is allowed p all.
+          subst (ArePairsBy rules depth) (whole is) (pairs_join rules depth b (short_field k ++ w) all (one_pair rules depth k w allowed p));
+    }
 
 -- what is written of a container, once bytes were written after it
 pub part_grown : (old new bytes : List ℕ) (c grown : Container) → SpanIsIn (length old) c.written → new ≡ with_bytes (end_of c) bytes old
@@ -140,7 +141,7 @@ closed old new k into body grown is fits filled reaches =
       fits = fits;
       filled = filled;
       reaches = reaches;
-      grows = λ v of.
-          grows_by old new k (body.tag ∷ long_field b) into grown v is.place.1 (wire_of_body body.tag b v (omega (arith, size)) of)
-          (more ∙ ap (λ (t : List ℕ). part old into.written ++ t) bytes);
+      means = λ v of. wire_of_body body.tag b v (omega (arith, size, fits)) of;
+      reads = λ rules depth of. closed_by rules depth body.tag b (omega (arith, size, fits)) of;
+      grows = grows_by old new k (body.tag ∷ long_field b) into grown (more ∙ ap (λ (t : List ℕ). part old into.written ++ t) bytes);
     }

@@ -6,6 +6,8 @@ mod Finding
 mod FirstFinding
 mod NthFinding
 mod Paths
+mod ByRules
+mod AnyKeys
 mod Growing
 mod BuiltNumbers
 mod Tags

@@ -1,5 +1,5 @@
 -- Entries that are put.
-use Rattle.std.proofs.Common.{◌≡◌, ◌-◌, ◌<◌, ◌^◌, ℕ, ℤ, List, ◌∷◌, ◌++◌, length, take, Result, Ok, Err, MatchResult, refl, sym, ap, ap₂, ◌∙◌, subst, arith, length-append, inl, inr}
+use Rattle.std.proofs.Common.{◌≡◌, ◌-◌, ◌<◌, ◌≤◌, ◌^◌, ℕ, ℤ, List, ◌∷◌, ◌++◌, length, take, Result, Ok, Err, MatchResult, refl, sym, ap, ap₂, ◌∙◌, subst, arith, length-append, inl, inr}
 use Rattle.std.specs.Int.{w32, w64, to_be_bytes, cast_unsigned}
 use Rattle.std.proofs.lemmas.List.{take_at, length-take-le}
 use Rattle.amqp_value_core.specs.declared.types.amqp_type.AMQPType.TheVariants as amqp
@@ -17,9 +17,12 @@ use Rattle.amqp_c_common.specs.declared.fault.Fault.TheVariants.{More, UnknownTa
 use Rattle.amqp_c.specs.declared.container.Container.{Container}
 use Rattle.amqp_c.specs.Containers.{IsPlace, end_with, entry_of, up_to}
 use Rattle.amqp_c.specs.BuiltEntries.{IsScalarOf, IsScalarTag, IsSignedTag, IsUnsignedTag, IsScalarEncoding, IsStringTag, IsOfBytes, IsEncodingAtStart}
-use Rattle.amqp_c.specs.Items.{Item, fixed_width, signed_number, unsigned_number, IsItemEncoding}
+use Rattle.amqp_in_place.specs.declared.problems.Rules.TheVariants.{AnyKeys}
+use Rattle.amqp_c.specs.ByRules.{IsEncodingBy}
+use Rattle.amqp_c.specs.Items.{Item, fixed_width, signed_number, unsigned_number, IsItemEncoding, IsAnyEncoding, IsPutEncoding, item_depth}
 use Rattle.amqp_c.specs.Faults.{RefusesNumber, LacksCapacityFor, IsIntegerFault, IsItemFault, IsPutFault}
 use Rattle.amqp_c.specs.Growth.{IsAppended, IsEntryPut}
+use Rattle.amqp_c.proofs.AnyKeys.{IsPlain}
 use Rattle.amqp_c.proofs.Growing.{part_grown, grows_by}
 
 -- the type tag of a signed number, and of an unsigned one, is of a value of fixed width
@@ -50,52 +53,58 @@ integer_fault kind tag bits NotJson is scalar_tag x = x
 integer_fault kind tag bits NoEncoding is scalar_tag x = x
 
 -- an item that is put is another one too, which has its encodings and its faults
-pub put_as : (item other : Item) (old new k : List ℕ) (into : Container) (r : Result Container Fault)
-    → ((w : List ℕ) (v : Tree) → IsItemEncoding item w v → IsItemEncoding other w v) → ((f : Fault) → IsItemFault item f → IsItemFault other f)
+pub put_as : (item other : Item) (old new k : List ℕ) (into : Container) (r : Result Container Fault) → item_depth item ≡ 0
+    → ((w : List ℕ) → IsPutEncoding into item w → IsPutEncoding into other w) → ((f : Fault) → IsItemFault into item f → IsItemFault into other f)
     → MatchResult r (IsEntryPut item old into k new) (IsPutFault item old into k)
     → MatchResult r (IsEntryPut other old into k new) (IsPutFault other old into k)
-put_as item other old new k into (Ok grown) encodings faults p = record {
+put_as item other old new k into (Ok grown) shallow encodings faults p = record {
   encoding = p.encoding;
-  meaning = p.meaning;
-  encodes = encodings p.encoding p.meaning p.encodes;
+  encodes = encodings p.encoding p.encodes;
+  reads = λ depth deep. p.reads depth (omega (arith, shallow));
   appended = p.appended;
   reaches = p.reaches;
   grows = p.grows;
 }
-put_as item other old new k into (Err f) encodings faults (inl x) = inl x
-put_as item other old new k into (Err f) encodings faults (inr (place, inl x)) = inr (place, inl (faults f x))
-put_as item other old new k into (Err f) encodings faults (inr (place, inr (w, (v, is), lacks))) = inr (place, inr (w, (v, encodings w v is), lacks))
+put_as item other old new k into (Err f) shallow encodings faults (inl x) = inl x
+put_as item other old new k into (Err f) shallow encodings faults (inr (place, inl x)) = inr (place, inl (faults f x))
+put_as item other old new k into (Err f) shallow encodings faults (inr (place, inr (w, is, lacks))) = inr (place, inr (w, encodings w is, lacks))
+
+-- so of what is no encoding that is read
+encoded_as : (item other : Item) (into : Container) → ((w : List ℕ) → IsAnyEncoding item w → ⊥) → ((w : List ℕ) (v : Tree) → IsItemEncoding item w v → IsItemEncoding other w v)
+    → (w : List ℕ) → IsPutEncoding into item w → IsPutEncoding into other w
+encoded_as item other into none encodings w (inl (v, is, p)) = inl (v, encodings w v is, p)
+encoded_as item other into none encodings w (inr (any, x)) = absurd (none w x)
 
 -- a signed number is put as a value of fixed width, by its bits, and an unsigned one
 pub signed_put : (tag bits : ℕ) (n : ℤ) (old new k : List ℕ) (into : Container) (r : Result Container Fault) → bits ≡ cast_unsigned w64 n → IsSignedTag tag
     → MatchResult r (IsEntryPut (fixed_width tag bits 0) old into k new) (IsPutFault (fixed_width tag bits 0) old into k)
     → MatchResult r (IsEntryPut (signed_number tag n) old into k new) (IsPutFault (signed_number tag n) old into k)
 signed_put tag bits n old new k into r same is =
-    put_as (fixed_width tag bits 0) (signed_number tag n) old new k into r
-    (λ w v x. (is, subst (λ (b : ℕ). IsScalarEncoding tag b 0 w v) same x))
+    put_as (fixed_width tag bits 0) (signed_number tag n) old new k into r refl
+    (encoded_as (fixed_width tag bits 0) (signed_number tag n) into (λ w x. x) (λ w v x. (is, subst (λ (b : ℕ). IsScalarEncoding tag b 0 w v) same x)))
     (λ f x. integer_fault (IsSignedTag tag) tag (cast_unsigned w64 n) f is (signed_scalar tag is) (subst (λ (b : ℕ). RefusesNumber tag b 0 f) same x))
 
 pub unsigned_put : (tag n : ℕ) (old new k : List ℕ) (into : Container) (r : Result Container Fault) → IsUnsignedTag tag
     → MatchResult r (IsEntryPut (fixed_width tag n 0) old into k new) (IsPutFault (fixed_width tag n 0) old into k)
     → MatchResult r (IsEntryPut (unsigned_number tag n) old into k new) (IsPutFault (unsigned_number tag n) old into k)
 unsigned_put tag n old new k into r is =
-    put_as (fixed_width tag n 0) (unsigned_number tag n) old new k into r
-    (λ w v x. (is, x)) (λ f x. integer_fault (IsUnsignedTag tag) tag n f is (unsigned_scalar tag is) x)
+    put_as (fixed_width tag n 0) (unsigned_number tag n) old new k into r refl
+    (encoded_as (fixed_width tag n 0) (unsigned_number tag n) into (λ w x. x) (λ w v x. (is, x))) (λ f x. integer_fault (IsUnsignedTag tag) tag n f is (unsigned_scalar tag is) x)
 
 -- what is appended is put
-pub put_of : (item : Item) (old new k w : List ℕ) (into : Container) (v : Tree) (r : Result Container Fault)
-    → IsPlace (length old) into k → IsItemEncoding item w v → Wire w v
+pub put_of : (item : Item) (old new k w : List ℕ) (into : Container) (r : Result Container Fault)
+    → IsPlace (length old) into k → IsPutEncoding into item w → ((depth : ℕ) → item_depth item ≤ depth → IsEncodingBy AnyKeys depth w)
     → MatchResult r (λ grown. IsAppended old into k w new × (grown ≡ up_to (end_with into k w) into)) (LacksCapacityFor old into k w)
     → MatchResult r (IsEntryPut item old into k new) (IsPutFault item old into k)
-put_of item old new k w into v (Ok grown) place encodes p (is, reaches) = record {
+put_of item old new k w into (Ok grown) place encodes reads (is, reaches) = record {
   encoding = w;
-  meaning = v;
   encodes = encodes;
+  reads = reads;
   appended = is;
   reaches = reaches;
-  grows = grows_by old new k w into grown v is.place.1 p (part_grown old new (entry_of into k w) into grown is.place.0 is.written reaches);
+  grows = grows_by old new k w into grown (part_grown old new (entry_of into k w) into grown is.place.0 is.written reaches);
 }
-put_of item old new k w into v (Err f) place encodes p lacks = inr (place, inr (w, (v, encodes), lacks))
+put_of item old new k w into (Err f) place encodes reads lacks = inr (place, inr (w, encodes, lacks))
 
 -- a value of fixed width
 pub scalar_encoding : (tag bits scale : ℕ) (w : List ℕ) (x : Scalar) → IsScalarOf tag bits scale x → w ≡ text (scalar x)
@@ -105,13 +114,13 @@ scalar_encoding tag bits scale w x tells same =
 
 -- a long string or a byte array, after its length
 pub strings : (tag : ℕ) (b head w : List ℕ) → IsStringTag tag → length b < 2 ^ 32 → head ≡ tag ∷ to_be_bytes w32 (length b)
-    → w ≡ head ++ b → (v : Tree) × IsOfBytes tag b w v × Wire w v
+    → w ≡ head ++ b → (v : Tree) × IsOfBytes tag b w v × Wire w v × IsPlain v
 strings tag b head w (inl is) fits counts written =
     let same : w ≡ text (long b) = written ∙ ap (λ (u : List ℕ). u ++ b) (counts ∙ ap (λ (n : ℕ). n ∷ to_be_bytes w32 (length b)) is) in
-    (long b, (inl (is, refl), same, fits), subst (λ (u : List ℕ). Wire u (long b)) (sym same) (text_is_wire (long b) tt fits refl))
+    (long b, (inl (is, refl), same, fits), subst (λ (u : List ℕ). Wire u (long b)) (sym same) (text_is_wire (long b) tt fits refl), tt)
 strings tag b head w (inr is) fits counts written =
     let same : w ≡ text (octets b) = written ∙ ap (λ (u : List ℕ). u ++ b) (counts ∙ ap (λ (n : ℕ). n ∷ to_be_bytes w32 (length b)) is) in
-    (octets b, (inr (is, refl), same, fits), subst (λ (u : List ℕ). Wire u (octets b)) (sym same) (text_is_wire (octets b) tt fits refl))
+    (octets b, (inr (is, refl), same, fits), subst (λ (u : List ℕ). Wire u (octets b)) (sym same) (text_is_wire (octets b) tt fits refl), tt)
 
 -- an encoding that is read from the start
 pub prefix : (l : Limits) (s rest w : List ℕ) (v : Tree) → Within l s (found v rest) → w ≡ take (length s - length rest) s → IsEncodingAtStart l s w v × Wire w v

@@ -1,5 +1,5 @@
 -- Reading by rules: what is reported, and what is read if there is no problem.
-use Rattle.std.proofs.Common.{◌≡◌, ◌<◌, ◌≤◌, ◌+◌, ℕ, zero, suc, Bool, true, false, if◌then◌else◌, ◌==◌, Option, Some, None, option_map, List, [], ◌∷◌, length, MatchOption, Result, Ok, Err, IfOk, IfErr, MatchResult, refl, sym, ap, ◌∙◌, subst, inl, inr, arith}
+use Rattle.std.proofs.Common.{◌≡◌, ◌<◌, ◌≤◌, ◌+◌, ℕ, zero, suc, Option, Some, None, option_map, List, [], ◌∷◌, length, MatchOption, Result, Ok, Err, IfOk, IfErr, MatchResult, refl, sym, ap, ◌∙◌, subst, inl, inr, arith}
 use Rattle.std.proofs.lemmas.Bool.{cases_lt, lt-ltb, le-ltb}
 use Rattle.std.proofs.lemmas.Option.{same_Some}
 use Rattle.amqp_value_core.specs.declared.types.amqp_type.AMQPType.{AMQPType}
@@ -22,7 +22,6 @@ use Rattle.amqp_in_place.specs.declared.problems.Problem as in_place
 use Rattle.amqp_in_place.specs.declared.problems.ProblemKind.{ProblemKind}
 use Rattle.amqp_in_place.specs.declared.problems.ProblemKind.TheVariants as problem
 use Rattle.amqp_in_place.specs.declared.problems.Rules.{Rules}
-use Rattle.amqp_in_place.specs.declared.problems.Rules.TheVariants as by_rules
 use Rattle.amqp_in_place.specs.Bodies.{HasEntries}
 use Rattle.amqp_in_place.specs.Problems.{Search, known, here, untagged, in_payload, in_value, inside, problem_of, problem_in_table_of}
 use Rattle.amqp_in_place.specs.ProblemResults.{FindsValue, FailsAt}
@@ -33,20 +32,11 @@ use Rattle.amqp_c.specs.CallResults.{IsValueTaken, IsTableTaken, FaultsWithin, H
 use Rattle.amqp_c.specs.Entries.{IsEntryAtStart, EntryIsIn}
 use Rattle.amqp_c.specs.ReadBy.{fault_at, header_lack, IsReadOr, IsFirst, IsFirstTable, IsPrefixedTable}
 use Rattle.amqp_c.specs.Steps.{IsHeaded}
+use Rattle.amqp_c.proofs.ByRules.{known_kind, tag_problem}
 use Rattle.amqp_c.proofs.Parts.{part_content}
 use Rattle.amqp_c.proofs.Prefixes.{ContentIs, content_at_start, payload_at_start, cut_header, frame_extent, frame_length, value_taken}
 
 -- ---- no problem
-
--- a type tag that the rules know is one
-known_kind : (rules : Rules) (c : ℕ) (type : AMQPType) → known rules c ≡ Some type → kind c ≡ Some type
-known_kind by_rules.Reading c type is = is
-known_kind by_rules.AnyKeys c type is = is
-known_kind by_rules.RabbitMq c type is = by (c == 85) is
-  where
-    by : (b : Bool) → (if b then None else kind c) ≡ Some type → kind c ≡ Some type
-    by true is = absurd cc
-    by false is = is
 
 -- a value in which there is no problem is all there, by its header
 payload_headed : (within : AMQPType → Search) (c : ℕ) (b : List ℕ) (type : AMQPType) → kind c ≡ Some type → in_payload within type b ≡ None → IsHeaded (c ∷ b)
@@ -54,10 +44,6 @@ payload_headed within c b type is = elim (cases_lt (length b) (raw_extent type b
   | inl cut ↦ rw (lt-ltb (length b) (raw_extent type b) cut) (λ none. absurd cc)
   | inr there ↦ λ none. subst (λ (o : Option AMQPType). (0 < extent_at o b) × (extent_at o b ≤ suc (length b))) (sym is) (omega arith, omega (arith, there))
 ]
-
--- the problem in a value, by the type that its type tag denotes
-abbrev tag_problem : (AMQPType → Search) → ℕ → List ℕ → Option AMQPType → Option in_place.Problem
-tag_problem within c b o = elim o [ None ↦ Some (here (problem.UnknownTag c)) | Some type ↦ in_payload within type b ]
 
 value_headed : (rules : Rules) (within : AMQPType → Search) (s : List ℕ) → in_value rules within s ≡ None → IsHeaded s
 value_headed rules within [] none = absurd cc

@@ -13,22 +13,22 @@ use Rattle.amqp_c.specs.Growth.{IsEntryPut, IsOpened, IsClosed}
 
 -- the container after a fault: as it was, except for the capacity that the buffer should have had
 abbrev pub needing : Fault → Container → Container
-needing (BufferTooSmall n) c = record { written = c.written; tag = c.tag; inner = c.inner; needed = n }
+needing (BufferTooSmall n) c = record { written = c.written; tag = c.tag; inner = c.inner; any_keys = c.any_keys; needed = n }
 needing _ c = c
 
 -- the container with what is written of the one that is returned, or after the fault
 abbrev pub grown_or_needing : Container → Result Container Fault → Container
-grown_or_needing into (Ok grown) = record { written = grown.written; tag = into.tag; inner = into.inner; needed = into.needed }
+grown_or_needing into (Ok grown) = record { written = grown.written; tag = into.tag; inner = into.inner; any_keys = into.any_keys; needed = into.needed }
 grown_or_needing into (Err f) = needing f into
 
 -- the container in which an entry is opened, or after the fault
 abbrev pub opened_or_needing : Container → Result Container Fault → Container
-opened_or_needing into (Ok body) = record { written = into.written; tag = into.tag; inner = 1; needed = into.needed }
+opened_or_needing into (Ok body) = record { written = into.written; tag = into.tag; inner = 1; any_keys = into.any_keys; needed = into.needed }
 opened_or_needing into (Err f) = needing f into
 
 -- the container with what is written of the one that is returned, and nothing open in it
 abbrev pub closed_or_old : Container → Result Container Fault → Container
-closed_or_old into (Ok grown) = record { written = grown.written; tag = into.tag; inner = 0; needed = into.needed }
+closed_or_old into (Ok grown) = record { written = grown.written; tag = into.tag; inner = 0; any_keys = into.any_keys; needed = into.needed }
 closed_or_old into (Err f) = into
 
 -- an entry with the item is written or rejected; after an error the buffer is as it was, and so is the

@@ -1,5 +1,5 @@
 -- Containers that are put together in a buffer.
-use Rattle.std.specs.Prelude.{ℕ, ◌≡◌, ◌+◌, ◌-◌, List, [], ◌++◌, ◌==◌, if◌then◌else◌, length, ◌⊎◌}
+use Rattle.std.specs.Prelude.{ℕ, ◌≡◌, ◌+◌, ◌-◌, ◌<◌, ◌≤◌, List, [], ◌++◌, ◌==◌, if◌then◌else◌, length, ◌⊎◌}
 use Rattle.amqp_value_core.specs.Strings.{IsShort}
 use Rattle.amqp_value_core.specs.Grammar.{short_field}
 use Rattle.amqp_c_common.specs.Spans.{SpanIsIn}
@@ -30,9 +30,16 @@ IsContainerIn n c = SpanIsIn n c.written × IsContainerTag c.tag × HasNoneOpen 
 abbrev pub end_of : Container → ℕ
 end_of c = c.written.offset + c.written.length
 
--- an entry of the container may have this key: in an array no key, in a table each short string
+-- keys may be any bytes, in it and in what is put and opened there
+abbrev pub HasAnyKeys : Container → Type 0
+HasAnyKeys c = 0 < c.any_keys
+
+-- an entry of the container may have this key: in an array no key, in a table each short string, and if keys
+-- may be any bytes, each of at most 255
 abbrev pub IsKeyOf : Container → List ℕ → Type 0
-IsKeyOf c k = ((c.tag ≡ array_tag) × (k ≡ [])) ⊎ ((c.tag ≡ table_tag) × IsShort k)
+IsKeyOf c k =
+    ((c.tag ≡ array_tag) × (k ≡ []))
+    ⊎ ((c.tag ≡ table_tag) × (IsShort k ⊎ (HasAnyKeys c × (length k ≤ 255))))
 
 -- in a buffer of n bytes an entry with this key can be put after what is written
 abbrev pub IsPlace : ℕ → Container → List ℕ → Type 0
@@ -51,9 +58,9 @@ abbrev pub end_with : Container → List ℕ → List ℕ → ℕ
 end_with c k w = end_of c + length (entry_of c k w)
 
 -- a container of which nothing is written yet
-abbrev pub empty_at : ℕ → ℕ → Container
-empty_at at tag = record { written = record { offset = at; length = 0 }; tag = tag; inner = 0; needed = 0 }
+abbrev pub empty_at : ℕ → ℕ → ℕ → Container
+empty_at at tag any_keys = record { written = record { offset = at; length = 0 }; tag = tag; inner = 0; any_keys = any_keys; needed = 0 }
 
 -- the container, if what is written ends there, and nothing is open in it
 abbrev pub up_to : ℕ → Container → Container
-up_to at c = record { written = record { offset = c.written.offset; length = at - c.written.offset }; tag = c.tag; inner = 0; needed = c.needed }
+up_to at c = record { written = record { offset = c.written.offset; length = at - c.written.offset }; tag = c.tag; inner = 0; any_keys = c.any_keys; needed = c.needed }

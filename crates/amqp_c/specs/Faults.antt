@@ -1,16 +1,21 @@
 -- When each fault is right.
-use Rattle.std.specs.Prelude.{ℕ, ◌≡◌, ◌<◌, ◌≤◌, ◌^◌, List, length, ◌⊎◌}
+use Rattle.std.specs.Prelude.{ℕ, ◌≡◌, ◌<◌, ◌≤◌, ◌^◌, Some, List, length, ◌⊎◌}
 use Rattle.std.specs.Int.{w64, cast_unsigned}
-use Rattle.amqp_value_core.specs.Values.{Scalar, Tree}
+use Rattle.amqp_value_core.specs.Values.{Scalar}
 use Rattle.amq_protocol_types.specs.declared.parsing.limits.Limits.{Limits}
+use Rattle.amq_protocol_types.specs.parsing.Headers.{wanted}
+use Rattle.amqp_in_place.specs.declared.problems.Problem as in_place
+use Rattle.amqp_in_place.specs.declared.problems.Rules.TheVariants.{AnyKeys}
+use Rattle.amqp_in_place.specs.Problems.{problem_of}
 use Rattle.amqp_c_common.specs.declared.fault.Fault.{Fault}
 use Rattle.amqp_c_common.specs.declared.fault.Fault.TheVariants.{TooLarge, Invalid, OutOfMemory, BufferTooSmall, BadKey, BadTag, OutOfRange}
 use Rattle.amqp_c_common.specs.Reading.{IsReadFault}
 use Rattle.amqp_c.specs.declared.container.Container.{Container}
-use Rattle.amqp_c.specs.Containers.{IsContainerIn, IsContainerTag, IsKeyOf, IsPlace, end_with}
+use Rattle.amqp_c.specs.Containers.{IsContainerIn, IsContainerTag, HasAnyKeys, IsKeyOf, IsPlace, end_with}
 use Rattle.amqp_c.specs.BuiltEntries.{IsScalarOf, IsScalarTag, IsSignedTag, IsUnsignedTag, IsStringTag, unfilled}
 use Rattle.amqp_c.specs.Growth.{IsOpen}
-use Rattle.amqp_c.specs.Items.{Item, fixed_width, signed_number, unsigned_number, byte_string, first_encoding, IsItemEncoding}
+use Rattle.amqp_c.specs.Items.{Item, fixed_width, signed_number, unsigned_number, byte_string, first_encoding, IsPutEncoding}
+use Rattle.amqp_c.specs.ReadBy.{fault_at}
 
 -- a fault of the place is right: no container is there in which nothing is open, or it can't have an entry with
 -- this key
@@ -48,24 +53,32 @@ abbrev pub IsReadFaultInPlace : Limits → List ℕ → Fault → Type 0
 IsReadFaultInPlace l s OutOfMemory = ⊥
 IsReadFaultInPlace l s f = IsReadFault l s f
 
--- a fault of an item is right, wherever it is to be put
-abbrev pub IsItemFault : Item → Fault → Type 0
-IsItemFault (fixed_width tag bits scale) f = RefusesNumber tag bits scale f
-IsItemFault (signed_number tag n) f = IsIntegerFault (IsSignedTag tag) tag (cast_unsigned w64 n) f
-IsItemFault (unsigned_number tag n) f = IsIntegerFault (IsUnsignedTag tag) tag n f
-IsItemFault (byte_string tag b) f = IsStringFault tag b f
-IsItemFault (first_encoding l s) f = IsReadFaultInPlace l s f
+-- a fault of reading s within the limits is right, if keys may be any bytes: that of the first problem
+abbrev pub IsAnyFault : Limits → List ℕ → Fault → Type 0
+IsAnyFault l s f = (p : in_place.Problem) × (problem_of AnyKeys l s ≡ Some p) × (f ≡ fault_at p.offset p.kind (wanted s))
+
+-- a fault of the encoding at the start of s is right, by whether keys may be any bytes in the container
+abbrev pub IsEncodingFault : Container → Limits → List ℕ → Fault → Type 0
+IsEncodingFault into l s f = ((into.any_keys ≡ 0) × IsReadFaultInPlace l s f) ⊎ (HasAnyKeys into × IsAnyFault l s f)
+
+-- a fault of an item is right, wherever in the container it is to be put
+abbrev pub IsItemFault : Container → Item → Fault → Type 0
+IsItemFault into (fixed_width tag bits scale) f = RefusesNumber tag bits scale f
+IsItemFault into (signed_number tag n) f = IsIntegerFault (IsSignedTag tag) tag (cast_unsigned w64 n) f
+IsItemFault into (unsigned_number tag n) f = IsIntegerFault (IsUnsignedTag tag) tag n f
+IsItemFault into (byte_string tag b) f = IsStringFault tag b f
+IsItemFault into (first_encoding l s) f = IsEncodingFault into l s f
 
 -- the buffer is too small for the entry of the item's encoding
 abbrev pub IsBufferFault : Item → List ℕ → Container → List ℕ → Fault → Type 0
-IsBufferFault item buffer into k f = (w : List ℕ) × ((v : Tree) × IsItemEncoding item w v) × LacksCapacityFor buffer into k w f
+IsBufferFault item buffer into k f = (w : List ℕ) × IsPutEncoding into item w × LacksCapacityFor buffer into k w f
 
 -- a fault of putting an item is right: that of the place, otherwise that of the item, otherwise that of
 -- the buffer
 abbrev pub IsPutFault : Item → List ℕ → Container → List ℕ → Fault → Type 0
 IsPutFault item buffer into k f =
     RefusesPlace (length buffer) into k f
-    ⊎ (IsPlace (length buffer) into k × (IsItemFault item f ⊎ IsBufferFault item buffer into k f))
+    ⊎ (IsPlace (length buffer) into k × (IsItemFault into item f ⊎ IsBufferFault item buffer into k f))
 
 -- a fault of opening an entry is right: that of the place, otherwise of the type tag, which is of no
 -- container, otherwise of the buffer

@@ -1,13 +1,18 @@
 -- How what is written of a container grows.
-use Rattle.std.specs.Prelude.{ℕ, ◌≡◌, ◌+◌, ◌-◌, ◌<◌, ◌≤◌, ◌^◌, List, [], ◌∷◌, length}
+use Rattle.std.specs.Prelude.{ℕ, ◌≡◌, ◌+◌, ◌-◌, ◌<◌, ◌≤◌, ◌^◌, suc, true, List, [], ◌∷◌, length}
 use Rattle.std.specs.Int.{w32, to_be_bytes}
 use Rattle.amqp_value_core.specs.Values.{Tree, Trees, no_trees, tree, Entries, no_entries, entry}
-use Rattle.amqp_value_core.specs.Grammar.{ArrayBody, TableBody}
+use Rattle.amqp_value_core.specs.Strings.{IsShort}
+use Rattle.amqp_value_core.specs.Grammar.{long_field, Wire, ArrayBody, TableBody}
+use Rattle.amqp_in_place.specs.declared.problems.Rules.{Rules}
+use Rattle.amqp_in_place.specs.declared.problems.Rules.TheVariants.{AnyKeys}
+use Rattle.amqp_in_place.specs.Problems.{allow_key}
 use Rattle.amqp_c_common.specs.Spans.{part, SpanIsIn}
 use Rattle.amqp_c.specs.declared.container.Container.{Container}
 use Rattle.amqp_c.specs.Containers.{array_tag, table_tag, IsContainerTag, HasNoneOpen, HasOneOpen, IsKeyOf, IsPlace, end_of, entry_of, end_with, empty_at, up_to}
 use Rattle.amqp_c.specs.BuiltEntries.{unfilled, IsOfBody}
-use Rattle.amqp_c.specs.Items.{Item, IsItemEncoding}
+use Rattle.amqp_c.specs.ByRules.{IsEncodingBy, AreValuesBy, ArePairsBy, IsBodyBy}
+use Rattle.amqp_c.specs.Items.{Item, IsPutEncoding, item_depth}
 use Rattle.amqp_c.specs.Buffers.{with_bytes, StandsAt}
 
 -- the values, with v after them
@@ -27,25 +32,33 @@ pub record IsAppended (old : List ℕ) (into : Container) (k w new : List ℕ) :
   pub buffer : end_with into k w ≤ length old
   pub written : new ≡ with_bytes (end_of into) (entry_of into k w) old
 
--- if values or pairs were written of a container, they are written now with v after them
-pub record GrowsContainer (old : List ℕ) (into : Container) (k : List ℕ) (v : Tree) (new : List ℕ) (grown : Container) : Type 0 where
-  pub values : (vs : Trees) → into.tag ≡ array_tag → ArrayBody (part old into.written) vs → ArrayBody (part new grown.written) (and_value vs v)
-  pub pairs : (ps : Entries) → into.tag ≡ table_tag → TableBody (part old into.written) ps → TableBody (part new grown.written) (and_pair ps k v)
+-- if values or pairs were written of a container, they are written now with that of w after them: by the
+-- grammar, if w is an encoding of v and the key a short string, and by any rules that allow the key, if w
+-- is an encoding by them
+pub record GrowsContainer (old : List ℕ) (into : Container) (k w new : List ℕ) (grown : Container) : Type 0 where
+  pub values : (vs : Trees) (v : Tree) → into.tag ≡ array_tag → Wire w v → ArrayBody (part old into.written) vs → ArrayBody (part new grown.written) (and_value vs v)
+  pub pairs : (ps : Entries) (v : Tree) → into.tag ≡ table_tag → IsShort k → Wire w v → TableBody (part old into.written) ps
+      → TableBody (part new grown.written) (and_pair ps k v)
+  pub values_by : (rules : Rules) (depth : ℕ) → into.tag ≡ array_tag → IsEncodingBy rules depth w → AreValuesBy rules depth (part old into.written)
+      → AreValuesBy rules depth (part new grown.written)
+  pub pairs_by : (rules : Rules) (depth : ℕ) → into.tag ≡ table_tag → allow_key rules k ≡ true → IsEncodingBy rules depth w
+      → ArePairsBy rules depth (part old into.written) → ArePairsBy rules depth (part new grown.written)
 
--- an entry is written, with an encoding of the item; the container grows by its value
+-- an entry is written, with an encoding of the item; the container grows by it
 pub record IsEntryPut (item : Item) (old : List ℕ) (into : Container) (k new : List ℕ) (grown : Container) : Type 0 where
   pub encoding : List ℕ
-  pub meaning : Tree
-  pub encodes : IsItemEncoding item encoding meaning
+  pub encodes : IsPutEncoding into item encoding
+  pub reads : (depth : ℕ) → item_depth item ≤ depth → IsEncodingBy AnyKeys depth encoding
   pub appended : IsAppended old into k encoding new
   pub reaches : grown ≡ up_to (end_with into k encoding) into
-  pub grows : GrowsContainer old into k meaning new grown
+  pub grows : GrowsContainer old into k encoding new grown
 
--- an entry is opened whose value is a container, and its body is empty
+-- an entry is opened whose value is a container, and its body is empty; its keys may be any bytes if those of
+-- `into` may
 pub record IsOpened (tag : ℕ) (old : List ℕ) (into : Container) (k new : List ℕ) (body : Container) : Type 0 where
   pub container : IsContainerTag tag
   pub appended : IsAppended old into k (unfilled tag) new
-  pub empty : body ≡ empty_at (end_with into k (unfilled tag)) tag
+  pub empty : body ≡ empty_at (end_with into k (unfilled tag)) tag into.any_keys
 
 -- the body is one of an entry that is open with this key after what `into` has, and nothing is open in
 -- the body: the key and the body's type tag are there, and the body begins four bytes after them
@@ -58,12 +71,18 @@ pub record IsOpen (buffer : List ℕ) (into body : Container) (k : List ℕ) : T
   pub named : StandsAt (end_of into) (entry_of into k (body.tag ∷ [])) buffer
   pub after : body.written.offset ≡ end_with into k (body.tag ∷ []) + 4
 
+-- the encoding of the container whose body this is
+abbrev pub closed_encoding : List ℕ → Container → List ℕ
+closed_encoding buffer body = body.tag ∷ long_field (part buffer body.written)
+
 -- the entry is closed: the length of its body is filled in before it, `into` reaches to its end, has
--- nothing open, and grows by the array or the table that the body is of
+-- nothing open, and grows by the array or the table that the body is of, by the grammar and by any rules
 pub record IsClosed (old : List ℕ) (into body : Container) (new : List ℕ) (grown : Container) : Type 0 where
   pub key : List ℕ
   pub opened : IsOpen old into body key
   pub fits : body.written.length < 2 ^ 32
   pub filled : new ≡ with_bytes (body.written.offset - 4) (to_be_bytes w32 body.written.length) old
   pub reaches : grown ≡ up_to (end_of body) into
-  pub grows : (v : Tree) → IsOfBody body.tag (part old body.written) v → GrowsContainer old into key v new grown
+  pub means : (v : Tree) → IsOfBody body.tag (part old body.written) v → Wire (closed_encoding old body) v
+  pub reads : (rules : Rules) (depth : ℕ) → IsBodyBy rules depth body.tag (part old body.written) → IsEncodingBy rules (suc depth) (closed_encoding old body)
+  pub grows : GrowsContainer old into key (closed_encoding old body) new grown

@@ -16,6 +16,7 @@ pub mod Containers
 pub mod Buffers
 pub mod BuiltEntries
 pub mod Items
+pub mod ByRules
 pub mod Growth
 pub mod Faults
 pub mod Getters

@@ -4,7 +4,7 @@ ghost use Rattle.std.specs.Prelude.{◌≡◌, ◌≤◌, ◌<◌, ◌^◌, ℕ,
 ghost use Rattle.amqp_c.specs.Containers.{IsContainerTag, IsKeyOf, HasNoneOpen, IsPlace, named, end_of, up_to, empty_at};
 ghost use Rattle.amqp_c.specs.Faults.{RefusesPlace};
 
-use crate::key::is_short_string;
+use crate::key::is_key;
 use amqp_c_common::{Fault, Span};
 
 /// An array or a table that is being put together.
@@ -17,6 +17,9 @@ pub struct Container {
     pub tag: u8,
     /// 1 while an entry that was opened in it isn't closed, otherwise 0.
     pub inner: u8,
+    /// 0 if keys are UTF-8. With any other number they may be any bytes, in it and in what is put and opened
+    /// there.
+    pub any_keys: u8,
     /// After a buffer was too small for an entry: the capacity that it should have had.
     pub needed: usize,
 }
@@ -31,8 +34,8 @@ pub fn is_container_tag(tag: u8) -> bool
 impl Container {
     /// A container of which nothing is written yet.
     #[inline(always)]
-    pub fn empty_at(at: usize, tag: u8) -> Container
-        ensures { result ≡ empty_at at tag }
+    pub fn empty_at(at: usize, tag: u8, any_keys: u8) -> Container
+        ensures { result ≡ empty_at at tag any_keys }
     {
         Container {
             written: Span {
@@ -41,6 +44,7 @@ impl Container {
             },
             tag,
             inner: 0,
+            any_keys,
             needed: 0,
         }
     }
@@ -68,14 +72,15 @@ impl Container {
         Ok(at)
     }
 
-    /// Whether an entry may have this key: in an array no key, in a table each short string.
+    /// Whether an entry may have this key: in an array no key, in a table each short string, and if keys may
+    /// be any bytes, each of at most 255.
     #[inline(always)]
     fn has_key(self, key: &[u8]) -> bool
         ensures { MatchBool result (IsKeyOf self key.now) (IsKeyOf self key.now → ⊥) }
     {
         match self.tag {
             b'A' => key.is_empty(),
-            b'F' => is_short_string(key),
+            b'F' => is_key(key, self.any_keys),
             _ => false,
         }
     }

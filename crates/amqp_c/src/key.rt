@@ -1,19 +1,30 @@
 //! Whether bytes can be a key.
 
-ghost use Rattle.std.specs.Prelude.{◌≡◌, true, MatchBool};
+ghost use Rattle.std.specs.Prelude.{◌≡◌, ◌<◌, ◌≤◌, ◌⊎◌, true, length, MatchBool};
 ghost use Rattle.amqp_value_core.specs.Strings.{IsShort};
 ghost use Rattle.std.specs.Str.{IsAscii, IsUtf8};
 
 use std::str;
 
-// The tactic names why ASCII is UTF-8.
 /// Whether the bytes are a short string, as each key of a table is.
 #[inline(always)]
-#[tactic(auto, using(amq_protocol_types::proofs::ParsingLaws::ascii_is_utf8))]
 pub fn is_short_string(bytes: &[u8]) -> bool
     ensures { MatchBool result (IsShort bytes.now) (IsShort bytes.now → ⊥) }
 {
-    bytes.len() <= 255 && (is_ascii(bytes) || is_utf8(bytes))
+    is_key(bytes, 0)
+}
+
+// The tactic names why ASCII is UTF-8.
+/// Whether the bytes are a short string, or if a number isn't 0, any of at most 255 bytes. Of ASCII the number
+/// isn't looked at.
+#[inline(always)]
+#[tactic(auto, using(amq_protocol_types::proofs::ParsingLaws::ascii_is_utf8))]
+pub fn is_key(bytes: &[u8], any: u8) -> bool
+    ensures { MatchBool result
+        (IsShort bytes.now ⊎ ((0 < any) × (length bytes.now ≤ 255)))
+        (IsShort bytes.now ⊎ ((0 < any) × (length bytes.now ≤ 255)) → ⊥) }
+{
+    bytes.len() <= 255 && (is_ascii(bytes) || is_utf8_or(bytes, any))
 }
 
 /// Whether the bytes are ASCII: 8 to 16, as most keys have, by the high bits of two words, which may overlap.
@@ -44,11 +55,13 @@ fn has_no_high_bit(eight: &[u8; 8]) -> bool
     u64::from_le_bytes(*eight) & 0x8080_8080_8080_8080 == 0
 }
 
-/// Whether the bytes are UTF-8, of bytes that aren't ASCII.
+/// Whether the bytes are UTF-8, or the number isn't 0, of bytes that aren't ASCII.
 #[cold]
 #[inline(never)]
-fn is_utf8(bytes: &[u8]) -> bool
-    ensures { MatchBool result (IsUtf8 bytes.now) (IsUtf8 bytes.now → ⊥) }
+fn is_utf8_or(bytes: &[u8], any: u8) -> bool
+    ensures { MatchBool result
+        (IsUtf8 bytes.now ⊎ (0 < any))
+        (IsUtf8 bytes.now ⊎ (0 < any) → ⊥) }
 {
-    str::from_utf8(bytes).is_ok()
+    any != 0 || str::from_utf8(bytes).is_ok()
 }

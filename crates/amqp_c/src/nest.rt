@@ -22,7 +22,8 @@ pub fn open(buffer: &mut [u8], into: Container, key: &[u8], tag: u8) -> Result<C
         return Err(Fault::BadTag);
     }
     let grown = append(buffer, into, at, key, &[tag, 0, 0, 0, 0], &[])?;
-    Ok(Container::empty_at(grown.written.offset + grown.written.length, tag))
+    let end = grown.written.offset + grown.written.length;
+    Ok(Container::empty_at(end, tag, into.any_keys))
 }
 
 /// Closes the entry whose value is the array or the table with this body: fills in its length.

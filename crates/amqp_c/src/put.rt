@@ -2,20 +2,25 @@
 //!
 //! What this takes is in line in each call for C, so that what is returned isn't copied through the stack.
 
-ghost use Rattle.std.specs.Prelude.{◌≡◌, ◌∷◌, length, OnErr, MatchResult, MatchBool};
+ghost use Rattle.std.specs.Prelude.{ℕ, ◌≡◌, ◌≤◌, ◌<◌, ◌^◌, ◌∷◌, length, take, None, OnErr, MatchResult, MatchBool};
 ghost use Rattle.std.specs.Int.{w32, to_be_bytes};
 ghost use Rattle.amqp_c.specs.Containers.{IsPlace, end_of};
 ghost use Rattle.amqp_c.specs.BuiltEntries.{IsStringTag};
-ghost use Rattle.amqp_c.specs.Items.{fixed_width, byte_string, first_encoding};
-ghost use Rattle.amqp_c.specs.Faults.{IsPutFault};
+ghost use Rattle.amq_protocol_types.specs.parsing.Headers.{extent};
+ghost use Rattle.amqp_in_place.specs.declared.problems.Rules.TheVariants.{AnyKeys};
+ghost use Rattle.amqp_in_place.specs.Problems.{problem_of};
+ghost use Rattle.amqp_c.specs.ByRules.{IsEncodingBy};
+ghost use Rattle.amqp_c.specs.Items.{fixed_width, byte_string, first_encoding, IsPutEncoding};
+ghost use Rattle.amqp_c.specs.Faults.{IsPutFault, IsAnyFault, IsEncodingFault};
 ghost use Rattle.amqp_c.specs.Growth.{IsEntryPut};
 
 use crate::buffer::append;
 use crate::container::Container;
 use crate::number::encoding_of;
+use crate::read_by::read_by;
 use amq_protocol_types::parsing::Limits;
 use amqp_c_common::Fault;
-use amqp_in_place::read_in_place;
+use amqp_in_place::{Rules, read_in_place};
 
 /// Puts a value of fixed width, by its type tag, its bits and its scale.
 #[inline(always)]
@@ -115,13 +120,40 @@ pub fn put_value(
     ensures kept { OnErr result (buffer.new ≡ buffer.old) }
 {
     let at = into.place(buffer.len(), key)?;
-    let (_, rest) = read_in_place(bytes, limits)?;
-    append(
-        buffer,
-        into,
-        at,
-        key,
-        &[],
-        &bytes[..bytes.len() - rest.len()],
-    )
+    let length = encoding_length(into, bytes, limits)?;
+    append(buffer, into, at, key, &[], &bytes[..length])
+}
+
+/// How many bytes the encoding at the start has, which is read within limits, and if keys may be any bytes in
+/// the container, by the rules that allow them.
+#[inline(always)]
+fn encoding_length(into: Container, bytes: &[u8], limits: Limits) -> Result<usize, Fault>
+    ensures length { MatchResult result
+        (λ n. IsPutEncoding into (first_encoding limits bytes.now) (take n bytes.now))
+        (IsEncodingFault into limits bytes.now) }
+    ensures reads { MatchResult result
+        (λ n. (depth : ℕ) → limits.depth ≤ depth → IsEncodingBy AnyKeys depth (take n bytes.now))
+        (λ _. Unit {0}) }
+    ensures inside { MatchResult result (λ n. n ≤ length bytes.now) (λ _. Unit {0}) }
+    ensures few { MatchResult result (λ n. n < 2 ^ 32) (λ _. Unit {0}) }
+{
+    match read_in_place(bytes, limits) {
+        Ok((_, rest)) => Ok(bytes.len() - rest.len()),
+        Err(_) if into.any_keys != 0 => any_length(bytes, limits),
+        Err(refusal) => Err(Fault::from(refusal)),
+    }
+}
+
+/// How many bytes it has by the rules that allow any bytes as keys.
+#[cold]
+#[inline(never)]
+fn any_length(bytes: &[u8], limits: Limits) -> Result<usize, Fault>
+    ensures right { MatchResult result
+        (λ n. (problem_of AnyKeys limits bytes.now ≡ None) × (n ≡ extent bytes.now))
+        (IsAnyFault limits bytes.now) }
+    ensures inside { MatchResult result (λ n. n ≤ length bytes.now) (λ _. Unit {0}) }
+    ensures few { MatchResult result (λ n. n ≤ limits.frame) (λ _. Unit {0}) }
+{
+    let entry = read_by(bytes, Rules::AnyKeys, limits).done?;
+    Ok(entry.value.length)
 }

@@ -34,6 +34,7 @@
 //!         56       in amqpv_read_pairs
 //!        160       in amqpv_first_problem and amqpv_first_problem_in_table
 //!        160       in amqpv_read_by, amqpv_read_table_by, amqpv_is_canonical and amqpv_is_canonical_table
+//!        160       in amqpv_put_value of any keys
 //!        368       in amqpv_canonical
 //!        560       in amqpv_write_json
 //!        928       in amqpv_from_json
@@ -308,6 +309,8 @@ pub struct amqpv_container {
     pub tag: u8,
     /// 1 from amqpv_open in it until amqpv_close of that body, else 0.
     pub inner: u8,
+    /// 0: keys are UTF-8; any other number: they may be any bytes, as a peer sent them.
+    pub any_keys: u8,
     /// After AMQPV_NO_ROOM: the capacity with which the call would succeed; not read.
     pub needed: usize,
 }
@@ -703,12 +706,14 @@ extern "C" {
     /// The functions below build an array or a table in a buffer, entry by entry. A body is the entries of an array or
     /// a table, without its type tag and length. At first the buffer is the body of an array:
     ///
-    /// `amqpv_container top = {{0, 0}, AMQPV_ARRAY, 0, 0};`
+    /// `amqpv_container top = {{0, 0}, AMQPV_ARRAY, 0, 0, 0};`
     ///
     /// Each function appends an entry to `into`, of which `written` then ends after it, and leaves the rest of the
     /// buffer unchanged. In a table `key` is the entry's key, UTF-8 of at most 255 bytes; in an array `key_length` is
-    /// 0. A table may get equal keys: readers take the last, and amqpv_canonical keeps only that. Each takes constant
-    /// time, except for what it copies and reads.
+    /// 0. If `any_keys` of `into` isn't 0, the key may be any bytes, at most 255: set it where a container is begun,
+    /// and amqpv_open gives it to `body`. What is built so is read by AMQPV_RULES_ANY_KEYS, but perhaps not by
+    /// amqpv_read. A table may get equal keys: readers take the last, and amqpv_canonical keeps only that. Each takes
+    /// constant time, except for what it copies and reads.
     ///
     /// While a body is open in `into`, nothing else may be put or opened there, which would overwrite it: `inner` is
     /// then 1. To give up the body, go back to a copy of `into` from before amqpv_open. A copy from after it isn't told
@@ -846,10 +851,11 @@ extern "C" {
         length: usize,
     ) -> amqpv_result;
 
-    /// Appends the value at the start of other bytes: reads it within limits as amqpv_read does, and copies its
-    /// encoding as it is. Bytes after it aren't looked at.
+    /// Appends the value at the start of other bytes: reads it within limits as amqpv_read does, or as amqpv_read_by
+    /// does by AMQPV_RULES_ANY_KEYS if `any_keys` of `into` isn't 0, and copies its encoding as it is. Bytes after it
+    /// aren't looked at.
     ///
-    /// Returns AMQPV_OK, AMQPV_INVALID, AMQPV_BAD_KEY, AMQPV_NO_ROOM, or what amqpv_read returns for the bytes.
+    /// Returns AMQPV_OK, AMQPV_INVALID, AMQPV_BAD_KEY, AMQPV_NO_ROOM, or what that function returns for the bytes.
     pub fn amqpv_put_value(
         buffer: *mut u8,
         capacity: usize,
@@ -863,8 +869,9 @@ extern "C" {
     ) -> amqpv_result;
 
     /// Begins an entry whose value is an array or a table: writes the key, the tag (AMQPV_ARRAY or AMQPV_TABLE) and
-    /// four bytes of 0. `body` is then that container, empty, to which entries are appended. Only `inner` of `into`
-    /// changes, to 1, with which every function but amqpv_close of that body returns AMQPV_INVALID for it.
+    /// four bytes of 0. `body` is then that container, empty, to which entries are appended, with `any_keys` of `into`.
+    /// Only `inner` of `into` changes, to 1, with which every function but amqpv_close of that body returns
+    /// AMQPV_INVALID for it.
     ///
     /// Returns AMQPV_OK, AMQPV_INVALID, AMQPV_BAD_KEY, AMQPV_BAD_TAG or AMQPV_NO_ROOM.
     pub fn amqpv_open(
@@ -962,6 +969,7 @@ mod tests {
         assert_eq!(place!(amqpv_container, written), (0, 16));
         assert_eq!(place!(amqpv_container, tag), (16, 1));
         assert_eq!(place!(amqpv_container, inner), (17, 1));
+        assert_eq!(place!(amqpv_container, any_keys), (18, 1));
         assert_eq!(place!(amqpv_container, needed), (24, 8));
     }
 

@@ -1,0 +1,234 @@
+-- Bodies by rules: entries without a problem, and one more after them.
+use Rattle.std.proofs.Common.{◌≡◌, ◌<◌, ◌≤◌, ◌+◌, ◌-◌, ◌^◌, ℕ, zero, suc, Bool, true, false, Option, Some, None, List, [], ◌∷◌, ◌++◌, length, take, drop, refl, sym, ap, ◌∙◌, subst, arith, inl, inr, length-append, length-drop, if◌then◌else◌, ◌==◌}
+use Rattle.std.specs.Prelude.{option_map}
+use Rattle.std.specs.Int.{Width, w32, byte_len}
+use Rattle.std.proofs.lemmas.Bool.{cases_lt, lt-ltb, le-ltb}
+use Rattle.std.proofs.lemmas.List.{take_at, drop_at, take_all, take-append-le, drop-append-le}
+use Rattle.std.proofs.lemmas.Nat.{from_be_bytes-to_be_bytes_4}
+use Rattle.amqp_value_core.specs.declared.types.amqp_type.AMQPType.{AMQPType}
+use Rattle.amqp_value_core.specs.declared.types.amqp_type.AMQPType.TheVariants as amqp
+use Rattle.amqp_value_core.specs.Ids.{kind}
+use Rattle.amqp_value_core.specs.Layouts.{Layout, fixed}
+use Rattle.amqp_value_core.specs.Outcomes.{length_field}
+use Rattle.amqp_value_core.specs.Grammar.{short_field, long_field}
+use Rattle.amq_protocol_types.specs.parsing.Headers.{extent, extent_at, extent_of, raw_extent}
+use Rattle.amqp_in_place.specs.declared.problems.Problem.{Problem}
+use Rattle.amqp_in_place.specs.declared.problems.ProblemKind.TheVariants.{UnknownTag, KeyNotUtf8}
+use Rattle.amqp_in_place.specs.declared.problems.Rules.{Rules}
+use Rattle.amqp_in_place.specs.declared.problems.Rules.TheVariants as by_rules
+use Rattle.amqp_in_place.specs.Problems.{Search, known, allow_key, here, further, or_else, in_entries, in_payload, in_value, in_pair, pair_len, inside, value_problem, pair_problem}
+use Rattle.amqp_c.specs.ByRules.{IsEncodingBy, AreValuesBy, ArePairsBy, IsBodyBy}
+
+-- ---- searches that find nothing
+
+pub no_further : (n : ℕ) (x : Option Problem) → option_map (further n) x ≡ None → x ≡ None
+no_further n None is = refl
+no_further n (Some p) is = absurd cc
+
+pub neither : (p q : Option Problem) → or_else p q ≡ None → (p ≡ None) × (q ≡ None)
+neither None q is = (refl, is)
+neither (Some p) q is = absurd cc
+
+-- what is after an entry without a problem doesn't matter: it has none with more bytes after it, and as many
+-- bytes
+abbrev IsLocal : Search → (List ℕ → ℕ) → Type 0
+IsLocal first len = (s t : List ℕ) → first s ≡ None → (first (s ++ t) ≡ None) × (len (s ++ t) ≡ len s) × (0 < len s) × (len s ≤ length s)
+
+module _ (first : Search) (len : List ℕ → ℕ) where
+  -- nothing is after what is left of an entry that reaches to the end
+  all_passed : (s : List ℕ) (n : ℕ) → length s ≤ n → in_entries first len n s ≡ None
+  all_passed [] n most = refl
+  all_passed (c ∷ s) zero most = absurd (omega (arith, most))
+  all_passed (c ∷ s) (suc n) most = ap (option_map (further 1)) (all_passed s n (omega (arith, most)))
+
+  -- one entry that is all of the bytes
+  one_entry : (s : List ℕ) → first s ≡ None → len s ≡ length s → in_entries first len 0 s ≡ None
+  one_entry [] none whole = refl
+  one_entry (c ∷ s) none whole =
+      rw none (ap (option_map (further 1)) (all_passed s (len (c ∷ s) - 1) (omega (arith, whole))))
+
+  -- entries, and others after them
+  entries_more : IsLocal first len → (b x : List ℕ) (n : ℕ) → n ≤ length b → in_entries first len n b ≡ None → in_entries first len 0 x ≡ None
+      → in_entries first len n (b ++ x) ≡ None
+  entries_more local [] x zero fits none all = all
+  entries_more local [] x (suc n) fits none all = absurd (omega (arith, fits))
+  entries_more local (c ∷ s) x zero fits none all =
+      let here = neither (first (c ∷ s)) (option_map (further 1) (in_entries first len (len (c ∷ s) - 1) s)) none in
+      let far = local (c ∷ s) x here.0 in
+      let left = no_further 1 (in_entries first len (len (c ∷ s) - 1) s) here.1 in
+      rw (far.0, far.1) (ap (option_map (further 1)) (entries_more local s x (len (c ∷ s) - 1) (omega (arith, far.3)) left all))
+  entries_more local (c ∷ s) x (suc n) fits none all =
+      ap (option_map (further 1)) (entries_more local s x n (omega (arith, fits)) (no_further 1 (in_entries first len n s) none) all)
+
+-- ---- values
+
+-- a type tag that the rules know is one
+pub known_kind : (rules : Rules) (c : ℕ) (type : AMQPType) → known rules c ≡ Some type → kind c ≡ Some type
+known_kind by_rules.Reading c type is = is
+known_kind by_rules.AnyKeys c type is = is
+known_kind by_rules.RabbitMq c type is = by (c == 85) is
+  where
+    by : (b : Bool) → (if b then None else kind c) ≡ Some type → kind c ≡ Some type
+    by true is = absurd cc
+    by false is = is
+
+-- a payload has at least its length field
+pub field_there : (w : Width) (b : List ℕ) → byte_len w ≤ extent_of None w b
+field_there w b = elim (cases_lt (length b) (byte_len w)) [
+  | inl cut ↦ rw (lt-ltb (length b) (byte_len w) cut) (omega arith)
+  | inr there ↦ rw (le-ltb (length b) (byte_len w) there) (omega arith)
+]
+
+-- more bytes after a payload that is all there don't change how many it has
+extent_more : (o : Option Layout) (w : Width) (b t : List ℕ) → extent_of o w b ≤ length b → extent_of o w (b ++ t) ≡ extent_of o w b
+extent_more (Some f) w b t there = refl
+extent_more None w b t there =
+    let long : byte_len w ≤ length b = omega (arith, field_there w b, there) in
+    let more : byte_len w ≤ length (b ++ t) = omega (arith, long, length-append b t) in
+    rw (le-ltb (length b) (byte_len w) long, le-ltb (length (b ++ t)) (byte_len w) more, take-append-le (byte_len w) b t long) refl
+
+-- a payload without a problem is all there, and has none in its bytes
+module _ (within : AMQPType → Search) (type : AMQPType) (b : List ℕ) where
+  abbrev pub size : ℕ
+  size = raw_extent type b
+
+  pub payload_there : in_payload within type b ≡ None → (size ≤ length b) × (within type (take size b) ≡ None)
+  payload_there = elim (cases_lt (length b) size) [
+    | inl cut ↦ rw (lt-ltb (length b) size cut) (λ none. absurd cc)
+    | inr there ↦ rw (le-ltb (length b) size there) (λ none. (there, none))
+  ]
+
+  pub payload_right : size ≤ length b → within type (take size b) ≡ None → in_payload within type b ≡ None
+  payload_right there none = rw (le-ltb (length b) size there) none
+
+payload_more : (within : AMQPType → Search) (type : AMQPType) (b t : List ℕ) → in_payload within type b ≡ None
+    → (in_payload within type (b ++ t) ≡ None) × (raw_extent type (b ++ t) ≡ raw_extent type b) × (raw_extent type b ≤ length b)
+payload_more within type b t none =
+    let is = payload_there within type b none in
+    let same : raw_extent type (b ++ t) ≡ raw_extent type b = extent_more (fixed type) (length_field type) b t is.0 in
+    let bytes : take (raw_extent type (b ++ t)) (b ++ t) ≡ take (raw_extent type b) b = ap (λ (n : ℕ). take n (b ++ t)) same ∙ take-append-le (raw_extent type b) b t is.0 in
+    (payload_right within type (b ++ t) (omega (arith, same, is.0, length-append b t)) (ap (within type) bytes ∙ is.1), same, is.0)
+
+-- the problem in a value, by the type that its type tag denotes
+abbrev pub tag_problem : (AMQPType → Search) → ℕ → List ℕ → Option AMQPType → Option Problem
+tag_problem within c b o = elim o [ None ↦ Some (here (UnknownTag c)) | Some type ↦ in_payload within type b ]
+
+-- a value without a problem has a type tag, and a payload without one
+pub value_there : (rules : Rules) (within : AMQPType → Search) (c : ℕ) (b : List ℕ) → in_value rules within (c ∷ b) ≡ None
+    → (type : AMQPType) × (known rules c ≡ Some type) × (in_payload within type b ≡ None)
+value_there rules within c b none = by (known rules c) refl none
+  where
+    by : (o : Option AMQPType) → known rules c ≡ o → tag_problem within c b o ≡ None → (type : AMQPType) × (known rules c ≡ Some type) × (in_payload within type b ≡ None)
+    by None is none = absurd cc
+    by (Some type) is none = (type, is, none)
+
+pub value_right : (rules : Rules) (within : AMQPType → Search) (c : ℕ) (b : List ℕ) (type : AMQPType) → known rules c ≡ Some type → in_payload within type b ≡ None
+    → in_value rules within (c ∷ b) ≡ None
+value_right rules within c b type is none = ap (tag_problem within c b) is ∙ none
+
+-- and as many bytes as these have
+pub value_size : (rules : Rules) (c : ℕ) (b : List ℕ) (type : AMQPType) → known rules c ≡ Some type → extent (c ∷ b) ≡ suc (raw_extent type b)
+value_size rules c b type is = ap (λ (o : Option AMQPType). extent_at o b) (known_kind rules c type is)
+
+value_local : (rules : Rules) (within : AMQPType → Search) → IsLocal (in_value rules within) extent
+value_local rules within [] t none = absurd cc
+value_local rules within (c ∷ b) t none =
+    let (type, is, right) = value_there rules within c b none in
+    let more = payload_more within type b t right in
+    let here = value_size rules c b type is in
+    let far = value_size rules c (b ++ t) type is in
+    (value_right rules within c (b ++ t) type is more.0, omega (arith, here, far, more.1), omega (arith, here), omega (arith, here, more.2))
+
+-- values, and others after them
+pub values_join : (rules : Rules) (depth : ℕ) (b x : List ℕ) → AreValuesBy rules depth b → AreValuesBy rules depth x → AreValuesBy rules depth (b ++ x)
+values_join rules depth b x all others =
+    entries_more (value_problem rules depth) extent (value_local rules (inside rules depth)) b x 0 (omega arith) all others
+
+-- an encoding is one value
+pub one_value : (rules : Rules) (depth : ℕ) (w : List ℕ) → IsEncodingBy rules depth w → AreValuesBy rules depth w
+one_value rules depth w is = one_entry (value_problem rules depth) extent w is.right is.whole
+
+-- ---- pairs
+
+pub pair_there : (rules : Rules) (value : Search) (k : ℕ) (s : List ℕ) → in_pair rules value (k ∷ s) ≡ None
+    → (k ≤ length s) × (allow_key rules (take k s) ≡ true) × (value (drop k s) ≡ None)
+pair_there rules value k s = elim (cases_lt (length s) k) [
+  | inl cut ↦ rw (lt-ltb (length s) k cut) (λ none. absurd cc)
+  | inr there ↦ rw (le-ltb (length s) k there) (by (allow_key rules (take k s)) refl there)
+]
+  where
+    by : (yes : Bool) → allow_key rules (take k s) ≡ yes → k ≤ length s → (if yes then option_map (further (1 + k)) (value (drop k s)) else Some (here KeyNotUtf8)) ≡ None
+        → (k ≤ length s) × (allow_key rules (take k s) ≡ true) × (value (drop k s) ≡ None)
+    by true allowed there none = (there, allowed, no_further (1 + k) (value (drop k s)) none)
+    by false allowed there none = absurd cc
+
+pub pair_right : (rules : Rules) (value : Search) (k : ℕ) (s : List ℕ) → k ≤ length s → allow_key rules (take k s) ≡ true → value (drop k s) ≡ None
+    → in_pair rules value (k ∷ s) ≡ None
+pair_right rules value k s there allowed none = rw (le-ltb (length s) k there, allowed, none) refl
+
+pair_local : (rules : Rules) (value : Search) → IsLocal value extent → IsLocal (in_pair rules value) pair_len
+pair_local rules value local [] t none = absurd cc
+pair_local rules value local (k ∷ s) t none =
+    let is = pair_there rules value k s none in
+    let far = local (drop k s) t is.2 in
+    let key : take k (s ++ t) ≡ take k s = take-append-le k s t is.0 in
+    let after : drop k (s ++ t) ≡ drop k s ++ t = drop-append-le k s t is.0 in
+    let size : extent (drop k (s ++ t)) ≡ extent (drop k s) = ap extent after ∙ far.1 in (
+      pair_right rules value k (s ++ t) (omega (arith, is.0, length-append s t)) (ap (allow_key rules) key ∙ is.1) (ap value after ∙ far.0),
+      omega (arith, size),
+      omega arith,
+      omega (arith, far.3, length-drop k s, is.0),
+    )
+
+-- pairs, and others after them
+pub pairs_join : (rules : Rules) (depth : ℕ) (b x : List ℕ) → ArePairsBy rules depth b → ArePairsBy rules depth x → ArePairsBy rules depth (b ++ x)
+pairs_join rules depth b x all others =
+    entries_more (pair_problem rules depth) pair_len (pair_local rules (value_problem rules depth) (value_local rules (inside rules depth))) b x 0 (omega arith) all others
+
+-- a key and an encoding are one pair
+pub one_pair : (rules : Rules) (depth : ℕ) (k w : List ℕ) → allow_key rules k ≡ true → IsEncodingBy rules depth w → ArePairsBy rules depth (short_field k ++ w)
+one_pair rules depth k w allowed is =
+    let value = value_problem rules depth in
+    let n = length k in
+    let key : take n (k ++ w) ≡ k = take_at k w n refl in
+    let after : drop n (k ++ w) ≡ w = drop_at k w n refl in
+    let right : in_pair rules value (n ∷ (k ++ w)) ≡ None =
+    pair_right rules value n (k ++ w) (omega (arith, length-append k w)) (ap (allow_key rules) key ∙ allowed) (ap value after ∙ is.right) in
+    let whole : pair_len (n ∷ (k ++ w)) ≡ suc (length (k ++ w)) = omega (arith, ap extent after, is.whole, length-append k w) in
+    one_entry (in_pair rules value) pair_len (short_field k ++ w) right whole
+
+-- ---- containers
+
+known_array : (rules : Rules) → known rules 65 ≡ Some amqp.FieldArray
+known_array by_rules.Reading = refl
+known_array by_rules.AnyKeys = refl
+known_array by_rules.RabbitMq = refl
+
+known_table : (rules : Rules) → known rules 70 ≡ Some amqp.FieldTable
+known_table by_rules.Reading = refl
+known_table by_rules.AnyKeys = refl
+known_table by_rules.RabbitMq = refl
+
+-- bytes after their length are a payload of as many bytes
+field_whole : (b : List ℕ) → length b < 2 ^ 32 → extent_of None w32 (long_field b) ≡ length (long_field b)
+field_whole b fits =
+    let test = le-ltb (length (long_field b)) 4 (omega arith) in
+    rw test (omega (arith, from_be_bytes-to_be_bytes_4 (length b) fits))
+
+-- an encoding by its type and its payload
+pub encoding_is : (rules : Rules) (depth c : ℕ) (type : AMQPType) (b : List ℕ) → known rules c ≡ Some type → raw_extent type b ≡ length b → inside rules depth type b ≡ None
+    → IsEncodingBy rules depth (c ∷ b)
+encoding_is rules depth c type b is size none = record {
+  right = value_right rules (inside rules depth) c b type is
+      (payload_right (inside rules depth) type b (omega (arith, size)) (ap (inside rules depth type) (ap (λ (n : ℕ). take n b) size ∙ take_all (length b) b (omega arith)) ∙ none));
+  whole = value_size rules c b type is ∙ ap suc size;
+}
+
+-- the encoding of a container whose body is one by the rules
+pub closed_by : (rules : Rules) (depth tag : ℕ) (b : List ℕ) → length b < 2 ^ 32 → IsBodyBy rules depth tag b → IsEncodingBy rules (suc depth) (tag ∷ long_field b)
+closed_by rules depth tag b fits (inl (is, all)) =
+    subst (λ (t : ℕ). IsEncodingBy rules (suc depth) (t ∷ long_field b)) (sym is)
+    (encoding_is rules (suc depth) 65 amqp.FieldArray (long_field b) (known_array rules) (field_whole b fits) (ap (option_map (further 5)) all))
+closed_by rules depth tag b fits (inr (is, all)) =
+    subst (λ (t : ℕ). IsEncodingBy rules (suc depth) (t ∷ long_field b)) (sym is)
+    (encoding_is rules (suc depth) 70 amqp.FieldTable (long_field b) (known_table rules) (field_whole b fits) (ap (option_map (further 5)) all))
