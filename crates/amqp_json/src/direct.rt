@@ -20,7 +20,7 @@ use crate::error::ValueError;
 use crate::names::type_of_name;
 use crate::numerals::integer;
 use crate::reading::{long_long_int, long_text, short, timestamp, under_type};
-use crate::writing::{looks_named, to_value};
+use crate::writing::{needs_type_name, to_value};
 use amqp_value_core::types::{AMQPType, FieldArray, FieldTable};
 use amqp_value_core::value::AMQPValue;
 use json::{Reader, Scratch, Token};
@@ -268,7 +268,7 @@ fn ambiguous(table: FieldTable) -> Result<AMQPValue, ValueError>
         ≡ under amqp.FieldTable (object (members_json (table_view table)))) }
     ensures stored { IfOk result (λ v. IsStored (view v)) }
 {
-    if !looks_named(table.inner()) {
+    if !needs_type_name(table.inner()) {
         return Err(ValueError::NotAValue);
     }
     Ok(AMQPValue::FieldTable(table))
