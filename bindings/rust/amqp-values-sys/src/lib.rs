@@ -33,12 +33,12 @@
 //!   aarch64
 //!         56    64 bytes in amqpv_read, amqpv_read_table, amqpv_measure_value, amqpv_measure_table, amqpv_put_value
 //!         56    64       in amqpv_read_pairs
-//!        160   192       in amqpv_first_problem and amqpv_first_problem_in_table
-//!        160   192       in amqpv_read_by, amqpv_read_table_by, amqpv_is_canonical and amqpv_is_canonical_table
-//!        368   512       in amqpv_canonical
-//!        560   560       in amqpv_write_json
-//!        928   928       in amqpv_from_json
-//!        688   832       in amqpv_to_json
+//!        160   176       in amqpv_first_problem and amqpv_first_problem_in_table
+//!        160   176       in amqpv_read_by, amqpv_read_table_by, amqpv_is_canonical and amqpv_is_canonical_table
+//!        368   288       in amqpv_canonical
+//!        560   528       in amqpv_write_json
+//!        928   848       in amqpv_from_json
+//!        688   768       in amqpv_to_json
 //!   The others don't recurse.
 //! - Three functions that allocate have one more, stated before them.
 //!
