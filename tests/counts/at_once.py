@@ -38,15 +38,13 @@ class Most(NamedTuple):
         return min(self.alone * length, by_all or self.alone * length)
 
 
-ROW = re.compile(
-    r"^ \*\s+(\d+) for each byte(?:, or\s+(\d+) for each byte and (\d+) for each (value|level))?\s+in (amqpv_\w+)", re.M
-)
+STATED = re.compile(r"(amqpv_\w+) (\d+) for each byte(?:, or (\d+) for each byte and (\d+) for each (value|level))?")
 
 
 def stated() -> dict[str, Most]:
     """What the header states of each call."""
-    figures = {}
-    for alone, byte, other, kind, name in ROW.findall(HEADER.read_text()):
+    text, figures = " ".join(HEADER.read_text().replace("\n * ", " ").split()), {}
+    for name, alone, byte, other, kind in STATED.findall(text):
         more = {kind: int(other)} if kind else {}
         figures[name] = Most(int(alone), int(byte or 0), 0, 0)._replace(**more)
     return figures

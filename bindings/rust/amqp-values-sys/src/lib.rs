@@ -29,17 +29,18 @@
 //! - What a function writes (a struct, entries, a count, the buffer) overlaps neither the bytes, nor the text,
 //!   nor the key, nor a step, a pair or what these point to, nor another struct or count of the call. During
 //!   the call no other thread writes any of these, nor reads what the function writes.
-//! - The stack suffices: 24 KiB, and for each level of nesting that the limits of the call allow, on x86-64
-//!         56 bytes in amqpv_read, amqpv_read_table, amqpv_measure_value, amqpv_measure_table and amqpv_put_value
-//!         56       in amqpv_read_pairs
-//!        160       in amqpv_first_problem and amqpv_first_problem_in_table
-//!        160       in amqpv_read_by, amqpv_read_table_by, amqpv_is_canonical and amqpv_is_canonical_table
-//!        160       in amqpv_put_value of any keys
-//!        368       in amqpv_canonical
-//!        560       in amqpv_write_json
-//!        928       in amqpv_from_json
-//!        688       in amqpv_to_json
-//!        512       in amqpv_first_warnings and amqpv_first_warnings_in_table
+//! - The stack suffices: 24 KiB, and for each level of nesting that the limits of the call allow, on x86-64 and on
+//!   aarch64
+//!         56    64 bytes in amqpv_read, amqpv_read_table, amqpv_measure_value, amqpv_measure_table, amqpv_put_value
+//!         56    64       in amqpv_read_pairs
+//!        160   176       in amqpv_first_problem and amqpv_first_problem_in_table
+//!        160   176       in amqpv_read_by, amqpv_read_table_by, amqpv_is_canonical and amqpv_is_canonical_table
+//!        160   176       in amqpv_put_value of any keys
+//!        368   288       in amqpv_canonical
+//!        560   528       in amqpv_write_json
+//!        928   848       in amqpv_from_json
+//!        688   768       in amqpv_to_json
+//!        512   512       in amqpv_first_warnings and amqpv_first_warnings_in_table
 //!   The others don't recurse.
 //! - The five functions that allocate have one more, stated before them.
 //!
@@ -109,8 +110,8 @@ pub const AMQPV_BAD_TAG: amqpv_result = -11;
 pub const AMQPV_OUT_OF_RANGE: amqpv_result = -12;
 
 /// Limits that suit untrusted bytes: a `frame`, a `depth`, and the `depth` or `nesting` of amqpv_to_json and
-/// amqpv_from_json. With these each function is content with a stack of 64 KiB, on x86-64. (RabbitMQ sends more than
-/// its usual frame-max, 131072.).
+/// amqpv_from_json. With these each function is content with a stack of 64 KiB, on x86-64 and on aarch64. (RabbitMQ
+/// sends more than its usual frame-max, 131072.).
 pub const AMQPV_FRAME: u32 = 1048576;
 /// See [`AMQPV_FRAME`].
 pub const AMQPV_DEPTH: u32 = 64;
@@ -593,6 +594,11 @@ extern "C" {
     /// The next five functions allocate by malloc, realloc and free, and free all of it before they return. Their
     /// precondition: malloc, realloc and free are of one allocator that aligns as C requires, and the five functions
     /// aren't called from a signal handler.
+    ///
+    /// The most bytes of memory that they hold at once, also while realloc has its old block and the new one, by what
+    /// amqpv_measure_value counts: amqpv_canonical 145 for each byte, or 4 for each byte and 860 for each value;
+    /// amqpv_to_json 80 for each byte, or 35 for each byte and 360 for each level; amqpv_from_json 345 for each byte of
+    /// its text. What isn't read takes no more than these for each byte. An allocator adds some for each block.
     ///
     /// They never return AMQPV_INVALID. The buffer after the bytes that are written stays unchanged.
     ///
