@@ -1,10 +1,10 @@
 /*
  * Makes each call that allocates over each input, for tests/counts/run: at_once FOLDER. Prints a line for each: the call, the
- * input, how many bytes it has, and values and levels, and the most bytes that were held at once, while realloc has its old
- * block and the new one too.
+ * input, how many bytes it has, values and levels if these are counted, and the most bytes that were held at once, while
+ * realloc has its old block and the new one too.
  *
- * An input is a value's encoding, whose JSON is read too, or if its name begins with `JSON` a text. Each call is made again
- * after the last byte was changed, which may be an error.
+ * An input is a value's encoding, whose JSON is read too. If its name begins with `JSON` it is a text, and with `malformed` no
+ * value. Each call is made again without the last byte, and with another one, which may be an error.
  */
 #define _GNU_SOURCE
 #include "amqp_values.h"
@@ -17,38 +17,48 @@
 
 /* The value may have more than its JSON, which has more than the canonical encoding. */
 enum { MOST = 20 << 20, MOST_TEXT = 4 * MOST, DEPTH = 5000 };
-static uint8_t *bytes;
-static char *text, *buffer;
+static uint8_t *bytes, *text;
+static char *buffer;
 static size_t length, text_length;
-static amqpv_measure measure;
 
-static amqpv_result make_canonical(size_t *count) {
-    return amqpv_canonical(bytes, length, UINT32_MAX, DEPTH, (uint8_t *)buffer, MOST_TEXT, count);
+static amqpv_result make_canonical(const uint8_t *given, size_t given_length) {
+    size_t count;
+    return amqpv_canonical(given, given_length, UINT32_MAX, DEPTH, (uint8_t *)buffer, MOST_TEXT, &count);
 }
 
-static amqpv_result make_json(size_t *count) {
-    return amqpv_to_json(bytes, length, UINT32_MAX, DEPTH, buffer, MOST_TEXT, count);
+static amqpv_result make_json(const uint8_t *given, size_t given_length) {
+    size_t count;
+    return amqpv_to_json(given, given_length, UINT32_MAX, DEPTH, buffer, MOST_TEXT, &count);
 }
 
-static amqpv_result read_json(size_t *count) {
-    return amqpv_from_json(text, text_length, AMQPV_JSON_NESTING, (uint8_t *)buffer, MOST_TEXT, count);
+static amqpv_result read_json(const uint8_t *given, size_t given_length) {
+    size_t count;
+    return amqpv_from_json((const char *)given, given_length, AMQPV_JSON_NESTING, (uint8_t *)buffer, MOST_TEXT, &count);
 }
 
-/* Makes a call, and again with another last byte, and returns whether it first is done. */
-static int try_call(const char *call, const char *name, amqpv_result (*make)(size_t *count), uint8_t *last) {
-    size_t count, most_of_two;
-    count_anew();
-    amqpv_result result = make(&count);
-    most_of_two = most_moving;
-    *last ^= 0x77;
-    make(&count);
-    *last ^= 0x77;
-    most_of_two = most_moving > most_of_two ? most_moving : most_of_two;
-    int is_text = make == read_json;
-    printf("%s | %s | %zu %zu %zu %zu\n", call, name, is_text ? text_length : measure.length, is_text ? 0 : measure.values,
-           is_text ? 0 : measure.levels, most_of_two);
-    return result == AMQPV_OK && held == 0;
+static amqpv_result warn(const uint8_t *given, size_t given_length) {
+    amqpv_warnings warnings;
+    return amqpv_first_warnings(given, given_length, DEPTH, 0, UINT32_MAX, &warnings);
 }
+
+static amqpv_result warn_of_table(const uint8_t *given, size_t given_length) {
+    amqpv_warnings warnings;
+    return amqpv_first_warnings_in_table(given, given_length, DEPTH, 0, UINT32_MAX, &warnings);
+}
+
+/* A call, and what counts the values and levels of what it is made over, if that isn't a text. */
+typedef struct call {
+    const char *name;
+    amqpv_result (*make)(const uint8_t *given, size_t given_length);
+    amqpv_result (*count)(const uint8_t *given, size_t given_length, uint32_t frame, uint32_t depth, amqpv_measure *measure,
+                          size_t *taken);
+} call;
+
+static const call canonical = {"amqpv_canonical", make_canonical, amqpv_measure_value};
+static const call to_json = {"amqpv_to_json", make_json, amqpv_measure_value};
+static const call from_json = {"amqpv_from_json", read_json, NULL};
+static const call first_warnings = {"amqpv_first_warnings", warn, amqpv_measure_value};
+static const call first_warnings_in_table = {"amqpv_first_warnings_in_table", warn_of_table, amqpv_measure_table};
 
 static void need(int is_well, const char *name) {
     if (!is_well) {
@@ -57,23 +67,49 @@ static void need(int is_well, const char *name) {
     }
 }
 
-static void try_text(const char *name) {
-    need(try_call("amqpv_from_json", name, read_json, (uint8_t *)text + text_length - 1), name);
+static amqpv_result try_bytes(const call *it, const char *name, const uint8_t *given, size_t given_length) {
+    amqpv_measure measure;
+    size_t taken;
+    printf("%s | %s | %zu", it->name, name, given_length);
+    if (it->count != NULL && it->count(given, given_length, UINT32_MAX, DEPTH, &measure, &taken) == AMQPV_OK) {
+        printf(" %zu %zu", measure.values, measure.levels);
+    }
+    count_anew();
+    amqpv_result result = it->make(given, given_length);
+    printf(" %" PRIu64 "\n", most_moving);
+    need(held == 0, name);
+    return result;
+}
+
+static void try_call(const call *it, const char *name, uint8_t *given, size_t given_length) {
+    amqpv_result result = try_bytes(it, name, given, given_length);
+    need(result == AMQPV_OK || result == AMQPV_NONE, name);
+    try_bytes(it, name, given, given_length - 1);
+    given[given_length - 1] ^= 0x77;
+    try_bytes(it, name, given, given_length);
+    given[given_length - 1] ^= 0x77;
 }
 
 static void try_input(const char *name) {
+    amqpv_measure measure;
     size_t count;
     if (strncmp(name, "JSON", 4) == 0) {
-        memcpy(text, bytes, length);
-        text_length = length;
-        try_text(name);
+        try_call(&from_json, name, bytes, length);
         return;
     }
-    need(amqpv_measure_value(bytes, length, UINT32_MAX, DEPTH, &measure, &count) == AMQPV_OK && count == length, name);
-    need(try_call("amqpv_canonical", name, make_canonical, bytes + length - 1), name);
-    need(try_call("amqpv_to_json", name, make_json, bytes + length - 1), name);
-    if (amqpv_to_json(bytes, length, UINT32_MAX, AMQPV_JSON_NESTING - 2, text, MOST_TEXT, &text_length) == AMQPV_OK) {
-        try_text(name);
+    int is_read = amqpv_measure_value(bytes, length, UINT32_MAX, DEPTH, &measure, &count) == AMQPV_OK && count == length;
+    need(is_read == (strncmp(name, "malformed", 9) != 0), name);
+    try_call(&first_warnings, name, bytes, length);
+    if (bytes[0] == AMQPV_TABLE) {
+        try_call(&first_warnings_in_table, name, bytes + 1, length - 1);
+    }
+    if (!is_read) {
+        return;
+    }
+    try_call(&canonical, name, bytes, length);
+    try_call(&to_json, name, bytes, length);
+    if (amqpv_to_json(bytes, length, UINT32_MAX, AMQPV_JSON_NESTING - 2, (char *)text, MOST_TEXT, &text_length) == AMQPV_OK) {
+        try_call(&from_json, name, text, text_length);
     }
 }
 

@@ -5,7 +5,7 @@ more, and each number of it is nearly needed by some input.
 """
 
 import re
-from collections.abc import Iterator
+from collections.abc import Iterator, Sequence
 from random import Random
 from typing import NamedTuple
 
@@ -26,27 +26,29 @@ ODD = b"t\7"
 
 
 class Most(NamedTuple):
-    """The most memory of a call: by the bytes alone; and by the bytes, the values and the levels."""
+    """The most memory of calls: by the bytes alone; and by the bytes, the values and the levels."""
 
     alone: int
-    byte: int
-    value: int
-    level: int
+    byte: int = 0
+    value: int = 0
+    level: int = 0
 
-    def of(self, length: int, values: int, levels: int) -> int:
-        by_all = self.byte * length + self.value * values + self.level * levels
-        return min(self.alone * length, by_all or self.alone * length)
-
-
-STATED = re.compile(r"(amqpv_\w+) (\d+) for each byte(?:, or (\d+) for each byte and (\d+) for each (value|level))?")
+    def of(self, counts: Sequence[int]) -> int:
+        """What may be held of something with that many bytes and, if these are counted, values and levels."""
+        by_bytes, by_all = self.alone * counts[0], sum(most * count for most, count in zip(self[1:], counts))
+        return min(by_bytes, by_all) if any(self[1:]) and len(counts) > 1 else by_bytes
 
 
-def stated() -> dict[str, Most]:
-    """What the header states of each call."""
+FOR_EACH = r"(\d+) for each (byte|value|level)"
+STATED = re.compile(rf"(amqpv_\w+(?: and amqpv_\w+)*) {FOR_EACH}((?:(?:, or | and ){FOR_EACH})*)")
+
+
+def stated() -> dict[tuple[str, ...], Most]:
+    """What the header states, of each call or of several."""
     text, figures = " ".join(HEADER.read_text().replace("\n * ", " ").split()), {}
-    for name, alone, byte, other, kind in STATED.findall(text):
-        more = {kind: int(other)} if kind else {}
-        figures[name] = Most(int(alone), int(byte or 0), 0, 0)._replace(**more)
+    for names, alone, _, others, *_ in STATED.findall(text):
+        more = {kind: int(figure) for figure, kind in re.findall(FOR_EACH, others)}
+        figures[tuple(names.split(" and "))] = Most(int(alone), **more)
     return figures
 
 
@@ -129,6 +131,21 @@ def encodings(n: int) -> Iterator[tuple[str, bytes]]:
     yield "a byte array", ODD + field(b"x", b"\xff" * n)
 
 
+def of_tables(n: int) -> Iterator[tuple[str, bytes]]:
+    """Tables that may be without their type tag too."""
+    yield "a table of an empty key", field(b"F", b"\0V")
+    for name, of_table in tables(n):
+        yield f"a table of keys {name}", field(b"F", b"".join(bytes([len(it)]) + it + b"V" for it in of_table))
+    of_nested = min(n, MOST_NESTED)
+    yield "a table in a table", nested("F", of_nested // 6, b"V", b"\0")
+    sixteen = b"".join(b"\1%cV" % (48 + it) for it in range(15)) + b"\1p"
+    yield "a table in a table of sixteen", nested("F", of_nested // (5 + len(sixteen)), b"V", sixteen)
+    # (each key after another one's length, which is no type tag)
+    without_values = [bytes([it]) for it in range(256)] + [bytes([it >> 8, it & 255]) for it in range(1 << 16)]
+    few = without_values[: min(n // 3, len(without_values))]
+    yield "malformed, a table of keys without values", field(b"F", b"".join(bytes([len(it)]) + it for it in few))
+
+
 def texts(n: int) -> Iterator[tuple[str, str]]:
     for name, text in TEXTS.items():
         yield name, "[" + ",".join([text] * max(1, n // (len(text) + 1))) + "]"
@@ -144,6 +161,8 @@ def inputs() -> Iterator[tuple[str, bytes]]:
     for n in SIZES:
         for name, content in encodings(n):
             yield f"{name}, {n} bytes", field(b"A", content)
+        for name, value in of_tables(n):
+            yield f"{name}, {n} bytes", value
         for name, text in texts(n):
             yield f"JSON, {name}, {n} bytes", text.encode()
 
@@ -152,7 +171,7 @@ def inputs() -> Iterator[tuple[str, bytes]]:
 
 
 class Held(NamedTuple):
-    """A call, the shape of its input, how many bytes, values and levels that has, and the most bytes that were held."""
+    """A call, the shape of its input, how many bytes that has, perhaps values and levels, and the most bytes that were held."""
 
     call: str
     shape: str
@@ -170,15 +189,16 @@ def held(line: str) -> Held:
 def judged(lines: list[str]) -> Iterator[tuple[str, str]]:
     """Yields the name of each check of what at_once.c prints, and what is wrong."""
     figures = stated()
-    yield "the header's memory", "" if figures.keys() == allocating() else f"it is of {sorted(figures)}"
-    found = [it for it in map(held, lines) if it.call in figures]
+    of_call = {call: figure for calls, figure in figures.items() for call in calls}
+    yield "the header's memory", "" if of_call.keys() == allocating() else f"it is of {sorted(of_call)}"
+    found = [it for it in map(held, lines) if it.call in of_call]
     over: dict[tuple[str, str], str] = {(it.call, it.shape): "" for it in found}
     for it in found:
-        if it.most > (limit := figures[it.call].of(*it.counts)):
+        if it.most > (limit := of_call[it.call].of(it.counts)):
             over[it.call, it.shape] = f"{it.most:,} bytes of memory for {it.counts[0]:,}, over {limit:,}"
     yield from ((f"memory of {call} | {shape}", wrong) for (call, shape), wrong in over.items())
-    for call, figure in figures.items():
+    for calls, figure in figures.items():
         for part in (it for it in Most._fields if getattr(figure, it)):
             less = figure._replace(**{part: int(getattr(figure, part) * NEAR)})
-            is_near = any(it.call == call and it.most > less.of(*it.counts) for it in found)
-            yield f"memory of {call} by its {part}", "" if is_near else f"{NEAR} of it is enough"
+            is_near = any(it.call in calls and it.most > less.of(it.counts) for it in found)
+            yield f"memory of {' and '.join(calls)} by its {part}", "" if is_near else f"{NEAR} of it is enough"
