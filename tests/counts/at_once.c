@@ -3,8 +3,9 @@
  * input, how many bytes it has, values and levels if these are counted, and the most bytes that were held at once, while
  * realloc has its old block and the new one too.
  *
- * An input is a value's encoding, whose JSON is read too. If its name begins with `JSON` it is a text, and with `malformed` no
- * value. Each call is made again without the last byte, and with another one, which may be an error.
+ * An input is a value's encoding, whose JSON is read too. If its name begins with `JSON` it is a text, which is rejected if that
+ * is `JSON of no value`, and with `malformed` no value. Each call is made again without the last byte, and with another one,
+ * which may be an error.
  */
 #define _GNU_SOURCE
 #include "amqp_values.h"
@@ -81,9 +82,9 @@ static amqpv_result try_bytes(const call *it, const char *name, const uint8_t *g
     return result;
 }
 
-static void try_call(const call *it, const char *name, uint8_t *given, size_t given_length) {
+static void try_call(const call *it, const char *name, uint8_t *given, size_t given_length, int is_done) {
     amqpv_result result = try_bytes(it, name, given, given_length);
-    need(result == AMQPV_OK || result == AMQPV_NONE, name);
+    need((result == AMQPV_OK || result == AMQPV_NONE) == is_done, name);
     try_bytes(it, name, given, given_length - 1);
     given[given_length - 1] ^= 0x77;
     try_bytes(it, name, given, given_length);
@@ -94,22 +95,22 @@ static void try_input(const char *name) {
     amqpv_measure measure;
     size_t count;
     if (strncmp(name, "JSON", 4) == 0) {
-        try_call(&from_json, name, bytes, length);
+        try_call(&from_json, name, bytes, length, strncmp(name, "JSON of no value", 16) != 0);
         return;
     }
     int is_read = amqpv_measure_value(bytes, length, UINT32_MAX, DEPTH, &measure, &count) == AMQPV_OK && count == length;
     need(is_read == (strncmp(name, "malformed", 9) != 0), name);
-    try_call(&first_warnings, name, bytes, length);
+    try_call(&first_warnings, name, bytes, length, 1);
     if (bytes[0] == AMQPV_TABLE) {
-        try_call(&first_warnings_in_table, name, bytes + 1, length - 1);
+        try_call(&first_warnings_in_table, name, bytes + 1, length - 1, 1);
     }
     if (!is_read) {
         return;
     }
-    try_call(&canonical, name, bytes, length);
-    try_call(&to_json, name, bytes, length);
+    try_call(&canonical, name, bytes, length, 1);
+    try_call(&to_json, name, bytes, length, 1);
     if (amqpv_to_json(bytes, length, UINT32_MAX, AMQPV_JSON_NESTING - 2, (char *)text, MOST_TEXT, &text_length) == AMQPV_OK) {
-        try_call(&from_json, name, text, text_length);
+        try_call(&from_json, name, text, text_length, 1);
     }
 }
 

@@ -90,6 +90,8 @@ TEXTS: dict[str, str] = {
     "arrays in arrays": "[" * 126 + "]" * 126, "objects in objects": '{"":' * 126 + "0" + "}" * 126,
     "objects in objects, of a letter": '{"a":' * 126 + "0" + "}" * 126, "spaces": " " * 99 + "0",
 }  # fmt: skip
+# The JSON of no value.
+NO_VALUE = '{"Void":0}'
 
 
 def keys(n: int) -> list[bytes]:
@@ -148,12 +150,16 @@ def of_tables(n: int) -> Iterator[tuple[str, bytes]]:
 
 def texts(n: int) -> Iterator[tuple[str, str]]:
     for name, text in TEXTS.items():
-        yield name, "[" + ",".join([text] * max(1, n // (len(text) + 1))) + "]"
+        items = [text] * max(1, n // (len(text) + 1))
+        yield f"JSON, {name}", f"[{','.join(items)}]"
+        # (which is known at the end, or doesn't count)
+        yield f"JSON of no value, {name}", f"[{','.join(items)},{NO_VALUE}]"
+        yield f"JSON, {name}, after no value", f'[{{"":{NO_VALUE},"":0}},{",".join(items)}]'
     for name, of_table in tables(n):
-        yield f"keys {name}", "{" + ",".join(f'"{it.decode()}":0' for it in of_table) + "}"
+        yield f"JSON, keys {name}", "{" + ",".join(f'"{it.decode()}":0' for it in of_table) + "}"
     for name, content in (("escapes", "\\u0000"), ("quotes", '\\"'), ("letters", "a")):
-        yield f"a string of {name}", f'"{content * (n // len(content))}"'
-    yield "a byte array", '{"ByteArray":"' + "ff" * (n // 2) + '"}'
+        yield f"JSON, a string of {name}", f'"{content * (n // len(content))}"'
+    yield "JSON, a byte array", '{"ByteArray":"' + "ff" * (n // 2) + '"}'
 
 
 def inputs() -> Iterator[tuple[str, bytes]]:
@@ -164,7 +170,7 @@ def inputs() -> Iterator[tuple[str, bytes]]:
         for name, value in of_tables(n):
             yield f"{name}, {n} bytes", value
         for name, text in texts(n):
-            yield f"JSON, {name}, {n} bytes", text.encode()
+            yield f"{name}, {n} bytes", text.encode()
 
 
 # What is told of it
