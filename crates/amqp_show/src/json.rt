@@ -1,7 +1,6 @@
 //! A value as JSON.
 
-ghost use Rattle.std.specs.Prelude.{◌≡◌, ◌≤◌, IfOk, IfErr, IsSome};
-ghost use Rattle.amqp_json.specs.Converts.{IsNotRead};
+ghost use Rattle.std.specs.Prelude.{◌≡◌, ◌≤◌, IfOk, IfSome};
 ghost use Rattle.amqp_screen.specs.Escapes.{in_json};
 ghost use Rattle.amqp_screen.specs.Pushes.{shown};
 ghost use Rattle.amqp_show.specs.Printed.{IsPrinted};
@@ -56,7 +55,6 @@ fn converted<'a>(
     limits: Limits,
 ) -> Result<(Printed, &'a [u8]), DecodeError>
     ensures printed { IfOk result (λ x. IsPrinted limits encoding.entry.now x.0 x.1.now) }
-    ensures refused { IfErr result (IsNotRead limits encoding.entry.now) }
 {
     let (json, rest) = json_of_encoding(alloc, encoding, limits)?;
     if let Some(why) = why_not_printed(alloc, json.as_str(), limits)? {
@@ -86,7 +84,9 @@ pub fn why_not_printed(
     alloc: Global,
     json: &str,
     limits: Limits,
-) -> Result<Option<String>, AllocError> {
+) -> Result<Option<String>, AllocError>
+    ensures limits { IfOk result (λ why. IfSome why (λ _. limits.depth ≤ 127)) }
+{
     if limits.depth > DEEPEST {
         return Ok(None);
     }
