@@ -3,7 +3,7 @@
 ghost use Rattle.std.specs.Prelude.{◌≡◌, ℕ, List, IfOk, MatchOption};
 ghost use Rattle.amqp_screen.specs.Pushes.{shown};
 ghost use Rattle.amqp_show.specs.Lines.{measures, IsMeasured};
-ghost use Rattle.amqp_show.specs.Outcomes.{IsRefusedWithin};
+ghost use Rattle.amqp_show.specs.Outcomes.{encoding_of, IsRefusedWithin, IsStatusOf};
 ghost use Rattle.amqp_show.specs.Text.{line};
 
 use crate::arguments::Settings;
@@ -21,7 +21,10 @@ pub fn measure_input(
     file: &str,
     input: &Tagged,
     settings: Settings,
-) -> Result<Status> {
+) -> Result<Status>
+    ensures status { IfOk result
+        (IsStatusOf settings.limits (encoding_of settings.subject input.now)) }
+{
     let encoding = input.encoding(settings.subject);
     match measured(rt.alloc(), encoding, settings)? {
         Some((mut screen, rest)) => {
