@@ -39,37 +39,7 @@ pub fn append(
         (LacksCapacityFor buffer.old into key.now (head.now ++ content.now)) }
     ensures kept { OnErr result (buffer.new ≡ buffer.old) }
 {
-    // Each kind of container has code of its own, which decides once.
-    if into.tag == b'F' {
-        append_named(buffer, into, at, 1 + key.len(), key, head, content)
-    } else {
-        append_named(buffer, into, at, 0, key, head, content)
-    }
-}
-
-/// Puts an entry, of which that many bytes are before its value.
-#[inline(always)]
-fn append_named(
-    buffer: &mut [u8],
-    into: Container,
-    at: usize,
-    name_length: usize,
-    key: &[u8],
-    head: &[u8],
-    content: &[u8],
-) -> Result<Container, Fault>
-    requires place { IsPlace (length buffer.old) into key.now }
-    requires at { at ≡ end_of into }
-    requires name { name_length ≡ length (named into.tag key.now) }
-    requires short { name_length ≤ 256 }
-    requires few { length head.now ≤ 9 }
-    requires limited { length content.now < 2 ^ 32 }
-    ensures appended { MatchResult result
-        (λ grown. IsAppended buffer.old into key.now (head.now ++ content.now) buffer.new
-        × (grown ≡ up_to (end_with into key.now (head.now ++ content.now)) into))
-        (LacksCapacityFor buffer.old into key.now (head.now ++ content.now)) }
-    ensures kept { OnErr result (buffer.new ≡ buffer.old) }
-{
+    let name_length = if into.tag == b'F' { 1 + key.len() } else { 0 };
     let count = name_length + head.len() + content.len();
     if buffer.len() - at < count {
         return Err(Fault::BufferTooSmall(at + count));

@@ -229,7 +229,7 @@ fn part(bytes: &[u8], at: Span) -> &[u8]
 fn first_of(bytes: &[u8], left: Span, key: Span) -> Option<Entry>
     requires left { SpanIsIn (length bytes.now) left }
     requires key { SpanIsIn (length bytes.now) key }
-    ensures faithful { (v : Tree) (rest : List ℕ) → Outcome (part bytes.now left) (found v rest)
+    ensures entry { (v : Tree) (rest : List ℕ) → Outcome (part bytes.now left) (found v rest)
         → IsFirstEntryIn bytes.now left key v rest result }
     ensures key { IfSome result (λ e. e.key ≡ key) }
     ensures value { IfSome result (λ e.

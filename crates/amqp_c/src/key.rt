@@ -24,13 +24,15 @@ pub fn is_key(bytes: &[u8], any: u8) -> bool
         (IsShort bytes.now ⊎ ((0 < any) × (length bytes.now ≤ 255)))
         (IsShort bytes.now ⊎ ((0 < any) × (length bytes.now ≤ 255)) → ⊥) }
 {
-    bytes.len() <= 255 && (is_ascii(bytes) || is_utf8_or(bytes, any))
+    is_short_ascii(bytes) || is_other_key(bytes, any)
 }
 
-/// Whether the bytes are ASCII: 8 to 16, as most keys have, by the high bits of two words, which may overlap.
+/// Whether the bytes are ASCII, at most 255: 8 to 16, as most keys have, by the high bits of two words, which may
+/// overlap.
 #[inline(always)]
-fn is_ascii(bytes: &[u8]) -> bool
-    ensures { result ≡ true → IsAscii bytes.now }
+fn is_short_ascii(bytes: &[u8]) -> bool
+    ensures ascii { result ≡ true → IsAscii bytes.now }
+    ensures short { result ≡ true → length bytes.now ≤ 255 }
 {
     if bytes.len() < 8 {
         return bytes.is_ascii();
@@ -44,7 +46,7 @@ fn is_ascii(bytes: &[u8]) -> bool
     if bytes.len() <= 16 {
         return has_no_high_bit(first) && has_no_high_bit(last);
     }
-    bytes.is_ascii()
+    bytes.len() <= 255 && bytes.is_ascii()
 }
 
 /// Whether none of eight bytes has its high bit set.
@@ -55,13 +57,13 @@ fn has_no_high_bit(eight: &[u8; 8]) -> bool
     u64::from_le_bytes(*eight) & 0x8080_8080_8080_8080 == 0
 }
 
-/// Whether the bytes are UTF-8, or the number isn't 0, of bytes that aren't ASCII.
+/// Whether bytes that aren't ASCII are at most 255, and UTF-8 or the number isn't 0.
 #[cold]
 #[inline(never)]
-fn is_utf8_or(bytes: &[u8], any: u8) -> bool
+fn is_other_key(bytes: &[u8], any: u8) -> bool
     ensures { MatchBool result
-        (IsUtf8 bytes.now ⊎ (0 < any))
-        (IsUtf8 bytes.now ⊎ (0 < any) → ⊥) }
+        ((length bytes.now ≤ 255) × (IsUtf8 bytes.now ⊎ (0 < any)))
+        ((length bytes.now ≤ 255) × (IsUtf8 bytes.now ⊎ (0 < any)) → ⊥) }
 {
-    any != 0 || str::from_utf8(bytes).is_ok()
+    bytes.len() <= 255 && (any != 0 || str::from_utf8(bytes).is_ok())
 }

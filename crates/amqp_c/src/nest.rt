@@ -62,13 +62,16 @@ fn is_open(buffer: &[u8], into: Container, body: Container) -> bool
     if into.inner != 1 || body.inner != 0 {
         return false;
     }
-    if !is_container_tag(body.tag) || body.written.offset < at + 4 {
+    if body.written.offset < at + 4 {
         return false;
     }
     let Some((tag, name)) = buffer[at..body.written.offset - 4].split_last() else {
         return false;
     };
     if *tag != body.tag {
+        return false;
+    }
+    if !is_container_tag(body.tag) {
         return false;
     }
     into.has_name(name)

@@ -26,6 +26,7 @@ pub struct ReadBy {
 }
 
 /// Reads the value at the start within limits by the rules.
+#[inline(always)]
 pub fn read_by(bytes: &[u8], rules: Rules, limits: Limits) -> ReadBy
     ensures problem { result.problem ≡ problem_of rules limits bytes.now }
     ensures inside { IfSome result.problem (λ p. p.offset ≤ length bytes.now) }

@@ -1,4 +1,5 @@
 mod Screens
-mod Adding
+pub mod Adding
 mod Writing
 mod Printing
+pub mod Plain

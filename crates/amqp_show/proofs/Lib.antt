@@ -4,3 +4,7 @@ pub mod Sound
 pub mod Takes
 pub mod Heads
 pub mod Yields
+pub mod Lines
+pub mod Digits
+pub mod Pieces
+pub mod Payloads

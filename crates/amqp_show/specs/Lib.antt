@@ -10,3 +10,11 @@ pub mod Positions
 pub mod Taken
 -- what a reader has yielded
 pub mod Readings
+pub mod Text
+-- lines, and what is made of an input
+pub mod Lines
+pub mod Outcomes
+pub mod Printed
+-- payloads and parts
+pub mod Payloads
+pub mod Parts

@@ -1,5 +1,8 @@
 //! What the command line asks for.
 
+ghost use Rattle.std.specs.Prelude.{◌≡◌, ◌-◌};
+ghost use Rattle.amqp_show.specs.Outcomes.{left_out};
+
 use amq_protocol_types::stream::Limits;
 use amqp_in_place::rabbitmq::CLIENT_LEVELS;
 use clap::{Arg, ArgAction, ArgMatches, Command, value_parser};
@@ -72,7 +75,9 @@ impl Subject {
     }
 
     /// How many bytes of its value's encoding it is without: those of the type tag.
-    pub fn left_out(self) -> usize {
+    pub fn left_out(self) -> usize
+        ensures { result ≡ left_out self }
+    {
         match self {
             Subject::Value => 0,
             Subject::Table => 1,
@@ -80,7 +85,9 @@ impl Subject {
     }
 
     /// The offset in it of what is at an offset of its value's encoding.
-    pub fn offset(self, offset: usize) -> usize {
+    pub fn offset(self, offset: usize) -> usize
+        ensures { result ≡ offset - left_out self }
+    {
         offset.saturating_sub(self.left_out())
     }
 }

@@ -1,5 +1,11 @@
 //! A value byte by byte.
 
+ghost use Rattle.std.specs.Prelude.{◌≡◌, OnOk, IfOk, string_bytes};
+ghost use Rattle.amqp_screen.specs.Escapes.{in_text};
+ghost use Rattle.amqp_screen.specs.Pushes.{AddsText};
+ghost use Rattle.amqp_show.specs.Outcomes.{left_out};
+ghost use Rattle.amqp_show.specs.Parts.{first_bytes, place, in_colour_of, ShowsPart};
+
 use crate::arguments::Subject;
 use crate::cut::{is_cut, push_cut};
 use crate::notes::{Keys, push_note};
@@ -46,14 +52,26 @@ fn push_part(
     screen: &mut Screen,
     part: &Part<'_>,
     subject: Subject,
-) -> Result<(), AllocError> {
+) -> Result<(), AllocError>
+    ensures { OnOk result (ShowsPart (left_out subject) part.now screen.old screen.new) }
+{
     push_place(alloc, screen, subject.offset(part.offset), part.bytes)?;
     push_indent(alloc, screen, part.level)?;
     let what = part_text(alloc, part)?;
-    if part.field == Field::Key {
-        return screen.push_coloured(what.as_str(), Colour::Key);
+    push_what(screen, part.field, what.as_str())?;
+    Ok(())
+}
+
+// Adds what a part of this kind is. A key has a colour.
+fn push_what(screen: &mut Screen, field: Field, what: &str) -> Result<(), AllocError>
+    ensures { OnOk result (AddsText screen.old screen.new
+        (in_colour_of screen.old.has_colours field what.now)) }
+{
+    match field {
+        Field::Key => screen.push_coloured(what, Colour::Key),
+        Field::TypeTag(_) | Field::Length(_) | Field::KeyLength | Field::Payload(_) =>
+            screen.push_text(what),
     }
-    screen.push_text(what.as_str())
 }
 
 // Adds an offset, and the bytes that are there.
@@ -62,20 +80,22 @@ fn push_place(
     screen: &mut Screen,
     offset: usize,
     bytes: &[u8],
-) -> Result<(), AllocError> {
+) -> Result<(), AllocError>
+    ensures { OnOk result (AddsText screen.old screen.new (in_text (place offset bytes.now))) }
+{
     let hex = shortened(alloc, bytes)?;
     let line = format!(in alloc; "{offset:>6}  {hex:<18}  ")?;
     screen.push_text(line.as_str())
 }
 
 // The bytes in hexadecimal, or the first of them.
-fn shortened(alloc: Global, bytes: &[u8]) -> Result<String, AllocError> {
-    let Some(first) = bytes.get(..SHOWN) else {
+fn shortened(alloc: Global, bytes: &[u8]) -> Result<String, AllocError>
+    ensures { IfOk result (λ text. string_bytes text ≡ first_bytes bytes.now) }
+{
+    if bytes.len() <= SHOWN {
         return hex::encode(alloc, bytes);
-    };
-    let mut text = hex::encode(alloc, first)?;
-    if bytes.len() > SHOWN {
-        text.push_str("..")?;
     }
+    let mut text = hex::encode(alloc, bytes.split_at(SHOWN).0)?;
+    text.push_str("..")?;
     Ok(text)
 }

@@ -1,5 +1,11 @@
 //! From JSON to an encoding.
 
+ghost use Rattle.std.specs.Prelude.{◌≡◌, drop, IfOk};
+ghost use Rattle.hex.specs.Hex.{encode_lower};
+ghost use Rattle.amqp_screen.specs.Pushes.{shown};
+ghost use Rattle.amqp_show.specs.Outcomes.{left_out};
+ghost use Rattle.amqp_show.specs.Text.{line};
+
 use crate::arguments::Subject;
 use crate::fault::Result;
 use crate::input::read_file;
@@ -8,6 +14,7 @@ use crate::reasons::reason;
 use amq_protocol_types::AMQPType;
 use amqp_json::encoding_of_json;
 use amqp_screen::{Screen, Status, print_raw};
+use std::alloc::{AllocError, Global};
 use std::str;
 
 /// Writes the encoding of the value that a file's JSON denotes, or of the table without its type
@@ -29,10 +36,7 @@ pub fn encode_file(rt: &HostRuntime, file: &str, raw: bool, subject: Subject) ->
                 complain(rt, file, why.as_str())?;
                 Ok(Status::Refused)
             }
-            None => {
-                let wanted = bytes.get(subject.left_out()..).unwrap_or(&[]);
-                print_encoding(rt, wanted, raw)
-            }
+            None => { print_encoding(rt, wanted_of(bytes.as_slice(), subject), raw) }
         },
         Err(error) => {
             let why = reason(alloc, json, &error)?;
@@ -51,15 +55,36 @@ fn other_type(encoding: &[u8], subject: Subject) -> Option<AMQPType> {
     (amqp_type != AMQPType::FieldTable).then_some(amqp_type)
 }
 
+// What is wanted of an encoding: all of it, or of a table what is after its type tag.
+fn wanted_of(encoding: &[u8], subject: Subject) -> &[u8]
+    ensures { result.now ≡ drop (left_out subject) encoding.now }
+{
+    match subject {
+        Subject::Value => encoding,
+        Subject::Table => match encoding.split_first() {
+            Some((_, wanted)) => wanted,
+            None => &[],
+        },
+    }
+}
+
 // Writes an encoding, raw or in hexadecimal on a line.
 fn print_encoding(rt: &HostRuntime, bytes: &[u8], raw: bool) -> Result<Status> {
     if raw {
         print_raw(rt, bytes)?;
         return Ok(Status::Read);
     }
-    let digits = hex::encode(rt.alloc(), bytes)?;
-    let mut screen = Screen::new(rt.alloc(), false);
-    screen.push_line(digits.as_str())?;
-    screen.print(rt)?;
+    digits_line(rt.alloc(), bytes)?.print(rt)?;
     Ok(Status::Read)
+}
+
+// Bytes in hexadecimal on a line.
+#[tactic(auto, using(crate::proofs::Digits::digits_shown))]
+fn digits_line(alloc: Global, bytes: &[u8]) -> Result<Screen, AllocError>
+    ensures line { IfOk result (λ screen. shown screen ≡ line (encode_lower bytes.now)) }
+{
+    let digits = hex::encode(alloc, bytes)?;
+    let mut screen = Screen::new(alloc, false);
+    screen.push_line(digits.as_str())?;
+    Ok(screen)
 }

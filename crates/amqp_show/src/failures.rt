@@ -1,5 +1,7 @@
 //! What is reported of a value that isn't shown, or is followed by bytes.
 
+ghost use Rattle.std.specs.Prelude.{◌≡◌, IfOk};
+
 use crate::arguments::{Settings, Subject};
 use crate::fault::Result;
 use crate::input::Tagged;
@@ -11,7 +13,9 @@ use amqp_screen::Status;
 use std::alloc::{AllocError, Global};
 
 /// Reports why an input isn't a value within the limits.
-pub fn refuse(rt: &HostRuntime, file: &str, input: &Tagged, settings: Settings) -> Result<Status> {
+pub fn refuse(rt: &HostRuntime, file: &str, input: &Tagged, settings: Settings) -> Result<Status>
+    ensures { IfOk result (λ status. status ≡ Status.Refused) }
+{
     print_failure(rt, file, input.encoding(settings.subject), settings)?;
     if let Some(hint) = hint(input, settings) {
         complain(rt, file, hint)?;

@@ -1,5 +1,8 @@
 //! What is read.
 
+ghost use Rattle.std.specs.Prelude.{◌≡◌};
+ghost use Rattle.amqp_show.specs.Outcomes.{encoding_of};
+
 use crate::arguments::{Settings, Subject};
 use crate::fault::{Fault, Result};
 use crate::hexadecimal::Hexadecimal;
@@ -90,9 +93,14 @@ impl Tagged {
     }
 
     /// The encoding that is read: the bytes, for a table with the type tag.
-    pub fn encoding(&self, subject: Subject) -> &[u8] {
+    pub fn encoding(&self, subject: Subject) -> &[u8]
+        ensures { result.now ≡ encoding_of subject self.now }
+    {
         match subject {
-            Subject::Value => self.bytes.get(1..).unwrap_or(&[]),
+            Subject::Value => match self.bytes.as_slice().split_first() {
+                Some((_, bytes)) => bytes,
+                None => &[],
+            },
             Subject::Table => self.bytes.as_slice(),
         }
     }

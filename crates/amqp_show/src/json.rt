@@ -1,5 +1,11 @@
 //! A value as JSON.
 
+ghost use Rattle.std.specs.Prelude.{◌≡◌, ◌≤◌, IfOk, IfSome};
+ghost use Rattle.amqp_screen.specs.Escapes.{in_json};
+ghost use Rattle.amqp_screen.specs.Pushes.{shown};
+ghost use Rattle.amqp_show.specs.Printed.{IsPrinted};
+ghost use Rattle.amqp_show.specs.Text.{line};
+
 use crate::arguments::Settings;
 use crate::failures::{complain_of_rest, refuse};
 use crate::fault::{Fault, Result};
@@ -22,9 +28,9 @@ pub fn show_input(
     settings: Settings,
 ) -> Result<Status> {
     let (encoding, limits) = (input.encoding(settings.subject), settings.limits);
-    match json_of_encoding(rt.alloc(), encoding, limits) {
-        Ok((json, rest)) => {
-            let status = print_json(rt, file, json.as_str(), limits)?;
+    match converted(rt.alloc(), encoding, limits) {
+        Ok((printed, rest)) => {
+            let status = print(rt, file, printed)?;
             complain_of_rest(rt, file, encoding, rest, settings)?;
             Ok(status)
         }
@@ -33,15 +39,43 @@ pub fn show_input(
     }
 }
 
-/// Prints a JSON text on a line, if it nests no deeper than its readers take, or the limits go
-/// beyond that.
-pub fn print_json(rt: &HostRuntime, file: &str, json: &str, limits: Limits) -> Result<Status> {
-    if let Some(why) = why_not_printed(rt.alloc(), json, limits)? {
-        complain(rt, file, why.as_str())?;
-        return Ok(Status::Refused);
+// What is printed of a value that is read.
+#[derive(Drop)]
+enum Printed {
+    // Its JSON on a line.
+    Line(Screen),
+    // A message about JSON that nests deeper than its readers take.
+    TooDeep(String),
+}
+
+// The JSON of the value at the beginning of an encoding, on a line, and the bytes after the value.
+fn converted<'a>(
+    alloc: Global,
+    encoding: &'a [u8],
+    limits: Limits,
+) -> Result<(Printed, &'a [u8]), DecodeError>
+    ensures printed { IfOk result (λ x. IsPrinted limits encoding.entry.now x.0 x.1.now) }
+{
+    let (json, rest) = json_of_encoding(alloc, encoding, limits)?;
+    if let Some(why) = why_not_printed(alloc, json.as_str(), limits)? {
+        return Ok((Printed::TooDeep(why), rest));
     }
-    print_line(rt, json)?;
-    Ok(Status::Read)
+    let screen = json_line(alloc, json.as_str())?;
+    Ok((Printed::Line(screen), rest))
+}
+
+// Prints a line, or the message.
+fn print(rt: &HostRuntime, file: &str, printed: Printed) -> Result<Status> {
+    match printed {
+        Printed::Line(mut screen) => {
+            screen.print(rt)?;
+            Ok(Status::Read)
+        }
+        Printed::TooDeep(why) => {
+            complain(rt, file, why.as_str())?;
+            Ok(Status::Refused)
+        }
+    }
 }
 
 /// Why a JSON text isn't printed, if it nests deeper than its readers take and the limits don't go
@@ -50,20 +84,23 @@ pub fn why_not_printed(
     alloc: Global,
     json: &str,
     limits: Limits,
-) -> Result<Option<String>, AllocError> {
+) -> Result<Option<String>, AllocError>
+    ensures limits { IfOk result (λ why. IfSome why (λ _. limits.depth ≤ 127)) }
+{
     if limits.depth > DEEPEST {
         return Ok(None);
     }
     too_deep(alloc, json)
 }
 
-/// Prints a JSON text on a line.
-pub fn print_line(rt: &HostRuntime, json: &str) -> Result<()> {
-    let mut screen = Screen::new(rt.alloc(), false);
+/// A JSON text on a line.
+pub fn json_line(alloc: Global, json: &str) -> Result<Screen, AllocError>
+    ensures line { IfOk result (λ screen. shown screen ≡ line (in_json json.now)) }
+{
+    let mut screen = Screen::new(alloc, false);
     screen.push_json(json)?;
     screen.end_line()?;
-    screen.print(rt)?;
-    Ok(())
+    Ok(screen)
 }
 
 /// Reports how deep a JSON text nests, if that is deeper than its readers take.

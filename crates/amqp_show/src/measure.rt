@@ -1,11 +1,18 @@
 //! How large a value is.
 
+ghost use Rattle.std.specs.Prelude.{◌≡◌, ℕ, List, IfOk, MatchOption};
+ghost use Rattle.amqp_screen.specs.Pushes.{shown};
+ghost use Rattle.amqp_show.specs.Lines.{measures, IsMeasured};
+ghost use Rattle.amqp_show.specs.Outcomes.{encoding_of, IsRefusedWithin, IsStatusOf};
+ghost use Rattle.amqp_show.specs.Text.{line};
+
 use crate::arguments::Settings;
 use crate::failures::{complain_of_rest, refuse};
 use crate::fault::Result;
 use crate::input::Tagged;
 use amqp_in_place::{Measure, measure_value};
 use amqp_screen::{Screen, Status};
+use std::alloc::{AllocError, Global};
 
 /// Prints the measures of the value at the beginning of a file's bytes, and reports what is amiss:
 /// that there is no value, or that bytes follow it.
@@ -14,30 +21,56 @@ pub fn measure_input(
     file: &str,
     input: &Tagged,
     settings: Settings,
-) -> Result<Status> {
+) -> Result<Status>
+    ensures status { IfOk result
+        (IsStatusOf settings.limits (encoding_of settings.subject input.now)) }
+{
     let encoding = input.encoding(settings.subject);
-    match measure_value(encoding, settings.limits) {
-        Ok(measure) => {
-            let bytes = settings.subject.offset(measure.bytes);
-            print_measure(rt, Measure { bytes, ..measure })?;
-            let rest = encoding.get(measure.bytes..).unwrap_or(&[]);
+    match measured(rt.alloc(), encoding, settings)? {
+        Some((mut screen, rest)) => {
+            screen.print(rt)?;
             complain_of_rest(rt, file, encoding, rest, settings)?;
             Ok(Status::Read)
         }
-        Err(_) => refuse(rt, file, input, settings),
+        None => refuse(rt, file, input, settings),
     }
 }
 
-/// Prints measures on a line.
-pub fn print_measure(rt: &HostRuntime, measure: Measure) -> Result<()> {
+// The line of the measures of the value at the beginning of an encoding, and the bytes after it, or
+// `None` if it isn't read.
+#[tactic(auto, using(crate::proofs::Lines::measured_line))]
+fn measured<'a>(
+    alloc: Global,
+    encoding: &'a [u8],
+    settings: Settings,
+) -> Result<Option<(Screen, &'a [u8])>, AllocError>
+    ensures line { IfOk result (λ found. MatchOption found
+        (IsRefusedWithin settings.limits encoding.entry.now)
+        (λ x. IsMeasured settings.limits settings.subject encoding.entry.now
+        (shown x.0) x.1.now)) }
+{
+    let Ok(measure) = measure_value(encoding, settings.limits) else {
+        return Ok(None);
+    };
+    let rest = encoding.split_at(measure.bytes).1;
+    let bytes = settings.subject.offset(measure.bytes);
+    let screen = measure_line(alloc, Measure { bytes, ..measure })?;
+    Ok(Some((screen, rest)))
+}
+
+/// Measures on a line.
+#[tactic(auto, using(crate::proofs::Lines::measures_shown))]
+pub fn measure_line(alloc: Global, measure: Measure) -> Result<Screen, AllocError>
+    ensures line { IfOk result (λ screen.
+        shown screen ≡ line (measures measure.bytes measure.values measure.levels)) }
+{
     let Measure {
         bytes,
         values,
         levels,
     } = measure;
-    let line = format!(in rt.alloc(); "bytes {bytes}, values {values}, levels {levels}")?;
-    let mut screen = Screen::new(rt.alloc(), false);
+    let line = format!(in alloc; "bytes {bytes}, values {values}, levels {levels}")?;
+    let mut screen = Screen::new(alloc, false);
     screen.push_line(line.as_str())?;
-    screen.print(rt)?;
-    Ok(())
+    Ok(screen)
 }

@@ -5,8 +5,8 @@ use crate::failures::{print_failure, why_refused};
 use crate::fault::{Fault, Result};
 use crate::hexadecimal::Hexadecimal;
 use crate::input::{BLOCK, Input, Unread};
-use crate::json::{print_line, why_not_printed};
-use crate::measure::print_measure;
+use crate::json::{json_line, why_not_printed};
+use crate::measure::measure_line;
 use crate::messages::{complain, unreadable};
 use crate::progress::Progress;
 use crate::recorder::Recorder;
@@ -199,7 +199,7 @@ fn show_item(
     let alloc = rt.alloc();
     match item {
         Item::Measure(measure) => {
-            print_measure(rt, *measure)?;
+            measure_line(alloc, *measure)?.print(rt)?;
             return Ok(Status::Read);
         }
         Item::Json(json) => {
@@ -208,7 +208,7 @@ fn show_item(
                 complain(rt, file, why.as_str())?;
                 return Ok(Status::Refused);
             }
-            print_line(rt, json.as_str())?;
+            json_line(alloc, json.as_str())?.print(rt)?;
             return Ok(Status::Read);
         }
         Item::Value(_) => {}

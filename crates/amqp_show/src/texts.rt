@@ -1,11 +1,18 @@
 //! Words for what is shown.
 
+ghost use Rattle.std.specs.Prelude.{◌≡◌, [], ◌∷◌, ◌++◌, IfOk, OnOk, string_bytes};
+ghost use Rattle.amqp_dissect.specs.Texts.{escaped};
+ghost use Rattle.amqp_screen.specs.Escapes.{in_text};
+ghost use Rattle.amqp_screen.specs.Pushes.{AddsText};
+ghost use Rattle.amqp_show.specs.Parts.{number, level_mark, indented, IsFieldText};
+ghost use Rattle.amqp_show.specs.Payloads.{quoted, quoted_character};
+
 use crate::arguments::{Settings, Subject};
-use crate::payload::leaf_text;
+use crate::payload::payload_text;
 use amq_protocol_types::AMQPType;
 use amq_protocol_types::parsing::{Err, ErrorKind, Needed, ParserError};
 use amq_protocol_types::stream::Limits;
-use amqp_dissect::{End, Field, Part, Problem, escape, first_leaf, leaf_of};
+use amqp_dissect::{End, Field, Part, Problem, escape, first_leaf};
 use amqp_in_place::read_in_place;
 use amqp_screen::Screen;
 use std::alloc::{AllocError, Global};
@@ -19,17 +26,30 @@ const INDENTED: u32 = 32;
 
 /// What is before a line of this level: two spaces for each of the first levels, and the level
 /// if it is deeper.
-pub fn push_indent(alloc: Global, screen: &mut Screen, level: u32) -> Result<(), AllocError> {
+#[tactic(auto, using(crate::proofs::Pieces::indented_deep, crate::proofs::Pieces::indented_only))]
+pub fn push_indent(alloc: Global, screen: &mut Screen, level: u32) -> Result<(), AllocError>
+    ensures { OnOk result (AddsText screen.old screen.new (indented level)) }
+{
     screen.indent(level.min(INDENTED))?;
     if level > INDENTED {
-        let mark = format!(in alloc; "[{level}] ")?;
-        screen.push_text(mark.as_str())?;
+        push_level(alloc, screen, level)?;
     }
     Ok(())
 }
 
+fn push_level(alloc: Global, screen: &mut Screen, level: u32) -> Result<(), AllocError>
+    ensures { OnOk result (AddsText screen.old screen.new (in_text (level_mark level))) }
+{
+    let mark = format!(in alloc; "[{level}] ")?;
+    screen.push_text(mark.as_str())?;
+    Ok(())
+}
+
 /// What a part is.
-pub fn part_text(alloc: Global, part: &Part<'_>) -> Result<String, AllocError> {
+pub fn part_text(alloc: Global, part: &Part<'_>) -> Result<String, AllocError>
+    ensures { IfOk result (λ text.
+        IsFieldText part.now.field part.now.bytes.now (string_bytes text)) }
+{
     match part.field {
         Field::TypeTag(amqp_type) => {
             let tag = escape(alloc, part.bytes)?;
@@ -41,10 +61,7 @@ pub fn part_text(alloc: Global, part: &Part<'_>) -> Result<String, AllocError> {
             let key = quoted(alloc, part.bytes)?;
             format!(in alloc; "key {key}")
         }
-        Field::Payload(_) => match leaf_of(part) {
-            Some(leaf) => leaf_text(alloc, leaf),
-            None => Ok(String::new(alloc)),
-        },
+        Field::Payload(amqp_type) => payload_text(alloc, amqp_type, part.bytes),
     }
 }
 
@@ -57,7 +74,7 @@ pub fn typed_text(
 ) -> Result<String, AllocError> {
     match first_leaf(parts) {
         Some(leaf) => {
-            let text = leaf_text(alloc, leaf)?;
+            let text = payload_text(alloc, leaf.amqp_type, leaf.payload)?;
             format!(in alloc; "{amqp_type} {text}")
         }
         None => format!(in alloc; "{amqp_type}"),
@@ -66,21 +83,45 @@ pub fn typed_text(
 
 /// The bytes in quotes, as a string if they are UTF-8: a quote and a backslash are after a
 /// backslash, and what doesn't print is escaped when it is shown. Other bytes are all escaped.
-pub fn quoted(alloc: Global, bytes: &[u8]) -> Result<String, AllocError> {
-    let Ok(words) = str::from_utf8(bytes) else {
-        let text = escape(alloc, bytes)?;
-        return format!(in alloc; "\"{text}\"");
-    };
+#[tactic(auto, using(crate::proofs::Payloads::quoted_escaped))]
+pub fn quoted(alloc: Global, bytes: &[u8]) -> Result<String, AllocError>
+    ensures { IfOk result (λ text. string_bytes text ≡ quoted bytes.now) }
+{
+    match str::from_utf8(bytes) {
+        Ok(words) => quoted_words(alloc, words),
+        Err(_) => quoted_bytes(alloc, bytes),
+    }
+}
+
+// Bytes that aren't UTF-8, each escaped.
+fn quoted_bytes(alloc: Global, bytes: &[u8]) -> Result<String, AllocError>
+    ensures { IfOk result (λ text. string_bytes text ≡ 34 ∷ (escaped bytes.now ++ 34 ∷ [])) }
+{
+    let text = escape(alloc, bytes)?;
+    format!(in alloc; "\"{text}\"")
+}
+
+// A string between quotes.
+fn quoted_words(alloc: Global, words: &str) -> Result<String, AllocError>
+    ensures { IfOk result (λ text. string_bytes text ≡ quoted words.now) }
+{
     let mut text = String::new(alloc);
     text.push('"')?;
     for c in words.chars() {
-        if c == '"' || c == '\\' {
-            text.push('\\')?;
-        }
-        text.push(c)?;
+        push_quoted(&mut text, c)?;
     }
     text.push('"')?;
     Ok(text)
+}
+
+fn push_quoted(text: &mut String, c: char) -> Result<(), AllocError>
+    ensures { OnOk result (string_bytes text.new ≡ string_bytes text.old ++ quoted_character c) }
+{
+    if c == '"' || c == '\\' {
+        text.push('\\')?;
+    }
+    text.push(c)?;
+    Ok(())
 }
 
 /// The offset at which a value fails, and why.
@@ -177,10 +218,13 @@ fn problem_text(alloc: Global, problem: Problem) -> Result<String, AllocError> {
     }
 }
 
-/// The bytes as a number, big-endian.
-pub fn number_of(bytes: &[u8]) -> u64 {
-    bytes.iter().fold(
-        0,
-        |number, byte| (number & 0xff_ffff) << 8 | u64::from(*byte),
-    )
+/// The number in a length of one byte or of four.
+pub fn number_of(bytes: &[u8]) -> u32
+    ensures { result ≡ number bytes.now }
+{
+    match bytes {
+        [a] => u32::from(*a),
+        [a, b, c, d] => u32::from_be_bytes([*a, *b, *c, *d]),
+        _ => 0,
+    }
 }

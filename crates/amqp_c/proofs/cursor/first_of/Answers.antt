@@ -5,8 +5,8 @@ use Rattle.amqp_c.specs.Entries.{IsEntryAtStart, EntryIsIn}
 use Rattle.amqp_c.proofs.Stepping.{first_given, tagged_placed, faithful_placed}
 use Rattle.amqp_c.proofs.cursor.first_of.Goals as goal
 
-pub returns-clause-faithful : goal.returns-clause-faithful
-returns-clause-faithful c = λ v rest x.
+pub returns-clause-entry : goal.returns-clause-faithful
+returns-clause-entry c = λ v rest x.
     let s = c.args.bytes.now in
     let is = c.part.ensures in
     let e = c.in-Ok.entry in

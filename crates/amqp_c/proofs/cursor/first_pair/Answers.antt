@@ -17,7 +17,7 @@ pub returns-clause-pair : goal.returns-clause-pair
 returns-clause-pair c = λ ps some all.
     let s = c.args.bytes.now in
     let n : c.from-length.result ≡ get_or (part s c.args.left) 0 0 = grind (arith, common_steps) in
-    pair_given s c.args.left c.from-length.result c.first_of.result c.requires.left some n (rw c.rest_after.ensures at c.first_of.ensures.faithful) ps all
+    pair_given s c.args.left c.from-length.result c.first_of.result c.requires.left some n (rw c.rest_after.ensures at c.first_of.ensures.entry) ps all
 
 pub returns-clause-stands : goal.returns-clause-stands
 returns-clause-stands c =

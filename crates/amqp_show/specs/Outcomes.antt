@@ -1,0 +1,35 @@
+-- What the program makes of an input, and ends with.
+use Rattle.std.specs.Prelude.{ℕ, List, drop}
+use Rattle.amqp_value_core.specs.Values.{Tree}
+use Rattle.amqp_value_core.specs.Outcomes.{found}
+use Rattle.amq_protocol_types.specs.declared.parsing.limits.Limits.{Limits}
+use Rattle.amq_protocol_types.specs.parsing.Limits.{Within, RefusesWithin}
+use Rattle.amq_protocol_types.specs.parsing.Refusals.{Refusal}
+use Rattle.amqp_screen.specs.declared.status.Status.{Status}
+use Rattle.amqp_screen.specs.declared.status.Status.TheVariants as status
+use Rattle.amqp_show.specs.declared.arguments.Subject.{Subject}
+use Rattle.amqp_show.specs.declared.arguments.Subject.TheVariants.{Value, Table}
+use Rattle.amqp_show.specs.declared.input.Tagged.{Tagged}
+
+-- how many bytes of its encoding a value is without: a table its type tag
+abbrev pub left_out : Subject → ℕ
+left_out Value = 0
+left_out Table = 1
+
+-- the encoding that is read: the input, which of a table is after a type tag
+abbrev pub encoding_of : Subject → Tagged → List ℕ
+encoding_of Value input = drop 1 input.bytes.items
+encoding_of Table input = input.bytes.items
+
+-- a value is read from the start of s within the limits, or an error is
+abbrev pub IsReadWithin : Limits → List ℕ → Type 0
+IsReadWithin l s = (v : Tree) × (rest : List ℕ) × Within l s (found v rest)
+
+abbrev pub IsRefusedWithin : Limits → List ℕ → Type 0
+IsRefusedWithin l s = (e : Refusal) × RefusesWithin l s e
+
+-- the status says which of the two
+abbrev pub IsStatusOf : Limits → List ℕ → Status → Type 0
+IsStatusOf l s status.Read = IsReadWithin l s
+IsStatusOf l s status.Refused = IsRefusedWithin l s
+IsStatusOf l s status.Mistake = ⊥
