@@ -26,8 +26,7 @@ from tests.model.printed import nested
 PAGE, HEADING = TOP / "docs/PROMISES.md", "## What nesting takes of the stack"
 # How many bytes an input has that no limit lets through, and the limit and the stack that it is read with.
 LONG, LIMIT, SMALL = 10_000_000, 64, 256 << 10
-# The small thread that the header's limits suit.
-HEADER, THREAD = TOP / "include/amqp_values.h", 64 << 10
+HEADER = TOP / "include/amqp_values.h"
 # The containers of an input, from the outermost on, again and again.
 FORMS = {"arrays in arrays": "A", "tables in tables": "F", "arrays and tables": "AF"}
 # The key in each table. It is a type's name, for which JSON needs a level more.
@@ -72,8 +71,10 @@ def any_keys(form: str, depth: int) -> bytes:
 
 
 def json_text(form: str, depth: int) -> bytes:
+    """A text that nests that deep. Each object but the innermost begins as a table under its type's name would."""
     tags = (form * depth)[:depth]
-    opened = "".join("[" if it == "A" else '{"a":' for it in tags)
+    opened = "".join("[" if it == "A" else '{"FieldTable":{},"b":' for it in tags[:-1])
+    opened += "[" if tags[-1] == "A" else '{"b":'
     closed = "".join("]" if it == "A" else "}" for it in tags)
     return f"{opened}null{closed[::-1]}".encode()
 
@@ -217,8 +218,16 @@ def column_of(program: Program) -> int:
     return program.column if isinstance(program, Threaded) else 0
 
 
-def in_header(column: int) -> tuple[dict[str, int], int, dict[str, int]]:
-    """The header's limits, and what a call takes of the stack by it, besides and for each level."""
+class InHeader(NamedTuple):
+    """The header's limits, and what a call takes of the stack by it: besides, for each level, and within these limits."""
+
+    limits: dict[str, int]
+    besides: int
+    figures: dict[str, int]
+    threads: dict[str, int]
+
+
+def in_header(column: int) -> InHeader:
     text = HEADER.read_text()
     limits = {name: int(number) for name, number in re.findall(r"(AMQPV_\w*DEPTH) = (\d+)", text)}
     rows = re.findall(r"(?m)^ \*\s+(\d+)\s+(\d+)(?: bytes)?\s+in (amqpv_.*)$", text)
@@ -226,28 +235,32 @@ def in_header(column: int) -> tuple[dict[str, int], int, dict[str, int]]:
         name: int(of[column]) for *of, names in rows for name in re.findall(r"amqpv_\w+(?: of any keys)?", names)
     }
     (besides,) = re.findall(r"The stack suffices: (\d+) KiB", text)
-    return limits, int(besides) << 10, figures
+    ((most, call, more),) = re.findall(r"content with a stack of (\d+) KiB, (amqpv_\w+) of (\d+) KiB", text)
+    threads = {name: int(most) << 10 for name in FOR_C} | {call: int(more) << 10}
+    return InHeader(limits, int(besides) << 10, figures, threads)
 
 
 def recommended(program: Threaded) -> Iterator[tuple[str, str]]:
     """Yields the name of each check of the calls for C with the header's limits, and what was returned instead.
 
-    Each is done on the stack that the header names, at most 64 KiB, and what nests deeper is rejected on 64 KiB.
+    Each is done on the stack that the header's figures make, which is at most what it names for these limits. What nests
+    deeper is rejected on the latter.
     """
-    limits, besides, figures = in_header(program.column)
+    limits, besides, figures, threads = in_header(program.column)
     of_page = {name: figure for name, figure in table(program.column)[0].items() if name in FOR_C}
     yield "the header's figures", "" if figures == of_page else f"those of {PAGE.name} are {of_page}"
     for name, call in FOR_C.items():
         limit = limits["AMQPV_JSON_DEPTH" if "json" in name else "AMQPV_DEPTH"]
-        stack = besides + limit * figures.get(name, THREAD)
-        yield f"{name}, {limit} deep", f"by the header it takes {stack} bytes of stack" if stack > THREAD else ""
+        thread = threads[name]
+        stack = besides + limit * figures.get(name, thread)
+        yield f"{name}, {limit} deep", f"by the header it takes {stack} bytes of stack" if stack > thread else ""
         for said, form in FORMS.items():
-            for size in (stack, THREAD):
+            for size in (stack, thread):
                 got = answer(program, call, limit, call.make(form, limit), size)
                 yield f"{name}, {limit} {said} on {size} bytes of stack", "" if got == "done" else got
-            got = answer(program, call, limit, long_input(call.make, form), THREAD)
+            got = answer(program, call, limit, long_input(call.make, form), thread)
             wrong = "" if REJECTED.search(got) else got or "nothing"
-            yield f"{name}, {LONG} bytes of {said} on {THREAD} bytes of stack", wrong
+            yield f"{name}, {LONG} bytes of {said} on {thread} bytes of stack", wrong
 
 
 def least(program: Program, call: Call, depth: int) -> int:
