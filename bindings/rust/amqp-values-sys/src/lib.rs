@@ -38,7 +38,7 @@
 //!        160   176       in amqpv_put_value of any keys
 //!        368   288       in amqpv_canonical
 //!        560   528       in amqpv_write_json
-//!       2880  2880       in amqpv_from_json
+//!       2944  2944       in amqpv_from_json
 //!        688   768       in amqpv_to_json
 //!        512   512       in amqpv_first_warnings and amqpv_first_warnings_in_table
 //!   The others don't recurse.
@@ -110,7 +110,7 @@ pub const AMQPV_BAD_TAG: amqpv_result = -11;
 pub const AMQPV_OUT_OF_RANGE: amqpv_result = -12;
 
 /// Limits that suit untrusted bytes: a `frame`, a `depth`, and the `depth` or `nesting` of amqpv_to_json and
-/// amqpv_from_json. With these each function is content with a stack of 64 KiB, amqpv_from_json of 114 KiB, on x86-64
+/// amqpv_from_json. With these each function is content with a stack of 64 KiB, amqpv_from_json of 116 KiB, on x86-64
 /// and on aarch64. (RabbitMQ sends more than its usual frame-max, 131072.).
 pub const AMQPV_FRAME: u32 = 1048576;
 /// See [`AMQPV_FRAME`].
