@@ -222,7 +222,9 @@ def in_header(column: int) -> tuple[dict[str, int], int, dict[str, int]]:
     text = HEADER.read_text()
     limits = {name: int(number) for name, number in re.findall(r"(AMQPV_\w*DEPTH) = (\d+)", text)}
     rows = re.findall(r"(?m)^ \*\s+(\d+)\s+(\d+)(?: bytes)?\s+in (amqpv_.*)$", text)
-    figures = {name: int(of[column]) for *of, names in rows for name in re.findall(r"amqpv_\w+(?: of any keys)?", names)}
+    figures = {
+        name: int(of[column]) for *of, names in rows for name in re.findall(r"amqpv_\w+(?: of any keys)?", names)
+    }
     (besides,) = re.findall(r"The stack suffices: (\d+) KiB", text)
     return limits, int(besides) << 10, figures
 
