@@ -12,7 +12,8 @@ from time import gmtime, tzset
 from typing import Any
 
 import pytest
-from amqp_values import Encoded, Error, LongInt, LongString, LongUInt, ShortInt, Timestamp, _native, dumps_table
+from amqp_values import Encoded, Error, LongInt, LongString, LongUInt, ShortInt, ShortShortInt, Timestamp
+from amqp_values import _native, dumps_table
 from amqp_values.adapters import Headers, Refused
 from hypothesis import given
 from hypothesis import strategies as st
@@ -95,6 +96,11 @@ def test_equal_keys_and_limits(name: str) -> None:
     assert isinstance(codec(name, depth=63).read(deep, 0)[0], Refused)
     assert isinstance(codec(name, frame=len(twice)).read(twice, 0)[0], Refused)
     assert type(codec(name, frame=len(twice) + 1).read(twice, 0)[0]) is Headers
+    table: dict[str, Any] = {}
+    for _ in range(63):
+        table = {"k": table}
+    assert codec(name, depth=64).write(table)
+    assert error_of(lambda: codec(name, depth=63).write(table)) in CLIENTS[name][2]
     assert error_of(lambda: codec(name, raises=True).read(deep + b"z", 1)) is CLIENTS[name][1]
     assert error_of(lambda: codec(name, raises=True, depth=9).read(deep, 0)) is CLIENTS[name][1]
 
@@ -111,6 +117,8 @@ def test_arguments(name: str) -> None:
 
 # Writing
 
+# A zone whose midnight of 1970, and five hours after it, is a second before that of UTC.
+EAST = timezone(timedelta(hours=5, seconds=1))
 TIMES = st.datetimes(datetime(1970, 1, 1), datetime(9999, 12, 31)) | st.integers(0, 2**33).map(
     lambda it: datetime(1970, 1, 1) + timedelta(seconds=it)
 )
@@ -233,6 +241,16 @@ def test_bytes_of_another_type_are_a_change() -> None:
 
 
 @pytest.mark.parametrize("name", NAMES)
+def test_a_type_that_is_asked_for_is_a_change(name: str) -> None:
+    """What a client sends for the number too, in place of one that came by another type."""
+    one, another = codec(name), ShortShortInt(5) if name == "aiormq" else LongInt(5)
+    came, _ = one.read(raw(("F", {b"k": number("u", 5)}))[1:], 0)
+    assert one.write(came | {}) == one.write({"k": 5}) != one.write(came)
+    came["k"] = another
+    assert one.write(came) == one.write({"k": 5}) == dumps_table({"k": another})
+
+
+@pytest.mark.parametrize("name", NAMES)
 def test_a_large_table_is_read(name: str) -> None:
     """Also one of more bytes than RabbitMQ's usual frame, since a connection may have larger ones."""
     data = raw(("F", {b"k": ("S", b"a" * 200_000)}))[1:]
@@ -252,6 +270,9 @@ def test_times_are_of_no_zone(name: str, monkeypatch: pytest.MonkeyPatch) -> Non
             data = codec(name).write({"t": it})
             assert b"F" + data == raw(("F", {b"t": number("T", 1_815_638_400)}))
             assert codec(name).read(data, 0)[0] == {"t": datetime(2027, 7, 15, 8)}
+        for it in (datetime(1969, 12, 31, 23, 59, 59, 999999), datetime(1970, 1, 1, 5, tzinfo=EAST)):
+            assert error_of(lambda: codec(name).write({"t": it})) in CLIENTS[name][2]
+        assert codec(name).write({"t": datetime(1970, 1, 1, 5, 0, 2, tzinfo=EAST)})[-8:] == b"\0" * 7 + b"\1"
     finally:
         monkeypatch.undo()
         tzset()

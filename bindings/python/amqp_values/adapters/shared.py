@@ -91,7 +91,7 @@ class Codec:
         self.read: Callable[[Any, int], tuple[dict[Any, Any], int]] = native.read
         self.write: Callable[[Any], bytes] = native.write
         # (by which tables are compared: each type is another, and infinities have an encoding)
-        how |= {"finite": False, "integers": "l", "ascending": False}
+        how |= {"finite": False, "integers": "l"}
         plain = _native.Codec(Raising(), Raising, None, **how)
         self.plainly, self.written = plain.read, plain.write
 
