@@ -264,12 +264,15 @@ def test_times_are_of_no_zone(name: str, monkeypatch: pytest.MonkeyPatch) -> Non
     monkeypatch.setenv("TZ", "EAST-5")
     tzset()
     try:
-        values: list[Any] = [datetime(2027, 7, 15, 8), datetime(2027, 7, 15, 10, tzinfo=timezone(timedelta(hours=2)))]
-        values += [gmtime(1_815_638_400)] if name == "aiormq" else []
+        values: list[Any] = [
+            datetime(2027, 7, 15, 8, 0, 7),
+            datetime(2027, 7, 15, 10, 0, 7, tzinfo=timezone(timedelta(hours=2))),
+        ]
+        values += [gmtime(1_815_638_407)] if name == "aiormq" else []
         for it in values:
             data = codec(name).write({"t": it})
-            assert b"F" + data == raw(("F", {b"t": number("T", 1_815_638_400)}))
-            assert codec(name).read(data, 0)[0] == {"t": datetime(2027, 7, 15, 8)}
+            assert b"F" + data == raw(("F", {b"t": number("T", 1_815_638_407)}))
+            assert codec(name).read(data, 0)[0] == {"t": datetime(2027, 7, 15, 8, 0, 7)}
         for it in (datetime(1969, 12, 31, 23, 59, 59, 999999), datetime(1970, 1, 1, 5, tzinfo=EAST)):
             assert error_of(lambda: codec(name).write({"t": it})) in CLIENTS[name][2]
         assert codec(name).write({"t": datetime(1970, 1, 1, 5, 0, 2, tzinfo=EAST)})[-8:] == b"\0" * 7 + b"\1"

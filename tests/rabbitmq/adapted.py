@@ -602,7 +602,7 @@ def installed(session: Session, _: Any) -> Any:
         adapter.install(depth=513)
         found.append("a depth of 513 is taken")
     except ValueError:
-        check("what was in place stays", repr(below(1)).startswith("{'k': {'k': "))
+        check("what was in place stays", type(read_one(twice)[0]) is not dict)
     adapter.install(frame=10)
     check("a frame", repr(read_one(twice)[0]).startswith("Refused("))
     adapter.uninstall()
