@@ -4,15 +4,16 @@ import gc
 import pickle
 import weakref
 from collections.abc import Callable
-from datetime import datetime, timedelta
+from datetime import datetime, timedelta, timezone
 from decimal import Decimal
 from enum import IntEnum
 from random import Random
-from time import gmtime
+from time import gmtime, tzset
 from typing import Any
 
 import pytest
-from amqp_values import Encoded, Error, LongInt, LongString, LongUInt, ShortInt, Timestamp, _native, dumps_table
+from amqp_values import Encoded, Error, LongInt, LongString, LongUInt, ShortInt, ShortShortInt, Timestamp
+from amqp_values import _native, dumps_table
 from amqp_values.adapters import Headers, Refused
 from hypothesis import given
 from hypothesis import strategies as st
@@ -95,6 +96,11 @@ def test_equal_keys_and_limits(name: str) -> None:
     assert isinstance(codec(name, depth=63).read(deep, 0)[0], Refused)
     assert isinstance(codec(name, frame=len(twice)).read(twice, 0)[0], Refused)
     assert type(codec(name, frame=len(twice) + 1).read(twice, 0)[0]) is Headers
+    table: dict[str, Any] = {}
+    for _ in range(63):
+        table = {"k": table}
+    assert codec(name, depth=64).write(table)
+    assert error_of(lambda: codec(name, depth=63).write(table)) in CLIENTS[name][2]
     assert error_of(lambda: codec(name, raises=True).read(deep + b"z", 1)) is CLIENTS[name][1]
     assert error_of(lambda: codec(name, raises=True, depth=9).read(deep, 0)) is CLIENTS[name][1]
 
@@ -104,12 +110,15 @@ def test_arguments(name: str) -> None:
     call: Any = codec(name).read
     for arguments in ((), (b"\0\0\0\0",), (b"\0\0\0\0", 0, 0), ("x", 0), (b"\0\0\0\0", "0"), (None, 0)):
         assert error_of(lambda: call(*arguments)) is TypeError
-    for offset in (-1, 5, 2**70):
-        assert error_of(lambda: call(b"\0\0\0\0", offset)) is Error
+    # (what is before a table may be cut, and its end be after the data's)
+    for offset in (-1, -4, 1, 5, 2**70):
+        assert error_of(lambda: call(b"\0\0\0\0", offset)) is CLIENTS[name][1]
 
 
 # Writing
 
+# A zone whose midnight of 1970, and five hours after it, is a second before that of UTC.
+EAST = timezone(timedelta(hours=5, seconds=1))
 TIMES = st.datetimes(datetime(1970, 1, 1), datetime(9999, 12, 31)) | st.integers(0, 2**33).map(
     lambda it: datetime(1970, 1, 1) + timedelta(seconds=it)
 )
@@ -213,11 +222,63 @@ def test_what_came_is_written_as_it_came(name: str, seed: int) -> None:
         changed += error is None
     assert relayed > 300 and changed > 200
     changed_raw, _ = one.read(b"\0\0\0\3\1aV", 0)
-    for it in (b"", b"\0\0\0\3\1az", b"\0\0\0\0"):
+    for it in (b"", b"\0\0\0\3\1az", b"\0\0\0\0", b"\0\0\0\3\1aV\0"):
         changed_raw.raw = it  # type: ignore[attr-defined]
         assert one.write(changed_raw) == b"\0\0\0\3\1aV"
     again = pickle.loads(pickle.dumps(one.read(b"\0\0\0\3\1az", 0)[0]))
     assert isinstance(again, Refused) and one.write(again) == b"\0\0\0\3\1az"
+
+
+def test_bytes_of_another_type_are_a_change() -> None:
+    """By pamqp a string that isn't UTF-8 is `bytes`, and a byte array a `bytearray`: in place of each other they are sent."""
+    one = codec("aiormq")
+    for at, other in ((0, bytearray(b"\xff")), (1, b"\xff")):
+        came, _ = one.read(raw(("F", {b"a": ("S", b"\xff"), b"b": ("x", b"\xff")}))[1:], 0)
+        assert one.write(came) == raw(("F", {b"a": ("S", b"\xff"), b"b": ("x", b"\xff")}))[1:]
+        came["ab"[at]] = other
+        tag = "Sx"[1 - at]
+        assert b"F" + one.write(came) == raw(("F", {b"a": (tag, b"\xff"), b"b": (tag, b"\xff")}))
+
+
+@pytest.mark.parametrize("name", NAMES)
+def test_a_type_that_is_asked_for_is_a_change(name: str) -> None:
+    """What a client sends for the number too, in place of one that came by another type."""
+    one, another = codec(name), ShortShortInt(5) if name == "aiormq" else LongInt(5)
+    came, _ = one.read(raw(("F", {b"k": number("u", 5)}))[1:], 0)
+    assert one.write(came | {}) == one.write({"k": 5}) != one.write(came)
+    came["k"] = another
+    assert one.write(came) == one.write({"k": 5}) == dumps_table({"k": another})
+
+
+@pytest.mark.parametrize("name", NAMES)
+def test_a_large_table_is_read(name: str) -> None:
+    """Also one of more bytes than RabbitMQ's usual frame, since a connection may have larger ones."""
+    data = raw(("F", {b"k": ("S", b"a" * 200_000)}))[1:]
+    found, end = codec(name).read(data, 0)
+    assert found == {"k": "a" * 200_000} and end == len(data) and codec(name).write(found) == data
+
+
+@pytest.mark.parametrize("name", NAMES)
+def test_times_are_of_no_zone(name: str, monkeypatch: pytest.MonkeyPatch) -> None:
+    """The process may have another zone than UTC."""
+    monkeypatch.setenv("TZ", "EAST-5")
+    tzset()
+    try:
+        values: list[Any] = [
+            datetime(2027, 7, 15, 8, 0, 7),
+            datetime(2027, 7, 15, 10, 0, 7, tzinfo=timezone(timedelta(hours=2))),
+        ]
+        values += [gmtime(1_815_638_407)] if name == "aiormq" else []
+        for it in values:
+            data = codec(name).write({"t": it})
+            assert b"F" + data == raw(("F", {b"t": number("T", 1_815_638_407)}))
+            assert codec(name).read(data, 0)[0] == {"t": datetime(2027, 7, 15, 8, 0, 7)}
+        for it in (datetime(1969, 12, 31, 23, 59, 59, 999999), datetime(1970, 1, 1, 5, tzinfo=EAST)):
+            assert error_of(lambda: codec(name).write({"t": it})) in CLIENTS[name][2]
+        assert codec(name).write({"t": datetime(1970, 1, 1, 5, 0, 2, tzinfo=EAST)})[-8:] == b"\0" * 7 + b"\1"
+    finally:
+        monkeypatch.undo()
+        tzset()
 
 
 def test_the_native_codec_takes_what_it_says() -> None:

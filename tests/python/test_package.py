@@ -346,6 +346,9 @@ def test_times() -> None:
     assert own.loads_table(own.dumps_table({"t": naive}, naive_datetimes=True)) == {"t": 1_800_000_000}
     assert own_error(lambda: own.dumps(datetime(1969, 12, 31, tzinfo=UTC))) == ("out of range", 0, 0)
     assert own_error(lambda: own.dumps(datetime(1969, 12, 31), naive_datetimes=True)) == ("out of range", 0, 0)
+    before = datetime(1969, 12, 31, 23, 59, 59, 999999)
+    assert own_error(lambda: own.dumps(before.replace(tzinfo=UTC))) == ("out of range", 0, 0)
+    assert own_error(lambda: own.dumps(before, naive_datetimes=True)) == ("out of range", 0, 0)
     assert own.Timestamp.of(late) == own.loads(data)
     assert own_error(lambda: own.Timestamp.of(naive)) == ("naive datetime", 0, 0)
     assert own_error(lambda: own.Timestamp(2**63).as_datetime()) == ("out of range", 0, 0)

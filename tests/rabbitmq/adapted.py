@@ -16,6 +16,7 @@ from datetime import datetime, timedelta, timezone
 from decimal import Decimal
 from importlib import import_module
 from random import Random
+from types import ModuleType
 from typing import Any
 
 from tests.model.printed import damaged
@@ -378,6 +379,11 @@ def wrong(session: Session, given: Any) -> Any:
             client.publish("", given["to"], WRONG[name])
         except Exception as error:
             found[name] = name_of(error)
+    if "declared" in given:
+        try:
+            client.declare(given["to"], {"k": object()})
+        except Exception as error:
+            found["declared"] = name_of(error)
     if "key" in given:
         try:
             client.publish("", given["key"], {"right": 0})
@@ -521,6 +527,14 @@ def objects() -> Iterator[tuple[tuple[str, str], Any]]:
             yield from (((f"{module_name}.{name}", repr(key)), inner) for key, inner in [*names.items()])
 
 
+# Strings that the broker delivers next to headers, as a routing key, and as properties that a consumer answers with.
+SHORT_STRINGS = [b"", b"a", b"\xff\xfe", b"\xff\xc3\xbc", b"\xed\xb3\xbf", "grüß 漢🐇".encode(), b"\xff" * 255, b"\xc3"]
+# What another module may have imported by name: where it is, and its name.
+LATER = {
+    "pika": ("pika.data", "decode_table"), "pyamqp": ("amqp.serialization", "loads"), "aiormq": ("pamqp.decode", "field_table"),
+}  # fmt: skip
+
+
 def installed(session: Session, _: Any) -> Any:
     """What is wrong with installing, restoring, versions and options."""
     found: list[str] = []
@@ -545,11 +559,29 @@ def installed(session: Session, _: Any) -> Any:
     twice = b"\0\0\0\x0e\1aI\0\0\0\1\1aI\0\0\0\2"
     adapter.install()
     check("something is in place", bool(changed()))
+    # (a module that is imported later has ours by name)
+    later: Any = ModuleType(f"{session.client}_later")
+    sys.modules[later.__name__] = later
+    home = import_module(LATER[session.client][0])
+    later.imported = getattr(home, LATER[session.client][1])
     check("refused by default", repr(read_one(deep_one)[0]).startswith("Refused("))
     check("the last of equal keys", read_one(twice)[0] == {"a": 2})
     if session.client == "aiormq":
-        by_type = import_module("pamqp.encode").by_type
+        by_type, decoded = import_module("pamqp.encode").by_type, import_module("pamqp.decode").by_type
         check("a short string", by_type("\udcffü", "shortstr") == b"\3\xff" + "ü".encode())
+        check("its bytes", decoded(b"\3\xff\xc3\xbc..", "shortstr") == (4, "\udcffü"))
+        late = decoded(b"\xff" * 8 + b"..", "timestamp")
+        check("a late time", late == (8, datetime(9999, 12, 31, 23, 59, 59)))
+        for it in SHORT_STRINGS:
+            check(f"{it!r} comes back", by_type(decoded(bytes([len(it)]) + it, "shortstr")[1], "shortstr")[1:] == it)
+    if session.client == "pyamqp":
+        serialization = import_module("amqp.serialization")
+        check("a short string", serialization.loads("so", b"\3\xff\xc3\xbc\7", 0) == (["\udcffü", 7], 5))
+        for it in SHORT_STRINGS:
+            data = bytes([len(it)]) + it + b"\7"
+            check(f"{it!r} comes back", serialization.dumps("so", serialization.loads("so", data, 0)[0]) == data)
+            message = serialization.decode_properties_basic(b"\4\0" + data, 0)[0]["correlation_id"]
+            check(f"{it!r} as a property", serialization.dumps(b"s", [message]) == data[:-1])
     # what came is relayed as long as it isn't changed
     refused, came = read_one(deep_one)[0], read_one(twice)[0]
     check("relayed", [write_one(it) for it in (refused, came, came.copy())] == [deep_one, twice, twice])
@@ -570,21 +602,31 @@ def installed(session: Session, _: Any) -> Any:
         adapter.install(depth=513)
         found.append("a depth of 513 is taken")
     except ValueError:
-        pass
+        check("what was in place stays", type(read_one(twice)[0]) is not dict)
     adapter.install(frame=10)
     check("a frame", repr(read_one(twice)[0]).startswith("Refused("))
     adapter.uninstall()
     adapter.uninstall()
     check(f"restored: {changed()}", not changed())
+    check("restored where it was imported later", later.imported is getattr(home, LATER[session.client][1]))
+    del sys.modules[later.__name__]
     check("equal again", read_one(twice)[0] == {"a": 2} and type(read_one(twice)[0]) is dict)
     for name in {"pika": ["pika"], "pyamqp": ["amqp"], "aiormq": ["pamqp", "aiormq", "aio_pika"]}[session.client]:
         module: Any = import_module(name)
-        version, module.__version__ = module.__version__, "99.1"
-        try:
-            adapter.install()
-            found.append(f"{name} of another version is taken")
-        except RuntimeError as error:
-            check(f"the name: {error}", f"{name} 99.1: " in str(error) and version in str(error))
+        version = module.__version__
+        # (also those that are nearly the same)
+        for another in (
+            "99.1",
+            f"{version}.post1",
+            version[:-1] + str(int(version[-1]) + 1),
+            version.rpartition(".")[0],
+        ):
+            module.__version__ = another
+            try:
+                adapter.install()
+                found.append(f"{name} {another} is taken")
+            except RuntimeError as error:
+                check(f"the name: {error}", f"{name} {another}: " in str(error) and version in str(error))
         module.__version__ = version
     check(f"nothing is in place: {changed()}", not changed())
     return found

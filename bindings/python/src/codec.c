@@ -57,15 +57,16 @@ static PyObject *read_table(PyObject *self, PyObject *const *arguments, Py_ssize
         return NULL;
     }
     content = content_of(state, arguments[0], &reader.bytes, &reader.length);
-    if (content == NULL || !limit_of(state, "offset", arguments[1], reader.length, &before)) {
-        Py_XDECREF(content);
+    if (content == NULL) {
         return documented(state, NULL);
     }
-    reader.base = (size_t)before;
-    reader.bytes += reader.base;
-    reader.length -= reader.base;
-    if (read_entry(&reader, &entry, &length)) {
-        made = codec->made != NULL ? build_kept(codec, &reader, &entry, content) : build(&reader, &entry);
+    if (limit_of(state, "offset", arguments[1], reader.length, &before)) {
+        reader.base = (size_t)before;
+        reader.bytes += reader.base;
+        reader.length -= reader.base;
+        if (read_entry(&reader, &entry, &length)) {
+            made = codec->made != NULL ? build_kept(codec, &reader, &entry, content) : build(&reader, &entry);
+        }
     }
     if (made != NULL) {
         made = with_end(made, reader.base + length);

@@ -181,7 +181,7 @@ any_reads l s none depth deep = start_reads AnyKeys l.depth depth s deep (within
 pub any_read : (l : Limits) (s : List ℕ) (first : Option Problem) (done : Result Entry Fault) → first ≡ problem_of AnyKeys l s → IsReadOr (IsFirst s) s first done
     → MatchResult done (λ e. (problem_of AnyKeys l s ≡ None) × (e.value.length ≡ extent s) × (e.value.length ≤ length s) × (e.value.length ≤ l.frame)) (IsAnyFault l s)
 any_read l s None (Ok e) is x =
-    let size : e.value.length ≡ extent s = x.prefix.2 in
+    let size : e.value.length ≡ extent s = x.at_start.2 in
     (sym is, size, omega (arith, x.inside.value), omega (arith, size, (within_limits AnyKeys l s (sym is)).0))
 any_read l s None (Err f) is x = absurd x
 any_read l s (Some p) (Ok e) is x = absurd x

@@ -1,7 +1,8 @@
 """The codec of py-amqp, and so of kombu and Celery, in place of its own: `install()` and `uninstall()`."""
 
 import re
-from collections.abc import Callable
+from collections.abc import Callable, Iterable
+from contextlib import suppress
 from functools import lru_cache
 from typing import Any
 
@@ -9,7 +10,6 @@ import amqp.abstract_channel
 import amqp.sasl
 from amqp import serialization
 from amqp.exceptions import FrameSyntaxError
-from amqp.utils import bytes_to_str
 
 from amqp_values import Error
 from amqp_values.adapters.shared import Client, Codec
@@ -17,10 +17,14 @@ from amqp_values.adapters.shared import Client, Codec
 
 def text_of(content: Any) -> Any:
     """A short string, which the broker delivers also if it isn't UTF-8."""
-    try:
-        return bytes_to_str(content)
-    except UnicodeDecodeError:
-        return content.decode(errors="surrogateescape")
+    return content.decode(errors="surrogateescape") if isinstance(content, bytes) else content
+
+
+def content_of(text: Any) -> Any:
+    """The bytes of a short string, also of one that came so; with other surrogates it is left to py-amqp."""
+    with suppress(UnicodeEncodeError):
+        return text.encode(errors="surrogateescape") if isinstance(text, str) else text
+    return text
 
 
 @lru_cache
@@ -44,7 +48,7 @@ class PyAmqp(Client):
         return error
 
     def put(self, codec: Codec) -> None:
-        read, written, read_others = codec.read, codec.write, serialization.loads
+        read, written, read_others, write_others = codec.read, codec.write, serialization.loads, serialization.dumps
 
         def loads(format: str | bytes, buf: Any, offset: int) -> tuple[list[Any], int]:
             if format == "F":
@@ -64,10 +68,18 @@ class PyAmqp(Client):
                     values += found
             return values, offset
 
+        def dumps(format: str | bytes, values: Iterable[Any]) -> bytes:
+            forms = format if isinstance(format, str) else format.decode()
+            encoding: bytes = write_others(
+                forms, [content_of(it) if form == "s" else it for form, it in zip(forms, values)]
+            )
+            return encoding
+
         def write_table(table: Any, write: Callable[[bytes], object], _: Any) -> None:
             write(written(table))
 
         self.places.put_everywhere(serialization, "loads", loads)
+        self.places.put_everywhere(serialization, "dumps", dumps)
         self.places.put(vars(serialization), "pstr_t", text_of)
         self.places.put_everywhere(serialization, "_write_table", write_table)
 

@@ -8,7 +8,7 @@ from importlib.util import find_spec
 from types import ModuleType
 from typing import Any, Literal, NoReturn
 
-from amqp_values import DEPTH, Error, _native, dumps_table
+from amqp_values import DEPTH, Error, _native
 
 # The largest length of a table: what the client has read is there already.
 FRAME = 2**32 - 1
@@ -73,6 +73,9 @@ class Raising:
     def refused(self, problem: Error, data: bytes, offset: int) -> NoReturn:
         raise problem
 
+    def unsent(self, problem: Exception, table: Any) -> NoReturn:
+        raise problem
+
 
 class Codec:
     """Reads and writes the tables of a client, by the two methods of a native one."""
@@ -81,19 +84,22 @@ class Codec:
         self, client: "Client", depth: int, frame: int, equal_keys: EqualKeys, exact: bool, raises: bool
     ) -> None:
         self.client, self.raises = client, raises
-        self.both: dict[str, Any] = {"signed_decimals": True, "depth": depth, "keys": client.keys, "text": "bytes"}
-        how: dict[str, Any] = {**self.both, **client.how, "frame": frame, "equal_keys": equal_keys}
+        how: dict[str, Any] = {"signed_decimals": True, "depth": depth, "keys": client.keys, "text": "bytes"}
+        how |= {**client.how, "frame": frame, "equal_keys": equal_keys}
         how |= {"finite": True, "naive_datetimes": True, "others": client.sent}
         native = _native.Codec(self, Headers, Headers if exact else None, **how)
         self.read: Callable[[Any, int], tuple[dict[Any, Any], int]] = native.read
         self.write: Callable[[Any], bytes] = native.write
-        self.plainly = _native.Codec(Raising(), Headers, None, **how).read
+        # (by which tables are compared: each type is another, and infinities have an encoding)
+        how |= {"finite": False, "integers": "l"}
+        plain = _native.Codec(Raising(), Raising, None, **how)
+        self.plainly, self.written = plain.read, plain.write
 
     def refused(self, problem: Error, data: bytes, offset: int) -> tuple[dict[Any, Any], int]:
         """What is delivered instead of a table that isn't read, and where that ends."""
         end = offset + 4 + int.from_bytes(data[offset : offset + 4], "big")
-        # (what is after a table that is cut can't be found)
-        if self.raises or not offset + 4 <= end <= len(data):
+        # (what is after a table that is cut can't be found; nor is there a table after the end)
+        if self.raises or not 0 <= offset <= end - 4 <= len(data) - 4:
             raise self.client.unread(problem) from problem
         return Refused(problem, data[offset:end]), end
 
@@ -101,13 +107,13 @@ class Codec:
         """Of a table that came, and is written as what its bytes are read as, these bytes."""
         if not hasattr(table, "raw") or (isinstance(table, Refused) and len(table)):
             return None
+        if isinstance(table, Refused):
+            return table.raw
         with suppress(Error, TypeError):
-            if isinstance(table, Refused) or self.written(table) == self.written(self.plainly(table.raw, 0)[0]):
+            found, end = self.plainly(table.raw, 0)
+            if end == len(table.raw) and self.written(table) == self.written(found):
                 return table.raw
         return None
-
-    def written(self, table: dict[Any, Any]) -> bytes:
-        return dumps_table(table, naive_datetimes=True, **self.both)
 
     def unsent(self, problem: Exception, table: Any) -> NoReturn:
         """Raises the client's exception for a table that has no encoding."""
@@ -154,8 +160,9 @@ class Client:
         """Puts this codec in place of the client's, with these options."""
         for name in filter(find_spec, self.versions):
             tested(import_module(name), *self.versions[name])
+        codec = Codec(self, depth, frame, equal_keys, exact, raises)
         self.uninstall()
-        self.put(Codec(self, depth, frame, equal_keys, exact, raises))
+        self.put(codec)
 
     def uninstall(self) -> None:
         """Puts the client's own codec, and what is around it, back."""

@@ -5,7 +5,7 @@ use Rattle.amqp_c.specs.Entries.{IsEntryAtStart, EntryIsIn}
 use Rattle.amqp_c.proofs.Stepping.{first_given, tagged_placed, faithful_placed}
 use Rattle.amqp_c.proofs.cursor.first_of.Goals as goal
 
-pub returns-clause-entry : goal.returns-clause-faithful
+pub returns-clause-entry : goal.returns-clause-entry
 returns-clause-entry c = λ v rest x.
     let s = c.args.bytes.now in
     let is = c.part.ensures in
