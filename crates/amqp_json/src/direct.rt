@@ -44,7 +44,7 @@ pub(crate) fn value_of_text(alloc: Global, text: &str) -> Result<AMQPValue, Valu
 }
 
 // A number without a type's name.
-#[inline(always)]
+#[inline(never)]
 #[tactic(auto, using(crate::proofs::Only::long_long_is))]
 fn plain_number(text: &str) -> Result<AMQPValue, ValueError>
     ensures json { IfOk result (λ v. option_map number (number_of text.now) ≡ Some (json (view v))) }
@@ -55,6 +55,7 @@ fn plain_number(text: &str) -> Result<AMQPValue, ValueError>
 }
 
 // A string without a type's name.
+#[inline(never)]
 #[tactic(auto, using(crate::proofs::Only::only_json))]
 fn plain_text(alloc: Global, text: &str) -> Result<AMQPValue, ValueError>
     ensures json { IfOk result (λ v. json (view v) ≡ string text.now) }
@@ -164,7 +165,8 @@ fn read_object(
     of_table(alloc, table)
 }
 
-// What is behind a first key that is the name of a type: a value of that type, or a table.
+// What is behind a first key that is the name of a type: a value of that type. A table in which other
+// keys follow it isn't read here, since each form of it would take stack at each level.
 #[cycle(read)]
 #[inline(never)]
 fn read_named<'a>(
@@ -190,7 +192,7 @@ fn read_named<'a>(
             if next.is_none() {
                 return named(alloc, amqp_type, &inner);
             }
-            with_members(alloc, reader, name, inner, next, depth)
+            Err(ValueError::NotAValue)
         }
     }
 }
@@ -216,11 +218,11 @@ fn read_time<'a>(
     if next.is_none() {
         return plain_time(text);
     }
-    let inner = plain_number(text)?;
-    with_members(alloc, reader, name, inner, next, depth)
+    Err(ValueError::NotAValue)
 }
 
 // A time under its type's name.
+#[inline(never)]
 #[tactic(auto, using(crate::proofs::Turns::time_is))]
 fn plain_time(text: &str) -> Result<AMQPValue, ValueError>
     ensures json { IfOk result (λ v. option_map (under amqp.Timestamp)
@@ -257,8 +259,7 @@ fn read_table<'a>(
     if next.is_none() {
         return ambiguous(table);
     }
-    let inner = of_table(alloc, table)?;
-    with_members(alloc, reader, name, inner, next, depth)
+    Err(ValueError::NotAValue)
 }
 
 // A table under its type's name, if its only key is the name of a type.
@@ -274,33 +275,8 @@ fn ambiguous(table: FieldTable) -> Result<AMQPValue, ValueError>
     Ok(AMQPValue::FieldTable(table))
 }
 
-// What is behind a first member, and the key after it, if there is one.
-#[cycle(read)]
-#[inline(never)]
-fn with_members<'a>(
-    alloc: Global,
-    reader: &mut Reader<'a>,
-    name: &'a str,
-    inner: AMQPValue,
-    next: Option<&'a str>,
-    depth: usize,
-) -> Result<AMQPValue, ValueError>
-    requires stored { IsStored (view inner) }
-    ensures ok { IfOk result (λ v. (ts us vs : List SpecToken)
-        → read_key ts ≡ Some (Some name.now, us)
-        → converted of_json (value depth us) ≡ Some (json (view inner), vs) → length vs < length us
-        → read_key vs ≡ Some (option_map (λ s. s.now) next.entry, reader.old)
-        → IsObject (json (view v)) (value depth) ts reader.new) }
-    ensures stored { IfOk result (λ v. IsStored (view v)) }
-    ensures shorter { OnOk result (length reader.new ≤ length reader.old) }
-{
-    let mut table = FieldTable::new_in(alloc);
-    place(alloc, &mut table, name, inner)?;
-    let table = read_members(alloc, reader, table, next, depth)?;
-    of_table(alloc, table)
-}
-
 // The value of a type whose JSON, under the type's name, is that of `inner`.
+#[inline(never)]
 #[tactic(auto, using(crate::proofs::Only::is_under))]
 fn named(alloc: Global, amqp_type: AMQPType, inner: &AMQPValue) -> Result<AMQPValue, ValueError>
     ensures json { IfOk result (λ v. json (view v) ≡ under amqp_type (json (view inner.now))) }
@@ -352,7 +328,7 @@ fn read_members<'a>(
     Ok(table)
 }
 
-#[inline(always)]
+#[inline(never)]
 fn place(alloc: Global, table: &mut FieldTable, name: &str, v: AMQPValue) -> Result<(), ValueError>
     requires stored { EntriesStored (table_view table.old) × IsStored (view v) }
     ensures ok { OnOk result (table_view table.new ≡ insert name.now (view v) (table_view table.old)) }

@@ -8,7 +8,7 @@ use Rattle.serde_json.specs.Read.{of_json, of_items, of_members, converted, numb
 use Rattle.amqp_value_core.specs.View.{view}
 use Rattle.amqp_value_core.specs.Containers.{array_items, array_view, table_view, trees, entries}
 use Rattle.amqp_value_core.specs.declared.value.AMQPValue.{AMQPValue}
-use Rattle.amqp_value_core.specs.Values.{table, no_entries, insert}
+use Rattle.amqp_value_core.specs.Values.{table}
 use Rattle.amqp_value_core.specs.declared.value.AMQPValue.{the_lemmas}
 use Rattle.amqp_value_core.specs.declared.value.AMQPValue.TheVariants as amqp
 use Rattle.amqp_value_core.specs.declared.types.amqp_type.AMQPType.TheVariants as types
@@ -151,7 +151,7 @@ read_named-returns-then-is_none-clause-ok t c =
     (λ v seen ts first. subst (λ e. IsObject e p ts end) (sym seen) (under_object p k type ts s r end d known first inner (closed _ r end c.in_ok-next-in_default.ensures none) shorter))
     c.named.ensures.json
 
--- a number that is the only member, and one that others follow
+-- a number that is the only member
 pub read_time-returns-then-is_none-clause-ok : goal.read_time-returns-then-is_none-clause-ok
 read_time-returns-then-is_none-clause-ok t c =
     let p = value c.args.depth in
@@ -168,20 +168,7 @@ read_time-returns-then-is_none-clause-ok t c =
     subst (λ e. IsObject e p ts end) at.2 (under_object p k types.Timestamp ts s r end at.0 known first (number_read c.args.depth x r at.0 at.1) (closed _ r end c.in_ok-next.ensures none) (omega arith)))
     c.plain_time.ensures.json
 
-pub read_time-returns-clause-ok : goal.read_time-returns-clause-ok
-read_time-returns-clause-ok t c =
-    let p = value c.args.depth in
-    let k = c.args.name.now in
-    let x = c.args.text.now in
-    let r = c.args.reader.now in
-    let s = Token.number x ∷ r in
-    let end = c.with_members.new.reader in
-    let inner = number_read c.args.depth x r (json (view c.in_ok-inner.inner)) c.in_ok-inner.ensures.json in
-    weaker _ (λ v. (ts : List Token) → read_key ts ≡ Some (Some k, s) → IsObject (json (view v)) p ts end) c.with_members.result
-    (λ v h ts first. h ts s r first inner (omega arith) c.in_ok-next.ensures)
-    c.with_members.ensures.ok
-
--- a table that is the only member, and one that others follow
+-- a table that is the only member
 pub read_table-returns-then-is_none-clause-ok : goal.read_table-returns-then-is_none-clause-ok
 read_table-returns-then-is_none-clause-ok t c =
     let p = value c.args.depth in
@@ -202,47 +189,3 @@ read_table-returns-then-is_none-clause-ok t c =
     weaker (λ v. json (view v) ≡ under types.FieldTable (object ms)) (λ v. (ts : List Token) → read_key ts ≡ Some (Some k, s) → IsObject (json (view v)) p ts end) c.ambiguous.result
     (λ v seen ts first. subst (λ e. IsObject e p ts end) (sym seen) (under_object p k types.FieldTable ts s r end (object ms) known first inner (closed _ r end c.in_ok-next.ensures none) shorter))
     c.ambiguous.ensures.json
-
-pub read_table-returns-clause-ok : goal.read_table-returns-clause-ok
-read_table-returns-clause-ok t c =
-    let p = value c.args.depth in
-    let q = value (c.args.depth - 1) in
-    let k = c.args.name.now in
-    let a = c.args.reader.now in
-    let s = Token.begin_object ∷ a in
-    let r = c.read_members.new.reader in
-    let end = c.with_members.new.reader in
-    let ms = members_json (table_view c.in_ok-table.table) in
-    let empty : members_json (table_view c.new_in.result) ≡ no_members = ap (λ (es : List (List ℕ × AMQPValue)). members_json (entries es)) c.new_in.ensures in
-    let read = ap (λ (old : Members). converted (λ xs. of_members xs old) (members q (length a) a)) (sym empty) ∙ c.in_ok-table.ensures.ok a (length a) c.in_ok-first.ensures (omega arith) in
-    let inner : converted of_json (p s) ≡ Some (object ms, r) = ap (converted of_json) (value-begin_object c.args.depth a (omega arith)) ∙ converted-object (members q (length a) a) ∙ ap (parse_map object) read in
-    let less = read_key-shorter a _ c.next_key.new.reader c.in_ok-first.ensures in
-    let shorter : length r < length s = omega (arith, less, c.in_ok-table.ensures.shorter) in
-    weaker _ (λ v. (ts : List Token) → read_key ts ≡ Some (Some k, s) → IsObject (json (view v)) p ts end) c.with_members.result
-    (λ v h ts first. h ts s r first (inner ∙ ap (λ (d : Data). Some (d, r)) (sym c.in_ok-inner.ensures.json)) shorter c.in_ok-next.ensures)
-    c.with_members.ensures.ok
-
--- a first member, and those that follow it
-pub with_members-returns-clause-ok : goal.with_members-returns-clause-ok
-with_members-returns-clause-ok t c =
-    let p = value c.args.depth in
-    let k = c.args.name.now in
-    let v = c.args.inner in
-    let d = json (view v) in
-    let end = c.read_members.new.reader in
-    let x = c.in_ok-table.table in
-    let none : table_view c.new_in-table.result ≡ no_entries = ap entries c.new_in-table.ensures in
-    let put_in : table_view c.place.new.table ≡ insert k (view v) no_entries = c.in_ok-place.ensures.ok ∙ ap (insert k (view v)) none in
-    let known : members_json (table_view c.place.new.table) ≡ put k d no_members = ap members_json put_in ∙ insert_put k (view v) no_entries in
-    weaker (λ w. json (view w) ≡ object (members_json (table_view x)))
-    (λ w. (ts us vs : List Token) → read_key ts ≡ Some (Some k, us) → converted of_json (p us) ≡ Some (d, vs) → length vs < length us → read_key vs ≡ Some (option_map (λ b. b.now) c.args.next, c.args.reader.now) → IsObject (json (view w)) p ts end)
-    c.of_table.result
-    (λ w seen ts us vs first inner shorter after.
-    let less = read_key-shorter ts (Some k) us first in (
-      members_json (table_view x),
-      seen,
-      member_read p no_members (length ts) k ts us vs d (omega (arith, less)) first inner
-          ∙ ap (λ (ms : Members). converted (λ xs. of_members xs ms) (members p (length ts - 1) vs)) (sym known)
-          ∙ c.in_ok-table.ensures.ok vs (length ts - 1) after (omega (arith, less, shorter)),
-    ))
-    c.of_table.ensures.json
