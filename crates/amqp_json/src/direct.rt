@@ -184,7 +184,7 @@ fn read_named<'a>(
 {
     let token = reader.next().ok_or(ValueError::NotAValue)?;
     match (amqp_type, token) {
-        (AMQPType::Timestamp, Token::Number(text)) => read_time(alloc, reader, name, text, depth),
+        (AMQPType::Timestamp, Token::Number(text)) => read_time(reader, name, text, depth),
         (AMQPType::FieldTable, Token::BeginObject) => read_table(alloc, reader, name, depth),
         (_, token) => {
             let inner = read_token(alloc, reader, token, depth)?;
@@ -198,10 +198,8 @@ fn read_named<'a>(
 }
 
 // What is behind a first key `Timestamp` and a number: a time isn't always a `LongLongInt`.
-#[cycle(read)]
 #[inline(never)]
 fn read_time<'a>(
-    alloc: Global,
     reader: &mut Reader<'a>,
     name: &'a str,
     text: &'a str,

@@ -17,7 +17,7 @@ use Rattle.amqp_json.specs.Names.{type_named}
 use Rattle.amqp_json.specs.Tokens.{IsObject}
 use Rattle.amqp_json.specs.InMemory.{AreStoredTrees, EntriesStored}
 use Rattle.amqp_json.proofs.Walks.{trees_stored}
-use Rattle.amqp_json.proofs.Turns.{converted-array, converted-object, item_read, items_over, items_before, items_before-no_items, one_more_item, weaker, member_read, members_over, insert_put, under_object, closed, mapped, number_read}
+use Rattle.amqp_json.proofs.Turns.{converted-array, converted-object, item_read, items_over, items_before, items_before-no_items, one_more_item, weaker, member_read, members_over, insert_put, under_object, closed}
 use Rattle.amqp_json.proofs.direct.+read.Goals as goal
 
 pub read_token-returns-in-Null-clause-ok : goal.read_token-returns-in-Null-clause-ok
@@ -150,23 +150,6 @@ read_named-returns-then-is_none-clause-ok t c =
     weaker (λ v. json (view v) ≡ under type d) (λ v. (ts : List Token) → read_key ts ≡ Some (Some k, s) → IsObject (json (view v)) p ts end) c.named.result
     (λ v seen ts first. subst (λ e. IsObject e p ts end) (sym seen) (under_object p k type ts s r end d known first inner (closed _ r end c.in_ok-next-in_default.ensures none) shorter))
     c.named.ensures.json
-
--- a number that is the only member
-pub read_time-returns-then-is_none-clause-ok : goal.read_time-returns-then-is_none-clause-ok
-read_time-returns-then-is_none-clause-ok t c =
-    let p = value c.args.depth in
-    let k = c.args.name.now in
-    let x = c.args.text.now in
-    let r = c.args.reader.now in
-    let s = Token.number x ∷ r in
-    let end = c.next_key.new.reader in
-    let known : type_named k ≡ Some types.Timestamp = search rules in
-    let none : c.in_ok-next.next ≡ None = search rules in
-    weaker _ (λ v. (ts : List Token) → read_key ts ≡ Some (Some k, s) → IsObject (json (view v)) p ts end) c.plain_time.result
-    (λ v h ts first.
-    let at = mapped (under types.Timestamp) (option_map number (number_of x)) (json (view v)) h in
-    subst (λ e. IsObject e p ts end) at.2 (under_object p k types.Timestamp ts s r end at.0 known first (number_read c.args.depth x r at.0 at.1) (closed _ r end c.in_ok-next.ensures none) (omega arith)))
-    c.plain_time.ensures.json
 
 -- a table that is the only member
 pub read_table-returns-then-is_none-clause-ok : goal.read_table-returns-then-is_none-clause-ok

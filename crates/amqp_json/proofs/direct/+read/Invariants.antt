@@ -20,9 +20,6 @@ decreases-read_items l = 7 * l.depth + 2
 abbrev pub decreases-read_members : goal.decreases-read_members
 decreases-read_members l = 7 * l.depth + 2
 
-abbrev pub decreases-read_time : goal.decreases-read_time
-decreases-read_time l = 7 * l.depth + 4
-
 abbrev pub decreases-read_table : goal.decreases-read_table
 decreases-read_table l = 7 * l.depth + 4
 
