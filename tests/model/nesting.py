@@ -219,12 +219,12 @@ def column_of(program: Program) -> int:
 
 
 class InHeader(NamedTuple):
-    """The header's limits, and what a call takes of the stack by it: besides, for each level, and within these limits."""
+    """The header's limits, and what a call takes of the stack by it: besides, for each level, and in all within these limits."""
 
     limits: dict[str, int]
     besides: int
     figures: dict[str, int]
-    threads: dict[str, int]
+    thread: int
 
 
 def in_header(column: int) -> InHeader:
@@ -235,9 +235,8 @@ def in_header(column: int) -> InHeader:
         name: int(of[column]) for *of, names in rows for name in re.findall(r"amqpv_\w+(?: of any keys)?", names)
     }
     (besides,) = re.findall(r"The stack suffices: (\d+) KiB", text)
-    ((most, call, more),) = re.findall(r"content with a stack of (\d+) KiB, (amqpv_\w+) of (\d+) KiB", text)
-    threads = {name: int(most) << 10 for name in FOR_C} | {call: int(more) << 10}
-    return InHeader(limits, int(besides) << 10, figures, threads)
+    (most,) = re.findall(r"content with a stack of (\d+) KiB", text)
+    return InHeader(limits, int(besides) << 10, figures, int(most) << 10)
 
 
 def recommended(program: Threaded) -> Iterator[tuple[str, str]]:
@@ -246,12 +245,11 @@ def recommended(program: Threaded) -> Iterator[tuple[str, str]]:
     Each is done on the stack that the header's figures make, which is at most what it names for these limits. What nests
     deeper is rejected on the latter.
     """
-    limits, besides, figures, threads = in_header(program.column)
+    limits, besides, figures, thread = in_header(program.column)
     of_page = {name: figure for name, figure in table(program.column)[0].items() if name in FOR_C}
     yield "the header's figures", "" if figures == of_page else f"those of {PAGE.name} are {of_page}"
     for name, call in FOR_C.items():
         limit = limits["AMQPV_JSON_DEPTH" if "json" in name else "AMQPV_DEPTH"]
-        thread = threads[name]
         stack = besides + limit * figures.get(name, thread)
         yield f"{name}, {limit} deep", f"by the header it takes {stack} bytes of stack" if stack > thread else ""
         for said, form in FORMS.items():
