@@ -219,7 +219,7 @@ def column_of(program: Program) -> int:
 
 
 class InHeader(NamedTuple):
-    """The header's limits, and what a call takes of the stack by it: besides, for each level, and in all within these limits."""
+    """The header's limits, and its figures of the stack: besides, for each level, and in all within these limits."""
 
     limits: dict[str, int]
     besides: int
