@@ -164,10 +164,36 @@ fn the_json_of_no_value(rt: HostRuntime) {
     assert!(rt; matches!(from_json(alloc, "[1,"), Err(JsonError::Syntax(_))));
 }
 
+// whether the value that is read of a text is written as this one
+fn is_rewritten(alloc: Global, text: &str, written: &str) -> Result<bool, Fail> {
+    let read = from_json(alloc, text)?;
+    Ok(to_json(alloc, &read)?.as_str() == written)
+}
+
 #[test]
 fn the_last_value_of_a_key_stays(rt: HostRuntime) -> Result<(), Fail> {
     let alloc = rt.alloc();
-    let read = from_json(alloc, " {\"b\": 0, \"a\": 1, \"a\": 2} ")?;
-    assert!(rt; to_json(alloc, &read)?.as_str() == "{\"a\":2,\"b\":0}");
+    let spaced = " {\"b\": 0, \"a\": 1, \"a\": 2} ";
+    assert!(rt; is_rewritten(alloc, spaced, "{\"a\":2,\"b\":0}")?);
+    let named = "{\"ShortInt\":1,\"ShortInt\":2}";
+    assert!(rt; is_rewritten(alloc, named, "{\"ShortInt\":2}")?);
+    let times = "{\"Timestamp\":1,\"Timestamp\":2}";
+    assert!(rt; is_rewritten(alloc, times, "{\"Timestamp\":2}")?);
+    let tables = "{\"FieldTable\":{\"a\":1},\"FieldTable\":{\"ShortInt\":5}}";
+    assert!(rt; is_rewritten(alloc, tables, "{\"FieldTable\":{\"ShortInt\":5}}")?);
+    Ok(())
+}
+
+#[test]
+fn a_key_that_is_the_name_of_a_type_among_others(rt: HostRuntime) -> Result<(), Fail> {
+    let alloc = rt.alloc();
+    let time = "{\"Timestamp\":1,\"b\":2}";
+    assert!(rt; is_rewritten(alloc, time, time)?);
+    let table = "{\"FieldTable\":{\"a\":1},\"b\":2}";
+    assert!(rt; is_rewritten(alloc, table, table)?);
+    let decimal = "{\"DecimalValue\":{\"scale\":1,\"value\":2},\"b\":[]}";
+    assert!(rt; is_rewritten(alloc, decimal, decimal)?);
+    let second = "{\"A\":null,\"Float\":\"3f800000\"}";
+    assert!(rt; is_rewritten(alloc, second, second)?);
     Ok(())
 }
