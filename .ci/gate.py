@@ -19,8 +19,8 @@ from tests.oracle.sides import is_at_hand
 from tests.rabbitmq.broker import BIN
 from tests.rabbitmq.clients import PYTHON
 
-# The kit that all of this is proved with.
-KIT_LINE = "rattle-kit-13f"
+# The program logic in which all of this is proved: `rt version` ends with it, whatever the kit is called.
+LOGIC = "logic dac8208d650f15bf"
 # What each step needs besides the kit; `python3`, `cc` and `c++` can't be left out.
 ALWAYS = ("git", "python3", "cc", "c++")
 NEEDS: dict[str, tuple[str, ...]] = {
@@ -110,8 +110,8 @@ def has_module(name: str) -> bool:
 def missing(steps: Collection[str], is_whole: bool) -> Iterator[str]:
     """Yields what is missing for these steps, before anything is begun."""
     line = said_by("rt", "version")
-    if not line.startswith(KIT_LINE):
-        yield f"rt version prints {line or 'nothing'}, and not {KIT_LINE}"
+    if not line.endswith(LOGIC):
+        yield f"rt version prints {line or 'nothing'}, which doesn't end in {LOGIC}"
     programs = [*ALWAYS, *(it for step, words in NEEDS.items() if step in steps for it in words)]
     programs += ["debootstrap"] * (is_whole and "c" in steps)
     lacks = [it for it in programs if not (shutil.which(it) or it.endswith(".h") and Path(it).exists())]
@@ -143,6 +143,11 @@ def by_rejected(step: Step) -> Judged:
     return int(found[1]), int(found[4]), last
 
 
+def said_of_itself(*words: str) -> str:
+    """What a command prints, on standard error too."""
+    return subprocess.run(words, stdout=subprocess.PIPE, stderr=subprocess.STDOUT, text=True, check=False).stdout
+
+
 def add_proofs(steps: Steps, asked: Asked, copy: Path) -> Step:
     """Copies the repository, and adds the step that proves the copy."""
     is_whole = asked.is_whole()
@@ -153,7 +158,9 @@ def add_proofs(steps: Steps, asked: Asked, copy: Path) -> Step:
         leave_out_tests(copy)
     is_anew = is_whole and PROOFS in asked.steps
     judge = by_proved if is_whole else by_last_line
-    return steps.add(PROOFS, ["rt", "ci", *["--anew"] * is_anew], cwd=copy, judge=judge, tells=TELLS_PROOFS)
+    # a kit whose `rt ci` keeps nothing has no such word
+    anew = ["--anew"] * (is_anew and "--anew" in said_of_itself("rt", "help"))
+    return steps.add(PROOFS, ["rt", "ci", *anew], cwd=copy, judge=judge, tells=TELLS_PROOFS)
 
 
 def commands(asked: Asked, copy: Path) -> dict[str, list[object]]:

@@ -1,10 +1,10 @@
 """The keys of mutants: what their checks read, module by module, so that only what changed is tried again.
 
-A module is a source file that mutants change. The first of its two keys is a hash of what judges them: the kit's line,
-HANDLES, the scripts that try mutants, its source file, its mutants, and the proofs of the functions that they name. The
-second is one of all else that their checks read: the crate's line of crates.txt, its specs/, its lemmas, and its sources
-without the bodies of functions; and of the crates below it the interfaces, definitions and lemmas. Lines that are
-comments, and what only tests are made of, aren't part of either.
+A module is a source file that mutants change. The first of its two keys is a hash of what judges them: the program logic
+of the kit, HANDLES, the scripts that try mutants, its source file, its mutants, and the proofs of the functions that they
+name. The second is one of all else that their checks read: the crate's line of crates.txt, its specs/, its lemmas, and
+its sources without the bodies of functions; and of the crates below it the interfaces, definitions and lemmas. Lines that
+are comments, and what only tests are made of, aren't part of either.
 """
 
 import fcntl
@@ -115,7 +115,7 @@ def proofs_of(folder: Path, mutants: Sequence[Mutant], sources: Iterable[Path]) 
             yield it
 
 
-def own_key(crates: Crates, crate: str, mutants: Sequence[Mutant], kit_line: str) -> str:
+def own_key(crates: Crates, crate: str, mutants: Sequence[Mutant], logic: str) -> str:
     """A hash of what judges the mutants of a module."""
     folder = crates.folder(crate)
     sources = [
@@ -124,7 +124,7 @@ def own_key(crates: Crates, crate: str, mutants: Sequence[Mutant], kit_line: str
     shared = [crates.top / "HANDLES", *(TOP / it for it in SCRIPTS)]
     blocks = sorted((str(it), it.block) for it in mutants)
     ours = code(folder, [*sources, *proofs_of(folder, mutants, sources)])
-    return hash_of([("kit", kit_line), *((it.name, code_of(it)) for it in shared), *blocks, *ours])
+    return hash_of([("logic", logic), *((it.name, code_of(it)) for it in shared), *blocks, *ours])
 
 
 def rest_key(crates: Crates, crate: str) -> str:
@@ -151,13 +151,13 @@ def is_test(folder: Path, source: Path) -> bool:
     return source.relative_to(folder / "src").parts[0] in ("tests.rt", "tests")
 
 
-def keys_of(crates: Crates, mutants: Mapping[str, Sequence[Mutant]], kit_line: str) -> Keys:
+def keys_of(crates: Crates, mutants: Mapping[str, Sequence[Mutant]], logic: str) -> Keys:
     """The keys of each module of these crates that has mutants."""
     found: Keys = {}
     for crate, ours in mutants.items():
         rest = rest_key(crates, crate) if ours else ""
         for name, group in by_module(ours).items():
-            found[name] = Key(own_key(crates, crate, group, kit_line), rest)
+            found[name] = Key(own_key(crates, crate, group, logic), rest)
     return found
 
 
