@@ -1,5 +1,5 @@
 -- The entry of the value at the start.
-use Rattle.std.proofs.Common.{◌≡◌, ◌+◌, ◌-◌, ◌<◌, ◌≤◌, ℕ, zero, suc, nat_lt, if◌then◌else◌, Bool, true, false, Option, Some, None, MatchOption, Result, Ok, Err, MatchResult, List, [], ◌∷◌, ◌++◌, length, take, drop, refl, sym, ap, ◌∙◌, subst, arith, length-append}
+use Rattle.std.proofs.Common.{◌≡◌, ◌+◌, ◌-◌, ◌<◌, ◌≤◌, ℕ, zero, suc, nat_lt, if◌then◌else◌, Bool, true, false, Option, Some, None, MatchOption, Result, Ok, Err, IfOk, MatchResult, List, [], ◌∷◌, ◌++◌, length, take, drop, refl, sym, ap, ◌∙◌, subst, arith, length-append}
 use Rattle.std.specs.Int.{w32}
 use borrow.Author.Tests.{ltb-true}
 use Rattle.std.proofs.lemmas.List.{take_at, length-take-le, take-append-drop}
@@ -30,7 +30,7 @@ use Rattle.amqp_c_common.specs.ReturnCodes.{fault_of}
 use Rattle.amqp_c.specs.CallResults.{HeaderFaults, GivesFirst, IsValueTaken, FaultsWithin}
 use Rattle.amq_protocol_types.specs.declared.parsing.limits.Limits.{Limits}
 use Rattle.amq_protocol_types.specs.parsing.Limits.{Within}
-use Rattle.amqp_c.specs.Entries.{HasNoNumber, DescribesValue, IsEntry, HoldsContent, IsTagged}
+use Rattle.amqp_c.specs.Entries.{HasNoNumber, DescribesValue, IsEntry, HoldsContent, IsTagged, IsEntryAtStart, EntryIsIn}
 use Rattle.amqp_c.specs.Heads.{has_content}
 use Rattle.amqp_c.specs.Steps.{IsHeaded}
 use Rattle.amqp_c_common.specs.Scalars.{bits_in, scale_in}
@@ -51,10 +51,10 @@ found_wire s rest v n x e =
     subst (λ (w : List ℕ). Wire w v) (sym (ap (take n) f.2 ∙ take_at f.0 rest n size)) f.1
 
 -- the entry of a value that is read within limits
-pub value_taken : (l : Limits) (s rest : List ℕ) (v : Tree) (done : Result Entry Fault) → Within l s (found v rest) → GivesFirst s v rest done
-    → MatchResult done (IsValueTaken l s) (FaultsWithin l s)
-value_taken l s rest v (Ok e) read g = record { meaning = v; rest = rest; read = read; taken = g.2; first = g.1; entry = g.0 }
-value_taken l s rest v (Err f) read g = absurd g
+pub value_taken : (l : Limits) (s rest : List ℕ) (v : Tree) (done : Result Entry Fault) → Within l s (found v rest) → GivesFirst s v rest done → IfOk done (IsEntryAtStart s)
+    → IfOk done (EntryIsIn (length s)) → MatchResult done (IsValueTaken l s) (FaultsWithin l s)
+value_taken l s rest v (Ok e) read g at_start inside = record { meaning = v; rest = rest; read = read; taken = g.2; entry = g.0; at_start = at_start; inside = inside }
+value_taken l s rest v (Err f) read g at_start inside = absurd g
 
 -- ---- faults
 

@@ -77,7 +77,7 @@ first_read s (Err f) whole at_start inside faithful refused = absurd (cut_header
 
 -- by the rules of reading that of the value that is read
 pub value_read : (l : Limits) (s : List ℕ) (done : Result Entry Fault) → FindsValue l s → ((v : Tree) (rest : List ℕ) → Outcome s (found v rest) → GivesFirst s v rest done)
-    → MatchResult done (IsValueTaken l s) (FaultsWithin l s)
+    → IfOk done (IsEntryAtStart s) → IfOk done (EntryIsIn (length s)) → MatchResult done (IsValueTaken l s) (FaultsWithin l s)
 value_read l s done (v, rest, x) faithful =
     let f = prefix_within l.depth s rest v x.1 in
     value_taken l s rest v done x (faithful v rest (subst (λ (t : List ℕ). Outcome t (found v rest)) (sym f.2) (wire_found f.0 rest v f.1.0)))

@@ -18,7 +18,7 @@ use Rattle.amqp_c_common.specs.declared.fault.Fault.{Fault}
 use Rattle.amqp_c_common.specs.declared.fault.Fault.TheVariants.{More, UnknownTag, Malformed, TooLarge}
 use Rattle.amqp_c_common.specs.ReturnCodes.{fault_of, code_of, count_of}
 use Rattle.amqp_c_common.specs.Spans.{part}
-use Rattle.amqp_c.specs.Entries.{IsEntry}
+use Rattle.amqp_c.specs.Entries.{IsEntry, IsEntryAtStart, EntryIsIn}
 
 -- it is what an error that is right of reading s is reported as
 abbrev pub IsRefusalOf : List ℕ → Fault → Type 0
@@ -42,14 +42,15 @@ abbrev pub FaultsWithin : Limits → List ℕ → Fault → Type 0
 FaultsWithin l s TooLarge = l.frame < extent s
 FaultsWithin l s f = (extent s ≤ l.frame) × IsReadingFault (OutcomeWithin l.depth s) f
 
--- a value is read within limits from the start of s, and e is its entry
+-- a value is read within limits from the start of s, and e is its entry, without a key, all of it inside s
 pub record IsValueTaken (l : Limits) (s : List ℕ) (e : Entry) : Type 0 where
   pub meaning : Tree
   pub rest : List ℕ
   pub read : Within l s (found meaning rest)
   pub taken : e.value.length + length rest ≡ length s
-  pub first : e.value.offset ≡ 0
   pub entry : IsEntry s e meaning
+  pub at_start : IsEntryAtStart s e
+  pub inside : EntryIsIn (length s) e
 
 -- the entry of a table without its type tag at the start, whose body has n bytes after its length
 abbrev pub untagged_table : ℕ → Entry

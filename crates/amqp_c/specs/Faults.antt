@@ -35,12 +35,12 @@ RefusesNumber tag bits scale BadTag = IsScalarTag tag → ⊥
 RefusesNumber tag bits scale OutOfRange = IsScalarTag tag × ((x : Scalar) → IsScalarOf tag bits scale x → ⊥)
 RefusesNumber tag bits scale _ = ⊥
 
--- a fault of an integer is right: its type tag isn't of the kind that the call takes, or the integer is
+-- a fault of an integer is right: its type tag isn't one that the call takes, or the integer is
 -- out of its type's range
 abbrev pub IsIntegerFault : Type 0 → ℕ → ℕ → Fault → Type 0
-IsIntegerFault kind tag bits BadTag = kind → ⊥
-IsIntegerFault kind tag bits OutOfRange = kind × ((x : Scalar) → IsScalarOf tag bits 0 x → ⊥)
-IsIntegerFault kind tag bits _ = ⊥
+IsIntegerFault IsTaken tag bits BadTag = IsTaken → ⊥
+IsIntegerFault IsTaken tag bits OutOfRange = IsTaken × ((x : Scalar) → IsScalarOf tag bits 0 x → ⊥)
+IsIntegerFault IsTaken tag bits _ = ⊥
 
 -- a fault of a long string or a byte array is right: the type tag is of neither, or the bytes are too many
 abbrev pub IsStringFault : ℕ → List ℕ → Fault → Type 0

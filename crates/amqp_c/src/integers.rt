@@ -10,7 +10,7 @@ use crate::container::Container;
 use crate::put::put_scalar_at;
 use amqp_c_common::Fault;
 
-/// Puts a signed number.
+/// Puts a signed number, whose type tag is `b`, `s`, `I` or `l`, and returns the container that has it.
 #[inline(always)]
 pub fn put_int(
     buffer: &mut [u8],
@@ -20,8 +20,8 @@ pub fn put_int(
     number: i64,
 ) -> Result<Container, Fault>
     ensures put { MatchResult result
-        (IsEntryPut (signed_number tag number) buffer.old into key.now buffer.new)
-        (IsPutFault (signed_number tag number) buffer.old into key.now) }
+        (λ grown. IsEntryPut (signed_number tag number) buffer.old into key.now buffer.new grown)
+        (λ fault. IsPutFault (signed_number tag number) buffer.old into key.now fault) }
     ensures kept { OnErr result (buffer.new ≡ buffer.old) }
 {
     let at = into.place(buffer.len(), key)?;
@@ -31,7 +31,7 @@ pub fn put_int(
     put_scalar_at(buffer, into, at, key, tag, number.cast_unsigned(), 0)
 }
 
-/// Puts an unsigned number.
+/// Puts an unsigned number, whose type tag is `B`, `u` or `i`, and returns the container that has it.
 #[inline(always)]
 pub fn put_uint(
     buffer: &mut [u8],
@@ -41,8 +41,8 @@ pub fn put_uint(
     number: u64,
 ) -> Result<Container, Fault>
     ensures put { MatchResult result
-        (IsEntryPut (unsigned_number tag number) buffer.old into key.now buffer.new)
-        (IsPutFault (unsigned_number tag number) buffer.old into key.now) }
+        (λ grown. IsEntryPut (unsigned_number tag number) buffer.old into key.now buffer.new grown)
+        (λ fault. IsPutFault (unsigned_number tag number) buffer.old into key.now fault) }
     ensures kept { OnErr result (buffer.new ≡ buffer.old) }
 {
     let at = into.place(buffer.len(), key)?;

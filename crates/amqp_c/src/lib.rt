@@ -54,6 +54,7 @@ use getter::store_decimal;
 use integers::{put_int, put_uint, truth_bits};
 use json::put_json;
 use measure::{Measure, measured_table, measured_value};
+use needed::store_needed;
 use nest::{close, open};
 use pair::Pair;
 use path::{EqualKeys, Step, find_path};
@@ -536,7 +537,7 @@ pub extern "C" fn amqpv_needed(
 ) -> i32
     ensures { GivesNeeded into.now key_length tag content_length result count.new }
 {
-    return_count(into.needed(key_length, tag, content_length), count)
+    store_needed(into, key_length, tag, content_length, count)
 }
 
 /// Returns the integer of an entry as a signed one, if it fits.

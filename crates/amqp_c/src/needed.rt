@@ -2,25 +2,83 @@
 
 ghost use Rattle.std.specs.Prelude.{◌≡◌, ◌≤◌, ◌+◌, MatchResult};
 ghost use Rattle.amqp_value_core.specs.Layouts.{width_of};
-ghost use Rattle.amqp_c.specs.Needs.{IsKeyLength, name_len, IsEncodingLen, RefusesLen, IsKnownContainer, IsNeeded, RefusesNeeded};
+ghost use Rattle.amqp_c_common.specs.Spans.{SpanIsIn};
+ghost use Rattle.amqp_c.specs.Calls.{GivesNeeded};
+ghost use Rattle.amqp_c.specs.Containers.{end_of};
+ghost use Rattle.amqp_c.specs.Needs.{most_bytes, IsKeyLength, name_len, IsEncodingLen, RefusesLen, IsKnownContainer, IsNeeded, RefusesNeeded};
 
 use crate::container::{Container, is_container_tag};
 use crate::entry::has_content;
-use amqp_c_common::Fault;
+use amqp_c_common::{Fault, return_count};
 use amqp_value_core::types::AMQPType;
+
+/// Stores how large a buffer has to be at least, and returns whether it is known. Of a container that ends far
+/// below the most bytes that a buffer can have, no sum is compared with that: the compiler sees that it is less.
+#[inline(always)]
+pub fn store_needed(
+    into: &Container,
+    key_length: usize,
+    tag: u8,
+    content_length: usize,
+    count: &mut usize,
+) -> i32
+    ensures { GivesNeeded into.now key_length tag content_length result count.new }
+{
+    let end = into.written.offset.wrapping_add(into.written.length);
+    if end < into.written.offset || end > usize::MAX / 4 {
+        return store_needed_far(into, key_length, tag, content_length, count);
+    }
+    return_count(
+        into.needed_after(end, key_length, tag, content_length),
+        count,
+    )
+}
+
+/// That of any container.
+#[cold]
+#[inline(never)]
+fn store_needed_far(
+    into: &Container,
+    key_length: usize,
+    tag: u8,
+    content_length: usize,
+    count: &mut usize,
+) -> i32
+    ensures { GivesNeeded into.now key_length tag content_length result count.new }
+{
+    return_count(into.needed(key_length, tag, content_length), count)
+}
 
 impl Container {
     /// How large a buffer has to be at least so that an entry can be put after what is written, by
     /// the length of its key, its type tag, and how many bytes its value has after their length.
     #[inline(always)]
-    pub fn needed(self, key_length: usize, tag: u8, content_length: usize) -> Result<usize, Fault>
+    fn needed(&self, key_length: usize, tag: u8, content_length: usize) -> Result<usize, Fault>
         ensures { MatchResult result
-            (IsNeeded self key_length tag content_length)
-            (RefusesNeeded self key_length tag content_length) }
+            (IsNeeded self.now key_length tag content_length)
+            (RefusesNeeded self.now key_length tag content_length) }
     {
         let Some(end) = self.written.end_in(usize::MAX / 2) else {
             return Err(Fault::Invalid);
         };
+        self.needed_after(end, key_length, tag, content_length)
+    }
+
+    /// It of a container whose end is known, and which a buffer can have.
+    #[inline(always)]
+    fn needed_after(
+        &self,
+        end: usize,
+        key_length: usize,
+        tag: u8,
+        content_length: usize,
+    ) -> Result<usize, Fault>
+        requires inside { SpanIsIn most_bytes self.now.written }
+        requires end { end ≡ end_of self.now }
+        ensures { MatchResult result
+            (IsNeeded self.now key_length tag content_length)
+            (RefusesNeeded self.now key_length tag content_length) }
+    {
         if self.inner != 0 {
             return Err(Fault::Invalid);
         }
@@ -44,6 +102,7 @@ impl Container {
 /// has no length.
 // The tactic names why no type has another's type tag.
 #[tactic(auto, using(crate::proofs::Needs::no_type, crate::proofs::Needs::other_type))]
+#[inline(always)]
 fn encoding_len(tag: u8, content_length: usize) -> Result<usize, Fault>
     ensures len { MatchResult result
         (IsEncodingLen tag content_length)
@@ -56,11 +115,12 @@ fn encoding_len(tag: u8, content_length: usize) -> Result<usize, Fault>
     if amqp_type.get_id() as u8 != tag {
         return Err(Fault::BadTag);
     }
+    let width = width_of(amqp_type);
     if !has_content(amqp_type) {
         if content_length != 0 {
             return Err(Fault::Invalid);
         }
-        return Ok(1 + width_of(amqp_type));
+        return Ok(1 + width);
     }
     let Ok(length) = u32::try_from(content_length) else {
         return Err(Fault::TooLarge);
@@ -69,6 +129,7 @@ fn encoding_len(tag: u8, content_length: usize) -> Result<usize, Fault>
 }
 
 /// How many bytes a payload has of a type of fixed width; 0 of any other type.
+#[inline(always)]
 fn width_of(amqp_type: AMQPType) -> usize
     ensures width { result ≡ width_of amqp_type }
     ensures few { result ≤ 8 }

@@ -7,6 +7,7 @@ ghost use Rattle.amqp_c.specs.Growth.{IsOpened, IsOpen, IsClosed};
 
 use crate::buffer::{append, write};
 use crate::container::{Container, is_container_tag};
+use crate::put::length_field;
 use amqp_c_common::Fault;
 
 /// Opens an entry whose value is an array or a table, and returns its body, which is empty.
@@ -37,10 +38,10 @@ pub fn close(buffer: &mut [u8], into: Container, body: Container) -> Result<Cont
     if !is_open(buffer, into, body) {
         return Err(Fault::Invalid);
     }
-    let Ok(length) = u32::try_from(body.written.length) else {
+    let Some(length) = length_field(body.written.length) else {
         return Err(Fault::TooLarge);
     };
-    write(buffer, body.written.offset - 4, &length.to_be_bytes());
+    write(buffer, body.written.offset - 4, &length);
     let outer = Container { inner: 0, ..into };
     Ok(outer.up_to(body.written.offset + body.written.length))
 }
@@ -53,19 +54,21 @@ fn is_open(buffer: &[u8], into: Container, body: Container) -> bool
         ((k : List ℕ) × IsOpen buffer.now into body k)
         ((k : List ℕ) → IsOpen buffer.now into body k → ⊥) }
 {
-    let Some(at) = into.written.end_in(buffer.len()) else {
+    let Some(_) = body.written.end_in(buffer.len()) else {
         return false;
     };
-    let Some(_) = body.written.end_in(buffer.len()) else {
+    // Where the type tag of the body ends, and its length begins.
+    if body.written.offset < 4 {
+        return false;
+    }
+    let named = body.written.offset - 4;
+    let Some(at) = into.written.end_in(named) else {
         return false;
     };
     if into.inner != 1 || body.inner != 0 {
         return false;
     }
-    if body.written.offset < at + 4 {
-        return false;
-    }
-    let Some((tag, name)) = buffer[at..body.written.offset - 4].split_last() else {
+    let Some((tag, name)) = buffer[at..named].split_last() else {
         return false;
     };
     if *tag != body.tag {

@@ -2,7 +2,7 @@
 //!
 //! What this takes is in line in each call for C, so that what is returned isn't copied through the stack.
 
-ghost use Rattle.std.specs.Prelude.{ℕ, ◌≡◌, ◌≤◌, ◌<◌, ◌^◌, ◌∷◌, length, take, None, OnErr, MatchResult, MatchBool};
+ghost use Rattle.std.specs.Prelude.{ℕ, ◌≡◌, ◌≤◌, ◌<◌, ◌^◌, ◌∷◌, length, take, None, OnErr, MatchOption, MatchResult, MatchBool};
 ghost use Rattle.std.specs.Int.{w32, to_be_bytes};
 ghost use Rattle.amqp_c.specs.Containers.{IsPlace, end_of};
 ghost use Rattle.amqp_c.specs.BuiltEntries.{IsStringTag};
@@ -82,19 +82,35 @@ pub fn put_bytes(
     if !is_string_tag(tag) {
         return Err(Fault::BadTag);
     }
-    let Ok(length) = u32::try_from(bytes.len()) else {
+    let Some(length) = length_field(bytes.len()) else {
         return Err(Fault::TooLarge);
     };
     append(buffer, into, at, key, &head_of(tag, length), bytes)
 }
 
-/// What is before the bytes of a long string or a byte array.
+/// The four bytes of a length, if it fits them. They are put into a register before that is known: after it they
+/// would be put together from two parts.
 #[inline(always)]
-pub fn head_of(tag: u8, length: u32) -> [u8; 5]
-    ensures { result ≡ tag ∷ to_be_bytes w32 length }
+#[tactic(auto, using(std::proofs::lemmas::Nat::le_bytes_4))]
+pub fn length_field(length: usize) -> Option<[u8; 4]>
+    ensures { MatchOption result
+        (2 ^ 32 ≤ length)
+        (λ field. (length < 2 ^ 32) × (field ≡ to_be_bytes w32 length)) }
+{
+    let swapped = u32::from_le_bytes(((length % 4_294_967_296) as u32).to_be_bytes());
+    if length > u32::MAX as usize {
+        return None;
+    }
+    Some(swapped.to_le_bytes())
+}
+
+/// What is before the bytes of a long string or a byte array: its type tag, and their length.
+#[inline(always)]
+pub fn head_of(tag: u8, length: [u8; 4]) -> [u8; 5]
+    ensures { result ≡ tag ∷ length }
 {
     let mut head = [tag, 0, 0, 0, 0];
-    head[1..].copy_from_slice(&length.to_be_bytes());
+    head[1..].copy_from_slice(&length);
     head
 }
 

@@ -94,7 +94,7 @@ impl Problem {
 /// any byte. If `read_in_place` needs more bytes, the value is `Cut`, at 0, but by
 /// `Rules::RabbitMq` one with the type tag `U` is `UnknownTag`. By `Rules::Reading` there is none
 /// exactly if `read_in_place` returns a value.
-#[inline]
+#[inline(always)]
 pub fn first_problem(bytes: &[u8], rules: Rules, limits: Limits) -> Option<Problem>
     ensures first { result ≡ problem_of rules limits bytes.now }
     ensures read { rules ≡ Rules.Reading → (IsNone result ↔ FindsValue limits bytes.now) }

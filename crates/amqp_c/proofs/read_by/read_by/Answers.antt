@@ -11,7 +11,8 @@ returns-in-None-clause-right c =
 
 pub returns-in-None-clause-same : goal.returns-in-None-clause-same
 returns-in-None-clause-same c = λ is.
-    value_read c.args.limits c.args.bytes.now c.first.result ((c.in-None.ensures.read is).0 refl) c.first.ensures.faithful
+    let given = c.first.ensures in
+    value_read c.args.limits c.args.bytes.now c.first.result ((c.in-None.ensures.read is).0 refl) given.faithful given.at_start given.inside
 
 pub returns-in-Some-clause-right : goal.returns-in-Some-clause-right
 returns-in-Some-clause-right c =
