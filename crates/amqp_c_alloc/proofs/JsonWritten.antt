@@ -4,12 +4,21 @@ use Rattle.std.specs.Str.{IsUtf8}
 use Rattle.amqp_value_core.specs.Values.{Tree}
 use Rattle.amqp_value_core.specs.Texts.{text}
 use Rattle.amqp_value_core.proofs.GrammarLaws.{bounded_wire}
+use Rattle.amq_protocol_types.specs.declared.parsing.errors.Err.TheVariants.{Incomplete, Error, Failure}
+use Rattle.amq_protocol_types.specs.declared.parsing.errors.Needed.TheVariants.{Unknown, Size}
+use Rattle.amq_protocol_types.specs.declared.parsing.errors.ErrorKind.TheVariants as kind
+use Rattle.amq_protocol_types.specs.declared.parsing.limits.Limits.{Limits}
+use Rattle.amq_protocol_types.specs.parsing.Limits.{RefusesWithin}
+use Rattle.amq_protocol_types.specs.parsing.Refusals.{Refusal}
+use Rattle.amqp_in_place.specs.InPlaceResults.{NeedsNoMemory}
 use Rattle.amqp_json.specs.declared.error.JsonError.TheVariants as json
 use Rattle.amqp_json.specs.Json as value
 use Rattle.amqp_json.specs.declared.conversion_error.EncodeError.{EncodeError}
 use Rattle.amqp_json.specs.declared.conversion_error.EncodeError.TheVariants as encode
 use Rattle.amqp_json.specs.Converts.{IsReadAs, IsRefused}
 use Rattle.amqp_c_common.specs.declared.fault.Fault.{Fault}
+use Rattle.amqp_c_common.specs.declared.fault.Fault.TheVariants.{OutOfMemory}
+use Rattle.amqp_c_common.specs.ReturnCodes.{fault_of}
 use Rattle.amqp_c_common.specs.Buffers.{IsPutAtStart, IsBufferTooSmall}
 use Rattle.amqp_c_alloc.specs.JsonCalls.{IsTextOf, IsEncodingPut, IsEncodingFault, text_fault}
 
@@ -25,10 +34,10 @@ put_meant most t bytes old new v (Err f) x made same is back (e, less) =
 pub reported_text : (most : ℕ) (t : List ℕ) (buffer : ℕ) (e : EncodeError) → IsUtf8 t → IsRefused t e → IsEncodingFault most t buffer (text_fault e)
 reported_text most t buffer encode.OutOfMemory u x = u
 reported_text most t buffer (encode.Json json.OutOfMemory) u x = u
-reported_text most t buffer (encode.Json (json.Syntax e)) u none = inr (λ v is.
+reported_text most t buffer (encode.Json (json.Syntax at)) u none = inr (λ v is.
     let same : None ≡ Some (value.json v) = sym none ∙ is.1.1 in
     absurd (cc same))
-reported_text most t buffer (encode.Json json.NotAValue) u (d, is_read, none) = inr (λ v is.
+reported_text most t buffer (encode.Json (json.NotAValue at)) u (d, is_read, none) = inr (λ v is.
     let both : Some (value.json v) ≡ Some d = sym is.1.1 ∙ is_read in
     let same : value.json v ≡ d = cc in
     absurd (none v is.1.0 same))
@@ -41,3 +50,14 @@ reported_text most t buffer encode.NoTypeTag u (v, meant, unread) = (
       absurd (cc both),
 )
 reported_text most t buffer encode.TooLong u (v, meant, large) = (v, (u, meant), λ w p. absurd (large (bounded_wire w v p).fits))
+
+-- an error of reading in place isn't reported as one of memory
+pub needs_none : (l : Limits) (s : List ℕ) (e : Refusal) → RefusesWithin l s e → NeedsNoMemory e → fault_of e ≡ OutOfMemory → ⊥
+needs_none l s (Incomplete Unknown) x none is = x.1
+needs_none l s (Incomplete (Size n)) x none is = cc
+needs_none l s (Error kind.MapOpt) x none is = cc
+needs_none l s (Error kind.Eof) x none is = cc
+needs_none l s (Error kind.TooLarge) x none is = cc
+needs_none l s (Error kind.MapRes) x none is = x.1
+needs_none l s (Error kind.OutOfMemory) x none is = x.1
+needs_none l s (Failure k) x none is = none

@@ -8,6 +8,7 @@ use Rattle.amq_protocol_types.specs.declared.parsing.limits.Limits.{Limits}
 use Rattle.amqp_json.specs.declared.error.JsonError.TheVariants as json
 use Rattle.amqp_json.specs.declared.conversion_error.EncodeError.{EncodeError}
 use Rattle.amqp_json.specs.declared.conversion_error.EncodeError.TheVariants as encode
+use Rattle.amqp_json.specs.Buffers.{NeedsMemory}
 use Rattle.amqp_json.specs.Converts.{IsJsonOf, IsStoredMeaning, IsReadAs}
 use Rattle.amqp_c_common.specs.declared.fault.Fault.{Fault}
 use Rattle.amqp_c_common.specs.declared.fault.Fault.TheVariants.{OutOfMemory, BufferTooSmall, NotJson, NoEncoding}
@@ -29,12 +30,14 @@ IsJsonFault l s buffer (BufferTooSmall n) = (t : List ℕ) × (rest : List ℕ) 
 IsJsonFault l s buffer f = IsReadFault l s f
 
 -- the JSON text of the value at the start of s is put into the buffer; or the fault is right, and
--- the buffer as it was
+-- the buffer as it was; memory runs out only if a value is read, and in one of its tables the keys
+-- don't ascend, or its text has more bytes than a count can tell
 pub record WritesJson (frame depth : ℕ) (s old : List ℕ) (code : ℤ) (new : List ℕ) (count : ℕ) : Type 0 where
   pub done : Result ℕ Fault
   pub returned : code ≡ return_code_of done
   pub counted : count ≡ count_of done
   pub written : MatchResult done (IsJsonPut (limits frame depth) s old new) (IsJsonFault (limits frame depth) s (length old))
+  pub memory : done ≡ Err OutOfMemory → NeedsMemory (limits frame depth) s
   pub kept : IfErr done (λ _. new ≡ old)
 
 -- ---- from a JSON text to the encoding

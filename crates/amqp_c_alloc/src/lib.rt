@@ -2,8 +2,9 @@
 //! and what is doubtful in a value that RabbitMQ takes.
 //!
 //! They allocate by C's `malloc`, `realloc` and `free` (the canonical encoding only if the bytes
-//! aren't canonical already), and free all of it. They keep no state, print nothing and never end
-//! the process. `include/amqp_values.h` declares them.
+//! aren't canonical already, a JSON text only if the keys of a table don't ascend), and free all of
+//! it. They keep no state, print nothing and never end the process. `include/amqp_values.h` declares
+//! them.
 #![tactic(auto)]
 
 ghost use Rattle.amqp_c_alloc.specs.CanonicalCalls.{WritesCanonical};
@@ -48,7 +49,8 @@ pub extern "C" fn amqpv_canonical(
 }
 
 /// Writes the JSON text of the value that `bytes` begin with to the start of `buffer`. Of the stack it takes
-/// what `json_of_encoding` does: docs/PROMISES.md has the runs of that.
+/// what `write_whole_json` does, and `json_of_encoding` if the keys of a table don't ascend:
+/// docs/PROMISES.md has the runs of these.
 ///
 /// `count` becomes how many bytes were written, how many more are needed of the value, or how many
 /// the buffer has to have, otherwise 0.

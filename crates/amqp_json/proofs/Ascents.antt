@@ -15,6 +15,8 @@ use Rattle.amqp_in_place.specs.Refs.{array_body, table_body, Denotes}
 use Rattle.amqp_in_place.specs.Places.{IsFramed, IsViewIn, IsPairViewIn}
 use Rattle.amqp_in_place.specs.Walks.{ValueStep, PairStep}
 use Rattle.amqp_in_place.specs.Written.{written, values_written, pairs_written}
+use Rattle.amqp_in_place.specs.Canonicals.{IsAbove}
+use Rattle.amqp_json.proofs.Steps.{Rising, rising_first, rising_next, rising_over, falls, none_rises}
 use Rattle.amqp_json.specs.Ascending.{Ascends, AllAscend, EntriesAscend, InOrder, OutOfOrder, ValuesWritten, PairsWritten, IfInOrder, IfValuesAscend, IfPairsAscend, IfTableAscends}
 
 -- ---- values
@@ -126,8 +128,32 @@ pub table_order : {T : Type 0} (r : Option T) (s : List ℕ) → ((ps : Entries)
 table_order None s rises (ps, p, n) = (ps, p, λ x. n x.1)
 table_order (Some r) s rises (ps, p, a) = (ps, p, ((written_rises s ps p).0 (rises ps p), a))
 
+pub pairs_fall_in_table : (s : List ℕ) → PairsWritten (λ ts. EntriesAscend ts → ⊥) s → PairsWritten (λ es. Ascends (table es) → ⊥) s
+pairs_fall_in_table s (ps, p, n) = (ps, p, λ x. n x.1)
+
 pub table_falls : (s : List ℕ) (ps : Entries) → ((qs : Entries) → TableBody s qs → IsRising qs → ⊥) → TableBody s ps → PairsWritten (λ es. Ascends (table es) → ⊥) s
 table_falls s ps falls p = (ps, p, λ x. falls ps p ((written_rises s ps p).1 x.0))
+
+-- ---- the keys, one at a time
+
+-- those before the pairs that are left ascend, and `previous` is the last of them
+abbrev pub RisesSoFar : List ℕ → List ℕ → Option (Bor (List ℕ)) → Type 0
+RisesSoFar all left None = all ≡ left
+RisesSoFar all left (Some j) = Rising all left j.now
+
+pub rises_on : (all left less : List ℕ) (previous : Option (Bor (List ℕ))) (j : Bor (List ℕ)) (x : Bor (List ℕ) × ValueRef) → RisesSoFar all left previous → j.now ≡ x.0.now → IsAbove previous j.now
+    → ((qs : Entries) → TableBody left qs → PairStep qs (Some x) less) → RisesSoFar all less (Some j)
+rises_on all left less None j x so same above step = rising_first all less x j.now same (λ ps p. step ps (subst (λ (s : List ℕ). TableBody s ps) so p))
+rises_on all left less (Some i) j x so same above step = rising_next all left less i.now j.now x so same above step
+
+pub rises_no_more : (all left less : List ℕ) (previous : Option (Bor (List ℕ))) (j : List ℕ) (x : Bor (List ℕ) × ValueRef) → RisesSoFar all left previous → j ≡ x.0.now → (IsAbove previous j → ⊥)
+    → ((qs : Entries) → TableBody left qs → PairStep qs (Some x) less) → (ps : Entries) → TableBody all ps → IsRising ps → ⊥
+rises_no_more all left less None j x so same not step = absurd (not tt)
+rises_no_more all left less (Some i) j x so same not step = falls all left less i.now j x so same not step
+
+pub all_rise : (all left less : List ℕ) (previous : Option (Bor (List ℕ))) → RisesSoFar all left previous → ((qs : Entries) → TableBody left qs → PairStep qs None less) → (ps : Entries) → TableBody all ps → IsRising ps
+all_rise all left less None so step ps p = none_rises ps less (step ps (subst (λ (s : List ℕ). TableBody s ps) so p))
+all_rise all left less (Some j) so step ps p = rising_over all left less j.now so step ps p
 
 -- ---- a value
 

@@ -1,17 +1,24 @@
 -- When what was written is read as what it was written for.
-use Rattle.std.proofs.Common.{◌≡◌, ℕ, Bool, true, false, cond, List, [], ◌++◌, sym, subst, refl}
+use Rattle.std.proofs.Common.{◌≡◌, ℕ, Bool, true, false, cond, List, [], ◌++◌, sym, ap, ◌∙◌, subst, refl}
 use Rattle.std.proofs.lemmas.List.{append-nil}
 use Rattle.amqp_value_core.specs.Values.{Tree, scalar, short, long, octets, array, table, readable}
 use Rattle.amqp_value_core.specs.Texts.{text}
 use Rattle.amqp_value_core.specs.Outcomes.{Reading, more, unknown, malformed, found, Outcome}
 use Rattle.amqp_value_core.specs.Readings.{read_back, unread}
-use Rattle.amqp_value_core.proofs.GrammarLaws.{one_outcome}
+use Rattle.amqp_value_core.specs.Grammar.{Wire}
+use Rattle.amqp_value_core.proofs.GrammarLaws.{one_outcome, one_reading, prefix_within, wire_found, what_is_read, read_is_value, text_is_wire}
+use Rattle.amqp_value_core.specs.Inputs.{IsBytes}
+use Rattle.serde_json.specs.Read.{read}
+use Rattle.amq_protocol_types.specs.declared.parsing.limits.Limits.{Limits}
+use Rattle.amqp_in_place.specs.Canonicals.{IsReadAsWritten}
+use Rattle.amqp_json.specs.InMemory.{IsStored}
+use Rattle.amqp_json.proofs.Ones.{only_text}
 use Rattle.amq_protocol_types.specs.declared.parsing.errors.Err.TheVariants.{Incomplete, Error, Failure}
 use Rattle.amq_protocol_types.specs.declared.parsing.errors.Needed.TheVariants.{Unknown, Size}
 use Rattle.amq_protocol_types.specs.declared.parsing.errors.ErrorKind.TheVariants.{MapOpt, MapRes, Eof, OutOfMemory, TooLarge}
 use Rattle.amq_protocol_types.specs.parsing.Refusals.{Refusal}
 use Rattle.amq_protocol_types.specs.parsing.ParseResults.{IsRefusal}
-use Rattle.amqp_json.specs.Converts.{IsReadAs}
+use Rattle.amqp_json.specs.Converts.{IsReadAs, IsStoredMeaning, JsonTextMeans}
 
 -- what reading a canonical encoding results in, whatever follows
 abbrev ReadsBackTo : Tree → Type 0
@@ -60,3 +67,31 @@ not_again v (Error MapRes) back h = absurd h
 not_again v (Error OutOfMemory) back h = absurd h
 not_again v (Error TooLarge) back h = absurd h
 not_again v (Failure kind) back h = absurd h.1
+
+-- an encoding that is what is written for the value that is read from it is the canonical one
+pub written_is : (l : Limits) (s t : List ℕ) (v : Tree) → t ≡ s → Wire s v → IsReadAsWritten l t → s ≡ text v
+written_is l s t v slice is (u, within, same) =
+    let f = prefix_within l.depth t [] u within.1 in
+    let one = one_reading s f.0 [] [] v u is f.1.0 (append-nil s ∙ sym slice ∙ f.2) in
+    sym slice ∙ same ∙ ap text (sym one.1)
+
+-- an encoding is read as what it is an encoding of, whatever follows
+pub read_as : (s : List ℕ) (v : Tree) → Wire s v → IsReadAs s v
+read_as s v is rest = wire_found s rest v is
+
+-- so it is of each value that the text means, since it means only one
+pub only_read_as : (s t : List ℕ) (v u : Tree) → IsStoredMeaning t v → Wire s v → IsStored u → JsonTextMeans t u → IsReadAs s u
+only_read_as s t v u h is stored means = subst (IsReadAs s) (sym (only_text (read t) v u h.0 h.1 stored means)) (read_as s v is)
+
+-- what is read from an encoding is what it is an encoding of
+pub read_is : (s rest : List ℕ) (v u : Tree) → Outcome s (found v rest) → Wire s u → v ≡ u
+read_is s rest v u outcome is =
+    let here = subst (λ (t : List ℕ). Outcome t (found u [])) (append-nil s) (wire_found s [] u is) in
+    let same = one_outcome s (found v rest) (found u []) outcome here in
+    cc same
+
+-- the canonical encoding of what bytes are an encoding of is read as it, whatever follows
+pub text_read_as : (s : List ℕ) (v : Tree) → IsBytes s → Wire s v → IsReadAs (text v) v
+text_read_as s v bytes is =
+    let read = what_is_read s v is in
+    read_as (text v) v (text_is_wire v (read_is_value s v bytes is) read.0 read.1)

@@ -103,7 +103,7 @@ plain_put a p c r ps es sole rises is x =
     subst (λ (e : Data). PutsJson a p c r e) (sym same) x
 
 pub plain_puts : (a : List ℕ) (p : Place) (c : List ℕ) (body : List ℕ) (result : Option Place) → ((ps : Entries) → TableBody body ps → is_some (sole_type (members_json ps)) ≡ false)
-    → ((ps : Entries) → TableBody body ps → IsRising ps) → IfSome result (λ r. (ps : Entries) → TableBody body ps → PutsJson a p c r (object (members_json ps)))
+    → IfSome result (λ r. (ps : Entries) → TableBody body ps → IsRising ps) → IfSome result (λ r. (ps : Entries) → TableBody body ps → PutsJson a p c r (object (members_json ps)))
     → IfSome result (λ r. (es : Entries) → HasEntries body es → PutsJson a p c r (json (table es)))
 plain_puts a p c body None sole rises puts = puts
 plain_puts a p c body (Some r) sole rises puts = λ es has. plain_put a p c r has.0 es (sole has.0 has.1) (rises has.0 has.1) has.2 (puts has.0 has.1)

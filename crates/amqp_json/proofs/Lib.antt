@@ -19,3 +19,11 @@ mod Putting
 mod Filling
 mod Ascents
 mod Turns
+mod Ordered
+mod Counting
+mod Passing
+mod Merged
+mod Leading
+mod Forms
+mod Encodes
+mod CanonicalSteps

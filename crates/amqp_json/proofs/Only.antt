@@ -1,5 +1,5 @@
 -- What is read as a value is its JSON.
-use Rattle.std.proofs.Common.{◌≡◌, ℕ, zero, ℤ, pos, negsuc, suc, ◌+◌, ◌*◌, ◌/◌, ◌%◌, ◌^◌, ◌<◌, nat_lt, nat_le, length, List, [], ◌∷◌, Bool, true, false, ◌&&◌, ◌||◌, ◌==◌, Option, Some, None, Result, Ok, Err, refl, sym, ap, ◌∙◌, subst, inl, inr, arith}
+use Rattle.std.proofs.Common.{◌≡◌, ◌≢◌, ℕ, zero, ℤ, pos, negsuc, suc, ◌+◌, ◌*◌, ◌/◌, ◌%◌, ◌^◌, ◌<◌, nat_lt, nat_le, length, List, [], ◌∷◌, Bool, true, false, ◌&&◌, ◌||◌, ◌==◌, Option, Some, None, Result, Ok, Err, refl, sym, ap, ◌∙◌, subst, inl, inr, arith}
 use Rattle.std.proofs.lemmas.Bool.{and_parts, cases_lt, eqb-true}
 use Rattle.std.specs.List.{find, list_any}
 use Rattle.std.specs.Option.{option_map, option_and_then}
@@ -15,7 +15,7 @@ use Rattle.std.proofs.lemmas.Nat.{be_bytes_4, be_bytes_8}
 use Rattle.hex.specs.Hex.{lower_digits, encode_with, encode_lower, decode_of, decode_sized, decode_pairs, pair_value, value_at, digit_or_error, hex_digit_value, ◌>>=◌, IsBytes}
 use Rattle.hex.specs.declared.error.FromHexError.{FromHexError}
 use Rattle.hex.proofs.HexLemmas.{decode_of-ok, decode_of-even, decode_sized-ok, decode_sized-twice}
-use Rattle.serde_json.specs.Data.{Num, unsigned, negative, float, Data, null, boolean, number, string, array, object, Items, no_items, item, Members, no_members, member}
+use Rattle.serde_json.specs.Data.{Num, unsigned, negative, Data, null, boolean, number, string, array, object, Items, no_items, item, Members, no_members, member}
 use Rattle.serde_json.specs.Find.{of_integer, as_str}
 use Rattle.amqp_value_core.specs.declared.types.amqp_type.AMQPType.{AMQPType}
 use Rattle.amqp_value_core.specs.declared.types.amqp_type.AMQPType.TheVariants as amqp
@@ -262,6 +262,37 @@ is_decimal (object (member a x (member b y no_members))) t h =
     ∙ ap (λ u. under amqp.DecimalValue (object (member u x (member (codes "value") y no_members)))) (sym k)
     ∙ ap (λ u. under amqp.DecimalValue (object (member a x (member u y no_members)))) (sym j)
 is_decimal _ t h = absurd (cc h)
+
+below_less : (limit : ℕ) (d : Data) (n : ℕ) → unsigned_below limit d ≡ Some n → n < limit
+below_less limit (number (unsigned m)) n h =
+    let c = if_some (nat_lt m limit) (Some m) n h in
+    let same = inside m n c.1 in
+    let low = c.0 in
+    grind (arith)
+below_less limit _ n h = absurd (cc h)
+
+-- a decimal's scale and number are those of a table, too
+pub decimal_read : (d : Data) (t : Tree) → decimal_in d ≡ Some t → value_of d ≢ None
+decimal_read (object (member a x (member b y no_members))) t h none =
+    let names = if_some (bytes_eq a (codes "scale") && bytes_eq b (codes "value")) _ t h in
+    let each = and_parts (bytes_eq a (codes "scale")) (bytes_eq b (codes "value")) names.0 in
+    let k = (bytes_eq-Decides a (codes "scale")).0 each.0 in
+    let j = (bytes_eq-Decides b (codes "value")).0 each.1 in
+    let m = some_then _ (unsigned_below (2 ^ 8) x) t names.1 in
+    let n = some_map (λ n. scalar (decimal m.0 n)) (unsigned_below (2 ^ 32) y) t m.2 in
+    let less = below_less (2 ^ 8) x m.0 m.1 in
+    let low : nat_lt m.0 (2 ^ 63) ≡ true = grind (arith) in
+    let lesser = below_less (2 ^ 32) y n.0 n.1 in
+    let lower : nat_lt n.0 (2 ^ 63) ≡ true = grind (arith) in
+    let read : value_of (object (member (codes "scale") (natural m.0) (member (codes "value") (natural n.0) no_members))) ≡ Some (table (entry (codes "scale") (scalar (values.number amqp.LongLongInt m.0)) (entry (codes "value") (scalar (values.number amqp.LongLongInt n.0)) no_entries))) =
+    rw (low, lower) refl in
+    let same : value_of (object (member (codes "scale") (natural m.0) (member (codes "value") (natural n.0) no_members))) ≡ value_of (object (member a x (member b y no_members))) =
+    ap (λ u. value_of (object (member (codes "scale") u (member (codes "value") (natural n.0) no_members)))) (below_is (2 ^ 8) x m.0 m.1)
+    ∙ ap (λ u. value_of (object (member (codes "scale") x (member (codes "value") u no_members)))) (below_is (2 ^ 32) y n.0 n.1)
+    ∙ ap (λ (u : List ℕ). value_of (object (member u x (member (codes "value") y no_members)))) (sym k)
+    ∙ ap (λ (u : List ℕ). value_of (object (member a x (member u y no_members)))) (sym j) in
+    absurd (cc (read, same, none))
+decimal_read _ t h none = absurd (cc h)
 
 pub is_under : (type : AMQPType) (d : Data) (t : Tree) → value_under type d ≡ Some t → json t ≡ under type d
 is_under amqp.ShortShortInt d t h = signed_under amqp.ShortShortInt w8 d t refl (λ n. refl) h

@@ -1,13 +1,17 @@
 -- Bytes and tokens after others in a buffer.
-use Rattle.std.proofs.Common.{◌≡◌, ℕ, zero, suc, ◌+◌, ◌-◌, ◌<◌, ◌/◌, ◌%◌, List, [], ◌∷◌, ◌++◌, length, take, drop, get_or, refl, sym, ap, ◌∙◌, subst, false, append_assoc, append-nil, arith}
+use Rattle.std.proofs.Common.{◌≡◌, Bool, ℕ, zero, suc, min, ◌+◌, ◌-◌, ◌<◌, ◌≤◌, ◌/◌, ◌%◌, List, [], ◌∷◌, ◌*◌, ◌^◌, ◌++◌, length, take, drop, length-append, get_or, refl, sym, ap, ◌∙◌, subst, false, true, cond, get_or-drop, append_assoc, append-nil, arith}
 use Rattle.std.specs.List.{slice_index, prefix_len}
-use Rattle.std.proofs.Math.Seq.{take-suc}
+use Rattle.hex.proofs.HexLemmas.{length-encode_with}
+use Rattle.std.proofs.lemmas.List.{length-drop, drop-drop}
 use Rattle.json.specs.Run.{is_plain}
 use Rattle.json.proofs.Printed.Strings.{escape_to_stop, escape_at, escape_end}
 use Rattle.hex.specs.Hex.{lower_digits, encode_with, encode_lower, IsBytes}
-use Rattle.json.specs.Token.{Token}
-use Rattle.json.specs.Print.{escape_byte, escape, print, ends, separator, token_text}
-use Rattle.json.proofs.Printed.Tokens.{print_from_push, ends_push}
+use Rattle.json.specs.Token.{Token, begin_object, key}
+use Rattle.json.specs.Written.{PlainBetween}
+use Rattle.json.specs.Print.{escape_byte, escape, print_from, print, ends, ends_value, separator, token_text}
+use Rattle.json.proofs.Printed.Tokens.{print_from_push, print_from-append, ends_push}
+use Rattle.amqp_value_core.specs.declared.types.amqp_type.AMQPType.{AMQPType}
+use Rattle.amqp_value_core.specs.Names.{name_of}
 use Rattle.amqp_json.specs.declared.buffer.place.Place.{Place}
 use Rattle.amqp_json.specs.Puts.{Begins, Puts, IsPrinted, PutsTokens}
 
@@ -73,22 +77,54 @@ escaped_more text done close whole from stop is less e =
     ∙ ap (λ l. done ++ (part ++ l)) (sym (escape_at text stop close less))
     ∙ ap (λ l. done ++ l) (sym (escape_to_stop text from stop close is)) ∙ e
 
--- ---- digits, a byte at a time
+-- ---- how a value under the name of its type begins
 
-digits_append : (xs ys : List ℕ) → encode_lower (xs ++ ys) ≡ encode_lower xs ++ encode_lower ys
-unfolding encode_with
-digits_append [] ys = refl
-digits_append (x ∷ xs) ys = ap (λ l. slice_index lower_digits (x / 16) ∷ slice_index lower_digits (x % 16) ∷ l) (digits_append xs ys)
+opening_text : (c : Bool) (type : AMQPType) → drop (cond c 0 1) (44 ∷ 123 ∷ token_text (key (name_of type))) ≡ print_from c (begin_object ∷ key (name_of type) ∷ [])
+unfolding print_from
+opening_text true type = ap (λ (l : List ℕ). 44 ∷ 123 ∷ l) (sym (append-nil (token_text (key (name_of type)))))
+opening_text false type = ap (λ (l : List ℕ). 123 ∷ l) (sym (append-nil (token_text (key (name_of type)))))
 
-pub digits_none : encode_lower [] ≡ []
-unfolding encode_with
-digits_none = refl
+pub opening_length : (c : Bool) (type : AMQPType) (text : List ℕ) → text ≡ 44 ∷ 123 ∷ token_text (key (name_of type)) → length text ≡ length (print_from c (begin_object ∷ key (name_of type) ∷ [])) + cond c 0 1
+opening_length true type text is = omega (arith, ap length is, ap length (opening_text true type))
+opening_length false type text is = omega (arith, ap length is, ap length (opening_text false type))
 
-pub digits_next : (bytes : List ℕ) (n : ℕ) (d : ℕ) → n < length bytes → encode_lower (take (n + 1) bytes) ≡ encode_lower (take n bytes) ++ slice_index lower_digits (get_or bytes n d / 16) ∷ slice_index lower_digits (get_or bytes n d % 16) ∷ []
-unfolding encode_with
-digits_next bytes n d h =
-    let one : n + 1 ≡ suc n = omega arith in
-    ap (λ k. encode_lower (take k bytes)) one ∙ ap encode_lower (take-suc bytes n d h) ∙ digits_append (take n bytes) (get_or bytes n d ∷ [])
+pub opening_put : (a b : List ℕ) (p r : Place) (type : AMQPType) → Puts a p.count b r.count (drop (cond p.after_value 0 1) (44 ∷ 123 ∷ token_text (key (name_of type)))) → r.after_value ≡ false
+    → PutsTokens a p b r (begin_object ∷ key (name_of type) ∷ [])
+opening_put a b p r type puts e = λ start ts h.
+    let named = key (name_of type) in
+    let bytes = drop (cond p.after_value 0 1) (44 ∷ 123 ∷ token_text named) in
+    let us = begin_object ∷ named ∷ [] in
+    let same : print ts ++ bytes ≡ print (ts ++ us) =
+    ap (λ (l : List ℕ). print ts ++ l) (opening_text p.after_value type ∙ ap (λ c. print_from c us) h.after) ∙ sym (print_from-append false ts us) in
+    record {
+      text = subst (λ (u : List ℕ). Begins start b r.count u) same (puts start (print ts) h.text);
+      after = e ∙ sym (ap ends_value (sym (append_assoc ts (begin_object ∷ []) (named ∷ []))) ∙ ends_push false (ts ++ begin_object ∷ []) named);
+    }
+
+-- ---- bytes that need no escape, some at a time
+
+first_plain : (xs : List ℕ) (n : ℕ) → ((k : ℕ) → k < n → is_plain (get_or xs k 0) ≡ true) → n ≤ length xs → prefix_len is_plain xs ≡ n + prefix_len is_plain (drop n xs)
+first_plain xs zero plain few = omega arith
+first_plain [] (suc n) plain few = absurd (omega (arith, few))
+first_plain (x ∷ xs) (suc n) plain few =
+    ap (λ b. cond b (1 + prefix_len is_plain xs) 0) (plain 0 (omega arith)) ∙ omega (arith, first_plain xs n (λ k less. plain (suc k) (omega (arith, less))) (omega (arith, few)))
+
+pub plain_through : (d : List ℕ) (i n : ℕ) → i + n ≤ length d → PlainBetween d i (i + n) → prefix_len is_plain (drop i d) ≡ n + prefix_len is_plain (drop (i + n) d)
+plain_through d i n few plain =
+    first_plain (drop i d) n (λ k less. ap is_plain (get_or-drop i d k 0) ∙ plain (i + k) (omega arith) (omega (arith, less))) (omega (arith, few, length-drop i d))
+    ∙ ap (λ (xs : List ℕ). n + prefix_len is_plain xs) (drop-drop n i d)
+
+-- ---- digits that a buffer hasn't bytes for
+
+pub digits_counted : (a : List ℕ) (at end : ℕ) (bytes : List ℕ) → end ≡ min (at + 2 * length bytes) (2 ^ 64 - 1) → length a < end → Puts a at a end (encode_lower bytes)
+digits_counted a at end bytes is over = λ start t h.
+    let size = length-encode_with lower_digits bytes in
+    let long = length-append t (encode_lower bytes) in
+    record {
+      count = omega (arith, is, size, long, h.count);
+      same = h.same;
+      text = λ fits. absurd (omega (arith, is, over, size, long, fits, h.count, h.same));
+    }
 
 pub puts_as : (a : List ℕ) (i : ℕ) (b : List ℕ) (j : ℕ) (xs ys : List ℕ) → xs ≡ ys → Puts a i b j xs → Puts a i b j ys
 puts_as a i b j xs ys e p = subst (λ (l : List ℕ). Puts a i b j l) e p

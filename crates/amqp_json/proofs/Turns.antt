@@ -1,10 +1,10 @@
 -- The grammar's loops, a turn at a time, under the conversion to data.
-use Rattle.std.proofs.Common.{◌≡◌, ℕ, zero, suc, ◌-◌, ◌<◌, ◌≤◌, List, [], ◌∷◌, ◌++◌, length, Option, Some, None, Result, Ok, Err, IfOk, option_map, option_and_then, refl, sym, ap, ◌∙◌, arith, Bor}
+use Rattle.std.proofs.Common.{◌≡◌, ℕ, zero, suc, ◌-◌, ◌<◌, ◌≤◌, List, [], ◌∷◌, ◌++◌, length, Option, Some, None, Result, Ok, Err, IfOk, option_map, option_and_then, refl, ap, ◌∙◌, arith, Bor}
 use Rattle.json.specs.Token.{Token}
 use Rattle.json.specs.Json as json
-use Rattle.json.specs.Json.{Parse, parse_map, after_end_array, read_key, items, members, if_last}
-use Rattle.json.proofs.Grammar.{value_is, read_key-shorter, items_end, items_more, members_end, members_more}
-use Rattle.serde_json.specs.Data.{Num, Data, number, array, object, Items, no_items, item, Members, no_members, member, put}
+use Rattle.json.specs.Json.{Parse, parse_map, after_end_array, read_key, items_step, items, members, if_last}
+use Rattle.json.proofs.Grammar.{value_is, items_end, items_more, members_end, members_no_key, members_more}
+use Rattle.serde_json.specs.Data.{Data, number, array, object, Items, no_items, item, Members, no_members, member, put}
 use Rattle.serde_json.specs.Read.{of_json, of_items, of_members, converted, number_of}
 use Rattle.amqp_value_core.specs.View.{view}
 use Rattle.amqp_value_core.specs.Containers.{trees}
@@ -13,13 +13,7 @@ use Rattle.std.specs.Ordering.{nat_cmp, match_ordering}
 use Rattle.std.specs.Cmp.Lexicographic.{slice_cmp}
 use Rattle.std.proofs.Common.{Ordering, Less, Equal, Greater}
 use Rattle.amqp_value_core.specs.Values.{Tree, Entries, no_entries, entry, insert}
-use Rattle.amqp_value_core.specs.declared.types.amqp_type.AMQPType.{AMQPType}
-use Rattle.amqp_value_core.specs.declared.types.amqp_type.AMQPType.TheVariants as types
 use Rattle.amqp_json.specs.Json.{items_json, members_json, under}
-use Rattle.amqp_json.specs.Names.{type_named}
-use Rattle.amqp_json.specs.Reading.{value_under}
-use Rattle.amqp_json.specs.Tokens.{IsObject}
-use Rattle.amqp_json.proofs.Only.{is_name, is_under}
 use Rattle.amqp_json.specs.Json as amqp
 
 abbrev pick : {A : Type 0} → A → Option A → A
@@ -33,6 +27,11 @@ found a r s (Some y) b e = let same = ap (pick (y, r)) e in (ap (λ p. p.1) same
 pub converted_some : {A B : Type 0} (f : A → Option B) (o : Option (A × List Token)) (b : B) (r : List Token) → converted f o ≡ Some (b, r) → (a : A) × (o ≡ Some (a, r)) × (f a ≡ Some b)
 converted_some f None b r e = absurd (cc)
 converted_some f (Some p) b r e = let both = found p.0 p.1 r (f p.0) b e in (p.0, ap (λ s. Some (p.0, s)) both.0, both.1)
+
+-- nothing is converted from what is read
+refused : {B : Type 0} (r : List Token) (x : Option B) → option_map {U = B × List Token} (λ y. (y, r)) x ≡ None → x ≡ None
+refused r None e = refl
+refused r (Some y) e = absurd (cc)
 
 twice : {A B : Type 0} (g : A → B) (r : List Token) (x : Option A) → option_map (λ b. (b, r)) (option_map g x) ≡ parse_map g (option_map (λ a. (a, r)) x)
 twice g r None = refl
@@ -50,15 +49,32 @@ with_item : (j : json.Json) (d : Data) → of_json j ≡ Some d → (o : Option 
 with_item j d e None = refl
 with_item j d e (Some p) = rw e (twice (item d) p.1 (of_items p.0))
 
+without_item : (j : json.Json) → of_json j ≡ None → (o : Option (json.Items × List Token)) → converted of_items (parse_map (json.item j) o) ≡ None
+without_item j e None = refl
+without_item j e (Some p) = rw e
+
 with_member : (k : List ℕ) (j : json.Json) (d : Data) (old : Members) → of_json j ≡ Some d → (o : Option (json.Members × List Token))
     → converted (λ ms. of_members ms old) (parse_map (json.member k j) o) ≡ converted (λ ms. of_members ms (put k d old)) o
 with_member k j d old e None = refl
 with_member k j d old e (Some p) = rw e
 
+without_member : (k : List ℕ) (j : json.Json) (old : Members) → of_json j ≡ None → (o : Option (json.Members × List Token)) → converted (λ ms. of_members ms old) (parse_map (json.member k j) o) ≡ None
+without_member k j old e None = refl
+without_member k j old e (Some p) = rw e
+
 module _ (p : Parse json.Json) where
   pub item_read : (n : ℕ) (ts r : List Token) (d : Data) → 0 < n → after_end_array ts ≡ None → converted of_json (p ts) ≡ Some (d, r)
       → converted of_items (items p n ts) ≡ parse_map (item d) (converted of_items (items p (n - 1) r))
   item_read n ts r d some going e = let j = converted_some of_json (p ts) d r e in ap (converted of_items) (items_more p n ts r j.0 some going j.1) ∙ with_item j.0 d j.2 _
+
+  no_item : (more : Parse json.Items) (o : Option (json.Json × List Token)) → converted of_json o ≡ None → converted of_items (option_and_then (λ q. parse_map (json.item q.0) (more q.1)) o) ≡ None
+  no_item more None e = refl
+  no_item more (Some q) e = without_item q.0 (refused q.1 (of_json q.0) e) (more q.1)
+
+  pub item_refused : (n : ℕ) (ts : List Token) → after_end_array ts ≡ None → converted of_json (p ts) ≡ None → converted of_items (items p n ts) ≡ None
+  unfolding items
+  item_refused zero ts going e = refl
+  item_refused (suc n) ts going e = ap (λ o. converted of_items (items_step p (items p n) ts o)) going ∙ no_item (items p n) (p ts) e
 
   pub items_over : (n : ℕ) (ts r : List Token) → length ts ≤ n → after_end_array ts ≡ Some r → converted of_items (items p n ts) ≡ Some (no_items, r)
   items_over n ts r enough e = ap (converted of_items) (items_end p n ts r enough e)
@@ -69,6 +85,19 @@ module _ (p : Parse json.Json) where
     member_read n k ts s r d some key e =
         let j = converted_some of_json (p s) d r e in
         ap (converted (λ ms. of_members ms old)) (members_more p n k ts s r j.0 some key j.1) ∙ with_member k j.0 d old j.2 _
+
+    no_member : (k : List ℕ) (more : Parse json.Members) (o : Option (json.Json × List Token)) → converted of_json o ≡ None
+        → converted (λ ms. of_members ms old) (option_and_then (λ q. parse_map (json.member k q.0) (more q.1)) o) ≡ None
+    no_member k more None e = refl
+    no_member k more (Some q) e = without_member k q.0 old (refused q.1 (of_json q.0) e) (more q.1)
+
+    pub member_refused : (n : ℕ) (k : List ℕ) (ts s : List Token) → read_key ts ≡ Some (Some k, s) → converted of_json (p s) ≡ None → converted (λ ms. of_members ms old) (members p n ts) ≡ None
+    unfolding members
+    member_refused zero k ts s key e = refl
+    member_refused (suc n) k ts s key e = rw key (no_member k (members p n) (p s) e)
+
+    pub key_refused : (n : ℕ) (ts : List Token) → read_key ts ≡ None → converted (λ ms. of_members ms old) (members p n ts) ≡ None
+    key_refused n ts e = ap (converted (λ ms. of_members ms old)) (members_no_key p n ts e)
 
     pub members_over : (n : ℕ) (ts r : List Token) → length ts ≤ n → read_key ts ≡ Some (None, r) → converted (λ ms. of_members ms old) (members p n ts) ≡ Some (old, r)
     members_over n ts r enough e = ap (converted (λ ms. of_members ms old)) (members_end p n ts r enough e)
@@ -107,21 +136,19 @@ pub weaker : {A E : Type 0} (P Q : A → Type 0) (r : Result A E) → ((a : A) �
 weaker P Q (Err e) f h = tt
 weaker P Q (Ok a) f h = f a h
 
+pub whole_and_more : (o : Option (json.Json × List Token)) (d : Data) (t : Token) (r : List Token) → converted of_json o ≡ Some (d, t ∷ r) → whole o ≡ None
+whole_and_more o d t r e = ap whole (converted_some of_json o d (t ∷ r) e).1
+
+pub whole_refused : (o : Option (json.Json × List Token)) → converted of_json o ≡ None → whole o ≡ None
+whole_refused None e = refl
+whole_refused (Some (j, [])) e = refused [] (of_json j) e
+whole_refused (Some (j, t ∷ r)) e = refl
+
 -- an object of one member
 pub one_member : (p : Parse json.Json) (k : List ℕ) (ts s r u : List Token) (d : Data) → read_key ts ≡ Some (Some k, s) → converted of_json (p s) ≡ Some (d, r) → read_key r ≡ Some (None, u) → length r < length ts
     → converted (λ ms. of_members ms no_members) (members p (length ts) ts) ≡ Some (member k d no_members, u)
 one_member p k ts s r u d first value last less =
     member_read p no_members (length ts) k ts s r d (omega (arith, less)) first value ∙ members_over p (put k d no_members) (length ts - 1) r u (omega (arith, less)) last
-
--- what is under the name of a type, its only key
-pub under_object : (p : Parse json.Json) (k : List ℕ) (type : AMQPType) (ts us vs end : List Token) (d : Data) → type_named k ≡ Some type → read_key ts ≡ Some (Some k, us) → converted of_json (p us) ≡ Some (d, vs)
-    → read_key vs ≡ Some (None, end) → length vs < length us → IsObject (under type d) p ts end
-under_object p k type ts us vs end d named first inner closed shorter =
-    let less = read_key-shorter ts (Some k) us first in (
-      member k d no_members,
-      ap (λ j. object (member j d no_members)) (sym (is_name k type named)),
-      one_member p k ts us vs end d first inner closed (omega (arith, less, shorter)),
-    )
 
 -- no key follows
 pub closed : (o : Option (Bor (List ℕ))) (vs end : List Token) → read_key vs ≡ Some (option_map (λ b. b.now) o, end) → o ≡ None → read_key vs ≡ Some (None, end)
@@ -132,9 +159,6 @@ closed o vs end h none = h ∙ ap (λ (x : Option (Bor (List ℕ))). Some (optio
 pub mapped : {A B : Type 0} (f : A → B) (o : Option A) (b : B) → option_map f o ≡ Some b → (a : A) × (o ≡ Some a) × (f a ≡ b)
 mapped f None b h = absurd (cc h)
 mapped f (Some a) b h = let e : f a ≡ b = cc in (a, refl, e)
-
-pub time_is : (x : Option Num) (n : Num) (v : Tree) → x ≡ Some n → value_under types.Timestamp (number n) ≡ Some v → option_map (under types.Timestamp) (option_map number x) ≡ Some (amqp.json v)
-time_is x n v e h = ap (λ o. option_map (under types.Timestamp) (option_map number o)) e ∙ ap Some (sym (is_under types.Timestamp (number n) v h))
 
 pub number_read : (depth : ℕ) (s : List ℕ) (r : List Token) (d : Data) → option_map number (number_of s) ≡ Some d → converted of_json (json.value depth (Token.number s ∷ r)) ≡ Some (d, r)
 number_read depth s r d h = ap (converted of_json) (value_is depth _) ∙ ap (λ o. option_map (λ (x : Data). (x, r)) o) h

@@ -86,7 +86,7 @@ stored_next vs k v h e p q =
     let P : List AMQPValue → Type 0 = λ us. AreStoredTrees (trees us) in
     subst P (taken_more vs k v h e) (trees_stored (take k vs) v p q)
 
-shown : (t : FieldTable) → view (value.FieldTable t) ≡ table (table_view t)
+pub shown : (t : FieldTable) → view (value.FieldTable t) ≡ table (table_view t)
 shown t = search (rules, the_lemmas)
 
 -- a table is its entries

@@ -1,8 +1,14 @@
 -- From an encoding to a JSON text in a buffer.
-use Rattle.std.specs.Prelude.{ℕ, ◌≡◌, ◌+◌, ◌^◌, ◌<◌, ◌≤◌, ◌⊎◌, List, ◌++◌, length, drop}
+use Rattle.std.specs.Prelude.{ℕ, ◌≡◌, ◌+◌, ◌^◌, ◌<◌, ◌≤◌, ◌⊎◌, List, ◌++◌, length, drop, Result, MatchResult}
 use Rattle.amq_protocol_types.specs.declared.parsing.limits.Limits.{Limits}
-use Rattle.amq_protocol_types.specs.parsing.Limits.{RefusesWithin}
+use Rattle.amqp_value_core.specs.Inputs.{IsBytes}
+use Rattle.amqp_value_core.specs.Outcomes.{found}
+use Rattle.amqp_value_core.specs.Values.{Tree}
+use Rattle.amq_protocol_types.specs.parsing.Limits.{Within, RefusesWithin}
+use Rattle.amqp_in_place.specs.declared.refs.ValueRef.{ValueRef}
 use Rattle.amqp_in_place.specs.InPlaceResults.{NeedsNoMemory}
+use Rattle.amqp_in_place.specs.Places.{IsViewIn}
+use Rattle.amqp_in_place.specs.Refs.{Denotes}
 use Rattle.amqp_json.specs.Ascending.{InOrder, OutOfOrder}
 use Rattle.amqp_json.specs.Converts.{IsJsonOf}
 use Rattle.amqp_json.specs.declared.conversion_error.WriteError.{WriteError}
@@ -31,3 +37,14 @@ abbrev pub IsNotWritten : Limits → List ℕ → ℕ → WriteError → Type 0
 IsNotWritten l s buffer (write.Refused e) = RefusesWithin l s e × NeedsNoMemory e
 IsNotWritten l s buffer (write.BufferTooSmall n) = (t : List ℕ) × (rest : List ℕ) × IsOrderedJsonOf l s t rest × (n ≡ length t) × (buffer < n)
 IsNotWritten l s buffer write.NeedsMemory = NeedsMemory l s
+
+-- ---- for private clauses
+
+-- a value is read from the start of s within the limits, `view` denotes it, and `rest` is after it
+abbrev pub IsViewOfRead : Limits → List ℕ → ValueRef → List ℕ → Type 0
+IsViewOfRead l s view rest = IsBytes s × IsViewIn s view rest × ((v : Tree) × Denotes view v × Within l s (found v rest))
+
+-- of whatever bytes the view is, the text of the value is written, or the error is right
+abbrev pub WritesView : ValueRef → List ℕ → List ℕ → Result ℕ WriteError → Type 0
+WritesView view old new r =
+    (l : Limits) (s rest : List ℕ) → IsViewOfRead l s view rest → MatchResult r (λ n. IsJsonWritten l s old new n rest) (IsNotWritten l s (length old))

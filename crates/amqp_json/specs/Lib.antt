@@ -11,6 +11,8 @@ pub mod Reading
 pub mod Tokens
 -- what converting returns
 pub mod Converts
+-- for private clauses: encodings that are put after other bytes
+pub mod Encodes
 -- for private clauses: what is written of a value, and a table's pairs by their keys
 pub mod Adds
 pub mod Sorted

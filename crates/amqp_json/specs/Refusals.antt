@@ -1,5 +1,5 @@
 -- What a JSON value or a text is that reading rejects, and what one is that it accepts.
-use Rattle.std.specs.Prelude.{◌≡◌, ◌≢◌, Option, Some, None}
+use Rattle.std.specs.Prelude.{ℕ, ◌≡◌, ◌≢◌, ◌≤◌, Option, Some, None}
 use Rattle.serde_json.specs.Data.{Data}
 use Rattle.amqp_value_core.specs.Values.{Tree}
 use Rattle.amqp_json.specs.declared.error.JsonError.{JsonError}
@@ -18,5 +18,11 @@ IsOfNone d = (u : Tree) → IsStored u → json u ≢ d
 -- what an error means for what a text was read as: the text is no JSON, or the JSON of no value
 abbrev pub IsJsonError : JsonError → Option Data → Type 0
 IsJsonError OutOfMemory read = Unit {0}
-IsJsonError (Syntax e) read = read ≡ None
-IsJsonError NotAValue read = (d : Data) × (read ≡ Some d) × IsOfNone d
+IsJsonError (Syntax at) read = read ≡ None
+IsJsonError (NotAValue at) read = (d : Data) × (read ≡ Some d) × IsOfNone d
+
+-- the byte that an error reports is in a text of that many bytes, or its end
+abbrev pub IsWithin : JsonError → ℕ → Type 0
+IsWithin OutOfMemory len = Unit {0}
+IsWithin (Syntax at) len = at ≤ len
+IsWithin (NotAValue at) len = at ≤ len

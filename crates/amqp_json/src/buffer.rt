@@ -1,16 +1,20 @@
 //! From an encoding to its JSON text in a buffer, without memory.
 
-ghost use Rattle.std.specs.Prelude.{◌≡◌, length, MatchResult};
-ghost use Rattle.amqp_json.specs.Buffers.{IsJsonWritten, IsNotWritten};
+ghost use Rattle.std.specs.Prelude.{◌≡◌, ◌≤◌, ℕ, List, length, IfOk, OnErr, MatchResult};
+ghost use Rattle.amq_protocol_types.specs.declared.parsing.limits.Limits.{Limits};
+ghost use Rattle.amqp_json.specs.Buffers.{IsJsonWritten, IsNotWritten, IsViewOfRead, WritesView};
 
+mod counting;
 mod leaves;
+mod opening;
 mod place;
+mod plain;
 mod printing;
 mod put;
 mod walk;
 
 use crate::conversion_error::WriteError;
-use amqp_in_place::{Limits, read_in_place};
+use amqp_in_place::{Limits, ValueRef, read_in_place};
 use place::Place;
 use walk::put_value;
 
@@ -31,18 +35,74 @@ pub fn write_json<'a>(
     ensures length { length buffer.new ≡ length buffer.old }
 {
     match read_in_place(bytes, limits) {
-        Ok((value, rest)) => match put_value(buffer, Place::START, value) {
-            Some(end) => {
-                if end.count == usize::MAX {
-                    return Err(WriteError::NeedsMemory);
-                }
-                if end.count > buffer.len() {
-                    return Err(WriteError::BufferTooSmall(end.count));
-                }
-                Ok((end.count, rest))
-            }
-            None => Err(WriteError::NeedsMemory),
-        },
+        Ok((value, rest)) => Ok((write_value(buffer, value)?, rest)),
         Err(refusal) => Err(WriteError::Refused(refusal)),
+    }
+}
+
+fn write_value(buffer: &mut [u8], value: ValueRef<'_>) -> Result<usize, WriteError>
+    ensures written { WritesView value.entry buffer.old buffer.new result }
+    ensures fits { IfOk result (λ n. n ≤ length buffer.old) }
+    ensures length { length buffer.new ≡ length buffer.old }
+{
+    match put_value(buffer, Place::START, value) {
+        Some(end) => {
+            if end.count == usize::MAX {
+                return Err(WriteError::NeedsMemory);
+            }
+            if end.count > buffer.len() {
+                return Err(WriteError::BufferTooSmall(end.count));
+            }
+            Ok(end.count)
+        }
+        None => Err(WriteError::NeedsMemory),
+    }
+}
+
+/// Writes the JSON text as `write_json` does, but leaves the buffer as it was after an error.
+///
+/// It writes to 4 KiB of the stack first. If the text is longer, and fits the buffer, it is written
+/// there a second time.
+pub fn write_whole_json<'a>(
+    bytes: &'a [u8],
+    limits: Limits,
+    buffer: &mut [u8],
+) -> Result<(usize, &'a [u8]), WriteError>
+    ensures written { MatchResult result
+        (λ x. IsJsonWritten limits bytes.entry.now buffer.old buffer.new x.0 x.1.now)
+        (IsNotWritten limits bytes.entry.now (length buffer.old)) }
+    ensures kept { OnErr result (buffer.new ≡ buffer.old) }
+{
+    match read_in_place(bytes, limits) {
+        Ok((value, rest)) => Ok((write_whole_value(buffer, value)?, rest)),
+        Err(refusal) => Err(WriteError::Refused(refusal)),
+    }
+}
+
+/// How many bytes of the stack take a text before it is known to fit the buffer.
+const SHORT: usize = 4096;
+
+fn write_whole_value(buffer: &mut [u8], value: ValueRef<'_>) -> Result<usize, WriteError>
+    ensures written { WritesView value.entry buffer.old buffer.new result }
+    ensures kept { (l : Limits) (s rest : List ℕ) → IsViewOfRead l s value.entry rest
+        → OnErr result (buffer.new ≡ buffer.old) }
+{
+    let mut short = [0u8; SHORT];
+    match write_value(&mut short, value) {
+        Ok(count) => {
+            if count > buffer.len() {
+                return Err(WriteError::BufferTooSmall(count));
+            }
+            buffer[..count].copy_from_slice(&short[..count]);
+            Ok(count)
+        }
+        Err(WriteError::BufferTooSmall(count)) => {
+            if count > buffer.len() {
+                return Err(WriteError::BufferTooSmall(count));
+            }
+            write_value(buffer, value)
+        }
+        Err(WriteError::Refused(refusal)) => Err(WriteError::Refused(refusal)),
+        Err(WriteError::NeedsMemory) => Err(WriteError::NeedsMemory),
     }
 }

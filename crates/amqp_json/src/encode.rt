@@ -7,15 +7,25 @@ ghost use Rattle.amqp_value_core.specs.View.{view};
 ghost use Rattle.amqp_json.specs.InMemory.{IsStored};
 ghost use Rattle.amqp_json.specs.Converts.{JsonTextMeans, IsEncodingOf, IsReadAs, HasNoEncoding, IsRefused};
 
+use crate::canonical::canonical_of;
 use crate::conversion_error::EncodeError;
+use crate::encoding::{Stop, encoding_of_text};
 use crate::text::from_json;
 use amq_protocol_types::generation::{GenError, WriteContext, gen_value};
-use amqp_in_place::read_in_place_unlimited;
+use amqp_in_place::{Limits, is_canonical, read_in_place_unlimited};
 use amqp_value_core::value::AMQPValue;
 use std::alloc::Global;
 
+// No text nests deeper.
+const UNLIMITED: Limits = Limits {
+    frame: u32::MAX,
+    depth: 128,
+};
+
 /// Converts a JSON text to the canonical encoding of its value, which it reads as `from_json` does.
-/// The value is allocated meanwhile.
+/// The value is allocated only if the text isn't encoded as its tokens come: if it is rejected, has
+/// a table under the name of its type, or a key that is the name of a type before others in an
+/// object, or a decimal whose number is before its scale.
 pub fn encoding_of_json(alloc: Global, json: &str) -> Result<Vec<u8>, EncodeError>
     ensures encoding { IfOk result (λ bytes. IsEncodingOf json.now bytes.items) }
     ensures only { IfOk result (λ bytes. (v : Tree) → IsStored v → JsonTextMeans json.now v
@@ -24,11 +34,34 @@ pub fn encoding_of_json(alloc: Global, json: &str) -> Result<Vec<u8>, EncodeErro
         → IsReadAs bytes.items v) }
     ensures refused { IfErr result (IsRefused json.now) }
 {
+    match direct_encoding(alloc, json) {
+        Ok(bytes) => return Ok(bytes),
+        Err(Stop::OutOfMemory) => return Err(EncodeError::OutOfMemory),
+        Err(Stop::NotHere) => {}
+    }
     let value = from_json(alloc, json)?;
     encoding_of(alloc, &value)
 }
 
+// The canonical encoding without the value in memory, if the text is encoded so.
+#[inline(never)]
+fn direct_encoding(alloc: Global, json: &str) -> Result<Vec<u8>, Stop>
+    ensures encoding { IfOk result (λ bytes. IsEncodingOf json.now bytes.items) }
+    ensures only { IfOk result (λ bytes. (v : Tree) → IsStored v → JsonTextMeans json.now v
+        → bytes.items ≡ text v) }
+    ensures read_back { IfOk result (λ bytes. (v : Tree) → IsStored v → JsonTextMeans json.now v
+        → IsReadAs bytes.items v) }
+{
+    let bytes = encoding_of_text(alloc, json)?;
+    if is_canonical(bytes.as_slice(), UNLIMITED) {
+        return Ok(bytes);
+    }
+    let canonical = canonical_of(alloc, bytes.as_slice())?;
+    Ok(canonical)
+}
+
 // The canonical encoding of a value, if it has one that is read as it.
+#[inline(never)]
 #[tactic(auto, using(crate::proofs::Encodings::again))]
 fn encoding_of(alloc: Global, value: &AMQPValue) -> Result<Vec<u8>, EncodeError>
     requires stored { IsStored (view value.now) }

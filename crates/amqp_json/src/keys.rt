@@ -5,6 +5,7 @@ ghost use Rattle.amqp_value_core.specs.Values.{Entries};
 ghost use Rattle.amqp_value_core.specs.Grammar.{TableBody};
 ghost use Rattle.amqp_value_core.specs.Maps.{IsRising};
 ghost use Rattle.amqp_in_place.specs.Refs.{table_body};
+ghost use Rattle.amqp_in_place.specs.Canonicals.{IsAbove};
 ghost use Rattle.amqp_json.specs.Json.{members_json, sole_type};
 
 use crate::names::type_of_name;
@@ -31,7 +32,20 @@ pub(crate) fn keys_rise(table: TableRef<'_>) -> bool
     true
 }
 
+/// Whether a key is above the one before it by their bytes.
+#[inline(always)]
+pub(crate) fn is_above(previous: Option<&[u8]>, key: &[u8]) -> bool
+    ensures yes { result ≡ true → IsAbove previous.entry key.now }
+    ensures no { result ≡ false → IsAbove previous.entry key.now → ⊥ }
+{
+    match previous {
+        Some(previous) => previous < key,
+        None => true,
+    }
+}
+
 /// Whether the JSON of the pairs would be taken for a value of another type.
+#[inline(never)]
 pub(crate) fn needs_type_name(table: TableRef<'_>) -> bool
     ensures { (ps : Entries) → TableBody (table_body table.entry) ps
         → result ≡ is_some (sole_type (members_json ps)) }

@@ -4,10 +4,12 @@
 #![tactic(auto)]
 
 mod buffer;
+mod canonical;
 mod conversion_error;
 mod decode;
 mod direct;
 mod encode;
+mod encoding;
 mod error;
 mod in_place;
 mod keys;
@@ -15,13 +17,14 @@ pub mod laws;
 mod names;
 mod numerals;
 mod owned;
+mod pass;
 mod reading;
 mod sorted;
 mod text;
 mod tokens;
 mod writing;
 
-pub use buffer::write_json;
+pub use buffer::{write_json, write_whole_json};
 pub use conversion_error::{DecodeError, EncodeError, WriteError};
 pub use decode::json_of_encoding;
 pub use encode::encoding_of_json;

@@ -1,21 +1,19 @@
 //! The JSON text of a value, and back.
 
-ghost use Rattle.std.specs.Prelude.{◌≡◌, ◌≤◌, Some, IfOk, IfErr, string_bytes};
-ghost use Rattle.serde_json.specs.Data.{depth};
+ghost use Rattle.std.specs.Prelude.{◌≡◌, ◌≤◌, Some, IfOk, IfErr, Option, length, string_bytes};
+ghost use Rattle.serde_json.specs.Data.{Data, depth};
 ghost use Rattle.serde_json.specs.Read.{read, max_depth};
 ghost use Rattle.serde_json.specs.Written.{compact_text};
 ghost use Rattle.amqp_value_core.specs.Values.{Tree};
 ghost use Rattle.amqp_value_core.specs.View.{view};
 ghost use Rattle.amqp_json.specs.Json.{json};
 ghost use Rattle.amqp_json.specs.InMemory.{IsStored};
-ghost use Rattle.amqp_json.specs.Refusals.{IsJsonError};
+ghost use Rattle.amqp_json.specs.Refusals.{IsJsonError, IsWithin};
 
 use crate::direct::value_of_text;
-use crate::error::{JsonError, ValueError};
+use crate::error::JsonError;
 use crate::owned::owned_text;
-use crate::reading::from_value;
 use amqp_value_core::value::AMQPValue;
-use serde_json::Value;
 use std::alloc::{AllocError, Global};
 
 /// Converts a value to its JSON text, without spaces. Only the text is allocated, and the digits of
@@ -32,9 +30,9 @@ pub fn to_json(alloc: Global, value: &AMQPValue) -> Result<String, AllocError>
 }
 
 /// Converts a JSON text to the value whose JSON it is. If an object has a key twice, the last one's
-/// value is retained. The value is made from the text's tokens. A `serde_json::Value` of the text is
-/// allocated only if that fails, as for a text that is rejected. It returns `Syntax` if the text
-/// isn't JSON or nests more than 127 deep, and `NotAValue` if it isn't the JSON of any value.
+/// value is retained. The value is made from the text's tokens, and no `serde_json::Value` of the text. It
+/// returns `Syntax` if the text isn't JSON or nests more than 127 deep, and `NotAValue` if it isn't
+/// the JSON of any value.
 #[tactic(auto, using(crate::proofs::Ones::only_text))]
 pub fn from_json(alloc: Global, text: &str) -> Result<AMQPValue, JsonError>
     ensures json { IfOk result (λ v. read text.now ≡ Some (json (view v))) }
@@ -42,29 +40,22 @@ pub fn from_json(alloc: Global, text: &str) -> Result<AMQPValue, JsonError>
     ensures only { IfOk result (λ v. (u : Tree) → IsStored u → read text.now ≡ Some (json u)
         → u ≡ view v) }
     ensures refused { IfErr result (λ e. IsJsonError e (read text.now)) }
+    ensures within { IfErr result (λ e. IsWithin e (length text.now)) }
 {
     match value_of_text(alloc, text) {
         Ok(value) => Ok(value),
-        Err(ValueError::OutOfMemory) => Err(JsonError::OutOfMemory),
-        Err(ValueError::NotAValue) => from_tree(alloc, text),
+        Err(e) => Err(within(e, text.len())),
     }
 }
 
-// The same by a `serde_json::Value` of the complete text.
-#[tactic(auto, using(crate::proofs::Only::only_json))]
-fn from_tree(alloc: Global, text: &str) -> Result<AMQPValue, JsonError>
-    ensures json { IfOk result (λ v. read text.now ≡ Some (json (view v))) }
-    ensures stored { IfOk result (λ v. IsStored (view v)) }
-    ensures refused { IfErr result (λ e. IsJsonError e (read text.now)) }
+// The error, with a byte that is within the text.
+fn within(error: JsonError, len: usize) -> JsonError
+    ensures same { (read : Option Data) → IsJsonError error read → IsJsonError result read }
+    ensures within { IsWithin result len }
 {
-    let json = match Value::from_str(alloc, text) {
-        Ok(json) => json,
-        Err(e) if e.is_memory() => return Err(JsonError::OutOfMemory),
-        Err(e) => return Err(JsonError::Syntax(e)),
-    };
-    match from_value(alloc, &json) {
-        Ok(value) => Ok(value),
-        Err(ValueError::OutOfMemory) => Err(JsonError::OutOfMemory),
-        Err(ValueError::NotAValue) => Err(JsonError::NotAValue),
+    match error {
+        JsonError::OutOfMemory => JsonError::OutOfMemory,
+        JsonError::Syntax(at) => JsonError::Syntax(at.min(len)),
+        JsonError::NotAValue(at) => JsonError::NotAValue(at.min(len)),
     }
 }

@@ -25,8 +25,10 @@ pub fn reason(alloc: Global, json: &str, error: &EncodeError) -> Result<String> 
         EncodeError::OutOfMemory | EncodeError::Json(JsonError::OutOfMemory) => Err(
             Fault::OutOfMemory,
         ),
-        EncodeError::Json(JsonError::Syntax(error)) => Ok(syntax_text(alloc, json, error)?),
-        EncodeError::Json(JsonError::NotAValue) | EncodeError::NoTypeTag | EncodeError::TooLong => {
+        EncodeError::Json(JsonError::Syntax(byte)) => Ok(syntax_text(alloc, json, *byte)?),
+        EncodeError::Json(JsonError::NotAValue(_))
+        | EncodeError::NoTypeTag
+        | EncodeError::TooLong => {
             // It has been read before: only memory can be wanting.
             let value = Value::from_str(alloc, json)?;
             let mut path = Vec::new(alloc);
@@ -40,10 +42,10 @@ pub fn reason(alloc: Global, json: &str, error: &EncodeError) -> Result<String> 
 }
 
 // Why a text isn't JSON that is read.
-fn syntax_text(alloc: Global, json: &str, error: &serde_json::Error) -> Result<String, AllocError> {
+fn syntax_text(alloc: Global, json: &str, byte: usize) -> Result<String, AllocError> {
     match too_deep(alloc, json)? {
         Some(why) => Ok(why),
-        None => format!(in alloc; "{error}"),
+        None => format!(in alloc; "no JSON at byte {byte} of {len}", len = json.len()),
     }
 }
 

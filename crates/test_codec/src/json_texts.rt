@@ -17,7 +17,7 @@ pub(crate) fn goes_both_ways(alloc: Global, value: &AMQPValue, text: &str) -> Re
 
 // whether the text is the JSON of no value
 fn is_refused(alloc: Global, text: &str) -> bool {
-    matches!(from_json(alloc, text), Err(JsonError::NotAValue))
+    matches!(from_json(alloc, text), Err(JsonError::NotAValue(_)))
 }
 
 // the table of one entry
@@ -195,5 +195,82 @@ fn a_key_that_is_the_name_of_a_type_among_others(rt: HostRuntime) -> Result<(), 
     assert!(rt; is_rewritten(alloc, decimal, decimal)?);
     let second = "{\"A\":null,\"Float\":\"3f800000\"}";
     assert!(rt; is_rewritten(alloc, second, second)?);
+    Ok(())
+}
+
+// whether no JSON is read from that byte on
+fn is_no_json_at(alloc: Global, text: &str, byte: usize) -> bool {
+    from_json(alloc, text) == Err(JsonError::Syntax(byte))
+}
+
+#[test]
+fn where_a_text_is_no_json(rt: HostRuntime) {
+    let alloc = rt.alloc();
+    assert!(rt; is_no_json_at(alloc, "", 0));
+    assert!(rt; is_no_json_at(alloc, "[1,", 3));
+    assert!(rt; is_no_json_at(alloc, "[1, x]", 4));
+    assert!(rt; is_no_json_at(alloc, "[1 2]", 3));
+    assert!(rt; is_no_json_at(alloc, "{\"a\" 1}", 1));
+    assert!(rt; is_no_json_at(alloc, "{\"a\":1, 5}", 8));
+    assert!(rt; is_no_json_at(alloc, "{\"a\":1]", 6));
+    assert!(rt; is_no_json_at(alloc, " null null", 6));
+    assert!(rt; is_no_json_at(alloc, "[1.5, 1e999]", 6));
+    assert!(rt; is_no_json_at(alloc, "[\"\\x\"]", 1));
+}
+
+// whether the JSON that begins at that byte is of no value
+fn is_no_value_at(alloc: Global, text: &str, byte: usize) -> bool {
+    from_json(alloc, text) == Err(JsonError::NotAValue(byte))
+}
+
+#[test]
+fn where_a_json_is_no_value(rt: HostRuntime) {
+    let alloc = rt.alloc();
+    assert!(rt; is_no_value_at(alloc, " 1.5", 1));
+    assert!(rt; is_no_value_at(alloc, "[1, [2.5], -0]", 5));
+    assert!(rt; is_no_value_at(alloc, "{\"b\":-0,\"a\":1.5}", 5));
+    assert!(rt; is_no_value_at(alloc, "{\"b\":-0,\"a\":1.5,\"b\":1}", 12));
+    assert!(rt; is_no_value_at(alloc, "{\"LongInt\":\"x\"}", 11));
+    assert!(rt; is_no_value_at(alloc, "{\"LongInt\":5,\"x\":[1.5]}", 18));
+    assert!(rt; is_no_value_at(alloc, "{\"FieldTable\":{\"LongInt\":[1.5]}}", 26));
+    assert!(rt; is_no_value_at(alloc, "{\"FieldTable\":{}}", 14));
+    assert!(rt; is_no_value_at(alloc, "{\"DecimalValue\":{\"scale\":1,\"value\":[]}}", 16));
+}
+
+#[test]
+fn what_is_wrong_after_what_is_no_value(rt: HostRuntime) {
+    let alloc = rt.alloc();
+    assert!(rt; is_no_json_at(alloc, "[1.5, [0, {}, x]]", 14));
+    assert!(rt; is_no_json_at(alloc, "[1.5, {\"a\":[], \"b\":1e999}]", 19));
+    assert!(rt; is_no_json_at(alloc, "{\"a\":1.5,\"b\":]", 13));
+    assert!(rt; is_no_json_at(alloc, "1.5 1", 4));
+    assert!(rt; is_no_json_at(alloc, "{\"LongInt\":1.5", 14));
+}
+
+#[test]
+fn a_value_that_another_replaces(rt: HostRuntime) -> Result<(), Fail> {
+    let alloc = rt.alloc();
+    assert!(rt; is_rewritten(alloc, "{\"a\":1.5,\"a\":1}", "{\"a\":1}")?);
+    let two = "{\"a\":1.5,\"b\":[-0],\"c\":3,\"b\":2,\"a\":1}";
+    assert!(rt; is_rewritten(alloc, two, "{\"a\":1,\"b\":2,\"c\":3}")?);
+    let again = "{\"a\":1.5,\"a\":1,\"a\":1.5,\"a\":2}";
+    assert!(rt; is_rewritten(alloc, again, "{\"a\":2}")?);
+    assert!(rt; is_refused(alloc, "{\"a\":1,\"a\":1.5}"));
+    let named = "{\"LongInt\":1.5,\"LongInt\":5}";
+    assert!(rt; is_rewritten(alloc, named, "{\"LongInt\":5}")?);
+    let among = "{\"LongInt\":1.5,\"x\":0,\"LongInt\":5}";
+    assert!(rt; is_rewritten(alloc, among, "{\"LongInt\":5,\"x\":0}")?);
+    let time = "{\"Timestamp\":[],\"Timestamp\":18446744073709551615}";
+    assert!(rt; is_rewritten(alloc, time, "{\"Timestamp\":18446744073709551615}")?);
+    let both = "{\"FieldTable\":{\"FieldTable\":{\"LongInt\":5}},\"x\":{\"LongInt\":1,\"y\":2}}";
+    assert!(rt; is_rewritten(alloc, both, both)?);
+    let late = "{\"FieldTable\":{\"Timestamp\":18446744073709551615},\"x\":1}";
+    assert!(rt; is_rewritten(alloc, late, late)?);
+    assert!(rt;
+        is_refused(
+            alloc,
+            "{\"FieldTable\":{\"Timestamp\":18446744073709551615}}"
+        )
+    );
     Ok(())
 }

@@ -20,9 +20,13 @@ mod in_place;
 #[cfg(test)]
 mod json;
 #[cfg(test)]
+mod json_encodings;
+#[cfg(test)]
 mod json_large;
 #[cfg(test)]
 mod json_texts;
+#[cfg(test)]
+mod json_whole;
 #[cfg(test)]
 mod lookups;
 #[cfg(test)]

@@ -4,52 +4,53 @@ ghost use Rattle.std.specs.Prelude.{◌∷◌, [], decimal};
 ghost use Rattle.std.specs.Fmt.{signed_decimal};
 ghost use Rattle.hex.specs.Hex.{encode_lower};
 ghost use Rattle.json.specs.Token.{begin_object, end_object, key, number, string};
-ghost use Rattle.json.specs.Reads.{token_of};
 ghost use Rattle.amqp_value_core.specs.Names.{name_of};
 ghost use Rattle.amqp_json.specs.Json.{under, decimal_json, long_json};
 ghost use Rattle.amqp_json.specs.Puts.{PutsTokens, PutsJson};
 
+use super::counting::{character_count, count_number, digit_count};
+use super::opening::begin;
 use super::place::Place;
 use super::printing::{put_digits, put_token};
-use crate::names::name_of;
+use super::put::put;
 use amqp_value_core::types::AMQPType;
 use itoa::Buffer;
 use json::Token;
 
-/// The type's name, and what is under it begins.
+/// A number under its type's name.
 #[inline(always)]
-pub(crate) fn begin(buffer: &mut [u8], place: Place, amqp_type: AMQPType) -> Place
+fn put_number(buffer: &mut [u8], place: Place, amqp_type: AMQPType, text: &str) -> Place
     ensures { PutsTokens buffer.old place buffer.new result
-        (begin_object ∷ key (name_of amqp_type) ∷ []) }
-{
-    let place = put_token(buffer, place, Token::BeginObject);
-    put_token(buffer, place, Token::Key(name_of(amqp_type)))
-}
-
-#[inline(always)]
-fn put_named(buffer: &mut [u8], place: Place, amqp_type: AMQPType, token: Token<'_>) -> Place
-    ensures { PutsTokens buffer.old place buffer.new result
-        (begin_object ∷ key (name_of amqp_type) ∷ token_of token.entry ∷ end_object ∷ []) }
+        (begin_object ∷ key (name_of amqp_type) ∷ number text.now ∷ end_object ∷ []) }
 {
     let place = begin(buffer, place, amqp_type);
-    let place = put_token(buffer, place, token);
-    put_token(buffer, place, Token::EndObject)
+    let at = put(buffer, place.count, text.as_bytes());
+    Place {
+        count: put(buffer, at, b"}"),
+        after_value: true,
+    }
 }
 
 pub(crate) fn natural(buffer: &mut [u8], place: Place, amqp_type: AMQPType, n: u64) -> Place
     ensures { PutsTokens buffer.old place buffer.new result
         (begin_object ∷ key (name_of amqp_type) ∷ number (decimal n) ∷ end_object ∷ []) }
 {
+    if place.count > buffer.len() {
+        return count_number(place, amqp_type, digit_count(n));
+    }
     let mut text = Buffer::new();
-    put_named(buffer, place, amqp_type, Token::Number(text.format(n)))
+    put_number(buffer, place, amqp_type, text.format(n))
 }
 
 pub(crate) fn integer(buffer: &mut [u8], place: Place, amqp_type: AMQPType, n: i64) -> Place
     ensures { PutsTokens buffer.old place buffer.new result
         (begin_object ∷ key (name_of amqp_type) ∷ number (signed_decimal n) ∷ end_object ∷ []) }
 {
+    if place.count > buffer.len() {
+        return count_number(place, amqp_type, character_count(n));
+    }
     let mut text = Buffer::new();
-    put_named(buffer, place, amqp_type, Token::Number(text.format(n)))
+    put_number(buffer, place, amqp_type, text.format(n))
 }
 
 /// An integer without its type's name.

@@ -2,12 +2,14 @@
 //! than there is buffer for. Those that don't fit are counted, and not written.
 
 ghost use Rattle.std.specs.Prelude.{◌≡◌, ◌+◌, ◌-◌, ◌<◌, ◌≤◌, ◌∷◌, [], ◌++◌, length, take, drop};
-ghost use Rattle.std.specs.List.{prefix_len, slice_index};
+ghost use Rattle.std.specs.List.{prefix_len};
 ghost use Rattle.std.specs.Char.{digit_char};
-ghost use Rattle.hex.specs.Hex.{encode_lower, lower_digits};
+ghost use Rattle.hex.specs.Hex.{encode_lower};
 ghost use Rattle.json.specs.Print.{escape_letter, escape_byte, escape};
 ghost use Rattle.json.specs.Run.{is_plain};
 ghost use Rattle.amqp_json.specs.Puts.{Puts};
+
+use super::plain::{is_plain, plain_16};
 
 #[inline(always)]
 pub(crate) fn put(buffer: &mut [u8], at: usize, bytes: &[u8]) -> usize
@@ -23,37 +25,31 @@ pub(crate) fn put(buffer: &mut [u8], at: usize, bytes: &[u8]) -> usize
 pub(crate) fn put_hexadecimal(buffer: &mut [u8], at: usize, bytes: &[u8]) -> usize
     ensures { Puts buffer.old at buffer.new result (encode_lower bytes.now) }
 {
-    let mut at = at;
-    for &byte in bytes {
-        at = put(
-            buffer,
-            at,
-            &[hexadecimal(byte / 16), hexadecimal(byte % 16)],
-        );
+    let end = at.saturating_add(2 * bytes.len());
+    if end > buffer.len() {
+        return end;
     }
-    at
-}
-
-const DIGITS: &[u8; 16] = b"0123456789abcdef";
-
-fn hexadecimal(n: u8) -> u8
-    requires { n < 16 }
-    ensures { result ≡ slice_index lower_digits n }
-{
-    DIGITS[n as usize]
+    match hex::encode_to_slice(bytes, &mut buffer[at..end]) {
+        Ok(()) => end,
+        Err(_) => unreachable!(),
+    }
 }
 
 /// A text in quotes, of which `close` is the last one with what follows.
 #[inline(always)]
-#[tactic(auto, using(crate::proofs::Putting::puts_more))]
 pub(crate) fn put_quoted(buffer: &mut [u8], at: usize, text: &[u8], close: &[u8]) -> usize
     ensures { Puts buffer.old at buffer.new result (34 ∷ (escape text.now ++ close.now)) }
 {
     let at = put(buffer, at, b"\"");
-    put_escaped(buffer, at, text, close)
+    if is_plain(text) {
+        let at = put(buffer, at, text);
+        put(buffer, at, close)
+    } else {
+        put_escaped(buffer, at, text, close)
+    }
 }
 
-#[inline(always)]
+#[inline(never)]
 fn put_escaped(buffer: &mut [u8], at: usize, text: &[u8], close: &[u8]) -> usize
     ensures { Puts buffer.old at buffer.new result (escape text.now ++ close.now) }
 {
@@ -74,6 +70,19 @@ fn put_escaped(buffer: &mut [u8], at: usize, text: &[u8], close: &[u8]) -> usize
 /// The end of bytes that need no escape, from `from` on.
 #[inline(always)]
 fn plain_end(text: &[u8], from: usize) -> usize
+    requires { from ≤ length text.now }
+    ensures value { result ≡ from + prefix_len is_plain (drop from text.now) }
+    ensures bound { result ≤ length text.now }
+{
+    let mut i = from;
+    while text.len() - i >= 16 && plain_16(text, i) {
+        i += 16;
+    }
+    plain_end_bytewise(text, i)
+}
+
+#[inline(always)]
+fn plain_end_bytewise(text: &[u8], from: usize) -> usize
     requires { from ≤ length text.now }
     ensures value { result ≡ from + prefix_len is_plain (drop from text.now) }
     ensures bound { result ≤ length text.now }

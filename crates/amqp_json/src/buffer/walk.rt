@@ -3,18 +3,20 @@
 ghost use Rattle.std.specs.Prelude.{ℕ, List, IfSome};
 ghost use Rattle.amqp_value_core.specs.Values.{Tree, Trees, Entries, array as array_tree, table as table_tree};
 ghost use Rattle.amqp_value_core.specs.Grammar.{ArrayBody, TableBody};
+ghost use Rattle.amqp_value_core.specs.Maps.{IsRising};
 ghost use Rattle.amqp_in_place.specs.Bodies.{HasEntries};
 ghost use Rattle.amqp_in_place.specs.Refs.{Denotes, array_body, table_body};
 ghost use Rattle.serde_json.specs.Data.{object};
 ghost use Rattle.amqp_json.specs.Json.{json, members_json};
 ghost use Rattle.amqp_in_place.specs.Places.{IsViewIn};
-ghost use Rattle.amqp_json.specs.Ascending.{IfInOrder, IfValuesAscend, IfTableAscends, IfPairsAscend};
+ghost use Rattle.amqp_json.specs.Ascending.{IfInOrder, IfValuesAscend, IfTableAscends};
 ghost use Rattle.amqp_json.specs.Puts.{PutsJson};
 
-use super::leaves::{begin, decimal, digits, integer, long_string, natural, plain_integer};
+use super::leaves::{decimal, digits, integer, long_string, natural, plain_integer};
+use super::opening::begin;
 use super::place::Place;
 use super::printing::put_token;
-use crate::keys::{keys_rise, needs_type_name};
+use crate::keys::{is_above, needs_type_name};
 use amqp_in_place::{ArrayRef, TableRef, ValueRef};
 use amqp_value_core::types::AMQPType;
 use json::Token;
@@ -93,9 +95,6 @@ fn put_table(buffer: &mut [u8], place: Place, table: TableRef<'_>) -> Option<Pla
     ensures order { (ps : Entries) → TableBody (table_body table.entry) ps
         → IfTableAscends result (table_body table.entry) }
 {
-    if !keys_rise(table) {
-        return None;
-    }
     if needs_type_name(table) {
         let inner = begin(buffer, place, AMQPType::FieldTable);
         let end = put_pairs(buffer, inner, table)?;
@@ -104,17 +103,25 @@ fn put_table(buffer: &mut [u8], place: Place, table: TableRef<'_>) -> Option<Pla
     put_pairs(buffer, place, table)
 }
 
-// As an object, in the order in which they are written.
+// As an object, in the order in which they are written, if the keys ascend by their bytes.
 #[cycle(walk)]
-#[inline(always)]
+#[inline(never)]
 fn put_pairs(buffer: &mut [u8], place: Place, table: TableRef<'_>) -> Option<Place>
     ensures json { IfSome result (λ end. (ps : Entries) → TableBody (table_body table.entry) ps
         → PutsJson buffer.old place buffer.new end (object (members_json ps))) }
+    ensures rise { IfSome result (λ _. (ps : Entries) → TableBody (table_body table.entry) ps
+        → IsRising ps) }
     ensures order { (ps : Entries) → TableBody (table_body table.entry) ps
-        → IfPairsAscend result (table_body table.entry) }
+        → IfTableAscends result (table_body table.entry) }
 {
     let mut end = put_token(buffer, place, Token::BeginObject);
+    let mut previous: Option<&[u8]> = None;
     for (key, value) in table.iter() {
+        let bytes = key.as_bytes();
+        if !is_above(previous, bytes) {
+            return None;
+        }
+        previous = Some(bytes);
         let keyed = put_token(buffer, end, Token::Key(key));
         end = put_value(buffer, keyed, value)?;
     }

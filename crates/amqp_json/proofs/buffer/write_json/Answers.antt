@@ -1,47 +1,18 @@
-use Rattle.std.proofs.Common.{inl, inr, ◌≡◌, ◌++◌, length, drop, refl, sym, ap, ◌∙◌, arith}
-use Rattle.serde_json.specs.Written.{compact_text}
+use Rattle.std.proofs.Common.{◌≡◌, ℕ, List, length, Result, Err, MatchResult, OnErr, sym, subst, rules}
+use Rattle.std.specs.Borrow.{Bor}
+use Rattle.amqp_json.specs.Buffers.{IsJsonWritten, IsNotWritten}
+use Rattle.amqp_json.specs.declared.conversion_error.WriteError.{WriteError}
 use Rattle.amqp_in_place.proofs.Canonicals.{bytes_all}
-use Rattle.amqp_json.specs.Json.{json}
-use Rattle.amqp_json.proofs.Decoded.{decoded}
-use Rattle.amqp_json.proofs.Filling.{text_begins}
 use Rattle.amqp_json.proofs.buffer.write_json.Goals as goal
 
-pub returns-then-end-buffer-clause-written : goal.returns-then-end-buffer-clause-written
-returns-then-end-buffer-clause-written c =
-    let (v, denotes, within) = c.in-Ok.ensures.within in
+pub returns-in_err-write_value-in-Ok-clause-written : goal.returns-in_err-write_value-in-Ok-clause-written
+returns-in_err-write_value-in-Ok-clause-written c =
     let s = c.args.bytes.now in
-    let t = compact_text (json v) in
-    let text = text_begins c.args.buffer.now c.put_value.new.buffer c.in-Some.end v (c.in-Some.ensures.json v denotes) in
-    let size : c.in-Some.end.count ≡ length t = omega (arith, text.count) in
-    let is = decoded c.args.limits s c.in-Ok.rest.now t v (bytes_all s c.type_inv.bytes) within refl in
-    (t, c.in-Ok.rest.now, (is, c.in-Some.ensures.order s c.in-Ok.rest.now v c.in-Ok.ensures.inside denotes), size, omega (arith, text.same))
+    let failed : c.from_residual.result ≡ Err c.in_err-write_value-in-Ok.field-0.0 = search rules in
+    subst (λ (r : Result (ℕ × Bor (List ℕ)) WriteError). MatchResult r (λ x. IsJsonWritten c.args.limits s c.args.buffer.now c.write_value.new.buffer x.0 x.1.now) (IsNotWritten c.args.limits s (length c.args.buffer.now))) (sym failed)
+    (c.in_err-write_value-in-Ok.ensures.written c.args.limits s c.in-Ok.rest.now (bytes_all s c.type_inv.bytes, c.in-Ok.ensures.inside, c.in-Ok.ensures.within))
 
-pub returns-else-end-buffer-clause-written : goal.returns-else-end-buffer-clause-written
-returns-else-end-buffer-clause-written c =
-    let (v, denotes, within) = c.in-Ok.ensures.within in
+pub returns-in_ok-write_value-in-Ok-clause-written : goal.returns-in_ok-write_value-in-Ok-clause-written
+returns-in_ok-write_value-in-Ok-clause-written c =
     let s = c.args.bytes.now in
-    let old = c.args.buffer.now in
-    let t = compact_text (json v) in
-    let text = text_begins old c.put_value.new.buffer c.in-Some.end v (c.in-Some.ensures.json v denotes) in
-    let size : c.in-Some.end.count ≡ length t = omega (arith, text.count) in (
-      t,
-      (decoded c.args.limits s c.in-Ok.rest.now t v (bytes_all s c.type_inv.bytes) within refl, c.in-Some.ensures.order s c.in-Ok.rest.now v c.in-Ok.ensures.inside denotes),
-      size,
-      omega (arith, text.same),
-      text.text (omega (arith, size, text.same)) ∙ ap (λ n. t ++ drop n old) (sym size),
-    )
-
-pub returns-then-end-clause-written : goal.returns-then-end-clause-written
-returns-then-end-clause-written c =
-    let (v, denotes, within) = c.in-Ok.ensures.within in
-    let s = c.args.bytes.now in
-    let t = compact_text (json v) in
-    let text = text_begins c.args.buffer.now c.put_value.new.buffer c.in-Some.end v (c.in-Some.ensures.json v denotes) in
-    (t, c.in-Ok.rest.now, decoded c.args.limits s c.in-Ok.rest.now t v (bytes_all s c.type_inv.bytes) within refl, inr (omega (arith, text.count)))
-
-pub returns-in-None-clause-written : goal.returns-in-None-clause-written
-returns-in-None-clause-written c =
-    let (v, denotes, within) = c.in-Ok.ensures.within in
-    let s = c.args.bytes.now in
-    let t = compact_text (json v) in
-    (t, c.in-Ok.rest.now, decoded c.args.limits s c.in-Ok.rest.now t v (bytes_all s c.type_inv.bytes) within refl, inl (c.in-None.ensures.order s c.in-Ok.rest.now v c.in-Ok.ensures.inside denotes))
+    c.in_ok-write_value-in-Ok.ensures.written c.args.limits s c.in-Ok.rest.now (bytes_all s c.type_inv.bytes, c.in-Ok.ensures.inside, c.in-Ok.ensures.within)

@@ -4,6 +4,6 @@ use Rattle.amqp_json.specs.InMemory.{EntriesStored}
 use Rattle.amqp_json.proofs.Walks.{put_stored}
 use Rattle.amqp_json.proofs.direct.place.Goals as goal
 
-pub returns-clause-stored : goal.returns-clause-stored
-returns-clause-stored c =
-    subst EntriesStored (sym c.in_ok-place.ensures.ok) (put_stored c.in_ok-short.field-0 (view c.args.v) _ c.requires.stored.0 c.in_ok-short.ensures.short c.requires.stored.1)
+pub returns-in_ok-place-in-Ok-clause-stored : goal.returns-in_ok-place-in-Ok-clause-stored
+returns-in_ok-place-in-Ok-clause-stored c all value =
+    subst EntriesStored (sym c.in_ok-place-in-Ok.ensures.ok) (put_stored c.in-Ok.key (view c.args.v) _ all c.in-Ok.ensures.short value)

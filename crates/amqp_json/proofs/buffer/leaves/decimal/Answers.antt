@@ -8,7 +8,7 @@ use Rattle.amqp_json.proofs.buffer.leaves.decimal.Goals as goal
 
 pub returns : goal.returns
 returns c =
-    tokens_more _ _ _ _ _ _ (begin_object ∷ key (name_of amqp.DecimalValue) ∷ []) _ c.begin-place.ensures
+    tokens_more _ _ _ _ _ _ (begin_object ∷ key (name_of amqp.DecimalValue) ∷ []) _ c.begin-place.ensures.tokens
     (tokens_more _ _ _ _ _ _ (begin_object ∷ []) _ c.put_token-place.ensures
     (tokens_more _ _ _ _ _ _ (key (codes "scale") ∷ number (decimal c.args.scale) ∷ []) _ c.field-place.ensures
     (tokens_more _ _ _ _ _ _ (key (codes "value") ∷ number (decimal c.args.value) ∷ []) _ c.field-place-2.ensures

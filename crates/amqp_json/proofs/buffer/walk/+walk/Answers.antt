@@ -1,13 +1,13 @@
-use Rattle.std.proofs.Common.{◌≡◌, ◌∷◌, [], List, ℕ, length, true, false, Option, Some, None, refl, sym, ap, ◌∙◌, subst, rules, arith}
+use Rattle.std.proofs.Common.{◌≡◌, ◌∷◌, [], List, ℕ, length, Option, Some, None, refl, sym, ap, ◌∙◌, subst, rules, arith}
 use Rattle.std.specs.Borrow.{Bor}
 use Rattle.json.specs.Token.{begin_array, begin_object}
 use Rattle.amqp_value_core.specs.Grammar.{ArrayBody, TableBody}
 use Rattle.amqp_in_place.specs.declared.refs.ValueRef.{ValueRef}
 use Rattle.amqp_in_place.specs.Refs.{array_body, table_body}
 use Rattle.amqp_in_place.specs.Suffix.{values_left, pairs_left}
-use Rattle.amqp_json.specs.Ascending.{IfValuesAscend, IfPairsAscend, IfTableAscends}
+use Rattle.amqp_json.specs.Ascending.{IfValuesAscend, IfTableAscends}
 use Rattle.amqp_json.specs.declared.buffer.place.Place.{Place}
-use Rattle.amqp_json.proofs.Ascents.{ValuesGoOn, PairsGoOn, values_all, values_step, values_fall, values_over, pairs_all, pairs_step, pairs_fall, pairs_over, table_order, table_falls, leaf_at, array_at, table_at}
+use Rattle.amqp_json.proofs.Ascents.{ValuesGoOn, PairsGoOn, values_all, values_step, values_fall, values_over, pairs_all, pairs_step, pairs_fall, pairs_over, table_order, table_falls, pairs_fall_in_table, rises_on, rises_no_more, all_rise, leaf_at, array_at, table_at}
 use Rattle.amqp_json.proofs.Filling.{item_put, items_end, pair_put, pairs_end, named_put, plain_puts, array_put, table_put, left_of, left_of_pair}
 use Rattle.amqp_json.proofs.buffer.walk.+walk.Goals as goal
 
@@ -64,6 +64,7 @@ put_pairs-loop-key-init t c =
       omega (arith, ap length same),
       λ all body. (all, subst (λ (s : List ℕ). TableBody s all) same body, subst (PairsGoOn (table_body c.args.table)) same (pairs_all (table_body c.args.table))),
       λ all body. (begin_object ∷ [], all, subst (λ (s : List ℕ). TableBody s all) same body, c.put_token-end.ensures, refl),
+      same,
     )
 
 pub put_pairs-loop-key-preserved : goal.put_pairs-loop-key-preserved
@@ -80,7 +81,14 @@ put_pairs-loop-key-preserved t c =
       λ all body.
           let at = l.invariant.2 all body in
           pair_put _ _ _ _ _ _ _ _ at.0 _ at.1 x left (c.in-Some.ensures.steps.0 at.1 at.2) at.3 c.put_token-keyed.ensures c.in_ok-end.ensures.json at.4,
+      rises_on (table_body c.args.table) s left l.previous c.as_bytes-bytes.result x l.invariant.3 c.as_bytes-bytes.ensures.value (c.is_above.ensures.yes c.if-not-is_above.false) c.in-Some.ensures.steps.0,
     )
+
+pub put_pairs-returns-then-not-is_above-clause-order : goal.put_pairs-returns-then-not-is_above-clause-order
+put_pairs-returns-then-not-is_above-clause-order t c = λ ps body.
+    let l = c.loop-key in
+    let falls = rises_no_more (table_body c.args.table) (pairs_left l.key-iterator) (pairs_left c.next.new.self) l.previous c.as_bytes-bytes.result.now (c.in-Some.key, c.in-Some.value) l.invariant.3 c.as_bytes-bytes.ensures.value (c.is_above.ensures.no c.if-not-is_above.true) c.in-Some.ensures.steps.0 in
+    table_falls (table_body c.args.table) ps falls body
 
 pub put_pairs-returns-in_err-end-clause-order : goal.put_pairs-returns-in_err-end-clause-order
 put_pairs-returns-in_err-end-clause-order t c = λ ps body.
@@ -91,54 +99,45 @@ put_pairs-returns-in_err-end-clause-order t c = λ ps body.
     let inside = c.in-Some.ensures.steps.1 in
     let at = l.invariant.1 ps body in
     let none : c.from_residual.result ≡ None = search rules in
-    subst (λ (r : Option Place). IfPairsAscend r (table_body c.args.table)) (sym none)
-    (pairs_fall (table_body c.args.table) s left at.0 x at.2 at.1 (c.in-Some.ensures.steps.0 at.0 at.1) inside (λ v d. c.in_err-end.ensures.order inside.0 left v inside.2 d))
+    subst (λ (r : Option Place). IfTableAscends r (table_body c.args.table)) (sym none)
+    (pairs_fall_in_table (table_body c.args.table) (pairs_fall (table_body c.args.table) s left at.0 x at.2 at.1 (c.in-Some.ensures.steps.0 at.0 at.1) inside (λ v d. c.in_err-end.ensures.order inside.0 left v inside.2 d)))
 
 pub put_pairs-returns-clause-json : goal.put_pairs-returns-clause-json
 put_pairs-returns-clause-json t c = λ ps body.
     let at = c.loop-key.invariant.2 ps body in
     pairs_end _ _ _ _ _ _ at.0 _ at.1 (pairs_left c.next.new.self) (c.in-None.ensures.steps.0 at.1 at.2) at.3 c.put_token.ensures at.4
 
+pub put_pairs-returns-clause-rise : goal.put_pairs-returns-clause-rise
+put_pairs-returns-clause-rise t c =
+    let l = c.loop-key in
+    all_rise (table_body c.args.table) (pairs_left l.key-iterator) (pairs_left c.next.new.self) l.previous l.invariant.3 c.in-None.ensures.steps.0
+
 pub put_pairs-returns-clause-order : goal.put_pairs-returns-clause-order
 put_pairs-returns-clause-order t c = λ ps body.
     let l = c.loop-key in
     let at = l.invariant.1 ps body in
-    pairs_over (table_body c.args.table) (pairs_left l.key-iterator) (pairs_left c.next.new.self) at.0 at.2 at.1 (c.in-None.ensures.steps.0 at.0 at.1)
+    let left = pairs_left c.next.new.self in
+    let rises = all_rise (table_body c.args.table) (pairs_left l.key-iterator) left l.previous l.invariant.3 c.in-None.ensures.steps.0 in
+    table_order (Some c.put_token.result) (table_body c.args.table) rises (pairs_over (table_body c.args.table) (pairs_left l.key-iterator) left at.0 at.2 at.1 (c.in-None.ensures.steps.0 at.0 at.1))
 
 -- ---- a table
 
-pub put_table-returns-then-not-keys_rise-clause-order : goal.put_table-returns-then-not-keys_rise-clause-order
-put_table-returns-then-not-keys_rise-clause-order t c = λ ps body.
-    let fall : c.keys_rise.result ≡ false = grind arith in
-    table_falls (table_body c.args.table) ps (c.keys_rise.ensures.fall fall) body
-
 pub put_table-returns-in_err-end-clause-order : goal.put_table-returns-in_err-end-clause-order
 put_table-returns-in_err-end-clause-order t c = λ ps body.
-    let rise : c.keys_rise.result ≡ true = grind arith in
     let none : c.from_residual.result ≡ None = search rules in
-    subst (λ (r : Option Place). IfTableAscends r (table_body c.args.table)) (sym none)
-    (table_order {T = Place} None (table_body c.args.table) (c.keys_rise.ensures.rise rise) (c.in_err-end.ensures.order ps body))
+    subst (λ (r : Option Place). IfTableAscends r (table_body c.args.table)) (sym none) (c.in_err-end.ensures.order ps body)
 
 pub put_table-returns-then-needs_type_name-clause-json : goal.put_table-returns-then-needs_type_name-clause-json
 put_table-returns-then-needs_type_name-clause-json t c = λ es has.
-    let rise : c.keys_rise.result ≡ true = grind arith in
     named_put _ _ _ _ _ _ _ _ has.0 es
-    (sym (c.needs_type_name.ensures has.0 has.1) ∙ c.if-needs_type_name.true) (c.keys_rise.ensures.rise rise has.0 has.1) has.2 c.begin-inner.ensures (c.in_ok-end.ensures.json has.0 has.1) c.put_token.ensures
+    (sym (c.needs_type_name.ensures has.0 has.1) ∙ c.if-needs_type_name.true) (c.in_ok-end.ensures.rise has.0 has.1) has.2 c.begin-inner.ensures.tokens (c.in_ok-end.ensures.json has.0 has.1) c.put_token.ensures
 
 pub put_table-returns-then-needs_type_name-clause-order : goal.put_table-returns-then-needs_type_name-clause-order
-put_table-returns-then-needs_type_name-clause-order t c = λ ps body.
-    let rise : c.keys_rise.result ≡ true = grind arith in
-    table_order (Some c.in_ok-end.end) (table_body c.args.table) (c.keys_rise.ensures.rise rise) (c.in_ok-end.ensures.order ps body)
+put_table-returns-then-needs_type_name-clause-order t c = λ ps body. c.in_ok-end.ensures.order ps body
 
 pub put_table-returns-clause-json : goal.put_table-returns-clause-json
 put_table-returns-clause-json t c =
-    let rise : c.keys_rise.result ≡ true = grind arith in
-    plain_puts _ _ _ (table_body c.args.table) c.put_pairs-2.result (λ ps body. sym (c.needs_type_name.ensures ps body) ∙ c.if-needs_type_name.false) (λ ps body. c.keys_rise.ensures.rise rise ps body) c.put_pairs-2.ensures.json
-
-pub put_table-returns-clause-order : goal.put_table-returns-clause-order
-put_table-returns-clause-order t c = λ ps body.
-    let rise : c.keys_rise.result ≡ true = grind arith in
-    table_order c.put_pairs-2.result (table_body c.args.table) (c.keys_rise.ensures.rise rise) (c.put_pairs-2.ensures.order ps body)
+    plain_puts _ _ _ (table_body c.args.table) c.put_pairs-2.result (λ ps body. sym (c.needs_type_name.ensures ps body) ∙ c.if-needs_type_name.false) c.put_pairs-2.ensures.rise c.put_pairs-2.ensures.json
 
 -- ---- a value
 

@@ -9,8 +9,8 @@ use Rattle.amqp_in_place.specs.Refs.{array_body, table_body}
 use Rattle.amqp_in_place.specs.Suffix.{values_left, pairs_left}
 use Rattle.amqp_json.specs.Json.{json, items_json, members_json}
 use Rattle.amqp_json.specs.Puts.{PutsTokens}
-use Rattle.amqp_json.proofs.Ascents.{ValuesGoOn, PairsGoOn}
 use Rattle.amqp_json.proofs.Filling.{body_len}
+use Rattle.amqp_json.proofs.Ascents.{ValuesGoOn, PairsGoOn, RisesSoFar}
 use Rattle.amqp_json.proofs.buffer.walk.+walk.Given as goal
 
 -- a call has a shorter body than its caller, or as long a one and less to do
@@ -43,3 +43,4 @@ invariant-put_pairs-loop-key l =
     × ((all : Entries) → TableBody (table_body l.fn.table) all →
     (done : List Token) × (rest : Entries) × TableBody (pairs_left l.key-iterator) rest × PutsTokens l.fn.buffer l.fn.place l.buffer l.end done
     × (done ++ members_tokens (members_outline (members_json rest)) ≡ json_tokens (outline (object (members_json all)))))
+    × RisesSoFar (table_body l.fn.table) (pairs_left l.key-iterator) l.previous

@@ -1,0 +1,265 @@
+-- Values and pairs, one after another, of encodings whose pairs are in the order of a text.
+use Rattle.std.proofs.Common.{◌≡◌, ℕ, codes, ◌-◌, ◌+◌, ◌<◌, ◌≤◌, ◌^◌, List, [], ◌∷◌, ◌++◌, length, take, drop, Option, Some, None, option_map, IfSome, Ordering, Less, Equal, Greater, Bor, refl, sym, ap, ◌∙◌, subst, arith, append_assoc, append-nil, length-append}
+use Rattle.std.specs.Int.{w32, to_be_bytes}
+use Rattle.std.specs.Ordering.{nat_cmp, match_ordering}
+use Rattle.std.specs.Cmp.Lexicographic.{slice_cmp}
+use Rattle.std.proofs.Math.Seq.{take-append_seam, drop-append-add}
+use Rattle.json.specs.Token.{Token}
+use Rattle.json.specs.Json as json
+use Rattle.json.specs.Json.{Parse, parse_map, after_end_array, read_key, items, members}
+use Rattle.json.proofs.Grammar.{read_key-shorter, value-begin_object}
+use Rattle.serde_json.specs.Data.{Num, Data, number, object, item, member, no_members}
+use Rattle.serde_json.specs.Read.{of_json, of_items, of_members, converted, number_of}
+use Rattle.amqp_value_core.specs.declared.types.amqp_type.AMQPType.{AMQPType}
+use Rattle.amqp_value_core.specs.declared.types.amqp_type.AMQPType.TheVariants as types
+use Rattle.amqp_value_core.specs.Values.{Scalar, number as number_tree, Tree, scalar, array, table, Trees, no_trees, tree, Entries, no_entries, entry, insert, insert_all}
+use Rattle.amqp_value_core.specs.Grammar.{wire, raw_array, raw_table, ArrayBody, no_values, value, TableBody, no_pairs, pair, short_field, long_field}
+use Rattle.amqp_value_core.specs.InMemory.{IsScalar}
+use Rattle.amqp_value_core.specs.Strings.{IsShort}
+use Rattle.amqp_value_core.specs.Texts.{text}
+use Rattle.amqp_value_core.proofs.GrammarLaws.{text_is_wire}
+use Rattle.amqp_json.specs.Encodes.{IsObject, IsTextPut, IsLongLong, PutsValue, PutsValues, PutsPairs, IsTableRead, IsFieldRead}
+use Rattle.amqp_json.specs.InMemory.{IsStored, AreStoredTrees, EntriesStored}
+use Rattle.amqp_json.specs.Json as amqp
+use Rattle.amqp_json.specs.Json.{items_json, members_json, sole_type, under, natural, decimal_json}
+use Rattle.amqp_json.specs.Names.{type_named}
+use Rattle.amqp_json.specs.Reading.{value_under}
+use Rattle.amqp_json.proofs.Only.{is_name, is_under, long_long_is}
+use Rattle.amqp_json.proofs.Turns.{one_member, item_read, items_over, member_read, members_over, insert_put, converted-object}
+use Rattle.amqp_json.proofs.Walks.{put_stored}
+
+-- ---- an array
+
+-- the values of the tokens before `now` are put, and with those that are left they are the array's
+pub record ItemsLeft (p : Parse json.Json) (first now : List Token) (old new : List ℕ) : Type 0 where
+  pub count : ℕ
+  pub enough : length now ≤ count
+  pub body : List ℕ
+  pub put : new ≡ old ++ body
+  pub rest : (tail : List ℕ) (vs : Trees) (r : List Token) → ArrayBody tail vs → AreStoredTrees vs → converted of_items (items p count now) ≡ Some (items_json vs, r)
+      → (ws : Trees) × ArrayBody (body ++ tail) ws × AreStoredTrees ws × (converted of_items (items p (length first) first) ≡ Some (items_json ws, r))
+
+module _ (p : Parse json.Json) (first : List Token) (old : List ℕ) where
+  pub items_first : ItemsLeft p first first old old
+  items_first = record {
+    count = length first;
+    enough = omega arith;
+    body = [];
+    put = sym (append-nil old);
+    rest = λ tail vs r all stored e. (vs, all, stored, e);
+  }
+
+  pub items_next : (now r : List Token) (mid new : List ℕ) → ItemsLeft p first now old mid → after_end_array now ≡ None → length r < length now
+      → PutsValue (λ v. converted of_json (p now) ≡ Some (amqp.json v, r)) mid new → ItemsLeft p first r old new
+  items_next now r mid new l going less (w, v, same, is, stored, read) =
+      let some : 0 < l.count = omega (arith, less, l.enough) in
+      record {
+        count = l.count - 1;
+        enough = omega (arith, less, l.enough);
+        body = l.body ++ w;
+        put = same ∙ ap (λ b. b ++ w) l.put ∙ append_assoc old l.body w;
+        rest = λ tail vs s all kept e.
+            let at = l.rest (w ++ tail) (tree v vs) s (value w tail v vs is all) (stored, kept) (item_read p l.count now r (amqp.json v) some going read ∙ ap (parse_map (item (amqp.json v))) e) in
+            (at.0, subst (λ (b : List ℕ). ArrayBody b at.0) (sym (append_assoc l.body w tail)) at.1, at.2, at.3);
+      }
+
+  pub items_done : (now r : List Token) (new : List ℕ) → ItemsLeft p first now old new → after_end_array now ≡ Some r
+      → PutsValues (λ vs. converted of_items (items p (length first) first) ≡ Some (items_json vs, r)) old new
+  items_done now r new l end =
+      let at = l.rest [] no_trees r no_values tt (items_over p l.count now r l.enough end) in
+      (l.body, at.0, l.put, subst (λ (b : List ℕ). ArrayBody b at.0) (append-nil l.body) at.1, at.2, at.3)
+
+-- ---- a table
+
+-- no name of a type is the only key of the entries, also not with the next key
+abbrev pub IsPlain : Entries → Option (List ℕ) → Type 0
+IsPlain no_entries None = Unit {0}
+IsPlain no_entries (Some k) = type_named k ≡ None
+IsPlain (entry j u es) o = sole_type (members_json (entry j u es)) ≡ None
+
+plain_at : (k j : List ℕ) (v u : Tree) (es fs : Entries) (o : Ordering) (next : Option (List ℕ)) → sole_type (members_json (entry j u es)) ≡ None → sole_type (members_json (entry j u fs)) ≡ None → sole_type (members_json (entry j v es)) ≡ None
+    → IsPlain (match_ordering o (entry k v (entry j u es)) (entry j v es) (entry j u fs)) next
+plain_at k j v u es fs Less next is more same = refl
+plain_at k j v u es fs Equal next is more same = same
+plain_at k j v u es fs Greater next is more same = more
+
+-- an entry more leaves no name of a type the only key
+two_keys : (k j : List ℕ) (v u : Tree) (es : Entries) → sole_type (members_json (entry j u (insert k v es))) ≡ None
+two_keys k j v u no_entries = refl
+two_keys k j v u (entry i w es) = by (slice_cmp nat_cmp k i)
+  where
+    by : (o : Ordering) → sole_type (members_json (entry j u (match_ordering o (entry k v (entry i w es)) (entry i v es) (entry i w (insert k v es))))) ≡ None
+    by Less = refl
+    by Equal = refl
+    by Greater = refl
+
+same_key : (j : List ℕ) (v u : Tree) (es : Entries) → sole_type (members_json (entry j u es)) ≡ None → sole_type (members_json (entry j v es)) ≡ None
+same_key j v u no_entries is = is
+same_key j v u (entry i w es) is = refl
+
+plain_next : (k : List ℕ) (v : Tree) (es : Entries) (next : Option (List ℕ)) → IsPlain es (Some k) → IsPlain (insert k v es) next
+plain_next k v no_entries next is = is
+plain_next k v (entry j u es) next is = plain_at k j v u es (insert k v es) (slice_cmp nat_cmp k j) next is (two_keys k j v u es) (same_key j v u es is)
+
+plain_end : (es : Entries) → IsPlain es None → sole_type (members_json es) ≡ None
+plain_end no_entries is = refl
+plain_end (entry j u es) is = is
+
+-- the pairs of the tokens before `now` are put, as the entries `es`, and `next` is the key that was
+-- read after them
+pub record PairsLeft (p : Parse json.Json) (first : Option (List ℕ)) (start : List Token) (next : Option (List ℕ)) (now : List Token) (old new : List ℕ) : Type 0 where
+  pub es : Entries
+  pub stored : EntriesStored es
+  pub plain : IsPlain es next
+  pub body : List ℕ
+  pub put : new ≡ old ++ body
+  pub rest : (tail : List ℕ) (ps : Entries) → TableBody tail ps → (qs : Entries) × TableBody (body ++ tail) qs × (insert_all no_entries qs ≡ insert_all es ps)
+  pub read : (ts : List Token) (n : ℕ) → read_key ts ≡ Some (first, start) → length ts ≤ n
+      → (us : List Token) × (m : ℕ) × (length us ≤ m) × (read_key us ≡ Some (next, now))
+      × (converted (λ ms. of_members ms no_members) (members p n ts) ≡ converted (λ ms. of_members ms (members_json es)) (members p m us))
+
+module _ (p : Parse json.Json) (first : Option (List ℕ)) (start : List Token) (old : List ℕ) where
+  pub pairs_first : IsPlain no_entries first → PairsLeft p first start first start old old
+  pairs_first is = record {
+    es = no_entries;
+    stored = tt;
+    plain = is;
+    body = [];
+    put = sym (append-nil old);
+    rest = λ tail ps all. (ps, all, refl);
+    read = λ ts n h enough. (ts, n, enough, h, refl);
+  }
+
+  pub pairs_next : (k : List ℕ) (next : Option (List ℕ)) (now r s : List Token) (mid keyed new : List ℕ) → PairsLeft p first start (Some k) now old mid → IsShort k → keyed ≡ mid ++ short_field k
+      → PutsValue (λ v. converted of_json (p now) ≡ Some (amqp.json v, r)) keyed new → length r < length now → read_key r ≡ Some (next, s) → PairsLeft p first start next s old new
+  pairs_next k next now r s mid keyed new l is_key key_put (w, v, same, is, stored, found) less after =
+      let more = short_field k ++ w in
+      record {
+        es = insert k v l.es;
+        stored = put_stored k v l.es l.stored is_key stored;
+        plain = plain_next k v l.es next l.plain;
+        body = l.body ++ more;
+        put = same ∙ ap (λ b. b ++ w) key_put ∙ append_assoc mid (short_field k) w ∙ ap (λ b. b ++ more) l.put ∙ append_assoc old l.body more;
+        rest = λ tail ps all.
+            let at = l.rest (short_field k ++ (w ++ tail)) (entry k v ps) (pair k w tail v ps is_key is all) in
+            let joined : (l.body ++ more) ++ tail ≡ l.body ++ (short_field k ++ (w ++ tail)) = append_assoc l.body more tail ∙ ap (λ b. l.body ++ b) (append_assoc (short_field k) w tail) in
+            (at.0, subst (λ (b : List ℕ). TableBody b at.0) (sym joined) at.1, at.2);
+        read = λ ts n h enough.
+            let at = l.read ts n h enough in
+            let begins = read_key-shorter at.0 (Some k) now at.3 in (
+              r,
+              at.1 - 1,
+              omega (arith, begins, less, at.2),
+              after,
+              at.4 ∙ member_read p (members_json l.es) at.1 k at.0 now r (amqp.json v) (omega (arith, begins, at.2)) at.3 found
+                  ∙ ap (λ ms. converted (λ xs. of_members xs ms) (members p (at.1 - 1) r)) (sym (insert_put k v l.es)),
+            );
+      }
+
+  pub pairs_done : (now : List Token) (new : List ℕ) → PairsLeft p first start None now old new → PutsPairs (λ es. IsTableRead es p first start now) old new
+  pairs_done now new l =
+      let at = l.rest [] no_entries no_pairs in (
+        l.body,
+        at.0,
+        l.put,
+        subst (λ (b : List ℕ). TableBody b at.0) (append-nil l.body) at.1,
+        subst EntriesStored (sym at.2) l.stored,
+        subst (λ (fs : Entries). IsTableRead fs p first start now) (sym at.2) (
+          λ ts n h enough.
+              let left = l.read ts n h enough in
+              left.4 ∙ members_over p (members_json l.es) left.1 left.0 now left.2 left.3,
+          plain_end l.es l.plain,
+        ),
+      )
+
+-- ---- a container's head
+
+abbrev pub zeros : List ℕ
+zeros = 0 ∷ 0 ∷ 0 ∷ 0 ∷ []
+
+-- the length of w is filled in before it
+pub length_filled : (c at : ℕ) (old mid end new w : List ℕ) → at ≡ length old + 1 → mid ≡ old ++ c ∷ zeros → end ≡ mid ++ w
+    → new ≡ take at end ++ (to_be_bytes w32 (length end - at - 4) ++ drop (at + 4) end) → (length end - at - 4 ≡ length w) × (new ≡ old ++ c ∷ long_field w)
+length_filled c at old mid end new w place headed more filled =
+    let start = old ++ c ∷ [] in
+    let whole : end ≡ start ++ (zeros ++ w) = more ∙ ap (λ b. b ++ w) (headed ∙ sym (append_assoc old (c ∷ []) zeros)) ∙ append_assoc start zeros w in
+    let here : at ≡ length start = place ∙ sym (length-append old (c ∷ [])) in
+    let count = ap length whole ∙ length-append start (zeros ++ w) in
+    let size : length end - at - 4 ≡ length w = omega (arith, count, here) in
+    let before : take at end ≡ start = ap (λ n. take n end) here ∙ ap (take (length start)) whole ∙ take-append_seam start (zeros ++ w) in
+    let after : drop (at + 4) end ≡ w = ap (λ n. drop (n + 4) end) here ∙ ap (drop (length start + 4)) whole ∙ drop-append-add start (zeros ++ w) 4 in (
+      size,
+      filled ∙ ap (λ b. b ++ (to_be_bytes w32 (length end - at - 4) ++ drop (at + 4) end)) before
+          ∙ ap (λ n. start ++ (to_be_bytes w32 n ++ drop (at + 4) end)) size
+          ∙ ap (λ b. start ++ (to_be_bytes w32 (length w) ++ b)) after
+          ∙ append_assoc old (c ∷ []) (long_field w),
+    )
+
+module _ (at : ℕ) (old mid end new : List ℕ) (place : at ≡ length old + 1) (filled : new ≡ take at end ++ (to_be_bytes w32 (length end - at - 4) ++ drop (at + 4) end)) (fits : length end - at - 4 < 2 ^ 32) where
+  pub array_put : (P : Trees → Type 0) → mid ≡ old ++ 65 ∷ zeros → PutsValues P mid end → PutsValue (λ v. (vs : Trees) × (v ≡ array vs) × P vs) old new
+  array_put P headed (w, vs, more, all, stored, is) =
+      let done = length_filled 65 at old mid end new w place headed more filled in
+      (65 ∷ long_field w, array vs, done.1, wire 65 _ (long_field w) (array vs) refl (raw_array w vs (subst (λ n. n < 2 ^ 32) done.0 fits) all), stored, (vs, refl, is))
+
+  pub table_put : (P : Entries → Type 0) → mid ≡ old ++ 70 ∷ zeros → PutsPairs P mid end → PutsValue (λ v. (es : Entries) × (v ≡ table es) × P es) old new
+  table_put P headed (w, ps, more, all, stored, is) =
+      let es = insert_all no_entries ps in
+      let done = length_filled 70 at old mid end new w place headed more filled in
+      (70 ∷ long_field w, table es, done.1, wire 70 _ (long_field w) (table es) refl (raw_table w ps (subst (λ n. n < 2 ^ 32) done.0 fits) all), stored, (es, refl, is))
+
+pub puts_weaker : (P Q : Tree → Type 0) (old new : List ℕ) → ((v : Tree) → P v → Q v) → PutsValue P old new → PutsValue Q old new
+puts_weaker P Q old new f (w, v, more, is, stored, h) = (w, v, more, is, stored, f v h)
+
+-- ---- what isn't a container
+
+-- a number under the name of a type
+pub number_under : (type : AMQPType) (x : Option Num) (n : Num) (v : Tree) → x ≡ Some n → value_under type (number n) ≡ Some v → option_map (under type) (option_map number x) ≡ Some (amqp.json v)
+number_under type x n v e h = ap (λ o. option_map (under type) (option_map number o)) e ∙ ap Some (sym (is_under type (number n) v h))
+
+-- the canonical encoding of a value that memory can hold is one of its encodings
+pub text_put : (P : Tree → Type 0) (old new : List ℕ) (v : Tree) → IsTextPut v old new → IsStored v → P v → PutsValue P old new
+text_put P old new v is stored h = (text v, v, is.put, text_is_wire v is.value is.fits is.readable, stored, h)
+
+pub scalar_put : (P : Tree → Type 0) (old new : List ℕ) (x : Scalar) → new ≡ old ++ text (scalar x) → IsScalar x → P (scalar x) → PutsValue P old new
+scalar_put P old new x same is h = text_put P old new (scalar x) (record { put = same; value = is; fits = tt; readable = refl }) is h
+
+-- a number without the name of a type
+pub integer_put : (old new s : List ℕ) (n : ℕ) → IsLongLong n s → new ≡ old ++ text (scalar (number_tree types.LongLongInt n)) → PutsValue (λ v. option_map number (number_of s) ≡ Some (amqp.json v)) old new
+integer_put old new s n (x, is, read, fits) same =
+    scalar_put (λ v. option_map number (number_of s) ≡ Some (amqp.json v)) old new (number_tree types.LongLongInt n) same fits (ap (option_map number) is ∙ ap Some (sym (long_long_is x _ read)))
+
+pub plain_first : (o : Option (Bor (List ℕ))) → IfSome o (λ k. type_named k.now ≡ None) → IsPlain no_entries (option_map (λ b. b.now) o)
+plain_first None h = tt
+plain_first (Some k) h = h
+
+-- a table whose only key isn't the name of a type is the object of its members
+pub plain_object : (v : Tree) (es : Entries) → v ≡ table es → sole_type (members_json es) ≡ None → amqp.json v ≡ object (members_json es)
+plain_object v es is none = ap amqp.json is ∙ rw none refl
+
+-- the object of a decimal's scale and number
+pub decimal_read : (depth scale n : ℕ) (ts us vs end : List Token) → 0 < depth → IsFieldRead scale (codes "scale") ts us → IsFieldRead n (codes "value") us vs → read_key vs ≡ Some (None, end)
+    → (converted of_json (json.value depth (Token.begin_object ∷ ts)) ≡ Some (decimal_json scale n, end)) × (length end < length ts)
+decimal_read depth scale n ts us vs end deep (xs, scale_key, scale_read, less) (ys, value_key, value_read, more) last =
+    let p = json.value (depth - 1) in
+    let first = read_key-shorter ts (Some (codes "scale")) xs scale_key in
+    let second = read_key-shorter us (Some (codes "value")) ys value_key in
+    let third = read_key-shorter vs None end last in
+    let one = member (codes "scale") (natural scale) no_members in
+    let both = member (codes "scale") (natural scale) (member (codes "value") (natural n) no_members) in
+    let all : converted (λ ms. of_members ms no_members) (members p (length ts) ts) ≡ Some (both, end) =
+    member_read p no_members (length ts) (codes "scale") ts xs us (natural scale) (omega (arith, first)) scale_key (scale_read (depth - 1))
+    ∙ member_read p one (length ts - 1) (codes "value") us ys vs (natural n) (omega (arith, first, less, second)) value_key (value_read (depth - 1))
+    ∙ members_over p both (length ts - 1 - 1) vs end (omega (arith, first, less, second, more)) last in (
+      ap (converted of_json) (value-begin_object depth ts deep) ∙ converted-object (members p (length ts) ts) ∙ ap (parse_map object) all,
+      omega (arith, first, less, second, more, third),
+    )
+
+-- what is under the name of a type, its only key
+pub under_object : (p : Parse json.Json) (k : List ℕ) (type : AMQPType) (ts us vs end : List Token) (d : Data) → type_named k ≡ Some type → read_key ts ≡ Some (Some k, us) → converted of_json (p us) ≡ Some (d, vs)
+    → read_key vs ≡ Some (None, end) → length vs < length us → IsObject (under type d) p ts end
+under_object p k type ts us vs end d named first inner closed shorter =
+    let less = read_key-shorter ts (Some k) us first in (
+      member k d no_members,
+      ap (λ j. object (member j d no_members)) (sym (is_name k type named)),
+      one_member p k ts us vs end d first inner closed (omega (arith, less, shorter)),
+    )

@@ -1,0 +1,370 @@
+//! From the tokens of a text to an encoding of its value, without the value in memory: the pairs of
+//! a table are in the order of the text, and keys may occur again.
+
+ghost use Rattle.std.specs.Prelude.{ℕ, ◌≡◌, ◌<◌, ◌≤◌, ◌^◌, ◌∷◌, length, List, Some, None, IfOk, OnOk, IfSome, option_map};
+ghost use Rattle.std.specs.Int.{w64, cast_unsigned};
+ghost use Rattle.json.specs.Token.{Token as SpecToken};
+ghost use Rattle.json.specs.Token as token;
+ghost use Rattle.json.specs.Reads.{token_of};
+ghost use Rattle.json.specs.Json.{value, items, parse_map, read_key};
+ghost use Rattle.serde_json.specs.Data.{Data, array, number, string};
+ghost use Rattle.serde_json.specs.Read.{of_json, of_items, converted, number_of};
+ghost use Rattle.serde_json.specs.View.{number_view};
+ghost use Rattle.amqp_value_core.specs.declared.types.amqp_type.AMQPType.TheVariants as amqp;
+ghost use Rattle.amqp_value_core.specs.Values.{scalar, number as number_tree};
+ghost use Rattle.amqp_value_core.specs.View.{view};
+ghost use Rattle.amqp_json.specs.Encodes.{IsObject, IsEncodedMeaning, PutsValue, PutsValues, PutsPairs, IsTableRead, IsFieldRead, IsLongLong};
+ghost use Rattle.amqp_json.specs.InMemory.{IsStored};
+ghost use Rattle.amqp_json.specs.Json.{json, items_json, under, decimal_json};
+ghost use Rattle.amqp_json.specs.Names.{type_named};
+ghost use Rattle.amqp_json.specs.Reading.{long_long};
+
+pub(crate) mod put;
+
+use crate::error::ValueError;
+use crate::names::type_of_name;
+use crate::numerals::{natural_number, number};
+use crate::reading::under_type;
+use amqp_value_core::types::{AMQPType, DecimalValue};
+use amqp_value_core::value::AMQPValue;
+use json::{Reader, Scratch, Token};
+use put::{
+    fill_length, put_boolean, put_head, put_key, put_leaf, put_long_long_int, put_text, put_void,
+};
+use serde_json::{Number, Value};
+use std::alloc::{AllocError, Global};
+
+/// Why no encoding was put.
+#[derive(Clone, Copy)]
+pub(crate) enum Stop {
+    OutOfMemory,
+    /// The text isn't encoded here.
+    NotHere,
+}
+
+impl From<AllocError> for Stop {
+    ghost use Rattle.std.specs.Prelude.{◌≡◌};
+    ghost use Rattle.amqp_json.specs.declared.encoding.Stop.TheVariants.{OutOfMemory};
+
+    ghost from_gives = { λ _ e. e ≡ OutOfMemory };
+
+    fn from(_refused: AllocError) -> Stop {
+        Stop::OutOfMemory
+    }
+}
+
+impl From<ValueError> for Stop {
+    ghost from_gives = { λ _ e. Unit {0} };
+
+    fn from(error: ValueError) -> Stop {
+        match error {
+            ValueError::OutOfMemory => Stop::OutOfMemory,
+            ValueError::NotAValue => Stop::NotHere,
+        }
+    }
+}
+
+const MAX_DEPTH: usize = 127;
+
+/// An encoding of the value that the text means.
+// Not inlined, so that the scratch is off the stack when the text is read again.
+#[inline(never)]
+pub(crate) fn encoding_of_text(alloc: Global, text: &str) -> Result<Vec<u8>, Stop>
+    ensures { IfOk result (λ bytes. IsEncodedMeaning text.now bytes.items) }
+{
+    let mut scratch = Scratch::new(alloc);
+    let mut reader = Reader::new(text, &mut scratch)?;
+    // An encoding has at most 4.5 bytes for each byte of the text, and 4.5 more: two doublings suffice.
+    let mut out = Vec::with_capacity(alloc, text.len() / 8 + text.len() + 2)?;
+    put_value(alloc, &mut reader, &mut out, MAX_DEPTH)?;
+    if reader.next().is_some() {
+        return Err(Stop::NotHere);
+    }
+    Ok(out)
+}
+
+#[cycle(encode)]
+#[inline(always)]
+fn put_value(
+    alloc: Global,
+    reader: &mut Reader<'_>,
+    out: &mut Vec<u8>,
+    depth: usize,
+) -> Result<(), Stop>
+    ensures ok { OnOk result (PutsValue (λ v. converted of_json (value depth reader.old)
+        ≡ Some (json v, reader.new)) out.old.items out.new.items) }
+    ensures shorter { OnOk result (length reader.new < length reader.old) }
+{
+    let token = reader.next().ok_or(Stop::NotHere)?;
+    put_token(alloc, reader, token, out, depth)
+}
+
+// The value that begins with a token, which was taken from the reader.
+#[cycle(encode)]
+#[inline(always)]
+fn put_token<'a>(
+    alloc: Global,
+    reader: &mut Reader<'a>,
+    token: Token<'a>,
+    out: &mut Vec<u8>,
+    depth: usize,
+) -> Result<(), Stop>
+    ensures ok { OnOk result (PutsValue (λ v. converted of_json
+        (value depth (token_of token.entry ∷ reader.old)) ≡ Some (json v, reader.new))
+        out.old.items out.new.items) }
+    ensures shorter { OnOk result (length reader.new ≤ length reader.old) }
+{
+    match token {
+        Token::Null => put_void(out),
+        Token::Bool(b) => put_boolean(out, b),
+        Token::Number(text) => put_integer(out, text),
+        Token::String(text) => put_text(out, text),
+        Token::BeginArray => {
+            if depth == 0 {
+                return Err(Stop::NotHere);
+            }
+            put_array(alloc, reader, out, depth - 1)
+        }
+        Token::BeginObject => {
+            if depth == 0 {
+                return Err(Stop::NotHere);
+            }
+            put_object(alloc, reader, out, depth - 1)
+        }
+        Token::EndObject | Token::EndArray | Token::Key(_) | Token::Bad => Err(Stop::NotHere),
+    }
+}
+
+// A number without a type's name.
+#[inline(always)]
+fn put_integer(out: &mut Vec<u8>, text: &str) -> Result<(), Stop>
+    ensures { OnOk result (PutsValue (λ v. option_map number (number_of text.now) ≡ Some (json v))
+        out.old.items out.new.items) }
+{
+    let Some(n) = signed(text) else {
+        return Err(Stop::NotHere);
+    };
+    put_long_long_int(out, n)
+}
+
+// The integer that the text of a number denotes, if it is that of a LongLongInt.
+#[inline(always)]
+fn signed(text: &str) -> Option<i64>
+    ensures { IfSome result (λ z. IsLongLong (cast_unsigned w64 z) text.now) }
+{
+    let n = number(text)?;
+    long_long(&n)
+}
+
+#[inline(always)]
+fn long_long(n: &Number) -> Option<i64>
+    ensures read { option_map (λ z. scalar (number_tree amqp.LongLongInt (cast_unsigned w64 z))) result
+        ≡ long_long (number_view n.now) }
+    ensures fits { IfSome result (λ z. cast_unsigned w64 z < 2 ^ 64) }
+{
+    n.as_i64()
+}
+
+#[cycle(encode)]
+#[inline(never)]
+fn put_array(
+    alloc: Global,
+    reader: &mut Reader<'_>,
+    out: &mut Vec<u8>,
+    depth: usize,
+) -> Result<(), Stop>
+    ensures ok { OnOk result (PutsValue (λ v. parse_map array
+        (converted of_items (items (value depth) (length reader.old) reader.old))
+        ≡ Some (json v, reader.new)) out.old.items out.new.items) }
+    ensures shorter { OnOk result (length reader.new < length reader.old) }
+{
+    let at = out.len() + 1;
+    put_head(out, b'A')?;
+    put_items(alloc, reader, out, depth)?;
+    fill_length(out, at)
+}
+
+#[cycle(encode)]
+#[inline(always)]
+fn put_items(
+    alloc: Global,
+    reader: &mut Reader<'_>,
+    out: &mut Vec<u8>,
+    depth: usize,
+) -> Result<(), Stop>
+    ensures ok { OnOk result (PutsValues (λ vs.
+        converted of_items (items (value depth) (length reader.old) reader.old)
+        ≡ Some (items_json vs, reader.new)) out.old.items out.new.items) }
+    ensures shorter { OnOk result (length reader.new < length reader.old) }
+{
+    'items: while !reader.take_end_array() {
+        put_value(alloc, reader, out, depth)?;
+    }
+    Ok(())
+}
+
+// The next key, or nothing at the closing brace.
+#[inline(always)]
+fn next_key<'a>(reader: &mut Reader<'a>) -> Result<Option<&'a str>, Stop>
+    ensures { IfOk result (λ k. read_key reader.old ≡ Some (option_map (λ s. s.now) k, reader.new)) }
+{
+    reader.next_key().or(Err(Stop::NotHere))
+}
+
+// What is after an opening brace.
+#[cycle(encode)]
+#[inline(never)]
+fn put_object(
+    alloc: Global,
+    reader: &mut Reader<'_>,
+    out: &mut Vec<u8>,
+    depth: usize,
+) -> Result<(), Stop>
+    ensures ok { OnOk result (PutsValue (λ v. IsObject (json v) (value depth) reader.old reader.new)
+        out.old.items out.new.items) }
+    ensures shorter { OnOk result (length reader.new < length reader.old) }
+{
+    let first = next_key(reader)?;
+    if let Some(name) = first
+        && let Some(amqp_type) = type_of_name(name)
+    {
+        return put_named(alloc, reader, out, amqp_type, depth);
+    }
+    let at = out.len() + 1;
+    put_head(out, b'F')?;
+    put_members(alloc, reader, out, first, depth)?;
+    fill_length(out, at)
+}
+
+// A key that was read, its value, and the members that are left.
+#[cycle(encode)]
+#[inline(always)]
+fn put_members<'a>(
+    alloc: Global,
+    reader: &mut Reader<'a>,
+    out: &mut Vec<u8>,
+    first: Option<&'a str>,
+    depth: usize,
+) -> Result<(), Stop>
+    requires plain { IfSome first (λ k. type_named k.now ≡ None) }
+    ensures ok { OnOk result (PutsPairs (λ es. IsTableRead es (value depth)
+        (option_map (λ s. s.now) first.entry) reader.old reader.new) out.old.items out.new.items) }
+    ensures shorter { OnOk result (length reader.new ≤ length reader.old) }
+{
+    let mut next = first;
+    'members: while let Some(key) = next {
+        put_key(out, key)?;
+        put_value(alloc, reader, out, depth)?;
+        next = next_key(reader)?;
+    }
+    Ok(())
+}
+
+// What is after a first key that is the name of a type: its only member, a number or a string.
+#[inline(never)]
+fn put_named(
+    alloc: Global,
+    reader: &mut Reader<'_>,
+    out: &mut Vec<u8>,
+    amqp_type: AMQPType,
+    depth: usize,
+) -> Result<(), Stop>
+    ensures ok { OnOk result (PutsValue (λ v. (ts : List SpecToken) (k : List ℕ)
+        → type_named k ≡ Some amqp_type → read_key ts ≡ Some (Some k, reader.old)
+        → IsObject (json v) (value depth) ts reader.new) out.old.items out.new.items) }
+    ensures shorter { OnOk result (length reader.new < length reader.old) }
+{
+    let found = named_leaf(alloc, reader, amqp_type, depth)?;
+    let next = next_key(reader)?;
+    if next.is_none() {
+        return put_leaf(out, &found);
+    }
+    Err(Stop::NotHere)
+}
+
+// The value of a type that is a number, a string or a decimal under the type's name.
+#[inline(always)]
+fn named_leaf(
+    alloc: Global,
+    reader: &mut Reader<'_>,
+    amqp_type: AMQPType,
+    depth: usize,
+) -> Result<AMQPValue, Stop>
+    ensures json { IfOk result (λ v. (inner : Data) × (json (view v) ≡ under amqp_type inner)
+        × (converted of_json (value depth reader.old) ≡ Some (inner, reader.new))) }
+    ensures stored { IfOk result (λ v. IsStored (view v)) }
+    ensures shorter { OnOk result (length reader.new < length reader.old) }
+{
+    let token = reader.next().ok_or(Stop::NotHere)?;
+    match (amqp_type, token) {
+        (_, Token::Number(text)) => named_number(alloc, amqp_type, text),
+        (_, Token::String(text)) => named_text(alloc, amqp_type, text),
+        (AMQPType::DecimalValue, Token::BeginObject) => {
+            Ok(AMQPValue::DecimalValue(decimal(reader, depth)?))
+        }
+        _ => Err(Stop::NotHere),
+    }
+}
+
+// What is after an opening brace: the scale of a decimal and its number, in this order.
+#[inline(never)]
+fn decimal(reader: &mut Reader<'_>, depth: usize) -> Result<DecimalValue, Stop>
+    ensures json { IfOk result (λ d. converted of_json (value depth (token.begin_object ∷ reader.old))
+        ≡ Some (decimal_json d.scale d.value, reader.new)) }
+    ensures shorter { OnOk result (length reader.new < length reader.old) }
+{
+    if depth == 0 {
+        return Err(Stop::NotHere);
+    }
+    let Ok(scale) = u8::try_from(field(reader, "scale")?) else {
+        return Err(Stop::NotHere);
+    };
+    let Ok(value) = u32::try_from(field(reader, "value")?) else {
+        return Err(Stop::NotHere);
+    };
+    let next = next_key(reader)?;
+    if next.is_none() {
+        return Ok(DecimalValue { scale, value });
+    }
+    Err(Stop::NotHere)
+}
+
+// A natural number after its key.
+fn field(reader: &mut Reader<'_>, name: &str) -> Result<u64, Stop>
+    ensures json { IfOk result (λ n. IsFieldRead n name.now reader.old reader.new) }
+    ensures shorter { OnOk result (length reader.new < length reader.old) }
+{
+    let Some(key) = next_key(reader)? else {
+        return Err(Stop::NotHere);
+    };
+    if key != name {
+        return Err(Stop::NotHere);
+    }
+    let token = reader.next().ok_or(Stop::NotHere)?;
+    let Token::Number(text) = token else {
+        return Err(Stop::NotHere);
+    };
+    let Some(n) = natural_number(text) else {
+        return Err(Stop::NotHere);
+    };
+    Ok(n)
+}
+
+fn named_number(alloc: Global, amqp_type: AMQPType, text: &str) -> Result<AMQPValue, Stop>
+    ensures json { IfOk result (λ v. option_map (under amqp_type)
+        (option_map number (number_of text.now)) ≡ Some (json (view v))) }
+    ensures stored { IfOk result (λ v. IsStored (view v)) }
+{
+    let n = number(text).ok_or(Stop::NotHere)?;
+    let value = under_type(alloc, amqp_type, &Value::Number(n))?;
+    Ok(value)
+}
+
+fn named_text(alloc: Global, amqp_type: AMQPType, text: &str) -> Result<AMQPValue, Stop>
+    ensures json { IfOk result (λ v. json (view v) ≡ under amqp_type (string text.now)) }
+    ensures stored { IfOk result (λ v. IsStored (view v)) }
+{
+    let copy = String::from_str(alloc, text)?;
+    let value = under_type(alloc, amqp_type, &Value::String(copy))?;
+    Ok(value)
+}

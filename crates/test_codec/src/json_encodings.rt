@@ -1,0 +1,135 @@
+//! JSON texts to bytes: those of the value that is read from each.
+
+use amq_protocol_types::generation::{WriteContext, gen_value};
+use amqp_json::{encoding_of_json, from_json};
+use std::alloc::Global;
+use std::test::Fail;
+
+// whether a text is encoded as the value that is read from it
+fn is_encoded(alloc: Global, text: &str) -> Result<bool, Fail> {
+    let Ok(value) = from_json(alloc, text) else {
+        return Ok(false);
+    };
+    let mut context = WriteContext::from(Vec::new(alloc));
+    if gen_value(&value, &mut context).is_err() {
+        return Ok(false);
+    }
+    let (expected, _) = context.into_inner();
+    let Ok(bytes) = encoding_of_json(alloc, text) else {
+        return Ok(false);
+    };
+    Ok(bytes.as_slice() == expected.as_slice())
+}
+
+fn are_encoded(alloc: Global, texts: &[&str]) -> Result<bool, Fail> {
+    for text in texts {
+        if !is_encoded(alloc, text)? {
+            return Ok(false);
+        }
+    }
+    Ok(true)
+}
+
+// whether no text has an encoding
+fn have_none(alloc: Global, texts: &[&str]) -> bool {
+    for text in texts {
+        if encoding_of_json(alloc, text).is_ok() {
+            return false;
+        }
+    }
+    true
+}
+
+#[test]
+fn plain_texts_are_encoded(rt: HostRuntime) -> Result<(), Fail> {
+    let texts = [
+        "null",
+        " true ",
+        "false",
+        "0",
+        "-1",
+        "9223372036854775807",
+        "-9223372036854775808",
+        "\"\"",
+        "\"a \\\"quoted\\\" \\u00e9\"",
+        "[]",
+        "[1,[2,[]],null]",
+        "{}",
+        "{\"\":{}}",
+        "{\"a\":1,\"b\":[true,{\"c\":\"d\"}]}",
+    ];
+    assert!(rt; are_encoded(rt.alloc(), &texts)?);
+    Ok(())
+}
+
+#[test]
+fn named_texts_are_encoded(rt: HostRuntime) -> Result<(), Fail> {
+    let texts = [
+        "{\"ShortShortInt\":-128}",
+        "{\"ShortShortUInt\":255}",
+        "{\"ShortInt\":-32768}",
+        "{\"ShortUInt\":65535}",
+        "{\"LongInt\":-2147483648}",
+        "{\"LongUInt\":4294967295}",
+        "{\"Timestamp\":18446744073709551615}",
+        "{\"Float\":\"4229ae14\"}",
+        "{\"Double\":\"404535c28f5c28f6\"}",
+        "{\"DecimalValue\":{\"scale\":255,\"value\":4294967295}}",
+        "{\"DecimalValue\":{\"value\":7,\"scale\":1}}",
+        "{\"DecimalValue\":{\"scale\":9,\"scale\":1,\"value\":7}}",
+        "{\"LongString\":\"80ff\"}",
+        "{\"ByteArray\":\"\"}",
+        "{\"ByteArray\":\"00ff\"}",
+        "[{\"LongInt\":1},{\"LongInt\":2}]",
+    ];
+    assert!(rt; are_encoded(rt.alloc(), &texts)?);
+    Ok(())
+}
+
+#[test]
+fn keys_in_any_order_are_encoded(rt: HostRuntime) -> Result<(), Fail> {
+    let texts = [
+        "{\"b\":1,\"a\":2}",
+        "{\"a\":1,\"b\":2,\"a\":3}",
+        "{\"a\":1,\"a\":2}",
+        "{\"a\":{\"b\":1,\"a\":2},\"c\":3}",
+        "[{\"b\":1},{\"b\":1,\"a\":[{\"d\":1,\"c\":2}]}]",
+        "{\"LongInt\":1,\"a\":2}",
+        "{\"LongInt\":1,\"LongInt\":2}",
+        "{\"a\":1,\"LongInt\":2}",
+        "{\"FieldTable\":{\"LongInt\":1}}",
+        "{\"FieldTable\":{\"FieldTable\":{}}}",
+        "{\"FieldTable\":1,\"a\":{}}",
+    ];
+    assert!(rt; are_encoded(rt.alloc(), &texts)?);
+    Ok(())
+}
+
+#[test]
+fn other_texts_have_no_encoding(rt: HostRuntime) {
+    let texts = [
+        "",
+        "1,2",
+        "1 2",
+        "[1",
+        "{\"a\":1",
+        "-0",
+        "1.5",
+        "1e2",
+        "9223372036854775808",
+        "{\"LongInt\":2147483648}",
+        "{\"LongInt\":-0}",
+        "{\"LongLongInt\":1}",
+        "{\"Timestamp\":-1}",
+        "{\"ShortString\":\"a\"}",
+        "{\"LongString\":\"61\"}",
+        "{\"ByteArray\":\"0\"}",
+        "{\"ByteArray\":\"FF\"}",
+        "{\"DecimalValue\":{\"scale\":256,\"value\":1}}",
+        "{\"DecimalValue\":{\"scale\":1}}",
+        "{\"DecimalValue\":{\"scale\":1,\"value\":-1}}",
+        "{\"Void\":null}",
+        "{\"FieldTable\":{}}",
+    ];
+    assert!(rt; have_none(rt.alloc(), &texts));
+}
