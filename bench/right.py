@@ -16,14 +16,11 @@ UNABLE = {
 }
 # The tasks of bench/tasks.c, by the operations of their lanes.
 TASKS = {"arguments": "write a queue's arguments", "deaths": "find the count of the first death"}
-# How many bytes an input has at most that JSON is made of.
-MOST_JSON = 1_000_000
 
 
 def able(one: Input, lanes: Iterable[str]) -> list[str]:
     """The lanes that take an input, but those of tasks."""
     found = [it for it in lanes if it.partition(".")[2] not in TASKS and it not in UNABLE.get(one.label, ())]
-    found = [it for it in found if not it.endswith("json") or len(one.given) < MOST_JSON]
     return found if one.canonical else [it for it in found if it.endswith(".read")]
 
 

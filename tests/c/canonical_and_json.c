@@ -3,9 +3,10 @@
  * up to one byte more than they need, with the first allocation failing, then the second, until a call
  * makes fewer; each prefix of them, and each change of one byte to one of some; limits that are just kept
  * to and just not; texts that nest as deep as `nesting` allows and one deeper, up to 127 and 128;
- * and a table of 100,010 bytes, there and back, with every seventeenth allocation failing. What is
- * written is what is expected, what is not is left unchanged, and canonical bytes allocate nothing. amqpv_write_json
- * writes what amqpv_to_json does, if the keys of each table ascend, and never allocates.
+ * strings whose texts have about 4,096 bytes; and a table of 100,010 bytes, there and back, with every seventeenth
+ * allocation failing. What is written is what is expected, what is not is left unchanged, and canonical bytes allocate
+ * nothing. amqpv_write_json writes what amqpv_to_json does, if the keys of each table ascend, and never allocates;
+ * amqpv_to_json doesn't then either.
  */
 #include "check.h"
 
@@ -113,13 +114,15 @@ static void try_in_order(slice given) {
     size_t taken_up, wanted, count;
     amqpv_entry entry;
     int32_t read = amqpv_read(given.at, given.length, FRAME, DEPTH, &entry, &taken_up);
+    uint64_t before = requests;
     int32_t with_memory = write_to(there, given, MANY, &wanted);
+    int in_place = requests == before;
     slice json = taken(text, MANY, with_memory == AMQPV_OK ? wanted : 0);
     int32_t without = write_to(in_order, given, MANY, &count);
     if (read == AMQPV_OK && !ascends(given, &entry)) {
         CHECK(without == AMQPV_NO_MEMORY && count == 0);
     } else {
-        CHECK(without == with_memory && count == wanted && is_in_buffer(MANY, json));
+        CHECK(in_place && without == with_memory && count == wanted && is_in_buffer(MANY, json));
     }
 }
 
@@ -174,6 +177,29 @@ static void try_deep(size_t deep, uint32_t nesting, int32_t wanted) {
     CHECK(wanted != AMQPV_OK || count == 5 * deep);
 }
 
+/* Strings whose texts are about as long as what the stack takes: each is written without allocating, if it fits. */
+#define ON_THE_STACK 4096
+static void try_about_the_stack(void) {
+    static uint8_t bytes[ON_THE_STACK + 64], expected[ON_THE_STACK + 64];
+    new_pages(2);
+    memset(bytes, 'a', sizeof bytes);
+    memset(expected, 'a', sizeof expected);
+    for (size_t size = ON_THE_STACK - 8; size < ON_THE_STACK + 8; size++) {
+        size_t length = size - 2, count;
+        memcpy(bytes, (uint8_t[]){'S', 0, 0, (uint8_t)(length >> 8), (uint8_t)length}, 5);
+        expected[0] = expected[size - 1] = '"';
+        const slice given = {bytes, 5 + length}, text = {expected, size};
+        way by = {TO_JSON, UINT32_MAX, 0, 0};
+        uint64_t before = requests;
+        CHECK(write_to(by, given, 0, &count) == AMQPV_NO_ROOM && count == size);
+        CHECK(write_to(by, given, size - 1, &count) == AMQPV_NO_ROOM && count == size);
+        CHECK(write_to(by, given, size, &count) == AMQPV_OK && count == size && is_in_buffer(size, text));
+        CHECK(write_to(by, given, size + 1, &count) == AMQPV_OK && count == size && is_in_buffer(size + 1, text));
+        CHECK(requests == before);
+        expected[size - 1] = 'a';
+    }
+}
+
 /* A table of 100,010 bytes: 6,667 pairs, whose keys fall. */
 #define PAIRS 6667
 #define LARGE (5 + 15 * PAIRS)
@@ -202,6 +228,11 @@ static void try_large(void) {
     CHECK(write_to(without, sorted, 0, &count) == AMQPV_NO_ROOM && count == size);
     CHECK(write_to(without, sorted, size - 1, &count) == AMQPV_NO_ROOM && count == size);
     CHECK(write_to(without, sorted, size, &count) == AMQPV_OK && count == size && is_in_buffer(size, text));
+    uint64_t before = requests;
+    CHECK(write_to(by, sorted, 0, &count) == AMQPV_NO_ROOM && count == size);
+    CHECK(write_to(by, sorted, size - 1, &count) == AMQPV_NO_ROOM && count == size);
+    CHECK(write_to(by, sorted, size, &count) == AMQPV_OK && count == size && is_in_buffer(size, text));
+    CHECK(requests == before);
     CHECK(write_to(back, text, LARGE - 1, &count) == AMQPV_NO_ROOM && count == LARGE);
     CHECK(write_to(back, text, LARGE, &count) == AMQPV_OK && count == LARGE);
     CHECK(is_in_buffer(LARGE, (slice){canonical, LARGE}));
@@ -235,6 +266,7 @@ int main(void) {
     try_deep(128, AMQPV_JSON_NESTING, AMQPV_NOT_JSON);
     try_deep(127, UINT32_MAX, AMQPV_OK);
     try_deep(128, UINT32_MAX, AMQPV_NOT_JSON);
+    try_about_the_stack();
     try_large();
     printf("%" PRIu64 " calls\n", calls);
     return 0;

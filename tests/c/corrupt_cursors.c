@@ -1,6 +1,6 @@
 /*
- * Tries the calls of include/amqp_values.h with cursors and entries that were corrupted, over bytes with their
- * end and with their start at a page's. Of each result it checks what the header states: what is returned
+ * Tries the calls of include/amqp_values.h that read and look up, as amqpv_next, amqpv_enter, amqpv_find, amqpv_find_first
+ * and amqpv_find_path, with cursors and entries that were corrupted, over bytes with their end and with their start at a page's. Of each result it checks what the header states: what is returned
  * is inside the bytes, content is all after a length, a step goes on, a look-up finds what steps find, what isn't AMQPV_OK leaves the
  * entry and the cursor unchanged, and nothing but the structs is written. A table without its type tag is
  * read, measured and searched for problems as after its type tag. Reading by rules returns what finding the

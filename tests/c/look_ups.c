@@ -1,5 +1,5 @@
 /*
- * Tries look-ups at sizes that a user has, over bytes against the end of their pages: a table of a
+ * Tries look-ups at sizes that a user has (what they find is tried in corrupt_cursors.c), over bytes against the end of their pages: a table of a
  * million pairs with one key, an array of a million values, and a path through 100,000 nested arrays,
  * which a call that recursed for each step wouldn't survive. Then tables without their type tag and what
  * RabbitMQ closes the connection for, reading by rules, pairs at once, what is canonical, a case of each

@@ -155,8 +155,10 @@ def texts(n: int) -> Iterator[tuple[str, str]]:
         # (which is known at the end, or doesn't count)
         yield f"JSON of no value, {name}", f"[{','.join(items)},{NO_VALUE}]"
         yield f"JSON, {name}, after no value", f'[{{"":{NO_VALUE},"":0}},{",".join(items)}]'
+        yield f"JSON, {name}, after the name of a type", f'[{{"LongInt":0,"":0}},{",".join(items)}]'
     for name, of_table in tables(n):
         yield f"JSON, keys {name}", "{" + ",".join(f'"{it.decode()}":0' for it in of_table) + "}"
+        yield f"JSON of no value, keys {name}", "{" + ",".join(f'"{it.decode()}":{NO_VALUE}' for it in of_table) + "}"
     for name, content in (("escapes", "\\u0000"), ("quotes", '\\"'), ("letters", "a")):
         yield f"JSON, a string of {name}", f'"{content * (n // len(content))}"'
     yield "JSON, a byte array", '{"ByteArray":"' + "ff" * (n // 2) + '"}'

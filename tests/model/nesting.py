@@ -111,7 +111,7 @@ class Call(NamedTuple):
 
 DEEP, DEEPER, OF_JSON, UNLIMITED = (LIMIT, 1000), (LIMIT, 10_000), (LIMIT, 127), (LIMIT, 1000, 10_000)
 # What a call returns that rejects the nesting.
-REJECTED = re.compile(r"kind: Eof|TooDeep|invalid JSON at|refused|AMQPV_MALFORMED|AMQPV_NOT_JSON")
+REJECTED = re.compile(r"kind: Eof|TooDeep|Syntax\(|refused|AMQPV_MALFORMED|AMQPV_NOT_JSON")
 # The calls of nested.c, the third on what has it read, write and compare.
 OF_ENCODINGS = (
     "amqpv_read",

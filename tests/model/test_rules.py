@@ -11,14 +11,15 @@ from typing import NamedTuple
 
 import pytest
 
-from tests.model import printed, tables
-from tests.model.worked import Rows, first_wrong, rows_of_printed, rows_of_tables
+from tests.model import json_reader, printed, tables
+from tests.model.worked import Rows, first_wrong, rows_of_json, rows_of_printed, rows_of_tables
 
 HERE = Path(__file__).parent
 # The rows by which each file is judged.
 ROWS: dict[str, tuple[ModuleType, Rows]] = {
     "printed.py": (printed, rows_of_printed),
     "tables.py": (tables, rows_of_tables),
+    "json_reader.py": (json_reader, rows_of_json),
 }
 
 

@@ -83,7 +83,7 @@ encode_raw
 
 encode_syntax
   $ echo '{"a":' | amqp_show --encode
-  2> amqp_show: "-": EOF while parsing at line 2 column 0
+  2> amqp_show: "-": no JSON at byte 6 of 6
   [1]
 
 encode_table
@@ -116,5 +116,5 @@ encode_x_death
 
 empty_encode
   $ printf '' | amqp_show --encode
-  2> amqp_show: "-": EOF while parsing at line 1 column 0
+  2> amqp_show: "-": no JSON at byte 0 of 0
   [1]

@@ -6,10 +6,12 @@ import subprocess
 import zlib
 from collections import Counter
 from collections.abc import Callable, Iterator
+from contextlib import suppress
 from pathlib import Path
 
 import pytest
 from crates import TOP
+from selenium.common.exceptions import TimeoutException
 from selenium.webdriver.common.action_chains import ActionChains
 from selenium.webdriver.common.keys import Keys
 
@@ -32,6 +34,13 @@ def anew(browser: Browser) -> None:
 def drawn(browser: Browser) -> list[str]:
     """The lines of the tree that are drawn."""
     return [it.translate(TWISTS) for it in browser.lines("tree")]
+
+
+def is_drawn(browser: Browser, lines: list[str]) -> bool:
+    """Whether the tree has these lines, which are drawn as far as a busy machine knows what is in sight."""
+    with suppress(TimeoutException):
+        browser.wait(lambda: drawn(browser) == lines)
+    return drawn(browser) == lines
 
 
 def marked(browser: Browser) -> tuple[list[str], str]:
@@ -66,7 +75,7 @@ def test_stored_cases_are_drawn(browser: Browser) -> None:
         browser.choose("frame", it.how.get("frame", 2**20))
         browser.type(it.text if it.text is not None else it.data.hex())
         wants = [line for line in it.wants if line[0] not in "!*="]
-        assert drawn(browser) == wants, it.name
+        assert is_drawn(browser, wants), (it.name, drawn(browser))
         failures = [line[2:] for line in it.wants if line.startswith("! offset")]
         assert browser.text("failure") == "".join(failures), it.name
 
