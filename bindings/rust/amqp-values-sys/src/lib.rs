@@ -597,9 +597,10 @@ extern "C" {
     ///
     /// The most bytes of memory that they hold at once, also while realloc has its old block and the new one, by what
     /// amqpv_measure_value counts: amqpv_canonical 145 for each byte, or 4 for each byte and 860 for each value;
-    /// amqpv_to_json 80 for each byte, or 35 for each byte and 360 for each level; amqpv_from_json 340 for each byte of
-    /// its text; amqpv_first_warnings and amqpv_first_warnings_in_table 50 for each byte, or 39 for each value and 248
-    /// for each level. What isn't read takes no more than these for each byte. An allocator adds some for each block.
+    /// amqpv_to_json 80 for each byte, or 35 for each byte and 360 for each level, and none if the keys of each table
+    /// ascend; amqpv_from_json 173 for each byte of its text; amqpv_first_warnings and amqpv_first_warnings_in_table 50
+    /// for each byte, or 39 for each value and 248 for each level. What isn't read takes no more than these for each
+    /// byte. An allocator adds some for each block.
     ///
     /// They never return AMQPV_INVALID. The buffer after the bytes that are written stays unchanged.
     ///
@@ -628,8 +629,9 @@ extern "C" {
     ///
     /// `count` becomes how many bytes were written (AMQPV_OK), how many more the field that is being read needs
     /// (AMQPV_MORE), or which capacity is needed (AMQPV_NO_ROOM), else 0. Also returns AMQPV_UNKNOWN_TAG,
-    /// AMQPV_MALFORMED, AMQPV_TOO_LARGE or AMQPV_NO_MEMORY. It allocates the text, and for a table whose keys don't
-    /// ascend a map of them.
+    /// AMQPV_MALFORMED, AMQPV_TOO_LARGE or AMQPV_NO_MEMORY. It writes to the buffer without allocating, unless the keys
+    /// of a table don't ascend by their bytes, each once: then it allocates the text, and for such a table a map of its
+    /// keys. A text of more than 4,096 bytes is found twice, first to learn whether it fits.
     pub fn amqpv_to_json(
         bytes: *const u8,
         length: usize,
@@ -650,9 +652,11 @@ extern "C" {
     ///
     /// `count` becomes how many bytes were written (AMQPV_OK), or which capacity is needed (AMQPV_NO_ROOM), else 0.
     /// Also returns AMQPV_NOT_JSON, AMQPV_NO_MEMORY, or AMQPV_NO_ENCODING if the value contains a ShortString, which
-    /// has no type tag, or if a length is too large for its field. It allocates a tree and the encoding. It allocates a
-    /// JSON value too of a text that is rejected, of one with an object in which other keys follow the name of a type,
-    /// and of one in which a key comes twice and the value that doesn't count is none.
+    /// has no type tag, or if a length is too large for its field. It allocates the encoding, and where a table's keys
+    /// don't ascend another and a map of them. It allocates a tree too of a text that is rejected, of one with a table
+    /// under the name of its type, of one with an object in which other keys follow the name of a type, of one in which
+    /// a key comes twice and the value that doesn't count is none, and of one with a decimal whose number is before its
+    /// scale.
     pub fn amqpv_from_json(
         text: *const u8,
         length: usize,
