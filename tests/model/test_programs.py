@@ -64,16 +64,16 @@ def damaged(table: bytes) -> Iterator[tuple[str, bytes]]:
             yield f"{byte} at byte {at}", table[:at] + bytes([byte]) + table[at + 1 :]
 
 
-def rooms(text: bytes) -> Iterator[str]:
-    for before, room in [*((b"", n) for n in range(200)), (b"", 300), (b"\1\2\3", 100)]:
-        is_enough = room >= len(text)
+def capacities(text: bytes) -> Iterator[str]:
+    for before, capacity in [*((b"", n) for n in range(200)), (b"", 300), (b"\1\2\3", 100)]:
+        is_enough = capacity >= len(text)
         put = before + text if is_enough else before
         said = "Ok(())" if is_enough else "Err(BufferTooSmall)"
-        yield f"room {room}: {said} position {len(put)} put {shown(put)}"
+        yield f"capacity {capacity}: {said} position {len(put)} put {shown(put)}"
         if is_enough:
-            yield f"behind it {room - len(text)} bytes of 170"
+            yield f"after it {capacity - len(text)} bytes of 170"
     for position in (0, 1):
-        yield f"a refusal behind a length: Err(InvalidOffset) position {position} put 09"
+        yield f"an error after a length: Err(InvalidOffset) position {position} put 09"
 
 
 # What each generator appends, piece by piece.
@@ -114,7 +114,7 @@ def hostile(table: bytes) -> Iterator[str]:
     """The lines of test_hostile."""
     for name, data in [*built(), *damaged(table)]:
         yield f"{name}: {answer(data)}"
-    yield from rooms(write(read(table)[0]))
+    yield from capacities(write(read(table)[0]))
     yield from devices()
 
 

@@ -151,7 +151,7 @@ fn holds_for(rt: &impl Abort, alloc: Global, row: Row<'_>, most: usize) {
         let is_callers = all_returned(alloc, values.next_from(&mut reader), *want);
         assert!(rt;
             is_owners && is_callers,
-            "{}: answer {at}, {most} bytes at a time",
+            "{}: result {at}, {most} bytes at a time",
             row.says
         );
     }

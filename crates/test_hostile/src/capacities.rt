@@ -28,14 +28,14 @@ fn in_capacity<P: Print>(
     let outcome = gen_value(value, &mut x);
     let (output, position) = x.into_inner();
     let put = shown::bytes(alloc, output.written())?;
-    println!(rt; "room {capacity}: {outcome:?} position {position} put {put}")?;
+    println!(rt; "capacity {capacity}: {outcome:?} position {position} put {put}")?;
     if outcome.is_ok() {
         let after = slice
             .as_slice()
             .split_at(slice.len().min(position as usize))
             .1;
         let untouched = after.iter().filter(|byte| **byte == 170).count();
-        println!(rt; "behind it {untouched} bytes of 170")?;
+        println!(rt; "after it {untouched} bytes of 170")?;
     }
     Ok(())
 }
@@ -57,14 +57,14 @@ fn with_length<P: Print>(rt: &P, alloc: Global) -> io::Result<()> {
     let outcome = said(alloc, puts_and_refuses(&mut x))?;
     let (vector, count) = x.into_inner();
     let put = shown::bytes(alloc, vector.as_slice())?;
-    println!(rt; "a refusal behind a length: {outcome} position {count} put {put}")?;
+    println!(rt; "an error after a length: {outcome} position {count} put {put}")?;
     let mut buffer = [0; 20];
     let mut x = WriteContext::from(SliceOutput::new(&mut buffer));
     x.put(&[9]).map_err(crate::unmade)?;
     let outcome = said(alloc, puts_and_refuses(&mut x))?;
     let (output, count) = x.into_inner();
     let put = shown::bytes(alloc, output.written())?;
-    println!(rt; "a refusal behind a length: {outcome} position {count} put {put}")
+    println!(rt; "an error after a length: {outcome} position {count} put {put}")
 }
 
 /// Prints all of it.

@@ -90,7 +90,7 @@ const ROWS: &[Row<'static>] = &[
         left: &[0, 0, 0, 0],
     },
     Row {
-        says: "what is behind a value stays",
+        says: "what is after a value stays",
         limits: Limits { frame: 9, depth: 2 },
         events: &[Gives(&[83, 0, 0, 0, 4, 116, 101, 115, 116, 86, 65, 0])],
         all_returned: &[Value(TEST)],
