@@ -729,8 +729,8 @@ extern "C" {
     /// constant time, except for what it copies and reads.
     ///
     /// While a body is open in `into`, nothing else may be put or opened there, which would overwrite it: `inner` is
-    /// then 1. To give up the body, go back to a copy of `into` from before amqpv_open. A copy from after it isn't told
-    /// of amqpv_close.
+    /// then 1. To give up the body, go back to a copy of `into` from before amqpv_open. amqpv_close doesn't change a
+    /// copy from after it.
     ///
     /// The first error in this order is returned: AMQPV_INVALID if `into` isn't inside the buffer, has another tag, or
     /// has a body open in it, AMQPV_BAD_KEY if it can't have the key, AMQPV_BAD_TAG if the function doesn't take the
