@@ -1,5 +1,7 @@
 //! Reading a value from bytes, and writing it to bytes.
 
+// The tactic at the function names the lemma that what was written is right for the bytes that were read.
+
 ghost use Rattle.std.specs.Prelude.{◌≡◌, ◌<◌, ◌≤◌, length, MatchResult, IfOk, IfErr};
 ghost use Rattle.amqp_value_core.specs.Texts.{text, Fits};
 ghost use Rattle.amqp_value_core.specs.View.{view};

@@ -1,5 +1,7 @@
 //! Reading a value within limits, at once and from a reader, and its canonical form.
 
+// Tactics at functions: each names the lemma that its errors are right by the definitions of reading.
+
 ghost use Rattle.std.specs.Prelude.{◌≡◌, ◌≤◌, length, MatchResult, IfOk};
 ghost use Rattle.amqp_bench.specs.Calls.{widest, IsTakenWithin, IsFaultWithin, IsFaultInPieces, IsFaultOfCanonical};
 ghost use Rattle.amqp_in_place.specs.Canonicals.{IsCanonicalLen};

@@ -2,6 +2,8 @@
 //!
 //! Bytes are written as `hex` reads them: two digits a byte, type tags and strings between quotes.
 
+// Tactics at functions: each names which of its literals are UTF-8, which the search doesn't compute.
+
 ghost use Rattle.std.specs.Prelude.{◌≡◌, List, [], ◌∷◌, ◌++◌, true, false, negsuc, Some, None, codes};
 ghost use Rattle.std.specs.Str.{byte};
 ghost use Rattle.std.specs.Int.{w8, w16, w32, w64, cast_unsigned};
