@@ -36,7 +36,7 @@ abbrev pub stream_text : Limits → ℕ → List ℕ → List ℕ
 stream_text l zero s = []
 stream_text l (suc n) s = stream_step (stream_text l n) s (read_within l s)
 
--- ---- the same as a relation
+-- ---- what a stream begins with, as a relation
 
 -- s begins with encodings of these values, one after another, each within the limits, and `left` is
 -- left
