@@ -12,8 +12,9 @@ from pathlib import Path
 from typing import NamedTuple
 
 import least
+from building import TEST_CRATES, copy_repository, leave_out_tests
 from crates import TOP, said_by
-from lib import TEST_CRATES, Judged, Step, Steps, by_last_line, copy_repository, leave_out_tests
+from steps import Judged, Step, Steps, by_last_line
 
 from tests.oracle.sides import is_at_hand
 from tests.rabbitmq.broker import BIN

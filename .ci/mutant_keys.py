@@ -15,8 +15,8 @@ from collections.abc import Collection, Iterable, Iterator, Mapping, Sequence
 from pathlib import Path
 from typing import NamedTuple
 
+from building import TESTS
 from crates import TOP, Crates
-from lib import TESTS
 from mutant_blocks import Mutant
 from mutant_copy import ANSWERS, INVARIANTS
 

@@ -10,12 +10,12 @@ from concurrent.futures import ThreadPoolExecutor
 from pathlib import Path
 
 from crates import TOP, Crates
-from lib import end_descendants, end_on_signals
 from mutant_blocks import Mutant, mutants_of
 from mutant_copy import KEPT
 from mutant_goals import Said, telling
 from mutant_keys import Key, Keys, chosen, keys_of, with_keys
 from mutant_rounds import Count, try_crate
+from steps import end_descendants, end_on_signals
 
 SELF_TEST = TOP / ".ci/mutants-test"
 # What one check takes, and each further job of it, in bytes.

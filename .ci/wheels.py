@@ -9,8 +9,8 @@ import tempfile
 from collections.abc import Iterator, Sequence
 from pathlib import Path
 
+from building import AARCH64, CALLS_FOR_C, COMPILERS, X86_64, archive, build_archive
 from crates import TOP, Crates
-from lib import AARCH64, CALLS_FOR_C, COMPILERS, X86_64, archive, build_archive
 from released import released_at
 
 PACKAGE, INCLUDE = TOP / "bindings/python", TOP / "include"

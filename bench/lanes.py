@@ -11,8 +11,8 @@ import time
 from collections.abc import Mapping, Sequence
 from pathlib import Path
 
+from building import archive, build_archive
 from crates import TOP, Crates, kit
-from lib import archive, build_archive
 from wheels import PYTHON, compile_package
 
 BEGIN = time.monotonic()

@@ -19,7 +19,7 @@ sys.path[:0] = [str(TOP), str(TOP / ".ci")]
 
 import pytest  # noqa: E402
 from least import too_few, write  # noqa: E402
-from lib import end_descendants, end_on_signals  # noqa: E402
+from steps import end_descendants, end_on_signals  # noqa: E402
 
 # What doesn't leave out a test.
 OPTIONS = ("--write", "--random", "--seed", "--built", "--tables", "--library", "--page")

@@ -3,9 +3,9 @@
 import random
 
 import pytest
+from building import shared_object
 from crates import Crates
 from hypothesis import settings
-from lib import shared_object
 
 from tests.python import ctypes_values as av
 

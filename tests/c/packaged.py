@@ -13,7 +13,7 @@ from random import Random
 from typing import Any
 
 from crates import TOP
-from lib import Checks
+from steps import Checks
 
 from tests.model.tables import EVERY_TYPE, first_problem, odd_table, random_table, raw
 

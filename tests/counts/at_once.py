@@ -9,8 +9,8 @@ from collections.abc import Iterator, Sequence
 from random import Random
 from typing import NamedTuple
 
+from building import CALLS_FOR_C
 from crates import TOP
-from lib import CALLS_FOR_C
 
 from tests.model.printed import field, nested
 

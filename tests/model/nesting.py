@@ -19,7 +19,7 @@ from pathlib import Path
 from typing import NamedTuple
 
 from crates import TOP
-from lib import within
+from steps import within
 
 from tests.model.printed import nested
 

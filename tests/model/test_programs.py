@@ -12,7 +12,7 @@ from contextlib import suppress
 from typing import Any
 
 from crates import TOP
-from lib import content
+from steps import content
 
 from tests.model.printed import CLIENT_LEVELS, FRAME_MAX, Dissection, Unread, checked, field, json_of, json_text
 from tests.model.printed import measures, nested, read, write

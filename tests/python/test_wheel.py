@@ -4,8 +4,8 @@ from collections.abc import Callable
 from pathlib import Path
 
 import pytest
+from building import AARCH64, X86_64
 from crates import Crates
-from lib import AARCH64, X86_64
 from wheels import PROCESSORS, PYTHON, make_wheel, put_library, pythons, try_wheel, try_wheel_of_aarch64, wrong_symbols
 
 Record = Callable[[str, object], None]
