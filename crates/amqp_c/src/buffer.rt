@@ -113,6 +113,30 @@ fn write_long(buffer: &mut [u8], at: usize, bytes: &[u8])
     write(buffer, at, bytes);
 }
 
+/// Writes the bytes from `at` on, as `write_bytes` does. It takes fewer instructions for more than 32, as a string may
+/// have, and two more for up to 16, as most keys have.
+#[inline(always)]
+pub fn write_content(buffer: &mut [u8], at: usize, bytes: &[u8])
+    requires { at + length bytes.now ≤ length buffer.old }
+    ensures { buffer.new ≡ with_bytes at bytes.now buffer.old }
+{
+    if bytes.len() <= 32 {
+        write_bytes(buffer, at, bytes);
+    } else {
+        copy_long(&mut buffer[at..at + bytes.len()], bytes);
+    }
+}
+
+/// Copies the bytes to their place, out of line. With the buffer and an offset, as `write_long` has them, a call takes
+/// four instructions more.
+#[inline(never)]
+fn copy_long(place: &mut [u8], bytes: &[u8])
+    requires { length bytes.now ≡ length place.old }
+    ensures { place.new ≡ bytes.now }
+{
+    place.copy_from_slice(bytes);
+}
+
 /// Writes N to 2 * N bytes: the first N and the last N, which may overlap.
 #[inline(always)]
 fn write_ends<const N: usize>(buffer: &mut [u8], at: usize, bytes: &[u8])

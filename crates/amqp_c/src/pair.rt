@@ -1,13 +1,13 @@
 //! A pair of a table that is written at once.
 
-ghost use Rattle.std.specs.Prelude.{◌≡◌, ◌+◌, ◌≤◌, ◌++◌, length, IfOk, MatchResult};
+ghost use Rattle.std.specs.Prelude.{◌≡◌, ◌+◌, ◌≤◌, ◌++◌, length, IfOk, MatchBool, MatchResult};
 ghost use Rattle.amqp_value_core.specs.Values.{Tree};
 ghost use Rattle.amqp_value_core.specs.Grammar.{short_field};
 ghost use Rattle.amqp_value_core.specs.Texts.{text};
-ghost use Rattle.amqp_c.specs.Pairs.{IsPairValue, IsGiven, RefusesValue, RefusesPair, value_len, pair_len};
+ghost use Rattle.amqp_c.specs.Pairs.{HasNoNumber, IsPairValue, IsGiven, RefusesValue, RefusesPair, value_len, pair_len};
 ghost use Rattle.amqp_c.specs.Buffers.{with_bytes};
 
-use crate::buffer::{write, write_bytes, write_few, write_name};
+use crate::buffer::{write, write_content, write_few, write_name};
 use crate::key::is_short_string;
 use crate::number::encoding_of;
 use crate::put::{head_of, is_string_tag};
@@ -54,7 +54,7 @@ impl Pair<'_> {
         ensures few { IfOk result (λ n. n ≤ 4294967301) }
     {
         if is_string_tag(self.tag) {
-            if self.bits != 0 || self.scale != 0 {
+            if self.has_number() {
                 return Err(Fault::OutOfRange);
             }
             let Ok(length) = u32::try_from(self.bytes.len()) else {
@@ -67,6 +67,15 @@ impl Pair<'_> {
             return Err(Fault::Invalid);
         }
         Ok(1 + encoding.len())
+    }
+
+    /// Whether it has bits or a scale, by one branch for both.
+    #[inline(always)]
+    #[tactic(auto, using(std::proofs::lemmas::Nat::le_or_l, std::proofs::lemmas::Nat::le_or_r))]
+    fn has_number(&self) -> bool
+        ensures { MatchBool result (HasNoNumber self.now → ⊥) (HasNoNumber self.now) }
+    {
+        self.bits | u64::from(self.scale) != 0
     }
 
     /// Writes it from `at` on, and returns its end.
@@ -90,8 +99,10 @@ impl Pair<'_> {
             × (buffer.new ≡ with_bytes 0 (short_field self.now.key.now ++ text v) buffer.old) }
         ensures len { result ≡ pair_len self.now }
     {
-        write_name(buffer, 0, b'F', self.key);
-        self.write_value(buffer, 1 + self.key.len())
+        // The compiler doesn't know that no write changes the pair: so its key is read once, before them.
+        let key = self.key;
+        write_name(buffer, 0, b'F', key);
+        self.write_value(buffer, 1 + key.len())
     }
 
     /// Writes its value from `at` on, and returns its end.
@@ -106,7 +117,7 @@ impl Pair<'_> {
         if is_string_tag(self.tag) {
             let length = (self.bytes.len() as u32).to_be_bytes();
             write(buffer, at, &head_of(self.tag, length));
-            write_bytes(buffer, at + 5, self.bytes);
+            write_content(buffer, at + 5, self.bytes);
             return at + 5 + self.bytes.len();
         }
         let Ok(encoding) = encoding_of(self.tag, self.bits, self.scale) else {

@@ -5,7 +5,7 @@ use Rattle.amqp_c.proofs.pair.Pair.rest_len.Goals as goal
 
 pub returns-then-is_string_tag-clause-len : goal.returns-then-is_string_tag-clause-len
 returns-then-is_string_tag-clause-len c =
-    let g = string_given c.args.self.now c.if-is_string_tag.ensures c.in-Ok.ensures.0 (c.if-self-ne0.false, c.if-self-ne0-2.false) in
+    let g = string_given c.args.self.now c.if-is_string_tag.ensures c.in-Ok.ensures.0 c.if-has_number.ensures in
     (g.0, omega (arith, c.in-Ok.ensures.1, g.1))
 
 pub returns-clause-len : goal.returns-clause-len

@@ -7,7 +7,7 @@ returns-then-is_string_tag-clause-written c =
     let p = c.args.self.now in
     let is = c.if-is_string_tag.ensures in
     let fits = string_fits p is c.requires.given in
-    string_written p c.args.at c.head_of.result c.args.buffer.now c.write.new.buffer c.write_bytes.new.buffer is fits (c.head_of.ensures ∙ ap (λ (l : List ℕ). p.tag ∷ l) c.to_be_bytes-length.ensures) c.write.ensures c.write_bytes.ensures c.requires.fits
+    string_written p c.args.at c.head_of.result c.args.buffer.now c.write.new.buffer c.write_content.new.buffer is fits (c.head_of.ensures ∙ ap (λ (l : List ℕ). p.tag ∷ l) c.to_be_bytes-length.ensures) c.write.ensures c.write_content.ensures c.requires.fits
 
 pub returns-clause-written : goal.returns-clause-written
 returns-clause-written c =
