@@ -1,2 +1,5 @@
 mod CanonicalWritten
 mod JsonWritten
+mod Marked
+mod Reached
+mod TextProblems

@@ -1,6 +1,7 @@
 -- What the calls between encodings and JSON texts return, and leave in the buffer.
-use Rattle.std.specs.Prelude.{ℕ, ◌≡◌, ◌<◌, ◌⊎◌, ℤ, false, List, length, Result, Err, IfErr, MatchResult}
+use Rattle.std.specs.Prelude.{ℕ, min, ◌≡◌, ◌<◌, ◌≤◌, ◌⊎◌, ◌↔◌, ℤ, true, false, List, length, Option, Some, None, is_some, IfSome, Result, Err, IfErr, MatchResult}
 use Rattle.std.specs.Str.{IsUtf8}
+use Rattle.serde_json.specs.Read.{max_depth}
 use Rattle.amqp_value_core.specs.Values.{Tree}
 use Rattle.amqp_value_core.specs.Grammar.{Wire}
 use Rattle.amqp_value_core.specs.Texts.{text}
@@ -16,6 +17,10 @@ use Rattle.amqp_c_common.specs.ReturnCodes.{return_code_of, count_of}
 use Rattle.amqp_c_common.specs.Reading.{limits, IsReadFault}
 use Rattle.amqp_c_common.specs.Buffers.{IsPutAtStart}
 use Rattle.amqp_c_alloc.specs.Nesting.{nests_within}
+use Rattle.amqp_c_alloc.specs.TextProblems.{numbered_or_old, IsTextProblem}
+use Rattle.amqp_c_alloc.specs.declared.problem.Problem.{Problem}
+use Rattle.amqp_c_alloc.specs.declared.problem.TextProblem.{TextProblem}
+use Rattle.amqp_c_alloc.specs.declared.problem.TextProblemKind.TheVariants as problem
 
 -- ---- from an encoding to the JSON text
 
@@ -78,6 +83,12 @@ text_fault (encode.Json e) = NotJson
 text_fault encode.NoTypeTag = NoEncoding
 text_fault encode.TooLong = NoEncoding
 
+-- and what is wrong with it, if it isn't the JSON of a value: no further on than its n bytes
+abbrev pub text_problem : EncodeError → ℕ → Option TextProblem
+text_problem (encode.Json (json.Syntax at)) n = Some (record { offset = min at n; kind = problem.NotJson })
+text_problem (encode.Json (json.NotAValue at)) n = Some (record { offset = min at n; kind = problem.NoValue })
+text_problem _ n = None
+
 -- the canonical encoding of the value that a text means is put into the buffer; or the fault is
 -- right, and the buffer as it was; a text that nests too deep is rejected as no JSON
 pub record WritesEncoding (most : ℕ) (t old : List ℕ) (code : ℤ) (new : List ℕ) (count : ℕ) : Type 0 where
@@ -87,3 +98,17 @@ pub record WritesEncoding (most : ℕ) (t old : List ℕ) (code : ℤ) (new : Li
   pub written : MatchResult done (IsEncodingPut t old new) (IsEncodingFault most t (length old))
   pub deep : nests_within most t ≡ false → done ≡ Err NotJson
   pub kept : IfErr done (λ _. new ≡ old)
+
+-- what amqpv_from_json writes for a text that may nest so deep; and what is wrong with the text, exactly
+-- if it is rejected as no JSON of a value, at one of its bytes or its end; else what was there stays
+pub record WritesOrFinds (most : ℕ) (t old : List ℕ) (was : Problem) (code : ℤ) (new : List ℕ) (count : ℕ) (stored : Problem) : Type 0 where
+  pub encoding : WritesEncoding most t old code new count
+  pub found : Option TextProblem
+  pub problem : stored ≡ numbered_or_old was found
+  pub told : (is_some found ≡ true) ↔ (encoding.done ≡ Err NotJson)
+  pub right : IfSome found (IsTextProblem most t)
+  pub inside : IfSome found (λ p. p.offset ≤ length t)
+
+-- none is read that nests deeper than 127
+abbrev pub WritesEncodingOrProblem : ℕ → List ℕ → List ℕ → Problem → ℤ → List ℕ → ℕ → Problem → Type 0
+WritesEncodingOrProblem nesting = WritesOrFinds (min nesting max_depth)

@@ -1,4 +1,5 @@
 pub mod CanonicalCalls
 pub mod Nesting
+pub mod TextProblems
 pub mod JsonCalls
 pub mod WarningCalls

@@ -8,13 +8,14 @@
 #![tactic(auto)]
 
 ghost use Rattle.amqp_c_alloc.specs.CanonicalCalls.{WritesCanonical};
-ghost use Rattle.amqp_c_alloc.specs.JsonCalls.{WritesJson, WritesEncoding};
+ghost use Rattle.amqp_c_alloc.specs.JsonCalls.{WritesJson, WritesEncoding, WritesEncodingOrProblem};
 ghost use Rattle.amqp_c_alloc.specs.WarningCalls.{WarnsOfValue, WarnsOfTable};
 
 mod canonical;
 mod decode;
 mod encode;
 mod nesting;
+mod problem;
 mod warnings;
 
 use amq_protocol_types::parsing::Limits;
@@ -22,6 +23,7 @@ use amqp_c_common::return_count;
 use canonical::canonical;
 use decode::put_json;
 use encode::put_encoding;
+use problem::{Problem, store_problem};
 use std::alloc::Global;
 use warnings::{Warnings, store_warnings, warned_of_table, warned_of_value};
 
@@ -86,7 +88,30 @@ pub extern "C" fn amqpv_from_json(
 ) -> i32
     ensures { WritesEncoding nesting text.now buffer.old result buffer.new count.new }
 {
-    return_count(put_encoding(alloc, text, nesting, buffer), count)
+    return_count(put_encoding(alloc, text, nesting, buffer).done, count)
+}
+
+/// The most arrays and objects that may be open at once in a JSON text that is read.
+const JSON_NESTING: u32 = 127;
+
+/// Writes the canonical encoding of the value that a JSON text means to the start of `buffer`, as
+/// `amqpv_from_json` does, or returns what is wrong with a text that isn't the JSON of a value. A `nesting` of
+/// more than 127 counts as that.
+#[unsafe(no_mangle)]
+pub extern "C" fn amqpv_from_json_or_problem(
+    alloc: Global,
+    text: &[u8],
+    nesting: u32,
+    buffer: &mut [u8],
+    count: &mut usize,
+    problem: &mut Problem,
+) -> i32
+    ensures { WritesEncodingOrProblem nesting text.now
+        buffer.old problem.old result buffer.new count.new problem.new }
+{
+    let put = put_encoding(alloc, text, nesting.min(JSON_NESTING), buffer);
+    store_problem(put.problem, problem);
+    return_count(put.done, count)
 }
 
 /// Finds what is doubtful in the value at the start, if RabbitMQ takes it. A container that nests deeper

@@ -11,10 +11,11 @@
 //! GRAMMAR.md the bytes, and JSON.md the JSON of each type: pages of docs, which are installed below share/doc.
 //!
 //! Functions return an amqpv_result. With any but AMQPV_OK the structs and the buffer stay unchanged, except
-//! for `needed` of a container, the buffer of amqpv_write_json, and a `problem` that amqpv_read_by or
-//! amqpv_read_table_by returns; a `count` and a `taken` are always set. No function keeps state, prints or
-//! ends the process, and calls in several threads don't affect each other. Only amqpv_canonical,
-//! amqpv_to_json, amqpv_from_json, amqpv_first_warnings and amqpv_first_warnings_in_table allocate.
+//! for `needed` of a container, the buffer of amqpv_write_json, and a `problem` that amqpv_read_by,
+//! amqpv_read_table_by or amqpv_from_json_or_problem returns; a `count` and a `taken` are always set. No function
+//! keeps state, prints or ends the process, and calls in several threads don't affect each other. Only
+//! amqpv_canonical, amqpv_to_json, amqpv_from_json, amqpv_from_json_or_problem, amqpv_first_warnings and
+//! amqpv_first_warnings_in_table allocate.
 //!
 //! Preconditions:
 //! - No pointer is NULL, except to bytes, a text, a key, steps, pairs, entries or a buffer of length 0 (tested, not
@@ -38,11 +39,11 @@
 //!        160   176       in amqpv_put_value of any keys
 //!        288   288       in amqpv_canonical
 //!        560   528       in amqpv_write_json
-//!        928   928       in amqpv_from_json
+//!        928   928       in amqpv_from_json and amqpv_from_json_or_problem
 //!        688   768       in amqpv_to_json
 //!        512   480       in amqpv_first_warnings and amqpv_first_warnings_in_table
 //!   The others don't recurse.
-//! - The five functions that allocate have one more, stated before them.
+//! - The six functions that allocate have one more, stated before them.
 //!
 //! There are no others: a cursor, an entry or a container may hold any numbers, since each call checks
 //! them. A corrupted one results in wrong entries or numbers, in a write elsewhere in the buffer, or in
@@ -98,9 +99,10 @@ pub const AMQPV_INVALID: amqpv_result = -5;
 pub const AMQPV_NO_MEMORY: amqpv_result = -6;
 /// The buffer is too small (only functions that write to one), or there are fewer places than pairs (amqpv_read_pairs).
 pub const AMQPV_NO_ROOM: amqpv_result = -7;
-/// The text isn't UTF-8, nests too deep, is no JSON, or the JSON of no value (only amqpv_from_json).
+/// The text isn't UTF-8, nests too deep, is no JSON, or the JSON of no value (only amqpv_from_json and
+/// amqpv_from_json_or_problem).
 pub const AMQPV_NOT_JSON: amqpv_result = -8;
-/// The value has no encoding (only amqpv_from_json).
+/// The value has no encoding (only these two).
 pub const AMQPV_NO_ENCODING: amqpv_result = -9;
 /// An entry with this key can't be put there.
 pub const AMQPV_BAD_KEY: amqpv_result = -10;
@@ -109,16 +111,16 @@ pub const AMQPV_BAD_TAG: amqpv_result = -11;
 /// The number, or the scale, is out of the type's range.
 pub const AMQPV_OUT_OF_RANGE: amqpv_result = -12;
 
-/// Limits that suit untrusted bytes: a `frame`, a `depth`, and the `depth` or `nesting` of amqpv_to_json and
-/// amqpv_from_json. With these each function is content with a stack of 64 KiB, on x86-64 and on aarch64. (RabbitMQ
-/// sends more than its usual frame-max, 131072.).
+/// Limits that suit untrusted bytes: a `frame`, a `depth`, and the `depth` of amqpv_to_json or the `nesting` of
+/// amqpv_from_json and amqpv_from_json_or_problem. With these each function is content with a stack of 64 KiB, on
+/// x86-64 and on aarch64. (RabbitMQ sends more than its usual frame-max, 131072.).
 pub const AMQPV_FRAME: u32 = 1048576;
 /// See [`AMQPV_FRAME`].
 pub const AMQPV_DEPTH: u32 = 64;
 /// See [`AMQPV_FRAME`].
 pub const AMQPV_JSON_DEPTH: u32 = 32;
 
-/// How deep JSON text may nest at most that amqpv_from_json reads.
+/// How deep JSON text may nest at most that amqpv_from_json and amqpv_from_json_or_problem read.
 pub const AMQPV_JSON_NESTING: u32 = 127;
 
 /// The type tags of entries. Two have an alternate tag in bytes: `U` is returned as `s`, `L` as `l`.
@@ -262,18 +264,25 @@ pub const AMQPV_PROBLEM_NOT_FINITE: u8 = 2;
 pub const AMQPV_PROBLEM_CUT: u8 = 3;
 /// A key goes past the end of its table.
 pub const AMQPV_PROBLEM_KEY_CUT: u8 = 4;
-/// A container nests deeper than `depth`: RabbitMQ has no such limit.
+/// A container nests deeper than `depth`, for which RabbitMQ has no limit; or a text deeper than `nesting`.
 pub const AMQPV_PROBLEM_TOO_DEEP: u8 = 5;
 /// The value has more than `frame` bytes.
 pub const AMQPV_PROBLEM_TOO_LARGE: u8 = 6;
 /// A key isn't UTF-8 (only for AMQPV_RULES_READ).
 pub const AMQPV_PROBLEM_KEY_NOT_UTF8: u8 = 7;
+/// A text isn't UTF-8.
+pub const AMQPV_PROBLEM_NOT_UTF8: u8 = 8;
+/// A text isn't JSON.
+pub const AMQPV_PROBLEM_NOT_JSON: u8 = 9;
+/// A text is JSON, but that of no value.
+pub const AMQPV_PROBLEM_NO_VALUE: u8 = 10;
 
-/// A problem of a value.
+/// A problem of a value or of a JSON text.
 #[repr(C)]
 #[derive(Clone, Copy, Debug, Default, PartialEq, Eq)]
 pub struct amqpv_problem {
-    /// How many bytes are before the value with the problem, or before the pair if its key is cut or isn't UTF-8.
+    /// How many bytes are before the value with the problem, or before the pair if its key is cut or isn't UTF-8; in a
+    /// text, as amqpv_from_json_or_problem says.
     pub offset: usize,
     /// One of the above.
     pub kind: u8,
@@ -591,16 +600,16 @@ extern "C" {
         count: *mut usize,
     ) -> amqpv_result;
 
-    /// The next five functions allocate by malloc, realloc and free, and free all of it before they return. Their
-    /// precondition: malloc, realloc and free are of one allocator that aligns as C requires, and the five functions
+    /// The next six functions allocate by malloc, realloc and free, and free all of it before they return. Their
+    /// precondition: malloc, realloc and free are of one allocator that aligns as C requires, and the six functions
     /// aren't called from a signal handler.
     ///
     /// The most bytes of memory that they hold at once, also while realloc has its old block and the new one, by what
     /// amqpv_measure_value counts: amqpv_canonical 145 for each byte, or 4 for each byte and 860 for each value;
     /// amqpv_to_json 80 for each byte, or 35 for each byte and 360 for each level, and none if the keys of each table
-    /// ascend; amqpv_from_json 173 for each byte of its text; amqpv_first_warnings and amqpv_first_warnings_in_table 50
-    /// for each byte, or 39 for each value and 248 for each level. What isn't read takes no more than these for each
-    /// byte. An allocator adds some for each block.
+    /// ascend; amqpv_from_json and amqpv_from_json_or_problem 173 for each byte of the text; amqpv_first_warnings and
+    /// amqpv_first_warnings_in_table 50 for each byte, or 39 for each value and 248 for each level. What isn't read
+    /// takes no more than these for each byte. An allocator adds some for each block.
     ///
     /// They never return AMQPV_INVALID. The buffer after the bytes that are written stays unchanged.
     ///
@@ -664,6 +673,26 @@ extern "C" {
         buffer: *mut u8,
         capacity: usize,
         count: *mut usize,
+    ) -> amqpv_result;
+
+    /// Does what amqpv_from_json does, with the same result, buffer and `count`, and finds what is wrong with a text
+    /// that is AMQPV_NOT_JSON: `problem` becomes that, with a `tag` of 0, and stays unchanged with any other result. A
+    /// `nesting` of more than AMQPV_JSON_NESTING counts as that.
+    ///
+    /// Of several problems the first in this order counts. AMQPV_PROBLEM_TOO_DEEP is at the first bracket with which
+    /// more than `nesting` arrays and objects are open at once. AMQPV_PROBLEM_NOT_UTF8 is at the first byte that begins
+    /// no character of UTF-8, or none that is complete. AMQPV_PROBLEM_NOT_JSON is at the first string, number, word or
+    /// mark that JSON doesn't have there, or at the end of the text if more is missing: JSON has no string with a wrong
+    /// escape or half a surrogate pair, and no number beyond a Double. AMQPV_PROBLEM_NO_VALUE is at the first part that
+    /// is the JSON of no value, as an object with the name of a type as its only key, or what is under that name.
+    pub fn amqpv_from_json_or_problem(
+        text: *const u8,
+        length: usize,
+        nesting: u32,
+        buffer: *mut u8,
+        capacity: usize,
+        count: *mut usize,
+        problem: *mut amqpv_problem,
     ) -> amqpv_result;
 
     /// Find what is doubtful in the value at the start of the bytes, or in the table without its type tag, if RabbitMQ
