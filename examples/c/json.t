@@ -23,17 +23,17 @@ back_escapes
 
 back_no_json
   $ echo '{"a":1' | json back
-  the JSON of no value
+  not JSON, at 7
   [1]
 
 back_no_utf8
   $ printf '"\xff"\n' | json back
-  the JSON of no value
+  not UTF-8, at 1
   [1]
 
 back_of_no_value
   $ echo '{"LongLongInt":5}' | json back
-  the JSON of no value
+  the JSON of no value, at 15
   [1]
 
 back_short_string
@@ -45,7 +45,7 @@ back_too_deep
   $ json back <<'END'
   > [[[[[[[[[[[[[[[[[[[[[[[[[[[[[[[[[[[[[[[[[[[[[[[[[[[[[[[[[[[[[[[[[[[[[[[[[[[[[[[[[[[[[[[[[[[[[[[[[[[[[[[[[[[[[[[[[[[[[[[[[[[[[[[[]]]]]]]]]]]]]]]]]]]]]]]]]]]]]]]]]]]]]]]]]]]]]]]]]]]]]]]]]]]]]]]]]]]]]]]]]]]]]]]]]]]]]]]]]]]]]]]]]]]]]]]]]]]]]]]]]]]]]]]]]]]]]]]]
   > END
-  the JSON of no value
+  too deep, at 127
   [1]
 
 cut

@@ -1,12 +1,14 @@
 /*
- * Tries amqpv_canonical, amqpv_to_json, amqpv_write_json and amqpv_from_json of include/amqp_values.h: the values below in each buffer
+ * Tries amqpv_canonical, amqpv_to_json, amqpv_write_json, amqpv_from_json and amqpv_from_json_or_problem of
+ * include/amqp_values.h: the values below in each buffer
  * up to one byte more than they need, with the first allocation failing, then the second, until a call
  * makes fewer; each prefix of them, and each change of one byte to one of some; limits that are just kept
  * to and just not; texts that nest as deep as `nesting` allows and one deeper, up to 127 and 128;
  * strings whose texts have about 4,096 bytes; and a table of 100,010 bytes, there and back, with every seventeenth
  * allocation failing. What is written is what is expected, what is not is left unchanged, and canonical bytes allocate
  * nothing. amqpv_write_json writes what amqpv_to_json does, if the keys of each table ascend, and never allocates;
- * amqpv_to_json doesn't then either.
+ * amqpv_to_json doesn't then either. amqpv_from_json_or_problem does what amqpv_from_json does, and leaves the problems below,
+ * whose offsets were counted by hand.
  */
 #include "check.h"
 
@@ -68,8 +70,52 @@ static const slice not_encoded[] = {
     SLICE("{\"ShortString\":\"\"}"), SLICE("[null,{\"ShortString\":\"a\"}]"), SLICE("{\"k\":{\"ShortString\":\"a\"}}"),
 };
 
+/* Texts, how deep they may nest, and what is wrong with them at which byte; of several problems the first of the header's order. */
+static const struct {
+    slice text;
+    uint32_t nesting;
+    uint8_t kind;
+    size_t offset;
+} problems[] = {
+    {SLICE("[]"), 0, AMQPV_PROBLEM_TOO_DEEP, 0},
+    {SLICE("[[]]"), 1, AMQPV_PROBLEM_TOO_DEEP, 1},
+    {SLICE("[\"[\",{}]"), 1, AMQPV_PROBLEM_TOO_DEEP, 5},
+    {SLICE("[\"\\\"[\",[{}]]"), 2, AMQPV_PROBLEM_TOO_DEEP, 8},
+    {SLICE("[[],[[]]]"), 2, AMQPV_PROBLEM_TOO_DEEP, 5},
+    {SLICE("x]["), 0, AMQPV_PROBLEM_TOO_DEEP, 2},
+    {SLICE("\377["), 0, AMQPV_PROBLEM_TOO_DEEP, 1},
+    {SLICE("\377"), 0, AMQPV_PROBLEM_NOT_UTF8, 0},
+    {SLICE("nul\200"), 0, AMQPV_PROBLEM_NOT_UTF8, 3},
+    {SLICE("\"\303\251\303\""), 0, AMQPV_PROBLEM_NOT_UTF8, 3},
+    {SLICE("\"\342\202"), 0, AMQPV_PROBLEM_NOT_UTF8, 1},
+    {SLICE("\"a\355\240\200\""), 0, AMQPV_PROBLEM_NOT_UTF8, 2},
+    {SLICE(""), 0, AMQPV_PROBLEM_NOT_JSON, 0},
+    {SLICE(" \n"), 0, AMQPV_PROBLEM_NOT_JSON, 2},
+    {SLICE(" nul"), 0, AMQPV_PROBLEM_NOT_JSON, 1},
+    {SLICE("\"abc"), 0, AMQPV_PROBLEM_NOT_JSON, 0},
+    {SLICE("[1"), 1, AMQPV_PROBLEM_NOT_JSON, 2},
+    {SLICE("[1]]"), 1, AMQPV_PROBLEM_NOT_JSON, 3},
+    {SLICE("[1,]"), 1, AMQPV_PROBLEM_NOT_JSON, 3},
+    {SLICE("[1 2]"), 1, AMQPV_PROBLEM_NOT_JSON, 3},
+    {SLICE("[01]"), 1, AMQPV_PROBLEM_NOT_JSON, 1},
+    {SLICE("[1e999]"), 1, AMQPV_PROBLEM_NOT_JSON, 1},
+    {SLICE("[\"\\ud800\"]"), 1, AMQPV_PROBLEM_NOT_JSON, 1},
+    {SLICE("{\"a\":1,}"), 1, AMQPV_PROBLEM_NOT_JSON, 7},
+    {SLICE("1 , 2"), 0, AMQPV_PROBLEM_NOT_JSON, 4},
+    {SLICE("{\"a\" 1}"), 1, AMQPV_PROBLEM_NOT_JSON, 1},
+    {SLICE("[1.5,{\"Void\""), 2, AMQPV_PROBLEM_NOT_JSON, 6},
+    {SLICE("1.0"), 0, AMQPV_PROBLEM_NO_VALUE, 0},
+    {SLICE("9223372036854775808"), 0, AMQPV_PROBLEM_NO_VALUE, 0},
+    {SLICE("[null, -0]"), 1, AMQPV_PROBLEM_NO_VALUE, 7},
+    {SLICE("{\"a\":{\"Void\":null}}"), 2, AMQPV_PROBLEM_NO_VALUE, 13},
+    {SLICE("{\"LongInt\":{\"a\":[1.5]}}"), 3, AMQPV_PROBLEM_NO_VALUE, 17},
+    {SLICE("{\"ShortShortInt\":128}"), 1, AMQPV_PROBLEM_NO_VALUE, 17},
+    {SLICE("[{\"ByteArray\":\"0A\"}]"), 2, AMQPV_PROBLEM_NO_VALUE, 14},
+};
+
 static const way canonical = {CANONICAL, FRAME, DEPTH, 0}, there = {TO_JSON, FRAME, DEPTH, 0},
-                 in_order = {WRITE_JSON, FRAME, DEPTH, 0}, back = {FROM_JSON, 0, 0, AMQPV_JSON_NESTING};
+                 in_order = {WRITE_JSON, FRAME, DEPTH, 0}, back = {FROM_JSON, 0, 0, AMQPV_JSON_NESTING},
+                 or_problem = {FROM_JSON_OR_PROBLEM, 0, 0, AMQPV_JSON_NESTING};
 
 /* A text is rejected, or denotes a value: its encoding is canonical, and the JSON of that yields it again. */
 static void try_text(slice given) {
@@ -83,6 +129,8 @@ static void try_text(slice given) {
         CHECK(write_to(back, taken(text, MANY, again), MANY, &again) == AMQPV_OK);
         CHECK(again == count && is_in_buffer(MANY, encoding));
     }
+    CHECK(write_to(or_problem, given, MANY, &again) == result && again == count);
+    CHECK(is_in_buffer(MANY, (slice){bytes, result == AMQPV_OK ? count : 0}));
 }
 
 /* Whether the keys of each table in a container ascend by their bytes. */
@@ -167,6 +215,26 @@ static void try_nesting(slice text, uint32_t nesting) {
     }
 }
 
+/* What is wrong with a text is found if it is AMQPV_NOT_JSON, in buffers of any size, and whatever memory there is. */
+static void try_problem(slice text, uint32_t nesting, uint8_t kind, size_t offset) {
+    const way by = {FROM_JSON_OR_PROBLEM, 0, 0, nesting};
+    size_t count;
+    CHECK(write_to(by, text, MANY, &count) == AMQPV_NOT_JSON && is_problem(kind, offset));
+    CHECK(write_to(by, text, 0, &count) == AMQPV_NOT_JSON && is_problem(kind, offset));
+    CHECK(write_to((way){FROM_JSON, 0, 0, nesting}, text, MANY, &count) == AMQPV_NOT_JSON);
+    for (uint64_t nth = 1;; nth++) {
+        uint64_t before = requests;
+        failing = requests + nth;
+        int32_t result = write_to(by, text, MANY, &count);
+        failing = 0;
+        CHECK(result == AMQPV_NO_MEMORY || (result == AMQPV_NOT_JSON && is_problem(kind, offset)));
+        if (requests - before < nth) {
+            CHECK(result == AMQPV_NOT_JSON);
+            break;
+        }
+    }
+}
+
 /* A text that nests that deep. */
 static void try_deep(size_t deep, uint32_t nesting, int32_t wanted) {
     uint8_t text[MANY];
@@ -175,6 +243,8 @@ static void try_deep(size_t deep, uint32_t nesting, int32_t wanted) {
     memset(text + deep, ']', deep);
     CHECK(write_to((way){FROM_JSON, 0, 0, nesting}, (slice){text, 2 * deep}, 1024, &count) == wanted);
     CHECK(wanted != AMQPV_OK || count == 5 * deep);
+    CHECK(write_to((way){FROM_JSON_OR_PROBLEM, 0, 0, nesting}, (slice){text, 2 * deep}, 1024, &count) == wanted);
+    CHECK(wanted == AMQPV_OK ? count == 5 * deep : is_problem(AMQPV_PROBLEM_TOO_DEEP, deep - 1));
 }
 
 /* Strings whose texts are about as long as what the stack takes: each is written without allocating, if it fits. */
@@ -248,6 +318,7 @@ int main(void) {
         try_buffers(there, inputs[i].given, inputs[i].json);
         try_buffers(in_order, inputs[i].canonical, inputs[i].json);
         try_buffers(back, inputs[i].json, inputs[i].canonical);
+        try_buffers(or_problem, inputs[i].json, inputs[i].canonical);
         try_changes(try_bytes, inputs[i].given, other_bytes);
         try_changes(try_in_order, inputs[i].given, other_bytes);
         try_changes(try_text, inputs[i].json, other_characters);
@@ -257,6 +328,10 @@ int main(void) {
     }
     for (size_t i = 0; i < COUNT(not_encoded); i++) {
         CHECK(write_to(back, not_encoded[i], MANY, &count) == AMQPV_NO_ENCODING);
+        CHECK(write_to(or_problem, not_encoded[i], MANY, &count) == AMQPV_NO_ENCODING);
+    }
+    for (size_t i = 0; i < COUNT(problems); i++) {
+        try_problem(problems[i].text, problems[i].nesting, problems[i].kind, problems[i].offset);
     }
     try_limits();
     for (size_t i = 0; i < COUNT(nested); i++) {

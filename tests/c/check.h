@@ -124,9 +124,21 @@ static inline void new_pages(size_t count) {
 
 /* A call with these limits. */
 typedef struct way {
-    enum { CANONICAL, TO_JSON, WRITE_JSON, FROM_JSON } call;
+    enum { CANONICAL, TO_JSON, WRITE_JSON, FROM_JSON, FROM_JSON_OR_PROBLEM } call;
     uint32_t frame, depth, nesting;
 } way;
+
+/* What amqpv_from_json_or_problem leaves, or what was there before the last call. */
+static const amqpv_problem no_problem = {77, 77, 77};
+static amqpv_problem problem_left;
+
+static inline int is_problem(uint8_t kind, size_t offset) {
+    return problem_left.kind == kind && problem_left.offset == offset && problem_left.tag == 0;
+}
+
+static inline int is_no_problem(void) {
+    return problem_left.kind == no_problem.kind && problem_left.offset == no_problem.offset && problem_left.tag == no_problem.tag;
+}
 
 /* Calls with the bytes and the buffer against the ends of their pages, and checks what is left. */
 static inline int32_t write_to(way by, slice given, size_t buffer_length, size_t *count) {
@@ -135,11 +147,13 @@ static inline int32_t write_to(way by, slice given, size_t buffer_length, size_t
     memcpy(bytes, given.at, length);
     memset(buffer_start, FILLED, (size_t)(buffer_end - buffer_start));
     *count = 77;
+    problem_left = no_problem;
     uint64_t before = requests;
     int32_t result = by.call == CANONICAL ? amqpv_canonical(bytes, length, by.frame, by.depth, buffer, buffer_length, count)
                      : by.call == TO_JSON ? amqpv_to_json(bytes, length, by.frame, by.depth, buffer, buffer_length, count)
                      : by.call == WRITE_JSON ? amqpv_write_json(bytes, length, by.frame, by.depth, buffer, buffer_length, count)
-                                          : amqpv_from_json(bytes, length, by.nesting, buffer, buffer_length, count);
+                     : by.call == FROM_JSON ? amqpv_from_json(bytes, length, by.nesting, buffer, buffer_length, count)
+                                            : amqpv_from_json_or_problem(bytes, length, by.nesting, buffer, buffer_length, count, &problem_left);
     calls++;
     CHECK(memcmp(bytes, given.at, length) == 0);
     size_t written = result == AMQPV_OK ? *count : 0;
@@ -151,8 +165,10 @@ static inline int32_t write_to(way by, slice given, size_t buffer_length, size_t
     CHECK((result == AMQPV_OK || result == AMQPV_MORE || result == AMQPV_NO_ROOM) == (*count > 0));
     CHECK(result != AMQPV_NO_ROOM || *count > buffer_length);
     CHECK(by.call == WRITE_JSON ? requests == before : result != AMQPV_NO_MEMORY || requests > before);
-    CHECK(result != AMQPV_INVALID && (by.call == FROM_JSON || result > AMQPV_NOT_JSON));
-    CHECK(by.call != FROM_JSON || result == AMQPV_OK || result <= AMQPV_NO_MEMORY);
+    CHECK(result != AMQPV_INVALID && (by.call >= FROM_JSON || result > AMQPV_NOT_JSON));
+    CHECK(by.call < FROM_JSON || result == AMQPV_OK || result <= AMQPV_NO_MEMORY);
+    CHECK(is_no_problem() == (by.call != FROM_JSON_OR_PROBLEM || result != AMQPV_NOT_JSON));
+    CHECK(is_no_problem() || (problem_left.offset <= length && problem_left.tag == 0));
     CHECK(blocks == 0);
     return result;
 }

@@ -94,7 +94,8 @@ int main(void) {
     };
     const word problems[] = {
         {1, "unknown type tag"}, {2, "an infinity or a NaN"}, {3, "a value is cut or missing"}, {4, "a key is cut"},
-        {5, "too deep"},         {6, "too large"},            {7, "a key isn't UTF-8"},
+        {5, "too deep"},         {6, "too large"},            {7, "a key isn't UTF-8"},         {8, "not UTF-8"},
+        {9, "not JSON"},         {10, "the JSON of no value"},
     };
     try_pairs();
     try_steps();

@@ -71,6 +71,8 @@ static void *make_call(void *unused) {
         result = warned(amqpv_first_warnings_in_table(given, length, depth, 0, UINT32_MAX, &warnings));
     } else if (is_called("amqpv_from_json")) {
         result = amqpv_from_json(given, length, depth, buffer, sizeof buffer, &count);
+    } else if (is_called("amqpv_from_json_or_problem")) {
+        result = amqpv_from_json_or_problem(given, length, depth, buffer, sizeof buffer, &count, &problem);
     }
     return unused;
 }

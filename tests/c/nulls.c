@@ -192,6 +192,9 @@ static void try_allocating(void) {
     TRY(AMQPV_NOT_JSON, pairs, 'A', amqpv_from_json(text, 0, DEPTH, all->buffer, CAPACITY, &all->count));
     TRY(AMQPV_NOT_JSON, pairs, 'A', amqpv_from_json(text, 0, DEPTH, buffer, 0, &all->count));
     TRY(AMQPV_NO_ROOM, pairs, 'A', amqpv_from_json(AMQPV_LITERAL("{\"\":null}"), DEPTH, buffer, 0, &all->count));
+    TRY(AMQPV_NOT_JSON, pairs, 'A',
+        amqpv_from_json_or_problem(text, 0, DEPTH, all->buffer, CAPACITY, &all->count, &all->problem));
+    TRY(AMQPV_NOT_JSON, pairs, 'A', amqpv_from_json_or_problem(text, 0, DEPTH, buffer, 0, &all->count, &all->problem));
 }
 
 int main(void) {

@@ -37,6 +37,13 @@ static amqpv_result read_json(const uint8_t *given, size_t given_length) {
     return amqpv_from_json((const char *)given, given_length, AMQPV_JSON_NESTING, (uint8_t *)buffer, MOST_TEXT, &count);
 }
 
+static amqpv_result read_json_or_find_problem(const uint8_t *given, size_t given_length) {
+    amqpv_problem problem;
+    size_t count;
+    return amqpv_from_json_or_problem((const char *)given, given_length, AMQPV_JSON_NESTING, (uint8_t *)buffer, MOST_TEXT,
+                                      &count, &problem);
+}
+
 static amqpv_result warn(const uint8_t *given, size_t given_length) {
     amqpv_warnings warnings;
     return amqpv_first_warnings(given, given_length, DEPTH, 0, UINT32_MAX, &warnings);
@@ -58,6 +65,7 @@ typedef struct call {
 static const call canonical = {"amqpv_canonical", make_canonical, amqpv_measure_value};
 static const call to_json = {"amqpv_to_json", make_json, amqpv_measure_value};
 static const call from_json = {"amqpv_from_json", read_json, NULL};
+static const call from_json_or_problem = {"amqpv_from_json_or_problem", read_json_or_find_problem, NULL};
 static const call first_warnings = {"amqpv_first_warnings", warn, amqpv_measure_value};
 static const call first_warnings_in_table = {"amqpv_first_warnings_in_table", warn_of_table, amqpv_measure_table};
 
@@ -96,6 +104,7 @@ static void try_input(const char *name) {
     size_t count;
     if (strncmp(name, "JSON", 4) == 0) {
         try_call(&from_json, name, bytes, length, strncmp(name, "JSON of no value", 16) != 0);
+        try_call(&from_json_or_problem, name, bytes, length, strncmp(name, "JSON of no value", 16) != 0);
         return;
     }
     int is_read = amqpv_measure_value(bytes, length, UINT32_MAX, DEPTH, &measure, &count) == AMQPV_OK && count == length;
@@ -111,6 +120,7 @@ static void try_input(const char *name) {
     try_call(&to_json, name, bytes, length, 1);
     if (amqpv_to_json(bytes, length, UINT32_MAX, AMQPV_JSON_NESTING - 2, (char *)text, MOST_TEXT, &text_length) == AMQPV_OK) {
         try_call(&from_json, name, text, text_length, 1);
+        try_call(&from_json_or_problem, name, text, text_length, 1);
     }
 }
 

@@ -333,6 +333,14 @@ static int reads_json(void) {
     return !has_json ? SKIPPED : amqpv_from_json(text, text_length, AMQPV_JSON_NESTING, buffer, MOST, &count) == AMQPV_OK;
 }
 
+static int reads_json_or_finds_the_problem(void) {
+    amqpv_problem problem;
+    size_t count;
+    return !has_json ? SKIPPED
+                     : amqpv_from_json_or_problem(text, text_length, AMQPV_JSON_NESTING, buffer, MOST, &count, &problem)
+                           == AMQPV_OK;
+}
+
 static int decodes(void) {
     return amqp_bench_decode(bytes, length) == (int64_t)length;
 }
@@ -419,6 +427,7 @@ static const struct {
     {"amqpv_to_json", writes_json},
     {"amqpv_write_json", writes_json_in_order},
     {"amqpv_from_json", reads_json},
+    {"amqpv_from_json_or_problem", reads_json_or_finds_the_problem},
     {"parse_value", decodes},
     {"parse_value and gen_value", decodes_and_encodes},
     {"gen_value", decodes_and_encodes_twice},

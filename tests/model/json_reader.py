@@ -73,6 +73,9 @@ class Text:
 
     def word(self) -> Any:
         found = WORD.match(self.text, self.at)
+        # (a word goes on to what ends it, which a string doesn't)
+        if found and self.text[found.end() : found.end() + 1] == b'"':
+            raise NotJson(self.at)
         words = {b"null": None, b"true": True, b"false": False}
         if found and found[0] in words:
             self.at = found.end()
@@ -85,7 +88,11 @@ class Text:
     def value(self, depth: int) -> Node:
         mark, at = self.skip(), self.at
         if mark == b'"':
-            return Node(at, self.string())
+            found = self.string()
+            # (what has a colon is a key)
+            if self.skip() == b":":
+                raise NotJson(at)
+            return Node(at, found)
         if mark not in (b"[", b"{"):
             return Node(at, self.word())
         if not depth:
@@ -110,9 +117,10 @@ class Text:
         while True:
             if self.skip() != b'"':
                 raise NotJson(self.at)
-            key = self.string()
+            at, key = self.at, self.string()
             if not self.take(b":"):
-                raise NotJson(self.at)
+                # (a key has its colon)
+                raise NotJson(at)
             # of a key that comes twice the last value counts
             found[key] = self.value(depth)
             if not self.take(b","):
@@ -130,7 +138,9 @@ def parsed(text: bytes) -> Node:
         raise NotJson(why.start) from None
     reader = Text(text)
     found = reader.value(NESTING)
-    if reader.skip():
+    # (a comma belongs to what is before it)
+    if reader.take(b",") or reader.skip():
+        reader.skip()
         raise NotJson(reader.at)
     return found
 
@@ -149,13 +159,21 @@ def value_of(node: Node) -> Value:
     if isinstance(content, list):
         return "A", [value_of(it) for it in content]
     name = sole_name(content)
-    return value_under(node, name, content[name]) if name else table_of(node)
+    return value_under(name, content[name]) if name else table_of(node)
 
 
 def table_of(node: Node) -> Value:
-    if any(len(it.encode()) > 255 for it in node.content):
-        raise NotAValue(node.at)
-    return "F", {key.encode(): value_of(it) for key, it in node.content.items()}
+    found, wrong = {}, []
+    for key, it in node.content.items():
+        try:
+            found[key.encode()] = value_of(it)
+            if len(key.encode()) > 255:
+                raise NotAValue(it.at)
+        except NotAValue as why:
+            wrong.append(why.args[0])
+    if wrong:
+        raise NotAValue(min(wrong))
+    return "F", found
 
 
 def sole_name(members: dict[str, Node]) -> str:
@@ -180,8 +198,19 @@ def digits(node: Node) -> bytes:
     raise NotAValue(node.at)
 
 
-def value_under(node: Node, name: str, inner: Node) -> Value:
-    """What is under a type's name."""
+def value_under(name: str, inner: Node) -> Value:
+    """What is under a type's name. If that is no value of the type, the first part of it that is none is where it begins."""
+    try:
+        return named(name, inner)
+    except NotAValue:
+        if name == "FieldTable" and isinstance(inner.content, dict) and sole_name(inner.content):
+            raise
+    value_of(inner)
+    raise NotAValue(inner.at)
+
+
+def named(name: str, inner: Node) -> Value:
+    """The value of a type by what is under the type's name."""
     if name == "ShortString" and isinstance(inner.content, str) and not isinstance(inner.content, Number):
         if len(inner.content.encode()) <= 255:
             return name, inner.content.encode()
@@ -197,7 +226,7 @@ def value_under(node: Node, name: str, inner: Node) -> Value:
     elif name in TAGS and name not in ("Boolean", "LongLongInt", "DecimalValue", "FieldArray", "FieldTable", "Void"):
         tag = TAGS[name]
         return tag, integer(inner, TYPES[tag][1] or 0, name in SIGNED)
-    raise NotAValue(node.at)
+    raise NotAValue(inner.at)
 
 
 def is_utf8(text: bytes) -> bool:

@@ -138,7 +138,7 @@ FOR_C = {
     "amqpv_to_json": Call(["amqpv_to_json"], unordered, DEEP),
     "amqpv_write_json": Call(["amqpv_write_json"], encoding, DEEP),
     "amqpv_canonical": Call(["amqpv_canonical"], not_canonical, DEEP),
-    "amqpv_from_json": Call(["amqpv_from_json"], json_text, OF_JSON),
+    **{it: Call([it], json_text, OF_JSON) for it in ("amqpv_from_json", "amqpv_from_json_or_problem")},
 }
 MADE: dict[str, Callable[[str, int], bytes]] = {
     "encoding": encoding, "payload": payload, "values": values, "tree": type_tags, "document": brackets,

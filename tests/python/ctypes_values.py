@@ -148,6 +148,9 @@ class NoMemory(Error, MemoryError):
 class NotJson(Error):
     """The text isn't UTF-8, nests too deep, is no JSON, or the JSON of no value."""
 
+    # Which of these, and the offset, unless the text is a str with a lone surrogate.
+    problem: Problem | None = None
+
 
 class NoEncoding(Error):
     """The value has no encoding: it has a ShortString, or a length is too large for its field."""
@@ -301,10 +304,13 @@ class Encoded(_Bytes):
 _INTEGERS = {it.tag: it for it in (ShortShortInt, ShortShortUInt, ShortInt, ShortUInt, LongInt, LongUInt, Timestamp)}
 # How large a value is: its bytes, the values written in it and itself, and how deep containers nest.
 Measure = NamedTuple("Measure", [("length", int), ("values", int), ("levels", int)])
-ProblemKind = IntEnum("ProblemKind", "UNKNOWN_TAG NOT_FINITE CUT KEY_CUT TOO_DEEP TOO_LARGE KEY_NOT_UTF8")
+ProblemKind = IntEnum(
+    "ProblemKind", "UNKNOWN_TAG NOT_FINITE CUT KEY_CUT TOO_DEEP TOO_LARGE KEY_NOT_UTF8 NOT_UTF8 NOT_JSON NO_VALUE"
+)
 # What is read here, the same with any bytes as keys, and what RabbitMQ takes.
 Rules = IntEnum("Rules", "READ ANY_KEYS RABBITMQ", start=0)
-# The offset of a problem's value, or of its pair if the key is cut, its kind, and the type tag that RabbitMQ doesn't know, or 0.
+# The offset of a problem's value, or of its pair if the key is cut, or in a text, its kind, and the type tag that RabbitMQ
+# doesn't know, or 0.
 Problem = NamedTuple("Problem", [("offset", int), ("kind", ProblemKind), ("tag", int)])
 
 # Where the first of each is that is doubtful, or None; and whether the value's frame has more bytes than the frame-max.
@@ -422,6 +428,7 @@ _PARAMETERS = {
     "canonical": "blbN",
     "to_json": "blbN",
     "from_json": "b4bN",
+    "from_json_or_problem": "b4bNP",
     "version": "",
 }
 _calls: dict[str, Any] = {}
@@ -812,7 +819,15 @@ def to_json(data: Bytes, *, table: bool = False, frame: int = FRAME, depth: int 
 def from_json(text: str | Bytes, *, nesting: int = JSON_NESTING) -> bytes:
     """The canonical encoding of the value that has this JSON."""
     content = _utf8(text, NotJson) if isinstance(text, str) else _bytes(text)
-    return _written("from_json", 2 * len(content), content, len(content), _limit(nesting))
+    given = content, len(content), _limit(nesting)
+    try:
+        return _written("from_json", 2 * len(content), *given)
+    except NotJson as not_json:
+        found, count, buffer = _Problem(), c_size_t(), ctypes.create_string_buffer(1)
+        with suppress(NotJson):
+            _is_ok(_result("from_json_or_problem", *given, buffer, 0, byref(count), byref(found)))
+        not_json.problem = Problem(found.offset, ProblemKind(found.kind), found.tag)
+        raise
 
 
 def _written(name: str, capacity: int, *given: Any) -> bytes:

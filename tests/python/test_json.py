@@ -1,5 +1,6 @@
-"""JSON by the calls for C, next to the model's: random values both ways, and texts that may mean none."""
+"""JSON by the calls for C, next to the model's: random values both ways, and texts that may mean none, with the reason."""
 
+import re
 from collections import Counter
 from random import Random
 
@@ -13,24 +14,56 @@ from tests.python import ctypes_values as av
 pytestmark = pytest.mark.usefixtures("library")
 
 MANY = 20_000
-Made = bytes | type[Exception]
+NESTINGS = [*range(8), 127, 128, 2**32 - 1]
+# A string, also one that the text ends in, or a bracket.
+STRING_OR_BRACKET = re.compile(rb'"(?:[^"\\]|\\.)*(?:"|\\?\Z)|[][{}]', re.DOTALL)
+Made = bytes | type[Exception] | av.Problem | None
 
 
-def wanted_of(text: bytes) -> Made:
-    """The canonical encoding of what a text means, or the error, by the model."""
+def too_deep(text: bytes, nesting: int) -> int | None:
+    """At which bracket outside of strings more than so many arrays and objects are open."""
+    count = 0
+    for it in STRING_OR_BRACKET.finditer(text):
+        if it[0] in (b"[", b"{"):
+            count += 1
+            if count > nesting:
+                return it.start()
+        elif it[0] in (b"]", b"}"):
+            count = max(count - 1, 0)
+    return None
+
+
+def wanted_of(text: bytes, nesting: int) -> Made:
+    """The canonical encoding of what a text means, the error, or what is wrong with the text at which byte, by the model."""
+    if (at := too_deep(text, nesting)) is not None:
+        return av.Problem(at, av.ProblemKind.TOO_DEEP, 0)
     try:
+        text.decode()
         value = value_of_json(parsed(text))
-    except (NotJson, NotAValue):
-        return av.NotJson
+    except UnicodeDecodeError as why:
+        return av.Problem(why.start, av.ProblemKind.NOT_UTF8, 0)
+    except NotJson as why:
+        return av.Problem(why.args[0], av.ProblemKind.NOT_JSON, 0)
+    except NotAValue as why:
+        return av.Problem(why.args[0], av.ProblemKind.NO_VALUE, 0)
     return write(value) if has_encoding(value) else av.NoEncoding
 
 
-def found_of(text: bytes) -> Made:
+def found_of(text: bytes, nesting: int) -> Made:
     """What the library makes of it."""
     try:
-        return av.from_json(text)
+        return av.from_json(text, nesting=nesting)
+    except av.NotJson as why:
+        return why.problem
     except av.Error as why:
         return type(why)
+
+
+def kind_of(found: Made) -> str:
+    """A word for what is made of a text."""
+    if isinstance(found, av.Problem):
+        return found.kind.name
+    return found.__name__ if isinstance(found, type) else "read"
 
 
 def test_random_values_both_ways(seed: int) -> None:
@@ -49,7 +82,8 @@ def test_texts_that_may_mean_none(seed: int) -> None:
     make = Random(seed)
     kinds: Counter[str] = Counter()
     for text in texts(make, (read(value_of(make, 3))[0] for _ in range(MANY))):
-        wanted = wanted_of(text)
-        assert found_of(text) == wanted, text
-        kinds["read" if isinstance(wanted, bytes) else wanted.__name__] += 1
-    assert len(kinds) == 3 and min(kinds.values()) > 100, kinds
+        nesting = make.choice(NESTINGS)
+        wanted = wanted_of(text, nesting)
+        assert found_of(text, nesting) == wanted, (text, nesting)
+        kinds[kind_of(wanted)] += 1
+    assert len(kinds) == 6 and min(kinds.values()) > 50, kinds

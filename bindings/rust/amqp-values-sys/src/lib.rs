@@ -681,10 +681,12 @@ extern "C" {
     ///
     /// Of several problems the first in this order counts. AMQPV_PROBLEM_TOO_DEEP is at the first bracket with which
     /// more than `nesting` arrays and objects are open at once. AMQPV_PROBLEM_NOT_UTF8 is at the first byte that begins
-    /// no character of UTF-8, or none that is complete. AMQPV_PROBLEM_NOT_JSON is at the first string, number, word or
-    /// mark that JSON doesn't have there, or at the end of the text if more is missing: JSON has no string with a wrong
-    /// escape or half a surrogate pair, and no number beyond a Double. AMQPV_PROBLEM_NO_VALUE is at the first part that
-    /// is the JSON of no value, as an object with the name of a type as its only key, or what is under that name.
+    /// no character of UTF-8, or none that is complete. AMQPV_PROBLEM_NOT_JSON is at the first part that JSON doesn't
+    /// have there, or at the end of the text if more is missing: a part is a string, a number, a word, a bracket, or a
+    /// key with its colon, each with the comma after it. JSON has no string with a wrong escape or half a surrogate
+    /// pair, and no number beyond a Double. AMQPV_PROBLEM_NO_VALUE is at the first number that is none, at what is
+    /// under the name of a type and isn't its JSON, or at what is under a key of more than 255 bytes: of these in one
+    /// another the innermost.
     pub fn amqpv_from_json_or_problem(
         text: *const u8,
         length: usize,
