@@ -1,12 +1,13 @@
 -- Bytes and tokens after others in a buffer.
-use Rattle.std.proofs.Common.{◌≡◌, Bool, ℕ, zero, suc, min, ◌+◌, ◌-◌, ◌<◌, ◌≤◌, ◌/◌, ◌%◌, List, [], ◌∷◌, ◌*◌, ◌^◌, ◌++◌, length, take, drop, length-append, get_or, refl, sym, ap, ◌∙◌, subst, false, true, cond, get_or-drop, append_assoc, append-nil, arith}
+use Rattle.std.proofs.Common.{◌≡◌, Bool, ℕ, zero, suc, min, ◌+◌, ◌-◌, ◌<◌, ◌≤◌, ◌/◌, ◌%◌, List, [], ◌∷◌, ◌*◌, ◌^◌, ◌++◌, length, take, drop, length-append, get_or, refl, sym, ap, ◌∙◌, subst, false, true, cond, get_or-drop, append_assoc, append-nil, arith, ap₂}
 use Rattle.std.specs.List.{slice_index, prefix_len}
 use Rattle.hex.proofs.HexLemmas.{length-encode_with}
-use Rattle.std.proofs.lemmas.List.{length-drop, drop-drop}
+use Rattle.std.proofs.lemmas.List.{length-drop, drop-drop, take_at, take-append-drop, length-take-le}
+use Rattle.std.proofs.Math.Seq.{drop-append-add}
 use Rattle.json.specs.Run.{is_plain}
 use Rattle.json.proofs.Printed.Strings.{escape_to_stop, escape_at, escape_end}
 use Rattle.hex.specs.Hex.{lower_digits, encode_with, encode_lower, IsBytes}
-use Rattle.json.specs.Token.{Token, begin_object, key}
+use Rattle.json.specs.Token.{Token, begin_object, end_object, key, number}
 use Rattle.json.specs.Written.{PlainBetween}
 use Rattle.json.specs.Print.{escape_byte, escape, print_from, print, ends, ends_value, separator, token_text}
 use Rattle.json.proofs.Printed.Tokens.{print_from_push, print_from-append, ends_push}
@@ -125,6 +126,40 @@ digits_counted a at end bytes is over = λ start t h.
       same = h.same;
       text = λ fits. absurd (omega (arith, is, over, size, long, fits, h.count, h.same));
     }
+
+-- ---- digits that end where they are to
+
+pub digits_written : (a b : List ℕ) (at end from : ℕ) (ds : List ℕ) → end ≡ min (at + length ds) (2 ^ 64 - 1) → end ≤ length a → 1 + length a < 2 ^ 64 → from + length ds ≡ end
+    → drop from b ≡ ds ++ drop end a → take from b ≡ take from a → Puts a at b end ds
+digits_written a b at end from ds is inside few starts tail head = λ start t h.
+    let same : from ≡ at = omega (arith, is, inside, few, starts) in
+    let long = length-append t ds in
+    let size : at ≡ length t = omega (arith, is, inside, few, h.count) in
+    let whole : b ≡ take at a ++ (ds ++ drop end a) = sym (take-append-drop from b) ∙ ap₂ (λ (x y : List ℕ). x ++ y) (head ∙ ap (λ n. take n a) same) tail in
+    let front = length-take-le at a (omega (arith, is, inside, few)) in
+    let all : length b ≡ length a = ap length whole ∙ (length-append (take at a) (ds ++ drop end a) ∙ omega (arith, front, length-append ds (drop end a), length-drop end a, starts, same, inside)) in
+    record {
+      count = omega (arith, is, inside, few, long, size);
+      same = all ∙ h.same;
+      text = λ fits.
+          let was : a ≡ t ++ drop (length t) start = h.text (omega (arith, fits, long)) in
+          let first : take at a ≡ t = ap (take at) was ∙ take_at t (drop (length t) start) at (sym size) in
+          let ends : end ≡ length t + length ds = omega (arith, starts, same, size) in
+          let last : drop end a ≡ drop (length (t ++ ds)) start =
+          ap₂ (λ (n : ℕ) (l : List ℕ). drop n l) ends was ∙ (drop-append-add t (drop (length t) start) (length ds) ∙ (drop-drop (length ds) (length t) start ∙ ap (λ n. drop n start) (sym long))) in
+          whole ∙ ap₂ (λ (x y : List ℕ). x ++ (ds ++ y)) first last ∙ sym (append_assoc t ds (drop (length (t ++ ds)) start));
+    }
+
+-- ---- a number under the name of its type
+
+pub number_put : (a b c d : List ℕ) (p o : Place) (at end : ℕ) (type : AMQPType) (s : List ℕ) → PutsTokens a p b o (begin_object ∷ key (name_of type) ∷ []) → o.after_value ≡ false
+    → Puts b o.count c at s → Puts c at d end (125 ∷ []) → PutsTokens a p d (record { count = end; after_value = true }) (begin_object ∷ key (name_of type) ∷ number s ∷ end_object ∷ [])
+number_put a b c d p o at end type s opened first digits put =
+    let after : Place = record { count = at; after_value = true } in
+    let whole : Place = record { count = end; after_value = true } in
+    let none = subst (λ (e : Bool). Puts b o.count b o.count (separator e (number s))) (sym first) (puts_none b o.count) in
+    tokens_more a b d p o whole (begin_object ∷ key (name_of type) ∷ []) _ opened
+    (tokens_more b c d o after whole (number s ∷ []) (end_object ∷ []) (token_put b b c o after o.count (number s) none digits refl) (token_put c c d after whole at end_object (puts_none c at) put refl))
 
 pub puts_as : (a : List ℕ) (i : ℕ) (b : List ℕ) (j : ℕ) (xs ys : List ℕ) → xs ≡ ys → Puts a i b j xs → Puts a i b j ys
 puts_as a i b j xs ys e p = subst (λ (l : List ℕ). Puts a i b j l) e p

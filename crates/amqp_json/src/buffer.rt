@@ -6,6 +6,7 @@ ghost use Rattle.amqp_json.specs.Buffers.{IsJsonWritten, IsNotWritten, IsViewOfR
 
 mod counting;
 mod leaves;
+mod numbers;
 mod opening;
 mod place;
 mod plain;

@@ -54,7 +54,7 @@ pub(crate) fn needs_type_name(table: TableRef<'_>) -> bool
     let Some((first, _)) = pairs.next() else {
         return false;
     };
-    if pairs.next().is_some() {
+    if !pairs.as_bytes().is_empty() {
         return false;
     }
     type_of_name(first).is_some()

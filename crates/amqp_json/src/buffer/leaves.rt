@@ -9,6 +9,7 @@ ghost use Rattle.amqp_json.specs.Json.{under, decimal_json, long_json};
 ghost use Rattle.amqp_json.specs.Puts.{PutsTokens, PutsJson};
 
 use super::counting::{character_count, count_number, digit_count};
+use super::numbers::{put_integer, put_natural};
 use super::opening::begin;
 use super::place::Place;
 use super::printing::{put_digits, put_token};
@@ -18,19 +19,6 @@ use itoa::Buffer;
 use json::Token;
 
 /// A number under its type's name.
-#[inline(always)]
-fn put_number(buffer: &mut [u8], place: Place, amqp_type: AMQPType, text: &str) -> Place
-    ensures { PutsTokens buffer.old place buffer.new result
-        (begin_object ∷ key (name_of amqp_type) ∷ number text.now ∷ end_object ∷ []) }
-{
-    let place = begin(buffer, place, amqp_type);
-    let at = put(buffer, place.count, text.as_bytes());
-    Place {
-        count: put(buffer, at, b"}"),
-        after_value: true,
-    }
-}
-
 pub(crate) fn natural(buffer: &mut [u8], place: Place, amqp_type: AMQPType, n: u64) -> Place
     ensures { PutsTokens buffer.old place buffer.new result
         (begin_object ∷ key (name_of amqp_type) ∷ number (decimal n) ∷ end_object ∷ []) }
@@ -38,8 +26,12 @@ pub(crate) fn natural(buffer: &mut [u8], place: Place, amqp_type: AMQPType, n: u
     if place.count > buffer.len() {
         return count_number(place, amqp_type, digit_count(n));
     }
-    let mut text = Buffer::new();
-    put_number(buffer, place, amqp_type, text.format(n))
+    let place = begin(buffer, place, amqp_type);
+    let at = put_natural(buffer, place.count, n);
+    Place {
+        count: put(buffer, at, b"}"),
+        after_value: true,
+    }
 }
 
 pub(crate) fn integer(buffer: &mut [u8], place: Place, amqp_type: AMQPType, n: i64) -> Place
@@ -49,8 +41,12 @@ pub(crate) fn integer(buffer: &mut [u8], place: Place, amqp_type: AMQPType, n: i
     if place.count > buffer.len() {
         return count_number(place, amqp_type, character_count(n));
     }
-    let mut text = Buffer::new();
-    put_number(buffer, place, amqp_type, text.format(n))
+    let place = begin(buffer, place, amqp_type);
+    let at = put_integer(buffer, place.count, n);
+    Place {
+        count: put(buffer, at, b"}"),
+        after_value: true,
+    }
 }
 
 /// An integer without its type's name.

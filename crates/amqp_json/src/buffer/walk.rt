@@ -18,7 +18,7 @@ use super::place::Place;
 use super::printing::put_token;
 use crate::keys::{is_above, needs_type_name};
 use amqp_in_place::{ArrayRef, TableRef, ValueRef};
-use amqp_value_core::types::AMQPType;
+use amqp_value_core::types::{AMQPType, DecimalValue};
 use json::Token;
 
 /// Puts the JSON text of a value after what is written, or some of it if the keys of a table don't
@@ -62,7 +62,9 @@ pub(crate) fn put_value(buffer: &mut [u8], place: Place, value: ValueRef<'_>) ->
             AMQPType::Double,
             &f.to_bits().to_be_bytes(),
         )),
-        ValueRef::DecimalValue(d) => Some(decimal(buffer, place, d.scale, d.value)),
+        ValueRef::DecimalValue(DecimalValue { scale, value }) => Some(decimal(
+            buffer, place, scale, value,
+        )),
         ValueRef::LongString(bytes) => Some(long_string(buffer, place, bytes)),
         ValueRef::FieldArray(array) => put_array(buffer, place, array),
         ValueRef::Timestamp(n) => Some(natural(buffer, place, AMQPType::Timestamp, n)),
