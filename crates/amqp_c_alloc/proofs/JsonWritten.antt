@@ -1,5 +1,5 @@
 -- What was put into the buffer, and why nothing was.
-use Rattle.std.proofs.Common.{◌≡◌, ℕ, inr, true, false, None, Some, List, length, Result, Ok, Err, MatchResult, sym, ap, ◌∙◌, subst}
+use Rattle.std.proofs.Common.{◌≡◌, ◌≤◌, ℕ, inr, true, false, None, Some, List, length, Result, Ok, Err, MatchResult, sym, ap, ◌∙◌, subst}
 use Rattle.std.specs.Str.{IsUtf8}
 use Rattle.amqp_value_core.specs.Values.{Tree}
 use Rattle.amqp_value_core.specs.Texts.{text}
@@ -10,7 +10,10 @@ use Rattle.amq_protocol_types.specs.declared.parsing.errors.ErrorKind.TheVariant
 use Rattle.amq_protocol_types.specs.declared.parsing.limits.Limits.{Limits}
 use Rattle.amq_protocol_types.specs.parsing.Limits.{RefusesWithin}
 use Rattle.amq_protocol_types.specs.parsing.Refusals.{Refusal}
+use Rattle.amq_protocol_types.specs.parsing.Headers.{extent, IsWholeValue}
+use Rattle.amq_protocol_types.proofs.ParsingLaws.{found_all}
 use Rattle.amqp_in_place.specs.InPlaceResults.{NeedsNoMemory}
+use Rattle.amqp_json.specs.Buffers.{NeedsMemory}
 use Rattle.amqp_json.specs.declared.error.JsonError.TheVariants as json
 use Rattle.amqp_json.specs.Json as value
 use Rattle.amqp_json.specs.declared.conversion_error.EncodeError.{EncodeError}
@@ -61,3 +64,7 @@ needs_none l s (Error kind.TooLarge) x none is = cc
 needs_none l s (Error kind.MapRes) x none is = x.1
 needs_none l s (Error kind.OutOfMemory) x none is = x.1
 needs_none l s (Failure k) x none is = none
+
+-- memory is needed only of a value whose bytes are all there
+pub read_whole : (l : Limits) (s : List ℕ) → NeedsMemory l s → (extent s ≤ l.frame) × IsWholeValue s
+read_whole l s (t, rest, (v, within, text, means), why) = found_all l s rest v within

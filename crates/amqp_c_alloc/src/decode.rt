@@ -6,13 +6,13 @@ ghost use Rattle.amqp_c_common.specs.declared.fault.Fault.TheVariants.{OutOfMemo
 ghost use Rattle.amqp_c_alloc.specs.JsonCalls.{IsJsonPut, IsJsonFault};
 
 use amq_protocol_types::parsing::Limits;
-use amqp_c_common::{Fault, put};
-use amqp_json::{DecodeError, WriteError, json_of_encoding, write_whole_json};
+use amqp_c_common::Fault;
+use amqp_json::{WriteError, write_sorted_json};
 use std::alloc::Global;
 
 /// Puts the JSON text of the value that `bytes` begin with to the start of `buffer`, and returns how
 /// many bytes it has. Nothing is allocated unless the keys of a table don't ascend.
-#[tactic(auto, using(crate::proofs::JsonWritten::needs_none))]
+#[tactic(auto, using(crate::proofs::JsonWritten::needs_none, crate::proofs::JsonWritten::read_whole))]
 pub fn put_json(
     alloc: Global,
     bytes: &[u8],
@@ -25,30 +25,10 @@ pub fn put_json(
     ensures memory { result ≡ Err OutOfMemory → NeedsMemory limits bytes.now }
     ensures kept { OnErr result (buffer.new ≡ buffer.old) }
 {
-    match write_whole_json(bytes, limits, buffer) {
+    match write_sorted_json(alloc, bytes, limits, buffer) {
         Ok((count, _)) => Ok(count),
         Err(WriteError::Refused(refusal)) => Err(Fault::from(refusal)),
         Err(WriteError::BufferTooSmall(count)) => Err(Fault::BufferTooSmall(count)),
-        Err(WriteError::NeedsMemory) => put_sorted(alloc, bytes, limits, buffer),
-    }
-}
-
-// The text in memory first, with the keys of each table sorted.
-#[inline(never)]
-fn put_sorted(
-    alloc: Global,
-    bytes: &[u8],
-    limits: Limits,
-    buffer: &mut [u8],
-) -> Result<usize, Fault>
-    ensures written { MatchResult result
-        (IsJsonPut limits bytes.now buffer.old buffer.new)
-        (IsJsonFault limits bytes.now (length buffer.old)) }
-    ensures kept { OnErr result (buffer.new ≡ buffer.old) }
-{
-    match json_of_encoding(alloc, bytes, limits) {
-        Ok((json, _)) => put(json.as_bytes(), buffer),
-        Err(DecodeError::Refused(refusal)) => Err(Fault::from(refusal)),
-        Err(DecodeError::OutOfMemory) => Err(Fault::OutOfMemory),
+        Err(WriteError::NeedsMemory) => Err(Fault::OutOfMemory),
     }
 }

@@ -51,8 +51,7 @@ pub extern "C" fn amqpv_canonical(
 }
 
 /// Writes the JSON text of the value that `bytes` begin with to the start of `buffer`. Of the stack it takes
-/// what `write_whole_json` does, and `json_of_encoding` if the keys of a table don't ascend:
-/// docs/PROMISES.md has the runs of these.
+/// what `write_sorted_json` does: docs/PROMISES.md has the runs of this call.
 ///
 /// `count` becomes how many bytes were written, how many more are needed of the value, or how many
 /// the buffer has to have, otherwise 0.

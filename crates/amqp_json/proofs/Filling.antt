@@ -1,5 +1,5 @@
 -- One more value or pair of a container is put into a buffer.
-use Rattle.std.proofs.Common.{◌≡◌, ◌<◌, ◌≤◌, ℕ, List, [], ◌∷◌, ◌++◌, length, true, false, is_some, Option, Some, None, IfSome, refl, sym, ap, ◌∙◌, subst, append_assoc, arith, length-append}
+use Rattle.std.proofs.Common.{◌≡◌, ◌<◌, ◌≤◌, ℕ, List, [], ◌∷◌, ◌++◌, length, true, false, is_some, Option, Some, None, IfSome, Result, Ok, Err, IfOk, refl, sym, ap, ◌∙◌, subst, append_assoc, arith, length-append}
 use Rattle.std.specs.Borrow.{Bor}
 use Rattle.json.specs.Token.{Token, begin_object, end_array, end_object, key}
 use Rattle.json.specs.Tree.{json_tokens, items_tokens, members_tokens}
@@ -24,15 +24,12 @@ use Rattle.amqp_in_place.specs.declared.refs.ValueRef.TheVariants as at
 use Rattle.amqp_json.specs.Json.{json, items_json, members_json, sole_type, under}
 use Rattle.amqp_json.specs.declared.buffer.place.Place.{Place}
 use Rattle.amqp_json.specs.Puts.{Begins, PutsTokens, PutsJson}
+use Rattle.amqp_json.specs.Sorted.{AreAt, body_len}
 use Rattle.amqp_json.proofs.Putting.{tokens_more}
 use Rattle.amqp_json.proofs.Steps.{its_pairs}
+use Rattle.amqp_json.proofs.SortedSteps.{AtStep}
 
 -- ---- how many bytes are in a container
-
-abbrev pub body_len : ValueRef → ℕ
-body_len (at.FieldArray a) = length (array_body a)
-body_len (at.FieldTable t) = length (table_body t)
-body_len _ = 0
 
 plain_len : (s rest w : List ℕ) (v : Tree) → Wire w v → s ≡ w ++ rest → 0 < length s
 plain_len s rest _ v (wire c type b _ is raw) e = omega (arith, ap length e)
@@ -87,14 +84,18 @@ pub pairs_end : (a : List ℕ) (p : Place) (b : List ℕ) (q : Place) (c : List 
 pairs_end a p b q c r done target no_entries left step put puts e = subst (λ (ts : List Token). PutsTokens a p c r ts) e (tokens_more a b c p q r done (end_object ∷ []) put puts)
 pairs_end a p b q c r done target (entry k v es) left step put puts e = absurd step
 
+under_put : (a : List ℕ) (p : Place) (b : List ℕ) (q : Place) (c : List ℕ) (r : Place) (d : List ℕ) (s : Place) (e : Data)
+    → PutsTokens a p b q (begin_object ∷ key (name_of amqp.FieldTable) ∷ []) → PutsJson b q c r e → PutsTokens c r d s (end_object ∷ []) → PutsJson a p d s (under amqp.FieldTable e)
+under_put a p b q c r d s e x y z =
+    let inner = json_tokens (outline e) in
+    tokens_more a b d p q s (begin_object ∷ key (name_of amqp.FieldTable) ∷ []) (inner ++ end_object ∷ []) x (tokens_more b c d q r s inner (end_object ∷ []) y z)
+
 pub named_put : (a : List ℕ) (p : Place) (b : List ℕ) (q : Place) (c : List ℕ) (r : Place) (d : List ℕ) (s : Place) (ps es : Entries) → is_some (sole_type (members_json ps)) ≡ true → IsRising ps
     → es ≡ insert_all no_entries ps → PutsTokens a p b q (begin_object ∷ key (name_of amqp.FieldTable) ∷ []) → PutsJson b q c r (object (members_json ps)) → PutsTokens c r d s (end_object ∷ [])
     → PutsJson a p d s (json (table es))
 named_put a p b q c r d s ps es sole rises is x y z =
-    let inner = json_tokens (outline (object (members_json ps))) in
     let same : json (table es) ≡ under amqp.FieldTable (object (members_json ps)) = its_pairs ps es rises is ∙ rw sole refl in
-    subst (λ (e : Data). PutsJson a p d s e) (sym same)
-    (tokens_more a b d p q s (begin_object ∷ key (name_of amqp.FieldTable) ∷ []) (inner ++ end_object ∷ []) x (tokens_more b c d q r s inner (end_object ∷ []) y z))
+    subst (λ (e : Data). PutsJson a p d s e) (sym same) (under_put a p b q c r d s (object (members_json ps)) x y z)
 
 plain_put : (a : List ℕ) (p : Place) (c : List ℕ) (r : Place) (ps es : Entries) → is_some (sole_type (members_json ps)) ≡ false → IsRising ps → es ≡ insert_all no_entries ps
     → PutsJson a p c r (object (members_json ps)) → PutsJson a p c r (json (table es))
@@ -107,6 +108,59 @@ pub plain_puts : (a : List ℕ) (p : Place) (c : List ℕ) (body : List ℕ) (re
     → IfSome result (λ r. (es : Entries) → HasEntries body es → PutsJson a p c r (json (table es)))
 plain_puts a p c body None sole rises puts = puts
 plain_puts a p c body (Some r) sole rises puts = λ es has. plain_put a p c r has.0 es (sole has.0 has.1) (rises has.0 has.1) has.2 (puts has.0 has.1)
+
+pub plain_puts_ok : {E : Type 0} (a : List ℕ) (p : Place) (c : List ℕ) (body : List ℕ) (result : Result Place E) → ((ps : Entries) → TableBody body ps → is_some (sole_type (members_json ps)) ≡ false)
+    → ((ps : Entries) → TableBody body ps → IsRising ps) → IfOk result (λ r. (ps : Entries) → TableBody body ps → PutsJson a p c r (object (members_json ps)))
+    → IfOk result (λ r. (es : Entries) → HasEntries body es → PutsJson a p c r (json (table es)))
+plain_puts_ok a p c body (Err e) sole rises puts = puts
+plain_puts_ok a p c body (Ok r) sole rises puts = λ es has. plain_put a p c r has.0 es (sole has.0 has.1) (rises has.0 has.1) has.2 (puts has.0 has.1)
+
+-- ---- a table of the entries of a map
+
+pub entry_put : (a : List ℕ) (p : Place) (b : List ℕ) (q : Place) (d : List ℕ) (m : Place) (c : List ℕ) (r : Place) (done target : List Token) (rest : Entries) (its left : List AtStep) (x : AtStep)
+    → its ≡ x ∷ left → AreAt its rest → PutsTokens a p b q done → PutsTokens b q d m (key x.0.now ∷ []) → ((v : Tree) → Denotes x.1 v → PutsJson d m c r (json v))
+    → done ++ members_tokens (members_outline (members_json rest)) ≡ target
+    → (more : List Token) × (ys : Entries) × AreAt left ys × PutsTokens a p c r more × (more ++ members_tokens (members_outline (members_json ys)) ≡ target)
+entry_put a p b q d m c r done target rest its left x is are put keyed puts e = by rest (subst (λ (t : List AtStep). AreAt t rest) is are) e
+  where
+    by : (rest : Entries) → AreAt (x ∷ left) rest → done ++ members_tokens (members_outline (members_json rest)) ≡ target
+        → (more : List Token) × (ys : Entries) × AreAt left ys × PutsTokens a p c r more × (more ++ members_tokens (members_outline (members_json ys)) ≡ target)
+    by no_entries given same = absurd given
+    by (entry k v es) given same =
+        let value = json_tokens (outline (json v)) in
+        let more = members_tokens (members_outline (members_json es)) in
+        let named : PutsTokens b q d m (key k ∷ []) = subst (λ (j : List ℕ). PutsTokens b q d m (key j ∷ [])) given.0 keyed in (
+          done ++ key k ∷ value,
+          es,
+          given.2,
+          tokens_more a b c p q r done (key k ∷ value) put (tokens_more b d c q m r (key k ∷ []) value named (puts v given.1)),
+          append_assoc done (key k ∷ value) more ∙ same,
+        )
+
+pub entries_end : (a : List ℕ) (p : Place) (b : List ℕ) (q : Place) (c : List ℕ) (r : Place) (done target : List Token) (rest : Entries) (its : List AtStep) → its ≡ [] → AreAt its rest
+    → PutsTokens a p b q done → PutsTokens b q c r (end_object ∷ []) → done ++ members_tokens (members_outline (members_json rest)) ≡ target → PutsTokens a p c r target
+entries_end a p b q c r done target rest its none are put puts e = by rest (subst (λ (t : List AtStep). AreAt t rest) none are) e
+  where
+    by : (rest : Entries) → AreAt [] rest → done ++ members_tokens (members_outline (members_json rest)) ≡ target → PutsTokens a p c r target
+    by no_entries given same = subst (λ (ts : List Token). PutsTokens a p c r ts) same (tokens_more a b c p q r done (end_object ∷ []) put puts)
+    by (entry k v es) given same = absurd given
+
+pub named_entries_put : (a : List ℕ) (p : Place) (b : List ℕ) (q : Place) (c : List ℕ) (r : Place) (d : List ℕ) (s : Place) (es : Entries) → is_some (sole_type (members_json es)) ≡ true
+    → PutsTokens a p b q (begin_object ∷ key (name_of amqp.FieldTable) ∷ []) → PutsJson b q c r (object (members_json es)) → PutsTokens c r d s (end_object ∷ []) → PutsJson a p d s (json (table es))
+named_entries_put a p b q c r d s es sole x y z =
+    let same : json (table es) ≡ under amqp.FieldTable (object (members_json es)) = rw sole refl in
+    subst (λ (e : Data). PutsJson a p d s e) (sym same) (under_put a p b q c r d s (object (members_json es)) x y z)
+
+plain_entries : (a : List ℕ) (p : Place) (c : List ℕ) (r : Place) (es : Entries) → is_some (sole_type (members_json es)) ≡ false → PutsJson a p c r (object (members_json es)) → PutsJson a p c r (json (table es))
+plain_entries a p c r es sole x =
+    let same : json (table es) ≡ object (members_json es) = rw sole refl in
+    subst (λ (e : Data). PutsJson a p c r e) (sym same) x
+
+pub plain_entries_put : {E : Type 0} (a : List ℕ) (p : Place) (c : List ℕ) (result : Result Place E) (its : List AtStep) (body : List ℕ) → ((es : Entries) → AreAt its es → is_some (sole_type (members_json es)) ≡ false)
+    → ((es : Entries) → HasEntries body es → AreAt its es) → IfOk result (λ r. (es : Entries) → AreAt its es → PutsJson a p c r (object (members_json es)))
+    → IfOk result (λ r. (es : Entries) → HasEntries body es → PutsJson a p c r (json (table es)))
+plain_entries_put a p c (Err e) its body sole are puts = puts
+plain_entries_put a p c (Ok r) its body sole are puts = λ es has. plain_entries a p c r es (sole es (are es has)) (puts es (are es has))
 
 -- ---- a value that is a container
 
@@ -123,6 +177,16 @@ table_put a p c None r x is puts = puts
 table_put a p c (Some e) r x is puts = λ v denotes.
     let means : Denotes (at.FieldTable x) v = subst (λ (y : ValueRef). Denotes y v) is denotes in
     subst (λ (u : Tree). PutsJson a p c e (json u)) (sym means.2) (puts means.0 means.1)
+
+pub array_put_ok : {E : Type 0} (a : List ℕ) (p : Place) (c : List ℕ) (result : Result Place E) (r : ValueRef) (x : ArrayRef) → r ≡ at.FieldArray x
+    → IfOk result (λ e. (vs : Trees) → ArrayBody (array_body x) vs → PutsJson a p c e (json (values.array vs))) → IfOk result (λ e. (v : Tree) → Denotes r v → PutsJson a p c e (json v))
+array_put_ok a p c (Err e) r x is puts = puts
+array_put_ok a p c (Ok e) r x is puts = array_put a p c (Some e) r x is puts
+
+pub table_put_ok : {E : Type 0} (a : List ℕ) (p : Place) (c : List ℕ) (result : Result Place E) (r : ValueRef) (x : TableRef) → r ≡ at.FieldTable x
+    → IfOk result (λ e. (es : Entries) → HasEntries (table_body x) es → PutsJson a p c e (json (table es))) → IfOk result (λ e. (v : Tree) → Denotes r v → PutsJson a p c e (json v))
+table_put_ok a p c (Err e) r x is puts = puts
+table_put_ok a p c (Ok e) r x is puts = table_put a p c (Some e) r x is puts
 
 -- ---- what is left is no longer
 

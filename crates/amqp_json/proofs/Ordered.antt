@@ -20,7 +20,7 @@ use Rattle.amqp_in_place.specs.Written.{written, raw_written, values_written, pa
 use Rattle.amqp_json.specs.Json.{json}
 use Rattle.amqp_json.specs.Ascending.{Ascends, InOrder, OutOfOrder}
 use Rattle.amqp_json.specs.Converts.{IsJsonOf}
-use Rattle.amqp_json.specs.Buffers.{IsOrderedJsonOf, IsJsonWritten, IsNotWritten}
+use Rattle.amqp_json.specs.Buffers.{IsOrderedJsonOf, IsJsonWritten, IsNotWritten, IsSortedWritten, IsNotSorted}
 use Rattle.amqp_json.specs.declared.conversion_error.WriteError.{WriteError}
 use Rattle.amqp_json.specs.declared.conversion_error.WriteError.TheVariants as write
 
@@ -115,7 +115,19 @@ too_small l s rest start old new n (t, is, size, few, e) less = (t, rest, is, si
 pub too_small_too : (l : Limits) (s : List ℕ) (first second n : ℕ) → IsNotWritten l s first (write.BufferTooSmall n) → second < n → IsNotWritten l s second (write.BufferTooSmall n)
 too_small_too l s first second n (t, rest, is, size, longer) less = (t, rest, is, size, less)
 
-pub copied : (l : Limits) (s rest start old new made : List ℕ) (n : ℕ) → IsJsonWritten l s start new n rest → n ≤ length old → made ≡ take n new ++ drop n old → IsJsonWritten l s old made n rest
-copied l s rest start old new made n (t, is, size, few, e) fits same =
+pub copied_text : (t start old new made : List ℕ) (n : ℕ) → n ≡ length t → new ≡ t ++ drop n start → made ≡ take n new ++ drop n old → made ≡ t ++ drop n old
+copied_text t start old new made n size e same =
     let front : take n new ≡ t = ap (take n) e ∙ take_at t (drop n start) n (sym size) in
-    (t, is, size, fits, same ∙ ap (λ (u : List ℕ). u ++ drop n old) front)
+    same ∙ ap (λ (u : List ℕ). u ++ drop n old) front
+
+pub copied : (l : Limits) (s rest start old new made : List ℕ) (n : ℕ) → IsJsonWritten l s start new n rest → n ≤ length old → made ≡ take n new ++ drop n old → IsJsonWritten l s old made n rest
+copied l s rest start old new made n (t, is, size, few, e) fits same = (t, is, size, fits, copied_text t start old new made n size e same)
+
+-- ---- what is so of tables in order is so of any
+
+pub sorted_too : (l : Limits) (s rest old new : List ℕ) (r : Result ℕ WriteError) → MatchResult r (λ n. IsJsonWritten l s old new n rest) (IsNotWritten l s (length old))
+    → MatchResult r (λ n. IsSortedWritten l s old new n rest) (IsNotSorted l s (length old))
+sorted_too l s rest old new (Ok n) (t, (is, order), size, few, put) = (t, is, size, few, put)
+sorted_too l s rest old new (Err (write.Refused e)) x = x
+sorted_too l s rest old new (Err (write.BufferTooSmall n)) (t, left, (is, order), size, less) = (t, left, is, size, less)
+sorted_too l s rest old new (Err write.NeedsMemory) x = x

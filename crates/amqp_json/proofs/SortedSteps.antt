@@ -1,5 +1,5 @@
 -- A map of the pairs of a table, a pair at a time.
-use Rattle.std.proofs.Common.{◌≡◌, ℕ, List, [], ◌∷◌, ◌++◌, Some, None, refl, sym, ap, ◌∙◌, subst, append_assoc, Ordering, Less, Equal, Greater}
+use Rattle.std.proofs.Common.{◌≡◌, ◌<◌, ◌≤◌, ℕ, List, [], ◌∷◌, ◌++◌, Some, None, refl, sym, ap, ◌∙◌, subst, append_assoc, arith, Ordering, Less, Equal, Greater}
 use Rattle.std.specs.Borrow.{Bor}
 use Rattle.std.specs.Ordering.{nat_cmp, match_ordering}
 use Rattle.std.specs.Cmp.Lexicographic.{slice_cmp}
@@ -14,7 +14,7 @@ use Rattle.amqp_in_place.specs.Walks.{PairStep}
 use Rattle.amqp_in_place.specs.declared.refs.ValueRef.{ValueRef}
 use Rattle.amqp_json.specs.Json.{json, members_json}
 use Rattle.amqp_json.specs.Adds.{Adds}
-use Rattle.amqp_json.specs.Sorted.{AreAt}
+use Rattle.amqp_json.specs.Sorted.{AreAt, body_len, above_bodies}
 
 abbrev pub AtStep : Type 0
 AtStep = Bor (List ℕ) × ValueRef
@@ -38,6 +38,17 @@ at_insert (e ∷ es) (entry j u fs) x k v same denotes are =
     let alike : by_bytes x.0 e.0 ≡ slice_cmp nat_cmp k j = ap (λ (t : List ℕ). slice_cmp nat_cmp t e.0.now) same ∙ ap (slice_cmp nat_cmp k) are.0 in
     subst (λ (o : Ordering). AreAt (match_ordering (by_bytes x.0 e.0) ((x.0, x.1) ∷ e ∷ es) ((e.0, x.1) ∷ es) (e ∷ insert_entry by_bytes es x.0 x.1)) (match_ordering o (entry k v (entry j u fs)) (entry j v fs) (entry j u (insert k v fs))))
     alike (placed es fs x e k j v u (by_bytes x.0 e.0) same denotes are (at_insert es fs x k v same denotes are.2))
+
+-- no value in the map has a longer body
+placed_above : (es : List AtStep) (x e : AtStep) (n : ℕ) (o : Ordering) → body_len x.1 < n → above_bodies (e ∷ es) ≤ n → above_bodies (insert_entry by_bytes es x.0 x.1) ≤ n
+    → above_bodies (match_ordering o ((x.0, x.1) ∷ e ∷ es) ((e.0, x.1) ∷ es) (e ∷ insert_entry by_bytes es x.0 x.1)) ≤ n
+placed_above es x e n Less short few later = omega (arith, short, few)
+placed_above es x e n Equal short few later = omega (arith, short, few)
+placed_above es x e n Greater short few later = omega (arith, few, later)
+
+pub insert_above : (es : List AtStep) (x : AtStep) (n : ℕ) → body_len x.1 < n → above_bodies es ≤ n → above_bodies (insert_entry by_bytes es x.0 x.1) ≤ n
+insert_above [] x n short few = omega (arith, short)
+insert_above (e ∷ es) x n short few = placed_above es x e n (by_bytes x.0 e.0) short few (insert_above es x n short (omega (arith, few)))
 
 -- the map has the pairs so far
 abbrev pub Mapped : List ℕ → List ℕ → List AtStep → Type 0

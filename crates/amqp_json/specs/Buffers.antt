@@ -4,6 +4,7 @@ use Rattle.amq_protocol_types.specs.declared.parsing.limits.Limits.{Limits}
 use Rattle.amqp_value_core.specs.Inputs.{IsBytes}
 use Rattle.amqp_value_core.specs.Outcomes.{found}
 use Rattle.amqp_value_core.specs.Values.{Tree}
+use Rattle.serde_json.specs.Written.{compact_text}
 use Rattle.amq_protocol_types.specs.parsing.Limits.{Within, RefusesWithin}
 use Rattle.amqp_in_place.specs.declared.refs.ValueRef.{ValueRef}
 use Rattle.amqp_in_place.specs.InPlaceResults.{NeedsNoMemory}
@@ -11,6 +12,8 @@ use Rattle.amqp_in_place.specs.Places.{IsViewIn}
 use Rattle.amqp_in_place.specs.Refs.{Denotes}
 use Rattle.amqp_json.specs.Ascending.{InOrder, OutOfOrder}
 use Rattle.amqp_json.specs.Converts.{IsJsonOf}
+use Rattle.amqp_json.specs.Json.{json}
+use Rattle.amqp_json.specs.Puts.{counted}
 use Rattle.amqp_json.specs.declared.conversion_error.WriteError.{WriteError}
 use Rattle.amqp_json.specs.declared.conversion_error.WriteError.TheVariants as write
 
@@ -38,6 +41,19 @@ IsNotWritten l s buffer (write.Refused e) = RefusesWithin l s e × NeedsNoMemory
 IsNotWritten l s buffer (write.BufferTooSmall n) = (t : List ℕ) × (rest : List ℕ) × IsOrderedJsonOf l s t rest × (n ≡ length t) × (buffer < n)
 IsNotWritten l s buffer write.NeedsMemory = NeedsMemory l s
 
+-- ---- where memory may be had
+
+-- the JSON text of the value at the start of s, as reading within the limits has it, is the first n
+-- bytes of the buffer, and after them it is as it was
+abbrev pub IsSortedWritten : Limits → List ℕ → List ℕ → List ℕ → ℕ → List ℕ → Type 0
+IsSortedWritten l s old new n rest = (t : List ℕ) × IsJsonOf l s t rest × (n ≡ length t) × (n ≤ length old) × (new ≡ t ++ drop n old)
+
+-- an error reports why no text of the value at the start of s is in a buffer of that many bytes: as
+-- above, but whatever the order of the keys; and memory runs out only where it is needed
+abbrev pub IsNotSorted : Limits → List ℕ → ℕ → WriteError → Type 0
+IsNotSorted l s buffer (write.BufferTooSmall n) = (t : List ℕ) × (rest : List ℕ) × IsJsonOf l s t rest × (n ≡ length t) × (buffer < n)
+IsNotSorted l s buffer e = IsNotWritten l s buffer e
+
 -- ---- for private clauses
 
 -- a value is read from the start of s within the limits, `view` denotes it, and `rest` is after it
@@ -48,3 +64,19 @@ IsViewOfRead l s view rest = IsBytes s × IsViewIn s view rest × ((v : Tree) ×
 abbrev pub WritesView : ValueRef → List ℕ → List ℕ → Result ℕ WriteError → Type 0
 WritesView view old new r =
     (l : Limits) (s rest : List ℕ) → IsViewOfRead l s view rest → MatchResult r (λ n. IsJsonWritten l s old new n rest) (IsNotWritten l s (length old))
+
+-- the keys of each table sorted
+abbrev pub SortsView : ValueRef → List ℕ → List ℕ → Result ℕ WriteError → Type 0
+SortsView view old new r =
+    (l : Limits) (s rest : List ℕ) → IsViewOfRead l s view rest → MatchResult r (λ n. IsSortedWritten l s old new n rest) (IsNotSorted l s (length old))
+
+-- that is so if the text isn't written without memory
+abbrev pub SortsInMemory : ValueRef → List ℕ → List ℕ → Result ℕ WriteError → Type 0
+SortsInMemory view old new r =
+    (l : Limits) (s rest : List ℕ) → IsViewOfRead l s view rest → NeedsMemory l s → MatchResult r (λ n. IsSortedWritten l s old new n rest) (IsNotSorted l s (length old))
+
+-- the text of the value has that count, and is written if it has no more bytes than there is room
+-- for, nor than the buffer
+abbrev pub IsTried : ℕ → ValueRef → List ℕ → List ℕ → ℕ → Type 0
+IsTried room view old new n =
+    (v : Tree) → Denotes view v → (n ≡ counted (compact_text (json v))) × (n ≤ room → n ≤ length old → new ≡ compact_text (json v) ++ drop n old)

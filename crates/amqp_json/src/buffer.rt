@@ -2,7 +2,7 @@
 
 ghost use Rattle.std.specs.Prelude.{◌≡◌, ◌≤◌, ℕ, List, length, IfOk, OnErr, MatchResult};
 ghost use Rattle.amq_protocol_types.specs.declared.parsing.limits.Limits.{Limits};
-ghost use Rattle.amqp_json.specs.Buffers.{IsJsonWritten, IsNotWritten, IsViewOfRead, WritesView};
+ghost use Rattle.amqp_json.specs.Buffers.{IsJsonWritten, IsNotWritten, IsSortedWritten, IsNotSorted, IsViewOfRead, WritesView, SortsView, SortsInMemory, IsTried};
 
 mod counting;
 mod leaves;
@@ -12,11 +12,13 @@ mod place;
 mod plain;
 mod printing;
 mod put;
+mod sorting;
 mod walk;
 
 use crate::conversion_error::WriteError;
 use amqp_in_place::{Limits, ValueRef, read_in_place};
 use place::Place;
+use std::alloc::{AllocError, Global};
 use walk::put_value;
 
 /// Writes the JSON text of the encoding at the start of the bytes, the one of `json_of_encoding`, to
@@ -83,6 +85,7 @@ pub fn write_whole_json<'a>(
 /// How many bytes of the stack take a text before it is known to fit the buffer.
 const SHORT: usize = 4096;
 
+#[inline(never)]
 fn write_whole_value(buffer: &mut [u8], value: ValueRef<'_>) -> Result<usize, WriteError>
     ensures written { WritesView value.entry buffer.old buffer.new result }
     ensures kept { (l : Limits) (s rest : List ℕ) → IsViewOfRead l s value.entry rest
@@ -106,4 +109,97 @@ fn write_whole_value(buffer: &mut [u8], value: ValueRef<'_>) -> Result<usize, Wr
         Err(WriteError::Refused(refusal)) => Err(WriteError::Refused(refusal)),
         Err(WriteError::NeedsMemory) => Err(WriteError::NeedsMemory),
     }
+}
+
+/// Writes the JSON text as `write_whole_json` does, also if the keys of a table don't ascend.
+///
+/// Then room for the text is allocated, and for such a table a map of its keys; `NeedsMemory` means
+/// that memory ran out. By measurements it uses stack for at most `limits.depth` levels;
+/// docs/PROMISES.md has what `amqpv_to_json` takes for one.
+pub fn write_sorted_json<'a>(
+    alloc: Global,
+    bytes: &'a [u8],
+    limits: Limits,
+    buffer: &mut [u8],
+) -> Result<(usize, &'a [u8]), WriteError>
+    ensures written { MatchResult result
+        (λ x. IsSortedWritten limits bytes.entry.now buffer.old buffer.new x.0 x.1.now)
+        (IsNotSorted limits bytes.entry.now (length buffer.old)) }
+    ensures kept { OnErr result (buffer.new ≡ buffer.old) }
+{
+    match read_in_place(bytes, limits) {
+        Ok((value, rest)) => {
+            let size = bytes.len() - rest.len();
+            Ok((write_sorted_value(alloc, buffer, value, size)?, rest))
+        }
+        Err(refusal) => Err(WriteError::Refused(refusal)),
+    }
+}
+
+fn write_sorted_value(
+    alloc: Global,
+    buffer: &mut [u8],
+    value: ValueRef<'_>,
+    size: usize,
+) -> Result<usize, WriteError>
+    ensures written { SortsView value.entry buffer.old buffer.new result }
+    ensures kept { (l : Limits) (s rest : List ℕ) → IsViewOfRead l s value.entry rest
+        → OnErr result (buffer.new ≡ buffer.old) }
+{
+    match write_whole_value(buffer, value) {
+        Ok(count) => Ok(count),
+        Err(WriteError::Refused(refusal)) => Err(WriteError::Refused(refusal)),
+        Err(WriteError::BufferTooSmall(count)) => Err(WriteError::BufferTooSmall(count)),
+        Err(WriteError::NeedsMemory) => sort_value(alloc, buffer, value, size),
+    }
+}
+
+// The text in memory first. Room for four times the bytes of the encoding is enough for most, and a
+// map of each table is made again if it isn't.
+fn sort_value(
+    alloc: Global,
+    buffer: &mut [u8],
+    value: ValueRef<'_>,
+    size: usize,
+) -> Result<usize, WriteError>
+    ensures written { SortsInMemory value.entry buffer.old buffer.new result }
+    ensures kept { OnErr result (buffer.new ≡ buffer.old) }
+{
+    let room = size.saturating_mul(4).min(buffer.len());
+    let count = sort_within(alloc, buffer, value, room)?;
+    if count == usize::MAX {
+        return Err(WriteError::NeedsMemory);
+    }
+    if count > buffer.len() {
+        return Err(WriteError::BufferTooSmall(count));
+    }
+    if count <= room {
+        return Ok(count);
+    }
+    Ok(sort_within(alloc, buffer, value, count)?)
+}
+
+#[inline(never)]
+fn sort_within(
+    alloc: Global,
+    buffer: &mut [u8],
+    value: ValueRef<'_>,
+    room: usize,
+) -> Result<usize, AllocError>
+    ensures tried { IfOk result (IsTried room value.entry buffer.old buffer.new) }
+    ensures kept { MatchResult result
+        (λ n. (n ≤ room → n ≤ length buffer.old → ⊥) → buffer.new ≡ buffer.old)
+        (λ _. buffer.new ≡ buffer.old) }
+{
+    let mut memory = vec![in alloc; 0u8; room]?;
+    let text = memory.as_mut_slice();
+    let count = sorting::put_value(alloc, text, Place::START, value)?.count;
+    if count > room {
+        return Ok(count);
+    }
+    if count > buffer.len() {
+        return Ok(count);
+    }
+    buffer[..count].copy_from_slice(&text[..count]);
+    Ok(count)
 }

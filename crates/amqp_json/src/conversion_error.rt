@@ -37,8 +37,8 @@ pub enum WriteError {
     Refused(ParserError),
     /// The text has that many bytes, more than the buffer.
     BufferTooSmall(usize),
-    /// It isn't written without memory: the keys of a table don't ascend, or the text has 2^64 - 1
-    /// bytes or more.
+    /// It isn't written without memory, or memory ran out: the keys of a table don't ascend, or the
+    /// text has 2^64 - 1 bytes or more.
     NeedsMemory,
 }
 
@@ -61,5 +61,16 @@ impl From<AllocError> for DecodeError {
 
     fn from(_refused: AllocError) -> DecodeError {
         DecodeError::OutOfMemory
+    }
+}
+
+impl From<AllocError> for WriteError {
+    ghost use Rattle.std.specs.Prelude.{◌≡◌};
+    ghost use Rattle.amqp_json.specs.declared.conversion_error.WriteError.TheVariants.{NeedsMemory};
+
+    ghost from_gives = { λ _ e. e ≡ NeedsMemory };
+
+    fn from(_refused: AllocError) -> WriteError {
+        WriteError::NeedsMemory
     }
 }

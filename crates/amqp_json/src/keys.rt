@@ -12,6 +12,7 @@ use crate::names::type_of_name;
 use amqp_in_place::TableRef;
 
 /// Whether the keys ascend by their bytes.
+#[inline(never)]
 pub(crate) fn keys_rise(table: TableRef<'_>) -> bool
     ensures rise { result ≡ true → (ps : Entries) → TableBody (table_body table.entry) ps → IsRising ps }
     ensures fall { result ≡ false → (ps : Entries) → TableBody (table_body table.entry) ps

@@ -24,7 +24,7 @@ mod text;
 mod tokens;
 mod writing;
 
-pub use buffer::{write_json, write_whole_json};
+pub use buffer::{write_json, write_sorted_json, write_whole_json};
 pub use conversion_error::{DecodeError, EncodeError, WriteError};
 pub use decode::json_of_encoding;
 pub use encode::encoding_of_json;

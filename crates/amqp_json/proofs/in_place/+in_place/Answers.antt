@@ -60,7 +60,7 @@ pub write_unordered-returns-then-map_needs_type_name-clause-ok : goal.write_unor
 write_unordered-returns-then-map_needs_type_name-clause-ok t c =
     let opened : c.begin_object.new.self.tokens ≡ c.begin_named.new.out.tokens ++ begin_object ∷ [] = search rules in
     on_ok_weaker c.end_object.result (λ e es has.
-    let are = subst (λ (fs : Entries). AreAt c.in_ok-map.map.entries fs) (sym has.2) (c.in_ok-map.ensures has.0 has.1) in
+    let are = subst (λ (fs : Entries). AreAt c.in_ok-map.map.entries fs) (sym has.2) (c.in_ok-map.ensures.entries has.0 has.1) in
     named_entries _ c.begin_named.new.out.tokens c.begin_object.new.self.tokens c.write_map.new.out.tokens c.end_object.new.self.tokens es
     (sym (c.map_needs_type_name.ensures es are) ∙ c.if-map_needs_type_name.true) c.in_ok-begin_named.ensures.ok opened (c.in_ok-write_map.ensures.ok es are) e) c.end_object.ensures.ok
 
@@ -68,6 +68,6 @@ pub write_unordered-returns-clause-ok : goal.write_unordered-returns-clause-ok
 write_unordered-returns-clause-ok t c =
     let opened : c.begin_object-2.new.self.tokens ≡ c.args.out.now.tokens ++ begin_object ∷ [] = search rules in
     on_ok_weaker c.write_map-2.result (λ e es has.
-    let are = subst (λ (fs : Entries). AreAt c.in_ok-map.map.entries fs) (sym has.2) (c.in_ok-map.ensures has.0 has.1) in
+    let are = subst (λ (fs : Entries). AreAt c.in_ok-map.map.entries fs) (sym has.2) (c.in_ok-map.ensures.entries has.0 has.1) in
     plain_entries _ c.begin_object-2.new.self.tokens c.write_map-2.new.out.tokens es
     (sym (c.map_needs_type_name.ensures es are) ∙ c.if-map_needs_type_name.false) opened (e es are)) c.write_map-2.ensures.ok

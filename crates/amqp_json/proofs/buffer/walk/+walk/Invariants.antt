@@ -9,7 +9,7 @@ use Rattle.amqp_in_place.specs.Refs.{array_body, table_body}
 use Rattle.amqp_in_place.specs.Suffix.{values_left, pairs_left}
 use Rattle.amqp_json.specs.Json.{json, items_json, members_json}
 use Rattle.amqp_json.specs.Puts.{PutsTokens}
-use Rattle.amqp_json.proofs.Filling.{body_len}
+use Rattle.amqp_json.specs.Sorted.{body_len}
 use Rattle.amqp_json.proofs.Ascents.{ValuesGoOn, PairsGoOn, RisesSoFar}
 use Rattle.amqp_json.proofs.buffer.walk.+walk.Given as goal
 

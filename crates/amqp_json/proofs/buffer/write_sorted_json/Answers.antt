@@ -1,0 +1,25 @@
+use Rattle.std.proofs.Common.{◌≡◌, ℕ, List, length, Result, Err, MatchResult, OnErr, sym, subst, rules}
+use Rattle.std.specs.Borrow.{Bor}
+use Rattle.amqp_json.specs.Buffers.{IsSortedWritten, IsNotSorted}
+use Rattle.amqp_json.specs.declared.conversion_error.WriteError.{WriteError}
+use Rattle.amqp_in_place.proofs.Canonicals.{bytes_all}
+use Rattle.amqp_json.proofs.buffer.write_sorted_json.Goals as goal
+
+pub returns-in_err-write_sorted_value-in-Ok-clause-written : goal.returns-in_err-write_sorted_value-in-Ok-clause-written
+returns-in_err-write_sorted_value-in-Ok-clause-written c =
+    let s = c.args.bytes.now in
+    let failed : c.from_residual.result ≡ Err c.in_err-write_sorted_value-in-Ok.field-0.0 = search rules in
+    subst (λ (r : Result (ℕ × Bor (List ℕ)) WriteError). MatchResult r (λ x. IsSortedWritten c.args.limits s c.args.buffer.now c.write_sorted_value.new.buffer x.0 x.1.now) (IsNotSorted c.args.limits s (length c.args.buffer.now))) (sym failed)
+    (c.in_err-write_sorted_value-in-Ok.ensures.written c.args.limits s c.in-Ok.rest.now (bytes_all s c.type_inv.bytes, c.in-Ok.ensures.inside, c.in-Ok.ensures.within))
+
+pub returns-in_ok-write_sorted_value-in-Ok-clause-written : goal.returns-in_ok-write_sorted_value-in-Ok-clause-written
+returns-in_ok-write_sorted_value-in-Ok-clause-written c =
+    let s = c.args.bytes.now in
+    c.in_ok-write_sorted_value-in-Ok.ensures.written c.args.limits s c.in-Ok.rest.now (bytes_all s c.type_inv.bytes, c.in-Ok.ensures.inside, c.in-Ok.ensures.within)
+
+pub returns-in_err-write_sorted_value-in-Ok-clause-kept : goal.returns-in_err-write_sorted_value-in-Ok-clause-kept
+returns-in_err-write_sorted_value-in-Ok-clause-kept c =
+    let s = c.args.bytes.now in
+    let failed : c.from_residual.result ≡ Err c.in_err-write_sorted_value-in-Ok.field-0.0 = search rules in
+    subst (λ (r : Result (ℕ × Bor (List ℕ)) WriteError). OnErr r (c.write_sorted_value.new.buffer ≡ c.args.buffer.now)) (sym failed)
+    (c.in_err-write_sorted_value-in-Ok.ensures.kept c.args.limits s c.in-Ok.rest.now (bytes_all s c.type_inv.bytes, c.in-Ok.ensures.inside, c.in-Ok.ensures.within))
