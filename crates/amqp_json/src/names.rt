@@ -1,6 +1,7 @@
 //! Types by their names.
 
 ghost use Rattle.std.specs.Prelude.{◌≡◌};
+ghost use Rattle.std.specs.Str.{bytes_eq};
 ghost use Rattle.amqp_value_core.specs.Names.{name_of};
 ghost use Rattle.amqp_json.specs.Names.{type_named};
 
@@ -11,27 +12,35 @@ pub(crate) fn type_of_name(name: &str) -> Option<AMQPType>
     ensures { result ≡ type_named name.now }
 {
     match name {
-        "Boolean" => Some(AMQPType::Boolean),
-        "ShortShortInt" => Some(AMQPType::ShortShortInt),
-        "ShortShortUInt" => Some(AMQPType::ShortShortUInt),
-        "ShortInt" => Some(AMQPType::ShortInt),
-        "ShortUInt" => Some(AMQPType::ShortUInt),
-        "LongInt" => Some(AMQPType::LongInt),
-        "LongUInt" => Some(AMQPType::LongUInt),
-        "LongLongInt" => Some(AMQPType::LongLongInt),
-        "LongLongUInt" => Some(AMQPType::LongLongUInt),
-        "Float" => Some(AMQPType::Float),
-        "Double" => Some(AMQPType::Double),
-        "DecimalValue" => Some(AMQPType::DecimalValue),
-        "ShortString" => Some(AMQPType::ShortString),
-        "LongString" => Some(AMQPType::LongString),
-        "FieldArray" => Some(AMQPType::FieldArray),
-        "Timestamp" => Some(AMQPType::Timestamp),
-        "FieldTable" => Some(AMQPType::FieldTable),
-        "ByteArray" => Some(AMQPType::ByteArray),
-        "Void" => Some(AMQPType::Void),
+        it if is_same(it, "Boolean") => Some(AMQPType::Boolean),
+        it if is_same(it, "ShortShortInt") => Some(AMQPType::ShortShortInt),
+        it if is_same(it, "ShortShortUInt") => Some(AMQPType::ShortShortUInt),
+        it if is_same(it, "ShortInt") => Some(AMQPType::ShortInt),
+        it if is_same(it, "ShortUInt") => Some(AMQPType::ShortUInt),
+        it if is_same(it, "LongInt") => Some(AMQPType::LongInt),
+        it if is_same(it, "LongUInt") => Some(AMQPType::LongUInt),
+        it if is_same(it, "LongLongInt") => Some(AMQPType::LongLongInt),
+        it if is_same(it, "LongLongUInt") => Some(AMQPType::LongLongUInt),
+        it if is_same(it, "Float") => Some(AMQPType::Float),
+        it if is_same(it, "Double") => Some(AMQPType::Double),
+        it if is_same(it, "DecimalValue") => Some(AMQPType::DecimalValue),
+        it if is_same(it, "ShortString") => Some(AMQPType::ShortString),
+        it if is_same(it, "LongString") => Some(AMQPType::LongString),
+        it if is_same(it, "FieldArray") => Some(AMQPType::FieldArray),
+        it if is_same(it, "Timestamp") => Some(AMQPType::Timestamp),
+        it if is_same(it, "FieldTable") => Some(AMQPType::FieldTable),
+        it if is_same(it, "ByteArray") => Some(AMQPType::ByteArray),
+        it if is_same(it, "Void") => Some(AMQPType::Void),
         _ => None,
     }
+}
+
+// Whether two names are equal. Their lengths are compared where this is called, which mostly suffices.
+#[inline(always)]
+fn is_same(name: &str, other: &str) -> bool
+    ensures { result ≡ bytes_eq name.now other.now }
+{
+    name.len() == other.len() && name == other
 }
 
 /// The name of a type.
