@@ -1,6 +1,12 @@
 -- Values and pairs, one after another, of encodings whose pairs are in the order of a text.
-use Rattle.std.proofs.Common.{◌≡◌, ℕ, codes, ◌-◌, ◌+◌, ◌<◌, ◌≤◌, ◌^◌, List, [], ◌∷◌, ◌++◌, length, take, drop, Option, Some, None, option_map, IfSome, Ordering, Less, Equal, Greater, Bor, refl, sym, ap, ◌∙◌, subst, arith, append_assoc, append-nil, length-append}
-use Rattle.std.specs.Int.{w32, to_be_bytes}
+use Rattle.std.proofs.Common.{◌≡◌, ℕ, ℤ, pos, negsuc, codes, ◌-◌, ◌+◌, ◌<◌, ◌≤◌, ◌^◌, List, [], ◌∷◌, ◌++◌, length, take, drop, Option, Some, None, option_map, IfSome, Ordering, Less, Equal, Greater, Bor, refl, sym, ap, ◌∙◌, subst, arith, append_assoc, append-nil, length-append}
+use Rattle.std.specs.Prelude.{unsigned_abs}
+use Rattle.std.specs.Int.{FitsUnsignedBits, Width, w32, w64, to_be_bytes, from_be_bytes, cast_unsigned}
+use mir.Val.{bits, SFits}
+use mir.ValLaws as laws
+use Rattle.std.specs.Str.{IsUtf8}
+use Rattle.std.proofs.lemmas.Int.{to_z-of_z}
+use Rattle.hex.specs.Hex.{IsBytes}
 use Rattle.std.specs.Ordering.{nat_cmp, match_ordering}
 use Rattle.std.specs.Cmp.Lexicographic.{slice_cmp}
 use Rattle.std.proofs.Math.Seq.{take-append_seam, drop-append-add}
@@ -8,23 +14,25 @@ use Rattle.json.specs.Token.{Token}
 use Rattle.json.specs.Json as json
 use Rattle.json.specs.Json.{Parse, parse_map, after_end_array, read_key, items, members}
 use Rattle.json.proofs.Grammar.{read_key-shorter, value-begin_object}
-use Rattle.serde_json.specs.Data.{Num, Data, number, object, item, member, no_members}
+use Rattle.serde_json.specs.Data.{Num, Data, number, string, object, item, member, no_members}
+use Rattle.serde_json.specs.Find.{of_integer}
 use Rattle.serde_json.specs.Read.{of_json, of_items, of_members, converted, number_of}
 use Rattle.amqp_value_core.specs.declared.types.amqp_type.AMQPType.{AMQPType}
 use Rattle.amqp_value_core.specs.declared.types.amqp_type.AMQPType.TheVariants as types
-use Rattle.amqp_value_core.specs.Values.{Scalar, number as number_tree, Tree, scalar, array, table, Trees, no_trees, tree, Entries, no_entries, entry, insert, insert_all}
+use Rattle.amqp_value_core.specs.Values.{Scalar, number as number_tree, Tree, scalar, long, octets, array, table, Trees, no_trees, tree, Entries, no_entries, entry, insert, insert_all}
 use Rattle.amqp_value_core.specs.Grammar.{wire, raw_array, raw_table, ArrayBody, no_values, value, TableBody, no_pairs, pair, short_field, long_field}
 use Rattle.amqp_value_core.specs.InMemory.{IsScalar}
 use Rattle.amqp_value_core.specs.Strings.{IsShort}
 use Rattle.amqp_value_core.specs.Texts.{text}
 use Rattle.amqp_value_core.proofs.GrammarLaws.{text_is_wire}
-use Rattle.amqp_json.specs.Encodes.{IsObject, IsTextPut, IsLongLong, PutsValue, PutsValues, PutsPairs, IsTableRead, IsFieldRead}
+use Rattle.amqp_json.specs.Encodes.{IsObject, IsTextPut, PutsValue, PutsValues, PutsPairs, IsTableRead, IsFieldRead}
 use Rattle.amqp_json.specs.InMemory.{IsStored, AreStoredTrees, EntriesStored}
 use Rattle.amqp_json.specs.Json as amqp
 use Rattle.amqp_json.specs.Json.{items_json, members_json, sole_type, under, natural, decimal_json}
 use Rattle.amqp_json.specs.Names.{type_named}
-use Rattle.amqp_json.specs.Reading.{value_under}
-use Rattle.amqp_json.proofs.Only.{is_name, is_under, long_long_is}
+use Rattle.amqp_json.specs.Reading.{bytes_in, sized_in}
+use Rattle.amqp_json.proofs.Bytes.{long_is_read}
+use Rattle.amqp_json.proofs.Only.{is_name, is_under}
 use Rattle.amqp_json.proofs.Turns.{one_member, item_read, items_over, member_read, members_over, insert_put, converted-object}
 use Rattle.amqp_json.proofs.Walks.{put_stored}
 
@@ -212,10 +220,6 @@ puts_weaker P Q old new f (w, v, more, is, stored, h) = (w, v, more, is, stored,
 
 -- ---- what isn't a container
 
--- a number under the name of a type
-pub number_under : (type : AMQPType) (x : Option Num) (n : Num) (v : Tree) → x ≡ Some n → value_under type (number n) ≡ Some v → option_map (under type) (option_map number x) ≡ Some (amqp.json v)
-number_under type x n v e h = ap (λ o. option_map (under type) (option_map number o)) e ∙ ap Some (sym (is_under type (number n) v h))
-
 -- the canonical encoding of a value that memory can hold is one of its encodings
 pub text_put : (P : Tree → Type 0) (old new : List ℕ) (v : Tree) → IsTextPut v old new → IsStored v → P v → PutsValue P old new
 text_put P old new v is stored h = (text v, v, is.put, text_is_wire v is.value is.fits is.readable, stored, h)
@@ -224,9 +228,52 @@ pub scalar_put : (P : Tree → Type 0) (old new : List ℕ) (x : Scalar) → new
 scalar_put P old new x same is h = text_put P old new (scalar x) (record { put = same; value = is; fits = tt; readable = refl }) is h
 
 -- a number without the name of a type
-pub integer_put : (old new s : List ℕ) (n : ℕ) → IsLongLong n s → new ≡ old ++ text (scalar (number_tree types.LongLongInt n)) → PutsValue (λ v. option_map number (number_of s) ≡ Some (amqp.json v)) old new
-integer_put old new s n (x, is, read, fits) same =
-    scalar_put (λ v. option_map number (number_of s) ≡ Some (amqp.json v)) old new (number_tree types.LongLongInt n) same fits (ap (option_map number) is ∙ ap Some (sym (long_long_is x _ read)))
+pub integer_put : (old new s : List ℕ) (z : ℤ) → SFits w64 z → number_of s ≡ Some (of_integer z) → new ≡ old ++ text (scalar (number_tree types.LongLongInt (cast_unsigned w64 z))) → PutsValue (λ v. option_map number (number_of s) ≡ Some (amqp.json v)) old new
+integer_put old new s z f is same =
+    scalar_put (λ v. option_map number (number_of s) ≡ Some (amqp.json v)) old new (number_tree types.LongLongInt (cast_unsigned w64 z)) same (laws.of_z_fits w64 z f).fits
+    (ap (option_map number) is ∙ ap (λ y. Some (number (of_integer y))) (sym (to_z-of_z w64 z f)))
+
+-- an integer under the name of a type
+pub signed_put : (type : AMQPType) (w : Width) (old new : List ℕ) (z : ℤ) → ((n : ℕ) → n < 2 ^ bits w → IsScalar (number_tree type n)) → ((n : ℕ) → amqp.json (scalar (number_tree type n)) ≡ under type (amqp.integer w n))
+    → SFits w z → new ≡ old ++ text (scalar (number_tree type (cast_unsigned w z))) → PutsValue (λ v. amqp.json v ≡ under type (number (of_integer z))) old new
+signed_put type w old new z held written f same =
+    scalar_put (λ v. amqp.json v ≡ under type (number (of_integer z))) old new (number_tree type (cast_unsigned w z)) same (held (cast_unsigned w z) (laws.of_z_fits w z f).fits)
+    (written (cast_unsigned w z) ∙ ap (λ y. under type (number (of_integer y))) (to_z-of_z w z f))
+
+-- what an integer is that an unsigned type has
+pub natural_is : (k n : ℕ) (z : ℤ) → FitsUnsignedBits k z → n ≡ unsigned_abs z → (pos n ≡ z) × (n < 2 ^ k)
+natural_is k n (pos m) fits is = (ap pos is, subst (λ i. i < 2 ^ k) (sym is) fits)
+natural_is k n (negsuc m) fits is = absurd fits
+
+pub unsigned_put : (type : AMQPType) (old new : List ℕ) (n : ℕ) → IsScalar (number_tree type n) → amqp.json (scalar (number_tree type n)) ≡ under type (natural n)
+    → new ≡ old ++ text (scalar (number_tree type n)) → PutsValue (λ v. amqp.json v ≡ under type (natural n)) old new
+unsigned_put type old new n held written same = scalar_put (λ v. amqp.json v ≡ under type (natural n)) old new (number_tree type n) same held written
+
+pub number_put : (type : AMQPType) (old new s : List ℕ) (x : Num) → number_of s ≡ Some x → PutsValue (λ v. amqp.json v ≡ under type (number x)) old new
+    → PutsValue (λ v. option_map (under type) (option_map number (number_of s)) ≡ Some (amqp.json v)) old new
+number_put type old new s x is put =
+    puts_weaker (λ v. amqp.json v ≡ under type (number x)) (λ v. option_map (under type) (option_map number (number_of s)) ≡ Some (amqp.json v)) old new
+    (λ v h. ap (λ o. option_map (under type) (option_map number o)) is ∙ ap Some (sym h)) put
+
+-- the bits of a float, as hexadecimal digits
+pub float_put : (old new s b : List ℕ) → sized_in 4 (string s) ≡ Some b → from_be_bytes w32 b < 2 ^ 32 → new ≡ old ++ text (scalar (number_tree types.Float (from_be_bytes w32 b))) → PutsValue (λ v. amqp.json v ≡ under types.Float (string s)) old new
+float_put old new s b read low same =
+    scalar_put (λ v. amqp.json v ≡ under types.Float (string s)) old new (number_tree types.Float (from_be_bytes w32 b)) same low
+    (is_under types.Float (string s) _ (ap (option_map (λ x. scalar (number_tree types.Float (from_be_bytes w32 x)))) read))
+
+pub double_put : (old new s b : List ℕ) → sized_in 8 (string s) ≡ Some b → from_be_bytes w64 b < 2 ^ 64 → new ≡ old ++ text (scalar (number_tree types.Double (from_be_bytes w64 b))) → PutsValue (λ v. amqp.json v ≡ under types.Double (string s)) old new
+double_put old new s b read low same =
+    scalar_put (λ v. amqp.json v ≡ under types.Double (string s)) old new (number_tree types.Double (from_be_bytes w64 b)) same low
+    (is_under types.Double (string s) _ (ap (option_map (λ x. scalar (number_tree types.Double (from_be_bytes w64 x)))) read))
+
+-- bytes, as hexadecimal digits
+pub array_bytes_put : (old new s b : List ℕ) → bytes_in (string s) ≡ Some b → IsBytes b → IsTextPut (octets b) old new → PutsValue (λ v. amqp.json v ≡ under types.ByteArray (string s)) old new
+array_bytes_put old new s b read all put =
+    text_put (λ v. amqp.json v ≡ under types.ByteArray (string s)) old new (octets b) put all (is_under types.ByteArray (string s) _ (ap (option_map octets) read))
+
+pub string_bytes_put : (old new s b : List ℕ) → bytes_in (string s) ≡ Some b → (IsUtf8 b → ⊥) → IsBytes b → IsTextPut (long b) old new → PutsValue (λ v. amqp.json v ≡ under types.LongString (string s)) old new
+string_bytes_put old new s b read none all put =
+    text_put (λ v. amqp.json v ≡ under types.LongString (string s)) old new (long b) put all (is_under types.LongString (string s) _ (long_is_read (string s) b read none))
 
 pub plain_first : (o : Option (Bor (List ℕ))) → IfSome o (λ k. type_named k.now ≡ None) → IsPlain no_entries (option_map (λ b. b.now) o)
 plain_first None h = tt

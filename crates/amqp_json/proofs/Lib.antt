@@ -25,5 +25,6 @@ mod Passing
 mod Merged
 mod Leading
 mod Forms
+mod Digits
 mod Encodes
 mod CanonicalSteps

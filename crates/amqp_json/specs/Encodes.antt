@@ -1,15 +1,13 @@
 -- For private clauses: encodings that are put after other bytes.
-use Rattle.std.specs.Prelude.{ℕ, ◌≡◌, ◌<◌, ◌≤◌, ◌^◌, IsTrue, List, ◌++◌, length, Option, Some, None}
+use Rattle.std.specs.Prelude.{ℕ, ◌≡◌, ◌<◌, ◌≤◌, IsTrue, List, ◌++◌, length, Option, Some, None}
 use Rattle.json.specs.Token.{Token}
 use Rattle.json.specs.Json.{Json, Parse, members, read_key, value}
-use Rattle.serde_json.specs.Data.{Data, Num, Members, object, no_members}
-use Rattle.serde_json.specs.Read.{of_json, of_members, converted, number_of}
-use Rattle.amqp_value_core.specs.Values.{Tree, scalar, number, Trees, Entries, no_entries, insert_all, readable}
+use Rattle.serde_json.specs.Data.{Data, Members, object, no_members}
+use Rattle.serde_json.specs.Read.{of_json, of_members, converted}
+use Rattle.amqp_value_core.specs.Values.{Tree, Trees, Entries, no_entries, insert_all, readable}
 use Rattle.amqp_value_core.specs.Grammar.{Wire, ArrayBody, TableBody}
 use Rattle.amqp_value_core.specs.Texts.{text, Fits}
 use Rattle.amqp_value_core.specs.InMemory.{IsValue}
-use Rattle.amqp_value_core.specs.declared.types.amqp_type.AMQPType.TheVariants as amqp
-use Rattle.amqp_json.specs.Reading.{long_long}
 use Rattle.amqp_json.specs.InMemory.{IsStored, AreStoredTrees, EntriesStored}
 use Rattle.amqp_json.specs.Converts.{IsStoredMeaning}
 use Rattle.amqp_json.specs.Json.{members_json, sole_type, natural}
@@ -24,10 +22,6 @@ pub record IsTextPut (v : Tree) (old new : List ℕ) : Type 0 where
   pub value : IsValue v
   pub fits : Fits v
   pub readable : IsTrue (readable v)
-
--- n are the bits of the integer that the text of a number denotes
-abbrev pub IsLongLong : ℕ → List ℕ → Type 0
-IsLongLong n s = (x : Num) × (number_of s ≡ Some x) × (long_long x ≡ Some (scalar (number amqp.LongLongInt n))) × (n < 2 ^ 64)
 
 -- an encoding of a value is put after the bytes that were there, and P is so of the value
 abbrev pub PutsValue : (Tree → Type 0) → List ℕ → List ℕ → Type 0

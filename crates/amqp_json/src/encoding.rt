@@ -1,37 +1,29 @@
 //! From the tokens of a text to an encoding of its value, without the value in memory: the pairs of
 //! a table are in the order of the text, and keys may occur again.
 
-ghost use Rattle.std.specs.Prelude.{ℕ, ◌≡◌, ◌<◌, ◌≤◌, ◌^◌, ◌∷◌, length, List, Some, None, IfOk, OnOk, IfSome, option_map};
-ghost use Rattle.std.specs.Int.{w64, cast_unsigned};
+ghost use Rattle.std.specs.Prelude.{ℕ, ◌≡◌, ◌<◌, ◌≤◌, ◌∷◌, length, List, Some, None, IfOk, OnOk, IfSome, option_map};
 ghost use Rattle.json.specs.Token.{Token as SpecToken};
 ghost use Rattle.json.specs.Token as token;
 ghost use Rattle.json.specs.Reads.{token_of};
 ghost use Rattle.json.specs.Json.{value, items, parse_map, read_key};
-ghost use Rattle.serde_json.specs.Data.{Data, array, number, string};
+ghost use Rattle.serde_json.specs.Data.{Data, array, number};
 ghost use Rattle.serde_json.specs.Read.{of_json, of_items, converted, number_of};
-ghost use Rattle.serde_json.specs.View.{number_view};
-ghost use Rattle.amqp_value_core.specs.declared.types.amqp_type.AMQPType.TheVariants as amqp;
-ghost use Rattle.amqp_value_core.specs.Values.{scalar, number as number_tree};
-ghost use Rattle.amqp_value_core.specs.View.{view};
-ghost use Rattle.amqp_json.specs.Encodes.{IsObject, IsEncodedMeaning, PutsValue, PutsValues, PutsPairs, IsTableRead, IsFieldRead, IsLongLong};
-ghost use Rattle.amqp_json.specs.InMemory.{IsStored};
+ghost use Rattle.amqp_json.specs.Encodes.{IsObject, IsEncodedMeaning, PutsValue, PutsValues, PutsPairs, IsTableRead, IsFieldRead};
 ghost use Rattle.amqp_json.specs.Json.{json, items_json, under, decimal_json};
 ghost use Rattle.amqp_json.specs.Names.{type_named};
-ghost use Rattle.amqp_json.specs.Reading.{long_long};
 
+mod named;
 pub(crate) mod put;
 
 use crate::error::ValueError;
 use crate::names::type_of_name;
-use crate::numerals::{natural_number, number};
-use crate::reading::under_type;
+use crate::numerals::{integer, natural_number};
 use amqp_value_core::types::{AMQPType, DecimalValue};
-use amqp_value_core::value::AMQPValue;
 use json::{Reader, Scratch, Token};
+use named::{put_named_number, put_named_text};
 use put::{
-    fill_length, put_boolean, put_head, put_key, put_leaf, put_long_long_int, put_text, put_void,
+    fill_length, put_boolean, put_decimal, put_head, put_key, put_long_long_int, put_text, put_void,
 };
-use serde_json::{Number, Value};
 use std::alloc::{AllocError, Global};
 
 /// Why no encoding was put.
@@ -141,28 +133,10 @@ fn put_integer(out: &mut Vec<u8>, text: &str) -> Result<(), Stop>
     ensures { OnOk result (PutsValue (λ v. option_map number (number_of text.now) ≡ Some (json v))
         out.old.items out.new.items) }
 {
-    let Some(n) = signed(text) else {
+    let Some(n) = integer(text) else {
         return Err(Stop::NotHere);
     };
     put_long_long_int(out, n)
-}
-
-// The integer that the text of a number denotes, if it is that of a LongLongInt.
-#[inline(always)]
-fn signed(text: &str) -> Option<i64>
-    ensures { IfSome result (λ z. IsLongLong (cast_unsigned w64 z) text.now) }
-{
-    let n = number(text)?;
-    long_long(&n)
-}
-
-#[inline(always)]
-fn long_long(n: &Number) -> Option<i64>
-    ensures read { option_map (λ z. scalar (number_tree amqp.LongLongInt (cast_unsigned w64 z))) result
-        ≡ long_long (number_view n.now) }
-    ensures fits { IfSome result (λ z. cast_unsigned w64 z < 2 ^ 64) }
-{
-    n.as_i64()
 }
 
 #[cycle(encode)]
@@ -274,33 +248,34 @@ fn put_named(
         → IsObject (json v) (value depth) ts reader.new) out.old.items out.new.items) }
     ensures shorter { OnOk result (length reader.new < length reader.old) }
 {
-    let found = named_leaf(alloc, reader, amqp_type, depth)?;
+    put_leaf(alloc, reader, out, amqp_type, depth)?;
     let next = next_key(reader)?;
     if next.is_none() {
-        return put_leaf(out, &found);
+        return Ok(());
     }
     Err(Stop::NotHere)
 }
 
-// The value of a type that is a number, a string or a decimal under the type's name.
+// What is under the name of a type: a number, a string or a decimal.
 #[inline(always)]
-fn named_leaf(
+fn put_leaf(
     alloc: Global,
     reader: &mut Reader<'_>,
+    out: &mut Vec<u8>,
     amqp_type: AMQPType,
     depth: usize,
-) -> Result<AMQPValue, Stop>
-    ensures json { IfOk result (λ v. (inner : Data) × (json (view v) ≡ under amqp_type inner)
-        × (converted of_json (value depth reader.old) ≡ Some (inner, reader.new))) }
-    ensures stored { IfOk result (λ v. IsStored (view v)) }
+) -> Result<(), Stop>
+    ensures ok { OnOk result (PutsValue (λ v. (inner : Data) × (json v ≡ under amqp_type inner)
+        × (converted of_json (value depth reader.old) ≡ Some (inner, reader.new))) out.old.items out.new.items) }
     ensures shorter { OnOk result (length reader.new < length reader.old) }
 {
     let token = reader.next().ok_or(Stop::NotHere)?;
     match (amqp_type, token) {
-        (_, Token::Number(text)) => named_number(alloc, amqp_type, text),
-        (_, Token::String(text)) => named_text(alloc, amqp_type, text),
+        (_, Token::Number(text)) => put_named_number(out, amqp_type, text),
+        (_, Token::String(text)) => put_named_text(alloc, out, amqp_type, text),
         (AMQPType::DecimalValue, Token::BeginObject) => {
-            Ok(AMQPValue::DecimalValue(decimal(reader, depth)?))
+            let d = decimal(reader, depth)?;
+            put_decimal(out, d.scale, d.value)
         }
         _ => Err(Stop::NotHere),
     }
@@ -348,23 +323,4 @@ fn field(reader: &mut Reader<'_>, name: &str) -> Result<u64, Stop>
         return Err(Stop::NotHere);
     };
     Ok(n)
-}
-
-fn named_number(alloc: Global, amqp_type: AMQPType, text: &str) -> Result<AMQPValue, Stop>
-    ensures json { IfOk result (λ v. option_map (under amqp_type)
-        (option_map number (number_of text.now)) ≡ Some (json (view v))) }
-    ensures stored { IfOk result (λ v. IsStored (view v)) }
-{
-    let n = number(text).ok_or(Stop::NotHere)?;
-    let value = under_type(alloc, amqp_type, &Value::Number(n))?;
-    Ok(value)
-}
-
-fn named_text(alloc: Global, amqp_type: AMQPType, text: &str) -> Result<AMQPValue, Stop>
-    ensures json { IfOk result (λ v. json (view v) ≡ under amqp_type (string text.now)) }
-    ensures stored { IfOk result (λ v. IsStored (view v)) }
-{
-    let copy = String::from_str(alloc, text)?;
-    let value = under_type(alloc, amqp_type, &Value::String(copy))?;
-    Ok(value)
 }

@@ -13,7 +13,7 @@ ghost use Rattle.amqp_json.specs.Json.{json, sole_type};
 ghost use Rattle.amqp_value_core.specs.Strings.{IsShort};
 ghost use Rattle.amqp_json.specs.InMemory.{IsSingle, IsStored, AreStoredTrees, EntriesStored};
 ghost use Rattle.amqp_json.specs.Refusals.{IsOnly, IsOfNone};
-ghost use Rattle.amqp_json.specs.Reading.{is_capital, text_without_capitals, bytes_in, sized_in, decimal_in, IsNarrow, plain_in, value_under, long_long, value_of, values_of, entries_of, ambiguous_table};
+ghost use Rattle.amqp_json.specs.Reading.{is_capital, bytes_in, sized_in, decimal_in, IsNarrow, plain_in, value_under, long_long, value_of, values_of, entries_of, ambiguous_table};
 
 use crate::error::ValueError;
 use crate::names::type_of_name;
@@ -41,17 +41,6 @@ pub fn from_value(alloc: Global, value: &Value) -> Result<AMQPValue, ValueError>
     read(alloc, value)
 }
 
-// the string, if it has no capital letter
-fn text_without_capitals(value: &Value) -> Option<&str>
-    ensures { option_map (λ s. s.now) result ≡ text_without_capitals (document value.now) }
-{
-    let text = value.as_str()?;
-    if has_capital(text.as_bytes()) {
-        return None;
-    }
-    Some(text)
-}
-
 // whether there is a letter `A` to `Z`
 fn has_capital(text: &[u8]) -> bool
     ensures { result ≡ list_any is_capital text.now }
@@ -66,9 +55,22 @@ fn bytes(alloc: Global, value: &Value) -> Result<Vec<u8>, ValueError>
     ensures err { IfErr result (λ e. e ≡ ValueError.NotAValue
         → bytes_in (document value.now) ≡ None) }
 {
-    let Some(text) = text_without_capitals(value) else {
+    let Some(text) = value.as_str() else {
         return Err(ValueError::NotAValue);
     };
+    bytes_of(alloc, text)
+}
+
+/// The bytes that a text's hexadecimal digits in lower case are.
+pub(crate) fn bytes_of(alloc: Global, text: &str) -> Result<Vec<u8>, ValueError>
+    ensures ok { IfOk result (λ b. bytes_in (string text.now) ≡ Some b.items) }
+    ensures all { IfOk result (λ b. IsBytes b.items) }
+    ensures err { IfErr result (λ e. e ≡ ValueError.NotAValue
+        → bytes_in (string text.now) ≡ None) }
+{
+    if has_capital(text.as_bytes()) {
+        return Err(ValueError::NotAValue);
+    }
     match hex::decode(alloc, text) {
         Ok(bytes) => Ok(bytes),
         Err(FromHexError::OutOfMemory) => Err(ValueError::OutOfMemory),
@@ -80,7 +82,17 @@ fn bytes(alloc: Global, value: &Value) -> Result<Vec<u8>, ValueError>
 fn sized<const N: usize>(value: &Value) -> Option<[u8; N]>
     ensures { result ≡ sized_in N (document value.now) }
 {
-    let text = text_without_capitals(value)?;
+    sized_of(value.as_str()?)
+}
+
+/// The bytes that a text's hexadecimal digits in lower case are, if these are N.
+#[inline(always)]
+pub(crate) fn sized_of<const N: usize>(text: &str) -> Option<[u8; N]>
+    ensures { result ≡ sized_in N (string text.now) }
+{
+    if has_capital(text.as_bytes()) {
+        return None;
+    }
     <[u8; N] as FromHex>::from_hex(text).ok()
 }
 

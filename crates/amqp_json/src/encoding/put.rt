@@ -1,27 +1,35 @@
 //! Bytes of encodings, put after others.
 
 ghost use Rattle.std.specs.Prelude.{◌≡◌, ◌+◌, ◌-◌, ◌<◌, ◌≤◌, ◌^◌, ◌∷◌, [], ◌++◌, length, take, drop, OnOk};
-ghost use Rattle.std.specs.Int.{w32, w64, to_be_bytes, cast_unsigned};
+ghost use Rattle.std.specs.Int.{w8, w16, w32, w64, to_be_bytes, cast_unsigned};
 ghost use Rattle.amqp_value_core.specs.declared.types.amqp_type.AMQPType.TheVariants as amqp;
 ghost use Rattle.amqp_value_core.specs.Grammar.{short_field};
 ghost use Rattle.amqp_value_core.specs.Strings.{IsShort};
 ghost use Rattle.amqp_value_core.specs.Texts.{text};
-ghost use Rattle.amqp_value_core.specs.Values.{Tree, scalar, boolean, number, decimal, void, long};
-ghost use Rattle.amqp_value_core.specs.View.{view};
+ghost use Rattle.amqp_value_core.specs.Values.{Tree, scalar, boolean, number, decimal, void, long, octets};
 ghost use Rattle.amqp_in_place.specs.Refs.{Denotes};
 ghost use Rattle.amqp_json.specs.Encodes.{IsTextPut};
 ghost use Rattle.hex.specs.Hex.{IsBytes};
 
 use super::Stop;
 use amqp_in_place::ValueRef;
-use amqp_value_core::value::AMQPValue;
+
+#[inline(always)]
+fn put_byte(out: &mut Vec<u8>, byte: u8) -> Result<(), Stop>
+    ensures { OnOk result (out.new.items ≡ out.old.items ++ byte ∷ []) }
+{
+    match out.push(byte) {
+        Ok(()) => Ok(()),
+        Err(_) => Err(Stop::OutOfMemory),
+    }
+}
 
 /// A value without payload.
 #[inline(always)]
 pub(crate) fn put_void(out: &mut Vec<u8>) -> Result<(), Stop>
     ensures { OnOk result (out.new.items ≡ out.old.items ++ text (scalar void)) }
 {
-    Ok(out.extend_from_slice(b"V")?)
+    put_byte(out, b'V')
 }
 
 #[inline(always)]
@@ -36,8 +44,7 @@ pub(crate) fn put_long_long_int(out: &mut Vec<u8>, n: i64) -> Result<(), Stop>
     ensures { OnOk result (out.new.items
         ≡ out.old.items ++ text (scalar (number amqp.LongLongInt (cast_unsigned w64 n)))) }
 {
-    let [a, b, c, d, e, f, g, h] = n.to_be_bytes();
-    Ok(out.extend_from_slice(&[b'l', a, b, c, d, e, f, g, h])?)
+    put_eight(out, b'l', n.to_be_bytes())
 }
 
 // The head of a string, a byte array or a container: its type tag, and its length.
@@ -45,8 +52,7 @@ pub(crate) fn put_long_long_int(out: &mut Vec<u8>, n: i64) -> Result<(), Stop>
 fn put_length(out: &mut Vec<u8>, tag: u8, n: u32) -> Result<(), Stop>
     ensures { OnOk result (out.new.items ≡ out.old.items ++ tag ∷ to_be_bytes w32 n) }
 {
-    let [a, b, c, d] = n.to_be_bytes();
-    Ok(out.extend_from_slice(&[tag, a, b, c, d])?)
+    put_four(out, tag, n.to_be_bytes())
 }
 
 // Bytes after their length, that of a string or a byte array.
@@ -70,6 +76,22 @@ pub(crate) fn put_text(out: &mut Vec<u8>, s: &str) -> Result<(), Stop>
     put_counted(out, b'S', s.as_bytes())
 }
 
+/// A long string, which may not be UTF-8.
+#[inline(always)]
+pub(crate) fn put_long_string(out: &mut Vec<u8>, bytes: &[u8]) -> Result<(), Stop>
+    ensures { OnOk result (IsTextPut (long bytes.now) out.old.items out.new.items) }
+{
+    put_counted(out, b'S', bytes)
+}
+
+/// A byte array.
+#[inline(always)]
+pub(crate) fn put_byte_array(out: &mut Vec<u8>, bytes: &[u8]) -> Result<(), Stop>
+    ensures { OnOk result (IsTextPut (octets bytes.now) out.old.items out.new.items) }
+{
+    put_counted(out, b'x', bytes)
+}
+
 /// A key, after its length.
 #[inline(always)]
 pub(crate) fn put_key(out: &mut Vec<u8>, key: &str) -> Result<(), Stop>
@@ -79,7 +101,7 @@ pub(crate) fn put_key(out: &mut Vec<u8>, key: &str) -> Result<(), Stop>
     let Ok(n) = u8::try_from(key.len()) else {
         return Err(Stop::NotHere);
     };
-    out.extend_from_slice(&[n])?;
+    put_byte(out, n)?;
     Ok(out.extend_from_slice(key.as_bytes())?)
 }
 
@@ -108,42 +130,114 @@ pub(crate) fn fill_length(out: &mut Vec<u8>, at: usize) -> Result<(), Stop>
     Ok(())
 }
 
-// A type tag, and a payload of fixed width.
+// A type tag, and a payload of one byte.
 #[inline(always)]
-fn put_fixed(out: &mut Vec<u8>, tag: u8, payload: &[u8]) -> Result<(), Stop>
-    ensures { OnOk result (out.new.items ≡ out.old.items ++ tag ∷ payload.now) }
+fn put_one(out: &mut Vec<u8>, tag: u8, payload: [u8; 1]) -> Result<(), Stop>
+    ensures { OnOk result (out.new.items ≡ out.old.items ++ tag ∷ payload) }
 {
-    out.extend_from_slice(&[tag])?;
-    Ok(out.extend_from_slice(payload)?)
+    let [a] = payload;
+    Ok(out.extend_from_slice(&[tag, a])?)
+}
+
+// A type tag, and a payload of two bytes.
+#[inline(always)]
+fn put_two(out: &mut Vec<u8>, tag: u8, payload: [u8; 2]) -> Result<(), Stop>
+    ensures { OnOk result (out.new.items ≡ out.old.items ++ tag ∷ payload) }
+{
+    let [a, b] = payload;
+    Ok(out.extend_from_slice(&[tag, a, b])?)
+}
+
+// A type tag, and a payload of four bytes.
+#[inline(always)]
+fn put_four(out: &mut Vec<u8>, tag: u8, payload: [u8; 4]) -> Result<(), Stop>
+    ensures { OnOk result (out.new.items ≡ out.old.items ++ tag ∷ payload) }
+{
+    let [a, b, c, d] = payload;
+    Ok(out.extend_from_slice(&[tag, a, b, c, d])?)
+}
+
+// A type tag, and a payload of eight bytes.
+#[inline(always)]
+fn put_eight(out: &mut Vec<u8>, tag: u8, payload: [u8; 8]) -> Result<(), Stop>
+    ensures { OnOk result (out.new.items ≡ out.old.items ++ tag ∷ payload) }
+{
+    let [a, b, c, d, e, f, g, h] = payload;
+    Ok(out.extend_from_slice(&[tag, a, b, c, d, e, f, g, h])?)
 }
 
 #[inline(always)]
-fn put_decimal(out: &mut Vec<u8>, scale: u8, value: u32) -> Result<(), Stop>
+pub(crate) fn put_short_short_int(out: &mut Vec<u8>, n: i8) -> Result<(), Stop>
+    ensures { OnOk result (out.new.items ≡ out.old.items ++ text (scalar (number amqp.ShortShortInt (cast_unsigned w8 n)))) }
+{
+    put_one(out, b'b', n.to_be_bytes())
+}
+
+#[inline(always)]
+pub(crate) fn put_short_short_uint(out: &mut Vec<u8>, n: u8) -> Result<(), Stop>
+    ensures { OnOk result (out.new.items ≡ out.old.items ++ text (scalar (number amqp.ShortShortUInt n))) }
+{
+    put_one(out, b'B', n.to_be_bytes())
+}
+
+#[inline(always)]
+pub(crate) fn put_short_int(out: &mut Vec<u8>, n: i16) -> Result<(), Stop>
+    ensures { OnOk result (out.new.items ≡ out.old.items ++ text (scalar (number amqp.ShortInt (cast_unsigned w16 n)))) }
+{
+    put_two(out, b's', n.to_be_bytes())
+}
+
+#[inline(always)]
+pub(crate) fn put_short_uint(out: &mut Vec<u8>, n: u16) -> Result<(), Stop>
+    ensures { OnOk result (out.new.items ≡ out.old.items ++ text (scalar (number amqp.ShortUInt n))) }
+{
+    put_two(out, b'u', n.to_be_bytes())
+}
+
+#[inline(always)]
+pub(crate) fn put_long_int(out: &mut Vec<u8>, n: i32) -> Result<(), Stop>
+    ensures { OnOk result (out.new.items ≡ out.old.items ++ text (scalar (number amqp.LongInt (cast_unsigned w32 n)))) }
+{
+    put_four(out, b'I', n.to_be_bytes())
+}
+
+#[inline(always)]
+pub(crate) fn put_long_uint(out: &mut Vec<u8>, n: u32) -> Result<(), Stop>
+    ensures { OnOk result (out.new.items ≡ out.old.items ++ text (scalar (number amqp.LongUInt n))) }
+{
+    put_four(out, b'i', n.to_be_bytes())
+}
+
+#[inline(always)]
+pub(crate) fn put_timestamp(out: &mut Vec<u8>, n: u64) -> Result<(), Stop>
+    ensures { OnOk result (out.new.items ≡ out.old.items ++ text (scalar (number amqp.Timestamp n))) }
+{
+    put_eight(out, b'T', n.to_be_bytes())
+}
+
+/// A Float, by its bits.
+#[inline(always)]
+pub(crate) fn put_float(out: &mut Vec<u8>, bits: u32) -> Result<(), Stop>
+    ensures { OnOk result (out.new.items ≡ out.old.items ++ text (scalar (number amqp.Float bits))) }
+{
+    put_four(out, b'f', bits.to_be_bytes())
+}
+
+/// A Double, by its bits.
+#[inline(always)]
+pub(crate) fn put_double(out: &mut Vec<u8>, bits: u64) -> Result<(), Stop>
+    ensures { OnOk result (out.new.items ≡ out.old.items ++ text (scalar (number amqp.Double bits))) }
+{
+    put_eight(out, b'd', bits.to_be_bytes())
+}
+
+/// A decimal number.
+#[inline(always)]
+pub(crate) fn put_decimal(out: &mut Vec<u8>, scale: u8, value: u32) -> Result<(), Stop>
     ensures { OnOk result (out.new.items ≡ out.old.items ++ text (scalar (decimal scale value))) }
 {
     let [a, b, c, d] = value.to_be_bytes();
     Ok(out.extend_from_slice(&[b'D', scale, a, b, c, d])?)
-}
-
-/// What is under the name of a type, and is no container.
-pub(crate) fn put_leaf(out: &mut Vec<u8>, value: &AMQPValue) -> Result<(), Stop>
-    ensures { OnOk result (IsTextPut (view value.now) out.old.items out.new.items) }
-{
-    match value {
-        AMQPValue::ShortShortInt(n) => put_fixed(out, b'b', &n.to_be_bytes()),
-        AMQPValue::ShortShortUInt(n) => put_fixed(out, b'B', &n.to_be_bytes()),
-        AMQPValue::ShortInt(n) => put_fixed(out, b's', &n.to_be_bytes()),
-        AMQPValue::ShortUInt(n) => put_fixed(out, b'u', &n.to_be_bytes()),
-        AMQPValue::LongInt(n) => put_fixed(out, b'I', &n.to_be_bytes()),
-        AMQPValue::LongUInt(n) => put_fixed(out, b'i', &n.to_be_bytes()),
-        AMQPValue::Timestamp(n) => put_fixed(out, b'T', &n.to_be_bytes()),
-        AMQPValue::Float(f) => put_fixed(out, b'f', &f.to_bits().to_be_bytes()),
-        AMQPValue::Double(f) => put_fixed(out, b'd', &f.to_bits().to_be_bytes()),
-        AMQPValue::DecimalValue(d) => put_decimal(out, d.scale, d.value),
-        AMQPValue::LongString(s) => put_counted(out, b'S', s.as_bytes()),
-        AMQPValue::ByteArray(a) => put_counted(out, b'x', a.as_slice()),
-        _ => Err(Stop::NotHere),
-    }
 }
 
 /// A value that was read in place, and is no container.
@@ -155,16 +249,16 @@ pub(crate) fn put_plain(out: &mut Vec<u8>, value: ValueRef<'_>) -> Result<(), St
     match value {
         ValueRef::Void => put_void(out),
         ValueRef::Boolean(b) => put_boolean(out, b),
-        ValueRef::ShortShortInt(n) => put_fixed(out, b'b', &n.to_be_bytes()),
-        ValueRef::ShortShortUInt(n) => put_fixed(out, b'B', &n.to_be_bytes()),
-        ValueRef::ShortInt(n) => put_fixed(out, b's', &n.to_be_bytes()),
-        ValueRef::ShortUInt(n) => put_fixed(out, b'u', &n.to_be_bytes()),
-        ValueRef::LongInt(n) => put_fixed(out, b'I', &n.to_be_bytes()),
-        ValueRef::LongUInt(n) => put_fixed(out, b'i', &n.to_be_bytes()),
+        ValueRef::ShortShortInt(n) => put_short_short_int(out, n),
+        ValueRef::ShortShortUInt(n) => put_short_short_uint(out, n),
+        ValueRef::ShortInt(n) => put_short_int(out, n),
+        ValueRef::ShortUInt(n) => put_short_uint(out, n),
+        ValueRef::LongInt(n) => put_long_int(out, n),
+        ValueRef::LongUInt(n) => put_long_uint(out, n),
         ValueRef::LongLongInt(n) => put_long_long_int(out, n),
-        ValueRef::Timestamp(n) => put_fixed(out, b'T', &n.to_be_bytes()),
-        ValueRef::Float(f) => put_fixed(out, b'f', &f.to_bits().to_be_bytes()),
-        ValueRef::Double(f) => put_fixed(out, b'd', &f.to_bits().to_be_bytes()),
+        ValueRef::Timestamp(n) => put_timestamp(out, n),
+        ValueRef::Float(f) => put_float(out, f.to_bits()),
+        ValueRef::Double(f) => put_double(out, f.to_bits()),
         ValueRef::DecimalValue(d) => put_decimal(out, d.scale, d.value),
         ValueRef::LongString(bytes) => put_counted(out, b'S', bytes),
         ValueRef::ByteArray(bytes) => put_counted(out, b'x', bytes),

@@ -11,4 +11,4 @@ pub returns : goal.returns
 returns c =
     let z = cast_unsigned w64 c.in-Some.n in
     let put : OnOk c.put_long_long_int.result (c.put_long_long_int.new.out.items ≡ c.args.out.now.items ++ text (scalar (number types.LongLongInt z))) = search rules in
-    on_ok_weaker c.put_long_long_int.result (λ same. integer_put _ _ c.args.text.now z c.in-Some.ensures same) put
+    on_ok_weaker c.put_long_long_int.result (λ same. integer_put _ _ c.args.text.now c.in-Some.n c.in-Some.ensures.fits c.in-Some.ensures.value same) put

@@ -1,0 +1,16 @@
+use Rattle.std.proofs.Common.{◌≡◌, ◌<◌, ◌^◌, ◌++◌, OnOk, subst, rules}
+use Rattle.std.specs.Int.{w64, from_be_bytes}
+use Rattle.std.proofs.lemmas.Result.{on_ok_weaker}
+use Rattle.amqp_value_core.specs.Texts.{text}
+use Rattle.amqp_value_core.specs.Values.{scalar, number}
+use Rattle.amqp_value_core.specs.declared.types.amqp_type.AMQPType.TheVariants as types
+use Rattle.amqp_json.proofs.Encodes.{double_put}
+use Rattle.amqp_json.proofs.encoding.named.put_double_of.Goals as goal
+
+pub returns : goal.returns
+returns c =
+    let b = c.in-Some.bytes in
+    let is : c.from_be_bytes.result ≡ from_be_bytes w64 b = search rules in
+    let low : c.from_be_bytes.result < 2 ^ 64 = search rules in
+    let put : OnOk c.put_double.result (c.put_double.new.out.items ≡ c.args.out.now.items ++ text (scalar (number types.Double (from_be_bytes w64 b)))) = search rules in
+    on_ok_weaker c.put_double.result (λ same. double_put _ _ c.args.text.now b (search rules) (subst (λ n. n < 2 ^ 64) is low) same) put
