@@ -1,6 +1,6 @@
 //! What is added to a screen.
 
-ghost use Rattle.std.specs.Prelude.{◌≡◌, ◌∷◌, ◌++◌, [], IsTrue, IsFalse};
+ghost use Rattle.std.specs.Prelude.{◌≡◌, ◌∷◌, ◌++◌, [], length, IsTrue, IsFalse};
 ghost use Rattle.std.specs.Char.{encode_utf8};
 ghost use Rattle.amqp_screen.specs.Screens.{prints, IsShowable};
 ghost use Rattle.amqp_screen.specs.Escapes.{in_text, in_lines, in_json, words_in, shown_in, escape, json_escape, two_digits, four_digits, coloured, colour_begin, colour_end, if_colours, indent};
@@ -31,6 +31,13 @@ impl Screen {
             has_colours,
             text: String::new(alloc),
         }
+    }
+
+    /// How many bytes it shows.
+    pub fn len(&self) -> usize
+        ensures { result ≡ length (shown self.now) }
+    {
+        self.text.len()
     }
 
     /// Adds words in a line.

@@ -2,7 +2,7 @@
 
 ghost use Rattle.std.specs.Prelude.{◌≡◌, ◌≤◌, IfOk, IfSome};
 ghost use Rattle.amqp_screen.specs.Escapes.{in_json};
-ghost use Rattle.amqp_screen.specs.Pushes.{shown};
+ghost use Rattle.amqp_screen.specs.Pushes.{shown, PushesText};
 ghost use Rattle.amqp_show.specs.Printed.{IsPrinted};
 ghost use Rattle.amqp_show.specs.Text.{line};
 
@@ -98,9 +98,16 @@ pub fn json_line(alloc: Global, json: &str) -> Result<Screen, AllocError>
     ensures line { IfOk result (λ screen. shown screen ≡ line (in_json json.now)) }
 {
     let mut screen = Screen::new(alloc, false);
-    screen.push_json(json)?;
-    screen.end_line()?;
+    push_json_line(&mut screen, json)?;
     Ok(screen)
+}
+
+/// Adds a JSON text on a line.
+pub fn push_json_line(screen: &mut Screen, json: &str) -> Result<(), AllocError>
+    ensures line { PushesText result screen.old screen.new (line (in_json json.now)) }
+{
+    screen.push_json(json)?;
+    screen.end_line()
 }
 
 /// Reports how deep a JSON text nests, if that is deeper than its readers take.

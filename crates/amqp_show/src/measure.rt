@@ -1,7 +1,7 @@
 //! How large a value is.
 
-ghost use Rattle.std.specs.Prelude.{◌≡◌, ℕ, List, IfOk, MatchOption};
-ghost use Rattle.amqp_screen.specs.Pushes.{shown};
+ghost use Rattle.std.specs.Prelude.{◌≡◌, ℕ, List, IfOk, OnOk, MatchOption};
+ghost use Rattle.amqp_screen.specs.Pushes.{shown, AddsText};
 ghost use Rattle.amqp_show.specs.Lines.{measures, IsMeasured};
 ghost use Rattle.amqp_show.specs.Outcomes.{encoding_of, IsRefusedWithin, IsStatusOf};
 ghost use Rattle.amqp_show.specs.Text.{line};
@@ -59,10 +59,24 @@ fn measured<'a>(
 }
 
 /// Measures on a line.
-#[tactic(auto, using(crate::proofs::Lines::measures_shown))]
 pub fn measure_line(alloc: Global, measure: Measure) -> Result<Screen, AllocError>
     ensures line { IfOk result (λ screen.
         shown screen ≡ line (measures measure.bytes measure.values measure.levels)) }
+{
+    let mut screen = Screen::new(alloc, false);
+    push_measure_line(alloc, &mut screen, measure)?;
+    Ok(screen)
+}
+
+/// Adds measures on a line.
+#[tactic(auto, using(crate::proofs::Lines::measures_shown))]
+pub fn push_measure_line(
+    alloc: Global,
+    screen: &mut Screen,
+    measure: Measure,
+) -> Result<(), AllocError>
+    ensures line { OnOk result (AddsText screen.old screen.new
+        (line (measures measure.bytes measure.values measure.levels))) }
 {
     let Measure {
         bytes,
@@ -70,7 +84,5 @@ pub fn measure_line(alloc: Global, measure: Measure) -> Result<Screen, AllocErro
         levels,
     } = measure;
     let line = format!(in alloc; "bytes {bytes}, values {values}, levels {levels}")?;
-    let mut screen = Screen::new(alloc, false);
-    screen.push_line(line.as_str())?;
-    Ok(screen)
+    screen.push_line(line.as_str())
 }

@@ -5,8 +5,8 @@ use crate::failures::{print_failure, why_refused};
 use crate::fault::{Fault, Result};
 use crate::hexadecimal::Hexadecimal;
 use crate::input::{BLOCK, Input, Unread};
-use crate::json::{json_line, why_not_printed};
-use crate::measure::measure_line;
+use crate::json::{push_json_line, why_not_printed};
+use crate::measure::push_measure_line;
 use crate::messages::{complain, unreadable};
 use crate::progress::Progress;
 use crate::recorder::Recorder;
@@ -52,11 +52,22 @@ pub fn show_stream(rt: &HostRuntime, file: &str, settings: Settings) -> Result<S
 // What the values are read from.
 #[derive(Drop)]
 enum Source<R> {
-    Bytes(R),
-    Text(Hexadecimal<R>),
+    Bytes(BufReader<R>),
+    Text(Hexadecimal<BufReader<R>>),
 }
 
-impl<R> Source<R> {
+impl<R: Read> Source<R> {
+    // Whether the next value has been read to its end, so that it needn't be awaited.
+    fn has_next(&self) -> bool {
+        match self {
+            Source::Bytes(reader) => {
+                let there = reader.buffer();
+                !there.is_empty() && value_len(SliceInput::new(there)) <= there.len()
+            }
+            Source::Text(_) => false,
+        }
+    }
+
     // Why it can't be read, after an error of this kind.
     fn unread(&self, kind: ErrorKind) -> Result<Unread> {
         if let Source::Text(digits) = self {
@@ -108,7 +119,8 @@ fn next_item<R: Read>(
     }
 }
 
-// Shows the values that a reader yields. No more of them is retained than the one being read.
+// Shows the values that a reader yields. No more of them is retained than the one being read, and the
+// lines of those before it.
 fn show_values<R: Read + Drop>(
     rt: &HostRuntime,
     file: &str,
@@ -119,6 +131,23 @@ fn show_values<R: Read + Drop>(
     if settings.limits.frame == 0 {
         return Err(Fault::NoValue);
     }
+    let mut screen = Screen::new(rt.alloc(), settings.colours);
+    let shown = show_each(rt, file, source, &mut screen, &mut progress, settings);
+    if let Err(Fault::OutOfMemory) = shown {
+        screen.print(rt)?;
+    }
+    shown
+}
+
+// Shows them by lines that are printed together while the next value needn't be awaited.
+fn show_each<R: Read + Drop>(
+    rt: &HostRuntime,
+    file: &str,
+    source: Source<R>,
+    screen: &mut Screen,
+    progress: &mut Progress,
+    settings: Settings,
+) -> Result<Status> {
     let mut values = Values::new(rt.alloc(), settings.limits);
     let mut recorder = Recorder::new(rt.alloc(), source);
     let mut offset: u64 = 0;
@@ -127,10 +156,13 @@ fn show_values<R: Read + Drop>(
         let error = match next_item(rt.alloc(), &mut values, &mut recorder, settings) {
             Ok(Some(item)) => {
                 let bytes = recorder.as_slice();
-                let shown = show_item(rt, file, &item, bytes, offset, &mut progress, settings)?;
+                let shown = show_item(rt, file, &item, bytes, offset, screen, progress, settings)?;
                 status = worse(status, shown);
                 offset = offset.saturating_add(bytes.len() as u64);
                 recorder.forget();
+                if screen.len() >= BLOCK || !recorder.reader().has_next() {
+                    screen.print(rt)?;
+                }
                 progress.reach(rt, offset)?;
                 continue;
             }
@@ -141,6 +173,7 @@ fn show_values<R: Read + Drop>(
             Err(StreamError::Read(ErrorKind::Interrupted)) => continue,
             Err(error) => error,
         };
+        screen.print(rt)?;
         progress.erase(rt)?;
         match error {
             StreamError::Read(kind) => return unread(rt, file, recorder.reader(), kind),
@@ -165,7 +198,12 @@ fn show_values<R: Read + Drop>(
 }
 
 // Reports why a source can't be read, after an error of this kind.
-fn unread<R>(rt: &HostRuntime, file: &str, source: &Source<R>, kind: ErrorKind) -> Result<Status> {
+fn unread<R: Read>(
+    rt: &HostRuntime,
+    file: &str,
+    source: &Source<R>,
+    kind: ErrorKind,
+) -> Result<Status> {
     unreadable(rt, file, &source.unread(kind)?)
 }
 
@@ -186,38 +224,38 @@ fn pass_over<R: Read>(recorder: &mut Recorder<R>) -> io::Result<Option<usize>> {
     Ok(is_there.then_some(len))
 }
 
-// Shows a value, which was read from these bytes at this offset of the stream.
+// Adds the lines of a value, which was read from these bytes at this offset of the stream.
 fn show_item(
     rt: &HostRuntime,
     file: &str,
     item: &Item,
     bytes: &[u8],
     offset: u64,
+    screen: &mut Screen,
     progress: &mut Progress,
     settings: Settings,
 ) -> Result<Status> {
     let alloc = rt.alloc();
     match item {
         Item::Measure(measure) => {
-            measure_line(alloc, *measure)?.print(rt)?;
+            push_measure_line(alloc, screen, *measure)?;
             return Ok(Status::Read);
         }
         Item::Json(json) => {
             if let Some(why) = why_not_printed(alloc, json.as_str(), settings.limits)? {
+                screen.print(rt)?;
                 progress.erase(rt)?;
                 complain(rt, file, why.as_str())?;
                 return Ok(Status::Refused);
             }
-            json_line(alloc, json.as_str())?.print(rt)?;
+            push_json_line(screen, json.as_str())?;
             return Ok(Status::Read);
         }
         Item::Value(_) => {}
     }
-    let mut screen = Screen::new(alloc, settings.colours);
-    let _ = push_value(alloc, &mut screen, bytes, settings)?;
+    let _ = push_value(alloc, screen, bytes, settings)?;
     let line = format!(in alloc; "= a value of {} bytes at {offset}", bytes.len())?;
     screen.push_line(line.as_str())?;
-    screen.print(rt)?;
     Ok(Status::Read)
 }
 
